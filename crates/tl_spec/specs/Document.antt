@@ -1,0 +1,96 @@
+-- The table of nodes that a text gives.
+use Rattle.std.specs.Prelude.{ℕ, ◌+◌, Bool, false, nat_lt, List, [], ◌∷◌, ◌++◌, length, Option, Some, None}
+use Rattle.std.specs.List.{list_any, between}
+use Rattle.tl_spec.specs.Inline.{InlineVec, InlineMap}
+use Rattle.tl_spec.specs.Attribute.{Pair}
+use Rattle.tl_spec.specs.AttributeList.{AttributesOf, Attributes}
+use Rattle.tl_spec.specs.Token.{Token, Piece, Doctype, tokens}
+use Rattle.tl_spec.specs.Forest.{Forest, none, text, comment, tag, SourceTag, forest}
+
+-- handles in a list with room for two inline
+abbrev pub Handles : Type 0
+Handles = InlineVec ℕ
+
+-- pairs in a map with room for two inline
+abbrev pub Entries : Type 0
+Entries = InlineMap (List ℕ) (Option (List ℕ))
+
+pub record TagNode : Type 0 where
+  pub name : List ℕ
+  pub attributes : AttributesOf Entries
+  pub children : Handles
+  pub raw : List ℕ
+  pub start : ℕ
+
+pub data Node : Type 0 where
+  Tag : TagNode → Node
+  Raw : List ℕ → Node
+  Comment : List ℕ → Node
+
+pub record Document : Type 0 where
+  pub nodes : List Node
+  pub top : List ℕ
+  pub is_html5 : Bool
+
+-- the list after pushes into an empty one: on the heap exactly where there are more than two
+abbrev pub held_items : List ℕ → Handles
+held_items items = record { items = items; on_heap = nat_lt 2 (length items) }
+
+abbrev pub held_entries : List Pair → Entries
+held_entries entries = record { entries = entries; on_heap = nat_lt 2 (length entries) }
+
+abbrev pub held_attributes : Attributes → AttributesOf Entries
+held_attributes a = record { others = held_entries a.others; id = a.id; class = a.class }
+
+-- how many nodes
+abbrev pub size : {T : Type 0} → Forest T → ℕ
+size none = 0
+size (text bytes more) = 1 + size more
+size (comment bytes more) = 1 + size more
+size (tag own children more) = 1 + size children + size more
+
+-- the numbers of the trees, where the first has the number n
+abbrev pub numbers : {T : Type 0} → ℕ → Forest T → List ℕ
+numbers n none = []
+numbers n (text bytes more) = n ∷ numbers (n + 1) more
+numbers n (comment bytes more) = n ∷ numbers (n + 1) more
+numbers n (tag own children more) = n ∷ numbers (n + 1 + size children) more
+
+-- a tag of the text t, with the numbers of its children
+abbrev pub tag_node : List ℕ → SourceTag → List ℕ → TagNode
+tag_node t own children = record {
+  name = own.name;
+  attributes = held_attributes own.attributes;
+  children = held_items children;
+  raw = between own.from own.to t;
+  start = own.from;
+}
+
+-- the nodes in preorder, where the first has the number n and t is the text
+abbrev pub nodes : List ℕ → ℕ → Forest SourceTag → List Node
+nodes t n none = []
+nodes t n (text bytes more) = Raw bytes ∷ nodes t (n + 1) more
+nodes t n (comment bytes more) = Comment bytes ∷ nodes t (n + 1) more
+nodes t n (tag own children more) =
+    Tag (tag_node t own (numbers (n + 1) children)) ∷ nodes t (n + 1) children ++ nodes t (n + 1 + size children) more
+
+-- a doctype of HTML5
+abbrev pub is_html5_doctype : Token → Bool
+is_html5_doctype (Doctype html) = html
+is_html5_doctype _ = false
+
+-- the document of a text
+abbrev pub document : List ℕ → Document
+document t = let trees = forest (tokens t) in
+    record { nodes = nodes t 0 trees; top = numbers 0 trees; is_html5 = list_any (λ k. is_html5_doctype k.token) (tokens t) }
+
+-- one for a value that is there
+abbrev pub present : Option (List ℕ) → ℕ
+present None = 0
+present (Some v) = 1
+
+-- a node and its attributes
+abbrev pub weight : Node → ℕ
+weight (Tag own) = 1 + length own.attributes.others.entries + present own.attributes.id + present own.attributes.class
+weight (Raw bytes) = 1
+weight (Comment bytes) = 1

@@ -1,0 +1,14 @@
+pub mod ByteClass
+pub mod Runs
+pub mod Inline
+pub mod Attribute
+pub mod Token
+pub mod AttributeList
+pub mod Forest
+pub mod Document
+pub mod Machine
+pub mod Print
+pub mod Text
+pub mod Walk
+pub mod Clean
+pub mod Normal

@@ -1,0 +1,107 @@
+-- The document written token by token, with the open tags at hand.
+use Rattle.std.specs.Prelude.{ℕ, zero, suc, Bool, true, false, ◌||◌, ◌==◌, List, [], ◌∷◌, ◌++◌, length, Option, None, Some, slice_get, fold}
+use Rattle.std.specs.List.{between}
+use Rattle.tl_spec.specs.ByteClass.{is_void}
+use Rattle.tl_spec.specs.Attribute.{Pair}
+use Rattle.tl_spec.specs.Token.{Token, Piece, Text, End, Comment, Doctype, Start, Nothing}
+use Rattle.tl_spec.specs.Inline.{InlineVec}
+use Rattle.tl_spec.specs.Forest.{closes, started}
+use Rattle.tl_spec.specs.Document.{Node, TagNode, Tag, Raw, Comment as CommentNode, tag_node}
+
+-- what has been written: the nodes, the numbers of the open tags (innermost first), the top list and the version
+pub record State : Type 0 where
+  pub nodes : List Node
+  pub open_tags : List ℕ
+  pub top : List ℕ
+  pub is_html5 : Bool
+
+abbrev pub start : State
+start = record { nodes = []; open_tags = []; top = []; is_html5 = false }
+
+-- the list with the item at a place changed
+abbrev pub change_at : {A : Type 0} → (A → A) → ℕ → List A → List A
+change_at f i [] = []
+change_at f zero (x ∷ xs) = f x ∷ xs
+change_at f (suc i) (x ∷ xs) = x ∷ change_at f i xs
+
+-- a list with room for two inline, and one more item
+abbrev pub with_item : {T : Type 0} → InlineVec T → T → InlineVec T
+with_item v x = record { items = v.items ++ x ∷ []; on_heap = v.on_heap || (length v.items == 2) }
+
+-- a node with one more child
+abbrev pub with_child : ℕ → Node → Node
+with_child n (Tag own) = Tag (record own { children = with_item own.children n })
+with_child n (Raw bytes) = Raw bytes
+with_child n (CommentNode bytes) = CommentNode bytes
+
+-- a node whose raw ends at a place of the text
+abbrev pub with_raw_to : List ℕ → ℕ → Node → Node
+with_raw_to t to (Tag own) = Tag (record own { raw = between own.start to t })
+with_raw_to t to (Raw bytes) = Raw bytes
+with_raw_to t to (CommentNode bytes) = CommentNode bytes
+
+abbrev pub name_of : Option Node → Option (List ℕ)
+name_of None = None
+name_of (Some (Tag own)) = Some own.name
+name_of (Some (Raw bytes)) = None
+name_of (Some (CommentNode bytes)) = None
+
+-- the name of the innermost open tag
+abbrev pub enclosing_name : List Node → List ℕ → Option (List ℕ)
+enclosing_name nodes [] = None
+enclosing_name nodes (p ∷ ps) = name_of (slice_get nodes p)
+
+-- a number becomes the last child of the innermost open tag, or the last of the top list
+abbrev pub adopted_by : ℕ → State → List ℕ → State
+adopted_by n s [] = record s { top = s.top ++ n ∷ [] }
+adopted_by n s (p ∷ ps) = record s { nodes = change_at (with_child n) p s.nodes }
+
+abbrev pub adopted : ℕ → State → State
+adopted n s = adopted_by n s s.open_tags
+
+-- one more node, as the last child of the innermost open tag
+abbrev pub added : Node → State → State
+added node s = let adopting = adopted (length s.nodes) s in record adopting { nodes = adopting.nodes ++ node ∷ [] }
+
+-- one more tag, which opens
+abbrev pub opened : Node → State → State
+opened node s = let adding = added node s in record adding { open_tags = length s.nodes ∷ s.open_tags }
+
+-- the innermost open tag closed, its raw up to a place of the text
+abbrev pub closed_by : List ℕ → ℕ → State → List ℕ → State
+closed_by t to s [] = s
+closed_by t to s (p ∷ ps) = record s { nodes = change_at (with_raw_to t to) p s.nodes; open_tags = ps }
+
+abbrev pub closed : List ℕ → ℕ → State → State
+closed t to s = closed_by t to s s.open_tags
+
+-- a start tag as a node, without children yet
+abbrev pub start_node : List ℕ → Piece → List ℕ → List Pair → Node
+start_node t k name pairs = Tag (tag_node t (started k name pairs) [])
+
+module _ (t : List ℕ) where
+  -- a start tag, and whether it stands alone
+  abbrev pub after_start : Node → State → Bool → State
+  after_start node s true = added node s
+  after_start node s false = opened node s
+
+  -- an end tag that ends at a place, and whether it closes the innermost open tag
+  abbrev pub after_end : ℕ → State → Bool → State
+  after_end to s true = closed t to s
+  after_end to s false = s
+
+  abbrev pub after_token : Piece → State → Token → State
+  after_token k s (Text bytes) = added (Raw bytes) s
+  after_token k s (Comment bytes) = added (CommentNode bytes) s
+  after_token k s (Start name pairs alone) = after_start (start_node t k name pairs) s (alone || is_void name)
+  after_token k s (End name) = after_end k.to s (closes name (enclosing_name s.nodes s.open_tags))
+  after_token k s (Doctype html) = record s { is_html5 = s.is_html5 || html }
+  after_token k s Nothing = s
+
+  -- one token of the text t
+  abbrev pub step : State → Piece → State
+  step s k = after_token k s k.token
+
+  -- tokens of the text t, one after the other
+  abbrev pub run : State → List Piece → State
+  run s ks = fold step s ks
