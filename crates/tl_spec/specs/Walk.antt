@@ -133,3 +133,10 @@ events (meets_comment h bytes more) = meets h (Comment bytes) ∷ events more
 events (meets_tag h own children more) = meets h (Tag own) ∷ events children ++ leaves own ∷ events more
 events (passes_tag h own more) = meets h (Tag own) ∷ events more
 events (meets_fault e more) = faulty e ∷ events more
+
+-- the first fault among events
+abbrev pub fault_among : List Event → Option Fault
+fault_among [] = None
+fault_among (meets h node ∷ later) = fault_among later
+fault_among (leaves own ∷ later) = fault_among later
+fault_among (faulty e ∷ later) = Some e

@@ -1,0 +1,124 @@
+-- Faults, prints and texts of a walk are read from its events.
+use Rattle.std.proofs.Common.{◌≡◌, ℕ, zero, suc, Bool, true, false, not, if◌then◌else◌, List, [], ◌∷◌, ◌++◌, length, flat_map, Option, Some, None, refl, ap, ap₂, sym, ◌∙◌, append_assoc}
+use Rattle.std.specs.Prelude.{⊤}
+use Rattle.std.specs.List.{slice_get}
+use Rattle.std.proofs.lemmas.List.Concat.{flat_map-append}
+use Rattle.std.specs.Str.Lossy.{utf8_lossy}
+use Rattle.tl_spec.specs.ByteClass.{is_printed_alone}
+use Rattle.tl_spec.specs.Document.{Comment, Node, Raw, Tag, TagNode}
+use Rattle.tl_spec.specs.Print.{print, print_end, print_start, printed}
+use Rattle.tl_spec.specs.Text.{text_of, told}
+use Rattle.tl_spec.specs.Walk.{Event, Fault, Walk, end, events, fault_among, faulty, first_fault, handle_walk, leaves, meets, meets_comment, meets_fault, meets_tag, meets_text, node_walk, or_else, passes_tag, plain_node, row_walk, shows, stands_on, tag_walk, trees, walk, walk_of, walk_within}
+
+-- faults
+
+fault_among-append : (es later : List Event) → fault_among (es ++ later) ≡ or_else (fault_among es) (fault_among later)
+fault_among-append [] later = refl
+fault_among-append (meets h node ∷ es) later = fault_among-append es later
+fault_among-append (leaves own ∷ es) later = fault_among-append es later
+fault_among-append (faulty e ∷ es) later = refl
+
+-- the first fault of a walk is the first among its events
+pub first_fault-events : (w : Walk) → first_fault w ≡ fault_among (events w)
+first_fault-events end = refl
+first_fault-events (meets_text h bytes more) = first_fault-events more
+first_fault-events (meets_comment h bytes more) = first_fault-events more
+first_fault-events (meets_tag h own children more) =
+    ap₂ or_else (first_fault-events children) (first_fault-events more) ∙ sym (fault_among-append (events children) (leaves own ∷ events more))
+first_fault-events (passes_tag h own more) = first_fault-events more
+first_fault-events (meets_fault e more) = refl
+
+-- texts
+
+-- the text of a walk's trees is what its events tell
+pub text_of-events : (w : Walk) → text_of (trees w) ≡ flat_map told (events w)
+text_of-events end = refl
+text_of-events (meets_text h bytes more) = ap (λ s. utf8_lossy bytes ++ s) (text_of-events more)
+text_of-events (meets_comment h bytes more) = text_of-events more
+text_of-events (meets_tag h own children more) =
+    ap₂ (λ s t. s ++ t) (text_of-events children) (text_of-events more) ∙ sym (flat_map-append told (events children) (leaves own ∷ events more))
+text_of-events (passes_tag h own more) = text_of-events more
+text_of-events (meets_fault e more) = text_of-events more
+
+-- which tags are entered
+
+-- a walk enters the tags of these names, and passes by the others
+abbrev pub Enters : (List ℕ → Bool) → Walk → Type 0
+Enters enters end = ⊤
+Enters enters (meets_text h bytes more) = Enters enters more
+Enters enters (meets_comment h bytes more) = Enters enters more
+Enters enters (meets_tag h own children more) = (enters own.name ≡ true) × Enters enters children × Enters enters more
+Enters enters (passes_tag h own more) = (enters own.name ≡ false) × Enters enters more
+Enters enters (meets_fault e more) = Enters enters more
+
+module _ (enters : List ℕ → Bool) (nodes : List Node) where
+  Enters-tag : (below : List ℕ → Walk) → ((hs : List ℕ) → Enters enters (below hs)) → (h : ℕ) (more : Walk) → Enters enters more → (own : TagNode) (b : Bool) → enters own.name ≡ b →
+      Enters enters (tag_walk enters nodes below h more own b)
+  Enters-tag below inside h more behind own true e = (e, inside own.children.items, behind)
+  Enters-tag below inside h more behind own false e = (e, behind)
+
+  Enters-node : (below : List ℕ → Walk) → ((hs : List ℕ) → Enters enters (below hs)) → (h : ℕ) (more : Walk) → Enters enters more → (node : Node) →
+      Enters enters (node_walk enters nodes below h more node)
+  Enters-node below inside h more behind (Raw bytes) = behind
+  Enters-node below inside h more behind (Comment bytes) = behind
+  Enters-node below inside h more behind (Tag own) = Enters-tag below inside h more behind own (enters own.name) refl
+
+  Enters-handle : (below : List ℕ → Walk) → ((hs : List ℕ) → Enters enters (below hs)) → (h : ℕ) (more : Walk) → Enters enters more → (b : Bool) (o : Option Node) →
+      Enters enters (handle_walk enters nodes below h more b o)
+  Enters-handle below inside h more behind b None = behind
+  Enters-handle below inside h more behind true (Some node) = behind
+  Enters-handle below inside h more behind false (Some node) = Enters-node below inside h more behind node
+
+  Enters-row : (below : List ℕ → List ℕ → Walk) → ((path hs : List ℕ) → Enters enters (below path hs)) → (path hs : List ℕ) → Enters enters (row_walk enters nodes below path hs)
+  Enters-row below inside path [] = tt
+  Enters-row below inside path (h ∷ hs) =
+      Enters-handle (below (h ∷ path)) (inside (h ∷ path)) h (row_walk enters nodes below path hs) (Enters-row below inside path hs) (stands_on path h) (slice_get nodes h)
+
+  Enters-within : (n : ℕ) (path hs : List ℕ) → Enters enters (walk_within enters nodes n path hs)
+  Enters-within zero path hs = Enters-row (λ _ _. end) (λ _ _. tt) path hs
+  Enters-within (suc n) path hs = Enters-row (walk_within enters nodes n) (Enters-within n) path hs
+
+  pub Enters-walk : (path hs : List ℕ) → Enters enters (walk enters nodes path hs)
+  Enters-walk = Enters-within (length nodes)
+
+  pub Enters-walk_of : (node : Node) → Enters enters (walk_of enters nodes node)
+  Enters-walk_of node = Enters-node (walk enters nodes []) (Enters-walk []) 0 end tt node
+
+-- prints
+
+if_flipped : (b v : Bool) (s t : List ℕ) → not b ≡ v → (if b then s else t) ≡ (if v then t else s)
+if_flipped true true s t e = absurd (cc)
+if_flipped true false s t e = refl
+if_flipped false true s t e = refl
+if_flipped false false s t e = absurd (cc)
+
+-- the print of a walk's trees is what its events print, where the walk passes by the tags that are printed alone
+pub print-events : (w : Walk) → Enters shows w → print (trees w) ≡ flat_map printed (events w)
+print-events end h = refl
+print-events (meets_text h bytes more) shown = ap (λ s. utf8_lossy bytes ++ s) (print-events more shown)
+print-events (meets_comment h bytes more) shown = ap (λ s. utf8_lossy bytes ++ s) (print-events more shown)
+print-events (meets_tag h own children more) shown =
+    let start : List ℕ = print_start (plain_node own) in
+    let end_tag : List ℕ = print_end (plain_node own) in
+    let inner : List ℕ = print (trees children) in
+    let behind : List ℕ = print (trees more) in
+    ap (λ s. (start ++ s) ++ behind) (if_flipped (is_printed_alone own.name) true [] (inner ++ end_tag) shown.0)
+    ∙ append_assoc start (inner ++ end_tag) behind
+    ∙ ap (λ s. start ++ s) (
+        append_assoc inner end_tag behind
+        ∙ ap₂ (λ s t. s ++ (end_tag ++ t)) (print-events children shown.1) (print-events more shown.2)
+        ∙ sym (flat_map-append printed (events children) (leaves own ∷ events more)))
+print-events (passes_tag h own more) shown =
+    let start : List ℕ = print_start (plain_node own) in
+    let behind : List ℕ = print (trees more) in
+    ap (λ s. (start ++ s) ++ behind) (if_flipped (is_printed_alone own.name) false [] (print_end (plain_node own)) shown.0)
+    ∙ append_assoc start [] behind
+    ∙ ap (λ s. start ++ s) (print-events more shown.1)
+print-events (meets_fault e more) shown = print-events more shown
+
+-- the print's walk prints by its events
+pub print-walk : (nodes : List Node) (path hs : List ℕ) → print (trees (walk shows nodes path hs)) ≡ flat_map printed (events (walk shows nodes path hs))
+print-walk nodes path hs = print-events (walk shows nodes path hs) (Enters-walk shows nodes path hs)
+
+pub print-walk_of : (nodes : List Node) (node : Node) → print (trees (walk_of shows nodes node)) ≡ flat_map printed (events (walk_of shows nodes node))
+print-walk_of nodes node = print-events (walk_of shows nodes node) (Enters-walk_of shows nodes node)
