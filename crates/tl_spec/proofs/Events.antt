@@ -8,7 +8,8 @@ use Rattle.tl_spec.specs.ByteClass.{is_printed_alone}
 use Rattle.tl_spec.specs.Document.{Comment, Node, Raw, Tag, TagNode}
 use Rattle.tl_spec.specs.Print.{print, print_end, print_start, printed}
 use Rattle.tl_spec.specs.Text.{text_of, told}
-use Rattle.tl_spec.specs.Walk.{Event, Fault, Walk, end, events, fault_among, faulty, first_fault, handle_walk, leaves, meets, meets_comment, meets_fault, meets_tag, meets_text, node_walk, or_else, passes_tag, plain_node, row_walk, shows, stands_on, tag_walk, trees, walk, walk_of, walk_within}
+use Rattle.tl_spec.specs.Walk.{Cycle, Dangling, Event, Fault, Walk, answer, end, events, fault_among, faulty, first_fault, handle_walk, leaves, meets, meets_comment, meets_fault, meets_tag, meets_text, node_walk, or_else, passes_tag, plain_node, row_walk, shows, stands_on, tag_walk, trees, unless, walk, walk_of, walk_within}
+use Rattle.tl_spec.proofs.Walks.{walk-cons, walk-nil}
 
 -- faults
 
@@ -39,6 +40,51 @@ text_of-events (meets_tag h own children more) =
     ap₂ (λ s t. s ++ t) (text_of-events children) (text_of-events more) ∙ sym (flat_map-append told (events children) (leaves own ∷ events more))
 text_of-events (passes_tag h own more) = text_of-events more
 text_of-events (meets_fault e more) = text_of-events more
+
+-- rows: the events of handles come of the first handle and of those behind it
+
+module _ (enters : List ℕ → Bool) (nodes : List Node) where
+  pub events-nil : (path : List ℕ) → events (walk enters nodes path []) ≡ []
+  events-nil path = ap events (walk-nil enters nodes path)
+
+  pub events-dangling : (path : List ℕ) (h : ℕ) (hs : List ℕ) → slice_get nodes h ≡ None →
+      events (walk enters nodes path (h ∷ hs)) ≡ faulty (Dangling h) ∷ events (walk enters nodes path hs)
+  events-dangling path h hs is = ap events (walk-cons enters nodes path h hs (stands_on path h) None refl is)
+
+  pub events-cycle : (path : List ℕ) (h : ℕ) (hs : List ℕ) (node : Node) → slice_get nodes h ≡ Some node → stands_on path h ≡ true →
+      events (walk enters nodes path (h ∷ hs)) ≡ faulty (Cycle h) ∷ events (walk enters nodes path hs)
+  events-cycle path h hs node is stands = ap events (walk-cons enters nodes path h hs true (Some node) stands is)
+
+  pub events-text : (path : List ℕ) (h : ℕ) (hs : List ℕ) (bytes : List ℕ) → slice_get nodes h ≡ Some (Raw bytes) → stands_on path h ≡ false →
+      events (walk enters nodes path (h ∷ hs)) ≡ meets h (Raw bytes) ∷ events (walk enters nodes path hs)
+  events-text path h hs bytes is new = ap events (walk-cons enters nodes path h hs false (Some (Raw bytes)) new is)
+
+  pub events-comment : (path : List ℕ) (h : ℕ) (hs : List ℕ) (bytes : List ℕ) → slice_get nodes h ≡ Some (Comment bytes) → stands_on path h ≡ false →
+      events (walk enters nodes path (h ∷ hs)) ≡ meets h (Comment bytes) ∷ events (walk enters nodes path hs)
+  events-comment path h hs bytes is new = ap events (walk-cons enters nodes path h hs false (Some (Comment bytes)) new is)
+
+  -- a tag that is entered
+  pub events-tag : (path : List ℕ) (h : ℕ) (hs : List ℕ) (own : TagNode) → slice_get nodes h ≡ Some (Tag own) → stands_on path h ≡ false → enters own.name ≡ true →
+      events (walk enters nodes path (h ∷ hs))
+      ≡ meets h (Tag own) ∷ (events (walk enters nodes (h ∷ path) own.children.items) ++ (leaves own ∷ events (walk enters nodes path hs)))
+  events-tag path h hs own is new open_ =
+      let behind : Walk = walk enters nodes path hs in
+      ap events (walk-cons enters nodes path h hs false (Some (Tag own)) new is ∙ ap (tag_walk enters nodes (walk enters nodes (h ∷ path)) h behind own) open_)
+
+  -- a tag that is passed by
+  pub events-passed : (path : List ℕ) (h : ℕ) (hs : List ℕ) (own : TagNode) → slice_get nodes h ≡ Some (Tag own) → stands_on path h ≡ false → enters own.name ≡ false →
+      events (walk enters nodes path (h ∷ hs)) ≡ meets h (Tag own) ∷ events (walk enters nodes path hs)
+  events-passed path h hs own is new closed =
+      let behind : Walk = walk enters nodes path hs in
+      ap events (walk-cons enters nodes path h hs false (Some (Tag own)) new is ∙ ap (tag_walk enters nodes (walk enters nodes (h ∷ path)) h behind own) closed)
+
+  -- a node on which a call is made, where it is a tag
+
+  pub walk_of-tag : (own : TagNode) → enters own.name ≡ true → walk_of enters nodes (Tag own) ≡ meets_tag 0 own (walk enters nodes [] own.children.items) end
+  walk_of-tag own open_ = ap (tag_walk enters nodes (walk enters nodes []) 0 end own) open_
+
+  pub walk_of-passed : (own : TagNode) → enters own.name ≡ false → walk_of enters nodes (Tag own) ≡ passes_tag 0 own end
+  walk_of-passed own closed = ap (tag_walk enters nodes (walk enters nodes []) 0 end own) closed
 
 -- which tags are entered
 
@@ -122,3 +168,11 @@ print-walk nodes path hs = print-events (walk shows nodes path hs) (Enters-walk 
 
 pub print-walk_of : (nodes : List Node) (node : Node) → print (trees (walk_of shows nodes node)) ≡ flat_map printed (events (walk_of shows nodes node))
 print-walk_of nodes node = print-events (walk_of shows nodes node) (Enters-walk_of shows nodes node)
+
+-- answers: the first fault among the events, or what all of them say
+
+pub answer-printed : (w : Walk) → Enters shows w → answer print w ≡ unless (fault_among (events w)) (flat_map printed (events w))
+answer-printed w shown = ap₂ unless (first_fault-events w) (print-events w shown)
+
+pub answer-told : (w : Walk) → answer text_of w ≡ unless (fault_among (events w)) (flat_map told (events w))
+answer-told w = ap₂ unless (first_fault-events w) (text_of-events w)
