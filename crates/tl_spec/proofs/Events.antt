@@ -8,7 +8,7 @@ use Rattle.tl_spec.specs.ByteClass.{is_printed_alone}
 use Rattle.tl_spec.specs.Document.{Comment, Node, Raw, Tag, TagNode}
 use Rattle.tl_spec.specs.Print.{print, print_end, print_start, printed}
 use Rattle.tl_spec.specs.Text.{text_of, told}
-use Rattle.tl_spec.specs.Walk.{Cycle, Dangling, Event, Fault, Walk, answer, end, events, fault_among, faulty, first_fault, handle_walk, leaves, meets, meets_comment, meets_fault, meets_tag, meets_text, node_walk, or_else, passes_tag, plain_node, row_walk, shows, stands_on, tag_walk, trees, unless, walk, walk_of, walk_within}
+use Rattle.tl_spec.specs.Walk.{Cycle, Dangling, Event, Walk, answer, end, events, fault_among, faulty, first_fault, handle_walk, leaves, meets, meets_comment, meets_fault, meets_tag, meets_text, node_walk, or_else, passes_tag, plain_node, row_walk, shows, stands_on, tag_walk, trees, unless, walk, walk_of, walk_within}
 use Rattle.tl_spec.proofs.Walks.{walk-cons, walk-nil}
 
 -- faults
@@ -151,9 +151,9 @@ print-events (meets_tag h own children more) shown =
     ap (λ s. (start ++ s) ++ behind) (if_flipped (is_printed_alone own.name) true [] (inner ++ end_tag) shown.0)
     ∙ append_assoc start (inner ++ end_tag) behind
     ∙ ap (λ s. start ++ s) (
-        append_assoc inner end_tag behind
-        ∙ ap₂ (λ s t. s ++ (end_tag ++ t)) (print-events children shown.1) (print-events more shown.2)
-        ∙ sym (flat_map-append printed (events children) (leaves own ∷ events more)))
+    append_assoc inner end_tag behind
+    ∙ ap₂ (λ s t. s ++ (end_tag ++ t)) (print-events children shown.1) (print-events more shown.2)
+    ∙ sym (flat_map-append printed (events children) (leaves own ∷ events more)))
 print-events (passes_tag h own more) shown =
     let start : List ℕ = print_start (plain_node own) in
     let behind : List ℕ = print (trees more) in

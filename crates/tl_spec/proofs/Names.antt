@@ -1,5 +1,5 @@
 -- All that the proofs use of the class of a name's bytes: a change of the class is a change of this file.
-use Rattle.std.proofs.Common.{◌≡◌, ℕ, Bool, true, false, ◌||◌, ◌==◌, List, codes, refl, ap₂}
+use Rattle.std.proofs.Common.{◌≡◌, ℕ, true, false, ◌||◌, ◌==◌, codes, refl, ap₂}
 use Rattle.tl_spec.specs.ByteClass.{is_blank, is_closing, is_ident, is_name}
 use Rattle.tl_spec.specs.Clean.{IsName}
 use Rattle.tl_spec.proofs.Bytes.{not_this}

@@ -5,9 +5,9 @@ use Rattle.std.specs.List.{list_all, starts_with}
 use Rattle.tl_spec.specs.ByteClass.{is_blank, is_name, is_void, less, slash, bang, quote}
 use Rattle.tl_spec.specs.Runs.{behind}
 use Rattle.tl_spec.specs.Attribute.{Pair}
-use Rattle.tl_spec.specs.AttributeList.{Attributes, printed_pairs, HasOwnKeys}
+use Rattle.tl_spec.specs.AttributeList.{printed_pairs, HasOwnKeys}
 use Rattle.tl_spec.specs.Forest.{Forest, none, text, comment, tag, PlainTag}
-use Rattle.tl_spec.specs.Document.{Document, Node, Tag, Raw, Comment}
+use Rattle.tl_spec.specs.Document.{Node, Tag, Raw, Comment}
 use Rattle.tl_spec.specs.Walk.{Walk, end, meets_text, meets_comment, meets_tag, passes_tag, meets_fault, shows, walk, plain_node, plain_attributes}
 
 -- a nonempty run of name bytes that doesn't start with `/`

@@ -4,7 +4,7 @@ use Rattle.std.specs.List.{list_any, between}
 use Rattle.tl_spec.specs.Inline.{InlineVec, InlineMap}
 use Rattle.tl_spec.specs.Attribute.{Pair}
 use Rattle.tl_spec.specs.AttributeList.{AttributesOf, Attributes}
-use Rattle.tl_spec.specs.Token.{Token, Piece, Doctype, tokens}
+use Rattle.tl_spec.specs.Token.{Token, Doctype, tokens}
 use Rattle.tl_spec.specs.Forest.{Forest, none, text, comment, tag, SourceTag, forest}
 
 -- handles in a list with room for two inline
