@@ -20,6 +20,7 @@ abbrev pub IsCleanValue : Option (List ℕ) → Type 0
 IsCleanValue None = ⊤
 IsCleanValue (Some v) = IsTrue (list_all (λ b. not (b == quote)) v)
 
+-- keys that are names, with clean values
 abbrev pub AreCleanPairs : List Pair → Type 0
 AreCleanPairs [] = ⊤
 AreCleanPairs (p ∷ ps) = IsName p.0 × IsCleanValue p.1 × AreCleanPairs ps
@@ -42,6 +43,7 @@ pub record HasCommentForm (bytes : List ℕ) : Type 0 where
   pub opens : IsTrue (starts_with ◌==◌ inside (codes "--"))
   pub ends : behind (codes "-->") inside ≡ Some []
 
+-- empty, or of that form
 abbrev pub IsCleanComment : List ℕ → Type 0
 IsCleanComment [] = ⊤
 IsCleanComment (b ∷ bytes) = HasCommentForm (b ∷ bytes)

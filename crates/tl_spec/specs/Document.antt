@@ -15,6 +15,7 @@ Handles = InlineVec ℕ
 abbrev pub Entries : Type 0
 Entries = InlineMap (List ℕ) (Option (List ℕ))
 
+-- a tag, with the handles of its children, its bytes in the text, and the place of its `<`
 pub record TagNode : Type 0 where
   pub name : List ℕ
   pub attributes : AttributesOf Entries
@@ -22,11 +23,13 @@ pub record TagNode : Type 0 where
   pub raw : List ℕ
   pub start : ℕ
 
+-- a tag, a text or a comment
 pub data Node : Type 0 where
   Tag : TagNode → Node
   Raw : List ℕ → Node
   Comment : List ℕ → Node
 
+-- the table of nodes, the handles of the top, and whether the version is HTML5
 pub record Document : Type 0 where
   pub nodes : List Node
   pub top : List ℕ
@@ -36,9 +39,11 @@ pub record Document : Type 0 where
 abbrev pub held_items : List ℕ → Handles
 held_items items = record { items = items; on_heap = nat_lt 2 (length items) }
 
+-- the map after inserts of distinct keys into an empty one
 abbrev pub held_entries : List Pair → Entries
 held_entries entries = record { entries = entries; on_heap = nat_lt 2 (length entries) }
 
+-- attributes just read
 abbrev pub held_attributes : Attributes → AttributesOf Entries
 held_attributes a = record { others = held_entries a.others; id = a.id; class = a.class }
 

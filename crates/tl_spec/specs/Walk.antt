@@ -86,6 +86,7 @@ first_fault (meets_fault e more) = Some e
 abbrev pub plain_attributes : AttributesOf Entries → Attributes
 plain_attributes a = record { others = a.others.entries; id = a.id; class = a.class }
 
+-- a tag without its children and its place
 abbrev pub plain_node : TagNode → PlainTag
 plain_node own = record { name = own.name; attributes = plain_attributes own.attributes }
 
@@ -126,6 +127,7 @@ pub data Event : Type 0 where
   leaves : TagNode → Event
   faulty : Fault → Event
 
+-- the events of a walk
 abbrev pub events : Walk → List Event
 events end = []
 events (meets_text h bytes more) = meets h (Raw bytes) ∷ events more

@@ -14,45 +14,39 @@ ghost use Rattle.tl_spec.specs.Normal.{ReadsAs};
 #[tactic(auto, using(crate::proofs::All::laws))]
 pub fn tokens_stand()
     ensures { (t : List ℕ) (ks : List Piece) → StandFrom t 0 ks ↔ (ks ≡ tokens t) }
-{
-}
+{}
 
 /// The siblings at the front of some tokens come of the first token and the siblings behind it.
 #[tactic(auto, using(crate::proofs::All::laws))]
 pub fn siblings_by_token()
     ensures none { (enclosing : Option (List ℕ)) → siblings enclosing [] ≡ no_siblings }
     ensures step { (enclosing : Option (List ℕ)) (k : Piece) (ks : List Piece) → siblings enclosing (k ∷ ks) ≡ with_token siblings enclosing k ks k.token }
-{
-}
+{}
 
 /// The rules by cases hold of the siblings, and of nothing else.
 #[tactic(auto, using(crate::proofs::All::laws))]
 pub fn siblings_by_rules()
     ensures { (enclosing : Option (List ℕ)) (ks : List Piece) (s : Siblings) → Makes enclosing ks s ↔ (s ≡ siblings enclosing ks) }
-{
-}
+{}
 
 /// A walk goes along its handles, and below each new one on.
 #[tactic(auto, using(crate::proofs::All::laws))]
 pub fn walk_by_step()
     ensures { (enters : List ℕ → Bool) (nodes : List Node) (path : List ℕ) (hs : List ℕ) → walk enters nodes path hs ≡ row_walk enters nodes (walk enters nodes) path hs }
-{
-}
+{}
 
 /// The print of clean trees is read as their normal form, holds no doctype, and prints alike.
 #[tactic(auto, using(crate::proofs::All::laws))]
 pub fn trees_print_then_parse()
     ensures { (f : Forest PlainTag) → IsClean f → HaveOwnKeys f → ReadsAs (print f) f }
-{
-}
+{}
 
 /// A clean table has a print, and it is read as the normal form of the full walk of the top list.
 #[tactic(auto, using(crate::proofs::All::laws))]
 pub fn table_print_then_parse()
     ensures prints { (d : Document) → IsCleanTable d.nodes d.top → document_print d ≡ Ok (print (trees (walk every d.nodes [] d.top))) }
     ensures reads { (d : Document) → IsCleanTable d.nodes d.top → All NodeHasOwnKeys d.nodes → (s : List ℕ) → document_print d ≡ Ok s → ReadsAs s (trees (walk every d.nodes [] d.top)) }
-{
-}
+{}
 
 /// The full walk of a document just read meets no fault, all its nodes in the order of the table, and the trees of its tokens.
 #[tactic(auto, using(crate::proofs::All::laws))]
@@ -60,8 +54,7 @@ pub fn document_walk()
     ensures faultless { (t : List ℕ) → first_fault (walk every (document t).nodes [] (document t).top) ≡ None }
     ensures ordered { (t : List ℕ) → visits (walk every (document t).nodes [] (document t).top) ≡ visits_from 0 (document t).nodes }
     ensures whole { (t : List ℕ) → trees (walk every (document t).nodes [] (document t).top) ≡ plain (forest (tokens t)) }
-{
-}
+{}
 
 /// What was just read is clean, but for empty keys, a `"` inside a value and the tag `command`; keys are distinct in any case.
 #[tactic(auto, using(crate::proofs::All::laws))]
@@ -69,28 +62,24 @@ pub fn fresh_is_clean()
     ensures trees { (t : List ℕ) → IsTame (plain (forest (tokens t))) → IsClean (plain (forest (tokens t))) }
     ensures table { (t : List ℕ) → IsTame (plain (forest (tokens t))) → IsCleanTable (document t).nodes (document t).top }
     ensures keys { (t : List ℕ) → HaveOwnKeys (plain (forest (tokens t))) }
-{
-}
+{}
 
 /// In a document just read a child's number is above its parent's, and a tag's descendants are the nodes right behind it.
 #[tactic(auto, using(crate::proofs::All::laws))]
 pub fn document_order()
     ensures above { (t : List ℕ) (n : ℕ) (own : TagNode) → slice_get (document t).nodes n ≡ Some (Tag own) → All (λ c. n < c) own.children.items }
     ensures interval { (t : List ℕ) (n : ℕ) (own : TagNode) → slice_get (document t).nodes n ≡ Some (Tag own) → (count : ℕ) × (visits (walk every (document t).nodes [] own.children.items) ≡ visits_from (n + 1) (take count (drop (n + 1) (document t).nodes))) }
-{
-}
+{}
 
 /// A document just read has no more nodes and attributes than its text has bytes.
 #[tactic(auto, using(crate::proofs::All::laws))]
 pub fn document_size()
     ensures { (t : List ℕ) → sum_by weight (document t).nodes ≤ length t }
-{
-}
+{}
 
 /// The tokens of a text, written one after the other with the open tags at hand, make its document.
 pub fn machine_writes_document()
     ensures nodes { (t : List ℕ) → (run t start (tokens t)).nodes ≡ (document t).nodes }
     ensures top { (t : List ℕ) → (run t start (tokens t)).top ≡ (document t).top }
     ensures version { (t : List ℕ) → (run t start (tokens t)).is_html5 ≡ (document t).is_html5 }
-{
-}
+{}
