@@ -1,17 +1,36 @@
--- The machine that writes a document token by token writes the nodes and the top list of the trees of the tokens.
-use Rattle.std.proofs.Common.{◌≡◌, ℕ, zero, suc, ◌+◌, ◌<◌, ◌≤◌, ◌||◌, ◌==◌, Bool, true, false, List, [], ◌∷◌, ◌++◌, length, Option, None, Some, unwrap_or, refl, sym, ◌∙◌, ap, arith, append_assoc, append-nil, length-append}
-use Rattle.std.specs.Prelude.{slice_get, nat_lt}
-use Rattle.std.proofs.lemmas.Bool.Decides.{nat_tests}
-use Rattle.std.specs.Str.{bytes_eq}
-use Rattle.std.proofs.lemmas.Slice.Eq.{bytes_eq-Decides}
+-- What one step of the machine keeps, and what many keep.
+use Rattle.std.proofs.Common.{◌≡◌, ℕ, zero, suc, ◌+◌, ◌<◌, ◌≤◌, ◌≢◌, ◌||◌, ◌⊎◌, inl, inr, Bool, true, false, List, [], ◌∷◌, ◌++◌, length, Option, None, Some, refl, sym, ◌∙◌, ap, subst, arith, set, length-append, All}
+use Rattle.std.specs.Prelude.{slice_get, fold}
+use Rattle.std.specs.List.{list_any}
+use Rattle.std.proofs.Math.Bool.{or-false}
+use Rattle.std.proofs.lemmas.Option.{slice_get_within}
+use Rattle.std.proofs.lemmas.List.Elements.{All-nil, All-cons, All-tail, All-weaker, All-head, All-same}
+use Rattle.std.proofs.lemmas.List.Sums.{fold-append, fold_push}
 use Rattle.tl_spec.specs.ByteClass.{is_void}
-use Rattle.tl_spec.specs.Token.{Piece, Text, End, Comment, Doctype, Start, Nothing, tokens}
-use Rattle.tl_spec.specs.Forest.{Forest, none, text, comment, tag, SourceTag, Siblings, led_by, started, closes, siblings, forest, Makes, over, a_text, a_comment, alone, opened, ended, stray, a_doctype, dropped}
-use Rattle.tl_spec.specs.Document.{Node, Tag, Raw, Comment as Remark, held_items, size, numbers, tag_node, nodes, document}
-use Rattle.tl_spec.specs.Machine.{State, start, change_at, with_item, with_child, with_raw_to, name_of, enclosing_name, added, opened as entered, closed, after_start, after_end, run}
-use Rattle.tl_spec.proofs.Siblings.{closes-stray, siblings-Makes}
+use Rattle.tl_spec.specs.Token.{Token, Piece, Text, End, Comment, Doctype, Start, Nothing, StandFrom, IsTokenAt}
+use Rattle.tl_spec.specs.Forest.{closes}
+use Rattle.tl_spec.specs.Document.{Node, TagNode, Tag, Raw, Comment as Remark, is_html5_doctype}
+use Rattle.tl_spec.specs.Machine.{State, start, change_at, with_child, with_raw_to, name_of, enclosing_name, adopted_by, adopted, added, opened, closed_by, closed, start_node, after_start, after_end, after_token, step, run, IsOpen, AreOpen}
 
--- one item of a list that stands between others
+-- a list with one item changed
+
+pub length-change_at : {A : Type 0} (f : A → A) (i : ℕ) (xs : List A) → length (change_at f i xs) ≡ length xs
+length-change_at f i [] = refl
+length-change_at f zero (x ∷ xs) = refl
+length-change_at f (suc i) (x ∷ xs) = ap suc (length-change_at f i xs)
+
+-- as a write of the changed item
+pub change_at-set : {A : Type 0} (f : A → A) (i : ℕ) (xs : List A) (x : A) → slice_get xs i ≡ Some x → change_at f i xs ≡ set xs i (f x)
+change_at-set f i [] x e = refl
+change_at-set f zero (y ∷ xs) x e = let same : y ≡ x = cc in ap (λ z. f z ∷ xs) same
+change_at-set f (suc i) (y ∷ xs) x e = ap (λ ys. y ∷ ys) (change_at-set f i xs x e)
+
+-- past the end nothing changes
+pub change_at-past : {A : Type 0} (f : A → A) (i : ℕ) (xs : List A) → length xs ≤ i → change_at f i xs ≡ xs
+change_at-past f i [] h = refl
+change_at-past f zero (x ∷ xs) h = absurd (omega arith)
+change_at-past f (suc i) (x ∷ xs) h = ap (λ ys. x ∷ ys) (change_at-past f i xs (omega arith))
+
 pub change_at-middle : {A : Type 0} (f : A → A) (before : List A) (x : A) (behind : List A) → change_at f (length before) (before ++ x ∷ behind) ≡ before ++ f x ∷ behind
 change_at-middle f [] x behind = refl
 change_at-middle f (y ∷ before) x behind = ap (λ xs. y ∷ xs) (change_at-middle f before x behind)
@@ -20,275 +39,257 @@ pub slice_get-middle : {A : Type 0} (before : List A) (x : A) (behind : List A) 
 slice_get-middle [] x behind = refl
 slice_get-middle (y ∷ before) x behind = slice_get-middle before x behind
 
--- one more item
-pub with_item-held : (xs : List ℕ) (x : ℕ) → with_item (held_items xs) x ≡ held_items (xs ++ x ∷ [])
-with_item-held xs x =
-    let longer = length-append xs (x ∷ []) in
-    let flag : (nat_lt 2 (length xs) || (length xs == 2)) ≡ nat_lt 2 (length (xs ++ x ∷ [])) = grind (arith, nat_tests) in
-    ap (λ on_heap. record { items = xs ++ x ∷ []; on_heap = on_heap }) flag
+pub slice_get-append : {A : Type 0} (xs ys : List A) (i : ℕ) (x : A) → slice_get xs i ≡ Some x → slice_get (xs ++ ys) i ≡ Some x
+slice_get-append [] ys i x e = absurd (cc)
+slice_get-append (y ∷ xs) ys zero x e = e
+slice_get-append (y ∷ xs) ys (suc i) x e = slice_get-append xs ys i x e
 
--- what stands around the trees that are written: the top list alone, or also nodes, an open tag behind them with its first children, and the tags around it
-data Frame : Type 0 where
-  at_top : (top : List ℕ) → Frame
-  inside : (before : List Node) (own : SourceTag) (children outer top : List ℕ) → Frame
+pub slice_get-change_at : {A : Type 0} (f : A → A) (i : ℕ) (xs : List A) (x : A) → slice_get xs i ≡ Some x → slice_get (change_at f i xs) i ≡ Some (f x)
+slice_get-change_at f i [] x e = absurd (cc)
+slice_get-change_at f zero (y ∷ xs) x e = let same : y ≡ x = cc in ap (λ z. Some (f z)) same
+slice_get-change_at f (suc i) (y ∷ xs) x e = slice_get-change_at f i xs x e
 
--- more numbers at the end of the innermost list
-abbrev adopting : Frame → List ℕ → Frame
-adopting (at_top top) ns = at_top (top ++ ns)
-adopting (inside before own children outer top) ns = inside before own (children ++ ns) outer top
+pub slice_get-change_at_other : {A : Type 0} (f : A → A) (i j : ℕ) (xs : List A) → j ≢ i → slice_get (change_at f i xs) j ≡ slice_get xs j
+slice_get-change_at_other f i j [] ne = refl
+slice_get-change_at_other f zero zero (x ∷ xs) ne = absurd (ne refl)
+slice_get-change_at_other f zero (suc j) (x ∷ xs) ne = refl
+slice_get-change_at_other f (suc i) zero (x ∷ xs) ne = refl
+slice_get-change_at_other f (suc i) (suc j) (x ∷ xs) ne = slice_get-change_at_other f i j xs (λ e. ne (ap suc e))
 
-abbrev name_at : Frame → Option (List ℕ)
-name_at (at_top top) = None
-name_at (inside before own children outer top) = Some own.name
+-- an item is changed or not
+slice_get-change_at_either : {A : Type 0} (f : A → A) (i j : ℕ) (xs : List A) (x : A) → slice_get xs j ≡ Some x →
+    (slice_get (change_at f i xs) j ≡ Some x) ⊎ (slice_get (change_at f i xs) j ≡ Some (f x))
+slice_get-change_at_either f i j [] x e = inl e
+slice_get-change_at_either f zero zero (y ∷ xs) x e = let same : y ≡ x = cc in inr (ap (λ z. Some (f z)) same)
+slice_get-change_at_either f zero (suc j) (y ∷ xs) x e = inl e
+slice_get-change_at_either f (suc i) zero (y ∷ xs) x e = inl e
+slice_get-change_at_either f (suc i) (suc j) (y ∷ xs) x e = slice_get-change_at_either f i j xs x e
 
-abbrev open_at : Frame → List ℕ
-open_at (at_top top) = []
-open_at (inside before own children outer top) = length before ∷ outer
+-- where a number goes, by the open tags
 
-abbrev top_at : Frame → List ℕ
-top_at (at_top top) = top
-top_at (inside before own children outer top) = top
+pub adopted-top : (n : ℕ) (s : State) → s.open_tags ≡ [] → adopted n s ≡ record s { top = s.top ++ n ∷ [] }
+adopted-top n s e = ap (adopted_by n s) e
 
-adopting-nil : (p : Frame) → adopting p [] ≡ p
-adopting-nil (at_top top) = ap at_top (append-nil top)
-adopting-nil (inside before own children outer top) = ap (λ cs. inside before own cs outer top) (append-nil children)
+pub adopted-inside : (n : ℕ) (s : State) (p : ℕ) (ps : List ℕ) → s.open_tags ≡ p ∷ ps → adopted n s ≡ record s { nodes = change_at (with_child n) p s.nodes }
+adopted-inside n s p ps e = ap (adopted_by n s) e
 
-adopting-twice : (p : Frame) (ms ns : List ℕ) → adopting (adopting p ms) ns ≡ adopting p (ms ++ ns)
-adopting-twice (at_top top) ms ns = ap at_top (append_assoc top ms ns)
-adopting-twice (inside before own children outer top) ms ns = ap (λ cs. inside before own cs outer top) (append_assoc children ms ns)
+pub closed-inside : (t : List ℕ) (to : ℕ) (s : State) (p : ℕ) (ps : List ℕ) → s.open_tags ≡ p ∷ ps →
+    closed t to s ≡ record s { nodes = change_at (with_raw_to t to) p s.nodes; open_tags = ps }
+closed-inside t to s p ps e = ap (closed_by t to s) e
 
-name_at-adopting : (p : Frame) (ns : List ℕ) → name_at (adopting p ns) ≡ name_at p
-name_at-adopting (at_top top) ns = refl
-name_at-adopting (inside before own children outer top) ns = refl
+adopted_by-open_tags : (n : ℕ) (s : State) (ps : List ℕ) → (adopted_by n s ps).open_tags ≡ s.open_tags
+adopted_by-open_tags n s [] = refl
+adopted_by-open_tags n s (p ∷ ps) = refl
 
--- what counts at the end
-abbrev written : State → List Node × List ℕ
-written s = (s.nodes, s.top)
+pub added-open_tags : (x : Node) (s : State) → (added x s).open_tags ≡ s.open_tags
+added-open_tags x s = adopted_by-open_tags (length s.nodes) s s.open_tags
 
-module _ (t : List ℕ) where
-  -- all nodes, where bs are those behind the open tag
-  abbrev nodes_at : Frame → List Node → List Node
-  nodes_at (at_top top) bs = bs
-  nodes_at (inside before own children outer top) bs = before ++ Tag (tag_node t own children) ∷ bs
+-- how many nodes
 
-  abbrev count_at : Frame → List Node → ℕ
-  count_at p bs = length (nodes_at p bs)
+length-adopted_by : (n : ℕ) (s : State) (ps : List ℕ) → length (adopted_by n s ps).nodes ≡ length s.nodes
+length-adopted_by n s [] = refl
+length-adopted_by n s (p ∷ ps) = length-change_at (with_child n) p s.nodes
 
-  abbrev state : Frame → List Node → Bool → State
-  state p bs v = record { nodes = nodes_at p bs; open_tags = open_at p; top = top_at p; is_html5 = v }
+pub length-added : (x : Node) (s : State) → length (added x s).nodes ≡ length s.nodes + 1
+length-added x s =
+    length-append (adopted (length s.nodes) s).nodes (x ∷ []) ∙ ap (λ n. n + 1) (length-adopted_by (length s.nodes) s s.open_tags)
 
-  nodes_at-append : (p : Frame) (bs cs : List Node) → nodes_at p bs ++ cs ≡ nodes_at p (bs ++ cs)
-  nodes_at-append (at_top top) bs cs = refl
-  nodes_at-append (inside before own children outer top) bs cs = append_assoc before (Tag (tag_node t own children) ∷ bs) cs
+pub length-opened : (x : Node) (s : State) → length (opened x s).nodes ≡ length s.nodes + 1
+length-opened x s = length-added x s
 
-  count_at-append : (p : Frame) (ns : List ℕ) (bs cs : List Node) → count_at (adopting p ns) (bs ++ cs) ≡ count_at p bs + length cs
-  count_at-append (at_top top) ns bs cs = length-append bs cs
-  count_at-append (inside before own children outer top) ns bs cs = omega (arith, length-append {A = Node})
+length-closed_by : (t : List ℕ) (to : ℕ) (s : State) (ps : List ℕ) → length (closed_by t to s ps).nodes ≡ length s.nodes
+length-closed_by t to s [] = refl
+length-closed_by t to s (p ∷ ps) = length-change_at (with_raw_to t to) p s.nodes
 
-  count_at-adopting : (p : Frame) (ns : List ℕ) (bs : List Node) → count_at (adopting p ns) bs ≡ count_at p bs
-  count_at-adopting (at_top top) ns bs = refl
-  count_at-adopting (inside before own children outer top) ns bs = omega (arith, length-append {A = Node})
+pub length-closed : (t : List ℕ) (to : ℕ) (s : State) → length (closed t to s).nodes ≡ length s.nodes
+length-closed t to s = length-closed_by t to s s.open_tags
 
-  length-nodes : (n : ℕ) (f : Forest SourceTag) → length (nodes t n f) ≡ size f
-  length-nodes n none = refl
-  length-nodes n (text bytes more) = omega (arith, length-nodes (n + 1) more)
-  length-nodes n (comment bytes more) = omega (arith, length-nodes (n + 1) more)
-  length-nodes n (tag own children more) =
-      omega (arith, length-append (nodes t (n + 1) children) (nodes t (n + 1 + size children) more), length-nodes (n + 1) children, length-nodes (n + 1 + size children) more)
+-- at most one more
+abbrev IsGrown : State → State → Type 0
+IsGrown s r = (length s.nodes ≤ length r.nodes) × (length r.nodes ≤ length s.nodes + 1)
 
-  -- one step of the machine there
+grown-added : (x : Node) (s : State) → IsGrown s (added x s)
+grown-added x s = let e = length-added x s in (omega arith, omega arith)
 
-  enclosing_name-is : (p : Frame) (bs : List Node) → enclosing_name (nodes_at p bs) (open_at p) ≡ name_at p
-  enclosing_name-is (at_top top) bs = refl
-  enclosing_name-is (inside before own children outer top) bs = ap name_of (slice_get-middle before (Tag (tag_node t own children)) bs)
+grown-start : (t : List ℕ) (x : Node) (s : State) (alone : Bool) → IsGrown s (after_start t x s alone)
+grown-start t x s true = grown-added x s
+grown-start t x s false = grown-added x s
 
-  child-is : (own : SourceTag) (children : List ℕ) (n : ℕ) (before bs : List Node) →
-      change_at (with_child n) (length before) (before ++ Tag (tag_node t own children) ∷ bs) ≡ before ++ Tag (tag_node t own (children ++ n ∷ [])) ∷ bs
-  child-is own children n before bs =
-      change_at-middle (with_child n) before (Tag (tag_node t own children)) bs
-      ∙ ap (λ held. before ++ Tag (record (tag_node t own []) { children = held }) ∷ bs) (with_item-held children n)
+grown-end : (t : List ℕ) (to : ℕ) (s : State) (closing : Bool) → IsGrown s (after_end t to s closing)
+grown-end t to s true = let e = length-closed t to s in (omega arith, omega arith)
+grown-end t to s false = (omega arith, omega arith)
 
-  added-is : (p : Frame) (bs : List Node) (v : Bool) (x : Node) → added x (state p bs v) ≡ state (adopting p (count_at p bs ∷ [])) (bs ++ x ∷ []) v
-  added-is (at_top top) bs v x = refl
-  added-is (inside before own children outer top) bs v x =
-      let p : Frame = inside before own children outer top in
-      let n : ℕ = count_at p bs in
-      let with_nodes : List Node → State = λ xs. record (state p bs v) { nodes = xs } in
-      ap (λ xs. with_nodes (xs ++ x ∷ [])) (child-is own children n before bs)
-      ∙ ap with_nodes (nodes_at-append (adopting p (n ∷ [])) bs (x ∷ []))
+grown-token : (t : List ℕ) (k : Piece) (s : State) (token : Token) → IsGrown s (after_token t k s token)
+grown-token t k s (Text bytes) = grown-added (Raw bytes) s
+grown-token t k s (Comment bytes) = grown-added (Remark bytes) s
+grown-token t k s (Start name pairs alone) = grown-start t (start_node t k name pairs) s (alone || is_void name)
+grown-token t k s (End name) = grown-end t k.to s (closes name (enclosing_name s.nodes s.open_tags))
+grown-token t k s (Doctype html) = (omega arith, omega arith)
+grown-token t k s Nothing = (omega arith, omega arith)
 
-  -- inside a tag that opens
-  abbrev within : Frame → List Node → SourceTag → Frame
-  within p bs own = let q = adopting p (count_at p bs ∷ []) in inside (nodes_at q bs) own [] (open_at q) (top_at q)
+pub length-step-ge : (t : List ℕ) (s : State) (k : Piece) → length s.nodes ≤ length (step t s k).nodes
+length-step-ge t s k = (grown-token t k s k.token).0
 
-  entered-is : (p : Frame) (bs : List Node) (v : Bool) (own : SourceTag) → entered (Tag (tag_node t own [])) (state p bs v) ≡ state (within p bs own) [] v
-  entered-is (at_top top) bs v own = refl
-  entered-is (inside before around children outer top) bs v own =
-      let p : Frame = inside before around children outer top in
-      let n : ℕ = count_at p bs in
-      let q : Frame = adopting p (n ∷ []) in
-      let x : Node = Tag (tag_node t own []) in
-      let made : ℕ → List Node → State = λ i xs. record { nodes = xs ++ x ∷ []; open_tags = i ∷ open_at q; top = top; is_html5 = v } in
-      ap (made n) (child-is around children n before bs) ∙ ap (λ i. made i (nodes_at q bs)) (sym (count_at-adopting p (n ∷ []) bs))
+pub length-step-le : (t : List ℕ) (s : State) (k : Piece) → length (step t s k).nodes ≤ length s.nodes + 1
+length-step-le t s k = (grown-token t k s k.token).1
 
-  count_at-within : (p : Frame) (bs : List Node) (own : SourceTag) → count_at (within p bs own) [] ≡ count_at p bs + 1
-  count_at-within p bs own =
-      let q : Frame = adopting p (count_at p bs ∷ []) in
-      length-append (nodes_at q bs) (Tag (tag_node t own []) ∷ []) ∙ ap (λ n. n + 1) (count_at-adopting p (count_at p bs ∷ []) bs)
+-- the version
 
-  -- the machine behind trees
+adopted_by-html5 : (n : ℕ) (s : State) (ps : List ℕ) → (adopted_by n s ps).is_html5 ≡ s.is_html5
+adopted_by-html5 n s [] = refl
+adopted_by-html5 n s (p ∷ ps) = refl
 
-  abbrev grown : Frame → List Node → Bool → Forest SourceTag → State
-  grown p bs v f = state (adopting p (numbers (count_at p bs) f)) (bs ++ nodes t (count_at p bs) f) v
+closed_by-html5 : (t : List ℕ) (to : ℕ) (s : State) (ps : List ℕ) → (closed_by t to s ps).is_html5 ≡ s.is_html5
+closed_by-html5 t to s [] = refl
+closed_by-html5 t to s (p ∷ ps) = refl
 
-  grown-none : (p : Frame) (bs : List Node) (v : Bool) → grown p bs v none ≡ state p bs v
-  grown-none p bs v = ap (λ q. state q (bs ++ []) v) (adopting-nil p) ∙ ap (λ xs. state p xs v) (append-nil bs)
+start-html5 : (t : List ℕ) (x : Node) (s : State) (alone : Bool) → (after_start t x s alone).is_html5 ≡ s.is_html5
+start-html5 t x s true = adopted_by-html5 (length s.nodes) s s.open_tags
+start-html5 t x s false = adopted_by-html5 (length s.nodes) s s.open_tags
 
-  -- behind one tree of the nodes xs
-  grown-behind : (p : Frame) (bs xs : List Node) (v : Bool) (f : Forest SourceTag) (n : ℕ) → count_at p bs + length xs ≡ n →
-      grown (adopting p (count_at p bs ∷ [])) (bs ++ xs) v f ≡ state (adopting p (count_at p bs ∷ numbers n f)) (bs ++ (xs ++ nodes t n f)) v
-  grown-behind p bs xs v f n e =
-      let one : List ℕ = count_at p bs ∷ [] in
-      ap (λ m. state (adopting (adopting p one) (numbers m f)) ((bs ++ xs) ++ nodes t m f) v) (count_at-append p one bs xs ∙ e)
-      ∙ ap (λ q. state q ((bs ++ xs) ++ nodes t n f) v) (adopting-twice p one (numbers n f))
-      ∙ ap (λ ys. state (adopting p (count_at p bs ∷ numbers n f)) ys v) (append_assoc bs xs (nodes t n f))
+end-html5 : (t : List ℕ) (to : ℕ) (s : State) (closing : Bool) → (after_end t to s closing).is_html5 ≡ s.is_html5
+end-html5 t to s true = closed_by-html5 t to s s.open_tags
+end-html5 t to s false = refl
 
-  -- the node of a tag, and those of its children
-  abbrev tag_nodes : ℕ → SourceTag → Forest SourceTag → List Node
-  tag_nodes n own children = Tag (tag_node t own (numbers (n + 1) children)) ∷ nodes t (n + 1) children
+token-html5 : (t : List ℕ) (k : Piece) (s : State) (token : Token) → (after_token t k s token).is_html5 ≡ (s.is_html5 || is_html5_doctype token)
+token-html5 t k s (Text bytes) = adopted_by-html5 (length s.nodes) s s.open_tags ∙ sym (or-false s.is_html5)
+token-html5 t k s (Comment bytes) = adopted_by-html5 (length s.nodes) s s.open_tags ∙ sym (or-false s.is_html5)
+token-html5 t k s (Start name pairs alone) = start-html5 t (start_node t k name pairs) s (alone || is_void name) ∙ sym (or-false s.is_html5)
+token-html5 t k s (End name) = end-html5 t k.to s (closes name (enclosing_name s.nodes s.open_tags)) ∙ sym (or-false s.is_html5)
+token-html5 t k s (Doctype html) = refl
+token-html5 t k s Nothing = sym (or-false s.is_html5)
 
-  grown-tag : (p : Frame) (bs : List Node) (own : SourceTag) (children : Forest SourceTag) (v : Bool) (f : Forest SourceTag) →
-      grown (adopting p (count_at p bs ∷ [])) (bs ++ tag_nodes (count_at p bs) own children) v f ≡ grown p bs v (tag own children f)
-  grown-tag p bs own children v f =
-      let n : ℕ = count_at p bs in
-      grown-behind p bs (tag_nodes n own children) v f (n + 1 + size children) (omega (arith, length-nodes (n + 1) children))
+pub step-html5 : (t : List ℕ) (s : State) (k : Piece) → (step t s k).is_html5 ≡ (s.is_html5 || is_html5_doctype k.token)
+step-html5 t s k = token-html5 t k s k.token
 
-  -- an end tag that ends at a place, if there was one
-  abbrev shut : Option ℕ → State → State
-  shut None s = s
-  shut (Some to) s = closed t to s
+or_assoc : (a b c : Bool) → ((a || b) || c) ≡ (a || (b || c))
+or_assoc true b c = refl
+or_assoc false b c = refl
 
-  closed-is : (p : Frame) (bs : List Node) (own : SourceTag) (to : ℕ) (ns : List ℕ) (xs : List Node) (v : Bool) →
-      closed t to (state (adopting (within p bs own) ns) xs v) ≡ state (adopting p (count_at p bs ∷ [])) (bs ++ Tag (tag_node t (record own { to = to }) ns) ∷ xs) v
-  closed-is p bs own to ns xs v =
-      let q : Frame = adopting p (count_at p bs ∷ []) in
-      let with_nodes : List Node → State = λ ys. record (state q [] v) { nodes = ys } in
-      ap with_nodes (change_at-middle (with_raw_to t to) (nodes_at q bs) (Tag (tag_node t own ns)) xs
-        ∙ nodes_at-append q bs (Tag (tag_node t (record own { to = to }) ns) ∷ xs))
+pub run-html5 : (t : List ℕ) (s : State) (ks : List Piece) → (run t s ks).is_html5 ≡ (s.is_html5 || list_any (λ k. is_html5_doctype k.token) ks)
+run-html5 t s [] = sym (or-false s.is_html5)
+run-html5 t s (k ∷ ks) =
+    run-html5 t (step t s k) ks
+    ∙ ap (λ v. v || list_any (λ k. is_html5_doctype k.token) ks) (step-html5 t s k)
+    ∙ or_assoc s.is_html5 (is_html5_doctype k.token) (list_any (λ k. is_html5_doctype k.token) ks)
 
-  -- the rest of the tokens behind a tag's children and its end
-  after-children : (p : Frame) (bs : List Node) (own : SourceTag) (f : Forest SourceTag) (v : Bool) (closed_at : Option ℕ) (left : List Piece) → (closed_at ≡ None → left ≡ []) →
-      written (run t (shut closed_at (grown (within p bs own) [] v f)) left)
-      ≡ written (run t (state (adopting p (count_at p bs ∷ [])) (bs ++ tag_nodes (count_at p bs) (record own { to = unwrap_or closed_at own.to }) f) v) left)
-  after-children p bs own f v (Some to) left rests =
-      let made : ℕ → State = λ n. state (adopting (within p bs own) (numbers n f)) (nodes t n f) v in
-      let n : ℕ = count_at p bs + 1 in
-      ap (λ n. written (run t (closed t to (made n)) left)) (count_at-within p bs own)
-      ∙ ap (λ s. written (run t s left)) (closed-is p bs own to (numbers n f) (nodes t n f) v)
-  after-children p bs own f v None left rests =
-      let q : Frame = adopting p (count_at p bs ∷ []) in
-      let made : ℕ → State = λ n. state (adopting (within p bs own) (numbers n f)) (nodes t n f) v in
-      let last : State = state q (bs ++ tag_nodes (count_at p bs) own f) v in
-      ap (λ ks. written (run t (grown (within p bs own) [] v f) ks)) (rests refl)
-      ∙ ap (λ n. written (made n)) (count_at-within p bs own)
-      ∙ ap (λ xs. (xs, top_at q)) (nodes_at-append q bs (tag_nodes (count_at p bs) own f))
-      ∙ ap (λ ks. written (run t last ks)) (sym (rests refl))
+-- the open tags
 
--- trees that no end tag ended leave no token
-left-none : {o : Option (List ℕ)} {ks : List Piece} {s : Siblings} → Makes o ks s → s.closed_at ≡ None → s.left ≡ []
-left-none over e = refl
-left-none (a_text m) e = left-none m e
-left-none (a_comment m) e = left-none m e
-left-none (alone v m) e = left-none m e
-left-none (opened v inner m) e = left-none m e
-left-none ended e = cc
-left-none (stray h m) e = left-none m e
-left-none (a_doctype m) e = left-none m e
-left-none (dropped m) e = left-none m e
+pub IsOpen-later : (i j : ℕ) (xs : List Node) (p : ℕ) → i ≤ j → IsOpen i xs p → IsOpen j xs p
+IsOpen-later i j xs p le h = record { own = h.own; found = h.found; begun = omega (arith, h.begun) }
 
--- at the top no end tag ends the trees
-closed_at-top : {o : Option (List ℕ)} {ks : List Piece} {s : Siblings} → Makes o ks s → o ≡ None → s.closed_at ≡ None
-closed_at-top over e = refl
-closed_at-top (a_text m) e = closed_at-top m e
-closed_at-top (a_comment m) e = closed_at-top m e
-closed_at-top (alone v m) e = closed_at-top m e
-closed_at-top (opened v inner m) e = closed_at-top m e
-closed_at-top ended e = absurd (cc)
-closed_at-top (stray h m) e = closed_at-top m e
-closed_at-top (a_doctype m) e = closed_at-top m e
-closed_at-top (dropped m) e = closed_at-top m e
+pub IsOpen-within : (i : ℕ) (xs : List Node) (p : ℕ) → IsOpen i xs p → p < length xs
+IsOpen-within i xs p h = slice_get_within xs p (Tag h.own) h.found
 
-module _ (t : List ℕ) where
-  -- the run goes on behind the siblings
-  abbrev after : Siblings → Frame → List Node → Bool → List Node × List ℕ
-  after s p bs v = written (run t (shut t s.closed_at (grown t p bs v s.trees)) s.left)
+pub IsOpen-append : (i : ℕ) (xs ys : List Node) (p : ℕ) → IsOpen i xs p → IsOpen i (xs ++ ys) p
+IsOpen-append i xs ys p h = record { own = h.own; found = slice_get-append xs ys p (Tag h.own) h.found; begun = h.begun }
 
-  -- with some version, which nothing but a doctype looks at
-  abbrev Leads : List Node × List ℕ → Siblings → Frame → List Node → Type 0
-  Leads found s p bs = (v : Bool) × (found ≡ after s p bs v)
+-- a change by which a tag stays one that begins there
+abbrev KeepsStart : (Node → Node) → Type 0
+KeepsStart f = (own : TagNode) → (new : TagNode) × (f (Tag own) ≡ Tag new) × (new.start ≡ own.start)
 
-  abbrev next : Frame → List Node → Frame
-  next p bs = adopting p (count_at t p bs ∷ [])
+IsOpen-change_at : (f : Node → Node) → KeepsStart f → (i q : ℕ) (xs : List Node) (p : ℕ) → IsOpen i xs p → IsOpen i (change_at f q xs) p
+IsOpen-change_at f keeps i q xs p h =
+    elim (slice_get-change_at_either f q p xs (Tag h.own) h.found) [
+      inl e ↦ record { own = h.own; found = e; begun = h.begun }
+    | inr e ↦ (let k = keeps h.own in record { own = k.0; found = e ∙ ap (λ (x : Node). Some x) k.1; begun = omega (arith, k.2, h.begun) }) ]
 
-  -- one tree more, of the nodes xs
-  one-more : (tree : Forest SourceTag → Forest SourceTag) (p : Frame) (bs xs : List Node) →
-      ((v : Bool) (f : Forest SourceTag) → grown t (next p bs) (bs ++ xs) v f ≡ grown t p bs v (tree f)) →
-      (s : Siblings) (found more : List Node × List ℕ) → found ≡ more → Leads more s (next p bs) (bs ++ xs) → Leads found (led_by tree s) p bs
-  one-more tree p bs xs grows s found more e h =
-      (h.0, e ∙ h.1 ∙ ap (λ g. written (run t (shut t s.closed_at g) s.left)) (grows h.0 s.trees))
+child-keeps : (n : ℕ) → KeepsStart (with_child n)
+child-keeps n own = (_, refl, refl)
 
-  writes : {o : Option (List ℕ)} {ks : List Piece} {s : Siblings} → Makes o ks s → (p : Frame) → name_at p ≡ o → (bs : List Node) (v : Bool) →
-      Leads (written (run t (state t p bs v) ks)) s p bs
-  writes over p e bs v = (v, ap written (sym (grown-none t p bs v)))
-  writes (a_text {bytes = bytes} {ks = ks} {s = s} m) p e bs v =
-      let x : Node = Raw bytes in
-      one-more (text bytes) p bs (x ∷ []) (λ w f. grown-behind t p bs (x ∷ []) w f (count_at t p bs + 1) refl) s _ _
-        (ap (λ s. written (run t s ks)) (added-is t p bs v x))
-        (writes m (next p bs) (name_at-adopting p (count_at t p bs ∷ []) ∙ e) (bs ++ x ∷ []) v)
-  writes (a_comment {bytes = bytes} {ks = ks} {s = s} m) p e bs v =
-      let x : Node = Remark bytes in
-      one-more (comment bytes) p bs (x ∷ []) (λ w f. grown-behind t p bs (x ∷ []) w f (count_at t p bs + 1) refl) s _ _
-        (ap (λ s. written (run t s ks)) (added-is t p bs v x))
-        (writes m (next p bs) (name_at-adopting p (count_at t p bs ∷ []) ∙ e) (bs ++ x ∷ []) v)
-  writes (alone {name = name} {pairs = pairs} {c = c} {i = i} {j = j} {ks = ks} {s = s} stands m) p e bs v =
-      let own : SourceTag = started (record { token = Start name pairs c; from = i; to = j }) name pairs in
-      let x : Node = Tag (tag_node t own []) in
-      one-more (tag own none) p bs (x ∷ []) (grown-tag t p bs own none) s _ _
-        (ap (λ b. written (run t (after_start t x (state t p bs v) b) ks)) stands ∙ ap (λ s. written (run t s ks)) (added-is t p bs v x))
-        (writes m (next p bs) (name_at-adopting p (count_at t p bs ∷ []) ∙ e) (bs ++ x ∷ []) v)
-  writes (opened {name = name} {pairs = pairs} {c = c} {i = i} {j = j} {ks = ks} {inner = inner} {s = s} opens children m) p e bs v =
-      let own : SourceTag = started (record { token = Start name pairs c; from = i; to = j }) name pairs in
-      let whole : SourceTag = record own { to = unwrap_or inner.closed_at j } in
-      let x : Node = Tag (tag_node t own []) in
-      let xs : List Node = tag_nodes t (count_at t p bs) whole inner.trees in
-      let below = writes children (within t p bs own) refl [] v in
-      one-more (tag whole inner.trees) p bs xs (grown-tag t p bs whole inner.trees) s _ _
-        (ap (λ b. written (run t (after_start t x (state t p bs v) b) ks)) opens
-          ∙ ap (λ s. written (run t s ks)) (entered-is t p bs v own)
-          ∙ below.1
-          ∙ after-children t p bs own inner.trees below.0 inner.closed_at inner.left (left-none children))
-        (writes m (next p bs) (name_at-adopting p (count_at t p bs ∷ []) ∙ e) (bs ++ xs) below.0)
-  writes (ended {name = name} {i = i} {j = j} {ks = ks}) p e bs v =
-      let s : State = state t p bs v in
-      (v, ap (λ o. written (run t (after_end t j s (closes name o)) ks)) (enclosing_name-is t p bs ∙ e)
-        ∙ ap (λ b. written (run t (after_end t j s b) ks)) ((bytes_eq-Decides name name).1 refl)
-        ∙ ap (λ s. written (run t (closed t j s) ks)) (sym (grown-none t p bs v)))
-  writes (stray {o = o} {name = name} {i = i} {j = j} {ks = ks} h m) p e bs v =
-      let s : State = state t p bs v in
-      let more = writes m p e bs v in
-      (more.0, ap (λ o. written (run t (after_end t j s (closes name o)) ks)) (enclosing_name-is t p bs ∙ e)
-        ∙ ap (λ b. written (run t (after_end t j s b) ks)) (closes-stray name o h)
-        ∙ more.1)
-  writes (a_doctype {html = html} m) p e bs v = writes m p e bs (v || html)
-  writes (dropped m) p e bs v = writes m p e bs v
+raw-keeps : (t : List ℕ) (to : ℕ) → KeepsStart (with_raw_to t to)
+raw-keeps t to own = (_, refl, refl)
 
-  pub run-writes : (ks : List Piece) → written (run t start ks) ≡ (nodes t 0 (forest ks), numbers 0 (forest ks))
-  run-writes ks =
-      let made = siblings-Makes None ks in
-      let s : Siblings = siblings None ks in
-      let found = writes made (at_top []) refl [] false in
-      let open_end = closed_at-top made refl in
-      let behind : List Node × List ℕ → Type 0 = λ r. r ≡ (nodes t 0 (forest ks), numbers 0 (forest ks)) in
-      found.1
-      ∙ ap (λ o. written (run t (shut t o (grown t (at_top []) [] found.0 s.trees)) s.left)) open_end
-      ∙ ap (λ left. written (run t (grown t (at_top []) [] found.0 s.trees) left)) (left-none made open_end)
+adopted_by-IsOpen : (i n : ℕ) (s : State) (ps : List ℕ) (p : ℕ) → IsOpen i s.nodes p → IsOpen i (adopted_by n s ps).nodes p
+adopted_by-IsOpen i n s [] p h = h
+adopted_by-IsOpen i n s (q ∷ ps) p h = IsOpen-change_at (with_child n) (child-keeps n) i q s.nodes p h
+
+added-IsOpen : (i : ℕ) (x : Node) (s : State) (p : ℕ) → IsOpen i s.nodes p → IsOpen i (added x s).nodes p
+added-IsOpen i x s p h =
+    IsOpen-append i (adopted (length s.nodes) s).nodes (x ∷ []) p (adopted_by-IsOpen i (length s.nodes) s s.open_tags p h)
+
+pub AreOpen-start : (i : ℕ) → AreOpen i start
+AreOpen-start i = All-nil (IsOpen i [])
+
+pub AreOpen-later : (i j : ℕ) (s : State) → i ≤ j → AreOpen i s → AreOpen j s
+AreOpen-later i j s le h = All-weaker (IsOpen i s.nodes) (IsOpen j s.nodes) (λ p. IsOpen-later i j s.nodes p le) s.open_tags h
+
+pub AreOpen-innermost : (i : ℕ) (s : State) (p : ℕ) (ps : List ℕ) → AreOpen i s → s.open_tags ≡ p ∷ ps → IsOpen i s.nodes p
+AreOpen-innermost i s p ps h e = All-head (IsOpen i s.nodes) p ps (All-same (IsOpen i s.nodes) (p ∷ ps) s.open_tags (sym e) h)
+
+pub AreOpen-added : (i : ℕ) (x : Node) (s : State) → AreOpen i s → AreOpen i (added x s)
+AreOpen-added i x s h =
+    let P : ℕ → Type 0 = IsOpen i (added x s).nodes in
+    All-same P (added x s).open_tags s.open_tags (added-open_tags x s) (All-weaker (IsOpen i s.nodes) P (added-IsOpen i x s) s.open_tags h)
+
+pub AreOpen-opened : (i : ℕ) (own : TagNode) (s : State) → own.start ≤ i → AreOpen i s → AreOpen i (opened (Tag own) s)
+AreOpen-opened i own s le h =
+    let x : Node = Tag own in
+    let P : ℕ → Type 0 = IsOpen i (added x s).nodes in
+    let before : List Node = (adopted (length s.nodes) s).nodes in
+    let place : slice_get (before ++ x ∷ []) (length s.nodes) ≡ Some x =
+        subst (λ n. slice_get (before ++ x ∷ []) n ≡ Some x) (length-adopted_by (length s.nodes) s s.open_tags) (slice_get-middle before x []) in
+    All-cons P (length s.nodes) s.open_tags (record { own = own; found = place; begun = le }) (All-weaker (IsOpen i s.nodes) P (added-IsOpen i x s) s.open_tags h)
+
+closed_by-AreOpen : (t : List ℕ) (i to : ℕ) (s : State) (ps : List ℕ) → s.open_tags ≡ ps → AreOpen i s → AreOpen i (closed_by t to s ps)
+closed_by-AreOpen t i to s [] e h = h
+closed_by-AreOpen t i to s (p ∷ ps) e h =
+    let rest = All-tail (IsOpen i s.nodes) p ps (All-same (IsOpen i s.nodes) (p ∷ ps) s.open_tags (sym e) h) in
+    All-weaker (IsOpen i s.nodes) (IsOpen i (change_at (with_raw_to t to) p s.nodes)) (IsOpen-change_at (with_raw_to t to) (raw-keeps t to) i p s.nodes) ps rest
+
+pub AreOpen-closed : (t : List ℕ) (i to : ℕ) (s : State) → AreOpen i s → AreOpen i (closed t to s)
+AreOpen-closed t i to s h = closed_by-AreOpen t i to s s.open_tags refl h
+
+start-AreOpen : (t : List ℕ) (i : ℕ) (own : TagNode) (s : State) → own.start ≤ i → AreOpen i s → (alone : Bool) → AreOpen i (after_start t (Tag own) s alone)
+start-AreOpen t i own s le h true = AreOpen-added i (Tag own) s h
+start-AreOpen t i own s le h false = AreOpen-opened i own s le h
+
+end-AreOpen : (t : List ℕ) (i to : ℕ) (s : State) → AreOpen i s → (closing : Bool) → AreOpen i (after_end t to s closing)
+end-AreOpen t i to s h true = AreOpen-closed t i to s h
+end-AreOpen t i to s h false = h
+
+token-AreOpen : (t : List ℕ) (i : ℕ) (k : Piece) (s : State) → k.from ≤ i → AreOpen i s → (token : Token) → AreOpen i (after_token t k s token)
+token-AreOpen t i k s le h (Text bytes) = AreOpen-added i (Raw bytes) s h
+token-AreOpen t i k s le h (Comment bytes) = AreOpen-added i (Remark bytes) s h
+token-AreOpen t i k s le h (Start name pairs alone) = start-AreOpen t i _ s le h (alone || is_void name)
+token-AreOpen t i k s le h (End name) = end-AreOpen t i k.to s h (closes name (enclosing_name s.nodes s.open_tags))
+token-AreOpen t i k s le h (Doctype html) = h
+token-AreOpen t i k s le h Nothing = h
+
+pub AreOpen-step : (t : List ℕ) (place : ℕ) (s : State) (k : Piece) → place ≤ k.from → k.from ≤ k.to → AreOpen place s → AreOpen k.to (step t s k)
+AreOpen-step t place s k low high h = token-AreOpen t k.to k s high (AreOpen-later place k.to s (omega arith) h) k.token
+
+-- the name that an end tag is compared with
+pub enclosing_name-open : (i : ℕ) (xs : List Node) (p : ℕ) (ps : List ℕ) (h : IsOpen i xs p) → enclosing_name xs (p ∷ ps) ≡ Some h.own.name
+enclosing_name-open i xs p ps h = ap name_of h.found
+
+-- tokens one behind the other
+
+pub run-cons : (t : List ℕ) (s : State) (k : Piece) (ks : List Piece) → run t s (k ∷ ks) ≡ run t (step t s k) ks
+run-cons t s k ks = refl
+
+pub run-append : (t : List ℕ) (s : State) (ks ls : List Piece) → run t s (ks ++ ls) ≡ run t (run t s ks) ls
+run-append t s ks ls = fold-append (step t) s ks ls
+
+pub run-push : (t : List ℕ) (s : State) (ks : List Piece) (k : Piece) → run t s (ks ++ k ∷ []) ≡ step t (run t s ks) k
+run-push t s ks k = fold_push (step t) s ks k
+
+-- the place behind these tokens
+abbrev pub place_behind : ℕ → List Piece → ℕ
+place_behind i [] = i
+place_behind i (k ∷ ks) = place_behind k.to ks
+
+pub place_behind-all : (t : List ℕ) (i : ℕ) (ks : List Piece) → StandFrom t i ks → place_behind i ks ≡ length t
+place_behind-all t i [] h = h
+place_behind-all t i (k ∷ ks) h = place_behind-all t k.to ks h.2
+
+-- the first tokens of a text
+pub AreOpen-run : (t : List ℕ) (i : ℕ) (s : State) (ks more : List Piece) → StandFrom t i (ks ++ more) → AreOpen i s → AreOpen (place_behind i ks) (run t s ks)
+AreOpen-run t i s [] more stand h = h
+AreOpen-run t i s (k ∷ ks) more stand h =
+    AreOpen-run t k.to (step t s k) ks more stand.2 (AreOpen-step t i s k (omega (arith, stand.0)) (omega (arith, stand.0, stand.1.0)) h)
+
+pub length-run-le : (t : List ℕ) (i : ℕ) (s : State) (ks more : List Piece) → StandFrom t i (ks ++ more) → length s.nodes ≤ i → length (run t s ks).nodes ≤ place_behind i ks
+length-run-le t i s [] more stand h = h
+length-run-le t i s (k ∷ ks) more stand h =
+    length-run-le t k.to (step t s k) ks more stand.2 (omega (arith, stand.0, stand.1.0, length-step-le t s k))

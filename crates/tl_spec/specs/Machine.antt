@@ -1,9 +1,9 @@
 -- The document written token by token, with the open tags at hand.
-use Rattle.std.specs.Prelude.{ℕ, zero, suc, Bool, true, false, ◌||◌, ◌==◌, List, [], ◌∷◌, ◌++◌, length, Option, None, Some, slice_get, fold}
+use Rattle.std.specs.Prelude.{◌≡◌, ◌≤◌, ℕ, zero, suc, Bool, true, false, ◌||◌, ◌==◌, All, List, [], ◌∷◌, ◌++◌, length, Option, None, Some, slice_get, fold}
 use Rattle.std.specs.List.{between}
 use Rattle.tl_spec.specs.ByteClass.{is_void}
 use Rattle.tl_spec.specs.Attribute.{Pair}
-use Rattle.tl_spec.specs.Token.{Token, Piece, Text, End, Comment, Doctype, Start, Nothing}
+use Rattle.tl_spec.specs.Token.{Token, Piece, Text, End, Comment, Doctype, Start, Nothing, StandFrom, tokens}
 use Rattle.tl_spec.specs.Inline.{InlineVec}
 use Rattle.tl_spec.specs.Forest.{closes, started}
 use Rattle.tl_spec.specs.Document.{Node, TagNode, Tag, Raw, Comment as CommentNode, tag_node}
@@ -105,3 +105,19 @@ module _ (t : List ℕ) where
   -- tokens of the text t, one after the other
   abbrev pub run : State → List Piece → State
   run s ks = fold step s ks
+
+-- the number of a tag of the table that begins at this place of the text or before it
+pub record IsOpen (place : ℕ) (nodes : List Node) (p : ℕ) : Type 0 where
+  pub own : TagNode
+  pub found : slice_get nodes p ≡ Some (Tag own)
+  pub begun : own.start ≤ place
+
+abbrev pub AreOpen : ℕ → State → Type 0
+AreOpen place s = All (IsOpen place s.nodes) s.open_tags
+
+-- a state that the tokens of t up to this place lead to: those behind it lead on to where all tokens do
+pub record IsReached (t : List ℕ) (place : ℕ) (s : State) : Type 0 where
+  pub within : place ≤ length t
+  pub leads_on : (ks : List Piece) → StandFrom t place ks → run t s ks ≡ run t start (tokens t)
+  pub are_open : AreOpen place s
+  pub few : length s.nodes ≤ place

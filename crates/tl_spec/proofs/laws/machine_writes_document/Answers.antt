@@ -1,10 +1,11 @@
-use Rattle.std.proofs.Common.{ap}
-use Rattle.tl_spec.specs.Token.{tokens}
-use Rattle.tl_spec.proofs.Machine.{run-writes}
+use Rattle.tl_spec.proofs.Reached.{document-written}
 use Rattle.tl_spec.proofs.laws.machine_writes_document.Goals as goal
 
 pub returns-clause-nodes : goal.returns-clause-nodes
-returns-clause-nodes c = λ t. ap (λ found. found.0) (run-writes t (tokens t))
+returns-clause-nodes c = λ t. (document-written t).0
 
 pub returns-clause-top : goal.returns-clause-top
-returns-clause-top c = λ t. ap (λ found. found.1) (run-writes t (tokens t))
+returns-clause-top c = λ t. (document-written t).1
+
+pub returns-clause-version : goal.returns-clause-version
+returns-clause-version c = λ t. (document-written t).2

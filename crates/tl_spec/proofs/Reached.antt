@@ -1,0 +1,37 @@
+-- The states between the first token of a text and the last.
+use Rattle.std.proofs.Common.{◌≡◌, ℕ, ◌<◌, ◌≤◌, List, [], ◌∷◌, length, refl, sym, ◌∙◌, ap, subst, arith}
+use Rattle.tl_spec.specs.Token.{Token, Piece, IsTokenAt, StandFrom, tokens}
+use Rattle.tl_spec.specs.Document.{document}
+use Rattle.tl_spec.specs.Machine.{State, start, step, run, IsReached}
+use Rattle.tl_spec.proofs.Stand.{stand-tokens}
+use Rattle.tl_spec.proofs.Machine.{AreOpen-start, AreOpen-step, length-step-le, run-html5}
+use Rattle.tl_spec.proofs.MachineLaw.{run-writes}
+
+pub IsReached-start : (t : List ℕ) → IsReached t 0 start
+IsReached-start t = record {
+  within = omega arith;
+  leads_on = λ ks stand. ap (run t start) ((stand-tokens t ks).0 stand);
+  are_open = AreOpen-start 0;
+  few = omega arith;
+}
+
+pub IsReached-step : (t : List ℕ) (i : ℕ) (s : State) (token : Token) (j : ℕ) → IsReached t i s → IsTokenAt t i token j →
+    IsReached t j (step t s (record { token = token; from = i; to = j }))
+IsReached-step t i s token j h at =
+    let k : Piece = record { token = token; from = i; to = j } in
+    record {
+      within = at.1;
+      leads_on = λ ks stand. h.leads_on (k ∷ ks) (refl, at, stand);
+      are_open = AreOpen-step t i s k (omega arith) (omega (arith, at.0)) h.are_open;
+      few = omega (arith, at.0, h.few, length-step-le t s k);
+    }
+
+pub document-written : (t : List ℕ) → ((run t start (tokens t)).nodes ≡ (document t).nodes) × ((run t start (tokens t)).top ≡ (document t).top) × ((run t start (tokens t)).is_html5 ≡ (document t).is_html5)
+document-written t = (ap (λ found. found.0) (run-writes t (tokens t)), ap (λ found. found.1) (run-writes t (tokens t)), run-html5 t start (tokens t))
+
+-- at the end the document is written
+pub IsReached-end : (t : List ℕ) (s : State) → IsReached t (length t) s → (s.nodes ≡ (document t).nodes) × (s.top ≡ (document t).top) × (s.is_html5 ≡ (document t).is_html5)
+IsReached-end t s h =
+    let all = document-written t in
+    let same : s ≡ run t start (tokens t) = h.leads_on [] refl in
+    (ap (λ s. s.nodes) same ∙ all.0, ap (λ s. s.top) same ∙ all.1, ap (λ s. s.is_html5) same ∙ all.2)
