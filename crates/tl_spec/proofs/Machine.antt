@@ -1,13 +1,13 @@
 -- What one step of the machine keeps, and what many keep.
-use Rattle.std.proofs.Common.{◌≡◌, ℕ, zero, suc, ◌+◌, ◌<◌, ◌≤◌, ◌≢◌, ◌||◌, ◌⊎◌, inl, inr, Bool, true, false, List, [], ◌∷◌, ◌++◌, length, Option, None, Some, refl, sym, ◌∙◌, ap, subst, arith, set, length-append, All}
-use Rattle.std.specs.Prelude.{slice_get, fold}
+use Rattle.std.proofs.Common.{◌≡◌, ℕ, zero, suc, ◌+◌, ◌<◌, ◌≤◌, ◌≢◌, ◌||◌, ◌⊎◌, inl, inr, Bool, true, false, List, [], ◌∷◌, ◌++◌, length, Some, refl, sym, ◌∙◌, ap, subst, arith, set, length-append}
+use Rattle.std.specs.Prelude.{slice_get}
 use Rattle.std.specs.List.{list_any}
 use Rattle.std.proofs.Math.Bool.{or-false}
 use Rattle.std.proofs.lemmas.Option.{slice_get_within}
 use Rattle.std.proofs.lemmas.List.Elements.{All-nil, All-cons, All-tail, All-weaker, All-head, All-same}
 use Rattle.std.proofs.lemmas.List.Sums.{fold-append, fold_push}
 use Rattle.tl_spec.specs.ByteClass.{is_void}
-use Rattle.tl_spec.specs.Token.{Token, Piece, Text, End, Comment, Doctype, Start, Nothing, StandFrom, IsTokenAt}
+use Rattle.tl_spec.specs.Token.{Token, Piece, Text, End, Comment, Doctype, Start, Nothing, StandFrom}
 use Rattle.tl_spec.specs.Forest.{closes}
 use Rattle.tl_spec.specs.Document.{Node, TagNode, Tag, Raw, Comment as Remark, is_html5_doctype}
 use Rattle.tl_spec.specs.Machine.{State, start, change_at, with_child, with_raw_to, name_of, enclosing_name, adopted_by, adopted, added, opened, closed_by, closed, start_node, after_start, after_end, after_token, step, run, IsOpen, AreOpen}
@@ -191,8 +191,9 @@ KeepsStart f = (own : TagNode) → (new : TagNode) × (f (Tag own) ≡ Tag new) 
 IsOpen-change_at : (f : Node → Node) → KeepsStart f → (i q : ℕ) (xs : List Node) (p : ℕ) → IsOpen i xs p → IsOpen i (change_at f q xs) p
 IsOpen-change_at f keeps i q xs p h =
     elim (slice_get-change_at_either f q p xs (Tag h.own) h.found) [
-      inl e ↦ record { own = h.own; found = e; begun = h.begun }
-    | inr e ↦ (let k = keeps h.own in record { own = k.0; found = e ∙ ap (λ (x : Node). Some x) k.1; begun = omega (arith, k.2, h.begun) }) ]
+      | inl e ↦ record { own = h.own; found = e; begun = h.begun }
+      | inr e ↦ (let k = keeps h.own in record { own = k.0; found = e ∙ ap (λ (x : Node). Some x) k.1; begun = omega (arith, k.2, h.begun) })
+    ]
 
 child-keeps : (n : ℕ) → KeepsStart (with_child n)
 child-keeps n own = (_, refl, refl)
@@ -228,7 +229,7 @@ AreOpen-opened i own s le h =
     let P : ℕ → Type 0 = IsOpen i (added x s).nodes in
     let before : List Node = (adopted (length s.nodes) s).nodes in
     let place : slice_get (before ++ x ∷ []) (length s.nodes) ≡ Some x =
-        subst (λ n. slice_get (before ++ x ∷ []) n ≡ Some x) (length-adopted_by (length s.nodes) s s.open_tags) (slice_get-middle before x []) in
+    subst (λ n. slice_get (before ++ x ∷ []) n ≡ Some x) (length-adopted_by (length s.nodes) s s.open_tags) (slice_get-middle before x []) in
     All-cons P (length s.nodes) s.open_tags (record { own = own; found = place; begun = le }) (All-weaker (IsOpen i s.nodes) P (added-IsOpen i x s) s.open_tags h)
 
 closed_by-AreOpen : (t : List ℕ) (i to : ℕ) (s : State) (ps : List ℕ) → s.open_tags ≡ ps → AreOpen i s → AreOpen i (closed_by t to s ps)

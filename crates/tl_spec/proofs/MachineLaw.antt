@@ -1,13 +1,11 @@
 -- The machine that writes a document token by token writes the nodes and the top list of the trees of the tokens.
-use Rattle.std.proofs.Common.{◌≡◌, ℕ, zero, suc, ◌+◌, ◌<◌, ◌≤◌, ◌||◌, ◌==◌, Bool, true, false, List, [], ◌∷◌, ◌++◌, length, Option, None, Some, unwrap_or, refl, sym, ◌∙◌, ap, arith, append_assoc, append-nil, length-append}
-use Rattle.std.specs.Prelude.{slice_get, nat_lt}
+use Rattle.std.proofs.Common.{◌≡◌, ℕ, ◌+◌, ◌||◌, ◌==◌, Bool, false, List, [], ◌∷◌, ◌++◌, length, Option, None, Some, unwrap_or, refl, sym, ◌∙◌, ap, arith, append_assoc, append-nil, length-append}
+use Rattle.std.specs.Prelude.{nat_lt}
 use Rattle.std.proofs.lemmas.Bool.Decides.{nat_tests}
-use Rattle.std.specs.Str.{bytes_eq}
 use Rattle.std.proofs.lemmas.Slice.Eq.{bytes_eq-Decides}
-use Rattle.tl_spec.specs.ByteClass.{is_void}
-use Rattle.tl_spec.specs.Token.{Piece, Text, End, Comment, Doctype, Start, Nothing, tokens}
+use Rattle.tl_spec.specs.Token.{Piece, Start}
 use Rattle.tl_spec.specs.Forest.{Forest, none, text, comment, tag, SourceTag, Siblings, led_by, started, closes, siblings, forest, Makes, over, a_text, a_comment, alone, opened, ended, stray, a_doctype, dropped}
-use Rattle.tl_spec.specs.Document.{Node, Tag, Raw, Comment as Remark, held_items, size, numbers, tag_node, nodes, document}
+use Rattle.tl_spec.specs.Document.{Node, Tag, Raw, Comment as Remark, held_items, size, numbers, tag_node, nodes}
 use Rattle.tl_spec.specs.Machine.{State, start, change_at, with_item, with_child, with_raw_to, name_of, enclosing_name, added, opened as entered, closed, after_start, after_end, run}
 use Rattle.tl_spec.proofs.Machine.{change_at-middle, slice_get-middle}
 use Rattle.tl_spec.proofs.Siblings.{closes-stray, siblings-Makes}
@@ -166,7 +164,7 @@ module _ (t : List ℕ) where
       let q : Frame = adopting p (count_at p bs ∷ []) in
       let with_nodes : List Node → State = λ ys. record (state q [] v) { nodes = ys } in
       ap with_nodes (change_at-middle (with_raw_to t to) (nodes_at q bs) (Tag (tag_node t own ns)) xs
-        ∙ nodes_at-append q bs (Tag (tag_node t (record own { to = to }) ns) ∷ xs))
+      ∙ nodes_at-append q bs (Tag (tag_node t (record own { to = to }) ns) ∷ xs))
 
   -- the rest of the tokens behind a tag's children and its end
   after-children : (p : Frame) (bs : List Node) (own : SourceTag) (f : Forest SourceTag) (v : Bool) (closed_at : Option ℕ) (left : List Piece) → (closed_at ≡ None → left ≡ []) →
@@ -235,19 +233,19 @@ module _ (t : List ℕ) where
   writes (a_text {bytes = bytes} {ks = ks} {s = s} m) p e bs v =
       let x : Node = Raw bytes in
       one-more (text bytes) p bs (x ∷ []) (λ w f. grown-behind t p bs (x ∷ []) w f (count_at t p bs + 1) refl) s _ _
-        (ap (λ s. written (run t s ks)) (added-is t p bs v x))
-        (writes m (next p bs) (name_at-adopting p (count_at t p bs ∷ []) ∙ e) (bs ++ x ∷ []) v)
+      (ap (λ s. written (run t s ks)) (added-is t p bs v x))
+      (writes m (next p bs) (name_at-adopting p (count_at t p bs ∷ []) ∙ e) (bs ++ x ∷ []) v)
   writes (a_comment {bytes = bytes} {ks = ks} {s = s} m) p e bs v =
       let x : Node = Remark bytes in
       one-more (comment bytes) p bs (x ∷ []) (λ w f. grown-behind t p bs (x ∷ []) w f (count_at t p bs + 1) refl) s _ _
-        (ap (λ s. written (run t s ks)) (added-is t p bs v x))
-        (writes m (next p bs) (name_at-adopting p (count_at t p bs ∷ []) ∙ e) (bs ++ x ∷ []) v)
+      (ap (λ s. written (run t s ks)) (added-is t p bs v x))
+      (writes m (next p bs) (name_at-adopting p (count_at t p bs ∷ []) ∙ e) (bs ++ x ∷ []) v)
   writes (alone {name = name} {pairs = pairs} {c = c} {i = i} {j = j} {ks = ks} {s = s} stands m) p e bs v =
       let own : SourceTag = started (record { token = Start name pairs c; from = i; to = j }) name pairs in
       let x : Node = Tag (tag_node t own []) in
       one-more (tag own none) p bs (x ∷ []) (grown-tag t p bs own none) s _ _
-        (ap (λ b. written (run t (after_start t x (state t p bs v) b) ks)) stands ∙ ap (λ s. written (run t s ks)) (added-is t p bs v x))
-        (writes m (next p bs) (name_at-adopting p (count_at t p bs ∷ []) ∙ e) (bs ++ x ∷ []) v)
+      (ap (λ b. written (run t (after_start t x (state t p bs v) b) ks)) stands ∙ ap (λ s. written (run t s ks)) (added-is t p bs v x))
+      (writes m (next p bs) (name_at-adopting p (count_at t p bs ∷ []) ∙ e) (bs ++ x ∷ []) v)
   writes (opened {name = name} {pairs = pairs} {c = c} {i = i} {j = j} {ks = ks} {inner = inner} {s = s} opens children m) p e bs v =
       let own : SourceTag = started (record { token = Start name pairs c; from = i; to = j }) name pairs in
       let whole : SourceTag = record own { to = unwrap_or inner.closed_at j } in
@@ -255,32 +253,36 @@ module _ (t : List ℕ) where
       let xs : List Node = tag_nodes t (count_at t p bs) whole inner.trees in
       let below = writes children (within t p bs own) refl [] v in
       one-more (tag whole inner.trees) p bs xs (grown-tag t p bs whole inner.trees) s _ _
-        (ap (λ b. written (run t (after_start t x (state t p bs v) b) ks)) opens
-          ∙ ap (λ s. written (run t s ks)) (entered-is t p bs v own)
-          ∙ below.1
-          ∙ after-children t p bs own inner.trees below.0 inner.closed_at inner.left (left-none children))
-        (writes m (next p bs) (name_at-adopting p (count_at t p bs ∷ []) ∙ e) (bs ++ xs) below.0)
+      (ap (λ b. written (run t (after_start t x (state t p bs v) b) ks)) opens
+      ∙ ap (λ s. written (run t s ks)) (entered-is t p bs v own)
+      ∙ below.1
+      ∙ after-children t p bs own inner.trees below.0 inner.closed_at inner.left (left-none children))
+      (writes m (next p bs) (name_at-adopting p (count_at t p bs ∷ []) ∙ e) (bs ++ xs) below.0)
   writes (ended {name = name} {i = i} {j = j} {ks = ks}) p e bs v =
-      let s : State = state t p bs v in
-      (v, ap (λ o. written (run t (after_end t j s (closes name o)) ks)) (enclosing_name-is t p bs ∙ e)
-        ∙ ap (λ b. written (run t (after_end t j s b) ks)) ((bytes_eq-Decides name name).1 refl)
-        ∙ ap (λ s. written (run t (closed t j s) ks)) (sym (grown-none t p bs v)))
+      let s : State = state t p bs v in (
+        v,
+        ap (λ o. written (run t (after_end t j s (closes name o)) ks)) (enclosing_name-is t p bs ∙ e)
+            ∙ ap (λ b. written (run t (after_end t j s b) ks)) ((bytes_eq-Decides name name).1 refl)
+            ∙ ap (λ s. written (run t (closed t j s) ks)) (sym (grown-none t p bs v)),
+      )
   writes (stray {o = o} {name = name} {i = i} {j = j} {ks = ks} h m) p e bs v =
       let s : State = state t p bs v in
-      let more = writes m p e bs v in
-      (more.0, ap (λ o. written (run t (after_end t j s (closes name o)) ks)) (enclosing_name-is t p bs ∙ e)
-        ∙ ap (λ b. written (run t (after_end t j s b) ks)) (closes-stray name o h)
-        ∙ more.1)
+      let more = writes m p e bs v in (
+        more.0,
+        ap (λ o. written (run t (after_end t j s (closes name o)) ks)) (enclosing_name-is t p bs ∙ e)
+            ∙ ap (λ b. written (run t (after_end t j s b) ks)) (closes-stray name o h)
+            ∙ more.1,
+      )
   writes (a_doctype {html = html} m) p e bs v = writes m p e bs (v || html)
   writes (dropped m) p e bs v = writes m p e bs v
 
+  -- the whole run
   pub run-writes : (ks : List Piece) → written (run t start ks) ≡ (nodes t 0 (forest ks), numbers 0 (forest ks))
   run-writes ks =
       let made = siblings-Makes None ks in
       let s : Siblings = siblings None ks in
       let found = writes made (at_top []) refl [] false in
       let open_end = closed_at-top made refl in
-      let behind : List Node × List ℕ → Type 0 = λ r. r ≡ (nodes t 0 (forest ks), numbers 0 (forest ks)) in
       found.1
       ∙ ap (λ o. written (run t (shut t o (grown t (at_top []) [] found.0 s.trees)) s.left)) open_end
       ∙ ap (λ left. written (run t (grown t (at_top []) [] found.0 s.trees) left)) (left-none made open_end)

@@ -1,11 +1,27 @@
 -- The states between the first token of a text and the last.
-use Rattle.std.proofs.Common.{◌≡◌, ℕ, ◌<◌, ◌≤◌, List, [], ◌∷◌, length, refl, sym, ◌∙◌, ap, subst, arith}
-use Rattle.tl_spec.specs.Token.{Token, Piece, IsTokenAt, StandFrom, tokens}
+use Rattle.std.proofs.Common.{◌≡◌, ℕ, ◌+◌, ◌-◌, ◌≤◌, List, [], ◌∷◌, length, drop, Some, refl, sym, ◌∙◌, ap, arith, length-drop}
+use Rattle.std.proofs.lemmas.List.{drop-drop}
+use Rattle.tl_spec.specs.Token.{Token, Piece, IsTokenAt, next_token, tokens}
 use Rattle.tl_spec.specs.Document.{document}
 use Rattle.tl_spec.specs.Machine.{State, start, step, run, IsReached}
 use Rattle.tl_spec.proofs.Stand.{stand-tokens}
+use Rattle.tl_spec.proofs.Steps.{token_less}
+use Rattle.tl_spec.proofs.Tails.{next_token-tail}
 use Rattle.tl_spec.proofs.Machine.{AreOpen-start, AreOpen-step, length-step-le, run-html5}
 use Rattle.tl_spec.proofs.MachineLaw.{run-writes}
+
+-- a token that was found, and what stands behind it
+pub IsTokenAt-found : (t : List ℕ) (i : ℕ) (token : Token) (rest : List ℕ) → i ≤ length t → next_token (drop i t) ≡ Some (token, rest) →
+    IsTokenAt t i token (length t - length rest) × (rest ≡ drop (length t - length rest) t)
+IsTokenAt-found t i token rest le e =
+    let behind = next_token-tail (drop i t) (token, rest) e in
+    let less = token_less (drop i t) token rest e in
+    let from = length-drop i t in
+    let is : rest ≡ drop (i + behind.0) t = behind.2 ∙ drop-drop behind.0 i t in
+    let len : length rest ≡ length t - (i + behind.0) = ap length is ∙ length-drop (i + behind.0) t in
+    let to : length t - length rest ≡ i + behind.0 = omega (arith, behind.1) in
+    let same : rest ≡ drop (length t - length rest) t = is ∙ ap (λ j. drop j t) (sym to) in
+    ((omega (arith, behind.1), omega arith, e ∙ ap (λ (r : List ℕ). Some (token, r)) same), same)
 
 pub IsReached-start : (t : List ℕ) → IsReached t 0 start
 IsReached-start t = record {
