@@ -218,6 +218,14 @@ AreOpen-later i j s le h = All-weaker (IsOpen i s.nodes) (IsOpen j s.nodes) (λ 
 pub AreOpen-innermost : (i : ℕ) (s : State) (p : ℕ) (ps : List ℕ) → AreOpen i s → s.open_tags ≡ p ∷ ps → IsOpen i s.nodes p
 AreOpen-innermost i s p ps h e = All-head (IsOpen i s.nodes) p ps (All-same (IsOpen i s.nodes) (p ∷ ps) s.open_tags (sym e) h)
 
+-- the same where the first open tag is looked up
+pub AreOpen-first : (i : ℕ) (s : State) (p : ℕ) → AreOpen i s → slice_get s.open_tags 0 ≡ Some p → IsOpen i s.nodes p
+AreOpen-first i s p h e = first s.open_tags refl e
+  where
+    first : (ps : List ℕ) → s.open_tags ≡ ps → slice_get ps 0 ≡ Some p → IsOpen i s.nodes p
+    first [] is e = absurd (cc)
+    first (q ∷ ps) is e = let same : q ≡ p = cc in subst (IsOpen i s.nodes) same (AreOpen-innermost i s q ps h is)
+
 pub AreOpen-added : (i : ℕ) (x : Node) (s : State) → AreOpen i s → AreOpen i (added x s)
 AreOpen-added i x s h =
     let P : ℕ → Type 0 = IsOpen i (added x s).nodes in

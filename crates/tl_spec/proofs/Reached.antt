@@ -1,5 +1,5 @@
 -- The states between the first token of a text and the last.
-use Rattle.std.proofs.Common.{◌≡◌, ℕ, ◌+◌, ◌-◌, ◌≤◌, List, [], ◌∷◌, length, drop, Some, refl, sym, ◌∙◌, ap, arith, length-drop}
+use Rattle.std.proofs.Common.{◌≡◌, ℕ, ◌+◌, ◌-◌, ◌≤◌, List, [], ◌∷◌, length, drop, Some, refl, sym, ◌∙◌, ap, subst, arith, length-drop}
 use Rattle.std.proofs.lemmas.List.{drop-drop}
 use Rattle.tl_spec.specs.Token.{Token, Piece, IsTokenAt, next_token, tokens}
 use Rattle.tl_spec.specs.Document.{document}
@@ -41,6 +41,11 @@ IsReached-step t i s token j h at =
       are_open = AreOpen-step t i s k (omega arith) (omega (arith, at.0)) h.are_open;
       few = omega (arith, at.0, h.few, length-step-le t s k);
     }
+
+-- the same for a state that is known by an equation
+pub IsReached-next : (t : List ℕ) (i : ℕ) (s : State) (token : Token) (j : ℕ) (r : State) → IsReached t i s → IsTokenAt t i token j →
+    r ≡ step t s (record { token = token; from = i; to = j }) → IsReached t j r
+IsReached-next t i s token j r h at e = subst (IsReached t j) (sym e) (IsReached-step t i s token j h at)
 
 pub document-written : (t : List ℕ) → ((run t start (tokens t)).nodes ≡ (document t).nodes) × ((run t start (tokens t)).top ≡ (document t).top) × ((run t start (tokens t)).is_html5 ≡ (document t).is_html5)
 document-written t = (ap (λ found. found.0) (run-writes t (tokens t)), ap (λ found. found.1) (run-writes t (tokens t)), run-html5 t start (tokens t))

@@ -1,10 +1,11 @@
 -- What a program writes into a table, as the machine sees it: nodes are items under a view, and the innermost open tag may stand last.
-use Rattle.std.proofs.Common.{◌≡◌, ℕ, zero, suc, ◌+◌, ◌-◌, ◌<◌, List, [], ◌∷◌, ◌++◌, length, map, reverse, take, Some, None, get_or, set, refl, sym, ◌∙◌, ap, arith, rules}
-use Rattle.std.specs.Prelude.{slice_get}
-use Rattle.std.proofs.lemmas.List.{reverse-append, take_more, take_all, map-append}
-use Rattle.std.proofs.lemmas.Option.{slice_get-get_or}
-use Rattle.tl_spec.specs.Document.{Node}
-use Rattle.tl_spec.specs.Machine.{State, change_at, with_child, with_raw_to, adopted, adopted_by, closed, closed_by, added}
+use Rattle.std.proofs.Common.{◌≡◌, ℕ, zero, suc, ◌+◌, ◌-◌, ◌<◌, ◌≤◌, List, [], ◌∷◌, ◌++◌, length, map, reverse, take, Some, None, get_or, set, refl, sym, ◌∙◌, ap, arith, rules}
+use Rattle.std.specs.Prelude.{slice_get, option_map}
+use Rattle.std.proofs.lemmas.List.{reverse-append, take_more, take_all, map-append, length-map}
+use Rattle.std.proofs.lemmas.Option.{slice_get-get_or, slice_get-map, slice_get_read}
+use Rattle.tl_spec.specs.Document.{Node, TagNode, Tag}
+use Rattle.tl_spec.specs.Machine.{State, change_at, with_child, with_raw_to, adopted, adopted_by, closed, closed_by, added, IsOpen}
+use Rattle.tl_spec.proofs.Machine.{IsOpen-within}
 
 -- one item written
 pub change_at-map : {A B : Type 0} (view : A → B) (f : B → B) (xs : List A) (i : ℕ) (x y : A) → i < length xs → x ≡ get_or xs i x → view y ≡ f (view x) →
@@ -12,6 +13,17 @@ pub change_at-map : {A B : Type 0} (view : A → B) (f : B → B) (xs : List A) 
 change_at-map view f [] i x y h e q = absurd (omega arith)
 change_at-map view f (z ∷ xs) zero x y h e q = ap (λ v. v ∷ map view xs) (q ∙ ap (λ z. f (view z)) e)
 change_at-map view f (z ∷ xs) (suc i) x y h e q = ap (λ vs. view z ∷ vs) (change_at-map view f xs i x y (omega arith) e q)
+
+-- the item of an open tag is there, and is a tag that begins at this place or before it
+pub IsOpen-item : {A : Type 0} (view : A → Node) (i : ℕ) (xs : List A) (p : ℕ) → IsOpen i (map view xs) p → p < length xs
+IsOpen-item view i xs p h = let e = length-map xs view in omega (arith, IsOpen-within i (map view xs) p h)
+
+pub IsOpen-starts : {A : Type 0} (view : A → Node) (i : ℕ) (xs : List A) (p : ℕ) (x : A) → IsOpen i (map view xs) p → x ≡ get_or xs p x → (own : TagNode) → view x ≡ Tag own → own.start ≤ i
+IsOpen-starts view i xs p x h e own is =
+    let at : slice_get xs p ≡ Some x = slice_get_read xs (length xs) p x refl (IsOpen-item view i xs p h) e in
+    let found : Some (Tag h.own) ≡ Some (Tag own) = sym h.found ∙ slice_get-map view xs p ∙ ap (option_map view) at ∙ ap (λ (y : Node). Some y) is in
+    let same : h.own ≡ own = cc in
+    omega (arith, h.begun, ap (λ (g : TagNode). g.start) same)
 
 -- the last of a list is the first of it reversed
 pub reverse-last : (front : List ℕ) (p : ℕ) → reverse (front ++ p ∷ []) ≡ p ∷ reverse front
