@@ -23,13 +23,14 @@ IsTokenAt-found t i token rest le e =
     let same : rest ≡ drop (length t - length rest) t = is ∙ ap (λ j. drop j t) (sym to) in
     ((omega (arith, behind.1), omega arith, e ∙ ap (λ (r : List ℕ). Some (token, r)) same), same)
 
-pub IsReached-start : (t : List ℕ) → IsReached t 0 start
-IsReached-start t = record {
-  within = omega arith;
-  leads_on = λ ks stand. ap (run t start) ((stand-tokens t ks).0 stand);
-  are_open = AreOpen-start 0;
-  few = omega arith;
-}
+pub IsReached-start : (t : List ℕ) (s : State) → s ≡ start → IsReached t 0 s
+IsReached-start t s e =
+    subst (IsReached t 0) (sym e) (record {
+      within = omega arith;
+      leads_on = λ ks stand. ap (run t start) ((stand-tokens t ks).0 stand);
+      are_open = AreOpen-start 0;
+      few = omega arith;
+    })
 
 pub IsReached-step : (t : List ℕ) (i : ℕ) (s : State) (token : Token) (j : ℕ) → IsReached t i s → IsTokenAt t i token j →
     IsReached t j (step t s (record { token = token; from = i; to = j }))
@@ -51,8 +52,8 @@ pub document-written : (t : List ℕ) → ((run t start (tokens t)).nodes ≡ (d
 document-written t = (ap (λ found. found.0) (run-writes t (tokens t)), ap (λ found. found.1) (run-writes t (tokens t)), run-html5 t start (tokens t))
 
 -- at the end the document is written
-pub IsReached-end : (t : List ℕ) (s : State) → IsReached t (length t) s → (s.nodes ≡ (document t).nodes) × (s.top ≡ (document t).top) × (s.is_html5 ≡ (document t).is_html5)
-IsReached-end t s h =
+pub IsReached-end : (t : List ℕ) (i : ℕ) (s : State) → IsReached t i s → length t ≤ i → (s.nodes ≡ (document t).nodes) × (s.top ≡ (document t).top) × (s.is_html5 ≡ (document t).is_html5)
+IsReached-end t i s h past =
     let all = document-written t in
-    let same : s ≡ run t start (tokens t) = h.leads_on [] refl in
+    let same : s ≡ run t start (tokens t) = h.leads_on [] (omega (arith, h.within)) in
     (ap (λ s. s.nodes) same ∙ all.0, ap (λ s. s.top) same ∙ all.1, ap (λ s. s.is_html5) same ∙ all.2)
