@@ -1,20 +1,21 @@
 -- The document written token by token, with the open tags at hand.
-use Rattle.std.specs.Prelude.{ℕ, zero, suc, Bool, true, false, ◌||◌, ◌==◌, List, [], ◌∷◌, ◌++◌, length, Option, None, Some, slice_get, fold}
+use Rattle.std.specs.Prelude.{◌≡◌, ◌≤◌, ℕ, zero, suc, Bool, true, false, ◌||◌, ◌==◌, All, List, [], ◌∷◌, ◌++◌, length, Option, None, Some, slice_get, fold}
 use Rattle.std.specs.List.{between}
 use Rattle.tl_spec.specs.ByteClass.{is_void}
 use Rattle.tl_spec.specs.Attribute.{Pair}
-use Rattle.tl_spec.specs.Token.{Token, Piece, Text, End, Comment, Doctype, Start, Nothing}
+use Rattle.tl_spec.specs.Token.{Token, Piece, Text, End, Comment, Doctype, Start, Nothing, StandFrom, tokens}
 use Rattle.tl_spec.specs.Inline.{InlineVec}
 use Rattle.tl_spec.specs.Forest.{closes, started}
 use Rattle.tl_spec.specs.Document.{Node, TagNode, Tag, Raw, Comment as CommentNode, tag_node}
 
--- what has been written: the nodes, the numbers of the open tags (innermost first), the top list and the version
+-- what has been written: the nodes, the numbers of the open tags (innermost first), the top list, and whether a doctype was that of HTML5
 pub record State : Type 0 where
   pub nodes : List Node
   pub open_tags : List ℕ
   pub top : List ℕ
   pub is_html5 : Bool
 
+-- before the first token
 abbrev pub start : State
 start = record { nodes = []; open_tags = []; top = []; is_html5 = false }
 
@@ -24,7 +25,7 @@ change_at f i [] = []
 change_at f zero (x ∷ xs) = f x ∷ xs
 change_at f (suc i) (x ∷ xs) = x ∷ change_at f i xs
 
--- a list with room for two inline, and one more item
+-- one more item in a list with room for two inline: the third takes them all to the heap
 abbrev pub with_item : {T : Type 0} → InlineVec T → T → InlineVec T
 with_item v x = record { items = v.items ++ x ∷ []; on_heap = v.on_heap || (length v.items == 2) }
 
@@ -40,6 +41,7 @@ with_raw_to t to (Tag own) = Tag (record own { raw = between own.start to t })
 with_raw_to t to (Raw bytes) = Raw bytes
 with_raw_to t to (CommentNode bytes) = CommentNode bytes
 
+-- the name of a node that is a tag
 abbrev pub name_of : Option Node → Option (List ℕ)
 name_of None = None
 name_of (Some (Tag own)) = Some own.name
@@ -51,11 +53,12 @@ abbrev pub enclosing_name : List Node → List ℕ → Option (List ℕ)
 enclosing_name nodes [] = None
 enclosing_name nodes (p ∷ ps) = name_of (slice_get nodes p)
 
--- a number becomes the last child of the innermost open tag, or the last of the top list
+-- a number becomes the last child of the first of these tags, or the last of the top list where there is none
 abbrev pub adopted_by : ℕ → State → List ℕ → State
 adopted_by n s [] = record s { top = s.top ++ n ∷ [] }
 adopted_by n s (p ∷ ps) = record s { nodes = change_at (with_child n) p s.nodes }
 
+-- the same by the tags that are open
 abbrev pub adopted : ℕ → State → State
 adopted n s = adopted_by n s s.open_tags
 
@@ -67,11 +70,12 @@ added node s = let adopting = adopted (length s.nodes) s in record adopting { no
 abbrev pub opened : Node → State → State
 opened node s = let adding = added node s in record adding { open_tags = length s.nodes ∷ s.open_tags }
 
--- the innermost open tag closed, its raw up to a place of the text
+-- the first of these tags closed, its raw up to a place of the text
 abbrev pub closed_by : List ℕ → ℕ → State → List ℕ → State
 closed_by t to s [] = s
 closed_by t to s (p ∷ ps) = record s { nodes = change_at (with_raw_to t to) p s.nodes; open_tags = ps }
 
+-- the innermost open tag closed
 abbrev pub closed : List ℕ → ℕ → State → State
 closed t to s = closed_by t to s s.open_tags
 
@@ -90,6 +94,7 @@ module _ (t : List ℕ) where
   after_end to s true = closed t to s
   after_end to s false = s
 
+  -- one token, which stands where the piece does
   abbrev pub after_token : Piece → State → Token → State
   after_token k s (Text bytes) = added (Raw bytes) s
   after_token k s (Comment bytes) = added (CommentNode bytes) s
@@ -98,10 +103,27 @@ module _ (t : List ℕ) where
   after_token k s (Doctype html) = record s { is_html5 = s.is_html5 || html }
   after_token k s Nothing = s
 
-  -- one token of the text t
+  -- one piece of the text t
   abbrev pub step : State → Piece → State
   step s k = after_token k s k.token
 
-  -- tokens of the text t, one after the other
+  -- pieces of the text t, one after the other
   abbrev pub run : State → List Piece → State
   run s ks = fold step s ks
+
+-- the number of a tag of the table that begins at this place of the text or before it
+pub record IsOpen (place : ℕ) (nodes : List Node) (p : ℕ) : Type 0 where
+  pub own : TagNode
+  pub found : slice_get nodes p ≡ Some (Tag own)
+  pub begun : own.start ≤ place
+
+-- each open tag is one
+abbrev pub AreOpen : ℕ → State → Type 0
+AreOpen place s = All (IsOpen place s.nodes) s.open_tags
+
+-- a state that the tokens of t up to this place lead to: those behind it lead on to where all tokens do
+pub record IsReached (t : List ℕ) (place : ℕ) (s : State) : Type 0 where
+  pub within : place ≤ length t
+  pub leads_on : (ks : List Piece) → StandFrom t place ks → run t s ks ≡ run t start (tokens t)
+  pub are_open : AreOpen place s
+  pub few : length s.nodes ≤ place
