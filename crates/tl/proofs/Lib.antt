@@ -1,0 +1,11 @@
+pub mod Others
+pub mod Suffixes
+pub mod Puts
+pub mod ReadAttributes
+pub mod TokenSteps
+pub mod Needles
+pub mod Building
+pub mod Following
+pub mod Marks
+pub mod Frames
+pub mod Printing

@@ -1,0 +1,45 @@
+-- Where the attributes of a start tag stand, and those read so far.
+use Rattle.std.specs.Prelude.{◌≡◌, ℕ, List, length, take, map, nat_lt, Option, option_map, IfSome}
+use Rattle.tl_spec.specs.Attribute.{Pair}
+use Rattle.tl_spec.specs.AttributeList.{Attributes, attributes_of}
+use Rattle.tl_spec.specs.Document.{Entries, held_attributes}
+use Rattle.tl_spec.specs.AttributeList.{AttributesOf}
+use Rattle.tl_base.specs.Held.{Held, Kept}
+use Rattle.tl.specs.Attributes.{Attributes as KeptAttributes}
+use Rattle.tl.specs.Shown.{shown_pair, shown_value}
+use Rattle.tl.specs.HeldAlike.{AreHeldAttributes}
+use Rattle.tl.specs.Suffix.{IsSuffix}
+use Rattle.tl.specs.declared.parser.base.part.Part.{Part}
+use Rattle.tl.specs.declared.parser.base.part.Place.{Place}
+
+abbrev pub part_bytes : Part → List ℕ
+part_bytes p = take p.len p.rest.now
+
+abbrev pub bytes_of_part : Option Part → Option (List ℕ)
+bytes_of_part p = option_map part_bytes p
+
+-- the key and the value that stand at a place
+abbrev pub pair_at : Place → Pair
+pair_at p = (part_bytes p.key, bytes_of_part p.value)
+
+-- the part stands in the text
+abbrev pub IsPartOf : List ℕ → Part → Type 0
+IsPartOf t p = IsSuffix p.rest.now t
+
+-- the key and the value stand in the text
+pub record IsPlaceOf (t : List ℕ) (p : Place) : Type 0 where
+  pub key : IsPartOf t p.key
+  pub value : IfSome p.value (IsPartOf t)
+
+-- the attributes, however they are held
+abbrev pub plain : KeptAttributes Kept → Attributes
+plain a = record { others = map shown_pair a.others.entries; id = shown_value a.id; class = shown_value a.class }
+
+-- attributes that inserts alone have made, of pieces that are held so
+pub record AreRead (held : Held) (a : KeptAttributes Kept) : Type 0 where
+  pub heap : a.others.on_heap ≡ nat_lt 2 (length a.others.entries)
+  pub pieces : AreHeldAttributes held a
+
+-- pairs as the attributes of a tag, and what stands behind them
+abbrev pub read_of : List Pair × List ℕ → AttributesOf Entries × List ℕ
+read_of found = (held_attributes (attributes_of found.0), found.1)

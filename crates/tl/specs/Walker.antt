@@ -1,0 +1,89 @@
+-- What a walker has still to give.
+use Rattle.std.specs.Prelude.{◌≡◌, ℕ, Bool, List, [], ◌∷◌, ◌++◌, length, map, Option, Some, None, Result, Ok, Err, ⊤}
+use Rattle.tl_spec.specs.Document.{Node, TagNode}
+use Rattle.tl_spec.specs.Walk.{Fault, Dangling, Cycle, Event as Happening, meets, leaves, faulty, every, shows, walk, events}
+use Rattle.tl.specs.declared.errors.TreeError.{TreeError}
+use Rattle.tl.specs.declared.errors.TreeError.TheVariants.{Dangling as DanglingError, Cycle as CycleError, OutOfMemory}
+use Rattle.tl.specs.declared.parser.tag.walk.Entered.{Entered}
+use Rattle.tl.specs.declared.parser.tag.walk.Entered.TheVariants.{All, Shown}
+use Rattle.tl.specs.declared.parser.tag.walk.Frame.{Frame}
+use Rattle.tl.specs.declared.parser.tag.walk.Walker.{Walker}
+use Rattle.tl.specs.declared.parser.tag.walk.Event.{Event}
+use Rattle.tl.specs.declared.parser.tag.walk.Event.TheVariants.{Meets, Leaves}
+use Rattle.tl.specs.Marks.{AreFresh, IsKept}
+use Rattle.tl.specs.Shown.{shown, shown_tag}
+
+-- the names of the tags that are entered
+abbrev pub enters : Entered → List ℕ → Bool
+enters All = every
+enters Shown = shows
+
+-- the handles of the frames, the last first, before a path
+abbrev pub path_from : List ℕ → List Frame → List ℕ
+path_from path [] = path
+path_from path (f ∷ fs) = path_from (f.handle ∷ path) fs
+
+module _ (entered : List ℕ → Bool) (nodes : List Node) where
+  -- what comes once the frames are taken one by one, the last first, and `later` behind them
+  abbrev pub owed_from : List ℕ → List Happening → List Frame → List Happening
+  owed_from path later [] = later
+  owed_from path later (f ∷ fs) = owed_from (f.handle ∷ path) (leaves (shown_tag f.tag.now) ∷ (events (walk entered nodes path f.rest.now) ++ later)) fs
+
+  -- what comes once nothing is left below the frames
+  unfoldable pub owed : List Frame → List Happening
+  owed fs = owed_from [] [] fs
+
+  -- what comes of handles below the frames, and then of the frames
+  abbrev pub left_below : List Frame → List ℕ → List Happening
+  left_below fs hs = events (walk entered nodes (path_from [] fs) hs) ++ owed fs
+
+-- the path of a walker
+abbrev pub path_of : Walker → List ℕ
+path_of w = path_from [] w.frames.items
+
+-- what is left, where these handles come first
+abbrev pub left_at : Walker → List ℕ → List Happening
+left_at w hs = left_below (enters w.entered) (map shown w.nodes.now) w.frames.items hs
+
+-- what is left once this tag is entered
+abbrev pub left_in : ℕ → TagNode → Walker → List Happening
+left_in h own w = events (walk (enters w.entered) (map shown w.nodes.now) (h ∷ path_of w) own.children.items) ++ (leaves own ∷ left_at w w.rest.now)
+
+-- what is left
+abbrev pub left : Walker → List Happening
+left w = left_at w w.rest.now
+
+-- an event in the words of the definitions
+abbrev pub shown_event : Event → Happening
+shown_event (Meets h n) = meets h (shown n.now)
+shown_event (Leaves t) = leaves (shown_tag t.now)
+
+-- a list that begins with this
+abbrev pub IsLedBy : Happening → List Happening → Type 0
+IsLedBy e es = (rest : List Happening) × (es ≡ e ∷ rest)
+
+-- a fault comes first; or memory ran out
+abbrev pub Refuses : List Happening → TreeError → Type 0
+Refuses before (DanglingError h) = IsLedBy (faulty (Dangling h)) before
+Refuses before (CycleError h) = IsLedBy (faulty (Cycle h)) before
+Refuses before OutOfMemory = ⊤
+
+-- one event is taken
+abbrev pub Gives : List Happening → Result Event TreeError → List Happening → Type 0
+Gives before (Ok e) after = before ≡ shown_event e ∷ after
+Gives before (Err error) after = Refuses before error
+
+-- one event is taken, or there is none left
+abbrev pub Takes : List Happening → Option Event → List Happening → Type 0
+Takes before (Some e) after = before ≡ shown_event e ∷ after
+Takes before None after = before ≡ []
+
+-- one step of a walk: an event, its end, or its first fault
+abbrev pub Steps : List Happening → Result (Option Event) TreeError → List Happening → Type 0
+Steps before (Ok e) after = Takes before e after
+Steps before (Err error) after = Refuses before error
+
+-- how a walker knows its path
+pub record IsMarked (w : Walker) : Type 0 where
+  pub kept : IsKept (length w.nodes.now) (path_of w) w.marks.items
+  pub fresh : AreFresh (length w.nodes.now) (path_of w)

@@ -1,0 +1,59 @@
+//! Errors.
+ghost use Rattle.std.specs.Prelude.{◌≡◌};
+ghost use Rattle.tl.specs.declared.errors.ParseError.TheVariants.{OutOfMemory as ParseMemory};
+ghost use Rattle.tl.specs.declared.errors.TreeError.TheVariants.{OutOfMemory as TreeMemory};
+
+use crate::parser::handle::NodeHandle;
+use std::alloc::{AllocError, AllocFailed};
+use thiserror::Error;
+
+pub use tl_base::byte_string::SetBytesError;
+
+/// Why a text was not read.
+#[derive(Clone, Copy, PartialEq, Eq, PartialOrd, Ord, Debug, Error)]
+pub enum ParseError {
+    /// The text is longer than 4294967295 bytes.
+    #[error("The input string length is too large to fit in a `u32`")]
+    InvalidLength,
+    /// No memory was found.
+    #[error("out of memory")]
+    OutOfMemory,
+}
+
+impl From<AllocError> for ParseError {
+    ghost from_gives = { λ _ e. e ≡ ParseMemory };
+
+    fn from(_: AllocError) -> Self {
+        ParseError::OutOfMemory
+    }
+}
+
+/// Why a walk over a table ended before its end.
+#[derive(Clone, Copy, PartialEq, Eq, PartialOrd, Ord, Debug, Error)]
+pub enum TreeError {
+    /// The table has no node of this number.
+    #[error("a dangling node handle")]
+    Dangling(NodeHandle),
+    /// The node of this number stands above itself.
+    #[error("a cyclic node handle")]
+    Cycle(NodeHandle),
+    /// No memory was found.
+    #[error("out of memory")]
+    OutOfMemory,
+}
+
+impl From<AllocError> for TreeError {
+    ghost from_gives = { λ _ e. e ≡ TreeMemory };
+
+    fn from(_: AllocError) -> Self {
+        TreeError::OutOfMemory
+    }
+}
+
+impl<T: Drop> From<AllocFailed<T>> for TreeError {
+    ghost from_gives = { λ _ e. e ≡ TreeMemory };
+
+    fn from(_: AllocFailed<T>) -> Self {
+        TreeError::OutOfMemory
+    }
+}

@@ -1,0 +1,50 @@
+//! Reads HTML into a table of nodes that borrow from the text.
+#![tactic(auto)]
+
+pub mod errors;
+mod parser;
+mod vdom;
+
+/// Byte strings.
+pub mod bytes {
+    pub use tl_base::byte_string::{Bytes, IntoOwnedBytes};
+}
+
+pub use tl_base::byte_string::{Bytes, IntoOwnedBytes};
+pub use tl_base::inline;
+
+pub use errors::ParseError;
+pub use parser::base::{HTMLVersion, Parser, ParserOf, Tree};
+pub use parser::handle::{InnerNodeHandle, NodeHandle};
+pub use parser::options::ParserOptions;
+pub use parser::tag::attributes::{Attributes, AttributesOf, RawAttributesMap};
+pub use parser::tag::attributes_iter::AttributesIter;
+pub use parser::tag::children::{Children, ChildrenOf};
+pub use parser::tag::node::{Node, NodeOf};
+pub use parser::tag::{HTMLTag, RawChildren, TagOf};
+pub use vdom::{VDom, VDomOf};
+
+ghost use Rattle.std.specs.Prelude.{◌≡◌, ◌↔◌, ◌<◌, length, IfOk, IsErrOf, All};
+ghost use Rattle.tl_spec.specs.Document.{document};
+ghost use Rattle.tl_base.specs.Held.{borrowed};
+ghost use Rattle.tl.specs.Shown.{document_of, version_of};
+ghost use Rattle.tl.specs.HeldAlike.{IsHeldNode};
+ghost use Rattle.tl.specs.declared.errors.ParseError.TheVariants.{InvalidLength};
+
+use std::alloc::Global;
+
+/// Reads a text into a document whose pieces are slices of it.
+///
+/// Markup that is broken is dropped without a fault. A text longer than 4294967295 bytes is refused before any memory is taken.
+pub fn parse<'a>(
+    alloc: Global,
+    text: &'a str,
+    options: ParserOptions,
+) -> Result<VDom<'a>, ParseError>
+    ensures length { IsErrOf result InvalidLength ↔ (4294967295 < length text.now) }
+    ensures document { IfOk result (λ d. document_of d ≡ document text.now) }
+    ensures version { IfOk result (λ d. d.version ≡ version_of (document text.now).is_html5) }
+    ensures borrowed { IfOk result (λ d. All (IsHeldNode borrowed) d.nodes) }
+{
+    Ok(VDom::from(parser::base::reading::read(alloc, &text, options)?))
+}

@@ -1,0 +1,6 @@
+//! The table of nodes, and what reads it.
+pub mod base;
+pub mod handle;
+pub mod options;
+pub mod piece;
+pub mod tag;

@@ -1,0 +1,169 @@
+//! Tags.
+ghost use Rattle.std.specs.Prelude.{◌≡◌, IfOk, OnOk, OnErr};
+ghost use Rattle.std.specs.Option.{option_copied};
+
+pub mod attributes;
+pub mod attributes_iter;
+pub mod children;
+pub mod node;
+pub mod print;
+pub(crate) mod walk;
+
+use crate::parser::base::Parser;
+use crate::parser::handle::NodeHandle;
+use attributes::Attributes;
+use std::alloc::{AllocError, Global};
+use std::marker::Model;
+use tl_base::byte_string::Bytes;
+use tl_base::inline::vec::InlineVec;
+
+/// The handles of a tag's children, the first two inline.
+pub type RawChildren = InlineVec<NodeHandle, 2>;
+
+#[derive(Drop)]
+struct Parts<A, B> {
+    name: B,
+    attributes: A,
+    children: RawChildren,
+    raw: B,
+    start: usize,
+}
+
+/// A tag of bytes of the type `B`, with attributes of the type `A`. Its parts lie on the heap, so that a table of nodes stays small.
+#[derive(Drop)]
+pub struct TagOf<A, B> {
+    parts: Box<Parts<A, B>>,
+}
+
+/// A tag: its name, its attributes, the handles of its children, and where it stands in the text.
+pub type HTMLTag<'a> = TagOf<Attributes<'a>, Bytes<'a>>;
+
+impl<A, B> Model for TagOf<A, B> {
+    ghost use Rattle.tl.specs.Tag.{Tag, tag_code};
+
+    ghost Value = { Tag A B };
+
+    ghost coded = { tag_code A.code B.code };
+
+    ghost view = { λ t. record {
+        name = t.parts.value.name;
+        attributes = t.parts.value.attributes;
+        children = t.parts.value.children;
+        raw = t.parts.value.raw;
+        start = t.parts.value.start
+    } };
+}
+
+impl<A: Drop, B: Drop> TagOf<A, B> {
+    ghost use Rattle.tl.specs.Tag.{childless};
+
+    // A tag without children.
+    pub(crate) fn new(
+        alloc: Global,
+        name: B,
+        attributes: A,
+        raw: B,
+        start: usize,
+    ) -> Result<Self, AllocError>
+        ensures { IfOk result (λ t. t ≡ childless name attributes raw start) }
+    {
+        let parts = Parts {
+            name,
+            attributes,
+            children: InlineVec::new(alloc),
+            raw,
+            start,
+        };
+        Ok(TagOf {
+            parts: Box::new(alloc, parts)?,
+        })
+    }
+
+    // Makes `raw` the source of the tag.
+    pub(crate) fn set_raw(&mut self, raw: B)
+        ensures { self.new ≡ record self.old { raw = raw } }
+    {
+        self.parts.raw = raw;
+    }
+}
+
+impl<A, B> TagOf<A, B> {
+    ghost use Rattle.tl_base.specs.InlineVec.{pushed};
+
+    // Makes `child` the last child.
+    pub(crate) fn push_child(&mut self, child: NodeHandle) -> Result<(), AllocError>
+        ensures ok { OnOk result (self.new ≡ record self.old { children = pushed 2 self.old.children child }) }
+        ensures err { OnErr result (self.new ≡ self.old) }
+    {
+        match self.parts.children.push(child) {
+            Ok(()) => Ok(()),
+            Err(_) => Err(AllocError),
+        }
+    }
+
+    // Where the tag's `<` stands in the text.
+    pub(crate) fn start(&self) -> usize
+        ensures { result ≡ self.now.start }
+    {
+        self.parts.start
+    }
+
+    /// The name.
+    pub fn name(&self) -> &B
+        ensures { result.now ≡ self.now.name }
+    {
+        &self.parts.name
+    }
+
+    /// The whole source of the tag: up to the end of its end tag where one closed it, else its start tag alone. No edit changes it.
+    pub fn raw(&self) -> &B
+        ensures { result.now ≡ self.now.raw }
+    {
+        &self.parts.raw
+    }
+
+    /// The attributes.
+    pub fn attributes(&self) -> &A
+        ensures { result.now ≡ self.now.attributes }
+    {
+        &self.parts.attributes
+    }
+
+    // The handles of the children.
+    pub(crate) fn child_handles(&self) -> &RawChildren
+        ensures { result.now ≡ self.now.children }
+    {
+        &self.parts.children
+    }
+}
+
+impl<'a> HTMLTag<'a> {
+    ghost use Rattle.tl.specs.Boundaries.{boundaries};
+
+    /// The places of the first and of the last byte of the source in the text, whatever the table of `_parser` is. An empty source answers its place twice, and a place past `usize::MAX` is that.
+    pub fn boundaries(&self, _parser: &Parser<'a>) -> (usize, usize)
+        ensures { result ≡ boundaries self.now }
+    {
+        let start = self.start();
+        let len = self.raw().as_bytes().len();
+        (start, start.saturating_add(len.saturating_sub(1)))
+    }
+
+    /// A tag with the same parts, each held alike.
+    pub fn clone(&self) -> Result<HTMLTag<'a>, AllocError>
+        ensures { IfOk result (λ t. t ≡ self.now) }
+    {
+        let parts = &*self.parts;
+        let alloc = *Box::allocator(&self.parts);
+        let copy = Parts {
+            name: parts.name.clone()?,
+            attributes: parts.attributes.clone()?,
+            children: parts.children.clone()?,
+            raw: parts.raw.clone()?,
+            start: parts.start,
+        };
+        Ok(TagOf {
+            parts: Box::new(alloc, copy)?,
+        })
+    }
+}

@@ -1,0 +1,291 @@
+//! The attributes of a tag.
+ghost use Rattle.std.specs.Prelude.{◌≡◌, ◌+◌, ◌==◌, [], None, Some, length, is_some, OnOk, OnErr, IfOk, IsOk};
+ghost use Rattle.std.specs.List.{IsDistinct};
+ghost use Rattle.std.specs.Map.{keys_of, lookup};
+ghost use Rattle.std.specs.Option.{option_copied, option_copied_mut, option_map, option_flatten};
+ghost use Rattle.tl_base.specs.InlineMap.{inserted, with_value};
+ghost use Rattle.tl.specs.Attributes.{no_attributes, found, held, put, taken, bare, without, AreOthers, IsOther, is_id, is_class};
+
+use crate::parser::piece::Piece;
+use tl_base::inline::hashmap::InlineHashMap;
+use std::alloc::{AllocError, Global};
+use std::marker::Model;
+use tl_base::byte_string::Bytes;
+
+/// The pairs of a tag other than `id` and `class`, the first two inline.
+pub type RawAttributesMap<'a> = InlineHashMap<Bytes<'a>, Option<Bytes<'a>>, 2>;
+
+#[derive(Drop)]
+pub struct AttributesOf<B: Piece> {
+    others: InlineHashMap<B, Option<B>, 2>,
+    id: Option<B>,
+    class: Option<B>,
+}
+
+pub type Attributes<'a> = AttributesOf<Bytes<'a>>;
+
+impl<B: Piece> Model for AttributesOf<B> {
+    ghost use Rattle.tl.specs.Attributes.{Attributes, AreOthers, attributes_code};
+
+    ghost Value = { Attributes B };
+
+    ghost coded = { attributes_code B.code };
+
+    ghost view = { λ a. record { others = a.others; id = a.id; class = a.class } };
+
+    ghost invariant = { λ a. AreOthers B.list a.others.entries };
+}
+
+// Whether a key is `id`.
+fn is_id(key: &[u8]) -> bool
+    ensures { result ≡ is_id key.now }
+{
+    key == b"id".as_slice()
+}
+
+// Whether a key is `class`.
+fn is_class(key: &[u8]) -> bool
+    ensures { result ≡ is_class key.now }
+{
+    key == b"class".as_slice()
+}
+
+impl<B: Piece + Default> AttributesOf<B> {
+    /// No attributes.
+    pub fn new(alloc: Global) -> Self
+        ensures { result ≡ no_attributes }
+    {
+        AttributesOf {
+            others: InlineHashMap::new(alloc),
+            id: None,
+            class: None,
+        }
+    }
+}
+
+impl<B: Piece> AttributesOf<B> {
+    /// How many there are.
+    pub fn len(&self) -> usize
+        ensures value { result ≡ held self.now }
+        ensures distinct { IsDistinct B.eq (keys_of self.now.others.entries) }
+        ensures others { AreOthers B.list self.now.others.entries }
+    {
+        self.others.len() + usize::from(self.id.is_some()) + usize::from(self.class.is_some())
+    }
+
+    /// Whether there are none.
+    pub fn is_empty(&self) -> bool
+        ensures { result ≡ (held self.now == 0) }
+    {
+        self.len() == 0
+    }
+
+    /// The value of `id`.
+    pub fn id(&self) -> Option<&B>
+        ensures { option_copied result ≡ self.now.id }
+    {
+        self.id.as_ref()
+    }
+
+    /// The value of `class`.
+    pub fn class(&self) -> Option<&B>
+        ensures { option_copied result ≡ self.now.class }
+    {
+        self.class.as_ref()
+    }
+
+    /// The pairs other than `id` and `class`.
+    pub fn unstable_raw(&self) -> &InlineHashMap<B, Option<B>, 2>
+        ensures { result.now ≡ self.now.others }
+    {
+        &self.others
+    }
+
+    /// Whether there is `key`.
+    pub fn contains(&self, key: B) -> bool
+    where
+        B: Drop,
+        ensures { result ≡ is_some (found B.list B.eq self.now key) }
+    {
+        self.get(key).is_some()
+    }
+
+    /// The value at `key`, where there is one.
+    pub fn get(&self, key: B) -> Option<Option<&B>>
+    where
+        B: Drop,
+        ensures { option_map option_copied result ≡ found B.list B.eq self.now key }
+    {
+        if is_id(key.as_bytes()) {
+            return self.id.as_ref().map(|id| Some(id));
+        }
+        if is_class(key.as_bytes()) {
+            return self.class.as_ref().map(|class| Some(class));
+        }
+        self.others.get(&key).map(|value| value.as_ref())
+    }
+}
+
+impl<B: Piece + Default + Drop> AttributesOf<B> {
+    /// Puts `value` at `key`.
+    pub fn insert(&mut self, key: B, value: Option<B>) -> Result<(), AllocError>
+        ensures ok { OnOk result (self.new ≡ put B.list B.eq self.old key value) }
+        ensures err { OnErr result (self.new ≡ self.old) }
+    {
+        if is_id(key.as_bytes()) {
+            self.id = value;
+            return Ok(());
+        }
+        if is_class(key.as_bytes()) {
+            self.class = value;
+            return Ok(());
+        }
+        self.insert_other(key, value)
+    }
+
+    // Puts `value` at a key that is neither `id` nor `class`.
+    fn insert_other(&mut self, key: B, value: Option<B>) -> Result<(), AllocError>
+        requires { IsOther (B.list key) }
+        ensures ok { OnOk result (self.new ≡ record self.old { others = inserted B.eq 2 self.old.others key value }) }
+        ensures err { OnErr result (self.new ≡ self.old) }
+    {
+        match self.others.insert(key, value) {
+            Ok(()) => Ok(()),
+            Err(_) => Err(AllocError),
+        }
+    }
+
+    /// Takes `key` out.
+    pub fn remove(&mut self, key: B) -> Option<Option<B>>
+        ensures value { result ≡ found B.list B.eq self.old key }
+        ensures left { self.new ≡ taken B.list B.eq self.old key }
+    {
+        if is_id(key.as_bytes()) {
+            return self.id.take().map(|id| Some(id));
+        }
+        if is_class(key.as_bytes()) {
+            return self.class.take().map(|class| Some(class));
+        }
+        self.remove_other(key)
+    }
+
+    // Takes out a key that is neither `id` nor `class`.
+    fn remove_other(&mut self, key: B) -> Option<Option<B>>
+        requires { IsOther (B.list key) }
+        ensures value { result ≡ lookup (B.eq key) self.old.others.entries }
+        ensures left { self.new ≡ record self.old { others = without B.eq self.old.others key } }
+    {
+        self.others.remove(&key)
+    }
+
+    /// Takes the value at `key` out. The key stays, if it is neither `id` nor `class`.
+    pub fn remove_value(&mut self, key: B) -> Option<B>
+        ensures value { result ≡ option_flatten (found B.list B.eq self.old key) }
+        ensures left { self.new ≡ bare B.list B.eq self.old key }
+    {
+        if is_id(key.as_bytes()) {
+            return self.id.take();
+        }
+        if is_class(key.as_bytes()) {
+            return self.class.take();
+        }
+        self.remove_other_value(key)
+    }
+
+    // Takes out the value at a key that is neither `id` nor `class`.
+    fn remove_other_value(&mut self, key: B) -> Option<B>
+        requires { IsOther (B.list key) }
+        ensures value { result ≡ option_flatten (lookup (B.eq key) self.old.others.entries) }
+        ensures left { self.new ≡ record self.old { others = with_value B.eq self.old.others key None } }
+    {
+        match self.others.get_mut(&key) {
+            Some(value) => value.take(),
+            None => None,
+        }
+    }
+}
+
+impl<B: Piece> AttributesOf<B> {
+    ghost use Rattle.std.specs.Borrow.{sem};
+    ghost use Rattle.tl.specs.AttributesLends.{LendsId, LendsClass, LendsSlot, LendsValue, LendsFound};
+
+    // The value of `id`.
+    fn id_mut(&mut self) -> Option<&mut B>
+        ensures* writes_back { sem 𝓛 (LendsId B.row B.Piece self.entry result) }
+        ensures value { option_copied_mut result ≡ self.old.id }
+    {
+        self.id.as_mut()
+    }
+
+    // The value of `class`.
+    fn class_mut(&mut self) -> Option<&mut B>
+        ensures* writes_back { sem 𝓛 (LendsClass B.row B.Piece self.entry result) }
+        ensures value { option_copied_mut result ≡ self.old.class }
+    {
+        self.class.as_mut()
+    }
+
+    /// The value at `key` for writing, where there is a value.
+    pub fn value_mut(&mut self, key: &B) -> Option<&mut B>
+        ensures* writes_back { sem 𝓛 (LendsFound B.row B.Piece self.entry key.now result) }
+        ensures value { option_copied_mut result ≡ option_flatten (found B.list B.eq self.old key.now) }
+    {
+        if is_id(key.as_bytes()) {
+            return self.id_mut();
+        }
+        if is_class(key.as_bytes()) {
+            return self.class_mut();
+        }
+        self.other_mut(key)
+    }
+
+    /// The value at `key` for writing, where there is the key.
+    pub fn get_mut(&mut self, key: B) -> Option<Option<&mut B>>
+    where
+        B: Drop,
+        ensures value { option_map option_copied_mut result ≡ found B.list B.eq self.old key }
+    {
+        if is_id(key.as_bytes()) {
+            return self.id.as_mut().map(|id| Some(id));
+        }
+        if is_class(key.as_bytes()) {
+            return self.class.as_mut().map(|class| Some(class));
+        }
+        match self.slot_mut(&key) {
+            Some(slot) => Some(slot.as_mut()),
+            None => None,
+        }
+    }
+
+    // The value at a key that is neither `id` nor `class`.
+    fn slot_mut(&mut self, key: &B) -> Option<&mut Option<B>>
+        ensures* writes_back { sem 𝓛 (LendsSlot B.row B.Piece self.entry key.now result) }
+        ensures value { option_copied_mut result ≡ lookup (B.eq key.now) self.old.others.entries }
+    {
+        self.others.get_mut(key)
+    }
+
+    // The value at a key that is neither `id` nor `class`, where it has one.
+    fn other_mut(&mut self, key: &B) -> Option<&mut B>
+        ensures* writes_back { sem 𝓛 (LendsValue B.row B.Piece self.entry key.now result) }
+        ensures value { option_copied_mut result ≡ option_flatten (lookup (B.eq key.now) self.old.others.entries) }
+    {
+        match self.slot_mut(key) {
+            Some(slot) => slot.as_mut(),
+            None => None,
+        }
+    }
+}
+
+impl<'a> Attributes<'a> {
+    /// The same attributes, with copied bytes.
+    pub fn clone(&self) -> Result<Attributes<'a>, AllocError>
+        ensures { IfOk result (λ a. a ≡ self.now) }
+    {
+        Ok(AttributesOf {
+            others: self.others.clone()?,
+            id: self.id.clone()?,
+            class: self.class.clone()?,
+        })
+    }
+}

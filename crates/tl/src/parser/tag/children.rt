@@ -1,0 +1,44 @@
+//! The children of a tag.
+ghost use Rattle.std.specs.Prelude.{◌≡◌};
+
+use crate::parser::tag::attributes::Attributes;
+use crate::parser::tag::{RawChildren, TagOf};
+use std::marker::Model;
+use tl_base::byte_string::Bytes;
+
+/// The children of a tag for reading, seen as the tag.
+#[derive(Drop)]
+pub struct ChildrenOf<'b, A, B> {
+    tag: &'b TagOf<A, B>,
+}
+
+/// The children of a tag of a table.
+pub type Children<'a, 'b> = ChildrenOf<'b, Attributes<'a>, Bytes<'a>>;
+
+impl<'b, A, B> Model for ChildrenOf<'b, A, B> {
+    ghost use Rattle.tl.specs.Tag.{Tag, tag_code};
+
+    ghost Value = { Tag A B };
+
+    ghost coded = { tag_code A.code B.code };
+
+    ghost view = { λ c. c.tag.now };
+}
+
+impl<'b, A, B> ChildrenOf<'b, A, B> {
+    /// The handles of the children, in order.
+    pub fn top(&self) -> &RawChildren
+        ensures { result.now ≡ self.now.children }
+    {
+        self.tag.child_handles()
+    }
+}
+
+impl<A, B> TagOf<A, B> {
+    /// The children for reading.
+    pub fn children(&self) -> ChildrenOf<'_, A, B>
+        ensures { result ≡ self.now }
+    {
+        ChildrenOf { tag: self }
+    }
+}

@@ -1,0 +1,81 @@
+//! Nodes.
+ghost use Rattle.std.specs.Prelude.{◌≡◌, IfOk};
+ghost use Rattle.std.specs.Option.{option_copied};
+ghost use Rattle.tl.specs.Node.{tag_of, raw_of, comment_of};
+
+use crate::parser::tag::TagOf;
+use crate::parser::tag::attributes::Attributes;
+use crate::parser::tag::children::ChildrenOf;
+use std::alloc::AllocError;
+use tl_base::byte_string::Bytes;
+
+/// A node of bytes of the type `B`, whose tags have attributes of the type `A`.
+#[derive(Drop)]
+pub enum NodeOf<A, B> {
+    /// A tag.
+    Tag(TagOf<A, B>),
+    /// A text.
+    Raw(B),
+    /// A comment, from its `<` to its `>`; one that never ends has no bytes.
+    Comment(B),
+}
+
+/// A node of a table: a tag, a text or a comment.
+pub type Node<'a> = NodeOf<Attributes<'a>, Bytes<'a>>;
+
+impl<A, B> NodeOf<A, B> {
+    /// The tag, if it is one.
+    pub fn as_tag(&self) -> Option<&TagOf<A, B>>
+        ensures { option_copied result ≡ tag_of self.now }
+    {
+        match self {
+            NodeOf::Tag(tag) => Some(tag),
+            _ => None,
+        }
+    }
+
+    /// The bytes of the text, if it is one.
+    pub fn as_raw(&self) -> Option<&B>
+        ensures { option_copied result ≡ raw_of self.now }
+    {
+        match self {
+            NodeOf::Raw(bytes) => Some(bytes),
+            _ => None,
+        }
+    }
+
+    /// The bytes of the comment, if it is one.
+    pub fn as_comment(&self) -> Option<&B>
+        ensures { option_copied result ≡ comment_of self.now }
+    {
+        match self {
+            NodeOf::Comment(bytes) => Some(bytes),
+            _ => None,
+        }
+    }
+}
+
+impl<A, B> NodeOf<A, B> {
+    /// The children, if it is a tag.
+    pub fn children(&self) -> Option<ChildrenOf<'_, A, B>>
+        ensures { result ≡ tag_of self.now }
+    {
+        match self {
+            NodeOf::Tag(tag) => Some(tag.children()),
+            _ => None,
+        }
+    }
+}
+
+impl<'a> Node<'a> {
+    /// The same node, each of its parts held alike.
+    pub fn clone(&self) -> Result<Node<'a>, AllocError>
+        ensures { IfOk result (λ n. n ≡ self.now) }
+    {
+        match self {
+            NodeOf::Tag(tag) => Ok(NodeOf::Tag(tag.clone()?)),
+            NodeOf::Raw(bytes) => Ok(NodeOf::Raw(bytes.clone()?)),
+            NodeOf::Comment(bytes) => Ok(NodeOf::Comment(bytes.clone()?)),
+        }
+    }
+}

@@ -1,0 +1,261 @@
+//! Prints.
+ghost use Rattle.std.specs.Prelude.{◌≡◌, ◌++◌, [], map, flat_map, codes, OnOk, IfErr, string_bytes};
+ghost use Rattle.std.specs.Option.{option_copied};
+ghost use Rattle.std.specs.Str.Lossy.{utf8_lossy};
+ghost use Rattle.tl_spec.specs.AttributeList.{printed_pairs};
+ghost use Rattle.tl_spec.specs.Document.{Tag};
+ghost use Rattle.tl_spec.specs.Print.{outer_html, document_print, print, print_value, print_pairs, print_start, print_end, printed};
+ghost use Rattle.tl_spec.specs.Walk.{fault_among, first_fault, plain_attributes, plain_node, shows, trees, walk, walk_of};
+ghost use Rattle.tl.specs.Shown.{shown, shown_attributes, shown_tag, shown_value, document_of};
+ghost use Rattle.tl.specs.Answer.{Answers};
+ghost use Rattle.tl.specs.Walker.{IsMarked, left, shown_event};
+ghost use Rattle.tl.specs.Writing.{Writes};
+
+use crate::errors::TreeError;
+use crate::parser::base::Parser;
+use crate::parser::base::names::is_printed_alone;
+use crate::parser::handle::NodeHandle;
+use crate::parser::tag::HTMLTag;
+use crate::parser::tag::attributes::Attributes;
+use crate::parser::tag::node::{Node, NodeOf};
+use crate::parser::tag::walk::{Entered, Event, Walker};
+use crate::vdom::VDom;
+use bstr::ByteSlice;
+use std::alloc::Global;
+use tl_base::byte_string::Bytes;
+
+// Writes bytes as text.
+fn write_lossy(bytes: &[u8], out: &mut String) -> Result<(), TreeError>
+    ensures ok { OnOk result (string_bytes out.new ≡ string_bytes out.old ++ utf8_lossy bytes.now) }
+    ensures err { IfErr result (λ e. e ≡ TreeError.OutOfMemory) }
+{
+    bytes.to_str_lossy_into(out)?;
+    Ok(())
+}
+
+// Writes a space, a key and its value.
+fn write_pair(key: &[u8], value: Option<&Bytes<'_>>, out: &mut String) -> Result<(), TreeError>
+    ensures ok { OnOk result (string_bytes out.new ≡ string_bytes out.old ++ codes " " ++ utf8_lossy key.now ++ print_value (shown_value (option_copied value.entry))) }
+    ensures err { IfErr result (λ e. e ≡ TreeError.OutOfMemory) }
+{
+    out.push(' ')?;
+    write_lossy(key, out)?;
+    match value {
+        Some(value) => {
+            out.push_str("=\"")?;
+            write_lossy(value.as_bytes(), out)?;
+            out.push('"')?;
+            Ok(())
+        }
+        None => Ok(()),
+    }
+}
+
+// Writes all pairs in order.
+fn write_pairs(attributes: &Attributes<'_>, out: &mut String) -> Result<(), TreeError>
+    ensures ok { OnOk result (string_bytes out.new ≡ string_bytes out.old ++ print_pairs (printed_pairs (plain_attributes (shown_attributes attributes.now)))) }
+    ensures err { IfErr result (λ e. e ≡ TreeError.OutOfMemory) }
+{
+    for pair in attributes.iter() {
+        write_pair(pair.0.as_bytes(), pair.1, out)?;
+    }
+    Ok(())
+}
+
+// Writes a start tag.
+fn write_start(tag: &HTMLTag<'_>, out: &mut String) -> Result<(), TreeError>
+    ensures ok { OnOk result (string_bytes out.new ≡ string_bytes out.old ++ print_start (plain_node (shown_tag tag.now))) }
+    ensures err { IfErr result (λ e. e ≡ TreeError.OutOfMemory) }
+{
+    out.push('<')?;
+    write_lossy(tag.name().as_bytes(), out)?;
+    write_pairs(tag.attributes(), out)?;
+    out.push('>')?;
+    Ok(())
+}
+
+// Writes an end tag.
+fn write_end(tag: &HTMLTag<'_>, out: &mut String) -> Result<(), TreeError>
+    ensures ok { OnOk result (string_bytes out.new ≡ string_bytes out.old ++ print_end (plain_node (shown_tag tag.now))) }
+    ensures err { IfErr result (λ e. e ≡ TreeError.OutOfMemory) }
+{
+    out.push_str("</")?;
+    write_lossy(tag.name().as_bytes(), out)?;
+    out.push('>')?;
+    Ok(())
+}
+
+// Writes what one event prints.
+fn write_event<'s, 'a>(event: Event<'s, 'a>, out: &mut String) -> Result<(), TreeError>
+    ensures ok { OnOk result (string_bytes out.new ≡ string_bytes out.old ++ printed (shown_event event.entry)) }
+    ensures err { IfErr result (λ e. e ≡ TreeError.OutOfMemory) }
+{
+    match event {
+        Event::Meets(_, NodeOf::Tag(tag)) => write_start(tag, out),
+        Event::Meets(_, NodeOf::Raw(bytes)) => write_lossy(bytes.as_bytes(), out),
+        Event::Meets(_, NodeOf::Comment(bytes)) => write_lossy(bytes.as_bytes(), out),
+        Event::Leaves(tag) => write_end(tag, out),
+    }
+}
+
+// Writes what is left of a walk.
+fn write_walk<'s, 'a>(mut walker: Walker<'s, 'a>, out: &mut String) -> Result<(), TreeError>
+    requires { IsMarked walker }
+    ensures { let es = left walker.entry in
+        Writes (fault_among es) (flat_map printed es) (string_bytes out.old) result (string_bytes out.new) }
+{
+    loop {
+        let event = match walker.next_event() {
+            Ok(Some(event)) => event,
+            Ok(None) => return Ok(()),
+            Err(error) => return Err(error),
+        };
+        write_event(event, out)?;
+    }
+}
+
+// Writes the nodes of these handles in order, with all that they hold.
+fn write_row<'s, 'a>(
+    alloc: Global,
+    nodes: &'s [Node<'a>],
+    handles: &'s [NodeHandle],
+    out: &mut String,
+) -> Result<(), TreeError>
+    ensures { let w = walk shows (map shown nodes.now) [] handles.now in
+        Writes (first_fault w) (print (trees w)) (string_bytes out.old) result (string_bytes out.new) }
+{
+    write_walk(Walker::new(alloc, nodes, Entered::Shown, handles), out)
+}
+
+// Writes a tag with all that it holds.
+fn write_tag<'s, 'a>(
+    alloc: Global,
+    nodes: &'s [Node<'a>],
+    tag: &'s HTMLTag<'a>,
+    out: &mut String,
+) -> Result<(), TreeError>
+    ensures { let w = walk_of shows (map shown nodes.now) (Tag (shown_tag tag.now)) in
+        Writes (first_fault w) (print (trees w)) (string_bytes out.old) result (string_bytes out.new) }
+{
+    write_start(tag, out)?;
+    if is_printed_alone(tag.name().as_bytes()) {
+        return Ok(());
+    }
+    write_row(alloc, nodes, tag.child_handles().as_slice(), out)?;
+    write_end(tag, out)?;
+    Ok(())
+}
+
+// Bytes as a text of their own.
+fn lossy_text(alloc: Global, bytes: &[u8]) -> Result<String, TreeError>
+    ensures { Answers (Ok (utf8_lossy bytes.now)) result }
+{
+    let mut out = String::new(alloc);
+    write_lossy(bytes, &mut out)?;
+    Ok(out)
+}
+
+impl<'a> HTMLTag<'a> {
+    /// The tag as markup, with all that it holds by the table of `parser`. An end tag is written whether or not the text had one.
+    pub fn outer_html(&self, alloc: Global, parser: &Parser<'a>) -> Result<String, TreeError>
+        ensures { Answers (outer_html (map shown parser.now.nodes) (Tag (shown_tag self.now))) result }
+    {
+        let mut out = String::new(alloc);
+        write_tag(alloc, parser.nodes(), self, &mut out)?;
+        Ok(out)
+    }
+}
+
+impl<'a> Node<'a> {
+    /// The node as markup, with all that it holds by the table of `parser`.
+    pub fn outer_html(&self, alloc: Global, parser: &Parser<'a>) -> Result<String, TreeError>
+        ensures { Answers (outer_html (map shown parser.now.nodes) (shown self.now)) result }
+    {
+        match self {
+            NodeOf::Tag(tag) => tag.outer_html(alloc, parser),
+            NodeOf::Raw(bytes) => lossy_text(alloc, bytes.as_bytes()),
+            NodeOf::Comment(bytes) => lossy_text(alloc, bytes.as_bytes()),
+        }
+    }
+}
+
+impl<'a> VDom<'a> {
+    /// The document as markup: its top nodes in order, without a doctype.
+    pub fn outer_html(&self, alloc: Global) -> Result<String, TreeError>
+        ensures { Answers (document_print (document_of self.now)) result }
+    {
+        let mut out = String::new(alloc);
+        write_row(alloc, self.nodes(), self.children(), &mut out)?;
+        Ok(out)
+    }
+}
+
+#[cfg(test)]
+mod tests {
+    use super::*;
+    use crate::parser::base::ParserOf;
+    use std::alloc::AllocError;
+    use std::test::Fail;
+
+    // A tag with these children, whose attributes are `x`, `id` and `class`.
+    fn tag(
+        alloc: Global,
+        name: &'static str,
+        children: &[u32],
+    ) -> Result<Node<'static>, AllocError> {
+        let mut attributes: Attributes<'static> = Attributes::new(alloc);
+        if name == "a" {
+            attributes.insert(Bytes::from("class"), Some(Bytes::from("c")))?;
+            attributes.insert(Bytes::from("x"), None)?;
+            attributes.insert(Bytes::from("id"), Some(Bytes::from("i")))?;
+        }
+        let mut tag: HTMLTag<'static> =
+            HTMLTag::new(alloc, Bytes::from(name), attributes, Bytes::from("<>"), 4)?;
+        for child in children {
+            tag.push_child(NodeHandle::new(*child))?;
+        }
+        Ok(NodeOf::Tag(tag))
+    }
+
+    // A table with the tags `a` of 1, 2, 3 and 1 again, `br` of 2, and `p` of itself.
+    fn table(alloc: Global) -> Result<Parser<'static>, AllocError> {
+        let mut nodes: Vec<Node<'static>> = Vec::new(alloc);
+        nodes.push(tag(alloc, "a", &[1, 2, 3, 1])?)?;
+        nodes.push(NodeOf::Raw(Bytes::from(b"t\xff".as_slice())))?;
+        nodes.push(NodeOf::Comment(Bytes::from("<!---->")))?;
+        nodes.push(tag(alloc, "br", &[2])?)?;
+        nodes.push(tag(alloc, "p", &[4])?)?;
+        nodes.push(tag(alloc, "q", &[1, 6])?)?;
+        Ok(ParserOf::from_parts(nodes, Vec::new(alloc), None))
+    }
+
+    // The print of a node of the table.
+    fn printed(alloc: Global, handle: u32) -> Result<String, TreeError> {
+        let parser = table(alloc)?;
+        match parser.resolve_node_id(handle) {
+            Some(node) => node.outer_html(alloc, &parser),
+            None => Err(TreeError::Dangling(NodeHandle::new(handle))),
+        }
+    }
+
+    #[test]
+    fn prints_in_order(rt: HostRuntime) -> Result<(), Fail> {
+        let text = printed(rt.alloc(), 0)?;
+        assert_eq!(rt; text.as_str(), "<a x id=\"i\" class=\"c\">t\u{fffd}<!----><br>t\u{fffd}</a>");
+        Ok(())
+    }
+
+    #[test]
+    fn refuses_faults(rt: HostRuntime) {
+        assert!(rt; printed(rt.alloc(), 4) == Err(TreeError::Cycle(NodeHandle::new(4))));
+        assert!(rt; printed(rt.alloc(), 5) == Err(TreeError::Dangling(NodeHandle::new(6))));
+    }
+
+    #[test]
+    fn boundaries_are_inclusive(rt: HostRuntime) -> Result<(), Fail> {
+        let parser = table(rt.alloc())?;
+        let found = parser.resolve_node_id(3).and_then(|node| node.as_tag());
+        assert!(rt; found.map(|tag| tag.boundaries(&parser)) == Some((4, 5)));
+        Ok(())
+    }
+}

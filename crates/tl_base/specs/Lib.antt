@@ -1,0 +1,14 @@
+pub mod Held
+pub mod Bytes
+pub mod Set
+pub mod Keys
+pub mod Search
+pub mod InlineVec
+pub mod InlineVecLends
+pub mod InlineMap
+pub mod InlineMapLends
+pub mod HeldItems
+pub mod HeldItemsLends
+pub mod HeldPairs
+pub mod HeldPairsLends
+pub mod PairsLeft

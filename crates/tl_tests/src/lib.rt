@@ -1,0 +1,7 @@
+//! Worked rows and vectors that cross crates.
+#![tactic(auto)]
+
+#[cfg(test)]
+mod prints;
+#[cfg(test)]
+mod reading;

@@ -1,0 +1,4 @@
+pub mod Asked
+pub mod Failure
+pub mod Output
+pub mod Status

@@ -1,0 +1,16 @@
+//! What the program does, over any reader and writer.
+mod answer;
+mod asked;
+mod failure;
+mod fault;
+mod marked;
+mod running;
+mod status;
+mod words;
+
+pub use asked::Command;
+pub use fault::{Fault, Input, Output};
+pub use marked::Marked;
+pub use running::run;
+pub use status::line;
+pub use words::command;

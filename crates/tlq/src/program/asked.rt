@@ -1,0 +1,6 @@
+/// What the program is asked for.
+#[derive(Debug, Drop)]
+pub enum Command {
+    /// The document of the input, printed.
+    Print,
+}

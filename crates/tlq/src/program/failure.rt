@@ -1,0 +1,40 @@
+ghost use Rattle.std.specs.Prelude.{◌≡◌};
+ghost use Rattle.tlq.specs.Failure.{failure_of_parse, failure_of_tree};
+
+use tl::ParseError;
+use tl::errors::TreeError;
+
+/// Why a command was not carried out. Its number is the status.
+#[derive(Clone, Copy, PartialEq, Eq, Debug)]
+pub enum Failure {
+    /// The tree has a fault.
+    Refused = 1,
+    /// The input is no text, or one that is too long.
+    NotUnderstood = 2,
+    /// No memory was found.
+    OutOfMemory = 3,
+    /// A read or a write failed.
+    Fault = 4,
+}
+
+impl From<ParseError> for Failure {
+    ghost from_gives = { λ error failure. failure ≡ failure_of_parse error };
+
+    fn from(error: ParseError) -> Self {
+        match error {
+            ParseError::InvalidLength => Failure::NotUnderstood,
+            ParseError::OutOfMemory => Failure::OutOfMemory,
+        }
+    }
+}
+
+impl From<TreeError> for Failure {
+    ghost from_gives = { λ error failure. failure ≡ failure_of_tree error };
+
+    fn from(error: TreeError) -> Self {
+        match error {
+            TreeError::Dangling(_) | TreeError::Cycle(_) => Failure::Refused,
+            TreeError::OutOfMemory => Failure::OutOfMemory,
+        }
+    }
+}

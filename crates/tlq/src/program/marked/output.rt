@@ -1,0 +1,27 @@
+use super::Marked;
+use crate::program::fault::{Fault, Output};
+use std::io::Write;
+
+impl<T: Write> Output for Marked<T> {
+    ghost holds = { λ m. T.contents m.0 };
+
+    ghost has_failed = { λ m. m.1 };
+
+    fn write(&mut self, bytes: &[u8]) -> Result<usize, Fault> {
+        match self.inner.write(bytes) {
+            Ok(n) if n > 0 || bytes.is_empty() => Ok(n),
+            _ => Err(self.fault()),
+        }
+    }
+
+    fn flush(&mut self) -> Result<(), Fault> {
+        match self.inner.flush() {
+            Ok(()) => Ok(()),
+            Err(_) => Err(self.fault()),
+        }
+    }
+
+    fn failed(&self) -> bool {
+        self.has_failed
+    }
+}
