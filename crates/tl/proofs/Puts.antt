@@ -1,5 +1,5 @@
 -- What an insert makes of attributes, in the words of the definitions.
-use Rattle.std.proofs.Common.{◌≡◌, ℕ, zero, suc, ◌+◌, Bool, true, false, cond, not, nat_lt, nat_eq, ◌||◌, ◌&&◌, ◌==◌, if◌then◌else◌, List, [], ◌∷◌, length, map, Option, Some, None, is_some, Result, Ok, Err, OnOk, refl, sym, ap, subst, ◌∙◌, arith}
+use Rattle.std.proofs.Common.{◌≡◌, ℕ, suc, Bool, true, false, cond, not, nat_lt, ◌||◌, ◌&&◌, ◌==◌, if◌then◌else◌, List, [], ◌∷◌, length, map, Option, Some, is_some, Result, Ok, Err, OnOk, refl, sym, ap, subst, ◌∙◌, arith}
 use Rattle.std.specs.Prelude.{IfSome}
 use Rattle.std.specs.List.{All}
 use Rattle.std.specs.Str.{bytes_eq}
@@ -7,18 +7,18 @@ use Rattle.std.specs.Map.{lookup}
 use Rattle.std.proofs.lemmas.Bool.Decides.{nat_tests}
 use Rattle.std.proofs.lemmas.Cmp.{nat_list_eq_equiv}
 use Rattle.std.proofs.lemmas.List.{length-map}
-use Rattle.std.proofs.lemmas.List.Elements.{All-nil, All-cons, All-head, All-tail}
+use Rattle.std.proofs.lemmas.List.Elements.{All-cons, All-head, All-tail}
 use Rattle.indexmap.specs.IndexMap.{insert_entry}
 use Rattle.tl_spec.specs.Inline.{InlineMap}
 use Rattle.tl_spec.specs.Attribute.{Pair}
-use Rattle.tl_spec.specs.AttributeList.{Attributes as PlainAttributes, with_value, with_pair}
-use Rattle.tl_spec.specs.Document.{held_attributes, held_entries}
+use Rattle.tl_spec.specs.AttributeList.{with_value, with_pair}
+use Rattle.tl_spec.specs.Document.{held_attributes}
 use Rattle.tl_base.specs.Held.{Held, Kept}
 use Rattle.tl_base.specs.Keys.{same_list}
 use Rattle.tl_base.specs.InlineMap.{inserted}
 use Rattle.tl.specs.Attributes.{Attributes, put, is_id, is_class}
 use Rattle.tl.specs.Shown.{shown_bytes, shown_value, shown_pair, shown_attributes}
-use Rattle.tl.specs.HeldAlike.{IsHeld, IsHeldPair, AreHeldAttributes}
+use Rattle.tl.specs.HeldAlike.{IsHeld, IsHeldPair}
 use Rattle.tl.specs.Place.{plain, AreRead}
 
 -- the pairs of a map
@@ -37,7 +37,7 @@ module _ (k : Kept) (v : Option Kept) where
     where
       by : (b c : Bool) → b ≡ c → map shown_pair (insert_entry same_list es k v) ≡ with_value (map shown_pair es) k.list (shown_value v)
           → map shown_pair (if b then (e.0, v) ∷ es else e ∷ insert_entry same_list es k v)
-            ≡ (if c then (e.0.list, shown_value v) ∷ map shown_pair es else shown_pair e ∷ with_value (map shown_pair es) k.list (shown_value v))
+          ≡ (if c then (e.0.list, shown_value v) ∷ map shown_pair es else shown_pair e ∷ with_value (map shown_pair es) k.list (shown_value v))
       by true true same later = refl
       by true false same later = cc
       by false true same later = cc
@@ -51,9 +51,10 @@ module _ (k : Kept) (v : Option Kept) where
       more : (f : Bool) (n : ℕ) → suc (cond f n (suc n)) ≡ cond f (suc n) (suc (suc n))
       more true n = refl
       more false n = refl
+
       by : (b : Bool) → length (insert_entry same_list es k v) ≡ cond (is_some (lookup (same_list k) es)) (length es) (suc (length es))
           → length (if b then (e.0, v) ∷ es else e ∷ insert_entry same_list es k v)
-            ≡ cond (is_some (cond b (Some e.1) (lookup (same_list k) es))) (suc (length es)) (suc (suc (length es)))
+          ≡ cond (is_some (cond b (Some e.1) (lookup (same_list k) es))) (suc (length es)) (suc (suc (length es)))
       by true later = refl
       by false later = ap suc later ∙ more (is_some (lookup (same_list k) es)) (length es)
 
@@ -87,7 +88,7 @@ module _ (a : Attributes Kept) (k : Kept) (v : Option Kept) where
     where
       by : (b c : Bool) → plain (cond b (record a { id = v }) (cond c (record a { class = v }) (record a { others = inserted same_list 2 a.others k v })))
           ≡ (if b then record (plain a) { id = shown_value v } else if c then record (plain a) { class = shown_value v }
-            else record (plain a) { others = with_value (plain a).others k.list (shown_value v) })
+          else record (plain a) { others = with_value (plain a).others k.list (shown_value v) })
       by true c = refl
       by false true = refl
       by false false = ap (λ (ps : List Pair). record (plain a) { others = ps }) (map-insert_entry k v a.others.entries)
@@ -103,7 +104,7 @@ module _ (a : Attributes Kept) (k : Kept) (v : Option Kept) where
         pieces = record { others = all_inserted k v held a.others.entries key value h.pieces.others; id = h.pieces.id; class = h.pieces.class };
       }
 
--- what an insert leaves where it is not refused
+-- the same of an insert that may be refused
 module _ {U E : Type 0} (old new : Attributes Kept) (k : Kept) (v : Option Kept) (p : Pair) where
   pub after-put : (r : Result U E) → OnOk r (new ≡ put_piece old k v) → k.list ≡ p.0 → shown_value v ≡ p.1 → OnOk r (plain new ≡ with_pair (plain old) p)
   after-put (Ok x) is key value =
@@ -118,4 +119,4 @@ module _ {U E : Type 0} (old new : Attributes Kept) (k : Kept) (v : Option Kept)
 pub shown-read : (held : Held) (a : Attributes Kept) → AreRead held a → shown_attributes a ≡ held_attributes (plain a)
 shown-read held a h =
     ap (λ (b : Bool). record { others = record { entries = map shown_pair a.others.entries; on_heap = b }; id = shown_value a.id; class = shown_value a.class })
-      (h.heap ∙ ap (λ n. nat_lt 2 n) (sym (length-map a.others.entries shown_pair)))
+    (h.heap ∙ ap (λ n. nat_lt 2 n) (sym (length-map a.others.entries shown_pair)))

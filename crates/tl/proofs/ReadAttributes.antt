@@ -1,8 +1,8 @@
 -- What holds while the attributes of a start tag are read.
-use Rattle.std.proofs.Common.{◌≡◌, ℕ, suc, ◌<◌, Bool, true, false, List, [], ◌∷◌, length, Option, Some, None, fold, refl, sym, ap, ◌∙◌, arith, slice_get, drop}
+use Rattle.std.proofs.Common.{◌≡◌, ℕ, ◌<◌, true, false, List, [], ◌∷◌, length, Some, None, fold, refl, sym, ap, ◌∙◌, arith, slice_get, drop}
 use Rattle.tl_spec.specs.ByteClass.{is_blank, is_closing}
 use Rattle.tl_spec.specs.Attribute.{Pair, attribute, attributes, past_blanks}
-use Rattle.tl_spec.specs.AttributeList.{Attributes as PlainAttributes, attributes_of, with_pair}
+use Rattle.tl_spec.specs.AttributeList.{attributes_of, with_pair}
 use Rattle.tl_spec.specs.Document.{held_attributes}
 use Rattle.tl_base.specs.Held.{Held, Kept}
 use Rattle.tl.specs.Attributes.{Attributes}

@@ -1,5 +1,5 @@
 -- Facts of last parts of a text.
-use Rattle.std.proofs.Common.{◌≡◌, ℕ, ◌+◌, ◌-◌, ◌≤◌, List, length, take, drop, length-drop, arith, ap, sym, ◌∙◌}
+use Rattle.std.proofs.Common.{◌≡◌, ℕ, ◌-◌, ◌≤◌, List, length, take, drop, length-drop, arith, ap, sym, ◌∙◌}
 use Rattle.std.proofs.Common.{take_all}
 use Rattle.tl_spec.specs.ByteClass.{is_blank}
 use Rattle.tl_spec.specs.Attribute.{past_blanks}

@@ -1,13 +1,13 @@
 -- What the reader's steps make of a token.
-use Rattle.std.proofs.Common.{◌≡◌, ℕ, zero, suc, ◌+◌, ◌-◌, ◌<◌, ◌≤◌, Bool, true, false, ◌==◌, List, [], ◌∷◌, length, take, drop, Option, Some, None, option_map, refl, sym, ap, subst, ◌∙◌, arith, length-drop, take_all}
+use Rattle.std.proofs.Common.{◌≡◌, ℕ, ◌-◌, ◌<◌, ◌≤◌, Bool, List, [], ◌∷◌, length, take, drop, Option, Some, option_map, refl, sym, ap, subst, ◌∙◌, arith, length-drop, take_all}
 use Rattle.std.specs.Prelude.{take_while}
 use Rattle.std.specs.List.{between, prefix_len}
 use Rattle.tl_spec.specs.ByteClass.{is_blank, is_name}
 use Rattle.tl_spec.specs.Runs.{front, past}
 use Rattle.tl_spec.specs.Attribute.{Pair, attributes, past_blanks}
-use Rattle.tl_spec.specs.AttributeList.{AttributesOf, attributes_of}
+use Rattle.tl_spec.specs.AttributeList.{AttributesOf}
 use Rattle.tl_spec.specs.Token.{Token, closed, start_tag, next_token}
-use Rattle.tl_spec.specs.Document.{Entries, TagNode, held_attributes, held_items}
+use Rattle.tl_spec.specs.Document.{Entries, TagNode, held_items}
 use Rattle.tl.specs.Place.{read_of}
 use Rattle.tl.specs.Reading.{Reading, IsNext, reads_start}
 use Rattle.tl.specs.Suffix.{IsSuffix}

@@ -1,9 +1,8 @@
 -- Where the attributes of a start tag stand, and those read so far.
 use Rattle.std.specs.Prelude.{◌≡◌, ℕ, List, length, take, map, nat_lt, Option, option_map, IfSome}
 use Rattle.tl_spec.specs.Attribute.{Pair}
-use Rattle.tl_spec.specs.AttributeList.{Attributes, attributes_of}
+use Rattle.tl_spec.specs.AttributeList.{Attributes, AttributesOf, attributes_of}
 use Rattle.tl_spec.specs.Document.{Entries, held_attributes}
-use Rattle.tl_spec.specs.AttributeList.{AttributesOf}
 use Rattle.tl_base.specs.Held.{Held, Kept}
 use Rattle.tl.specs.Attributes.{Attributes as KeptAttributes}
 use Rattle.tl.specs.Shown.{shown_pair, shown_value}
@@ -12,9 +11,11 @@ use Rattle.tl.specs.Suffix.{IsSuffix}
 use Rattle.tl.specs.declared.parser.base.part.Part.{Part}
 use Rattle.tl.specs.declared.parser.base.part.Place.{Place}
 
+-- the bytes of a part
 abbrev pub part_bytes : Part → List ℕ
 part_bytes p = take p.len p.rest.now
 
+-- the same, where there is a part
 abbrev pub bytes_of_part : Option Part → Option (List ℕ)
 bytes_of_part p = option_map part_bytes p
 

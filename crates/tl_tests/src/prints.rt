@@ -1,5 +1,6 @@
 //! Pages, and what they print.
 use std::alloc::Global;
+use std::process::Abort;
 use std::test::Fail;
 use tl::{ParserOptions, parse};
 
@@ -10,9 +11,9 @@ fn printed(alloc: Global, page: &str) -> Result<String, Fail> {
 }
 
 // Each page prints as it is given beside it.
-fn all_print(rt: &HostRuntime, rows: &[(&str, &str)]) -> Result<(), Fail> {
+fn all_print(rt: &impl Abort, alloc: Global, rows: &[(&str, &str)]) -> Result<(), Fail> {
     for (page, print) in rows {
-        let made = printed(rt.alloc(), page)?;
+        let made = printed(alloc, page)?;
         assert_eq!(rt; made.as_str(), *print, "{page}");
     }
     Ok(())
@@ -47,6 +48,7 @@ fn pages_that_print_themselves(rt: HostRuntime) -> Result<(), Fail> {
 fn tags_and_texts(rt: HostRuntime) -> Result<(), Fail> {
     all_print(
         &rt,
+        rt.alloc(),
         &[
             ("a<", "a"),
             ("<a><b></a></b>", "<a><b></b></a>"),
@@ -70,6 +72,7 @@ fn tags_and_texts(rt: HostRuntime) -> Result<(), Fail> {
 fn attributes(rt: HostRuntime) -> Result<(), Fail> {
     all_print(
         &rt,
+        rt.alloc(),
         &[
             ("<p\ta>x</p>", "<p  a>x</p>"),
             ("<p  a>x</p>", "<p a>x</p>"),
@@ -100,6 +103,7 @@ fn attributes(rt: HostRuntime) -> Result<(), Fail> {
 fn comments_and_doctypes(rt: HostRuntime) -> Result<(), Fail> {
     all_print(
         &rt,
+        rt.alloc(),
         &[
             ("<!--a", ""),
             ("<!DOCTYPE html PUBLIC>", "UBLIC>"),
@@ -116,6 +120,7 @@ fn comments_and_doctypes(rt: HostRuntime) -> Result<(), Fail> {
 fn cut_texts(rt: HostRuntime) -> Result<(), Fail> {
     all_print(
         &rt,
+        rt.alloc(),
         &[
             ("<", ""),
             ("<!", ""),

@@ -5,15 +5,16 @@ ghost use Rattle.tl_spec.specs.AttributeList.{with_pair};
 ghost use Rattle.tl.specs.Suffix.{IsSuffix};
 ghost use Rattle.tl.specs.Shown.{shown_value, shown_attributes};
 ghost use Rattle.tl.specs.HeldAlike.{IsHeld, AreHeldAttributes};
+ghost use Rattle.tl.specs.Place.{part_bytes, bytes_of_part, pair_at, IsPartOf, IsPlaceOf, plain, AreRead, read_of};
 
 use crate::parser::base::part::{Part, Place};
-use crate::parser::base::runs::{bare_len, is_closing, is_ident, is_quote, len_until, name_len, past_blanks};
+use crate::parser::base::runs::{is_ident, is_quote, name_len, past_blanks};
 use crate::parser::base::source::Source;
 use crate::parser::tag::attributes::{Attributes, AttributesOf};
 use std::alloc::{AllocError, Global};
 use tl_base::byte_string::Bytes;
-
-ghost use Rattle.tl.specs.Place.{part_bytes, bytes_of_part, pair_at, IsPartOf, IsPlaceOf, plain, AreRead, read_of};
+use tl_base::runs::{bare_len, len_until};
+use tl_base::simd::is_closing;
 
 // The first `len` bytes, and what stands behind them.
 fn split(s: &[u8], len: usize) -> (Part, &[u8])
@@ -25,7 +26,7 @@ fn split(s: &[u8], len: usize) -> (Part, &[u8])
     (Part { rest: s, len }, &s[len..])
 }
 
-/// The value at the front, and what stands from its end on.
+// The value at the front, and what stands from its end on.
 fn value(s: &[u8]) -> (Part, &[u8])
     ensures read { (part_bytes result.0, result.1.now) ≡ value s.now }
     ensures within { IsPartOf s.now result.0 }
@@ -42,7 +43,7 @@ fn value(s: &[u8]) -> (Part, &[u8])
     }
 }
 
-/// The value behind `=` and blanks, if `=` stands at the front, and what stands from its end on.
+// The value behind `=` and blanks, if `=` stands at the front, and what stands from its end on.
 fn optional_value(s: &[u8]) -> (Option<Part>, &[u8])
     ensures read { (bytes_of_part result.0, result.1.now) ≡ optional_value s.now }
     ensures within { IfSome result.0 (IsPartOf s.now) }
@@ -56,23 +57,17 @@ fn optional_value(s: &[u8]) -> (Option<Part>, &[u8])
     }
 }
 
-/// What stands behind the end of an attribute: one byte is passed over, unless it is `>` or of a name.
+// What stands behind the end of an attribute: one byte is passed over, unless it is `>` or of a name.
 fn past_end(s: &[u8]) -> &[u8]
     ensures { result.now ≡ past_end s.now }
 {
     match s {
         [] => s,
-        [b, rest @ ..] => {
-            if *b == b'>' || is_ident(*b) {
-                s
-            } else {
-                rest
-            }
-        }
+        [b, rest @ ..] => { if *b == b'>' || is_ident(*b) { s } else { rest } }
     }
 }
 
-/// Where the attribute at the front stands, and what stands behind it.
+// Where the attribute at the front stands, and what stands behind it.
 fn attribute(s: &[u8]) -> (Place, &[u8])
     ensures read { (pair_at result.0, result.1.now) ≡ attribute s.now }
     ensures within { IsPlaceOf s.now result.0 }
@@ -116,7 +111,7 @@ fn optional_piece_of<'a, S: Source<'a>>(
     }
 }
 
-/// Inserts the attribute that stands at a place.
+// Inserts the attribute that stands at a place.
 fn insert_at<'a, S: Source<'a>>(
     alloc: Global,
     source: &S,

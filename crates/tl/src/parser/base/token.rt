@@ -13,13 +13,14 @@ ghost use Rattle.tl.specs.Place.{part_bytes, IsPartOf};
 
 use crate::parser::base::attribute::{attributes, piece_of};
 use crate::parser::base::part::Part;
-use crate::parser::base::runs::{ident_len, len_until, name_len, past_blanks};
+use crate::parser::base::runs::{name_len, past_blanks};
 use crate::parser::base::source::Source;
 use crate::parser::tag::attributes::Attributes;
 use crate::parser::tag::{HTMLTag, TagOf};
 use memchr::memmem;
 use std::alloc::{AllocError, Global};
 use tl_base::byte_string::Bytes;
+use tl_base::runs::{ident_len, len_until};
 
 /// A token of a text.
 #[derive(Drop)]

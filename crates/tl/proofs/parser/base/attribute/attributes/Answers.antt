@@ -1,5 +1,5 @@
-use Rattle.std.proofs.Common.{◌≡◌, ℕ, List, ap, sym, ◌∙◌}
-use Rattle.tl_spec.specs.Attribute.{Pair, attribute, past_blanks}
+use Rattle.std.proofs.Common.{ℕ, List, ap, sym, ◌∙◌}
+use Rattle.tl_spec.specs.Attribute.{Pair, past_blanks}
 use Rattle.tl_spec.specs.AttributeList.{with_pair}
 use Rattle.tl.specs.Place.{plain}
 use Rattle.tl.proofs.ReadAttributes.{less, one_more}
@@ -14,5 +14,5 @@ pub loop-first-preserved : goal.loop-first-preserved
 loop-first-preserved g c =
     rw (c.past_blanks-rest.ensures, ap (λ (found : Pair × List ℕ). past_blanks found.1) c.attribute.ensures.read)
     (one_more c.loop-first.rest.now c.in-Some.first.now c.in-Some.ensures.value g.S.Source.held (g.S.Source.text c.args.source.now) c.args.s.now c.loop-first.read c.insert_at.new.attributes
-      (sym c.if-is_closing.ensures) c.loop-first.invariant
-      (c.in_ok-insert_at.ensures.pair ∙ ap (λ (found : Pair × List ℕ). with_pair (plain c.loop-first.read) found.0) c.attribute.ensures.read) c.in_ok-insert_at.ensures.read)
+    (sym c.if-is_closing.ensures) c.loop-first.invariant
+    (c.in_ok-insert_at.ensures.pair ∙ ap (λ (found : Pair × List ℕ). with_pair (plain c.loop-first.read) found.0) c.attribute.ensures.read) c.in_ok-insert_at.ensures.read)

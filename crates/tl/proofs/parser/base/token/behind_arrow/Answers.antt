@@ -1,4 +1,4 @@
-use Rattle.std.proofs.Common.{ap, ◌∙◌, ◌+◌, List, ℕ, Option, Some, None, arith, length, ◌<◌, [], ◌∷◌}
+use Rattle.std.proofs.Common.{ap, ◌∙◌, ◌+◌, List, ℕ, Some, None, arith, length, ◌<◌, [], ◌∷◌}
 use Rattle.tl.proofs.Needles.{cut_behind, find-behind}
 use Rattle.tl.proofs.parser.base.token.behind_arrow.Goals as goal
 

@@ -15,15 +15,20 @@ attributes-requires g c κs =
 pub make_tag-requires : goal.make_tag-requires
 make_tag-requires g c κs =
     let is = past_name-is c.args.s.now c.past_blanks.result.now c.name_len-len.result c.name_len-len.ensures.run c.past_blanks.ensures in
-    let read = c.in_ok-attributes.ensures.read ∙ ap (λ (l : List ℕ). read_of (attributes l)) is in
-    ((refl, tt), (
-      c.requires.whole,
-      (start-within (g.S.Source.text c.args.source.now) c.args.whole.now c.args.s.now c.requires.whole c.requires.name (shown_attributes c.in_ok-attributes.attributes) c.in_ok-attributes.rest.now read
-        c.closed-end.result.0 c.closed-end.result.1.now c.closed-end.ensures, (
-        then_suffix c.args.s.now c.args.whole.now (g.S.Source.text c.args.source.now) c.requires.name c.requires.whole,
-        c.in_ok-attributes.ensures.held,
-      )),
-    ))
+    let read = c.in_ok-attributes.ensures.read ∙ ap (λ (l : List ℕ). read_of (attributes l)) is in (
+      (refl, tt),
+      (
+        c.requires.whole,
+        (
+          start-within (g.S.Source.text c.args.source.now) c.args.whole.now c.args.s.now c.requires.whole c.requires.name (shown_attributes c.in_ok-attributes.attributes) c.in_ok-attributes.rest.now read
+              c.closed-end.result.0 c.closed-end.result.1.now c.closed-end.ensures,
+          (
+            then_suffix c.args.s.now c.args.whole.now (g.S.Source.text c.args.source.now) c.requires.name c.requires.whole,
+            c.in_ok-attributes.ensures.held,
+          ),
+        ),
+      ),
+    )
 
 pub returns-clause-told : goal.returns-clause-told
 returns-clause-told g c =
