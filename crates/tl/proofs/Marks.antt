@@ -1,11 +1,11 @@
 -- The marks of a path.
-use Rattle.std.proofs.Common.{◌≡◌, ◌≢◌, ℕ, zero, suc, ◌+◌, ◌<◌, ◌≤◌, Bool, true, false, cond, List, [], ◌∷◌, ◌++◌, length, get_or, nat_eq, refl, ap, arith, sym, ◌∙◌, subst, ◌⊎◌, inl, inr, ◌||◌, eq-eqb}
-use Rattle.std.proofs.Math.ListN.{set, replicate}
+use Rattle.std.proofs.Common.{◌≡◌, ◌≢◌, ℕ, ◌<◌, Bool, true, false, List, [], ◌∷◌, length, get_or, nat_eq, refl, ap, arith, sym, ◌∙◌, ◌⊎◌, inl, inr, ◌||◌, eq-eqb}
+use Rattle.std.proofs.Math.ListN.{set}
 use Rattle.std.proofs.lemmas.List.{length-set, length-replicate, get_or-set_same, get_or-set_other, get_or-replicate, set-set, set-get_or}
 use Rattle.std.proofs.lemmas.Bool.Decides.{eqb_tells}
 use Rattle.std.proofs.lemmas.Bool.{ne_eqb}
 use Rattle.tl_spec.specs.Walk.{stands_on}
-use Rattle.tl.specs.Marks.{marks_of, AreFresh, IsAbove, IsRising, IsKept, MayFollow}
+use Rattle.tl.specs.Marks.{marks_of, IsAbove, IsRising, IsKept, MayFollow}
 
 pub marks_length : (n : ℕ) (path : List ℕ) → length (marks_of n path) ≡ n
 marks_length n [] = length-replicate n false

@@ -1,5 +1,5 @@
 -- What is printed of a tag on which a call is made, of a walk by its events, and of attributes in order.
-use Rattle.std.proofs.Common.{◌≡◌, ℕ, Bool, true, false, not, if◌then◌else◌, List, [], ◌∷◌, ◌++◌, map, flat_map, codes, Option, Some, None, Result, refl, ap, ap₂, sym, subst₂, ◌∙◌, append-nil, append_assoc}
+use Rattle.std.proofs.Common.{◌≡◌, ℕ, Bool, false, not, if◌then◌else◌, List, [], ◌∷◌, ◌++◌, map, flat_map, codes, Option, Some, None, Result, refl, ap, ap₂, sym, subst₂, ◌∙◌, append-nil, append_assoc}
 use Rattle.std.proofs.lemmas.List.{map-append}
 use Rattle.tl_spec.specs.AttributeList.{named, printed_pairs}
 use Rattle.tl_spec.specs.ByteClass.{is_printed_alone}

@@ -37,6 +37,7 @@ pub suffix_behind_one : (s r : List ℕ) → 1 ≤ length s → r ≡ past_blank
 suffix_behind_one s r h e =
     let is : r ≡ past_blanks (drop 1 s) = e ∙ ap past_blanks (behind_one s h) in
     suffix_of_tail r s (rw is (then_tail (past_blanks (drop 1 s)) (drop 1 s) s (past-tail is_blank (drop 1 s)) (drop-tail 1 s)))
+
 -- the whole text is a last part of it
 pub suffix_whole : (t : List ℕ) → IsSuffix t t
 suffix_whole t = let none : length t - length t ≡ 0 = omega arith in ap (λ n. drop n t) none

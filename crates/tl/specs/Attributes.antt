@@ -1,10 +1,10 @@
 -- What a contract sees of the attributes of a tag.
-use Rattle.std.specs.Prelude.{◌≡◌, ℕ, ◌+◌, Bool, true, false, cond, not, ◌||◌, List, [], ◌∷◌, length, Option, Some, None, option_map, nat_eq, refl, is_some}
+use Rattle.std.specs.Prelude.{◌≡◌, ℕ, ◌+◌, Bool, false, cond, List, [], ◌∷◌, length, Option, Some, None, option_map, nat_eq, refl, is_some}
 use Rattle.std.specs.Int.{from_bool}
-use Rattle.std.specs.Coded.{Coded, code_by, coded×, coded_bool, coded_list, coded_option}
+use Rattle.std.specs.Coded.{Coded, code_by, coded×, coded_option}
 use Rattle.std.specs.Cmp.Lexicographic.{pointwise}
 use Rattle.std.specs.List.{AllByRecursion}
-use Rattle.std.specs.Map.{lookup, set_value}
+use Rattle.std.specs.Map.{lookup}
 use Rattle.indexmap.specs.IndexMap.{swap_remove_entry}
 use Rattle.tl_spec.specs.Inline.{InlineMap}
 use Rattle.tl_base.specs.InlineMap.{inline_map_code, inserted, with_value}

@@ -1,5 +1,5 @@
 -- What a contract sees of a tag.
-use Rattle.std.specs.Prelude.{ℕ, List, [], false, refl}
+use Rattle.std.specs.Prelude.{ℕ, [], false, refl}
 use Rattle.std.specs.Coded.{Coded, code_by, coded×, coded_ℕ}
 use Rattle.tl_spec.specs.Inline.{InlineVec}
 use Rattle.tl_base.specs.InlineVec.{inline_vec_code}

@@ -1,7 +1,7 @@
 -- What a walker has still to give.
 use Rattle.std.specs.Prelude.{◌≡◌, ℕ, Bool, List, [], ◌∷◌, ◌++◌, length, map, Option, Some, None, Result, Ok, Err, ⊤}
 use Rattle.tl_spec.specs.Document.{Node, TagNode}
-use Rattle.tl_spec.specs.Walk.{Fault, Dangling, Cycle, Event as Happening, meets, leaves, faulty, every, shows, walk, events}
+use Rattle.tl_spec.specs.Walk.{Dangling, Cycle, Event as Happening, meets, leaves, faulty, every, shows, walk, events}
 use Rattle.tl.specs.declared.errors.TreeError.{TreeError}
 use Rattle.tl.specs.declared.errors.TreeError.TheVariants.{Dangling as DanglingError, Cycle as CycleError, OutOfMemory}
 use Rattle.tl.specs.declared.parser.tag.walk.Entered.{Entered}

@@ -6,7 +6,6 @@ ghost use Rattle.tl.specs.declared.errors.TreeError.TheVariants.{OutOfMemory as 
 use crate::parser::handle::NodeHandle;
 use std::alloc::{AllocError, AllocFailed};
 use thiserror::Error;
-
 pub use tl_base::byte_string::SetBytesError;
 
 /// Why a text was not read.

@@ -1,5 +1,12 @@
-//! Reads HTML into a table of nodes that borrow from the text.
+//! Reads HTML into a table of nodes that borrow from the text, and prints it again.
 #![tactic(auto)]
+
+ghost use Rattle.std.specs.Prelude.{◌≡◌, ◌↔◌, ◌<◌, length, IfOk, IsErrOf, All};
+ghost use Rattle.tl_spec.specs.Document.{document};
+ghost use Rattle.tl_base.specs.Held.{borrowed};
+ghost use Rattle.tl.specs.Shown.{document_of, version_of};
+ghost use Rattle.tl.specs.HeldAlike.{IsHeldNode};
+ghost use Rattle.tl.specs.declared.errors.ParseError.TheVariants.{InvalidLength};
 
 pub mod errors;
 mod parser;
@@ -10,9 +17,6 @@ pub mod bytes {
     pub use tl_base::byte_string::{Bytes, IntoOwnedBytes};
 }
 
-pub use tl_base::byte_string::{Bytes, IntoOwnedBytes};
-pub use tl_base::inline;
-
 pub use errors::ParseError;
 pub use parser::base::{HTMLVersion, Parser, ParserOf, Tree};
 pub use parser::handle::{InnerNodeHandle, NodeHandle};
@@ -22,16 +26,10 @@ pub use parser::tag::attributes_iter::AttributesIter;
 pub use parser::tag::children::{Children, ChildrenOf};
 pub use parser::tag::node::{Node, NodeOf};
 pub use parser::tag::{HTMLTag, RawChildren, TagOf};
-pub use vdom::{VDom, VDomOf};
-
-ghost use Rattle.std.specs.Prelude.{◌≡◌, ◌↔◌, ◌<◌, length, IfOk, IsErrOf, All};
-ghost use Rattle.tl_spec.specs.Document.{document};
-ghost use Rattle.tl_base.specs.Held.{borrowed};
-ghost use Rattle.tl.specs.Shown.{document_of, version_of};
-ghost use Rattle.tl.specs.HeldAlike.{IsHeldNode};
-ghost use Rattle.tl.specs.declared.errors.ParseError.TheVariants.{InvalidLength};
-
 use std::alloc::Global;
+pub use tl_base::byte_string::{Bytes, IntoOwnedBytes};
+pub use tl_base::{inline, simd};
+pub use vdom::{VDom, VDomOf};
 
 /// Reads a text into a document whose pieces are slices of it.
 ///

@@ -3,13 +3,13 @@ ghost use Rattle.std.specs.Prelude.{◌≡◌, slice_get, Option};
 ghost use Rattle.std.specs.Option.{option_copied};
 
 pub mod attribute;
+pub(crate) mod names;
 pub mod part;
 pub mod reading;
 pub mod runs;
 pub mod source;
 pub mod table;
 pub mod token;
-pub(crate) mod names;
 
 use crate::parser::handle::{InnerNodeHandle, NodeHandle};
 use crate::parser::tag::attributes::Attributes;

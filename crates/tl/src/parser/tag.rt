@@ -46,11 +46,11 @@ impl<A, B> Model for TagOf<A, B> {
     ghost coded = { tag_code A.code B.code };
 
     ghost view = { λ t. record {
-        name = t.parts.value.name;
-        attributes = t.parts.value.attributes;
-        children = t.parts.value.children;
-        raw = t.parts.value.raw;
-        start = t.parts.value.start
+      name = t.parts.value.name;
+      attributes = t.parts.value.attributes;
+      children = t.parts.value.children;
+      raw = t.parts.value.raw;
+      start = t.parts.value.start;
     } };
 }
 

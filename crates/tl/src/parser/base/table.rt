@@ -9,9 +9,9 @@ ghost use Rattle.tl.specs.Shown.{shown, document_of, version_of};
 ghost use Rattle.tl.specs.HeldAlike.{IsHeldNode, IsHeldTag};
 ghost use Rattle.tl.specs.Reading.{said_by, meaning_of, IsHeldToken};
 
+use crate::parser::base::names::is_void;
 use crate::parser::base::source::Source;
 use crate::parser::base::token::Token;
-use crate::parser::base::names::is_void;
 use crate::parser::base::{HTMLVersion, Parser};
 use crate::parser::handle::NodeHandle;
 use crate::parser::tag::HTMLTag;

@@ -7,10 +7,10 @@ ghost use Rattle.tl_base.specs.InlineMap.{inserted, with_value};
 ghost use Rattle.tl.specs.Attributes.{no_attributes, found, held, put, taken, bare, without, AreOthers, IsOther, is_id, is_class};
 
 use crate::parser::piece::Piece;
-use tl_base::inline::hashmap::InlineHashMap;
 use std::alloc::{AllocError, Global};
 use std::marker::Model;
 use tl_base::byte_string::Bytes;
+use tl_base::inline::hashmap::InlineHashMap;
 
 /// The pairs of a tag other than `id` and `class`, the first two inline.
 pub type RawAttributesMap<'a> = InlineHashMap<Bytes<'a>, Option<Bytes<'a>>, 2>;

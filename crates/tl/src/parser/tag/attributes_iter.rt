@@ -4,11 +4,11 @@ ghost use Rattle.std.specs.Map.Iter.{TakesFirst, ShowsInOrder};
 ghost use Rattle.std.specs.Iterator.{at_most};
 ghost use Rattle.tl.specs.Listed.{shown, listed};
 
-use crate::parser::tag::attributes::AttributesOf;
 use crate::parser::piece::Piece;
-use tl_base::inline::hashmap::InlineHashMapIterator;
+use crate::parser::tag::attributes::AttributesOf;
 use std::marker::Model;
 use tl_base::byte_string::Bytes;
+use tl_base::inline::hashmap::InlineHashMapIterator;
 
 /// The attributes in order, seen as the list of those that are left.
 #[derive(Drop)]

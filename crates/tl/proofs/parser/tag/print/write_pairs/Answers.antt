@@ -1,4 +1,4 @@
-use Rattle.std.proofs.Common.{◌≡◌, ◌++◌, map, ap, sym, ◌∙◌, string_bytes}
+use Rattle.std.proofs.Common.{◌++◌, map, ap, sym, ◌∙◌, string_bytes}
 use Rattle.tl_spec.specs.Print.{print_pairs}
 use Rattle.tl.specs.Shown.{shown_pair}
 use Rattle.tl.proofs.Printing.{pairs-listed}

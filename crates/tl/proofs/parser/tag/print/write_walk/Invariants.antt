@@ -8,7 +8,7 @@ abbrev pub invariant-loop-event : goal.invariant-loop-event
 invariant-loop-event l = record {
   marked : IsMarked l.walker;
   bytes : string_bytes l.initial.out ++ flat_map printed (left l.initial.walker) ≡ string_bytes l.out ++ flat_map printed (left l.walker);
-  faults : fault_among (left l.initial.walker) ≡ fault_among (left l.walker)
+  faults : fault_among (left l.initial.walker) ≡ fault_among (left l.walker);
 }
 
 abbrev pub decreases-loop-event : goal.decreases-loop-event

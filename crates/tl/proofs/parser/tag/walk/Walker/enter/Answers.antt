@@ -24,4 +24,4 @@ returns-clause-left c =
     let children : c.as_slice-self.result.now ≡ c.args.tag.now.children.items = c.as_slice-self.ensures ∙ ap (λ v. v.items) c.child_handles.ensures in
     ap (left_below (enters w.entered) (map shown w.nodes.now) c.push.new.self.items) children
     ∙ left-pushed (enters w.entered) (map shown w.nodes.now) w.rest.now w.frames.items c.push.new.self.items c.args.handle
-        (record { handle = c.args.handle; tag = c.args.tag; rest = w.rest }) c.args.tag.now.children.items c.in-Ok.ensures.items refl refl
+    (record { handle = c.args.handle; tag = c.args.tag; rest = w.rest }) c.args.tag.now.children.items c.in-Ok.ensures.items refl refl

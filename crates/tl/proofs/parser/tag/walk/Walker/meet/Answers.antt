@@ -1,4 +1,4 @@
-use Rattle.std.proofs.Common.{◌≡◌, ◌∷◌, [], ℕ, List, Bool, true, false, Some, None, map, ap, sym, ◌∙◌}
+use Rattle.std.proofs.Common.{◌≡◌, ◌∷◌, [], true, false, Some, map, ap, sym, ◌∙◌}
 use Rattle.std.specs.List.{slice_get}
 use Rattle.std.proofs.lemmas.Option.{slice_get_within}
 use Rattle.tl_spec.specs.Document.{Tag, Raw, Comment}
@@ -34,8 +34,8 @@ returns-then-enters-clause-gives c =
     let off : stands_on (path_of w) h ≡ false = sym (ap (λ fs. stands_on (path_from [] fs) h) c.as_slice.ensures.value) ∙ sym c.in_ok-stands.ensures.says ∙ c.if-stands.false in
     let is : slice_get (map shown w.nodes.now) h ≡ Some (Tag own) = shown_at w.nodes.now h c.in-Some.node.now c.in-Some.ensures ∙ ap (λ n. Some (shown n)) c.in-Tag.is in
     rw c.in-Tag.is (
-        left-entered (enters w.entered) (map shown w.nodes.now) w.rest.now w.frames.items h own is off (sym c.enters.ensures ∙ c.if-enters.true)
-        ∙ ap (λ es. meets h (Tag own) ∷ es) (sym c.in_ok-enter-in-Tag.ensures.left))
+    left-entered (enters w.entered) (map shown w.nodes.now) w.rest.now w.frames.items h own is off (sym c.enters.ensures ∙ c.if-enters.true)
+    ∙ ap (λ es. meets h (Tag own) ∷ es) (sym c.in_ok-enter-in-Tag.ensures.left))
 
 pub returns-else-enters-clause-gives : goal.returns-else-enters-clause-gives
 returns-else-enters-clause-gives c =

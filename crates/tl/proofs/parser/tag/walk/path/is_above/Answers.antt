@@ -1,4 +1,4 @@
-use Rattle.std.proofs.Common.{◌≡◌, ◌<◌, ◌∷◌, [], ap, ◌∙◌, arith}
+use Rattle.std.proofs.Common.{[], ap, ◌∙◌, arith}
 use Rattle.tl.specs.Walker.{path_from}
 use Rattle.tl.proofs.Frames.{path-push}
 use Rattle.tl.proofs.parser.tag.walk.path.is_above.Goals as goal

@@ -1,6 +1,6 @@
-use Rattle.std.proofs.Common.{◌≡◌, ◌<◌, ◌≤◌, ℕ, [], List, Bool, true, false, length, get_or, refl, ap, sym, ◌∙◌, inl, inr, arith}
+use Rattle.std.proofs.Common.{◌≡◌, ◌<◌, [], length, get_or, ap, sym, ◌∙◌, arith}
 use Rattle.tl.specs.Walker.{path_from}
-use Rattle.tl.proofs.Marks.{says_rising, says_marked, may_follow, has_place, marks_length, marks_within, mark_tells}
+use Rattle.tl.proofs.Marks.{says_rising, says_marked, may_follow, has_place, marks_within, mark_tells}
 use Rattle.tl.proofs.parser.tag.walk.path.stands_on_path.Goals as goal
 
 pub returns-then-is_above-clause-says : goal.returns-then-is_above-clause-says
