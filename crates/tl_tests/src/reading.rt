@@ -1,123 +1,153 @@
 //! Pages, and the tables that are read.
-use std::alloc::Global;
+use std::alloc::{AllocError, Global};
+use std::fmt::Write;
 use std::mem::size_of;
 use std::process::Abort;
 use std::test::Fail;
 use tl::errors::TreeError;
-use tl::{Bytes, HTMLVersion, Node, NodeHandle, ParserOptions, VDom, parse};
+use tl::{Attributes, Bytes, HTMLTag, HTMLVersion, Node, NodeHandle, Parser, ParserOptions, parse};
 
-// What a node is, in a letter, and its own bytes.
-fn told<'s>(node: &'s Node<'_>) -> (char, &'s [u8]) {
+// Writes bytes that are text.
+fn show_bytes(bytes: &Bytes<'_>, out: &mut String) -> Result<(), AllocError> {
+    out.push_str(bytes.try_as_utf8_str().unwrap_or("?"))
+}
+
+// Writes a key and its value.
+fn show_pair(key: &Bytes<'_>, value: Option<&Bytes<'_>>, out: &mut String) -> Result<(), AllocError> {
+    out.push(' ')?;
+    show_bytes(key, out)?;
+    match value {
+        Some(value) => {
+            out.push('=')?;
+            show_bytes(value, out)
+        }
+        None => Ok(()),
+    }
+}
+
+// Writes all pairs in order.
+fn show_pairs<'a>(attributes: &Attributes<'a>, out: &mut String) -> Result<(), AllocError> {
+    for pair in attributes.iter() {
+        show_pair(&pair.0, pair.1, out)?;
+    }
+    Ok(())
+}
+
+// Writes the numbers of handles.
+fn show_numbers(handles: &[NodeHandle], out: &mut String) -> Result<(), AllocError> {
+    for handle in handles {
+        let number = handle.get_inner();
+        write!(out, " {number}")?;
+    }
+    Ok(())
+}
+
+// Writes a tag: name, pairs, children, where it stands, raw.
+fn show_tag<'a>(tag: &HTMLTag<'a>, parser: &Parser<'a>, out: &mut String) -> Result<(), AllocError> {
+    out.push_str("tag ")?;
+    show_bytes(tag.name(), out)?;
+    show_pairs(tag.attributes(), out)?;
+    out.push_str(" [")?;
+    show_numbers(tag.children().top().as_slice(), out)?;
+    let (start, end) = tag.boundaries(parser);
+    write!(out, " ] {start} {end} ")?;
+    show_bytes(tag.raw(), out)
+}
+
+// Writes a node.
+fn show_node<'a>(node: &Node<'a>, parser: &Parser<'a>, out: &mut String) -> Result<(), AllocError> {
     match node {
-        Node::Tag(tag) => ('t', tag.name().as_bytes()),
-        Node::Raw(bytes) => ('r', bytes.as_bytes()),
-        Node::Comment(bytes) => ('c', bytes.as_bytes()),
+        Node::Tag(tag) => show_tag(tag, parser, out),
+        Node::Raw(bytes) => {
+            out.push_str("text ")?;
+            show_bytes(bytes, out)
+        }
+        Node::Comment(bytes) => {
+            out.push_str("comment ")?;
+            show_bytes(bytes, out)
+        }
     }
 }
 
-// The nodes are of these kinds, with these bytes.
-fn has_nodes(rt: &impl Abort, document: &VDom<'_>, nodes: &[(char, &str)]) {
-    assert_eq!(rt; document.nodes().len(), nodes.len());
-    for (node, (kind, bytes)) in document.nodes().iter().zip(nodes) {
-        let (found, own) = told(node);
-        assert_eq!(rt; found, *kind);
-        assert!(rt; own == bytes.as_bytes());
+// The nodes of a page, each with a `|` behind it, and the numbers of its top list.
+fn shown(alloc: Global, page: &str) -> Result<String, Fail> {
+    let document = parse(alloc, page, ParserOptions::new())?;
+    let mut out = String::new(alloc);
+    for node in document.nodes() {
+        show_node(node, document.parser(), &mut out)?;
+        out.push('|')?;
     }
+    show_numbers(document.children(), &mut out)?;
+    Ok(out)
 }
 
-// The source of the tag of a number.
-fn raw_of<'s>(document: &'s VDom<'_>, number: u32) -> &'s [u8] {
-    match document.parser().resolve_node_id(number) {
-        Some(Node::Tag(tag)) => tag.raw().as_bytes(),
-        _ => b"no tag",
+// Each page has the table that is given beside it.
+fn all_show(rt: &impl Abort, alloc: Global, rows: &[(&str, &str)]) -> Result<(), Fail> {
+    for (page, table) in rows {
+        let made = shown(alloc, page)?;
+        assert_eq!(rt; made.as_str(), *table, "{page}");
     }
-}
-
-// Where the tag of a number stands.
-fn boundaries_of(document: &VDom<'_>, number: u32) -> (usize, usize) {
-    match NodeHandle::new(number).get(document.parser()) {
-        Some(Node::Tag(tag)) => tag.boundaries(document.parser()),
-        _ => (99, 99),
-    }
+    Ok(())
 }
 
 #[test]
-fn first_page(rt: HostRuntime) -> Result<(), Fail> {
-    let alloc = rt.alloc();
-    let document = parse(alloc, "abc <p>test<span>a</span></p> def", ParserOptions::default())?;
-    has_nodes(
+fn tags(rt: HostRuntime) -> Result<(), Fail> {
+    all_show(
         &rt,
-        &document,
-        &[('r', "abc "), ('t', "p"), ('r', "test"), ('t', "span"), ('r', "a"), ('r', " def")],
-    );
-    let top = [NodeHandle::new(0), NodeHandle::new(1), NodeHandle::new(5)];
-    assert!(rt; document.children() == top.as_slice());
-    assert_eq!(rt; boundaries_of(&document, 1), (4, 28));
-    assert_eq!(rt; document.version(), None);
-    let Some(node) = document.nodes().get(1) else {
-        return Err(Fail::from("node 1 is missing"));
-    };
-    assert_eq!(rt; node.outer_html(alloc, document.parser())?.as_str(), "<p>test<span>a</span></p>");
-    let Some(tag) = node.as_tag() else {
-        return Err(Fail::from("node 1 is no tag"));
-    };
-    assert_eq!(rt; tag.outer_html(alloc, document.parser())?.as_str(), "<p>test<span>a</span></p>");
-    let children = [NodeHandle::new(2), NodeHandle::new(3)];
-    assert!(rt; tag.children().top().as_slice() == children.as_slice());
-    assert!(rt; node.children().is_some());
-    Ok(())
+        rt.alloc(),
+        &[
+            ("", ""),
+            (
+                "abc <p>test<span>a</span></p> def",
+                "text abc |tag p [ 2 3 ] 4 28 <p>test<span>a</span></p>|text test|tag span [ 4 ] 11 24 <span>a</span>|text a|text  def| 0 1 5",
+            ),
+            ("<a><b></a></b>", "tag a [ 1 ] 0 2 <a>|tag b [ ] 3 13 <b></a></b>| 0"),
+            (
+                "<a>x</b>y</a>z",
+                "tag a [ 1 2 ] 0 12 <a>x</b>y</a>|text x|text y|text z| 0 3",
+            ),
+            ("<a href=/x>y</a>", "text x>y| 0"),
+            ("<br/>x</br/>", "tag br/ [ 1 ] 0 11 <br/>x</br/>|text x| 0"),
+            (
+                "<br /><p>test</p>",
+                "tag br [ ] 0 5 <br />|tag p [ 2 ] 6 16 <p>test</p>|text test| 0 1",
+            ),
+            ("< p >x</p>", "tag p [ 1 ] 0 9 < p >x</p>|text x| 0"),
+            ("<p>x</p >", "tag p [ 1 ] 0 2 <p>|text x| 0"),
+            ("<p>abcd</p", "tag p [ 1 ] 0 9 <p>abcd</p|text abcd| 0"),
+            ("<p a=\"b>x", ""),
+            ("<p />x", "tag p [ ] 0 4 <p />|text x| 0 1"),
+        ],
+    )
 }
 
 #[test]
-fn another_table(rt: HostRuntime) -> Result<(), Fail> {
-    let alloc = rt.alloc();
-    let document = parse(alloc, "abc <p>test<span>a</span></p> def", ParserOptions::new())?;
-    let empty = parse(alloc, "", ParserOptions::new())?;
-    let Some(node) = document.nodes().get(1) else {
-        return Err(Fail::from("node 1 is missing"));
-    };
-    let fault = node.outer_html(alloc, empty.parser()).err();
-    assert_eq!(rt; fault, Some(TreeError::Dangling(NodeHandle::new(2))));
-    Ok(())
+fn attributes_comments_doctypes(rt: HostRuntime) -> Result<(), Fail> {
+    all_show(
+        &rt,
+        rt.alloc(),
+        &[
+            (
+                "<p a=1 b=2 c=3 id=i class=k a=4>",
+                "tag p a=4 b=2 c=3 id=i class=k [ ] 0 31 <p a=1 b=2 c=3 id=i class=k a=4>| 0",
+            ),
+            ("<p id=a id>", "tag p [ ] 0 10 <p id=a id>| 0"),
+            ("<p\ta>", "tag p  a [ ] 0 4 <p\ta>| 0"),
+            ("<p a/b>", "tag p a/b [ ] 0 6 <p a/b>| 0"),
+            ("<!--a", "comment | 0"),
+            ("<!--->x", "comment <!--->|text x| 0 1"),
+            ("<!---->x", "comment <!---->|text x| 0 1"),
+            ("< !-- a -->", "comment < !-- a -->| 0"),
+            ("<!DOCTYPE html PUBLIC>", "text UBLIC>| 0"),
+            ("<!foo bar>", "text bar>| 0"),
+        ],
+    )
 }
 
-#[test]
-fn raws(rt: HostRuntime) -> Result<(), Fail> {
-    let alloc = rt.alloc();
-    let document = parse(alloc, "<a><b></a></b>", ParserOptions::new())?;
-    assert!(rt; raw_of(&document, 1) == b"<b></a></b>".as_slice());
-    assert!(rt; raw_of(&document, 0) == b"<a>".as_slice());
-    assert_eq!(rt; boundaries_of(&document, 1), (3, 13));
-    assert_eq!(rt; boundaries_of(&document, 0), (0, 2));
-    let document = parse(alloc, "<p>abcd</p", ParserOptions::new())?;
-    assert!(rt; raw_of(&document, 0) == b"<p>abcd</p".as_slice());
-    assert_eq!(rt; boundaries_of(&document, 0), (0, 9));
-    let document = parse(alloc, "<br /><p>test</p>", ParserOptions::new())?;
-    assert!(rt; raw_of(&document, 0) == b"<br />".as_slice());
-    assert_eq!(rt; document.nodes().len(), 3);
-    let document = parse(alloc, "< p >x</p>", ParserOptions::new())?;
-    assert!(rt; raw_of(&document, 0) == b"< p >x</p>".as_slice());
-    let document = parse(alloc, "<p>x</p >", ParserOptions::new())?;
-    assert!(rt; raw_of(&document, 0) == b"<p>".as_slice());
-    Ok(())
-}
-
-#[test]
-fn nodes_of_pages(rt: HostRuntime) -> Result<(), Fail> {
-    let alloc = rt.alloc();
-    let document = parse(alloc, "<a>x</b>y</a>z", ParserOptions::new())?;
-    has_nodes(&rt, &document, &[('t', "a"), ('r', "x"), ('r', "y"), ('r', "z")]);
-    let document = parse(alloc, "<a href=/x>y</a>", ParserOptions::new())?;
-    has_nodes(&rt, &document, &[('r', "x>y")]);
-    let document = parse(alloc, "<!--a", ParserOptions::new())?;
-    has_nodes(&rt, &document, &[('c', "")]);
-    let document = parse(alloc, "<!--->x", ParserOptions::new())?;
-    has_nodes(&rt, &document, &[('c', "<!--->"), ('r', "x")]);
-    let document = parse(alloc, "<br/>x</br/>", ParserOptions::new())?;
-    has_nodes(&rt, &document, &[('t', "br/"), ('r', "x")]);
-    let document = parse(alloc, "<p a=\"b>x", ParserOptions::new())?;
-    has_nodes(&rt, &document, &[]);
-    Ok(())
+// The version of a page.
+fn version_of(alloc: Global, page: &str) -> Result<Option<HTMLVersion>, Fail> {
+    let document = parse(alloc, page, ParserOptions::default())?;
+    Ok(document.version())
 }
 
 #[test]
@@ -128,47 +158,37 @@ fn versions(rt: HostRuntime) -> Result<(), Fail> {
         ("<!doctype html", Some(HTMLVersion::HTML5)),
         ("<!doctype xhtml>", None),
         ("<! doctype html>", None),
-        ("<!foo bar>", None),
         ("<p>x</p>", None),
     ];
     for (page, version) in rows {
-        let document = parse(rt.alloc(), page, ParserOptions::new())?;
-        assert_eq!(rt; document.version(), version, "{page}");
+        let found = version_of(rt.alloc(), page)?;
+        assert_eq!(rt; found, version, "{page}");
     }
     Ok(())
 }
 
-// The value of a key of a tag's first attributes, or None where there is no such key.
-fn pairs_of(document: &VDom<'_>) -> usize {
-    match document.nodes().first() {
-        Some(Node::Tag(tag)) => tag.attributes().len(),
-        _ => 99,
+// The print of a node of a page, as a node and as a tag, over the table of another page.
+fn printed_over(
+    alloc: Global,
+    page: &str,
+    number: u32,
+    other: &str,
+) -> Result<Result<String, TreeError>, Fail> {
+    let document = parse(alloc, page, ParserOptions::new())?;
+    let table = parse(alloc, other, ParserOptions::new())?;
+    match NodeHandle::new(number).get(document.parser()) {
+        Some(node) => Ok(node.outer_html(alloc, table.parser())),
+        None => Err(Fail::from("no node")),
     }
 }
 
 #[test]
-fn attributes_of_a_tag(rt: HostRuntime) -> Result<(), Fail> {
-    let page = "<p a=1 b=2 c=3 id=i class=k a=4>";
-    let document = parse(rt.alloc(), page, ParserOptions::new())?;
-    let Some(Node::Tag(tag)) = document.nodes().first() else {
-        return Err(Fail::from("node 0 is no tag"));
-    };
-    let attributes = tag.attributes();
-    assert_eq!(rt; attributes.len(), 5);
-    assert!(rt; !attributes.is_empty());
-    assert!(rt; attributes.id().is_some_and(|id| id.eq_str("i")));
-    assert!(rt; attributes.class().is_some_and(|class| class.eq_str("k")));
-    let wanted = [("a", "4"), ("b", "2"), ("c", "3"), ("id", "i"), ("class", "k")];
-    let mut count = 0usize;
-    for ((key, value), (name, text)) in attributes.iter().zip(wanted) {
-        assert!(rt; key.eq_str(name));
-        assert!(rt; value.is_some_and(|value| value.eq_str(text)));
-        assert!(rt; value.is_some_and(|value| value.as_bytes_borrowed().is_some()));
-        count = count.saturating_add(1);
-    }
-    assert_eq!(rt; count, 5);
-    let document = parse(rt.alloc(), "<p id=a id>", ParserOptions::new())?;
-    assert_eq!(rt; pairs_of(&document), 0);
+fn prints_of_nodes(rt: HostRuntime) -> Result<(), Fail> {
+    let page = "abc <p>test<span>a</span></p> def";
+    let made = printed_over(rt.alloc(), page, 1, page)?;
+    assert!(rt; made.is_ok_and(|made| made.as_str() == "<p>test<span>a</span></p>"));
+    let made = printed_over(rt.alloc(), page, 1, "")?;
+    assert!(rt; made.is_err_and(|fault| fault == TreeError::Dangling(NodeHandle::new(2))));
     Ok(())
 }
 
@@ -181,20 +201,18 @@ fn nested(alloc: Global) -> Result<String, Fail> {
     Ok(page)
 }
 
+// How many nodes and top nodes a page has, and how long its print is.
+fn measured(alloc: Global, page: &str) -> Result<(usize, usize, usize), Fail> {
+    let document = parse(alloc, page, ParserOptions::new())?;
+    let print = document.outer_html(alloc)?;
+    Ok((document.nodes().len(), document.children().len(), print.len()))
+}
+
 #[test]
 fn deep_nesting(rt: HostRuntime) -> Result<(), Fail> {
-    let alloc = rt.alloc();
-    let page = nested(alloc)?;
-    let document = parse(alloc, page.as_str(), ParserOptions::new())?;
-    assert_eq!(rt; document.nodes().len(), 10_000);
-    assert_eq!(rt; document.children().len(), 1);
-    for node in document.nodes() {
-        match node.as_tag() {
-            Some(tag) => assert!(rt; tag.children().top().len() <= 1),
-            None => assert!(rt; false),
-        }
-    }
-    assert_eq!(rt; document.outer_html(alloc)?.len(), 70_000);
+    let page = nested(rt.alloc())?;
+    let found = measured(rt.alloc(), page.as_str())?;
+    assert_eq!(rt; found, (10_000, 1, 70_000));
     Ok(())
 }
 
