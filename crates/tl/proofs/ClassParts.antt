@@ -1,11 +1,12 @@
 -- The parts of a class value, from the front.
-use Rattle.std.proofs.Common.{◌≡◌, ℕ, zero, suc, ◌+◌, ◌<◌, ◌≤◌, Bool, true, false, not, List, [], ◌∷◌, length, take, drop, slice_index, nat_le, ◌||◌, ◌⊎◌, inl, inr, subst, refl, sym, ◌∙◌, ap, arith, cond, filter}
+use Rattle.std.proofs.Common.{◌≡◌, ℕ, zero, suc, ◌+◌, ◌<◌, ◌≤◌, Bool, true, false, not, List, [], ◌∷◌, length, take, drop, slice_index, nat_le, ◌||◌, ◌⊎◌, inl, inr, Option, Some, None, option_map, subst, refl, sym, ◌∙◌, ap, arith, cond, filter}
 use Rattle.std.proofs.lemmas.Bool.{and_parts, or_cases, leb-true}
+use Rattle.std.proofs.lemmas.Str.{is_utf8-from_IsUtf8, IsUtf8-from_is_utf8}
 use Rattle.std.specs.List.{prefix_len, slice_split, onto_first}
 use Rattle.std.specs.Char.{is_ascii_whitespace}
 use Rattle.std.specs.Int.{is_in_range}
-use Rattle.std.specs.Str.{IsCharBoundary}
-use Rattle.tl_spec.specs.ClassMember.{has_bytes, parts}
+use Rattle.std.specs.Str.{IsCharBoundary, IsUtf8, is_utf8}
+use Rattle.tl_spec.specs.ClassMember.{has_bytes, parts, class_parts}
 
 abbrev pub in_part : ℕ → Bool
 in_part b = not (is_ascii_whitespace b)
@@ -117,3 +118,22 @@ ends_at_ascii (b ∷ bs) l = one (ends_at_ascii bs) (is_ascii_whitespace b) refl
 pub part_boundary : (bs : List ℕ) (n : ℕ) → n ≡ prefix_len in_part bs → n ≤ length bs → IsCharBoundary bs n
 part_boundary bs n e h =
     (h, λ l high. absurd (omega (arith, high, ends_at_ascii bs (subst (λ m. m < length bs) e l), ap (slice_index bs) e)))
+
+text_parts : (v : List ℕ) → IsUtf8 v → Some (parts v) ≡ class_parts (Some v)
+text_parts v h = rw (is_utf8-from_IsUtf8 v h) refl
+
+other_parts : (v : List ℕ) (b : Bool) → is_utf8 v ≡ b → (IsUtf8 v → ⊥) → None ≡ class_parts (Some v)
+other_parts v true e h = absurd (h (IsUtf8-from_is_utf8 v e))
+other_parts v false e h = rw e refl
+
+module _ {B : Type 0} (list : B → List ℕ) (class : Option B) (x : B) (v : List ℕ) where
+  same_class : Some x ≡ class → v ≡ list x → class_parts (Some v) ≡ class_parts (option_map list class)
+  same_class h e = ap (λ w. class_parts (Some w)) e ∙ ap (λ c. class_parts (option_map list c)) h
+
+  -- the parts of a class that is UTF-8
+  pub parts_of_text : (rest : List ℕ) → Some x ≡ class → v ≡ list x → rest ≡ v → IsUtf8 v → Some (parts rest) ≡ class_parts (option_map list class)
+  parts_of_text rest h e f u = ap (λ w. Some (parts w)) f ∙ text_parts v u ∙ same_class h e
+
+  -- a class that is not UTF-8 has none
+  pub no_text : Some x ≡ class → v ≡ list x → (IsUtf8 v → ⊥) → None ≡ class_parts (option_map list class)
+  no_text h e u = other_parts v (is_utf8 v) refl u ∙ same_class h e
