@@ -1,5 +1,5 @@
 //! The attributes of a tag.
-ghost use Rattle.std.specs.Prelude.{◌≡◌, ◌+◌, ◌==◌, [], None, Some, length, is_some, OnOk, OnErr, IfOk, IsOk};
+ghost use Rattle.std.specs.Prelude.{◌≡◌, ◌+◌, ◌<◌, ◌==◌, false, [], None, Some, length, is_some, OnOk, OnErr, IfOk, IsOk};
 ghost use Rattle.std.specs.List.{IsDistinct};
 ghost use Rattle.std.specs.Map.{keys_of, lookup};
 ghost use Rattle.std.specs.Option.{option_copied, option_copied_mut, option_map, option_flatten};
@@ -133,7 +133,7 @@ impl<B: Piece> AttributesOf<B> {
 
 impl<B: Piece + Default + Drop> AttributesOf<B> {
     /// Puts `value` at `key`. A key that is there keeps its place, and a new one goes last; `id` and `class` without a
-    /// value are taken out. `Err` means that memory was refused: only a third other key takes any, or a later one.
+    /// value are taken out. `Err` means that memory was refused; at `id`, `class` and a key that is there none is taken.
     pub fn insert(&mut self, key: B, value: Option<B>) -> Result<(), AllocError>
         ensures ok { OnOk result (self.new ≡ put B.list B.eq self.old key value) }
         ensures err { OnErr result (self.new ≡ self.old) }
