@@ -46,15 +46,35 @@ fn one_call_after_the_other(rt: HostRuntime) -> Result<(), Fail> {
     let page = "<p a=1 b=2 c=3 id=i class=k a=4>";
     let document = parse(rt.alloc(), page, ParserOptions::new())?;
     let mut attributes = first_of(&document)?.clone()?;
-    let pairs = [("a", "4"), ("b", "2"), ("c", "3"), ("id", "i"), ("class", "k")];
+    let pairs = [
+        ("a", "4"),
+        ("b", "2"),
+        ("c", "3"),
+        ("id", "i"),
+        ("class", "k"),
+    ];
     has_pairs(&rt, &attributes, &pairs);
-    assert_eq!(rt; attributes.remove(Bytes::from("a")), Some(Some(Bytes::from("4"))));
-    has_pairs(&rt, &attributes, &[("c", "3"), ("b", "2"), ("id", "i"), ("class", "k")]);
-    assert_eq!(rt; attributes.remove_value(Bytes::from("id")), Some(Bytes::from("i")));
+    assert_eq!(rt;
+        attributes.remove(Bytes::from("a")),
+        Some(Some(Bytes::from("4")))
+    );
+    has_pairs(
+        &rt,
+        &attributes,
+        &[("c", "3"), ("b", "2"), ("id", "i"), ("class", "k")],
+    );
+    assert_eq!(rt;
+        attributes.remove_value(Bytes::from("id")),
+        Some(Bytes::from("i"))
+    );
     attributes.insert(Bytes::from("class"), None)?;
     has_pairs(&rt, &attributes, &[("c", "3"), ("b", "2")]);
     attributes.insert(Bytes::from("c"), None)?;
-    assert!(rt; attributes.get(Bytes::from("c")).is_some_and(|value| value.is_none()));
+    assert!(rt;
+        attributes
+            .get(Bytes::from("c"))
+            .is_some_and(|value| value.is_none())
+    );
     assert_eq!(rt; attributes.remove_value(Bytes::from("c")), None);
     assert_eq!(rt; attributes.len(), 2);
     Ok(())

@@ -44,11 +44,22 @@ fn boundaries_of(document: &VDom<'_>, number: u32) -> (usize, usize) {
 #[test]
 fn first_page(rt: HostRuntime) -> Result<(), Fail> {
     let alloc = rt.alloc();
-    let document = parse(alloc, "abc <p>test<span>a</span></p> def", ParserOptions::default())?;
+    let document = parse(
+        alloc,
+        "abc <p>test<span>a</span></p> def",
+        ParserOptions::default(),
+    )?;
     has_nodes(
         &rt,
         &document,
-        &[('r', "abc "), ('t', "p"), ('r', "test"), ('t', "span"), ('r', "a"), ('r', " def")],
+        &[
+            ('r', "abc "),
+            ('t', "p"),
+            ('r', "test"),
+            ('t', "span"),
+            ('r', "a"),
+            ('r', " def"),
+        ],
     );
     let top = [NodeHandle::new(0), NodeHandle::new(1), NodeHandle::new(5)];
     assert!(rt; document.children() == top.as_slice());
@@ -57,11 +68,17 @@ fn first_page(rt: HostRuntime) -> Result<(), Fail> {
     let Some(node) = document.nodes().get(1) else {
         return Err(Fail::from("node 1 is missing"));
     };
-    assert_eq!(rt; node.outer_html(alloc, document.parser())?.as_str(), "<p>test<span>a</span></p>");
+    assert_eq!(rt;
+        node.outer_html(alloc, document.parser())?.as_str(),
+        "<p>test<span>a</span></p>"
+    );
     let Some(tag) = node.as_tag() else {
         return Err(Fail::from("node 1 is no tag"));
     };
-    assert_eq!(rt; tag.outer_html(alloc, document.parser())?.as_str(), "<p>test<span>a</span></p>");
+    assert_eq!(rt;
+        tag.outer_html(alloc, document.parser())?.as_str(),
+        "<p>test<span>a</span></p>"
+    );
     let children = [NodeHandle::new(2), NodeHandle::new(3)];
     assert!(rt; tag.children().top().as_slice() == children.as_slice());
     assert!(rt; node.children().is_some());
@@ -71,7 +88,11 @@ fn first_page(rt: HostRuntime) -> Result<(), Fail> {
 #[test]
 fn another_table(rt: HostRuntime) -> Result<(), Fail> {
     let alloc = rt.alloc();
-    let document = parse(alloc, "abc <p>test<span>a</span></p> def", ParserOptions::new())?;
+    let document = parse(
+        alloc,
+        "abc <p>test<span>a</span></p> def",
+        ParserOptions::new(),
+    )?;
     let empty = parse(alloc, "", ParserOptions::new())?;
     let Some(node) = document.nodes().get(1) else {
         return Err(Fail::from("node 1 is missing"));
@@ -106,7 +127,11 @@ fn raws(rt: HostRuntime) -> Result<(), Fail> {
 fn nodes_of_pages(rt: HostRuntime) -> Result<(), Fail> {
     let alloc = rt.alloc();
     let document = parse(alloc, "<a>x</b>y</a>z", ParserOptions::new())?;
-    has_nodes(&rt, &document, &[('t', "a"), ('r', "x"), ('r', "y"), ('r', "z")]);
+    has_nodes(
+        &rt,
+        &document,
+        &[('t', "a"), ('r', "x"), ('r', "y"), ('r', "z")],
+    );
     let document = parse(alloc, "<a href=/x>y</a>", ParserOptions::new())?;
     has_nodes(&rt, &document, &[('r', "x>y")]);
     let document = parse(alloc, "<!--a", ParserOptions::new())?;
@@ -158,7 +183,13 @@ fn attributes_of_a_tag(rt: HostRuntime) -> Result<(), Fail> {
     assert!(rt; !attributes.is_empty());
     assert!(rt; attributes.id().is_some_and(|id| id.eq_str("i")));
     assert!(rt; attributes.class().is_some_and(|class| class.eq_str("k")));
-    let wanted = [("a", "4"), ("b", "2"), ("c", "3"), ("id", "i"), ("class", "k")];
+    let wanted = [
+        ("a", "4"),
+        ("b", "2"),
+        ("c", "3"),
+        ("id", "i"),
+        ("class", "k"),
+    ];
     let mut count = 0usize;
     for ((key, value), (name, text)) in attributes.iter().zip(wanted) {
         assert!(rt; key.eq_str(name));

@@ -31,7 +31,10 @@ fn part_len(bytes: &[u8]) -> usize
     ensures place { result ≡ prefix_len (λ b. not (is_ascii_whitespace b)) bytes.now }
     ensures within { result ≤ length bytes.now }
 {
-    bytes.iter().take_while(|b| !b.is_ascii_whitespace()).count()
+    bytes
+        .iter()
+        .take_while(|b| !b.is_ascii_whitespace())
+        .count()
 }
 
 // The first part, and what stands behind it.
