@@ -9,3 +9,4 @@ pub mod Following
 pub mod Marks
 pub mod Frames
 pub mod Printing
+pub mod ClassParts

@@ -12,3 +12,4 @@ pub mod Text
 pub mod Walk
 pub mod Clean
 pub mod Normal
+pub mod ClassMember

@@ -55,7 +55,10 @@ fn tags_and_texts(rt: HostRuntime) -> Result<(), Fail> {
             ("<a>x</b>y</a>z", "<a>xy</a>z"),
             ("<a href=/x>y</a>", "x>y"),
             ("<br /><p>test</p>", "<br><p>test</p>"),
-            ("<base href='s'></base><link href=\"x\"/>", "<base href=\"s\"><link href=\"x\">"),
+            (
+                "<base href='s'></base><link href=\"x\"/>",
+                "<base href=\"s\"><link href=\"x\">",
+            ),
             ("<=/Fy<=/", "Fy"),
             ("< p >x</p>", "<p>x</p>"),
             ("<p>x</p >", "<p>x</p>"),

@@ -5,6 +5,7 @@ ghost use Rattle.std.specs.Option.{option_copied};
 pub mod attributes;
 pub mod attributes_iter;
 pub mod children;
+pub mod class_iter;
 pub mod node;
 pub mod print;
 pub(crate) mod walk;

@@ -1,10 +1,10 @@
 //! The attributes of a tag.
-ghost use Rattle.std.specs.Prelude.{◌≡◌, ◌+◌, ◌==◌, [], None, Some, length, is_some, OnOk, OnErr, IfOk, IsOk};
+ghost use Rattle.std.specs.Prelude.{◌≡◌, ◌+◌, ◌<◌, ◌==◌, false, [], None, Some, length, is_some, OnOk, OnErr, IfOk, IsOk};
 ghost use Rattle.std.specs.List.{IsDistinct};
 ghost use Rattle.std.specs.Map.{keys_of, lookup};
 ghost use Rattle.std.specs.Option.{option_copied, option_copied_mut, option_map, option_flatten};
 ghost use Rattle.tl_base.specs.InlineMap.{inserted, with_value};
-ghost use Rattle.tl.specs.Attributes.{no_attributes, found, held, put, taken, bare, without, AreOthers, IsOther, is_id, is_class};
+ghost use Rattle.tl.specs.Attributes.{no_attributes, found, count_of, put, taken, bare, without, AreOthers, IsOther, is_id, is_class};
 
 use crate::parser::piece::Piece;
 use std::alloc::{AllocError, Global};
@@ -12,9 +12,11 @@ use std::marker::Model;
 use tl_base::byte_string::Bytes;
 use tl_base::inline::hashmap::InlineHashMap;
 
-/// The pairs of a tag other than `id` and `class`, the first two inline.
+/// The pairs of a tag other than `id` and `class`. Up to two lie inline.
 pub type RawAttributesMap<'a> = InlineHashMap<Bytes<'a>, Option<Bytes<'a>>, 2>;
 
+/// The attributes of a tag, with keys and values of the type `B`. Each key is there once, and `id` and `class`, in exact
+/// case, stand apart: they are there only with a value.
 #[derive(Drop)]
 pub struct AttributesOf<B: Piece> {
     others: InlineHashMap<B, Option<B>, 2>,
@@ -22,6 +24,7 @@ pub struct AttributesOf<B: Piece> {
     class: Option<B>,
 }
 
+/// The attributes of a tag.
 pub type Attributes<'a> = AttributesOf<Bytes<'a>>;
 
 impl<B: Piece> Model for AttributesOf<B> {
@@ -51,7 +54,7 @@ fn is_class(key: &[u8]) -> bool
 }
 
 impl<B: Piece + Default> AttributesOf<B> {
-    /// No attributes.
+    /// No attributes, which take no memory. What they take later comes from `alloc`.
     pub fn new(alloc: Global) -> Self
         ensures { result ≡ no_attributes }
     {
@@ -64,44 +67,46 @@ impl<B: Piece + Default> AttributesOf<B> {
 }
 
 impl<B: Piece> AttributesOf<B> {
-    /// How many there are.
+    /// How many keys there are, `id` and `class` among them.
     pub fn len(&self) -> usize
-        ensures value { result ≡ held self.now }
+        ensures value { result ≡ count_of self.now }
+
+        // The rest holds of all attributes.
         ensures distinct { IsDistinct B.eq (keys_of self.now.others.entries) }
         ensures others { AreOthers B.list self.now.others.entries }
     {
         self.others.len() + usize::from(self.id.is_some()) + usize::from(self.class.is_some())
     }
 
-    /// Whether there are none.
+    /// Whether there is no key.
     pub fn is_empty(&self) -> bool
-        ensures { result ≡ (held self.now == 0) }
+        ensures { result ≡ (count_of self.now == 0) }
     {
         self.len() == 0
     }
 
-    /// The value of `id`.
+    /// The value of `id`, `None` where there is no such key.
     pub fn id(&self) -> Option<&B>
         ensures { option_copied result ≡ self.now.id }
     {
         self.id.as_ref()
     }
 
-    /// The value of `class`.
+    /// The value of `class`, `None` where there is no such key.
     pub fn class(&self) -> Option<&B>
         ensures { option_copied result ≡ self.now.class }
     {
         self.class.as_ref()
     }
 
-    /// The pairs other than `id` and `class`.
+    /// The pairs other than `id` and `class`, in their order.
     pub fn unstable_raw(&self) -> &InlineHashMap<B, Option<B>, 2>
         ensures { result.now ≡ self.now.others }
     {
         &self.others
     }
 
-    /// Whether there is `key`.
+    /// Whether there is `key`, with a value or without.
     pub fn contains(&self, key: B) -> bool
     where
         B: Drop,
@@ -110,7 +115,7 @@ impl<B: Piece> AttributesOf<B> {
         self.get(key).is_some()
     }
 
-    /// The value at `key`, where there is one.
+    /// The value at `key`: `None` where the key is missing, `Some(None)` where it has no value.
     pub fn get(&self, key: B) -> Option<Option<&B>>
     where
         B: Drop,
@@ -127,10 +132,16 @@ impl<B: Piece> AttributesOf<B> {
 }
 
 impl<B: Piece + Default + Drop> AttributesOf<B> {
-    /// Puts `value` at `key`.
+    /// Puts `value` at `key`. A key that is there keeps its place, and a new one goes last; `id` and `class` without a
+    /// value are taken out. `Err` means that memory was refused; at `id`, `class` and a key that is there none is taken.
     pub fn insert(&mut self, key: B, value: Option<B>) -> Result<(), AllocError>
         ensures ok { OnOk result (self.new ≡ put B.list B.eq self.old key value) }
         ensures err { OnErr result (self.new ≡ self.old) }
+
+        // At `id`, at `class`, at a key that is there, and into inline room, an insert takes no memory.
+        ensures other { OnErr result (IsOther (B.list key)) }
+        ensures absent { OnErr result (found B.list B.eq self.old key ≡ None) }
+        ensures succeeds { self.old.others.on_heap ≡ false → length self.old.others.entries < 2 → IsOk result }
     {
         if is_id(key.as_bytes()) {
             self.id = value;
@@ -148,6 +159,8 @@ impl<B: Piece + Default + Drop> AttributesOf<B> {
         requires { IsOther (B.list key) }
         ensures ok { OnOk result (self.new ≡ record self.old { others = inserted B.eq 2 self.old.others key value }) }
         ensures err { OnErr result (self.new ≡ self.old) }
+        ensures absent { OnErr result (lookup (B.eq key) self.old.others.entries ≡ None) }
+        ensures succeeds { self.old.others.on_heap ≡ false → length self.old.others.entries < 2 → IsOk result }
     {
         match self.others.insert(key, value) {
             Ok(()) => Ok(()),
@@ -155,7 +168,7 @@ impl<B: Piece + Default + Drop> AttributesOf<B> {
         }
     }
 
-    /// Takes `key` out.
+    /// Takes `key` out, and returns what `get` gave. The last of the other pairs moves into its place.
     pub fn remove(&mut self, key: B) -> Option<Option<B>>
         ensures value { result ≡ found B.list B.eq self.old key }
         ensures left { self.new ≡ taken B.list B.eq self.old key }
@@ -178,7 +191,8 @@ impl<B: Piece + Default + Drop> AttributesOf<B> {
         self.others.remove(&key)
     }
 
-    /// Takes the value at `key` out. The key stays, if it is neither `id` nor `class`.
+    /// Takes the value at `key` out. The key stays without it, if it is neither `id` nor `class`. A missing key, and one
+    /// without a value, answer `None`, and nothing changes.
     pub fn remove_value(&mut self, key: B) -> Option<B>
         ensures value { result ≡ option_flatten (found B.list B.eq self.old key) }
         ensures left { self.new ≡ bare B.list B.eq self.old key }
@@ -225,7 +239,7 @@ impl<B: Piece> AttributesOf<B> {
         self.class.as_mut()
     }
 
-    /// The value at `key` for writing, where there is a value.
+    /// The value at `key` for writing: `None` where the key is missing, and where it has no value.
     pub fn value_mut(&mut self, key: &B) -> Option<&mut B>
         ensures* writes_back { sem 𝓛 (LendsFound B.row B.Piece self.entry key.now result) }
         ensures value { option_copied_mut result ≡ option_flatten (found B.list B.eq self.old key.now) }
@@ -239,7 +253,7 @@ impl<B: Piece> AttributesOf<B> {
         self.other_mut(key)
     }
 
-    /// The value at `key` for writing, where there is the key.
+    /// The value at `key` for writing: `None` where the key is missing, `Some(None)` where it has no value.
     pub fn get_mut(&mut self, key: B) -> Option<Option<&mut B>>
     where
         B: Drop,
@@ -278,7 +292,7 @@ impl<B: Piece> AttributesOf<B> {
 }
 
 impl<'a> Attributes<'a> {
-    /// The same attributes, with copied bytes.
+    /// The same attributes, each piece held as it is here: borrowed bytes stay borrowed, owned ones are copied.
     pub fn clone(&self) -> Result<Attributes<'a>, AllocError>
         ensures { IfOk result (λ a. a ≡ self.now) }
     {

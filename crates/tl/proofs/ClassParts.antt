@@ -1,0 +1,139 @@
+-- The parts of a class value, from the front.
+use Rattle.std.proofs.Common.{◌≡◌, ℕ, zero, suc, ◌+◌, ◌<◌, ◌≤◌, Bool, true, false, not, List, [], ◌∷◌, length, take, drop, slice_index, nat_le, ◌||◌, ◌⊎◌, inl, inr, Option, Some, None, option_map, subst, refl, sym, ◌∙◌, ap, arith, cond, filter}
+use Rattle.std.proofs.lemmas.Bool.{and_parts, or_cases, leb-true}
+use Rattle.std.proofs.lemmas.Str.{is_utf8-from_IsUtf8, IsUtf8-from_is_utf8}
+use Rattle.std.specs.List.{prefix_len, slice_split, onto_first}
+use Rattle.std.specs.Char.{is_ascii_whitespace}
+use Rattle.std.specs.Int.{is_in_range}
+use Rattle.std.specs.Str.{IsCharBoundary, IsUtf8, is_utf8}
+use Rattle.tl_spec.specs.ClassMember.{has_bytes, parts, class_parts}
+
+abbrev pub in_part : ℕ → Bool
+in_part b = not (is_ascii_whitespace b)
+
+abbrev nonempty : List (List ℕ) → List (List ℕ)
+nonempty ws = filter has_bytes ws
+
+len_more : (p : ℕ → Bool) (b : ℕ) (bs : List ℕ) → p b ≡ true → prefix_len p (b ∷ bs) ≡ suc (prefix_len p bs)
+len_more p b bs e = ap (λ c. cond c (1 + prefix_len p bs) 0) e ∙ omega arith
+
+len_none : (p : ℕ → Bool) (b : ℕ) (bs : List ℕ) → p b ≡ false → prefix_len p (b ∷ bs) ≡ 0
+len_none p b bs e = ap (λ c. cond c (1 + prefix_len p bs) 0) e
+
+-- a white byte in front changes no part
+behind_white : (b : ℕ) (bs : List ℕ) → is_ascii_whitespace b ≡ true → parts bs ≡ parts (b ∷ bs)
+behind_white b bs e = ap (λ c. nonempty (cond c ([] ∷ slice_split is_ascii_whitespace bs) (onto_first b (slice_split is_ascii_whitespace bs)))) (sym e)
+
+pub no_more : (p : ℕ → Bool) (bs : List ℕ) → prefix_len p (drop (prefix_len p bs) bs) ≡ 0
+no_more p [] = refl
+no_more p (b ∷ bs) = one (no_more p bs) (p b) refl
+  where
+    one : prefix_len p (drop (prefix_len p bs) bs) ≡ 0 → (w : Bool) → p b ≡ w → prefix_len p (drop (prefix_len p (b ∷ bs)) (b ∷ bs)) ≡ 0
+    one h true e = ap (λ n. prefix_len p (drop n (b ∷ bs))) (len_more p b bs e) ∙ h
+    one h false e = ap (λ n. prefix_len p (drop n (b ∷ bs))) (len_none p b bs e) ∙ len_none p b bs e
+
+-- the split behind the first run: its later parts
+abbrev later : List ℕ → List (List ℕ)
+later [] = []
+later (b ∷ bs) = slice_split is_ascii_whitespace bs
+
+abbrev split_at : List ℕ → ℕ → List (List ℕ)
+split_at bs n = take n bs ∷ later (drop n bs)
+
+first_run : (bs : List ℕ) → slice_split is_ascii_whitespace bs ≡ split_at bs (prefix_len in_part bs)
+first_run [] = refl
+first_run (b ∷ bs) = one (first_run bs) (is_ascii_whitespace b) refl
+  where
+    either : Bool → List (List ℕ)
+    either c = cond c ([] ∷ slice_split is_ascii_whitespace bs) (onto_first b (slice_split is_ascii_whitespace bs))
+
+    one : slice_split is_ascii_whitespace bs ≡ split_at bs (prefix_len in_part bs) → (w : Bool) → is_ascii_whitespace b ≡ w → slice_split is_ascii_whitespace (b ∷ bs) ≡ split_at (b ∷ bs) (prefix_len in_part (b ∷ bs))
+    one h true e = ap either e ∙ ap (split_at (b ∷ bs)) (sym (len_none in_part b bs (ap not e)))
+    one h false e = ap either e ∙ ap (onto_first b) h ∙ ap (split_at (b ∷ bs)) (sym (len_more in_part b bs (ap not e)))
+
+later_parts : (bs : List ℕ) → prefix_len in_part bs ≡ 0 → nonempty (later bs) ≡ parts bs
+later_parts [] h = refl
+later_parts (b ∷ bs) h = one (is_ascii_whitespace b) refl
+  where
+    one : (w : Bool) → is_ascii_whitespace b ≡ w → parts bs ≡ parts (b ∷ bs)
+    one true e = behind_white b bs e
+    one false e = absurd (omega (arith, len_more in_part b bs (ap not e), h))
+
+taken : (n : ℕ) (bs : List ℕ) (ws : List (List ℕ)) → 0 < n → n ≤ length bs → nonempty (take n bs ∷ ws) ≡ take n bs ∷ nonempty ws
+taken zero bs ws h g = absurd (omega arith)
+taken (suc n) [] ws h g = absurd (omega arith)
+taken (suc n) (b ∷ bs) ws h g = refl
+
+pub one_part : (bs : List ℕ) (n : ℕ) → n ≡ prefix_len in_part bs → n ≤ length bs → 0 < n → parts bs ≡ take n bs ∷ parts (drop n bs)
+one_part bs n e h g =
+    ap nonempty (first_run bs)
+    ∙ ap (λ m. nonempty (split_at bs m)) (sym e)
+    ∙ taken n bs (later (drop n bs)) g h
+    ∙ ap (λ ws. take n bs ∷ ws) (later_parts (drop n bs) (ap (λ m. prefix_len in_part (drop m bs)) e ∙ no_more in_part bs))
+
+-- white bytes in front change no part
+pub parts_past : (bs : List ℕ) → parts (drop (prefix_len is_ascii_whitespace bs) bs) ≡ parts bs
+parts_past [] = refl
+parts_past (b ∷ bs) = one (parts_past bs) (is_ascii_whitespace b) refl
+  where
+    one : parts (drop (prefix_len is_ascii_whitespace bs) bs) ≡ parts bs → (w : Bool) → is_ascii_whitespace b ≡ w → parts (drop (prefix_len is_ascii_whitespace (b ∷ bs)) (b ∷ bs)) ≡ parts (b ∷ bs)
+    one h true e = ap (λ n. parts (drop n (b ∷ bs))) (len_more is_ascii_whitespace b bs e) ∙ h ∙ behind_white b bs e
+    one h false e = ap (λ n. parts (drop n (b ∷ bs))) (len_none is_ascii_whitespace b bs e)
+
+none_left : (bs : List ℕ) → prefix_len is_ascii_whitespace bs ≡ 0 → prefix_len in_part bs ≡ 0 → bs ≡ []
+none_left [] e f = refl
+none_left (b ∷ bs) e f = one (is_ascii_whitespace b) refl
+  where
+    one : (w : Bool) → is_ascii_whitespace b ≡ w → b ∷ bs ≡ []
+    one true g = absurd (omega (arith, len_more is_ascii_whitespace b bs g, e))
+    one false g = absurd (omega (arith, len_more in_part b bs (ap not g), f))
+
+-- text whose front is neither white nor in a part has no parts
+pub no_parts : (bs : List ℕ) (n : ℕ) → prefix_len is_ascii_whitespace bs ≡ 0 → n ≡ prefix_len in_part bs → n ≡ 0 → parts bs ≡ []
+no_parts bs n e f g = ap parts (none_left bs e (sym f ∙ g))
+
+in_low : (lo hi b : ℕ) → is_in_range lo hi b ≡ true → b ≤ hi
+in_low lo hi b e = leb-true b hi (and_parts (nat_le lo b) (nat_le b hi) e).1
+
+white_is_ascii : (b : ℕ) → is_ascii_whitespace b ≡ true → b < 128
+white_is_ascii b e = outer (or_cases (is_in_range 9 10 b || is_in_range 12 13 b) (is_in_range 32 32 b) e)
+  where
+    inner : (is_in_range 9 10 b ≡ true) ⊎ (is_in_range 12 13 b ≡ true) → b < 128
+    inner (inl h) = omega (arith, in_low 9 10 b h)
+    inner (inr h) = omega (arith, in_low 12 13 b h)
+
+    outer : ((is_in_range 9 10 b || is_in_range 12 13 b) ≡ true) ⊎ (is_in_range 32 32 b ≡ true) → b < 128
+    outer (inl h) = inner (or_cases (is_in_range 9 10 b) (is_in_range 12 13 b) h)
+    outer (inr h) = omega (arith, in_low 32 32 b h)
+
+-- a part ends at a byte of ASCII
+ends_at_ascii : (bs : List ℕ) → prefix_len in_part bs < length bs → slice_index bs (prefix_len in_part bs) < 128
+ends_at_ascii [] l = absurd (omega arith)
+ends_at_ascii (b ∷ bs) l = one (ends_at_ascii bs) (is_ascii_whitespace b) refl
+  where
+    one : (prefix_len in_part bs < length bs → slice_index bs (prefix_len in_part bs) < 128) → (w : Bool) → is_ascii_whitespace b ≡ w → slice_index (b ∷ bs) (prefix_len in_part (b ∷ bs)) < 128
+    one h true e = rw (len_none in_part b bs (ap not e)) (white_is_ascii b e)
+    one h false e = rw (len_more in_part b bs (ap not e)) (h (omega (arith, len_more in_part b bs (ap not e), l)))
+
+pub part_boundary : (bs : List ℕ) (n : ℕ) → n ≡ prefix_len in_part bs → n ≤ length bs → IsCharBoundary bs n
+part_boundary bs n e h =
+    (h, λ l high. absurd (omega (arith, high, ends_at_ascii bs (subst (λ m. m < length bs) e l), ap (slice_index bs) e)))
+
+text_parts : (v : List ℕ) → IsUtf8 v → Some (parts v) ≡ class_parts (Some v)
+text_parts v h = rw (is_utf8-from_IsUtf8 v h) refl
+
+other_parts : (v : List ℕ) (b : Bool) → is_utf8 v ≡ b → (IsUtf8 v → ⊥) → None ≡ class_parts (Some v)
+other_parts v true e h = absurd (h (IsUtf8-from_is_utf8 v e))
+other_parts v false e h = rw e refl
+
+module _ {B : Type 0} (list : B → List ℕ) (class : Option B) (x : B) (v : List ℕ) where
+  same_class : Some x ≡ class → v ≡ list x → class_parts (Some v) ≡ class_parts (option_map list class)
+  same_class h e = ap (λ w. class_parts (Some w)) e ∙ ap (λ c. class_parts (option_map list c)) h
+
+  -- the parts of a class that is UTF-8
+  pub parts_of_text : (rest : List ℕ) → Some x ≡ class → v ≡ list x → rest ≡ v → IsUtf8 v → Some (parts rest) ≡ class_parts (option_map list class)
+  parts_of_text rest h e f u = ap (λ w. Some (parts w)) f ∙ text_parts v u ∙ same_class h e
+
+  -- a class that is not UTF-8 has none
+  pub no_text : Some x ≡ class → v ≡ list x → (IsUtf8 v → ⊥) → None ≡ class_parts (option_map list class)
+  no_text h e u = other_parts v (is_utf8 v) refl u ∙ same_class h e
