@@ -2,8 +2,6 @@
 #![tactic(auto)]
 
 #[cfg(test)]
-mod attributes;
-#[cfg(test)]
 mod prints;
 #[cfg(test)]
 mod reading;

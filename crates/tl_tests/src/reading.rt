@@ -13,7 +13,11 @@ fn show_bytes(bytes: &Bytes<'_>, out: &mut String) -> Result<(), AllocError> {
 }
 
 // Writes a key and its value.
-fn show_pair(key: &Bytes<'_>, value: Option<&Bytes<'_>>, out: &mut String) -> Result<(), AllocError> {
+fn show_pair(
+    key: &Bytes<'_>,
+    value: Option<&Bytes<'_>>,
+    out: &mut String,
+) -> Result<(), AllocError> {
     out.push(' ')?;
     show_bytes(key, out)?;
     match value {
@@ -43,7 +47,11 @@ fn show_numbers(handles: &[NodeHandle], out: &mut String) -> Result<(), AllocErr
 }
 
 // Writes a tag: name, pairs, children, where it stands, raw.
-fn show_tag<'a>(tag: &HTMLTag<'a>, parser: &Parser<'a>, out: &mut String) -> Result<(), AllocError> {
+fn show_tag<'a>(
+    tag: &HTMLTag<'a>,
+    parser: &Parser<'a>,
+    out: &mut String,
+) -> Result<(), AllocError> {
     out.push_str("tag ")?;
     show_bytes(tag.name(), out)?;
     show_pairs(tag.attributes(), out)?;
@@ -101,7 +109,10 @@ fn tags(rt: HostRuntime) -> Result<(), Fail> {
                 "abc <p>test<span>a</span></p> def",
                 "text abc |tag p [ 2 3 ] 4 28 <p>test<span>a</span></p>|text test|tag span [ 4 ] 11 24 <span>a</span>|text a|text  def| 0 1 5",
             ),
-            ("<a><b></a></b>", "tag a [ 1 ] 0 2 <a>|tag b [ ] 3 13 <b></a></b>| 0"),
+            (
+                "<a><b></a></b>",
+                "tag a [ 1 ] 0 2 <a>|tag b [ ] 3 13 <b></a></b>| 0",
+            ),
             (
                 "<a>x</b>y</a>z",
                 "tag a [ 1 2 ] 0 12 <a>x</b>y</a>|text x|text y|text z| 0 3",
@@ -205,7 +216,11 @@ fn nested(alloc: Global) -> Result<String, Fail> {
 fn measured(alloc: Global, page: &str) -> Result<(usize, usize, usize), Fail> {
     let document = parse(alloc, page, ParserOptions::new())?;
     let print = document.outer_html(alloc)?;
-    Ok((document.nodes().len(), document.children().len(), print.len()))
+    Ok((
+        document.nodes().len(),
+        document.children().len(),
+        print.len(),
+    ))
 }
 
 #[test]
