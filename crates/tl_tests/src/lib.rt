@@ -2,6 +2,10 @@
 #![tactic(auto)]
 
 #[cfg(test)]
+mod attributes;
+#[cfg(test)]
 mod prints;
 #[cfg(test)]
 mod reading;
+#[cfg(test)]
+mod show;

@@ -1,41 +1,12 @@
 //! Pages, and the tables that are read.
+use crate::show::{show_bytes, show_pairs};
 use std::alloc::{AllocError, Global};
 use std::fmt::Write;
 use std::mem::size_of;
 use std::process::Abort;
 use std::test::Fail;
 use tl::errors::TreeError;
-use tl::{Attributes, Bytes, HTMLTag, HTMLVersion, Node, NodeHandle, Parser, ParserOptions, parse};
-
-// Writes bytes that are text.
-fn show_bytes(bytes: &Bytes<'_>, out: &mut String) -> Result<(), AllocError> {
-    out.push_str(bytes.try_as_utf8_str().unwrap_or("?"))
-}
-
-// Writes a key and its value.
-fn show_pair(
-    key: &Bytes<'_>,
-    value: Option<&Bytes<'_>>,
-    out: &mut String,
-) -> Result<(), AllocError> {
-    out.push(' ')?;
-    show_bytes(key, out)?;
-    match value {
-        Some(value) => {
-            out.push('=')?;
-            show_bytes(value, out)
-        }
-        None => Ok(()),
-    }
-}
-
-// Writes all pairs in order.
-fn show_pairs<'a>(attributes: &Attributes<'a>, out: &mut String) -> Result<(), AllocError> {
-    for pair in attributes.iter() {
-        show_pair(&pair.0, pair.1, out)?;
-    }
-    Ok(())
-}
+use tl::{Bytes, HTMLTag, HTMLVersion, Node, NodeHandle, Parser, ParserOptions, parse};
 
 // Writes the numbers of handles.
 fn show_numbers(handles: &[NodeHandle], out: &mut String) -> Result<(), AllocError> {
