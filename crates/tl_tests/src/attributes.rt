@@ -89,7 +89,11 @@ fn has_member(alloc: Global, page: &str, class: &[u8]) -> Result<bool, Fail> {
 
 #[test]
 fn members_of_a_class(rt: HostRuntime) -> Result<(), Fail> {
-    let rows = [("<p class=\"a b\tb\">", "|a|b|b"), ("<p id=a>", "none"), ("<p class=' '>", "")];
+    let rows = [
+        ("<p class=\"a b\tb\">", "|a|b|b"),
+        ("<p id=a>", "none"),
+        ("<p class=' '>", ""),
+    ];
     for (page, wanted) in rows {
         let made = members(rt.alloc(), page)?;
         assert_eq!(rt; made.as_str(), wanted, "{page}");
