@@ -13,3 +13,6 @@ pub mod Walk
 pub mod Clean
 pub mod Normal
 pub mod ClassMember
+pub mod Edit
+pub mod Edits
+pub mod StepLine

@@ -1,14 +1,18 @@
 //! Laws of the definitions.
 
-ghost use Rattle.std.specs.Prelude.{◌≡◌, ◌↔◌, ◌<◌, ◌≤◌, ◌+◌, ℕ, All, sum_by, length, take, drop, slice_get, Some, List, [], ◌∷◌, Option, None, Bool, Ok};
+ghost use Rattle.std.specs.Prelude.{◌≡◌, ◌↔◌, ◌<◌, ◌≤◌, ◌+◌, ℕ, All, sum_by, length, take, drop, slice_get, Some, List, [], ◌∷◌, ◌++◌, Option, None, Bool, Ok};
 ghost use Rattle.tl_spec.specs.Token.{Piece, StandFrom, tokens};
 ghost use Rattle.tl_spec.specs.Forest.{Forest, PlainTag, Siblings, Makes, no_siblings, siblings, with_token, forest, plain};
 ghost use Rattle.tl_spec.specs.Document.{Document, Node, TagNode, Tag, document, weight};
+ghost use Rattle.tl_spec.specs.Edit.{Change, edited, edited_all, done};
+ghost use Rattle.tl_spec.specs.Edits.{later, KeepsShape};
 ghost use Rattle.tl_spec.specs.Machine.{run, start};
 ghost use Rattle.tl_spec.specs.Walk.{Walk, every, row_walk, walk, trees, first_fault, visits, visits_from};
 ghost use Rattle.tl_spec.specs.Print.{print, document_print};
 ghost use Rattle.tl_spec.specs.Clean.{IsClean, IsCleanTable, HaveOwnKeys, NodeHasOwnKeys, IsTame};
 ghost use Rattle.tl_spec.specs.Normal.{ReadsAs};
+ghost use Rattle.tl_spec.specs.Edit.{Change};
+ghost use Rattle.tl_spec.specs.StepLine.{change_of_line, changes_of, spelled, spelled_all, ReadBack, IsSpellable, IsLine};
 
 /// The tokens of a text are the ones that stand in it one behind the other, and there are no others.
 #[tactic(auto, using(crate::proofs::All::laws))]
@@ -82,4 +86,23 @@ pub fn machine_writes_document()
     ensures nodes { (t : List ℕ) → (run t start (tokens t)).nodes ≡ (document t).nodes }
     ensures top { (t : List ℕ) → (run t start (tokens t)).top ≡ (document t).top }
     ensures version { (t : List ℕ) → (run t start (tokens t)).is_html5 ≡ (document t).is_html5 }
+{}
+
+/// Edits behind edits that were done are edits of what those made, their places counted on.
+#[tactic(auto, using(crate::proofs::All::laws))]
+pub fn edits_compose()
+    ensures { (cs ds : List Change) (d e : Document) → edited_all cs d ≡ done e → edited_all (cs ++ ds) d ≡ later (length cs) (edited_all ds e) }
+{}
+
+/// No edit adds a node or takes one away, nor a place of the top list, and none changes the version.
+#[tactic(auto, using(crate::proofs::All::laws))]
+pub fn edits_keep_the_shape()
+    ensures { (c : Change) (d e : Document) → edited c d ≡ Ok e → KeepsShape d e }
+{}
+
+/// The line of an edit says that edit, and lines of edits say all of them in order.
+#[tactic(auto, using(crate::proofs::Spelling::laws))]
+pub fn spelled_lines()
+    ensures line { (digits : ℕ → List ℕ) → ReadBack digits → (c : Change) → IsSpellable c → change_of_line (spelled digits c) ≡ Some c }
+    ensures text { (digits : ℕ → List ℕ) → ReadBack digits → (cs : List Change) → All (IsLine digits) cs → changes_of (spelled_all digits cs) ≡ Some cs }
 {}

@@ -1,0 +1,98 @@
+-- Edits one behind the other.
+use Rattle.std.proofs.Common.{◌≡◌, ℕ, zero, suc, ◌+◌, Bool, true, false, nat_lt, if◌then◌else◌, List, [], ◌∷◌, ◌++◌, length, take, slice_set, Option, Some, None, option_map, Result, Ok, Err, refl, sym, ap, ◌∙◌, zero-add, subst}
+use Rattle.std.proofs.Math.Nat.{suc-add}
+use Rattle.std.proofs.Math.ListN.{length-set}
+use Rattle.std.specs.List.{slice_get}
+use Rattle.tl_spec.specs.Document.{Node, Raw, Comment, Document}
+use Rattle.tl_spec.specs.Edit.{Change, Refusal, no_node, edited, Edited, edited_all, done, stopped, one_later, next, Names, Texts, Comments, Sets, Flags, Unsets, Bares, Pushes, Pulls, Roots, on_ok, of_node, no_place}
+use Rattle.tl_spec.specs.Edits.{later, KeepsShape}
+
+-- where the later edits are done, they were done at the earlier place too
+done-one_later : (w : Edited) (e : Document) → one_later w ≡ done e → w ≡ done e
+done-one_later w e h = λ t. record { document = ap (λ (x : Edited). x.document) h t; refused = none w.refused (ap (λ (x : Edited). x.refused) h) t }
+  where
+    none : (o : Option (ℕ × Refusal)) → option_map {U = ℕ × Refusal} (λ r. (suc r.0, r.1)) o ≡ None → o ≡ None
+    none None is = refl
+    none (Some r) is = cc
+
+-- edits are done where the first is, and then the others
+done-next : (later : Document → Edited) (d e : Document) (r : Result Document Refusal) → next later d r ≡ done e → (f : Document) × (r ≡ Ok f) × (later f ≡ done e)
+done-next later d e (Ok f) h = (f, refl, done-one_later (later f) e h)
+done-next later d e (Err x) h = absurd (apart (0, x) (ap (λ (w : Edited). w.refused) h))
+  where
+    apart : (r : ℕ × Refusal) → Some r ≡ None → ⊥
+    apart r same = cc
+
+module _ (c : Change) (e : Document) where
+  -- one more edit
+  pub edited_all-taken : (cs : List Change) (d f : Document) (i : ℕ) → edited_all (take i cs) d ≡ done e → slice_get cs i ≡ Some c → edited c e ≡ Ok f → edited_all (take (suc i) cs) d ≡ done f
+  edited_all-taken [] d f i before here ok = cc
+  edited_all-taken (b ∷ cs) d f zero before here ok =
+      let first : b ≡ c = cc in
+      let start : d ≡ e = ap (λ (w : Edited). w.document) before in
+      (λ t. next done d (edited (first t) (start t))) ∙ ap (next done d) ok
+  edited_all-taken (b ∷ cs) d f (suc i) before here ok =
+      let first = done-next (edited_all (take i cs)) d e (edited b d) before in
+      ap (next (edited_all (take (suc i) cs)) d) first.1 ∙ ap one_later (edited_all-taken cs first.0 f i first.2 here ok)
+
+  -- an edit that is refused
+  pub edited_all-refused : (cs : List Change) (d : Document) (i : ℕ) (refusal : Refusal) → edited_all (take i cs) d ≡ done e → slice_get cs i ≡ Some c → edited c e ≡ Err refusal → edited_all cs d ≡ stopped i refusal e
+  edited_all-refused [] d i refusal before here refuses = cc
+  edited_all-refused (b ∷ cs) d zero refusal before here refuses =
+      let first : b ≡ c = cc in
+      let start : d ≡ e = ap (λ (w : Edited). w.document) before in
+      (λ t. next (edited_all cs) (start t) (edited (first t) (start t))) ∙ ap (next (edited_all cs) e) refuses
+  edited_all-refused (b ∷ cs) d (suc i) refusal before here refuses =
+      let first = done-next (edited_all (take i cs)) d e (edited b d) before in
+      ap (next (edited_all cs) d) first.1 ∙ ap one_later (edited_all-refused cs first.0 i refusal first.2 here refuses)
+
+apart : {e : Document} (refusal : Refusal) → Err refusal ≡ Ok e → ⊥
+apart refusal is = cc
+
+later-zero : (w : Edited) → later 0 w ≡ w
+later-zero w = λ t. record { document = w.document; refused = same w.refused t }
+  where
+    same : (o : Option (ℕ × Refusal)) → option_map {U = ℕ × Refusal} (λ r. (0 + r.0, r.1)) o ≡ o
+    same None = refl
+    same (Some r) = ap (λ (n : ℕ). Some (n, r.1)) (zero-add r.0)
+
+later-suc : (n : ℕ) (w : Edited) → one_later (later n w) ≡ later (suc n) w
+later-suc n w = λ t. record { document = w.document; refused = same w.refused t }
+  where
+    same : (o : Option (ℕ × Refusal)) → option_map {U = ℕ × Refusal} (λ r. (suc r.0, r.1)) (option_map {U = ℕ × Refusal} (λ r. (n + r.0, r.1)) o) ≡ option_map {U = ℕ × Refusal} (λ r. (suc n + r.0, r.1)) o
+    same None = refl
+    same (Some r) = ap (λ (m : ℕ). Some (m, r.1)) (sym (suc-add n r.0))
+
+-- what later edits make behind edits that were done
+pub edited_all-append : (cs ds : List Change) (d e : Document) → edited_all cs d ≡ done e → edited_all (cs ++ ds) d ≡ later (length cs) (edited_all ds e)
+edited_all-append [] ds d e before = ap (edited_all ds) (ap (λ (w : Edited). w.document) before) ∙ sym (later-zero (edited_all ds e))
+edited_all-append (c ∷ cs) ds d e before =
+    let first = done-next (edited_all cs) d e (edited c d) before in
+    ap (next (edited_all (cs ++ ds)) d) first.1 ∙ ap one_later (edited_all-append cs ds first.0 e first.2) ∙ later-suc (length cs) (edited_all ds e)
+
+-- an edit of a node that is not refused
+of_node-keeps : (d e : Document) (n : ℕ) (change : Node → Result Node Refusal) (o : Option Node) → of_node d n change o ≡ Ok e → KeepsShape d e
+of_node-keeps d e n change None is = absurd (apart no_node is)
+of_node-keeps d e n change (Some node) is = by (change node) is
+  where
+    by : (r : Result Node Refusal) → on_ok (λ m. record d { nodes = slice_set d.nodes n m }) r ≡ Ok e → KeepsShape d e
+    by (Err refusal) same = absurd (apart refusal same)
+    by (Ok m) same = let made : record d { nodes = slice_set d.nodes n m } ≡ e = cc in
+        subst (KeepsShape d) made (record { nodes = length-set d.nodes n m; top = refl; version = refl })
+
+pub edited-keeps : (c : Change) (d e : Document) → edited c d ≡ Ok e → KeepsShape d e
+edited-keeps (Names n name) d e is = of_node-keeps d e n _ (slice_get d.nodes n) is
+edited-keeps (Texts n text) d e is = of_node-keeps d e n (λ _. Ok (Raw text)) (slice_get d.nodes n) is
+edited-keeps (Comments n text) d e is = of_node-keeps d e n (λ _. Ok (Comment text)) (slice_get d.nodes n) is
+edited-keeps (Sets n key value) d e is = of_node-keeps d e n _ (slice_get d.nodes n) is
+edited-keeps (Flags n key) d e is = of_node-keeps d e n _ (slice_get d.nodes n) is
+edited-keeps (Unsets n key) d e is = of_node-keeps d e n _ (slice_get d.nodes n) is
+edited-keeps (Bares n key) d e is = of_node-keeps d e n _ (slice_get d.nodes n) is
+edited-keeps (Pushes n h) d e is = of_node-keeps d e n _ (slice_get d.nodes n) is
+edited-keeps (Pulls n i) d e is = of_node-keeps d e n _ (slice_get d.nodes n) is
+edited-keeps (Roots i h) d e is = by (nat_lt i (length d.top)) is
+  where
+    by : (b : Bool) → (if b then Ok (record d { top = slice_set d.top i h }) else Err no_place) ≡ Ok e → KeepsShape d e
+    by false same = absurd (apart no_place same)
+    by true same = let made : record d { top = slice_set d.top i h } ≡ e = cc in
+        subst (KeepsShape d) made (record { nodes = refl; top = length-set d.top i h; version = refl })
