@@ -10,3 +10,6 @@ pub mod Marks
 pub mod Frames
 pub mod Printing
 pub mod ClassParts
+pub mod ShownEdits
+pub mod Nodes
+pub mod Searching

@@ -5,8 +5,9 @@ use Rattle.tl_spec.specs.AttributeList.{named, printed_pairs}
 use Rattle.tl_spec.specs.ByteClass.{is_printed_alone}
 use Rattle.tl_spec.specs.Document.{Node, Tag, TagNode}
 use Rattle.tl_spec.specs.Print.{print, print_start, print_end, printed}
-use Rattle.tl_spec.specs.Walk.{Event, Fault, Walk, events, fault_among, first_fault, or_else, plain_attributes, plain_node, shows, trees, walk, walk_of}
-use Rattle.tl_spec.proofs.Events.{first_fault-events, print-walk, walk_of-tag}
+use Rattle.tl_spec.specs.Text.{text_of, told}
+use Rattle.tl_spec.specs.Walk.{Event, Fault, Walk, events, every, fault_among, first_fault, or_else, plain_attributes, plain_node, shows, trees, walk, walk_of}
+use Rattle.tl_spec.proofs.Events.{first_fault-events, print-walk, text_of-events, walk_of-tag}
 use Rattle.tl_base.specs.Held.{Kept}
 use Rattle.tl.specs.declared.errors.TreeError.{TreeError}
 use Rattle.tl.specs.Attributes.{Attributes}
@@ -48,6 +49,17 @@ pub writes-walk : {A : Type 0} (nodes : List Node) (hs : List ℕ) (es : List Ev
     Writes (first_fault (walk shows nodes [] hs)) (print (trees (walk shows nodes [] hs))) old r new
 writes-walk nodes hs es old r new e h =
     subst₂ (λ f s. Writes f s old r new) (ap fault_among e ∙ sym (first_fault-events (walk shows nodes [] hs))) (ap (flat_map printed) e ∙ sym (print-walk nodes [] hs)) h
+
+-- the events of the walk below a tag say what its text is
+pub writes-text : {A : Type 0} (nodes : List Node) (own : TagNode) (es : List Event) (old : List ℕ) (r : Result A TreeError) (new : List ℕ) →
+    es ≡ events (walk every nodes [] own.children.items) → Writes (fault_among es) (flat_map told es) old r new →
+    Writes (first_fault (walk_of every nodes (Tag own))) (text_of (trees (walk_of every nodes (Tag own)))) old r new
+writes-text nodes own es old r new e h =
+    let below : Walk = walk every nodes [] own.children.items in
+    subst₂ (λ f s. Writes f s old r new)
+    (ap fault_among e ∙ sym (first_fault-events below) ∙ sym (or_else-none (first_fault below)))
+    (ap (flat_map told) e ∙ sym (text_of-events below) ∙ sym (append-nil (text_of (trees below))))
+    h
 
 -- the attributes in order, as they are printed
 

@@ -1,5 +1,5 @@
 -- What a contract sees of the attributes of a tag.
-use Rattle.std.specs.Prelude.{◌≡◌, ℕ, ◌+◌, Bool, false, cond, List, [], ◌∷◌, length, Option, Some, None, option_map, nat_eq, refl, is_some}
+use Rattle.std.specs.Prelude.{◌≡◌, ℕ, ◌+◌, Bool, false, cond, List, [], ◌∷◌, length, Option, Some, None, option_map, nat_eq, refl, is_some, Result, Ok, Err}
 use Rattle.std.specs.Int.{from_bool}
 use Rattle.std.specs.Coded.{Coded, code_by, coded×, coded_option}
 use Rattle.std.specs.Cmp.Lexicographic.{pointwise}
@@ -32,6 +32,11 @@ is_id key = pointwise nat_eq key (105 ∷ 100 ∷ [])
 -- whether a key is `class`
 abbrev pub is_class : List ℕ → Bool
 is_class key = pointwise nat_eq key (99 ∷ 108 ∷ 97 ∷ 115 ∷ 115 ∷ [])
+
+-- a value with its key, and, where there is none, whether there is the key
+abbrev pub nested : {V : Type 0} → Result V Bool → Option (Option V)
+nested (Ok v) = Some (Some v)
+nested (Err is_there) = cond is_there (Some None) None
 
 -- a key that is neither `id` nor `class`
 abbrev pub IsOther : List ℕ → Type 0

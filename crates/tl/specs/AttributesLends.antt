@@ -1,6 +1,6 @@
 -- What attributes end as, where a value of theirs is lent.
-use Rattle.std.specs.Prelude.{ℕ, List, Bool, Option, Some}
-use Rattle.std.specs.Borrow.{LendsIf, Fml, RattleType, MutBor}
+use Rattle.std.specs.Prelude.{ℕ, List, Bool, Option, Some, Result}
+use Rattle.std.specs.Borrow.{LendsIf, LendsIfOk, Fml, RattleType, MutBor}
 use Rattle.std.specs.contracts.option.Option.{the_row as option_row}
 use Rattle.tl_base.specs.InlineMap.{with_value}
 use Rattle.tl.specs.Attributes.{Attributes, with_found}
@@ -28,3 +28,6 @@ module _ (B : RattleType) (p : PieceMembers B.Denot) (s : MutBor (Attributes B.D
 
   abbrev pub LendsFound : B.Denot → Option (MutBor B.Denot) → Fml
   LendsFound k r = LendsIf row B s r (with_found p.list p.eq s.now k) s.now
+
+  abbrev pub LendsFoundOk : B.Denot → Result (MutBor B.Denot) Bool → Fml
+  LendsFoundOk k r = LendsIfOk row B s r (with_found p.list p.eq s.now k) s.now

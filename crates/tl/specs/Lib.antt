@@ -16,3 +16,8 @@ pub mod Marks
 pub mod Walker
 pub mod Writing
 pub mod Boundaries
+pub mod TagLends
+pub mod NodeLends
+pub mod TableLends
+pub mod ChildrenLends
+pub mod Find

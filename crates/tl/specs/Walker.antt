@@ -1,5 +1,6 @@
 -- What a walker has still to give.
 use Rattle.std.specs.Prelude.{◌≡◌, ℕ, Bool, List, [], ◌∷◌, ◌++◌, length, map, Option, Some, None, Result, Ok, Err, ⊤}
+use Rattle.std.specs.List.{slice_get}
 use Rattle.tl_spec.specs.Document.{Node, TagNode}
 use Rattle.tl_spec.specs.Walk.{Dangling, Cycle, Event as Happening, meets, leaves, faulty, every, shows, walk, events}
 use Rattle.tl.specs.declared.errors.TreeError.{TreeError}
@@ -11,7 +12,7 @@ use Rattle.tl.specs.declared.parser.tag.walk.Walker.{Walker}
 use Rattle.tl.specs.declared.parser.tag.walk.Event.{Event}
 use Rattle.tl.specs.declared.parser.tag.walk.Event.TheVariants.{Meets, Leaves}
 use Rattle.tl.specs.Marks.{AreFresh, IsKept}
-use Rattle.tl.specs.Shown.{shown, shown_tag}
+use Rattle.tl.specs.Shown.{HTMLNode, shown, shown_tag}
 
 -- the names of the tags that are entered
 abbrev pub enters : Entered → List ℕ → Bool
@@ -57,6 +58,11 @@ left w = left_at w w.rest.now
 abbrev pub shown_event : Event → Happening
 shown_event (Meets h n) = meets h (shown n.now)
 shown_event (Leaves t) = leaves (shown_tag t.now)
+
+-- the node that is met is that of its handle in this table
+abbrev pub IsMetIn : List HTMLNode → Event → Type 0
+IsMetIn nodes (Meets h n) = slice_get nodes h ≡ Some n.now
+IsMetIn nodes (Leaves t) = ⊤
 
 -- a list that begins with this
 abbrev pub IsLedBy : Happening → List Happening → Type 0

@@ -24,6 +24,7 @@ pub use parser::options::ParserOptions;
 pub use parser::tag::attributes::{Attributes, AttributesOf, RawAttributesMap};
 pub use parser::tag::attributes_iter::AttributesIter;
 pub use parser::tag::children::{Children, ChildrenOf};
+pub use parser::tag::children_mut::{ChildrenMut, ChildrenMutOf};
 pub use parser::tag::class_iter::ClassIter;
 pub use parser::tag::node::{Node, NodeOf};
 pub use parser::tag::{HTMLTag, RawChildren, TagOf};

@@ -1,5 +1,7 @@
 //! Documents.
 ghost use Rattle.std.specs.Prelude.{◌≡◌};
+ghost use Rattle.std.specs.Borrow.{sem};
+ghost use Rattle.tl.specs.TableLends.{LendsParser, LendsNodes, LendsTop};
 
 use crate::parser::base::{HTMLVersion, ParserOf};
 use crate::parser::handle::NodeHandle;
@@ -60,5 +62,29 @@ impl<A, B> VDomOf<A, B> {
         ensures { result ≡ self.now.version }
     {
         self.parser.version()
+    }
+
+    /// The table for writing. A table put there brings all that it holds.
+    pub fn parser_mut(&mut self) -> &mut ParserOf<A, B>
+        ensures* writes_back { sem 𝓛 (LendsParser A.row B.row self.entry result) }
+        ensures value { result.now ≡ self.old }
+    {
+        &mut self.parser
+    }
+
+    /// All nodes for writing, in the order of the text. No node can be added or taken away.
+    pub fn nodes_mut(&mut self) -> &mut [NodeOf<A, B>]
+        ensures* writes_back { sem 𝓛 (LendsNodes A.row B.row self.entry result) }
+        ensures value { result.now ≡ self.old.nodes }
+    {
+        self.parser.nodes_mut()
+    }
+
+    /// The handles of the top nodes for writing. None can be added or taken away.
+    pub fn children_mut(&mut self) -> &mut [NodeHandle]
+        ensures* writes_back { sem 𝓛 (LendsTop A.row B.row self.entry result) }
+        ensures value { result.now ≡ self.old.top }
+    {
+        self.parser.top_mut()
     }
 }

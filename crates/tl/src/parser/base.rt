@@ -1,6 +1,8 @@
 //! The table of nodes.
 ghost use Rattle.std.specs.Prelude.{◌≡◌, slice_get, Option};
-ghost use Rattle.std.specs.Option.{option_copied};
+ghost use Rattle.std.specs.Borrow.{sem};
+ghost use Rattle.std.specs.Option.{option_copied, option_copied_mut};
+ghost use Rattle.tl.specs.TableLends.{LendsNode, LendsTableNodes, LendsTableTop};
 
 pub mod attribute;
 pub(crate) mod names;
@@ -14,6 +16,7 @@ pub mod token;
 use crate::parser::handle::{InnerNodeHandle, NodeHandle};
 use crate::parser::tag::attributes::Attributes;
 use crate::parser::tag::node::NodeOf;
+use std::alloc::Global;
 use std::marker::Model;
 use tl_base::byte_string::Bytes;
 
@@ -82,6 +85,11 @@ impl<A, B> ParserOf<A, B> {
         self.nodes.as_slice()
     }
 
+    // The allocator of the nodes.
+    pub(crate) fn alloc(&self) -> Global {
+        *self.nodes.allocator()
+    }
+
     // The handles of the top nodes.
     pub(crate) fn top(&self) -> &[NodeHandle]
         ensures { result.now ≡ self.now.top }
@@ -95,6 +103,40 @@ impl<A, B> ParserOf<A, B> {
     {
         self.version
     }
+
+    /// The node of a number for writing, or None past the table.
+    #[tactic(auto, using(crate::proofs::Nodes::copied_of_item))]
+    pub fn resolve_node_id_mut(&mut self, id: InnerNodeHandle) -> Option<&mut NodeOf<A, B>>
+        ensures* writes_back { sem 𝓛 (LendsNode A.row B.row self.entry id result) }
+        ensures value { option_copied_mut result ≡ slice_get self.old.nodes id }
+    {
+        self.nodes.get_mut(id as usize)
+    }
+
+    // The node of a handle for writing, or None past the table.
+    fn resolve_handle_mut(&mut self, handle: NodeHandle) -> Option<&mut NodeOf<A, B>>
+        ensures* writes_back { sem 𝓛 (LendsNode A.row B.row self.entry handle result) }
+        ensures value { option_copied_mut result ≡ slice_get self.old.nodes handle }
+    {
+        let number = handle.get_inner();
+        self.resolve_node_id_mut(number)
+    }
+
+    // All nodes for writing.
+    pub(crate) fn nodes_mut(&mut self) -> &mut [NodeOf<A, B>]
+        ensures* writes_back { sem 𝓛 (LendsTableNodes A.row B.row self.entry result) }
+        ensures value { result.now ≡ self.old.nodes }
+    {
+        self.nodes.as_mut_slice()
+    }
+
+    // The handles of the top nodes for writing.
+    pub(crate) fn top_mut(&mut self) -> &mut [NodeHandle]
+        ensures* writes_back { sem 𝓛 (LendsTableTop A.row B.row self.entry result) }
+        ensures value { result.now ≡ self.old.top }
+    {
+        self.top.as_mut_slice()
+    }
 }
 
 impl NodeHandle {
@@ -103,5 +145,13 @@ impl NodeHandle {
         ensures { option_copied result ≡ slice_get parser.now.nodes self }
     {
         parser.resolve_node_id(self.get_inner())
+    }
+
+    /// The node of this number in a table for writing, or None past the table. A proof that needs what a write leaves takes `resolve_node_id_mut`.
+    pub fn get_mut<A, B>(self, parser: &mut ParserOf<A, B>) -> Option<&mut NodeOf<A, B>>
+        ensures* writes_back { sem 𝓛 (LendsNode A.row B.row parser.entry self result) }
+        ensures value { option_copied_mut result ≡ slice_get parser.old.nodes self }
+    {
+        parser.resolve_handle_mut(self)
     }
 }

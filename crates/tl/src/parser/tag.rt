@@ -5,9 +5,12 @@ ghost use Rattle.std.specs.Option.{option_copied};
 pub mod attributes;
 pub mod attributes_iter;
 pub mod children;
+pub mod children_mut;
 pub mod class_iter;
+pub mod find;
 pub mod node;
 pub mod print;
+pub mod text;
 pub(crate) mod walk;
 
 use crate::parser::base::Parser;
@@ -89,7 +92,9 @@ impl<A: Drop, B: Drop> TagOf<A, B> {
 }
 
 impl<A, B> TagOf<A, B> {
+    ghost use Rattle.std.specs.Borrow.{sem};
     ghost use Rattle.tl_base.specs.InlineVec.{pushed};
+    ghost use Rattle.tl.specs.TagLends.{LendsName, LendsAttributes, LendsChildren};
 
     // Makes `child` the last child.
     pub(crate) fn push_child(&mut self, child: NodeHandle) -> Result<(), AllocError>
@@ -135,6 +140,30 @@ impl<A, B> TagOf<A, B> {
         ensures { result.now ≡ self.now.children }
     {
         &self.parts.children
+    }
+
+    /// The name for writing. The raw keeps the name that was read.
+    pub fn name_mut(&mut self) -> &mut B
+        ensures* writes_back { sem 𝓛 (LendsName A.row B.row self.entry result) }
+        ensures value { result.now ≡ self.old.name }
+    {
+        &mut self.parts.name
+    }
+
+    /// The attributes for writing.
+    pub fn attributes_mut(&mut self) -> &mut A
+        ensures* writes_back { sem 𝓛 (LendsAttributes A.row B.row self.entry result) }
+        ensures value { result.now ≡ self.old.attributes }
+    {
+        &mut self.parts.attributes
+    }
+
+    // The handles of the children for writing.
+    pub(crate) fn child_handles_mut(&mut self) -> &mut RawChildren
+        ensures* writes_back { sem 𝓛 (LendsChildren A.row B.row self.entry result) }
+        ensures value { result.now ≡ self.old.children }
+    {
+        &mut self.parts.children
     }
 }
 

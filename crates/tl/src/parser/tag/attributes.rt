@@ -4,7 +4,7 @@ ghost use Rattle.std.specs.List.{IsDistinct};
 ghost use Rattle.std.specs.Map.{keys_of, lookup};
 ghost use Rattle.std.specs.Option.{option_copied, option_copied_mut, option_map, option_flatten};
 ghost use Rattle.tl_base.specs.InlineMap.{inserted, with_value};
-ghost use Rattle.tl.specs.Attributes.{no_attributes, found, count_of, put, taken, bare, without, AreOthers, IsOther, is_id, is_class};
+ghost use Rattle.tl.specs.Attributes.{no_attributes, found, count_of, put, taken, bare, without, AreOthers, IsOther, is_id, is_class, nested};
 
 use crate::parser::piece::Piece;
 use std::alloc::{AllocError, Global};
@@ -51,6 +51,17 @@ fn is_class(key: &[u8]) -> bool
     ensures { result ≡ is_class key.now }
 {
     key == b"class".as_slice()
+}
+
+// `Ok` becomes a key with its value, `Err(true)` a key without one, and `Err(false)` no key.
+fn nested<B>(value: Result<&mut B, bool>) -> Option<Option<&mut B>>
+    ensures { result ≡ nested value.entry }
+{
+    match value {
+        Ok(value) => Some(Some(value)),
+        Err(true) => Some(None),
+        Err(false) => None,
+    }
 }
 
 impl<B: Piece + Default> AttributesOf<B> {
@@ -112,7 +123,7 @@ impl<B: Piece> AttributesOf<B> {
         B: Drop,
         ensures { result ≡ is_some (found B.list B.eq self.now key) }
     {
-        self.get(key).is_some()
+        self.holds(&key)
     }
 
     /// The value at `key`: `None` where the key is missing, `Some(None)` where it has no value.
@@ -221,7 +232,7 @@ impl<B: Piece + Default + Drop> AttributesOf<B> {
 
 impl<B: Piece> AttributesOf<B> {
     ghost use Rattle.std.specs.Borrow.{sem};
-    ghost use Rattle.tl.specs.AttributesLends.{LendsId, LendsClass, LendsSlot, LendsValue, LendsFound};
+    ghost use Rattle.tl.specs.AttributesLends.{LendsId, LendsClass, LendsSlot, LendsValue, LendsFound, LendsFoundOk};
 
     // The value of `id`.
     fn id_mut(&mut self) -> Option<&mut B>
@@ -257,18 +268,38 @@ impl<B: Piece> AttributesOf<B> {
     pub fn get_mut(&mut self, key: B) -> Option<Option<&mut B>>
     where
         B: Drop,
+        ensures* writes_back { sem 𝓛 (LendsFound B.row B.Piece self.entry key (option_flatten result)) }
         ensures value { option_map option_copied_mut result ≡ found B.list B.eq self.old key }
     {
+        nested(self.value_or_presence_mut(key))
+    }
+
+    // The value at `key` for writing; `Err` says that there is none, and whether there is the key.
+    fn value_or_presence_mut(&mut self, key: B) -> Result<&mut B, bool>
+    where
+        B: Drop,
+        ensures* writes_back { sem 𝓛 (LendsFoundOk B.row B.Piece self.entry key result) }
+        ensures value { option_map option_copied_mut (nested result) ≡ found B.list B.eq self.old key }
+    {
+        // Asked first, since nothing can be asked while the value is lent.
+        let is_there = self.holds(&key);
+        match self.value_mut(&key) {
+            Some(value) => Ok(value),
+            None => Err(is_there),
+        }
+    }
+
+    // Whether there is `key`, with a value or without.
+    fn holds(&self, key: &B) -> bool
+        ensures { result ≡ is_some (found B.list B.eq self.now key.now) }
+    {
         if is_id(key.as_bytes()) {
-            return self.id.as_mut().map(|id| Some(id));
+            return self.id.is_some();
         }
         if is_class(key.as_bytes()) {
-            return self.class.as_mut().map(|class| Some(class));
+            return self.class.is_some();
         }
-        match self.slot_mut(&key) {
-            Some(slot) => Some(slot.as_mut()),
-            None => None,
-        }
+        self.others.contains_key(key)
     }
 
     // The value at a key that is neither `id` nor `class`.

@@ -1,7 +1,9 @@
 //! Nodes.
 ghost use Rattle.std.specs.Prelude.{◌≡◌, IfOk};
-ghost use Rattle.std.specs.Option.{option_copied};
+ghost use Rattle.std.specs.Borrow.{sem};
+ghost use Rattle.std.specs.Option.{option_copied, option_copied_mut};
 ghost use Rattle.tl.specs.Node.{tag_of, raw_of, comment_of};
+ghost use Rattle.tl.specs.NodeLends.{LendsTag, LendsRaw, LendsComment};
 
 use crate::parser::tag::TagOf;
 use crate::parser::tag::attributes::Attributes;
@@ -50,6 +52,39 @@ impl<A, B> NodeOf<A, B> {
     {
         match self {
             NodeOf::Comment(bytes) => Some(bytes),
+            _ => None,
+        }
+    }
+
+    /// The tag for writing, if it is one.
+    pub fn as_tag_mut(&mut self) -> Option<&mut TagOf<A, B>>
+        ensures* writes_back { sem 𝓛 (LendsTag A.row B.row self.entry result) }
+        ensures value { option_copied_mut result ≡ tag_of self.old }
+    {
+        match self {
+            NodeOf::Tag(own) => Some(own),
+            _ => None,
+        }
+    }
+
+    /// The bytes of the text for writing, if it is one.
+    pub fn as_raw_mut(&mut self) -> Option<&mut B>
+        ensures* writes_back { sem 𝓛 (LendsRaw A.row B.row self.entry result) }
+        ensures value { option_copied_mut result ≡ raw_of self.old }
+    {
+        match self {
+            NodeOf::Raw(text) => Some(text),
+            _ => None,
+        }
+    }
+
+    /// The bytes of the comment for writing, if it is one.
+    pub fn as_comment_mut(&mut self) -> Option<&mut B>
+        ensures* writes_back { sem 𝓛 (LendsComment A.row B.row self.entry result) }
+        ensures value { option_copied_mut result ≡ comment_of self.old }
+    {
+        match self {
+            NodeOf::Comment(comment) => Some(comment),
             _ => None,
         }
     }

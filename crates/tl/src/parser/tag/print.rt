@@ -4,7 +4,7 @@ ghost use Rattle.std.specs.Option.{option_copied};
 ghost use Rattle.std.specs.Str.Lossy.{utf8_lossy};
 ghost use Rattle.tl_spec.specs.AttributeList.{printed_pairs};
 ghost use Rattle.tl_spec.specs.Document.{Tag};
-ghost use Rattle.tl_spec.specs.Print.{outer_html, document_print, print, print_value, print_pairs, print_start, print_end, printed};
+ghost use Rattle.tl_spec.specs.Print.{outer_html, inner_html, document_print, print, print_value, print_pairs, print_start, print_end, printed};
 ghost use Rattle.tl_spec.specs.Walk.{fault_among, first_fault, plain_attributes, plain_node, shows, trees, walk, walk_of};
 ghost use Rattle.tl.specs.Shown.{shown, shown_attributes, shown_tag, shown_value, document_of};
 ghost use Rattle.tl.specs.Answer.{Answers};
@@ -25,7 +25,7 @@ use std::alloc::Global;
 use tl_base::byte_string::Bytes;
 
 // Writes bytes as text.
-fn write_lossy(bytes: &[u8], out: &mut String) -> Result<(), TreeError>
+pub(crate) fn write_lossy(bytes: &[u8], out: &mut String) -> Result<(), TreeError>
     ensures ok { OnOk result (string_bytes out.new ≡ string_bytes out.old ++ utf8_lossy bytes.now) }
     ensures err { IfErr result (λ e. e ≡ TreeError.OutOfMemory) }
 {
@@ -147,7 +147,7 @@ fn write_tag<'s, 'a>(
 }
 
 // Bytes as a text of their own.
-fn lossy_text(alloc: Global, bytes: &[u8]) -> Result<String, TreeError>
+pub(crate) fn lossy_text(alloc: Global, bytes: &[u8]) -> Result<String, TreeError>
     ensures { Answers (Ok (utf8_lossy bytes.now)) result }
 {
     let mut out = String::new(alloc);
@@ -164,6 +164,20 @@ impl<'a> HTMLTag<'a> {
         write_tag(alloc, parser.nodes(), self, &mut out)?;
         Ok(out)
     }
+
+    /// The children as markup, with all that they hold by the table of `parser`: those of a void tag too.
+    pub fn inner_html(&self, alloc: Global, parser: &Parser<'a>) -> Result<String, TreeError>
+        ensures { Answers (inner_html (map shown parser.now.nodes) (Tag (shown_tag self.now))) result }
+    {
+        let mut out = String::new(alloc);
+        write_row(
+            alloc,
+            parser.nodes(),
+            self.child_handles().as_slice(),
+            &mut out,
+        )?;
+        Ok(out)
+    }
 }
 
 impl<'a> Node<'a> {
@@ -175,6 +189,17 @@ impl<'a> Node<'a> {
             NodeOf::Tag(tag) => tag.outer_html(alloc, parser),
             NodeOf::Raw(bytes) => lossy_text(alloc, bytes.as_bytes()),
             NodeOf::Comment(bytes) => lossy_text(alloc, bytes.as_bytes()),
+        }
+    }
+
+    /// The children of a tag as markup, by the table of `parser`. A text or a comment answers its own text.
+    pub fn inner_html(&self, alloc: Global, parser: &Parser<'a>) -> Result<String, TreeError>
+        ensures { Answers (inner_html (map shown parser.now.nodes) (shown self.now)) result }
+    {
+        match self {
+            NodeOf::Tag(tag) => tag.inner_html(alloc, parser),
+            NodeOf::Raw(_) => self.outer_html(alloc, parser),
+            NodeOf::Comment(_) => self.outer_html(alloc, parser),
         }
     }
 }

@@ -1,11 +1,11 @@
 //! The walk over a table: each handle's node is met, and then what hangs below it, unless the handle dangles or stands on its own path.
-ghost use Rattle.std.specs.Prelude.{◌≡◌, ◌<◌, false, [], ◌∷◌, length, map, OnOk, IfOk, IfErr};
+ghost use Rattle.std.specs.Prelude.{◌≡◌, ◌<◌, false, [], ◌∷◌, length, map, OnOk, IfOk, IfErr, IfSome};
 ghost use Rattle.std.specs.Option.{option_copied};
 ghost use Rattle.std.specs.List.{slice_get};
 ghost use Rattle.tl_spec.specs.Walk.{stands_on, walk, events};
 ghost use Rattle.tl.specs.Shown.{shown, shown_tag};
 ghost use Rattle.tl.specs.Marks.{MayFollow};
-ghost use Rattle.tl.specs.Walker.{enters, path_of, left, left_at, left_in, Gives, Takes, Steps, IsMarked};
+ghost use Rattle.tl.specs.Walker.{enters, path_of, left, left_at, left_in, Gives, Takes, Steps, IsMarked, IsMetIn};
 
 mod path;
 
@@ -67,6 +67,7 @@ impl<'s, 'a> Walker<'s, 'a> {
     ) -> Self
         ensures marked { IsMarked result }
         ensures left { left result ≡ events (walk (enters entered) (map shown nodes.now) [] handles.now) }
+        ensures table { result.nodes.now ≡ nodes.now }
     {
         Walker {
             nodes,
@@ -93,6 +94,8 @@ impl<'s, 'a> Walker<'s, 'a> {
         requires { IsMarked self.old }
         ensures marked { OnOk result (IsMarked self.new) }
         ensures gives { Gives (left_at self.old (handle ∷ self.old.rest.now)) result (left self.new) }
+        ensures met { IfOk result (IsMetIn self.old.nodes.now) }
+        ensures table { self.new.nodes.now ≡ self.old.nodes.now }
     {
         let Some(node) = node_at(self.nodes, handle) else {
             return Err(TreeError::Dangling(handle));
@@ -129,6 +132,7 @@ impl<'s, 'a> Walker<'s, 'a> {
         ensures marked { OnOk result (IsMarked self.new) }
         ensures left { OnOk result (left self.new ≡ left_in handle (shown_tag tag.now) self.old) }
         ensures err { IfErr result (λ e. e ≡ TreeError.OutOfMemory) }
+        ensures table { self.new.nodes.now ≡ self.old.nodes.now }
     {
         let frame = Frame {
             handle,
@@ -150,6 +154,8 @@ impl<'s, 'a> Walker<'s, 'a> {
         requires done { self.old.rest.now ≡ [] }
         ensures marked { IsMarked self.new }
         ensures takes { Takes (left self.old) result (left self.new) }
+        ensures met { IfSome result (IsMetIn self.old.nodes.now) }
+        ensures table { self.new.nodes.now ≡ self.old.nodes.now }
     {
         let Some(frame) = self.frames.pop() else {
             return None;
@@ -164,6 +170,8 @@ impl<'s, 'a> Walker<'s, 'a> {
         requires { IsMarked self.old }
         ensures marked { OnOk result (IsMarked self.new) }
         ensures steps { Steps (left self.old) result (left self.new) }
+        ensures met { IfOk result (λ e. IfSome e (IsMetIn self.old.nodes.now)) }
+        ensures table { self.new.nodes.now ≡ self.old.nodes.now }
     {
         match self.rest.split_first() {
             Some((first, rest)) => {

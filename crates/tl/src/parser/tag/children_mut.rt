@@ -1,0 +1,38 @@
+//! The children of a tag for writing.
+ghost use Rattle.std.specs.Prelude.{◌≡◌};
+ghost use Rattle.std.specs.Borrow.{sem};
+ghost use Rattle.tl.specs.ChildrenLends.{LendsTopHandles, lent_tag, lent_name};
+
+use crate::parser::tag::attributes::Attributes;
+use crate::parser::tag::{RawChildren, TagOf};
+use tl_base::byte_string::Bytes;
+
+/// The children of a tag for writing.
+#[derive(Drop)]
+pub struct ChildrenMutOf<'b, A, B> {
+    tag: &'b mut TagOf<A, B>,
+}
+
+/// The children of a tag of a table for writing.
+pub type ChildrenMut<'a, 'b> = ChildrenMutOf<'b, Attributes<'a>, Bytes<'a>>;
+
+impl<'b, A, B> ChildrenMutOf<'b, A, B> {
+    /// The handles of the children, in order. Nothing ties them to a table.
+    pub fn top_mut<'s>(&'s mut self) -> &'s mut RawChildren
+        ensures* writes_back { sem 𝓛 (LendsTopHandles A.row B.row self.entry result) }
+        ensures value { result.now ≡ (lent_tag self.old).children }
+    {
+        let tag = &mut *self.tag;
+        tag.child_handles_mut()
+    }
+}
+
+impl<A, B> TagOf<A, B> {
+    /// The children for writing.
+    pub fn children_mut(&mut self) -> ChildrenMutOf<'_, A, B>
+        ensures name { lent_name result ≡ self.entry.ghost_name }
+        ensures value { lent_tag result ≡ self.old }
+    {
+        ChildrenMutOf { tag: self }
+    }
+}
