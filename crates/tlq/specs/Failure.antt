@@ -4,6 +4,8 @@ use Rattle.tl.specs.declared.errors.ParseError.{ParseError}
 use Rattle.tl.specs.declared.errors.ParseError.TheVariants.{InvalidLength, OutOfMemory as ParseMemory}
 use Rattle.tl.specs.declared.errors.TreeError.{TreeError}
 use Rattle.tl.specs.declared.errors.TreeError.TheVariants.{Dangling, Cycle, OutOfMemory as TreeMemory}
+use Rattle.tlq.specs.declared.script.step.StepError.{StepError}
+use Rattle.tlq.specs.declared.script.step.StepError.TheVariants.{NoNode, NotTag, NoPlace, OutOfMemory as StepMemory}
 use Rattle.tlq.specs.declared.program.failure.Failure.{Failure}
 use Rattle.tlq.specs.declared.program.failure.Failure.TheVariants.{Refused, NotUnderstood, OutOfMemory, Fault}
 
@@ -17,6 +19,13 @@ abbrev pub failure_of_tree : TreeError → Failure
 failure_of_tree (Dangling h) = Refused
 failure_of_tree (Cycle h) = Refused
 failure_of_tree TreeMemory = OutOfMemory
+
+-- what a refusal of a step is
+abbrev pub failure_of_step : StepError → Failure
+failure_of_step NoNode = Refused
+failure_of_step NotTag = Refused
+failure_of_step NoPlace = Refused
+failure_of_step StepMemory = OutOfMemory
 
 -- the reading failed, and memory was there
 abbrev pub is_fault : {A : Type 0} → Result A Failure → Bool

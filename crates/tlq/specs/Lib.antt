@@ -1,4 +1,6 @@
 pub mod Asked
 pub mod Failure
 pub mod Output
+pub mod Script
 pub mod Status
+pub mod Steps

@@ -4,6 +4,7 @@
 ghost use Rattle.std.specs.Prelude.{◌≤◌};
 
 pub mod program;
+pub mod script;
 #[cfg(test)]
 mod tests;
 

@@ -1,5 +1,6 @@
 use crate::program::{Command, Input, Marked, Output, command, line, run};
-use std::alloc::Global;
+use crate::script::{Step, steps};
+use std::alloc::{AllocError, Global};
 use std::io;
 use std::io::{ErrorKind, Read, Write};
 use std::test::Fail;
@@ -161,27 +162,162 @@ fn reads_to_the_end(rt: HostRuntime) {
     assert!(rt; status == 4 && failed && written.is_empty());
 }
 
-/// Whether these words ask for a print.
-fn asks_for_print(alloc: Global, words: &[&str]) -> Result<bool, Fail> {
+/// The words as `command` takes them.
+fn owned(alloc: Global, words: &[&str]) -> Result<Vec<String>, AllocError> {
     let mut owned = Vec::new(alloc);
     for word in words {
         owned.push(String::from_str(alloc, *word)?)?;
     }
+    Ok(owned)
+}
+
+/// What the words ask for, in one word.
+fn asked_by(alloc: Global, words: &[&str]) -> Result<&'static str, AllocError> {
+    let owned = owned(alloc, words)?;
     match command(alloc, &owned)? {
-        Some(Command::Print) => Ok(true),
-        None => Ok(false),
+        Some(Command::Print) => Ok("print"),
+        Some(Command::Text) => Ok("text"),
+        Some(Command::Edit(_)) => Ok("edit"),
+        None => Ok("nothing"),
     }
 }
 
 #[test]
 fn words_ask_for_commands(rt: HostRuntime) -> Result<(), Fail> {
-    assert!(rt; asks_for_print(rt.alloc(), &["print"])?);
-    assert!(rt; !asks_for_print(rt.alloc(), &[])?);
-    for word in ["", "Print", "prin", "print ", "prints", "text"] {
-        assert!(rt; !asks_for_print(rt.alloc(), &[word])?, "{word:?}");
+    for word in ["print", "text"] {
+        assert_eq!(rt; asked_by(rt.alloc(), &[word])?, word);
+        assert_eq!(rt; asked_by(rt.alloc(), &[word, ""])?, "nothing");
     }
-    assert!(rt; !asks_for_print(rt.alloc(), &["print", ""])?);
-    assert!(rt; !asks_for_print(rt.alloc(), &["print", "print"])?);
+    for word in ["", "Print", "prin", "print ", "prints", "edit"] {
+        assert_eq!(rt; asked_by(rt.alloc(), &[word])?, "nothing", "{word:?}");
+    }
+    for text in ["", "\n", "text 2", "push 0 1\n\nroot 0 5"] {
+        assert_eq!(rt; asked_by(rt.alloc(), &["edit", text])?, "edit", "{text:?}");
+    }
+    for text in ["x", "push 0", "text 2\npush 0 1 2"] {
+        assert_eq!(rt;
+            asked_by(rt.alloc(), &["edit", text])?,
+            "nothing",
+            "{text:?}"
+        );
+    }
+    assert_eq!(rt; asked_by(rt.alloc(), &[])?, "nothing");
+    assert_eq!(rt; asked_by(rt.alloc(), &["edit", "", ""])?, "nothing");
+    Ok(())
+}
+
+/// Whether a text says these steps.
+fn says(alloc: Global, text: &str, want: &[Step<'_>]) -> Result<bool, AllocError> {
+    match steps(alloc, text)? {
+        Some(read) => Ok(read.as_slice() == want),
+        None => Ok(false),
+    }
+}
+
+#[test]
+fn lines_say_steps(rt: HostRuntime) -> Result<(), Fail> {
+    let rows: [(&str, &[Step<'_>]); 17] = [
+        ("", &[]),
+        ("name 0 p", &[Step::Name(0, b"p")]),
+        ("name 0  x", &[Step::Name(0, b" x")]),
+        ("text 2", &[Step::Text(2, b"")]),
+        ("text 0 a\r", &[Step::Text(0, b"a\r")]),
+        ("comment 3 <!-- a -->", &[Step::Comment(3, b"<!-- a -->")]),
+        ("set 0 a b c", &[Step::Set(0, b"a", b"b c")]),
+        ("set 0 a", &[Step::Set(0, b"a", b"")]),
+        ("set 0  v", &[Step::Set(0, b"", b"v")]),
+        ("flag 0 id", &[Step::Flag(0, b"id")]),
+        ("flag 0", &[Step::Flag(0, b"")]),
+        ("unset 0 a", &[Step::Unset(0, b"a")]),
+        ("bare 0 a b", &[Step::Bare(0, b"a b")]),
+        ("push 00 004294967295", &[Step::Push(0, 4294967295)]),
+        ("pull 1 7", &[Step::Pull(1, 7)]),
+        ("root 7 1", &[Step::Root(7, 1)]),
+        (
+            "\npull 0 0\n\npush 0 2\npush 0 1\n",
+            &[Step::Pull(0, 0), Step::Push(0, 2), Step::Push(0, 1)],
+        ),
+    ];
+    for (text, want) in rows {
+        assert!(rt; says(rt.alloc(), text, want)?, "{text:?}");
+    }
+    Ok(())
+}
+
+#[test]
+fn other_lines_say_nothing(rt: HostRuntime) -> Result<(), Fail> {
+    let rows = [
+        "push 0",
+        "push 0 1 2",
+        "push 0 4294967296",
+        "push +1 0",
+        "push 0 1 ",
+        "push 0 1\r",
+        "push 0  1",
+        "Name 0 p",
+        " name 0 x",
+        "text x",
+        "text",
+        " ",
+    ];
+    for text in rows {
+        assert!(rt; steps(rt.alloc(), text)?.is_none(), "{text:?}");
+    }
+    Ok(())
+}
+
+/// Runs the command of the words, and answers the status and what was written.
+fn answered(alloc: Global, words: &[&str], input: &[u8]) -> Result<(u8, Vec<u8>), AllocError> {
+    let owned = owned(alloc, words)?;
+    let mut written = Vec::new(alloc);
+    let mut reader = Marked::new(input);
+    let mut writer = Marked::new(&mut written);
+    let status = match command(alloc, &owned)? {
+        Some(asked) => run(alloc, &asked, &mut reader, &mut writer),
+        None => 2,
+    };
+    Ok((status, written))
+}
+
+#[test]
+fn texts_are_joined(rt: HostRuntime) -> Result<(), Fail> {
+    let rows: [(&[u8], &[u8]); 3] = [
+        (b"a<p>b<br>c</p><!-- d -->", b"abc"),
+        (b"", b""),
+        (b"<p>\xc3\xa9</p> <q>x</q>", b"\xc3\xa9 x"),
+    ];
+    for (input, want) in rows {
+        let (status, written) = answered(rt.alloc(), &["text"], input)?;
+        assert!(rt;
+            status == 0 && written.as_slice() == want,
+            "status {status}: {written:?}"
+        );
+    }
+    Ok(())
+}
+
+#[test]
+fn documents_are_edited(rt: HostRuntime) -> Result<(), Fail> {
+    let rows: [(&str, &[u8], u8, &[u8]); 6] = [
+        ("set 0 href /x", b"<a>y</a>", 0, b"<a href=\"/x\">y</a>"),
+        ("", b"<a>y</a>", 0, b"<a>y</a>"),
+        (
+            "pull 0 0\npush 0 2\npush 0 1",
+            b"<a><b></b></a><c></c>",
+            0,
+            b"<a><c></c><b></b></a><c></c>",
+        ),
+        ("push 5 0", b"<a></a>", 1, b""),
+        ("push 0 0", b"<a></a>", 1, b""),
+        ("push 0", b"<a></a>", 2, b""),
+    ];
+    for (steps, input, want, page) in rows {
+        let (status, written) = answered(rt.alloc(), &["edit", steps], input)?;
+        assert!(rt;
+            status == want && written.as_slice() == page,
+            "{steps:?}: status {status}: {written:?}"
+        );
+    }
     Ok(())
 }
 

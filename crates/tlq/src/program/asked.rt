@@ -1,6 +1,12 @@
+use crate::script::Step;
+
 /// What the program is asked for.
 #[derive(Debug, Drop)]
-pub enum Command {
+pub enum Command<'c> {
     /// The document of the input, printed.
     Print,
+    /// The texts of the document's top nodes, one behind the other.
+    Text,
+    /// The document after these steps, printed.
+    Edit(Vec<Step<'c>>),
 }

@@ -59,7 +59,7 @@ fn deliver<W: Output>(writer: &mut W, bytes: &[u8]) -> Result<(), Fault>
 }
 
 // What a command writes of the bytes that were read.
-fn output(alloc: Global, command: &Command, input: &[u8]) -> Result<String, Failure>
+fn output(alloc: Global, command: &Command<'_>, input: &[u8]) -> Result<String, Failure>
     ensures { Gives (output_of (asked_of command.now) input.now) result }
 {
     match str::from_utf8(input) {
@@ -70,12 +70,13 @@ fn output(alloc: Global, command: &Command, input: &[u8]) -> Result<String, Fail
 
 /// Runs a command on what the reader has left, writes what it gives, and answers the status.
 ///
-/// It is 0 where all is done, 1 where the tree has a fault, 2 where the input is no text or too long, 3 where no
-/// memory is found, and 4 where a read or a write failed. The output is made whole before the first write, and
-/// flushed once behind the last.
+/// It is 0 where all is done, 1 where the tree has a fault or a step is refused, 2 where the input is no text or too
+/// long, 3 where no memory is found, and 4 where a read or a write failed. The output is made whole before the first
+/// write, and flushed once behind the last. A fault is that of the tree after the steps; below a refused step nothing
+/// is looked at.
 pub fn run<R: Input, W: Output>(
     alloc: Global,
-    command: &Command,
+    command: &Command<'_>,
     reader: &mut R,
     writer: &mut W,
 ) -> u8
