@@ -4,8 +4,12 @@
 #[cfg(test)]
 mod attributes;
 #[cfg(test)]
+mod edits;
+#[cfg(test)]
 mod prints;
 #[cfg(test)]
 mod reading;
 #[cfg(test)]
 mod show;
+#[cfg(test)]
+mod texts;

@@ -1,5 +1,8 @@
-//! What tests write of a tag.
-use std::alloc::AllocError;
+//! What tests write of a tag and of a walk.
+use std::alloc::{AllocError, Global};
+use std::fmt::Write;
+use std::test::Fail;
+use tl::errors::TreeError;
 use tl::{Attributes, Bytes};
 
 // Writes bytes that are text.
@@ -30,4 +33,25 @@ pub fn show_pairs<'a>(attributes: &Attributes<'a>, out: &mut String) -> Result<(
         show_pair(&pair.0, pair.1, out)?;
     }
     Ok(())
+}
+
+// Writes a fault: what it is, and the number of its handle.
+fn show_fault(fault: &TreeError, out: &mut String) -> Result<(), Fail> {
+    match fault {
+        TreeError::Dangling(handle) => Ok(write!(out, "dangling {}", handle.get_inner())?),
+        TreeError::Cycle(handle) => Ok(write!(out, "cycle {}", handle.get_inner())?),
+        TreeError::OutOfMemory => Err(Fail::from("out of memory")),
+    }
+}
+
+// What a walk answers: its text, or its fault.
+pub fn show_reading(alloc: Global, reading: Result<String, TreeError>) -> Result<String, Fail> {
+    match reading {
+        Ok(text) => Ok(text),
+        Err(fault) => {
+            let mut out = String::new(alloc);
+            show_fault(&fault, &mut out)?;
+            Ok(out)
+        }
+    }
 }
