@@ -20,7 +20,7 @@ use Rattle.tlq.specs.Steps.{change_of}
 use Rattle.tlq.specs.declared.script.step.Step.{Step}
 use Rattle.tlq.specs.declared.script.step.StepError.{StepError}
 use Rattle.tlq.specs.declared.script.step.StepError.TheVariants.{NoNode, NotTag, NoPlace, OutOfMemory}
-use Rattle.tlq.specs.Script.{HTMLTable, IsRefused, ChangesTag, ChangesTable, StopsAt}
+use Rattle.tlq.specs.Script.{HTMLTable, IsTagAt, IsRefused, ChangesTag, ChangesTable, StopsAt}
 
 -- an edit within another is refused alike
 IsRefused-on_ok : {A B : Type 0} (f : A → B) (r : Result A Refusal) (e : StepError) → IsRefused r e → IsRefused (on_ok f r) e
@@ -60,30 +60,10 @@ module _ (old : HTMLTable) (n : ℕ) where
       let P : Result Document Refusal → Type 0 = λ r. IsRefused r e in
       (same_node node there, subst P (sym (ap (of_node (document_of old) n edit) (shown_node (Some node) there))) (IsRefused-on_ok made (edit (shown node)) e refused))
 
-tag_is : (node : HTMLNode) (tag : HTMLTag) → Some tag ≡ tag_of node → ATag tag ≡ node
-tag_is (ATag u) tag e = let same : tag ≡ u = cc in ap ATag same
-tag_is (ARaw b) tag e = cc
-tag_is (AComment b) tag e = cc
-
-of_no_tag : (edit : TagNode → Result TagNode Refusal) (node : HTMLNode) → None ≡ tag_of node → of_tag edit (shown node) ≡ Err not_tag
+of_no_tag : (edit : TagNode → Result TagNode Refusal) (node : HTMLNode) → tag_of node ≡ None → of_tag edit (shown node) ≡ Err not_tag
 of_no_tag edit (ATag u) e = cc
 of_no_tag edit (ARaw b) e = refl
 of_no_tag edit (AComment b) e = refl
-
-module _ (old : HTMLTable) (n : ℕ) (edit : TagNode → Result TagNode Refusal) (node : HTMLNode) (there : Some node ≡ slice_get old.nodes n) where
-  no_tag_there : (A : Type 0) → None ≡ tag_of node → ChangesTable {A = A} (at_node n (of_tag edit)) old (with_node old n node) (Err NotTag)
-  no_tag_there A none = node_kept old n A (of_tag edit) node NotTag there (of_no_tag edit node none)
-
-  -- an edit of the tag that is there
-  tag_changed : (A : Type 0) (tag new : HTMLTag) (r : Result A StepError) → Some tag ≡ tag_of node → ChangesTag edit tag new r
-      → ChangesTable (at_node n (of_tag edit)) old (with_node old n (ATag new)) r
-  tag_changed A tag new (Ok x) is h =
-      node_changed old n (of_tag edit) node (ATag new) x there (ap (λ m. of_tag edit (shown m)) (sym (tag_is node tag is)) ∙ ap (on_ok Tag) h)
-  tag_changed A tag new (Err e) is h =
-      let P : HTMLNode → Type 0 = λ m. ChangesTable {A = A} (at_node n (of_tag edit)) old (with_node old n m) (Err e) in
-      let Q : HTMLNode → Type 0 = λ m. IsRefused (of_tag edit (shown m)) e in
-      let back : node ≡ ATag new = sym (tag_is node tag is) ∙ ap ATag (sym h.0) in
-      subst P back (node_kept old n A (of_tag edit) node e there (subst Q (tag_is node tag is) (IsRefused-on_ok Tag (edit (shown_tag tag)) e h.1)))
 
 -- the same, where the table that is lent is the old one
 module _ (lent old : HTMLTable) (n : ℕ) (node : HTMLNode) (same : lent ≡ old) (there : Some node ≡ slice_get lent.nodes n) where
@@ -99,16 +79,27 @@ module _ (lent old : HTMLTable) (n : ℕ) (node : HTMLNode) (same : lent ≡ old
       let P : HTMLTable → Type 0 = λ o. ChangesTable {A = A} (at_node n edit) o (with_node lent n node) (Err e) in
       subst P same (node_kept lent n A edit node e there refused)
 
-  pub not_a_tag : (A : Type 0) (edit : TagNode → Result TagNode Refusal) → None ≡ tag_of node → ChangesTable {A = A} (at_node n (of_tag edit)) old (with_node lent n node) (Err NotTag)
-  not_a_tag A edit none =
-      let P : HTMLTable → Type 0 = λ o. ChangesTable {A = A} (at_node n (of_tag edit)) o (with_node lent n node) (Err NotTag) in
-      subst P same (no_tag_there lent n edit node there A none)
-
-  pub tag_stepped : (A : Type 0) (edit : TagNode → Result TagNode Refusal) (tag new : HTMLTag) (r : Result A StepError) → Some tag ≡ tag_of node → ChangesTag edit tag new r
+-- the same of a tag
+module _ (lent old : HTMLTable) (n : ℕ) (edit : TagNode → Result TagNode Refusal) (same : lent ≡ old) where
+  pub tag_stepped : {A : Type 0} (tag new : HTMLTag) (r : Result A StepError) → slice_get lent.nodes n ≡ Some (ATag tag) → ChangesTag edit tag new r
       → ChangesTable (at_node n (of_tag edit)) old (with_node lent n (ATag new)) r
-  tag_stepped A edit tag new r is h =
-      let P : HTMLTable → Type 0 = λ o. ChangesTable (at_node n (of_tag edit)) o (with_node lent n (ATag new)) r in
-      subst P same (tag_changed lent n edit node there A tag new r is h)
+  tag_stepped tag new (Ok x) there h =
+      let P : HTMLTable → Type 0 = λ o. ChangesTable (at_node n (of_tag edit)) o (with_node lent n (ATag new)) (Ok x) in
+      subst P same (node_changed lent n (of_tag edit) (ATag tag) (ATag new) x (sym there) (ap (on_ok Tag) h))
+  tag_stepped {A} tag new (Err e) there h =
+      let P : HTMLTag → Type 0 = λ t. ChangesTable {A = A} (at_node n (of_tag edit)) old (with_node lent n (ATag t)) (Err e) in
+      subst P (sym h.0) (kept lent old n (ATag tag) same (sym there) A (of_tag edit) e (IsRefused-on_ok Tag (edit (shown_tag tag)) e h.1))
+
+  pub not_stepped : (A : Type 0) (e : StepError) → IsTagAt lent n (Err e) → ChangesTable {A = A} (at_node n (of_tag edit)) old lent (Err e)
+  not_stepped A NoNode none = (same, subst (λ o. at_node n (of_tag edit) (document_of o) ≡ Err no_node) same (ap (of_node (document_of lent) n (of_tag edit)) (shown_node lent n None (sym none))))
+  not_stepped A NotTag none = (same, subst (λ o. at_node n (of_tag edit) (document_of o) ≡ Err not_tag) same (by (slice_get lent.nodes n) refl none))
+    where
+      by : (o : Option HTMLNode) → o ≡ slice_get lent.nodes n → IsSomeAnd o (λ node. tag_of node ≡ None) → at_node n (of_tag edit) (document_of lent) ≡ Err not_tag
+      by None there h = absurd h
+      by (Some node) there h = ap (of_node (document_of lent) n (of_tag edit)) (shown_node lent n (Some node) there)
+          ∙ ap (on_ok (λ m. record (document_of lent) { nodes = slice_set (map shown lent.nodes) n m })) (of_no_tag edit node h)
+  not_stepped A NoPlace none = absurd none
+  not_stepped A OutOfMemory none = absurd none
 
 -- an edit makes this tag
 abbrev pub IsMade : TagNode → TagNode → Type 0

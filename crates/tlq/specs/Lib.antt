@@ -4,3 +4,4 @@ pub mod Output
 pub mod Script
 pub mod Status
 pub mod Steps
+pub mod TagLent

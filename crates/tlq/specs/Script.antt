@@ -1,11 +1,15 @@
 -- What steps make of a table.
-use Rattle.std.specs.Prelude.{◌≡◌, ℕ, List, take, slice_get, Result, Ok, Err, IsOk, IsSomeAnd}
+use Rattle.std.specs.Prelude.{◌≡◌, ℕ, List, take, slice_get, Some, None, Result, Ok, Err, IsOk, IsSomeAnd}
+use Rattle.std.specs.Borrow.{MutBor}
 use Rattle.tl_base.specs.Held.{Kept}
 use Rattle.tl_spec.specs.Document.{TagNode, Document}
 use Rattle.tl_spec.specs.Edit.{Change, Refusal, no_node, not_tag, no_place, edited, edited_all, done, stopped}
 use Rattle.tl.specs.Attributes.{Attributes}
+use Rattle.tl.specs.Node.{tag_of}
+use Rattle.tl.specs.Tag.{Tag}
 use Rattle.tl.specs.Table.{Table}
 use Rattle.tl.specs.Shown.{HTMLTag, shown_tag, document_of}
+use Rattle.tl.specs.declared.parser.tag.node.NodeOf.TheVariants.{Tag as ATag}
 use Rattle.tlq.specs.declared.script.step.StepError.{StepError}
 use Rattle.tlq.specs.declared.script.step.StepError.TheVariants.{NoNode, NotTag, NoPlace, OutOfMemory}
 
@@ -19,6 +23,14 @@ IsRefused r NoNode = r ≡ Err no_node
 IsRefused r NotTag = r ≡ Err not_tag
 IsRefused r NoPlace = r ≡ Err no_place
 IsRefused r OutOfMemory = IsOk r
+
+-- a reference shows the tag at a number of a table, or there is none for this cause
+abbrev pub IsTagAt : {A B : Type 0} → Table A B → ℕ → Result (MutBor (Tag A B)) StepError → Type 0
+IsTagAt d n (Ok tag) = slice_get d.nodes n ≡ Some (ATag tag.now)
+IsTagAt d n (Err NoNode) = slice_get d.nodes n ≡ None
+IsTagAt d n (Err NotTag) = IsSomeAnd (slice_get d.nodes n) (λ node. tag_of node ≡ None)
+IsTagAt d n (Err NoPlace) = ⊥
+IsTagAt d n (Err OutOfMemory) = ⊥
 
 -- the new tag is the edited one, or the old one where the edit is refused
 abbrev pub ChangesTag : {A : Type 0} → (TagNode → Result TagNode Refusal) → HTMLTag → HTMLTag → Result A StepError → Type 0

@@ -3,14 +3,16 @@ ghost use Rattle.std.specs.Prelude.{◌≡◌, map, OnOk, IfErr};
 ghost use Rattle.tl_spec.specs.Edit.{Names, Texts, Comments, Sets, Flags, Unsets, Bares, Pushes, Pulls, Roots, edited, edited_all, done};
 ghost use Rattle.tl.specs.Shown.{document_of};
 ghost use Rattle.tlq.specs.Steps.{change_of};
-ghost use Rattle.tlq.specs.Script.{ChangesTable, StopsAt};
+ghost use Rattle.std.specs.Borrow.{sem};
+ghost use Rattle.tlq.specs.Script.{ChangesTable, StopsAt, IsTagAt};
+ghost use Rattle.tlq.specs.TagLent.{LendsTagAt};
 
 use crate::script::step::{Step, StepError};
 use crate::script::tag::{
     pull_child, push_child, remove_key, remove_value, set_flag, set_name, set_value,
 };
 use std::alloc::Global;
-use tl::{NodeHandle, NodeOf, VDom};
+use tl::{NodeHandle, NodeOf, ParserOf, TagOf, VDom};
 use tl_base::byte_string::copied;
 
 /// Takes the steps one behind the other, up to the first that is refused, whose place in the list, from 0, is answered with
@@ -51,6 +53,20 @@ fn take_step<'a>(alloc: Global, document: &mut VDom<'a>, step: &Step<'_>) -> Res
     }
 }
 
+// The tag at a number for writing.
+fn tag_mut<A, B>(table: &mut ParserOf<A, B>, number: u32) -> Result<&mut TagOf<A, B>, StepError>
+    ensures* writes_back { sem 𝓛 (LendsTagAt A.row B.row table.entry number result) }
+    ensures value { IsTagAt table.old number result }
+{
+    let Some(node) = table.resolve_node_id_mut(number) else {
+        return Err(StepError::NoNode);
+    };
+    let Some(tag) = node.as_tag_mut() else {
+        return Err(StepError::NotTag);
+    };
+    Ok(tag)
+}
+
 fn rename<'a>(
     alloc: Global,
     document: &mut VDom<'a>,
@@ -59,13 +75,10 @@ fn rename<'a>(
 ) -> Result<(), StepError>
     ensures { ChangesTable (edited (Names node name.now)) document.old document.new result }
 {
-    let Some(node) = document.parser_mut().resolve_node_id_mut(node) else {
-        return Err(StepError::NoNode);
-    };
-    let Some(tag) = node.as_tag_mut() else {
-        return Err(StepError::NotTag);
-    };
-    set_name(alloc, tag, name)
+    match tag_mut(document.parser_mut(), node) {
+        Ok(tag) => set_name(alloc, tag, name),
+        Err(error) => Err(error),
+    }
 }
 
 fn put_text<'a>(
@@ -113,73 +126,55 @@ fn set<'a>(
 ) -> Result<(), StepError>
     ensures { ChangesTable (edited (Sets node key.now value.now)) document.old document.new result }
 {
-    let Some(node) = document.parser_mut().resolve_node_id_mut(node) else {
-        return Err(StepError::NoNode);
-    };
-    let Some(tag) = node.as_tag_mut() else {
-        return Err(StepError::NotTag);
-    };
-    set_value(alloc, tag, key, value)
+    match tag_mut(document.parser_mut(), node) {
+        Ok(tag) => set_value(alloc, tag, key, value),
+        Err(error) => Err(error),
+    }
 }
 
 fn flag<'a>(alloc: Global, document: &mut VDom<'a>, node: u32, key: &[u8]) -> Result<(), StepError>
     ensures { ChangesTable (edited (Flags node key.now)) document.old document.new result }
 {
-    let Some(node) = document.parser_mut().resolve_node_id_mut(node) else {
-        return Err(StepError::NoNode);
-    };
-    let Some(tag) = node.as_tag_mut() else {
-        return Err(StepError::NotTag);
-    };
-    set_flag(alloc, tag, key)
+    match tag_mut(document.parser_mut(), node) {
+        Ok(tag) => set_flag(alloc, tag, key),
+        Err(error) => Err(error),
+    }
 }
 
 fn unset<'a>(alloc: Global, document: &mut VDom<'a>, node: u32, key: &[u8]) -> Result<(), StepError>
     ensures { ChangesTable (edited (Unsets node key.now)) document.old document.new result }
 {
-    let Some(node) = document.parser_mut().resolve_node_id_mut(node) else {
-        return Err(StepError::NoNode);
-    };
-    let Some(tag) = node.as_tag_mut() else {
-        return Err(StepError::NotTag);
-    };
-    remove_key(alloc, tag, key)
+    match tag_mut(document.parser_mut(), node) {
+        Ok(tag) => remove_key(alloc, tag, key),
+        Err(error) => Err(error),
+    }
 }
 
 fn bare<'a>(alloc: Global, document: &mut VDom<'a>, node: u32, key: &[u8]) -> Result<(), StepError>
     ensures { ChangesTable (edited (Bares node key.now)) document.old document.new result }
 {
-    let Some(node) = document.parser_mut().resolve_node_id_mut(node) else {
-        return Err(StepError::NoNode);
-    };
-    let Some(tag) = node.as_tag_mut() else {
-        return Err(StepError::NotTag);
-    };
-    remove_value(alloc, tag, key)
+    match tag_mut(document.parser_mut(), node) {
+        Ok(tag) => remove_value(alloc, tag, key),
+        Err(error) => Err(error),
+    }
 }
 
 fn push<'a>(document: &mut VDom<'a>, node: u32, child: u32) -> Result<(), StepError>
     ensures { ChangesTable (edited (Pushes node child)) document.old document.new result }
 {
-    let Some(node) = document.parser_mut().resolve_node_id_mut(node) else {
-        return Err(StepError::NoNode);
-    };
-    let Some(tag) = node.as_tag_mut() else {
-        return Err(StepError::NotTag);
-    };
-    push_child(tag, child)
+    match tag_mut(document.parser_mut(), node) {
+        Ok(tag) => push_child(tag, child),
+        Err(error) => Err(error),
+    }
 }
 
 fn pull<'a>(document: &mut VDom<'a>, node: u32, place: usize) -> Result<(), StepError>
     ensures { ChangesTable (edited (Pulls node place)) document.old document.new result }
 {
-    let Some(node) = document.parser_mut().resolve_node_id_mut(node) else {
-        return Err(StepError::NoNode);
-    };
-    let Some(tag) = node.as_tag_mut() else {
-        return Err(StepError::NotTag);
-    };
-    pull_child(tag, place)
+    match tag_mut(document.parser_mut(), node) {
+        Ok(tag) => pull_child(tag, place),
+        Err(error) => Err(error),
+    }
 }
 
 fn put_top<'a>(document: &mut VDom<'a>, place: usize, child: u32) -> Result<(), StepError>
