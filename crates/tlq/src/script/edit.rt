@@ -26,8 +26,8 @@ pub fn run<'a>(
     ensures err { IfErr result (λ e. StopsAt (map change_of steps.now) (document_of document.old) (document_of document.new) e.0 e.1) }
     ensures version { document.new.version ≡ document.old.version }
 {
-    for place in 0..steps.len() {
-        match take_step(alloc, document, &steps[place]) {
+    for (place, step) in steps.iter().enumerate() {
+        match take_step(alloc, document, step) {
             Ok(()) => {}
             Err(error) => return Err((place, error)),
         }

@@ -24,20 +24,14 @@ fn number(digits: &str) -> Option<u32>
     if starts_with_plus(digits) {
         return None;
     }
-    match digits.parse::<u32>() {
-        Ok(n) => Some(n),
-        Err(_) => None,
-    }
+    digits.parse::<u32>().ok()
 }
 
 // The same for a place in a list.
 fn place(digits: &str) -> Option<usize>
     ensures { result ≡ number_of digits.now }
 {
-    match number(digits) {
-        Some(n) => Some(n as usize),
-        None => None,
-    }
+    number(digits).map(|number| number as usize)
 }
 
 // What stands before the first space, and what stands behind it.
