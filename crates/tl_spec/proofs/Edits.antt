@@ -3,9 +3,9 @@ use Rattle.std.proofs.Common.{◌≡◌, ℕ, zero, suc, ◌+◌, Bool, true, fa
 use Rattle.std.proofs.Math.Nat.{suc-add}
 use Rattle.std.proofs.Math.ListN.{length-set}
 use Rattle.std.specs.List.{slice_get}
-use Rattle.tl_spec.specs.Document.{Node, Raw, Comment, Document}
-use Rattle.tl_spec.specs.Edit.{Change, Refusal, no_node, edited, Edited, edited_all, done, stopped, one_later, next, Names, Texts, Comments, Sets, Flags, Unsets, Bares, Pushes, Pulls, Roots, on_ok, of_node, no_place}
-use Rattle.tl_spec.specs.Edits.{later, KeepsShape}
+use Rattle.tl_spec.specs.Document.{Handles, TagNode, Node, Tag, Raw, Comment, Document}
+use Rattle.tl_spec.specs.Edit.{Change, Refusal, no_node, not_tag, pulled, of_tag, at_tag, edited, Edited, edited_all, done, stopped, one_later, next, Names, Texts, Comments, Sets, Flags, Unsets, Bares, Pushes, Pulls, Roots, on_ok, of_node, no_place}
+use Rattle.tl_spec.specs.Edits.{later, KeepsSource, KeepsShape}
 
 -- where the later edits are done, they were done at the earlier place too
 done-one_later : (w : Edited) (e : Document) → one_later w ≡ done e → w ≡ done e
@@ -46,7 +46,7 @@ module _ (c : Change) (e : Document) where
       let first = done-next (edited_all (take i cs)) d e (edited b d) before in
       ap (next (edited_all cs) d) first.1 ∙ ap one_later (edited_all-refused cs first.0 i refusal first.2 here refuses)
 
-apart : {e : Document} (refusal : Refusal) → Err refusal ≡ Ok e → ⊥
+apart : {A : Type 0} {x : A} (refusal : Refusal) → Err refusal ≡ Ok x → ⊥
 apart refusal is = cc
 
 later-zero : (w : Edited) → later 0 w ≡ w
@@ -71,28 +71,89 @@ edited_all-append (c ∷ cs) ds d e before =
     ap (next (edited_all (cs ++ ds)) d) first.1 ∙ ap one_later (edited_all-append cs ds first.0 e first.2) ∙ later-suc (length cs) (edited_all ds e)
 
 -- an edit of a node that is not refused
-of_node-keeps : (d e : Document) (n : ℕ) (change : Node → Result Node Refusal) (o : Option Node) → of_node d n change o ≡ Ok e → KeepsShape d e
-of_node-keeps d e n change None is = absurd (apart no_node is)
-of_node-keeps d e n change (Some node) is = by (change node) is
+source-same : (x : Node) → KeepsSource x x
+source-same (Tag own) = (refl, refl)
+source-same (Raw bytes) = tt
+source-same (Comment bytes) = tt
+
+no_item : (n : ℕ) (x : Node) → slice_get {X = Node} [] n ≡ Some x → ⊥
+no_item n x is = cc
+
+-- the nodes that stand
+unmoved : (nodes : List Node) (n : ℕ) (x y : Node) → slice_get nodes n ≡ Some x → slice_get nodes n ≡ Some y → KeepsSource x y
+unmoved nodes n x y old new = let same : x ≡ y = cc in subst (KeepsSource x) same (source-same x)
+
+-- one node put in the place of another, where its source is kept
+sources-set : (nodes : List Node) (n : ℕ) (node m : Node) → slice_get nodes n ≡ Some node → KeepsSource node m
+    → (i : ℕ) (x y : Node) → slice_get nodes i ≡ Some x → slice_get (slice_set nodes n m) i ≡ Some y → KeepsSource x y
+sources-set [] n node m there kept i x y old new = absurd (no_item i x old)
+sources-set (z ∷ nodes) zero node m there kept zero x y old new =
+    let first : node ≡ x = cc in
+    let second : m ≡ y = cc in
+    subst (λ v. KeepsSource v y) first (subst (KeepsSource node) second kept)
+sources-set (z ∷ nodes) zero node m there kept (suc i) x y old new = unmoved (z ∷ nodes) (suc i) x y old new
+sources-set (z ∷ nodes) (suc n) node m there kept zero x y old new = unmoved (z ∷ nodes) zero x y old new
+sources-set (z ∷ nodes) (suc n) node m there kept (suc i) x y old new = sources-set nodes n node m there kept i x y old new
+
+-- an edit of one node keeps its source
+abbrev IsKept : (Node → Result Node Refusal) → Type 0
+IsKept change = (x m : Node) → change x ≡ Ok m → KeepsSource x m
+
+of_tag-kept : (change : TagNode → TagNode) → ((own : TagNode) → ((change own).raw ≡ own.raw) × ((change own).start ≡ own.start)) → IsKept (of_tag (λ own. Ok (change own)))
+of_tag-kept change same (Tag own) m is = let made : Tag (change own) ≡ m = cc in subst (KeepsSource (Tag own)) made (same own)
+of_tag-kept change same (Raw bytes) m is = absurd (apart not_tag is)
+of_tag-kept change same (Comment bytes) m is = absurd (apart not_tag is)
+
+pulled-kept : (i : ℕ) → IsKept (of_tag (λ own. on_ok (λ handles. record own { children = handles }) (pulled i own.children)))
+pulled-kept i (Tag own) m is = by (pulled i own.children) is
   where
-    by : (r : Result Node Refusal) → on_ok (λ m. record d { nodes = slice_set d.nodes n m }) r ≡ Ok e → KeepsShape d e
+    by : (r : Result Handles Refusal) → on_ok Tag (on_ok (λ handles. record own { children = handles }) r) ≡ Ok m → KeepsSource (Tag own) m
+    by (Ok handles) same = let made : Tag (record own { children = handles }) ≡ m = cc in subst (KeepsSource (Tag own)) made (refl, refl)
     by (Err refusal) same = absurd (apart refusal same)
-    by (Ok m) same = let made : record d { nodes = slice_set d.nodes n m } ≡ e = cc in
-        subst (KeepsShape d) made (record { nodes = length-set d.nodes n m; top = refl; version = refl })
+pulled-kept i (Raw bytes) m is = absurd (apart not_tag is)
+pulled-kept i (Comment bytes) m is = absurd (apart not_tag is)
+
+text-kept : (text : List ℕ) → IsKept (λ _. Ok (Raw text))
+text-kept text x m is = let made : Raw text ≡ m = cc in subst (KeepsSource x) made (by x)
+  where
+    by : (x : Node) → KeepsSource x (Raw text)
+    by (Tag own) = tt
+    by (Raw bytes) = tt
+    by (Comment bytes) = tt
+
+comment-kept : (text : List ℕ) → IsKept (λ _. Ok (Comment text))
+comment-kept text x m is = let made : Comment text ≡ m = cc in subst (KeepsSource x) made (by x)
+  where
+    by : (x : Node) → KeepsSource x (Comment text)
+    by (Tag own) = tt
+    by (Raw bytes) = tt
+    by (Comment bytes) = tt
+
+of_node-keeps : (d e : Document) (n : ℕ) (change : Node → Result Node Refusal) → IsKept change → (o : Option Node) → slice_get d.nodes n ≡ o → of_node d n change o ≡ Ok e → KeepsShape d e
+of_node-keeps d e n change kept None there is = absurd (apart no_node is)
+of_node-keeps d e n change kept (Some node) there is = by (change node) refl is
+  where
+    by : (r : Result Node Refusal) → change node ≡ r → on_ok (λ m. record d { nodes = slice_set d.nodes n m }) r ≡ Ok e → KeepsShape d e
+    by (Err refusal) made same = absurd (apart refusal same)
+    by (Ok m) made same = let is_e : record d { nodes = slice_set d.nodes n m } ≡ e = cc in
+        subst (KeepsShape d) is_e (record { nodes = length-set d.nodes n m; top = refl; sources = sources-set d.nodes n node m there (kept node m made); version = refl })
+
+of_tag-keeps : (d e : Document) (n : ℕ) (change : TagNode → TagNode) → ((own : TagNode) → ((change own).raw ≡ own.raw) × ((change own).start ≡ own.start)) → at_tag n change d ≡ Ok e → KeepsShape d e
+of_tag-keeps d e n change same is = of_node-keeps d e n (of_tag (λ own. Ok (change own))) (of_tag-kept change same) (slice_get d.nodes n) refl is
 
 pub edited-keeps : (c : Change) (d e : Document) → edited c d ≡ Ok e → KeepsShape d e
-edited-keeps (Names n name) d e is = of_node-keeps d e n _ (slice_get d.nodes n) is
-edited-keeps (Texts n text) d e is = of_node-keeps d e n (λ _. Ok (Raw text)) (slice_get d.nodes n) is
-edited-keeps (Comments n text) d e is = of_node-keeps d e n (λ _. Ok (Comment text)) (slice_get d.nodes n) is
-edited-keeps (Sets n key value) d e is = of_node-keeps d e n _ (slice_get d.nodes n) is
-edited-keeps (Flags n key) d e is = of_node-keeps d e n _ (slice_get d.nodes n) is
-edited-keeps (Unsets n key) d e is = of_node-keeps d e n _ (slice_get d.nodes n) is
-edited-keeps (Bares n key) d e is = of_node-keeps d e n _ (slice_get d.nodes n) is
-edited-keeps (Pushes n h) d e is = of_node-keeps d e n _ (slice_get d.nodes n) is
-edited-keeps (Pulls n i) d e is = of_node-keeps d e n _ (slice_get d.nodes n) is
+edited-keeps (Names n name) d e is = of_tag-keeps d e n _ (λ own. (refl, refl)) is
+edited-keeps (Texts n text) d e is = of_node-keeps d e n (λ _. Ok (Raw text)) (text-kept text) (slice_get d.nodes n) refl is
+edited-keeps (Comments n text) d e is = of_node-keeps d e n (λ _. Ok (Comment text)) (comment-kept text) (slice_get d.nodes n) refl is
+edited-keeps (Sets n key value) d e is = of_tag-keeps d e n _ (λ own. (refl, refl)) is
+edited-keeps (Flags n key) d e is = of_tag-keeps d e n _ (λ own. (refl, refl)) is
+edited-keeps (Unsets n key) d e is = of_tag-keeps d e n _ (λ own. (refl, refl)) is
+edited-keeps (Bares n key) d e is = of_tag-keeps d e n _ (λ own. (refl, refl)) is
+edited-keeps (Pushes n h) d e is = of_tag-keeps d e n _ (λ own. (refl, refl)) is
+edited-keeps (Pulls n i) d e is = of_node-keeps d e n _ (pulled-kept i) (slice_get d.nodes n) refl is
 edited-keeps (Roots i h) d e is = by (nat_lt i (length d.top)) is
   where
     by : (b : Bool) → (if b then Ok (record d { top = slice_set d.top i h }) else Err no_place) ≡ Ok e → KeepsShape d e
     by false same = absurd (apart no_place same)
     by true same = let made : record d { top = slice_set d.top i h } ≡ e = cc in
-        subst (KeepsShape d) made (record { nodes = refl; top = length-set d.top i h; version = refl })
+        subst (KeepsShape d) made (record { nodes = refl; top = length-set d.top i h; sources = unmoved d.nodes; version = refl })

@@ -94,8 +94,8 @@ pub fn edits_compose()
     ensures { (cs ds : List Change) (d e : Document) → edited_all cs d ≡ done e → edited_all (cs ++ ds) d ≡ later (length cs) (edited_all ds e) }
 {}
 
-/// No edit adds a node or takes one away, nor a place of the top list, and none changes the version.
-#[tactic(auto, using(crate::proofs::All::laws))]
+/// No edit adds a node or takes one away, nor a place of the top list; none moves a tag in its source, makes one of what
+/// is none, or changes the version.
 pub fn edits_keep_the_shape()
     ensures { (c : Change) (d e : Document) → edited c d ≡ Ok e → KeepsShape d e }
 {}
