@@ -1,6 +1,6 @@
 //! The calls of a tag's attributes.
-use crate::show::show_pairs;
-use std::alloc::Global;
+use crate::show::{show_bytes, show_pairs};
+use std::alloc::{AllocError, Global};
 use std::test::Fail;
 use tl::{Attributes, Bytes, Node, ParserOptions, VDom, parse};
 
@@ -62,6 +62,115 @@ fn calls_on_a_clone(rt: HostRuntime) -> Result<(), Fail> {
     assert_eq!(rt; made.as_str(), " a=4 b=x c=3 id=i class=k");
     let made = with(rt.alloc(), "d", "y")?;
     assert_eq!(rt; made.as_str(), " a=4 b=2 c=3 d=y id=i class=k");
+    Ok(())
+}
+
+// The pairs after a write at a key, where there is a value.
+fn overwritten(alloc: Global, key: &'static str) -> Result<String, Fail> {
+    let mut attributes = copied_of(alloc, PAGE)?;
+    if let Some(Some(value)) = attributes.get_mut(Bytes::from(key)) {
+        *value = Bytes::from("w");
+    }
+    listed(alloc, &attributes)
+}
+
+#[test]
+fn writes_at_a_key(rt: HostRuntime) -> Result<(), Fail> {
+    let rows = [
+        ("a", " a=w b=2 c=3 id=i class=k"),
+        ("c", " a=4 b=2 c=w id=i class=k"),
+        ("id", " a=4 b=2 c=3 id=w class=k"),
+        ("class", " a=4 b=2 c=3 id=i class=w"),
+        ("ID", " a=4 b=2 c=3 id=i class=k"),
+    ];
+    for (key, wanted) in rows {
+        let made = overwritten(rt.alloc(), key)?;
+        assert_eq!(rt; made.as_str(), wanted, "{key}");
+    }
+    Ok(())
+}
+
+// Writes a value, or that there is none.
+fn show_value(value: Option<&Bytes<'_>>, out: &mut String) -> Result<(), AllocError> {
+    match value {
+        Some(value) => show_bytes(value, out),
+        None => out.push_str("no value"),
+    }
+}
+
+// Writes what stands at a key: its value, that it has none, or that there is no such key.
+fn show_at(value: Option<Option<&Bytes<'_>>>, out: &mut String) -> Result<(), AllocError> {
+    match value {
+        Some(value) => show_value(value, out),
+        None => out.push_str("no key"),
+    }
+}
+
+// What stands at a key of the first tag, and whether the key is said to be there.
+fn looked_up(alloc: Global, page: &str, key: &'static str) -> Result<String, Fail> {
+    let document = parse(alloc, page, ParserOptions::new())?;
+    let attributes = first_of(&document)?;
+    let mut out = String::new(alloc);
+    show_at(attributes.get(Bytes::from(key)), &mut out)?;
+    if attributes.contains(Bytes::from(key)) {
+        out.push_str(", there")?;
+    }
+    Ok(out)
+}
+
+#[test]
+fn keys(rt: HostRuntime) -> Result<(), Fail> {
+    let rows = [
+        (PAGE, "a", "4, there"),
+        (PAGE, "c", "3, there"),
+        (PAGE, "id", "i, there"),
+        (PAGE, "class", "k, there"),
+        (PAGE, "d", "no key"),
+        (PAGE, "A", "no key"),
+        ("<p a b=>", "a", "no value, there"),
+        ("<p a b=>", "b", ", there"),
+        ("<p a b=>", "id", "no key"),
+        ("<p ID=i CLASS=k>", "id", "no key"),
+        ("<p ID=i CLASS=k>", "CLASS", "k, there"),
+    ];
+    for (page, key, wanted) in rows {
+        let made = looked_up(rt.alloc(), page, key)?;
+        assert_eq!(rt; made.as_str(), wanted, "{page} {key}");
+    }
+    Ok(())
+}
+
+// The number of keys of the first tag, its id and class, and its other keys: how many, and where they lie.
+fn measured(alloc: Global, page: &str) -> Result<String, Fail> {
+    let document = parse(alloc, page, ParserOptions::new())?;
+    let attributes = first_of(&document)?;
+    let others = attributes.unstable_raw();
+    let mut out = format!(in alloc; "{} of {}: ", others.len(), attributes.len())?;
+    show_value(attributes.id(), &mut out)?;
+    out.push_str(", ")?;
+    show_value(attributes.class(), &mut out)?;
+    if others.is_heap_allocated() {
+        out.push_str(", on the heap")?;
+    }
+    if attributes.is_empty() {
+        out.push_str(", empty")?;
+    }
+    Ok(out)
+}
+
+#[test]
+fn id_and_class_stand_apart(rt: HostRuntime) -> Result<(), Fail> {
+    let rows = [
+        ("<p>", "0 of 0: no value, no value, empty"),
+        ("<p class=k>", "0 of 1: no value, k"),
+        ("<p id='' a>", "1 of 2: , no value"),
+        ("<p ID=i b=2>", "2 of 2: no value, no value"),
+        (PAGE, "3 of 5: i, k, on the heap"),
+    ];
+    for (page, wanted) in rows {
+        let made = measured(rt.alloc(), page)?;
+        assert_eq!(rt; made.as_str(), wanted, "{page}");
+    }
     Ok(())
 }
 

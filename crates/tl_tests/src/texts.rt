@@ -110,6 +110,37 @@ fn texts_and_markup_of_nodes(rt: HostRuntime) -> Result<(), Fail> {
     Ok(())
 }
 
+// The text of the node if it is a tag, and what it holds as markup, with ` | ` between.
+fn tag_readings(alloc: Global, row: &Row) -> Result<String, Fail> {
+    let document = edited(alloc, row)?;
+    let Some(tag) = node_of(&document, row)?.as_tag() else {
+        return Ok(format!(in alloc; "no tag")?);
+    };
+    let text = show_reading(alloc, tag.inner_text(alloc, document.parser()))?;
+    let inner = show_reading(alloc, tag.inner_html(alloc, document.parser()))?;
+    Ok(format!(in alloc; "{text} | {inner}")?)
+}
+
+#[test]
+fn texts_and_markup_of_tags(rt: HostRuntime) -> Result<(), Fail> {
+    let wanted = [
+        "hello nested element | hello <p>nested element</p>",
+        "testa | test<span>a</span>",
+        "no tag",
+        "no tag",
+        "x | x",
+        "xx | xx",
+        "x | x",
+        "cycle 1 | cycle 1",
+        "dangling 9 | dangling 9",
+    ];
+    for (row, wanted) in ROWS.iter().zip(wanted) {
+        let made = tag_readings(rt.alloc(), row)?;
+        assert_eq!(rt; made.as_str(), wanted);
+    }
+    Ok(())
+}
+
 // Writes what a node is known by: the name of a tag, the bytes of a text.
 fn show_node(node: &Node<'_>, out: &mut String) -> Result<(), AllocError> {
     match node {
