@@ -18,7 +18,7 @@ pub mod bytes {
 }
 
 pub use errors::ParseError;
-pub use parser::base::{HTMLVersion, Parser, ParserOf, Tree};
+pub use parser::base::{ClassVec, HTMLVersion, Parser, ParserOf, Tree};
 pub use parser::handle::{InnerNodeHandle, NodeHandle};
 pub use parser::options::ParserOptions;
 pub use parser::tag::attributes::{Attributes, AttributesOf, RawAttributesMap};

@@ -19,9 +19,13 @@ use crate::parser::tag::node::NodeOf;
 use std::alloc::Global;
 use std::marker::Model;
 use tl_base::byte_string::Bytes;
+use tl_base::inline::vec::InlineVec;
 
 /// The nodes of a document, in the order of their first byte.
 pub type Tree<'a> = Vec<crate::parser::tag::node::Node<'a>>;
+
+/// Handles of the tags of one class. Up to two lie inline.
+pub type ClassVec = InlineVec<NodeHandle, 2>;
 
 /// The version that a doctype says. The reader knows `HTML5` alone.
 #[derive(Clone, Copy, PartialEq, Eq, PartialOrd, Ord, Hash, Debug)]

@@ -1,6 +1,7 @@
 //! Each call once, each kind of data, and what no clause says: sizes and texts.
 use crate::byte_string::{Bytes, IntoOwnedBytes, SetBytesError, Shared, copied};
 use std::alloc::{AllocError, Global};
+use std::cmp::Ordering;
 use std::collections::HashMap;
 use std::mem::size_of;
 use std::test::Fail;
@@ -94,8 +95,14 @@ fn is_a_key_by_its_list(rt: HostRuntime) -> Result<(), Fail> {
     map.insert(copied(alloc, b"b")?, 2)?;
     assert_eq!(rt; find_in(&map, "a"), Some(1));
     assert_eq!(rt; find_in(&map, "b"), Some(2));
-    assert!(rt; Bytes::from("b") > Bytes::from("a"));
     Ok(())
+}
+
+#[test]
+fn is_ordered_by_its_list(rt: HostRuntime) {
+    assert!(rt; Bytes::from("b") > Bytes::from("a"));
+    let order = Bytes::new().cmp(&Bytes::from(b"\0".as_slice()));
+    assert_eq!(rt; order, Ordering::Less);
 }
 
 #[test]
