@@ -140,6 +140,74 @@ fn keys(rt: HostRuntime) -> Result<(), Fail> {
     Ok(())
 }
 
+// Takes a key out, and writes what stood there and what is left.
+fn take_out(
+    attributes: &mut Attributes<'_>,
+    key: &'static str,
+    out: &mut String,
+) -> Result<(), AllocError> {
+    match attributes.remove(Bytes::from(key)) {
+        Some(value) => show_value(value.as_ref(), out)?,
+        None => out.push_str("no key")?,
+    }
+    show_left(attributes, out)
+}
+
+// Takes a value out, and writes it and what is left.
+fn take_value(
+    attributes: &mut Attributes<'_>,
+    key: &'static str,
+    out: &mut String,
+) -> Result<(), AllocError> {
+    let value = attributes.remove_value(Bytes::from(key));
+    show_value(value.as_ref(), out)?;
+    show_left(attributes, out)
+}
+
+// Makes a key stand without a value, and writes what is left.
+fn put_bare(
+    attributes: &mut Attributes<'_>,
+    key: &'static str,
+    out: &mut String,
+) -> Result<(), AllocError> {
+    attributes.insert(Bytes::from(key), None)?;
+    show_left(attributes, out)
+}
+
+// Writes the pairs that are left.
+fn show_left(attributes: &Attributes<'_>, out: &mut String) -> Result<(), AllocError> {
+    out.push_str(" |")?;
+    show_pairs(attributes, out)?;
+    out.push('\n')
+}
+
+// What calls answer and leave, one behind the other.
+fn take_turns(attributes: &mut Attributes<'_>, out: &mut String) -> Result<(), AllocError> {
+    take_out(attributes, "a", out)?;
+    take_value(attributes, "id", out)?;
+    put_bare(attributes, "class", out)?;
+    put_bare(attributes, "c", out)?;
+    take_value(attributes, "c", out)?;
+    take_out(attributes, "a", out)
+}
+
+#[test]
+fn calls_in_turn(rt: HostRuntime) -> Result<(), Fail> {
+    let mut attributes = copied_of(rt.alloc(), PAGE)?;
+    let mut out = String::new(rt.alloc());
+    take_turns(&mut attributes, &mut out)?;
+    let wanted = concat!(
+        "4 | c=3 b=2 id=i class=k\n",
+        "i | c=3 b=2 class=k\n",
+        " | c=3 b=2\n",
+        " | c b=2\n",
+        "no value | c b=2\n",
+        "no key | c b=2\n",
+    );
+    assert_eq!(rt; out.as_str(), wanted);
+    Ok(())
+}
+
 // The number of keys of the first tag, its id and class, and its other keys: how many, and where they lie.
 fn measured(alloc: Global, page: &str) -> Result<String, Fail> {
     let document = parse(alloc, page, ParserOptions::new())?;
