@@ -1,5 +1,5 @@
 -- What one step makes of a table, and what steps make one behind the other.
-use Rattle.std.proofs.Common.{◌≡◌, ℕ, ◌+◌, ◌<◌, add-one, List, length, map, take, slice_set, slice_index_or, Option, Some, None, option_map, Result, Ok, Err, IsOk, refl, sym, ap, ◌∙◌, subst}
+use Rattle.std.proofs.Common.{◌≡◌, ℕ, ◌+◌, ◌<◌, add-one, List, length, map, take, slice_set, slice_index_or, Option, Some, option_map, Result, Ok, Err, IsOk, refl, sym, ap, ◌∙◌, subst}
 use Rattle.std.specs.List.{slice_get}
 use Rattle.std.specs.Prelude.{IsSomeAnd}
 use Rattle.std.proofs.lemmas.Option.{slice_get-map, slice_get-get_or}
@@ -11,16 +11,15 @@ use Rattle.tl_spec.specs.Edit.{Change, Refusal, no_node, not_tag, no_place, on_o
 use Rattle.tl_spec.proofs.Edits.{edited_all-taken, edited_all-refused}
 use Rattle.tl_base.specs.Keys.{same_list}
 use Rattle.tl.specs.Attributes.{Attributes, put, taken, bare}
-use Rattle.tl.specs.Node.{tag_of}
 use Rattle.tl.specs.Shown.{HTMLTag, HTMLNode, shown_bytes, shown_value, shown_attributes, shown_tag, shown, document_of}
-use Rattle.tl.specs.declared.parser.tag.node.NodeOf.TheVariants.{Tag as ATag, Raw as ARaw, Comment as AComment}
+use Rattle.tl.specs.declared.parser.tag.node.NodeOf.TheVariants.{Tag as ATag}
 use Rattle.tl.proofs.Nodes.{set_same}
 use Rattle.tl.proofs.ShownEdits.{shown_attributes-put, shown_attributes-taken, shown_attributes-bare}
 use Rattle.tlq.specs.Steps.{change_of}
 use Rattle.tlq.specs.declared.script.step.Step.{Step}
 use Rattle.tlq.specs.declared.script.step.StepError.{StepError}
 use Rattle.tlq.specs.declared.script.step.StepError.TheVariants.{NoNode, NotTag, NoPlace, OutOfMemory}
-use Rattle.tlq.specs.Script.{HTMLTable, IsTagAt, IsRefused, ChangesTag, ChangesTable, StopsAt}
+use Rattle.tlq.specs.Script.{HTMLTable, IsRefused, ChangesTag, ChangesTable, StopsAt}
 
 -- an edit within another is refused alike
 IsRefused-on_ok : {A B : Type 0} (f : A → B) (r : Result A Refusal) (e : StepError) → IsRefused r e → IsRefused (on_ok f r) e
@@ -60,11 +59,6 @@ module _ (old : HTMLTable) (n : ℕ) where
       let P : Result Document Refusal → Type 0 = λ r. IsRefused r e in
       (same_node node there, subst P (sym (ap (of_node (document_of old) n edit) (shown_node (Some node) there))) (IsRefused-on_ok made (edit (shown node)) e refused))
 
-of_no_tag : (edit : TagNode → Result TagNode Refusal) (node : HTMLNode) → tag_of node ≡ None → of_tag edit (shown node) ≡ Err not_tag
-of_no_tag edit (ATag u) e = cc
-of_no_tag edit (ARaw b) e = refl
-of_no_tag edit (AComment b) e = refl
-
 -- the same, where the table that is lent is the old one
 module _ (lent old : HTMLTable) (n : ℕ) (node : HTMLNode) (same : lent ≡ old) (there : Some node ≡ slice_get lent.nodes n) where
   pub replaced : (A : Type 0) (w : Node) (new : HTMLNode) (x : A) → w ≡ shown new → ChangesTable (at_node n (λ _. Ok w)) old (with_node lent n new) (Ok x)
@@ -89,17 +83,6 @@ module _ (lent old : HTMLTable) (n : ℕ) (edit : TagNode → Result TagNode Ref
   tag_stepped {A} tag new (Err e) there h =
       let P : HTMLTag → Type 0 = λ t. ChangesTable {A = A} (at_node n (of_tag edit)) old (with_node lent n (ATag t)) (Err e) in
       subst P (sym h.0) (kept lent old n (ATag tag) same (sym there) A (of_tag edit) e (IsRefused-on_ok Tag (edit (shown_tag tag)) e h.1))
-
-  pub not_stepped : (A : Type 0) (e : StepError) → IsTagAt lent n (Err e) → ChangesTable {A = A} (at_node n (of_tag edit)) old lent (Err e)
-  not_stepped A NoNode none = (same, subst (λ o. at_node n (of_tag edit) (document_of o) ≡ Err no_node) same (ap (of_node (document_of lent) n (of_tag edit)) (shown_node lent n None (sym none))))
-  not_stepped A NotTag none = (same, subst (λ o. at_node n (of_tag edit) (document_of o) ≡ Err not_tag) same (by (slice_get lent.nodes n) refl none))
-    where
-      by : (o : Option HTMLNode) → o ≡ slice_get lent.nodes n → IsSomeAnd o (λ node. tag_of node ≡ None) → at_node n (of_tag edit) (document_of lent) ≡ Err not_tag
-      by None there h = absurd h
-      by (Some node) there h = ap (of_node (document_of lent) n (of_tag edit)) (shown_node lent n (Some node) there)
-          ∙ ap (on_ok (λ m. record (document_of lent) { nodes = slice_set (map shown lent.nodes) n m })) (of_no_tag edit node h)
-  not_stepped A NoPlace none = absurd none
-  not_stepped A OutOfMemory none = absurd none
 
 -- an edit makes this tag
 abbrev pub IsMade : TagNode → TagNode → Type 0

@@ -1,9 +1,9 @@
 //! Steps on a document.
 ghost use Rattle.std.specs.Prelude.{◌≡◌, map, OnOk, IfErr};
+ghost use Rattle.std.specs.Borrow.{sem};
 ghost use Rattle.tl_spec.specs.Edit.{Names, Texts, Comments, Sets, Flags, Unsets, Bares, Pushes, Pulls, Roots, edited, edited_all, done};
 ghost use Rattle.tl.specs.Shown.{document_of};
 ghost use Rattle.tlq.specs.Steps.{change_of};
-ghost use Rattle.std.specs.Borrow.{sem};
 ghost use Rattle.tlq.specs.Script.{ChangesTable, StopsAt, IsTagAt};
 ghost use Rattle.tlq.specs.TagLent.{LendsTagAt};
 
@@ -75,10 +75,8 @@ fn rename<'a>(
 ) -> Result<(), StepError>
     ensures { ChangesTable (edited (Names node name.now)) document.old document.new result }
 {
-    match tag_mut(document.parser_mut(), node) {
-        Ok(tag) => set_name(alloc, tag, name),
-        Err(error) => Err(error),
-    }
+    let tag = tag_mut(document.parser_mut(), node)?;
+    set_name(alloc, tag, name)
 }
 
 fn put_text<'a>(
@@ -126,55 +124,43 @@ fn set<'a>(
 ) -> Result<(), StepError>
     ensures { ChangesTable (edited (Sets node key.now value.now)) document.old document.new result }
 {
-    match tag_mut(document.parser_mut(), node) {
-        Ok(tag) => set_value(alloc, tag, key, value),
-        Err(error) => Err(error),
-    }
+    let tag = tag_mut(document.parser_mut(), node)?;
+    set_value(alloc, tag, key, value)
 }
 
 fn flag<'a>(alloc: Global, document: &mut VDom<'a>, node: u32, key: &[u8]) -> Result<(), StepError>
     ensures { ChangesTable (edited (Flags node key.now)) document.old document.new result }
 {
-    match tag_mut(document.parser_mut(), node) {
-        Ok(tag) => set_flag(alloc, tag, key),
-        Err(error) => Err(error),
-    }
+    let tag = tag_mut(document.parser_mut(), node)?;
+    set_flag(alloc, tag, key)
 }
 
 fn unset<'a>(alloc: Global, document: &mut VDom<'a>, node: u32, key: &[u8]) -> Result<(), StepError>
     ensures { ChangesTable (edited (Unsets node key.now)) document.old document.new result }
 {
-    match tag_mut(document.parser_mut(), node) {
-        Ok(tag) => remove_key(alloc, tag, key),
-        Err(error) => Err(error),
-    }
+    let tag = tag_mut(document.parser_mut(), node)?;
+    remove_key(alloc, tag, key)
 }
 
 fn bare<'a>(alloc: Global, document: &mut VDom<'a>, node: u32, key: &[u8]) -> Result<(), StepError>
     ensures { ChangesTable (edited (Bares node key.now)) document.old document.new result }
 {
-    match tag_mut(document.parser_mut(), node) {
-        Ok(tag) => remove_value(alloc, tag, key),
-        Err(error) => Err(error),
-    }
+    let tag = tag_mut(document.parser_mut(), node)?;
+    remove_value(alloc, tag, key)
 }
 
 fn push<'a>(document: &mut VDom<'a>, node: u32, child: u32) -> Result<(), StepError>
     ensures { ChangesTable (edited (Pushes node child)) document.old document.new result }
 {
-    match tag_mut(document.parser_mut(), node) {
-        Ok(tag) => push_child(tag, child),
-        Err(error) => Err(error),
-    }
+    let tag = tag_mut(document.parser_mut(), node)?;
+    push_child(tag, child)
 }
 
 fn pull<'a>(document: &mut VDom<'a>, node: u32, place: usize) -> Result<(), StepError>
     ensures { ChangesTable (edited (Pulls node place)) document.old document.new result }
 {
-    match tag_mut(document.parser_mut(), node) {
-        Ok(tag) => pull_child(tag, place),
-        Err(error) => Err(error),
-    }
+    let tag = tag_mut(document.parser_mut(), node)?;
+    pull_child(tag, place)
 }
 
 fn put_top<'a>(document: &mut VDom<'a>, place: usize, child: u32) -> Result<(), StepError>

@@ -1,15 +1,10 @@
 use Rattle.std.proofs.Common.{Result, Ok, Some}
 use Rattle.tl_spec.specs.Document.{TagNode}
 use Rattle.tl_spec.specs.Edit.{Refusal, with_attribute}
-use Rattle.tlq.proofs.Stepping.{tag_stepped, not_stepped}
+use Rattle.tlq.proofs.Stepping.{tag_stepped}
 use Rattle.tlq.proofs.script.edit.set.Goals as goal
 
-pub returns-in-Err : goal.returns-in-Err
-returns-in-Err c =
+pub returns : goal.returns
+returns c =
     let edit : TagNode → Result TagNode Refusal = λ own. Ok (record own { attributes = with_attribute c.args.key.now (Some c.args.value.now) own.attributes }) in
-    not_stepped _ _ _ edit c.parser_mut.ensures.value (Unit {0}) c.in-Err.error c.in-Err.ensures.value
-
-pub returns-in-Ok : goal.returns-in-Ok
-returns-in-Ok c =
-    let edit : TagNode → Result TagNode Refusal = λ own. Ok (record own { attributes = with_attribute c.args.key.now (Some c.args.value.now) own.attributes }) in
-    tag_stepped _ _ _ edit c.parser_mut.ensures.value c.in-Ok.tag.now c.set_value.new.tag c.set_value.result c.in-Ok.ensures.value c.set_value.ensures
+    tag_stepped _ _ _ edit c.parser_mut.ensures.value c.in_ok-tag.tag.now c.set_value.new.tag c.set_value.result c.in_ok-tag.ensures.value c.set_value.ensures
