@@ -1,9 +1,9 @@
 -- The marks of a path.
-use Rattle.std.proofs.Common.{◌≡◌, ◌≢◌, ℕ, ◌<◌, Bool, true, false, List, [], ◌∷◌, length, get_or, nat_eq, refl, ap, arith, sym, ◌∙◌, ◌⊎◌, inl, inr, ◌||◌, eq-eqb}
+use Rattle.std.proofs.Common.{◌≡◌, ◌≢◌, ℕ, ◌<◌, Bool, true, false, List, [], ◌∷◌, length, get_or, nat_eq, nat_lt, ◌↔◌, refl, ap, arith, sym, ◌∙◌, ◌⊎◌, inl, inr, ◌||◌, eq-eqb}
 use Rattle.std.proofs.Math.ListN.{set}
 use Rattle.std.proofs.lemmas.List.{length-set, length-replicate, get_or-set_same, get_or-set_other, get_or-replicate, set-set, set-get_or}
 use Rattle.std.proofs.lemmas.Bool.Decides.{eqb_tells}
-use Rattle.std.proofs.lemmas.Bool.{ne_eqb}
+use Rattle.std.proofs.lemmas.Bool.{ltb-true, lt-ltb, ne_eqb}
 use Rattle.tl_spec.specs.Walk.{stands_on}
 use Rattle.tl.specs.Marks.{marks_of, IsAbove, IsRising, IsKept, MayFollow}
 
@@ -36,6 +36,10 @@ pub marks_within : (n : ℕ) (path : List ℕ) (marks : List Bool) (h : ℕ) →
 marks_within n path marks h m l = rw (m, marks_length n path) l
 
 -- a handle above a rising path does not stand on it
+-- a test against the last handle tells whether one is above it
+pub above_last : (k h : ℕ) (path rest : List ℕ) → path ≡ k ∷ rest → (nat_lt k h ≡ true) ↔ IsAbove h path
+above_last k h path rest is = rw is (λ t. ltb-true k h t, λ l. lt-ltb k h l)
+
 pub off_rising : (path : List ℕ) (h : ℕ) → IsRising path → IsAbove h path → stands_on path h ≡ false
 off_rising [] h r a = refl
 off_rising (k ∷ []) h r a = let ne : nat_eq k h ≡ false = ne_eqb k h (λ e. absurd (omega arith)) in rw ne refl

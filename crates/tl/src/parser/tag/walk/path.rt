@@ -1,7 +1,7 @@
 //! Whether a handle stands on the path of a walk.
 //!
 //! While the handles of a path rise, the last one tells. The first that doesn't rise makes a mark for each node of the table, so that most walks take no memory for marks and none looks through its path twice.
-ghost use Rattle.std.specs.Prelude.{◌≡◌, ◌<◌, [], OnOk, OnErr, IfOk, IfErr, true, set};
+ghost use Rattle.std.specs.Prelude.{◌≡◌, ◌↔◌, ◌<◌, [], OnOk, OnErr, IfOk, IfErr, true, set};
 ghost use Rattle.tl_spec.specs.Walk.{stands_on};
 ghost use Rattle.tl.specs.Marks.{marks_of, IsAbove, IsKept, MayFollow};
 ghost use Rattle.tl.specs.Walker.{path_from};
@@ -39,15 +39,10 @@ fn all_marks<'s, 'a>(
 
 // Whether a handle is above that of the last frame.
 fn is_above<'s, 'a>(frames: &[Frame<'s, 'a>], handle: NodeHandle) -> bool
-    ensures { result ≡ true → IsAbove handle (path_from [] frames.now) }
+    ensures { (result ≡ true) ↔ IsAbove handle (path_from [] frames.now) }
 {
     match frames.split_last() {
-        Some(last) => {
-            if last.0.handle.get_inner() < handle.get_inner() {
-                return true;
-            }
-            false
-        }
+        Some(last) => last.0.handle.get_inner() < handle.get_inner(),
         None => true,
     }
 }

@@ -6,7 +6,7 @@ use Rattle.tl.proofs.parser.tag.walk.path.stands_on_path.Goals as goal
 pub returns-then-is_above-clause-says : goal.returns-then-is_above-clause-says
 returns-then-is_above-clause-says c =
     let none : length c.args.marks.now.items ≡ 0 = omega (arith, c.args.marks.now.ok.0) in
-    says_rising c.args.n (path_from [] c.args.frames.now) c.args.marks.now.items c.args.handle c.requires.kept none c.requires.in_table (c.is_above.ensures c.if-is_above.true)
+    says_rising c.args.n (path_from [] c.args.frames.now) c.args.marks.now.items c.args.handle c.requires.kept none c.requires.in_table (c.is_above.ensures.0 c.if-is_above.true)
 
 pub index-requires : goal.index-requires
 index-requires c =
