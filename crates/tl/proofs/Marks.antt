@@ -35,11 +35,11 @@ mark_tells n path marks h b m g l = sym (mark_at n path h b l) ∙ ap (λ x. get
 pub marks_within : (n : ℕ) (path : List ℕ) (marks : List Bool) (h : ℕ) → marks ≡ marks_of n path → h < n → h < length marks
 marks_within n path marks h m l = rw (m, marks_length n path) l
 
--- a handle above a rising path does not stand on it
 -- a test against the last handle tells whether one is above it
 pub above_last : (k h : ℕ) (path rest : List ℕ) → path ≡ k ∷ rest → (nat_lt k h ≡ true) ↔ IsAbove h path
 above_last k h path rest is = rw is (λ t. ltb-true k h t, λ l. lt-ltb k h l)
 
+-- a handle above a rising path does not stand on it
 pub off_rising : (path : List ℕ) (h : ℕ) → IsRising path → IsAbove h path → stands_on path h ≡ false
 off_rising [] h r a = refl
 off_rising (k ∷ []) h r a = let ne : nat_eq k h ≡ false = ne_eqb k h (λ e. absurd (omega arith)) in rw ne refl
