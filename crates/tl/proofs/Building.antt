@@ -3,7 +3,7 @@ use Rattle.std.proofs.Common.{◌≡◌, ℕ, ◌<◌, List, [], ◌∷◌, ◌+
 use Rattle.std.specs.Prelude.{All, slice_get, ◌-◌}
 use Rattle.std.proofs.lemmas.List.Elements.{All-set, All-push, All-pop}
 use Rattle.std.proofs.lemmas.Option.{get_or_from_slice_get, slice_get_within}
-use Rattle.tl_base.specs.Held.{Held}
+use Rattle.tl_bytes.specs.Held.{Held}
 use Rattle.tl_spec.proofs.Writes.{slice_get-last}
 use Rattle.tl.specs.Shown.{HTMLNode}
 use Rattle.tl.specs.HeldAlike.{IsHeldNode}

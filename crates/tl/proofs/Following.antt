@@ -5,8 +5,8 @@ use Rattle.tl_spec.specs.Token.{Token, Piece, next_token, next_piece}
 use Rattle.tl_spec.specs.Document.{document}
 use Rattle.tl_spec.specs.Machine.{State, start, step, IsReached}
 use Rattle.tl_spec.proofs.Reached.{IsTokenAt-found, IsReached-start, IsReached-next, IsReached-end}
-use Rattle.tl.specs.Suffix.{IsSuffix}
-use Rattle.tl.specs.Reading.{Reading, meaning_of, IsNext}
+use Rattle.tl_token.specs.Suffix.{IsSuffix}
+use Rattle.tl_token.specs.Reading.{Reading, meaning_of, IsNext}
 use Rattle.tl.specs.Builder.{written}
 
 -- a piece, by the token that stands there

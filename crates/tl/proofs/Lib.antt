@@ -1,15 +1,8 @@
-pub mod Others
-pub mod Suffixes
-pub mod Puts
-pub mod ReadAttributes
-pub mod TokenSteps
-pub mod Needles
 pub mod Building
 pub mod Following
 pub mod Marks
 pub mod Frames
+pub mod OwnKeys
 pub mod Printing
-pub mod ClassParts
-pub mod ShownEdits
 pub mod Nodes
 pub mod Searching

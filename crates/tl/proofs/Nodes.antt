@@ -4,11 +4,11 @@ use Rattle.std.specs.Option.{option_copied_mut, option_map}
 use Rattle.std.specs.List.{IsItemAtMut, slice_get, slice_set}
 use Rattle.std.proofs.lemmas.Option.{slice_get_past, slice_get_read, slice_get-map}
 use Rattle.std.proofs.lemmas.List.{map-set}
-use Rattle.tl_base.specs.Held.{Kept}
+use Rattle.tl_bytes.specs.Held.{Kept}
 use Rattle.tl_spec.specs.Document.{Node, TagNode as ShownTagNode}
 use Rattle.tl_spec.specs.Document.{Tag as ShownTag}
 use Rattle.tl_spec.specs.Edit.{Refusal, at_node, at_tag, of_node, of_tag, on_ok}
-use Rattle.tl.specs.Attributes.{Attributes}
+use Rattle.tl_attributes.specs.Attributes.{Attributes}
 use Rattle.tl.specs.Tag.{Tag}
 use Rattle.tl.specs.Table.{Table}
 use Rattle.tl.specs.Node.{tag_of}

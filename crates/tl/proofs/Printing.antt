@@ -1,18 +1,21 @@
 -- What is printed of a tag on which a call is made, of a walk by its events, and of attributes in order.
-use Rattle.std.proofs.Common.{◌≡◌, ℕ, Bool, false, not, if◌then◌else◌, List, [], ◌∷◌, ◌++◌, map, flat_map, codes, Option, Some, None, Result, refl, ap, ap₂, sym, subst₂, ◌∙◌, append-nil, append_assoc}
+use Rattle.std.proofs.Common.{◌≡◌, ℕ, Bool, false, not, if◌then◌else◌, List, [], ◌∷◌, ◌++◌, map, flat_map, codes, Option, Some, None, Result, Ok, refl, ap, ap₂, sym, subst₂, ◌∙◌, append-nil, append_assoc}
 use Rattle.std.proofs.lemmas.List.{map-append}
 use Rattle.tl_spec.specs.AttributeList.{named, printed_pairs}
 use Rattle.tl_spec.specs.ByteClass.{is_printed_alone}
+use Rattle.tl_spec.specs.Clean.{HaveOwnKeys, IsCleanTable}
 use Rattle.tl_spec.specs.Document.{Node, Tag, TagNode}
+use Rattle.tl_spec.specs.Normal.{ReadsAs}
 use Rattle.tl_spec.specs.Print.{print, print_start, print_end, printed}
 use Rattle.tl_spec.specs.Text.{text_of, told}
-use Rattle.tl_spec.specs.Walk.{Event, Fault, Walk, events, every, fault_among, first_fault, or_else, plain_attributes, plain_node, shows, trees, walk, walk_of}
+use Rattle.tl_spec.specs.Walk.{Event, Fault, Walk, events, every, fault_among, first_fault, or_else, plain_attributes, plain_node, shows, trees, unless, walk, walk_of}
 use Rattle.tl_spec.proofs.Events.{first_fault-events, print-walk, text_of-events, walk_of-tag}
-use Rattle.tl_base.specs.Held.{Kept}
+use Rattle.tl_spec.proofs.Walks.{table_identity}
+use Rattle.tl_bytes.specs.Held.{Kept}
 use Rattle.tl.specs.declared.errors.TreeError.{TreeError}
-use Rattle.tl.specs.Attributes.{Attributes}
-use Rattle.tl.specs.Listed.{as_borrowed, listed, named as listed_named}
-use Rattle.tl.specs.Shown.{shown_attributes, shown_pair, shown_value}
+use Rattle.tl_attributes.specs.Attributes.{Attributes}
+use Rattle.tl_attributes.specs.Listed.{as_borrowed, listed, named as listed_named}
+use Rattle.tl_attributes.specs.ShownAttributes.{shown_attributes, shown_pair, shown_value}
 use Rattle.tl.specs.Writing.{Writes}
 
 or_else-none : (o : Option Fault) → or_else o None ≡ o
@@ -49,6 +52,12 @@ pub writes-walk : {A : Type 0} (nodes : List Node) (hs : List ℕ) (es : List Ev
     Writes (first_fault (walk shows nodes [] hs)) (print (trees (walk shows nodes [] hs))) old r new
 writes-walk nodes hs es old r new e h =
     subst₂ (λ f s. Writes f s old r new) (ap fault_among e ∙ sym (first_fault-events (walk shows nodes [] hs))) (ap (flat_map printed) e ∙ sym (print-walk nodes [] hs)) h
+
+-- the print of a clean table is read as the table
+pub reads-printed : (nodes : List Node) (top s : List ℕ) → first_fault (walk shows nodes [] top) ≡ None → s ≡ print (trees (walk shows nodes [] top)) → HaveOwnKeys (trees (walk shows nodes [] top)) →
+    IsCleanTable nodes top → ReadsAs s (trees (walk every nodes [] top))
+reads-printed nodes top s no_fault is own clean =
+    table_identity (record { nodes = nodes; top = top; is_html5 = false }) clean own s (ap (λ o. unless o (print (trees (walk shows nodes [] top)))) no_fault ∙ ap Ok (sym is))
 
 -- the events of the walk below a tag say what its text is
 pub writes-text : {A : Type 0} (nodes : List Node) (own : TagNode) (es : List Event) (old : List ℕ) (r : Result A TreeError) (new : List ℕ) →

@@ -1,7 +1,7 @@
 -- What a table that is being written is.
 use Rattle.std.specs.Prelude.{◌<◌, ◌^◌, All, length, map, reverse}
 use Rattle.tl_spec.specs.Document.{Document}
-use Rattle.tl_base.specs.Held.{Held}
+use Rattle.tl_bytes.specs.Held.{Held}
 use Rattle.tl_spec.specs.Machine.{State}
 use Rattle.tl.specs.Shown.{shown}
 use Rattle.tl.specs.HeldAlike.{IsHeldNode}

@@ -5,7 +5,7 @@ use base.Fml.{GName}
 use mir.Syntax.{named}
 use denote.Param.{number}
 use Rattle.tl_spec.specs.Inline.{InlineVec}
-use Rattle.tl_base.specs.contracts.inline.vec.InlineVec.{the_row as inline_vec_row}
+use Rattle.tl_inline.specs.contracts.inline.vec.InlineVec.{the_row as inline_vec_row}
 use Rattle.tl.specs.Tag.{Tag}
 use Rattle.tl.specs.declared.parser.tag.children_mut.ChildrenMutOf.{ChildrenMutOf}
 use Rattle.tl.specs.contracts.parser.handle.NodeHandle.{the_row as handle_row}

@@ -1,21 +1,8 @@
 -- How the pieces of a node are held.
-use Rattle.std.specs.Prelude.{◌≡◌, IfSome, All, Option}
-use Rattle.tl_base.specs.Held.{Held, Kept}
-use Rattle.tl.specs.Attributes.{Attributes}
+use Rattle.tl_bytes.specs.Held.{Held}
+use Rattle.tl_attributes.specs.HeldAttributes.{IsHeld, AreHeldAttributes}
 use Rattle.tl.specs.Shown.{HTMLTag, HTMLNode}
 use Rattle.tl.specs.declared.parser.tag.node.NodeOf.TheVariants.{Tag, Raw, Comment}
-
-abbrev pub IsHeld : Held → Kept → Type 0
-IsHeld held b = b.held ≡ held
-
-abbrev pub IsHeldPair : Held → (Kept × Option Kept) → Type 0
-IsHeldPair held p = IsHeld held p.0 × IfSome p.1 (IsHeld held)
-
--- each key and value
-pub record AreHeldAttributes (held : Held) (a : Attributes Kept) : Type 0 where
-  pub others : All (IsHeldPair held) a.others.entries
-  pub id : IfSome a.id (IsHeld held)
-  pub class : IfSome a.class (IsHeld held)
 
 -- each name, key, value and raw
 pub record IsHeldTag (held : Held) (t : HTMLTag) : Type 0 where

@@ -1,16 +1,9 @@
-pub mod Attributes
 pub mod Tag
 pub mod Node
 pub mod Table
-pub mod Listed
-pub mod AttributesLends
 pub mod Shown
 pub mod HeldAlike
 pub mod Answer
-pub mod Suffix
-pub mod Reading
-pub mod Place
-pub mod Told
 pub mod Builder
 pub mod Marks
 pub mod Walker

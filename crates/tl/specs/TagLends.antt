@@ -3,7 +3,7 @@ use Rattle.std.specs.Prelude.{ℕ}
 use denote.Param.{number}
 use Rattle.std.specs.Borrow.{Lends, Fml, RattleType, MutBor}
 use Rattle.tl_spec.specs.Inline.{InlineVec}
-use Rattle.tl_base.specs.contracts.inline.vec.InlineVec.{the_row as inline_vec_row}
+use Rattle.tl_inline.specs.contracts.inline.vec.InlineVec.{the_row as inline_vec_row}
 use Rattle.tl.specs.Tag.{Tag}
 use Rattle.tl.specs.contracts.parser.handle.NodeHandle.{the_row as handle_row}
 use Rattle.tl.specs.contracts.parser.tag.TagOf.{the_row}

@@ -6,7 +6,7 @@ ghost use Rattle.tl.specs.declared.errors.TreeError.TheVariants.{OutOfMemory as 
 use crate::parser::handle::NodeHandle;
 use std::alloc::{AllocError, AllocFailed};
 use thiserror::Error;
-pub use tl_base::byte_string::SetBytesError;
+pub use tl_bytes::byte_string::SetBytesError;
 
 /// Why a text was not read.
 #[derive(Clone, Copy, PartialEq, Eq, PartialOrd, Ord, Debug, Error)]

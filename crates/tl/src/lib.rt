@@ -2,8 +2,11 @@
 #![tactic(auto)]
 
 ghost use Rattle.std.specs.Prelude.{◌≡◌, ◌↔◌, ◌<◌, length, IfOk, IsErrOf, All};
+ghost use Rattle.tl_spec.specs.Clean.{IsTame, IsCleanTable};
 ghost use Rattle.tl_spec.specs.Document.{document};
-ghost use Rattle.tl_base.specs.Held.{borrowed};
+ghost use Rattle.tl_spec.specs.Forest.{forest, plain};
+ghost use Rattle.tl_spec.specs.Token.{tokens};
+ghost use Rattle.tl_bytes.specs.Held.{borrowed};
 ghost use Rattle.tl.specs.Shown.{document_of, version_of};
 ghost use Rattle.tl.specs.HeldAlike.{IsHeldNode};
 ghost use Rattle.tl.specs.declared.errors.ParseError.TheVariants.{InvalidLength};
@@ -14,23 +17,24 @@ mod vdom;
 
 /// Byte strings.
 pub mod bytes {
-    pub use tl_base::byte_string::{Bytes, IntoOwnedBytes};
+    pub use tl_bytes::byte_string::{Bytes, IntoOwnedBytes};
 }
 
 pub use errors::ParseError;
 pub use parser::base::{ClassVec, HTMLVersion, Parser, ParserOf, Tree};
 pub use parser::handle::{InnerNodeHandle, NodeHandle};
 pub use parser::options::ParserOptions;
-pub use parser::tag::attributes::{Attributes, AttributesOf, RawAttributesMap};
-pub use parser::tag::attributes_iter::AttributesIter;
 pub use parser::tag::children::{Children, ChildrenOf};
 pub use parser::tag::children_mut::{ChildrenMut, ChildrenMutOf};
-pub use parser::tag::class_iter::ClassIter;
 pub use parser::tag::node::{Node, NodeOf};
 pub use parser::tag::{HTMLTag, RawChildren, TagOf};
 use std::alloc::Global;
-pub use tl_base::byte_string::{Bytes, IntoOwnedBytes};
-pub use tl_base::{inline, simd};
+pub use tl_attributes::attributes::{Attributes, AttributesOf, RawAttributesMap};
+pub use tl_attributes::attributes_iter::AttributesIter;
+pub use tl_attributes::class_iter::ClassIter;
+pub use tl_bytes::byte_string::{Bytes, IntoOwnedBytes};
+pub use tl_bytes::simd;
+pub use tl_inline::inline;
 pub use vdom::{VDom, VDomOf};
 
 /// Reads a text into a document whose pieces are slices of it.
@@ -45,6 +49,9 @@ pub fn parse<'a>(
     ensures document { IfOk result (λ d. document_of d ≡ document text.now) }
     ensures version { IfOk result (λ d. d.version ≡ version_of (document text.now).is_html5) }
     ensures borrowed { IfOk result (λ d. All (IsHeldNode borrowed) d.nodes) }
+
+    // So what `outer_html` says of a clean table is said of a text with tame trees.
+    ensures clean { IsTame (plain (forest (tokens text.now))) → IfOk result (λ d. IsCleanTable (document_of d).nodes (document_of d).top) }
 {
     Ok(VDom::from(parser::base::reading::read(alloc, &text, options)?))
 }

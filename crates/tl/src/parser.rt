@@ -2,5 +2,4 @@
 pub mod base;
 pub mod handle;
 pub mod options;
-pub mod piece;
 pub mod tag;

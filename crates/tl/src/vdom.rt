@@ -5,10 +5,10 @@ ghost use Rattle.tl.specs.TableLends.{LendsParser, LendsNodes, LendsTop};
 
 use crate::parser::base::{HTMLVersion, ParserOf};
 use crate::parser::handle::NodeHandle;
-use crate::parser::tag::attributes::Attributes;
 use crate::parser::tag::node::NodeOf;
 use std::marker::Model;
-use tl_base::byte_string::Bytes;
+use tl_attributes::attributes::Attributes;
+use tl_bytes::byte_string::Bytes;
 
 /// A document: the table of its nodes, and which of them stand at its top.
 #[derive(Drop)]

@@ -2,7 +2,7 @@
 use crate::stop::{Stop, expect};
 use std::alloc::Global;
 use tl::bytes::{Bytes, IntoOwnedBytes};
-use tl_base::byte_string::{Shared, copied};
+use tl_base::bytes::{Shared, copied};
 
 /// Each call of a byte string that takes memory.
 pub fn all(alloc: Global) -> Result<(), Stop> {

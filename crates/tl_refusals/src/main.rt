@@ -1,4 +1,4 @@
-//! Calls whatever takes memory. Where memory is refused each call has to answer that and nothing else, and to leave what
+//! Calls whatever takes memory, and runs each command of the program. Where memory is refused each call has to answer that and nothing else, and to leave what
 //! it promises: then the status is 3, and 1 where a call does otherwise. Standard input says how many requests are made
 //! before the first call, so that a run in which always the same request is refused meets another one of the calls;
 //! `refusals` at the top of the repository goes through all of them.
@@ -7,6 +7,7 @@
 mod byte_strings;
 mod containers;
 mod documents;
+mod program;
 mod stop;
 
 use std::alloc::Global;
@@ -61,5 +62,6 @@ fn said(rt: &HostRuntime, line: &str, status: u8) -> ExitCode {
 fn all(alloc: Global) -> Result<(), Stop> {
     byte_strings::all(alloc)?;
     containers::all(alloc)?;
-    documents::all(alloc)
+    documents::all(alloc)?;
+    program::all(alloc)
 }

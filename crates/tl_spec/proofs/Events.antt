@@ -1,10 +1,11 @@
 -- Faults, prints and texts of a walk are read from its events.
 use Rattle.std.proofs.Common.{◌≡◌, ℕ, zero, suc, Bool, true, false, not, if◌then◌else◌, List, [], ◌∷◌, ◌++◌, length, flat_map, Option, Some, None, Ok, refl, ap, ap₂, sym, ◌∙◌, append_assoc, append-nil}
 use Rattle.std.specs.Prelude.{⊤}
-use Rattle.std.specs.List.{slice_get}
+use Rattle.std.specs.List.{slice_get, AllByRecursion}
 use Rattle.std.proofs.lemmas.List.Concat.{flat_map-append}
 use Rattle.std.specs.Str.Lossy.{utf8_lossy}
 use Rattle.tl_spec.specs.ByteClass.{is_printed_alone}
+use Rattle.tl_spec.specs.Clean.{HaveOwnKeys, MeetsOwnKeys}
 use Rattle.tl_spec.specs.Document.{Comment, Node, Raw, Tag, TagNode}
 use Rattle.tl_spec.specs.Print.{inner_html, outer_html, print, print_end, print_start, printed}
 use Rattle.tl_spec.specs.Text.{inner_text, text_of, told}
@@ -28,6 +29,23 @@ first_fault-events (meets_tag h own children more) =
     ap₂ or_else (first_fault-events children) (first_fault-events more) ∙ sym (fault_among-append (events children) (leaves own ∷ events more))
 first_fault-events (passes_tag h own more) = first_fault-events more
 first_fault-events (meets_fault e more) = refl
+
+-- keys
+
+own-append : (es later : List Event) → AllByRecursion MeetsOwnKeys (es ++ later) → AllByRecursion MeetsOwnKeys es × AllByRecursion MeetsOwnKeys later
+own-append [] later h = (tt, h)
+own-append (e ∷ es) later h = let rest = own-append es later h.1 in ((h.0, rest.0), rest.1)
+
+-- where each node that is met has its own keys, so have the trees
+pub own-events : (w : Walk) → AllByRecursion MeetsOwnKeys (events w) → HaveOwnKeys (trees w)
+own-events end h = tt
+own-events (meets_text n bytes more) h = own-events more h.1
+own-events (meets_comment n bytes more) h = own-events more h.1
+own-events (meets_tag n own children more) h =
+    let rest = own-append (events children) (leaves own ∷ events more) h.1 in
+    (h.0, own-events children rest.0, own-events more rest.1.1)
+own-events (passes_tag n own more) h = (h.0, tt, own-events more h.1)
+own-events (meets_fault e more) h = own-events more h.1
 
 -- texts
 

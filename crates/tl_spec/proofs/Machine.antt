@@ -7,7 +7,8 @@ use Rattle.std.proofs.lemmas.Option.{slice_get_within}
 use Rattle.std.proofs.lemmas.List.Elements.{All-nil, All-cons, All-tail, All-weaker, All-head, All-same}
 use Rattle.std.proofs.lemmas.List.Sums.{fold-append, fold_push}
 use Rattle.tl_spec.specs.ByteClass.{is_void}
-use Rattle.tl_spec.specs.Token.{Token, Piece, Text, End, Comment, Doctype, Start, Nothing, StandFrom}
+use Rattle.tl_spec.specs.Token.{Token, Piece, Text, End, Comment, Doctype, Start, Nothing}
+use Rattle.tl_spec.specs.Grammar.{StandFrom}
 use Rattle.tl_spec.specs.Forest.{closes}
 use Rattle.tl_spec.specs.Document.{Node, TagNode, Tag, Raw, Comment as Remark, is_html5_doctype}
 use Rattle.tl_spec.specs.Machine.{State, start, change_at, with_child, with_raw_to, name_of, enclosing_name, adopted_by, adopted, added, opened, closed_by, closed, start_node, after_start, after_end, after_token, step, run, IsOpen, AreOpen}

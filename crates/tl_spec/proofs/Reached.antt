@@ -1,9 +1,11 @@
 -- The states between the first token of a text and the last.
 use Rattle.std.proofs.Common.{◌≡◌, ℕ, ◌+◌, ◌-◌, ◌≤◌, List, [], ◌∷◌, length, drop, Some, refl, sym, ◌∙◌, ap, subst, arith, length-drop}
 use Rattle.std.proofs.lemmas.List.{drop-drop}
-use Rattle.tl_spec.specs.Token.{Token, Piece, IsTokenAt, next_token, tokens}
+use Rattle.tl_spec.specs.Token.{Token, Piece, next_token, tokens}
+use Rattle.tl_spec.specs.Grammar.{IsTokenAt}
 use Rattle.tl_spec.specs.Document.{document}
 use Rattle.tl_spec.specs.Machine.{State, start, step, run, IsReached}
+use Rattle.tl_spec.proofs.Grammar.{token-there}
 use Rattle.tl_spec.proofs.Stand.{stand-tokens}
 use Rattle.tl_spec.proofs.Steps.{token_less}
 use Rattle.tl_spec.proofs.Tails.{next_token-tail}
@@ -21,7 +23,7 @@ IsTokenAt-found t i token rest le e =
     let len : length rest ≡ length t - (i + behind.0) = ap length is ∙ length-drop (i + behind.0) t in
     let to : length t - length rest ≡ i + behind.0 = omega (arith, behind.1) in
     let same : rest ≡ drop (length t - length rest) t = is ∙ ap (λ j. drop j t) (sym to) in
-    ((omega (arith, behind.1), omega arith, e ∙ ap (λ (r : List ℕ). Some (token, r)) same), same)
+    ((omega (arith, behind.1), omega arith, token-there (drop i t) token (drop (length t - length rest) t) (e ∙ ap (λ (r : List ℕ). Some (token, r)) same)), same)
 
 pub IsReached-start : (t : List ℕ) (s : State) → s ≡ start → IsReached t 0 s
 IsReached-start t s e =

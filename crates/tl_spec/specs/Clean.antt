@@ -8,7 +8,7 @@ use Rattle.tl_spec.specs.Attribute.{Pair}
 use Rattle.tl_spec.specs.AttributeList.{printed_pairs, HasOwnKeys}
 use Rattle.tl_spec.specs.Forest.{Forest, none, text, comment, tag, PlainTag}
 use Rattle.tl_spec.specs.Document.{Node, Tag, Raw, Comment}
-use Rattle.tl_spec.specs.Walk.{Walk, end, meets_text, meets_comment, meets_tag, passes_tag, meets_fault, shows, walk, plain_node, plain_attributes}
+use Rattle.tl_spec.specs.Walk.{Walk, end, meets_text, meets_comment, meets_tag, passes_tag, meets_fault, Event, meets, leaves, faulty, shows, walk, plain_node, plain_attributes}
 
 -- a nonempty run of name bytes that doesn't start with `/`
 abbrev pub IsName : List ℕ → Type 0
@@ -88,6 +88,12 @@ abbrev pub NodeHasOwnKeys : Node → Type 0
 NodeHasOwnKeys (Tag own) = HasOwnKeys (plain_attributes own.attributes)
 NodeHasOwnKeys (Raw bytes) = ⊤
 NodeHasOwnKeys (Comment bytes) = ⊤
+
+-- the same for the node that is met, if one is
+abbrev pub MeetsOwnKeys : Event → Type 0
+MeetsOwnKeys (meets h node) = NodeHasOwnKeys node
+MeetsOwnKeys (leaves own) = ⊤
+MeetsOwnKeys (faulty e) = ⊤
 
 -- no attribute has the empty key, no value holds a `"`
 abbrev pub AreTamePairs : List Pair → Type 0

@@ -3,6 +3,7 @@ pub mod Runs
 pub mod Inline
 pub mod Attribute
 pub mod Token
+pub mod Grammar
 pub mod AttributeList
 pub mod Forest
 pub mod Document

@@ -3,7 +3,8 @@ use Rattle.std.specs.Prelude.{◌≡◌, ◌≤◌, ℕ, zero, suc, Bool, true, 
 use Rattle.std.specs.List.{between}
 use Rattle.tl_spec.specs.ByteClass.{is_void}
 use Rattle.tl_spec.specs.Attribute.{Pair}
-use Rattle.tl_spec.specs.Token.{Token, Piece, Text, End, Comment, Doctype, Start, Nothing, StandFrom, tokens}
+use Rattle.tl_spec.specs.Token.{Token, Piece, Text, End, Comment, Doctype, Start, Nothing, tokens}
+use Rattle.tl_spec.specs.Grammar.{StandFrom}
 use Rattle.tl_spec.specs.Inline.{InlineVec}
 use Rattle.tl_spec.specs.Forest.{closes, started}
 use Rattle.tl_spec.specs.Document.{Node, TagNode, Tag, Raw, Comment as CommentNode, tag_node}

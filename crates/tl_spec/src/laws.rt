@@ -1,18 +1,33 @@
 //! Laws of the definitions.
 
 ghost use Rattle.std.specs.Prelude.{◌≡◌, ◌↔◌, ◌<◌, ◌≤◌, ◌+◌, ℕ, All, sum_by, length, take, drop, slice_get, Some, List, [], ◌∷◌, ◌++◌, Option, None, Bool, Ok};
-ghost use Rattle.tl_spec.specs.Token.{Piece, StandFrom, tokens};
+ghost use Rattle.tl_spec.specs.Attribute.{Pair, attribute, attributes};
+ghost use Rattle.tl_spec.specs.Token.{Token, Piece, next_token, tokens};
+ghost use Rattle.tl_spec.specs.Grammar.{AttributeStands, AttributesStand, TokenStands, StandFrom};
 ghost use Rattle.tl_spec.specs.Forest.{Forest, PlainTag, Siblings, Makes, no_siblings, siblings, with_token, forest, plain};
 ghost use Rattle.tl_spec.specs.Document.{Document, Node, TagNode, Tag, document, weight};
 ghost use Rattle.tl_spec.specs.Edit.{Change, edited, edited_all, done};
 ghost use Rattle.tl_spec.specs.Edits.{later, KeepsShape};
 ghost use Rattle.tl_spec.specs.Machine.{run, start};
-ghost use Rattle.tl_spec.specs.Walk.{Walk, every, row_walk, walk, trees, first_fault, visits, visits_from};
+ghost use Rattle.tl_spec.specs.Walk.{Walk, every, shows, row_walk, walk, trees, first_fault, visits, visits_from};
 ghost use Rattle.tl_spec.specs.Print.{print, document_print};
-ghost use Rattle.tl_spec.specs.Clean.{IsClean, IsCleanTable, HaveOwnKeys, NodeHasOwnKeys, IsTame};
+ghost use Rattle.tl_spec.specs.Clean.{IsClean, IsCleanTable, HaveOwnKeys, IsTame};
 ghost use Rattle.tl_spec.specs.Normal.{ReadsAs};
 ghost use Rattle.tl_spec.specs.Edit.{Change};
 ghost use Rattle.tl_spec.specs.StepLine.{change_of_line, changes_of, spelled, spelled_all, ReadBack, IsSpellable, IsLine};
+
+/// An attribute stands by cases exactly where the function reads it, alone and in a row.
+#[tactic(auto, using(crate::proofs::All::laws))]
+pub fn attribute_stands()
+    ensures one { (s : List ℕ) (pair : Pair) (rest : List ℕ) → AttributeStands s pair rest ↔ (attribute s ≡ (pair, rest)) }
+    ensures row { (s : List ℕ) (pairs : List Pair) (rest : List ℕ) → AttributesStand s pairs rest ↔ (attributes s ≡ (pairs, rest)) }
+{}
+
+/// A token stands by cases exactly where the function reads it; so at most one stands at a place, and one does where a byte is left.
+#[tactic(auto, using(crate::proofs::All::laws))]
+pub fn token_stands()
+    ensures { (t : List ℕ) (k : Token) (rest : List ℕ) → TokenStands t k rest ↔ (next_token t ≡ Some (k, rest)) }
+{}
 
 /// The tokens of a text are the ones that stand in it one behind the other, and there are no others.
 #[tactic(auto, using(crate::proofs::All::laws))]
@@ -45,11 +60,12 @@ pub fn trees_print_then_parse()
     ensures { (f : Forest PlainTag) → IsClean f → HaveOwnKeys f → ReadsAs (print f) f }
 {}
 
-/// A clean table has a print, and it is read as the normal form of the full walk of the top list.
+/// A clean table has a print. Where each tag that it meets has the keys that its type allows, the print is read as the normal form
+/// of the full walk of the top list.
 #[tactic(auto, using(crate::proofs::All::laws))]
 pub fn table_print_then_parse()
     ensures prints { (d : Document) → IsCleanTable d.nodes d.top → document_print d ≡ Ok (print (trees (walk every d.nodes [] d.top))) }
-    ensures reads { (d : Document) → IsCleanTable d.nodes d.top → All NodeHasOwnKeys d.nodes → (s : List ℕ) → document_print d ≡ Ok s → ReadsAs s (trees (walk every d.nodes [] d.top)) }
+    ensures reads { (d : Document) → IsCleanTable d.nodes d.top → HaveOwnKeys (trees (walk shows d.nodes [] d.top)) → (s : List ℕ) → document_print d ≡ Ok s → ReadsAs s (trees (walk every d.nodes [] d.top)) }
 {}
 
 /// The full walk of a document just read meets no fault, all its nodes in the order of the table, and the trees of its tokens.

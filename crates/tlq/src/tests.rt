@@ -1,9 +1,9 @@
-use crate::program::{Command, Input, Marked, Output, command, line, run};
-use crate::script::{Step, steps};
 use std::alloc::{AllocError, Global};
 use std::io;
 use std::io::{ErrorKind, Read, Write};
 use std::test::Fail;
+use tl_program::program::{Command, Input, Marked, Output, command, line, run};
+use tl_program::script::{Step, steps};
 
 /// A reader of a text in small pieces, which may fail behind its end.
 #[derive(Drop)]

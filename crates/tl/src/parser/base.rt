@@ -4,22 +4,16 @@ ghost use Rattle.std.specs.Borrow.{sem};
 ghost use Rattle.std.specs.Option.{option_copied, option_copied_mut};
 ghost use Rattle.tl.specs.TableLends.{LendsNode, LendsTableNodes, LendsTableTop};
 
-pub mod attribute;
-pub(crate) mod names;
-pub mod part;
 pub mod reading;
-pub mod runs;
-pub mod source;
 pub mod table;
-pub mod token;
 
 use crate::parser::handle::{InnerNodeHandle, NodeHandle};
-use crate::parser::tag::attributes::Attributes;
 use crate::parser::tag::node::NodeOf;
 use std::alloc::Global;
 use std::marker::Model;
-use tl_base::byte_string::Bytes;
-use tl_base::inline::vec::InlineVec;
+use tl_attributes::attributes::Attributes;
+use tl_bytes::byte_string::Bytes;
+use tl_inline::inline::vec::InlineVec;
 
 /// The nodes of a document, in the order of their first byte.
 pub type Tree<'a> = Vec<crate::parser::tag::node::Node<'a>>;

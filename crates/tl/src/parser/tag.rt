@@ -2,11 +2,8 @@
 ghost use Rattle.std.specs.Prelude.{◌≡◌, IfOk, OnOk, OnErr};
 ghost use Rattle.std.specs.Option.{option_copied};
 
-pub mod attributes;
-pub mod attributes_iter;
 pub mod children;
 pub mod children_mut;
-pub mod class_iter;
 pub mod find;
 pub mod node;
 pub mod print;
@@ -15,11 +12,11 @@ pub(crate) mod walk;
 
 use crate::parser::base::Parser;
 use crate::parser::handle::NodeHandle;
-use attributes::Attributes;
 use std::alloc::{AllocError, Global};
 use std::marker::Model;
-use tl_base::byte_string::Bytes;
-use tl_base::inline::vec::InlineVec;
+use tl_attributes::attributes::Attributes;
+use tl_bytes::byte_string::Bytes;
+use tl_inline::inline::vec::InlineVec;
 
 /// The handles of a tag's children, the first two inline.
 pub type RawChildren = InlineVec<NodeHandle, 2>;
@@ -93,7 +90,7 @@ impl<A: Drop, B: Drop> TagOf<A, B> {
 
 impl<A, B> TagOf<A, B> {
     ghost use Rattle.std.specs.Borrow.{sem};
-    ghost use Rattle.tl_base.specs.InlineVec.{pushed};
+    ghost use Rattle.tl_inline.specs.InlineVec.{pushed};
     ghost use Rattle.tl.specs.TagLends.{LendsName, LendsAttributes, LendsChildren};
 
     // Makes `child` the last child.

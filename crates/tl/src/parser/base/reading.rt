@@ -7,11 +7,11 @@ ghost use Rattle.tl.specs.declared.errors.ParseError.TheVariants.{InvalidLength}
 
 use crate::errors::ParseError;
 use crate::parser::base::Parser;
-use crate::parser::base::source::Source;
 use crate::parser::base::table::TableBuilder;
-use crate::parser::base::token::next_token;
 use crate::parser::options::ParserOptions;
 use std::alloc::Global;
+use tl_token::source::Source;
+use tl_token::token::next_token;
 
 /// Reads the text of a source.
 pub fn read<'a, S: Source<'a>>(

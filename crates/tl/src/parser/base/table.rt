@@ -1,22 +1,23 @@
 //! Writes tokens into a table.
-ghost use Rattle.std.specs.Prelude.{◌≡◌, ◌≤◌, ◌<◌, ◌+◌, ◌||◌, if◌then◌else◌, length, slice_get, Some, OnOk, All};
-ghost use Rattle.tl_base.specs.Held.{Held};
+ghost use Rattle.std.specs.Prelude.{◌≡◌, ◌≤◌, ◌<◌, ◌+◌, ◌||◌, if◌then◌else◌, length, slice_get, Some, IfOk, OnOk, All};
+ghost use Rattle.tl_bytes.specs.Held.{Held};
 ghost use Rattle.tl_spec.specs.ByteClass.{is_void as is_void_name};
 ghost use Rattle.tl_spec.specs.Token.{Piece};
 ghost use Rattle.tl_spec.specs.Forest.{closes};
 ghost use Rattle.tl_spec.specs.Machine.{start, adopted, added, opened, closed, after_end, step, with_child, with_raw_to, name_of, enclosing_name};
-ghost use Rattle.tl.specs.Shown.{shown, document_of, version_of};
+ghost use Rattle.tl_spec.specs.Document.{Tag as TagNode};
+ghost use Rattle.tl.specs.Shown.{shown, shown_tag, document_of, version_of};
 ghost use Rattle.tl.specs.HeldAlike.{IsHeldNode, IsHeldTag};
-ghost use Rattle.tl.specs.Reading.{said_by, meaning_of, IsHeldToken};
+ghost use Rattle.tl_token.specs.Reading.{said_by, shown_start, meaning_of, IsHeldStart, IsHeldToken};
 
-use crate::parser::base::names::is_void;
-use crate::parser::base::source::Source;
-use crate::parser::base::token::Token;
 use crate::parser::base::{HTMLVersion, Parser};
 use crate::parser::handle::NodeHandle;
-use crate::parser::tag::HTMLTag;
 use crate::parser::tag::node::{Node, NodeOf};
+use crate::parser::tag::{HTMLTag, TagOf};
 use std::alloc::{AllocError, Global};
+use tl_token::names::is_void;
+use tl_token::source::Source;
+use tl_token::token::{StartTag, Token};
 
 /// A table that tokens are written into.
 #[derive(Drop)]
@@ -35,6 +36,21 @@ fn stands_alone(tag: &HTMLTag, is_closed: bool) -> bool
     ensures { result ≡ (is_closed || is_void_name tag.now.name.list) }
 {
     is_closed || is_void(tag.name().as_bytes())
+}
+
+// The tag of a start tag, still without children.
+fn tag_of<'a>(alloc: Global, start: StartTag<'a>) -> Result<HTMLTag<'a>, AllocError>
+    ensures shown { IfOk result (λ t. shown_tag t ≡ shown_start start.entry) }
+    ensures name { IfOk result (λ t. t.name ≡ start.entry.name) }
+    ensures held { IfOk result (λ t. (held : Held) → IsHeldStart held start.entry → IsHeldTag held t) }
+{
+    let StartTag {
+        name,
+        attributes,
+        raw,
+        start,
+    } = start;
+    TagOf::new(alloc, name, attributes, raw, start)
 }
 
 impl<'a> Node<'a> {
@@ -167,8 +183,8 @@ impl<'a> TableBuilder<'a> {
         Ok(())
     }
 
-    // Adds a start tag, and opens it unless it stands alone.
-    fn start_tag(&mut self, tag: HTMLTag<'a>, is_closed: bool) -> Result<(), AllocError>
+    // Adds a tag, and opens it unless it stands alone.
+    fn add_tag(&mut self, tag: HTMLTag<'a>, is_closed: bool) -> Result<(), AllocError>
         requires { HasRoom self.old }
         ensures ok { OnOk result (state_of self.new ≡ (if is_closed || is_void_name tag.entry.name.list then added (shown (NodeOf.Tag tag.entry)) (state_of self.old) else opened (shown (NodeOf.Tag tag.entry)) (state_of self.old))) }
         ensures held { OnOk result ((held : Held) → AreHeld held self.old → IsHeldTag held tag.entry → AreHeld held self.new) }
@@ -178,6 +194,21 @@ impl<'a> TableBuilder<'a> {
         } else {
             self.open(tag)
         }
+    }
+
+    // Adds a start tag, and opens it unless it stands alone.
+    fn start_tag(
+        &mut self,
+        alloc: Global,
+        start: StartTag<'a>,
+        is_closed: bool,
+    ) -> Result<(), AllocError>
+        requires { HasRoom self.old }
+        ensures ok { OnOk result (state_of self.new ≡ (if is_closed || is_void_name start.entry.name.list then added (TagNode (shown_start start.entry)) (state_of self.old) else opened (TagNode (shown_start start.entry)) (state_of self.old))) }
+        ensures held { OnOk result ((held : Held) → AreHeld held self.old → IsHeldStart held start.entry → AreHeld held self.new) }
+    {
+        let tag = tag_of(alloc, start)?;
+        self.add_tag(tag, is_closed)
     }
 
     // Closes the innermost open tag if it has this name: its raw then ends at the place `to` of the text.
@@ -221,7 +252,7 @@ impl<'a> TableBuilder<'a> {
                 let comment: Node<'a> = NodeOf::Comment(bytes);
                 self.add(comment)
             }
-            Token::Start(tag, is_closed) => self.start_tag(tag, is_closed),
+            Token::Start(tag, is_closed) => self.start_tag(alloc, tag, is_closed),
             Token::End(name) => self.end_tag(alloc, source, name, to),
             Token::Doctype(is_html5) => {
                 self.is_html5 |= is_html5;

@@ -1,10 +1,10 @@
 //! The children of a tag.
 ghost use Rattle.std.specs.Prelude.{◌≡◌};
 
-use crate::parser::tag::attributes::Attributes;
 use crate::parser::tag::{RawChildren, TagOf};
 use std::marker::Model;
-use tl_base::byte_string::Bytes;
+use tl_attributes::attributes::Attributes;
+use tl_bytes::byte_string::Bytes;
 
 /// The children of a tag for reading, seen as the tag.
 #[derive(Drop)]

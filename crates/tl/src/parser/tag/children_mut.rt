@@ -3,9 +3,9 @@ ghost use Rattle.std.specs.Prelude.{◌≡◌};
 ghost use Rattle.std.specs.Borrow.{sem};
 ghost use Rattle.tl.specs.ChildrenLends.{LendsTopHandles, lent_tag, lent_name};
 
-use crate::parser::tag::attributes::Attributes;
 use crate::parser::tag::{RawChildren, TagOf};
-use tl_base::byte_string::Bytes;
+use tl_attributes::attributes::Attributes;
+use tl_bytes::byte_string::Bytes;
 
 /// The children of a tag for writing.
 #[derive(Drop)]

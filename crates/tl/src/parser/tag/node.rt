@@ -6,10 +6,10 @@ ghost use Rattle.tl.specs.Node.{tag_of, raw_of, comment_of};
 ghost use Rattle.tl.specs.NodeLends.{LendsTag, LendsRaw, LendsComment};
 
 use crate::parser::tag::TagOf;
-use crate::parser::tag::attributes::Attributes;
 use crate::parser::tag::children::ChildrenOf;
 use std::alloc::AllocError;
-use tl_base::byte_string::Bytes;
+use tl_attributes::attributes::Attributes;
+use tl_bytes::byte_string::Bytes;
 
 /// A node of bytes of the type `B`, whose tags have attributes of the type `A`.
 #[derive(Drop)]

@@ -1,28 +1,32 @@
 //! Prints.
-ghost use Rattle.std.specs.Prelude.{◌≡◌, ◌++◌, [], map, flat_map, codes, OnOk, IfErr, string_bytes};
+ghost use Rattle.std.specs.Prelude.{◌≡◌, ◌++◌, [], map, flat_map, codes, OnOk, IfOk, IfErr, string_bytes};
+ghost use Rattle.std.specs.List.{AllByRecursion};
 ghost use Rattle.std.specs.Option.{option_copied};
 ghost use Rattle.std.specs.Str.Lossy.{utf8_lossy};
-ghost use Rattle.tl_spec.specs.AttributeList.{printed_pairs};
+ghost use Rattle.tl_spec.specs.AttributeList.{printed_pairs, HasOwnKeys};
+ghost use Rattle.tl_spec.specs.Clean.{HaveOwnKeys, IsCleanTable, MeetsOwnKeys, NodeHasOwnKeys};
 ghost use Rattle.tl_spec.specs.Document.{Tag};
+ghost use Rattle.tl_spec.specs.Normal.{ReadsAs};
 ghost use Rattle.tl_spec.specs.Print.{outer_html, inner_html, document_print, print, print_value, print_pairs, print_start, print_end, printed};
-ghost use Rattle.tl_spec.specs.Walk.{fault_among, first_fault, plain_attributes, plain_node, shows, trees, walk, walk_of};
-ghost use Rattle.tl.specs.Shown.{shown, shown_attributes, shown_tag, shown_value, document_of};
+ghost use Rattle.tl_spec.specs.Walk.{every, fault_among, first_fault, plain_attributes, plain_node, shows, trees, walk, walk_of};
+ghost use Rattle.tl.specs.Shown.{shown, shown_tag, document_of};
+ghost use Rattle.tl_attributes.specs.ShownAttributes.{shown_attributes, shown_value};
 ghost use Rattle.tl.specs.Answer.{Answers};
 ghost use Rattle.tl.specs.Walker.{IsMarked, left, shown_event};
 ghost use Rattle.tl.specs.Writing.{Writes};
 
 use crate::errors::TreeError;
 use crate::parser::base::Parser;
-use crate::parser::base::names::is_printed_alone;
 use crate::parser::handle::NodeHandle;
 use crate::parser::tag::HTMLTag;
-use crate::parser::tag::attributes::Attributes;
 use crate::parser::tag::node::{Node, NodeOf};
 use crate::parser::tag::walk::{Entered, Event, Walker};
 use crate::vdom::VDom;
 use bstr::ByteSlice;
 use std::alloc::Global;
-use tl_base::byte_string::Bytes;
+use tl_attributes::attributes::Attributes;
+use tl_bytes::byte_string::Bytes;
+use tl_token::names::is_printed_alone;
 
 // Writes bytes as text.
 pub(crate) fn write_lossy(bytes: &[u8], out: &mut String) -> Result<(), TreeError>
@@ -52,9 +56,11 @@ fn write_pair(key: &[u8], value: Option<&Bytes<'_>>, out: &mut String) -> Result
 }
 
 // Writes all pairs in order.
+#[tactic(auto, using(crate::proofs::OwnKeys::own_keys))]
 fn write_pairs(attributes: &Attributes<'_>, out: &mut String) -> Result<(), TreeError>
     ensures ok { OnOk result (string_bytes out.new ≡ string_bytes out.old ++ print_pairs (printed_pairs (plain_attributes (shown_attributes attributes.now)))) }
     ensures err { IfErr result (λ e. e ≡ TreeError.OutOfMemory) }
+    ensures own { HasOwnKeys (plain_attributes (shown_attributes attributes.now)) }
 {
     for pair in attributes.iter() {
         write_pair(pair.0.as_bytes(), pair.1, out)?;
@@ -66,6 +72,7 @@ fn write_pairs(attributes: &Attributes<'_>, out: &mut String) -> Result<(), Tree
 fn write_start(tag: &HTMLTag<'_>, out: &mut String) -> Result<(), TreeError>
     ensures ok { OnOk result (string_bytes out.new ≡ string_bytes out.old ++ print_start (plain_node (shown_tag tag.now))) }
     ensures err { IfErr result (λ e. e ≡ TreeError.OutOfMemory) }
+    ensures own { OnOk result (NodeHasOwnKeys (Tag (shown_tag tag.now))) }
 {
     out.push('<')?;
     write_lossy(tag.name().as_bytes(), out)?;
@@ -89,6 +96,7 @@ fn write_end(tag: &HTMLTag<'_>, out: &mut String) -> Result<(), TreeError>
 fn write_event<'s, 'a>(event: Event<'s, 'a>, out: &mut String) -> Result<(), TreeError>
     ensures ok { OnOk result (string_bytes out.new ≡ string_bytes out.old ++ printed (shown_event event.entry)) }
     ensures err { IfErr result (λ e. e ≡ TreeError.OutOfMemory) }
+    ensures own { OnOk result (MeetsOwnKeys (shown_event event.entry)) }
 {
     match event {
         Event::Meets(_, NodeOf::Tag(tag)) => write_start(tag, out),
@@ -101,8 +109,9 @@ fn write_event<'s, 'a>(event: Event<'s, 'a>, out: &mut String) -> Result<(), Tre
 // Writes what is left of a walk.
 fn write_walk<'s, 'a>(mut walker: Walker<'s, 'a>, out: &mut String) -> Result<(), TreeError>
     requires { IsMarked walker }
-    ensures { let es = left walker.entry in
+    ensures writes { let es = left walker.entry in
         Writes (fault_among es) (flat_map printed es) (string_bytes out.old) result (string_bytes out.new) }
+    ensures own { OnOk result (AllByRecursion MeetsOwnKeys (left walker.entry)) }
 {
     loop {
         let event = match walker.next_event() {
@@ -121,8 +130,9 @@ fn write_row<'s, 'a>(
     handles: &'s [NodeHandle],
     out: &mut String,
 ) -> Result<(), TreeError>
-    ensures { let w = walk shows (map shown nodes.now) [] handles.now in
+    ensures writes { let w = walk shows (map shown nodes.now) [] handles.now in
         Writes (first_fault w) (print (trees w)) (string_bytes out.old) result (string_bytes out.new) }
+    ensures own { OnOk result (HaveOwnKeys (trees (walk shows (map shown nodes.now) [] handles.now))) }
 {
     write_walk(Walker::new(alloc, nodes, Entered::Shown, handles), out)
 }
@@ -205,9 +215,11 @@ impl<'a> Node<'a> {
 }
 
 impl<'a> VDom<'a> {
-    /// The document as markup: its top nodes in order, without a doctype.
+    /// The document as markup: its top nodes in order, without a doctype. What is printed of a clean table is read as that table.
     pub fn outer_html(&self, alloc: Global) -> Result<String, TreeError>
-        ensures { Answers (document_print (document_of self.now)) result }
+        ensures answers { Answers (document_print (document_of self.now)) result }
+        ensures identity { let d = document_of self.now in
+            IsCleanTable d.nodes d.top → IfOk result (λ s. ReadsAs (string_bytes s) (trees (walk every d.nodes [] d.top))) }
     {
         let mut out = String::new(alloc);
         write_row(alloc, self.nodes(), self.children(), &mut out)?;

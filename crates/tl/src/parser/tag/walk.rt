@@ -10,12 +10,12 @@ ghost use Rattle.tl.specs.Walker.{enters, path_of, left, left_at, left_in, Gives
 mod path;
 
 use crate::errors::TreeError;
-use crate::parser::base::names::is_printed_alone;
 use crate::parser::handle::NodeHandle;
 use crate::parser::tag::HTMLTag;
 use crate::parser::tag::node::{Node, NodeOf};
 use path::{put_mark, stands_on_path};
 use std::alloc::Global;
+use tl_token::names::is_printed_alone;
 
 // Which tags a walk enters: all, or those that are printed with their children.
 #[derive(Clone, Copy)]

@@ -1,11 +1,11 @@
 use Rattle.std.proofs.Common.{◌≡◌, ◌∙◌, ap, sym, subst, length, rules}
 use Rattle.tl_spec.specs.Document.{Document, document}
 use Rattle.tl_spec.specs.Machine.{step}
-use Rattle.tl.specs.Suffix.{IsSuffix}
-use Rattle.tl.specs.Reading.{IsNext, meaning_of, said_by}
+use Rattle.tl_token.specs.Suffix.{IsSuffix}
+use Rattle.tl_token.specs.Reading.{IsNext, meaning_of, said_by}
 use Rattle.tl.specs.Shown.{version_of}
 use Rattle.tl.specs.Builder.{state_of}
-use Rattle.tl.proofs.Suffixes.{suffix_whole}
+use Rattle.tl_token.proofs.Suffixes.{suffix_whole}
 use Rattle.tl.proofs.Following.{reached_start, reached_next, reached_end}
 use Rattle.tl.proofs.parser.base.reading.read.Goals as goal
 

@@ -1,6 +1,6 @@
 use Rattle.std.proofs.Common.{length, ◌-◌}
 use Rattle.tl_spec.specs.Machine.{IsReached}
-use Rattle.tl.specs.Suffix.{IsSuffix}
+use Rattle.tl_token.specs.Suffix.{IsSuffix}
 use Rattle.tl.specs.Builder.{state_of, AreHeld}
 use Rattle.tl.proofs.parser.base.reading.read.Given as goal
 

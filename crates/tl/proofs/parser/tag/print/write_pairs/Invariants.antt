@@ -2,7 +2,7 @@ use Rattle.std.proofs.Common.{◌≡◌, ◌++◌, map, string_bytes}
 use Rattle.tl_spec.specs.AttributeList.{printed_pairs}
 use Rattle.tl_spec.specs.Print.{print_pairs}
 use Rattle.tl_spec.specs.Walk.{plain_attributes}
-use Rattle.tl.specs.Shown.{shown_attributes, shown_pair}
+use Rattle.tl_attributes.specs.ShownAttributes.{shown_attributes, shown_pair}
 use Rattle.tl.proofs.parser.tag.print.write_pairs.Given as goal
 
 abbrev pub invariant-loop-pair : goal.invariant-loop-pair

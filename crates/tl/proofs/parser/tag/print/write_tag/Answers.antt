@@ -16,8 +16,8 @@ returns c =
     let children : own.children.items ≡ c.as_slice.result.now = sym (c.as_slice.ensures ∙ ap (λ v. v.items) c.child_handles.ensures) in
     let inside : List ℕ = print (trees (walk shows nodes [] own.children.items)) in
     let row : string_bytes c.write_row.new.out ≡ string_bytes c.write_start.new.out ++ inside =
-    c.in_ok-write_row.ensures.1 ∙ ap (λ hs. string_bytes c.write_start.new.out ++ print (trees (walk shows nodes [] hs))) (sym children) in (
-      fault-entered nodes own entered ∙ ap (λ hs. first_fault (walk shows nodes [] hs)) children ∙ c.in_ok-write_row.ensures.0,
+    c.in_ok-write_row.ensures.writes.1 ∙ ap (λ hs. string_bytes c.write_start.new.out ++ print (trees (walk shows nodes [] hs))) (sym children) in (
+      fault-entered nodes own entered ∙ ap (λ hs. first_fault (walk shows nodes [] hs)) children ∙ c.in_ok-write_row.ensures.writes.0,
       three (print_start (plain_node own)) inside (print_end (plain_node own)) (print (trees (walk_of shows nodes (Tag own))))
           (string_bytes c.args.out.now) (string_bytes c.write_start.new.out) (string_bytes c.write_row.new.out) (string_bytes c.write_end.new.out)
           c.in_ok-write_start.ensures.ok row c.in_ok-write_end.ensures.ok (print-entered nodes own entered),

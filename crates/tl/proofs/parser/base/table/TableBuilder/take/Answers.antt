@@ -1,6 +1,6 @@
 use Rattle.std.proofs.Common.{subst}
 use Rattle.std.proofs.lemmas.Result.{on_ok_weaker}
-use Rattle.tl.specs.Reading.{IsHeldToken}
+use Rattle.tl_token.specs.Reading.{IsHeldToken}
 use Rattle.tl.proofs.parser.base.table.TableBuilder.take.Goals as goal
 
 pub returns-in-Start-clause-held : goal.returns-in-Start-clause-held

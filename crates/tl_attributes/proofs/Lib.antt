@@ -1,0 +1,4 @@
+pub mod Others
+pub mod ClassParts
+pub mod Puts
+pub mod ShownEdits

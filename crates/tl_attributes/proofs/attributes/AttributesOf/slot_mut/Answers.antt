@@ -1,0 +1,11 @@
+use Rattle.std.proofs.Common.{refl}
+use Rattle.tl_attributes.specs.Attributes.{IsOther}
+use Rattle.tl_attributes.proofs.Others.{all_with_value}
+use Rattle.tl_attributes.proofs.attributes.AttributesOf.slot_mut.Goals as goal
+
+pub invariant_of-self-lent : goal.invariant_of-self-lent
+invariant_of-self-lent g c =
+    λ _. (λ w. all_with_value (λ k. IsOther (g.B.Piece.list k)) (g.B.PartialEq.eq c.args.key.now) c.self.inside.others.entries w c.self.invariant, c.self.invariant)
+
+pub returns : goal.returns
+returns g c = rw (← c.self.view_is) (refl, record { writes_back = tt; value = c.get_mut.ensures.value })

@@ -1,0 +1,5 @@
+pub mod Attributes
+pub mod Listed
+pub mod AttributesLends
+pub mod ShownAttributes
+pub mod HeldAttributes

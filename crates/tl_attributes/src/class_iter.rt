@@ -1,0 +1,89 @@
+//! The members of a tag's class.
+ghost use Rattle.std.specs.Prelude.{◌≡◌, ◌≤◌, ◌<◌, [], ◌∷◌, not, length, option_map, MatchOption, IfSome};
+ghost use Rattle.std.specs.List.{prefix_len};
+ghost use Rattle.std.specs.Char.{is_ascii_whitespace};
+ghost use Rattle.std.specs.Map.Iter.{TakesFirst, deref};
+ghost use Rattle.std.specs.Iterator.{at_most};
+ghost use Rattle.tl_spec.specs.ClassMember.{parts, class_parts, has_member};
+
+use crate::attributes::AttributesOf;
+use crate::piece::Piece;
+use std::marker::Model;
+use std::str;
+
+/// The parts of a class between white space, seen as the list of those that are left. A step takes no memory.
+#[derive(Drop)]
+pub struct ClassIter<'t> {
+    rest: &'t str,
+}
+
+impl<'t> Model for ClassIter<'t> {
+    ghost use Rattle.std.specs.Prelude.{List, ℕ};
+    ghost use Rattle.tl_spec.specs.ClassMember.{parts};
+
+    ghost Value = { List (List ℕ) };
+
+    ghost view = { λ c. parts c.rest.now };
+}
+
+// How many bytes at the front are not white space.
+fn part_len(bytes: &[u8]) -> usize
+    ensures place { result ≡ prefix_len (λ b. not (is_ascii_whitespace b)) bytes.now }
+    ensures within { result ≤ length bytes.now }
+{
+    bytes
+        .iter()
+        .take_while(|b| !b.is_ascii_whitespace())
+        .count()
+}
+
+// The first part, and what stands behind it.
+fn first_part(text: &str) -> Option<(&str, &str)>
+    ensures first { MatchOption result (parts text.now ≡ []) (λ p. parts text.now ≡ p.0.now ∷ parts p.1.now) }
+    ensures shorter { IfSome result (λ p. length p.1.now < length text.now) }
+{
+    let visible = text.trim_ascii_start();
+    let end = part_len(visible.as_bytes());
+    if end == 0 {
+        return None;
+    }
+    Some(visible.split_at(end))
+}
+
+impl<'t> Iterator for ClassIter<'t> {
+    type Item = &'t str;
+
+    ghost next_gives = { TakesFirst deref };
+
+    ghost remaining = { λ s. at_most (length s) };
+
+    fn next(&mut self) -> Option<&'t str> {
+        let (part, rest) = first_part(self.rest)?;
+        self.rest = rest;
+        Some(part)
+    }
+}
+
+impl<B: Piece> AttributesOf<B> {
+    /// The parts of the class between ASCII white space, in order. `None` says that there is no class, or that it is
+    /// not UTF-8; a class of white space has no parts. Neither this nor a step takes memory.
+    pub fn class_iter(&self) -> Option<ClassIter<'_>>
+        ensures { result ≡ class_parts (option_map B.list self.now.class) }
+    {
+        let class = self.class()?;
+        match str::from_utf8(class.as_bytes()) {
+            Ok(rest) => Some(ClassIter { rest }),
+            Err(_) => None,
+        }
+    }
+
+    /// Whether `class` is one of the parts that `class_iter` gives, in exact case. It takes no memory.
+    pub fn is_class_member(&self, class: &[u8]) -> bool
+        ensures { result ≡ has_member (option_map B.list self.now.class) class.now }
+    {
+        match self.class_iter() {
+            Some(mut parts) => parts.any(|part| class == part.as_bytes()),
+            None => false,
+        }
+    }
+}

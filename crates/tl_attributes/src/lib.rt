@@ -1,0 +1,7 @@
+//! The attributes of a tag.
+#![tactic(auto)]
+
+pub mod attributes;
+pub mod attributes_iter;
+pub mod class_iter;
+pub mod piece;

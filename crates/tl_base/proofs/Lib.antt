@@ -1,4 +1,0 @@
-pub mod Lists
-pub mod Searches
-pub mod Maps
-pub mod HeldPairsLemmas

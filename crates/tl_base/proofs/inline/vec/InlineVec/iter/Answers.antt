@@ -1,6 +1,0 @@
-use Rattle.std.specs.Map.Iter.{deref}
-use Rattle.tl_base.proofs.Lists.{shows_in_order}
-use Rattle.tl_base.proofs.inline.vec.InlineVec.iter.Goals as goal
-
-pub returns-clause-runs : goal.returns-clause-runs
-returns-clause-runs g c = shows_in_order deref

@@ -1,6 +1,0 @@
-use Rattle.std.specs.Prelude.{◌==◌}
-use Rattle.tl_base.proofs.Searches.{first_from_IsFirstByte}
-use Rattle.tl_base.proofs.simd.find.Goals as goal
-
-pub returns : goal.returns
-returns c = first_from_IsFirstByte (λ b. b == c.args.needle) c.args.haystack.now _ c.memchr.ensures

@@ -1,0 +1,73 @@
+//! Searches of a byte slice for the first byte of a class. None takes memory.
+ghost use Rattle.std.specs.Prelude.{◌≡◌, ◌==◌, bytes_eq};
+ghost use Rattle.std.specs.Str.{str_to_ascii_lowercase};
+ghost use Rattle.tl_spec.specs.ByteClass.{is_closing};
+ghost use Rattle.tl_bytes.specs.Search.{first, is_one_of, is_not_ident};
+
+/// The same searches, byte by byte.
+pub mod fallback;
+#[cfg(test)]
+mod tests;
+
+/// The first place of `haystack` that holds `needle`.
+pub fn find(haystack: &[u8], needle: u8) -> Option<usize>
+    ensures { result ≡ first (λ b. b == needle) haystack.now }
+{
+    memchr::memchr(needle, haystack)
+}
+
+/// The first place of `haystack` that holds one of the four bytes of `needle`.
+pub fn find4(haystack: &[u8], needle: [u8; 4]) -> Option<usize>
+    ensures { result ≡ first (is_one_of needle) haystack.now }
+{
+    haystack.iter().position(|b| is_one_of_four(needle, *b))
+}
+
+// Whether the byte is one of the four.
+#[inline]
+fn is_one_of_four(needle: [u8; 4], byte: u8) -> bool
+    ensures { result ≡ is_one_of needle byte }
+{
+    byte == needle[0] || byte == needle[1] || byte == needle[2] || byte == needle[3]
+}
+
+/// The first place of `haystack` that holds one of the bytes of `needle`.
+pub fn find_multi<const N: usize>(haystack: &[u8], needle: [u8; N]) -> Option<usize>
+    ensures { result ≡ first (is_one_of needle.entry) haystack.now }
+{
+    fallback::find_multi(haystack, needle)
+}
+
+/// The first place of `haystack` that holds no byte of a name: none of the digits, the ASCII
+/// letters and `-`, `_`, `:`, `+`, `/`.
+pub fn search_non_ident(haystack: &[u8]) -> Option<usize>
+    ensures { result ≡ first is_not_ident haystack.now }
+{
+    fallback::search_non_ident(haystack)
+}
+
+/// Whether a list of attributes ends before this byte: `/` or `>`.
+pub fn is_closing(needle: u8) -> bool
+    ensures { result ≡ is_closing needle }
+{
+    needle == b'/' || needle == b'>'
+}
+
+/// Whether `haystack` with its ASCII letters in lower case is `needle`, whose own letters stay
+/// as they are: a needle with an upper-case letter matches nothing.
+pub fn matches_case_insensitive<const N: usize>(haystack: &[u8], needle: [u8; N]) -> bool
+    ensures { result ≡ bytes_eq (str_to_ascii_lowercase haystack.now) needle.entry }
+{
+    lowers_to(haystack, &needle)
+}
+
+// Whether the text in lower case is this one.
+fn lowers_to(text: &[u8], lower: &[u8]) -> bool
+    ensures { result ≡ bytes_eq (str_to_ascii_lowercase text.now) lower.now }
+{
+    text.len() == lower.len()
+        && text
+            .iter()
+            .zip(lower.iter())
+            .all(|(b, low)| b.to_ascii_lowercase() == *low)
+}

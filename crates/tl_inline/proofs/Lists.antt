@@ -1,0 +1,47 @@
+-- Facts of lists, and of the runs of an iterator that is seen as a list.
+use Rattle.std.proofs.Common.{◌≡◌, List, [], ◌∷◌, ◌++◌, length, ap, refl, arith, Result, Bool, subst, sym, ◌∙◌, append_assoc}
+use Rattle.std.specs.List.{AllZip}
+use Rattle.std.specs.Map.Iter.{TakesFirst, ShowsInOrder}
+use Rattle.std.proofs.iter.runs.Sources.{from_front}
+use Rattle.std.proofs.lemmas.List.Elements.{Contains-get_or, Contains-append_right}
+use Rattle.std.specs.Result.{IfOk}
+use Rattle.std.proofs.lemmas.Result.{IfOk-weaker}
+use Rattle.tl_spec.specs.Inline.{InlineVec}
+use Rattle.tl_inline.specs.InlineVec.{ClonesAreEqual}
+
+module _ {A X : Type 0} (shows : A → X) where
+  pub shows_in_order : ShowsInOrder shows
+  shows_in_order = from_front (TakesFirst shows) shows (λ s. s) (λ s t h. ap length h.0) (λ s x t h. h)
+
+-- the vector with these fields
+abbrev pub same_vec : {X : Type 0} → List X → Bool → InlineVec X
+same_vec xs b = record { items = xs; on_heap = b }
+
+module _ {X : Type 0} (clones : X → X → Type 0) where
+  -- a list of clones of xs is xs
+  pub same_from_clones : (xs ys : List X) → ClonesAreEqual clones xs → AllZip clones xs ys → ys ≡ xs
+  same_from_clones [] [] same h = refl
+  same_from_clones [] (y ∷ ys) same h = absurd h
+  same_from_clones (x ∷ xs) [] same h = absurd h
+  same_from_clones (x ∷ xs) (y ∷ ys) same h =
+      let first = same x y (Contains-get_or (x ∷ xs) 0 x (omega arith)) h.0 in
+      let rest = same_from_clones xs ys (λ a b k. same a b (Contains-append_right (x ∷ []) xs a k)) h.1 in
+      λ i. first i ∷ rest i
+
+-- the same, as a clause on what a call gave
+pub clones_give : {X E V : Type 0} (clones : X → X → Type 0) (xs : List X) (items : V → List X) (r : Result V E) → ClonesAreEqual clones xs
+    → IfOk r (λ v. AllZip clones xs (items v)) → IfOk r (λ v. items v ≡ xs)
+clones_give clones xs items r same h = IfOk-weaker r _ _ (λ v. same_from_clones clones xs (items v) same) h
+
+-- a vector that lies where v does and has clones of its items is v
+pub clone_is : {X : Type 0} (clones : X → X → Type 0) (v : InlineVec X) (xs ys : List X) (b : Bool) → same_vec xs b ≡ v
+    → ClonesAreEqual clones v.items → AllZip clones xs ys → same_vec ys b ≡ v
+clone_is clones v xs ys b was same h =
+    let e = same_from_clones clones xs ys (subst (λ l. ClonesAreEqual clones l) (sym (ap (λ w. w.items) was)) same) h in
+    ap (λ l. same_vec l b) e ∙ was
+
+-- one turn of a move: the first item of those left goes behind those moved
+pub moved_item : {X : Type 0} (items done more left rest : List X) (x : X) → done ++ left ≡ items → left ≡ x ∷ rest → more ≡ done ++ x ∷ []
+    → more ++ rest ≡ items
+moved_item items done more left rest x whole next put =
+    ap (λ l. l ++ rest) put ∙ append_assoc done (x ∷ []) rest ∙ ap (λ l. done ++ l) (sym next) ∙ whole

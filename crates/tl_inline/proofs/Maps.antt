@@ -1,0 +1,258 @@
+-- Facts of a list of pairs with distinct keys.
+use Rattle.std.proofs.Common.{◌≡◌, ℕ, zero, suc, ◌+◌, ◌<◌, Bool, true, false, not, cond, nat_lt, List, [], ◌∷◌, ◌++◌, length, get_or, slice_set, position, Option, Some, None, is_some, refl, sym, ap, subst, ◌∙◌, arith, append_assoc, ◌||◌, ◌&&◌, ◌==◌, ◌⊎◌, ◌≤◌, inl, slice_get, true≢false, map, IsPermutation}
+use Rattle.std.specs.List.{position_or_len, IsDistinct, AllZip, Contains, list_any, swap_remove, refill}
+use Rattle.std.specs.Cmp.{IsEquivalence}
+use Rattle.std.specs.HashMap.{HashMap, IsUnique, PutsEntry, get}
+use Rattle.std.proofs.lemmas.List.Sorted.{IsPermutation-push_more}
+use Rattle.std.specs.Option.{IfSome, IfNone, option_map}
+use Rattle.std.specs.Map.{keys_of, values_of, lookup, set_value}
+use Rattle.std.proofs.lemmas.List.{get_or-map}
+use Rattle.std.proofs.lemmas.List.Elements.{Contains-get_or, Contains-append_right}
+use Rattle.std.proofs.lemmas.Map.Keys.{IsDistinct-push}
+use Rattle.std.proofs.lemmas.Map.Made.{is_some-lookup}
+use Rattle.std.proofs.lemmas.Option.{slice_get-get_or, slice_get-map, slice_get_past}
+use Rattle.indexmap.specs.IndexMap.{insert_entry, swap_remove_entry, set_value_at}
+use Rattle.indexmap.proofs.MapLemmas.{Found-position, Missing-position, swap_remove_entry-found, swap_remove_entry-missing, insert_entry-absent, insert_entry-first, absent_from_lookup, absent_before, some_index, lookup_permutation}
+use Rattle.indexmap.proofs.RemoveLemmas.{swap_out}
+use Rattle.tl_inline.specs.InlineVec.{ClonesAreEqual}
+use Rattle.tl_spec.specs.Inline.{InlineMap}
+use Rattle.tl_inline.specs.InlineMap.{inserted}
+use Rattle.arrayvec.proofs.ArrayVecLemmas.{items-with_items}
+
+first_of_list : {X : Type 0} (xs : List X) → 0 < length xs → X
+first_of_list [] h = absurd (omega arith)
+first_of_list (x ∷ xs) h = x
+
+module _ {K V : Type 0} (t : K → Bool) where
+  length-keys : (es : List (K × V)) → length (keys_of es) ≡ length es
+  length-keys [] = refl
+  length-keys (e ∷ es) = ap suc (length-keys es)
+
+  length-values : (es : List (K × V)) → length (values_of es) ≡ length es
+  length-values [] = refl
+  length-values (e ∷ es) = ap suc (length-values es)
+
+  or_len-keys : (es : List (K × V)) → position_or_len t (keys_of es) ≡ position_or_len (λ e. t e.0) es
+  or_len-keys [] = refl
+  or_len-keys (e ∷ es) = ap (λ n. cond (not (t e.0)) (1 + n) 0) (or_len-keys es)
+
+  -- a search of the pairs is one of the keys
+  pub position-keys : (es : List (K × V)) → position (λ e. t e.0) es ≡ position t (keys_of es)
+  position-keys es = sym (λ i. cond (nat_lt (or_len-keys es i) (length-keys es i)) (Some (or_len-keys es i)) None)
+
+  -- what a search says of a look-up
+  pub record Finds (es : List (K × V)) (r : Option ℕ) : Type 0 where
+    pub index : r ≡ position t (keys_of es)
+    pub within : IfSome r (λ i. i < length es)
+    pub value : IfSome r (λ i. (d : K × V) → lookup t es ≡ Some (get_or es i d).1)
+    pub absent : IfNone r (lookup t es ≡ None)
+
+  pub finds : (es : List (K × V)) (r : Option ℕ) → r ≡ position t (keys_of es) → Finds es r
+  finds es None e = record { index = e; within = tt; value = tt; absent = (Missing-position t es (sym e)).value }
+  finds es (Some i) e =
+      let f = Found-position t es i (sym e) in
+      let within_values : i < length (values_of es) = subst (λ n. i < n) (sym (length-values es)) f.within in
+      record {
+        index = e;
+        within = f.within;
+        value = λ d. f.value ∙ slice_get-get_or (values_of es) i d.1 within_values ∙ ap Some (get_or-map (λ p. p.1) es i d d.1 f.within);
+        absent = tt;
+      }
+
+  -- the value at the place of a key is the value at the key
+  pub value-at_place : (es : List (K × V)) (i : ℕ) (r : Option V) → Some i ≡ position t (keys_of es) → r ≡ slice_get (values_of es) i → r ≡ lookup t es
+  value-at_place es i r index shown = shown ∙ sym (Found-position t es i (sym index)).value
+
+  -- a key without a place has no value
+  pub no_value-at_place : (es : List (K × V)) → None ≡ position t (keys_of es) → None ≡ lookup t es
+  no_value-at_place es index = sym (Missing-position t es (sym index)).value
+
+  -- what a search and a `swap_remove` at its place leave
+  pub swap_removed : (es fs : List (K × V)) (i : ℕ) (p : K × V) → Some i ≡ position t (keys_of es) → fs ≡ swap_remove es i p → fs ≡ swap_remove_entry t es
+  swap_removed es fs i p index after = after ∙ sym (swap_remove_entry-found t es i p (sym index))
+
+  pub not_removed : (es : List (K × V)) → None ≡ position t (keys_of es) → es ≡ swap_remove_entry t es
+  not_removed es index = sym (swap_remove_entry-missing t es (sym index))
+
+-- a write of the value at i
+pub set-set_value_at : {K V : Type 0} (es : List (K × V)) (i : ℕ) (d : K × V) (w : V) → slice_set es i ((get_or es i d).0, w) ≡ set_value_at es i w
+set-set_value_at [] i d w = refl
+set-set_value_at (e ∷ es) zero d w = refl
+set-set_value_at (e ∷ es) (suc i) d w = ap (λ l. e ∷ l) (set-set_value_at es i d w)
+
+module _ {K V : Type 0} (eq : K → K → Bool) where
+  -- a new key goes last
+  pub insert_new : (es : List (K × V)) (k : K) (v : V) → lookup (eq k) es ≡ None → insert_entry eq es k v ≡ es ++ (k, v) ∷ []
+  insert_new es k v none = insert_entry-absent eq k v es (absent_from_lookup (eq k) es none)
+
+  -- a key that is there keeps its place
+  pub insert_present : (es : List (K × V)) (k : K) (v : V) (i : ℕ) → Some i ≡ position (eq k) (keys_of es) → insert_entry eq es k v ≡ set_value_at es i v
+  insert_present es k v i index = insert_entry-first eq k v es i (Found-position (eq k) es i (sym index)).first
+
+  pub keys-set_value_at : (es : List (K × V)) (i : ℕ) (w : V) → keys_of (set_value_at es i w) ≡ keys_of es
+  keys-set_value_at [] i w = refl
+  keys-set_value_at (e ∷ es) zero w = refl
+  keys-set_value_at (e ∷ es) (suc i) w = ap (λ l. e.0 ∷ l) (keys-set_value_at es i w)
+
+  keys-push : (es : List (K × V)) (e : K × V) → keys_of (es ++ e ∷ []) ≡ keys_of es ++ e.0 ∷ []
+  keys-push [] e = refl
+  keys-push (x ∷ xs) e = ap (λ l. x.0 ∷ l) (keys-push xs e)
+
+  module _ (o : IsEquivalence eq) where
+    -- an insert keeps the keys distinct
+    pub distinct_insert : (es : List (K × V)) (k : K) (v : V) → IsDistinct eq (keys_of es) → IsDistinct eq (keys_of (insert_entry eq es k v))
+    distinct_insert es k v s = by (position (eq k) (keys_of es)) refl
+      where
+        by : (r : Option ℕ) → position (eq k) (keys_of es) ≡ r → IsDistinct eq (keys_of (insert_entry eq es k v))
+        by (Some i) e = subst (IsDistinct eq) (sym (ap keys_of (insert_present es k v i (sym e)) ∙ keys-set_value_at es i v)) s
+        by None e =
+            let none = (Missing-position (eq k) es e).value in
+            let apart : list_any (eq k) (keys_of es) ≡ false = sym (is_some-lookup (eq k) es) ∙ ap is_some none in
+            subst (IsDistinct eq) (sym (ap keys_of (insert_new es k v none) ∙ keys-push es (k, v))) (IsDistinct-push o (keys_of es) k s apart)
+
+    -- a removal keeps them
+    pub distinct_removed : (es fs : List (K × V)) (k : K) → fs ≡ swap_remove_entry (eq k) es → IsDistinct eq (keys_of es) → IsDistinct eq (keys_of fs)
+    distinct_removed es fs k after s = subst (λ l. IsDistinct eq (keys_of l)) (sym after) (by (position (eq k) (keys_of es)) refl)
+      where
+        by : (r : Option ℕ) → position (eq k) (keys_of es) ≡ r → IsDistinct eq (keys_of (swap_remove_entry (eq k) es))
+        by None e = subst (λ l. IsDistinct eq (keys_of l)) (sym (swap_remove_entry-missing (eq k) es e)) s
+        by (Some i) e =
+            let f = Found-position (eq k) es i e in
+            let d = first_of_list es (omega (arith, f.within)) in
+            let p = get_or es i d in
+            let at = slice_get-get_or es i d f.within in
+            (swap_out eq o (eq k) (o.congr k) es i p e at s (swap_remove_entry (eq k) es) (swap_remove_entry-found (eq k) es i p e)).unique
+
+    -- a key that comes later is not among those before it
+    pub new_before : (items es ds rest : List (K × V)) (k : K) (v : V) → IsDistinct eq (keys_of items) → es ++ ds ≡ items → ds ≡ (k, v) ∷ rest → lookup (eq k) es ≡ None
+    new_before items es ds rest k v s whole next =
+        absent_before o es rest (k, v) (subst (λ l. IsDistinct eq (keys_of l)) (sym whole ∙ ap (λ l. es ++ l) next) s)
+
+    -- one turn of a move
+    pub moved_one : (items es fs ds rest : List (K × V)) (k : K) (v : V) → IsDistinct eq (keys_of items) → es ++ ds ≡ items → ds ≡ (k, v) ∷ rest
+        → fs ≡ insert_entry eq es k v → fs ++ rest ≡ items
+    moved_one items es fs ds rest k v s whole next put =
+        ap (λ l. l ++ rest) (put ∙ insert_new es k v (new_before items es ds rest k v s whole next)) ∙ append_assoc es ((k, v) ∷ []) rest
+        ∙ ap (λ l. es ++ l) (sym next) ∙ whole
+
+-- clones of the pairs are the pairs
+pub pairs_same : {K V : Type 0} (C : K → K → Type 0) (D : V → V → Type 0) (es fs : List (K × V)) → ClonesAreEqual C (keys_of es) → ClonesAreEqual D (values_of es)
+    → AllZip (λ p q. C p.0 q.0 × D p.1 q.1) es fs → fs ≡ es
+pairs_same C D [] [] ks vs h = refl
+pairs_same C D [] (f ∷ fs) ks vs h = absurd h
+pairs_same C D (e ∷ es) [] ks vs h = absurd h
+pairs_same C D (e ∷ es) (f ∷ fs) ks vs h =
+    let key = ks e.0 f.0 (Contains-get_or (e.0 ∷ keys_of es) 0 e.0 (omega arith)) h.0.0 in
+    let value = vs e.1 f.1 (Contains-get_or (e.1 ∷ values_of es) 0 e.1 (omega arith)) h.0.1 in
+    let rest = pairs_same C D es fs (λ a b k. ks a b (Contains-append_right (e.0 ∷ []) (keys_of es) a k)) (λ a b k. vs a b (Contains-append_right (e.1 ∷ []) (values_of es) a k)) h.1 in
+    λ i. (key i, value i) ∷ rest i
+
+-- the map with these fields
+abbrev pub same_map : {K V : Type 0} → List (K × V) → Bool → InlineMap K V
+same_map es b = record { entries = es; on_heap = b }
+
+-- a map that lies where m does and has clones of its pairs is m
+pub clone_is : {K V : Type 0} (C : K → K → Type 0) (D : V → V → Type 0) (m : InlineMap K V) (es fs : List (K × V)) (b : Bool) → same_map es b ≡ m
+    → ClonesAreEqual C (keys_of m.entries) → ClonesAreEqual D (values_of m.entries) → AllZip (λ p q. C p.0 q.0 × D p.1 q.1) es fs
+    → (fs ≡ es) × (same_map fs b ≡ m)
+clone_is C D m es fs b was ks vs h =
+    let back = sym (ap (λ w. w.entries) was) in
+    let e = pairs_same C D es fs (subst (λ l. ClonesAreEqual C (keys_of l)) back ks) (subst (λ l. ClonesAreEqual D (values_of l)) back vs) h in
+    (e, ap (λ l. same_map l b) e ∙ was)
+
+module _ {K V : Type 0} (eq : K → K → Bool) where
+  length-set_value_at : (es : List (K × V)) (i : ℕ) (w : V) → length (set_value_at es i w) ≡ length es
+  length-set_value_at [] i w = refl
+  length-set_value_at (e ∷ es) zero w = refl
+  length-set_value_at (e ∷ es) (suc i) w = ap suc (length-set_value_at es i w)
+
+  -- a write of the value at a key that is there, through the slice
+  pub replaced : (es ys : List (K × V)) (k : K) (v : V) (i : ℕ) → Some i ≡ position (eq k) (keys_of es) → ys ≡ set_value_at es i v
+      → refill (length es) es ys ≡ insert_entry eq es k v
+  replaced es ys k v i index put =
+      let same : length ys ≡ length es = ap length put ∙ length-set_value_at es i v in
+      items-with_items (record { items = es }) ys same ∙ put ∙ sym (insert_present eq es k v i index)
+
+  -- a new key, once the pairs lie on the heap
+  pub moved_in : (n : ℕ) (m : InlineMap K V) (es fs : List (K × V)) (k : K) (v : V) → same_map es false ≡ m → is_some (lookup (eq k) es) ≡ false
+      → (length es == n) ≡ true → fs ≡ insert_entry eq es k v → same_map fs true ≡ inserted eq n m k v
+  moved_in n m es fs k v was new full put =
+      let flag : (false || (not (is_some (lookup (eq k) es)) && (length es == n))) ≡ true = λ i. false || (not (new i) && full i) in
+      (λ i. same_map (put i) (sym flag i)) ∙ ap (λ w. inserted eq n w k v) was
+
+-- a loan under the name n, which ends as f of the last value
+abbrev lent : {G A B C : Type 0} → G → (A → B) → (G × (A → B)) ⊎ C
+lent n f = inl (n, f)
+
+-- the same loan, under two functions that agree
+pub lent_same : {G A B C : Type 0} (n : G) (f h : A → B) → ((x : A) → f x ≡ h x) → lent {C = C} n f ≡ lent {C = C} n h
+lent_same n f h same = λ t. inl (n, λ x. same x t)
+
+module _ {K V : Type 0} (es : List (K × V)) (i : ℕ) where
+  -- a write of the second part of the pair at i
+  pub set-part : (x : K × V) (w : V) → x ≡ get_or es i x → slice_set es i (x.0, w) ≡ set_value_at es i w
+  set-part x w is = ap (λ y. slice_set es i (y.0, w)) is ∙ set-set_value_at es i x w
+
+  -- the value at i
+  pub value_at : (x : K × V) → x ≡ get_or es i x → i < length es → Some x.1 ≡ slice_get (values_of es) i
+  value_at x is lt =
+      ap (λ y. Some y.1) is ∙ sym (slice_get-map (λ p. p.1) es i ∙ ap (option_map (λ p. p.1)) (slice_get-get_or es i x lt))
+
+  pub no_value_at : length es ≤ i → None ≡ slice_get (values_of es) i
+  no_value_at le = sym (slice_get-map (λ p. p.1) es i ∙ ap (option_map (λ p. p.1)) (slice_get_past es i le))
+
+module _ {K V : Type 0} (eq : K → K → Bool) (k : K) (w : V) where
+  -- at a key that is there an insert only changes the value
+  pub set_value-is : (es : List (K × V)) → is_some (lookup (eq k) es) ≡ true → insert_entry eq es k w ≡ set_value (eq k) es w
+  set_value-is [] h = absurd (true≢false (sym h))
+  set_value-is (e ∷ es) h = by (eq k e.0) refl (λ g. set_value-is es g)
+    where
+      by : (b : Bool) → eq k e.0 ≡ b → (is_some (lookup (eq k) es) ≡ true → insert_entry eq es k w ≡ set_value (eq k) es w)
+          → insert_entry eq (e ∷ es) k w ≡ set_value (eq k) (e ∷ es) w
+      by true p later = ap (λ b. cond b ((e.0, w) ∷ es) (e ∷ insert_entry eq es k w)) p ∙ sym (ap (λ b. cond b ((e.0, w) ∷ es) (e ∷ set_value (eq k) es w)) p)
+      by false p later =
+          let there = sym (ap (λ b. is_some (cond b (Some e.1) (lookup (eq k) es))) p) ∙ h in
+          ap (λ b. cond b ((e.0, w) ∷ es) (e ∷ insert_entry eq es k w)) p ∙ ap (λ l. e ∷ l) (later there)
+          ∙ sym (ap (λ b. cond b ((e.0, w) ∷ es) (e ∷ set_value (eq k) es w)) p)
+
+  pub set_value-at : (es : List (K × V)) (i : ℕ) → Some i ≡ position (eq k) (keys_of es) → set_value_at es i w ≡ set_value (eq k) es w
+  set_value-at es i index =
+      sym (insert_present eq es k w i index) ∙ set_value-is es (sym (some_index (eq k) es) ∙ ap is_some (sym index))
+
+module _ {K V S : Type 0} (eq : K → K → Bool) (o : IsEquivalence eq) where
+  -- one turn of a copy into a map: the pair is new to it
+  pub copied_one : (items done it rest : List (K × V)) (k : K) (v : V) (x : K) (y : V) (m n : HashMap K V S) (old : Option V)
+      → IsDistinct eq (keys_of items) → done ++ it ≡ items → it ≡ (k, v) ∷ rest → IsPermutation done m.entries → IsUnique eq m
+      → x ≡ k → y ≡ v → old ≡ get eq m x → PutsEntry eq m n x y old
+      → ((done ++ (k, v) ∷ []) ++ rest ≡ items) × IsPermutation (done ++ (k, v) ∷ []) n.entries
+  copied_one items done it rest k v x y m n old s whole next moves unique key value was put =
+      let none = lookup_permutation o done m.entries moves unique (eq k) (o.congr k) ∙ new_before eq o items done it rest k v s whole next in
+      let fresh : old ≡ None = was ∙ ap (λ q. lookup (eq q) m.entries) key ∙ none in
+      let more : IsPermutation ((k, v) ∷ m.entries) n.entries =
+      subst (λ q. IsPermutation (q ∷ m.entries) n.entries) (λ i. (key i, value i)) (subst (λ r. PutsEntry eq m n x y r) fresh put) in (
+        append_assoc done ((k, v) ∷ []) rest ∙ ap (λ l. done ++ l) (sym next) ∙ whole,
+        IsPermutation-push_more done m.entries n.entries (k, v) moves more,
+      )
+
+-- a pair of the list has its key among the keys, and its value among the values
+module _ {K V : Type 0} (items done it rest : List (K × V)) (k : K) (v : V) (whole : done ++ it ≡ items) (next : it ≡ (k, v) ∷ rest) where
+  map_mid : {Y : Type 0} (f : K × V → Y) (es : List (K × V)) → Contains (map f (es ++ (k, v) ∷ rest)) (f (k, v))
+  map_mid f [] = Contains-get_or (f (k, v) ∷ map f rest) 0 (f (k, v)) (omega arith)
+  map_mid f (e ∷ es) = Contains-append_right (f e ∷ []) (map f (es ++ (k, v) ∷ rest)) (f (k, v)) (map_mid f es)
+
+  pub has_key : Contains (keys_of items) k
+  has_key = subst (λ l. Contains (keys_of l) k) (ap (λ l. done ++ l) (sym next) ∙ whole) (map_mid (λ e. e.0) done)
+
+  pub has_value : Contains (values_of items) v
+  has_value = subst (λ l. Contains (values_of l) v) (ap (λ l. done ++ l) (sym next) ∙ whole) (map_mid (λ e. e.1) done)
+
+-- a write at a key that is not there changes nothing
+pub set_value-absent : {K V : Type 0} (t : K → Bool) (es : List (K × V)) (w : V) → lookup t es ≡ None → set_value t es w ≡ es
+set_value-absent t [] w h = refl
+set_value-absent t (e ∷ es) w h = by (t e.0) refl (λ g. set_value-absent t es w g)
+  where
+    by : (b : Bool) → t e.0 ≡ b → (lookup t es ≡ None → set_value t es w ≡ es) → set_value t (e ∷ es) w ≡ e ∷ es
+    by true p later = absurd (true≢false (ap is_some (sym (ap (λ b. cond b (Some e.1) (lookup t es)) p) ∙ h)))
+    by false p later =
+        ap (λ b. cond b ((e.0, w) ∷ es) (e ∷ set_value t es w)) p
+        ∙ ap (λ l. e ∷ l) (later (sym (ap (λ b. cond b (Some e.1) (lookup t es)) p) ∙ h))

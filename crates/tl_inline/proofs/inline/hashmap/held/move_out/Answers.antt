@@ -1,0 +1,18 @@
+use Rattle.std.proofs.Common.{arith, rules, ap, length}
+use Rattle.arrayvec.specs.Iter.{drain_items}
+use Rattle.tl_inline.proofs.Maps.{moved_one}
+use Rattle.tl_inline.proofs.inline.hashmap.held.move_out.Goals as goal
+
+pub loop-key-preserved : goal.loop-key-preserved
+loop-key-preserved g c =
+    let at = c.loop-key in
+    let step = c.in-Some.ensures.steps.0 in
+    let put = c.push_heap.ensures in
+    let shorter = ap length step in
+    let before = at.invariant.3 in (
+      search rules,
+      search rules,
+      moved_one g.K.PartialEq.eq g.met.K.Eq.laws c.args.inline.now.items at.heap.entries c.push_heap.new.heap.entries
+          (drain_items at.key-iterator) (drain_items c.next.new.self) c.in-Some.key c.in-Some.value c.requires at.invariant.2 step put.entries,
+      omega (arith, shorter, before, put.room),
+    )

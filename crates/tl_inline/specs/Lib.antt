@@ -1,0 +1,9 @@
+pub mod InlineVec
+pub mod InlineVecLends
+pub mod InlineMap
+pub mod InlineMapLends
+pub mod HeldItems
+pub mod HeldItemsLends
+pub mod HeldPairs
+pub mod HeldPairsLends
+pub mod PairsLeft

@@ -1,0 +1,47 @@
+//! The iterator over an `InlineHashMap`.
+ghost use Rattle.std.specs.Prelude.{length};
+ghost use Rattle.std.specs.Map.Iter.{TakesFirst, deref_pair};
+ghost use Rattle.std.specs.Iterator.{at_most};
+
+use std::marker::Model;
+use std::slice;
+
+#[derive(Drop)]
+pub(super) enum PairsLeft<'a, K, V> {
+    Inline(slice::Iter<'a, (K, V)>),
+    Heap(indexmap::map::Iter<'a, K, V>),
+}
+
+/// The pairs of an `InlineHashMap` in order. A clause sees it as the list of those that are left.
+#[derive(Drop)]
+pub struct InlineHashMapIterator<'a, K, V> {
+    pub(super) left: PairsLeft<'a, K, V>,
+}
+
+impl<'a, K, V> Model for InlineHashMapIterator<'a, K, V> {
+    ghost use Rattle.std.specs.Prelude.{List};
+
+    ghost Value = { List (K × V) };
+
+    ghost use Rattle.tl_inline.specs.PairsLeft.{pairs_left};
+
+    ghost view = { λ a. pairs_left a.left };
+}
+
+impl<'a, K, V> Iterator for InlineHashMapIterator<'a, K, V> {
+    type Item = (&'a K, &'a V);
+
+    ghost next_gives = { TakesFirst deref_pair };
+
+    ghost remaining = { λ pairs. at_most (length pairs) };
+
+    fn next(&mut self) -> Option<(&'a K, &'a V)> {
+        match &mut self.left {
+            PairsLeft::Inline(pairs) => match pairs.next() {
+                Some(pair) => Some((&pair.0, &pair.1)),
+                None => None,
+            },
+            PairsLeft::Heap(pairs) => pairs.next(),
+        }
+    }
+}

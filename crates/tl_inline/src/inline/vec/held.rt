@@ -1,0 +1,69 @@
+//! Where the items of an `InlineVec` lie.
+ghost use Rattle.std.specs.Prelude.{not, is_some, ◌≡◌, ◌<◌, ◌↔◌, length, slice_index_or, IsSome, IfSome, IfOk, OnErr, vec_len, vec_capacity};
+ghost use Rattle.std.specs.List.{IsItemAtMut};
+ghost use Rattle.std.specs.Borrow.{sem};
+
+use arrayvec::ArrayVec;
+use std::alloc::{AllocError, Global};
+
+#[derive(Drop)]
+pub(super) enum HeldItems<T, const N: usize> {
+    Inline(ArrayVec<T, N>),
+    Heap(Vec<T>),
+}
+
+impl<T, const N: usize> HeldItems<T, N> {
+    ghost use Rattle.tl_inline.specs.HeldItems.{held_items, held_on_heap, IsInline};
+    ghost use Rattle.tl_inline.specs.HeldItemsLends.{lends_item, lends_inline, lends_slice};
+
+    pub(super) fn get_mut(&mut self, index: usize) -> Option<&mut T>
+        ensures* writes_back { sem 𝓛 (lends_item T.row N.row self.entry index result) }
+        ensures variant { IsSome result ↔ (index < length (held_items self.old)) }
+        ensures value { IfSome result (λ x. x.now ≡ slice_index_or (held_items self.old) index x.now) }
+        ensures item { IsItemAtMut (held_items self.old) index result }
+    {
+        match self {
+            HeldItems::Inline(inline) => inline.get_mut(index),
+            HeldItems::Heap(heap) => heap.get_mut(index),
+        }
+    }
+
+    pub(super) fn inline_mut(&mut self) -> Option<&mut ArrayVec<T, N>>
+        ensures* writes_back { sem 𝓛 (lends_inline T.row N.row self.entry result) }
+        ensures variant { is_some result ≡ not (held_on_heap self.old) }
+        ensures value { IfSome result (λ v. v.now.items ≡ held_items self.old) }
+    {
+        match self {
+            HeldItems::Inline(inline) => Some(inline),
+            HeldItems::Heap(_) => None,
+        }
+    }
+
+    pub(super) fn slice_mut(&mut self) -> &mut [T]
+        requires { IsInline self.old }
+        ensures* writes_back { sem 𝓛 (lends_slice T.row N.row self.entry result) }
+        ensures value { result.now ≡ held_items self.old }
+    {
+        match self {
+            HeldItems::Inline(inline) => inline.as_mut_slice(),
+            HeldItems::Heap(_) => unreachable!(),
+        }
+    }
+}
+
+// Moves the items to an allocation with room for one more. What can fail comes first, so an `Err` moves none.
+pub(super) fn move_out<T: Default + Drop, const N: usize>(
+    alloc: Global,
+    inline: &mut ArrayVec<T, N>,
+) -> Result<Vec<T>, AllocError>
+    ensures items { IfOk result (λ v. v.items ≡ inline.old.items) }
+    ensures room { IfOk result (λ v. vec_len v < vec_capacity v) }
+    ensures err { OnErr result (inline.new ≡ inline.old) }
+{
+    let room = inline.len().checked_add(1).ok_or(AllocError)?;
+    let mut heap = Vec::with_capacity(alloc, room)?;
+    for item in inline.drain(..) {
+        heap.push_reserved(item);
+    }
+    Ok(heap)
+}

@@ -1,0 +1,4 @@
+//! Containers with room inline.
+#![tactic(auto)]
+
+pub mod inline;

@@ -1,0 +1,40 @@
+-- What the words ask for.
+use Rattle.std.specs.Prelude.{ℕ, List, [], ◌∷◌, Option, None, Some, map, if◌then◌else◌, codes}
+use Rattle.std.specs.Option.{option_map}
+use Rattle.std.specs.Str.{bytes_eq}
+use Rattle.tl_spec.specs.Edit.{Change}
+use Rattle.tl_spec.specs.StepLine.{changes_of}
+use Rattle.tl_program.specs.Steps.{change_of}
+use Rattle.tl_program.specs.declared.program.asked.Command.{Command}
+use Rattle.tl_program.specs.declared.program.asked.Command.TheVariants.{Print, Text, Edit}
+
+pub data Asked : Type 0 where
+  Prints : Asked
+  Texts : Asked
+  Edits : (changes : List Change) → Asked
+
+-- what a command asks for
+abbrev pub asked_of : Command → Asked
+asked_of Print = Prints
+asked_of Text = Texts
+asked_of (Edit steps) = Edits (map change_of steps.items)
+
+-- what one word asks for, if anything
+abbrev pub asked_by_one : List ℕ → Option Asked
+asked_by_one word =
+    if bytes_eq word (codes "print") then Some Prints
+    else if bytes_eq word (codes "text") then Some Texts
+    else None
+
+-- what a word and a text behind it ask for, if anything
+abbrev pub asked_by_two : List ℕ → List ℕ → Option Asked
+asked_by_two word text =
+    if bytes_eq word (codes "edit") then option_map Edits (changes_of text)
+    else None
+
+-- what the words ask for, if anything
+abbrev pub asked_by : List (List ℕ) → Option Asked
+asked_by [] = None
+asked_by (word ∷ []) = asked_by_one word
+asked_by (word ∷ text ∷ []) = asked_by_two word text
+asked_by (word ∷ text ∷ more ∷ words) = None

@@ -1,0 +1,92 @@
+-- What the program writes, and with which status.
+use Rattle.std.specs.Prelude.{◌≡◌, ℕ, List, [], ◌∷◌, ◌++◌, length, map, take, slice_get, Option, None, Some, Result, Ok, Err, if◌then◌else◌, nat_lt, ◌==◌, string_bytes, ⊤}
+use Rattle.std.specs.Global.{Global}
+use Rattle.std.specs.Option.{option_map_or}
+use Rattle.std.specs.Str.Lossy.{utf8_valid_len}
+use Rattle.std.specs.Io.KnownBytes.{Appends}
+use Rattle.std.specs.declared.string.String.{String}
+use Rattle.tl_spec.specs.Document.{Document, Node, document}
+use Rattle.tl_spec.specs.Edit.{Edited, Refusal, edited_all}
+use Rattle.tl_spec.specs.Print.{document_print}
+use Rattle.tl_spec.specs.Text.{inner_text}
+use Rattle.tl_spec.specs.Walk.{Fault, Dangling}
+use Rattle.tl_program.specs.Asked.{Asked, Prints, Texts, Edits}
+use Rattle.tl_program.specs.declared.program.failure.Failure.{Failure}
+use Rattle.tl_program.specs.declared.program.failure.Failure.TheVariants.{Refused, NotUnderstood, OutOfMemory, Fault as StreamFault}
+
+pub record Outcome : Type 0 where
+  pub status : ℕ
+  pub bytes : List ℕ
+
+abbrev pub done : List ℕ → Outcome
+done bytes = record { status = 0; bytes = bytes }
+
+abbrev pub refused : Outcome
+refused = record { status = 1; bytes = [] }
+
+abbrev pub not_understood : Outcome
+not_understood = record { status = 2; bytes = [] }
+
+-- a text is written, a fault of the tree is refused
+abbrev pub outcome_of_reading : Result (List ℕ) Fault → Outcome
+outcome_of_reading (Ok text) = done text
+outcome_of_reading (Err fault) = refused
+
+-- a text and the one behind it, or the first fault
+abbrev pub followed_by : Result (List ℕ) Fault → Result (List ℕ) Fault → Result (List ℕ) Fault
+followed_by (Err fault) later = Err fault
+followed_by (Ok text) (Err fault) = Err fault
+followed_by (Ok text) (Ok more) = Ok (text ++ more)
+
+-- texts joined in order, or the first fault
+abbrev pub joined : List (Result (List ℕ) Fault) → Result (List ℕ) Fault
+joined [] = Ok []
+joined (reading ∷ later) = followed_by reading (joined later)
+
+-- the text of the node of a handle, which is a fault past the table
+abbrev pub text_at : List Node → ℕ → Result (List ℕ) Fault
+text_at nodes h = option_map_or (λ node. inner_text nodes node) (slice_get nodes h) (Err (Dangling h))
+
+-- the text of each top node, joined in order
+abbrev pub texts_of : Document → Result (List ℕ) Fault
+texts_of d = joined (map (text_at d.nodes) d.top)
+
+-- a document is printed, unless an edit of it was refused
+abbrev pub outcome_of_edit : Option (ℕ × Refusal) → Document → Outcome
+outcome_of_edit None d = outcome_of_reading (document_print d)
+outcome_of_edit (Some refusal) d = refused
+
+abbrev pub outcome_of_edited : Edited → Outcome
+outcome_of_edited e = outcome_of_edit e.refused e.document
+
+-- what a command makes of a document
+abbrev pub outcome_of_document : Asked → Document → Outcome
+outcome_of_document Prints d = outcome_of_reading (document_print d)
+outcome_of_document Texts d = outcome_of_reading (texts_of d)
+outcome_of_document (Edits changes) d = outcome_of_edited (edited_all changes d)
+
+-- a text longer than 4294967295 bytes is not understood
+abbrev pub outcome_of_text : Asked → List ℕ → Outcome
+outcome_of_text asked text =
+    if nat_lt 4294967295 (length text) then not_understood else outcome_of_document asked (document text)
+
+-- input that is no text is not understood
+abbrev pub output_of : Asked → List ℕ → Outcome
+output_of asked input =
+    if utf8_valid_len input == length input then outcome_of_text asked input else not_understood
+
+-- a failure says this outcome, or is want of memory
+abbrev pub Fails : Outcome → Failure → Type 0
+Fails outcome Refused = outcome ≡ refused
+Fails outcome NotUnderstood = outcome ≡ not_understood
+Fails outcome OutOfMemory = ⊤
+Fails outcome StreamFault = ⊥
+
+-- the text or the failure is this outcome, or is want of memory
+abbrev pub Gives : Outcome → Result (String Global) Failure → Type 0
+Gives outcome (Ok text) = outcome ≡ done (string_bytes text)
+Gives outcome (Err failure) = Fails outcome failure
+
+-- known bytes grow by a beginning of bs
+abbrev pub AppendsBeginning : Option (List ℕ) → Option (List ℕ) → List ℕ → Type 0
+AppendsBeginning old new bs = (k : ℕ) × Appends old new (take k bs)

@@ -1,0 +1,50 @@
+-- What steps make of a table.
+use Rattle.std.specs.Prelude.{◌≡◌, ℕ, List, take, slice_get, Some, None, Result, Ok, Err, IsOk, IsSomeAnd}
+use Rattle.std.specs.Borrow.{MutBor}
+use Rattle.tl_bytes.specs.Held.{Kept}
+use Rattle.tl_spec.specs.Document.{TagNode, Document}
+use Rattle.tl_spec.specs.Edit.{Change, Refusal, no_node, not_tag, no_place, edited, edited_all, done, stopped}
+use Rattle.tl_attributes.specs.Attributes.{Attributes}
+use Rattle.tl.specs.Node.{tag_of}
+use Rattle.tl.specs.Tag.{Tag}
+use Rattle.tl.specs.Table.{Table}
+use Rattle.tl.specs.Shown.{HTMLTag, shown_tag, document_of}
+use Rattle.tl.specs.declared.parser.tag.node.NodeOf.TheVariants.{Tag as ATag}
+use Rattle.tl_program.specs.declared.script.step.StepError.{StepError}
+use Rattle.tl_program.specs.declared.script.step.StepError.TheVariants.{NoNode, NotTag, NoPlace, OutOfMemory}
+
+-- a table that `parse` gives
+abbrev pub HTMLTable : Type 0
+HTMLTable = Table (Attributes Kept) Kept
+
+-- an edit is refused for this cause; want of memory is looked at last, so the edit itself is not refused there
+abbrev pub IsRefused : {A : Type 0} → Result A Refusal → StepError → Type 0
+IsRefused r NoNode = r ≡ Err no_node
+IsRefused r NotTag = r ≡ Err not_tag
+IsRefused r NoPlace = r ≡ Err no_place
+IsRefused r OutOfMemory = IsOk r
+
+-- a reference shows the tag at a number of a table, or there is none for this cause
+abbrev pub IsTagAt : {A B : Type 0} → Table A B → ℕ → Result (MutBor (Tag A B)) StepError → Type 0
+IsTagAt d n (Ok tag) = slice_get d.nodes n ≡ Some (ATag tag.now)
+IsTagAt d n (Err NoNode) = slice_get d.nodes n ≡ None
+IsTagAt d n (Err NotTag) = IsSomeAnd (slice_get d.nodes n) (λ node. tag_of node ≡ None)
+IsTagAt d n (Err NoPlace) = ⊥
+IsTagAt d n (Err OutOfMemory) = ⊥
+
+-- the new tag is the edited one, or the old one where the edit is refused
+abbrev pub ChangesTag : {A : Type 0} → (TagNode → Result TagNode Refusal) → HTMLTag → HTMLTag → Result A StepError → Type 0
+ChangesTag edit old new (Ok x) = edit (shown_tag old) ≡ Ok (shown_tag new)
+ChangesTag edit old new (Err e) = (new ≡ old) × IsRefused (edit (shown_tag old)) e
+
+-- the new table is the edited one, or the old one where the edit is refused
+abbrev pub ChangesTable : {A : Type 0} → (Document → Result Document Refusal) → HTMLTable → HTMLTable → Result A StepError → Type 0
+ChangesTable edit old new (Ok x) = (edit (document_of old) ≡ Ok (document_of new)) × (new.version ≡ old.version)
+ChangesTable edit old new (Err e) = (new ≡ old) × IsRefused (edit (document_of old)) e
+
+-- the edits of d at the places before i make e, and the edit at i is refused for this cause
+abbrev pub StopsAt : List Change → Document → Document → ℕ → StepError → Type 0
+StopsAt cs d e i NoNode = edited_all cs d ≡ stopped i no_node e
+StopsAt cs d e i NotTag = edited_all cs d ≡ stopped i not_tag e
+StopsAt cs d e i NoPlace = edited_all cs d ≡ stopped i no_place e
+StopsAt cs d e i OutOfMemory = (edited_all (take i cs) d ≡ done e) × IsSomeAnd (slice_get cs i) (λ c. IsOk (edited c e))

@@ -1,0 +1,72 @@
+ghost use Rattle.std.specs.Prelude.{map};
+ghost use Rattle.tl_spec.specs.Edit.{edited_all};
+ghost use Rattle.tl.specs.Answer.{Answers};
+ghost use Rattle.tl.specs.Shown.{document_of, shown};
+ghost use Rattle.tl_program.specs.Asked.{asked_of};
+ghost use Rattle.tl_program.specs.Output.{outcome_of_text, outcome_of_document, outcome_of_edited, text_at, texts_of, Gives};
+ghost use Rattle.tl_program.specs.Steps.{change_of};
+
+use super::asked::Command;
+use super::failure::Failure;
+use crate::script;
+use crate::script::Step;
+use std::alloc::Global;
+use tl::errors::TreeError;
+use tl::{NodeHandle, Parser, ParserOptions, VDom};
+
+// The text of the node of a handle.
+fn text_at(alloc: Global, handle: NodeHandle, parser: &Parser<'_>) -> Result<String, TreeError>
+    ensures { Answers (text_at (map shown parser.now.nodes) handle) result }
+{
+    match handle.get(parser) {
+        Some(node) => node.inner_text(alloc, parser),
+        None => Err(TreeError::Dangling(handle)),
+    }
+}
+
+// The texts of the top nodes, one behind the other.
+fn texts(alloc: Global, document: &VDom<'_>) -> Result<String, TreeError>
+    ensures { Answers (texts_of (document_of document.now)) result }
+{
+    let mut all = String::new(alloc);
+    for handle in document.children() {
+        match text_at(alloc, *handle, document.parser()) {
+            Ok(text) => all.push_str(text.as_str())?,
+            Err(error) => return Err(error),
+        }
+    }
+    Ok(all)
+}
+
+// The print after steps.
+fn edited(alloc: Global, document: &mut VDom<'_>, steps: &[Step<'_>]) -> Result<String, Failure>
+    ensures { Gives (outcome_of_edited (edited_all (map change_of steps.now) (document_of document.old))) result }
+{
+    match script::run(alloc, document, steps) {
+        Ok(()) => Ok(document.outer_html(alloc)?),
+        Err((_, error)) => Err(Failure::from(error)),
+    }
+}
+
+// What a command writes of a document, which it may edit.
+fn of_document(
+    alloc: Global,
+    command: &Command<'_>,
+    document: &mut VDom<'_>,
+) -> Result<String, Failure>
+    ensures { Gives (outcome_of_document (asked_of command.now) (document_of document.old)) result }
+{
+    match command {
+        Command::Print => Ok(document.outer_html(alloc)?),
+        Command::Text => Ok(texts(alloc, document)?),
+        Command::Edit(steps) => edited(alloc, document, steps),
+    }
+}
+
+/// What a command writes of a text.
+pub fn answer(alloc: Global, command: &Command<'_>, text: &str) -> Result<String, Failure>
+    ensures { Gives (outcome_of_text (asked_of command.now) text.now) result }
+{
+    let mut document = tl::parse(alloc, text, ParserOptions::new())?;
+    of_document(alloc, command, &mut document)
+}

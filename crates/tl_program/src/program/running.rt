@@ -1,0 +1,115 @@
+ghost use Rattle.std.specs.Prelude.{◌≡◌, ◌≢◌, ◌≤◌, ◌<◌, ◌==◌, true, false, ◌||◌, is_err, IfOk, IfErr, IfSome, OnOk, OnErr};
+ghost use Rattle.std.specs.Io.KnownBytes.{Keeps, Appends, IsAtEnd};
+ghost use Rattle.tl_program.specs.Asked.{asked_of};
+ghost use Rattle.tl_program.specs.Failure.{is_fault, IsReadFailure};
+ghost use Rattle.tl_program.specs.Output.{output_of, Gives, AppendsBeginning};
+
+use super::answer::answer;
+use super::asked::Command;
+use super::failure::Failure;
+use super::fault::{Fault, Input, Output};
+use std::alloc::Global;
+
+// All that the reader has left.
+fn read_all<R: Input>(alloc: Global, reader: &mut R) -> Result<Vec<u8>, Failure>
+    ensures bytes { IfOk result (λ v. IfSome (R.left reader.old) (λ xs. v.items ≡ xs)) }
+    ensures end { OnOk result (IsAtEnd (R.left reader.new)) }
+    ensures err { IfErr result IsReadFailure }
+    ensures marks { R.has_failed reader.new ≡ (R.has_failed reader.old || is_fault result) }
+{
+    let mut all = Vec::new(alloc);
+    let mut buffer = [0u8; 4096];
+    loop {
+        match reader.read(&mut buffer) {
+            Ok(0) => return Ok(all),
+            Ok(n) => {
+                if all.extend_from_slice(&buffer[..n]).is_err() {
+                    return Err(Failure::OutOfMemory);
+                }
+            }
+            Err(Fault) => return Err(Failure::Fault),
+        }
+    }
+}
+
+// Writes all the bytes.
+fn write_all<W: Output>(writer: &mut W, bytes: &[u8]) -> Result<(), Fault>
+    ensures ok { OnOk result (Appends (W.holds writer.old) (W.holds writer.new) bytes.now) }
+    ensures err { OnErr result (AppendsBeginning (W.holds writer.old) (W.holds writer.new) bytes.now) }
+    ensures marks { W.has_failed writer.new ≡ (W.has_failed writer.old || is_err result) }
+{
+    let mut done = 0;
+    while done < bytes.len() {
+        match writer.write(&bytes[done..]) {
+            Ok(n) => done += n,
+            Err(fault) => return Err(fault),
+        }
+    }
+    Ok(())
+}
+
+// Writes all the bytes, and flushes.
+fn deliver<W: Output>(writer: &mut W, bytes: &[u8]) -> Result<(), Fault>
+    ensures ok { OnOk result (Appends (W.holds writer.old) (W.holds writer.new) bytes.now) }
+    ensures err { OnErr result (AppendsBeginning (W.holds writer.old) (W.holds writer.new) bytes.now) }
+    ensures marks { W.has_failed writer.new ≡ (W.has_failed writer.old || is_err result) }
+{
+    write_all(writer, bytes)?;
+    writer.flush()
+}
+
+// What a command writes of the bytes that were read.
+fn output(alloc: Global, command: &Command<'_>, input: &[u8]) -> Result<String, Failure>
+    ensures { Gives (output_of (asked_of command.now) input.now) result }
+{
+    match str::from_utf8(input) {
+        Ok(text) => answer(alloc, command, text),
+        Err(_) => Err(Failure::NotUnderstood),
+    }
+}
+
+/// Runs a command on what the reader has left, writes what it gives, and answers the status.
+///
+/// It is 0 where all is done, 1 where the tree has a fault or a step is refused, 2 where the input is no text or too
+/// long, 3 where no memory is found, and 4 where a read or a write failed. The output is made whole before the first
+/// write, and flushed once behind the last. A fault is that of the tree after the steps; below a refused step nothing
+/// is looked at.
+pub fn run<R: Input, W: Output>(
+    alloc: Global,
+    command: &Command<'_>,
+    reader: &mut R,
+    writer: &mut W,
+) -> u8
+    ensures range { result ≤ 4 }
+
+    // Where memory is found and nothing fails.
+    ensures exact { result ≢ 3 → result ≢ 4 → IfSome (R.left reader.old) (λ input.
+        result ≡ (output_of (asked_of command.now) input).status) }
+    ensures written { result ≢ 3 → result ≢ 4 → IfSome (R.left reader.old) (λ input.
+        Appends (W.holds writer.old) (W.holds writer.new) (output_of (asked_of command.now) input).bytes) }
+    ensures end { result ≢ 3 → result ≢ 4 → IsAtEnd (R.left reader.new) }
+
+    // A refusal and a failed read write nothing; a failed write leaves a beginning of what is to be written.
+    ensures nothing { 0 < result → result < 4 → Keeps (W.holds writer.old) (W.holds writer.new) }
+    ensures beginning { result ≡ 4 → IfSome (R.left reader.old) (λ input.
+        AppendsBeginning (W.holds writer.old) (W.holds writer.new) (output_of (asked_of command.now) input).bytes) }
+    ensures unread { R.has_failed reader.old ≡ false → R.has_failed reader.new ≡ true →
+        Keeps (W.holds writer.old) (W.holds writer.new) }
+    ensures unwritten { result ≡ 4 → R.has_failed reader.new ≡ false →
+        IsAtEnd (R.left reader.new) × IfSome (R.left reader.old) (λ input. (output_of (asked_of command.now) input).status ≡ 0) }
+    ensures failed { R.has_failed reader.old ≡ false → W.has_failed writer.old ≡ false →
+        (result == 4) ≡ (R.has_failed reader.new || W.has_failed writer.new) }
+{
+    let input = match read_all(alloc, reader) {
+        Ok(input) => input,
+        Err(failure) => return failure as u8,
+    };
+    let output = match output(alloc, command, &input) {
+        Ok(output) => output,
+        Err(failure) => return failure as u8,
+    };
+    match deliver(writer, output.as_bytes()) {
+        Ok(()) => 0,
+        Err(Fault) => Failure::Fault as u8,
+    }
+}

@@ -1,0 +1,46 @@
+ghost use Rattle.std.specs.Prelude.{◌≡◌, IfOk, map, string_bytes};
+ghost use Rattle.std.specs.Option.{option_map};
+ghost use Rattle.tl_program.specs.Asked.{asked_of, asked_by, asked_by_one, asked_by_two};
+
+use super::asked::Command;
+use crate::script::steps;
+use std::alloc::{AllocError, Global};
+
+// The command of one word.
+fn of_one<'c>(word: &str) -> Option<Command<'c>>
+    ensures { option_map asked_of result ≡ asked_by_one word.now }
+{
+    if word == "print" {
+        Some(Command::Print)
+    } else if word == "text" {
+        Some(Command::Text)
+    } else {
+        None
+    }
+}
+
+// The command of a word and a text behind it.
+fn of_two<'c>(alloc: Global, word: &str, text: &'c str) -> Result<Option<Command<'c>>, AllocError>
+    ensures { IfOk result (λ c. option_map asked_of c ≡ asked_by_two word.now text.now) }
+{
+    if word == "edit" {
+        match steps(alloc, text)? {
+            Some(steps) => Ok(Some(Command::Edit(steps))),
+            None => Ok(None),
+        }
+    } else {
+        Ok(None)
+    }
+}
+
+/// The command that the words say, or None where they say none: `print`, `text`, or `edit` and behind it a text of
+/// step lines.
+pub fn command<'c>(alloc: Global, words: &'c [String]) -> Result<Option<Command<'c>>, AllocError>
+    ensures { IfOk result (λ c. option_map asked_of c ≡ asked_by (map string_bytes words.now)) }
+{
+    match words {
+        [word] => Ok(of_one(word.as_str())),
+        [word, text] => of_two(alloc, word.as_str(), text.as_str()),
+        _ => Ok(None),
+    }
+}

@@ -1,0 +1,9 @@
+//! Edits as values, and the lines that spell them.
+mod edit;
+mod reading;
+mod step;
+mod tag;
+
+pub use edit::run;
+pub use reading::steps;
+pub use step::{Step, StepError};

@@ -1,0 +1,133 @@
+ghost use Rattle.std.specs.Prelude.{◌≡◌, ◌==◌, slice_index, ◌∷◌, ◌<◌, length, IfOk, IfSome, map};
+ghost use Rattle.std.specs.Option.{option_map};
+ghost use Rattle.std.specs.List.{slice_split};
+ghost use Rattle.tl_spec.specs.StepLine.{is_line_feed, number_of, first_word, behind_word, change_by_word, change_of_line, changes_of};
+ghost use Rattle.tl_program.specs.Steps.{change_of, lines_left};
+
+use super::step::Step;
+use std::alloc::{AllocError, Global};
+
+// Whether a sign stands first, which `parse` would take.
+fn starts_with_plus(digits: &str) -> bool
+    ensures { result ≡ (slice_index digits.now 0 == 43) }
+{
+    match digits.as_bytes() {
+        [first, ..] => *first == b'+',
+        [] => false,
+    }
+}
+
+// The number that digits write, if it fits.
+fn number(digits: &str) -> Option<u32>
+    ensures { result ≡ number_of digits.now }
+{
+    if starts_with_plus(digits) {
+        return None;
+    }
+    digits.parse::<u32>().ok()
+}
+
+// The same for a place in a list.
+fn place(digits: &str) -> Option<usize>
+    ensures { result ≡ number_of digits.now }
+{
+    number(digits).map(|number| number as usize)
+}
+
+// What stands before the first space, and what stands behind it.
+fn cut<'s>(text: &'s str) -> (&'s str, &'s str)
+    ensures first { result.0.now ≡ first_word text.now }
+    ensures rest { result.1.now ≡ behind_word text.now }
+{
+    match text.split_once(' ') {
+        Some(parts) => parts,
+        None => (text, ""),
+    }
+}
+
+// The step that the first word of a line and what stands behind it say.
+fn by_word<'s>(word: &str, rest: &'s str) -> Option<Step<'s>>
+    ensures { option_map change_of result ≡ change_by_word word.now rest.now }
+{
+    let (digits, text) = cut(rest);
+    if word == "name" {
+        Some(Step::Name(number(digits)?, text.as_bytes()))
+    } else if word == "text" {
+        Some(Step::Text(number(digits)?, text.as_bytes()))
+    } else if word == "comment" {
+        Some(Step::Comment(number(digits)?, text.as_bytes()))
+    } else if word == "set" {
+        let (key, value) = cut(text);
+        Some(Step::Set(number(digits)?, key.as_bytes(), value.as_bytes()))
+    } else if word == "flag" {
+        Some(Step::Flag(number(digits)?, text.as_bytes()))
+    } else if word == "unset" {
+        Some(Step::Unset(number(digits)?, text.as_bytes()))
+    } else if word == "bare" {
+        Some(Step::Bare(number(digits)?, text.as_bytes()))
+    } else if word == "push" {
+        Some(Step::Push(number(digits)?, number(text)?))
+    } else if word == "pull" {
+        Some(Step::Pull(number(digits)?, place(text)?))
+    } else if word == "root" {
+        Some(Step::Root(place(digits)?, number(text)?))
+    } else {
+        None
+    }
+}
+
+// The step that a line says, if it is of one of the forms.
+fn step<'s>(line: &'s str) -> Option<Step<'s>>
+    ensures { option_map change_of result ≡ change_of_line line.now }
+{
+    let (word, rest) = cut(line);
+    by_word(word, rest)
+}
+
+// The first line, and what stands behind its line feed, if it has one.
+fn cut_line<'s>(text: &'s str) -> (&'s str, Option<&'s str>)
+    ensures lines { slice_split is_line_feed text.now ≡ result.0.now ∷ lines_left result.1 }
+    ensures shorter { IfSome result.1 (λ more. length more.now < length text.now) }
+{
+    match text.split_once('\n') {
+        Some((line, more)) => (line, Some(more)),
+        None => (text, None),
+    }
+}
+
+/// The steps that a text says, one a line, or None where a line is of none of the forms. Empty lines are passed over.
+///
+/// A line is a word, and behind a space each what the table says. A number is one or more decimal digits of a value of
+/// at most 4294967295. What stands last in a line runs to its end, spaces and a carriage return included, and is empty
+/// where the line ends before its space.
+///
+/// | Line | Step |
+/// |---|---|
+/// | `name N TEXT` | `Name(N, TEXT)` |
+/// | `text N TEXT` | `Text(N, TEXT)` |
+/// | `comment N TEXT` | `Comment(N, TEXT)` |
+/// | `set N KEY VALUE` | `Set(N, KEY, VALUE)`, with a KEY without spaces |
+/// | `flag N KEY` | `Flag(N, KEY)` |
+/// | `unset N KEY` | `Unset(N, KEY)` |
+/// | `bare N KEY` | `Bare(N, KEY)` |
+/// | `push N M` | `Push(N, M)` |
+/// | `pull N I` | `Pull(N, I)` |
+/// | `root I M` | `Root(I, M)` |
+pub fn steps<'s>(alloc: Global, text: &'s str) -> Result<Option<Vec<Step<'s>>>, AllocError>
+    ensures { IfOk result (λ steps. option_map (λ v. map change_of v.items) steps ≡ changes_of text.now) }
+{
+    let mut steps = Vec::new(alloc);
+    let mut rest = Some(text);
+    while let Some(all) = rest {
+        let (line, more) = cut_line(all);
+        rest = more;
+        if line.is_empty() {
+            continue;
+        }
+        match step(line) {
+            Some(step) => steps.push(step)?,
+            None => return Ok(None),
+        }
+    }
+    Ok(Some(steps))
+}

@@ -1,0 +1,135 @@
+//! Steps on a tag.
+ghost use Rattle.std.specs.Prelude.{◌≡◌, ◌<◌, length, remove, OnOk, OnErr};
+ghost use Rattle.tl_bytes.specs.Held.{as_owned};
+ghost use Rattle.tl_inline.specs.InlineVec.{pushed};
+ghost use Rattle.tl_spec.specs.Edit.{with_attribute, without_attribute, without_value, pushed as pushed_handle, pulled, on_ok};
+ghost use Rattle.tl_program.specs.Script.{ChangesTag};
+
+use crate::script::step::StepError;
+use std::alloc::Global;
+use tl::{HTMLTag, NodeHandle, TagOf};
+use tl_bytes::byte_string::copied;
+
+// Names the tag.
+pub(super) fn set_name<'a>(
+    alloc: Global,
+    tag: &mut HTMLTag<'a>,
+    name: &[u8],
+) -> Result<(), StepError>
+    ensures { ChangesTag (λ own. Ok (record own { name = name.now })) tag.old tag.new result }
+{
+    let Ok(name) = copied(alloc, name) else {
+        return Err(StepError::OutOfMemory);
+    };
+    *tag.name_mut() = name;
+    Ok(())
+}
+
+// Puts a value at a key.
+pub(super) fn set_value<'a>(
+    alloc: Global,
+    tag: &mut HTMLTag<'a>,
+    key: &[u8],
+    value: &[u8],
+) -> Result<(), StepError>
+    ensures { ChangesTag (λ own. Ok (record own { attributes = with_attribute key.now (Some value.now) own.attributes })) tag.old tag.new result }
+{
+    let Ok(key) = copied(alloc, key) else {
+        return Err(StepError::OutOfMemory);
+    };
+    let Ok(value) = copied(alloc, value) else {
+        return Err(StepError::OutOfMemory);
+    };
+    match tag.attributes_mut().insert(key, Some(value)) {
+        Ok(()) => Ok(()),
+        Err(_) => Err(StepError::OutOfMemory),
+    }
+}
+
+// Puts a key without a value.
+pub(super) fn set_flag<'a>(
+    alloc: Global,
+    tag: &mut HTMLTag<'a>,
+    key: &[u8],
+) -> Result<(), StepError>
+    ensures { ChangesTag (λ own. Ok (record own { attributes = with_attribute key.now None own.attributes })) tag.old tag.new result }
+{
+    let Ok(key) = copied(alloc, key) else {
+        return Err(StepError::OutOfMemory);
+    };
+    match tag.attributes_mut().insert(key, None) {
+        Ok(()) => Ok(()),
+        Err(_) => Err(StepError::OutOfMemory),
+    }
+}
+
+// Takes a key out.
+pub(super) fn remove_key<'a>(
+    alloc: Global,
+    tag: &mut HTMLTag<'a>,
+    key: &[u8],
+) -> Result<(), StepError>
+    ensures { ChangesTag (λ own. Ok (record own { attributes = without_attribute key.now own.attributes })) tag.old tag.new result }
+{
+    let Ok(key) = copied(alloc, key) else {
+        return Err(StepError::OutOfMemory);
+    };
+    tag.attributes_mut().remove(key);
+    Ok(())
+}
+
+// Takes the value at a key out.
+pub(super) fn remove_value<'a>(
+    alloc: Global,
+    tag: &mut HTMLTag<'a>,
+    key: &[u8],
+) -> Result<(), StepError>
+    ensures { ChangesTag (λ own. Ok (record own { attributes = without_value key.now own.attributes })) tag.old tag.new result }
+{
+    let Ok(key) = copied(alloc, key) else {
+        return Err(StepError::OutOfMemory);
+    };
+    tag.attributes_mut().remove_value(key);
+    Ok(())
+}
+
+// Makes a handle the last child.
+pub(super) fn push_child<'a>(tag: &mut HTMLTag<'a>, child: u32) -> Result<(), StepError>
+    ensures { ChangesTag (λ own. Ok (record own { children = pushed_handle own.children child })) tag.old tag.new result }
+{
+    match push_handle(tag, NodeHandle::new(child)) {
+        Ok(()) => Ok(()),
+        Err(_) => Err(StepError::OutOfMemory),
+    }
+}
+
+// Takes the child at a place out.
+pub(super) fn pull_child<'a>(tag: &mut HTMLTag<'a>, place: usize) -> Result<(), StepError>
+    ensures { ChangesTag (λ own. on_ok (λ handles. record own { children = handles }) (pulled place own.children)) tag.old tag.new result }
+{
+    if place >= tag.children().top().len() {
+        return Err(StepError::NoPlace);
+    }
+    pull_handle(tag, place);
+    Ok(())
+}
+
+// A push of a tag of any parts: what a tag with a lifetime holds after the list was lent is not seen.
+fn push_handle<A, B>(tag: &mut TagOf<A, B>, child: NodeHandle) -> Result<(), NodeHandle>
+    ensures ok { OnOk result (tag.new ≡ record tag.old { children = pushed 2 tag.old.children child }) }
+    ensures err { OnErr result (tag.new ≡ tag.old) }
+{
+    let mut children = tag.children_mut();
+    let list = children.top_mut();
+    list.push(child)
+}
+
+// The same of a child at a place.
+fn pull_handle<A, B>(tag: &mut TagOf<A, B>, place: usize)
+    requires { place < length tag.old.children.items }
+    ensures { tag.new ≡ record tag.old { children = record tag.old.children { items = remove tag.old.children.items place } } }
+{
+    let mut children = tag.children_mut();
+    let list = children.top_mut();
+    list.remove(place);
+}

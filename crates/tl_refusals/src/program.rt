@@ -1,0 +1,53 @@
+//! Runs of the program.
+use crate::stop::{Stop, expect};
+use std::alloc::{AllocError, Global};
+use tl_program::program::{Command, Marked, command, run};
+
+const PAGE: &[u8] = b"<p a=1 b=2 c=3>x<b>y</b>\xc3\xa9<!-- z --><br></p>";
+
+/// A run of each command.
+pub fn all(alloc: Global) -> Result<(), Stop> {
+    said(
+        alloc,
+        &["print"],
+        b"<p a=\"1\" b=\"2\" c=\"3\">x<b>y</b>\xc3\xa9<!-- z --><br></p>",
+    )?;
+    said(alloc, &["text"], b"xy\xc3\xa9")?;
+    said(
+        alloc,
+        &["edit", "set 0 d 4\nunset 0 a\nname 2 i\ntext 4 w\npush 0 1"],
+        b"<p d=\"4\" b=\"2\" c=\"3\">x<i>y</i>w<!-- z --><br>x</p>",
+    )
+}
+
+// A run of the command that the words say.
+fn said(alloc: Global, words: &[&str], wanted: &[u8]) -> Result<(), Stop> {
+    let words = owned(alloc, words)?;
+    match command(alloc, &words)? {
+        Some(asked) => ran(alloc, &asked, wanted),
+        None => Err(Stop::Wrong("command")),
+    }
+}
+
+fn owned(alloc: Global, words: &[&str]) -> Result<Vec<String>, AllocError> {
+    let mut owned = Vec::new(alloc);
+    for word in words {
+        owned.push(String::from_str(alloc, *word)?)?;
+    }
+    Ok(owned)
+}
+
+// The writer has room for the page, so that it makes no request of its own. Without memory nothing is written.
+fn ran(alloc: Global, asked: &Command<'_>, wanted: &[u8]) -> Result<(), Stop> {
+    let mut written = Vec::with_capacity(alloc, wanted.len())?;
+    let mut reader = Marked::new(PAGE);
+    let mut writer = Marked::new(&mut written);
+    match run(alloc, asked, &mut reader, &mut writer) {
+        0 => expect(written.as_slice() == wanted, "run"),
+        3 => {
+            expect(written.is_empty(), "run, refused")?;
+            Err(Stop::NoMemory)
+        }
+        _ => Err(Stop::Wrong("run")),
+    }
+}

@@ -1,0 +1,4 @@
+pub mod Suffixes
+pub mod Needles
+pub mod ReadAttributes
+pub mod TokenSteps

@@ -1,0 +1,4 @@
+pub mod Suffix
+pub mod Place
+pub mod Reading
+pub mod Told

@@ -1,5 +1,0 @@
-use Rattle.tlq.proofs.Stepping.{tag-taken}
-use Rattle.tlq.proofs.script.tag.remove_key.Goals as goal
-
-pub returns : goal.returns
-returns c = tag-taken c.args.tag.now _ _ _ _ c.attributes_mut.ensures.value c.in-Ok.ensures c.remove.ensures.left

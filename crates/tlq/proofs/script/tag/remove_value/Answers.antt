@@ -1,5 +1,0 @@
-use Rattle.tlq.proofs.Stepping.{tag-bare}
-use Rattle.tlq.proofs.script.tag.remove_value.Goals as goal
-
-pub returns : goal.returns
-returns c = tag-bare c.args.tag.now _ _ _ _ c.attributes_mut.ensures.value c.in-Ok.ensures c.remove_value.ensures.left

@@ -1,7 +1,0 @@
-use Rattle.std.proofs.Common.{Some, ap}
-use Rattle.tl_base.specs.Held.{Kept}
-use Rattle.tlq.proofs.Stepping.{tag-put}
-use Rattle.tlq.proofs.script.tag.set_value.Goals as goal
-
-pub returns-in-Ok-insert : goal.returns-in-Ok-insert
-returns-in-Ok-insert c = tag-put c.args.tag.now _ _ _ _ c.attributes_mut.ensures.value c.in-Ok.ensures _ _ (ap (λ (b : Kept). Some b.list) c.in-Ok-copied.ensures) c.in-Ok-insert.ensures.ok
