@@ -3,15 +3,11 @@
 
 ghost use Rattle.std.specs.Prelude.{◌≤◌};
 
-#[cfg(test)]
-mod script_tests;
-#[cfg(test)]
-mod tests;
-
+use program::{Marked, command, line, run};
 use std::env;
 use std::io::ErrorKind;
 use std::process::ExitCode;
-use tl_program::program::{Marked, command, line, run};
+pub use tl_program::{program, script};
 
 fn main(rt: HostRuntime) -> ExitCode {
     let status = status_of(&rt);

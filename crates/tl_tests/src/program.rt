@@ -1,0 +1,295 @@
+//! Runs of the program: their status, what they write, and whether a reader or a writer is marked as failed.
+use crate::words::owned;
+use std::alloc::{AllocError, Global};
+use std::io;
+use std::io::{ErrorKind, Read, Write};
+use tl_program::program::{Command, Input, Marked, Output, command, line, run};
+
+const NEVER: usize = usize::MAX;
+
+// How a writer takes what it is given: at most `most` bytes a call, with an error at the call `bad`, counted from 0, and
+// with or without one at the flush.
+struct Manner {
+    most: usize,
+    bad: usize,
+    flush_fails: bool,
+}
+
+const WHOLE: Manner = Manner {
+    most: usize::MAX,
+    bad: NEVER,
+    flush_fails: false,
+};
+
+const THREE_BYTES: Manner = Manner {
+    most: 3,
+    bad: NEVER,
+    flush_fails: false,
+};
+
+const ONE_BYTE: Manner = Manner {
+    most: 1,
+    bad: NEVER,
+    flush_fails: false,
+};
+
+const NO_BYTE: Manner = Manner {
+    most: 0,
+    bad: NEVER,
+    flush_fails: false,
+};
+
+const FIRST_FAILS: Manner = Manner {
+    most: 3,
+    bad: 0,
+    flush_fails: false,
+};
+
+const SECOND_FAILS: Manner = Manner {
+    most: 3,
+    bad: 1,
+    flush_fails: false,
+};
+
+const FLUSH_FAILS: Manner = Manner {
+    most: 100,
+    bad: NEVER,
+    flush_fails: true,
+};
+
+// A writer of that manner.
+#[derive(Drop)]
+struct Narrow<'a> {
+    manner: &'a Manner,
+    calls: usize,
+    taken: &'a mut Vec<u8>,
+}
+
+impl<'a> Write for Narrow<'a> {
+    fn write(&mut self, buffer: &[u8]) -> io::Result<usize> {
+        let call = self.calls;
+        self.calls = call.saturating_add(1);
+        if call == self.manner.bad {
+            return Err(io::Error::from(ErrorKind::Interrupted));
+        }
+        let n = buffer.len().min(self.manner.most);
+        self.taken.extend_from_slice(&buffer[..n])?;
+        Ok(n)
+    }
+
+    fn flush(&mut self) -> io::Result<()> {
+        if self.manner.flush_fails {
+            Err(io::Error::from(ErrorKind::Other))
+        } else {
+            Ok(())
+        }
+    }
+}
+
+// Prints a page to a writer of that manner, and answers the status and whether the writer is marked as failed.
+fn printed(alloc: Global, page: &[u8], manner: &Manner, taken: &mut Vec<u8>) -> (u8, bool) {
+    let mut reader = Marked::new(page);
+    let mut writer = Marked::new(Narrow {
+        manner,
+        calls: 0,
+        taken,
+    });
+    let status = run(alloc, &Command::Print, &mut reader, &mut writer);
+    (status, writer.failed())
+}
+
+// Whether a page is printed with this status and these bytes, and the writer is marked as failed at status 4 alone.
+fn prints(alloc: Global, page: &[u8], manner: &Manner, wanted: u8, print: &[u8]) -> bool {
+    let mut taken = Vec::new(alloc);
+    let (status, failed) = printed(alloc, page, manner, &mut taken);
+    status == wanted && failed == (wanted == 4) && taken.as_slice() == print
+}
+
+// Pages, how a writer takes the print, the status, and what is taken.
+const PRINTS: &[(&[u8], Manner, u8, &[u8])] = &[
+    (
+        b"abc <p>test<span>a</span></p> def",
+        WHOLE,
+        0,
+        b"abc <p>test<span>a</span></p> def",
+    ),
+    (b"", WHOLE, 0, b""),
+    (b"a<", WHOLE, 0, b"a"),
+    (b"<!--a", WHOLE, 0, b""),
+    (b"<a><b></a></b>", WHOLE, 0, b"<a><b></b></a>"),
+    (b"<!doctype html\xc3\xa9>", WHOLE, 0, b"\xef\xbf\xbd>"),
+    (b"<p a='x\"y'>z</p>", WHOLE, 0, b"<p a=\"x\"y\">z</p>"),
+    (b"<br /><p>test</p>", WHOLE, 0, b"<br><p>test</p>"),
+    (
+        b"<p a=1 b=2 c=3 id=i class=k a=4>",
+        WHOLE,
+        0,
+        b"<p a=\"4\" b=\"2\" c=\"3\" id=\"i\" class=\"k\"></p>",
+    ),
+    (b"<command>x</command>", WHOLE, 0, b"<command>"),
+    // A failing writer leaves a beginning.
+    (b"<p>a</p>", THREE_BYTES, 0, b"<p>a</p>"),
+    (b"<p>a</p>", ONE_BYTE, 0, b"<p>a</p>"),
+    (b"<p>a</p>", FIRST_FAILS, 4, b""),
+    (b"<p>a</p>", SECOND_FAILS, 4, b"<p>"),
+    (b"<p>a</p>", NO_BYTE, 4, b""),
+    (b"<p>a</p>", FLUSH_FAILS, 4, b"<p>a</p>"),
+    // What is no text is refused before the first write.
+    (b"\xff", FIRST_FAILS, 2, b""),
+    (b"<p>\xc3", FIRST_FAILS, 2, b""),
+    (b"\xed\xa0\x80", FIRST_FAILS, 2, b""),
+];
+
+#[test]
+fn pages_are_printed(rt: HostRuntime) {
+    for (place, (page, manner, status, print)) in PRINTS.iter().enumerate() {
+        assert!(rt;
+            prints(rt.alloc(), page, manner, *status, print),
+            "row {place}"
+        );
+    }
+}
+
+// A reader of a text in pieces of three bytes, which may fail behind its end.
+#[derive(Drop)]
+struct Pieces<'a> {
+    left: &'a [u8],
+    fails: bool,
+}
+
+impl<'a> Read for Pieces<'a> {
+    fn read(&mut self, buffer: &mut [u8]) -> io::Result<usize> {
+        let n = self.left.len().min(3).min(buffer.len());
+        if n == 0 && self.fails {
+            return Err(io::Error::from(ErrorKind::Interrupted));
+        }
+        let (front, rest) = self.left.split_at(n);
+        buffer[..n].copy_from_slice(front);
+        self.left = rest;
+        Ok(n)
+    }
+}
+
+// Prints a page that comes in pieces, and answers the status and whether the reader is marked as failed.
+fn printed_from_pieces(
+    alloc: Global,
+    page: &[u8],
+    fails: bool,
+    written: &mut Vec<u8>,
+) -> (u8, bool) {
+    let mut reader = Marked::new(Pieces { left: page, fails });
+    let mut writer = Marked::new(written);
+    let status = run(alloc, &Command::Print, &mut reader, &mut writer);
+    (status, reader.failed())
+}
+
+// Whether a page that comes in pieces is printed with this status and these bytes, and the reader is marked as failed
+// where it fails.
+fn prints_pieces(alloc: Global, page: &[u8], fails: bool, wanted: u8, print: &[u8]) -> bool {
+    let mut written = Vec::new(alloc);
+    let (status, failed) = printed_from_pieces(alloc, page, fails, &mut written);
+    status == wanted && failed == fails && written.as_slice() == print
+}
+
+// Pages, whether the reader fails behind them, the status, and what is written.
+const PIECES: &[(&[u8], bool, u8, &[u8])] = &[
+    (b"<p>a</p>", false, 0, b"<p>a</p>"),
+    (b"<p>a</p>", true, 4, b""),
+    (b"", true, 4, b""),
+];
+
+#[test]
+fn input_is_read_to_its_end(rt: HostRuntime) {
+    for (place, (page, fails, status, print)) in PIECES.iter().enumerate() {
+        assert!(rt;
+            prints_pieces(rt.alloc(), page, *fails, *status, print),
+            "row {place}"
+        );
+    }
+}
+
+// Runs the command of the words, and answers the status.
+fn run_words(
+    alloc: Global,
+    words: &[String],
+    page: &[u8],
+    written: &mut Vec<u8>,
+) -> Result<u8, AllocError> {
+    let mut reader = Marked::new(page);
+    let mut writer = Marked::new(written);
+    match command(alloc, words)? {
+        Some(asked) => Ok(run(alloc, &asked, &mut reader, &mut writer)),
+        None => Ok(2),
+    }
+}
+
+// The same of words that are not owned.
+fn answered(
+    alloc: Global,
+    words: &[&str],
+    page: &[u8],
+    written: &mut Vec<u8>,
+) -> Result<u8, AllocError> {
+    let words = owned(alloc, words)?;
+    run_words(alloc, &words, page, written)
+}
+
+// Whether words are answered with this status and these bytes.
+fn answer(alloc: Global, words: &[&str], page: &[u8], wanted: u8, bytes: &[u8]) -> bool {
+    let mut written = Vec::new(alloc);
+    match answered(alloc, words, page, &mut written) {
+        Ok(status) => status == wanted && written.as_slice() == bytes,
+        Err(_) => false,
+    }
+}
+
+// Words, a page, the status, and what is written.
+const ANSWERS: &[(&[&str], &[u8], u8, &[u8])] = &[
+    (&["text"], b"a<p>b<br>c</p><!-- d -->", 0, b"abc"),
+    (&["text"], b"", 0, b""),
+    (&["text"], b"<p>\xc3\xa9</p> <q>x</q>", 0, b"\xc3\xa9 x"),
+    (
+        &["edit", "set 0 href /x"],
+        b"<a>y</a>",
+        0,
+        b"<a href=\"/x\">y</a>",
+    ),
+    (&["edit", ""], b"<a>y</a>", 0, b"<a>y</a>"),
+    (
+        &["edit", "pull 0 0\npush 0 2\npush 0 1"],
+        b"<a><b></b></a><c></c>",
+        0,
+        b"<a><c></c><b></b></a><c></c>",
+    ),
+    (&["edit", "push 5 0"], b"<a></a>", 1, b""),
+    (&["edit", "push 0 0"], b"<a></a>", 1, b""),
+    (&["edit", "push 0"], b"<a></a>", 2, b""),
+];
+
+#[test]
+fn texts_are_joined_and_documents_edited(rt: HostRuntime) {
+    for (place, (words, page, status, bytes)) in ANSWERS.iter().enumerate() {
+        assert!(rt;
+            answer(rt.alloc(), words, page, *status, bytes),
+            "row {place}"
+        );
+    }
+}
+
+// Statuses, and their lines.
+const LINES: &[(u8, &str)] = &[
+    (0, ""),
+    (1, "tlq: refused"),
+    (2, "tlq: not understood"),
+    (3, "tlq: out of memory"),
+    (4, "tlq: read or write failed"),
+    (5, ""),
+    (255, ""),
+];
+
+#[test]
+fn statuses_have_lines(rt: HostRuntime) {
+    for (status, wanted) in LINES {
+        assert!(rt; line(*status) == *wanted, "status {status}");
+    }
+}
