@@ -223,7 +223,7 @@ fn run_words(
     }
 }
 
-// The same of words that are not owned.
+// The same of words as rows give them.
 fn answered(
     alloc: Global,
     words: &[&str],
@@ -235,7 +235,7 @@ fn answered(
 }
 
 // Whether words are answered with this status and these bytes.
-fn answer(alloc: Global, words: &[&str], page: &[u8], wanted: u8, bytes: &[u8]) -> bool {
+fn are_answered(alloc: Global, words: &[&str], page: &[u8], wanted: u8, bytes: &[u8]) -> bool {
     let mut written = Vec::new(alloc);
     match answered(alloc, words, page, &mut written) {
         Ok(status) => status == wanted && written.as_slice() == bytes,
@@ -270,7 +270,7 @@ const ANSWERS: &[(&[&str], &[u8], u8, &[u8])] = &[
 fn texts_are_joined_and_documents_edited(rt: HostRuntime) {
     for (place, (words, page, status, bytes)) in ANSWERS.iter().enumerate() {
         assert!(rt;
-            answer(rt.alloc(), words, page, *status, bytes),
+            are_answered(rt.alloc(), words, page, *status, bytes),
             "row {place}"
         );
     }
