@@ -14,8 +14,6 @@ use std::{fmt, str};
 mod order;
 mod owned;
 mod shared;
-#[cfg(test)]
-mod tests;
 
 pub use owned::{IntoOwnedBytes, SetBytesError, copied};
 pub use shared::Shared;

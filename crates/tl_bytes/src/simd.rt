@@ -6,8 +6,6 @@ ghost use Rattle.tl_bytes.specs.Search.{first, is_one_of, is_not_ident};
 
 /// The same searches, byte by byte.
 pub mod fallback;
-#[cfg(test)]
-mod tests;
 
 /// The first place of `haystack` that holds `needle`.
 pub fn find(haystack: &[u8], needle: u8) -> Option<usize>

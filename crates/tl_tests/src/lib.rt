@@ -1,8 +1,12 @@
-//! Worked rows and vectors that cross crates.
+//! Worked rows and vectors, over the public calls of all crates.
 #![tactic(auto)]
 
 #[cfg(test)]
 mod attributes;
+#[cfg(test)]
+mod byte_strings;
+#[cfg(test)]
+mod containers;
 #[cfg(test)]
 mod edits;
 #[cfg(test)]
@@ -13,6 +17,8 @@ mod program;
 mod reading;
 #[cfg(test)]
 mod scripts;
+#[cfg(test)]
+mod searches;
 #[cfg(test)]
 mod show;
 #[cfg(test)]

@@ -1,0 +1,269 @@
+//! Byte strings: each call once, each kind of data, and what no clause says, as texts.
+use std::alloc::{AllocError, Global};
+use std::cmp::Ordering;
+use std::collections::HashMap;
+use tl_base::bytes::{Bytes, IntoOwnedBytes, SetBytesError, Shared, copied};
+
+// Whether it could be found out, and holds.
+fn sure(holds: Result<bool, AllocError>) -> bool {
+    match holds {
+        Ok(holds) => holds,
+        Err(_) => false,
+    }
+}
+
+// A text that is set, whether its length is looked at, and the old bytes that come back.
+type Set = (&'static str, bool, Option<&'static [u8]>);
+
+const SETS: [Set; 3] = [
+    ("world", true, None),
+    ("x", true, Some(b"world")),
+    ("y", false, Some(b"x")),
+];
+
+fn came_back(old: &Option<Vec<u8>>, wanted: &Option<&'static [u8]>) -> bool {
+    match (old, wanted) {
+        (Some(old), Some(wanted)) => old.as_slice() == *wanted,
+        (None, None) => true,
+        _ => false,
+    }
+}
+
+fn set(alloc: Global, bytes: &mut Bytes<'_>, set: &Set) -> bool {
+    match bytes.set(alloc, set.0) {
+        Ok(old) => came_back(&old, &set.2),
+        Err(_) => false,
+    }
+}
+
+fn set_unchecked(alloc: Global, bytes: &mut Bytes<'_>, set: &Set) -> bool {
+    if set.0.len() > u32::MAX as usize {
+        return false;
+    }
+    match bytes.set_unchecked(alloc, set.0) {
+        Ok(old) => came_back(&old, &set.2),
+        Err(_) => false,
+    }
+}
+
+// Whether the set gives back what it must, and the bytes are then its text.
+fn sets(alloc: Global, bytes: &mut Bytes<'_>, row: &Set) -> bool {
+    let gave_back = if row.1 {
+        set(alloc, bytes, row)
+    } else {
+        set_unchecked(alloc, bytes, row)
+    };
+    gave_back && bytes.as_bytes() == row.0.as_bytes()
+}
+
+// How many sets do what they must.
+fn sets_done(alloc: Global, bytes: &mut Bytes<'_>) -> usize {
+    for (done, row) in SETS.iter().enumerate() {
+        if !sets(alloc, bytes, row) {
+            return done;
+        }
+    }
+    SETS.len()
+}
+
+fn is_y(bytes: &Bytes<'_>) -> bool {
+    bytes.eq_str("y") && !bytes.eq_str("x") && bytes.eq_bytes(b"y") && !bytes.eq_bytes(b"yy")
+}
+
+// How many sets do what they must, and whether the last one leaves what it must.
+fn set_in_turn(alloc: Global) -> (usize, bool) {
+    let mut bytes = Bytes::from("hello");
+    let done = sets_done(alloc, &mut bytes);
+    (done, is_y(&bytes))
+}
+
+#[test]
+fn gives_back_what_it_owned(rt: HostRuntime) {
+    let (done, left) = set_in_turn(rt.alloc());
+    assert!(rt; done == SETS.len(), "set {done}");
+    assert!(rt; left);
+}
+
+// A kind of data.
+enum Kind {
+    Text,
+    Slice,
+    Vector,
+    String,
+    BoxedSlice,
+}
+
+const KINDS: [(Kind, &str); 5] = [
+    (Kind::Text, "text"),
+    (Kind::Slice, "slice"),
+    (Kind::Vector, "vector"),
+    (Kind::String, "string"),
+    (Kind::BoxedSlice, "boxed slice"),
+];
+
+// Whether the data is two bytes long, and the bytes `ab`.
+fn is_ab<B: IntoOwnedBytes>(alloc: Global, data: B) -> Result<bool, AllocError> {
+    let len = data.byte_len();
+    let bytes = data.into_bytes(alloc)?;
+    Ok(len == 2 && bytes.as_slice() == b"ab".as_slice())
+}
+
+fn is_taken(alloc: Global, kind: &Kind) -> Result<bool, AllocError> {
+    match kind {
+        Kind::Text => is_ab(alloc, "ab"),
+        Kind::Slice => is_ab(alloc, b"ab".as_slice()),
+        Kind::Vector => is_ab(alloc, b"ab".to_vec(alloc)?),
+        Kind::String => is_ab(alloc, String::from_str(alloc, "ab")?),
+        Kind::BoxedSlice => is_ab(alloc, b"ab".to_vec(alloc)?.into_boxed_slice()),
+    }
+}
+
+#[test]
+fn takes_each_kind_of_data(rt: HostRuntime) {
+    for (kind, name) in &KINDS {
+        assert!(rt; sure(is_taken(rt.alloc(), kind)), "{name}");
+    }
+}
+
+// How bytes are held.
+enum Held {
+    Shared,
+    Owned,
+    Lent,
+}
+
+const HELD: [(Held, &str); 3] = [
+    (Held::Shared, "world"),
+    (Held::Owned, "world"),
+    (Held::Lent, ""),
+];
+
+// A slice that outlives its buffer.
+fn shared_world(alloc: Global) -> Result<Bytes<'static>, AllocError> {
+    let buffer = Shared::new(alloc, String::from_str(alloc, "hello world")?)?;
+    buffer.slice(alloc, 6, 11)
+}
+
+fn made(alloc: Global, held: &Held) -> Result<Bytes<'static>, AllocError> {
+    match held {
+        Held::Shared => shared_world(alloc),
+        Held::Owned => copied(alloc, b"world"),
+        Held::Lent => Ok(Bytes::default()),
+    }
+}
+
+// Whether the bytes are this text, and are there for good exactly if they are lent.
+fn is_held(bytes: &Bytes<'static>, held: &Held, text: &str) -> bool {
+    let for_good = match held {
+        Held::Shared | Held::Owned => None,
+        Held::Lent => Some(text.as_bytes()),
+    };
+    bytes.eq_str(text) && bytes.as_bytes_borrowed() == for_good
+}
+
+// Whether the bytes and a clone of them are equal, and held alike.
+fn clones_alike(alloc: Global, held: &Held, text: &str) -> Result<bool, AllocError> {
+    let bytes = made(alloc, held)?;
+    let copy = bytes.clone()?;
+    Ok(copy == bytes && is_held(&bytes, held, text) && is_held(&copy, held, text))
+}
+
+// Whether a buffer shows the whole text.
+fn shows_hello(alloc: Global) -> Result<bool, AllocError> {
+    let buffer = Shared::new(alloc, String::from_str(alloc, "hello")?)?;
+    Ok(buffer.as_str() == "hello")
+}
+
+#[test]
+fn holds_alike(rt: HostRuntime) {
+    for (held, text) in &HELD {
+        assert!(rt; sure(clones_alike(rt.alloc(), held, text)), "{text}");
+    }
+    assert!(rt; sure(shows_hello(rt.alloc())));
+}
+
+// Whether bytes that are owned equal a share of a buffer.
+fn owned_is_shared(alloc: Global) -> Result<bool, AllocError> {
+    let owned = copied(alloc, b"world")?;
+    let shared = shared_world(alloc)?;
+    Ok(owned == shared)
+}
+
+fn keyed(alloc: Global) -> Result<HashMap<Bytes<'static>, u32>, AllocError> {
+    let mut map = HashMap::new(alloc);
+    map.insert(Bytes::from("a"), 1)?;
+    map.insert(copied(alloc, b"b")?, 2)?;
+    Ok(map)
+}
+
+fn finds(map: &HashMap<Bytes<'static>, u32>, key: &str, value: u32) -> bool {
+    map.get(&Bytes::from(key)).copied() == Some(value)
+}
+
+// Whether each key is found by a borrowed one.
+fn finds_by_list(alloc: Global) -> Result<bool, AllocError> {
+    let map = keyed(alloc)?;
+    Ok(finds(&map, "a", 1) && finds(&map, "b", 2))
+}
+
+fn is_greater(one: &'static str, other: &'static str) -> bool {
+    Bytes::from(one) > Bytes::from(other)
+}
+
+fn is_less(one: Bytes<'static>, other: &'static str) -> bool {
+    one.cmp(&Bytes::from(other)) == Ordering::Less
+}
+
+#[test]
+fn compares_by_list(rt: HostRuntime) {
+    assert!(rt; sure(owned_is_shared(rt.alloc())));
+    assert!(rt; sure(finds_by_list(rt.alloc())));
+    assert!(rt; is_greater("b", "a"));
+    assert!(rt; is_less(Bytes::new(), "\0"));
+}
+
+fn is_lossy(alloc: Global, bytes: &Bytes<'_>, text: &str) -> Result<bool, AllocError> {
+    let lossy = bytes.as_utf8_str(alloc)?;
+    Ok(lossy.as_str() == text)
+}
+
+// Whether bytes that are no text are read with a mark in the place of what is wrong.
+fn reads_broken(alloc: Global) -> Result<bool, AllocError> {
+    let broken = Bytes::from(b"a\xC3".as_slice());
+    Ok(broken.try_as_utf8_str().is_none() && is_lossy(alloc, &broken, "a\u{FFFD}")?)
+}
+
+fn is_hello(alloc: Global, bytes: &Bytes<'_>) -> Result<bool, AllocError> {
+    let print = format!(in alloc; "{bytes:?}")?;
+    Ok(bytes.try_as_utf8_str() == Some("hello") && print.as_str() == "Bytes(\"hello\")")
+}
+
+// Whether bytes made of a string are read and print as text.
+fn reads_moved(alloc: Global) -> Result<bool, AllocError> {
+    match Bytes::try_from(String::from_str(alloc, "hello")?) {
+        Ok(bytes) => is_hello(alloc, &bytes),
+        Err(_) => Ok(false),
+    }
+}
+
+const ERRORS: [(SetBytesError, &str); 2] = [
+    (
+        SetBytesError::LengthOverflow,
+        "The string length is too large to fit in a `u32`",
+    ),
+    (SetBytesError::OutOfMemory, "out of memory"),
+];
+
+fn says(alloc: Global, error: &SetBytesError, text: &str) -> Result<bool, AllocError> {
+    let made = format!(in alloc; "{error}")?;
+    Ok(made.as_str() == text)
+}
+
+#[test]
+fn texts(rt: HostRuntime) {
+    assert!(rt; sure(reads_broken(rt.alloc())));
+    assert!(rt; sure(reads_moved(rt.alloc())));
+    for (error, text) in &ERRORS {
+        assert!(rt; sure(says(rt.alloc(), error, text)), "{text}");
+    }
+}

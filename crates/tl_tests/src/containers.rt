@@ -1,0 +1,483 @@
+//! Containers with room inline: scripts of calls, and what each call answers and leaves.
+use std::alloc::Global;
+use tl_base::inline::hashmap::InlineHashMap;
+use tl_base::inline::vec::InlineVec;
+
+type Items = &'static [u8];
+
+type Pairs = &'static [(u8, u8)];
+
+// How many items or pairs have room inline.
+enum Room {
+    None,
+    One,
+    Two,
+    Four,
+}
+
+// A call on a vector, with what it must answer, or what the vector must hold and whether on the heap.
+enum VecStep {
+    Push(u8),
+    // Refused, it hands the item back and leaves these items inline; else these lie on the heap.
+    PushOrKeep(u8, Items, Items),
+    Remove(usize, u8),
+    Index(usize, u8),
+    Get(usize, Option<u8>),
+    Set(usize, u8),
+    // Makes this the only item, by the inline parts.
+    Restart(u8),
+    NoInlineParts,
+    // Writes this over each inline item.
+    Fill(u8),
+    Holds(Items, bool),
+    CloneHolds(Items, bool),
+    CopyHolds(Items),
+    Prints(&'static str),
+}
+
+// How many items have room inline, what the script shows, and its steps.
+type VecScript = (Room, &'static str, &'static [VecStep]);
+
+const VECTORS: [VecScript; 7] = [
+    (
+        Room::None,
+        "no item fits inline in a vector of none",
+        &[
+            VecStep::Holds(&[], false),
+            VecStep::Push(7),
+            VecStep::Holds(&[7], true),
+            VecStep::Remove(0, 7),
+            VecStep::Holds(&[], true),
+        ],
+    ),
+    (
+        Room::One,
+        "a refused push leaves the vector",
+        &[VecStep::Push(1), VecStep::PushOrKeep(2, &[1, 2], &[1])],
+    ),
+    (
+        Room::Two,
+        "a vector on the heap gives its items in order",
+        &[
+            VecStep::Push(13),
+            VecStep::Push(42),
+            VecStep::Push(17),
+            VecStep::Push(19),
+            VecStep::Holds(&[13, 42, 17, 19], true),
+        ],
+    ),
+    (
+        Room::Two,
+        "inline items are written",
+        &[
+            VecStep::Push(1),
+            VecStep::Push(2),
+            VecStep::CloneHolds(&[1, 2], false),
+            VecStep::Set(1, 5),
+            VecStep::Holds(&[1, 5], false),
+            VecStep::Restart(3),
+            VecStep::Get(0, Some(3)),
+            VecStep::Get(1, None),
+            VecStep::Holds(&[3], false),
+            VecStep::Fill(4),
+            VecStep::Holds(&[4], false),
+        ],
+    ),
+    (
+        Room::Two,
+        "items on the heap are written",
+        &[
+            VecStep::Push(4),
+            VecStep::Push(6),
+            VecStep::Push(8),
+            VecStep::NoInlineParts,
+            VecStep::Set(2, 9),
+            VecStep::Holds(&[4, 6, 9], true),
+        ],
+    ),
+    (
+        Room::Two,
+        "copies and prints",
+        &[
+            VecStep::Push(1),
+            VecStep::Push(2),
+            VecStep::Push(3),
+            VecStep::CloneHolds(&[1, 2, 3], true),
+            VecStep::CopyHolds(&[1, 2, 3]),
+            VecStep::Prints("InlineVec(InlineVec<3 items>)"),
+        ],
+    ),
+    (
+        Room::Four,
+        "one item too many moves a vector",
+        &[
+            VecStep::Push(0),
+            VecStep::Push(2),
+            VecStep::Push(4),
+            VecStep::Push(6),
+            VecStep::Holds(&[0, 2, 4, 6], false),
+            VecStep::Index(3, 6),
+            VecStep::Remove(2, 4),
+            VecStep::Push(8),
+            VecStep::Holds(&[0, 2, 6, 8], false),
+            VecStep::Push(10),
+            VecStep::Holds(&[0, 2, 6, 8, 10], true),
+        ],
+    ),
+];
+
+// Whether these are the items, by each call that reads them, and lie there.
+fn holds<const N: usize>(v: &InlineVec<u8, N>, items: &[u8], on_heap: bool) -> bool {
+    v.as_slice() == items
+        && v.iter().eq(items.iter())
+        && v.len() == items.len()
+        && v.is_empty() == items.is_empty()
+        && v.is_heap_allocated() == on_heap
+}
+
+fn clone_holds<const N: usize>(v: &InlineVec<u8, N>, items: &[u8], on_heap: bool) -> bool {
+    match v.clone() {
+        Ok(copy) => holds(&copy, items, on_heap),
+        Err(_) => false,
+    }
+}
+
+fn copy_holds<const N: usize>(alloc: Global, v: &InlineVec<u8, N>, items: &[u8]) -> bool {
+    match v.to_vec(alloc) {
+        Ok(copy) => copy.as_slice() == items,
+        Err(_) => false,
+    }
+}
+
+fn prints<const N: usize>(alloc: Global, v: &InlineVec<u8, N>, text: &str) -> bool {
+    match format!(in alloc; "{v:?}") {
+        Ok(made) => made.as_str() == text,
+        Err(_) => false,
+    }
+}
+
+fn push_or_keep<const N: usize>(
+    v: &mut InlineVec<u8, N>,
+    item: u8,
+    pushed: &[u8],
+    kept: &[u8],
+) -> bool {
+    match v.push(item) {
+        Ok(()) => holds(v, pushed, true),
+        Err(back) => back == item && holds(v, kept, false),
+    }
+}
+
+fn set<const N: usize>(v: &mut InlineVec<u8, N>, at: usize, item: u8) -> bool {
+    match v.get_mut(at) {
+        Some(place) => {
+            *place = item;
+            true
+        }
+        None => false,
+    }
+}
+
+fn restart<const N: usize>(v: &mut InlineVec<u8, N>, item: u8) -> bool {
+    match v.inline_parts_mut() {
+        Some(inline) => {
+            inline.clear();
+            if inline.is_full() {
+                return false;
+            }
+            inline.push(item);
+            true
+        }
+        None => false,
+    }
+}
+
+fn fill<const N: usize>(v: &mut InlineVec<u8, N>, item: u8) -> bool {
+    if v.is_heap_allocated() {
+        return false;
+    }
+    for place in v.inline_slice_mut() {
+        *place = item;
+    }
+    true
+}
+
+// Whether the vector answers the step as it must.
+fn vec_obeys<const N: usize>(alloc: Global, v: &mut InlineVec<u8, N>, step: &VecStep) -> bool {
+    match step {
+        VecStep::Push(item) => v.push(*item).is_ok(),
+        VecStep::PushOrKeep(item, pushed, kept) => push_or_keep(v, *item, pushed, kept),
+        VecStep::Remove(at, item) => *at < v.len() && v.remove(*at) == *item,
+        VecStep::Index(at, item) => *at < v.len() && v[*at] == *item,
+        VecStep::Get(at, item) => v.get(*at).copied() == *item,
+        VecStep::Set(at, item) => set(v, *at, *item),
+        VecStep::Restart(item) => restart(v, *item),
+        VecStep::NoInlineParts => v.inline_parts_mut().is_none(),
+        VecStep::Fill(item) => fill(v, *item),
+        VecStep::Holds(items, on_heap) => holds(v, items, *on_heap),
+        VecStep::CloneHolds(items, on_heap) => clone_holds(v, items, *on_heap),
+        VecStep::CopyHolds(items) => copy_holds(alloc, v, items),
+        VecStep::Prints(text) => prints(alloc, v, text),
+    }
+}
+
+// How many steps the vector obeys before one that it doesn't.
+fn vec_obeyed<const N: usize>(alloc: Global, mut v: InlineVec<u8, N>, steps: &[VecStep]) -> usize {
+    for (at, step) in steps.iter().enumerate() {
+        if !vec_obeys(alloc, &mut v, step) {
+            return at;
+        }
+    }
+    steps.len()
+}
+
+// The same for a new vector with this room.
+fn new_vec_obeyed(alloc: Global, room: &Room, steps: &[VecStep]) -> usize {
+    match room {
+        Room::None => vec_obeyed::<0>(alloc, InlineVec::new(alloc), steps),
+        Room::One => vec_obeyed::<1>(alloc, InlineVec::new(alloc), steps),
+        Room::Two => vec_obeyed::<2>(alloc, InlineVec::new(alloc), steps),
+        Room::Four => vec_obeyed::<4>(alloc, InlineVec::new(alloc), steps),
+    }
+}
+
+#[test]
+fn vectors(rt: HostRuntime) {
+    for (room, name, steps) in &VECTORS {
+        let obeyed = new_vec_obeyed(rt.alloc(), room, steps);
+        assert!(rt; obeyed == steps.len(), "{name}: step {obeyed}");
+    }
+}
+
+// A call on a map, with what it must answer, or what the map must hold and whether on the heap.
+enum MapStep {
+    Insert(u8, u8),
+    // Refused, it hands the pair back and leaves these pairs inline; else these lie on the heap.
+    InsertOrKeep((u8, u8), Pairs, Pairs),
+    Remove(u8, u8),
+    Get(u8, u8),
+    Lacks(u8),
+    Set(u8, u8),
+    Holds(Pairs, bool),
+    CloneHolds(Pairs, bool),
+    // How many pairs the copy has, and one of them.
+    CopyHas(usize, u8, u8),
+    Prints(&'static str),
+}
+
+// How many pairs have room inline, what the script shows, and its steps.
+type MapScript = (Room, &'static str, &'static [MapStep]);
+
+const MAPS: [MapScript; 7] = [
+    (
+        Room::None,
+        "no pair fits inline in a map of none",
+        &[
+            MapStep::Holds(&[], false),
+            MapStep::Insert(1, 2),
+            MapStep::Holds(&[(1, 2)], true),
+            MapStep::Remove(1, 2),
+            MapStep::Holds(&[], true),
+        ],
+    ),
+    (
+        Room::One,
+        "a pair inline",
+        &[
+            MapStep::Insert(3, 4),
+            MapStep::CloneHolds(&[(3, 4)], false),
+            MapStep::CopyHas(1, 3, 4),
+            MapStep::Set(3, 7),
+            MapStep::Get(3, 7),
+            MapStep::Lacks(9),
+        ],
+    ),
+    (
+        Room::One,
+        "two pairs on the heap",
+        &[
+            MapStep::Insert(1, 2),
+            MapStep::Insert(3, 4),
+            MapStep::CloneHolds(&[(1, 2), (3, 4)], true),
+            MapStep::CopyHas(2, 3, 4),
+            MapStep::Set(3, 7),
+            MapStep::Get(3, 7),
+            MapStep::Lacks(9),
+        ],
+    ),
+    (
+        Room::Two,
+        "a key keeps its place",
+        &[
+            MapStep::Insert(1, 1),
+            MapStep::Insert(2, 2),
+            MapStep::Insert(1, 9),
+            MapStep::Holds(&[(1, 9), (2, 2)], false),
+            MapStep::Insert(3, 3),
+            MapStep::Holds(&[(1, 9), (2, 2), (3, 3)], true),
+            MapStep::Remove(1, 9),
+            MapStep::Holds(&[(3, 3), (2, 2)], true),
+            MapStep::Insert(2, 5),
+            MapStep::Holds(&[(3, 3), (2, 5)], true),
+        ],
+    ),
+    (
+        Room::Two,
+        "a refused insert leaves the map",
+        &[
+            MapStep::Insert(1, 9),
+            MapStep::Insert(2, 2),
+            MapStep::InsertOrKeep((3, 3), &[(1, 9), (2, 2), (3, 3)], &[(1, 9), (2, 2)]),
+        ],
+    ),
+    (
+        Room::Two,
+        "prints",
+        &[
+            MapStep::Insert(1, 2),
+            MapStep::Prints("InlineHashMap(InlineHashMap<1 items>)"),
+        ],
+    ),
+    (
+        Room::Four,
+        "the last pair moves into the place",
+        &[
+            MapStep::Insert(0, 0),
+            MapStep::Insert(1, 2),
+            MapStep::Insert(2, 4),
+            MapStep::Insert(3, 6),
+            MapStep::Remove(2, 4),
+            MapStep::Holds(&[(0, 0), (1, 2), (3, 6)], false),
+            MapStep::Insert(1, 9),
+            MapStep::Holds(&[(0, 0), (1, 9), (3, 6)], false),
+        ],
+    ),
+];
+
+// Whether these are the pairs in order, by each call that reads them.
+fn has_pairs<const N: usize>(map: &InlineHashMap<u8, u8, N>, pairs: &[(u8, u8)]) -> bool {
+    if map.len() != pairs.len() || map.is_empty() != pairs.is_empty() {
+        return false;
+    }
+    for ((key, value), pair) in map.iter().zip(pairs) {
+        if (*key, *value) != *pair {
+            return false;
+        }
+    }
+    true
+}
+
+// Whether these are the pairs and lie there.
+fn map_holds<const N: usize>(
+    map: &InlineHashMap<u8, u8, N>,
+    pairs: &[(u8, u8)],
+    on_heap: bool,
+) -> bool {
+    let inline = if on_heap { None } else { Some(pairs) };
+    map.is_heap_allocated() == on_heap && map.inline_parts() == inline && has_pairs(map, pairs)
+}
+
+fn map_clone_holds<const N: usize>(
+    map: &InlineHashMap<u8, u8, N>,
+    pairs: &[(u8, u8)],
+    on_heap: bool,
+) -> bool {
+    match map.clone() {
+        Ok(copy) => map_holds(&copy, pairs, on_heap),
+        Err(_) => false,
+    }
+}
+
+fn map_copy_has<const N: usize>(
+    alloc: Global,
+    map: &InlineHashMap<u8, u8, N>,
+    count: usize,
+    key: u8,
+    value: u8,
+) -> bool {
+    match map.to_map(alloc) {
+        Ok(copy) => copy.len() == count && copy.get(&key) == Some(&value),
+        Err(_) => false,
+    }
+}
+
+fn map_prints<const N: usize>(alloc: Global, map: &InlineHashMap<u8, u8, N>, text: &str) -> bool {
+    match format!(in alloc; "{map:?}") {
+        Ok(made) => made.as_str() == text,
+        Err(_) => false,
+    }
+}
+
+fn insert_or_keep<const N: usize>(
+    map: &mut InlineHashMap<u8, u8, N>,
+    pair: (u8, u8),
+    inserted: &[(u8, u8)],
+    kept: &[(u8, u8)],
+) -> bool {
+    match map.insert(pair.0, pair.1) {
+        Ok(()) => map_holds(map, inserted, true),
+        Err(back) => back == pair && map_holds(map, kept, false),
+    }
+}
+
+fn map_set<const N: usize>(map: &mut InlineHashMap<u8, u8, N>, key: u8, value: u8) -> bool {
+    match map.get_mut(&key) {
+        Some(place) => {
+            *place = value;
+            true
+        }
+        None => false,
+    }
+}
+
+// Whether the map answers the step as it must.
+fn map_obeys<const N: usize>(
+    alloc: Global,
+    map: &mut InlineHashMap<u8, u8, N>,
+    step: &MapStep,
+) -> bool {
+    match step {
+        MapStep::Insert(key, value) => map.insert(*key, *value).is_ok(),
+        MapStep::InsertOrKeep(pair, inserted, kept) => insert_or_keep(map, *pair, inserted, kept),
+        MapStep::Remove(key, value) => map.remove(key) == Some(*value),
+        MapStep::Get(key, value) => map.get(key) == Some(value) && map.contains_key(key),
+        MapStep::Lacks(key) => map.get_mut(key).is_none(),
+        MapStep::Set(key, value) => map_set(map, *key, *value),
+        MapStep::Holds(pairs, on_heap) => map_holds(map, pairs, *on_heap),
+        MapStep::CloneHolds(pairs, on_heap) => map_clone_holds(map, pairs, *on_heap),
+        MapStep::CopyHas(count, key, value) => map_copy_has(alloc, map, *count, *key, *value),
+        MapStep::Prints(text) => map_prints(alloc, map, text),
+    }
+}
+
+// How many steps the map obeys before one that it doesn't.
+fn map_obeyed<const N: usize>(
+    alloc: Global,
+    mut map: InlineHashMap<u8, u8, N>,
+    steps: &[MapStep],
+) -> usize {
+    for (at, step) in steps.iter().enumerate() {
+        if !map_obeys(alloc, &mut map, step) {
+            return at;
+        }
+    }
+    steps.len()
+}
+
+// The same for a new map with this room.
+fn new_map_obeyed(alloc: Global, room: &Room, steps: &[MapStep]) -> usize {
+    match room {
+        Room::None => map_obeyed::<0>(alloc, InlineHashMap::new(alloc), steps),
+        Room::One => map_obeyed::<1>(alloc, InlineHashMap::new(alloc), steps),
+        Room::Two => map_obeyed::<2>(alloc, InlineHashMap::new(alloc), steps),
+        Room::Four => map_obeyed::<4>(alloc, InlineHashMap::new(alloc), steps),
+    }
+}
+
+#[test]
+fn maps(rt: HostRuntime) {
+    for (room, name, steps) in &MAPS {
+        let obeyed = new_map_obeyed(rt.alloc(), room, steps);
+        assert!(rt; obeyed == steps.len(), "{name}: step {obeyed}");
+    }
+}

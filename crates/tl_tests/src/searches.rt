@@ -1,0 +1,147 @@
+//! Byte searches: known answers, and each search against its plain form at every length up to some blocks.
+use tl_base::simd::{
+    fallback, find, find_multi, find4, is_closing, matches_case_insensitive, search_non_ident,
+};
+use tl_bytes::runs::{bare_len, blank_len, ident_len, len_until};
+
+// A search, and what it looks for.
+enum Search {
+    Find(u8),
+    Find4([u8; 4]),
+    FindOne([u8; 1]),
+    FindNone([u8; 0]),
+    NonIdent,
+}
+
+fn answer(search: &Search, text: &[u8]) -> Option<usize> {
+    match search {
+        Search::Find(needle) => find(text, *needle),
+        Search::Find4(needle) => find4(text, *needle),
+        Search::FindOne(needle) => find_multi(text, *needle),
+        Search::FindNone(needle) => find_multi(text, *needle),
+        Search::NonIdent => search_non_ident(text),
+    }
+}
+
+const SEARCHES: [(Search, &str, Option<usize>); 13] = [
+    (Search::Find(b' '), "abcdefghiabcdefghi .", Some(18)),
+    (Search::Find(b' '), "", None),
+    (Search::Find4(*b"abcd"), "ef ghijklmnopqrstua", Some(18)),
+    (Search::Find4(*b"abcd"), "ef ghijklmnopqrstu", None),
+    (Search::FindOne(*b"a"), "ef ghijklmnopqrstua", Some(18)),
+    (Search::FindNone([]), "ef ghijklmnopqrstua", None),
+    (
+        Search::NonIdent,
+        "this-is-a-very-long-identifier<",
+        Some(30),
+    ),
+    (Search::NonIdent, "0123456789Abcdef_-<", Some(18)),
+    (Search::NonIdent, "short", None),
+    (
+        Search::NonIdent,
+        "0123456789abcdefghijklmnopqrstuvwxyzABCDEFGHIJKLMNOPQRSTUVWXYZ-_",
+        None,
+    ),
+    (
+        Search::NonIdent,
+        "0123456789abcdefghijklmnopqrstuvwxyzABCDEFGHIJKLMNOPQRSTUVWXYZ-_<",
+        Some(64),
+    ),
+    (Search::NonIdent, "0123456789ab<def", Some(12)),
+    (Search::NonIdent, "a:b+c/d", None),
+];
+
+#[test]
+fn finds_the_first(rt: HostRuntime) {
+    for (search, text, wanted) in &SEARCHES {
+        assert!(rt; answer(search, text.as_bytes()) == *wanted, "in {text}");
+    }
+}
+
+const IN_LOWER_CASE: [(&str, [u8; 4], bool); 4] = [
+    ("hTmL", *b"html", true),
+    ("hTmLs", *b"html", false),
+    ("/Tmy", *b"html", false),
+    ("html", *b"HTML", false),
+];
+
+const CLOSING: [(u8, bool); 3] = [(b'/', true), (b'>', true), (b'<', false)];
+
+#[test]
+fn tells_classes(rt: HostRuntime) {
+    for (text, needle, wanted) in &IN_LOWER_CASE {
+        assert!(rt;
+            matches_case_insensitive(text.as_bytes(), *needle) == *wanted,
+            "{text}"
+        );
+    }
+    for (byte, wanted) in &CLOSING {
+        assert!(rt; is_closing(*byte) == *wanted, "{byte}");
+    }
+}
+
+// How many bytes lie before and behind the hit.
+const REACH: usize = 65;
+
+// Bytes of a name with one hit in the middle.
+const LINE: &[u8] =
+    b"aaaaaaaaaaaaaaaaaaaaaaaaaaaaaaaaaaaaaaaaaaaaaaaaaaaaaaaaaaaaaaaaa<aaaaaaaaaaaaaaaaaaaaaaaaaaaaaaaaaaaaaaaaaaaaaaaaaaaaaaaaaaaaaaaaa";
+
+// Whether each search and its plain form find the hit there.
+fn agree(text: &[u8], hit: Option<usize>) -> bool {
+    find(text, b'<') == hit
+        && fallback::find(text, b'<') == hit
+        && find4(text, *b"<>/ ") == hit
+        && find4(text, *b" >/<") == hit
+        && fallback::find_multi(text, *b"<>/ ") == hit
+        && fallback::find_multi(text, *b" >/<") == hit
+        && search_non_ident(text) == hit
+        && fallback::search_non_ident(text) == hit
+}
+
+#[test]
+fn agrees_with_the_plain_form(rt: HostRuntime) {
+    for len in 0..66usize {
+        assert!(rt; agree(&LINE[..len], None), "{len} bytes");
+        for at in 0..len {
+            let start = 65 - at;
+            assert!(rt; agree(&LINE[start..start + len], Some(at)), "{at} of {len}");
+        }
+    }
+}
+
+// A run, and what ends it.
+enum Run {
+    Blank,
+    Ident,
+    Bare,
+    Until(u8),
+}
+
+fn run_len(run: &Run, text: &[u8]) -> usize {
+    match run {
+        Run::Blank => blank_len(text),
+        Run::Ident => ident_len(text),
+        Run::Bare => bare_len(text),
+        Run::Until(byte) => len_until(text, *byte),
+    }
+}
+
+const RUNS: [(Run, &str, usize); 9] = [
+    (Run::Blank, " \n a", 3),
+    (Run::Blank, "\ta", 0),
+    (Run::Ident, "a-1 b", 3),
+    (Run::Ident, "a", 1),
+    (Run::Bare, "x\ty/z", 3),
+    (Run::Bare, "xy", 2),
+    (Run::Until(b'<'), "ab<c", 2),
+    (Run::Until(b'<'), "<c", 0),
+    (Run::Until(b'<'), "ab", 2),
+];
+
+#[test]
+fn measures_runs(rt: HostRuntime) {
+    for (run, text, wanted) in &RUNS {
+        assert!(rt; run_len(run, text.as_bytes()) == *wanted, "in {text}");
+    }
+}
