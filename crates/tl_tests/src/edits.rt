@@ -1,13 +1,60 @@
 //! Documents that are edited, and what they print then.
-use crate::show::show_reading;
+use crate::show::{Look, Row, all_show};
 use std::alloc::Global;
 use std::mem;
-use std::process::Abort;
 use std::test::Fail;
 use tl::{Bytes, HTMLTag, Node, NodeHandle, NodeOf, ParserOptions, TagOf, VDom, parse};
 
+// What is done to a document.
+pub enum Edit {
+    // Makes the second handle the last child of the tag of the first number.
+    Push(u32, u32),
+    // Puts a text in the place of the node of a number.
+    Put(u32, &'static [u8]),
+    // Exchanges the first two nodes.
+    SwapNodes,
+    // Exchanges the first two top handles.
+    SwapTop,
+    // Writes a text over that of the node of a number.
+    Text(u32, &'static str),
+    // The same for a comment.
+    Comment(u32, &'static str),
+    // Writes a part of the tag of a number.
+    Part(u32, Part),
+}
+
+// What is done to a tag by what it lends.
+pub enum Part {
+    Name(&'static str),
+    Value(&'static str, &'static str),
+    Bare(&'static str),
+    Unset(&'static str),
+}
+
+pub fn edit_all(document: &mut VDom<'static>, edits: &[Edit]) -> Result<(), Fail> {
+    for edit in edits {
+        edit_one(document, edit)?;
+    }
+    Ok(())
+}
+
+fn edit_one(document: &mut VDom<'static>, edit: &Edit) -> Result<(), Fail> {
+    match edit {
+        Edit::Push(number, child) => push(document, *number, *child),
+        Edit::Put(number, bytes) => put(document, *number, bytes),
+        Edit::SwapNodes => swap_nodes(document),
+        Edit::SwapTop => swap_top(document),
+        Edit::Text(number, text) => write_text(document, *number, text),
+        Edit::Comment(number, text) => write_comment(document, *number, text),
+        Edit::Part(number, part) => write_part(document, *number, part),
+    }
+}
+
 // The node of a number.
-fn node_mut<'d, 'a>(document: &'d mut VDom<'a>, number: u32) -> Result<&'d mut Node<'a>, Fail> {
+fn node_mut<'d>(
+    document: &'d mut VDom<'static>,
+    number: u32,
+) -> Result<&'d mut Node<'static>, Fail> {
     match document.parser_mut().resolve_node_id_mut(number) {
         Some(node) => Ok(node),
         None => Err(Fail::from("no such node")),
@@ -21,203 +68,213 @@ fn push_to<A, B>(tag: &mut TagOf<A, B>, child: u32) -> Result<(), Fail> {
     Ok(())
 }
 
-// Makes a handle the last child of the tag of a number.
-pub fn push(document: &mut VDom<'_>, number: u32, child: u32) -> Result<(), Fail> {
+fn push(document: &mut VDom<'static>, number: u32, child: u32) -> Result<(), Fail> {
     match node_mut(document, number)?.as_tag_mut() {
         Some(tag) => push_to(tag, child),
         None => Err(Fail::from("no tag")),
     }
 }
 
-// What a page prints once each pair's second handle was made the last child of the first.
-fn printed_after_pushes(alloc: Global, page: &str, pushes: &[(u32, u32)]) -> Result<String, Fail> {
-    let mut document = parse(alloc, page, ParserOptions::new())?;
-    for (number, child) in pushes {
-        push(&mut document, *number, *child)?;
-    }
-    show_reading(alloc, document.outer_html(alloc))
+fn put(document: &mut VDom<'static>, number: u32, bytes: &'static [u8]) -> Result<(), Fail> {
+    *node_mut(document, number)? = NodeOf::Raw(Bytes::from(bytes));
+    Ok(())
 }
 
-#[test]
-fn pushed_children(rt: HostRuntime) -> Result<(), Fail> {
-    let rows: [(&str, &[(u32, u32)], &str); 7] = [
-        ("<a><b></b></a>", &[(1, 0)], "cycle 0"),
-        ("<a><b></b></a>", &[(1, 9)], "dangling 9"),
-        ("<a></a><b></b>", &[(1, 0)], "<a></a><b><a></a></b>"),
-        ("<p>x</p>", &[(0, 1)], "<p>xx</p>"),
-        ("<p>x</p>", &[(0, 1), (0, 7), (0, 0)], "dangling 7"),
-        ("<br>x", &[(0, 1)], "<br>x"),
-        ("<br>x", &[(0, 0)], "<br>x"),
-    ];
-    for (page, pushes, wanted) in rows {
-        let made = printed_after_pushes(rt.alloc(), page, pushes)?;
-        assert_eq!(rt; made.as_str(), wanted, "{page}");
+fn swap_nodes(document: &mut VDom<'static>) -> Result<(), Fail> {
+    if document.nodes().len() < 2 {
+        return Err(Fail::from("too few nodes"));
+    }
+    document.nodes_mut().swap(0, 1);
+    Ok(())
+}
+
+fn swap_top(document: &mut VDom<'static>) -> Result<(), Fail> {
+    if document.children().len() < 2 {
+        return Err(Fail::from("too few top nodes"));
+    }
+    document.children_mut().swap(0, 1);
+    Ok(())
+}
+
+fn write_text(document: &mut VDom<'static>, number: u32, text: &'static str) -> Result<(), Fail> {
+    match node_mut(document, number)?.as_raw_mut() {
+        Some(bytes) => *bytes = Bytes::from(text),
+        None => return Err(Fail::from("no text")),
     }
     Ok(())
 }
 
-// What a page prints once these nodes were put in the place of others.
-fn printed_with(
-    alloc: Global,
-    page: &'static str,
-    places: &[(u32, &'static [u8])],
-) -> Result<String, Fail> {
-    let mut document = parse(alloc, page, ParserOptions::new())?;
-    for (number, bytes) in places {
-        *node_mut(&mut document, *number)? = NodeOf::Raw(Bytes::from(*bytes));
+fn write_comment(
+    document: &mut VDom<'static>,
+    number: u32,
+    text: &'static str,
+) -> Result<(), Fail> {
+    match node_mut(document, number)?.as_comment_mut() {
+        Some(bytes) => *bytes = Bytes::from(text),
+        None => return Err(Fail::from("no comment")),
     }
-    show_reading(alloc, document.outer_html(alloc))
-}
-
-#[test]
-fn texts_put_in_the_place_of_nodes(rt: HostRuntime) -> Result<(), Fail> {
-    let made = printed_with(rt.alloc(), "<p>a<b></b>c</p>", &[(2, b"")])?;
-    assert_eq!(rt; made.as_str(), "<p>ac</p>");
-    // The bytes of one letter, in two texts.
-    let halves: [(u32, &[u8]); 3] = [(2, b""), (1, b"\xc3"), (3, b"\xa9")];
-    let made = printed_with(rt.alloc(), "<p>a<b></b>c</p>", &halves)?;
-    assert_eq!(rt; made.as_str(), "<p>\u{fffd}\u{fffd}</p>");
-    let page = "<head><p>Replace me</p> World</head>";
-    let made = printed_with(rt.alloc(), page, &[(1, b"Hello")])?;
-    assert_eq!(rt; made.as_str(), "<head>Hello World</head>");
     Ok(())
 }
 
-// The calls that lend a part of a tag or a node.
-#[derive(Drop)]
-enum Edit {
-    Name(&'static str),
-    Value(&'static str, &'static str),
-    Bare(&'static str),
-    Unset(&'static str),
-    Text(&'static str),
-    Comment(&'static str),
+fn write_part(document: &mut VDom<'static>, number: u32, part: &Part) -> Result<(), Fail> {
+    match NodeHandle::new(number).get_mut(document.parser_mut()) {
+        Some(node) => write_part_of(node, part),
+        None => Err(Fail::from("no such node")),
+    }
 }
 
-fn edit_tag(tag: &mut HTMLTag<'_>, edit: &Edit) -> Result<(), Fail> {
-    match edit {
-        Edit::Name(name) => *tag.name_mut() = Bytes::from(*name),
-        Edit::Value(key, value) => {
-            if let Some(place) = tag.attributes_mut().value_mut(&Bytes::from(*key)) {
-                *place = Bytes::from(*value);
-            }
+fn write_part_of(node: &mut Node<'static>, part: &Part) -> Result<(), Fail> {
+    match node.as_tag_mut() {
+        Some(tag) => {
+            edit_tag(tag, part);
+            Ok(())
         }
-        Edit::Bare(key) => {
+        None => Err(Fail::from("no tag")),
+    }
+}
+
+fn edit_tag(tag: &mut HTMLTag<'static>, part: &Part) {
+    match part {
+        Part::Name(name) => *tag.name_mut() = Bytes::from(*name),
+        Part::Value(key, value) => write_value(tag, key, value),
+        Part::Bare(key) => {
             tag.attributes_mut().remove_value(Bytes::from(*key));
         }
-        Edit::Unset(key) => {
+        Part::Unset(key) => {
             tag.attributes_mut().remove(Bytes::from(*key));
         }
-        Edit::Text(_) | Edit::Comment(_) => return Err(Fail::from("a tag")),
     }
-    Ok(())
 }
 
-fn edit_node(node: &mut Node<'_>, edit: &Edit) -> Result<(), Fail> {
-    match edit {
-        Edit::Text(text) => match node.as_raw_mut() {
-            Some(bytes) => *bytes = Bytes::from(*text),
-            None => return Err(Fail::from("no text")),
-        },
-        Edit::Comment(text) => match node.as_comment_mut() {
-            Some(bytes) => *bytes = Bytes::from(*text),
-            None => return Err(Fail::from("no comment")),
-        },
-        _ => match node.as_tag_mut() {
-            Some(tag) => return edit_tag(tag, edit),
-            None => return Err(Fail::from("no tag")),
-        },
+fn write_value(tag: &mut HTMLTag<'static>, key: &'static str, value: &'static str) {
+    if let Some(place) = tag.attributes_mut().value_mut(&Bytes::from(key)) {
+        *place = Bytes::from(value);
     }
-    Ok(())
 }
 
-// What a page prints after an edit of the node of a number.
-fn printed_after(alloc: Global, page: &str, number: u32, edit: &Edit) -> Result<String, Fail> {
-    let mut document = parse(alloc, page, ParserOptions::new())?;
-    match NodeHandle::new(number).get_mut(document.parser_mut()) {
-        Some(node) => edit_node(node, edit)?,
-        None => return Err(Fail::from("no such node")),
-    }
-    show_reading(alloc, document.outer_html(alloc))
-}
+const LINK: &str = "<div><p href=\"/about\" id=\"find-me\">Hello world</p></div>";
+
+const EDITABLE: &str = "<span contenteditable=\"true\">testing</a>";
+
+const EDITED: [Row; 20] = [
+    (
+        "<a><b></b></a>",
+        &[Edit::Push(1, 0)],
+        Look::Print,
+        "cycle 0",
+    ),
+    (
+        "<a><b></b></a>",
+        &[Edit::Push(1, 9)],
+        Look::Print,
+        "dangling 9",
+    ),
+    (
+        "<a></a><b></b>",
+        &[Edit::Push(1, 0)],
+        Look::Print,
+        "<a></a><b><a></a></b>",
+    ),
+    ("<p>x</p>", &[Edit::Push(0, 1)], Look::Print, "<p>xx</p>"),
+    (
+        "<p>x</p>",
+        &[Edit::Push(0, 1), Edit::Push(0, 7), Edit::Push(0, 0)],
+        Look::Print,
+        "dangling 7",
+    ),
+    ("<br>x", &[Edit::Push(0, 1)], Look::Print, "<br>x"),
+    ("<br>x", &[Edit::Push(0, 0)], Look::Print, "<br>x"),
+    (
+        "<p>a<b></b>c</p>",
+        &[Edit::Put(2, b"")],
+        Look::Print,
+        "<p>ac</p>",
+    ),
+    // The bytes of one letter, in two texts.
+    (
+        "<p>a<b></b>c</p>",
+        &[
+            Edit::Put(2, b""),
+            Edit::Put(1, b"\xc3"),
+            Edit::Put(3, b"\xa9"),
+        ],
+        Look::Print,
+        "<p>\u{fffd}\u{fffd}</p>",
+    ),
+    (
+        "<head><p>Replace me</p> World</head>",
+        &[Edit::Put(1, b"Hello")],
+        Look::Print,
+        "<head>Hello World</head>",
+    ),
+    (
+        "<br>x",
+        &[Edit::Part(0, Part::Name("p"))],
+        Look::Print,
+        "<p></p>x",
+    ),
+    (
+        LINK,
+        &[Edit::Part(1, Part::Value("href", "/"))],
+        Look::Print,
+        "<div><p href=\"/\" id=\"find-me\">Hello world</p></div>",
+    ),
+    (
+        LINK,
+        &[Edit::Part(1, Part::Value("id", "z"))],
+        Look::Print,
+        "<div><p href=\"/about\" id=\"z\">Hello world</p></div>",
+    ),
+    (
+        EDITABLE,
+        &[Edit::Part(0, Part::Bare("contenteditable"))],
+        Look::Print,
+        "<span contenteditable>testing</span>",
+    ),
+    (
+        EDITABLE,
+        &[Edit::Part(0, Part::Unset("contenteditable"))],
+        Look::Print,
+        "<span>testing</span>",
+    ),
+    (
+        "<p a=1 b=2 c=3 id=i class=k a=4>",
+        &[Edit::Part(0, Part::Unset("a"))],
+        Look::Print,
+        "<p c=\"3\" b=\"2\" id=\"i\" class=\"k\"></p>",
+    ),
+    ("<p>x</p>", &[Edit::Text(1, "y")], Look::Print, "<p>y</p>"),
+    (
+        "<!-- a -->x",
+        &[Edit::Comment(0, "<!-- b -->")],
+        Look::Print,
+        "<!-- b -->x",
+    ),
+    ("a<b>c</b>", &[Edit::SwapTop], Look::Print, "<b>c</b>a"),
+    ("a<b>c</b>", &[Edit::SwapNodes], Look::Print, "<b>c</b>a"),
+];
 
 #[test]
-fn edited_parts(rt: HostRuntime) -> Result<(), Fail> {
-    let link = "<div><p href=\"/about\" id=\"find-me\">Hello world</p></div>";
-    let editable = "<span contenteditable=\"true\">testing</a>";
-    let full = "<p a=1 b=2 c=3 id=i class=k a=4>";
-    let rows = [
-        ("<br>x", 0, Edit::Name("p"), "<p></p>x"),
-        (
-            link,
-            1,
-            Edit::Value("href", "/"),
-            "<div><p href=\"/\" id=\"find-me\">Hello world</p></div>",
-        ),
-        (
-            link,
-            1,
-            Edit::Value("id", "z"),
-            "<div><p href=\"/about\" id=\"z\">Hello world</p></div>",
-        ),
-        (
-            editable,
-            0,
-            Edit::Bare("contenteditable"),
-            "<span contenteditable>testing</span>",
-        ),
-        (
-            editable,
-            0,
-            Edit::Unset("contenteditable"),
-            "<span>testing</span>",
-        ),
-        (
-            full,
-            0,
-            Edit::Unset("a"),
-            "<p c=\"3\" b=\"2\" id=\"i\" class=\"k\"></p>",
-        ),
-        ("<p>x</p>", 1, Edit::Text("y"), "<p>y</p>"),
-        ("<!-- a -->x", 0, Edit::Comment("<!-- b -->"), "<!-- b -->x"),
-    ];
-    for (page, number, edit, wanted) in &rows {
-        let made = printed_after(rt.alloc(), page, *number, edit)?;
-        assert_eq!(rt; made.as_str(), *wanted, "{page}");
-    }
-    Ok(())
+fn edited(rt: HostRuntime) -> Result<(), Fail> {
+    all_show(&rt, rt.alloc(), &EDITED)
 }
 
-// What two pages print once their tables were exchanged.
-fn printed_exchanged(alloc: Global, first: &str, second: &str) -> Result<(String, String), Fail> {
+fn prints(alloc: Global, document: &VDom<'static>, wanted: &str) -> Result<bool, Fail> {
+    let print = document.outer_html(alloc)?;
+    Ok(print.as_str() == wanted)
+}
+
+// Whether each of two pages prints the other once their tables were exchanged.
+fn exchanges(alloc: Global, first: &'static str, second: &'static str) -> Result<bool, Fail> {
     let mut one = parse(alloc, first, ParserOptions::new())?;
     let mut other = parse(alloc, second, ParserOptions::new())?;
     mem::swap(one.parser_mut(), other.parser_mut());
-    Ok((one.outer_html(alloc)?, other.outer_html(alloc)?))
-}
-
-// What a page prints once its first two nodes, or its first two top handles, were exchanged.
-fn printed_swapped(alloc: Global, page: &str, nodes: bool) -> Result<String, Fail> {
-    let mut document = parse(alloc, page, ParserOptions::new())?;
-    if document.nodes().len() < 2 || document.children().len() < 2 {
-        return Err(Fail::from("too few nodes"));
-    }
-    if nodes {
-        document.nodes_mut().swap(0, 1);
-    } else {
-        document.children_mut().swap(0, 1);
-    }
-    show_reading(alloc, document.outer_html(alloc))
+    Ok(prints(alloc, &one, second)? && prints(alloc, &other, first)?)
 }
 
 #[test]
-fn exchanged_parts(rt: HostRuntime) -> Result<(), Fail> {
-    let (one, other) = printed_exchanged(rt.alloc(), "<p>a</p>", "b")?;
-    assert_eq!(rt; one.as_str(), "b");
-    assert_eq!(rt; other.as_str(), "<p>a</p>");
-    let made = printed_swapped(rt.alloc(), "a<b>c</b>", false)?;
-    assert_eq!(rt; made.as_str(), "<b>c</b>a");
-    let made = printed_swapped(rt.alloc(), "a<b>c</b>", true)?;
-    assert_eq!(rt; made.as_str(), "<b>c</b>a");
+fn exchanged_tables(rt: HostRuntime) -> Result<(), Fail> {
+    let holds = exchanges(rt.alloc(), "<p>a</p>", "b")?;
+    assert!(rt; holds);
     Ok(())
 }
