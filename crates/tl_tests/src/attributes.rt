@@ -12,7 +12,7 @@ const UPPER: &str = "<p ID=i CLASS=k>";
 
 const CLASS: &str = "<p class=\"a b\tb\">";
 
-const LOOKS: [Row; 23] = [
+static LOOKS: [Row; 23] = [
     (PAGE, &[], Look::Key("a"), "4, there"),
     (PAGE, &[], Look::Key("c"), "3, there"),
     (PAGE, &[], Look::Key("id"), "i, there"),
@@ -64,7 +64,7 @@ enum Call {
 }
 
 // Calls in turn on a clone of the page's attributes; for each what it takes out, and the pairs that are left.
-const CALLS: [(&[Call], &str); 12] = [
+static CALLS: [(&[Call], &str); 12] = [
     (&[Call::Remove("a")], "4 | c=3 b=2 id=i class=k\n"),
     (&[Call::Remove("class")], "k | a=4 b=2 c=3 id=i\n"),
     (&[Call::RemoveValue("b")], "2 | a=4 b c=3 id=i class=k\n"),
@@ -158,11 +158,21 @@ fn copied<'a>(alloc: Global, page: &'a str) -> Result<Attributes<'a>, Fail> {
     Ok(first_of(&document)?.clone()?)
 }
 
+fn calls_on(
+    alloc: Global,
+    attributes: &mut Attributes<'static>,
+    calls: &[Call],
+    wanted: &str,
+) -> Result<bool, AllocError> {
+    let mut out = String::new(alloc);
+    make_all(attributes, calls, &mut out)?;
+    Ok(out.as_str() == wanted)
+}
+
+// Whether the calls in turn, on a clone of the page's attributes, show this.
 fn calls_show(alloc: Global, calls: &[Call], wanted: &str) -> Result<bool, Fail> {
     let mut attributes = copied(alloc, PAGE)?;
-    let mut out = String::new(alloc);
-    make_all(&mut attributes, calls, &mut out)?;
-    Ok(out.as_str() == wanted)
+    Ok(calls_on(alloc, &mut attributes, calls, wanted)?)
 }
 
 #[test]

@@ -15,7 +15,7 @@ fn sure(holds: Result<bool, AllocError>) -> bool {
 // A text that is set, whether its length is looked at, and the old bytes that come back.
 type Set = (&'static str, bool, Option<&'static [u8]>);
 
-const SETS: [Set; 3] = [
+static SETS: [Set; 3] = [
     ("world", true, None),
     ("x", true, Some(b"world")),
     ("y", false, Some(b"x")),
@@ -93,7 +93,7 @@ enum Kind {
     BoxedSlice,
 }
 
-const KINDS: [(Kind, &str); 5] = [
+static KINDS: [(Kind, &str); 5] = [
     (Kind::Text, "text"),
     (Kind::Slice, "slice"),
     (Kind::Vector, "vector"),
@@ -132,7 +132,7 @@ enum Held {
     Lent,
 }
 
-const HELD: [(Held, &str); 3] = [
+static HELD: [(Held, &str); 3] = [
     (Held::Shared, "world"),
     (Held::Owned, "world"),
     (Held::Lent, ""),
@@ -246,7 +246,7 @@ fn reads_moved(alloc: Global) -> Result<bool, AllocError> {
     }
 }
 
-const ERRORS: [(SetBytesError, &str); 2] = [
+static ERRORS: [(SetBytesError, &str); 2] = [
     (
         SetBytesError::LengthOverflow,
         "The string length is too large to fit in a `u32`",

@@ -38,7 +38,7 @@ enum VecStep {
 // How many items have room inline, what the script shows, and its steps.
 type VecScript = (Room, &'static str, &'static [VecStep]);
 
-const VECTORS: [VecScript; 7] = [
+static VECTORS: [VecScript; 7] = [
     (
         Room::None,
         "no item fits inline in a vector of none",
@@ -268,7 +268,7 @@ enum MapStep {
 // How many pairs have room inline, what the script shows, and its steps.
 type MapScript = (Room, &'static str, &'static [MapStep]);
 
-const MAPS: [MapScript; 7] = [
+static MAPS: [MapScript; 7] = [
     (
         Room::None,
         "no pair fits inline in a map of none",

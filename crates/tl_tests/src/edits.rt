@@ -156,7 +156,7 @@ const LINK: &str = "<div><p href=\"/about\" id=\"find-me\">Hello world</p></div>
 
 const EDITABLE: &str = "<span contenteditable=\"true\">testing</a>";
 
-const EDITED: [Row; 20] = [
+static EDITED: [Row; 20] = [
     (
         "<a><b></b></a>",
         &[Edit::Push(1, 0)],
@@ -264,12 +264,22 @@ fn prints(alloc: Global, document: &VDom<'static>, wanted: &str) -> Result<bool,
     Ok(print.as_str() == wanted)
 }
 
+fn each_prints(
+    alloc: Global,
+    one: &VDom<'static>,
+    of_one: &str,
+    other: &VDom<'static>,
+    of_other: &str,
+) -> Result<bool, Fail> {
+    Ok(prints(alloc, one, of_one)? && prints(alloc, other, of_other)?)
+}
+
 // Whether each of two pages prints the other once their tables were exchanged.
 fn exchanges(alloc: Global, first: &'static str, second: &'static str) -> Result<bool, Fail> {
     let mut one = parse(alloc, first, ParserOptions::new())?;
     let mut other = parse(alloc, second, ParserOptions::new())?;
     mem::swap(one.parser_mut(), other.parser_mut());
-    Ok(prints(alloc, &one, second)? && prints(alloc, &other, first)?)
+    each_prints(alloc, &one, second, &other, first)
 }
 
 #[test]

@@ -6,7 +6,7 @@ use std::test::Fail;
 use tl::errors::TreeError;
 use tl::{Bytes, HTMLVersion, Node, NodeHandle, ParserOptions, VDom, parse};
 
-const TAGS: [(&str, &str); 12] = [
+static TAGS: [(&str, &str); 12] = [
     ("", ""),
     (
         "abc <p>test<span>a</span></p> def",
@@ -33,7 +33,7 @@ const TAGS: [(&str, &str); 12] = [
     ("<p />x", "tag p [ ] 0 4 <p />|text x| 0 1"),
 ];
 
-const ATTRIBUTES_COMMENTS_DOCTYPES: [(&str, &str); 10] = [
+static ATTRIBUTES_COMMENTS_DOCTYPES: [(&str, &str); 10] = [
     (
         "<p a=1 b=2 c=3 id=i class=k a=4>",
         "tag p a=4 b=2 c=3 id=i class=k [ ] 0 31 <p a=1 b=2 c=3 id=i class=k a=4>| 0",
@@ -55,7 +55,7 @@ fn tables(rt: HostRuntime) -> Result<(), Fail> {
     all_look(&rt, rt.alloc(), &Look::Table, &ATTRIBUTES_COMMENTS_DOCTYPES)
 }
 
-const VERSIONS: [(&str, Option<HTMLVersion>); 6] = [
+static VERSIONS: [(&str, Option<HTMLVersion>); 6] = [
     ("<!DOCTYPE html PUBLIC>", Some(HTMLVersion::HTML5)),
     ("<p><!doctype HTML>x</p>", Some(HTMLVersion::HTML5)),
     ("<!doctype html", Some(HTMLVersion::HTML5)),
@@ -85,7 +85,7 @@ fn versions(rt: HostRuntime) -> Result<(), Fail> {
 const NESTED: &str = "abc <p>test<span>a</span></p> def";
 
 // A page whose table is walked for node 1 of the page above, and the print, or the number of the handle that dangles.
-const OVER: [(&str, Result<&str, u32>); 2] = [
+static OVER: [(&str, Result<&str, u32>); 2] = [
     (NESTED, Ok("<p>test<span>a</span></p>")),
     ("", Err(2)),
 ];

@@ -23,7 +23,7 @@ fn answer(search: &Search, text: &[u8]) -> Option<usize> {
     }
 }
 
-const SEARCHES: [(Search, &str, Option<usize>); 13] = [
+static SEARCHES: [(Search, &str, Option<usize>); 13] = [
     (Search::Find(b' '), "abcdefghiabcdefghi .", Some(18)),
     (Search::Find(b' '), "", None),
     (Search::Find4(*b"abcd"), "ef ghijklmnopqrstua", Some(18)),
@@ -58,14 +58,14 @@ fn finds_the_first(rt: HostRuntime) {
     }
 }
 
-const IN_LOWER_CASE: [(&str, [u8; 4], bool); 4] = [
+static IN_LOWER_CASE: [(&str, [u8; 4], bool); 4] = [
     ("hTmL", *b"html", true),
     ("hTmLs", *b"html", false),
     ("/Tmy", *b"html", false),
     ("html", *b"HTML", false),
 ];
 
-const CLOSING: [(u8, bool); 3] = [(b'/', true), (b'>', true), (b'<', false)];
+static CLOSING: [(u8, bool); 3] = [(b'/', true), (b'>', true), (b'<', false)];
 
 #[test]
 fn tells_classes(rt: HostRuntime) {
@@ -127,7 +127,7 @@ fn run_len(run: &Run, text: &[u8]) -> usize {
     }
 }
 
-const RUNS: [(Run, &str, usize); 9] = [
+static RUNS: [(Run, &str, usize); 9] = [
     (Run::Blank, " \n a", 3),
     (Run::Blank, "\ta", 0),
     (Run::Ident, "a-1 b", 3),

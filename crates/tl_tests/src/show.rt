@@ -53,7 +53,8 @@ pub fn all_look(
     Ok(())
 }
 
-fn shows(
+// Whether a page shows this.
+pub fn shows(
     alloc: Global,
     page: &'static str,
     edits: &[Edit],

@@ -3,7 +3,7 @@ use crate::edits::Edit;
 use crate::show::{Look, Row, all_show};
 use std::test::Fail;
 
-const TEXTS: [Row; 9] = [
+static TEXTS: [Row; 9] = [
     (
         "<p>hello <p>nested element</p></p>",
         &[],
@@ -64,7 +64,7 @@ const NESTED: &str = "<p>a<b>c</b></p>";
 
 const DANGLING: &str = "<a><b></b></a>";
 
-const SEARCHES: [Row; 5] = [
+static SEARCHES: [Row; 5] = [
     (NESTED, &[], Look::Search(0, "c"), " a b c: 3 / a b: none"),
     (NESTED, &[], Look::Search(0, "b"), " a b: 2 / a b: 2"),
     (
