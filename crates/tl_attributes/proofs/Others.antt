@@ -93,3 +93,9 @@ module _ {B : Type 0} (list : B → List ℕ) (eq : B → B → Bool) (a : Attri
 
   pub found_class : is_id (list k) ≡ false → is_class (list k) ≡ true → a.class ≡ option_flatten (found list eq a k)
   found_class other here = flat a.class ∙ ap option_flatten (sym (λ t. cond (other t) (option_map Some a.id) (cond (here t) (option_map Some a.class) (lookup (eq k) a.others.entries))))
+
+-- a value that is found is that of a key which has one
+pub lent_found : {B : Type 0} (o : Option (Option B)) (x : B) → Some x ≡ option_flatten o → Some (Some x) ≡ o
+lent_found None x h = cc
+lent_found (Some None) x h = cc
+lent_found (Some (Some y)) x h = ap Some h

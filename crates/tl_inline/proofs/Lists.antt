@@ -1,5 +1,5 @@
 -- Facts of lists, and of the runs of an iterator that is seen as a list.
-use Rattle.std.proofs.Common.{◌≡◌, List, [], ◌∷◌, ◌++◌, length, ap, refl, arith, Result, Bool, subst, sym, ◌∙◌, append_assoc}
+use Rattle.std.proofs.Common.{◌≡◌, ℕ, List, [], ◌∷◌, ◌++◌, length, ap, refl, arith, Result, Bool, subst, sym, ◌∙◌, append_assoc}
 use Rattle.std.specs.List.{AllZip}
 use Rattle.std.specs.Map.Iter.{TakesFirst, ShowsInOrder}
 use Rattle.std.proofs.iter.runs.Sources.{from_front}
@@ -7,7 +7,10 @@ use Rattle.std.proofs.lemmas.List.Elements.{Contains-get_or, Contains-append_rig
 use Rattle.std.specs.Result.{IfOk}
 use Rattle.std.proofs.lemmas.Result.{IfOk-weaker}
 use Rattle.tl_spec.specs.Inline.{InlineVec}
-use Rattle.tl_inline.specs.InlineVec.{ClonesAreEqual}
+use Rattle.tl_inline.specs.InlineVec.{ClonesAreEqual, with_item}
+use Rattle.tl_inline.specs.HeldItems.{held_view, held_with_item}
+use Rattle.tl_inline.specs.declared.inline.vec.held.HeldItems.{HeldItems}
+use Rattle.tl_inline.specs.declared.inline.vec.held.HeldItems.TheVariants.{Inline, Heap}
 
 module _ {A X : Type 0} (shows : A → X) where
   pub shows_in_order : ShowsInOrder shows
@@ -45,3 +48,9 @@ pub moved_item : {X : Type 0} (items done more left rest : List X) (x : X) → d
     → more ++ rest ≡ items
 moved_item items done more left rest x whole next put =
     ap (λ l. l ++ rest) put ∙ append_assoc done (x ∷ []) rest ∙ ap (λ l. done ++ l) (sym next) ∙ whole
+
+module _ {T : Type 0} {N : ℕ} where
+  -- a write of an item in the storage is one in what a contract sees
+  pub view_with_item : (h : HeldItems T N) (i : ℕ) (w : T) → held_view (held_with_item h i w) ≡ with_item (held_view h) i w
+  view_with_item (Inline v) i w = refl
+  view_with_item (Heap v) i w = refl

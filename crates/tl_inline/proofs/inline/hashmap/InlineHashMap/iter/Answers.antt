@@ -1,3 +1,5 @@
+use Rattle.std.proofs.Common.{arith}
+use Rattle.std.proofs.Common.{◌∙◌}
 use Rattle.std.specs.Map.Iter.{deref_pair}
 use Rattle.tl_inline.proofs.Lists.{shows_in_order}
 use Rattle.tl_inline.proofs.HeldPairsLemmas.{distinct_in_view}
@@ -14,3 +16,15 @@ returns-in-Inline-clause-unique g c = distinct_in_view g.K.PartialEq.eq c.self.i
 
 pub returns-in-Heap-clause-unique : goal.returns-in-Heap-clause-unique
 returns-in-Heap-clause-unique g c = distinct_in_view g.K.PartialEq.eq c.self.inside.held c.args.self.now c.self.view_is c.self.invariant
+
+pub returns-in-Inline-clause-rest : goal.returns-in-Inline-clause-rest
+returns-in-Inline-clause-rest g c = rw (← c.self.view_is, c.in-Inline.is) (c.iter.ensures.rest ∙ c.as_slice.ensures.value)
+
+pub returns-in-Heap-clause-rest : goal.returns-in-Heap-clause-rest
+returns-in-Heap-clause-rest g c = rw (← c.self.view_is, c.in-Heap.is) c.iter-in-Heap.ensures.rest
+
+pub returns-in-Inline-clause-fits : goal.returns-in-Inline-clause-fits
+returns-in-Inline-clause-fits g c = rw (← c.self.view_is, c.in-Inline.is) (rw c.as_slice.ensures.value at c.as_slice.type_inv.0)
+
+pub returns-in-Heap-clause-fits : goal.returns-in-Heap-clause-fits
+returns-in-Heap-clause-fits g c = rw (← c.self.view_is, c.in-Heap.is) (omega (arith, c.iter-in-Heap.ensures.fits))

@@ -1,4 +1,4 @@
-use Rattle.std.proofs.Common.{arith, rules, ap, length}
+use Rattle.std.proofs.Common.{◌++◌, ◌∙◌, arith, rules, ap, sym, length, append-nil}
 use Rattle.arrayvec.specs.Iter.{drain_items}
 use Rattle.tl_inline.proofs.Maps.{moved_one}
 use Rattle.tl_inline.proofs.inline.hashmap.held.move_out.Goals as goal
@@ -16,3 +16,15 @@ loop-key-preserved g c =
           (drain_items at.key-iterator) (drain_items c.next.new.self) c.in-Some.key c.in-Some.value c.requires at.invariant.2 step put.entries,
       omega (arith, shorter, before, put.room),
     )
+
+pub returns : goal.returns
+returns g c =
+    let at = c.loop-key in
+    let none = c.in-None.ensures.steps.0 in
+    let counted = ap length none in
+    let before = at.invariant.3 in
+    record {
+      entries = sym (append-nil at.heap.entries) ∙ ap (λ l. at.heap.entries ++ l) (sym none) ∙ at.invariant.2;
+      room = omega (arith, counted, before);
+      err = tt;
+    }
