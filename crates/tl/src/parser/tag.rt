@@ -164,6 +164,27 @@ impl<A, B> TagOf<A, B> {
     }
 }
 
+// A name and a source, each held alike.
+fn copied_texts<'a>(name: &Bytes<'a>, raw: &Bytes<'a>) -> Result<(Bytes<'a>, Bytes<'a>), AllocError>
+    ensures name { IfOk result (λ p. p.0 ≡ name.now) }
+    ensures raw { IfOk result (λ p. p.1 ≡ raw.now) }
+{
+    let name = name.clone()?;
+    Ok((name, raw.clone()?))
+}
+
+// Attributes and handles of children, each held alike.
+fn copied_lists<'a>(
+    attributes: &Attributes<'a>,
+    children: &RawChildren,
+) -> Result<(Attributes<'a>, RawChildren), AllocError>
+    ensures attributes { IfOk result (λ p. p.0 ≡ attributes.now) }
+    ensures children { IfOk result (λ p. p.1 ≡ children.now) }
+{
+    let attributes = attributes.clone()?;
+    Ok((attributes, children.clone()?))
+}
+
 impl<'a> HTMLTag<'a> {
     ghost use Rattle.tl.specs.Boundaries.{boundaries};
 
@@ -182,11 +203,13 @@ impl<'a> HTMLTag<'a> {
     {
         let parts = &*self.parts;
         let alloc = *Box::allocator(&self.parts);
+        let (name, raw) = copied_texts(&parts.name, &parts.raw)?;
+        let (attributes, children) = copied_lists(&parts.attributes, &parts.children)?;
         let copy = Parts {
-            name: parts.name.clone()?,
-            attributes: parts.attributes.clone()?,
-            children: parts.children.clone()?,
-            raw: parts.raw.clone()?,
+            name,
+            attributes,
+            children,
+            raw,
             start: parts.start,
         };
         Ok(TagOf {

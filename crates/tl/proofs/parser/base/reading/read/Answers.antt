@@ -1,4 +1,4 @@
-use Rattle.std.proofs.Common.{◌≡◌, ◌∙◌, ap, sym, subst, length, rules}
+use Rattle.std.proofs.Common.{◌≡◌, ◌∙◌, ap, sym, subst, length, rules, refl}
 use Rattle.tl_spec.specs.Document.{Document, document}
 use Rattle.tl_spec.specs.Machine.{step}
 use Rattle.tl_token.specs.Suffix.{IsSuffix}
@@ -46,3 +46,6 @@ returns-clause-version g c =
 
 pub returns-clause-held : goal.returns-clause-held
 returns-clause-held g c = c.finish.ensures.held g.S.Source.held c.loop-text.invariant.held
+
+pub returns-then-text-clause-length : goal.returns-then-text-clause-length
+returns-then-text-clause-length g c = (λ _. rw (← c.as_bytes-text.ensures) c.if-text.true, λ _. refl)

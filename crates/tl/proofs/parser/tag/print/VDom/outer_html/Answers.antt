@@ -1,4 +1,4 @@
-use Rattle.std.proofs.Common.{◌++◌, [], List, ℕ, map, ap, ◌∙◌}
+use Rattle.std.proofs.Common.{◌++◌, [], List, ℕ, map, ap, ◌∙◌, rules}
 use Rattle.tl_spec.specs.Print.{print}
 use Rattle.tl_spec.specs.Walk.{shows, trees, walk}
 use Rattle.tl.specs.Shown.{shown}
@@ -11,3 +11,6 @@ returns-clause-identity c =
     rw (← c.nodes.ensures, ← c.children.ensures)
     (reads-printed (map shown c.nodes.result.now) c.children.result.now _ c.in_ok-write_row.ensures.writes.0
     (c.in_ok-write_row.ensures.writes.1 ∙ ap (λ old. old ++ written) c.new-out.ensures.bytes) c.in_ok-write_row.ensures.own)
+
+pub returns-clause-answers : goal.returns-clause-answers
+returns-clause-answers c = search rules
