@@ -2,7 +2,7 @@ ghost use Rattle.std.specs.Prelude.{◌≡◌, ◌==◌, slice_index, ◌∷◌,
 ghost use Rattle.std.specs.Option.{option_map};
 ghost use Rattle.std.specs.List.{slice_split};
 ghost use Rattle.tl_spec.specs.StepLine.{is_line_feed, number_of, first_word, behind_word, change_by_word, change_of_line, changes_of};
-ghost use Rattle.tl_program.specs.Steps.{change_of, lines_left};
+ghost use Rattle.tl_program.specs.Steps.{change_of, change_of_text, change_of_numbers, lines_left};
 
 use super::step::Step;
 use std::alloc::{AllocError, Global};
@@ -27,13 +27,6 @@ fn number(digits: &str) -> Option<u32>
     digits.parse::<u32>().ok()
 }
 
-// The same for a place in a list.
-fn place(digits: &str) -> Option<usize>
-    ensures { result ≡ number_of digits.now }
-{
-    number(digits).map(|number| number as usize)
-}
-
 // What stands before the first space, and what stands behind it.
 fn cut<'s>(text: &'s str) -> (&'s str, &'s str)
     ensures first { result.0.now ≡ first_word text.now }
@@ -45,34 +38,54 @@ fn cut<'s>(text: &'s str) -> (&'s str, &'s str)
     }
 }
 
+// The step that a word says of a number and a text, if it is one of such a step.
+fn of_text<'s>(word: &str, number: u32, text: &'s str) -> Option<Step<'s>>
+    ensures { option_map change_of result ≡ change_of_text word.now number text.now }
+{
+    if word == "name" {
+        Some(Step::Name(number, text.as_bytes()))
+    } else if word == "text" {
+        Some(Step::Text(number, text.as_bytes()))
+    } else if word == "comment" {
+        Some(Step::Comment(number, text.as_bytes()))
+    } else if word == "set" {
+        let (key, value) = cut(text);
+        Some(Step::Set(number, key.as_bytes(), value.as_bytes()))
+    } else if word == "flag" {
+        Some(Step::Flag(number, text.as_bytes()))
+    } else if word == "unset" {
+        Some(Step::Unset(number, text.as_bytes()))
+    } else if word == "bare" {
+        Some(Step::Bare(number, text.as_bytes()))
+    } else {
+        None
+    }
+}
+
+// The step that a word says of two numbers, if it is one of such a step.
+fn of_numbers<'s>(word: &str, first: u32, second: u32) -> Option<Step<'s>>
+    ensures { option_map change_of result ≡ change_of_numbers word.now first second }
+{
+    if word == "push" {
+        Some(Step::Push(first, second))
+    } else if word == "pull" {
+        Some(Step::Pull(first, second as usize))
+    } else if word == "root" {
+        Some(Step::Root(first as usize, second))
+    } else {
+        None
+    }
+}
+
 // The step that the first word of a line and what stands behind it say.
 fn by_word<'s>(word: &str, rest: &'s str) -> Option<Step<'s>>
     ensures { option_map change_of result ≡ change_by_word word.now rest.now }
 {
     let (digits, text) = cut(rest);
-    if word == "name" {
-        Some(Step::Name(number(digits)?, text.as_bytes()))
-    } else if word == "text" {
-        Some(Step::Text(number(digits)?, text.as_bytes()))
-    } else if word == "comment" {
-        Some(Step::Comment(number(digits)?, text.as_bytes()))
-    } else if word == "set" {
-        let (key, value) = cut(text);
-        Some(Step::Set(number(digits)?, key.as_bytes(), value.as_bytes()))
-    } else if word == "flag" {
-        Some(Step::Flag(number(digits)?, text.as_bytes()))
-    } else if word == "unset" {
-        Some(Step::Unset(number(digits)?, text.as_bytes()))
-    } else if word == "bare" {
-        Some(Step::Bare(number(digits)?, text.as_bytes()))
-    } else if word == "push" {
-        Some(Step::Push(number(digits)?, number(text)?))
-    } else if word == "pull" {
-        Some(Step::Pull(number(digits)?, place(text)?))
-    } else if word == "root" {
-        Some(Step::Root(place(digits)?, number(text)?))
-    } else {
-        None
+    let first = number(digits)?;
+    match of_text(word, first, text) {
+        Some(step) => Some(step),
+        None => of_numbers(word, first, number(text)?),
     }
 }
 
