@@ -163,7 +163,7 @@ fn calls_on(
     attributes: &mut Attributes<'static>,
     calls: &[Call],
     wanted: &str,
-) -> Result<bool, AllocError> {
+) -> Result<bool, Fail> {
     let mut out = String::new(alloc);
     make_all(attributes, calls, &mut out)?;
     Ok(out.as_str() == wanted)
@@ -171,8 +171,10 @@ fn calls_on(
 
 // Whether the calls in turn, on a clone of the page's attributes, show this.
 fn calls_show(alloc: Global, calls: &[Call], wanted: &str) -> Result<bool, Fail> {
-    let mut attributes = copied(alloc, PAGE)?;
-    Ok(calls_on(alloc, &mut attributes, calls, wanted)?)
+    match copied(alloc, PAGE) {
+        Ok(mut attributes) => calls_on(alloc, &mut attributes, calls, wanted),
+        Err(fail) => Err(fail),
+    }
 }
 
 #[test]

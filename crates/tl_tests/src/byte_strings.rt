@@ -176,8 +176,11 @@ fn shows_hello(alloc: Global) -> Result<bool, AllocError> {
 
 #[test]
 fn holds_alike(rt: HostRuntime) {
-    for (held, text) in &HELD {
-        assert!(rt; sure(clones_alike(rt.alloc(), held, text)), "{text}");
+    for (at, (held, text)) in HELD.iter().enumerate() {
+        assert!(rt;
+            sure(clones_alike(rt.alloc(), held, text)),
+            "row {at}: {text}"
+        );
     }
     assert!(rt; sure(shows_hello(rt.alloc())));
 }

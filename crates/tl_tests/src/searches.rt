@@ -53,8 +53,11 @@ static SEARCHES: [(Search, &str, Option<usize>); 13] = [
 
 #[test]
 fn finds_the_first(rt: HostRuntime) {
-    for (search, text, wanted) in &SEARCHES {
-        assert!(rt; answer(search, text.as_bytes()) == *wanted, "in {text}");
+    for (at, (search, text, wanted)) in SEARCHES.iter().enumerate() {
+        assert!(rt;
+            answer(search, text.as_bytes()) == *wanted,
+            "row {at}: in {text}"
+        );
     }
 }
 
@@ -101,10 +104,10 @@ fn agree(text: &[u8], hit: Option<usize>) -> bool {
 
 #[test]
 fn agrees_with_the_plain_form(rt: HostRuntime) {
-    for len in 0..66usize {
+    for len in 0..REACH + 1 {
         assert!(rt; agree(&LINE[..len], None), "{len} bytes");
         for at in 0..len {
-            let start = 65 - at;
+            let start = REACH - at;
             assert!(rt; agree(&LINE[start..start + len], Some(at)), "{at} of {len}");
         }
     }

@@ -32,9 +32,9 @@ pub type Row = (&'static str, &'static [Edit], Look, &'static str);
 
 // Each row shows what it must.
 pub fn all_show(rt: &impl Abort, alloc: Global, rows: &[Row]) -> Result<(), Fail> {
-    for (page, edits, look, wanted) in rows {
+    for (at, (page, edits, look, wanted)) in rows.iter().enumerate() {
         let shown = shows(alloc, page, edits, look, wanted)?;
-        assert!(rt; shown, "{page} must show {wanted}");
+        assert!(rt; shown, "row {at}: {page} must show {wanted}");
     }
     Ok(())
 }
