@@ -19,14 +19,6 @@ invariant_of-self g c = c.replace.ensures.unique (rw c.in-Inline.is at c.self.in
 pub returns-in-Ok-clause-ok : goal.returns-in-Ok-clause-ok
 returns-in-Ok-clause-ok g c = rw (← c.self.view_is, c.in-Inline.is, ← c.in-Ok.ensures.variant, c.in-Ok.ensures.ok) refl
 
-pub invariant_of-self-then-not-is_full : goal.invariant_of-self-then-not-is_full
-invariant_of-self-then-not-is_full g c = c.push_inline.ensures.unique (c.replace.ensures.unique (rw c.in-Inline.is at c.self.invariant))
-
-pub returns-then-not-is_full-clause-ok : goal.returns-then-not-is_full-clause-ok
-returns-then-not-is_full-clause-ok g c =
-    let full = rw c.in-Err.ensures.err at c.if-not-is_full.ensures.value in
-    rw (← c.self.view_is, c.in-Inline.is, ← c.in-Err.ensures.variant, c.push_inline.ensures.entries, c.in-Err.ensures.returned, c.in-Err.ensures.err, ← full) refl
-
 pub invariant_of-self-in-Ok-move_out : goal.invariant_of-self-in-Ok-move_out
 invariant_of-self-in-Ok-move_out g c = c.push_heap.ensures.unique
 
