@@ -1,3 +1,5 @@
+pub mod ReadAttributes
+pub mod StartTags
 pub mod Building
 pub mod Following
 pub mod Marks

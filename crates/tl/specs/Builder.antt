@@ -1,8 +1,16 @@
 -- What a table that is being written is.
-use Rattle.std.specs.Prelude.{◌<◌, ◌^◌, All, length, map, reverse}
-use Rattle.tl_spec.specs.Document.{Document}
+use Rattle.std.specs.Prelude.{ℕ, ◌<◌, ◌^◌, Bool, ◌||◌, if◌then◌else◌, All, List, length, map, reverse}
 use Rattle.tl_bytes.specs.Held.{Held}
-use Rattle.tl_spec.specs.Machine.{State}
+use Rattle.tl_spec.specs.Token.{Piece}
+use Rattle.tl_spec.specs.Forest.{closes}
+use Rattle.tl_spec.specs.Document.{Node, Raw, Comment, Document}
+use Rattle.tl_spec.specs.Machine.{State, added, opened, after_end, enclosing_name}
+use Rattle.tl_token.specs.Span.{bytes_at}
+use Rattle.tl_token.specs.Lexed.{meant}
+use Rattle.tl_token.specs.declared.tag.TagEnd.{TagEnd}
+use Rattle.tl_token.specs.declared.tag.TagEnd.TheVariants.{Opens, Alone, Broken}
+use Rattle.tl_token.specs.declared.token.Token.{Token}
+use Rattle.tl_token.specs.declared.token.Token.TheVariants.{Text as TextToken, End as EndToken, Comment as CommentToken, Doctype as DoctypeToken, Start as StartToken, Nothing as NothingToken}
 use Rattle.tl.specs.Shown.{shown}
 use Rattle.tl.specs.HeldAlike.{IsHeldNode}
 use Rattle.tl.specs.declared.parser.base.table.TableBuilder.{TableBuilder}
@@ -10,6 +18,25 @@ use Rattle.tl.specs.declared.parser.base.table.TableBuilder.{TableBuilder}
 -- what has been written, the innermost open tag first
 abbrev pub state_of : TableBuilder → State
 state_of b = record { nodes = map shown b.nodes.items; open_tags = reverse b.open_tags.items; top = b.top.items; is_html5 = b.is_html5 }
+
+-- the tag of a start tag written: nothing where that is broken, else opened unless it stands alone
+abbrev pub with_tag : Node → Bool → State → TagEnd → State
+with_tag node void s Broken = s
+with_tag node void s Alone = added node s
+with_tag node void s Opens = (if void then added node s else opened node s)
+
+-- a token that is no start tag and ends at a place written
+abbrev pub with_whole : List ℕ → Token → ℕ → State → State
+with_whole t (TextToken span) to s = added (Raw (bytes_at t span)) s
+with_whole t (EndToken name) to s = after_end t to s (closes (bytes_at t name) (enclosing_name s.nodes s.open_tags))
+with_whole t (CommentToken span) to s = added (Comment (bytes_at t span)) s
+with_whole t (DoctypeToken html) to s = record s { is_html5 = s.is_html5 || html }
+with_whole t (StartToken name) to s = s
+with_whole t NothingToken to s = s
+
+-- the piece that a token stands for which begins at a place, and which ends at another one
+abbrev pub piece_of : List ℕ → Token → ℕ → ℕ → ℕ → Piece
+piece_of t token behind from to = record { token = (meant t token behind).0; from = from; to = to }
 
 -- one more node has a number
 abbrev pub HasRoom : TableBuilder → Type 0

@@ -4,6 +4,7 @@ pub mod Table
 pub mod Shown
 pub mod HeldAlike
 pub mod Answer
+pub mod StartTag
 pub mod Builder
 pub mod Marks
 pub mod Walker

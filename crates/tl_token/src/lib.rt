@@ -1,9 +1,9 @@
-//! The tokens of a text.
+//! Reads tokens off a text: where each one stands, and nothing that takes memory.
 #![tactic(auto)]
 
-mod attribute;
+pub mod attribute;
 pub mod names;
-mod part;
-mod runs;
-pub mod source;
+mod run;
+pub mod span;
+pub mod tag;
 pub mod token;

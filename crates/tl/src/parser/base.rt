@@ -4,8 +4,11 @@ ghost use Rattle.std.specs.Borrow.{sem};
 ghost use Rattle.std.specs.Option.{option_copied, option_copied_mut};
 ghost use Rattle.tl.specs.TableLends.{LendsNode, LendsTableNodes, LendsTableTop};
 
-pub mod reading;
-pub mod table;
+mod attribute;
+pub(crate) mod reading;
+mod source;
+mod start_tag;
+mod table;
 
 use crate::parser::handle::{InnerNodeHandle, NodeHandle};
 use crate::parser::tag::node::NodeOf;

@@ -7,10 +7,10 @@ ghost use Rattle.tl.specs.declared.errors.ParseError.TheVariants.{InvalidLength}
 
 use crate::errors::ParseError;
 use crate::parser::base::Parser;
+use crate::parser::base::source::Source;
 use crate::parser::base::table::TableBuilder;
 use crate::parser::options::ParserOptions;
 use std::alloc::Global;
-use tl_token::source::Source;
 use tl_token::token::next_token;
 
 /// Reads the text of a source.
@@ -30,11 +30,9 @@ pub fn read<'a, S: Source<'a>>(
         return Err(ParseError::InvalidLength);
     }
     let mut table = TableBuilder::new(alloc);
-    let mut rest = text;
-    while !rest.is_empty() {
-        let (token, behind) = next_token(alloc, source, rest)?;
-        table.take(alloc, source, token, text.len() - behind.len())?;
-        rest = behind;
+    let mut at = 0;
+    while let Some((token, behind)) = next_token(text, at) {
+        at = table.take(alloc, source, at, token, behind)?;
     }
     Ok(table.finish())
 }

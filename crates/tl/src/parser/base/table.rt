@@ -1,23 +1,26 @@
 //! Writes tokens into a table.
-ghost use Rattle.std.specs.Prelude.{◌≡◌, ◌≤◌, ◌<◌, ◌+◌, ◌||◌, if◌then◌else◌, length, slice_get, Some, IfOk, OnOk, All};
+ghost use Rattle.std.specs.Prelude.{◌≡◌, ◌≤◌, ◌<◌, ◌+◌, length, drop, slice_get, Some, IfOk, OnOk, All};
 ghost use Rattle.tl_bytes.specs.Held.{Held};
 ghost use Rattle.tl_spec.specs.ByteClass.{is_void as is_void_name};
-ghost use Rattle.tl_spec.specs.Token.{Piece};
+ghost use Rattle.tl_token.specs.Span.{bytes_at, IsIn};
+ghost use Rattle.tl_token.specs.Lexed.{meant, tag_of, IsTokenIn};
 ghost use Rattle.tl_spec.specs.Forest.{closes};
+ghost use Rattle.tl_spec.specs.Document.{Raw, Comment};
 ghost use Rattle.tl_spec.specs.Machine.{start, adopted, added, opened, closed, after_end, step, with_child, with_raw_to, name_of, enclosing_name};
-ghost use Rattle.tl_spec.specs.Document.{Tag as TagNode};
-ghost use Rattle.tl.specs.Shown.{shown, shown_tag, document_of, version_of};
+ghost use Rattle.tl.specs.Shown.{shown, document_of, version_of};
 ghost use Rattle.tl.specs.HeldAlike.{IsHeldNode, IsHeldTag};
-ghost use Rattle.tl_token.specs.Reading.{said_by, shown_start, meaning_of, IsHeldStart, IsHeldToken};
 
+use crate::parser::base::source::Source;
+use crate::parser::base::start_tag::read_start_tag;
 use crate::parser::base::{HTMLVersion, Parser};
 use crate::parser::handle::NodeHandle;
+use crate::parser::tag::HTMLTag;
 use crate::parser::tag::node::{Node, NodeOf};
-use crate::parser::tag::{HTMLTag, TagOf};
 use std::alloc::{AllocError, Global};
 use tl_token::names::is_void;
-use tl_token::source::Source;
-use tl_token::token::{StartTag, Token};
+use tl_token::span::Span;
+use tl_token::tag::TagEnd;
+use tl_token::token::Token;
 
 /// A table that tokens are written into.
 #[derive(Drop)]
@@ -29,28 +32,6 @@ pub struct TableBuilder<'a> {
     is_html5: bool,
     // An open tag is a node of the table.
     ghost in_table: { All (λ p. p < length nodes.items) open_tags.items },
-}
-
-// Whether a start tag has no children: it ends with `/>`, or its name says so.
-fn stands_alone(tag: &HTMLTag, is_closed: bool) -> bool
-    ensures { result ≡ (is_closed || is_void_name tag.now.name.list) }
-{
-    is_closed || is_void(tag.name().as_bytes())
-}
-
-// The tag of a start tag, still without children.
-fn tag_of<'a>(alloc: Global, start: StartTag<'a>) -> Result<HTMLTag<'a>, AllocError>
-    ensures shown { IfOk result (λ t. shown_tag t ≡ shown_start start.entry) }
-    ensures name { IfOk result (λ t. t.name ≡ start.entry.name) }
-    ensures held { IfOk result (λ t. (held : Held) → IsHeldStart held start.entry → IsHeldTag held t) }
-{
-    let StartTag {
-        name,
-        attributes,
-        raw,
-        start,
-    } = start;
-    TagOf::new(alloc, name, attributes, raw, start)
 }
 
 impl<'a> Node<'a> {
@@ -88,18 +69,23 @@ impl<'a> Node<'a> {
     {
         if let NodeOf::Tag(tag) = self {
             let start = tag.start().min(to);
-            let text = source.as_bytes();
-            tag.set_raw(source.piece(alloc, &text[start..], to - start)?);
+            tag.set_raw(source.piece(
+                alloc,
+                Span {
+                    start,
+                    len: to - start,
+                },
+            )?);
         }
         Ok(())
     }
 }
 
 impl<'a> TableBuilder<'a> {
-    ghost use Rattle.tl.specs.Builder.{state_of, written, HasRoom, AreHeld};
+    ghost use Rattle.tl.specs.Builder.{state_of, with_tag, with_whole, piece_of, written, HasRoom, AreHeld};
 
     /// An empty table.
-    pub fn new(alloc: Global) -> Self
+    pub(crate) fn new(alloc: Global) -> Self
         ensures state { state_of result ≡ start }
         ensures held { (held : Held) → AreHeld held result }
     {
@@ -183,32 +169,82 @@ impl<'a> TableBuilder<'a> {
         Ok(())
     }
 
-    // Adds a tag, and opens it unless it stands alone.
-    fn add_tag(&mut self, tag: HTMLTag<'a>, is_closed: bool) -> Result<(), AllocError>
+    // Adds the tag of a start tag, and opens it unless it stands alone. Of a broken one nothing comes.
+    fn add_tag(&mut self, tag: HTMLTag<'a>, end: TagEnd) -> Result<(), AllocError>
         requires { HasRoom self.old }
-        ensures ok { OnOk result (state_of self.new ≡ (if is_closed || is_void_name tag.entry.name.list then added (shown (NodeOf.Tag tag.entry)) (state_of self.old) else opened (shown (NodeOf.Tag tag.entry)) (state_of self.old))) }
+        ensures ok { OnOk result (state_of self.new ≡ with_tag (shown (NodeOf.Tag tag.entry)) (is_void_name tag.entry.name.list) (state_of self.old) end) }
         ensures held { OnOk result ((held : Held) → AreHeld held self.old → IsHeldTag held tag.entry → AreHeld held self.new) }
     {
-        if stands_alone(&tag, is_closed) {
-            self.add(NodeOf::Tag(tag))
-        } else {
-            self.open(tag)
+        match end {
+            TagEnd::Broken => Ok(()),
+            TagEnd::Alone => self.add(NodeOf::Tag(tag)),
+            TagEnd::Opens => {
+                if is_void(tag.name().as_bytes()) {
+                    self.add(NodeOf::Tag(tag))
+                } else {
+                    self.open(tag)
+                }
+            }
         }
     }
 
-    // Adds a start tag, and opens it unless it stands alone.
-    fn start_tag(
+    // Writes the start tag of this name that begins at `start` and whose attributes stand from `at` on, and answers the place
+    // after it.
+    fn start_tag<S: Source<'a>>(
         &mut self,
         alloc: Global,
-        start: StartTag<'a>,
-        is_closed: bool,
-    ) -> Result<(), AllocError>
-        requires { HasRoom self.old }
-        ensures ok { OnOk result (state_of self.new ≡ (if is_closed || is_void_name start.entry.name.list then added (TagNode (shown_start start.entry)) (state_of self.old) else opened (TagNode (shown_start start.entry)) (state_of self.old))) }
-        ensures held { OnOk result ((held : Held) → AreHeld held self.old → IsHeldStart held start.entry → AreHeld held self.new) }
+        source: &S,
+        start: usize,
+        name: Span,
+        at: usize,
+    ) -> Result<usize, AllocError>
+        requires order { start < at }
+        requires within { at ≤ length (S.text source.now) }
+        requires name { IsIn (S.text source.now) name }
+        requires room { HasRoom self.old }
+        ensures ok { IfOk result (λ to. state_of self.new ≡ step (S.text source.now) (state_of self.old) (piece_of (S.text source.now) (Token.Start name) at start to)) }
+        ensures rest { IfOk result (λ to. drop to (S.text source.now) ≡ (tag_of (bytes_at (S.text source.now) name) (drop at (S.text source.now))).1) }
+        ensures held { OnOk result (AreHeld S.held self.old → AreHeld S.held self.new) }
+        ensures order { IfOk result (λ to. start < to) }
+        ensures within { IfOk result (λ to. to ≤ length (S.text source.now)) }
     {
-        let tag = tag_of(alloc, start)?;
-        self.add_tag(tag, is_closed)
+        let (tag, end, to) = read_start_tag(alloc, source, start, name, at)?;
+        self.add_tag(tag, end)?;
+        Ok(to)
+    }
+
+    // Adds the text at a span.
+    fn add_text<S: Source<'a>>(
+        &mut self,
+        alloc: Global,
+        source: &S,
+        span: Span,
+    ) -> Result<(), AllocError>
+        requires span { IsIn (S.text source.now) span }
+        requires room { HasRoom self.old }
+        ensures ok { OnOk result (state_of self.new ≡ added (Raw (bytes_at (S.text source.now) span)) (state_of self.old)) }
+        ensures held { OnOk result (AreHeld S.held self.old → AreHeld S.held self.new) }
+    {
+        let bytes = source.piece(alloc, span)?;
+        let text: Node<'a> = NodeOf::Raw(bytes);
+        self.add(text)
+    }
+
+    // Adds the comment at a span.
+    fn add_comment<S: Source<'a>>(
+        &mut self,
+        alloc: Global,
+        source: &S,
+        span: Span,
+    ) -> Result<(), AllocError>
+        requires span { IsIn (S.text source.now) span }
+        requires room { HasRoom self.old }
+        ensures ok { OnOk result (state_of self.new ≡ added (Comment (bytes_at (S.text source.now) span)) (state_of self.old)) }
+        ensures held { OnOk result (AreHeld S.held self.old → AreHeld S.held self.new) }
+    {
+        let bytes = source.piece(alloc, span)?;
+        let comment: Node<'a> = NodeOf::Comment(bytes);
+        self.add(comment)
     }
 
     // Closes the innermost open tag if it has this name: its raw then ends at the place `to` of the text.
@@ -230,40 +266,63 @@ impl<'a> TableBuilder<'a> {
         }
     }
 
-    /// Writes a token that ends at the place `to` of the text. After an error what has been written means nothing.
-    pub fn take<'t, S: Source<'a>>(
+    // Writes a token that is no start tag and ends at the place `to` of the text.
+    fn take_whole<S: Source<'a>>(
         &mut self,
         alloc: Global,
         source: &S,
-        token: Token<'t, 'a>,
+        token: Token,
         to: usize,
     ) -> Result<(), AllocError>
         requires within { to ≤ length (S.text source.now) }
+        requires spans { IsTokenIn (S.text source.now) token }
         requires room { HasRoom self.old }
-        ensures ok { OnOk result ((k : Piece) → said_by token.entry ≡ meaning_of (S.text source.now) k → k.to ≡ to → state_of self.new ≡ step (S.text source.now) (state_of self.old) k) }
-        ensures held { OnOk result (IsHeldToken S.held token.entry → AreHeld S.held self.old → AreHeld S.held self.new) }
+        ensures ok { OnOk result (state_of self.new ≡ with_whole (S.text source.now) token to (state_of self.old)) }
+        ensures held { OnOk result (AreHeld S.held self.old → AreHeld S.held self.new) }
     {
         match token {
-            Token::Text(bytes) => {
-                let text: Node<'a> = NodeOf::Raw(bytes);
-                self.add(text)
-            }
-            Token::Comment(bytes) => {
-                let comment: Node<'a> = NodeOf::Comment(bytes);
-                self.add(comment)
-            }
-            Token::Start(tag, is_closed) => self.start_tag(alloc, tag, is_closed),
-            Token::End(name) => self.end_tag(alloc, source, name, to),
+            Token::Text(span) => self.add_text(alloc, source, span),
+            Token::End(name) => self.end_tag(alloc, source, name.of(source.as_bytes()), to),
+            Token::Comment(span) => self.add_comment(alloc, source, span),
             Token::Doctype(is_html5) => {
                 self.is_html5 |= is_html5;
                 Ok(())
             }
-            Token::Nothing => Ok(()),
+            Token::Start(_) | Token::Nothing => Ok(()),
+        }
+    }
+
+    /// Writes a token that the lexer found from `start` up to `behind`, and answers the place after it, which is that after the
+    /// whole tag for a start tag. After an error what has been written means nothing.
+    pub(crate) fn take<S: Source<'a>>(
+        &mut self,
+        alloc: Global,
+        source: &S,
+        start: usize,
+        token: Token,
+        behind: usize,
+    ) -> Result<usize, AllocError>
+        requires order { start < behind }
+        requires within { behind ≤ length (S.text source.now) }
+        requires spans { IsTokenIn (S.text source.now) token }
+        requires room { HasRoom self.old }
+        ensures ok { IfOk result (λ to. state_of self.new ≡ step (S.text source.now) (state_of self.old) (piece_of (S.text source.now) token behind start to)) }
+        ensures rest { IfOk result (λ to. drop to (S.text source.now) ≡ (meant (S.text source.now) token behind).1) }
+        ensures held { OnOk result (AreHeld S.held self.old → AreHeld S.held self.new) }
+        ensures order { IfOk result (λ to. start < to) }
+        ensures within { IfOk result (λ to. to ≤ length (S.text source.now)) }
+    {
+        match token {
+            Token::Start(name) => self.start_tag(alloc, source, start, name, behind),
+            _ => {
+                self.take_whole(alloc, source, token, behind)?;
+                Ok(behind)
+            }
         }
     }
 
     /// The table, whose tags that are still open stay as they are.
-    pub fn finish(self) -> Parser<'a>
+    pub(crate) fn finish(self) -> Parser<'a>
         ensures document { document_of result ≡ written (state_of self.entry) }
         ensures version { result.version ≡ version_of (state_of self.entry).is_html5 }
         ensures held { (held : Held) → AreHeld held self.entry → All (IsHeldNode held) result.nodes }

@@ -1,0 +1,42 @@
+-- What a token of the lexer says.
+use Rattle.std.specs.Prelude.{ℕ, Bool, true, false, List, drop, Option, Some, None, ⊤}
+use Rattle.tl_spec.specs.Attribute.{Pair, attributes}
+use Rattle.tl_spec.specs.Token.{Token as Meant, Nothing, Text, End, Comment, Doctype, Start, closed}
+use Rattle.tl_token.specs.Span.{bytes_at, IsIn}
+use Rattle.tl_token.specs.declared.tag.TagEnd.{TagEnd}
+use Rattle.tl_token.specs.declared.tag.TagEnd.TheVariants.{Opens, Alone, Broken}
+use Rattle.tl_token.specs.declared.token.Token.{Token}
+use Rattle.tl_token.specs.declared.token.Token.TheVariants.{Text as TextToken, End as EndToken, Comment as CommentToken, Doctype as DoctypeToken, Start as StartToken, Nothing as NothingToken}
+
+-- what the end of a start tag makes of its name and its attributes
+abbrev pub ended : List ℕ → List Pair → TagEnd → Meant
+ended name pairs Opens = Start name pairs false
+ended name pairs Alone = Start name pairs true
+ended name pairs Broken = Nothing
+
+-- a start tag whose attributes are those at the front of s, and what stands behind it
+abbrev pub tag_of : List ℕ → List ℕ → Meant × List ℕ
+tag_of name s = let a = attributes s in closed name a.0 a.1
+
+-- what the token says that stands in t in front of `behind`, and what stands behind it: behind a tag's name and blanks its attributes and its end follow
+abbrev pub meant : List ℕ → Token → ℕ → Meant × List ℕ
+meant t (TextToken s) behind = (Text (bytes_at t s), drop behind t)
+meant t (EndToken name) behind = (End (bytes_at t name), drop behind t)
+meant t (CommentToken s) behind = (Comment (bytes_at t s), drop behind t)
+meant t (DoctypeToken html) behind = (Doctype html, drop behind t)
+meant t (StartToken name) behind = tag_of (bytes_at t name) (drop behind t)
+meant t NothingToken behind = (Nothing, drop behind t)
+
+-- the spans of a token are in the text
+abbrev pub IsTokenIn : List ℕ → Token → Type 0
+IsTokenIn t (TextToken s) = IsIn t s
+IsTokenIn t (EndToken name) = IsIn t name
+IsTokenIn t (CommentToken s) = IsIn t s
+IsTokenIn t (DoctypeToken html) = ⊤
+IsTokenIn t (StartToken name) = IsIn t name
+IsTokenIn t NothingToken = ⊤
+
+-- a doctype, of HTML5 or not, or nothing
+abbrev pub doctype_token : Option Bool → Meant
+doctype_token None = Nothing
+doctype_token (Some html) = Doctype html
