@@ -5,7 +5,7 @@ use Rattle.std.proofs.lemmas.Option.{slice_get-map}
 use Rattle.tl_spec.specs.Document.{Node, Tag, Raw, Comment, TagNode}
 use Rattle.tl_spec.specs.Walk.{Event, meets, leaves, faulty, Dangling, Cycle, stands_on, walk, events}
 use Rattle.tl_spec.proofs.Events.{events-nil, events-dangling, events-cycle, events-text, events-comment, events-tag, events-passed}
-use Rattle.tl.specs.declared.parser.tag.walk.Frame.{Frame}
+use Rattle.tl.specs.declared.walk.Frame.{Frame}
 use Rattle.tl.specs.Shown.{HTMLNode, shown, shown_tag}
 use Rattle.tl.specs.Walker.{path_from, owed_from, owed, left_below}
 

@@ -13,7 +13,7 @@ use Rattle.tl_token.specs.declared.token.Token.{Token}
 use Rattle.tl_token.specs.declared.token.Token.TheVariants.{Text as TextToken, End as EndToken, Comment as CommentToken, Doctype as DoctypeToken, Start as StartToken, Nothing as NothingToken}
 use Rattle.tl.specs.Shown.{shown}
 use Rattle.tl.specs.HeldAlike.{IsHeldNode}
-use Rattle.tl.specs.declared.parser.base.table.TableBuilder.{TableBuilder}
+use Rattle.tl.specs.declared.parser.builder.TableBuilder.{TableBuilder}
 
 -- what has been written, the innermost open tag first
 abbrev pub state_of : TableBuilder → State

@@ -5,12 +5,12 @@ use Rattle.tl_spec.specs.Document.{Node, TagNode}
 use Rattle.tl_spec.specs.Walk.{Dangling, Cycle, Event as Happening, meets, leaves, faulty, every, shows, walk, events}
 use Rattle.tl.specs.declared.errors.TreeError.{TreeError}
 use Rattle.tl.specs.declared.errors.TreeError.TheVariants.{Dangling as DanglingError, Cycle as CycleError, OutOfMemory}
-use Rattle.tl.specs.declared.parser.tag.walk.Entered.{Entered}
-use Rattle.tl.specs.declared.parser.tag.walk.Entered.TheVariants.{All, Shown}
-use Rattle.tl.specs.declared.parser.tag.walk.Frame.{Frame}
-use Rattle.tl.specs.declared.parser.tag.walk.Walker.{Walker}
-use Rattle.tl.specs.declared.parser.tag.walk.Event.{Event}
-use Rattle.tl.specs.declared.parser.tag.walk.Event.TheVariants.{Meets, Leaves}
+use Rattle.tl.specs.declared.walk.Entered.{Entered}
+use Rattle.tl.specs.declared.walk.Entered.TheVariants.{All, Shown}
+use Rattle.tl.specs.declared.walk.Frame.{Frame}
+use Rattle.tl.specs.declared.walk.Walker.{Walker}
+use Rattle.tl.specs.declared.walk.Event.{Event}
+use Rattle.tl.specs.declared.walk.Event.TheVariants.{Meets, Leaves}
 use Rattle.tl.specs.Marks.{AreFresh, IsKept}
 use Rattle.tl.specs.Shown.{HTMLNode, shown, shown_tag}
 

@@ -14,6 +14,7 @@ ghost use Rattle.tl.specs.declared.errors.ParseError.TheVariants.{InvalidLength}
 pub mod errors;
 mod parser;
 mod vdom;
+mod walk;
 
 /// Byte strings.
 pub mod bytes {
@@ -53,5 +54,5 @@ pub fn parse<'a>(
     // So what `outer_html` says of a clean table is said of a text with tame trees.
     ensures clean { IsTame (plain (forest (tokens text.now))) → IfOk result (λ d. IsCleanTable (document_of d).nodes (document_of d).top) }
 {
-    Ok(VDom::from(parser::base::reading::read(alloc, &text, options)?))
+    Ok(VDom::from(parser::builder::read(alloc, &text, options)?))
 }

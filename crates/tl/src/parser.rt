@@ -1,5 +1,7 @@
-//! The table of nodes, and what reads it.
-pub mod base;
-pub mod handle;
-pub mod options;
-pub mod tag;
+//! The table of nodes, and what reads a text into it.
+pub(crate) mod base;
+pub(crate) mod boundaries;
+pub(crate) mod builder;
+pub(crate) mod handle;
+pub(crate) mod options;
+pub(crate) mod tag;

@@ -1,11 +1,20 @@
 //! Documents.
-ghost use Rattle.std.specs.Prelude.{◌≡◌};
+ghost use Rattle.std.specs.Prelude.{◌≡◌, [], IfOk, string_bytes};
 ghost use Rattle.std.specs.Borrow.{sem};
+ghost use Rattle.tl_spec.specs.Clean.{IsCleanTable};
+ghost use Rattle.tl_spec.specs.Normal.{ReadsAs};
+ghost use Rattle.tl_spec.specs.Print.{document_print};
+ghost use Rattle.tl_spec.specs.Walk.{every, trees, walk};
+ghost use Rattle.tl.specs.Answer.{Answers};
+ghost use Rattle.tl.specs.Shown.{document_of};
 ghost use Rattle.tl.specs.TableLends.{LendsParser, LendsNodes, LendsTop};
 
+use crate::errors::TreeError;
 use crate::parser::base::{HTMLVersion, ParserOf};
 use crate::parser::handle::NodeHandle;
 use crate::parser::tag::node::NodeOf;
+use crate::walk::print::write_row;
+use std::alloc::Global;
 use std::marker::Model;
 use tl_attributes::attributes::Attributes;
 use tl_bytes::byte_string::Bytes;
@@ -86,5 +95,18 @@ impl<A, B> VDomOf<A, B> {
         ensures value { result.now ≡ self.old.top }
     {
         self.parser.top_mut()
+    }
+}
+
+impl<'a> VDom<'a> {
+    /// The document as markup: its top nodes in order, without a doctype. What is printed of a clean table is read as that table.
+    pub fn outer_html(&self, alloc: Global) -> Result<String, TreeError>
+        ensures answers { Answers (document_print (document_of self.now)) result }
+        ensures identity { let d = document_of self.now in
+            IsCleanTable d.nodes d.top → IfOk result (λ s. ReadsAs (string_bytes s) (trees (walk every d.nodes [] d.top))) }
+    {
+        let mut out = String::new(alloc);
+        write_row(alloc, self.nodes(), self.children(), &mut out)?;
+        Ok(out)
     }
 }

@@ -4,14 +4,8 @@ ghost use Rattle.std.specs.Borrow.{sem};
 ghost use Rattle.std.specs.Option.{option_copied, option_copied_mut};
 ghost use Rattle.tl.specs.TableLends.{LendsNode, LendsTableNodes, LendsTableTop};
 
-mod attribute;
-pub(crate) mod reading;
-mod source;
-mod start_tag;
-mod table;
-
 use crate::parser::handle::{InnerNodeHandle, NodeHandle};
-use crate::parser::tag::node::NodeOf;
+use crate::parser::tag::node::{Node, NodeOf};
 use std::alloc::Global;
 use std::marker::Model;
 use tl_attributes::attributes::Attributes;
@@ -19,7 +13,7 @@ use tl_bytes::byte_string::Bytes;
 use tl_inline::inline::vec::InlineVec;
 
 /// The nodes of a document, in the order of their first byte.
-pub type Tree<'a> = Vec<crate::parser::tag::node::Node<'a>>;
+pub type Tree<'a> = Vec<Node<'a>>;
 
 /// Handles of the tags of one class. Up to two lie inline.
 pub type ClassVec = InlineVec<NodeHandle, 2>;

@@ -2,15 +2,10 @@
 ghost use Rattle.std.specs.Prelude.{◌≡◌, IfOk, OnOk, OnErr};
 ghost use Rattle.std.specs.Option.{option_copied};
 
-pub mod children;
-pub mod children_mut;
-pub mod find;
-pub mod node;
-pub mod print;
-pub mod text;
-pub(crate) mod walk;
+pub(crate) mod children;
+pub(crate) mod children_mut;
+pub(crate) mod node;
 
-use crate::parser::base::Parser;
 use crate::parser::handle::NodeHandle;
 use std::alloc::{AllocError, Global};
 use std::marker::Model;
@@ -186,17 +181,6 @@ fn copied_lists<'a>(
 }
 
 impl<'a> HTMLTag<'a> {
-    ghost use Rattle.tl.specs.Boundaries.{boundaries};
-
-    /// The places of the first and of the last byte of the source in the text, whatever the table of `_parser` is. An empty source answers its place twice, and a place past `usize::MAX` is that.
-    pub fn boundaries(&self, _parser: &Parser<'a>) -> (usize, usize)
-        ensures { result ≡ boundaries self.now }
-    {
-        let start = self.start();
-        let len = self.raw().as_bytes().len();
-        (start, start.saturating_add(len.saturating_sub(1)))
-    }
-
     /// A tag with the same parts, each held alike.
     pub fn clone(&self) -> Result<HTMLTag<'a>, AllocError>
         ensures { IfOk result (λ t. t ≡ self.now) }

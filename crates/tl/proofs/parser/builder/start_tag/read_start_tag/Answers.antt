@@ -1,0 +1,36 @@
+use Rattle.std.proofs.Common.{◌≡◌, ℕ, ◌-◌, List, [], take, drop, subst, ap, ◌∙◌}
+use Rattle.tl_spec.specs.Attribute.{Pair}
+use Rattle.tl_spec.specs.Token.{Token, closed}
+use Rattle.tl_spec.specs.Document.{Handles, held_items}
+use Rattle.tl_bytes.specs.Held.{Kept}
+use Rattle.tl_token.specs.Span.{bytes_at}
+use Rattle.tl_token.specs.Lexed.{ended}
+use Rattle.tl_attributes.specs.ShownAttributes.{shown_attributes}
+use Rattle.tl.specs.Shown.{HTMLTag, shown_tag}
+use Rattle.tl.proofs.StartTags.{tag-made, tag-ends}
+use Rattle.tl.proofs.parser.builder.start_tag.read_start_tag.Goals as goal
+
+pub returns-clause-tag : goal.returns-clause-tag
+returns-clause-tag g c =
+    let t = g.S.Source.text c.args.source.now in
+    let start = c.args.start in
+    let end = c.tag_end-kind.result.1 in
+    let now = c.read_into.new.tag in
+    let kept = c.read_into.ensures.kept in
+    let made = c.in_ok-tag.ensures in
+    let name : now.name.list ≡ bytes_at t c.args.name = ap (λ (x : HTMLTag). x.name.list) kept ∙ ap (λ (x : HTMLTag). x.name.list) made ∙ ap (λ (b : Kept). b.list) c.in_ok-name.ensures.ok in
+    let children : ◌≡◌ {A = Handles} now.children (held_items []) = ap (λ (x : HTMLTag). x.children) kept ∙ ap (λ (x : HTMLTag). x.children) made in
+    let begun : now.start ≡ start = ap (λ (x : HTMLTag). x.start) kept ∙ ap (λ (x : HTMLTag). x.start) made in
+    let raw : c.in_ok-raw.raw.list ≡ take (end - start) (drop start t) = ap (λ (b : Kept). b.list) c.in_ok-raw.ensures.ok in
+    tag-made t (bytes_at t c.args.name) c.args.at c.in_ok-behind.behind (shown_attributes now.attributes) c.in_ok-behind.ensures.read start end (shown_tag c.set_raw.new.self)
+    (ap shown_tag c.set_raw.ensures ∙ (λ i. record { name = name i; attributes = shown_attributes now.attributes; children = children i; raw = raw i; start = begun i }))
+
+pub returns-clause-end : goal.returns-clause-end
+returns-clause-end g c =
+    let t = g.S.Source.text c.args.source.now in
+    let kind = c.tag_end-kind.result.0 in
+    let end = c.tag_end-kind.result.1 in
+    let behind = c.in_ok-behind.behind in
+    let ends : (name : List ℕ) (pairs : List Pair) → ◌≡◌ {A = Token × List ℕ} (ended name pairs kind, drop end t) (closed name pairs (drop behind t)) =
+    subst (λ (T : List ℕ). (name : List ℕ) (pairs : List Pair) → ◌≡◌ {A = Token × List ℕ} (ended name pairs kind, drop end T) (closed name pairs (drop behind T))) c.as_bytes.ensures c.tag_end-kind.ensures.read in
+    tag-ends t (bytes_at t c.args.name) c.args.at behind (shown_attributes c.read_into.new.tag.attributes) c.in_ok-behind.ensures.read kind end ends

@@ -1,5 +1,0 @@
-use Rattle.std.proofs.Common.{rules}
-use Rattle.tl.proofs.parser.tag.print.HTMLTag.outer_html.Goals as goal
-
-pub returns : goal.returns
-returns c = search rules

@@ -1,0 +1,18 @@
+use Rattle.std.proofs.Common.{◌≡◌, ◌++◌, length, flat_map, string_bytes}
+use Rattle.std.specs.List.{AllByRecursion}
+use Rattle.tl_spec.specs.Clean.{MeetsOwnKeys}
+use Rattle.tl_spec.specs.Print.{printed}
+use Rattle.tl_spec.specs.Walk.{fault_among}
+use Rattle.tl.specs.Walker.{left, IsMarked}
+use Rattle.tl.proofs.walk.print.write_walk.Given as goal
+
+abbrev pub invariant-loop-event : goal.invariant-loop-event
+invariant-loop-event l = record {
+  marked : IsMarked l.walker;
+  bytes : string_bytes l.initial.out ++ flat_map printed (left l.initial.walker) ≡ string_bytes l.out ++ flat_map printed (left l.walker);
+  faults : fault_among (left l.initial.walker) ≡ fault_among (left l.walker);
+  own : AllByRecursion MeetsOwnKeys (left l.walker) → AllByRecursion MeetsOwnKeys (left l.initial.walker);
+}
+
+abbrev pub decreases-loop-event : goal.decreases-loop-event
+decreases-loop-event l = length (left l.walker)

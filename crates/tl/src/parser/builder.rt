@@ -1,0 +1,323 @@
+//! Reads a text into a table: takes the tokens of the lexer one by one and writes what each stands for.
+ghost use Rattle.std.specs.Prelude.{◌≡◌, ◌↔◌, ◌≤◌, ◌<◌, ◌+◌, length, drop, slice_get, IfOk, OnOk, IsErrOf, All};
+ghost use Rattle.tl_bytes.specs.Held.{Held};
+ghost use Rattle.tl_spec.specs.ByteClass.{is_void as is_void_name};
+ghost use Rattle.tl_token.specs.Span.{bytes_at, IsIn};
+ghost use Rattle.tl_token.specs.Lexed.{meant, tag_of, IsTokenIn};
+ghost use Rattle.tl_spec.specs.Forest.{closes};
+ghost use Rattle.tl_spec.specs.Document.{Raw, Comment, document};
+ghost use Rattle.tl_spec.specs.Machine.{start, adopted, added, opened, closed, after_end, step, enclosing_name};
+ghost use Rattle.tl.specs.Shown.{shown, document_of, version_of};
+ghost use Rattle.tl.specs.HeldAlike.{IsHeldNode, IsHeldTag};
+ghost use Rattle.tl.specs.declared.errors.ParseError.TheVariants.{InvalidLength};
+
+mod attribute;
+mod node;
+mod source;
+mod start_tag;
+
+use crate::errors::ParseError;
+use crate::parser::base::{HTMLVersion, Parser};
+use crate::parser::builder::source::Source;
+use crate::parser::builder::start_tag::read_start_tag;
+use crate::parser::handle::NodeHandle;
+use crate::parser::options::ParserOptions;
+use crate::parser::tag::HTMLTag;
+use crate::parser::tag::node::{Node, NodeOf};
+use std::alloc::{AllocError, Global};
+use tl_token::names::is_void;
+use tl_token::span::Span;
+use tl_token::tag::TagEnd;
+use tl_token::token::{Token, next_token};
+
+// A table that tokens are written into.
+#[derive(Drop)]
+pub(crate) struct TableBuilder<'a> {
+    nodes: Vec<Node<'a>>,
+    // The tags that no end tag has closed yet, the innermost last.
+    open_tags: Vec<NodeHandle>,
+    top: Vec<NodeHandle>,
+    is_html5: bool,
+    // An open tag is a node of the table.
+    ghost in_table: { All (λ p. p < length nodes.items) open_tags.items },
+}
+
+impl<'a> TableBuilder<'a> {
+    ghost use Rattle.tl.specs.Builder.{state_of, with_tag, with_whole, piece_of, written, HasRoom, AreHeld};
+
+    // An empty table.
+    fn new(alloc: Global) -> Self
+        ensures state { state_of result ≡ start }
+        ensures held { (held : Held) → AreHeld held result }
+    {
+        TableBuilder {
+            nodes: Vec::new(alloc),
+            open_tags: Vec::new(alloc),
+            top: Vec::new(alloc),
+            is_html5: false,
+        }
+    }
+
+    // The place of the innermost open tag in the table.
+    fn innermost(&self) -> Option<usize>
+        ensures { result ≡ slice_get (state_of self.now).open_tags 0 }
+    {
+        self.open_tags.last().map(|tag| tag.get_inner() as usize)
+    }
+
+    // Makes a node the last child of the innermost open tag, or the last top node.
+    fn adopt(&mut self, node: NodeHandle) -> Result<(), AllocError>
+        ensures ok { OnOk result (state_of self.new ≡ adopted node (state_of self.old)) }
+        ensures len { length self.new.nodes.items ≡ length self.old.nodes.items }
+        ensures held { OnOk result ((held : Held) → AreHeld held self.old → AreHeld held self.new) }
+    {
+        match self.innermost() {
+            Some(parent) => self.nodes[parent].push_child(node)?,
+            None => self.top.push(node)?,
+        }
+        Ok(())
+    }
+
+    // Adds a node as the last child of the innermost open tag.
+    fn add(&mut self, node: Node<'a>) -> Result<(), AllocError>
+        requires { HasRoom self.old }
+        ensures ok { OnOk result (state_of self.new ≡ added (shown node.entry) (state_of self.old)) }
+        ensures held { OnOk result ((held : Held) → AreHeld held self.old → IsHeldNode held node.entry → AreHeld held self.new) }
+        ensures len { OnOk result (length self.new.nodes.items ≡ length self.old.nodes.items + 1) }
+    {
+        let number = self.nodes.len() as u32;
+        self.adopt(NodeHandle::new(number))?;
+        self.nodes.push(node)?;
+        Ok(())
+    }
+
+    // Adds a tag, and opens it.
+    fn open(&mut self, tag: HTMLTag<'a>) -> Result<(), AllocError>
+        requires { HasRoom self.old }
+        ensures ok { OnOk result (state_of self.new ≡ opened (shown (NodeOf.Tag tag.entry)) (state_of self.old)) }
+        ensures held { OnOk result ((held : Held) → AreHeld held self.old → IsHeldTag held tag.entry → AreHeld held self.new) }
+    {
+        let number = self.nodes.len() as u32;
+        self.add(NodeOf::Tag(tag))?;
+        self.open_tags.push(NodeHandle::new(number))?;
+        Ok(())
+    }
+
+    // Whether the innermost open tag has this name.
+    fn is_innermost(&self, name: &[u8]) -> bool
+        ensures { result ≡ closes name.now (enclosing_name (state_of self.now).nodes (state_of self.now).open_tags) }
+    {
+        match self.innermost() {
+            Some(tag) => self.nodes[tag].is_named(name),
+            None => false,
+        }
+    }
+
+    // Closes the innermost open tag, whose raw then ends at the place `to` of the text.
+    fn close<S: Source<'a>>(
+        &mut self,
+        alloc: Global,
+        source: &S,
+        to: usize,
+    ) -> Result<(), AllocError>
+        requires { to ≤ length (S.text source.now) }
+        ensures ok { OnOk result (state_of self.new ≡ closed (S.text source.now) to (state_of self.old)) }
+        ensures held { OnOk result (AreHeld S.held self.old → AreHeld S.held self.new) }
+    {
+        if let Some(tag) = self.open_tags.pop() {
+            self.nodes[tag.get_inner() as usize].set_raw(alloc, source, to)?;
+        }
+        Ok(())
+    }
+
+    // Adds the tag of a start tag, and opens it unless it stands alone. Of a broken one nothing comes.
+    fn add_tag(&mut self, tag: HTMLTag<'a>, end: TagEnd) -> Result<(), AllocError>
+        requires { HasRoom self.old }
+        ensures ok { OnOk result (state_of self.new ≡ with_tag (shown (NodeOf.Tag tag.entry)) (is_void_name tag.entry.name.list) (state_of self.old) end) }
+        ensures held { OnOk result ((held : Held) → AreHeld held self.old → IsHeldTag held tag.entry → AreHeld held self.new) }
+    {
+        match end {
+            TagEnd::Broken => Ok(()),
+            TagEnd::Alone => self.add(NodeOf::Tag(tag)),
+            TagEnd::Opens => {
+                if is_void(tag.name().as_bytes()) {
+                    self.add(NodeOf::Tag(tag))
+                } else {
+                    self.open(tag)
+                }
+            }
+        }
+    }
+
+    // Writes the start tag of this name that begins at `start` and whose attributes stand from `at` on, and answers the place
+    // after it.
+    fn start_tag<S: Source<'a>>(
+        &mut self,
+        alloc: Global,
+        source: &S,
+        start: usize,
+        name: Span,
+        at: usize,
+    ) -> Result<usize, AllocError>
+        requires order { start < at }
+        requires within { at ≤ length (S.text source.now) }
+        requires name { IsIn (S.text source.now) name }
+        requires room { HasRoom self.old }
+        ensures ok { IfOk result (λ to. state_of self.new ≡ step (S.text source.now) (state_of self.old) (piece_of (S.text source.now) (Token.Start name) at start to)) }
+        ensures rest { IfOk result (λ to. drop to (S.text source.now) ≡ (tag_of (bytes_at (S.text source.now) name) (drop at (S.text source.now))).1) }
+        ensures held { OnOk result (AreHeld S.held self.old → AreHeld S.held self.new) }
+        ensures order { IfOk result (λ to. start < to) }
+        ensures within { IfOk result (λ to. to ≤ length (S.text source.now)) }
+    {
+        let (tag, end, to) = read_start_tag(alloc, source, start, name, at)?;
+        self.add_tag(tag, end)?;
+        Ok(to)
+    }
+
+    // Adds the text at a span.
+    fn add_text<S: Source<'a>>(
+        &mut self,
+        alloc: Global,
+        source: &S,
+        span: Span,
+    ) -> Result<(), AllocError>
+        requires span { IsIn (S.text source.now) span }
+        requires room { HasRoom self.old }
+        ensures ok { OnOk result (state_of self.new ≡ added (Raw (bytes_at (S.text source.now) span)) (state_of self.old)) }
+        ensures held { OnOk result (AreHeld S.held self.old → AreHeld S.held self.new) }
+    {
+        let bytes = source.piece(alloc, span)?;
+        let text: Node<'a> = NodeOf::Raw(bytes);
+        self.add(text)
+    }
+
+    // Adds the comment at a span.
+    fn add_comment<S: Source<'a>>(
+        &mut self,
+        alloc: Global,
+        source: &S,
+        span: Span,
+    ) -> Result<(), AllocError>
+        requires span { IsIn (S.text source.now) span }
+        requires room { HasRoom self.old }
+        ensures ok { OnOk result (state_of self.new ≡ added (Comment (bytes_at (S.text source.now) span)) (state_of self.old)) }
+        ensures held { OnOk result (AreHeld S.held self.old → AreHeld S.held self.new) }
+    {
+        let bytes = source.piece(alloc, span)?;
+        let comment: Node<'a> = NodeOf::Comment(bytes);
+        self.add(comment)
+    }
+
+    // Closes the innermost open tag if it has this name: its raw then ends at the place `to` of the text.
+    fn end_tag<S: Source<'a>>(
+        &mut self,
+        alloc: Global,
+        source: &S,
+        name: &[u8],
+        to: usize,
+    ) -> Result<(), AllocError>
+        requires { to ≤ length (S.text source.now) }
+        ensures ok { OnOk result (state_of self.new ≡ after_end (S.text source.now) to (state_of self.old) (closes name.now (enclosing_name (state_of self.old).nodes (state_of self.old).open_tags))) }
+        ensures held { OnOk result (AreHeld S.held self.old → AreHeld S.held self.new) }
+    {
+        if self.is_innermost(name) {
+            self.close(alloc, source, to)
+        } else {
+            Ok(())
+        }
+    }
+
+    // Writes a token that is no start tag and ends at the place `to` of the text.
+    fn take_whole<S: Source<'a>>(
+        &mut self,
+        alloc: Global,
+        source: &S,
+        token: Token,
+        to: usize,
+    ) -> Result<(), AllocError>
+        requires within { to ≤ length (S.text source.now) }
+        requires spans { IsTokenIn (S.text source.now) token }
+        requires room { HasRoom self.old }
+        ensures ok { OnOk result (state_of self.new ≡ with_whole (S.text source.now) token to (state_of self.old)) }
+        ensures held { OnOk result (AreHeld S.held self.old → AreHeld S.held self.new) }
+    {
+        match token {
+            Token::Text(span) => self.add_text(alloc, source, span),
+            Token::End(name) => self.end_tag(alloc, source, name.of(source.as_bytes()), to),
+            Token::Comment(span) => self.add_comment(alloc, source, span),
+            Token::Doctype(is_html5) => {
+                self.is_html5 |= is_html5;
+                Ok(())
+            }
+            Token::Start(_) | Token::Nothing => Ok(()),
+        }
+    }
+
+    // Writes a token that the lexer found from `start` up to `after`, and answers the place after it, which is that after the whole
+    // tag for a start tag. After an error what has been written means nothing.
+    fn take<S: Source<'a>>(
+        &mut self,
+        alloc: Global,
+        source: &S,
+        start: usize,
+        token: Token,
+        behind: usize,
+    ) -> Result<usize, AllocError>
+        requires order { start < behind }
+        requires within { behind ≤ length (S.text source.now) }
+        requires spans { IsTokenIn (S.text source.now) token }
+        requires room { HasRoom self.old }
+        ensures ok { IfOk result (λ to. state_of self.new ≡ step (S.text source.now) (state_of self.old) (piece_of (S.text source.now) token behind start to)) }
+        ensures rest { IfOk result (λ to. drop to (S.text source.now) ≡ (meant (S.text source.now) token behind).1) }
+        ensures held { OnOk result (AreHeld S.held self.old → AreHeld S.held self.new) }
+        ensures order { IfOk result (λ to. start < to) }
+        ensures within { IfOk result (λ to. to ≤ length (S.text source.now)) }
+    {
+        match token {
+            Token::Start(name) => self.start_tag(alloc, source, start, name, behind),
+            _ => {
+                self.take_whole(alloc, source, token, behind)?;
+                Ok(behind)
+            }
+        }
+    }
+
+    // The table, whose tags that are still open stay as they are.
+    fn finish(self) -> Parser<'a>
+        ensures document { document_of result ≡ written (state_of self.entry) }
+        ensures version { result.version ≡ version_of (state_of self.entry).is_html5 }
+        ensures held { (held : Held) → AreHeld held self.entry → All (IsHeldNode held) result.nodes }
+    {
+        let TableBuilder {
+            nodes,
+            open_tags: _,
+            top,
+            is_html5,
+        } = self;
+        Parser::from_parts(nodes, top, is_html5.then_some(HTMLVersion::HTML5))
+    }
+}
+
+// Reads the text of a source.
+pub(crate) fn read<'a, S: Source<'a>>(
+    alloc: Global,
+    source: &S,
+    _options: ParserOptions,
+) -> Result<Parser<'a>, ParseError>
+    ensures length { IsErrOf result InvalidLength ↔ (4294967295 < length (S.text source.now)) }
+    ensures document { IfOk result (λ p. document_of p ≡ document (S.text source.now)) }
+    ensures version { IfOk result (λ p. p.version ≡ version_of (document (S.text source.now)).is_html5) }
+    ensures held { IfOk result (λ p. All (IsHeldNode S.held) p.nodes) }
+{
+    let text = source.as_bytes();
+    // A node takes at least a byte of the text, and its number is a `u32`.
+    if text.len() > u32::MAX as usize {
+        return Err(ParseError::InvalidLength);
+    }
+    let mut table = TableBuilder::new(alloc);
+    let mut at = 0;
+    while let Some((token, behind)) = next_token(text, at) {
+        at = table.take(alloc, source, at, token, behind)?;
+    }
+    Ok(table.finish())
+}

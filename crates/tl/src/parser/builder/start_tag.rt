@@ -1,0 +1,74 @@
+//! Reads a start tag.
+ghost use Rattle.std.specs.Prelude.{◌≡◌, ◌≤◌, ◌<◌, [], length, drop, IfOk, OnOk};
+ghost use Rattle.tl_spec.specs.Attribute.{attributes};
+ghost use Rattle.tl_spec.specs.AttributeList.{no_attributes};
+ghost use Rattle.tl_spec.specs.Document.{tag_node};
+ghost use Rattle.tl_token.specs.Span.{bytes_at, IsIn};
+ghost use Rattle.tl_token.specs.Lexed.{ended, tag_of};
+ghost use Rattle.tl_attributes.specs.ShownAttributes.{plain, shown_attributes};
+ghost use Rattle.tl_attributes.specs.HeldAttributes.{AreRead, AreHeldAttributes};
+ghost use Rattle.tl.specs.StartTag.{read_of, source_tag};
+ghost use Rattle.tl.specs.Shown.{shown_tag};
+ghost use Rattle.tl.specs.HeldAlike.{IsHeldTag};
+
+use crate::parser::builder::attribute::read_attributes;
+use crate::parser::builder::source::Source;
+use crate::parser::tag::{HTMLTag, TagOf};
+use std::alloc::{AllocError, Global};
+use tl_attributes::attributes::AttributesOf;
+use tl_bytes::byte_string::Bytes;
+use tl_token::span::Span;
+use tl_token::tag::{TagEnd, tag_end};
+
+// Reads the attributes from a place on into a tag without any, and answers the place that ends them.
+fn read_into<'a, S: Source<'a>>(
+    alloc: Global,
+    source: &S,
+    tag: &mut HTMLTag<'a>,
+    at: usize,
+) -> Result<usize, AllocError>
+    requires within { at ≤ length (S.text source.now) }
+    requires empty { plain tag.old.attributes ≡ no_attributes }
+    requires read { AreRead S.held tag.old.attributes }
+    ensures kept { tag.new ≡ record tag.old { attributes = tag.new.attributes } }
+    ensures read { IfOk result (λ end. (shown_attributes tag.new.attributes, drop end (S.text source.now)) ≡ read_of (attributes (drop at (S.text source.now)))) }
+    ensures held { OnOk result (AreHeldAttributes S.held tag.new.attributes) }
+    ensures order { IfOk result (λ end. at ≤ end) }
+    ensures within { IfOk result (λ end. end ≤ length (S.text source.now)) }
+{
+    read_attributes(alloc, source, tag.attributes_mut(), at)
+}
+
+/// Reads a start tag of this name that begins at `start` and whose attributes stand from `at` on: its tag, how it ends, and
+/// the place after it. Nothing comes of the tag where the end is broken.
+pub(crate) fn read_start_tag<'a, S: Source<'a>>(
+    alloc: Global,
+    source: &S,
+    start: usize,
+    name: Span,
+    at: usize,
+) -> Result<(HTMLTag<'a>, TagEnd, usize), AllocError>
+    requires order { start < at }
+    requires within { at ≤ length (S.text source.now) }
+    requires name { IsIn (S.text source.now) name }
+    ensures tag { IfOk result (λ found. shown_tag found.0 ≡ tag_node (S.text source.now) (source_tag (S.text source.now) name at start found.2) []) }
+    ensures end { IfOk result (λ found. (ended (bytes_at (S.text source.now) name) (attributes (drop at (S.text source.now))).0 found.1, drop found.2 (S.text source.now)) ≡ tag_of (bytes_at (S.text source.now) name) (drop at (S.text source.now))) }
+    ensures held { IfOk result (λ found. IsHeldTag S.held found.0) }
+    ensures order { IfOk result (λ found. start < found.2) }
+    ensures within { IfOk result (λ found. found.2 ≤ length (S.text source.now)) }
+{
+    let name = source.piece(alloc, name)?;
+    let mut tag: HTMLTag<'a> = TagOf::new(
+        alloc,
+        name,
+        AttributesOf::new(alloc),
+        Bytes::new(),
+        start,
+    )?;
+    let behind = read_into(alloc, source, &mut tag, at)?;
+    let (kind, end) = tag_end(source.as_bytes(), behind);
+    let len = end - start;
+    let raw = source.piece(alloc, Span { start, len })?;
+    tag.set_raw(raw);
+    Ok((tag, kind, end))
+}

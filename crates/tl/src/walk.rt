@@ -1,0 +1,191 @@
+//! The walk over a table: each handle's node is met, and then what hangs below it, unless the handle dangles or stands on its own path.
+ghost use Rattle.std.specs.Prelude.{◌≡◌, ◌<◌, false, [], ◌∷◌, length, map, OnOk, IfOk, IfErr, IfSome};
+ghost use Rattle.std.specs.Option.{option_copied};
+ghost use Rattle.std.specs.List.{slice_get};
+ghost use Rattle.tl_spec.specs.Walk.{stands_on, walk, events};
+ghost use Rattle.tl.specs.Shown.{shown, shown_tag};
+ghost use Rattle.tl.specs.Marks.{MayFollow};
+ghost use Rattle.tl.specs.Walker.{enters, path_of, left, left_at, left_in, Gives, Takes, Steps, IsMarked, IsMetIn};
+
+pub(crate) mod find;
+mod path;
+pub(crate) mod print;
+pub(crate) mod text;
+
+use crate::errors::TreeError;
+use crate::parser::handle::NodeHandle;
+use crate::parser::tag::HTMLTag;
+use crate::parser::tag::node::{Node, NodeOf};
+use path::{put_mark, stands_on_path};
+use std::alloc::Global;
+use tl_token::names::is_printed_alone;
+
+// Which tags a walk enters: all, or those that are printed with their children.
+#[derive(Clone, Copy)]
+pub(crate) enum Entered {
+    All,
+    Shown,
+}
+
+// What a walk comes to. Only a tag that was entered is left.
+#[derive(Clone, Copy)]
+pub(crate) enum Event<'s, 'a> {
+    Meets(NodeHandle, &'s Node<'a>),
+    Leaves(&'s HTMLTag<'a>),
+}
+
+// A tag that was entered, and the handles behind it.
+#[derive(Clone, Copy)]
+pub(crate) struct Frame<'s, 'a> {
+    handle: NodeHandle,
+    tag: &'s HTMLTag<'a>,
+    rest: &'s [NodeHandle],
+}
+
+// A walk in progress: the tags that it is in, the last one last, and the handles that come next.
+#[derive(Drop)]
+pub(crate) struct Walker<'s, 'a> {
+    nodes: &'s [Node<'a>],
+    entered: Entered,
+    rest: &'s [NodeHandle],
+    frames: Vec<Frame<'s, 'a>>,
+    marks: Vec<bool>,
+    alloc: Global,
+}
+
+// The node of a handle, or None past the table.
+fn node_at<'s, 'a>(nodes: &'s [Node<'a>], handle: NodeHandle) -> Option<&'s Node<'a>>
+    ensures { option_copied result ≡ slice_get nodes.now handle }
+{
+    nodes.get(handle.get_inner() as usize)
+}
+
+impl<'s, 'a> Walker<'s, 'a> {
+    // The walk of these handles.
+    pub(crate) fn new(
+        alloc: Global,
+        nodes: &'s [Node<'a>],
+        entered: Entered,
+        handles: &'s [NodeHandle],
+    ) -> Self
+        ensures marked { IsMarked result }
+        ensures left { left result ≡ events (walk (enters entered) (map shown nodes.now) [] handles.now) }
+        ensures table { result.nodes.now ≡ nodes.now }
+    {
+        Walker {
+            nodes,
+            entered,
+            rest: handles,
+            frames: Vec::new(alloc),
+            marks: Vec::new(alloc),
+            alloc,
+        }
+    }
+
+    // Whether a tag is entered.
+    fn enters(&self, tag: &HTMLTag<'a>) -> bool
+        ensures { result ≡ enters self.now.entered tag.now.name.list }
+    {
+        match self.entered {
+            Entered::All => true,
+            Entered::Shown => !is_printed_alone(tag.name().as_bytes()),
+        }
+    }
+
+    // Goes to the node of a handle, and into it where it is a tag that is entered.
+    fn meet(&mut self, handle: NodeHandle) -> Result<Event<'s, 'a>, TreeError>
+        requires { IsMarked self.old }
+        ensures marked { OnOk result (IsMarked self.new) }
+        ensures gives { Gives (left_at self.old (handle ∷ self.old.rest.now)) result (left self.new) }
+        ensures met { IfOk result (IsMetIn self.old.nodes.now) }
+        ensures table { self.new.nodes.now ≡ self.old.nodes.now }
+    {
+        let Some(node) = node_at(self.nodes, handle) else {
+            return Err(TreeError::Dangling(handle));
+        };
+        let stands = stands_on_path(
+            self.alloc,
+            self.nodes.len(),
+            self.frames.as_slice(),
+            &mut self.marks,
+            handle,
+        )?;
+        if stands {
+            return Err(TreeError::Cycle(handle));
+        }
+        match node {
+            NodeOf::Tag(tag) => {
+                if self.enters(tag) {
+                    self.enter(handle, tag)?;
+                    return Ok(Event::Meets(handle, node));
+                }
+                Ok(Event::Meets(handle, node))
+            }
+            NodeOf::Raw(_) => Ok(Event::Meets(handle, node)),
+            NodeOf::Comment(_) => Ok(Event::Meets(handle, node)),
+        }
+    }
+
+    // Goes into a tag, whose handle may follow the path.
+    fn enter(&mut self, handle: NodeHandle, tag: &'s HTMLTag<'a>) -> Result<(), TreeError>
+        requires marked { IsMarked self.old }
+        requires in_table { handle < length self.old.nodes.now }
+        requires off { stands_on (path_of self.old) handle ≡ false }
+        requires may { MayFollow handle (path_of self.old) self.old.marks.items }
+        ensures marked { OnOk result (IsMarked self.new) }
+        ensures left { OnOk result (left self.new ≡ left_in handle (shown_tag tag.now) self.old) }
+        ensures err { IfErr result (λ e. e ≡ TreeError.OutOfMemory) }
+        ensures table { self.new.nodes.now ≡ self.old.nodes.now }
+    {
+        let frame = Frame {
+            handle,
+            tag,
+            rest: self.rest,
+        };
+        match self.frames.push(frame) {
+            Ok(()) => {}
+            Err(_) => return Err(TreeError::OutOfMemory),
+        }
+        put_mark(&mut self.marks, handle, true);
+        self.rest = tag.child_handles().as_slice();
+        Ok(())
+    }
+
+    // Goes back behind the last tag that was entered, or ends.
+    fn leave(&mut self) -> Option<Event<'s, 'a>>
+        requires marked { IsMarked self.old }
+        requires done { self.old.rest.now ≡ [] }
+        ensures marked { IsMarked self.new }
+        ensures takes { Takes (left self.old) result (left self.new) }
+        ensures met { IfSome result (IsMetIn self.old.nodes.now) }
+        ensures table { self.new.nodes.now ≡ self.old.nodes.now }
+    {
+        let Some(frame) = self.frames.pop() else {
+            return None;
+        };
+        put_mark(&mut self.marks, frame.handle, false);
+        self.rest = frame.rest;
+        Some(Event::Leaves(frame.tag))
+    }
+
+    // The next event, or None at the end; or the first fault.
+    pub(crate) fn next_event(&mut self) -> Result<Option<Event<'s, 'a>>, TreeError>
+        requires { IsMarked self.old }
+        ensures marked { OnOk result (IsMarked self.new) }
+        ensures steps { Steps (left self.old) result (left self.new) }
+        ensures met { IfOk result (λ e. IfSome e (IsMetIn self.old.nodes.now)) }
+        ensures table { self.new.nodes.now ≡ self.old.nodes.now }
+    {
+        match self.rest.split_first() {
+            Some((first, rest)) => {
+                let handle = *first;
+                self.rest = rest;
+                match self.meet(handle) {
+                    Ok(event) => Ok(Some(event)),
+                    Err(error) => Err(error),
+                }
+            }
+            None => Ok(self.leave()),
+        }
+    }
+}

@@ -1,0 +1,83 @@
+//! Searches.
+ghost use Rattle.std.specs.Prelude.{◌≡◌, map};
+ghost use Rattle.tl.specs.Find.{Finds, FindsOrStops, sight, sights, sights_below};
+ghost use Rattle.tl.specs.Node.{tag_of};
+ghost use Rattle.tl.specs.Walker.{IsMarked, left};
+
+use crate::errors::TreeError;
+use crate::parser::base::Parser;
+use crate::parser::handle::NodeHandle;
+use crate::parser::tag::HTMLTag;
+use crate::parser::tag::node::{Node, NodeOf};
+use crate::walk::{Entered, Event, Walker};
+
+// The first node of what is left of a walk at which `f` answers true.
+fn find_in_walk<'s, 'a, F: FnMut(&Node<'a>) -> bool>(
+    mut walker: Walker<'s, 'a>,
+    f: &mut F,
+) -> Result<Option<NodeHandle>, TreeError>
+    requires callable { F.IsAlwaysCallable f.old }
+    requires marked { IsMarked walker }
+    ensures { FindsOrStops F.FnMut f.old (sights walker.entry.nodes.now (left walker.entry)) result f.new }
+{
+    loop {
+        let event = match walker.next_event() {
+            Ok(Some(event)) => event,
+            Ok(None) => return Ok(None),
+            Err(error) => return Err(error),
+        };
+        match event {
+            Event::Meets(handle, node) => {
+                if f(node) {
+                    return Ok(Some(handle));
+                }
+            }
+            Event::Leaves(_) => {}
+        }
+    }
+}
+
+impl<'a> HTMLTag<'a> {
+    /// The first child, in order, at which `f` answers true, by the table of `parser`. No node below the children is shown to it.
+    pub fn find_node<F: FnMut(&Node<'a>) -> bool>(
+        &self,
+        parser: &Parser<'a>,
+        f: &mut F,
+    ) -> Result<Option<NodeHandle>, TreeError>
+        requires { F.IsAlwaysCallable f.old }
+        ensures { Finds F.FnMut f.old (map (sight parser.now.nodes) self.now.children.items) result f.new }
+    {
+        for child in self.child_handles().as_slice() {
+            let Some(node) = child.get(parser) else {
+                return Err(TreeError::Dangling(*child));
+            };
+            if f(node) {
+                return Ok(Some(*child));
+            }
+        }
+        Ok(None)
+    }
+}
+
+impl<'a> Node<'a> {
+    /// The first node below this one, in the order of the walk, at which `f` answers true, by the table of `parser`. The node itself is not shown to it; a text or a comment has none below.
+    pub fn find_node<F: FnMut(&Node<'a>) -> bool>(
+        &self,
+        parser: &Parser<'a>,
+        f: &mut F,
+    ) -> Result<Option<NodeHandle>, TreeError>
+        requires { F.IsAlwaysCallable f.old }
+        ensures search { FindsOrStops F.FnMut f.old (sights_below parser.now.nodes self.now) result f.new }
+        ensures leaf { tag_of self.now ≡ None → result ≡ Ok None }
+    {
+        match self {
+            NodeOf::Tag(tag) => {
+                let handles = tag.child_handles().as_slice();
+                let walker = Walker::new(parser.alloc(), parser.nodes(), Entered::All, handles);
+                find_in_walk(walker, f)
+            }
+            NodeOf::Raw(_) => Ok(None),
+            NodeOf::Comment(_) => Ok(None),
+        }
+    }
+}

@@ -1,0 +1,214 @@
+//! Prints.
+ghost use Rattle.std.specs.Prelude.{◌≡◌, ◌++◌, [], map, flat_map, codes, OnOk, IfOk, IfErr, string_bytes};
+ghost use Rattle.std.specs.List.{AllByRecursion};
+ghost use Rattle.std.specs.Option.{option_copied};
+ghost use Rattle.std.specs.Str.Lossy.{utf8_lossy};
+ghost use Rattle.tl_spec.specs.AttributeList.{printed_pairs, HasOwnKeys};
+ghost use Rattle.tl_spec.specs.Clean.{HaveOwnKeys, IsCleanTable, MeetsOwnKeys, NodeHasOwnKeys};
+ghost use Rattle.tl_spec.specs.Document.{Tag};
+ghost use Rattle.tl_spec.specs.Normal.{ReadsAs};
+ghost use Rattle.tl_spec.specs.Print.{outer_html, inner_html, document_print, print, print_value, print_pairs, print_start, print_end, printed};
+ghost use Rattle.tl_spec.specs.Walk.{every, fault_among, first_fault, plain_attributes, plain_node, shows, trees, walk, walk_of};
+ghost use Rattle.tl.specs.Shown.{shown, shown_tag, document_of};
+ghost use Rattle.tl_attributes.specs.ShownAttributes.{shown_attributes, shown_value};
+ghost use Rattle.tl.specs.Answer.{Answers};
+ghost use Rattle.tl.specs.Walker.{IsMarked, left, shown_event};
+ghost use Rattle.tl.specs.Writing.{Writes};
+
+use crate::errors::TreeError;
+use crate::parser::base::Parser;
+use crate::parser::handle::NodeHandle;
+use crate::parser::tag::HTMLTag;
+use crate::parser::tag::node::{Node, NodeOf};
+use crate::walk::{Entered, Event, Walker};
+use bstr::ByteSlice;
+use std::alloc::Global;
+use tl_attributes::attributes::Attributes;
+use tl_bytes::byte_string::Bytes;
+use tl_token::names::is_printed_alone;
+
+// Writes bytes as text.
+pub(crate) fn write_lossy(bytes: &[u8], out: &mut String) -> Result<(), TreeError>
+    ensures ok { OnOk result (string_bytes out.new ≡ string_bytes out.old ++ utf8_lossy bytes.now) }
+    ensures err { IfErr result (λ e. e ≡ TreeError.OutOfMemory) }
+{
+    bytes.to_str_lossy_into(out)?;
+    Ok(())
+}
+
+// Writes a space, a key and its value.
+fn write_pair(key: &[u8], value: Option<&Bytes<'_>>, out: &mut String) -> Result<(), TreeError>
+    ensures ok { OnOk result (string_bytes out.new ≡ string_bytes out.old ++ codes " " ++ utf8_lossy key.now ++ print_value (shown_value (option_copied value.entry))) }
+    ensures err { IfErr result (λ e. e ≡ TreeError.OutOfMemory) }
+{
+    out.push(' ')?;
+    write_lossy(key, out)?;
+    match value {
+        Some(value) => {
+            out.push_str("=\"")?;
+            write_lossy(value.as_bytes(), out)?;
+            out.push('"')?;
+            Ok(())
+        }
+        None => Ok(()),
+    }
+}
+
+// Writes all pairs in order.
+#[tactic(auto, using(crate::proofs::OwnKeys::own_keys))]
+fn write_pairs(attributes: &Attributes<'_>, out: &mut String) -> Result<(), TreeError>
+    ensures ok { OnOk result (string_bytes out.new ≡ string_bytes out.old ++ print_pairs (printed_pairs (plain_attributes (shown_attributes attributes.now)))) }
+    ensures err { IfErr result (λ e. e ≡ TreeError.OutOfMemory) }
+    ensures own { HasOwnKeys (plain_attributes (shown_attributes attributes.now)) }
+{
+    for pair in attributes.iter() {
+        write_pair(pair.0.as_bytes(), pair.1, out)?;
+    }
+    Ok(())
+}
+
+// Writes a start tag.
+fn write_start(tag: &HTMLTag<'_>, out: &mut String) -> Result<(), TreeError>
+    ensures ok { OnOk result (string_bytes out.new ≡ string_bytes out.old ++ print_start (plain_node (shown_tag tag.now))) }
+    ensures err { IfErr result (λ e. e ≡ TreeError.OutOfMemory) }
+    ensures own { OnOk result (NodeHasOwnKeys (Tag (shown_tag tag.now))) }
+{
+    out.push('<')?;
+    write_lossy(tag.name().as_bytes(), out)?;
+    write_pairs(tag.attributes(), out)?;
+    out.push('>')?;
+    Ok(())
+}
+
+// Writes an end tag.
+fn write_end(tag: &HTMLTag<'_>, out: &mut String) -> Result<(), TreeError>
+    ensures ok { OnOk result (string_bytes out.new ≡ string_bytes out.old ++ print_end (plain_node (shown_tag tag.now))) }
+    ensures err { IfErr result (λ e. e ≡ TreeError.OutOfMemory) }
+{
+    out.push_str("</")?;
+    write_lossy(tag.name().as_bytes(), out)?;
+    out.push('>')?;
+    Ok(())
+}
+
+// Writes what one event prints.
+fn write_event<'s, 'a>(event: Event<'s, 'a>, out: &mut String) -> Result<(), TreeError>
+    ensures ok { OnOk result (string_bytes out.new ≡ string_bytes out.old ++ printed (shown_event event.entry)) }
+    ensures err { IfErr result (λ e. e ≡ TreeError.OutOfMemory) }
+    ensures own { OnOk result (MeetsOwnKeys (shown_event event.entry)) }
+{
+    match event {
+        Event::Meets(_, NodeOf::Tag(tag)) => write_start(tag, out),
+        Event::Meets(_, NodeOf::Raw(bytes)) => write_lossy(bytes.as_bytes(), out),
+        Event::Meets(_, NodeOf::Comment(bytes)) => write_lossy(bytes.as_bytes(), out),
+        Event::Leaves(tag) => write_end(tag, out),
+    }
+}
+
+// Writes what is left of a walk.
+fn write_walk<'s, 'a>(mut walker: Walker<'s, 'a>, out: &mut String) -> Result<(), TreeError>
+    requires { IsMarked walker }
+    ensures writes { let es = left walker.entry in
+        Writes (fault_among es) (flat_map printed es) (string_bytes out.old) result (string_bytes out.new) }
+    ensures own { OnOk result (AllByRecursion MeetsOwnKeys (left walker.entry)) }
+{
+    loop {
+        let event = match walker.next_event() {
+            Ok(Some(event)) => event,
+            Ok(None) => return Ok(()),
+            Err(error) => return Err(error),
+        };
+        write_event(event, out)?;
+    }
+}
+
+// Writes the nodes of these handles in order, with all that they hold.
+pub(crate) fn write_row<'s, 'a>(
+    alloc: Global,
+    nodes: &'s [Node<'a>],
+    handles: &'s [NodeHandle],
+    out: &mut String,
+) -> Result<(), TreeError>
+    ensures writes { let w = walk shows (map shown nodes.now) [] handles.now in
+        Writes (first_fault w) (print (trees w)) (string_bytes out.old) result (string_bytes out.new) }
+    ensures own { OnOk result (HaveOwnKeys (trees (walk shows (map shown nodes.now) [] handles.now))) }
+{
+    write_walk(Walker::new(alloc, nodes, Entered::Shown, handles), out)
+}
+
+// Writes a tag with all that it holds.
+fn write_tag<'s, 'a>(
+    alloc: Global,
+    nodes: &'s [Node<'a>],
+    tag: &'s HTMLTag<'a>,
+    out: &mut String,
+) -> Result<(), TreeError>
+    ensures { let w = walk_of shows (map shown nodes.now) (Tag (shown_tag tag.now)) in
+        Writes (first_fault w) (print (trees w)) (string_bytes out.old) result (string_bytes out.new) }
+{
+    write_start(tag, out)?;
+    if is_printed_alone(tag.name().as_bytes()) {
+        return Ok(());
+    }
+    write_row(alloc, nodes, tag.child_handles().as_slice(), out)?;
+    write_end(tag, out)?;
+    Ok(())
+}
+
+// Bytes as a text of their own.
+pub(crate) fn lossy_text(alloc: Global, bytes: &[u8]) -> Result<String, TreeError>
+    ensures { Answers (Ok (utf8_lossy bytes.now)) result }
+{
+    let mut out = String::new(alloc);
+    write_lossy(bytes, &mut out)?;
+    Ok(out)
+}
+
+impl<'a> HTMLTag<'a> {
+    /// The tag as markup, with all that it holds by the table of `parser`. An end tag is written whether or not the text had one.
+    pub fn outer_html(&self, alloc: Global, parser: &Parser<'a>) -> Result<String, TreeError>
+        ensures { Answers (outer_html (map shown parser.now.nodes) (Tag (shown_tag self.now))) result }
+    {
+        let mut out = String::new(alloc);
+        write_tag(alloc, parser.nodes(), self, &mut out)?;
+        Ok(out)
+    }
+
+    /// The children as markup, with all that they hold by the table of `parser`: those of a void tag too.
+    pub fn inner_html(&self, alloc: Global, parser: &Parser<'a>) -> Result<String, TreeError>
+        ensures { Answers (inner_html (map shown parser.now.nodes) (Tag (shown_tag self.now))) result }
+    {
+        let mut out = String::new(alloc);
+        write_row(
+            alloc,
+            parser.nodes(),
+            self.child_handles().as_slice(),
+            &mut out,
+        )?;
+        Ok(out)
+    }
+}
+
+impl<'a> Node<'a> {
+    /// The node as markup, with all that it holds by the table of `parser`.
+    pub fn outer_html(&self, alloc: Global, parser: &Parser<'a>) -> Result<String, TreeError>
+        ensures { Answers (outer_html (map shown parser.now.nodes) (shown self.now)) result }
+    {
+        match self {
+            NodeOf::Tag(tag) => tag.outer_html(alloc, parser),
+            NodeOf::Raw(bytes) => lossy_text(alloc, bytes.as_bytes()),
+            NodeOf::Comment(bytes) => lossy_text(alloc, bytes.as_bytes()),
+        }
+    }
+
+    /// The children of a tag as markup, by the table of `parser`. A text or a comment answers its own text.
+    pub fn inner_html(&self, alloc: Global, parser: &Parser<'a>) -> Result<String, TreeError>
+        ensures { Answers (inner_html (map shown parser.now.nodes) (shown self.now)) result }
+    {
+        match self {
+            NodeOf::Tag(tag) => tag.inner_html(alloc, parser),
+            NodeOf::Raw(_) => self.outer_html(alloc, parser),
+            NodeOf::Comment(_) => self.outer_html(alloc, parser),
+        }
+    }
+}

@@ -1,0 +1,84 @@
+//! Texts.
+ghost use Rattle.std.specs.Prelude.{◌≡◌, ◌++◌, map, flat_map, OnOk, IfErr, string_bytes};
+ghost use Rattle.tl_spec.specs.Document.{Tag};
+ghost use Rattle.tl_spec.specs.Text.{inner_text, text_of, told};
+ghost use Rattle.tl_spec.specs.Walk.{every, fault_among, first_fault, trees, walk_of};
+ghost use Rattle.tl.specs.Shown.{shown, shown_tag};
+ghost use Rattle.tl.specs.Answer.{Answers};
+ghost use Rattle.tl.specs.Walker.{IsMarked, left, shown_event};
+ghost use Rattle.tl.specs.Writing.{Writes};
+
+use crate::errors::TreeError;
+use crate::parser::base::Parser;
+use crate::parser::tag::HTMLTag;
+use crate::parser::tag::node::{Node, NodeOf};
+use crate::walk::print::{lossy_text, write_lossy};
+use crate::walk::{Entered, Event, Walker};
+use std::alloc::Global;
+
+// Writes the text of a node that is met: that of a text alone.
+fn write_told<'s, 'a>(event: Event<'s, 'a>, out: &mut String) -> Result<(), TreeError>
+    ensures ok { OnOk result (string_bytes out.new ≡ string_bytes out.old ++ told (shown_event event.entry)) }
+    ensures err { IfErr result (λ e. e ≡ TreeError.OutOfMemory) }
+{
+    match event {
+        Event::Meets(_, NodeOf::Raw(bytes)) => write_lossy(bytes.as_bytes(), out),
+        Event::Meets(_, NodeOf::Tag(_)) => Ok(()),
+        Event::Meets(_, NodeOf::Comment(_)) => Ok(()),
+        Event::Leaves(_) => Ok(()),
+    }
+}
+
+// Writes the texts of what is left of a walk.
+fn write_texts<'s, 'a>(mut walker: Walker<'s, 'a>, out: &mut String) -> Result<(), TreeError>
+    requires { IsMarked walker }
+    ensures { let es = left walker.entry in
+        Writes (fault_among es) (flat_map told es) (string_bytes out.old) result (string_bytes out.new) }
+{
+    loop {
+        let event = match walker.next_event() {
+            Ok(Some(event)) => event,
+            Ok(None) => return Ok(()),
+            Err(error) => return Err(error),
+        };
+        write_told(event, out)?;
+    }
+}
+
+// Writes the texts below a tag.
+fn write_text_of<'s, 'a>(
+    alloc: Global,
+    nodes: &'s [Node<'a>],
+    tag: &'s HTMLTag<'a>,
+    out: &mut String,
+) -> Result<(), TreeError>
+    ensures { let w = walk_of every (map shown nodes.now) (Tag (shown_tag tag.now)) in
+        Writes (first_fault w) (text_of (trees w)) (string_bytes out.old) result (string_bytes out.new) }
+{
+    let below = tag.child_handles().as_slice();
+    write_texts(Walker::new(alloc, nodes, Entered::All, below), out)
+}
+
+impl<'a> HTMLTag<'a> {
+    /// The texts below the tag by the table of `parser`, one behind the other in the order of the walk. Comments give none.
+    pub fn inner_text(&self, alloc: Global, parser: &Parser<'a>) -> Result<String, TreeError>
+        ensures { Answers (inner_text (map shown parser.now.nodes) (Tag (shown_tag self.now))) result }
+    {
+        let mut out = String::new(alloc);
+        write_text_of(alloc, parser.nodes(), self, &mut out)?;
+        Ok(out)
+    }
+}
+
+impl<'a> Node<'a> {
+    /// The texts at or below the node by the table of `parser`, one behind the other in the order of the walk. Comments give none.
+    pub fn inner_text(&self, alloc: Global, parser: &Parser<'a>) -> Result<String, TreeError>
+        ensures { Answers (inner_text (map shown parser.now.nodes) (shown self.now)) result }
+    {
+        match self {
+            NodeOf::Tag(tag) => tag.inner_text(alloc, parser),
+            NodeOf::Raw(bytes) => lossy_text(alloc, bytes.as_bytes()),
+            NodeOf::Comment(_) => Ok(String::new(alloc)),
+        }
+    }
+}
