@@ -63,13 +63,10 @@ pub says_rising : (n : ℕ) (path : List ℕ) (marks : List Bool) (h : ℕ) → 
 says_rising n path marks h (inl p) z l a = sym (off_rising path h p.1 a)
 says_rising n path marks h (inr e) z l a = let same : length marks ≡ n = ap length e ∙ marks_length n path in absurd (omega arith)
 
-pub says_marked : (n : ℕ) (path : List ℕ) (marks : List Bool) (h : ℕ) (b : Bool) → IsKept n path marks → 0 < length marks → b ≡ get_or marks h b → h < n → b ≡ stands_on path h
-says_marked n path marks h b (inl p) z g l = let none : length marks ≡ 0 = ap length p.0 in absurd (omega arith)
-says_marked n path marks h b (inr e) z g l = sym (mark_tells n path marks h b e g l)
+-- marks that are there are those of the path
+pub kept_marks : (n : ℕ) (path : List ℕ) (marks : List Bool) → IsKept n path marks → 0 < length marks → marks ≡ marks_of n path
+kept_marks n path marks (inl p) z = let none : length marks ≡ 0 = ap length p.0 in absurd (omega arith)
+kept_marks n path marks (inr e) z = e
 
 pub may_follow : (path : List ℕ) (marks : List Bool) (h : ℕ) → 0 < length marks → MayFollow h path marks
 may_follow path marks h z e = let none : length marks ≡ 0 = ap length e in absurd (omega arith)
-
-pub has_place : (n : ℕ) (path : List ℕ) (marks : List Bool) (h : ℕ) → IsKept n path marks → 0 < length marks → h < n → h < length marks
-has_place n path marks h (inl p) z l = let none : length marks ≡ 0 = ap length p.0 in absurd (omega arith)
-has_place n path marks h (inr e) z l = marks_within n path marks h e l

@@ -3,9 +3,10 @@ use Rattle.std.specs.Prelude.{◌≡◌, ℕ, Bool, true, false, List, [], ◌�
 use Rattle.std.specs.Borrow.{Bor}
 use Rattle.std.specs.Fn.{CalledAt, Mut}
 use Rattle.std.specs.List.{slice_get}
-use Rattle.tl_spec.specs.Walk.{Fault, Dangling, Cycle, Event, meets, leaves, faulty, every, walk, events}
+use Rattle.tl_spec.specs.Walk.{Event, meets, leaves, faulty, every, walk, events}
 use Rattle.tl.specs.declared.errors.TreeError.{TreeError}
-use Rattle.tl.specs.declared.errors.TreeError.TheVariants.{Dangling as DanglingError, Cycle as CycleError, OutOfMemory}
+use Rattle.tl.specs.declared.errors.TreeError.TheVariants.{Dangling as DanglingError, OutOfMemory}
+use Rattle.tl.specs.TreeFault.{error_of}
 use Rattle.tl.specs.declared.parser.tag.node.NodeOf.TheVariants.{Tag as ATag, Raw as ARaw, Comment as AComment}
 use Rattle.tl.specs.Shown.{HTMLNode, shown}
 
@@ -20,10 +21,6 @@ sight_of h (Some node) = Ok (h, node)
 -- a handle with its node of the table
 abbrev pub sight : List HTMLNode → ℕ → Sight
 sight nodes h = sight_of h (slice_get nodes h)
-
-abbrev pub error_of : Fault → TreeError
-error_of (Dangling h) = DanglingError h
-error_of (Cycle h) = CycleError h
 
 -- the nodes of the table that are met among events, and the faults
 abbrev pub sights : List HTMLNode → List Event → List Sight

@@ -3,6 +3,7 @@ pub mod Node
 pub mod Table
 pub mod Shown
 pub mod HeldAlike
+pub mod TreeFault
 pub mod Answer
 pub mod StartTag
 pub mod Builder

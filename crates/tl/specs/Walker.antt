@@ -1,10 +1,10 @@
 -- What a walker has still to give.
-use Rattle.std.specs.Prelude.{◌≡◌, ℕ, Bool, List, [], ◌∷◌, ◌++◌, length, map, Option, Some, None, Result, Ok, Err, ⊤}
+use Rattle.std.specs.Prelude.{◌≡◌, ℕ, Bool, List, [], ◌∷◌, ◌++◌, length, map, Option, Some, None, Result, Ok, Err, IfSome, ⊤}
 use Rattle.std.specs.List.{slice_get}
 use Rattle.tl_spec.specs.Document.{Node, TagNode}
-use Rattle.tl_spec.specs.Walk.{Dangling, Cycle, Event as Happening, meets, leaves, faulty, every, shows, walk, events}
+use Rattle.tl_spec.specs.Walk.{Event as Happening, meets, leaves, faulty, every, shows, walk, events}
 use Rattle.tl.specs.declared.errors.TreeError.{TreeError}
-use Rattle.tl.specs.declared.errors.TreeError.TheVariants.{Dangling as DanglingError, Cycle as CycleError, OutOfMemory}
+use Rattle.tl.specs.TreeFault.{fault_of}
 use Rattle.tl.specs.declared.walk.Entered.{Entered}
 use Rattle.tl.specs.declared.walk.Entered.TheVariants.{All, Shown}
 use Rattle.tl.specs.declared.walk.Frame.{Frame}
@@ -70,14 +70,7 @@ IsLedBy e es = (rest : List Happening) × (es ≡ e ∷ rest)
 
 -- a fault comes first; or memory ran out
 abbrev pub Refuses : List Happening → TreeError → Type 0
-Refuses before (DanglingError h) = IsLedBy (faulty (Dangling h)) before
-Refuses before (CycleError h) = IsLedBy (faulty (Cycle h)) before
-Refuses before OutOfMemory = ⊤
-
--- one event is taken
-abbrev pub Gives : List Happening → Result Event TreeError → List Happening → Type 0
-Gives before (Ok e) after = before ≡ shown_event e ∷ after
-Gives before (Err error) after = Refuses before error
+Refuses before error = IfSome (fault_of error) (λ fault. IsLedBy (faulty fault) before)
 
 -- one event is taken, or there is none left
 abbrev pub Takes : List Happening → Option Event → List Happening → Type 0

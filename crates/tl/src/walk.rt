@@ -5,7 +5,7 @@ ghost use Rattle.std.specs.List.{slice_get};
 ghost use Rattle.tl_spec.specs.Walk.{stands_on, walk, events};
 ghost use Rattle.tl.specs.Shown.{shown, shown_tag};
 ghost use Rattle.tl.specs.Marks.{MayFollow};
-ghost use Rattle.tl.specs.Walker.{enters, path_of, left, left_at, left_in, Gives, Takes, Steps, IsMarked, IsMetIn};
+ghost use Rattle.tl.specs.Walker.{enters, path_of, left, left_at, left_in, Takes, Steps, IsMarked, IsMetIn};
 
 pub(crate) mod find;
 mod path;
@@ -34,7 +34,7 @@ pub(crate) enum Event<'s, 'a> {
     Leaves(&'s HTMLTag<'a>),
 }
 
-// A tag that was entered, and the handles behind it.
+// A tag that was entered, and the handles that come after it.
 #[derive(Clone, Copy)]
 pub(crate) struct Frame<'s, 'a> {
     handle: NodeHandle,
@@ -93,11 +93,11 @@ impl<'s, 'a> Walker<'s, 'a> {
     }
 
     // Goes to the node of a handle, and into it where it is a tag that is entered.
-    fn meet(&mut self, handle: NodeHandle) -> Result<Event<'s, 'a>, TreeError>
+    fn meet(&mut self, handle: NodeHandle) -> Result<Option<Event<'s, 'a>>, TreeError>
         requires { IsMarked self.old }
         ensures marked { OnOk result (IsMarked self.new) }
-        ensures gives { Gives (left_at self.old (handle ∷ self.old.rest.now)) result (left self.new) }
-        ensures met { IfOk result (IsMetIn self.old.nodes.now) }
+        ensures steps { Steps (left_at self.old (handle ∷ self.old.rest.now)) result (left self.new) }
+        ensures met { IfOk result (λ event. IfSome event (IsMetIn self.old.nodes.now)) }
         ensures table { self.new.nodes.now ≡ self.old.nodes.now }
     {
         let Some(node) = node_at(self.nodes, handle) else {
@@ -117,12 +117,11 @@ impl<'s, 'a> Walker<'s, 'a> {
             NodeOf::Tag(tag) => {
                 if self.enters(tag) {
                     self.enter(handle, tag)?;
-                    return Ok(Event::Meets(handle, node));
                 }
-                Ok(Event::Meets(handle, node))
+                Ok(Some(Event::Meets(handle, node)))
             }
-            NodeOf::Raw(_) => Ok(Event::Meets(handle, node)),
-            NodeOf::Comment(_) => Ok(Event::Meets(handle, node)),
+            NodeOf::Raw(_) => Ok(Some(Event::Meets(handle, node))),
+            NodeOf::Comment(_) => Ok(Some(Event::Meets(handle, node))),
         }
     }
 
@@ -142,16 +141,15 @@ impl<'s, 'a> Walker<'s, 'a> {
             tag,
             rest: self.rest,
         };
-        match self.frames.push(frame) {
-            Ok(()) => {}
-            Err(_) => return Err(TreeError::OutOfMemory),
-        }
+        let Ok(()) = self.frames.push(frame) else {
+            return Err(TreeError::OutOfMemory);
+        };
         put_mark(&mut self.marks, handle, true);
         self.rest = tag.child_handles().as_slice();
         Ok(())
     }
 
-    // Goes back behind the last tag that was entered, or ends.
+    // Goes back to what comes after the last tag that was entered, or ends.
     fn leave(&mut self) -> Option<Event<'s, 'a>>
         requires marked { IsMarked self.old }
         requires done { self.old.rest.now ≡ [] }
@@ -176,16 +174,10 @@ impl<'s, 'a> Walker<'s, 'a> {
         ensures met { IfOk result (λ e. IfSome e (IsMetIn self.old.nodes.now)) }
         ensures table { self.new.nodes.now ≡ self.old.nodes.now }
     {
-        match self.rest.split_first() {
-            Some((first, rest)) => {
-                let handle = *first;
-                self.rest = rest;
-                match self.meet(handle) {
-                    Ok(event) => Ok(Some(event)),
-                    Err(error) => Err(error),
-                }
-            }
-            None => Ok(self.leave()),
-        }
+        let Some((handle, rest)) = self.rest.split_first() else {
+            return Ok(self.leave());
+        };
+        self.rest = rest;
+        self.meet(*handle)
     }
 }

@@ -93,10 +93,7 @@ impl<A, B> TagOf<A, B> {
         ensures ok { OnOk result (self.new ≡ record self.old { children = pushed 2 self.old.children child }) }
         ensures err { OnErr result (self.new ≡ self.old) }
     {
-        match self.parts.children.push(child) {
-            Ok(()) => Ok(()),
-            Err(_) => Err(AllocError),
-        }
+        self.parts.children.push(child).map_err(|_| AllocError)
     }
 
     // Where the tag's `<` stands in the text.

@@ -21,18 +21,16 @@ fn find_in_walk<'s, 'a, F: FnMut(&Node<'a>) -> bool>(
     ensures { FindsOrStops F.FnMut f.old (sights walker.entry.nodes.now (left walker.entry)) result f.new }
 {
     loop {
-        let event = match walker.next_event() {
-            Ok(Some(event)) => event,
-            Ok(None) => return Ok(None),
-            Err(error) => return Err(error),
-        };
-        match event {
-            Event::Meets(handle, node) => {
-                if f(node) {
-                    return Ok(Some(handle));
+        match walker.next_event() {
+            Ok(Some(event)) => {
+                if let Event::Meets(handle, node) = event {
+                    if f(node) {
+                        return Ok(Some(handle));
+                    }
                 }
             }
-            Event::Leaves(_) => {}
+            Ok(None) => return Ok(None),
+            Err(error) => return Err(error),
         }
     }
 }

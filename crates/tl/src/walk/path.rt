@@ -66,13 +66,7 @@ pub(crate) fn stands_on_path<'s, 'a>(
         if is_above(frames, handle) {
             return Ok(false);
         }
-        match all_marks(alloc, n, frames) {
-            Ok(made) => {
-                *marks = made;
-                return Ok(marks[handle.get_inner() as usize]);
-            }
-            Err(error) => return Err(error),
-        }
+        *marks = all_marks(alloc, n, frames)?;
     }
     Ok(marks[handle.get_inner() as usize])
 }

@@ -113,12 +113,11 @@ fn write_walk<'s, 'a>(mut walker: Walker<'s, 'a>, out: &mut String) -> Result<()
     ensures own { OnOk result (AllByRecursion MeetsOwnKeys (left walker.entry)) }
 {
     loop {
-        let event = match walker.next_event() {
-            Ok(Some(event)) => event,
+        match walker.next_event() {
+            Ok(Some(event)) => write_event(event, out)?,
             Ok(None) => return Ok(()),
             Err(error) => return Err(error),
-        };
-        write_event(event, out)?;
+        }
     }
 }
 

@@ -36,12 +36,11 @@ fn write_texts<'s, 'a>(mut walker: Walker<'s, 'a>, out: &mut String) -> Result<(
         Writes (fault_among es) (flat_map told es) (string_bytes out.old) result (string_bytes out.new) }
 {
     loop {
-        let event = match walker.next_event() {
-            Ok(Some(event)) => event,
+        match walker.next_event() {
+            Ok(Some(event)) => write_told(event, out)?,
             Ok(None) => return Ok(()),
             Err(error) => return Err(error),
-        };
-        write_told(event, out)?;
+        }
     }
 }
 
