@@ -1,11 +1,12 @@
 -- What a table that is being written is.
 use Rattle.std.specs.Prelude.{ℕ, ◌<◌, ◌^◌, Bool, ◌||◌, if◌then◌else◌, All, List, length, map, reverse}
-use Rattle.tl_bytes.specs.Held.{Held}
+use Rattle.tl_bytes.specs.Held.{Held, Kept}
 use Rattle.tl_spec.specs.Token.{Piece}
 use Rattle.tl_spec.specs.Forest.{closes}
 use Rattle.tl_spec.specs.Document.{Node, Raw, Comment, Document}
 use Rattle.tl_spec.specs.Machine.{State, added, opened, after_end, enclosing_name}
 use Rattle.tl_token.specs.Span.{bytes_at}
+use Rattle.tl_token.specs.declared.span.Span.{Span}
 use Rattle.tl_token.specs.Lexed.{meant}
 use Rattle.tl_token.specs.declared.tag.TagEnd.{TagEnd}
 use Rattle.tl_token.specs.declared.tag.TagEnd.TheVariants.{Opens, Alone, Broken}
@@ -37,6 +38,10 @@ with_whole t NothingToken to s = s
 -- the piece that a token stands for which begins at a place, and which ends at another one
 abbrev pub piece_of : List ℕ → Token → ℕ → ℕ → ℕ → Piece
 piece_of t token behind from to = record { token = (meant t token behind).0; from = from; to = to }
+
+-- the bytes at a span of a text, held so
+abbrev pub piece_at : Held → List ℕ → Span → Kept
+piece_at held t span = record { list = bytes_at t span; held = held }
 
 -- one more node has a number
 abbrev pub HasRoom : TableBuilder → Type 0

@@ -15,7 +15,7 @@ pub(crate) mod text;
 use crate::errors::TreeError;
 use crate::parser::handle::NodeHandle;
 use crate::parser::tag::HTMLTag;
-use crate::parser::tag::node::{Node, NodeOf};
+use crate::parser::tag::node::Node;
 use path::{put_mark, stands_on_path};
 use std::alloc::Global;
 use tl_token::names::is_printed_alone;
@@ -114,14 +114,14 @@ impl<'s, 'a> Walker<'s, 'a> {
             return Err(TreeError::Cycle(handle));
         }
         match node {
-            NodeOf::Tag(tag) => {
+            Node::Tag(tag) => {
                 if self.enters(tag) {
                     self.enter(handle, tag)?;
                 }
                 Ok(Some(Event::Meets(handle, node)))
             }
-            NodeOf::Raw(_) => Ok(Some(Event::Meets(handle, node))),
-            NodeOf::Comment(_) => Ok(Some(Event::Meets(handle, node))),
+            Node::Raw(_) => Ok(Some(Event::Meets(handle, node))),
+            Node::Comment(_) => Ok(Some(Event::Meets(handle, node))),
         }
     }
 

@@ -10,6 +10,7 @@ ghost use Rattle.tl_spec.specs.Machine.{start, adopted, added, opened, closed, a
 ghost use Rattle.tl.specs.Shown.{shown, document_of, version_of};
 ghost use Rattle.tl.specs.HeldAlike.{IsHeldNode, IsHeldTag};
 ghost use Rattle.tl.specs.declared.errors.ParseError.TheVariants.{InvalidLength};
+ghost use Rattle.tl.specs.declared.parser.tag.node.NodeOf.TheVariants.{Tag};
 
 mod attribute;
 mod node;
@@ -23,8 +24,9 @@ use crate::parser::builder::start_tag::read_start_tag;
 use crate::parser::handle::NodeHandle;
 use crate::parser::options::ParserOptions;
 use crate::parser::tag::HTMLTag;
-use crate::parser::tag::node::{Node, NodeOf};
+use crate::parser::tag::node::Node;
 use std::alloc::{AllocError, Global};
+use tl_bytes::byte_string::Bytes;
 use tl_token::names::is_void;
 use tl_token::span::Span;
 use tl_token::tag::TagEnd;
@@ -43,7 +45,7 @@ pub(crate) struct TableBuilder<'a> {
 }
 
 impl<'a> TableBuilder<'a> {
-    ghost use Rattle.tl.specs.Builder.{state_of, with_tag, with_whole, piece_of, written, HasRoom, AreHeld};
+    ghost use Rattle.tl.specs.Builder.{state_of, with_tag, with_whole, piece_of, piece_at, written, HasRoom, AreHeld};
 
     // An empty table.
     fn new(alloc: Global) -> Self
@@ -94,11 +96,11 @@ impl<'a> TableBuilder<'a> {
     // Adds a tag, and opens it.
     fn open(&mut self, tag: HTMLTag<'a>) -> Result<(), AllocError>
         requires { HasRoom self.old }
-        ensures ok { OnOk result (state_of self.new ≡ opened (shown (NodeOf.Tag tag.entry)) (state_of self.old)) }
+        ensures ok { OnOk result (state_of self.new ≡ opened (shown (Tag tag.entry)) (state_of self.old)) }
         ensures held { OnOk result ((held : Held) → AreHeld held self.old → IsHeldTag held tag.entry → AreHeld held self.new) }
     {
         let number = self.nodes.len() as u32;
-        self.add(NodeOf::Tag(tag))?;
+        self.add(Node::Tag(tag))?;
         self.open_tags.push(NodeHandle::new(number))?;
         Ok(())
     }
@@ -133,15 +135,15 @@ impl<'a> TableBuilder<'a> {
     // Adds the tag of a start tag, and opens it unless it stands alone. Of a broken one nothing comes.
     fn add_tag(&mut self, tag: HTMLTag<'a>, end: TagEnd) -> Result<(), AllocError>
         requires { HasRoom self.old }
-        ensures ok { OnOk result (state_of self.new ≡ with_tag (shown (NodeOf.Tag tag.entry)) (is_void_name tag.entry.name.list) (state_of self.old) end) }
+        ensures ok { OnOk result (state_of self.new ≡ with_tag (shown (Tag tag.entry)) (is_void_name tag.entry.name.list) (state_of self.old) end) }
         ensures held { OnOk result ((held : Held) → AreHeld held self.old → IsHeldTag held tag.entry → AreHeld held self.new) }
     {
         match end {
             TagEnd::Broken => Ok(()),
-            TagEnd::Alone => self.add(NodeOf::Tag(tag)),
+            TagEnd::Alone => self.add(Node::Tag(tag)),
             TagEnd::Opens => {
                 if is_void(tag.name().as_bytes()) {
-                    self.add(NodeOf::Tag(tag))
+                    self.add(Node::Tag(tag))
                 } else {
                     self.open(tag)
                 }
@@ -174,38 +176,23 @@ impl<'a> TableBuilder<'a> {
         Ok(to)
     }
 
-    // Adds the text at a span.
-    fn add_text<S: Source<'a>>(
+    // Adds the node that `leaf` makes of the bytes at a span.
+    fn add_leaf<S: Source<'a>, F: FnOnce(Bytes<'a>) -> Node<'a>>(
         &mut self,
         alloc: Global,
         source: &S,
         span: Span,
+        leaf: F,
     ) -> Result<(), AllocError>
+        requires callable { F.IsAlwaysCallable leaf }
         requires span { IsIn (S.text source.now) span }
         requires room { HasRoom self.old }
-        ensures ok { OnOk result (state_of self.new ≡ added (Raw (bytes_at (S.text source.now) span)) (state_of self.old)) }
-        ensures held { OnOk result (AreHeld S.held self.old → AreHeld S.held self.new) }
+        ensures ok { OnOk result ((node : _) × F.post leaf (piece_at S.held (S.text source.now) span) node × (state_of self.new ≡ added (shown node) (state_of self.old))) }
+        ensures held { OnOk result (((node : _) → F.post leaf (piece_at S.held (S.text source.now) span) node → IsHeldNode S.held node) → AreHeld S.held self.old → AreHeld S.held self.new) }
     {
         let bytes = source.piece(alloc, span)?;
-        let text: Node<'a> = NodeOf::Raw(bytes);
-        self.add(text)
-    }
-
-    // Adds the comment at a span.
-    fn add_comment<S: Source<'a>>(
-        &mut self,
-        alloc: Global,
-        source: &S,
-        span: Span,
-    ) -> Result<(), AllocError>
-        requires span { IsIn (S.text source.now) span }
-        requires room { HasRoom self.old }
-        ensures ok { OnOk result (state_of self.new ≡ added (Comment (bytes_at (S.text source.now) span)) (state_of self.old)) }
-        ensures held { OnOk result (AreHeld S.held self.old → AreHeld S.held self.new) }
-    {
-        let bytes = source.piece(alloc, span)?;
-        let comment: Node<'a> = NodeOf::Comment(bytes);
-        self.add(comment)
+        let node = leaf(bytes);
+        self.add(node)
     }
 
     // Closes the innermost open tag if it has this name: its raw then ends at the place `to` of the text.
@@ -242,9 +229,9 @@ impl<'a> TableBuilder<'a> {
         ensures held { OnOk result (AreHeld S.held self.old → AreHeld S.held self.new) }
     {
         match token {
-            Token::Text(span) => self.add_text(alloc, source, span),
+            Token::Text(span) => self.add_leaf(alloc, source, span, Node::Raw),
             Token::End(name) => self.end_tag(alloc, source, name.of(source.as_bytes()), to),
-            Token::Comment(span) => self.add_comment(alloc, source, span),
+            Token::Comment(span) => self.add_leaf(alloc, source, span, Node::Comment),
             Token::Doctype(is_html5) => {
                 self.is_html5 |= is_html5;
                 Ok(())
@@ -261,23 +248,23 @@ impl<'a> TableBuilder<'a> {
         source: &S,
         start: usize,
         token: Token,
-        behind: usize,
+        after: usize,
     ) -> Result<usize, AllocError>
-        requires order { start < behind }
-        requires within { behind ≤ length (S.text source.now) }
+        requires order { start < after }
+        requires within { after ≤ length (S.text source.now) }
         requires spans { IsTokenIn (S.text source.now) token }
         requires room { HasRoom self.old }
-        ensures ok { IfOk result (λ to. state_of self.new ≡ step (S.text source.now) (state_of self.old) (piece_of (S.text source.now) token behind start to)) }
-        ensures rest { IfOk result (λ to. drop to (S.text source.now) ≡ (meant (S.text source.now) token behind).1) }
+        ensures ok { IfOk result (λ to. state_of self.new ≡ step (S.text source.now) (state_of self.old) (piece_of (S.text source.now) token after start to)) }
+        ensures rest { IfOk result (λ to. drop to (S.text source.now) ≡ (meant (S.text source.now) token after).1) }
         ensures held { OnOk result (AreHeld S.held self.old → AreHeld S.held self.new) }
         ensures order { IfOk result (λ to. start < to) }
         ensures within { IfOk result (λ to. to ≤ length (S.text source.now)) }
     {
         match token {
-            Token::Start(name) => self.start_tag(alloc, source, start, name, behind),
+            Token::Start(name) => self.start_tag(alloc, source, start, name, after),
             _ => {
-                self.take_whole(alloc, source, token, behind)?;
-                Ok(behind)
+                self.take_whole(alloc, source, token, after)?;
+                Ok(after)
             }
         }
     }
@@ -316,8 +303,8 @@ pub(crate) fn read<'a, S: Source<'a>>(
     }
     let mut table = TableBuilder::new(alloc);
     let mut at = 0;
-    while let Some((token, behind)) = next_token(text, at) {
-        at = table.take(alloc, source, at, token, behind)?;
+    while let Some((token, after)) = next_token(text, at) {
+        at = table.take(alloc, source, at, token, after)?;
     }
     Ok(table.finish())
 }

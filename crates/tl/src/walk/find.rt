@@ -8,7 +8,7 @@ use crate::errors::TreeError;
 use crate::parser::base::Parser;
 use crate::parser::handle::NodeHandle;
 use crate::parser::tag::HTMLTag;
-use crate::parser::tag::node::{Node, NodeOf};
+use crate::parser::tag::node::Node;
 use crate::walk::{Entered, Event, Walker};
 
 // The first node of what is left of a walk at which `f` answers true.
@@ -69,13 +69,13 @@ impl<'a> Node<'a> {
         ensures leaf { tag_of self.now ≡ None → result ≡ Ok None }
     {
         match self {
-            NodeOf::Tag(tag) => {
+            Node::Tag(tag) => {
                 let handles = tag.child_handles().as_slice();
                 let walker = Walker::new(parser.alloc(), parser.nodes(), Entered::All, handles);
                 find_in_walk(walker, f)
             }
-            NodeOf::Raw(_) => Ok(None),
-            NodeOf::Comment(_) => Ok(None),
+            Node::Raw(_) => Ok(None),
+            Node::Comment(_) => Ok(None),
         }
     }
 }

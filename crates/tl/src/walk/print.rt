@@ -19,7 +19,7 @@ use crate::errors::TreeError;
 use crate::parser::base::Parser;
 use crate::parser::handle::NodeHandle;
 use crate::parser::tag::HTMLTag;
-use crate::parser::tag::node::{Node, NodeOf};
+use crate::parser::tag::node::Node;
 use crate::walk::{Entered, Event, Walker};
 use bstr::ByteSlice;
 use std::alloc::Global;
@@ -98,9 +98,9 @@ fn write_event<'s, 'a>(event: Event<'s, 'a>, out: &mut String) -> Result<(), Tre
     ensures own { OnOk result (MeetsOwnKeys (shown_event event.entry)) }
 {
     match event {
-        Event::Meets(_, NodeOf::Tag(tag)) => write_start(tag, out),
-        Event::Meets(_, NodeOf::Raw(bytes)) => write_lossy(bytes.as_bytes(), out),
-        Event::Meets(_, NodeOf::Comment(bytes)) => write_lossy(bytes.as_bytes(), out),
+        Event::Meets(_, Node::Tag(tag)) => write_start(tag, out),
+        Event::Meets(_, Node::Raw(bytes)) => write_lossy(bytes.as_bytes(), out),
+        Event::Meets(_, Node::Comment(bytes)) => write_lossy(bytes.as_bytes(), out),
         Event::Leaves(tag) => write_end(tag, out),
     }
 }
@@ -194,9 +194,9 @@ impl<'a> Node<'a> {
         ensures { Answers (outer_html (map shown parser.now.nodes) (shown self.now)) result }
     {
         match self {
-            NodeOf::Tag(tag) => tag.outer_html(alloc, parser),
-            NodeOf::Raw(bytes) => lossy_text(alloc, bytes.as_bytes()),
-            NodeOf::Comment(bytes) => lossy_text(alloc, bytes.as_bytes()),
+            Node::Tag(tag) => tag.outer_html(alloc, parser),
+            Node::Raw(bytes) => lossy_text(alloc, bytes.as_bytes()),
+            Node::Comment(bytes) => lossy_text(alloc, bytes.as_bytes()),
         }
     }
 
@@ -205,9 +205,9 @@ impl<'a> Node<'a> {
         ensures { Answers (inner_html (map shown parser.now.nodes) (shown self.now)) result }
     {
         match self {
-            NodeOf::Tag(tag) => tag.inner_html(alloc, parser),
-            NodeOf::Raw(_) => self.outer_html(alloc, parser),
-            NodeOf::Comment(_) => self.outer_html(alloc, parser),
+            Node::Tag(tag) => tag.inner_html(alloc, parser),
+            Node::Raw(_) => self.outer_html(alloc, parser),
+            Node::Comment(_) => self.outer_html(alloc, parser),
         }
     }
 }

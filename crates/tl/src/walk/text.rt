@@ -11,7 +11,7 @@ ghost use Rattle.tl.specs.Writing.{Writes};
 use crate::errors::TreeError;
 use crate::parser::base::Parser;
 use crate::parser::tag::HTMLTag;
-use crate::parser::tag::node::{Node, NodeOf};
+use crate::parser::tag::node::Node;
 use crate::walk::print::{lossy_text, write_lossy};
 use crate::walk::{Entered, Event, Walker};
 use std::alloc::Global;
@@ -22,9 +22,9 @@ fn write_told<'s, 'a>(event: Event<'s, 'a>, out: &mut String) -> Result<(), Tree
     ensures err { IfErr result (λ e. e ≡ TreeError.OutOfMemory) }
 {
     match event {
-        Event::Meets(_, NodeOf::Raw(bytes)) => write_lossy(bytes.as_bytes(), out),
-        Event::Meets(_, NodeOf::Tag(_)) => Ok(()),
-        Event::Meets(_, NodeOf::Comment(_)) => Ok(()),
+        Event::Meets(_, Node::Raw(bytes)) => write_lossy(bytes.as_bytes(), out),
+        Event::Meets(_, Node::Tag(_)) => Ok(()),
+        Event::Meets(_, Node::Comment(_)) => Ok(()),
         Event::Leaves(_) => Ok(()),
     }
 }
@@ -75,9 +75,9 @@ impl<'a> Node<'a> {
         ensures { Answers (inner_text (map shown parser.now.nodes) (shown self.now)) result }
     {
         match self {
-            NodeOf::Tag(tag) => tag.inner_text(alloc, parser),
-            NodeOf::Raw(bytes) => lossy_text(alloc, bytes.as_bytes()),
-            NodeOf::Comment(_) => Ok(String::new(alloc)),
+            Node::Tag(tag) => tag.inner_text(alloc, parser),
+            Node::Raw(bytes) => lossy_text(alloc, bytes.as_bytes()),
+            Node::Comment(_) => Ok(String::new(alloc)),
         }
     }
 }

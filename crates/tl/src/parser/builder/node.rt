@@ -8,7 +8,7 @@ ghost use Rattle.tl.specs.HeldAlike.{IsHeldNode};
 
 use crate::parser::builder::source::Source;
 use crate::parser::handle::NodeHandle;
-use crate::parser::tag::node::{Node, NodeOf};
+use crate::parser::tag::node::Node;
 use std::alloc::{AllocError, Global};
 use tl_token::span::Span;
 
@@ -18,7 +18,7 @@ impl<'a> Node<'a> {
         ensures { result ≡ closes name.now (name_of (Some (shown self.now))) }
     {
         match self {
-            NodeOf::Tag(tag) => name == tag.name().as_bytes(),
+            Node::Tag(tag) => name == tag.name().as_bytes(),
             _ => false,
         }
     }
@@ -28,7 +28,7 @@ impl<'a> Node<'a> {
         ensures ok { OnOk result (shown self.new ≡ with_child child (shown self.old)) }
         ensures held { OnOk result ((held : Held) → IsHeldNode held self.old → IsHeldNode held self.new) }
     {
-        if let NodeOf::Tag(tag) = self {
+        if let Node::Tag(tag) = self {
             tag.push_child(child)?;
         }
         Ok(())
@@ -45,7 +45,7 @@ impl<'a> Node<'a> {
         ensures ok { OnOk result (shown self.new ≡ with_raw_to (S.text source.now) to (shown self.old)) }
         ensures held { OnOk result (IsHeldNode S.held self.old → IsHeldNode S.held self.new) }
     {
-        if let NodeOf::Tag(tag) = self {
+        if let Node::Tag(tag) = self {
             let start = tag.start().min(to);
             tag.set_raw(source.piece(
                 alloc,

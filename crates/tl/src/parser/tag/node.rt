@@ -108,9 +108,9 @@ impl<'a> Node<'a> {
         ensures { IfOk result (λ n. n ≡ self.now) }
     {
         match self {
-            NodeOf::Tag(tag) => Ok(NodeOf::Tag(tag.clone()?)),
-            NodeOf::Raw(bytes) => Ok(NodeOf::Raw(bytes.clone()?)),
-            NodeOf::Comment(bytes) => Ok(NodeOf::Comment(bytes.clone()?)),
+            Node::Tag(tag) => Ok(Node::Tag(tag.clone()?)),
+            Node::Raw(bytes) => Ok(Node::Raw(bytes.clone()?)),
+            Node::Comment(bytes) => Ok(Node::Comment(bytes.clone()?)),
         }
     }
 }

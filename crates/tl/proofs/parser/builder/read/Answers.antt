@@ -22,7 +22,7 @@ loop-token-preserved g c =
     let t = g.S.Source.text c.args.source.now in
     let at = c.loop-token.at in
     let token = c.in-Some.token in
-    let behind = c.in-Some.behind in
+    let behind = c.in-Some.after in
     let first : ◌≡◌ {A = Option (Token × List ℕ)} (Some (meant t token behind)) (next_token (drop at t)) =
     subst (λ (T : List ℕ). ◌≡◌ {A = Option (Token × List ℕ)} (Some (meant T token behind)) (next_token (drop at T))) c.as_bytes-text.ensures c.in-Some.ensures.read in
     record {
