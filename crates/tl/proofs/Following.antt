@@ -7,13 +7,13 @@ use Rattle.tl_spec.proofs.Reached.{IsTokenAt-found, IsReached-next, IsReached-en
 use Rattle.tl_spec.proofs.Stand.{none-end, place}
 use Rattle.tl_token.specs.Lexed.{meant}
 use Rattle.tl_token.specs.declared.token.Token.{Token}
-use Rattle.tl.specs.Builder.{piece_of, written}
+use Rattle.tl.specs.Builder.{placed, written}
 
--- behind the next token
-pub reached_next : (t : List ℕ) (at to behind : ℕ) (token : Token) (s new : State) → Some (meant t token behind) ≡ next_token (drop at t) → IsReached t at s
-    → drop to t ≡ (meant t token behind).1 → to ≤ length t → new ≡ step t s (piece_of t token behind at to) → IsReached t to new
-reached_next t at to behind token s new first h rest within steps =
-    let found = meant t token behind in
+-- after the next token
+pub reached_next : (t : List ℕ) (at to after : ℕ) (token : Token) (s new : State) → Some (meant t token after) ≡ next_token (drop at t) → IsReached t at s
+    → drop to t ≡ (meant t token after).1 → to ≤ length t → new ≡ step t s (placed t token after at to) → IsReached t to new
+reached_next t at to after token s new first h rest within steps =
+    let found = meant t token after in
     let j : ℕ = length t - length found.1 in
     let is : j ≡ to = ap (λ (r : List ℕ). length t - length r) (sym rest) ∙ place t to within in
     let there = IsTokenAt-found t at found.0 found.1 h.within (sym first) in

@@ -8,7 +8,7 @@ use Rattle.tl_bytes.specs.Held.{Kept}
 use Rattle.tl_spec.specs.Document.{Node, TagNode as ShownTagNode}
 use Rattle.tl_spec.specs.Document.{Tag as ShownTag}
 use Rattle.tl_spec.specs.Edit.{Refusal, at_node, at_tag, of_node, of_tag, on_ok}
-use Rattle.tl_attributes.specs.Attributes.{Attributes}
+use Rattle.tl_spec.specs.AttributeList.{Attributes}
 use Rattle.tl.specs.Tag.{Tag}
 use Rattle.tl.specs.Table.{Table}
 use Rattle.tl.specs.Node.{tag_of}

@@ -1,24 +1,24 @@
 -- What is printed of a tag on which a call is made, of a walk by its events, and of attributes in order.
-use Rattle.std.proofs.Common.{◌≡◌, ℕ, Bool, false, not, if◌then◌else◌, List, [], ◌∷◌, ◌++◌, map, flat_map, codes, Option, Some, None, Result, Ok, refl, ap, ap₂, sym, subst₂, ◌∙◌, append-nil, append_assoc}
-use Rattle.std.proofs.lemmas.List.{map-append}
-use Rattle.tl_spec.specs.AttributeList.{named, printed_pairs}
+use Rattle.std.proofs.Common.{◌≡◌, ℕ, Bool, false, not, if◌then◌else◌, List, [], ◌∷◌, ◌++◌, map, flat_map, Option, Some, None, Result, Ok, refl, ap, sym, subst₂, ◌∙◌, append-nil, append_assoc}
+use Rattle.tl_spec.specs.AttributeList.{Attributes, pairs_in_order, printed_pairs}
 use Rattle.tl_spec.specs.ByteClass.{is_printed_alone}
 use Rattle.tl_spec.specs.Clean.{HaveOwnKeys, IsCleanTable}
 use Rattle.tl_spec.specs.Document.{Node, Tag, TagNode}
 use Rattle.tl_spec.specs.Normal.{ReadsAs}
 use Rattle.tl_spec.specs.Print.{print, print_start, print_end, printed}
-use Rattle.tl_spec.specs.Text.{text_of, told}
-use Rattle.tl_spec.specs.Walk.{Event, Fault, Walk, events, every, fault_among, first_fault, or_else, plain_attributes, plain_node, shows, trees, unless, walk, walk_of}
+use Rattle.tl_spec.specs.Text.{text_of, event_text}
+use Rattle.tl_spec.specs.Walk.{Event, TreeFault, Walk, events, every, fault_among, first_fault, or_else, plain_node, shows, trees, unless, walk, walk_of}
 use Rattle.tl_spec.proofs.Events.{first_fault-events, print-walk, text_of-events, walk_of-tag}
+use Rattle.tl_spec.proofs.Images.{image-pairs_in_order}
+use Rattle.tl_spec.specs.Attribute.{Pair}
 use Rattle.tl_spec.proofs.Walks.{table_identity}
 use Rattle.tl_bytes.specs.Held.{Kept}
 use Rattle.tl.specs.declared.errors.TreeError.{TreeError}
-use Rattle.tl_attributes.specs.Attributes.{Attributes}
-use Rattle.tl_attributes.specs.Listed.{as_borrowed, listed, named as listed_named}
-use Rattle.tl_attributes.specs.ShownAttributes.{shown_attributes, shown_pair, shown_value}
+use Rattle.tl_attributes.specs.Listed.{as_borrowed, listed}
+use Rattle.tl_attributes.specs.ShownAttributes.{plain, shown_bytes, shown_pair, shown_value}
 use Rattle.tl.specs.Writing.{Writes}
 
-or_else-none : (o : Option Fault) → or_else o None ≡ o
+or_else-none : (o : Option TreeFault) → or_else o None ≡ o
 or_else-none None = refl
 or_else-none (Some e) = refl
 
@@ -61,13 +61,13 @@ reads-printed nodes top s no_fault is own clean =
 
 -- the events of the walk below a tag say what its text is
 pub writes-text : {A : Type 0} (nodes : List Node) (own : TagNode) (es : List Event) (old : List ℕ) (r : Result A TreeError) (new : List ℕ) →
-    es ≡ events (walk every nodes [] own.children.items) → Writes (fault_among es) (flat_map told es) old r new →
+    es ≡ events (walk every nodes [] own.children.items) → Writes (fault_among es) (flat_map event_text es) old r new →
     Writes (first_fault (walk_of every nodes (Tag own))) (text_of (trees (walk_of every nodes (Tag own)))) old r new
 writes-text nodes own es old r new e h =
     let below : Walk = walk every nodes [] own.children.items in
     subst₂ (λ f s. Writes f s old r new)
     (ap fault_among e ∙ sym (first_fault-events below) ∙ sym (or_else-none (first_fault below)))
-    (ap (flat_map told) e ∙ sym (text_of-events below) ∙ sym (append-nil (text_of (trees below))))
+    (ap (flat_map event_text) e ∙ sym (text_of-events below) ∙ sym (append-nil (text_of (trees below))))
     h
 
 -- the attributes in order, as they are printed
@@ -76,17 +76,12 @@ pairs-map : (es : List (Kept × Option Kept)) → map shown_pair (map (λ (e : K
 pairs-map [] = refl
 pairs-map (e ∷ es) = ap (λ ps. shown_pair e ∷ ps) (pairs-map es)
 
-pairs-named : (key : List ℕ) (v : Option Kept) → map shown_pair (listed_named key v) ≡ named key (shown_value v)
-pairs-named key None = refl
-pairs-named key (Some v) = refl
-
-pub pairs-listed : (a : Attributes Kept) → map shown_pair (listed (λ b. b.list) a) ≡ printed_pairs (plain_attributes (shown_attributes a))
+pub pairs-listed : (a : Attributes Kept) → map shown_pair (listed (λ b. b.list) a) ≡ printed_pairs (plain a)
 pairs-listed a =
-    map-append shown_pair (map (λ (e : Kept × Option Kept). (as_borrowed e.0.list, e.1)) a.others.entries) (listed_named (codes "id") a.id ++ listed_named (codes "class") a.class)
-    ∙ ap₂ (λ s t. s ++ t) (pairs-map a.others.entries) (map-append shown_pair (listed_named (codes "id") a.id) (listed_named (codes "class") a.class) ∙ ap₂ (λ s t. s ++ t) (pairs-named (codes "id") a.id) (pairs-named (codes "class") a.class))
-    ∙ sym (append_assoc (map shown_pair a.others.entries) (named (codes "id") (shown_value a.id)) (named (codes "class") (shown_value a.class)))
+    image-pairs_in_order shown_bytes shown_bytes as_borrowed (map (λ (e : Kept × Option Kept). (as_borrowed e.0.list, e.1)) a.others.entries) a.id a.class
+    ∙ ap (λ (ps : List Pair). pairs_in_order (λ key. key) ps (shown_value a.id) (shown_value a.class)) (pairs-map a.others.entries)
 
--- what three calls wrote, one behind the other
+-- what three calls wrote, in order
 pub three : (a b d whole out one two all : List ℕ) → one ≡ out ++ a → two ≡ one ++ b → all ≡ two ++ d → whole ≡ a ++ (b ++ d) → all ≡ out ++ whole
 three a b d whole out one two all first second third is =
     third ∙ ap (λ s. s ++ d) (second ∙ ap (λ s. s ++ b) first) ∙ append_assoc (out ++ a) b d ∙ append_assoc out a (b ++ d) ∙ ap (λ s. out ++ s) (sym is)

@@ -28,7 +28,7 @@ module _ {F : Type 0} (calls : Mut F (Bor HTMLNode × Unit {0}) Bool) where
       Finds calls p (sight nodes h ∷ later) (Ok (Some h)) q
   found p q nodes h node later is called = let seen : sight nodes h ≡ Ok (h, node) = ap (sight_of h) is in rw seen (inl (called, refl))
 
-  -- behind a node
+  -- after a node
   pub went_on : (p m q : F) (nodes : List HTMLNode) (h : ℕ) (node : HTMLNode) (later : List Sight) (r : Result (Option ℕ) TreeError) →
       slice_get nodes h ≡ Some node → CalledAt calls p node false m → Finds calls m later r q → Finds calls p (sight nodes h ∷ later) r q
   went_on p m q nodes h node later r is called rest = let seen : sight nodes h ≡ Ok (h, node) = ap (sight_of h) is in rw seen (inr (m, called, rest))

@@ -1,27 +1,27 @@
 -- The tag that is made of a start tag.
 use Rattle.std.proofs.Common.{◌≡◌, ℕ, ◌-◌, List, [], take, drop, ap, ◌∙◌}
 use Rattle.tl_spec.specs.Attribute.{Pair, attributes}
-use Rattle.tl_spec.specs.AttributeList.{AttributesOf, attributes_of}
+use Rattle.tl_spec.specs.AttributeList.{Attributes, attributes_of}
 use Rattle.tl_spec.specs.Token.{Token, closed}
-use Rattle.tl_spec.specs.Document.{Entries, TagNode, held_items, tag_node}
+use Rattle.tl_spec.specs.Document.{TagNode, held_items, tag_node}
 use Rattle.tl_token.specs.Lexed.{ended, tag_of}
 use Rattle.tl_token.specs.declared.tag.TagEnd.{TagEnd}
 use Rattle.tl.specs.StartTag.{read_of}
 
-module _ (t name : List ℕ) (at behind : ℕ) (attrs : AttributesOf Entries)
-    (read : ◌≡◌ {A = AttributesOf Entries × List ℕ} (attrs, drop behind t) (read_of (attributes (drop at t)))) where
+module _ (t name : List ℕ) (at after : ℕ) (attrs : Attributes (List ℕ))
+    (read : ◌≡◌ {A = Attributes (List ℕ) × List ℕ} (attrs, drop after t) (read_of (attributes (drop at t)))) where
   -- the tag that was made of a start tag
   pub tag-made : (start end : ℕ) (tag : TagNode)
       → tag ≡ record { name = name; attributes = attrs; children = held_items []; raw = take (end - start) (drop start t); start = start }
       → tag ≡ tag_node t (record { name = name; attributes = attributes_of (attributes (drop at t)).0; from = start; to = end }) []
   tag-made start end tag is =
-      let kept = ap (λ (r : AttributesOf Entries × List ℕ). r.0) read in
+      let kept = ap (λ (r : Attributes (List ℕ) × List ℕ). r.0) read in
       is ∙ (λ i. record { name = name; attributes = kept i; children = held_items []; raw = take (end - start) (drop start t); start = start })
 
-  -- how it ends, by how what stands behind its attributes does
+  -- how it ends, by how what stands after its attributes does
   pub tag-ends : (kind : TagEnd) (end : ℕ)
-      → ((name : List ℕ) (pairs : List Pair) → ◌≡◌ {A = Token × List ℕ} (ended name pairs kind, drop end t) (closed name pairs (drop behind t)))
+      → ((name : List ℕ) (pairs : List Pair) → ◌≡◌ {A = Token × List ℕ} (ended name pairs kind, drop end t) (closed name pairs (drop after t)))
       → ◌≡◌ {A = Token × List ℕ} (ended name (attributes (drop at t)).0 kind, drop end t) (tag_of name (drop at t))
   tag-ends kind end ends =
-      let left : drop behind t ≡ (attributes (drop at t)).1 = ap (λ (r : AttributesOf Entries × List ℕ). r.1) read in
+      let left : drop after t ≡ (attributes (drop at t)).1 = ap (λ (r : Attributes (List ℕ) × List ℕ). r.1) read in
       ends name (attributes (drop at t)).0 ∙ ap (closed name (attributes (drop at t)).0) left

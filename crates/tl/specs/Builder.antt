@@ -1,7 +1,7 @@
 -- What a table that is being written is.
 use Rattle.std.specs.Prelude.{ℕ, ◌<◌, ◌^◌, Bool, ◌||◌, if◌then◌else◌, All, List, length, map, reverse}
 use Rattle.tl_bytes.specs.Held.{Held, Kept}
-use Rattle.tl_spec.specs.Token.{Piece}
+use Rattle.tl_spec.specs.Token.{PlacedToken}
 use Rattle.tl_spec.specs.Forest.{closes}
 use Rattle.tl_spec.specs.Document.{Node, Raw, Comment, Document}
 use Rattle.tl_spec.specs.Machine.{State, added, opened, after_end, enclosing_name}
@@ -35,9 +35,9 @@ with_whole t (DoctypeToken html) to s = record s { is_html5 = s.is_html5 || html
 with_whole t (StartToken name) to s = s
 with_whole t NothingToken to s = s
 
--- the piece that a token stands for which begins at a place, and which ends at another one
-abbrev pub piece_of : List ℕ → Token → ℕ → ℕ → ℕ → Piece
-piece_of t token behind from to = record { token = (meant t token behind).0; from = from; to = to }
+-- what a token of the lexer stands for, from one place to another
+abbrev pub placed : List ℕ → Token → ℕ → ℕ → ℕ → PlacedToken
+placed t token after from to = record { token = (meant t token after).0; from = from; to = to }
 
 -- the bytes at a span of a text, held so
 abbrev pub piece_at : Held → List ℕ → Span → Kept

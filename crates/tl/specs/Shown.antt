@@ -2,7 +2,7 @@
 use Rattle.std.specs.Prelude.{Bool, true, false, map, Option, Some, None}
 use Rattle.tl_spec.specs.Document.{TagNode, Node, Tag, Raw, Comment, Document}
 use Rattle.tl_bytes.specs.Held.{Kept}
-use Rattle.tl_attributes.specs.Attributes.{Attributes}
+use Rattle.tl_spec.specs.AttributeList.{Attributes}
 use Rattle.tl_attributes.specs.ShownAttributes.{shown_bytes, shown_attributes}
 use Rattle.tl.specs.Tag.{Tag as KeptTag}
 use Rattle.tl.specs.Table.{Table}

@@ -25,7 +25,7 @@ path_from path [] = path
 path_from path (f ∷ fs) = path_from (f.handle ∷ path) fs
 
 module _ (entered : List ℕ → Bool) (nodes : List Node) where
-  -- what comes once the frames are taken one by one, the last first, and `later` behind them
+  -- what comes once the frames are taken one by one, the last first, and `later` after them
   abbrev pub owed_from : List ℕ → List Happening → List Frame → List Happening
   owed_from path later [] = later
   owed_from path later (f ∷ fs) = owed_from (f.handle ∷ path) (leaves (shown_tag f.tag.now) ∷ (events (walk entered nodes path f.rest.now) ++ later)) fs

@@ -14,7 +14,7 @@ pub enum ParseError {
     /// The text is longer than 4294967295 bytes.
     #[error("The input string length is too large to fit in a `u32`")]
     InvalidLength,
-    /// No memory was found.
+    /// Memory ran out.
     #[error("out of memory")]
     OutOfMemory,
 }
@@ -36,7 +36,7 @@ pub enum TreeError {
     /// The node of this number stands above itself.
     #[error("a cyclic node handle")]
     Cycle(NodeHandle),
-    /// No memory was found.
+    /// Memory ran out.
     #[error("out of memory")]
     OutOfMemory,
 }

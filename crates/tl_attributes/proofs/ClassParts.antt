@@ -21,8 +21,8 @@ len_none : (p : ℕ → Bool) (b : ℕ) (bs : List ℕ) → p b ≡ false → pr
 len_none p b bs e = ap (λ c. cond c (1 + prefix_len p bs) 0) e
 
 -- a white byte in front changes no part
-behind_white : (b : ℕ) (bs : List ℕ) → is_ascii_whitespace b ≡ true → parts bs ≡ parts (b ∷ bs)
-behind_white b bs e = ap (λ c. nonempty (cond c ([] ∷ slice_split is_ascii_whitespace bs) (onto_first b (slice_split is_ascii_whitespace bs)))) (sym e)
+after_white : (b : ℕ) (bs : List ℕ) → is_ascii_whitespace b ≡ true → parts bs ≡ parts (b ∷ bs)
+after_white b bs e = ap (λ c. nonempty (cond c ([] ∷ slice_split is_ascii_whitespace bs) (onto_first b (slice_split is_ascii_whitespace bs)))) (sym e)
 
 pub no_more : (p : ℕ → Bool) (bs : List ℕ) → prefix_len p (drop (prefix_len p bs) bs) ≡ 0
 no_more p [] = refl
@@ -32,7 +32,7 @@ no_more p (b ∷ bs) = one (no_more p bs) (p b) refl
     one h true e = ap (λ n. prefix_len p (drop n (b ∷ bs))) (len_more p b bs e) ∙ h
     one h false e = ap (λ n. prefix_len p (drop n (b ∷ bs))) (len_none p b bs e) ∙ len_none p b bs e
 
--- the split behind the first run: its later parts
+-- the split after the first run: its later parts
 abbrev later : List ℕ → List (List ℕ)
 later [] = []
 later (b ∷ bs) = slice_split is_ascii_whitespace bs
@@ -56,7 +56,7 @@ later_parts [] h = refl
 later_parts (b ∷ bs) h = one (is_ascii_whitespace b) refl
   where
     one : (w : Bool) → is_ascii_whitespace b ≡ w → parts bs ≡ parts (b ∷ bs)
-    one true e = behind_white b bs e
+    one true e = after_white b bs e
     one false e = absurd (omega (arith, len_more in_part b bs (ap not e), h))
 
 taken : (n : ℕ) (bs : List ℕ) (ws : List (List ℕ)) → 0 < n → n ≤ length bs → nonempty (take n bs ∷ ws) ≡ take n bs ∷ nonempty ws
@@ -77,7 +77,7 @@ parts_past [] = refl
 parts_past (b ∷ bs) = one (parts_past bs) (is_ascii_whitespace b) refl
   where
     one : parts (drop (prefix_len is_ascii_whitespace bs) bs) ≡ parts bs → (w : Bool) → is_ascii_whitespace b ≡ w → parts (drop (prefix_len is_ascii_whitespace (b ∷ bs)) (b ∷ bs)) ≡ parts (b ∷ bs)
-    one h true e = ap (λ n. parts (drop n (b ∷ bs))) (len_more is_ascii_whitespace b bs e) ∙ h ∙ behind_white b bs e
+    one h true e = ap (λ n. parts (drop n (b ∷ bs))) (len_more is_ascii_whitespace b bs e) ∙ h ∙ after_white b bs e
     one h false e = ap (λ n. parts (drop n (b ∷ bs))) (len_none is_ascii_whitespace b bs e)
 
 none_left : (bs : List ℕ) → prefix_len is_ascii_whitespace bs ≡ 0 → prefix_len in_part bs ≡ 0 → bs ≡ []

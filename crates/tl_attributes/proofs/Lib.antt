@@ -1,4 +1,3 @@
 pub mod Others
 pub mod ClassParts
 pub mod Puts
-pub mod ShownEdits

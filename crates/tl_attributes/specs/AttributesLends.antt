@@ -2,8 +2,9 @@
 use Rattle.std.specs.Prelude.{ℕ, List, Bool, Option, Some, Result}
 use Rattle.std.specs.Borrow.{LendsIf, LendsIfOk, Fml, RattleType, MutBor}
 use Rattle.std.specs.contracts.option.Option.{the_row as option_row}
-use Rattle.tl_inline.specs.InlineMap.{with_value}
-use Rattle.tl_attributes.specs.Attributes.{Attributes, with_found}
+use Rattle.tl_spec.specs.Inline.{with_value}
+use Rattle.tl_spec.specs.AttributeList.{Attributes}
+use Rattle.tl_spec.specs.AttributeEdit.{with_value_at}
 use Rattle.tl_attributes.specs.contracts.attributes.AttributesOf.{the_row}
 
 -- the members of a `Piece`
@@ -26,8 +27,8 @@ module _ (B : RattleType) (p : PieceMembers B.Denot) (s : MutBor (Attributes B.D
   abbrev pub LendsClass : Option (MutBor B.Denot) → Fml
   LendsClass r = LendsIf row B s r (λ w. record s.now { class = Some w }) s.now
 
-  abbrev pub LendsFound : B.Denot → Option (MutBor B.Denot) → Fml
-  LendsFound k r = LendsIf row B s r (with_found p.list p.eq s.now k) s.now
+  abbrev pub LendsValueAt : B.Denot → Option (MutBor B.Denot) → Fml
+  LendsValueAt k r = LendsIf row B s r (with_value_at p.list p.eq s.now k) s.now
 
-  abbrev pub LendsFoundOk : B.Denot → Result (MutBor B.Denot) Bool → Fml
-  LendsFoundOk k r = LendsIfOk row B s r (with_found p.list p.eq s.now k) s.now
+  abbrev pub LendsValueAtOk : B.Denot → Result (MutBor B.Denot) Bool → Fml
+  LendsValueAtOk k r = LendsIfOk row B s r (with_value_at p.list p.eq s.now k) s.now

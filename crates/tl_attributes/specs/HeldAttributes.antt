@@ -1,7 +1,8 @@
 -- How the pieces of attributes are held.
 use Rattle.std.specs.Prelude.{◌≡◌, length, nat_lt, IfSome, All, Option}
 use Rattle.tl_bytes.specs.Held.{Held, Kept}
-use Rattle.tl_attributes.specs.Attributes.{Attributes}
+use Rattle.tl_spec.specs.Inline.{room}
+use Rattle.tl_spec.specs.AttributeList.{Attributes}
 
 abbrev pub IsHeld : Held → Kept → Type 0
 IsHeld held b = b.held ≡ held
@@ -17,5 +18,5 @@ pub record AreHeldAttributes (held : Held) (a : Attributes Kept) : Type 0 where
 
 -- attributes that inserts alone have made, of pieces that are held so
 pub record AreRead (held : Held) (a : Attributes Kept) : Type 0 where
-  pub heap : a.others.on_heap ≡ nat_lt 2 (length a.others.entries)
+  pub heap : a.others.on_heap ≡ nat_lt room (length a.others.entries)
   pub pieces : AreHeldAttributes held a

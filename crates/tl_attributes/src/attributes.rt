@@ -3,8 +3,10 @@ ghost use Rattle.std.specs.Prelude.{◌≡◌, ◌+◌, ◌<◌, ◌==◌, false
 ghost use Rattle.std.specs.List.{IsDistinct};
 ghost use Rattle.std.specs.Map.{keys_of, lookup};
 ghost use Rattle.std.specs.Option.{option_copied, option_copied_mut, option_map, option_flatten};
-ghost use Rattle.tl_inline.specs.InlineMap.{inserted, with_value};
-ghost use Rattle.tl_attributes.specs.Attributes.{no_attributes, found, count_of, put, taken, bare, without, AreOthers, IsOther, is_id, is_class, nested};
+ghost use Rattle.tl_spec.specs.Inline.{room, with_entry, with_value, without_key};
+ghost use Rattle.tl_spec.specs.AttributeList.{AreOthers, IsOther, count_of, is_class, is_id};
+ghost use Rattle.tl_spec.specs.AttributeEdit.{value_at, with_attribute, without_attribute, without_value};
+ghost use Rattle.tl_attributes.specs.Attributes.{no_attributes, nested};
 
 use crate::piece::Piece;
 use std::alloc::{AllocError, Global};
@@ -28,7 +30,8 @@ pub struct AttributesOf<B: Piece> {
 pub type Attributes<'a> = AttributesOf<Bytes<'a>>;
 
 impl<B: Piece> Model for AttributesOf<B> {
-    ghost use Rattle.tl_attributes.specs.Attributes.{Attributes, AreOthers, attributes_code};
+    ghost use Rattle.tl_spec.specs.AttributeList.{Attributes, AreOthers};
+    ghost use Rattle.tl_attributes.specs.Attributes.{attributes_code};
 
     ghost Value = { Attributes B };
 
@@ -124,7 +127,7 @@ impl<B: Piece> AttributesOf<B> {
     pub fn contains(&self, key: B) -> bool
     where
         B: Drop,
-        ensures { result ≡ is_some (found B.list B.eq self.now key) }
+        ensures { result ≡ is_some (value_at B.list B.eq self.now key) }
     {
         self.holds(&key)
     }
@@ -133,7 +136,7 @@ impl<B: Piece> AttributesOf<B> {
     pub fn get(&self, key: B) -> Option<Option<&B>>
     where
         B: Drop,
-        ensures { option_map option_copied result ≡ found B.list B.eq self.now key }
+        ensures { option_map option_copied result ≡ value_at B.list B.eq self.now key }
     {
         if is_id(key.as_bytes()) {
             return self.id.as_ref().map(|id| Some(id));
@@ -149,13 +152,13 @@ impl<B: Piece + Default + Drop> AttributesOf<B> {
     /// Puts `value` at `key`. A key that is there keeps its place, and a new one goes last; `id` and `class` without a
     /// value are taken out. `Err` means that memory was refused; at `id`, `class` and a key that is there none is taken.
     pub fn insert(&mut self, key: B, value: Option<B>) -> Result<(), AllocError>
-        ensures ok { OnOk result (self.new ≡ put B.list B.eq self.old key value) }
+        ensures ok { OnOk result (self.new ≡ with_attribute B.list B.eq self.old key value) }
         ensures err { OnErr result (self.new ≡ self.old) }
 
         // At `id`, at `class`, at a key that is there, and into inline room, an insert takes no memory.
         ensures other { OnErr result (IsOther (B.list key)) }
-        ensures absent { OnErr result (found B.list B.eq self.old key ≡ None) }
-        ensures succeeds { self.old.others.on_heap ≡ false → length self.old.others.entries < 2 → IsOk result }
+        ensures absent { OnErr result (value_at B.list B.eq self.old key ≡ None) }
+        ensures succeeds { self.old.others.on_heap ≡ false → length self.old.others.entries < room → IsOk result }
     {
         if is_id(key.as_bytes()) {
             self.id = value;
@@ -171,21 +174,18 @@ impl<B: Piece + Default + Drop> AttributesOf<B> {
     // Puts `value` at a key that is neither `id` nor `class`.
     fn insert_other(&mut self, key: B, value: Option<B>) -> Result<(), AllocError>
         requires { IsOther (B.list key) }
-        ensures ok { OnOk result (self.new ≡ record self.old { others = inserted B.eq 2 self.old.others key value }) }
+        ensures ok { OnOk result (self.new ≡ record self.old { others = with_entry B.eq room self.old.others key value }) }
         ensures err { OnErr result (self.new ≡ self.old) }
         ensures absent { OnErr result (lookup (B.eq key) self.old.others.entries ≡ None) }
-        ensures succeeds { self.old.others.on_heap ≡ false → length self.old.others.entries < 2 → IsOk result }
+        ensures succeeds { self.old.others.on_heap ≡ false → length self.old.others.entries < room → IsOk result }
     {
-        match self.others.insert(key, value) {
-            Ok(()) => Ok(()),
-            Err(_) => Err(AllocError),
-        }
+        self.others.insert(key, value).map_err(|_| AllocError)
     }
 
     /// Takes `key` out, and returns what `get` gave. The last of the other pairs moves into its place.
     pub fn remove(&mut self, key: B) -> Option<Option<B>>
-        ensures value { result ≡ found B.list B.eq self.old key }
-        ensures left { self.new ≡ taken B.list B.eq self.old key }
+        ensures value { result ≡ value_at B.list B.eq self.old key }
+        ensures left { self.new ≡ without_attribute B.list B.eq self.old key }
     {
         if is_id(key.as_bytes()) {
             return self.id.take().map(|id| Some(id));
@@ -200,7 +200,7 @@ impl<B: Piece + Default + Drop> AttributesOf<B> {
     fn remove_other(&mut self, key: B) -> Option<Option<B>>
         requires { IsOther (B.list key) }
         ensures value { result ≡ lookup (B.eq key) self.old.others.entries }
-        ensures left { self.new ≡ record self.old { others = without B.eq self.old.others key } }
+        ensures left { self.new ≡ record self.old { others = without_key B.eq self.old.others key } }
     {
         self.others.remove(&key)
     }
@@ -208,8 +208,8 @@ impl<B: Piece + Default + Drop> AttributesOf<B> {
     /// Takes the value at `key` out. The key stays without it, if it is neither `id` nor `class`. A missing key, and one
     /// without a value, answer `None`, and nothing changes.
     pub fn remove_value(&mut self, key: B) -> Option<B>
-        ensures value { result ≡ option_flatten (found B.list B.eq self.old key) }
-        ensures left { self.new ≡ bare B.list B.eq self.old key }
+        ensures value { result ≡ option_flatten (value_at B.list B.eq self.old key) }
+        ensures left { self.new ≡ without_value B.list B.eq self.old key }
     {
         if is_id(key.as_bytes()) {
             return self.id.take();
@@ -226,16 +226,13 @@ impl<B: Piece + Default + Drop> AttributesOf<B> {
         ensures value { result ≡ option_flatten (lookup (B.eq key) self.old.others.entries) }
         ensures left { self.new ≡ record self.old { others = with_value B.eq self.old.others key None } }
     {
-        match self.others.get_mut(&key) {
-            Some(value) => value.take(),
-            None => None,
-        }
+        self.others.get_mut(&key)?.take()
     }
 }
 
 impl<B: Piece> AttributesOf<B> {
     ghost use Rattle.std.specs.Borrow.{sem};
-    ghost use Rattle.tl_attributes.specs.AttributesLends.{LendsId, LendsClass, LendsSlot, LendsValue, LendsFound, LendsFoundOk};
+    ghost use Rattle.tl_attributes.specs.AttributesLends.{LendsId, LendsClass, LendsSlot, LendsValue, LendsValueAt, LendsValueAtOk};
 
     // The value of `id`.
     fn id_mut(&mut self) -> Option<&mut B>
@@ -255,8 +252,8 @@ impl<B: Piece> AttributesOf<B> {
 
     /// The value at `key` for writing: `None` where the key is missing, and where it has no value.
     pub fn value_mut(&mut self, key: &B) -> Option<&mut B>
-        ensures* writes_back { sem 𝓛 (LendsFound B.row B.Piece self.entry key.now result) }
-        ensures value { option_copied_mut result ≡ option_flatten (found B.list B.eq self.old key.now) }
+        ensures* writes_back { sem 𝓛 (LendsValueAt B.row B.Piece self.entry key.now result) }
+        ensures value { option_copied_mut result ≡ option_flatten (value_at B.list B.eq self.old key.now) }
     {
         if is_id(key.as_bytes()) {
             return self.id_mut();
@@ -271,8 +268,8 @@ impl<B: Piece> AttributesOf<B> {
     pub fn get_mut(&mut self, key: B) -> Option<Option<&mut B>>
     where
         B: Drop,
-        ensures* writes_back { sem 𝓛 (LendsFound B.row B.Piece self.entry key (option_flatten result)) }
-        ensures value { option_map option_copied_mut result ≡ found B.list B.eq self.old key }
+        ensures* writes_back { sem 𝓛 (LendsValueAt B.row B.Piece self.entry key (option_flatten result)) }
+        ensures value { option_map option_copied_mut result ≡ value_at B.list B.eq self.old key }
     {
         nested(self.value_or_presence_mut(key))
     }
@@ -281,8 +278,8 @@ impl<B: Piece> AttributesOf<B> {
     fn value_or_presence_mut(&mut self, key: B) -> Result<&mut B, bool>
     where
         B: Drop,
-        ensures* writes_back { sem 𝓛 (LendsFoundOk B.row B.Piece self.entry key result) }
-        ensures value { option_map option_copied_mut (nested result) ≡ found B.list B.eq self.old key }
+        ensures* writes_back { sem 𝓛 (LendsValueAtOk B.row B.Piece self.entry key result) }
+        ensures value { option_map option_copied_mut (nested result) ≡ value_at B.list B.eq self.old key }
     {
         // Asked first, since nothing can be asked while the value is lent.
         let is_there = self.holds(&key);
@@ -294,7 +291,7 @@ impl<B: Piece> AttributesOf<B> {
 
     // Whether there is `key`, with a value or without.
     fn holds(&self, key: &B) -> bool
-        ensures { result ≡ is_some (found B.list B.eq self.now key.now) }
+        ensures { result ≡ is_some (value_at B.list B.eq self.now key.now) }
     {
         if is_id(key.as_bytes()) {
             return self.id.is_some();
@@ -318,10 +315,7 @@ impl<B: Piece> AttributesOf<B> {
         ensures* writes_back { sem 𝓛 (LendsValue B.row B.Piece self.entry key.now result) }
         ensures value { option_copied_mut result ≡ option_flatten (lookup (B.eq key.now) self.old.others.entries) }
     {
-        match self.slot_mut(key) {
-            Some(slot) => slot.as_mut(),
-            None => None,
-        }
+        self.slot_mut(key)?.as_mut()
     }
 }
 

@@ -4,8 +4,8 @@ ghost use Rattle.std.specs.Map.Iter.{TakesFirst, ShowsInOrder};
 ghost use Rattle.std.specs.Iterator.{at_most};
 ghost use Rattle.std.specs.List.{IsDistinct};
 ghost use Rattle.std.specs.Map.{keys_of};
-ghost use Rattle.tl_attributes.specs.Attributes.{AreOthers};
-ghost use Rattle.tl_attributes.specs.Listed.{shown, listed};
+ghost use Rattle.tl_spec.specs.AttributeList.{AreOthers};
+ghost use Rattle.tl_attributes.specs.Listed.{read_pair, listed};
 
 use crate::attributes::AttributesOf;
 use crate::piece::Piece;
@@ -52,7 +52,7 @@ impl<B: Piece> AttributesOf<B> {
 impl<'s, B: Piece> Iterator for AttributesIter<'s, B> {
     type Item = (Bytes<'s>, Option<&'s B>);
 
-    ghost next_gives = { TakesFirst shown };
+    ghost next_gives = { TakesFirst read_pair };
 
     ghost remaining = { λ s. at_most (length s) };
 

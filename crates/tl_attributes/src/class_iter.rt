@@ -37,7 +37,7 @@ fn part_len(bytes: &[u8]) -> usize
         .count()
 }
 
-// The first part, and what stands behind it.
+// The first part, and what stands after it.
 fn first_part(text: &str) -> Option<(&str, &str)>
     ensures first { MatchOption result (parts text.now ≡ []) (λ p. parts text.now ≡ p.0.now ∷ parts p.1.now) }
     ensures shorter { IfSome result (λ p. length p.1.now < length text.now) }

@@ -79,8 +79,7 @@ impl<'a> Bytes<'a> {
     {
         match &self.repr {
             Repr::Borrowed(slice) => Some(*slice),
-            Repr::Owned(_) => None,
-            Repr::Shared(_) => None,
+            Repr::Owned(_) | Repr::Shared(_) => None,
         }
     }
 

@@ -6,8 +6,8 @@ use Rattle.std.proofs.iter.runs.Sources.{from_front}
 use Rattle.std.proofs.lemmas.List.Elements.{Contains-get_or, Contains-append_right}
 use Rattle.std.specs.Result.{IfOk}
 use Rattle.std.proofs.lemmas.Result.{IfOk-weaker}
-use Rattle.tl_spec.specs.Inline.{InlineVec}
-use Rattle.tl_inline.specs.InlineVec.{ClonesAreEqual, with_item}
+use Rattle.tl_spec.specs.Inline.{InlineVec, with_item}
+use Rattle.tl_inline.specs.InlineVec.{ClonesAreEqual}
 use Rattle.tl_inline.specs.HeldItems.{held_view, held_with_item}
 use Rattle.tl_inline.specs.declared.inline.vec.held.HeldItems.{HeldItems}
 use Rattle.tl_inline.specs.declared.inline.vec.held.HeldItems.TheVariants.{Inline, Heap}
@@ -43,7 +43,7 @@ clone_is clones v xs ys b was same h =
     let e = same_from_clones clones xs ys (subst (λ l. ClonesAreEqual clones l) (sym (ap (λ w. w.items) was)) same) h in
     ap (λ l. same_vec l b) e ∙ was
 
--- one turn of a move: the first item of those left goes behind those moved
+-- one turn of a move: the first item of those left goes after those moved
 pub moved_item : {X : Type 0} (items done more left rest : List X) (x : X) → done ++ left ≡ items → left ≡ x ∷ rest → more ≡ done ++ x ∷ []
     → more ++ rest ≡ items
 moved_item items done more left rest x whole next put =

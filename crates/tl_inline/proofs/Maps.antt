@@ -1,22 +1,21 @@
 -- Facts of a list of pairs with distinct keys.
-use Rattle.std.proofs.Common.{◌≡◌, ℕ, zero, suc, ◌+◌, ◌<◌, Bool, true, false, not, cond, nat_lt, List, [], ◌∷◌, ◌++◌, length, get_or, slice_set, position, Option, Some, None, is_some, refl, sym, ap, subst, ◌∙◌, arith, append_assoc, ◌||◌, ◌&&◌, ◌==◌, ◌⊎◌, ◌≤◌, inl, slice_get, true≢false, map, IsPermutation}
-use Rattle.std.specs.List.{position_or_len, IsDistinct, AllZip, Contains, list_any, swap_remove, refill}
+use Rattle.std.proofs.Common.{◌≡◌, ℕ, zero, suc, ◌<◌, Bool, true, false, not, cond, List, [], ◌∷◌, ◌++◌, length, get_or, slice_set, position, Option, Some, None, is_some, refl, sym, ap, subst, ◌∙◌, arith, append_assoc, ◌||◌, ◌&&◌, ◌==◌, ◌⊎◌, ◌≤◌, inl, slice_get, true≢false, map, IsPermutation}
+use Rattle.std.specs.List.{IsDistinct, AllZip, Contains, swap_remove, refill}
 use Rattle.std.specs.Cmp.{IsEquivalence}
 use Rattle.std.specs.HashMap.{HashMap, IsUnique, PutsEntry, get}
 use Rattle.std.proofs.lemmas.List.Sorted.{IsPermutation-push_more}
 use Rattle.std.specs.Option.{IfSome, IfNone, option_map}
 use Rattle.std.specs.Map.{keys_of, values_of, lookup, set_value}
-use Rattle.std.proofs.lemmas.List.{get_or-map}
+use Rattle.std.proofs.lemmas.List.{get_or-map, length-map}
 use Rattle.std.proofs.lemmas.List.Elements.{Contains-get_or, Contains-append_right}
-use Rattle.std.proofs.lemmas.Map.Keys.{IsDistinct-push}
-use Rattle.std.proofs.lemmas.Map.Made.{is_some-lookup}
 use Rattle.std.proofs.lemmas.Option.{slice_get-get_or, slice_get-map, slice_get_past}
+use Rattle.indexmap.specs.Layout.{length-set_value_at}
 use Rattle.indexmap.specs.IndexMap.{insert_entry, swap_remove_entry, set_value_at}
-use Rattle.indexmap.proofs.MapLemmas.{Found-position, Missing-position, swap_remove_entry-found, swap_remove_entry-missing, insert_entry-absent, insert_entry-first, absent_from_lookup, absent_before, some_index, lookup_permutation}
+use Rattle.indexmap.proofs.MapLemmas.{Found-position, Missing-position, swap_remove_entry-found, swap_remove_entry-missing, absent_before, some_index, lookup_permutation}
 use Rattle.indexmap.proofs.RemoveLemmas.{swap_out}
 use Rattle.tl_inline.specs.InlineVec.{ClonesAreEqual}
-use Rattle.tl_spec.specs.Inline.{InlineMap}
-use Rattle.tl_inline.specs.InlineMap.{inserted}
+use Rattle.tl_spec.specs.Inline.{InlineMap, with_entry}
+use Rattle.tl_spec.proofs.Pairs.{insert_new, insert_present, position-map}
 use Rattle.arrayvec.proofs.ArrayVecLemmas.{items-with_items}
 
 first_of_list : {X : Type 0} (xs : List X) → 0 < length xs → X
@@ -24,21 +23,9 @@ first_of_list [] h = absurd (omega arith)
 first_of_list (x ∷ xs) h = x
 
 module _ {K V : Type 0} (t : K → Bool) where
-  length-keys : (es : List (K × V)) → length (keys_of es) ≡ length es
-  length-keys [] = refl
-  length-keys (e ∷ es) = ap suc (length-keys es)
-
-  length-values : (es : List (K × V)) → length (values_of es) ≡ length es
-  length-values [] = refl
-  length-values (e ∷ es) = ap suc (length-values es)
-
-  or_len-keys : (es : List (K × V)) → position_or_len t (keys_of es) ≡ position_or_len (λ e. t e.0) es
-  or_len-keys [] = refl
-  or_len-keys (e ∷ es) = ap (λ n. cond (not (t e.0)) (1 + n) 0) (or_len-keys es)
-
   -- a search of the pairs is one of the keys
   pub position-keys : (es : List (K × V)) → position (λ e. t e.0) es ≡ position t (keys_of es)
-  position-keys es = sym (λ i. cond (nat_lt (or_len-keys es i) (length-keys es i)) (Some (or_len-keys es i)) None)
+  position-keys es = sym (position-map t (λ e. e.0) es)
 
   -- what a search says of a look-up
   pub record Finds (es : List (K × V)) (r : Option ℕ) : Type 0 where
@@ -51,7 +38,7 @@ module _ {K V : Type 0} (t : K → Bool) where
   finds es None e = record { index = e; within = tt; value = tt; absent = (Missing-position t es (sym e)).value }
   finds es (Some i) e =
       let f = Found-position t es i (sym e) in
-      let within_values : i < length (values_of es) = subst (λ n. i < n) (sym (length-values es)) f.within in
+      let within_values : i < length (values_of es) = subst (λ n. i < n) (sym (length-map es (λ e. e.1))) f.within in
       record {
         index = e;
         within = f.within;
@@ -80,60 +67,31 @@ set-set_value_at [] i d w = refl
 set-set_value_at (e ∷ es) zero d w = refl
 set-set_value_at (e ∷ es) (suc i) d w = ap (λ l. e ∷ l) (set-set_value_at es i d w)
 
-module _ {K V : Type 0} (eq : K → K → Bool) where
-  -- a new key goes last
-  pub insert_new : (es : List (K × V)) (k : K) (v : V) → lookup (eq k) es ≡ None → insert_entry eq es k v ≡ es ++ (k, v) ∷ []
-  insert_new es k v none = insert_entry-absent eq k v es (absent_from_lookup (eq k) es none)
+module _ {K V : Type 0} (eq : K → K → Bool) (o : IsEquivalence eq) where
+  -- a removal keeps the keys distinct
+  pub distinct_removed : (es fs : List (K × V)) (k : K) → fs ≡ swap_remove_entry (eq k) es → IsDistinct eq (keys_of es) → IsDistinct eq (keys_of fs)
+  distinct_removed es fs k after s = subst (λ l. IsDistinct eq (keys_of l)) (sym after) (by (position (eq k) (keys_of es)) refl)
+    where
+      by : (r : Option ℕ) → position (eq k) (keys_of es) ≡ r → IsDistinct eq (keys_of (swap_remove_entry (eq k) es))
+      by None e = subst (λ l. IsDistinct eq (keys_of l)) (sym (swap_remove_entry-missing (eq k) es e)) s
+      by (Some i) e =
+          let f = Found-position (eq k) es i e in
+          let d = first_of_list es (omega (arith, f.within)) in
+          let p = get_or es i d in
+          let at = slice_get-get_or es i d f.within in
+          (swap_out eq o (eq k) (o.congr k) es i p e at s (swap_remove_entry (eq k) es) (swap_remove_entry-found (eq k) es i p e)).unique
 
-  -- a key that is there keeps its place
-  pub insert_present : (es : List (K × V)) (k : K) (v : V) (i : ℕ) → Some i ≡ position (eq k) (keys_of es) → insert_entry eq es k v ≡ set_value_at es i v
-  insert_present es k v i index = insert_entry-first eq k v es i (Found-position (eq k) es i (sym index)).first
+  -- a key that comes later is not among those before it
+  pub new_before : (items es ds rest : List (K × V)) (k : K) (v : V) → IsDistinct eq (keys_of items) → es ++ ds ≡ items → ds ≡ (k, v) ∷ rest → lookup (eq k) es ≡ None
+  new_before items es ds rest k v s whole next =
+      absent_before o es rest (k, v) (subst (λ l. IsDistinct eq (keys_of l)) (sym whole ∙ ap (λ l. es ++ l) next) s)
 
-  pub keys-set_value_at : (es : List (K × V)) (i : ℕ) (w : V) → keys_of (set_value_at es i w) ≡ keys_of es
-  keys-set_value_at [] i w = refl
-  keys-set_value_at (e ∷ es) zero w = refl
-  keys-set_value_at (e ∷ es) (suc i) w = ap (λ l. e.0 ∷ l) (keys-set_value_at es i w)
-
-  keys-push : (es : List (K × V)) (e : K × V) → keys_of (es ++ e ∷ []) ≡ keys_of es ++ e.0 ∷ []
-  keys-push [] e = refl
-  keys-push (x ∷ xs) e = ap (λ l. x.0 ∷ l) (keys-push xs e)
-
-  module _ (o : IsEquivalence eq) where
-    -- an insert keeps the keys distinct
-    pub distinct_insert : (es : List (K × V)) (k : K) (v : V) → IsDistinct eq (keys_of es) → IsDistinct eq (keys_of (insert_entry eq es k v))
-    distinct_insert es k v s = by (position (eq k) (keys_of es)) refl
-      where
-        by : (r : Option ℕ) → position (eq k) (keys_of es) ≡ r → IsDistinct eq (keys_of (insert_entry eq es k v))
-        by (Some i) e = subst (IsDistinct eq) (sym (ap keys_of (insert_present es k v i (sym e)) ∙ keys-set_value_at es i v)) s
-        by None e =
-            let none = (Missing-position (eq k) es e).value in
-            let apart : list_any (eq k) (keys_of es) ≡ false = sym (is_some-lookup (eq k) es) ∙ ap is_some none in
-            subst (IsDistinct eq) (sym (ap keys_of (insert_new es k v none) ∙ keys-push es (k, v))) (IsDistinct-push o (keys_of es) k s apart)
-
-    -- a removal keeps them
-    pub distinct_removed : (es fs : List (K × V)) (k : K) → fs ≡ swap_remove_entry (eq k) es → IsDistinct eq (keys_of es) → IsDistinct eq (keys_of fs)
-    distinct_removed es fs k after s = subst (λ l. IsDistinct eq (keys_of l)) (sym after) (by (position (eq k) (keys_of es)) refl)
-      where
-        by : (r : Option ℕ) → position (eq k) (keys_of es) ≡ r → IsDistinct eq (keys_of (swap_remove_entry (eq k) es))
-        by None e = subst (λ l. IsDistinct eq (keys_of l)) (sym (swap_remove_entry-missing (eq k) es e)) s
-        by (Some i) e =
-            let f = Found-position (eq k) es i e in
-            let d = first_of_list es (omega (arith, f.within)) in
-            let p = get_or es i d in
-            let at = slice_get-get_or es i d f.within in
-            (swap_out eq o (eq k) (o.congr k) es i p e at s (swap_remove_entry (eq k) es) (swap_remove_entry-found (eq k) es i p e)).unique
-
-    -- a key that comes later is not among those before it
-    pub new_before : (items es ds rest : List (K × V)) (k : K) (v : V) → IsDistinct eq (keys_of items) → es ++ ds ≡ items → ds ≡ (k, v) ∷ rest → lookup (eq k) es ≡ None
-    new_before items es ds rest k v s whole next =
-        absent_before o es rest (k, v) (subst (λ l. IsDistinct eq (keys_of l)) (sym whole ∙ ap (λ l. es ++ l) next) s)
-
-    -- one turn of a move
-    pub moved_one : (items es fs ds rest : List (K × V)) (k : K) (v : V) → IsDistinct eq (keys_of items) → es ++ ds ≡ items → ds ≡ (k, v) ∷ rest
-        → fs ≡ insert_entry eq es k v → fs ++ rest ≡ items
-    moved_one items es fs ds rest k v s whole next put =
-        ap (λ l. l ++ rest) (put ∙ insert_new es k v (new_before items es ds rest k v s whole next)) ∙ append_assoc es ((k, v) ∷ []) rest
-        ∙ ap (λ l. es ++ l) (sym next) ∙ whole
+  -- one turn of a move
+  pub moved_one : (items es fs ds rest : List (K × V)) (k : K) (v : V) → IsDistinct eq (keys_of items) → es ++ ds ≡ items → ds ≡ (k, v) ∷ rest
+      → fs ≡ insert_entry eq es k v → fs ++ rest ≡ items
+  moved_one items es fs ds rest k v s whole next put =
+      ap (λ l. l ++ rest) (put ∙ insert_new eq es k v (new_before items es ds rest k v s whole next)) ∙ append_assoc es ((k, v) ∷ []) rest
+      ∙ ap (λ l. es ++ l) (sym next) ∙ whole
 
 -- clones of the pairs are the pairs
 pub pairs_same : {K V : Type 0} (C : K → K → Type 0) (D : V → V → Type 0) (es fs : List (K × V)) → ClonesAreEqual C (keys_of es) → ClonesAreEqual D (values_of es)
@@ -161,11 +119,6 @@ clone_is C D m es fs b was ks vs h =
     (e, ap (λ l. same_map l b) e ∙ was)
 
 module _ {K V : Type 0} (eq : K → K → Bool) where
-  length-set_value_at : (es : List (K × V)) (i : ℕ) (w : V) → length (set_value_at es i w) ≡ length es
-  length-set_value_at [] i w = refl
-  length-set_value_at (e ∷ es) zero w = refl
-  length-set_value_at (e ∷ es) (suc i) w = ap suc (length-set_value_at es i w)
-
   -- a write of the value at a key that is there, through the slice
   pub replaced : (es ys : List (K × V)) (k : K) (v : V) (i : ℕ) → Some i ≡ position (eq k) (keys_of es) → ys ≡ set_value_at es i v
       → refill (length es) es ys ≡ insert_entry eq es k v
@@ -175,10 +128,10 @@ module _ {K V : Type 0} (eq : K → K → Bool) where
 
   -- a new key, once the pairs lie on the heap
   pub moved_in : (n : ℕ) (m : InlineMap K V) (es fs : List (K × V)) (k : K) (v : V) → same_map es false ≡ m → is_some (lookup (eq k) es) ≡ false
-      → (length es == n) ≡ true → fs ≡ insert_entry eq es k v → same_map fs true ≡ inserted eq n m k v
+      → (length es == n) ≡ true → fs ≡ insert_entry eq es k v → same_map fs true ≡ with_entry eq n m k v
   moved_in n m es fs k v was new full put =
       let flag : (false || (not (is_some (lookup (eq k) es)) && (length es == n))) ≡ true = λ i. false || (not (new i) && full i) in
-      (λ i. same_map (put i) (sym flag i)) ∙ ap (λ w. inserted eq n w k v) was
+      (λ i. same_map (put i) (sym flag i)) ∙ ap (λ w. with_entry eq n w k v) was
 
 -- a loan under the name n, which ends as f of the last value
 abbrev lent : {G A B C : Type 0} → G → (A → B) → (G × (A → B)) ⊎ C

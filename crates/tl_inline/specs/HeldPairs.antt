@@ -1,24 +1,15 @@
 -- Where an `InlineHashMap` keeps its pairs. No public clause cites this module.
-use Rattle.std.specs.Prelude.{ℕ, Bool, true, false, List}
+use Rattle.std.specs.Prelude.{ℕ, true, false}
 use Rattle.indexmap.specs.IndexMap.{set_value_at, with_value_at}
 use Rattle.tl_spec.specs.Inline.{InlineMap}
 use Rattle.tl_inline.specs.declared.inline.hashmap.held.HeldPairs.{HeldPairs}
 use Rattle.tl_inline.specs.declared.inline.hashmap.held.HeldPairs.TheVariants.{Inline, Heap}
 
 module _ {K V : Type 0} {N : ℕ} where
-  -- the pairs in order
-  abbrev pub held_entries : HeldPairs K V N → List (K × V)
-  held_entries (Inline m) = m.items
-  held_entries (Heap m) = m.entries
-
-  -- whether they lie on the heap
-  abbrev pub held_on_heap : HeldPairs K V N → Bool
-  held_on_heap (Inline m) = false
-  held_on_heap (Heap m) = true
-
   -- what a contract sees
   abbrev pub held_view : HeldPairs K V N → InlineMap K V
-  held_view h = record { entries = held_entries h; on_heap = held_on_heap h }
+  held_view (Inline m) = record { entries = m.items; on_heap = false }
+  held_view (Heap m) = record { entries = m.entries; on_heap = true }
 
   -- h with w as the value at the index
   abbrev pub held_with_value_at : HeldPairs K V N → ℕ → V → HeldPairs K V N

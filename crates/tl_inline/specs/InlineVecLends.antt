@@ -3,8 +3,7 @@ use Rattle.std.specs.Prelude.{ℕ, false, List, Option}
 use Rattle.std.specs.Borrow.{Lends, LendsIf, Fml, RattleType, MutBor, Array, unit}
 use Rattle.arrayvec.specs.ArrayVec.{ArrayVec}
 use Rattle.arrayvec.specs.contracts.array_vec.ArrayVec.{the_row as inline_row}
-use Rattle.tl_spec.specs.Inline.{InlineVec}
-use Rattle.tl_inline.specs.InlineVec.{with_item, with_items}
+use Rattle.tl_spec.specs.Inline.{InlineVec, with_item, with_items}
 use Rattle.tl_inline.specs.contracts.inline.vec.InlineVec.{the_row}
 
 module _ (T N : RattleType) (v : MutBor (InlineVec T.Denot)) where

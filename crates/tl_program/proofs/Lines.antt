@@ -17,7 +17,7 @@ after_changes xs o = option_map (λ ys. xs ++ ys) o
 not_feed : (b : ℕ) → b ≢ 10 → is_line_feed b ≡ false
 not_feed b h = grind (arith, nat_tests)
 
--- a text that `split_once` cuts is a line and the lines behind it
+-- a text that `split_once` cuts is a line and the lines after it
 pub cut_some : (bs : List ℕ) (parts : Bor (List ℕ) × Bor (List ℕ)) → IsSplitOnceResult 10 bs (Some parts) → slice_split is_line_feed bs ≡ parts.0.now ∷ slice_split is_line_feed parts.1.now
 cut_some bs parts r =
     let h = split_once_first 10 bs (Some parts) r (lit< tt) in

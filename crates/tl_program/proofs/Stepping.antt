@@ -1,21 +1,22 @@
--- What one step makes of a table, and what steps make one behind the other.
+-- What one step makes of a table, and what steps make in order.
 use Rattle.std.proofs.Common.{◌≡◌, ℕ, ◌+◌, ◌<◌, add-one, List, length, map, take, slice_set, slice_index_or, Option, Some, option_map, Result, Ok, Err, IsOk, refl, sym, ap, ◌∙◌, subst}
 use Rattle.std.specs.List.{slice_get}
-use Rattle.std.specs.Prelude.{IsSomeAnd}
+use Rattle.std.specs.Prelude.{IsSomeAnd, IsErrAnd}
 use Rattle.std.proofs.lemmas.Option.{slice_get-map, slice_get-get_or}
 use Rattle.std.proofs.lemmas.List.{map-set}
 use Rattle.tl_bytes.specs.Held.{Kept, as_owned}
-use Rattle.tl_spec.specs.Document.{Entries, TagNode, Node, Document, Tag}
-use Rattle.tl_spec.specs.AttributeList.{AttributesOf}
+use Rattle.tl_spec.specs.Document.{TagNode, Node, Document, Tag}
+use Rattle.tl_spec.specs.AttributeList.{Attributes}
 use Rattle.tl_spec.specs.Edit.{Change, Refusal, no_node, not_tag, no_place, on_ok, of_tag, of_node, at_node, edited, edited_all, done, stopped, with_attribute, without_attribute, without_value}
+use Rattle.tl_spec.specs.AttributeEdit as any
+use Rattle.std.specs.Str.{bytes_eq}
 use Rattle.tl_spec.proofs.Edits.{edited_all-taken, edited_all-refused}
 use Rattle.tl_bytes.specs.Keys.{same_list}
-use Rattle.tl_attributes.specs.Attributes.{Attributes, put, taken, bare}
 use Rattle.tl.specs.Shown.{HTMLTag, HTMLNode, shown_tag, shown, document_of}
 use Rattle.tl_attributes.specs.ShownAttributes.{shown_bytes, shown_value, shown_attributes}
 use Rattle.tl.specs.declared.parser.tag.node.NodeOf.TheVariants.{Tag as ATag}
 use Rattle.tl.proofs.Nodes.{set_same}
-use Rattle.tl_attributes.proofs.ShownEdits.{shown_attributes-put, shown_attributes-taken, shown_attributes-bare}
+use Rattle.tl_spec.proofs.Images.{image-with_attribute, image-without_attribute, image-without_value}
 use Rattle.tl_program.specs.Steps.{change_of}
 use Rattle.tl_program.specs.declared.script.step.Step.{Step}
 use Rattle.tl_program.specs.declared.script.step.StepError.{StepError}
@@ -74,6 +75,13 @@ module _ (lent old : HTMLTable) (n : ℕ) (node : HTMLNode) (same : lent ≡ old
       let P : HTMLTable → Type 0 = λ o. ChangesTable {A = A} (at_node n edit) o (with_node lent n node) (Err e) in
       subst P same (node_kept lent n A edit node e there refused)
 
+  pub kept_for_memory : {A : Type 0} (edit : Node → Result Node Refusal) (r : Result A StepError) → IsErrAnd r (λ e. e ≡ OutOfMemory) → IsOk (edit (shown node))
+      → ChangesTable (at_node n edit) old (with_node lent n node) r
+  kept_for_memory edit (Ok x) is done = absurd is
+  kept_for_memory {A} edit (Err e) is done =
+      let P : StepError → Type 0 = λ e. ChangesTable {A = A} (at_node n edit) old (with_node lent n node) (Err e) in
+      subst P (sym is) (kept A edit OutOfMemory done)
+
 -- the same of a tag
 module _ (lent old : HTMLTable) (n : ℕ) (edit : TagNode → Result TagNode Refusal) (same : lent ≡ old) where
   pub tag_stepped : {A : Type 0} (tag new : HTMLTag) (r : Result A StepError) → slice_get lent.nodes n ≡ Some (ATag tag) → ChangesTag edit tag new r
@@ -91,31 +99,31 @@ IsMade x y = ◌≡◌ {A = Result TagNode Refusal} (Ok x) (Ok y)
 
 -- what a tag shows once its attributes were written
 module _ (tag : HTMLTag) (lent new : Attributes Kept) (k : Kept) (key : List ℕ) (same : lent ≡ tag.attributes) (copy : k ≡ as_owned key) where
-  pub tag-put : (v : Option Kept) (value : Option (List ℕ)) → shown_value v ≡ value → new ≡ put shown_bytes same_list lent k v
-      → IsMade (record (shown_tag tag) { attributes = with_attribute key value (shown_tag tag).attributes }) (shown_tag (record tag { attributes = new }))
+  pub tag-put : (v : Option Kept) (value : Option (List ℕ)) → shown_value v ≡ value → new ≡ any.with_attribute shown_bytes same_list lent k v
+      → IsMade (record (shown_tag tag) { attributes = with_attribute (shown_tag tag).attributes key value }) (shown_tag (record tag { attributes = new }))
   tag-put v value is made =
-      let shows : shown_attributes new ≡ with_attribute key value (shown_tag tag).attributes =
-      ap shown_attributes made ∙ shown_attributes-put k v lent ∙ (λ t. with_attribute (copy t).list (is t) (shown_attributes (same t))) in
-      let made_of : AttributesOf Entries → Result TagNode Refusal = λ a. Ok (record (shown_tag tag) { attributes = a }) in
+      let shows : shown_attributes new ≡ with_attribute (shown_tag tag).attributes key value =
+      ap shown_attributes made ∙ image-with_attribute shown_bytes (λ key. key) bytes_eq lent k v ∙ (λ t. with_attribute (shown_attributes (same t)) (copy t).list (is t)) in
+      let made_of : Attributes (List ℕ) → Result TagNode Refusal = λ a. Ok (record (shown_tag tag) { attributes = a }) in
       ap made_of (sym shows)
 
-  pub tag-taken : new ≡ taken shown_bytes same_list lent k
-      → IsMade (record (shown_tag tag) { attributes = without_attribute key (shown_tag tag).attributes }) (shown_tag (record tag { attributes = new }))
+  pub tag-taken : new ≡ any.without_attribute shown_bytes same_list lent k
+      → IsMade (record (shown_tag tag) { attributes = without_attribute (shown_tag tag).attributes key }) (shown_tag (record tag { attributes = new }))
   tag-taken made =
-      let shows : shown_attributes new ≡ without_attribute key (shown_tag tag).attributes =
-      ap shown_attributes made ∙ shown_attributes-taken k lent ∙ (λ t. without_attribute (copy t).list (shown_attributes (same t))) in
-      let made_of : AttributesOf Entries → Result TagNode Refusal = λ a. Ok (record (shown_tag tag) { attributes = a }) in
+      let shows : shown_attributes new ≡ without_attribute (shown_tag tag).attributes key =
+      ap shown_attributes made ∙ image-without_attribute shown_bytes (λ key. key) bytes_eq lent k ∙ (λ t. without_attribute (shown_attributes (same t)) (copy t).list) in
+      let made_of : Attributes (List ℕ) → Result TagNode Refusal = λ a. Ok (record (shown_tag tag) { attributes = a }) in
       ap made_of (sym shows)
 
-  pub tag-bare : new ≡ bare shown_bytes same_list lent k
-      → IsMade (record (shown_tag tag) { attributes = without_value key (shown_tag tag).attributes }) (shown_tag (record tag { attributes = new }))
+  pub tag-bare : new ≡ any.without_value shown_bytes same_list lent k
+      → IsMade (record (shown_tag tag) { attributes = without_value (shown_tag tag).attributes key }) (shown_tag (record tag { attributes = new }))
   tag-bare made =
-      let shows : shown_attributes new ≡ without_value key (shown_tag tag).attributes =
-      ap shown_attributes made ∙ shown_attributes-bare k lent ∙ (λ t. without_value (copy t).list (shown_attributes (same t))) in
-      let made_of : AttributesOf Entries → Result TagNode Refusal = λ a. Ok (record (shown_tag tag) { attributes = a }) in
+      let shows : shown_attributes new ≡ without_value (shown_tag tag).attributes key =
+      ap shown_attributes made ∙ image-without_value shown_bytes (λ key. key) bytes_eq lent k ∙ (λ t. without_value (shown_attributes (same t)) (copy t).list) in
+      let made_of : Attributes (List ℕ) → Result TagNode Refusal = λ a. Ok (record (shown_tag tag) { attributes = a }) in
       ap made_of (sym shows)
 
--- steps one behind the other, where those before a place are done
+-- steps in order, where those before a place are done
 module _ (steps : List Step) (d : Document) (now new : HTMLTable) (i : ℕ) (x : Step) (within : i < length steps) (before : edited_all (take i (map change_of steps)) d ≡ done (document_of now)) where
   here : slice_get (map change_of steps) i ≡ Some (change_of (slice_index_or steps i x))
   here = slice_get-map change_of steps i ∙ ap (option_map change_of) (slice_get-get_or steps i x within)

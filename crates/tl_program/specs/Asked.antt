@@ -26,7 +26,7 @@ asked_by_one word =
     else if bytes_eq word (codes "text") then Some Texts
     else None
 
--- what a word and a text behind it ask for, if anything
+-- what a word and a text after it ask for, if anything
 abbrev pub asked_by_two : List ℕ → List ℕ → Option Asked
 asked_by_two word text =
     if bytes_eq word (codes "edit") then option_map Edits (changes_of text)

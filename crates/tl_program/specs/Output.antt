@@ -9,7 +9,7 @@ use Rattle.tl_spec.specs.Document.{Document, Node, document}
 use Rattle.tl_spec.specs.Edit.{Edited, Refusal, edited_all}
 use Rattle.tl_spec.specs.Print.{document_print}
 use Rattle.tl_spec.specs.Text.{inner_text}
-use Rattle.tl_spec.specs.Walk.{Fault, Dangling}
+use Rattle.tl_spec.specs.Walk.{TreeFault, Dangling}
 use Rattle.tl_program.specs.Asked.{Asked, Prints, Texts, Edits}
 use Rattle.tl_program.specs.declared.program.failure.Failure.{Failure}
 use Rattle.tl_program.specs.declared.program.failure.Failure.TheVariants.{Refused, NotUnderstood, OutOfMemory, Fault as StreamFault}
@@ -28,27 +28,27 @@ abbrev pub not_understood : Outcome
 not_understood = record { status = 2; bytes = [] }
 
 -- a text is written, a fault of the tree is refused
-abbrev pub outcome_of_reading : Result (List ℕ) Fault → Outcome
+abbrev pub outcome_of_reading : Result (List ℕ) TreeFault → Outcome
 outcome_of_reading (Ok text) = done text
 outcome_of_reading (Err fault) = refused
 
--- a text and the one behind it, or the first fault
-abbrev pub followed_by : Result (List ℕ) Fault → Result (List ℕ) Fault → Result (List ℕ) Fault
+-- a text and the one after it, or the first fault
+abbrev pub followed_by : Result (List ℕ) TreeFault → Result (List ℕ) TreeFault → Result (List ℕ) TreeFault
 followed_by (Err fault) later = Err fault
 followed_by (Ok text) (Err fault) = Err fault
 followed_by (Ok text) (Ok more) = Ok (text ++ more)
 
 -- texts joined in order, or the first fault
-abbrev pub joined : List (Result (List ℕ) Fault) → Result (List ℕ) Fault
+abbrev pub joined : List (Result (List ℕ) TreeFault) → Result (List ℕ) TreeFault
 joined [] = Ok []
 joined (reading ∷ later) = followed_by reading (joined later)
 
 -- the text of the node of a handle, which is a fault past the table
-abbrev pub text_at : List Node → ℕ → Result (List ℕ) Fault
+abbrev pub text_at : List Node → ℕ → Result (List ℕ) TreeFault
 text_at nodes h = option_map_or (λ node. inner_text nodes node) (slice_get nodes h) (Err (Dangling h))
 
 -- the text of each top node, joined in order
-abbrev pub texts_of : Document → Result (List ℕ) Fault
+abbrev pub texts_of : Document → Result (List ℕ) TreeFault
 texts_of d = joined (map (text_at d.nodes) d.top)
 
 -- a document is printed, unless an edit of it was refused

@@ -1,14 +1,14 @@
 -- What steps make of a table.
 use Rattle.std.specs.Prelude.{◌≡◌, ℕ, List, take, slice_get, Some, None, Result, Ok, Err, IsOk, IsSomeAnd}
 use Rattle.std.specs.Borrow.{MutBor}
-use Rattle.tl_bytes.specs.Held.{Kept}
-use Rattle.tl_spec.specs.Document.{TagNode, Document}
-use Rattle.tl_spec.specs.Edit.{Change, Refusal, no_node, not_tag, no_place, edited, edited_all, done, stopped}
-use Rattle.tl_attributes.specs.Attributes.{Attributes}
+use Rattle.tl_bytes.specs.Held.{Kept, as_owned}
+use Rattle.tl_spec.specs.Document.{TagNode, Node, Document}
+use Rattle.tl_spec.specs.Edit.{Change, Refusal, no_node, not_tag, no_place, at_node, of_tag, edited, edited_all, done, stopped}
+use Rattle.tl_spec.specs.AttributeList.{Attributes}
 use Rattle.tl.specs.Node.{tag_of}
 use Rattle.tl.specs.Tag.{Tag}
 use Rattle.tl.specs.Table.{Table}
-use Rattle.tl.specs.Shown.{HTMLTag, shown_tag, document_of}
+use Rattle.tl.specs.Shown.{HTMLTag, HTMLNode, shown_tag, shown, document_of}
 use Rattle.tl.specs.declared.parser.tag.node.NodeOf.TheVariants.{Tag as ATag}
 use Rattle.tl_program.specs.declared.script.step.StepError.{StepError}
 use Rattle.tl_program.specs.declared.script.step.StepError.TheVariants.{NoNode, NotTag, NoPlace, OutOfMemory}
@@ -41,6 +41,17 @@ ChangesTag edit old new (Err e) = (new ≡ old) × IsRefused (edit (shown_tag ol
 abbrev pub ChangesTable : {A : Type 0} → (Document → Result Document Refusal) → HTMLTable → HTMLTable → Result A StepError → Type 0
 ChangesTable edit old new (Ok x) = (edit (document_of old) ≡ Ok (document_of new)) × (new.version ≡ old.version)
 ChangesTable edit old new (Err e) = (new ≡ old) × IsRefused (edit (document_of old)) e
+
+-- wherever the change makes an edit of a tag, the new table has the tag at a number edited so, or is the old one
+abbrev pub ChangesTagAt : {A : Type 0} → ℕ → (HTMLTag → Result A StepError → HTMLTag → Type 0) → HTMLTable → HTMLTable → Result A StepError → Type 0
+ChangesTagAt {A} number Changes old new r =
+    (edit : TagNode → Result TagNode Refusal) → ((tag made : HTMLTag) (told : Result A StepError) → Changes tag told made → ChangesTag edit tag made told)
+    → ChangesTable (at_node number (of_tag edit)) old new r
+
+-- the new table has what is made of the text at a number, or is the old one
+abbrev pub PutsNode : {A : Type 0} → ℕ → List ℕ → (Kept → HTMLNode → Type 0) → HTMLTable → HTMLTable → Result A StepError → Type 0
+PutsNode number text Makes old new r =
+    (node : Node) → ((made : HTMLNode) → Makes (as_owned text) made → shown made ≡ node) → ChangesTable (at_node number (λ _. Ok node)) old new r
 
 -- the edits of d at the places before i make e, and the edit at i is refused for this cause
 abbrev pub StopsAt : List Change → Document → Document → ℕ → StepError → Type 0

@@ -3,7 +3,7 @@ use Rattle.std.specs.Prelude.{ℕ, List, [], Option, None, Some, if◌then◌els
 use Rattle.std.specs.List.{slice_split}
 use Rattle.std.specs.Borrow.{Bor}
 use Rattle.std.specs.Str.{bytes_eq}
-use Rattle.tl_spec.specs.StepLine.{is_line_feed, first_word, behind_word}
+use Rattle.tl_spec.specs.StepLine.{is_line_feed, first_word, after_word}
 use Rattle.tl_spec.specs.Edit.{Change, Names, Texts, Comments, Sets, Flags, Unsets, Bares, Pushes, Pulls, Roots}
 use Rattle.tl_program.specs.declared.script.step.Step.{Step}
 use Rattle.tl_program.specs.declared.script.step.Step.TheVariants.{Name, Text, Comment, Set, Flag, Unset, Bare, Push, Pull, Root}
@@ -27,7 +27,7 @@ change_of_text word n text =
     if bytes_eq word (codes "name") then Some (Names n text)
     else if bytes_eq word (codes "text") then Some (Texts n text)
     else if bytes_eq word (codes "comment") then Some (Comments n text)
-    else if bytes_eq word (codes "set") then Some (Sets n (first_word text) (behind_word text))
+    else if bytes_eq word (codes "set") then Some (Sets n (first_word text) (after_word text))
     else if bytes_eq word (codes "flag") then Some (Flags n text)
     else if bytes_eq word (codes "unset") then Some (Unsets n text)
     else if bytes_eq word (codes "bare") then Some (Bares n text)

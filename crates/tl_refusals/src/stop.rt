@@ -6,7 +6,7 @@ use tl::errors::{SetBytesError, TreeError};
 /// Why the calls ended.
 #[derive(Drop)]
 pub enum Stop {
-    /// A call answered want of memory, and left what it promises.
+    /// A call answered that memory ran out, and left what it promises.
     NoMemory,
     /// A call answered something else than it promises, or left something else.
     Wrong(&'static str),

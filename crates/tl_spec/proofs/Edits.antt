@@ -1,10 +1,10 @@
--- Edits one behind the other.
+-- Edits in order.
 use Rattle.std.proofs.Common.{◌≡◌, ℕ, zero, suc, ◌+◌, Bool, true, false, nat_lt, if◌then◌else◌, List, [], ◌∷◌, ◌++◌, length, take, slice_set, Option, Some, None, option_map, Result, Ok, Err, refl, sym, ap, ◌∙◌, zero-add, subst}
 use Rattle.std.proofs.Math.Nat.{suc-add}
 use Rattle.std.proofs.Math.ListN.{length-set}
 use Rattle.std.specs.List.{slice_get}
 use Rattle.tl_spec.specs.Document.{Handles, TagNode, Node, Tag, Raw, Comment, Document}
-use Rattle.tl_spec.specs.Edit.{Change, Refusal, no_node, not_tag, pulled, of_tag, at_tag, edited, Edited, edited_all, done, stopped, one_later, next, Names, Texts, Comments, Sets, Flags, Unsets, Bares, Pushes, Pulls, Roots, on_ok, of_node, no_place}
+use Rattle.tl_spec.specs.Edit.{Change, Refusal, no_node, not_tag, without_handle, of_tag, at_tag, edited, Edited, edited_all, done, stopped, one_later, next, Names, Texts, Comments, Sets, Flags, Unsets, Bares, Pushes, Pulls, Roots, on_ok, of_node, no_place}
 use Rattle.tl_spec.specs.Edits.{later, KeepsSource, KeepsShape}
 
 -- where the later edits are done, they were done at the earlier place too
@@ -63,7 +63,7 @@ later-suc n w = λ t. record { document = w.document; refused = same w.refused t
     same None = refl
     same (Some r) = ap (λ (m : ℕ). Some (m, r.1)) (sym (suc-add n r.0))
 
--- what later edits make behind edits that were done
+-- what later edits make after edits that were done
 pub edited_all-append : (cs ds : List Change) (d e : Document) → edited_all cs d ≡ done e → edited_all (cs ++ ds) d ≡ later (length cs) (edited_all ds e)
 edited_all-append [] ds d e before = ap (edited_all ds) (ap (λ (w : Edited). w.document) before) ∙ sym (later-zero (edited_all ds e))
 edited_all-append (c ∷ cs) ds d e before =
@@ -104,14 +104,14 @@ of_tag-kept change same (Tag own) m is = let made : Tag (change own) ≡ m = cc 
 of_tag-kept change same (Raw bytes) m is = absurd (apart not_tag is)
 of_tag-kept change same (Comment bytes) m is = absurd (apart not_tag is)
 
-pulled-kept : (i : ℕ) → IsKept (of_tag (λ own. on_ok (λ handles. record own { children = handles }) (pulled i own.children)))
-pulled-kept i (Tag own) m is = by (pulled i own.children) is
+without_handle-kept : (i : ℕ) → IsKept (of_tag (λ own. on_ok (λ handles. record own { children = handles }) (without_handle own.children i)))
+without_handle-kept i (Tag own) m is = by (without_handle own.children i) is
   where
     by : (r : Result Handles Refusal) → on_ok Tag (on_ok (λ handles. record own { children = handles }) r) ≡ Ok m → KeepsSource (Tag own) m
     by (Ok handles) same = let made : Tag (record own { children = handles }) ≡ m = cc in subst (KeepsSource (Tag own)) made (refl, refl)
     by (Err refusal) same = absurd (apart refusal same)
-pulled-kept i (Raw bytes) m is = absurd (apart not_tag is)
-pulled-kept i (Comment bytes) m is = absurd (apart not_tag is)
+without_handle-kept i (Raw bytes) m is = absurd (apart not_tag is)
+without_handle-kept i (Comment bytes) m is = absurd (apart not_tag is)
 
 text-kept : (text : List ℕ) → IsKept (λ _. Ok (Raw text))
 text-kept text x m is = let made : Raw text ≡ m = cc in subst (KeepsSource x) made (by x)
@@ -150,7 +150,7 @@ edited-keeps (Flags n key) d e is = of_tag-keeps d e n _ (λ own. (refl, refl)) 
 edited-keeps (Unsets n key) d e is = of_tag-keeps d e n _ (λ own. (refl, refl)) is
 edited-keeps (Bares n key) d e is = of_tag-keeps d e n _ (λ own. (refl, refl)) is
 edited-keeps (Pushes n h) d e is = of_tag-keeps d e n _ (λ own. (refl, refl)) is
-edited-keeps (Pulls n i) d e is = of_node-keeps d e n _ (pulled-kept i) (slice_get d.nodes n) refl is
+edited-keeps (Pulls n i) d e is = of_node-keeps d e n _ (without_handle-kept i) (slice_get d.nodes n) refl is
 edited-keeps (Roots i h) d e is = by (nat_lt i (length d.top)) is
   where
     by : (b : Bool) → (if b then Ok (record d { top = slice_set d.top i h }) else Err no_place) ≡ Ok e → KeepsShape d e

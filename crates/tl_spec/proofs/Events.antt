@@ -8,8 +8,8 @@ use Rattle.tl_spec.specs.ByteClass.{is_printed_alone}
 use Rattle.tl_spec.specs.Clean.{HaveOwnKeys, MeetsOwnKeys}
 use Rattle.tl_spec.specs.Document.{Comment, Node, Raw, Tag, TagNode}
 use Rattle.tl_spec.specs.Print.{inner_html, outer_html, print, print_end, print_start, printed}
-use Rattle.tl_spec.specs.Text.{inner_text, text_of, told}
-use Rattle.tl_spec.specs.Walk.{Cycle, Dangling, Event, Fault, Walk, answer, end, events, every, fault_among, faulty, first_fault, handle_walk, leaves, meets, meets_comment, meets_fault, meets_tag, meets_text, node_walk, or_else, passes_tag, plain_node, row_walk, shows, stands_on, tag_walk, trees, unless, walk, walk_of, walk_within}
+use Rattle.tl_spec.specs.Text.{inner_text, text_of, event_text}
+use Rattle.tl_spec.specs.Walk.{Cycle, Dangling, Event, TreeFault, Walk, answer, end, events, every, fault_among, faulty, first_fault, handle_walk, leaves, meets, meets_comment, meets_fault, meets_tag, meets_text, node_walk, or_else, passes_tag, plain_node, row_walk, shows, stands_on, tag_walk, trees, unless, walk, walk_of, walk_within}
 use Rattle.tl_spec.proofs.Walks.{walk-cons, walk-nil}
 
 -- faults
@@ -50,16 +50,16 @@ own-events (meets_fault e more) h = own-events more h.1
 -- texts
 
 -- the text of a walk's trees is what its events tell
-pub text_of-events : (w : Walk) → text_of (trees w) ≡ flat_map told (events w)
+pub text_of-events : (w : Walk) → text_of (trees w) ≡ flat_map event_text (events w)
 text_of-events end = refl
 text_of-events (meets_text h bytes more) = ap (λ s. utf8_lossy bytes ++ s) (text_of-events more)
 text_of-events (meets_comment h bytes more) = text_of-events more
 text_of-events (meets_tag h own children more) =
-    ap₂ (λ s t. s ++ t) (text_of-events children) (text_of-events more) ∙ sym (flat_map-append told (events children) (leaves own ∷ events more))
+    ap₂ (λ s t. s ++ t) (text_of-events children) (text_of-events more) ∙ sym (flat_map-append event_text (events children) (leaves own ∷ events more))
 text_of-events (passes_tag h own more) = text_of-events more
 text_of-events (meets_fault e more) = text_of-events more
 
--- rows: the events of handles come of the first handle and of those behind it
+-- rows: the events of handles come of the first handle and of those after it
 
 module _ (enters : List ℕ → Bool) (nodes : List Node) where
   pub events-nil : (path : List ℕ) → events (walk enters nodes path []) ≡ []
@@ -86,15 +86,15 @@ module _ (enters : List ℕ → Bool) (nodes : List Node) where
       events (walk enters nodes path (h ∷ hs))
       ≡ meets h (Tag own) ∷ (events (walk enters nodes (h ∷ path) own.children.items) ++ (leaves own ∷ events (walk enters nodes path hs)))
   events-tag path h hs own is new open_ =
-      let behind : Walk = walk enters nodes path hs in
-      ap events (walk-cons enters nodes path h hs false (Some (Tag own)) new is ∙ ap (tag_walk enters nodes (walk enters nodes (h ∷ path)) h behind own) open_)
+      let after : Walk = walk enters nodes path hs in
+      ap events (walk-cons enters nodes path h hs false (Some (Tag own)) new is ∙ ap (tag_walk enters nodes (walk enters nodes (h ∷ path)) h after own) open_)
 
   -- a tag that is passed by
   pub events-passed : (path : List ℕ) (h : ℕ) (hs : List ℕ) (own : TagNode) → slice_get nodes h ≡ Some (Tag own) → stands_on path h ≡ false → enters own.name ≡ false →
       events (walk enters nodes path (h ∷ hs)) ≡ meets h (Tag own) ∷ events (walk enters nodes path hs)
   events-passed path h hs own is new closed =
-      let behind : Walk = walk enters nodes path hs in
-      ap events (walk-cons enters nodes path h hs false (Some (Tag own)) new is ∙ ap (tag_walk enters nodes (walk enters nodes (h ∷ path)) h behind own) closed)
+      let after : Walk = walk enters nodes path hs in
+      ap events (walk-cons enters nodes path h hs false (Some (Tag own)) new is ∙ ap (tag_walk enters nodes (walk enters nodes (h ∷ path)) h after own) closed)
 
   -- a node on which a call is made, where it is a tag
 
@@ -118,20 +118,20 @@ Enters enters (meets_fault e more) = Enters enters more
 module _ (enters : List ℕ → Bool) (nodes : List Node) where
   Enters-tag : (below : List ℕ → Walk) → ((hs : List ℕ) → Enters enters (below hs)) → (h : ℕ) (more : Walk) → Enters enters more → (own : TagNode) (b : Bool) → enters own.name ≡ b →
       Enters enters (tag_walk enters nodes below h more own b)
-  Enters-tag below inside h more behind own true e = (e, inside own.children.items, behind)
-  Enters-tag below inside h more behind own false e = (e, behind)
+  Enters-tag below inside h more after own true e = (e, inside own.children.items, after)
+  Enters-tag below inside h more after own false e = (e, after)
 
   Enters-node : (below : List ℕ → Walk) → ((hs : List ℕ) → Enters enters (below hs)) → (h : ℕ) (more : Walk) → Enters enters more → (node : Node) →
       Enters enters (node_walk enters nodes below h more node)
-  Enters-node below inside h more behind (Raw bytes) = behind
-  Enters-node below inside h more behind (Comment bytes) = behind
-  Enters-node below inside h more behind (Tag own) = Enters-tag below inside h more behind own (enters own.name) refl
+  Enters-node below inside h more after (Raw bytes) = after
+  Enters-node below inside h more after (Comment bytes) = after
+  Enters-node below inside h more after (Tag own) = Enters-tag below inside h more after own (enters own.name) refl
 
   Enters-handle : (below : List ℕ → Walk) → ((hs : List ℕ) → Enters enters (below hs)) → (h : ℕ) (more : Walk) → Enters enters more → (b : Bool) (o : Option Node) →
       Enters enters (handle_walk enters nodes below h more b o)
-  Enters-handle below inside h more behind b None = behind
-  Enters-handle below inside h more behind true (Some node) = behind
-  Enters-handle below inside h more behind false (Some node) = Enters-node below inside h more behind node
+  Enters-handle below inside h more after b None = after
+  Enters-handle below inside h more after true (Some node) = after
+  Enters-handle below inside h more after false (Some node) = Enters-node below inside h more after node
 
   Enters-row : (below : List ℕ → List ℕ → Walk) → ((path hs : List ℕ) → Enters enters (below path hs)) → (path hs : List ℕ) → Enters enters (row_walk enters nodes below path hs)
   Enters-row below inside path [] = tt
@@ -165,18 +165,18 @@ print-events (meets_tag h own children more) shown =
     let start : List ℕ = print_start (plain_node own) in
     let end_tag : List ℕ = print_end (plain_node own) in
     let inner : List ℕ = print (trees children) in
-    let behind : List ℕ = print (trees more) in
-    ap (λ s. (start ++ s) ++ behind) (if_flipped (is_printed_alone own.name) true [] (inner ++ end_tag) shown.0)
-    ∙ append_assoc start (inner ++ end_tag) behind
+    let after : List ℕ = print (trees more) in
+    ap (λ s. (start ++ s) ++ after) (if_flipped (is_printed_alone own.name) true [] (inner ++ end_tag) shown.0)
+    ∙ append_assoc start (inner ++ end_tag) after
     ∙ ap (λ s. start ++ s) (
-    append_assoc inner end_tag behind
+    append_assoc inner end_tag after
     ∙ ap₂ (λ s t. s ++ (end_tag ++ t)) (print-events children shown.1) (print-events more shown.2)
     ∙ sym (flat_map-append printed (events children) (leaves own ∷ events more)))
 print-events (passes_tag h own more) shown =
     let start : List ℕ = print_start (plain_node own) in
-    let behind : List ℕ = print (trees more) in
-    ap (λ s. (start ++ s) ++ behind) (if_flipped (is_printed_alone own.name) false [] (print_end (plain_node own)) shown.0)
-    ∙ append_assoc start [] behind
+    let after : List ℕ = print (trees more) in
+    ap (λ s. (start ++ s) ++ after) (if_flipped (is_printed_alone own.name) false [] (print_end (plain_node own)) shown.0)
+    ∙ append_assoc start [] after
     ∙ ap (λ s. start ++ s) (print-events more shown.1)
 print-events (meets_fault e more) shown = print-events more shown
 
@@ -192,12 +192,12 @@ print-walk_of nodes node = print-events (walk_of shows nodes node) (Enters-walk_
 pub answer-printed : (w : Walk) → Enters shows w → answer print w ≡ unless (fault_among (events w)) (flat_map printed (events w))
 answer-printed w shown = ap₂ unless (first_fault-events w) (print-events w shown)
 
-pub answer-told : (w : Walk) → answer text_of w ≡ unless (fault_among (events w)) (flat_map told (events w))
-answer-told w = ap₂ unless (first_fault-events w) (text_of-events w)
+pub answer-event_text : (w : Walk) → answer text_of w ≡ unless (fault_among (events w)) (flat_map event_text (events w))
+answer-event_text w = ap₂ unless (first_fault-events w) (text_of-events w)
 
 -- calls on a node, by the events below it
 
-or_else-none : (o : Option Fault) → or_else o None ≡ o
+or_else-none : (o : Option TreeFault) → or_else o None ≡ o
 or_else-none None = refl
 or_else-none (Some e) = refl
 
@@ -231,11 +231,11 @@ inner_html-tag nodes own es is =
     answer-printed (walk shows nodes [] own.children.items) (Enters-walk shows nodes [] own.children.items) ∙ ap (λ es. unless (fault_among es) (flat_map printed es)) (sym is)
 
 pub inner_text-tag : (nodes : List Node) (own : TagNode) (es : List Event) → es ≡ events (walk every nodes [] own.children.items) →
-    inner_text nodes (Tag own) ≡ unless (fault_among es) (flat_map told es)
+    inner_text nodes (Tag own) ≡ unless (fault_among es) (flat_map event_text es)
 inner_text-tag nodes own es is =
     let below : Walk = walk every nodes [] own.children.items in
     ap₂ unless (or_else-none (first_fault below) ∙ first_fault-events below) (append-nil (text_of (trees below)) ∙ text_of-events below)
-    ∙ ap (λ es. unless (fault_among es) (flat_map told es)) (sym is)
+    ∙ ap (λ es. unless (fault_among es) (flat_map event_text es)) (sym is)
 
 -- texts and comments
 

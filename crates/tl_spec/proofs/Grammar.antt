@@ -6,14 +6,14 @@ use Rattle.std.specs.Str.{str_eq_ignore_ascii_case}
 use Rattle.std.proofs.lemmas.Bool.{and_parts, cases_Bool, eqb-true, eqb-false, or_parts, false_from_ne_true}
 use Rattle.std.proofs.lemmas.List.{append_assoc, length-append, take-append-drop}
 use Rattle.tl_spec.specs.ByteClass.{bang, ends_value, equals, greater, is_blank, is_closing, is_ident, is_name, is_quote, less, slash}
-use Rattle.tl_spec.specs.Runs.{behind, front, past}
+use Rattle.tl_spec.specs.Runs.{after, front, past}
 use Rattle.tl_spec.specs.Attribute.{Pair, attribute, attributes, next_attribute, optional_value, past_blanks, past_end, value}
-use Rattle.tl_spec.specs.Grammar.{AttributeStands, AttributesStand, Begins, EndPassed, EndsWithFirst, IsRun, IsUpTo, MarkupStands, TagStands, Stops, TokenStands, ValueStands, WordStands, another, at_end, attribute_parts, bare, closing, comment_closed, comment_cut, doctype_word, end_closed, end_cut, left, markup_behind, tag_parts, no_markup, no_more, no_value, other_word, passed, quoted, start_alone, start_cut, start_open, start_slash, text_up_to, word_parts}
+use Rattle.tl_spec.specs.Grammar.{AttributeStands, AttributesStand, Begins, EndPassed, EndsWithFirst, IsRun, IsUpTo, MarkupStands, TagStands, Stops, TokenStands, ValueStands, WordStands, another, at_end, attribute_parts, bare, closing, comment_closed, comment_cut, doctype_word, end_closed, end_cut, left, markup_after, tag_parts, no_markup, no_more, no_value, other_word, passed, quoted, start_alone, start_cut, start_open, start_slash, text_up_to, word_parts}
 use Rattle.tl_spec.specs.Token.{Comment, Doctype, End, Nothing, Text, Token, closed, comment_token, declaration, doctype, end_tag, markup, next_token, self_closed, start_tag, word}
 use Rattle.tl_spec.proofs.Bytes.{all-run, past-append, past-stops, take_while-append, take_while-yes}
 use Rattle.tl_spec.proofs.Comments.{front-append, starts_same}
 use Rattle.tl_spec.proofs.Many.{IsRow, next, row-exists, row-is, stop}
-use Rattle.tl_spec.proofs.Needle.{begins-no, begins-yes, behind-first, first-behind, no-begins, none-nowhere, nowhere-none, yes-begins}
+use Rattle.tl_spec.proofs.Needle.{begins-no, begins-yes, after-first, first-after, no-begins, none-nowhere, nowhere-none, yes-begins}
 use Rattle.tl_spec.proofs.Shrinks.{if_both, next_attribute-shrinks}
 
 -- tests
@@ -98,8 +98,8 @@ pub attribute-is : {s : List ℕ} {pair : Pair} {rest : List ℕ} → AttributeS
 attribute-is (attribute_parts {s = s} {rest = rest} key blanks v end) =
     let m = ap past_blanks (run-past key) ∙ run-past blanks in
     let o = ap optional_value m ∙ value-is v in
-    let behind : past_end (optional_value (past_blanks (past is_name s))).1 ≡ rest = ap (λ (o : Option (List ℕ) × List ℕ). past_end o.1) o ∙ passed-is end in
-    λ i. ((run-take key i, (o i).0), behind i)
+    let after : past_end (optional_value (past_blanks (past is_name s))).1 ≡ rest = ap (λ (o : Option (List ℕ) × List ℕ). past_end o.1) o ∙ passed-is end in
+    λ i. ((run-take key i, (o i).0), after i)
 
 pub attribute-stands : (s : List ℕ) → AttributeStands s (attribute s).0 (attribute s).1
 attribute-stands s =
@@ -143,7 +143,7 @@ row-next (b ∷ s) found pairs rest e more =
 
 row-attributes : {s rest : List ℕ} {pairs : List Pair} → IsRow next_attribute s pairs rest → AttributesStand s pairs rest
 row-attributes (stop {s = s} e) = row-stop s e
-row-attributes (next {s = s} {x = x} {rest = behind} {xs = pairs} {end = rest} e r) = row-next s (x, behind) pairs rest e (row-attributes r)
+row-attributes (next {s = s} {x = x} {rest = after} {xs = pairs} {end = rest} e r) = row-next s (x, after) pairs rest e (row-attributes r)
 
 pub attributes-is : {s rest : List ℕ} {pairs : List Pair} → AttributesStand s pairs rest → attributes s ≡ (pairs, rest)
 attributes-is a = row-is next_attribute next_attribute-shrinks (attributes-row a)
@@ -168,14 +168,14 @@ module _ (whole : List ℕ) where
       let all : attributes (past_blanks (past is_name (b ∷ s))) ≡ (pairs, e) = ap attributes (ap past_blanks (run-past n) ∙ run-past r) ∙ attributes-is a in
       if_no _ _ _ (differs b slash h) ∙ if_no _ _ _ (differs b bang k) ∙ (λ i. closed (run-take n i) (all i).0 (all i).1)
 
-  -- a word behind `!`
+  -- a word after `!`
 
   word-is : {s w rest : List ℕ} → WordStands s w rest →
       declaration whole s ≡ (if str_eq_ignore_ascii_case w (codes "doctype") then doctype rest else (Nothing, rest))
   word-is (word_parts {s = s} {word = w} {rest = rest} h n r) =
-      let behind_word : past_blanks (past is_ident s) ≡ rest = ap past_blanks (run-past n) ∙ run-past r in
+      let after_word : past_blanks (past is_ident s) ≡ rest = ap past_blanks (run-past n) ∙ run-past r in
       if_no _ _ _ (begins-no (codes "--") s h)
-      ∙ (λ i. if str_eq_ignore_ascii_case (run-take n i) (codes "doctype") then doctype (behind_word i) else (Nothing, behind_word i))
+      ∙ (λ i. if str_eq_ignore_ascii_case (run-take n i) (codes "doctype") then doctype (after_word i) else (Nothing, after_word i))
 
   self_closed-open : (name : List ℕ) (pairs : List Pair) (s : List ℕ) → Stops (λ b. b == greater) s → self_closed name pairs s ≡ (Nothing, s)
   self_closed-open name pairs [] h = refl
@@ -187,12 +187,12 @@ module _ (whole : List ℕ) where
   markup-is {opening = opening} (comment_closed {body = body} {rest = rest} d f) e =
       let here : whole ≡ (opening ++ bang ∷ body) ++ rest = e ∙ sym (append_assoc opening (bang ∷ body) rest) in
       if_yes _ _ _ (begins-yes (codes "--") (body ++ rest) (d.0 ++ rest, ap (λ s. s ++ rest) d.1 ∙ append_assoc (codes "--") d.0 rest))
-      ∙ ap (comment_token whole) (first-behind (codes "-->") (omega arith) body rest f)
+      ∙ ap (comment_token whole) (first-after (codes "-->") (omega arith) body rest f)
       ∙ ap (λ b. (Comment b, rest)) (ap (front rest) here ∙ front-append (opening ++ bang ∷ body) rest)
   markup-is (comment_cut {s = s} d f) e = if_yes _ _ _ (begins-yes (codes "--") s d) ∙ ap (comment_token whole) (nowhere-none (codes "-->") s f)
   markup-is (doctype_word {word = word} {a = a} {second = second} {c = c} w h n r) e =
-      let behind_second : past_blanks (past is_ident a) ≡ c = ap past_blanks (run-past n) ∙ run-past r in
-      word-is w ∙ if_yes _ _ _ h ∙ (λ i. (Doctype (str_eq_ignore_ascii_case (run-take n i) (codes "html")), drop 1 (behind_second i)))
+      let after_second : past_blanks (past is_ident a) ≡ c = ap past_blanks (run-past n) ∙ run-past r in
+      word-is w ∙ if_yes _ _ _ h ∙ (λ i. (Doctype (str_eq_ignore_ascii_case (run-take n i) (codes "html")), drop 1 (after_second i)))
   markup-is (start_open n) e = name-is n
   markup-is (start_alone n) e = name-is n
   markup-is no_markup e = refl
@@ -216,7 +216,7 @@ text-is (b ∷ s) (x ∷ xs) rest h r =
 
 pub token-is : {t rest : List ℕ} {k : Token} → TokenStands t k rest → next_token t ≡ Some (k, rest)
 token-is (text_up_to {t = t} {xs = xs} {rest = rest} h r) = text-is t xs rest h r
-token-is (markup_behind {s = s} {m = m} r h) =
+token-is (markup_after {s = s} {m = m} r h) =
     ap (λ x. Some x) (ap (markup (less ∷ s)) (run-past r) ∙ markup-is (less ∷ s) h (ap (λ s. less ∷ s) r.parts))
 
 -- and what the functions give stands there
@@ -256,11 +256,11 @@ module _ (opening : List ℕ) where
       let pairs = attributes-stand (past_blanks (past is_name (b ∷ s))) in
       closed-stands (b ∷ s) (take_while is_name (b ∷ s)) _ _ (tag_parts h k (run-of is_name (b ∷ s)) (run-of is_blank (past is_name (b ∷ s))) pairs) (attributes-end pairs)
 
-  comment-stands : (whole s : List ℕ) → whole ≡ opening ++ bang ∷ s → Begins (codes "--") s → (o : Option (List ℕ)) → behind (codes "-->") s ≡ o →
+  comment-stands : (whole s : List ℕ) → whole ≡ opening ++ bang ∷ s → Begins (codes "--") s → (o : Option (List ℕ)) → after (codes "-->") s ≡ o →
       MarkupStands opening (bang ∷ s) (comment_token whole o).0 (comment_token whole o).1
   comment-stands whole s e d None f = comment_cut d (none-nowhere (codes "-->") (omega arith) s f)
   comment-stands whole s e d (Some rest) f =
-      let found = behind-first (codes "-->") s rest f in
+      let found = after-first (codes "-->") s rest f in
       let body : List ℕ = found.0 in
       let here : whole ≡ (opening ++ bang ∷ body) ++ rest = e ∙ ap (λ s. opening ++ bang ∷ s) found.1 ∙ sym (append_assoc opening (bang ∷ body) rest) in
       let bytes : front rest whole ≡ opening ++ bang ∷ body = ap (front rest) here ∙ front-append (opening ++ bang ∷ body) rest in
@@ -291,7 +291,7 @@ module _ (opening : List ℕ) where
       declared : b ≡ bang → MarkupStands opening (b ∷ s) (declaration whole s).0 (declaration whole s).1
       declared is = subst (λ b. MarkupStands opening (b ∷ s) (declaration whole s).0 (declaration whole s).1) (sym is)
           (if_both (λ (v : Token × List ℕ). MarkupStands opening (bang ∷ s) v.0 v.1) (starts_with ◌==◌ s (codes "--")) _ _
-          (λ yes. comment-stands whole s (e ∙ ap (λ b. opening ++ b ∷ s) is) (yes-begins (codes "--") s yes) (behind (codes "-->") s) refl)
+          (λ yes. comment-stands whole s (e ∙ ap (λ b. opening ++ b ∷ s) is) (yes-begins (codes "--") s yes) (after (codes "-->") s) refl)
           (λ fails. word-stands s (no-begins (codes "--") s fails)))
 
 token-stands : (b : ℕ) (s : List ℕ) (found : Token × List ℕ) → next_token (b ∷ s) ≡ Some found → TokenStands (b ∷ s) found.0 found.1
@@ -300,7 +300,7 @@ token-stands b s found e =
     (if_both (λ (v : Token × List ℕ). TokenStands (b ∷ s) v.0 v.1) (b == less) _ _
     (λ h. let r = run-of is_blank s in
     subst (λ c. TokenStands (c ∷ s) (markup (b ∷ s) (past_blanks s)).0 (markup (b ∷ s) (past_blanks s)).1) (sym (eqb-true b less h))
-    (markup_behind r (markup-stands (less ∷ take_while is_blank s) (b ∷ s) (past_blanks s) ((λ i. eqb-true b less h i ∷ s) ∙ ap (λ s. less ∷ s) r.parts))))
+    (markup_after r (markup-stands (less ∷ take_while is_blank s) (b ∷ s) (past_blanks s) ((λ i. eqb-true b less h i ∷ s) ∙ ap (λ s. less ∷ s) r.parts))))
     (λ h. text_up_to (λ e. nonempty (take_while-yes (λ b. not (b == less)) b s (ap not h)) e) (run-of (λ b. not (b == less)) (b ∷ s))))
   where
     nonempty : {xs ys : List ℕ} → xs ≡ b ∷ ys → xs ≡ [] → ⊥

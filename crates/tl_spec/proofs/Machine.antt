@@ -7,7 +7,7 @@ use Rattle.std.proofs.lemmas.Option.{slice_get_within}
 use Rattle.std.proofs.lemmas.List.Elements.{All-nil, All-cons, All-tail, All-weaker, All-head, All-same}
 use Rattle.std.proofs.lemmas.List.Sums.{fold-append, fold_push}
 use Rattle.tl_spec.specs.ByteClass.{is_void}
-use Rattle.tl_spec.specs.Token.{Token, Piece, Text, End, Comment, Doctype, Start, Nothing}
+use Rattle.tl_spec.specs.Token.{Token, PlacedToken, Text, End, Comment, Doctype, Start, Nothing}
 use Rattle.tl_spec.specs.Grammar.{StandFrom}
 use Rattle.tl_spec.specs.Forest.{closes}
 use Rattle.tl_spec.specs.Document.{Node, TagNode, Tag, Raw, Comment as Remark, is_html5_doctype}
@@ -32,13 +32,13 @@ change_at-past f i [] h = refl
 change_at-past f zero (x ∷ xs) h = absurd (omega arith)
 change_at-past f (suc i) (x ∷ xs) h = ap (λ ys. x ∷ ys) (change_at-past f i xs (omega arith))
 
-pub change_at-middle : {A : Type 0} (f : A → A) (before : List A) (x : A) (behind : List A) → change_at f (length before) (before ++ x ∷ behind) ≡ before ++ f x ∷ behind
-change_at-middle f [] x behind = refl
-change_at-middle f (y ∷ before) x behind = ap (λ xs. y ∷ xs) (change_at-middle f before x behind)
+pub change_at-middle : {A : Type 0} (f : A → A) (before : List A) (x : A) (after : List A) → change_at f (length before) (before ++ x ∷ after) ≡ before ++ f x ∷ after
+change_at-middle f [] x after = refl
+change_at-middle f (y ∷ before) x after = ap (λ xs. y ∷ xs) (change_at-middle f before x after)
 
-pub slice_get-middle : {A : Type 0} (before : List A) (x : A) (behind : List A) → slice_get (before ++ x ∷ behind) (length before) ≡ Some x
-slice_get-middle [] x behind = refl
-slice_get-middle (y ∷ before) x behind = slice_get-middle before x behind
+pub slice_get-middle : {A : Type 0} (before : List A) (x : A) (after : List A) → slice_get (before ++ x ∷ after) (length before) ≡ Some x
+slice_get-middle [] x after = refl
+slice_get-middle (y ∷ before) x after = slice_get-middle before x after
 
 pub slice_get-append : {A : Type 0} (xs ys : List A) (i : ℕ) (x : A) → slice_get xs i ≡ Some x → slice_get (xs ++ ys) i ≡ Some x
 slice_get-append [] ys i x e = absurd (cc)
@@ -120,7 +120,7 @@ grown-end : (t : List ℕ) (to : ℕ) (s : State) (closing : Bool) → IsGrown s
 grown-end t to s true = let e = length-closed t to s in (omega arith, omega arith)
 grown-end t to s false = (omega arith, omega arith)
 
-grown-token : (t : List ℕ) (k : Piece) (s : State) (token : Token) → IsGrown s (after_token t k s token)
+grown-token : (t : List ℕ) (k : PlacedToken) (s : State) (token : Token) → IsGrown s (after_token t k s token)
 grown-token t k s (Text bytes) = grown-added (Raw bytes) s
 grown-token t k s (Comment bytes) = grown-added (Remark bytes) s
 grown-token t k s (Start name pairs alone) = grown-start t (start_node t k name pairs) s (alone || is_void name)
@@ -128,10 +128,10 @@ grown-token t k s (End name) = grown-end t k.to s (closes name (enclosing_name s
 grown-token t k s (Doctype html) = (omega arith, omega arith)
 grown-token t k s Nothing = (omega arith, omega arith)
 
-pub length-step-ge : (t : List ℕ) (s : State) (k : Piece) → length s.nodes ≤ length (step t s k).nodes
+pub length-step-ge : (t : List ℕ) (s : State) (k : PlacedToken) → length s.nodes ≤ length (step t s k).nodes
 length-step-ge t s k = (grown-token t k s k.token).0
 
-pub length-step-le : (t : List ℕ) (s : State) (k : Piece) → length (step t s k).nodes ≤ length s.nodes + 1
+pub length-step-le : (t : List ℕ) (s : State) (k : PlacedToken) → length (step t s k).nodes ≤ length s.nodes + 1
 length-step-le t s k = (grown-token t k s k.token).1
 
 -- the version
@@ -152,7 +152,7 @@ end-html5 : (t : List ℕ) (to : ℕ) (s : State) (closing : Bool) → (after_en
 end-html5 t to s true = closed_by-html5 t to s s.open_tags
 end-html5 t to s false = refl
 
-token-html5 : (t : List ℕ) (k : Piece) (s : State) (token : Token) → (after_token t k s token).is_html5 ≡ (s.is_html5 || is_html5_doctype token)
+token-html5 : (t : List ℕ) (k : PlacedToken) (s : State) (token : Token) → (after_token t k s token).is_html5 ≡ (s.is_html5 || is_html5_doctype token)
 token-html5 t k s (Text bytes) = adopted_by-html5 (length s.nodes) s s.open_tags ∙ sym (or-false s.is_html5)
 token-html5 t k s (Comment bytes) = adopted_by-html5 (length s.nodes) s s.open_tags ∙ sym (or-false s.is_html5)
 token-html5 t k s (Start name pairs alone) = start-html5 t (start_node t k name pairs) s (alone || is_void name) ∙ sym (or-false s.is_html5)
@@ -160,14 +160,14 @@ token-html5 t k s (End name) = end-html5 t k.to s (closes name (enclosing_name s
 token-html5 t k s (Doctype html) = refl
 token-html5 t k s Nothing = sym (or-false s.is_html5)
 
-pub step-html5 : (t : List ℕ) (s : State) (k : Piece) → (step t s k).is_html5 ≡ (s.is_html5 || is_html5_doctype k.token)
+pub step-html5 : (t : List ℕ) (s : State) (k : PlacedToken) → (step t s k).is_html5 ≡ (s.is_html5 || is_html5_doctype k.token)
 step-html5 t s k = token-html5 t k s k.token
 
 or_assoc : (a b c : Bool) → ((a || b) || c) ≡ (a || (b || c))
 or_assoc true b c = refl
 or_assoc false b c = refl
 
-pub run-html5 : (t : List ℕ) (s : State) (ks : List Piece) → (run t s ks).is_html5 ≡ (s.is_html5 || list_any (λ k. is_html5_doctype k.token) ks)
+pub run-html5 : (t : List ℕ) (s : State) (ks : List PlacedToken) → (run t s ks).is_html5 ≡ (s.is_html5 || list_any (λ k. is_html5_doctype k.token) ks)
 run-html5 t s [] = sym (or-false s.is_html5)
 run-html5 t s (k ∷ ks) =
     run-html5 t (step t s k) ks
@@ -258,7 +258,7 @@ end-AreOpen : (t : List ℕ) (i to : ℕ) (s : State) → AreOpen i s → (closi
 end-AreOpen t i to s h true = AreOpen-closed t i to s h
 end-AreOpen t i to s h false = h
 
-token-AreOpen : (t : List ℕ) (i : ℕ) (k : Piece) (s : State) → k.from ≤ i → AreOpen i s → (token : Token) → AreOpen i (after_token t k s token)
+token-AreOpen : (t : List ℕ) (i : ℕ) (k : PlacedToken) (s : State) → k.from ≤ i → AreOpen i s → (token : Token) → AreOpen i (after_token t k s token)
 token-AreOpen t i k s le h (Text bytes) = AreOpen-added i (Raw bytes) s h
 token-AreOpen t i k s le h (Comment bytes) = AreOpen-added i (Remark bytes) s h
 token-AreOpen t i k s le h (Start name pairs alone) = start-AreOpen t i _ s le h (alone || is_void name)
@@ -266,40 +266,40 @@ token-AreOpen t i k s le h (End name) = end-AreOpen t i k.to s h (closes name (e
 token-AreOpen t i k s le h (Doctype html) = h
 token-AreOpen t i k s le h Nothing = h
 
-pub AreOpen-step : (t : List ℕ) (place : ℕ) (s : State) (k : Piece) → place ≤ k.from → k.from ≤ k.to → AreOpen place s → AreOpen k.to (step t s k)
+pub AreOpen-step : (t : List ℕ) (place : ℕ) (s : State) (k : PlacedToken) → place ≤ k.from → k.from ≤ k.to → AreOpen place s → AreOpen k.to (step t s k)
 AreOpen-step t place s k low high h = token-AreOpen t k.to k s high (AreOpen-later place k.to s (omega arith) h) k.token
 
 -- the name that an end tag is compared with
 pub enclosing_name-open : (i : ℕ) (xs : List Node) (p : ℕ) (ps : List ℕ) (h : IsOpen i xs p) → enclosing_name xs (p ∷ ps) ≡ Some h.own.name
 enclosing_name-open i xs p ps h = ap name_of h.found
 
--- tokens one behind the other
+-- tokens in order
 
-pub run-cons : (t : List ℕ) (s : State) (k : Piece) (ks : List Piece) → run t s (k ∷ ks) ≡ run t (step t s k) ks
+pub run-cons : (t : List ℕ) (s : State) (k : PlacedToken) (ks : List PlacedToken) → run t s (k ∷ ks) ≡ run t (step t s k) ks
 run-cons t s k ks = refl
 
-pub run-append : (t : List ℕ) (s : State) (ks ls : List Piece) → run t s (ks ++ ls) ≡ run t (run t s ks) ls
+pub run-append : (t : List ℕ) (s : State) (ks ls : List PlacedToken) → run t s (ks ++ ls) ≡ run t (run t s ks) ls
 run-append t s ks ls = fold-append (step t) s ks ls
 
-pub run-push : (t : List ℕ) (s : State) (ks : List Piece) (k : Piece) → run t s (ks ++ k ∷ []) ≡ step t (run t s ks) k
+pub run-push : (t : List ℕ) (s : State) (ks : List PlacedToken) (k : PlacedToken) → run t s (ks ++ k ∷ []) ≡ step t (run t s ks) k
 run-push t s ks k = fold_push (step t) s ks k
 
--- the place behind these tokens
-abbrev pub place_behind : ℕ → List Piece → ℕ
-place_behind i [] = i
-place_behind i (k ∷ ks) = place_behind k.to ks
+-- the place after these tokens
+abbrev pub place_after : ℕ → List PlacedToken → ℕ
+place_after i [] = i
+place_after i (k ∷ ks) = place_after k.to ks
 
-pub place_behind-all : (t : List ℕ) (i : ℕ) (ks : List Piece) → StandFrom t i ks → place_behind i ks ≡ length t
-place_behind-all t i [] h = h
-place_behind-all t i (k ∷ ks) h = place_behind-all t k.to ks h.2
+pub place_after-all : (t : List ℕ) (i : ℕ) (ks : List PlacedToken) → StandFrom t i ks → place_after i ks ≡ length t
+place_after-all t i [] h = h
+place_after-all t i (k ∷ ks) h = place_after-all t k.to ks h.2
 
 -- the first tokens of a text
-pub AreOpen-run : (t : List ℕ) (i : ℕ) (s : State) (ks more : List Piece) → StandFrom t i (ks ++ more) → AreOpen i s → AreOpen (place_behind i ks) (run t s ks)
+pub AreOpen-run : (t : List ℕ) (i : ℕ) (s : State) (ks more : List PlacedToken) → StandFrom t i (ks ++ more) → AreOpen i s → AreOpen (place_after i ks) (run t s ks)
 AreOpen-run t i s [] more stand h = h
 AreOpen-run t i s (k ∷ ks) more stand h =
     AreOpen-run t k.to (step t s k) ks more stand.2 (AreOpen-step t i s k (omega (arith, stand.0)) (omega (arith, stand.0, stand.1.0)) h)
 
-pub length-run-le : (t : List ℕ) (i : ℕ) (s : State) (ks more : List Piece) → StandFrom t i (ks ++ more) → length s.nodes ≤ i → length (run t s ks).nodes ≤ place_behind i ks
+pub length-run-le : (t : List ℕ) (i : ℕ) (s : State) (ks more : List PlacedToken) → StandFrom t i (ks ++ more) → length s.nodes ≤ i → length (run t s ks).nodes ≤ place_after i ks
 length-run-le t i s [] more stand h = h
 length-run-le t i s (k ∷ ks) more stand h =
     length-run-le t k.to (step t s k) ks more stand.2 (omega (arith, stand.0, stand.1.0, length-step-le t s k))

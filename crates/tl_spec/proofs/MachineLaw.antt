@@ -3,21 +3,22 @@ use Rattle.std.proofs.Common.{◌≡◌, ℕ, ◌+◌, ◌||◌, ◌==◌, Bool,
 use Rattle.std.specs.Prelude.{nat_lt}
 use Rattle.std.proofs.lemmas.Bool.Decides.{nat_tests}
 use Rattle.std.proofs.lemmas.Slice.Eq.{bytes_eq-Decides}
-use Rattle.tl_spec.specs.Token.{Piece, Start}
+use Rattle.tl_spec.specs.Inline.{room, with_last}
+use Rattle.tl_spec.specs.Token.{PlacedToken, Start}
 use Rattle.tl_spec.specs.Forest.{Forest, none, text, comment, tag, SourceTag, Siblings, led_by, started, closes, siblings, forest, Makes, over, a_text, a_comment, alone, opened, ended, stray, a_doctype, dropped}
 use Rattle.tl_spec.specs.Document.{Node, Tag, Raw, Comment as Remark, held_items, size, numbers, tag_node, nodes}
-use Rattle.tl_spec.specs.Machine.{State, start, change_at, with_item, with_child, with_raw_to, name_of, enclosing_name, added, opened as entered, closed, after_start, after_end, run}
+use Rattle.tl_spec.specs.Machine.{State, start, change_at, with_child, with_raw_to, name_of, enclosing_name, added, opened as entered, closed, after_start, after_end, run}
 use Rattle.tl_spec.proofs.Machine.{change_at-middle, slice_get-middle}
 use Rattle.tl_spec.proofs.Siblings.{closes-stray, siblings-Makes}
 
 -- one more item
-pub with_item-held : (xs : List ℕ) (x : ℕ) → with_item (held_items xs) x ≡ held_items (xs ++ x ∷ [])
-with_item-held xs x =
+pub with_last-held : (xs : List ℕ) (x : ℕ) → with_last room (held_items xs) x ≡ held_items (xs ++ x ∷ [])
+with_last-held xs x =
     let longer = length-append xs (x ∷ []) in
     let flag : (nat_lt 2 (length xs) || (length xs == 2)) ≡ nat_lt 2 (length (xs ++ x ∷ [])) = grind (arith, nat_tests) in
     ap (λ on_heap. record { items = xs ++ x ∷ []; on_heap = on_heap }) flag
 
--- what stands around the trees that are written: the top list alone, or also nodes, an open tag behind them with its first children, and the tags around it
+-- what stands around the trees that are written: the top list alone, or also nodes, an open tag after them with its first children, and the tags around it
 data Frame : Type 0 where
   at_top : (top : List ℕ) → Frame
   inside : (before : List Node) (own : SourceTag) (children outer top : List ℕ) → Frame
@@ -56,7 +57,7 @@ abbrev written : State → List Node × List ℕ
 written s = (s.nodes, s.top)
 
 module _ (t : List ℕ) where
-  -- all nodes, where bs are those behind the open tag
+  -- all nodes, where bs are those after the open tag
   abbrev nodes_at : Frame → List Node → List Node
   nodes_at (at_top top) bs = bs
   nodes_at (inside before own children outer top) bs = before ++ Tag (tag_node t own children) ∷ bs
@@ -96,7 +97,7 @@ module _ (t : List ℕ) where
       change_at (with_child n) (length before) (before ++ Tag (tag_node t own children) ∷ bs) ≡ before ++ Tag (tag_node t own (children ++ n ∷ [])) ∷ bs
   child-is own children n before bs =
       change_at-middle (with_child n) before (Tag (tag_node t own children)) bs
-      ∙ ap (λ held. before ++ Tag (record (tag_node t own []) { children = held }) ∷ bs) (with_item-held children n)
+      ∙ ap (λ held. before ++ Tag (record (tag_node t own []) { children = held }) ∷ bs) (with_last-held children n)
 
   added-is : (p : Frame) (bs : List Node) (v : Bool) (x : Node) → added x (state p bs v) ≡ state (adopting p (count_at p bs ∷ [])) (bs ++ x ∷ []) v
   added-is (at_top top) bs v x = refl
@@ -126,7 +127,7 @@ module _ (t : List ℕ) where
       let q : Frame = adopting p (count_at p bs ∷ []) in
       length-append (nodes_at q bs) (Tag (tag_node t own []) ∷ []) ∙ ap (λ n. n + 1) (count_at-adopting p (count_at p bs ∷ []) bs)
 
-  -- the machine behind trees
+  -- the machine after trees
 
   abbrev grown : Frame → List Node → Bool → Forest SourceTag → State
   grown p bs v f = state (adopting p (numbers (count_at p bs) f)) (bs ++ nodes t (count_at p bs) f) v
@@ -134,10 +135,10 @@ module _ (t : List ℕ) where
   grown-none : (p : Frame) (bs : List Node) (v : Bool) → grown p bs v none ≡ state p bs v
   grown-none p bs v = ap (λ q. state q (bs ++ []) v) (adopting-nil p) ∙ ap (λ xs. state p xs v) (append-nil bs)
 
-  -- behind one tree of the nodes xs
-  grown-behind : (p : Frame) (bs xs : List Node) (v : Bool) (f : Forest SourceTag) (n : ℕ) → count_at p bs + length xs ≡ n →
+  -- after one tree of the nodes xs
+  grown-after : (p : Frame) (bs xs : List Node) (v : Bool) (f : Forest SourceTag) (n : ℕ) → count_at p bs + length xs ≡ n →
       grown (adopting p (count_at p bs ∷ [])) (bs ++ xs) v f ≡ state (adopting p (count_at p bs ∷ numbers n f)) (bs ++ (xs ++ nodes t n f)) v
-  grown-behind p bs xs v f n e =
+  grown-after p bs xs v f n e =
       let one : List ℕ = count_at p bs ∷ [] in
       ap (λ m. state (adopting (adopting p one) (numbers m f)) ((bs ++ xs) ++ nodes t m f) v) (count_at-append p one bs xs ∙ e)
       ∙ ap (λ q. state q ((bs ++ xs) ++ nodes t n f) v) (adopting-twice p one (numbers n f))
@@ -151,7 +152,7 @@ module _ (t : List ℕ) where
       grown (adopting p (count_at p bs ∷ [])) (bs ++ tag_nodes (count_at p bs) own children) v f ≡ grown p bs v (tag own children f)
   grown-tag p bs own children v f =
       let n : ℕ = count_at p bs in
-      grown-behind p bs (tag_nodes n own children) v f (n + 1 + size children) (omega (arith, length-nodes (n + 1) children))
+      grown-after p bs (tag_nodes n own children) v f (n + 1 + size children) (omega (arith, length-nodes (n + 1) children))
 
   -- an end tag that ends at a place, if there was one
   abbrev shut : Option ℕ → State → State
@@ -166,8 +167,8 @@ module _ (t : List ℕ) where
       ap with_nodes (change_at-middle (with_raw_to t to) (nodes_at q bs) (Tag (tag_node t own ns)) xs
       ∙ nodes_at-append q bs (Tag (tag_node t (record own { to = to }) ns) ∷ xs))
 
-  -- the rest of the tokens behind a tag's children and its end
-  after-children : (p : Frame) (bs : List Node) (own : SourceTag) (f : Forest SourceTag) (v : Bool) (closed_at : Option ℕ) (left : List Piece) → (closed_at ≡ None → left ≡ []) →
+  -- the rest of the tokens after a tag's children and its end
+  after-children : (p : Frame) (bs : List Node) (own : SourceTag) (f : Forest SourceTag) (v : Bool) (closed_at : Option ℕ) (left : List PlacedToken) → (closed_at ≡ None → left ≡ []) →
       written (run t (shut closed_at (grown (within p bs own) [] v f)) left)
       ≡ written (run t (state (adopting p (count_at p bs ∷ [])) (bs ++ tag_nodes (count_at p bs) (record own { to = unwrap_or closed_at own.to }) f) v) left)
   after-children p bs own f v (Some to) left rests =
@@ -185,7 +186,7 @@ module _ (t : List ℕ) where
       ∙ ap (λ ks. written (run t last ks)) (sym (rests refl))
 
 -- trees that no end tag ended leave no token
-left-none : {o : Option (List ℕ)} {ks : List Piece} {s : Siblings} → Makes o ks s → s.closed_at ≡ None → s.left ≡ []
+left-none : {o : Option (List ℕ)} {ks : List PlacedToken} {s : Siblings} → Makes o ks s → s.closed_at ≡ None → s.left ≡ []
 left-none over e = refl
 left-none (a_text m) e = left-none m e
 left-none (a_comment m) e = left-none m e
@@ -197,7 +198,7 @@ left-none (a_doctype m) e = left-none m e
 left-none (dropped m) e = left-none m e
 
 -- at the top no end tag ends the trees
-closed_at-top : {o : Option (List ℕ)} {ks : List Piece} {s : Siblings} → Makes o ks s → o ≡ None → s.closed_at ≡ None
+closed_at-top : {o : Option (List ℕ)} {ks : List PlacedToken} {s : Siblings} → Makes o ks s → o ≡ None → s.closed_at ≡ None
 closed_at-top over e = refl
 closed_at-top (a_text m) e = closed_at-top m e
 closed_at-top (a_comment m) e = closed_at-top m e
@@ -209,7 +210,7 @@ closed_at-top (a_doctype m) e = closed_at-top m e
 closed_at-top (dropped m) e = closed_at-top m e
 
 module _ (t : List ℕ) where
-  -- the run goes on behind the siblings
+  -- the run goes on after the siblings
   abbrev after : Siblings → Frame → List Node → Bool → List Node × List ℕ
   after s p bs v = written (run t (shut t s.closed_at (grown t p bs v s.trees)) s.left)
 
@@ -227,17 +228,17 @@ module _ (t : List ℕ) where
   one-more tree p bs xs grows s found more e h =
       (h.0, e ∙ h.1 ∙ ap (λ g. written (run t (shut t s.closed_at g) s.left)) (grows h.0 s.trees))
 
-  writes : {o : Option (List ℕ)} {ks : List Piece} {s : Siblings} → Makes o ks s → (p : Frame) → name_at p ≡ o → (bs : List Node) (v : Bool) →
+  writes : {o : Option (List ℕ)} {ks : List PlacedToken} {s : Siblings} → Makes o ks s → (p : Frame) → name_at p ≡ o → (bs : List Node) (v : Bool) →
       Leads (written (run t (state t p bs v) ks)) s p bs
   writes over p e bs v = (v, ap written (sym (grown-none t p bs v)))
   writes (a_text {bytes = bytes} {ks = ks} {s = s} m) p e bs v =
       let x : Node = Raw bytes in
-      one-more (text bytes) p bs (x ∷ []) (λ w f. grown-behind t p bs (x ∷ []) w f (count_at t p bs + 1) refl) s _ _
+      one-more (text bytes) p bs (x ∷ []) (λ w f. grown-after t p bs (x ∷ []) w f (count_at t p bs + 1) refl) s _ _
       (ap (λ s. written (run t s ks)) (added-is t p bs v x))
       (writes m (next p bs) (name_at-adopting p (count_at t p bs ∷ []) ∙ e) (bs ++ x ∷ []) v)
   writes (a_comment {bytes = bytes} {ks = ks} {s = s} m) p e bs v =
       let x : Node = Remark bytes in
-      one-more (comment bytes) p bs (x ∷ []) (λ w f. grown-behind t p bs (x ∷ []) w f (count_at t p bs + 1) refl) s _ _
+      one-more (comment bytes) p bs (x ∷ []) (λ w f. grown-after t p bs (x ∷ []) w f (count_at t p bs + 1) refl) s _ _
       (ap (λ s. written (run t s ks)) (added-is t p bs v x))
       (writes m (next p bs) (name_at-adopting p (count_at t p bs ∷ []) ∙ e) (bs ++ x ∷ []) v)
   writes (alone {name = name} {pairs = pairs} {c = c} {i = i} {j = j} {ks = ks} {s = s} stands m) p e bs v =
@@ -277,7 +278,7 @@ module _ (t : List ℕ) where
   writes (dropped m) p e bs v = writes m p e bs v
 
   -- the whole run
-  pub run-writes : (ks : List Piece) → written (run t start ks) ≡ (nodes t 0 (forest ks), numbers 0 (forest ks))
+  pub run-writes : (ks : List PlacedToken) → written (run t start ks) ≡ (nodes t 0 (forest ks), numbers 0 (forest ks))
   run-writes ks =
       let made = siblings-Makes None ks in
       let s : Siblings = siblings None ks in

@@ -5,7 +5,7 @@ use Rattle.tl_spec.specs.ByteClass.{is_blank, is_closing, is_ident, is_name}
 use Rattle.tl_spec.specs.Clean.{IsName}
 use Rattle.tl_spec.proofs.Bytes.{not_this}
 
--- so a name is ASCII, and behind an attribute the first byte of the next one's key is not passed over
+-- so a name is ASCII, and after an attribute the first byte of the next one's key is not passed over
 pub name-ident : (b : ℕ) → is_name b ≡ true → is_ident b ≡ true
 name-ident b h = h
 

@@ -5,8 +5,8 @@ use Rattle.std.proofs.lemmas.Bool.{false_from_ne_true}
 use Rattle.std.proofs.lemmas.Bool.Decides.{Decides-eqb}
 use Rattle.std.proofs.lemmas.Slice.Eq.{starts_is}
 use Rattle.tl_spec.specs.Grammar.{Begins, EndsWithFirst, IsNowhere}
-use Rattle.tl_spec.specs.Runs.{behind}
-use Rattle.tl_spec.proofs.Comments.{behind_append, from_here}
+use Rattle.tl_spec.specs.Runs.{after}
+use Rattle.tl_spec.proofs.Comments.{after_append, from_here}
 
 module _ (w : List ℕ) where
   pub begins-yes : (s : List ℕ) → Begins w s → starts_with ◌==◌ s w ≡ true
@@ -34,13 +34,13 @@ module _ (w : List ℕ) where
 
   -- nowhere, and not found
 
-  pub nowhere-none : (s : List ℕ) → IsNowhere w s → behind w s ≡ None
+  pub nowhere-none : (s : List ℕ) → IsNowhere w s → after w s ≡ None
   nowhere-none [] h = refl
   nowhere-none (b ∷ s) h =
       let fails = begins-no (b ∷ s) (λ f. h [] f.0 f.1) in
       ap (from_here w (b ∷ s) s) fails ∙ nowhere-none s (λ xs ys e. h (b ∷ xs) ys (ap (λ s. b ∷ s) e))
 
-  pub none-nowhere : 0 < length w → (s : List ℕ) → behind w s ≡ None → IsNowhere w s
+  pub none-nowhere : 0 < length w → (s : List ℕ) → after w s ≡ None → IsNowhere w s
   none-nowhere pos [] h xs ys e = not_in_nothing pos xs ys e
   none-nowhere pos (b ∷ s) h xs ys e =
       let step : (v : Bool) → starts_with ◌==◌ (b ∷ s) w ≡ v → from_here w (b ∷ s) s v ≡ None → ⊥ = elim [
@@ -51,7 +51,7 @@ module _ (w : List ℕ) where
 
   -- the first, and what is found
 
-  first-found : 0 < length w → (s xs : List ℕ) → s ≡ xs ++ w → ((xs ys : List ℕ) → s ≡ xs ++ w ++ ys → ys ≡ []) → behind w s ≡ Some []
+  first-found : 0 < length w → (s xs : List ℕ) → s ≡ xs ++ w → ((xs ys : List ℕ) → s ≡ xs ++ w ++ ys → ys ≡ []) → after w s ≡ Some []
   first-found pos [] xs e h = absurd (omega (arith, ap length e, length-append xs w))
   first-found pos (b ∷ s) xs e h =
       let step : (v : Bool) → starts_with ◌==◌ (b ∷ s) w ≡ v → from_here w (b ∷ s) s v ≡ Some [] = elim [
@@ -62,8 +62,8 @@ module _ (w : List ℕ) where
       ] in
       step (starts_with ◌==◌ (b ∷ s) w) refl
 
-  pub first-behind : 0 < length w → (body rest : List ℕ) → EndsWithFirst w body → behind w (body ++ rest) ≡ Some rest
-  first-behind pos body rest h = behind_append w body rest [] (first-found pos body h.ends.0 h.ends.1 h.first)
+  pub first-after : 0 < length w → (body rest : List ℕ) → EndsWithFirst w body → after w (body ++ rest) ≡ Some rest
+  first-after pos body rest h = after_append w body rest [] (first-found pos body h.ends.0 h.ends.1 h.first)
 
   -- s is a body that ends with the first, and rest
   abbrev pub FirstEnds : List ℕ → List ℕ → Type 0
@@ -92,11 +92,11 @@ module _ (w : List ℕ) where
         },
       )
 
-  pub behind-first : (s rest : List ℕ) → behind w s ≡ Some rest → FirstEnds s rest
-  behind-first [] rest e = cc
-  behind-first (b ∷ s) rest e =
+  pub after-first : (s rest : List ℕ) → after w s ≡ Some rest → FirstEnds s rest
+  after-first [] rest e = cc
+  after-first (b ∷ s) rest e =
       let step : (v : Bool) → starts_with ◌==◌ (b ∷ s) w ≡ v → from_here w (b ∷ s) s v ≡ Some rest → FirstEnds (b ∷ s) rest = elim [
         | true ↦ λ yes e. (w, begins-parts (b ∷ s) yes ∙ ap (λ r. w ++ r) (ap (λ o. unwrap_or o rest) e), itself)
-        | false ↦ λ fails e. longer b s rest fails (behind-first s rest e)
+        | false ↦ λ fails e. longer b s rest fails (after-first s rest e)
       ] in
       step (starts_with ◌==◌ (b ∷ s) w) refl e

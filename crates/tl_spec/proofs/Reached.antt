@@ -1,7 +1,7 @@
 -- The states between the first token of a text and the last.
 use Rattle.std.proofs.Common.{◌≡◌, ℕ, ◌+◌, ◌-◌, ◌≤◌, List, [], ◌∷◌, length, drop, Some, refl, sym, ◌∙◌, ap, subst, arith, length-drop}
 use Rattle.std.proofs.lemmas.List.{drop-drop}
-use Rattle.tl_spec.specs.Token.{Token, Piece, next_token, tokens}
+use Rattle.tl_spec.specs.Token.{Token, PlacedToken, next_token, tokens}
 use Rattle.tl_spec.specs.Grammar.{IsTokenAt}
 use Rattle.tl_spec.specs.Document.{document}
 use Rattle.tl_spec.specs.Machine.{State, start, step, run, IsReached}
@@ -12,18 +12,18 @@ use Rattle.tl_spec.proofs.Tails.{next_token-tail}
 use Rattle.tl_spec.proofs.Machine.{AreOpen-start, AreOpen-step, length-step-le, run-html5}
 use Rattle.tl_spec.proofs.MachineLaw.{run-writes}
 
--- a token that was found, and what stands behind it
+-- a token that was found, and what stands after it
 pub IsTokenAt-found : (t : List ℕ) (i : ℕ) (token : Token) (rest : List ℕ) → i ≤ length t → next_token (drop i t) ≡ Some (token, rest) →
     IsTokenAt t i token (length t - length rest) × (rest ≡ drop (length t - length rest) t)
 IsTokenAt-found t i token rest le e =
-    let behind = next_token-tail (drop i t) (token, rest) e in
+    let after = next_token-tail (drop i t) (token, rest) e in
     let less = token_less (drop i t) token rest e in
     let from = length-drop i t in
-    let is : rest ≡ drop (i + behind.0) t = behind.2 ∙ drop-drop behind.0 i t in
-    let len : length rest ≡ length t - (i + behind.0) = ap length is ∙ length-drop (i + behind.0) t in
-    let to : length t - length rest ≡ i + behind.0 = omega (arith, behind.1) in
+    let is : rest ≡ drop (i + after.0) t = after.2 ∙ drop-drop after.0 i t in
+    let len : length rest ≡ length t - (i + after.0) = ap length is ∙ length-drop (i + after.0) t in
+    let to : length t - length rest ≡ i + after.0 = omega (arith, after.1) in
     let same : rest ≡ drop (length t - length rest) t = is ∙ ap (λ j. drop j t) (sym to) in
-    ((omega (arith, behind.1), omega arith, token-there (drop i t) token (drop (length t - length rest) t) (e ∙ ap (λ (r : List ℕ). Some (token, r)) same)), same)
+    ((omega (arith, after.1), omega arith, token-there (drop i t) token (drop (length t - length rest) t) (e ∙ ap (λ (r : List ℕ). Some (token, r)) same)), same)
 
 pub IsReached-start : (t : List ℕ) (s : State) → s ≡ start → IsReached t 0 s
 IsReached-start t s e =
@@ -37,7 +37,7 @@ IsReached-start t s e =
 pub IsReached-step : (t : List ℕ) (i : ℕ) (s : State) (token : Token) (j : ℕ) → IsReached t i s → IsTokenAt t i token j →
     IsReached t j (step t s (record { token = token; from = i; to = j }))
 IsReached-step t i s token j h at =
-    let k : Piece = record { token = token; from = i; to = j } in
+    let k : PlacedToken = record { token = token; from = i; to = j } in
     record {
       within = at.1;
       leads_on = λ ks stand. h.leads_on (k ∷ ks) (refl, at, stand);

@@ -10,7 +10,7 @@ use Rattle.std.proofs.Math.Seq.{drop-append-add}
 use Rattle.std.specs.List.{position_or_len, slice_split}
 use Rattle.std.specs.Str.{all_ascii_digits}
 use Rattle.tl_spec.specs.Edit.{Change, Names, Texts, Comments, Sets, Flags, Unsets, Bares, Pushes, Pulls, Roots}
-use Rattle.tl_spec.specs.StepLine.{is_space, is_line_feed, is_not_empty, changes_of, changes_of_lines, spelled_all, IsLine, number_of, is_number, read_on, first_word, behind_word, of_number, of_numbers, change_by_word, change_of_line, spaced, spelled, ReadBack, IsSpellable}
+use Rattle.tl_spec.specs.StepLine.{is_space, is_line_feed, is_not_empty, changes_of, changes_of_lines, spelled_all, IsLine, number_of, is_number, read_on, first_word, after_word, of_number, of_numbers, change_by_word, change_of_line, spaced, spelled, ReadBack, IsSpellable}
 
 -- a word without a space ends where the first space stands
 word_length : (word rest : List ℕ) → All (λ b. b ≢ 32) word → position_or_len is_space (spaced word rest) ≡ length word
@@ -22,8 +22,8 @@ word_length word rest h =
 first_word-spaced : (word rest : List ℕ) → All (λ b. b ≢ 32) word → first_word (spaced word rest) ≡ word
 first_word-spaced word rest h = rw (word_length word rest h) (grind (arith, common_steps))
 
-behind_word-spaced : (word rest : List ℕ) → All (λ b. b ≢ 32) word → behind_word (spaced word rest) ≡ rest
-behind_word-spaced word rest h = rw (word_length word rest h, drop-append-add) refl
+after_word-spaced : (word rest : List ℕ) → All (λ b. b ≢ 32) word → after_word (spaced word rest) ≡ rest
+after_word-spaced word rest h = rw (word_length word rest h, drop-append-add) refl
 
 spaceless : List ℕ → Bool
 spaceless [] = true
@@ -45,11 +45,11 @@ digits_if false digits n e h = cc
 number-spaceless : (digits : List ℕ) (n : ℕ) → number_of digits ≡ Some n → All (λ b. b ≢ 32) digits
 number-spaceless digits n h = digits-spaceless digits (digits_if (is_number digits) digits n refl h)
 
--- a number and what stands behind its space are read as that
+-- a number and what stands after its space are read as that
 number_read : (digits rest : List ℕ) (n : ℕ) (made : ℕ → List ℕ → Option Change) → number_of digits ≡ Some n → of_number made (spaced digits rest) ≡ made n rest
 number_read digits rest n made h =
     let s = number-spaceless digits n h in
-    rw (first_word-spaced digits rest s, behind_word-spaced digits rest s, h) refl
+    rw (first_word-spaced digits rest s, after_word-spaced digits rest s, h) refl
 
 numbers_read : (digits more : List ℕ) (n m : ℕ) (made : ℕ → ℕ → Change) → number_of digits ≡ Some n → number_of more ≡ Some m → of_numbers made (spaced digits more) ≡ Some (made n m)
 numbers_read digits more n m made h k =
@@ -59,7 +59,7 @@ numbers_read digits more n m made h k =
 line_read : (word rest : List ℕ) → spaceless word ≡ true → change_of_line (spaced word rest) ≡ change_by_word word rest
 line_read word rest h =
     let s = spaceless-All word h in
-    rw (first_word-spaced word rest s, behind_word-spaced word rest s) refl
+    rw (first_word-spaced word rest s, after_word-spaced word rest s) refl
 
 pub spelled_read : (digits : ℕ → List ℕ) → ReadBack digits → (c : Change) → IsSpellable c → change_of_line (spelled digits c) ≡ Some c
 unfolding spaceless
@@ -71,8 +71,8 @@ spelled_read digits r (Comments n text) h =
     line_read (codes "comment") (spaced (digits n) text) refl ∙ number_read (digits n) text n (λ n text. Some (Comments n text)) (r n h)
 spelled_read digits r (Sets n key value) h =
     line_read (codes "set") (spaced (digits n) (spaced key value)) refl
-    ∙ number_read (digits n) (spaced key value) n (λ n text. Some (Sets n (first_word text) (behind_word text))) (r n h.0)
-    ∙ rw (first_word-spaced key value h.1, behind_word-spaced key value h.1) refl
+    ∙ number_read (digits n) (spaced key value) n (λ n text. Some (Sets n (first_word text) (after_word text))) (r n h.0)
+    ∙ rw (first_word-spaced key value h.1, after_word-spaced key value h.1) refl
 spelled_read digits r (Flags n key) h =
     line_read (codes "flag") (spaced (digits n) key) refl ∙ number_read (digits n) key n (λ n key. Some (Flags n key)) (r n h)
 spelled_read digits r (Unsets n key) h =

@@ -61,7 +61,7 @@ adopted-written {A} view n p s xs x y is e h at q = first s.open_tags e
         let same : p ≡ r = cc in
         ap (λ nodes. record s { nodes = nodes }) (write ∙ ap (λ r. change_at (with_child n) r s.nodes) same)
 
--- a node behind the others, once its number is adopted
+-- a node after the others, once its number is adopted
 pub added-written : {A : Type 0} (view : A → Node) (r s : State) (xs : List A) (x : A) → r ≡ adopted (length s.nodes) s → r.nodes ≡ map view xs →
     record r { nodes = map view (xs ++ x ∷ []) } ≡ added (view x) s
 added-written view r s xs x e is =

@@ -3,7 +3,7 @@ use Rattle.std.specs.Prelude.{◌≡◌, ◌≢◌, ℕ, IsTrue, not, ◌==◌, 
 use Rattle.std.specs.Bool.{IsFalse}
 use Rattle.std.specs.List.{list_all, starts_with}
 use Rattle.tl_spec.specs.ByteClass.{is_blank, is_name, is_void, less, slash, bang, quote}
-use Rattle.tl_spec.specs.Runs.{behind}
+use Rattle.tl_spec.specs.Runs.{after}
 use Rattle.tl_spec.specs.Attribute.{Pair}
 use Rattle.tl_spec.specs.AttributeList.{printed_pairs, HasOwnKeys}
 use Rattle.tl_spec.specs.Forest.{Forest, none, text, comment, tag, PlainTag}
@@ -41,7 +41,7 @@ pub record HasCommentForm (bytes : List ℕ) : Type 0 where
   pub whole : bytes ≡ less ∷ blanks ++ bang ∷ inside
   pub all_blank : IsTrue (list_all is_blank blanks)
   pub opens : IsTrue (starts_with ◌==◌ inside (codes "--"))
-  pub ends : behind (codes "-->") inside ≡ Some []
+  pub ends : after (codes "-->") inside ≡ Some []
 
 -- empty, or of that form
 abbrev pub IsCleanComment : List ℕ → Type 0

@@ -1,24 +1,24 @@
 -- The table of nodes that a text gives.
-use Rattle.std.specs.Prelude.{ℕ, ◌+◌, Bool, false, nat_lt, List, [], ◌∷◌, ◌++◌, length, Option, Some, None}
+use Rattle.std.specs.Prelude.{ℕ, ◌+◌, Bool, false, nat_lt, List, [], ◌∷◌, ◌++◌, length, Option}
 use Rattle.std.specs.List.{list_any, between}
-use Rattle.tl_spec.specs.Inline.{InlineVec, InlineMap}
+use Rattle.tl_spec.specs.Inline.{InlineVec, InlineMap, room}
 use Rattle.tl_spec.specs.Attribute.{Pair}
-use Rattle.tl_spec.specs.AttributeList.{AttributesOf, Attributes}
+use Rattle.tl_spec.specs.AttributeList.{Attributes, PlainAttributes, count_of}
 use Rattle.tl_spec.specs.Token.{Token, Doctype, tokens}
 use Rattle.tl_spec.specs.Forest.{Forest, none, text, comment, tag, SourceTag, forest}
 
--- handles in a list with room for two inline
+-- handles in a list with room inline
 abbrev pub Handles : Type 0
 Handles = InlineVec ℕ
 
--- pairs in a map with room for two inline
+-- pairs in a map with room inline
 abbrev pub Entries : Type 0
 Entries = InlineMap (List ℕ) (Option (List ℕ))
 
 -- a tag, with the handles of its children, its bytes in the text, and the place of its `<`
 pub record TagNode : Type 0 where
   pub name : List ℕ
-  pub attributes : AttributesOf Entries
+  pub attributes : Attributes (List ℕ)
   pub children : Handles
   pub raw : List ℕ
   pub start : ℕ
@@ -35,16 +35,16 @@ pub record Document : Type 0 where
   pub top : List ℕ
   pub is_html5 : Bool
 
--- the list after pushes into an empty one: on the heap exactly where there are more than two
+-- the list after pushes into an empty one: on the heap exactly where there are more than the room holds
 abbrev pub held_items : List ℕ → Handles
-held_items items = record { items = items; on_heap = nat_lt 2 (length items) }
+held_items items = record { items = items; on_heap = nat_lt room (length items) }
 
 -- the map after inserts of distinct keys into an empty one
 abbrev pub held_entries : List Pair → Entries
-held_entries entries = record { entries = entries; on_heap = nat_lt 2 (length entries) }
+held_entries entries = record { entries = entries; on_heap = nat_lt room (length entries) }
 
 -- attributes just read
-abbrev pub held_attributes : Attributes → AttributesOf Entries
+abbrev pub held_attributes : PlainAttributes → Attributes (List ℕ)
 held_attributes a = record { others = held_entries a.others; id = a.id; class = a.class }
 
 -- how many nodes
@@ -89,13 +89,8 @@ abbrev pub document : List ℕ → Document
 document t = let trees = forest (tokens t) in
     record { nodes = nodes t 0 trees; top = numbers 0 trees; is_html5 = list_any (λ k. is_html5_doctype k.token) (tokens t) }
 
--- one for a value that is there
-abbrev pub present : Option (List ℕ) → ℕ
-present None = 0
-present (Some v) = 1
-
 -- a node and its attributes
 abbrev pub weight : Node → ℕ
-weight (Tag own) = 1 + length own.attributes.others.entries + present own.attributes.id + present own.attributes.class
+weight (Tag own) = 1 + count_of own.attributes
 weight (Raw bytes) = 1
 weight (Comment bytes) = 1

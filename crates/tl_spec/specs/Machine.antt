@@ -1,11 +1,11 @@
 -- The document written token by token, with the open tags at hand.
-use Rattle.std.specs.Prelude.{◌≡◌, ◌≤◌, ℕ, zero, suc, Bool, true, false, ◌||◌, ◌==◌, All, List, [], ◌∷◌, ◌++◌, length, Option, None, Some, slice_get, fold}
+use Rattle.std.specs.Prelude.{◌≡◌, ◌≤◌, ℕ, zero, suc, Bool, true, false, ◌||◌, All, List, [], ◌∷◌, ◌++◌, length, Option, None, Some, slice_get, fold}
 use Rattle.std.specs.List.{between}
 use Rattle.tl_spec.specs.ByteClass.{is_void}
 use Rattle.tl_spec.specs.Attribute.{Pair}
-use Rattle.tl_spec.specs.Token.{Token, Piece, Text, End, Comment, Doctype, Start, Nothing, tokens}
+use Rattle.tl_spec.specs.Token.{Token, PlacedToken, Text, End, Comment, Doctype, Start, Nothing, tokens}
 use Rattle.tl_spec.specs.Grammar.{StandFrom}
-use Rattle.tl_spec.specs.Inline.{InlineVec}
+use Rattle.tl_spec.specs.Inline.{room, with_last}
 use Rattle.tl_spec.specs.Forest.{closes, started}
 use Rattle.tl_spec.specs.Document.{Node, TagNode, Tag, Raw, Comment as CommentNode, tag_node}
 
@@ -26,13 +26,9 @@ change_at f i [] = []
 change_at f zero (x ∷ xs) = f x ∷ xs
 change_at f (suc i) (x ∷ xs) = x ∷ change_at f i xs
 
--- one more item in a list with room for two inline: the third takes them all to the heap
-abbrev pub with_item : {T : Type 0} → InlineVec T → T → InlineVec T
-with_item v x = record { items = v.items ++ x ∷ []; on_heap = v.on_heap || (length v.items == 2) }
-
 -- a node with one more child
 abbrev pub with_child : ℕ → Node → Node
-with_child n (Tag own) = Tag (record own { children = with_item own.children n })
+with_child n (Tag own) = Tag (record own { children = with_last room own.children n })
 with_child n (Raw bytes) = Raw bytes
 with_child n (CommentNode bytes) = CommentNode bytes
 
@@ -81,7 +77,7 @@ abbrev pub closed : List ℕ → ℕ → State → State
 closed t to s = closed_by t to s s.open_tags
 
 -- a start tag as a node, without children yet
-abbrev pub start_node : List ℕ → Piece → List ℕ → List Pair → Node
+abbrev pub start_node : List ℕ → PlacedToken → List ℕ → List Pair → Node
 start_node t k name pairs = Tag (tag_node t (started k name pairs) [])
 
 module _ (t : List ℕ) where
@@ -95,8 +91,8 @@ module _ (t : List ℕ) where
   after_end to s true = closed t to s
   after_end to s false = s
 
-  -- one token, which stands where the piece does
-  abbrev pub after_token : Piece → State → Token → State
+  -- one token, which stands where k does
+  abbrev pub after_token : PlacedToken → State → Token → State
   after_token k s (Text bytes) = added (Raw bytes) s
   after_token k s (Comment bytes) = added (CommentNode bytes) s
   after_token k s (Start name pairs alone) = after_start (start_node t k name pairs) s (alone || is_void name)
@@ -104,12 +100,12 @@ module _ (t : List ℕ) where
   after_token k s (Doctype html) = record s { is_html5 = s.is_html5 || html }
   after_token k s Nothing = s
 
-  -- one piece of the text t
-  abbrev pub step : State → Piece → State
+  -- one token of the text t
+  abbrev pub step : State → PlacedToken → State
   step s k = after_token k s k.token
 
-  -- pieces of the text t, one after the other
-  abbrev pub run : State → List Piece → State
+  -- tokens of the text t in order
+  abbrev pub run : State → List PlacedToken → State
   run s ks = fold step s ks
 
 -- the number of a tag of the table that begins at this place of the text or before it
@@ -122,9 +118,9 @@ pub record IsOpen (place : ℕ) (nodes : List Node) (p : ℕ) : Type 0 where
 abbrev pub AreOpen : ℕ → State → Type 0
 AreOpen place s = All (IsOpen place s.nodes) s.open_tags
 
--- a state that the tokens of t up to this place lead to: those behind it lead on to where all tokens do
+-- a state that the tokens of t up to this place lead to: those after it lead on to where all tokens do
 pub record IsReached (t : List ℕ) (place : ℕ) (s : State) : Type 0 where
   pub within : place ≤ length t
-  pub leads_on : (ks : List Piece) → StandFrom t place ks → run t s ks ≡ run t start (tokens t)
+  pub leads_on : (ks : List PlacedToken) → StandFrom t place ks → run t s ks ≡ run t start (tokens t)
   pub are_open : AreOpen place s
   pub few : length s.nodes ≤ place

@@ -11,7 +11,7 @@ is_space b = b == 32
 abbrev pub is_line_feed : ℕ → Bool
 is_line_feed b = b == 10
 
--- the number that digits write behind those of n
+-- the number that digits write after those of n
 abbrev pub read_on : ℕ → List ℕ → ℕ
 read_on n [] = n
 read_on n (digit ∷ digits) = read_on (10 * n + (digit - 48)) digits
@@ -27,13 +27,13 @@ number_of digits = if is_number digits then Some (read_on 0 digits) else None
 abbrev pub first_word : List ℕ → List ℕ
 first_word bytes = before_first is_space bytes
 
--- what stands behind the first space, and nothing where there is none
-abbrev pub behind_word : List ℕ → List ℕ
-behind_word bytes = after_first is_space bytes
+-- what stands after the first space, and nothing where there is none
+abbrev pub after_word : List ℕ → List ℕ
+after_word bytes = after_first is_space bytes
 
--- an edit of a number and of all that stands behind its space
+-- an edit of a number and of all that stands after its space
 abbrev pub of_number : (ℕ → List ℕ → Option Change) → List ℕ → Option Change
-of_number made bytes = option_and_then (λ n. made n (behind_word bytes)) (number_of (first_word bytes))
+of_number made bytes = option_and_then (λ n. made n (after_word bytes)) (number_of (first_word bytes))
 
 -- an edit of two numbers
 abbrev pub of_numbers : (ℕ → ℕ → Change) → List ℕ → Option Change
@@ -45,7 +45,7 @@ change_by_word word rest =
     if bytes_eq word (codes "name") then of_number (λ n text. Some (Names n text)) rest
     else if bytes_eq word (codes "text") then of_number (λ n text. Some (Texts n text)) rest
     else if bytes_eq word (codes "comment") then of_number (λ n text. Some (Comments n text)) rest
-    else if bytes_eq word (codes "set") then of_number (λ n text. Some (Sets n (first_word text) (behind_word text))) rest
+    else if bytes_eq word (codes "set") then of_number (λ n text. Some (Sets n (first_word text) (after_word text))) rest
     else if bytes_eq word (codes "flag") then of_number (λ n key. Some (Flags n key)) rest
     else if bytes_eq word (codes "unset") then of_number (λ n key. Some (Unsets n key)) rest
     else if bytes_eq word (codes "bare") then of_number (λ n key. Some (Bares n key)) rest
@@ -56,7 +56,7 @@ change_by_word word rest =
 
 -- what one line says, if anything
 abbrev pub change_of_line : List ℕ → Option Change
-change_of_line line = change_by_word (first_word line) (behind_word line)
+change_of_line line = change_by_word (first_word line) (after_word line)
 
 -- all of them, if each is there
 abbrev pub all_some : List (Option Change) → Option (List Change)
@@ -76,7 +76,7 @@ changes_of_lines lines = all_some (map change_of_line (filter is_not_empty lines
 abbrev pub changes_of : List ℕ → Option (List Change)
 changes_of text = changes_of_lines (slice_split is_line_feed text)
 
--- a word, a space, and what stands behind it
+-- a word, a space, and what stands after it
 abbrev pub spaced : List ℕ → List ℕ → List ℕ
 spaced word rest = word ++ 32 ∷ rest
 
@@ -110,7 +110,7 @@ IsSpellable (Pushes n h) = (n ≤ 4294967295) × (h ≤ 4294967295)
 IsSpellable (Pulls n i) = (n ≤ 4294967295) × (i ≤ 4294967295)
 IsSpellable (Roots i h) = (i ≤ 4294967295) × (h ≤ 4294967295)
 
--- the lines of edits, with a line feed behind each
+-- the lines of edits, with a line feed after each
 abbrev pub spelled_all : (ℕ → List ℕ) → List Change → List ℕ
 spelled_all digits [] = []
 spelled_all digits (c ∷ cs) = spelled digits c ++ 10 ∷ spelled_all digits cs

@@ -2,14 +2,14 @@
 use Rattle.std.specs.Prelude.{ℕ, zero, suc, Bool, true, false, not, ◌==◌, List, [], ◌∷◌, ◌++◌, length, Option, Some, None, Result, Ok, Err, slice_get, map}
 use Rattle.std.specs.List.{list_any, enumerate_from}
 use Rattle.tl_spec.specs.ByteClass.{is_printed_alone}
-use Rattle.tl_spec.specs.AttributeList.{AttributesOf, Attributes}
+use Rattle.tl_spec.specs.AttributeList.{Attributes, PlainAttributes}
 use Rattle.tl_spec.specs.Forest.{Forest, none, text, comment, tag, PlainTag}
-use Rattle.tl_spec.specs.Document.{Entries, TagNode, Node, Tag, Raw, Comment}
+use Rattle.tl_spec.specs.Document.{TagNode, Node, Tag, Raw, Comment}
 
 -- a handle past the table, and a handle that stands on its own path
-pub data Fault : Type 0 where
-  Dangling : ℕ → Fault
-  Cycle : ℕ → Fault
+pub data TreeFault : Type 0 where
+  Dangling : ℕ → TreeFault
+  Cycle : ℕ → TreeFault
 
 -- what a walk meets, in a row: as trees of handles and nodes, with faults as leaves; a tag is entered or passed by
 pub data Walk : Type 0 where
@@ -18,7 +18,7 @@ pub data Walk : Type 0 where
   meets_comment : ℕ → List ℕ → Walk → Walk
   meets_tag : ℕ → TagNode → Walk → Walk → Walk
   passes_tag : ℕ → TagNode → Walk → Walk
-  meets_fault : Fault → Walk → Walk
+  meets_fault : TreeFault → Walk → Walk
 
 -- a path has its last handle first
 abbrev pub stands_on : List ℕ → ℕ → Bool
@@ -30,7 +30,7 @@ module _ (enters : List ℕ → Bool) (nodes : List Node) where
   tag_walk below h more own true = meets_tag h own (below own.children.items) more
   tag_walk below h more own false = passes_tag h own more
 
-  -- a node of the table, before what is met behind it
+  -- a node of the table, before what is met after it
   abbrev pub node_walk : (List ℕ → Walk) → ℕ → Walk → Node → Walk
   node_walk below h more (Raw bytes) = meets_text h bytes more
   node_walk below h more (Comment bytes) = meets_comment h bytes more
@@ -69,12 +69,12 @@ abbrev pub shows : List ℕ → Bool
 shows name = not (is_printed_alone name)
 
 -- the first of two
-abbrev pub or_else : Option Fault → Option Fault → Option Fault
+abbrev pub or_else : Option TreeFault → Option TreeFault → Option TreeFault
 or_else None later = later
 or_else (Some e) later = Some e
 
--- the first fault, a node before its children and these before what stands behind it
-abbrev pub first_fault : Walk → Option Fault
+-- the first fault, a node before its children and these before what stands after it
+abbrev pub first_fault : Walk → Option TreeFault
 first_fault end = None
 first_fault (meets_text h bytes more) = first_fault more
 first_fault (meets_comment h bytes more) = first_fault more
@@ -83,7 +83,7 @@ first_fault (passes_tag h own more) = first_fault more
 first_fault (meets_fault e more) = Some e
 
 -- a node's attributes, without the flag
-abbrev pub plain_attributes : AttributesOf Entries → Attributes
+abbrev pub plain_attributes : Attributes (List ℕ) → PlainAttributes
 plain_attributes a = record { others = a.others.entries; id = a.id; class = a.class }
 
 -- a tag without its children and its place
@@ -100,16 +100,16 @@ trees (passes_tag h own more) = tag (plain_node own) none (trees more)
 trees (meets_fault e more) = trees more
 
 -- a fault if there is one, and else the value
-abbrev pub unless : {A : Type 0} → Option Fault → A → Result A Fault
+abbrev pub unless : {A : Type 0} → Option TreeFault → A → Result A TreeFault
 unless None x = Ok x
 unless (Some e) x = Err e
 
 -- what f makes of the trees of a walk, or its first fault
-abbrev pub answer : {A : Type 0} → (Forest PlainTag → A) → Walk → Result A Fault
+abbrev pub answer : {A : Type 0} → (Forest PlainTag → A) → Walk → Result A TreeFault
 answer f w = unless (first_fault w) (f (trees w))
 
--- what is met one behind the other, each tag before its children: handles with their nodes, and faults
-abbrev pub visits : Walk → List (Result (ℕ × Node) Fault)
+-- what is met in order, each tag before its children: handles with their nodes, and faults
+abbrev pub visits : Walk → List (Result (ℕ × Node) TreeFault)
 visits end = []
 visits (meets_text h bytes more) = Ok (h, Raw bytes) ∷ visits more
 visits (meets_comment h bytes more) = Ok (h, Comment bytes) ∷ visits more
@@ -118,14 +118,14 @@ visits (passes_tag h own more) = Ok (h, Tag own) ∷ visits more
 visits (meets_fault e more) = Err e ∷ visits more
 
 -- visits of these nodes, numbered from n on
-abbrev pub visits_from : ℕ → List Node → List (Result (ℕ × Node) Fault)
+abbrev pub visits_from : ℕ → List Node → List (Result (ℕ × Node) TreeFault)
 visits_from n nodes = map (λ v. Ok v) (enumerate_from n nodes)
 
--- what happens on a walk, one event behind the other: only a tag that was entered is left
+-- what happens on a walk, one event after the other: only a tag that was entered is left
 pub data Event : Type 0 where
   meets : ℕ → Node → Event
   leaves : TagNode → Event
-  faulty : Fault → Event
+  faulty : TreeFault → Event
 
 -- the events of a walk
 abbrev pub events : Walk → List Event
@@ -137,7 +137,7 @@ events (passes_tag h own more) = meets h (Tag own) ∷ events more
 events (meets_fault e more) = faulty e ∷ events more
 
 -- the first fault among events
-abbrev pub fault_among : List Event → Option Fault
+abbrev pub fault_among : List Event → Option TreeFault
 fault_among [] = None
 fault_among (meets h node ∷ later) = fault_among later
 fault_among (leaves own ∷ later) = fault_among later

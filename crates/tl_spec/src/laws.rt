@@ -2,7 +2,7 @@
 
 ghost use Rattle.std.specs.Prelude.{◌≡◌, ◌↔◌, ◌<◌, ◌≤◌, ◌+◌, ℕ, All, sum_by, length, take, drop, slice_get, Some, List, [], ◌∷◌, ◌++◌, Option, None, Bool, Ok};
 ghost use Rattle.tl_spec.specs.Attribute.{Pair, attribute, attributes};
-ghost use Rattle.tl_spec.specs.Token.{Token, Piece, next_token, tokens};
+ghost use Rattle.tl_spec.specs.Token.{Token, PlacedToken, next_token, tokens};
 ghost use Rattle.tl_spec.specs.Grammar.{AttributeStands, AttributesStand, TokenStands, StandFrom};
 ghost use Rattle.tl_spec.specs.Forest.{Forest, PlainTag, Siblings, Makes, no_siblings, siblings, with_token, forest, plain};
 ghost use Rattle.tl_spec.specs.Document.{Document, Node, TagNode, Tag, document, weight};
@@ -29,23 +29,23 @@ pub fn token_stands()
     ensures { (t : List ℕ) (k : Token) (rest : List ℕ) → TokenStands t k rest ↔ (next_token t ≡ Some (k, rest)) }
 {}
 
-/// The tokens of a text are the ones that stand in it one behind the other, and there are no others.
+/// The tokens of a text are the ones that stand in it in order, and there are no others.
 #[tactic(auto, using(crate::proofs::All::laws))]
 pub fn tokens_stand()
-    ensures { (t : List ℕ) (ks : List Piece) → StandFrom t 0 ks ↔ (ks ≡ tokens t) }
+    ensures { (t : List ℕ) (ks : List PlacedToken) → StandFrom t 0 ks ↔ (ks ≡ tokens t) }
 {}
 
-/// The siblings at the front of some tokens come of the first token and the siblings behind it.
+/// The siblings at the front of some tokens come of the first token and the siblings after it.
 #[tactic(auto, using(crate::proofs::All::laws))]
 pub fn siblings_by_token()
     ensures none { (enclosing : Option (List ℕ)) → siblings enclosing [] ≡ no_siblings }
-    ensures step { (enclosing : Option (List ℕ)) (k : Piece) (ks : List Piece) → siblings enclosing (k ∷ ks) ≡ with_token siblings enclosing k ks k.token }
+    ensures step { (enclosing : Option (List ℕ)) (k : PlacedToken) (ks : List PlacedToken) → siblings enclosing (k ∷ ks) ≡ with_token siblings enclosing k ks k.token }
 {}
 
 /// The rules by cases hold of the siblings, and of nothing else.
 #[tactic(auto, using(crate::proofs::All::laws))]
 pub fn siblings_by_rules()
-    ensures { (enclosing : Option (List ℕ)) (ks : List Piece) (s : Siblings) → Makes enclosing ks s ↔ (s ≡ siblings enclosing ks) }
+    ensures { (enclosing : Option (List ℕ)) (ks : List PlacedToken) (s : Siblings) → Makes enclosing ks s ↔ (s ≡ siblings enclosing ks) }
 {}
 
 /// A walk goes along its handles, and below each new one on.
@@ -84,7 +84,7 @@ pub fn fresh_is_clean()
     ensures keys { (t : List ℕ) → HaveOwnKeys (plain (forest (tokens t))) }
 {}
 
-/// In a document just read a child's number is above its parent's, and a tag's descendants are the nodes right behind it.
+/// In a document just read a child's number is above its parent's, and a tag's descendants are the nodes right after it.
 #[tactic(auto, using(crate::proofs::All::laws))]
 pub fn document_order()
     ensures above { (t : List ℕ) (n : ℕ) (own : TagNode) → slice_get (document t).nodes n ≡ Some (Tag own) → All (λ c. n < c) own.children.items }
@@ -104,7 +104,7 @@ pub fn machine_writes_document()
     ensures version { (t : List ℕ) → (run t start (tokens t)).is_html5 ≡ (document t).is_html5 }
 {}
 
-/// Edits behind edits that were done are edits of what those made, their places counted on.
+/// Edits after edits that were done are edits of what those made, their places counted on.
 #[tactic(auto, using(crate::proofs::All::laws))]
 pub fn edits_compose()
     ensures { (cs ds : List Change) (d e : Document) → edited_all cs d ≡ done e → edited_all (cs ++ ds) d ≡ later (length cs) (edited_all ds e) }

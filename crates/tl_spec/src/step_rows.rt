@@ -58,7 +58,7 @@ pub fn other_lines()
     ensures space_for_number { changes_of (codes "push  0 1") ≡ None }
     ensures one_number { changes_of (codes "push 0") ≡ None }
     ensures three_numbers { changes_of (codes "push 0 1 2") ≡ None }
-    ensures space_behind { changes_of (codes "push 0 1 ") ≡ None }
+    ensures space_after { changes_of (codes "push 0 1 ") ≡ None }
     ensures two_spaces { changes_of (codes "push 0  1") ≡ None }
     ensures space_alone { changes_of (codes " ") ≡ None }
 {}

@@ -150,7 +150,7 @@ fn pages_are_printed(rt: HostRuntime) {
     }
 }
 
-// A reader of a text in pieces of three bytes, which may fail behind its end.
+// A reader of a text in pieces of three bytes, which may fail after its end.
 #[derive(Drop)]
 struct Pieces<'a> {
     left: &'a [u8],
@@ -191,7 +191,7 @@ fn prints_pieces(alloc: Global, page: &[u8], fails: bool, wanted: u8, print: &[u
     status == wanted && failed == fails && written.as_slice() == print
 }
 
-// Pages, whether the reader fails behind them, the status, and what is written.
+// Pages, whether the reader fails after them, the status, and what is written.
 const PIECES: &[(&[u8], bool, u8, &[u8])] = &[
     (b"<p>a</p>", false, 0, b"<p>a</p>"),
     (b"<p>a</p>", true, 4, b""),

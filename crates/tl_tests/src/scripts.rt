@@ -28,7 +28,7 @@ fn print(alloc: Global, document: &VDom<'_>, out: &mut String) -> bool {
     }
 }
 
-// Writes what the steps answer on a page, and its print behind them.
+// Writes what the steps answer on a page, and its print after them.
 fn edit(alloc: Global, page: &str, lines: &str, out: &mut String) -> bool {
     match parse(alloc, page, ParserOptions::new()) {
         Ok(mut document) => {

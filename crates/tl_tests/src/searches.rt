@@ -2,7 +2,7 @@
 use tl_base::simd::{
     fallback, find, find_multi, find4, is_closing, matches_case_insensitive, search_non_ident,
 };
-use tl_bytes::runs::{bare_len, blank_len, ident_len, len_until};
+use tl_token::runs::{bare_len, blank_len, ident_len, len_until};
 
 // A search, and what it looks for.
 enum Search {
@@ -83,7 +83,7 @@ fn tells_classes(rt: HostRuntime) {
     }
 }
 
-// How many bytes lie before and behind the hit.
+// How many bytes lie before and after the hit.
 const REACH: usize = 65;
 
 // Bytes of a name with one hit in the middle.

@@ -11,17 +11,17 @@ use tl::{Attributes, Bytes, HTMLTag, Node, NodeHandle, Parser, ParserOptions, VD
 pub enum Look {
     // The print.
     Print,
-    // The nodes, each with a `|` behind it, and the numbers of the top list.
+    // The nodes, each with a `|` after it, and the numbers of the top list.
     Table,
-    // The text of a node, what it holds as markup, and the node as markup; behind a `/` the first two of its tag.
+    // The text of a node, what it holds as markup, and the node as markup; after a `/` the first two of its tag.
     Texts(u32),
-    // What a search below a node for these bytes is shown, and its answer; behind a `/` the same among its children.
+    // What a search below a node for these bytes is shown, and its answer; after a `/` the same among its children.
     Search(u32, &'static str),
     // What stands at a key of the first tag, and whether the key is said to be there.
     Key(&'static str),
     // The number of keys of the first tag, its id and class, and its other keys: how many, and where they lie.
     Measures,
-    // The members of the class of the first tag, each behind a `|`, or `none`.
+    // The members of the class of the first tag, each after a `|`, or `none`.
     Members,
     // Whether the class of the first tag has a member.
     Member(&'static str),

@@ -10,7 +10,7 @@ pub later : (t : List ℕ) (i b n end : ℕ) (pair : Pair) → (b ∷ drop (i + 
     → (pair, drop n t) ≡ attribute (drop i t) → drop end t ≡ past_blanks (drop n t) → i < end
 later t i b n end pair first open_ le within read rest =
     let less : length (attribute (drop i t)).1 < length (drop i t) = rw (← first) (attribute-lt b (drop (i + 1) t) open_) in
-    let behind : length (drop n t) ≡ length (attribute (drop i t)).1 = ap (λ (found : Pair × List ℕ). length found.1) read in
+    let after : length (drop n t) ≡ length (attribute (drop i t)).1 = ap (λ (found : Pair × List ℕ). length found.1) read in
     let blanks : length (drop end t) ≤ length (drop n t) = rw rest (past-le is_blank (drop n t)) in
     let whole = length-drop i t in
     let left = length-drop end t in

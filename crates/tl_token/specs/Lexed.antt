@@ -1,5 +1,5 @@
 -- What a token of the lexer says.
-use Rattle.std.specs.Prelude.{ℕ, Bool, true, false, List, drop, Option, Some, None, ⊤}
+use Rattle.std.specs.Prelude.{ℕ, true, false, List, drop, ⊤}
 use Rattle.tl_spec.specs.Attribute.{Pair, attributes}
 use Rattle.tl_spec.specs.Token.{Token as Meant, Nothing, Text, End, Comment, Doctype, Start, closed}
 use Rattle.tl_token.specs.Span.{bytes_at, IsIn}
@@ -14,18 +14,18 @@ ended name pairs Opens = Start name pairs false
 ended name pairs Alone = Start name pairs true
 ended name pairs Broken = Nothing
 
--- a start tag whose attributes are those at the front of s, and what stands behind it
+-- a start tag whose attributes are those at the front of s, and what stands after it
 abbrev pub tag_of : List ℕ → List ℕ → Meant × List ℕ
 tag_of name s = let a = attributes s in closed name a.0 a.1
 
--- what the token says that stands in t in front of `behind`, and what stands behind it: behind a tag's name and blanks its attributes and its end follow
+-- what the token says that stands in t before the place `end`, and what stands after it: after a tag's name and blanks its attributes and its end follow
 abbrev pub meant : List ℕ → Token → ℕ → Meant × List ℕ
-meant t (TextToken s) behind = (Text (bytes_at t s), drop behind t)
-meant t (EndToken name) behind = (End (bytes_at t name), drop behind t)
-meant t (CommentToken s) behind = (Comment (bytes_at t s), drop behind t)
-meant t (DoctypeToken html) behind = (Doctype html, drop behind t)
-meant t (StartToken name) behind = tag_of (bytes_at t name) (drop behind t)
-meant t NothingToken behind = (Nothing, drop behind t)
+meant t (TextToken s) end = (Text (bytes_at t s), drop end t)
+meant t (EndToken name) end = (End (bytes_at t name), drop end t)
+meant t (CommentToken s) end = (Comment (bytes_at t s), drop end t)
+meant t (DoctypeToken html) end = (Doctype html, drop end t)
+meant t (StartToken name) end = tag_of (bytes_at t name) (drop end t)
+meant t NothingToken end = (Nothing, drop end t)
 
 -- the spans of a token are in the text
 abbrev pub IsTokenIn : List ℕ → Token → Type 0
@@ -35,8 +35,3 @@ IsTokenIn t (CommentToken s) = IsIn t s
 IsTokenIn t (DoctypeToken html) = ⊤
 IsTokenIn t (StartToken name) = IsIn t name
 IsTokenIn t NothingToken = ⊤
-
--- a doctype, of HTML5 or not, or nothing
-abbrev pub doctype_token : Option Bool → Meant
-doctype_token None = Nothing
-doctype_token (Some html) = Doctype html

@@ -6,12 +6,13 @@ ghost use Rattle.tl_spec.specs.Runs.{past};
 ghost use Rattle.tl_spec.specs.Attribute.{value, optional_value, past_end, past_blanks, attribute, attributes, next_attribute};
 ghost use Rattle.tl_token.specs.Span.{bytes_at, optional_bytes_at, pair_at, IsIn, ArePairIn};
 
-use crate::run::{byte_at, from, is_ident, is_quote, past_blanks, split};
+use crate::place::{byte_at, past_blanks, split};
+use crate::runs::{bare_len, ident_len, len_until};
 use crate::span::{AttributeSpan, Span};
-use tl_bytes::runs::{bare_len, ident_len, len_until};
+use tl_bytes::byte_class::is_ident;
 use tl_bytes::simd::is_closing;
 
-/// The name at a place, of a tag or an attribute, and the place behind it and blanks.
+/// The name at a place, of a tag or an attribute, and the place after it and blanks.
 pub fn name(text: &[u8], at: usize) -> (Span, usize)
     requires { at ≤ length text.now }
     ensures bytes { bytes_at text.now result.0 ≡ take_while is_name (drop at text.now) }
@@ -20,8 +21,8 @@ pub fn name(text: &[u8], at: usize) -> (Span, usize)
     ensures order { at ≤ result.1 }
     ensures within { result.1 ≤ length text.now }
 {
-    let (name, behind) = split(text, at, ident_len(from(text, at)));
-    (name, past_blanks(text, behind))
+    let (name, end) = split(text, at, ident_len(&text[at..]));
+    (name, past_blanks(text, end))
 }
 
 // The value at a place, and the place where it ends.
@@ -33,18 +34,12 @@ fn value(text: &[u8], at: usize) -> (Span, usize)
     ensures within { result.1 ≤ length text.now }
 {
     match byte_at(text, at) {
-        None => split(text, at, 0),
-        Some(b) => {
-            if is_quote(b) {
-                split(text, at + 1, len_until(from(text, at + 1), b))
-            } else {
-                split(text, at, bare_len(from(text, at)))
-            }
-        }
+        Some(b) if b == b'"' || b == b'\'' => split(text, at + 1, len_until(&text[at + 1..], b)),
+        _ => split(text, at, bare_len(&text[at..])),
     }
 }
 
-// The value behind `=` and blanks, if `=` stands at a place, and the place where it ends.
+// The value after `=` and blanks, if `=` stands at a place, and the place where it ends.
 fn optional_value(text: &[u8], at: usize) -> (Option<Span>, usize)
     requires { at ≤ length text.now }
     ensures read { (optional_bytes_at text.now result.0, drop result.1 text.now) ≡ optional_value (drop at text.now) }
@@ -61,7 +56,7 @@ fn optional_value(text: &[u8], at: usize) -> (Option<Span>, usize)
     }
 }
 
-// The place behind the end of an attribute: one byte is passed over, unless it is `>` or of a name.
+// The place after the end of an attribute: one byte is passed over, unless it is `>` or of a name.
 fn past_end(text: &[u8], at: usize) -> usize
     requires { at ≤ length text.now }
     ensures rest { drop result text.now ≡ past_end (drop at text.now) }
@@ -69,12 +64,12 @@ fn past_end(text: &[u8], at: usize) -> usize
     ensures within { result ≤ length text.now }
 {
     match byte_at(text, at) {
-        None => at,
-        Some(b) => { if b == b'>' || is_ident(b) { at } else { at + 1 } }
+        Some(b) if b != b'>' && !is_ident(b) => at + 1,
+        _ => at,
     }
 }
 
-// The attribute at a place, and the place behind it.
+// The attribute at a place, and the place after it.
 fn attribute(text: &[u8], at: usize) -> (AttributeSpan, usize)
     requires { at ≤ length text.now }
     ensures read { (pair_at text.now result.0, drop result.1 text.now) ≡ attribute (drop at text.now) }
@@ -82,12 +77,12 @@ fn attribute(text: &[u8], at: usize) -> (AttributeSpan, usize)
     ensures order { at ≤ result.1 }
     ensures within { result.1 ≤ length text.now }
 {
-    let (key, behind) = name(text, at);
-    let (value, end) = optional_value(text, behind);
+    let (key, after_key) = name(text, at);
+    let (value, end) = optional_value(text, after_key);
     (AttributeSpan { key, value }, past_end(text, end))
 }
 
-/// The attribute at a place, and the place behind it and blanks; none at `/`, `>` or the end.
+/// The attribute at a place, and the place after it and blanks; none at `/`, `>` or the end.
 pub fn next_attribute(text: &[u8], at: usize) -> Option<(AttributeSpan, usize)>
     requires { at ≤ length text.now }
     ensures read { option_map (λ found. (pair_at text.now found.0, drop found.1 text.now)) result ≡ next_attribute (drop at text.now) }

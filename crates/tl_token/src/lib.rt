@@ -3,7 +3,8 @@
 
 pub mod attribute;
 pub mod names;
-mod run;
+mod place;
+pub mod runs;
 pub mod span;
 pub mod tag;
 pub mod token;

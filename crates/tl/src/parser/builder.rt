@@ -45,7 +45,7 @@ pub(crate) struct TableBuilder<'a> {
 }
 
 impl<'a> TableBuilder<'a> {
-    ghost use Rattle.tl.specs.Builder.{state_of, with_tag, with_whole, piece_of, piece_at, written, HasRoom, AreHeld};
+    ghost use Rattle.tl.specs.Builder.{state_of, with_tag, with_whole, placed, piece_at, written, HasRoom, AreHeld};
 
     // An empty table.
     fn new(alloc: Global) -> Self
@@ -165,7 +165,7 @@ impl<'a> TableBuilder<'a> {
         requires within { at ≤ length (S.text source.now) }
         requires name { IsIn (S.text source.now) name }
         requires room { HasRoom self.old }
-        ensures ok { IfOk result (λ to. state_of self.new ≡ step (S.text source.now) (state_of self.old) (piece_of (S.text source.now) (Token.Start name) at start to)) }
+        ensures ok { IfOk result (λ to. state_of self.new ≡ step (S.text source.now) (state_of self.old) (placed (S.text source.now) (Token.Start name) at start to)) }
         ensures rest { IfOk result (λ to. drop to (S.text source.now) ≡ (tag_of (bytes_at (S.text source.now) name) (drop at (S.text source.now))).1) }
         ensures held { OnOk result (AreHeld S.held self.old → AreHeld S.held self.new) }
         ensures order { IfOk result (λ to. start < to) }
@@ -254,7 +254,7 @@ impl<'a> TableBuilder<'a> {
         requires within { after ≤ length (S.text source.now) }
         requires spans { IsTokenIn (S.text source.now) token }
         requires room { HasRoom self.old }
-        ensures ok { IfOk result (λ to. state_of self.new ≡ step (S.text source.now) (state_of self.old) (piece_of (S.text source.now) token after start to)) }
+        ensures ok { IfOk result (λ to. state_of self.new ≡ step (S.text source.now) (state_of self.old) (placed (S.text source.now) token after start to)) }
         ensures rest { IfOk result (λ to. drop to (S.text source.now) ≡ (meant (S.text source.now) token after).1) }
         ensures held { OnOk result (AreHeld S.held self.old → AreHeld S.held self.new) }
         ensures order { IfOk result (λ to. start < to) }

@@ -85,12 +85,12 @@ impl<A: Drop, B: Drop> TagOf<A, B> {
 
 impl<A, B> TagOf<A, B> {
     ghost use Rattle.std.specs.Borrow.{sem};
-    ghost use Rattle.tl_inline.specs.InlineVec.{pushed};
+    ghost use Rattle.tl_spec.specs.Inline.{room, with_last};
     ghost use Rattle.tl.specs.TagLends.{LendsName, LendsAttributes, LendsChildren};
 
     // Makes `child` the last child.
     pub(crate) fn push_child(&mut self, child: NodeHandle) -> Result<(), AllocError>
-        ensures ok { OnOk result (self.new ≡ record self.old { children = pushed 2 self.old.children child }) }
+        ensures ok { OnOk result (self.new ≡ record self.old { children = with_last room self.old.children child }) }
         ensures err { OnErr result (self.new ≡ self.old) }
     {
         self.parts.children.push(child).map_err(|_| AllocError)

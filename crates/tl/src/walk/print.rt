@@ -8,9 +8,9 @@ ghost use Rattle.tl_spec.specs.Clean.{HaveOwnKeys, IsCleanTable, MeetsOwnKeys, N
 ghost use Rattle.tl_spec.specs.Document.{Tag};
 ghost use Rattle.tl_spec.specs.Normal.{ReadsAs};
 ghost use Rattle.tl_spec.specs.Print.{outer_html, inner_html, document_print, print, print_value, print_pairs, print_start, print_end, printed};
-ghost use Rattle.tl_spec.specs.Walk.{every, fault_among, first_fault, plain_attributes, plain_node, shows, trees, walk, walk_of};
+ghost use Rattle.tl_spec.specs.Walk.{every, fault_among, first_fault, plain_node, shows, trees, walk, walk_of};
 ghost use Rattle.tl.specs.Shown.{shown, shown_tag, document_of};
-ghost use Rattle.tl_attributes.specs.ShownAttributes.{shown_attributes, shown_value};
+ghost use Rattle.tl_attributes.specs.ShownAttributes.{plain, shown_value};
 ghost use Rattle.tl.specs.Answer.{Answers};
 ghost use Rattle.tl.specs.Walker.{IsMarked, left, shown_event};
 ghost use Rattle.tl.specs.Writing.{Writes};
@@ -57,9 +57,9 @@ fn write_pair(key: &[u8], value: Option<&Bytes<'_>>, out: &mut String) -> Result
 // Writes all pairs in order.
 #[tactic(auto, using(crate::proofs::OwnKeys::own_keys))]
 fn write_pairs(attributes: &Attributes<'_>, out: &mut String) -> Result<(), TreeError>
-    ensures ok { OnOk result (string_bytes out.new ≡ string_bytes out.old ++ print_pairs (printed_pairs (plain_attributes (shown_attributes attributes.now)))) }
+    ensures ok { OnOk result (string_bytes out.new ≡ string_bytes out.old ++ print_pairs (printed_pairs (plain attributes.now))) }
     ensures err { IfErr result (λ e. e ≡ TreeError.OutOfMemory) }
-    ensures own { HasOwnKeys (plain_attributes (shown_attributes attributes.now)) }
+    ensures own { HasOwnKeys (plain attributes.now) }
 {
     for pair in attributes.iter() {
         write_pair(pair.0.as_bytes(), pair.1, out)?;

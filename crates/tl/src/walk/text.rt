@@ -1,7 +1,7 @@
 //! Texts.
 ghost use Rattle.std.specs.Prelude.{◌≡◌, ◌++◌, map, flat_map, OnOk, IfErr, string_bytes};
 ghost use Rattle.tl_spec.specs.Document.{Tag};
-ghost use Rattle.tl_spec.specs.Text.{inner_text, text_of, told};
+ghost use Rattle.tl_spec.specs.Text.{inner_text, text_of, event_text};
 ghost use Rattle.tl_spec.specs.Walk.{every, fault_among, first_fault, trees, walk_of};
 ghost use Rattle.tl.specs.Shown.{shown, shown_tag};
 ghost use Rattle.tl.specs.Answer.{Answers};
@@ -17,8 +17,8 @@ use crate::walk::{Entered, Event, Walker};
 use std::alloc::Global;
 
 // Writes the text of a node that is met: that of a text alone.
-fn write_told<'s, 'a>(event: Event<'s, 'a>, out: &mut String) -> Result<(), TreeError>
-    ensures ok { OnOk result (string_bytes out.new ≡ string_bytes out.old ++ told (shown_event event.entry)) }
+fn write_event<'s, 'a>(event: Event<'s, 'a>, out: &mut String) -> Result<(), TreeError>
+    ensures ok { OnOk result (string_bytes out.new ≡ string_bytes out.old ++ event_text (shown_event event.entry)) }
     ensures err { IfErr result (λ e. e ≡ TreeError.OutOfMemory) }
 {
     match event {
@@ -33,11 +33,11 @@ fn write_told<'s, 'a>(event: Event<'s, 'a>, out: &mut String) -> Result<(), Tree
 fn write_texts<'s, 'a>(mut walker: Walker<'s, 'a>, out: &mut String) -> Result<(), TreeError>
     requires { IsMarked walker }
     ensures { let es = left walker.entry in
-        Writes (fault_among es) (flat_map told es) (string_bytes out.old) result (string_bytes out.new) }
+        Writes (fault_among es) (flat_map event_text es) (string_bytes out.old) result (string_bytes out.new) }
 {
     loop {
         match walker.next_event() {
-            Ok(Some(event)) => write_told(event, out)?,
+            Ok(Some(event)) => write_event(event, out)?,
             Ok(None) => return Ok(()),
             Err(error) => return Err(error),
         }
@@ -59,7 +59,7 @@ fn write_text_of<'s, 'a>(
 }
 
 impl<'a> HTMLTag<'a> {
-    /// The texts below the tag by the table of `parser`, one behind the other in the order of the walk. Comments give none.
+    /// The texts below the tag by the table of `parser`, in the order of the walk. Comments give none.
     pub fn inner_text(&self, alloc: Global, parser: &Parser<'a>) -> Result<String, TreeError>
         ensures { Answers (inner_text (map shown parser.now.nodes) (Tag (shown_tag self.now))) result }
     {
@@ -70,7 +70,7 @@ impl<'a> HTMLTag<'a> {
 }
 
 impl<'a> Node<'a> {
-    /// The texts at or below the node by the table of `parser`, one behind the other in the order of the walk. Comments give none.
+    /// The texts at or below the node by the table of `parser`, in the order of the walk. Comments give none.
     pub fn inner_text(&self, alloc: Global, parser: &Parser<'a>) -> Result<String, TreeError>
         ensures { Answers (inner_text (map shown parser.now.nodes) (shown self.now)) result }
     {

@@ -178,9 +178,8 @@ impl<'a> Bytes<'a> {
     {
         let vec = value.into_bytes(alloc)?;
         match mem::replace(&mut self.repr, Repr::Owned(vec)) {
-            Repr::Borrowed(_) => Ok(None),
             Repr::Owned(old) => Ok(Some(old)),
-            Repr::Shared(_) => Ok(None),
+            Repr::Borrowed(_) | Repr::Shared(_) => Ok(None),
         }
     }
 }

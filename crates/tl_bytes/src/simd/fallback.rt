@@ -1,7 +1,8 @@
 //! The searches in their plain form, byte by byte.
 ghost use Rattle.std.specs.Prelude.{◌≡◌, ◌==◌};
-ghost use Rattle.tl_spec.specs.ByteClass.{is_ident};
 ghost use Rattle.tl_bytes.specs.Search.{first, is_one_of, is_not_ident};
+
+use crate::byte_class::is_ident;
 
 /// The first place of `haystack` that holds `needle`.
 pub fn find(haystack: &[u8], needle: u8) -> Option<usize>
@@ -17,18 +18,11 @@ pub fn find_multi<const N: usize>(haystack: &[u8], needle: [u8; N]) -> Option<us
     find_any(haystack, &needle)
 }
 
+// The same of any number of needles: a closure in a function generic in `N` would need clauses of its own.
 fn find_any(haystack: &[u8], needles: &[u8]) -> Option<usize>
     ensures { result ≡ first (is_one_of needles.now) haystack.now }
 {
-    haystack.iter().position(|b| is_one_of(needles, *b))
-}
-
-// Whether the byte is one of the needles.
-#[inline]
-fn is_one_of(needles: &[u8], byte: u8) -> bool
-    ensures { result ≡ is_one_of needles.now byte }
-{
-    needles.contains(&byte)
+    haystack.iter().position(|b| needles.contains(b))
 }
 
 /// The first place of `haystack` that holds no byte of a name.
@@ -36,23 +30,4 @@ pub fn search_non_ident(haystack: &[u8]) -> Option<usize>
     ensures { result ≡ first is_not_ident haystack.now }
 {
     haystack.iter().position(|b| !is_ident(*b))
-}
-
-// Each byte of a name stands at its own place, and a comma, which no name holds, at every other.
-static IDENT_BYTES: [u8; 256] = *b"\
-    ,,,,,,,,,,,,,,,,,,,,,,,,,,,,,,,,\
-    ,,,,,,,,,,,+,-,/0123456789:,,,,,\
-    ,ABCDEFGHIJKLMNOPQRSTUVWXYZ,,,,_\
-    ,abcdefghijklmnopqrstuvwxyz,,,,,\
-    ,,,,,,,,,,,,,,,,,,,,,,,,,,,,,,,,\
-    ,,,,,,,,,,,,,,,,,,,,,,,,,,,,,,,,\
-    ,,,,,,,,,,,,,,,,,,,,,,,,,,,,,,,,\
-    ,,,,,,,,,,,,,,,,,,,,,,,,,,,,,,,,";
-
-// Whether a name may hold this byte.
-#[inline]
-fn is_ident(byte: u8) -> bool
-    ensures { result ≡ is_ident byte }
-{
-    IDENT_BYTES[byte as usize] != b','
 }

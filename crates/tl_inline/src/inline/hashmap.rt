@@ -7,9 +7,8 @@ ghost use Rattle.std.specs.Map.{lookup, keys_of, values_of};
 ghost use Rattle.std.specs.Option.{option_copied, option_copied_mut};
 ghost use Rattle.std.specs.Borrow.{sem};
 ghost use Rattle.std.specs.Map.Iter.{deref_pair, ShowsInOrder};
-ghost use Rattle.indexmap.specs.IndexMap.{swap_remove_entry};
+ghost use Rattle.tl_spec.specs.Inline.{with_entry, without_key};
 ghost use Rattle.tl_inline.specs.InlineVec.{ClonesAreEqual};
-ghost use Rattle.tl_inline.specs.InlineMap.{inserted};
 
 mod held;
 mod iter;
@@ -44,11 +43,11 @@ impl<K: Eq + Hash, V, const N: usize> Model for InlineHashMap<K, V, N> {
 
     ghost coded = { inline_map_code K.code V.code };
 
-    ghost use Rattle.tl_inline.specs.HeldPairs.{held_view, held_entries};
+    ghost use Rattle.tl_inline.specs.HeldPairs.{held_view};
 
     ghost view = { λ m. held_view m.held };
 
-    ghost invariant = { λ m. IsDistinct K.eq (keys_of (held_entries m.held)) };
+    ghost invariant = { λ m. IsDistinct K.eq (keys_of (held_view m.held).entries) };
 }
 
 impl<K: Eq + Hash, V, const N: usize> InlineHashMap<K, V, N> {
@@ -175,7 +174,7 @@ impl<K: Default + Eq + Hash + Drop, V: Default + Drop, const N: usize> InlineHas
     /// Puts `value` at `key`. A key that is there keeps its place, and the old key stays; a new one goes last.
     /// Where memory is refused it hands the pair back, and the map is as it was.
     pub fn insert(&mut self, key: K, value: V) -> Result<(), (K, V)>
-        ensures ok { OnOk result (self.new ≡ inserted K.eq N self.old key value) }
+        ensures ok { OnOk result (self.new ≡ with_entry K.eq N self.old key value) }
         ensures err { OnErr result (self.new ≡ self.old) }
         ensures returned { IfErr result (λ pair. pair ≡ (key, value)) }
 
@@ -212,8 +211,7 @@ impl<K: Default + Eq + Hash + Drop, V: Default + Drop, const N: usize> InlineHas
     /// Removes `key` and returns its value. The last pair moves into the place. Where the pairs lie stays.
     pub fn remove(&mut self, key: &K) -> Option<V>
         ensures value { result ≡ lookup (K.eq key.now) self.old.entries }
-        ensures entries { self.new.entries ≡ swap_remove_entry (K.eq key.now) self.old.entries }
-        ensures on_heap { self.new.on_heap ≡ self.old.on_heap }
+        ensures left { self.new ≡ without_key K.eq self.old key.now }
     {
         match &mut self.held {
             HeldPairs::Inline(inline) => remove_inline(inline, key),

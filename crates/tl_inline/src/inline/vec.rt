@@ -1,10 +1,11 @@
 //! `InlineVec`: a vector that keeps up to `N` items in the value itself.
-ghost use Rattle.std.specs.Prelude.{◌^◌, not, is_some, ◌≡◌, ◌<◌, ◌≤◌, ◌↔◌, false, [], length, Some, slice_get, slice_index_or, remove, IsTrue, IsOk, IsSome, IfSome, IfOk, IfErr, OnOk, OnErr};
+ghost use Rattle.std.specs.Prelude.{◌^◌, not, is_some, ◌≡◌, ◌<◌, ◌≤◌, ◌↔◌, false, [], length, Some, slice_get, slice_index_or, IsTrue, IsOk, IsSome, IfSome, IfOk, IfErr, OnOk, OnErr};
 ghost use Rattle.std.specs.List.{IsItemAtMut};
 ghost use Rattle.std.specs.Option.{option_copied};
 ghost use Rattle.std.specs.Borrow.{sem};
 ghost use Rattle.std.specs.Map.Iter.{deref, ShowsInOrder};
-ghost use Rattle.tl_inline.specs.InlineVec.{pushed, ClonesAreEqual};
+ghost use Rattle.tl_spec.specs.Inline.{with_last, without_item};
+ghost use Rattle.tl_inline.specs.InlineVec.{ClonesAreEqual};
 
 mod held;
 mod iter;
@@ -149,7 +150,7 @@ impl<T: Default, const N: usize> InlineVec<T, N> {
 impl<T: Default + Drop, const N: usize> InlineVec<T, N> {
     /// Appends `item`. Where memory is refused it hands the item back, and the vector is as it was.
     pub fn push(&mut self, item: T) -> Result<(), T>
-        ensures ok { OnOk result (self.new ≡ pushed N self.old item) }
+        ensures ok { OnOk result (self.new ≡ with_last N self.old item) }
         ensures err { OnErr result (self.new ≡ self.old) }
         ensures returned { IfErr result (λ back. back ≡ item) }
 
@@ -183,8 +184,7 @@ impl<T: Default + Drop, const N: usize> InlineVec<T, N> {
     pub fn remove(&mut self, index: usize) -> T
         requires { index < length self.old.items }
         ensures value { slice_get self.old.items index ≡ Some result }
-        ensures items { self.new.items ≡ remove self.old.items index }
-        ensures on_heap { self.new.on_heap ≡ self.old.on_heap }
+        ensures left { self.new ≡ without_item self.old index }
     {
         match &mut self.held {
             HeldItems::Inline(inline) => inline.remove(index),

@@ -1,3 +1,4 @@
+//! What a command writes of a text.
 ghost use Rattle.std.specs.Prelude.{map};
 ghost use Rattle.tl_spec.specs.Edit.{edited_all};
 ghost use Rattle.tl.specs.Answer.{Answers};
@@ -24,16 +25,14 @@ fn text_at(alloc: Global, handle: NodeHandle, parser: &Parser<'_>) -> Result<Str
     }
 }
 
-// The texts of the top nodes, one behind the other.
+// The texts of the top nodes, joined in order.
 fn texts(alloc: Global, document: &VDom<'_>) -> Result<String, TreeError>
     ensures { Answers (texts_of (document_of document.now)) result }
 {
     let mut all = String::new(alloc);
     for handle in document.children() {
-        match text_at(alloc, *handle, document.parser()) {
-            Ok(text) => all.push_str(text.as_str())?,
-            Err(error) => return Err(error),
-        }
+        let text = text_at(alloc, *handle, document.parser())?;
+        all.push_str(text.as_str())?;
     }
     Ok(all)
 }
@@ -42,10 +41,8 @@ fn texts(alloc: Global, document: &VDom<'_>) -> Result<String, TreeError>
 fn edited(alloc: Global, document: &mut VDom<'_>, steps: &[Step<'_>]) -> Result<String, Failure>
     ensures { Gives (outcome_of_edited (edited_all (map change_of steps.now) (document_of document.old))) result }
 {
-    match script::run(alloc, document, steps) {
-        Ok(()) => Ok(document.outer_html(alloc)?),
-        Err((_, error)) => Err(Failure::from(error)),
-    }
+    script::run(alloc, document, steps).map_err(|(_, error)| error)?;
+    Ok(document.outer_html(alloc)?)
 }
 
 // What a command writes of a document, which it may edit.

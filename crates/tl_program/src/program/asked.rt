@@ -1,3 +1,4 @@
+//! What the program is asked for.
 use crate::script::Step;
 
 /// What the program is asked for.
@@ -5,7 +6,7 @@ use crate::script::Step;
 pub enum Command<'c> {
     /// The document of the input, printed.
     Print,
-    /// The texts of the document's top nodes, one behind the other.
+    /// The texts of the document's top nodes, joined in order.
     Text,
     /// The document after these steps, printed.
     Edit(Vec<Step<'c>>),

@@ -1,7 +1,11 @@
+//! Why a command is not carried out.
 ghost use Rattle.std.specs.Prelude.{◌≡◌};
+ghost use Rattle.tl_program.specs.declared.program.failure.Failure.TheVariants.{OutOfMemory as NoMemory, Fault as StreamFault};
 ghost use Rattle.tl_program.specs.Failure.{failure_of_parse, failure_of_step, failure_of_tree};
 
+use super::fault::Fault;
 use crate::script::StepError;
+use std::alloc::AllocError;
 use tl::ParseError;
 use tl::errors::TreeError;
 
@@ -12,10 +16,26 @@ pub enum Failure {
     Refused = 1,
     /// The input is no text, or one that is too long.
     NotUnderstood = 2,
-    /// No memory was found.
+    /// Memory ran out.
     OutOfMemory = 3,
     /// A read or a write failed.
     Fault = 4,
+}
+
+impl From<AllocError> for Failure {
+    ghost from_gives = { λ _ failure. failure ≡ NoMemory };
+
+    fn from(_: AllocError) -> Self {
+        Failure::OutOfMemory
+    }
+}
+
+impl From<Fault> for Failure {
+    ghost from_gives = { λ _ failure. failure ≡ StreamFault };
+
+    fn from(_: Fault) -> Self {
+        Failure::Fault
+    }
 }
 
 impl From<ParseError> for Failure {

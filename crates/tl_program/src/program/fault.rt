@@ -1,3 +1,4 @@
+//! What is read from and written to, and how either fails.
 ghost use Rattle.std.specs.Prelude.{◌≡◌, ℕ, Bool, List, Option, length, ◌<◌, ◌||◌, is_err, IfOk};
 ghost use Rattle.std.specs.Io.{ReadsAtMost, WritesAtMost};
 ghost use Rattle.std.specs.Io.KnownBytes.{Keeps, ReadConsumes, WriteAppends};

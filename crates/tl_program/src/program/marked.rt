@@ -1,3 +1,4 @@
+//! Readers and writers that remember a failure.
 ghost use Rattle.std.specs.Prelude.{◌≡◌, true, false, Bool};
 
 mod input;

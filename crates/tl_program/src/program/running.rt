@@ -1,3 +1,4 @@
+//! A run of the program: it reads all, makes the output, and writes it.
 ghost use Rattle.std.specs.Prelude.{◌≡◌, ◌≢◌, ◌≤◌, ◌<◌, ◌==◌, true, false, ◌||◌, is_err, IfOk, IfErr, IfSome, OnOk, OnErr};
 ghost use Rattle.std.specs.Io.KnownBytes.{Keeps, Appends, IsAtEnd};
 ghost use Rattle.tl_program.specs.Asked.{asked_of};
@@ -20,15 +21,11 @@ fn read_all<R: Input>(alloc: Global, reader: &mut R) -> Result<Vec<u8>, Failure>
     let mut all = Vec::new(alloc);
     let mut buffer = [0u8; 4096];
     loop {
-        match reader.read(&mut buffer) {
-            Ok(0) => return Ok(all),
-            Ok(n) => {
-                if all.extend_from_slice(&buffer[..n]).is_err() {
-                    return Err(Failure::OutOfMemory);
-                }
-            }
-            Err(Fault) => return Err(Failure::Fault),
+        let n = reader.read(&mut buffer)?;
+        if n == 0 {
+            return Ok(all);
         }
+        all.extend_from_slice(&buffer[..n])?;
     }
 }
 
@@ -40,10 +37,7 @@ fn write_all<W: Output>(writer: &mut W, bytes: &[u8]) -> Result<(), Fault>
 {
     let mut done = 0;
     while done < bytes.len() {
-        match writer.write(&bytes[done..]) {
-            Ok(n) => done += n,
-            Err(fault) => return Err(fault),
-        }
+        done += writer.write(&bytes[done..])?;
     }
     Ok(())
 }
@@ -71,8 +65,8 @@ fn output(alloc: Global, command: &Command<'_>, input: &[u8]) -> Result<String, 
 /// Runs a command on what the reader has left, writes what it gives, and answers the status.
 ///
 /// It is 0 where all is done, 1 where the tree has a fault or a step is refused, 2 where the input is no text or too
-/// long, 3 where no memory is found, and 4 where a read or a write failed. The output is made whole before the first
-/// write, and flushed once behind the last. A fault is that of the tree after the steps; below a refused step nothing
+/// long, 3 where memory runs out, and 4 where a read or a write failed. The output is made whole before the first
+/// write, and flushed once after the last. A fault is that of the tree after the steps; after a refused step nothing
 /// is looked at.
 pub fn run<R: Input, W: Output>(
     alloc: Global,

@@ -1,3 +1,4 @@
+//! The line of each status.
 ghost use Rattle.std.specs.Prelude.{◌≡◌};
 ghost use Rattle.tl_program.specs.Status.{line_of};
 

@@ -1,3 +1,4 @@
+//! The command that words say.
 ghost use Rattle.std.specs.Prelude.{◌≡◌, IfOk, map, string_bytes};
 ghost use Rattle.std.specs.Option.{option_map};
 ghost use Rattle.tl_program.specs.Asked.{asked_of, asked_by, asked_by_one, asked_by_two};
@@ -19,21 +20,18 @@ fn of_one<'c>(word: &str) -> Option<Command<'c>>
     }
 }
 
-// The command of a word and a text behind it.
+// The command of a word and a text after it.
 fn of_two<'c>(alloc: Global, word: &str, text: &'c str) -> Result<Option<Command<'c>>, AllocError>
     ensures { IfOk result (λ c. option_map asked_of c ≡ asked_by_two word.now text.now) }
 {
     if word == "edit" {
-        match steps(alloc, text)? {
-            Some(steps) => Ok(Some(Command::Edit(steps))),
-            None => Ok(None),
-        }
+        Ok(steps(alloc, text)?.map(Command::Edit))
     } else {
         Ok(None)
     }
 }
 
-/// The command that the words say, or None where they say none: `print`, `text`, or `edit` and behind it a text of
+/// The command that the words say, or None where they say none: `print`, `text`, or `edit` and after it a text of
 /// step lines.
 pub fn command<'c>(alloc: Global, words: &'c [String]) -> Result<Option<Command<'c>>, AllocError>
     ensures { IfOk result (λ c. option_map asked_of c ≡ asked_by (map string_bytes words.now)) }

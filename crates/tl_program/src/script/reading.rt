@@ -1,41 +1,30 @@
+//! Steps read from text, one on each line.
 ghost use Rattle.std.specs.Prelude.{◌≡◌, ◌==◌, slice_index, ◌∷◌, ◌<◌, length, IfOk, IfSome, map};
 ghost use Rattle.std.specs.Option.{option_map};
 ghost use Rattle.std.specs.List.{slice_split};
-ghost use Rattle.tl_spec.specs.StepLine.{is_line_feed, number_of, first_word, behind_word, change_by_word, change_of_line, changes_of};
+ghost use Rattle.tl_spec.specs.StepLine.{is_line_feed, number_of, first_word, after_word, change_by_word, change_of_line, changes_of};
 ghost use Rattle.tl_program.specs.Steps.{change_of, change_of_text, change_of_numbers, lines_left};
 
 use super::step::Step;
 use std::alloc::{AllocError, Global};
 
-// Whether a sign stands first, which `parse` would take.
-fn starts_with_plus(digits: &str) -> bool
-    ensures { result ≡ (slice_index digits.now 0 == 43) }
-{
-    match digits.as_bytes() {
-        [first, ..] => *first == b'+',
-        [] => false,
-    }
-}
-
 // The number that digits write, if it fits.
 fn number(digits: &str) -> Option<u32>
     ensures { result ≡ number_of digits.now }
 {
-    if starts_with_plus(digits) {
+    // `parse` would take a sign.
+    if digits.starts_with('+') {
         return None;
     }
     digits.parse::<u32>().ok()
 }
 
-// What stands before the first space, and what stands behind it.
+// What stands before the first space, and what stands after it.
 fn cut<'s>(text: &'s str) -> (&'s str, &'s str)
     ensures first { result.0.now ≡ first_word text.now }
-    ensures rest { result.1.now ≡ behind_word text.now }
+    ensures rest { result.1.now ≡ after_word text.now }
 {
-    match text.split_once(' ') {
-        Some(parts) => parts,
-        None => (text, ""),
-    }
+    text.split_once(' ').unwrap_or((text, ""))
 }
 
 // The step that a word says of a number and a text, if it is one of such a step.
@@ -77,7 +66,7 @@ fn of_numbers<'s>(word: &str, first: u32, second: u32) -> Option<Step<'s>>
     }
 }
 
-// The step that the first word of a line and what stands behind it say.
+// The step that the first word of a line and what stands after it say.
 fn by_word<'s>(word: &str, rest: &'s str) -> Option<Step<'s>>
     ensures { option_map change_of result ≡ change_by_word word.now rest.now }
 {
@@ -97,7 +86,7 @@ fn step<'s>(line: &'s str) -> Option<Step<'s>>
     by_word(word, rest)
 }
 
-// The first line, and what stands behind its line feed, if it has one.
+// The first line, and what stands after its line feed, if it has one.
 fn cut_line<'s>(text: &'s str) -> (&'s str, Option<&'s str>)
     ensures lines { slice_split is_line_feed text.now ≡ result.0.now ∷ lines_left result.1 }
     ensures shorter { IfSome result.1 (λ more. length more.now < length text.now) }
@@ -110,7 +99,7 @@ fn cut_line<'s>(text: &'s str) -> (&'s str, Option<&'s str>)
 
 /// The steps that a text says, one a line, or None where a line is of none of the forms. Empty lines are passed over.
 ///
-/// A line is a word, and behind a space each what the table says. A number is one or more decimal digits of a value of
+/// A line is a word, and after a space each what the table says. A number is one or more decimal digits of a value of
 /// at most 4294967295. What stands last in a line runs to its end, spaces and a carriage return included, and is empty
 /// where the line ends before its space.
 ///

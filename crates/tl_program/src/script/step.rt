@@ -1,3 +1,9 @@
+//! Steps, each of which is an edit of a document, and why one is refused.
+ghost use Rattle.std.specs.Prelude.{◌≡◌};
+ghost use Rattle.tl_program.specs.declared.script.step.StepError.TheVariants.{OutOfMemory as StepMemory};
+
+use std::alloc::AllocError;
+
 /// One edit of a document. A number is that of a node, or the place of a child or of a top node, counted from 0.
 #[derive(Clone, Copy, PartialEq, Eq, Debug)]
 pub enum Step<'s> {
@@ -32,6 +38,14 @@ pub enum StepError {
     NotTag,
     /// The list has no such place.
     NoPlace,
-    /// No memory was found.
+    /// Memory ran out.
     OutOfMemory,
+}
+
+impl From<AllocError> for StepError {
+    ghost from_gives = { λ _ e. e ≡ StepMemory };
+
+    fn from(_: AllocError) -> Self {
+        StepError::OutOfMemory
+    }
 }

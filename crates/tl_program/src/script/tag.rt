@@ -1,12 +1,12 @@
 //! Steps on a tag.
-ghost use Rattle.std.specs.Prelude.{◌≡◌, ◌<◌, length, remove, OnOk, OnErr};
+ghost use Rattle.std.specs.Prelude.{◌≡◌, ◌<◌, length, OnOk, OnErr};
 ghost use Rattle.tl_bytes.specs.Held.{as_owned};
-ghost use Rattle.tl_inline.specs.InlineVec.{pushed};
-ghost use Rattle.tl_spec.specs.Edit.{with_attribute, without_attribute, without_value, pushed as pushed_handle, pulled, on_ok};
+ghost use Rattle.tl_spec.specs.Inline.{room, with_last, without_item};
+ghost use Rattle.tl_spec.specs.Edit.{with_attribute, without_attribute, without_value, without_handle, on_ok};
 ghost use Rattle.tl_program.specs.Script.{ChangesTag};
 
 use crate::script::step::StepError;
-use std::alloc::Global;
+use std::alloc::{AllocError, Global};
 use tl::{HTMLTag, NodeHandle, TagOf};
 use tl_bytes::byte_string::copied;
 
@@ -18,10 +18,7 @@ pub(super) fn set_name<'a>(
 ) -> Result<(), StepError>
     ensures { ChangesTag (λ own. Ok (record own { name = name.now })) tag.old tag.new result }
 {
-    let Ok(name) = copied(alloc, name) else {
-        return Err(StepError::OutOfMemory);
-    };
-    *tag.name_mut() = name;
+    *tag.name_mut() = copied(alloc, name)?;
     Ok(())
 }
 
@@ -32,18 +29,12 @@ pub(super) fn set_value<'a>(
     key: &[u8],
     value: &[u8],
 ) -> Result<(), StepError>
-    ensures { ChangesTag (λ own. Ok (record own { attributes = with_attribute key.now (Some value.now) own.attributes })) tag.old tag.new result }
+    ensures { ChangesTag (λ own. Ok (record own { attributes = with_attribute own.attributes key.now (Some value.now) })) tag.old tag.new result }
 {
-    let Ok(key) = copied(alloc, key) else {
-        return Err(StepError::OutOfMemory);
-    };
-    let Ok(value) = copied(alloc, value) else {
-        return Err(StepError::OutOfMemory);
-    };
-    match tag.attributes_mut().insert(key, Some(value)) {
-        Ok(()) => Ok(()),
-        Err(_) => Err(StepError::OutOfMemory),
-    }
+    let key = copied(alloc, key)?;
+    let value = copied(alloc, value)?;
+    tag.attributes_mut().insert(key, Some(value))?;
+    Ok(())
 }
 
 // Puts a key without a value.
@@ -52,15 +43,11 @@ pub(super) fn set_flag<'a>(
     tag: &mut HTMLTag<'a>,
     key: &[u8],
 ) -> Result<(), StepError>
-    ensures { ChangesTag (λ own. Ok (record own { attributes = with_attribute key.now None own.attributes })) tag.old tag.new result }
+    ensures { ChangesTag (λ own. Ok (record own { attributes = with_attribute own.attributes key.now None })) tag.old tag.new result }
 {
-    let Ok(key) = copied(alloc, key) else {
-        return Err(StepError::OutOfMemory);
-    };
-    match tag.attributes_mut().insert(key, None) {
-        Ok(()) => Ok(()),
-        Err(_) => Err(StepError::OutOfMemory),
-    }
+    let key = copied(alloc, key)?;
+    tag.attributes_mut().insert(key, None)?;
+    Ok(())
 }
 
 // Takes a key out.
@@ -69,11 +56,9 @@ pub(super) fn remove_key<'a>(
     tag: &mut HTMLTag<'a>,
     key: &[u8],
 ) -> Result<(), StepError>
-    ensures { ChangesTag (λ own. Ok (record own { attributes = without_attribute key.now own.attributes })) tag.old tag.new result }
+    ensures { ChangesTag (λ own. Ok (record own { attributes = without_attribute own.attributes key.now })) tag.old tag.new result }
 {
-    let Ok(key) = copied(alloc, key) else {
-        return Err(StepError::OutOfMemory);
-    };
+    let key = copied(alloc, key)?;
     tag.attributes_mut().remove(key);
     Ok(())
 }
@@ -84,28 +69,24 @@ pub(super) fn remove_value<'a>(
     tag: &mut HTMLTag<'a>,
     key: &[u8],
 ) -> Result<(), StepError>
-    ensures { ChangesTag (λ own. Ok (record own { attributes = without_value key.now own.attributes })) tag.old tag.new result }
+    ensures { ChangesTag (λ own. Ok (record own { attributes = without_value own.attributes key.now })) tag.old tag.new result }
 {
-    let Ok(key) = copied(alloc, key) else {
-        return Err(StepError::OutOfMemory);
-    };
+    let key = copied(alloc, key)?;
     tag.attributes_mut().remove_value(key);
     Ok(())
 }
 
 // Makes a handle the last child.
 pub(super) fn push_child<'a>(tag: &mut HTMLTag<'a>, child: u32) -> Result<(), StepError>
-    ensures { ChangesTag (λ own. Ok (record own { children = pushed_handle own.children child })) tag.old tag.new result }
+    ensures { ChangesTag (λ own. Ok (record own { children = with_last room own.children child })) tag.old tag.new result }
 {
-    match push_handle(tag, NodeHandle::new(child)) {
-        Ok(()) => Ok(()),
-        Err(_) => Err(StepError::OutOfMemory),
-    }
+    push_handle(tag, NodeHandle::new(child))?;
+    Ok(())
 }
 
 // Takes the child at a place out.
 pub(super) fn pull_child<'a>(tag: &mut HTMLTag<'a>, place: usize) -> Result<(), StepError>
-    ensures { ChangesTag (λ own. on_ok (λ handles. record own { children = handles }) (pulled place own.children)) tag.old tag.new result }
+    ensures { ChangesTag (λ own. on_ok (λ handles. record own { children = handles }) (without_handle own.children place)) tag.old tag.new result }
 {
     if place >= tag.children().top().len() {
         return Err(StepError::NoPlace);
@@ -115,19 +96,19 @@ pub(super) fn pull_child<'a>(tag: &mut HTMLTag<'a>, place: usize) -> Result<(), 
 }
 
 // A push of a tag of any parts: what a tag with a lifetime holds after the list was lent is not seen.
-fn push_handle<A, B>(tag: &mut TagOf<A, B>, child: NodeHandle) -> Result<(), NodeHandle>
-    ensures ok { OnOk result (tag.new ≡ record tag.old { children = pushed 2 tag.old.children child }) }
+fn push_handle<A, B>(tag: &mut TagOf<A, B>, child: NodeHandle) -> Result<(), AllocError>
+    ensures ok { OnOk result (tag.new ≡ record tag.old { children = with_last room tag.old.children child }) }
     ensures err { OnErr result (tag.new ≡ tag.old) }
 {
     let mut children = tag.children_mut();
     let list = children.top_mut();
-    list.push(child)
+    list.push(child).map_err(|_| AllocError)
 }
 
 // The same of a child at a place.
 fn pull_handle<A, B>(tag: &mut TagOf<A, B>, place: usize)
     requires { place < length tag.old.children.items }
-    ensures { tag.new ≡ record tag.old { children = record tag.old.children { items = remove tag.old.children.items place } } }
+    ensures { tag.new ≡ record tag.old { children = without_item tag.old.children place } }
 {
     let mut children = tag.children_mut();
     let list = children.top_mut();

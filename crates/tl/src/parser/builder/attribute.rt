@@ -64,9 +64,9 @@ pub(crate) fn read_attributes<'a, S: Source<'a>>(
 {
     let text = source.as_bytes();
     let mut end = at;
-    while let Some((place, behind)) = next_attribute(text, end) {
+    while let Some((place, after)) = next_attribute(text, end) {
         insert_at(alloc, source, attributes, place)?;
-        end = behind;
+        end = after;
     }
     Ok(end)
 }

@@ -65,8 +65,8 @@ pub(crate) fn read_start_tag<'a, S: Source<'a>>(
         Bytes::new(),
         start,
     )?;
-    let behind = read_into(alloc, source, &mut tag, at)?;
-    let (kind, end) = tag_end(source.as_bytes(), behind);
+    let after = read_into(alloc, source, &mut tag, at)?;
+    let (kind, end) = tag_end(source.as_bytes(), after);
     let len = end - start;
     let raw = source.piece(alloc, Span { start, len })?;
     tag.set_raw(raw);

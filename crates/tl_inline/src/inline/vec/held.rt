@@ -13,14 +13,14 @@ pub(super) enum HeldItems<T, const N: usize> {
 }
 
 impl<T, const N: usize> HeldItems<T, N> {
-    ghost use Rattle.tl_inline.specs.HeldItems.{held_items, held_on_heap, IsInline};
+    ghost use Rattle.tl_inline.specs.HeldItems.{held_view, IsInline};
     ghost use Rattle.tl_inline.specs.HeldItemsLends.{lends_item, lends_inline, lends_slice};
 
     pub(super) fn get_mut(&mut self, index: usize) -> Option<&mut T>
         ensures* writes_back { sem 𝓛 (lends_item T.row N.row self.entry index result) }
-        ensures variant { IsSome result ↔ (index < length (held_items self.old)) }
-        ensures value { IfSome result (λ x. x.now ≡ slice_index_or (held_items self.old) index x.now) }
-        ensures item { IsItemAtMut (held_items self.old) index result }
+        ensures variant { IsSome result ↔ (index < length (held_view self.old).items) }
+        ensures value { IfSome result (λ x. x.now ≡ slice_index_or (held_view self.old).items index x.now) }
+        ensures item { IsItemAtMut (held_view self.old).items index result }
     {
         match self {
             HeldItems::Inline(inline) => inline.get_mut(index),
@@ -30,8 +30,8 @@ impl<T, const N: usize> HeldItems<T, N> {
 
     pub(super) fn inline_mut(&mut self) -> Option<&mut ArrayVec<T, N>>
         ensures* writes_back { sem 𝓛 (lends_inline T.row N.row self.entry result) }
-        ensures variant { is_some result ≡ not (held_on_heap self.old) }
-        ensures value { IfSome result (λ v. v.now.items ≡ held_items self.old) }
+        ensures variant { is_some result ≡ not (held_view self.old).on_heap }
+        ensures value { IfSome result (λ v. v.now.items ≡ (held_view self.old).items) }
     {
         match self {
             HeldItems::Inline(inline) => Some(inline),
@@ -42,7 +42,7 @@ impl<T, const N: usize> HeldItems<T, N> {
     pub(super) fn slice_mut(&mut self) -> &mut [T]
         requires { IsInline self.old }
         ensures* writes_back { sem 𝓛 (lends_slice T.row N.row self.entry result) }
-        ensures value { result.now ≡ held_items self.old }
+        ensures value { result.now ≡ (held_view self.old).items }
     {
         match self {
             HeldItems::Inline(inline) => inline.as_mut_slice(),

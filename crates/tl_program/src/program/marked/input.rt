@@ -1,3 +1,4 @@
+//! `Marked` as what is read from.
 use super::Marked;
 use crate::program::fault::{Fault, Input};
 use std::io::Read;

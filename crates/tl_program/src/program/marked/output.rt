@@ -1,3 +1,4 @@
+//! `Marked` as what is written to.
 use super::Marked;
 use crate::program::fault::{Fault, Output};
 use std::io::Write;

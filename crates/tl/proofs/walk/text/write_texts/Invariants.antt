@@ -1,5 +1,5 @@
 use Rattle.std.proofs.Common.{◌≡◌, ◌++◌, length, flat_map, string_bytes}
-use Rattle.tl_spec.specs.Text.{told}
+use Rattle.tl_spec.specs.Text.{event_text}
 use Rattle.tl_spec.specs.Walk.{fault_among}
 use Rattle.tl.specs.Walker.{left, IsMarked}
 use Rattle.tl.proofs.walk.text.write_texts.Given as goal
@@ -7,7 +7,7 @@ use Rattle.tl.proofs.walk.text.write_texts.Given as goal
 abbrev pub invariant-loop-event : goal.invariant-loop-event
 invariant-loop-event l = record {
   marked : IsMarked l.walker;
-  bytes : string_bytes l.initial.out ++ flat_map told (left l.initial.walker) ≡ string_bytes l.out ++ flat_map told (left l.walker);
+  bytes : string_bytes l.initial.out ++ flat_map event_text (left l.initial.walker) ≡ string_bytes l.out ++ flat_map event_text (left l.walker);
   faults : fault_among (left l.initial.walker) ≡ fault_among (left l.walker);
 }
 

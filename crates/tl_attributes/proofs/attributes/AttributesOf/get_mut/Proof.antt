@@ -42,8 +42,9 @@ use prog.Wp.{WpFn}
 use types.ByLocal.{alloc_all, pass_all, free_all, look_at, get, through, sets, lands_as}
 use types.Kit.{‵, raw, ◌⊛◌, some, later, ◌$◌, ◌∵◌, !, qed, by, move, keep, drop, use0, use1, split, join, fsplit, fjoin, pick, await, rewrite}
 use types.Run.{enter, addr, stop, of_opd, no_more, and_then, returns}
-use Rattle.tl_attributes.specs.Attributes.{nested, found, with_found}
-use Rattle.tl_attributes.specs.AttributesLends.{LendsFoundOk, PieceMembers}
+use Rattle.tl_spec.specs.AttributeEdit.{value_at, with_value_at}
+use Rattle.tl_attributes.specs.Attributes.{nested}
+use Rattle.tl_attributes.specs.AttributesLends.{LendsValueAtOk, PieceMembers}
 use Rattle.tl_attributes.specs.contracts.attributes.AttributesOf.{the_row as attributes_row}
 use Rattle.tl_attributes.specs.contracts.attributes.AttributesOf.get_mut as f
 use Rattle.tl_attributes.specs.contracts.attributes.AttributesOf.value_or_presence_mut as g
@@ -116,9 +117,9 @@ get_mut_spec 𝓤 𝓛 𝓜 𝓡 wired B LB p dp e de q dq k dk dd mp me mq mk m
     let inside = κs.1.0 ⊑ B.lives in
     let small = size (layout Row) < 2 ^ 63 in
     let tokens = raw (alive 𝓛 En.signature κs qs) in
-    let value : Option (Option (MutBor B.Denot)) → Type 0 = λ r. option_map option_copied_mut r ≡ found p.list q.eq self.now key in
+    let value : Option (Option (MutBor B.Denot)) → Type 0 = λ r. option_map option_copied_mut r ≡ value_at p.list q.eq self.now key in
     let members : PieceMembers B.Denot = record { hash_input = k.hash_input; eq = q.eq; list = p.list } in
-    let Follows : mathlib.Core.Option.Option GName → Fml = λ m. follows_if Row P self.ghost_name m (with_found p.list q.eq self.now key) self.now in
+    let Follows : mathlib.Core.Option.Option GName → Fml = λ m. follows_if Row P self.ghost_name m (with_value_at p.list q.eq self.now key) self.now in
     let ghost : List Val → List Val → W.Ghost = λ us ws. ((κs, qs, bounds, (self, (key, tt)), (us, (ws, tt))), tt) in
     let Goes = λ (us : List Val) (ws : List Val). ent 𝓤 (W.pre (ghost us ws)) (WpFn 𝓤 H 𝓣.C 𝓣.Λ fn (us ++ (ws ++ [])) (W.post (ghost us ws))) in
     let walk : (v : Val) → Is P key (v ∷ []) → Goes (mut_vals self) (v ∷ []) = λ v is-key.
@@ -137,7 +138,7 @@ get_mut_spec 𝓤 𝓛 𝓜 𝓡 wired B LB p dp e de q dq k dk dd mp me mq mk m
     calls_at ! (framed 𝓤 H 𝓜 𝓣) G lends z₁ (and_then ! (get ! refl) (and_then ! (get ! refl) (no_more !))) (λ u.
     use1 𝓛 (later (some (λ (r : Ans.Denot). (tokens ⊛ ‵ (Ans.own_val r (u ∷ []))) ⊛
     some (λ (ws : Lasts (g.ended B p dp e de q dq k dk dd) κs z₁.0.3). ‵ (lasts (g.ended B p dp e de q dq k dk dd) κs z₁.0.3 ws) ⊛
-    (‵ (LendsFoundOk P members self key r) ⊛ raw (fact 𝓤 (value (nested r)))))))) (id⊢ 𝓤 _) $
+    (‵ (LendsValueAtOk P members self key r) ⊛ raw (fact 𝓤 (value (nested r)))))))) (id⊢ 𝓤 _) $
     await ! tt $ pick ! (λ r. split ! $ split ! $ move ! (1 ∷ []) $ peeks ! Ans (Is Ans) (shows 𝓛 Ans) r (u ∷ []) (λ is-answer.
     let answer-fits = (((answer_laws B LB κs.0).lawful 𝓛).typed r (u ∷ []) is-answer).0 in
     let z₂ : N.Ghost = ((κs, qs, bounds, (r, tt), (u ∷ [], tt)), tt) in

@@ -1,8 +1,7 @@
-use Rattle.std.proofs.Common.{rules, sym, subst, IsOk}
-use Rattle.tl_attributes.specs.Attributes.{IsOther}
+use Rattle.std.proofs.Common.{◌∙◌}
+use Rattle.tl_spec.specs.AttributeList.{IsOther}
 use Rattle.tl_attributes.proofs.Others.{all_after}
 use Rattle.tl_attributes.proofs.attributes.AttributesOf.insert_other.Goals as goal
-use Rattle.tl_attributes.proofs.attributes.AttributesOf.insert_other.Goals.{in-Ok, in-Err}
 
 pub invariant_of-self : goal.invariant_of-self
 invariant_of-self g c =
@@ -10,4 +9,4 @@ invariant_of-self g c =
     c.insert.ensures.ok c.insert.ensures.err
 
 pub returns-clause-succeeds : goal.returns-clause-succeeds
-returns-clause-succeeds g c = elim c.match-insert.branch [ in-Ok w ↦ search rules | in-Err w ↦ rw (← c.self.view_is) (λ heap room. subst IsOk (sym w.result-is) (subst IsOk w.in-Err.is (c.insert.ensures.succeeds heap room))) ]
+returns-clause-succeeds g c = rw (← c.self.view_is) (λ heap room. c.map_err.ensures.variant ∙ c.insert.ensures.succeeds heap room)

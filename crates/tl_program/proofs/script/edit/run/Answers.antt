@@ -7,6 +7,6 @@ returns-in-Err-clause-err c = steps-refused _ _ _ _ _ _ c.loop-place-test.true c
 
 pub loop-place-preserved : goal.loop-place-preserved
 loop-place-preserved c = record {
-  taken = steps-taken _ _ _ _ _ _ c.loop-place-test.true c.loop-place.invariant.taken c.in-Ok.ensures.0;
-  version = c.in-Ok.ensures.1 ∙ c.loop-place.invariant.version;
+  taken = steps-taken _ _ _ _ _ _ c.loop-place-test.true c.loop-place.invariant.taken c.in_default.ensures.0;
+  version = c.in_default.ensures.1 ∙ c.loop-place.invariant.version;
 }

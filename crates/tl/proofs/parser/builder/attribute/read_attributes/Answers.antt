@@ -22,14 +22,14 @@ loop-place-preserved g c =
     let is = c.as_bytes-text.ensures in
     let old = c.loop-place.invariant in
     let end = c.loop-place.end in
-    let behind = c.in-Some.behind in
+    let after = c.in-Some.after in
     let place = c.in-Some.place in
-    let read : ◌≡◌ {A = Option (Pair × List ℕ)} (Some (pair_at t place, drop behind t)) (next_attribute (drop end t)) =
-    subst (λ (T : List ℕ). ◌≡◌ {A = Option (Pair × List ℕ)} (Some (pair_at T place, drop behind T)) (next_attribute (drop end T))) is c.in-Some.ensures.read in
+    let read : ◌≡◌ {A = Option (Pair × List ℕ)} (Some (pair_at t place, drop after t)) (next_attribute (drop end t)) =
+    subst (λ (T : List ℕ). ◌≡◌ {A = Option (Pair × List ℕ)} (Some (pair_at T place, drop after T)) (next_attribute (drop end T))) is c.in-Some.ensures.read in
     record {
-      put = subst (λ a. ArePut with_pair t c.args.at behind no_attributes a) (sym c.in_ok-insert_at.ensures.pair)
-          (put-more with_pair t c.args.at no_attributes end behind place (plain c.loop-place.attributes) read old.put);
+      put = subst (λ a. ArePut with_pair t c.args.at after no_attributes a) (sym c.in_ok-insert_at.ensures.pair)
+          (put-more with_pair t c.args.at no_attributes end after place (plain c.loop-place.attributes) read old.put);
       read = c.in_ok-insert_at.ensures.read;
       order = omega (arith, old.order, c.in-Some.ensures.order);
-      within = subst (λ (T : List ℕ). behind ≤ length T) is c.in-Some.ensures.within;
+      within = subst (λ (T : List ℕ). after ≤ length T) is c.in-Some.ensures.within;
     }

@@ -22,7 +22,7 @@ returns-clause-tag g c =
     let children : ◌≡◌ {A = Handles} now.children (held_items []) = ap (λ (x : HTMLTag). x.children) kept ∙ ap (λ (x : HTMLTag). x.children) made in
     let begun : now.start ≡ start = ap (λ (x : HTMLTag). x.start) kept ∙ ap (λ (x : HTMLTag). x.start) made in
     let raw : c.in_ok-raw.raw.list ≡ take (end - start) (drop start t) = ap (λ (b : Kept). b.list) c.in_ok-raw.ensures.ok in
-    tag-made t (bytes_at t c.args.name) c.args.at c.in_ok-behind.behind (shown_attributes now.attributes) c.in_ok-behind.ensures.read start end (shown_tag c.set_raw.new.self)
+    tag-made t (bytes_at t c.args.name) c.args.at c.in_ok-after.after (shown_attributes now.attributes) c.in_ok-after.ensures.read start end (shown_tag c.set_raw.new.self)
     (ap shown_tag c.set_raw.ensures ∙ (λ i. record { name = name i; attributes = shown_attributes now.attributes; children = children i; raw = raw i; start = begun i }))
 
 pub returns-clause-end : goal.returns-clause-end
@@ -30,7 +30,7 @@ returns-clause-end g c =
     let t = g.S.Source.text c.args.source.now in
     let kind = c.tag_end-kind.result.0 in
     let end = c.tag_end-kind.result.1 in
-    let behind = c.in_ok-behind.behind in
-    let ends : (name : List ℕ) (pairs : List Pair) → ◌≡◌ {A = Token × List ℕ} (ended name pairs kind, drop end t) (closed name pairs (drop behind t)) =
-    subst (λ (T : List ℕ). (name : List ℕ) (pairs : List Pair) → ◌≡◌ {A = Token × List ℕ} (ended name pairs kind, drop end T) (closed name pairs (drop behind T))) c.as_bytes.ensures c.tag_end-kind.ensures.read in
-    tag-ends t (bytes_at t c.args.name) c.args.at behind (shown_attributes c.read_into.new.tag.attributes) c.in_ok-behind.ensures.read kind end ends
+    let after = c.in_ok-after.after in
+    let ends : (name : List ℕ) (pairs : List Pair) → ◌≡◌ {A = Token × List ℕ} (ended name pairs kind, drop end t) (closed name pairs (drop after t)) =
+    subst (λ (T : List ℕ). (name : List ℕ) (pairs : List Pair) → ◌≡◌ {A = Token × List ℕ} (ended name pairs kind, drop end T) (closed name pairs (drop after T))) c.as_bytes.ensures c.tag_end-kind.ensures.read in
+    tag-ends t (bytes_at t c.args.name) c.args.at after (shown_attributes c.read_into.new.tag.attributes) c.in_ok-after.ensures.read kind end ends

@@ -1,0 +1,43 @@
+//! The length of the run of bytes that a slice begins with.
+ghost use Rattle.std.specs.Prelude.{◌≡◌, ◌≤◌, ◌==◌, not, length};
+ghost use Rattle.std.specs.List.{prefix_len};
+ghost use Rattle.tl_spec.specs.ByteClass.{is_blank, is_ident, ends_value};
+
+use tl_bytes::simd;
+
+/// How many blanks, spaces and line feeds, `s` begins with.
+pub fn blank_len(s: &[u8]) -> usize
+    ensures run { result ≡ prefix_len is_blank s.now }
+    ensures within { result ≤ length s.now }
+{
+    s.iter().take_while(|b| **b == b' ' || **b == b'\n').count()
+}
+
+/// How many bytes of a name `s` begins with.
+pub fn ident_len(s: &[u8]) -> usize
+    ensures run { result ≡ prefix_len is_ident s.now }
+    ensures within { result ≤ length s.now }
+{
+    simd::search_non_ident(s).unwrap_or(s.len())
+}
+
+/// How many bytes of `s` stand before the first that ends a value without quotes: a space, a
+/// line feed, `/` or `>`.
+pub fn bare_len(s: &[u8]) -> usize
+    ensures run { result ≡ prefix_len (λ b. not (ends_value b)) s.now }
+    ensures within { result ≤ length s.now }
+{
+    simd::find4(s, [b' ', b'\n', b'/', b'>']).unwrap_or(s.len())
+}
+
+/// How many bytes of `s` stand before the first `byte`.
+pub fn len_until(s: &[u8], byte: u8) -> usize
+    ensures run { result ≡ prefix_len (λ b. not (b == byte)) s.now }
+    ensures within { result ≤ length s.now }
+{
+    // A run of no bytes needs no search.
+    if s.first() == Some(&byte) {
+        return 0;
+    }
+    simd::find(s, byte).unwrap_or(s.len())
+}
