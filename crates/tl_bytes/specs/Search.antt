@@ -1,7 +1,7 @@
 -- What a search of bytes answers.
 use Rattle.std.specs.Prelude.{ℕ, Bool, ◌==◌, not, List, Option}
 use Rattle.std.specs.List.{list_any, position}
-use Rattle.tl_spec.specs.ByteClass.{is_ident}
+use Rattle.tl_spec.specs.ByteClass.{is_ident, is_name}
 
 -- the first place whose byte is of this class, if there is one
 abbrev pub first : (ℕ → Bool) → List ℕ → Option ℕ
@@ -11,6 +11,10 @@ first class bytes = position class bytes
 abbrev pub is_one_of : List ℕ → ℕ → Bool
 is_one_of needles b = list_any (λ needle. b == needle) needles
 
--- the class of what no name holds
+-- the class of what no doctype's word holds
 abbrev pub is_not_ident : ℕ → Bool
 is_not_ident b = not (is_ident b)
+
+-- the class of what no name of a tag or an attribute holds
+abbrev pub is_not_name : ℕ → Bool
+is_not_name b = not (is_name b)

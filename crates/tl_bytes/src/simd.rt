@@ -2,7 +2,7 @@
 ghost use Rattle.std.specs.Prelude.{◌≡◌, ◌==◌, bytes_eq};
 ghost use Rattle.std.specs.Str.{str_to_ascii_lowercase};
 ghost use Rattle.tl_spec.specs.ByteClass.{is_closing};
-ghost use Rattle.tl_bytes.specs.Search.{first, is_one_of, is_not_ident};
+ghost use Rattle.tl_bytes.specs.Search.{first, is_one_of, is_not_ident, is_not_name};
 
 /// The same searches, byte by byte.
 pub mod fallback;
@@ -36,12 +36,20 @@ pub fn find_multi<const N: usize>(haystack: &[u8], needle: [u8; N]) -> Option<us
     fallback::find_multi(haystack, needle)
 }
 
-/// The first place of `haystack` that holds no byte of a name: none of the digits, the ASCII
-/// letters and `-`, `_`, `:`, `+`, `/`.
+/// The first place of `haystack` that holds no ident byte: none of the digits, the ASCII letters
+/// and `-`, `_`, `:`, `+`, `/`.
 pub fn search_non_ident(haystack: &[u8]) -> Option<usize>
     ensures { result ≡ first is_not_ident haystack.now }
 {
     fallback::search_non_ident(haystack)
+}
+
+/// The first place of `haystack` that holds no byte of a name of a tag or an attribute: no ident
+/// byte, or `/`.
+pub fn search_non_name(haystack: &[u8]) -> Option<usize>
+    ensures { result ≡ first is_not_name haystack.now }
+{
+    fallback::search_non_name(haystack)
 }
 
 /// Whether a list of attributes ends before this byte: `/` or `>`.

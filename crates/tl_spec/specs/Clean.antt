@@ -1,8 +1,7 @@
 -- Which trees and tables are clean: their print says all that they hold.
 use Rattle.std.specs.Prelude.{◌≡◌, ◌≢◌, ℕ, IsTrue, not, ◌==◌, List, [], ◌∷◌, ◌++◌, Option, Some, None, codes, ⊤}
-use Rattle.std.specs.Bool.{IsFalse}
 use Rattle.std.specs.List.{list_all, starts_with}
-use Rattle.tl_spec.specs.ByteClass.{is_blank, is_name, is_void, less, slash, bang, quote}
+use Rattle.tl_spec.specs.ByteClass.{is_blank, is_name, is_void, less, bang, quote}
 use Rattle.tl_spec.specs.Runs.{after}
 use Rattle.tl_spec.specs.Attribute.{Pair}
 use Rattle.tl_spec.specs.AttributeList.{printed_pairs, HasOwnKeys}
@@ -10,10 +9,10 @@ use Rattle.tl_spec.specs.Forest.{Forest, none, text, comment, tag, PlainTag}
 use Rattle.tl_spec.specs.Document.{Node, Tag, Raw, Comment}
 use Rattle.tl_spec.specs.Walk.{Walk, end, meets_text, meets_comment, meets_tag, passes_tag, meets_fault, Event, meets, leaves, faulty, shows, walk, plain_node, plain_attributes}
 
--- a nonempty run of name bytes that doesn't start with `/`
+-- a nonempty run of name bytes
 abbrev pub IsName : List ℕ → Type 0
 IsName [] = ⊥
-IsName (b ∷ name) = IsFalse (b == slash) × IsTrue (list_all is_name (b ∷ name))
+IsName (b ∷ name) = IsTrue (list_all is_name (b ∷ name))
 
 -- no `"` stands in it
 abbrev pub IsCleanValue : Option (List ℕ) → Type 0

@@ -6,7 +6,7 @@ use std::test::Fail;
 use tl::errors::TreeError;
 use tl::{Bytes, HTMLVersion, Node, NodeHandle, ParserOptions, VDom, parse};
 
-static TAGS: [(&str, &str); 12] = [
+static TAGS: [(&str, &str); 16] = [
     ("", ""),
     (
         "abc <p>test<span>a</span></p> def",
@@ -21,7 +21,11 @@ static TAGS: [(&str, &str); 12] = [
         "tag a [ 1 2 ] 0 12 <a>x</b>y</a>|text x|text y|text z| 0 3",
     ),
     ("<a href=/x>y</a>", "text x>y| 0"),
-    ("<br/>x</br/>", "tag br/ [ 1 ] 0 11 <br/>x</br/>|text x| 0"),
+    ("<br/>x</br/>", "tag br [ ] 0 4 <br/>|text x| 0 1"),
+    ("<a/>x", "tag a [ ] 0 3 <a/>|text x| 0 1"),
+    ("<a/b>", "text b>| 0"),
+    ("<p/ >", "text  >| 0"),
+    ("<a>x</a/>", "tag a [ 1 ] 0 2 <a>|text x| 0"),
     (
         "<br /><p>test</p>",
         "tag br [ ] 0 5 <br />|tag p [ 2 ] 6 16 <p>test</p>|text test| 0 1",
@@ -33,14 +37,18 @@ static TAGS: [(&str, &str); 12] = [
     ("<p />x", "tag p [ ] 0 4 <p />|text x| 0 1"),
 ];
 
-static ATTRIBUTES_COMMENTS_DOCTYPES: [(&str, &str); 10] = [
+static ATTRIBUTES_COMMENTS_DOCTYPES: [(&str, &str); 14] = [
     (
         "<p a=1 b=2 c=3 id=i class=k a=4>",
         "tag p a=4 b=2 c=3 id=i class=k [ ] 0 31 <p a=1 b=2 c=3 id=i class=k a=4>| 0",
     ),
     ("<p id=a id>", "tag p [ ] 0 10 <p id=a id>| 0"),
     ("<p\ta>", "tag p  a [ ] 0 4 <p\ta>| 0"),
-    ("<p a/b>", "tag p a/b [ ] 0 6 <p a/b>| 0"),
+    ("<p a/b>", "text b>| 0"),
+    ("<p a/>", "tag p a [ ] 0 5 <p a/>| 0"),
+    ("<p a/ b>", "text  b>| 0"),
+    ("<p a=b/c>", "text c>| 0"),
+    ("<!doctype/html>", "text >| 0"),
     ("<!--a", "comment | 0"),
     ("<!--->x", "comment <!--->|text x| 0 1"),
     ("<!---->x", "comment <!---->|text x| 0 1"),

@@ -1,8 +1,9 @@
 //! Byte searches: known answers, and each search against its plain form at every length up to some blocks.
 use tl_base::simd::{
     fallback, find, find_multi, find4, is_closing, matches_case_insensitive, search_non_ident,
+    search_non_name,
 };
-use tl_token::runs::{bare_len, blank_len, ident_len, len_until};
+use tl_token::runs::{bare_len, blank_len, ident_len, len_until, name_len};
 
 // A search, and what it looks for.
 enum Search {
@@ -11,6 +12,7 @@ enum Search {
     FindOne([u8; 1]),
     FindNone([u8; 0]),
     NonIdent,
+    NonName,
 }
 
 fn answer(search: &Search, text: &[u8]) -> Option<usize> {
@@ -20,10 +22,11 @@ fn answer(search: &Search, text: &[u8]) -> Option<usize> {
         Search::FindOne(needle) => find_multi(text, *needle),
         Search::FindNone(needle) => find_multi(text, *needle),
         Search::NonIdent => search_non_ident(text),
+        Search::NonName => search_non_name(text),
     }
 }
 
-static SEARCHES: [(Search, &str, Option<usize>); 13] = [
+static SEARCHES: [(Search, &str, Option<usize>); 19] = [
     (Search::Find(b' '), "abcdefghiabcdefghi .", Some(18)),
     (Search::Find(b' '), "", None),
     (Search::Find4(*b"abcd"), "ef ghijklmnopqrstua", Some(18)),
@@ -49,6 +52,20 @@ static SEARCHES: [(Search, &str, Option<usize>); 13] = [
     ),
     (Search::NonIdent, "0123456789ab<def", Some(12)),
     (Search::NonIdent, "a:b+c/d", None),
+    (Search::NonIdent, "br/", None),
+    (Search::NonName, "br/", Some(2)),
+    (
+        Search::NonName,
+        "0123456789abcdefghijklmnopqrstuvwxyzABCDEFGHIJKLMNOPQRSTUVWXYZ-_",
+        None,
+    ),
+    (
+        Search::NonName,
+        "0123456789abcdefghijklmnopqrstuvwxyzABCDEFGHIJKLMNOPQRSTUVWXYZ-_/",
+        Some(64),
+    ),
+    (Search::NonName, "a:b+c/d", Some(5)),
+    (Search::NonName, "/", Some(0)),
 ];
 
 #[test]
@@ -100,6 +117,8 @@ fn agree(text: &[u8], hit: Option<usize>) -> bool {
         && fallback::find_multi(text, *b" >/<") == hit
         && search_non_ident(text) == hit
         && fallback::search_non_ident(text) == hit
+        && search_non_name(text) == hit
+        && fallback::search_non_name(text) == hit
 }
 
 #[test]
@@ -117,6 +136,7 @@ fn agrees_with_the_plain_form(rt: HostRuntime) {
 enum Run {
     Blank,
     Ident,
+    Name,
     Bare,
     Until(u8),
 }
@@ -125,16 +145,20 @@ fn run_len(run: &Run, text: &[u8]) -> usize {
     match run {
         Run::Blank => blank_len(text),
         Run::Ident => ident_len(text),
+        Run::Name => name_len(text),
         Run::Bare => bare_len(text),
         Run::Until(byte) => len_until(text, *byte),
     }
 }
 
-static RUNS: [(Run, &str, usize); 9] = [
+static RUNS: [(Run, &str, usize); 12] = [
     (Run::Blank, " \n a", 3),
     (Run::Blank, "\ta", 0),
     (Run::Ident, "a-1 b", 3),
     (Run::Ident, "a", 1),
+    (Run::Ident, "a/b c", 3),
+    (Run::Name, "a-1/b", 3),
+    (Run::Name, "a", 1),
     (Run::Bare, "x\ty/z", 3),
     (Run::Bare, "xy", 2),
     (Run::Until(b'<'), "ab<c", 2),

@@ -1,13 +1,12 @@
 //! Attributes of a start tag.
 ghost use Rattle.std.specs.Prelude.{◌≡◌, ◌≤◌, ◌<◌, ◌+◌, length, drop, take, take_while, option_map, IfSome};
-ghost use Rattle.std.specs.List.{prefix_len};
 ghost use Rattle.tl_spec.specs.ByteClass.{is_name};
 ghost use Rattle.tl_spec.specs.Runs.{past};
 ghost use Rattle.tl_spec.specs.Attribute.{value, optional_value, past_end, past_blanks, attribute, attributes, next_attribute};
 ghost use Rattle.tl_token.specs.Span.{bytes_at, optional_bytes_at, pair_at, IsIn, ArePairIn};
 
 use crate::place::{byte_at, past_blanks, split};
-use crate::runs::{bare_len, ident_len, len_until};
+use crate::runs::{bare_len, len_until, name_len};
 use crate::span::{AttributeSpan, Span};
 use tl_bytes::byte_class::is_ident;
 use tl_bytes::simd::is_closing;
@@ -21,7 +20,7 @@ pub fn name(text: &[u8], at: usize) -> (Span, usize)
     ensures order { at ≤ result.1 }
     ensures within { result.1 ≤ length text.now }
 {
-    let (name, end) = split(text, at, ident_len(&text[at..]));
+    let (name, end) = split(text, at, name_len(&text[at..]));
     (name, past_blanks(text, end))
 }
 

@@ -1,6 +1,5 @@
 //! Places of a text: what stands at one, and where reading goes on.
-ghost use Rattle.std.specs.Prelude.{◌≡◌, ◌≤◌, ◌<◌, ◌+◌, length, drop, take};
-ghost use Rattle.std.specs.List.{prefix_len};
+ghost use Rattle.std.specs.Prelude.{◌≡◌, ◌≤◌, ◌+◌, length, drop, take};
 ghost use Rattle.tl_spec.specs.Attribute.{past_blanks};
 ghost use Rattle.tl_token.specs.Span.{in_front, bytes_at, IsIn};
 

@@ -1,7 +1,7 @@
 //! The length of the run of bytes that a slice begins with.
 ghost use Rattle.std.specs.Prelude.{◌≡◌, ◌≤◌, ◌==◌, not, length};
 ghost use Rattle.std.specs.List.{prefix_len};
-ghost use Rattle.tl_spec.specs.ByteClass.{is_blank, is_ident, ends_value};
+ghost use Rattle.tl_spec.specs.ByteClass.{is_blank, is_ident, is_name, ends_value};
 
 use tl_bytes::simd;
 
@@ -13,7 +13,15 @@ pub fn blank_len(s: &[u8]) -> usize
     s.iter().take_while(|b| **b == b' ' || **b == b'\n').count()
 }
 
-/// How many bytes of a name `s` begins with.
+/// How many bytes of a name of a tag or an attribute `s` begins with.
+pub fn name_len(s: &[u8]) -> usize
+    ensures run { result ≡ prefix_len is_name s.now }
+    ensures within { result ≤ length s.now }
+{
+    simd::search_non_name(s).unwrap_or(s.len())
+}
+
+/// How many ident bytes, those of a doctype's word, `s` begins with.
 pub fn ident_len(s: &[u8]) -> usize
     ensures run { result ≡ prefix_len is_ident s.now }
     ensures within { result ≤ length s.now }

@@ -1,7 +1,9 @@
 //! Tokens.
-ghost use Rattle.std.specs.Prelude.{◌≡◌, ◌≤◌, ◌<◌, ◌+◌, ℕ, List, Some as Found, length, drop, codes, IfSome, option_map};
+ghost use Rattle.std.specs.Prelude.{◌≡◌, ◌≤◌, ◌<◌, ◌+◌, ℕ, length, drop, take_while, codes, IfSome, option_map};
 ghost use Rattle.std.specs.Str.{str_eq_ignore_ascii_case};
-ghost use Rattle.tl_spec.specs.Runs.{after};
+ghost use Rattle.tl_spec.specs.ByteClass.{is_ident};
+ghost use Rattle.tl_spec.specs.Runs.{after, past};
+ghost use Rattle.tl_spec.specs.Attribute.{past_blanks};
 ghost use Rattle.tl_spec.specs.Token.{end_tag, comment_token, doctype, word, declaration, markup, text_token, next_token};
 
 use crate::attribute::name;
@@ -52,6 +54,19 @@ fn end_tag(text: &[u8], at: usize) -> (Token, usize)
     (Token::End(name), past_one(text, end))
 }
 
+// The word of a doctype at a place, and the place after it and blanks.
+fn ident(text: &[u8], at: usize) -> (Span, usize)
+    requires { at ≤ length text.now }
+    ensures bytes { bytes_at text.now result.0 ≡ take_while is_ident (drop at text.now) }
+    ensures rest { drop result.1 text.now ≡ past_blanks (past is_ident (drop at text.now)) }
+    ensures span { IsIn text.now result.0 }
+    ensures order { at ≤ result.1 }
+    ensures within { result.1 ≤ length text.now }
+{
+    let (word, end) = split(text, at, ident_len(&text[at..]));
+    (word, past_blanks(text, end))
+}
+
 // A doctype from after its first word and blanks, and the place after it.
 fn doctype(text: &[u8], at: usize) -> (Token, usize)
     requires { at ≤ length text.now }
@@ -60,7 +75,7 @@ fn doctype(text: &[u8], at: usize) -> (Token, usize)
     ensures order { at ≤ result.1 }
     ensures within { result.1 ≤ length text.now }
 {
-    let (second, end) = name(text, at);
+    let (second, end) = ident(text, at);
     let is_html5 = second.of(text).eq_ignore_ascii_case(b"html");
     (Token::Doctype(is_html5), past_one(text, end))
 }
@@ -73,7 +88,7 @@ fn word(text: &[u8], at: usize) -> (Token, usize)
     ensures order { at ≤ result.1 }
     ensures within { result.1 ≤ length text.now }
 {
-    let (first, end) = name(text, at);
+    let (first, end) = ident(text, at);
     if first.of(text).eq_ignore_ascii_case(b"doctype") {
         doctype(text, end)
     } else {

@@ -1,8 +1,8 @@
 //! The searches in their plain form, byte by byte.
 ghost use Rattle.std.specs.Prelude.{◌≡◌, ◌==◌};
-ghost use Rattle.tl_bytes.specs.Search.{first, is_one_of, is_not_ident};
+ghost use Rattle.tl_bytes.specs.Search.{first, is_one_of, is_not_ident, is_not_name};
 
-use crate::byte_class::is_ident;
+use crate::byte_class::{is_ident, is_name};
 
 /// The first place of `haystack` that holds `needle`.
 pub fn find(haystack: &[u8], needle: u8) -> Option<usize>
@@ -25,9 +25,16 @@ fn find_any(haystack: &[u8], needles: &[u8]) -> Option<usize>
     haystack.iter().position(|b| needles.contains(b))
 }
 
-/// The first place of `haystack` that holds no byte of a name.
+/// The first place of `haystack` that holds no ident byte.
 pub fn search_non_ident(haystack: &[u8]) -> Option<usize>
     ensures { result ≡ first is_not_ident haystack.now }
 {
     haystack.iter().position(|b| !is_ident(*b))
+}
+
+/// The first place of `haystack` that holds no byte of a name.
+pub fn search_non_name(haystack: &[u8]) -> Option<usize>
+    ensures { result ≡ first is_not_name haystack.now }
+{
+    haystack.iter().position(|b| !is_name(*b))
 }
