@@ -1,21 +1,25 @@
 -- What is printed of a tag on which a call is made, of a walk by its events, and of attributes in order.
-use Rattle.std.proofs.Common.{◌≡◌, ℕ, Bool, false, not, if◌then◌else◌, List, [], ◌∷◌, ◌++◌, map, flat_map, Option, Some, None, Result, Ok, refl, ap, sym, subst₂, ◌∙◌, append-nil, append_assoc}
+use Rattle.std.proofs.Common.{◌≡◌, ℕ, Bool, false, not, if◌then◌else◌, List, [], ◌∷◌, ◌++◌, map, flat_map, Option, Some, None, Result, Ok, Err, string_bytes, true, refl, ap, sym, subst, subst₂, ◌∙◌, append-nil, append_assoc}
 use Rattle.tl_spec.specs.AttributeList.{Attributes, pairs_in_order, printed_pairs}
 use Rattle.tl_spec.specs.ByteClass.{is_printed_alone}
-use Rattle.tl_spec.specs.Clean.{HaveOwnKeys, IsCleanTable}
+use Rattle.tl_spec.specs.Clean.{HaveOwnKeys, IsCleanNode, IsCleanTable, NodeHasOwnKeys}
 use Rattle.tl_spec.specs.Document.{Node, Tag, TagNode}
 use Rattle.tl_spec.specs.Normal.{ReadsAs}
-use Rattle.tl_spec.specs.Print.{print, print_start, print_end, printed}
+use Rattle.tl_spec.specs.Print.{outer_html, print, print_start, print_end, printed}
 use Rattle.tl_spec.specs.Text.{text_of, event_text}
 use Rattle.tl_spec.specs.Walk.{Event, TreeFault, Walk, events, every, fault_among, first_fault, or_else, plain_node, shows, trees, unless, walk, walk_of}
-use Rattle.tl_spec.proofs.Events.{first_fault-events, print-walk, text_of-events, walk_of-tag}
+use Rattle.tl_spec.proofs.Events.{first_fault-events, print-walk, text_of-events, walk_of-passed, walk_of-tag}
 use Rattle.tl_spec.proofs.Images.{image-pairs_in_order}
 use Rattle.tl_spec.specs.Attribute.{Pair}
-use Rattle.tl_spec.proofs.Walks.{table_identity}
+use Rattle.tl_spec.proofs.Walks.{node_identity, table_identity}
 use Rattle.tl_bytes.specs.Held.{Kept}
 use Rattle.tl.specs.declared.errors.TreeError.{TreeError}
 use Rattle.tl_attributes.specs.Listed.{as_borrowed, listed}
 use Rattle.tl_attributes.specs.ShownAttributes.{plain, shown_bytes, shown_pair, shown_value}
+use Rattle.std.specs.Prelude.{IfOk}
+use Rattle.std.specs.Global.{Global}
+use Rattle.std.specs.declared.string.String.{String}
+use Rattle.tl.specs.Answer.{Answers}
 use Rattle.tl.specs.Writing.{Writes}
 
 or_else-none : (o : Option TreeFault) → or_else o None ≡ o
@@ -46,6 +50,13 @@ module _ (nodes : List Node) (own : TagNode) where
       ∙ ap (λ s. (start_bytes ++ s) ++ []) (chosen (is_printed_alone own.name) false [] (print (trees inside) ++ end_bytes) entered)
       ∙ append-nil (start_bytes ++ (print (trees inside) ++ end_bytes))
 
+  -- its trees have their own keys where it and those of its children have
+  pub own-entered : is_printed_alone own.name ≡ false → NodeHasOwnKeys (Tag own) → HaveOwnKeys (trees (walk shows nodes [] own.children.items)) → HaveOwnKeys (trees (walk_of shows nodes (Tag own)))
+  own-entered entered start below = subst (λ w. HaveOwnKeys (trees w)) (sym (walk_of-tag shows nodes own (ap not entered))) (start, below, tt)
+
+  pub own-passed : is_printed_alone own.name ≡ true → NodeHasOwnKeys (Tag own) → HaveOwnKeys (trees (walk_of shows nodes (Tag own)))
+  own-passed alone start = subst (λ w. HaveOwnKeys (trees w)) (sym (walk_of-passed shows nodes own (ap not alone))) (start, tt, tt)
+
 -- a walk's events say what its trees print
 pub writes-walk : {A : Type 0} (nodes : List Node) (hs : List ℕ) (es : List Event) (old : List ℕ) (r : Result A TreeError) (new : List ℕ) →
     es ≡ events (walk shows nodes [] hs) → Writes (fault_among es) (flat_map printed es) old r new →
@@ -58,6 +69,18 @@ pub reads-printed : (nodes : List Node) (top s : List ℕ) → first_fault (walk
     IsCleanTable nodes top → ReadsAs s (trees (walk every nodes [] top))
 reads-printed nodes top s no_fault is own clean =
     table_identity (record { nodes = nodes; top = top; is_html5 = false }) clean own s (ap (λ o. unless o (print (trees (walk shows nodes [] top)))) no_fault ∙ ap Ok (sym is))
+
+-- the print of a clean node is read as that one tree
+pub reads-node : (nodes : List Node) (node : Node) (s : List ℕ) → first_fault (walk_of shows nodes node) ≡ None → s ≡ print (trees (walk_of shows nodes node)) →
+    HaveOwnKeys (trees (walk_of shows nodes node)) → IsCleanNode nodes node → ReadsAs s (trees (walk_of every nodes node))
+reads-node nodes node s no_fault is own clean =
+    node_identity nodes node clean own s (ap (λ o. unless o (print (trees (walk_of shows nodes node)))) no_fault ∙ ap Ok (sym is))
+
+-- so is that of a text and of a comment
+pub reads-leaf : (nodes : List Node) (node : Node) (s : List ℕ) (r : Result (String Global) TreeError) → outer_html nodes node ≡ Ok s → HaveOwnKeys (trees (walk_of shows nodes node)) →
+    Answers (Ok s) r → IsCleanNode nodes node → IfOk r (λ t. ReadsAs (string_bytes t) (trees (walk_of every nodes node)))
+reads-leaf nodes node s (Ok t) is own answers clean = node_identity nodes node clean own (string_bytes t) (is ∙ answers)
+reads-leaf nodes node s (Err e) is own answers clean = tt
 
 -- the events of the walk below a tag say what its text is
 pub writes-text : {A : Type 0} (nodes : List Node) (own : TagNode) (es : List Event) (old : List ℕ) (r : Result A TreeError) (new : List ℕ) →

@@ -9,9 +9,9 @@ ghost use Rattle.tl_spec.specs.Document.{Document, Node, TagNode, Tag, document,
 ghost use Rattle.tl_spec.specs.Edit.{Change, edited, edited_all, done};
 ghost use Rattle.tl_spec.specs.Edits.{later, KeepsShape};
 ghost use Rattle.tl_spec.specs.Machine.{run, start};
-ghost use Rattle.tl_spec.specs.Walk.{Walk, every, shows, row_walk, walk, trees, first_fault, visits, visits_from};
-ghost use Rattle.tl_spec.specs.Print.{print, document_print};
-ghost use Rattle.tl_spec.specs.Clean.{IsClean, IsCleanTable, HaveOwnKeys, IsTame};
+ghost use Rattle.tl_spec.specs.Walk.{Walk, every, shows, row_walk, walk, walk_of, trees, first_fault, visits, visits_from};
+ghost use Rattle.tl_spec.specs.Print.{print, document_print, outer_html};
+ghost use Rattle.tl_spec.specs.Clean.{IsClean, IsCleanNode, IsCleanTable, HaveOwnKeys, IsTame};
 ghost use Rattle.tl_spec.specs.Normal.{ReadsAs};
 ghost use Rattle.tl_spec.specs.Edit.{Change};
 ghost use Rattle.tl_spec.specs.StepLine.{change_of_line, changes_of, spelled, spelled_all, ReadBack, IsSpellable, IsLine};
@@ -66,6 +66,13 @@ pub fn trees_print_then_parse()
 pub fn table_print_then_parse()
     ensures prints { (d : Document) → IsCleanTable d.nodes d.top → document_print d ≡ Ok (print (trees (walk every d.nodes [] d.top))) }
     ensures reads { (d : Document) → IsCleanTable d.nodes d.top → HaveOwnKeys (trees (walk shows d.nodes [] d.top)) → (s : List ℕ) → document_print d ≡ Ok s → ReadsAs s (trees (walk every d.nodes [] d.top)) }
+{}
+
+/// The same of a node over a table: a clean one has a print, which is read as the normal form of the one tree of its full walk.
+#[tactic(auto, using(crate::proofs::All::laws))]
+pub fn node_print_then_parse()
+    ensures prints { (nodes : List Node) (node : Node) → IsCleanNode nodes node → outer_html nodes node ≡ Ok (print (trees (walk_of every nodes node))) }
+    ensures reads { (nodes : List Node) (node : Node) → IsCleanNode nodes node → HaveOwnKeys (trees (walk_of shows nodes node)) → (s : List ℕ) → outer_html nodes node ≡ Ok s → ReadsAs s (trees (walk_of every nodes node)) }
 {}
 
 /// The full walk of a document just read meets no fault, all its nodes in the order of the table, and the trees of its tokens.

@@ -4,7 +4,7 @@ ghost use Rattle.std.specs.List.{AllByRecursion};
 ghost use Rattle.std.specs.Option.{option_copied};
 ghost use Rattle.std.specs.Str.Lossy.{utf8_lossy};
 ghost use Rattle.tl_spec.specs.AttributeList.{printed_pairs, HasOwnKeys};
-ghost use Rattle.tl_spec.specs.Clean.{HaveOwnKeys, IsCleanTable, MeetsOwnKeys, NodeHasOwnKeys};
+ghost use Rattle.tl_spec.specs.Clean.{HaveOwnKeys, IsCleanNode, MeetsOwnKeys, NodeHasOwnKeys};
 ghost use Rattle.tl_spec.specs.Document.{Tag};
 ghost use Rattle.tl_spec.specs.Normal.{ReadsAs};
 ghost use Rattle.tl_spec.specs.Print.{outer_html, inner_html, document_print, print, print_value, print_pairs, print_start, print_end, printed};
@@ -142,8 +142,9 @@ fn write_tag<'s, 'a>(
     tag: &'s HTMLTag<'a>,
     out: &mut String,
 ) -> Result<(), TreeError>
-    ensures { let w = walk_of shows (map shown nodes.now) (Tag (shown_tag tag.now)) in
+    ensures writes { let w = walk_of shows (map shown nodes.now) (Tag (shown_tag tag.now)) in
         Writes (first_fault w) (print (trees w)) (string_bytes out.old) result (string_bytes out.new) }
+    ensures own { OnOk result (HaveOwnKeys (trees (walk_of shows (map shown nodes.now) (Tag (shown_tag tag.now))))) }
 {
     write_start(tag, out)?;
     if is_printed_alone(tag.name().as_bytes()) {
@@ -165,8 +166,11 @@ pub(crate) fn lossy_text(alloc: Global, bytes: &[u8]) -> Result<String, TreeErro
 
 impl<'a> HTMLTag<'a> {
     /// The tag as markup, with all that it holds by the table of `parser`. An end tag is written whether or not the text had one.
+    /// What is printed of a clean tag is read as that one tree.
     pub fn outer_html(&self, alloc: Global, parser: &Parser<'a>) -> Result<String, TreeError>
-        ensures { Answers (outer_html (map shown parser.now.nodes) (Tag (shown_tag self.now))) result }
+        ensures answers { Answers (outer_html (map shown parser.now.nodes) (Tag (shown_tag self.now))) result }
+        ensures identity { let nodes = map shown parser.now.nodes in let own = Tag (shown_tag self.now) in
+            IsCleanNode nodes own → IfOk result (λ s. ReadsAs (string_bytes s) (trees (walk_of every nodes own))) }
     {
         let mut out = String::new(alloc);
         write_tag(alloc, parser.nodes(), self, &mut out)?;
@@ -189,9 +193,11 @@ impl<'a> HTMLTag<'a> {
 }
 
 impl<'a> Node<'a> {
-    /// The node as markup, with all that it holds by the table of `parser`.
+    /// The node as markup, with all that it holds by the table of `parser`. What is printed of a clean node is read as that one tree.
     pub fn outer_html(&self, alloc: Global, parser: &Parser<'a>) -> Result<String, TreeError>
-        ensures { Answers (outer_html (map shown parser.now.nodes) (shown self.now)) result }
+        ensures answers { Answers (outer_html (map shown parser.now.nodes) (shown self.now)) result }
+        ensures identity { let nodes = map shown parser.now.nodes in let own = shown self.now in
+            IsCleanNode nodes own → IfOk result (λ s. ReadsAs (string_bytes s) (trees (walk_of every nodes own))) }
     {
         match self {
             Node::Tag(tag) => tag.outer_html(alloc, parser),

@@ -1,14 +1,15 @@
-use Rattle.std.proofs.Common.{◌≡◌, ◌++◌, [], ℕ, List, false, map, ap, sym, ◌∙◌, string_bytes}
+use Rattle.std.proofs.Common.{◌≡◌, ◌++◌, [], ℕ, List, false, true, map, ap, sym, subst, ◌∙◌, string_bytes}
 use Rattle.tl_spec.specs.ByteClass.{is_printed_alone}
+use Rattle.tl_spec.specs.Clean.{HaveOwnKeys}
 use Rattle.tl_spec.specs.Document.{Node, Tag, TagNode}
 use Rattle.tl_spec.specs.Print.{print, print_start, print_end}
 use Rattle.tl_spec.specs.Walk.{first_fault, plain_node, shows, trees, walk, walk_of}
 use Rattle.tl.specs.Shown.{shown, shown_tag}
-use Rattle.tl.proofs.Printing.{fault-entered, print-entered, three}
+use Rattle.tl.proofs.Printing.{fault-entered, own-entered, own-passed, print-entered, three}
 use Rattle.tl.proofs.walk.print.write_tag.Goals as goal
 
-pub returns : goal.returns
-returns c =
+pub returns-clause-writes : goal.returns-clause-writes
+returns-clause-writes c =
     let nodes : List Node = map shown c.args.nodes.now in
     let own : TagNode = shown_tag c.args.tag.now in
     let entered : is_printed_alone own.name ≡ false =
@@ -22,3 +23,19 @@ returns c =
           (string_bytes c.args.out.now) (string_bytes c.write_start.new.out) (string_bytes c.write_row.new.out) (string_bytes c.write_end.new.out)
           c.in_ok-write_start.ensures.ok row c.in_ok-write_end.ensures.ok (print-entered nodes own entered),
     )
+
+pub returns-clause-own : goal.returns-clause-own
+returns-clause-own c =
+    let nodes : List Node = map shown c.args.nodes.now in
+    let own : TagNode = shown_tag c.args.tag.now in
+    let entered : is_printed_alone own.name ≡ false =
+    sym (ap is_printed_alone (c.as_bytes.ensures ∙ ap (λ b. b.list) c.name.ensures)) ∙ sym c.is_printed_alone.ensures ∙ c.if-is_printed_alone.false in
+    let children : c.as_slice.result.now ≡ own.children.items = c.as_slice.ensures ∙ ap (λ v. v.items) c.child_handles.ensures in
+    own-entered nodes own entered c.in_ok-write_start.ensures.own (subst (λ hs. HaveOwnKeys (trees (walk shows nodes [] hs))) children c.in_ok-write_row.ensures.own)
+
+pub returns-then-is_printed_alone-clause-own : goal.returns-then-is_printed_alone-clause-own
+returns-then-is_printed_alone-clause-own c =
+    let own : TagNode = shown_tag c.args.tag.now in
+    let alone : is_printed_alone own.name ≡ true =
+    sym (ap is_printed_alone (c.as_bytes.ensures ∙ ap (λ b. b.list) c.name.ensures)) ∙ sym c.is_printed_alone.ensures ∙ c.if-is_printed_alone.true in
+    own-passed (map shown c.args.nodes.now) own alone c.in_ok-write_start.ensures.own
