@@ -1,10 +1,11 @@
 //! Reads HTML into a table of nodes that borrow from the text, and prints it again.
 #![tactic(auto)]
 
-ghost use Rattle.std.specs.Prelude.{◌≡◌, ◌↔◌, ◌<◌, length, IfOk, IsErrOf, All};
+ghost use Rattle.std.specs.Prelude.{◌≡◌, ◌↔◌, ◌<◌, ◌≤◌, length, sum_by, IfOk, IsErrOf, All};
 ghost use Rattle.tl_spec.specs.Clean.{IsTame, IsCleanTable};
-ghost use Rattle.tl_spec.specs.Document.{document};
+ghost use Rattle.tl_spec.specs.Document.{document, weight};
 ghost use Rattle.tl_spec.specs.Forest.{forest, plain};
+ghost use Rattle.tl_spec.specs.Order.{AreChildrenAbove, AreDescendantsNext};
 ghost use Rattle.tl_spec.specs.Token.{tokens};
 ghost use Rattle.tl_bytes.specs.Held.{borrowed};
 ghost use Rattle.tl.specs.Shown.{document_of, version_of};
@@ -41,6 +42,7 @@ pub use vdom::{VDom, VDomOf};
 /// Reads a text into a document whose pieces are slices of it.
 ///
 /// Markup that is broken is dropped without a fault. A text longer than 4294967295 bytes is refused before any memory is taken.
+/// The nodes stand in the order of the text: what hangs below a tag is the nodes right after it.
 pub fn parse<'a>(
     alloc: Global,
     text: &'a str,
@@ -50,6 +52,11 @@ pub fn parse<'a>(
     ensures document { IfOk result (λ d. document_of d ≡ document text.now) }
     ensures version { IfOk result (λ d. d.version ≡ version_of (document text.now).is_html5) }
     ensures borrowed { IfOk result (λ d. All (IsHeldNode borrowed) d.nodes) }
+
+    // What callers go by who count nodes: their order, and that they and their attributes are no more than the bytes.
+    ensures above { IfOk result (λ d. AreChildrenAbove (document_of d).nodes) }
+    ensures interval { IfOk result (λ d. AreDescendantsNext (document_of d).nodes) }
+    ensures size { IfOk result (λ d. sum_by weight (document_of d).nodes ≤ length text.now) }
 
     // So what `outer_html` says of a clean table is said of a text with tame trees.
     ensures clean { IsTame (plain (forest (tokens text.now))) → IfOk result (λ d. IsCleanTable (document_of d).nodes (document_of d).top) }

@@ -6,17 +6,19 @@ use Rattle.tl_spec.specs.Edit.{Change}
 use Rattle.tl_spec.specs.StepLine.{changes_of}
 use Rattle.tl_program.specs.Steps.{change_of}
 use Rattle.tl_program.specs.declared.program.asked.Command.{Command}
-use Rattle.tl_program.specs.declared.program.asked.Command.TheVariants.{Print, Text, Edit}
+use Rattle.tl_program.specs.declared.program.asked.Command.TheVariants.{Print, Text, Again, Edit}
 
 pub data Asked : Type 0 where
   Prints : Asked
   Texts : Asked
+  PrintsAgain : Asked
   Edits : (changes : List Change) → Asked
 
 -- what a command asks for
 abbrev pub asked_of : Command → Asked
 asked_of Print = Prints
 asked_of Text = Texts
+asked_of Again = PrintsAgain
 asked_of (Edit steps) = Edits (map change_of steps.items)
 
 -- what one word asks for, if anything
@@ -24,6 +26,7 @@ abbrev pub asked_by_one : List ℕ → Option Asked
 asked_by_one word =
     if bytes_eq word (codes "print") then Some Prints
     else if bytes_eq word (codes "text") then Some Texts
+    else if bytes_eq word (codes "again") then Some PrintsAgain
     else None
 
 -- what a word and a text after it ask for, if anything

@@ -10,7 +10,7 @@ use Rattle.tl_spec.specs.Edit.{Edited, Refusal, edited_all}
 use Rattle.tl_spec.specs.Print.{document_print}
 use Rattle.tl_spec.specs.Text.{inner_text}
 use Rattle.tl_spec.specs.Walk.{TreeFault, Dangling}
-use Rattle.tl_program.specs.Asked.{Asked, Prints, Texts, Edits}
+use Rattle.tl_program.specs.Asked.{Asked, Prints, Texts, PrintsAgain, Edits}
 use Rattle.tl_program.specs.declared.program.failure.Failure.{Failure}
 use Rattle.tl_program.specs.declared.program.failure.Failure.TheVariants.{Refused, NotUnderstood, OutOfMemory, Fault as StreamFault}
 
@@ -31,6 +31,11 @@ not_understood = record { status = 2; bytes = [] }
 abbrev pub outcome_of_reading : Result (List ℕ) TreeFault → Outcome
 outcome_of_reading (Ok text) = done text
 outcome_of_reading (Err fault) = refused
+
+-- the document that a print is read as, printed; a print longer than 4294967295 bytes is not understood
+abbrev pub outcome_of_print : Result (List ℕ) TreeFault → Outcome
+outcome_of_print (Ok text) = if nat_lt 4294967295 (length text) then not_understood else outcome_of_reading (document_print (document text))
+outcome_of_print (Err fault) = refused
 
 -- a text and the one after it, or the first fault
 abbrev pub followed_by : Result (List ℕ) TreeFault → Result (List ℕ) TreeFault → Result (List ℕ) TreeFault
@@ -63,6 +68,7 @@ outcome_of_edited e = outcome_of_edit e.refused e.document
 abbrev pub outcome_of_document : Asked → Document → Outcome
 outcome_of_document Prints d = outcome_of_reading (document_print d)
 outcome_of_document Texts d = outcome_of_reading (texts_of d)
+outcome_of_document PrintsAgain d = outcome_of_print (document_print d)
 outcome_of_document (Edits changes) d = outcome_of_edited (edited_all changes d)
 
 -- a text longer than 4294967295 bytes is not understood

@@ -15,6 +15,11 @@ pub fn all(alloc: Global) -> Result<(), Stop> {
     said(alloc, &["text"], b"xy\xc3\xa9")?;
     said(
         alloc,
+        &["again"],
+        b"<p a=\"1\" b=\"2\" c=\"3\">x<b>y</b>\xc3\xa9<!-- z --><br></p>",
+    )?;
+    said(
+        alloc,
         &["edit", "set 0 d 4\nunset 0 a\nname 2 i\ntext 4 w\npush 0 1"],
         b"<p d=\"4\" b=\"2\" c=\"3\">x<i>y</i>w<!-- z --><br>x</p>",
     )

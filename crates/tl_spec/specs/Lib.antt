@@ -12,6 +12,7 @@ pub mod Machine
 pub mod Print
 pub mod Text
 pub mod Walk
+pub mod Order
 pub mod Clean
 pub mod Normal
 pub mod ClassMember

@@ -10,6 +10,7 @@ ghost use Rattle.tl_spec.specs.Edit.{Change, edited, edited_all, done};
 ghost use Rattle.tl_spec.specs.Edits.{later, KeepsShape};
 ghost use Rattle.tl_spec.specs.Machine.{run, start};
 ghost use Rattle.tl_spec.specs.Walk.{Walk, every, shows, row_walk, walk, walk_of, trees, first_fault, visits, visits_from};
+ghost use Rattle.tl_spec.specs.Order.{AreChildrenAbove, AreDescendantsNext};
 ghost use Rattle.tl_spec.specs.Print.{print, document_print, outer_html};
 ghost use Rattle.tl_spec.specs.Clean.{IsClean, IsCleanNode, IsCleanTable, HaveOwnKeys, IsTame};
 ghost use Rattle.tl_spec.specs.Normal.{ReadsAs};
@@ -94,8 +95,8 @@ pub fn fresh_is_clean()
 /// In a document just read a child's number is above its parent's, and a tag's descendants are the nodes right after it.
 #[tactic(auto, using(crate::proofs::All::laws))]
 pub fn document_order()
-    ensures above { (t : List ℕ) (n : ℕ) (own : TagNode) → slice_get (document t).nodes n ≡ Some (Tag own) → All (λ c. n < c) own.children.items }
-    ensures interval { (t : List ℕ) (n : ℕ) (own : TagNode) → slice_get (document t).nodes n ≡ Some (Tag own) → (count : ℕ) × (visits (walk every (document t).nodes [] own.children.items) ≡ visits_from (n + 1) (take count (drop (n + 1) (document t).nodes))) }
+    ensures above { (t : List ℕ) → AreChildrenAbove (document t).nodes }
+    ensures interval { (t : List ℕ) → AreDescendantsNext (document t).nodes }
 {}
 
 /// A document just read has no more nodes and attributes than its text has bytes.

@@ -248,6 +248,12 @@ const ANSWERS: &[(&[&str], &[u8], u8, &[u8])] = &[
     (&["text"], b"a<p>b<br>c</p><!-- d -->", 0, b"abc"),
     (&["text"], b"", 0, b""),
     (&["text"], b"<p>\xc3\xa9</p> <q>x</q>", 0, b"\xc3\xa9 x"),
+    (&["again"], b"<p a='x\"y'>z</p>", 0, b"<p a=\"x\" y>z</p>"),
+    (&["print"], b"<p a='x\"y'>z</p>", 0, b"<p a=\"x\"y\">z</p>"),
+    (&["again"], b"<p>x</p >", 0, b"<p>x</p>"),
+    (&["again"], b"", 0, b""),
+    (&["again"], b"<br/>x</br/>", 0, b"<br>x"),
+    (&["again"], b"<p>\xff</p>", 2, b""),
     (
         &["edit", "set 0 href /x"],
         b"<a>y</a>",

@@ -16,6 +16,7 @@ fn asked_by(alloc: Global, words: &[String]) -> &'static str {
     match command(alloc, words) {
         Ok(Some(Command::Print)) => "print",
         Ok(Some(Command::Text)) => "text",
+        Ok(Some(Command::Again)) => "again",
         Ok(Some(Command::Edit(_))) => "edit",
         Ok(None) => "nothing",
         Err(_) => "memory",
@@ -35,6 +36,10 @@ const ROWS: &[(&[&str], &str)] = &[
     (&["print", ""], "nothing"),
     (&["text"], "text"),
     (&["text", ""], "nothing"),
+    (&["again"], "again"),
+    (&["again", ""], "nothing"),
+    (&["Again"], "nothing"),
+    (&["again "], "nothing"),
     (&[""], "nothing"),
     (&["Print"], "nothing"),
     (&["prin"], "nothing"),

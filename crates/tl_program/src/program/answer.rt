@@ -1,10 +1,11 @@
 //! What a command writes of a text.
 ghost use Rattle.std.specs.Prelude.{map};
 ghost use Rattle.tl_spec.specs.Edit.{edited_all};
+ghost use Rattle.tl_spec.specs.Print.{document_print};
 ghost use Rattle.tl.specs.Answer.{Answers};
 ghost use Rattle.tl.specs.Shown.{document_of, shown};
 ghost use Rattle.tl_program.specs.Asked.{asked_of};
-ghost use Rattle.tl_program.specs.Output.{outcome_of_text, outcome_of_document, outcome_of_edited, text_at, texts_of, Gives};
+ghost use Rattle.tl_program.specs.Output.{outcome_of_text, outcome_of_document, outcome_of_edited, outcome_of_print, text_at, texts_of, Gives};
 ghost use Rattle.tl_program.specs.Steps.{change_of};
 
 use super::asked::Command;
@@ -37,6 +38,15 @@ fn texts(alloc: Global, document: &VDom<'_>) -> Result<String, TreeError>
     Ok(all)
 }
 
+// The print of the document that the print of a document is read as.
+fn again(alloc: Global, document: &VDom<'_>) -> Result<String, Failure>
+    ensures { Gives (outcome_of_print (document_print (document_of document.now))) result }
+{
+    let print = document.outer_html(alloc)?;
+    let document = tl::parse(alloc, print.as_str(), ParserOptions::new())?;
+    Ok(document.outer_html(alloc)?)
+}
+
 // The print after steps.
 fn edited(alloc: Global, document: &mut VDom<'_>, steps: &[Step<'_>]) -> Result<String, Failure>
     ensures { Gives (outcome_of_edited (edited_all (map change_of steps.now) (document_of document.old))) result }
@@ -56,6 +66,7 @@ fn of_document(
     match command {
         Command::Print => Ok(document.outer_html(alloc)?),
         Command::Text => Ok(texts(alloc, document)?),
+        Command::Again => again(alloc, document),
         Command::Edit(steps) => edited(alloc, document, steps),
     }
 }

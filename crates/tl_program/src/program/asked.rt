@@ -8,6 +8,8 @@ pub enum Command<'c> {
     Print,
     /// The texts of the document's top nodes, joined in order.
     Text,
+    /// The document of the print of the input's document, printed.
+    Again,
     /// The document after these steps, printed.
     Edit(Vec<Step<'c>>),
 }

@@ -15,6 +15,8 @@ fn of_one<'c>(word: &str) -> Option<Command<'c>>
         Some(Command::Print)
     } else if word == "text" {
         Some(Command::Text)
+    } else if word == "again" {
+        Some(Command::Again)
     } else {
         None
     }
@@ -31,8 +33,8 @@ fn of_two<'c>(alloc: Global, word: &str, text: &'c str) -> Result<Option<Command
     }
 }
 
-/// The command that the words say, or None where they say none: `print`, `text`, or `edit` and after it a text of
-/// step lines.
+/// The command that the words say, or None where they say none: `print`, `text`, `again`, or `edit` and after it a
+/// text of step lines.
 pub fn command<'c>(alloc: Global, words: &'c [String]) -> Result<Option<Command<'c>>, AllocError>
     ensures { IfOk result (λ c. option_map asked_of c ≡ asked_by (map string_bytes words.now)) }
 {
