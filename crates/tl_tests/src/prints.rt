@@ -2,11 +2,10 @@
 use crate::show::{Look, all_look, shows};
 use std::test::Fail;
 
-static UNCHANGED: [&str; 14] = [
+static UNCHANGED: [&str; 13] = [
     "",
     "abc <p>test<span>a</span></p> def",
     "<p a b=\"c\">x</p>",
-    "<br/>x</br/>",
     "<html><head></head><body><img src=\"\"><br><hr></body></html>",
     "<!-- element 1 --><div><div>element 3</div></div>",
     "<p>test</p><div><span>test2</span></div>",
@@ -28,12 +27,15 @@ fn pages_that_print_themselves(rt: HostRuntime) -> Result<(), Fail> {
     Ok(())
 }
 
-static TAGS_AND_TEXTS: [(&str, &str); 14] = [
+static TAGS_AND_TEXTS: [(&str, &str); 17] = [
     ("a<", "a"),
     ("<a><b></a></b>", "<a><b></b></a>"),
     ("<a>x</b>y</a>z", "<a>xy</a>z"),
     ("<a href=/x>y</a>", "x>y"),
     ("<br /><p>test</p>", "<br><p>test</p>"),
+    ("<br/>x</br/>", "<br>x"),
+    ("<a/>", "<a></a>"),
+    ("<p a=b/c>", "c>"),
     (
         "<base href='s'></base><link href=\"x\"/>",
         "<base href=\"s\"><link href=\"x\">",
@@ -48,7 +50,7 @@ static TAGS_AND_TEXTS: [(&str, &str); 14] = [
     ("<command>x</command>", "<command>"),
 ];
 
-static ATTRIBUTES: [(&str, &str); 18] = [
+static ATTRIBUTES: [(&str, &str); 19] = [
     ("<p\ta>x</p>", "<p  a>x</p>"),
     ("<p  a>x</p>", "<p a>x</p>"),
     ("<p a='x\"y'>z</p>", "<p a=\"x\"y\">z</p>"),
@@ -57,7 +59,8 @@ static ATTRIBUTES: [(&str, &str); 18] = [
     ("<p a= >", "<p a=\"\"></p>"),
     ("<p a=>", "<p a=\"\"></p>"),
     ("<p a=b/>", "<p a=\"b\"></p>"),
-    ("<p a/b>", "<p a/b></p>"),
+    ("<p a/b>", "b>"),
+    ("<p a/>", "<p a></p>"),
     ("<p \"x\">", "<p  x></p>"),
     ("<p a=\"b>x", ""),
     ("<p id>", "<p></p>"),
