@@ -70,6 +70,19 @@ edited_all-append (c ∷ cs) ds d e before =
     let first = done-next (edited_all cs) d e (edited c d) before in
     ap (next (edited_all (cs ++ ds)) d) first.1 ∙ ap one_later (edited_all-append cs ds first.0 e first.2) ∙ later-suc (length cs) (edited_all ds e)
 
+-- what comes after a refused edit is left out
+pub edited_all-left_out : (cs ds : List Change) (d : Document) (r : ℕ × Refusal) → (edited_all cs d).refused ≡ Some r → edited_all (cs ++ ds) d ≡ edited_all cs d
+edited_all-left_out [] ds d r refuses = cc
+edited_all-left_out (c ∷ cs) ds d r refuses = by (edited_all-left_out cs ds) (edited c d) refuses
+  where
+    earlier : (o : Option (ℕ × Refusal)) → option_map {U = ℕ × Refusal} (λ r. (suc r.0, r.1)) o ≡ Some r → (q : ℕ × Refusal) × (o ≡ Some q)
+    earlier None is = cc
+    earlier (Some q) is = (q, refl)
+    by : ((f : Document) (q : ℕ × Refusal) → (edited_all cs f).refused ≡ Some q → edited_all (cs ++ ds) f ≡ edited_all cs f) →
+        (o : Result Document Refusal) → (next (edited_all cs) d o).refused ≡ Some r → next (edited_all (cs ++ ds)) d o ≡ next (edited_all cs) d o
+    by later (Ok f) is = let q = earlier (edited_all cs f).refused is in ap one_later (later f q.0 q.1)
+    by later (Err refusal) is = refl
+
 -- an edit of a node that is not refused
 source-same : (x : Node) → KeepsSource x x
 source-same (Tag own) = (refl, refl)

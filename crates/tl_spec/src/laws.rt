@@ -6,7 +6,7 @@ ghost use Rattle.tl_spec.specs.Token.{Token, PlacedToken, next_token, tokens};
 ghost use Rattle.tl_spec.specs.Grammar.{AttributeStands, AttributesStand, TokenStands, StandFrom};
 ghost use Rattle.tl_spec.specs.Forest.{Forest, PlainTag, Siblings, Makes, no_siblings, siblings, with_token, forest, plain};
 ghost use Rattle.tl_spec.specs.Document.{Document, Node, TagNode, Tag, document, weight};
-ghost use Rattle.tl_spec.specs.Edit.{Change, edited, edited_all, done};
+ghost use Rattle.tl_spec.specs.Edit.{Change, Refusal, edited, edited_all, done};
 ghost use Rattle.tl_spec.specs.Edits.{later, KeepsShape};
 ghost use Rattle.tl_spec.specs.Machine.{run, start};
 ghost use Rattle.tl_spec.specs.Walk.{Walk, every, shows, row_walk, walk, walk_of, trees, first_fault, visits, visits_from};
@@ -112,10 +112,11 @@ pub fn machine_writes_document()
     ensures version { (t : List ℕ) → (run t start (tokens t)).is_html5 ≡ (document t).is_html5 }
 {}
 
-/// Edits after edits that were done are edits of what those made, their places counted on.
+/// Edits after edits that were done are edits of what those made, their places counted on. Edits after a refused one are left out.
 #[tactic(auto, using(crate::proofs::All::laws))]
 pub fn edits_compose()
-    ensures { (cs ds : List Change) (d e : Document) → edited_all cs d ≡ done e → edited_all (cs ++ ds) d ≡ later (length cs) (edited_all ds e) }
+    ensures after_done { (cs ds : List Change) (d e : Document) → edited_all cs d ≡ done e → edited_all (cs ++ ds) d ≡ later (length cs) (edited_all ds e) }
+    ensures after_refused { (cs ds : List Change) (d : Document) (i : ℕ) (refusal : Refusal) → (edited_all cs d).refused ≡ Some (i, refusal) → edited_all (cs ++ ds) d ≡ edited_all cs d }
 {}
 
 /// No edit adds a node or takes one away, nor a place of the top list; none moves a tag in its source, makes one of what
