@@ -78,6 +78,7 @@ edited_all-left_out (c ∷ cs) ds d r refuses = by (edited_all-left_out cs ds) (
     earlier : (o : Option (ℕ × Refusal)) → option_map {U = ℕ × Refusal} (λ r. (suc r.0, r.1)) o ≡ Some r → (q : ℕ × Refusal) × (o ≡ Some q)
     earlier None is = cc
     earlier (Some q) is = (q, refl)
+
     by : ((f : Document) (q : ℕ × Refusal) → (edited_all cs f).refused ≡ Some q → edited_all (cs ++ ds) f ≡ edited_all cs f) →
         (o : Result Document Refusal) → (next (edited_all cs) d o).refused ≡ Some r → next (edited_all (cs ++ ds)) d o ≡ next (edited_all cs) d o
     by later (Ok f) is = let q = earlier (edited_all cs f).refused is in ap one_later (later f q.0 q.1)

@@ -1,7 +1,10 @@
 -- A line that is spelled is read back.
-use Rattle.std.proofs.Common.{◌≡◌, ◌≢◌, ℕ, List, [], ◌∷◌, ◌++◌, Bool, true, false, Option, None, Some, length, refl, ap, ◌∙◌, arith, if◌then◌else◌}
+use Rattle.std.proofs.Common.{◌≡◌, ◌≢◌, ℕ, ◌+◌, ◌-◌, ◌<◌, ◌^◌, List, [], ◌∷◌, ◌++◌, Bool, true, false, Option, None, Some, length, refl, ap, ◌∙◌, arith, if◌then◌else◌}
 use Rattle.std.specs.Prelude.{codes, not, ◌&&◌, All, option_map}
 use Rattle.std.proofs.lemmas.Bool.Decides.{nat_tests}
+use Rattle.std.proofs.lemmas.Fmt.{decimal_nonempty, digits_decimal, digits_value-decimal}
+use Rattle.std.proofs.lemmas.Str.Parse.{FoldsDigits, numerals_by_fold, tells_all_ascii_digits}
+use Rattle.std.specs.Fmt.{decimal}
 use Rattle.std.proofs.lemmas.Grind.{common_steps}
 use Rattle.std.proofs.lemmas.List.Elements.{All-nil, All-cons, All-get_or, All-head, All-tail, All-weaker}
 use Rattle.std.proofs.lemmas.List.Splits.{slice_split_at}
@@ -19,13 +22,13 @@ word_length word rest h =
     (λ k l. grind (arith, nat_tests, common_steps, All-get_or (λ b. b ≢ 32) word k 0 l h))
     (λ l. grind (arith, nat_tests, common_steps))
 
-first_word-spaced : (word rest : List ℕ) → All (λ b. b ≢ 32) word → first_word (spaced word rest) ≡ word
+pub first_word-spaced : (word rest : List ℕ) → All (λ b. b ≢ 32) word → first_word (spaced word rest) ≡ word
 first_word-spaced word rest h = rw (word_length word rest h) (grind (arith, common_steps))
 
-after_word-spaced : (word rest : List ℕ) → All (λ b. b ≢ 32) word → after_word (spaced word rest) ≡ rest
+pub after_word-spaced : (word rest : List ℕ) → All (λ b. b ≢ 32) word → after_word (spaced word rest) ≡ rest
 after_word-spaced word rest h = rw (word_length word rest h, drop-append-add) refl
 
-spaceless : List ℕ → Bool
+unfoldable pub spaceless : List ℕ → Bool
 spaceless [] = true
 spaceless (b ∷ bytes) = not (is_space b) && spaceless bytes
 
@@ -42,21 +45,21 @@ digits_if : (t : Bool) (digits : List ℕ) (n : ℕ) → t ≡ is_number digits 
 digits_if true digits n e h = grind (arith, nat_tests)
 digits_if false digits n e h = cc
 
-number-spaceless : (digits : List ℕ) (n : ℕ) → number_of digits ≡ Some n → All (λ b. b ≢ 32) digits
+pub number-spaceless : (digits : List ℕ) (n : ℕ) → number_of digits ≡ Some n → All (λ b. b ≢ 32) digits
 number-spaceless digits n h = digits-spaceless digits (digits_if (is_number digits) digits n refl h)
 
 -- a number and what stands after its space are read as that
-number_read : (digits rest : List ℕ) (n : ℕ) (made : ℕ → List ℕ → Option Change) → number_of digits ≡ Some n → of_number made (spaced digits rest) ≡ made n rest
+pub number_read : (digits rest : List ℕ) (n : ℕ) (made : ℕ → List ℕ → Option Change) → number_of digits ≡ Some n → of_number made (spaced digits rest) ≡ made n rest
 number_read digits rest n made h =
     let s = number-spaceless digits n h in
     rw (first_word-spaced digits rest s, after_word-spaced digits rest s, h) refl
 
-numbers_read : (digits more : List ℕ) (n m : ℕ) (made : ℕ → ℕ → Change) → number_of digits ≡ Some n → number_of more ≡ Some m → of_numbers made (spaced digits more) ≡ Some (made n m)
+pub numbers_read : (digits more : List ℕ) (n m : ℕ) (made : ℕ → ℕ → Change) → number_of digits ≡ Some n → number_of more ≡ Some m → of_numbers made (spaced digits more) ≡ Some (made n m)
 numbers_read digits more n m made h k =
     number_read digits more n (λ n digits. option_map (λ m. made n m) (number_of digits)) h ∙ rw k refl
 
 -- a line is read by its word
-line_read : (word rest : List ℕ) → spaceless word ≡ true → change_of_line (spaced word rest) ≡ change_by_word word rest
+pub line_read : (word rest : List ℕ) → spaceless word ≡ true → change_of_line (spaced word rest) ≡ change_by_word word rest
 line_read word rest h =
     let s = spaceless-All word h in
     rw (first_word-spaced word rest s, after_word-spaced word rest s) refl
@@ -98,11 +101,11 @@ spelled-not_empty digits (Pushes n h) = refl
 spelled-not_empty digits (Pulls n i) = refl
 spelled-not_empty digits (Roots i h) = refl
 
-not_feed : (b : ℕ) → b ≢ 10 → is_line_feed b ≡ false
+pub not_feed : (b : ℕ) → b ≢ 10 → is_line_feed b ≡ false
 not_feed b h = grind (arith, nat_tests)
 
 -- a line in front says its edit first
-changes_of_lines-cons : (line : List ℕ) (lines : List (List ℕ)) (c : Change) (cs : List Change) → is_not_empty line ≡ true → change_of_line line ≡ Some c → changes_of_lines lines ≡ Some cs → changes_of_lines (line ∷ lines) ≡ Some (c ∷ cs)
+pub changes_of_lines-cons : (line : List ℕ) (lines : List (List ℕ)) (c : Change) (cs : List Change) → is_not_empty line ≡ true → change_of_line line ≡ Some c → changes_of_lines lines ≡ Some cs → changes_of_lines (line ∷ lines) ≡ Some (c ∷ cs)
 changes_of_lines-cons line lines c cs e h k = rw (e, h, k) refl
 
 pub spelled_all_read : (digits : ℕ → List ℕ) → ReadBack digits → (cs : List Change) → All (IsLine digits) cs → changes_of (spelled_all digits cs) ≡ Some cs
@@ -114,4 +117,21 @@ spelled_all_read digits r (c ∷ cs) h =
     ap changes_of_lines (slice_split_at is_line_feed (spelled digits c) 10 (spelled_all digits cs) no_feed refl)
     ∙ changes_of_lines-cons (spelled digits c) (slice_split is_line_feed (spelled_all digits cs)) c cs (spelled-not_empty digits c) (spelled_read digits r c is_line.0) later
 
-pub ruleset laws = (spelled_read, spelled_all_read)
+pub number-if : (digits : List ℕ) → is_number digits ≡ true → number_of digits ≡ Some (read_on 0 digits)
+number-if digits h = rw h refl
+
+-- decimal digits
+
+folds : FoldsDigits read_on
+folds = record { empty = λ n. refl; more = λ n c cs h. ap (λ m. read_on m cs) (omega arith) }
+
+pub decimal-reads_back : ReadBack decimal
+decimal-reads_back n h =
+    let P = λ (ds : List ℕ). all_ascii_digits ds ≡ true in
+    let wide : n < 2 ^ 64 = omega arith in
+    let all : all_ascii_digits (decimal n) ≡ true = digits_decimal (numerals_by_fold P tells_all_ascii_digits read_on folds) n wide in
+    let value : read_on 0 (decimal n) ≡ n = digits_value-decimal (numerals_by_fold P tells_all_ascii_digits read_on folds) n wide in
+    let some : 0 < length (decimal n) = decimal_nonempty n wide in
+    number-if (decimal n) (grind (arith, nat_tests)) ∙ ap Some value
+
+pub ruleset laws = (spelled_read, spelled_all_read, decimal-reads_back)

@@ -19,3 +19,4 @@ pub mod ClassMember
 pub mod Edit
 pub mod Edits
 pub mod StepLine
+pub mod StepGrammar

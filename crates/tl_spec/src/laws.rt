@@ -1,6 +1,7 @@
 //! Laws of the definitions.
 
 ghost use Rattle.std.specs.Prelude.{◌≡◌, ◌↔◌, ◌<◌, ◌≤◌, ◌+◌, ℕ, All, sum_by, length, take, drop, slice_get, Some, List, [], ◌∷◌, ◌++◌, Option, None, Bool, Ok};
+ghost use Rattle.std.specs.Fmt.{decimal};
 ghost use Rattle.tl_spec.specs.Attribute.{Pair, attribute, attributes};
 ghost use Rattle.tl_spec.specs.Token.{Token, PlacedToken, next_token, tokens};
 ghost use Rattle.tl_spec.specs.Grammar.{AttributeStands, AttributesStand, TokenStands, StandFrom};
@@ -15,6 +16,7 @@ ghost use Rattle.tl_spec.specs.Print.{print, document_print, outer_html};
 ghost use Rattle.tl_spec.specs.Clean.{IsClean, IsCleanNode, IsCleanTable, HaveOwnKeys, IsTame};
 ghost use Rattle.tl_spec.specs.Normal.{ReadsAs};
 ghost use Rattle.tl_spec.specs.Edit.{Change};
+ghost use Rattle.tl_spec.specs.StepGrammar.{LineSays, TextSays};
 ghost use Rattle.tl_spec.specs.StepLine.{change_of_line, changes_of, spelled, spelled_all, ReadBack, IsSpellable, IsLine};
 
 /// An attribute stands by cases exactly where the function reads it, alone and in a row.
@@ -123,6 +125,26 @@ pub fn edits_compose()
 /// is none, or changes the version.
 pub fn edits_keep_the_shape()
     ensures { (c : Change) (d e : Document) → edited c d ≡ Ok e → KeepsShape d e }
+{}
+
+/// A line says an edit by cases exactly where the function reads it; so it says none exactly where it has none of the ten forms.
+#[tactic(auto, using(crate::proofs::StepForms::laws))]
+pub fn line_says()
+    ensures one { (line : List ℕ) (c : Change) → LineSays line c ↔ (change_of_line line ≡ Some c) }
+    ensures none { (line : List ℕ) → ((c : Change) → LineSays line c → ⊥) ↔ (change_of_line line ≡ None) }
+{}
+
+/// The same of a text of lines and the edits that it says.
+#[tactic(auto, using(crate::proofs::StepForms::laws))]
+pub fn text_says()
+    ensures all { (text : List ℕ) (cs : List Change) → TextSays text cs ↔ (changes_of text ≡ Some cs) }
+    ensures none { (text : List ℕ) → ((cs : List Change) → TextSays text cs → ⊥) ↔ (changes_of text ≡ None) }
+{}
+
+/// The decimal digits of a number are read as that number.
+#[tactic(auto, using(crate::proofs::Spelling::laws))]
+pub fn decimal_reads_back()
+    ensures { ReadBack decimal }
 {}
 
 /// The line of an edit says that edit, and lines of edits say all of them in order.
