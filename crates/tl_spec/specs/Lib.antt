@@ -5,6 +5,7 @@ pub mod Attribute
 pub mod Token
 pub mod Grammar
 pub mod AttributeList
+pub mod AttributeGrammar
 pub mod AttributeEdit
 pub mod Forest
 pub mod Document

@@ -5,6 +5,8 @@ ghost use Rattle.std.specs.Fmt.{decimal};
 ghost use Rattle.tl_spec.specs.Attribute.{Pair, attribute, attributes};
 ghost use Rattle.tl_spec.specs.Token.{Token, PlacedToken, next_token, tokens};
 ghost use Rattle.tl_spec.specs.Grammar.{AttributeStands, AttributesStand, TokenStands, StandFrom};
+ghost use Rattle.tl_spec.specs.AttributeList.{PlainAttributes, attributes_of};
+ghost use Rattle.tl_spec.specs.AttributeGrammar.{AreAttributesOf};
 ghost use Rattle.tl_spec.specs.Forest.{Forest, PlainTag, Siblings, Makes, no_siblings, siblings, with_token, forest, plain};
 ghost use Rattle.tl_spec.specs.Document.{Document, Node, TagNode, Tag, document, weight};
 ghost use Rattle.tl_spec.specs.Edit.{Change, Refusal, edited, edited_all, done};
@@ -36,6 +38,11 @@ pub fn token_stands()
 #[tactic(auto, using(crate::proofs::All::laws))]
 pub fn tokens_stand()
     ensures { (t : List ℕ) (ks : List PlacedToken) → StandFrom t 0 ks ↔ (ks ≡ tokens t) }
+{}
+
+/// A start tag's attributes, made pair after pair, are those of all its pairs, and no others are.
+pub fn attribute_list()
+    ensures { (pairs : List Pair) (a : PlainAttributes) → AreAttributesOf pairs a ↔ (attributes_of pairs ≡ a) }
 {}
 
 /// The siblings at the front of some tokens come of the first token and the siblings after it.
