@@ -16,6 +16,7 @@ pub mod Walk
 pub mod Order
 pub mod Clean
 pub mod Normal
+pub mod Misread
 pub mod ClassMember
 pub mod Edit
 pub mod Edits
