@@ -2,6 +2,7 @@
 
 ghost use Rattle.std.specs.Prelude.{List, [], ◌∷◌, Option, Some, None, codes};
 ghost use Rattle.tl_spec.specs.Forest.{none, text, comment, tag};
+ghost use Rattle.tl_spec.specs.Clean.{IsClean};
 ghost use Rattle.tl_spec.specs.Misread.{tag_with, IsMisread};
 
 /// No `<` stands in a text: it begins a token wherever it stands.
@@ -38,8 +39,10 @@ pub fn clean_tags()
     ensures command_before_a_text { IsMisread (tag (tag_with (codes "command") []) none (text (codes "x") none)) (codes "<command>x") (tag (tag_with (codes "command") []) (text (codes "x") none) none) }
 {}
 
-/// What the type of attributes keeps has to hold too: the other keys are distinct, and neither `id` nor `class`.
+/// Beside cleanness, what the type of attributes keeps has to hold: the other keys are distinct, and neither `id` nor `class`.
 pub fn own_keys()
     ensures repeated { IsMisread (tag (tag_with (codes "p") ((codes "a", Some (codes "1")) ∷ (codes "a", Some (codes "2")) ∷ [])) none none) (codes "<p a=\"1\" a=\"2\"></p>") (tag (tag_with (codes "p") ((codes "a", Some (codes "2")) ∷ [])) none none) }
+    ensures repeated_is_clean { IsClean (tag (tag_with (codes "p") ((codes "a", Some (codes "1")) ∷ (codes "a", Some (codes "2")) ∷ [])) none none) }
     ensures id_among_the_others { IsMisread (tag (tag_with (codes "p") ((codes "id", Some (codes "i")) ∷ [])) none none) (codes "<p id=\"i\"></p>") (tag (record { name = codes "p"; attributes = record { others = []; id = Some (codes "i"); class = None } }) none none) }
+    ensures id_is_clean { IsClean (tag (tag_with (codes "p") ((codes "id", Some (codes "i")) ∷ [])) none none) }
 {}
