@@ -1,0 +1,114 @@
+//! Prints, and what they are read as.
+use std::alloc::Global;
+use tl::{ParserOptions, VDom, parse};
+use tl_program::script::{Step, run};
+
+// A page, steps, its print after them, and of that print how many nodes it is read as, and what these print.
+type Row = (
+    &'static str,
+    &'static [Step<'static>],
+    &'static str,
+    usize,
+    &'static str,
+);
+
+static ROWS: [Row; 14] = [
+    // Clean documents, read as themselves.
+    ("<br>x", &[Step::Name(0, b"p")], "<p></p>x", 2, "<p></p>x"),
+    ("<p></p>", &[Step::Name(0, b"br")], "<br>", 1, "<br>"),
+    (
+        "<a></a><b></b>",
+        &[Step::Push(1, 0)],
+        "<a></a><b><a></a></b>",
+        3,
+        "<a></a><b><a></a></b>",
+    ),
+    (
+        "<p>a<b></b>c</p>",
+        &[Step::Text(2, b"")],
+        "<p>ac</p>",
+        2,
+        "<p>ac</p>",
+    ),
+    // The bytes of one letter, in two texts.
+    (
+        "<p>a<b></b>c</p>",
+        &[
+            Step::Text(2, b""),
+            Step::Text(1, b"\xc3"),
+            Step::Text(3, b"\xa9"),
+        ],
+        "<p>\u{fffd}\u{fffd}</p>",
+        2,
+        "<p>\u{fffd}\u{fffd}</p>",
+    ),
+    // Documents that are not clean, read as others.
+    ("<p\ta>x</p>", &[], "<p  a>x</p>", 2, "<p a>x</p>"),
+    (
+        "<p a='x\"y'>z</p>",
+        &[],
+        "<p a=\"x\"y\">z</p>",
+        2,
+        "<p a=\"x\" y>z</p>",
+    ),
+    ("<command>x</command>", &[], "<command>", 1, "<command>"),
+    (
+        "<p></p>",
+        &[Step::Comment(0, b"<!-- a --> b -->")],
+        "<!-- a --> b -->",
+        2,
+        "<!-- a --> b -->",
+    ),
+    ("<br>x", &[Step::Push(0, 1)], "<br>x", 2, "<br>x"),
+    (
+        "<p>x</p>",
+        &[Step::Text(1, b"<b>")],
+        "<p><b></p>",
+        2,
+        "<p><b></b></p>",
+    ),
+    ("<a x></a>", &[Step::Name(0, b"")], "< x></>", 1, "<x></x>"),
+    ("<p></p>", &[Step::Name(0, b"/a")], "</a><//a>", 0, ""),
+    ("<p></p>", &[Step::Name(0, b"a/b")], "<a/b></a/b>", 1, "b>"),
+];
+
+// Writes the print of a document, and answers how many nodes it has.
+fn print(alloc: Global, document: &VDom<'_>, out: &mut String) -> Option<usize> {
+    match document.outer_html(alloc) {
+        Ok(print) => {
+            out.push_str(print.as_str()).ok()?;
+            Some(document.nodes().len())
+        }
+        Err(_) => None,
+    }
+}
+
+// Takes the steps on a page, writes its print after them, and answers how many nodes it has.
+fn print_after(alloc: Global, page: &str, steps: &[Step<'_>], out: &mut String) -> Option<usize> {
+    match parse(alloc, page, ParserOptions::new()) {
+        Ok(mut document) => {
+            if run(alloc, &mut document, steps).is_err() {
+                return None;
+            }
+            print(alloc, &document, out)
+        }
+        Err(_) => None,
+    }
+}
+
+// Whether the print of a page after the steps, and that of what this is read as, are those of the row.
+fn is_read_as(alloc: Global, row: &Row) -> bool {
+    let mut first = String::new(alloc);
+    let mut second = String::new(alloc);
+    print_after(alloc, row.0, row.1, &mut first).is_some()
+        && first.as_str() == row.2
+        && print_after(alloc, first.as_str(), &[], &mut second) == Some(row.3)
+        && second.as_str() == row.4
+}
+
+#[test]
+fn prints_are_read_again(rt: HostRuntime) {
+    for (at, row) in ROWS.iter().enumerate() {
+        assert!(rt; is_read_as(rt.alloc(), row), "row {at}: {}", row.2);
+    }
+}
