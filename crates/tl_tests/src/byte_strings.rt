@@ -2,7 +2,7 @@
 use std::alloc::{AllocError, Global};
 use std::cmp::Ordering;
 use std::collections::HashMap;
-use tl_base::bytes::{Bytes, IntoOwnedBytes, SetBytesError, Shared, copied};
+use tl_base::bytes::{Bytes, IntoOwnedBytes, Shared, copied};
 
 // Whether it could be found out, and holds.
 fn sure(holds: Result<bool, AllocError>) -> bool {
@@ -249,24 +249,8 @@ fn reads_moved(alloc: Global) -> Result<bool, AllocError> {
     }
 }
 
-static ERRORS: [(SetBytesError, &str); 2] = [
-    (
-        SetBytesError::LengthOverflow,
-        "The string length is too large to fit in a `u32`",
-    ),
-    (SetBytesError::OutOfMemory, "out of memory"),
-];
-
-fn says(alloc: Global, error: &SetBytesError, text: &str) -> Result<bool, AllocError> {
-    let made = format!(in alloc; "{error}")?;
-    Ok(made.as_str() == text)
-}
-
 #[test]
 fn texts(rt: HostRuntime) {
     assert!(rt; sure(reads_broken(rt.alloc())));
     assert!(rt; sure(reads_moved(rt.alloc())));
-    for (error, text) in &ERRORS {
-        assert!(rt; sure(says(rt.alloc(), error, text)), "{text}");
-    }
 }

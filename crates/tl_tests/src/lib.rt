@@ -12,6 +12,8 @@ mod containers;
 #[cfg(test)]
 mod edits;
 #[cfg(test)]
+mod errors;
+#[cfg(test)]
 mod prints;
 #[cfg(test)]
 mod program;
