@@ -156,7 +156,7 @@ const LINK: &str = "<div><p href=\"/about\" id=\"find-me\">Hello world</p></div>
 
 const EDITABLE: &str = "<span contenteditable=\"true\">testing</a>";
 
-static EDITED: [Row; 20] = [
+static EDITED: [Row; 21] = [
     (
         "<a><b></b></a>",
         &[Edit::Push(1, 0)],
@@ -230,6 +230,15 @@ static EDITED: [Row; 20] = [
         &[Edit::Part(0, Part::Bare("contenteditable"))],
         Look::Print,
         "<span contenteditable>testing</span>",
+    ),
+    (
+        EDITABLE,
+        &[
+            Edit::Part(0, Part::Bare("contenteditable")),
+            Edit::Part(0, Part::Unset("contenteditable")),
+        ],
+        Look::Print,
+        "<span>testing</span>",
     ),
     (
         EDITABLE,

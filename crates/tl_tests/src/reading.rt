@@ -6,7 +6,7 @@ use std::test::Fail;
 use tl::errors::TreeError;
 use tl::{Bytes, HTMLVersion, Node, NodeHandle, ParserOptions, VDom, parse};
 
-static TAGS: [(&str, &str); 16] = [
+static TAGS: [(&str, &str); 18] = [
     ("", ""),
     (
         "abc <p>test<span>a</span></p> def",
@@ -34,10 +34,15 @@ static TAGS: [(&str, &str); 16] = [
     ("<p>x</p >", "tag p [ 1 ] 0 2 <p>|text x| 0"),
     ("<p>abcd</p", "tag p [ 1 ] 0 9 <p>abcd</p|text abcd| 0"),
     ("<p a=\"b>x", ""),
+    ("<p ", ""),
+    (
+        "<p>test</p><div><span>test2</span></div>",
+        "tag p [ 1 ] 0 10 <p>test</p>|text test|tag div [ 3 ] 11 39 <div><span>test2</span></div>|tag span [ 4 ] 16 33 <span>test2</span>|text test2| 0 2",
+    ),
     ("<p />x", "tag p [ ] 0 4 <p />|text x| 0 1"),
 ];
 
-static ATTRIBUTES_COMMENTS_DOCTYPES: [(&str, &str); 14] = [
+static ATTRIBUTES_COMMENTS_DOCTYPES: [(&str, &str); 15] = [
     (
         "<p a=1 b=2 c=3 id=i class=k a=4>",
         "tag p a=4 b=2 c=3 id=i class=k [ ] 0 31 <p a=1 b=2 c=3 id=i class=k a=4>| 0",
@@ -53,6 +58,10 @@ static ATTRIBUTES_COMMENTS_DOCTYPES: [(&str, &str); 14] = [
     ("<!--->x", "comment <!--->|text x| 0 1"),
     ("<!---->x", "comment <!---->|text x| 0 1"),
     ("< !-- a -->", "comment < !-- a -->| 0"),
+    (
+        "<!-- element 1 --><div><div>element 3</div></div>",
+        "comment <!-- element 1 -->|tag div [ 2 ] 18 48 <div><div>element 3</div></div>|tag div [ 3 ] 23 42 <div>element 3</div>|text element 3| 0 1",
+    ),
     ("<!DOCTYPE html PUBLIC>", "text UBLIC>| 0"),
     ("<!foo bar>", "text bar>| 0"),
 ];
@@ -152,23 +161,40 @@ fn print_len(alloc: Global, document: &VDom<'_>) -> Result<usize, Fail> {
     Ok(print.len())
 }
 
-// Whether a page has these many nodes and top nodes, and a print of this length.
-fn measures(
-    alloc: Global,
-    page: &str,
-    nodes: usize,
-    top: usize,
-    print: usize,
-) -> Result<bool, Fail> {
+// The number of the only child, if there is one child.
+fn only_child(node: &Node<'_>) -> Option<usize> {
+    match node.children()?.top().as_slice() {
+        [child] => Some(child.get_inner() as usize),
+        _ => None,
+    }
+}
+
+// Whether each node is the only child of the one before.
+fn nest(nodes: &[Node<'_>]) -> bool {
+    for number in 1..nodes.len() {
+        if only_child(&nodes[number - 1]) != Some(number) {
+            return false;
+        }
+    }
+    true
+}
+
+// Whether a page is read as these many nodes, one in the other, and has a print of this length.
+fn nests(alloc: Global, page: &str, nodes: usize, print: usize) -> Result<bool, Fail> {
     let document = parse(alloc, page, ParserOptions::new())?;
     let len = print_len(alloc, &document)?;
-    Ok(document.nodes().len() == nodes && document.children().len() == top && len == print)
+    Ok(
+        document.nodes().len() == nodes
+            && document.children().len() == 1
+            && nest(document.nodes())
+            && len == print,
+    )
 }
 
 #[test]
 fn deep_nesting(rt: HostRuntime) -> Result<(), Fail> {
     let page = nested(rt.alloc())?;
-    let holds = measures(rt.alloc(), page.as_str(), 10_000, 1, 70_000)?;
+    let holds = nests(rt.alloc(), page.as_str(), 10_000, 70_000)?;
     assert!(rt; holds);
     Ok(())
 }

@@ -259,9 +259,10 @@ fn show_search(
             Ok(write!(out, ": {number}")?)
         }
         Ok(None) => Ok(out.push_str(": none")?),
-        Err(TreeError::Dangling(_)) => Ok(out.push_str(": dangling")?),
-        Err(TreeError::Cycle(_)) => Ok(out.push_str(": cycle")?),
-        Err(TreeError::OutOfMemory) => Err(Fail::from("out of memory")),
+        Err(fault) => {
+            out.push_str(": ")?;
+            show_fault(&fault, out)
+        }
     }
 }
 

@@ -71,7 +71,7 @@ static SEARCHES: [Row; 5] = [
         DANGLING,
         &[Edit::Push(0, 9)],
         Look::Search(0, "?"),
-        " b: dangling / b: dangling",
+        " b: dangling 9 / b: dangling 9",
     ),
     (
         DANGLING,
@@ -83,7 +83,7 @@ static SEARCHES: [Row; 5] = [
         "<a></a>",
         &[Edit::Push(0, 0)],
         Look::Search(0, "?"),
-        " a: cycle / a: none",
+        " a: cycle 0 / a: none",
     ),
 ];
 
