@@ -8,7 +8,7 @@ use tl_program::program::{Command, Input, Marked, Output, command, line, run};
 const NEVER: usize = usize::MAX;
 
 // How a writer takes what it is given: at most `most` bytes a call, with an error at the call `bad`, counted from 0, and
-// with or without one at the flush.
+// with or without one at the first flush. It would take what is tried again.
 struct Manner {
     most: usize,
     bad: usize,
@@ -62,6 +62,7 @@ const FLUSH_FAILS: Manner = Manner {
 struct Narrow<'a> {
     manner: &'a Manner,
     calls: usize,
+    flushes: usize,
     taken: &'a mut Vec<u8>,
 }
 
@@ -78,7 +79,9 @@ impl<'a> Write for Narrow<'a> {
     }
 
     fn flush(&mut self) -> io::Result<()> {
-        if self.manner.flush_fails {
+        let flush = self.flushes;
+        self.flushes = flush.saturating_add(1);
+        if flush == 0 && self.manner.flush_fails {
             Err(io::Error::from(ErrorKind::Other))
         } else {
             Ok(())
@@ -86,14 +89,19 @@ impl<'a> Write for Narrow<'a> {
     }
 }
 
+fn narrow_writer<'a>(manner: &'a Manner, taken: &'a mut Vec<u8>) -> Marked<Narrow<'a>> {
+    Marked::new(Narrow {
+        manner,
+        calls: 0,
+        flushes: 0,
+        taken,
+    })
+}
+
 // Prints a page to a writer of that manner, and answers the status and whether the writer is marked as failed.
 fn printed(alloc: Global, page: &[u8], manner: &Manner, taken: &mut Vec<u8>) -> (u8, bool) {
     let mut reader = Marked::new(page);
-    let mut writer = Marked::new(Narrow {
-        manner,
-        calls: 0,
-        taken,
-    });
+    let mut writer = narrow_writer(manner, taken);
     let status = run(alloc, &Command::Print, &mut reader, &mut writer);
     (status, writer.failed())
 }
@@ -150,19 +158,53 @@ fn pages_are_printed(rt: HostRuntime) {
     }
 }
 
-// A reader of a text in pieces of three bytes, which may fail after its end.
+// A call of a writer, the bytes that it takes or its fault, and whether the writer is marked as failed then.
+fn wrote(manner: &Manner, bytes: &[u8], taken: &mut Vec<u8>) -> (Option<usize>, bool) {
+    let mut writer = narrow_writer(manner, taken);
+    let answer = writer.write(bytes);
+    (answer.ok(), writer.failed())
+}
+
+// Whether a write is answered so and passes on as many bytes, and the writer is marked as failed by a fault alone.
+fn writes(alloc: Global, manner: &Manner, bytes: &[u8], wanted: Option<usize>) -> bool {
+    let mut taken = Vec::new(alloc);
+    let (answer, failed) = wrote(manner, bytes, &mut taken);
+    answer == wanted && failed == wanted.is_none() && taken.len() == wanted.unwrap_or(0)
+}
+
+// How a writer takes bytes, the bytes, and how many of them it takes, or none where it answers a fault.
+const WRITES: &[(Manner, &[u8], Option<usize>)] = &[
+    (THREE_BYTES, b"abcd", Some(3)),
+    (FIRST_FAILS, b"abcd", None),
+    (NO_BYTE, b"abcd", None),
+    (NO_BYTE, b"", Some(0)),
+    (FIRST_FAILS, b"", None),
+];
+
+#[test]
+fn writes_are_answered(rt: HostRuntime) {
+    for (place, (manner, bytes, wanted)) in WRITES.iter().enumerate() {
+        assert!(rt; writes(rt.alloc(), manner, bytes, *wanted), "row {place}");
+    }
+}
+
+// A reader of a text in pieces of three bytes, with an error at the call `bad`, counted from 0. It would go on with the
+// text where that is tried again.
 #[derive(Drop)]
 struct Pieces<'a> {
     left: &'a [u8],
-    fails: bool,
+    calls: usize,
+    bad: usize,
 }
 
 impl<'a> Read for Pieces<'a> {
     fn read(&mut self, buffer: &mut [u8]) -> io::Result<usize> {
-        let n = self.left.len().min(3).min(buffer.len());
-        if n == 0 && self.fails {
+        let call = self.calls;
+        self.calls = call.saturating_add(1);
+        if call == self.bad {
             return Err(io::Error::from(ErrorKind::Interrupted));
         }
+        let n = self.left.len().min(3).min(buffer.len());
         let (front, rest) = self.left.split_at(n);
         buffer[..n].copy_from_slice(front);
         self.left = rest;
@@ -174,35 +216,41 @@ impl<'a> Read for Pieces<'a> {
 fn printed_from_pieces(
     alloc: Global,
     page: &[u8],
-    fails: bool,
+    bad: usize,
     written: &mut Vec<u8>,
 ) -> (u8, bool) {
-    let mut reader = Marked::new(Pieces { left: page, fails });
+    let mut reader = Marked::new(Pieces {
+        left: page,
+        calls: 0,
+        bad,
+    });
     let mut writer = Marked::new(written);
     let status = run(alloc, &Command::Print, &mut reader, &mut writer);
     (status, reader.failed())
 }
 
 // Whether a page that comes in pieces is printed with this status and these bytes, and the reader is marked as failed
-// where it fails.
-fn prints_pieces(alloc: Global, page: &[u8], fails: bool, wanted: u8, print: &[u8]) -> bool {
+// at status 4 alone.
+fn prints_pieces(alloc: Global, page: &[u8], bad: usize, wanted: u8, print: &[u8]) -> bool {
     let mut written = Vec::new(alloc);
-    let (status, failed) = printed_from_pieces(alloc, page, fails, &mut written);
-    status == wanted && failed == fails && written.as_slice() == print
+    let (status, failed) = printed_from_pieces(alloc, page, bad, &mut written);
+    status == wanted && failed == (wanted == 4) && written.as_slice() == print
 }
 
-// Pages, whether the reader fails after them, the status, and what is written.
-const PIECES: &[(&[u8], bool, u8, &[u8])] = &[
-    (b"<p>a</p>", false, 0, b"<p>a</p>"),
-    (b"<p>a</p>", true, 4, b""),
-    (b"", true, 4, b""),
+// Pages, the call at which the reader fails, the status, and what is written.
+const PIECES: &[(&[u8], usize, u8, &[u8])] = &[
+    (b"<p>a</p>", NEVER, 0, b"<p>a</p>"),
+    (b"<p>a</p>", 0, 4, b""),
+    (b"<p>a</p>", 1, 4, b""),
+    (b"<p>a</p>", 3, 4, b""),
+    (b"", 0, 4, b""),
 ];
 
 #[test]
 fn input_is_read_to_its_end(rt: HostRuntime) {
-    for (place, (page, fails, status, print)) in PIECES.iter().enumerate() {
+    for (place, (page, bad, status, print)) in PIECES.iter().enumerate() {
         assert!(rt;
-            prints_pieces(rt.alloc(), page, *fails, *status, print),
+            prints_pieces(rt.alloc(), page, *bad, *status, print),
             "row {place}"
         );
     }
