@@ -49,7 +49,7 @@ static LOOKS: [Row; 23] = [
 ];
 
 #[test]
-fn looks(rt: HostRuntime) -> Result<(), Fail> {
+fn calls_that_look(rt: HostRuntime) -> Result<(), Fail> {
     all_show(&rt, rt.alloc(), &LOOKS)
 }
 
@@ -178,7 +178,7 @@ fn calls_show(alloc: Global, calls: &[Call], wanted: &str) -> Result<bool, Fail>
 }
 
 #[test]
-fn calls(rt: HostRuntime) -> Result<(), Fail> {
+fn calls_that_write(rt: HostRuntime) -> Result<(), Fail> {
     for (calls, wanted) in &CALLS {
         let holds = calls_show(rt.alloc(), calls, wanted)?;
         assert!(rt; holds, "{wanted}");

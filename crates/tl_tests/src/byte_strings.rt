@@ -78,7 +78,7 @@ fn set_in_turn(alloc: Global) -> (usize, bool) {
 }
 
 #[test]
-fn gives_back_what_it_owned(rt: HostRuntime) {
+fn set_and_set_unchecked(rt: HostRuntime) {
     let (done, left) = set_in_turn(rt.alloc());
     assert!(rt; done == SETS.len(), "set {done}");
     assert!(rt; left);
@@ -175,7 +175,7 @@ fn shows_hello(alloc: Global) -> Result<bool, AllocError> {
 }
 
 #[test]
-fn holds_alike(rt: HostRuntime) {
+fn clones_and_buffers(rt: HostRuntime) {
     for (at, (held, text)) in HELD.iter().enumerate() {
         assert!(rt;
             sure(clones_alike(rt.alloc(), held, text)),

@@ -264,7 +264,7 @@ static EDITED: [Row; 21] = [
 ];
 
 #[test]
-fn edited(rt: HostRuntime) -> Result<(), Fail> {
+fn prints_after_edits(rt: HostRuntime) -> Result<(), Fail> {
     all_show(&rt, rt.alloc(), &EDITED)
 }
 

@@ -149,7 +149,7 @@ const PRINTS: &[(&[u8], Manner, u8, &[u8])] = &[
 ];
 
 #[test]
-fn pages_are_printed(rt: HostRuntime) {
+fn prints_to_writers(rt: HostRuntime) {
     for (place, (page, manner, status, print)) in PRINTS.iter().enumerate() {
         assert!(rt;
             prints(rt.alloc(), page, manner, *status, print),
@@ -247,7 +247,7 @@ const PIECES: &[(&[u8], usize, u8, &[u8])] = &[
 ];
 
 #[test]
-fn input_is_read_to_its_end(rt: HostRuntime) {
+fn prints_from_readers(rt: HostRuntime) {
     for (place, (page, bad, status, print)) in PIECES.iter().enumerate() {
         assert!(rt;
             prints_pieces(rt.alloc(), page, *bad, *status, print),
@@ -321,7 +321,7 @@ const ANSWERS: &[(&[&str], &[u8], u8, &[u8])] = &[
 ];
 
 #[test]
-fn texts_are_joined_and_documents_edited(rt: HostRuntime) {
+fn commands_of_words(rt: HostRuntime) {
     for (place, (words, page, status, bytes)) in ANSWERS.iter().enumerate() {
         assert!(rt;
             are_answered(rt.alloc(), words, page, *status, bytes),

@@ -139,7 +139,7 @@ fn page_prints_over(
 }
 
 #[test]
-fn prints_of_nodes(rt: HostRuntime) -> Result<(), Fail> {
+fn prints_over_tables(rt: HostRuntime) -> Result<(), Fail> {
     for (other, wanted) in &OVER {
         let holds = page_prints_over(rt.alloc(), other, wanted)?;
         assert!(rt; holds, "over {other}");

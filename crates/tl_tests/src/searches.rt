@@ -88,7 +88,7 @@ static IN_LOWER_CASE: [(&str, [u8; 4], bool); 4] = [
 static CLOSING: [(u8, bool); 3] = [(b'/', true), (b'>', true), (b'<', false)];
 
 #[test]
-fn tells_classes(rt: HostRuntime) {
+fn tells_words_and_closing_bytes(rt: HostRuntime) {
     for (text, needle, wanted) in &IN_LOWER_CASE {
         assert!(rt;
             matches_case_insensitive(text.as_bytes(), *needle) == *wanted,
