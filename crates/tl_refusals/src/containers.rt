@@ -1,4 +1,4 @@
-//! Lists and maps with room for one item inline.
+//! Lists and maps with room for one or two items inline.
 use crate::stop::{Stop, expect};
 use std::alloc::Global;
 use tl::inline::hashmap::InlineHashMap;
@@ -9,10 +9,14 @@ type List = InlineVec<NodeHandle, 1>;
 
 type Map = InlineHashMap<Bytes<'static>, NodeHandle, 1>;
 
+// A map with room for two pairs inline.
+type Pairs = InlineHashMap<u8, u8, 2>;
+
 /// Each call of a container that takes memory.
 pub fn all(alloc: Global) -> Result<(), Stop> {
     lists(alloc)?;
-    maps(alloc)
+    maps(alloc)?;
+    pairs(alloc)
 }
 
 fn lists(alloc: Global) -> Result<(), Stop> {
@@ -78,4 +82,57 @@ fn insert(map: &mut Map, key: &'static str, number: u32) -> Result<(), Stop> {
             Err(Stop::NoMemory)
         }
     }
+}
+
+fn pairs(alloc: Global) -> Result<(), Stop> {
+    let mut map = Pairs::new(alloc);
+    let inserted = map.insert(1, 9).is_ok() && map.insert(2, 2).is_ok();
+    expect(inserted && is_inline(&map), "insert inline")?;
+    move_out(&mut map)?;
+    replace(&mut map)
+}
+
+fn is_inline(map: &Pairs) -> bool {
+    map.inline_parts() == Some([(1, 9), (2, 2)].as_slice())
+}
+
+// Whether the pairs lie on the heap, in this order.
+fn are_on_heap(map: &Pairs, wanted: &[(u8, u8)]) -> bool {
+    if map.len() != wanted.len() || !map.is_heap_allocated() {
+        return false;
+    }
+    for ((key, value), pair) in map.iter().zip(wanted) {
+        if (*key, *value) != *pair {
+            return false;
+        }
+    }
+    true
+}
+
+// A refused pair that would move the others to the heap comes back, and they stay inline.
+fn move_out(map: &mut Pairs) -> Result<(), Stop> {
+    match map.insert(3, 3) {
+        Ok(()) => expect(
+            are_on_heap(map, &[(1, 9), (2, 2), (3, 3)]),
+            "insert of a third pair",
+        ),
+        Err(back) => {
+            expect(
+                back == (3, 3) && is_inline(map),
+                "insert of a third pair, refused",
+            )?;
+            Err(Stop::NoMemory)
+        }
+    }
+}
+
+// A key that is there takes no memory on the heap either: were a request made here, the run in which it is refused would
+// end with another status.
+fn replace(map: &mut Pairs) -> Result<(), Stop> {
+    let removed = map.remove(&1);
+    let inserted = map.insert(2, 5);
+    expect(
+        removed == Some(9) && inserted.is_ok() && are_on_heap(map, &[(3, 3), (2, 5)]),
+        "insert at a key that is there",
+    )
 }
