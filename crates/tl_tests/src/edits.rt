@@ -156,13 +156,14 @@ const LINK: &str = "<div><p href=\"/about\" id=\"find-me\">Hello world</p></div>
 
 const EDITABLE: &str = "<span contenteditable=\"true\">testing</a>";
 
-static EDITED: [Row; 21] = [
+static EDITED: [Row; 22] = [
     (
         "<a><b></b></a>",
         &[Edit::Push(1, 0)],
         Look::Print,
         "cycle 0",
     ),
+    ("<a></a>", &[Edit::Push(0, 0)], Look::Print, "cycle 0"),
     (
         "<a><b></b></a>",
         &[Edit::Push(1, 9)],

@@ -4,7 +4,7 @@ use std::alloc::Global;
 use std::mem::size_of;
 use std::test::Fail;
 use tl::errors::TreeError;
-use tl::{Bytes, HTMLVersion, Node, NodeHandle, ParserOptions, VDom, parse};
+use tl::{Bytes, HTMLVersion, Node, NodeHandle, Parser, ParserOptions, VDom, parse};
 
 static TAGS: [(&str, &str); 18] = [
     ("", ""),
@@ -33,8 +33,11 @@ static TAGS: [(&str, &str); 18] = [
     ("< p >x</p>", "tag p [ 1 ] 0 9 < p >x</p>|text x| 0"),
     ("<p>x</p >", "tag p [ 1 ] 0 2 <p>|text x| 0"),
     ("<p>abcd</p", "tag p [ 1 ] 0 9 <p>abcd</p|text abcd| 0"),
+    (
+        "<command>x</command>",
+        "tag command [ 1 ] 0 19 <command>x</command>|text x| 0",
+    ),
     ("<p a=\"b>x", ""),
-    ("<p ", ""),
     (
         "<p>test</p><div><span>test2</span></div>",
         "tag p [ 1 ] 0 10 <p>test</p>|text test|tag div [ 3 ] 11 39 <div><span>test2</span></div>|tag span [ 4 ] 16 33 <span>test2</span>|text test2| 0 2",
@@ -42,7 +45,7 @@ static TAGS: [(&str, &str); 18] = [
     ("<p />x", "tag p [ ] 0 4 <p />|text x| 0 1"),
 ];
 
-static ATTRIBUTES_COMMENTS_DOCTYPES: [(&str, &str); 15] = [
+static ATTRIBUTES_COMMENTS_DOCTYPES: [(&str, &str); 16] = [
     (
         "<p a=1 b=2 c=3 id=i class=k a=4>",
         "tag p a=4 b=2 c=3 id=i class=k [ ] 0 31 <p a=1 b=2 c=3 id=i class=k a=4>| 0",
@@ -58,6 +61,7 @@ static ATTRIBUTES_COMMENTS_DOCTYPES: [(&str, &str); 15] = [
     ("<!--->x", "comment <!--->|text x| 0 1"),
     ("<!---->x", "comment <!---->|text x| 0 1"),
     ("< !-- a -->", "comment < !-- a -->| 0"),
+    ("<!-- a --> b -->", "comment <!-- a -->|text  b -->| 0 1"),
     (
         "<!-- element 1 --><div><div>element 3</div></div>",
         "comment <!-- element 1 -->|tag div [ 2 ] 18 48 <div><div>element 3</div></div>|tag div [ 3 ] 23 42 <div>element 3</div>|text element 3| 0 1",
@@ -66,10 +70,30 @@ static ATTRIBUTES_COMMENTS_DOCTYPES: [(&str, &str); 15] = [
     ("<!foo bar>", "text bar>| 0"),
 ];
 
+// Pages that end too early.
+static CUT: [(&str, &str); 15] = [
+    ("<", ""),
+    ("<p", ""),
+    ("<p ", ""),
+    ("<p a", ""),
+    ("<p a=", ""),
+    ("<p a=\"", ""),
+    ("<p a=\"b", ""),
+    ("<p a=\"b\"", ""),
+    ("<p>x<", "tag p [ 1 ] 0 2 <p>|text x| 0"),
+    ("<p>x</", "tag p [ 1 ] 0 2 <p>|text x| 0"),
+    ("<p>x</p", "tag p [ 1 ] 0 6 <p>x</p|text x| 0"),
+    ("<!-", ""),
+    ("<!--", "comment | 0"),
+    ("<!---", "comment | 0"),
+    ("<!--->", "comment <!--->| 0"),
+];
+
 #[test]
 fn tables(rt: HostRuntime) -> Result<(), Fail> {
     all_look(&rt, rt.alloc(), &Look::Table, &TAGS)?;
-    all_look(&rt, rt.alloc(), &Look::Table, &ATTRIBUTES_COMMENTS_DOCTYPES)
+    all_look(&rt, rt.alloc(), &Look::Table, &ATTRIBUTES_COMMENTS_DOCTYPES)?;
+    all_look(&rt, rt.alloc(), &Look::Table, &CUT)
 }
 
 static VERSIONS: [(&str, Option<HTMLVersion>); 6] = [
@@ -156,11 +180,6 @@ fn nested(alloc: Global) -> Result<String, Fail> {
     Ok(page)
 }
 
-fn print_len(alloc: Global, document: &VDom<'_>) -> Result<usize, Fail> {
-    let print = document.outer_html(alloc)?;
-    Ok(print.len())
-}
-
 // The number of the only child, if there is one child.
 fn only_child(node: &Node<'_>) -> Option<usize> {
     match node.children()?.top().as_slice() {
@@ -179,23 +198,61 @@ fn nest(nodes: &[Node<'_>]) -> bool {
     true
 }
 
-// Whether a page is read as these many nodes, one in the other, and has a print of this length.
-fn nests(alloc: Global, page: &str, nodes: usize, print: usize) -> Result<bool, Fail> {
+// How many nodes a search below a node is shown.
+fn shown_below<'a>(node: &Node<'a>, parser: &Parser<'a>) -> Result<usize, TreeError> {
+    let mut shown = 0usize;
+    node.find_node(
+        parser,
+        &mut |_| {
+            shown = shown.saturating_add(1);
+            false
+        },
+    )?;
+    Ok(shown)
+}
+
+fn text_len<'a>(alloc: Global, node: &Node<'a>, parser: &Parser<'a>) -> Result<usize, TreeError> {
+    let text = node.inner_text(alloc, parser)?;
+    Ok(text.len())
+}
+
+// Whether a search below the first node is shown all others, and no text.
+fn walks_below(alloc: Global, document: &VDom<'_>) -> Result<bool, Fail> {
+    let Some(node) = document.nodes().first() else {
+        return Err(Fail::from("no node"));
+    };
+    let shown = shown_below(node, document.parser())?;
+    let text = text_len(alloc, node, document.parser())?;
+    Ok(shown == document.nodes().len() - 1 && text == 0)
+}
+
+fn print_to(alloc: Global, document: &VDom<'_>, out: &mut String) -> Result<(), Fail> {
+    let print = document.outer_html(alloc)?;
+    Ok(out.push_str(print.as_str())?)
+}
+
+// Whether a page is read as these many nodes, one in the other, and its print.
+fn nests(alloc: Global, page: &str, nodes: usize, print: &mut String) -> Result<bool, Fail> {
     let document = parse(alloc, page, ParserOptions::new())?;
-    let len = print_len(alloc, &document)?;
+    print_to(alloc, &document, print)?;
+    let walks = walks_below(alloc, &document)?;
     Ok(
-        document.nodes().len() == nodes
+        walks
+            && document.nodes().len() == nodes
             && document.children().len() == 1
-            && nest(document.nodes())
-            && len == print,
+            && nest(document.nodes()),
     )
 }
 
 #[test]
 fn deep_nesting(rt: HostRuntime) -> Result<(), Fail> {
     let page = nested(rt.alloc())?;
-    let holds = nests(rt.alloc(), page.as_str(), 10_000, 70_000)?;
-    assert!(rt; holds);
+    let mut print = String::new(rt.alloc());
+    let mut again = String::new(rt.alloc());
+    let open = nests(rt.alloc(), page.as_str(), 10_000, &mut print)?;
+    let closed = nests(rt.alloc(), print.as_str(), 10_000, &mut again)?;
+    assert!(rt; open && print.len() == 70_000);
+    assert!(rt; closed && again.as_str() == print.as_str());
     Ok(())
 }
 

@@ -3,7 +3,7 @@ use crate::edits::Edit;
 use crate::show::{Look, Row, all_show};
 use std::test::Fail;
 
-static TEXTS: [Row; 9] = [
+static TEXTS: [Row; 11] = [
     (
         "<p>hello <p>nested element</p></p>",
         &[],
@@ -46,6 +46,18 @@ static TEXTS: [Row; 9] = [
         &[Edit::Push(1, 0)],
         Look::Texts(0),
         "cycle 1 | cycle 1 | cycle 1 / cycle 1 | cycle 1",
+    ),
+    (
+        "<a></a>",
+        &[Edit::Push(0, 0)],
+        Look::Texts(0),
+        "cycle 0 | cycle 0 | cycle 0 / cycle 0 | cycle 0",
+    ),
+    (
+        "<br>",
+        &[Edit::Push(0, 0)],
+        Look::Texts(0),
+        "cycle 0 | <br> | <br> / cycle 0 | <br>",
     ),
     (
         "<a>x<!-- y --><b></b></a>",
