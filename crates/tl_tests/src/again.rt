@@ -106,9 +106,57 @@ fn is_read_as(alloc: Global, row: &Row) -> bool {
         && second.as_str() == row.4
 }
 
+const SIXTEEN: &str =
+    "<a></a><a></a><a></a><a></a><a></a><a></a><a></a><a></a><a></a><a></a><a></a><a></a><a></a><a></a><a></a><a></a>";
+
+// Each of the sixteen but the last gets the next one twice.
+static DOUBLING: [Step<'static>; 30] = [
+    Step::Push(0, 1),
+    Step::Push(0, 1),
+    Step::Push(1, 2),
+    Step::Push(1, 2),
+    Step::Push(2, 3),
+    Step::Push(2, 3),
+    Step::Push(3, 4),
+    Step::Push(3, 4),
+    Step::Push(4, 5),
+    Step::Push(4, 5),
+    Step::Push(5, 6),
+    Step::Push(5, 6),
+    Step::Push(6, 7),
+    Step::Push(6, 7),
+    Step::Push(7, 8),
+    Step::Push(7, 8),
+    Step::Push(8, 9),
+    Step::Push(8, 9),
+    Step::Push(9, 10),
+    Step::Push(9, 10),
+    Step::Push(10, 11),
+    Step::Push(10, 11),
+    Step::Push(11, 12),
+    Step::Push(11, 12),
+    Step::Push(12, 13),
+    Step::Push(12, 13),
+    Step::Push(13, 14),
+    Step::Push(13, 14),
+    Step::Push(14, 15),
+    Step::Push(14, 15),
+];
+
+// Whether the print of tags that hold each other twice is as long as it must be, and read again as it stands.
+fn doubled_is_read(alloc: Global) -> bool {
+    let mut first = String::new(alloc);
+    let mut second = String::new(alloc);
+    print_after(alloc, SIXTEEN, &DOUBLING, &mut first) == Some(16)
+        && first.len() == 917_378
+        && print_after(alloc, first.as_str(), &[], &mut second) == Some(131_054)
+        && second.as_str() == first.as_str()
+}
+
 #[test]
 fn prints_are_read_again(rt: HostRuntime) {
     for (at, row) in ROWS.iter().enumerate() {
         assert!(rt; is_read_as(rt.alloc(), row), "row {at}: {}", row.2);
     }
+    assert!(rt; doubled_is_read(rt.alloc()));
 }

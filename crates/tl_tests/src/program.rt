@@ -142,6 +142,9 @@ const PRINTS: &[(&[u8], Manner, u8, &[u8])] = &[
     (b"<p>a</p>", SECOND_FAILS, 4, b"<p>"),
     (b"<p>a</p>", NO_BYTE, 4, b""),
     (b"<p>a</p>", FLUSH_FAILS, 4, b"<p>a</p>"),
+    // Of an empty print nothing is written, so no write fails, but it is flushed.
+    (b"", FIRST_FAILS, 0, b""),
+    (b"", FLUSH_FAILS, 4, b""),
     // What is no text is refused before the first write.
     (b"\xff", FIRST_FAILS, 2, b""),
     (b"<p>\xc3", FIRST_FAILS, 2, b""),

@@ -6,7 +6,7 @@ use std::test::Fail;
 use tl::errors::TreeError;
 use tl::{Bytes, HTMLVersion, Node, NodeHandle, Parser, ParserOptions, VDom, parse};
 
-static TAGS: [(&str, &str); 18] = [
+static TAGS: [(&str, &str); 23] = [
     ("", ""),
     (
         "abc <p>test<span>a</span></p> def",
@@ -20,6 +20,17 @@ static TAGS: [(&str, &str); 18] = [
         "<a>x</b>y</a>z",
         "tag a [ 1 2 ] 0 12 <a>x</b>y</a>|text x|text y|text z| 0 3",
     ),
+    (
+        "<div><p>haha</p></div>",
+        "tag div [ 1 ] 0 21 <div><p>haha</p></div>|tag p [ 2 ] 5 15 <p>haha</p>|text haha| 0",
+    ),
+    (
+        "<p><span>hello</span></p>",
+        "tag p [ 1 ] 0 24 <p><span>hello</span></p>|tag span [ 2 ] 3 20 <span>hello</span>|text hello| 0",
+    ),
+    ("<>x</>", "tag  [ 1 ] 0 5 <>x</>|text x| 0"),
+    ("<BR>x</BR>", "tag BR [ 1 ] 0 9 <BR>x</BR>|text x| 0"),
+    ("<=/Fy<=/", "text Fy| 0"),
     ("<a href=/x>y</a>", "text x>y| 0"),
     ("<br/>x</br/>", "tag br [ ] 0 4 <br/>|text x| 0 1"),
     ("<a/>x", "tag a [ ] 0 3 <a/>|text x| 0 1"),
@@ -96,8 +107,9 @@ fn tables(rt: HostRuntime) -> Result<(), Fail> {
     all_look(&rt, rt.alloc(), &Look::Table, &CUT)
 }
 
-static VERSIONS: [(&str, Option<HTMLVersion>); 6] = [
+static VERSIONS: [(&str, Option<HTMLVersion>); 7] = [
     ("<!DOCTYPE html PUBLIC>", Some(HTMLVersion::HTML5)),
+    ("<!DOCTYPE html> hello", Some(HTMLVersion::HTML5)),
     ("<p><!doctype HTML>x</p>", Some(HTMLVersion::HTML5)),
     ("<!doctype html", Some(HTMLVersion::HTML5)),
     ("<!doctype xhtml>", None),

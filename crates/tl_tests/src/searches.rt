@@ -26,11 +26,22 @@ fn answer(search: &Search, text: &[u8]) -> Option<usize> {
     }
 }
 
-static SEARCHES: [(Search, &str, Option<usize>); 19] = [
+static SEARCHES: [(Search, &str, Option<usize>); 24] = [
     (Search::Find(b' '), "abcdefghiabcdefghi .", Some(18)),
     (Search::Find(b' '), "", None),
     (Search::Find4(*b"abcd"), "ef ghijklmnopqrstua", Some(18)),
     (Search::Find4(*b"abcd"), "ef ghijklmnopqrstu", None),
+    (
+        Search::Find4(*b"abcd"),
+        "xxxxxxxxxxxxxxxxxxxxxxxxxxxxxxxxb",
+        Some(32),
+    ),
+    (
+        Search::Find4(*b"abcd"),
+        "xxxxxxxxxxxxxxxxxxxxxxxxxxxxxxxx",
+        None,
+    ),
+    (Search::Find4(*b"aaaa"), "xxxxxxxxxxxxxxxxa", Some(16)),
     (Search::FindOne(*b"a"), "ef ghijklmnopqrstua", Some(18)),
     (Search::FindNone([]), "ef ghijklmnopqrstua", None),
     (
@@ -52,6 +63,16 @@ static SEARCHES: [(Search, &str, Option<usize>); 19] = [
     ),
     (Search::NonIdent, "0123456789ab<def", Some(12)),
     (Search::NonIdent, "a:b+c/d", None),
+    (
+        Search::NonIdent,
+        ":::::::::::::::::::::::::::::::\u{80}",
+        Some(31),
+    ),
+    (
+        Search::NonIdent,
+        "+/+/+/+/+/+/+/+/+/+/+/+/+/+/+/+/+/+/+/+/+/+/+/+/",
+        None,
+    ),
     (Search::NonIdent, "br/", None),
     (Search::NonName, "br/", Some(2)),
     (
