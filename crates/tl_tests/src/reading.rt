@@ -228,7 +228,7 @@ fn text_len<'a>(alloc: Global, node: &Node<'a>, parser: &Parser<'a>) -> Result<u
     Ok(text.len())
 }
 
-// Whether a search below the first node is shown all others, and no text.
+// Whether a search below the first node is shown all others, and its text is empty.
 fn walks_below(alloc: Global, document: &VDom<'_>) -> Result<bool, Fail> {
     let Some(node) = document.nodes().first() else {
         return Err(Fail::from("no node"));
