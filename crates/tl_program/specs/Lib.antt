@@ -4,4 +4,5 @@ pub mod Output
 pub mod Script
 pub mod Status
 pub mod Steps
+pub mod TableEdit
 pub mod TagLent

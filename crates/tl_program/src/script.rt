@@ -1,5 +1,6 @@
 //! Edits as values, and the lines that spell them.
 mod edit;
+mod laws;
 mod reading;
 mod step;
 mod tag;

@@ -1,11 +1,12 @@
 //! Steps on a document.
 ghost use Rattle.std.specs.Prelude.{◌≡◌, map, OnOk, IfErr};
 ghost use Rattle.std.specs.Borrow.{sem};
-ghost use Rattle.tl_spec.specs.Edit.{Roots, edited, edited_all, done};
+ghost use Rattle.tl_spec.specs.Edit.{Roots, edited_all, done};
 ghost use Rattle.tl.specs.Shown.{document_of};
 ghost use Rattle.tl_program.specs.Steps.{change_of};
 ghost use Rattle.std.specs.Fn.{FnOnceReturnsAtMut};
-ghost use Rattle.tl_program.specs.Script.{ChangesTable, ChangesTagAt, PutsNode, StopsAt, IsTagAt};
+ghost use Rattle.tl_program.specs.TableEdit.{edited_table, table_after, done_edits, takes_memory};
+ghost use Rattle.tl_program.specs.Script.{Changes, ChangesTagAt, PutsNode, StopsAt, IsTagAt};
 ghost use Rattle.tl_program.specs.TagLent.{LendsTagAt};
 
 use crate::script::step::{Step, StepError};
@@ -25,6 +26,9 @@ pub fn run<'a>(
 ) -> Result<(), (usize, StepError)>
     ensures ok { OnOk result (edited_all (map change_of steps.now) (document_of document.old) ≡ done (document_of document.new)) }
     ensures err { IfErr result (λ e. StopsAt (map change_of steps.now) (document_of document.old) (document_of document.new) e.0 e.1) }
+    // How each piece is held: what a step puts is owned, and what it leaves is held as it was.
+    ensures held { table_after (done_edits (map change_of steps.now) result) document.old ≡ Ok document.new }
+    ensures first { IfErr result (λ e. e.0 ≡ 0 → document.new ≡ document.old) }
     ensures version { document.new.version ≡ document.old.version }
 {
     for (place, step) in steps.iter().enumerate() {
@@ -37,7 +41,7 @@ pub fn run<'a>(
 
 // Takes one step.
 fn take_step<'a>(alloc: Global, document: &mut VDom<'a>, step: &Step<'_>) -> Result<(), StepError>
-    ensures { ChangesTable (edited (change_of step.now)) document.old document.new result }
+    ensures { let change = change_of step.now in Changes (takes_memory change) (edited_table change) document.old document.new result }
 {
     match *step {
         Step::Name(node, name) => change_tag(document, node, |tag| set_name(alloc, tag, name)),
@@ -104,7 +108,7 @@ fn put_node<'a, F: FnOnce(Bytes<'a>) -> Node<'a>>(
 }
 
 fn put_top<'a>(document: &mut VDom<'a>, place: usize, child: u32) -> Result<(), StepError>
-    ensures { ChangesTable (edited (Roots place child)) document.old document.new result }
+    ensures { Changes (takes_memory (Roots place child)) (edited_table (Roots place child)) document.old document.new result }
 {
     if place >= document.children().len() {
         return Err(StepError::NoPlace);

@@ -1,9 +1,10 @@
 //! Steps on a tag.
-ghost use Rattle.std.specs.Prelude.{◌≡◌, ◌<◌, length, OnOk, OnErr};
+ghost use Rattle.std.specs.Prelude.{◌≡◌, ◌<◌, true, false, length, OnOk, OnErr};
 ghost use Rattle.tl_bytes.specs.Held.{as_owned};
 ghost use Rattle.tl_spec.specs.Inline.{room, with_last, without_item};
-ghost use Rattle.tl_spec.specs.Edit.{with_attribute, without_attribute, without_value, without_handle, on_ok};
-ghost use Rattle.tl_program.specs.Script.{ChangesTag};
+ghost use Rattle.tl_spec.specs.Edit.{without_handle, on_ok};
+ghost use Rattle.tl_program.specs.TableEdit.{with_attribute, without_attribute, without_value};
+ghost use Rattle.tl_program.specs.Script.{Changes};
 
 use crate::script::step::StepError;
 use std::alloc::{AllocError, Global};
@@ -16,7 +17,7 @@ pub(super) fn set_name<'a>(
     tag: &mut HTMLTag<'a>,
     name: &[u8],
 ) -> Result<(), StepError>
-    ensures { ChangesTag (λ own. Ok (record own { name = name.now })) tag.old tag.new result }
+    ensures { Changes true (λ own. Ok (record own { name = as_owned name.now })) tag.old tag.new result }
 {
     *tag.name_mut() = copied(alloc, name)?;
     Ok(())
@@ -29,7 +30,7 @@ pub(super) fn set_value<'a>(
     key: &[u8],
     value: &[u8],
 ) -> Result<(), StepError>
-    ensures { ChangesTag (λ own. Ok (record own { attributes = with_attribute own.attributes key.now (Some value.now) })) tag.old tag.new result }
+    ensures { Changes true (λ own. Ok (record own { attributes = with_attribute own.attributes key.now (Some (as_owned value.now)) })) tag.old tag.new result }
 {
     let key = copied(alloc, key)?;
     let value = copied(alloc, value)?;
@@ -43,7 +44,7 @@ pub(super) fn set_flag<'a>(
     tag: &mut HTMLTag<'a>,
     key: &[u8],
 ) -> Result<(), StepError>
-    ensures { ChangesTag (λ own. Ok (record own { attributes = with_attribute own.attributes key.now None })) tag.old tag.new result }
+    ensures { Changes true (λ own. Ok (record own { attributes = with_attribute own.attributes key.now None })) tag.old tag.new result }
 {
     let key = copied(alloc, key)?;
     tag.attributes_mut().insert(key, None)?;
@@ -56,7 +57,7 @@ pub(super) fn remove_key<'a>(
     tag: &mut HTMLTag<'a>,
     key: &[u8],
 ) -> Result<(), StepError>
-    ensures { ChangesTag (λ own. Ok (record own { attributes = without_attribute own.attributes key.now })) tag.old tag.new result }
+    ensures { Changes true (λ own. Ok (record own { attributes = without_attribute own.attributes key.now })) tag.old tag.new result }
 {
     let key = copied(alloc, key)?;
     tag.attributes_mut().remove(key);
@@ -69,7 +70,7 @@ pub(super) fn remove_value<'a>(
     tag: &mut HTMLTag<'a>,
     key: &[u8],
 ) -> Result<(), StepError>
-    ensures { ChangesTag (λ own. Ok (record own { attributes = without_value own.attributes key.now })) tag.old tag.new result }
+    ensures { Changes true (λ own. Ok (record own { attributes = without_value own.attributes key.now })) tag.old tag.new result }
 {
     let key = copied(alloc, key)?;
     tag.attributes_mut().remove_value(key);
@@ -78,7 +79,7 @@ pub(super) fn remove_value<'a>(
 
 // Makes a handle the last child.
 pub(super) fn push_child<'a>(tag: &mut HTMLTag<'a>, child: u32) -> Result<(), StepError>
-    ensures { ChangesTag (λ own. Ok (record own { children = with_last room own.children child })) tag.old tag.new result }
+    ensures { Changes true (λ own. Ok (record own { children = with_last room own.children child })) tag.old tag.new result }
 {
     push_handle(tag, NodeHandle::new(child))?;
     Ok(())
@@ -86,7 +87,7 @@ pub(super) fn push_child<'a>(tag: &mut HTMLTag<'a>, child: u32) -> Result<(), St
 
 // Takes the child at a place out.
 pub(super) fn pull_child<'a>(tag: &mut HTMLTag<'a>, place: usize) -> Result<(), StepError>
-    ensures { ChangesTag (λ own. on_ok (λ handles. record own { children = handles }) (without_handle own.children place)) tag.old tag.new result }
+    ensures { Changes false (λ own. on_ok (λ handles. record own { children = handles }) (without_handle own.children place)) tag.old tag.new result }
 {
     if place >= tag.children().top().len() {
         return Err(StepError::NoPlace);
