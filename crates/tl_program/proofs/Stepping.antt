@@ -15,7 +15,7 @@ use Rattle.tl_program.specs.Steps.{change_of}
 use Rattle.tl_program.specs.declared.script.step.Step.{Step}
 use Rattle.tl_program.specs.declared.script.step.StepError.{StepError}
 use Rattle.tl_program.specs.declared.script.step.StepError.TheVariants.{NoNode, NotTag, NoPlace, OutOfMemory}
-use Rattle.tl_program.specs.TableEdit.{HTMLTable, of_tag, of_node, at_node, edited_table, table_after}
+use Rattle.tl_program.specs.TableEdit.{HTMLTable, of_tag, of_node, at_node, edited_table, table_after, takes_memory}
 use Rattle.tl_program.specs.Script.{IsRefused, Changes, StopsAt}
 use Rattle.tl_program.proofs.Tables.{image-edited_table, image-table_after, table_after-more}
 
@@ -83,6 +83,14 @@ module _ (steps : List Step) (old now new : HTMLTable) (i : ℕ) (x : Step) (wit
       by NotTag is = refused not_tag is
       by NoPlace is = refused no_place is
       by OutOfMemory is = let P : Option Change → Type 0 = λ o. IsSomeAnd o (λ c. IsOk (edited c (document_of now))) in (shown, subst P (sym here) is.1)
+
+  -- memory is wanted only of an edit that takes it
+  pub steps-want : (error : StepError) → IsRefused (takes_memory change) (edited_table change now) error → error ≡ OutOfMemory → IsSomeAnd (slice_get (map change_of steps) i) (λ c. IsTrue (takes_memory c))
+  steps-want error h is =
+      let P : StepError → Type 0 = λ e. IsRefused (takes_memory change) (edited_table change now) e in
+      let Q : Option Change → Type 0 = λ o. IsSomeAnd o (λ c. IsTrue (takes_memory c)) in
+      let wants : IsTrue (takes_memory change) × IsOk (edited_table change now) = subst P is h in
+      subst Q (sym here) wants.0
 
 -- steps of which none is left
 pub steps-all : (steps : List Step) (old now : HTMLTable) (i : ℕ) → length steps ≤ i → table_after (take i (map change_of steps)) old ≡ Ok now → table_after (map change_of steps) old ≡ Ok now

@@ -1,5 +1,5 @@
 //! Steps on a document.
-ghost use Rattle.std.specs.Prelude.{◌≡◌, map, OnOk, IfErr};
+ghost use Rattle.std.specs.Prelude.{◌≡◌, map, slice_get, OnOk, IfErr, IsSomeAnd, IsTrue};
 ghost use Rattle.std.specs.Borrow.{sem};
 ghost use Rattle.tl_spec.specs.Edit.{Roots, edited_all, done};
 ghost use Rattle.tl.specs.Shown.{document_of};
@@ -29,6 +29,7 @@ pub fn run<'a>(
     // How each piece is held: what a step puts is owned, and what it leaves is held as it was.
     ensures held { table_after (done_edits (map change_of steps.now) result) document.old ≡ Ok document.new }
     ensures first { IfErr result (λ e. e.0 ≡ 0 → document.new ≡ document.old) }
+    ensures memory { IfErr result (λ e. e.1 ≡ StepError.OutOfMemory → IsSomeAnd (slice_get (map change_of steps.now) e.0) (λ c. IsTrue (takes_memory c))) }
     ensures version { document.new.version ≡ document.old.version }
 {
     for (place, step) in steps.iter().enumerate() {

@@ -2,11 +2,14 @@ use Rattle.std.proofs.Common.{map, take, ap, ◌∙◌}
 use Rattle.tl_program.specs.Steps.{change_of}
 use Rattle.tl_program.specs.TableEdit.{HTMLTable}
 use Rattle.tl_program.proofs.Tables.{image-table_after, table_after-version}
-use Rattle.tl_program.proofs.Stepping.{steps-taken, steps-refused, steps-all}
+use Rattle.tl_program.proofs.Stepping.{steps-taken, steps-refused, steps-want, steps-all}
 use Rattle.tl_program.proofs.script.edit.run.Goals as goal
 
 pub returns-in-Err-clause-err : goal.returns-in-Err-clause-err
 returns-in-Err-clause-err c = steps-refused _ _ _ _ _ _ c.loop-place-test.true c.loop-place.invariant _ c.in-Err.error c.in-Err.ensures.0 c.in-Err.ensures.1
+
+pub returns-in-Err-clause-memory : goal.returns-in-Err-clause-memory
+returns-in-Err-clause-memory c = steps-want _ _ _ c.loop-place.document _ _ c.loop-place-test.true c.loop-place.invariant c.in-Err.error c.in-Err.ensures.1
 
 pub loop-place-preserved : goal.loop-place-preserved
 loop-place-preserved c = steps-taken _ _ _ _ _ _ c.loop-place-test.true c.loop-place.invariant c.in_default.ensures
