@@ -19,7 +19,7 @@ use Rattle.tl.specs.declared.parser.tag.node.NodeOf.TheVariants.{Tag, Raw, Comme
 use Rattle.tl_program.specs.TableEdit.{HTMLTable, with_attribute, without_attribute, without_value, of_tag, of_node, at_node, at_tag, edited_table, next, table_after}
 
 -- what is refused makes nothing
-apart : {A : Type 0} {x : A} (refusal : Refusal) → Err refusal ≡ Ok x → ⊥
+pub apart : {A : Type 0} {x : A} (refusal : Refusal) → Err refusal ≡ Ok x → ⊥
 apart refusal is = cc
 
 -- an edit of a tag is that edit of what is shown of it
@@ -96,7 +96,7 @@ image-edited_table (Roots i h) t = by (nat_lt i (length t.top))
     by false = refl
 
 -- later edits make something where the first does, and then the others
-next-ok : (later : HTMLTable → Result HTMLTable Refusal) (r : Result HTMLTable Refusal) (u : HTMLTable) → next later r ≡ Ok u → (t : HTMLTable) × (r ≡ Ok t) × (later t ≡ Ok u)
+pub next-ok : (later : HTMLTable → Result HTMLTable Refusal) (r : Result HTMLTable Refusal) (u : HTMLTable) → next later r ≡ Ok u → (t : HTMLTable) × (r ≡ Ok t) × (later t ≡ Ok u)
 next-ok later (Ok t) u h = (t, refl, h)
 next-ok later (Err refusal) u h = absurd (apart refusal h)
 

@@ -1,6 +1,7 @@
 pub mod Asked
 pub mod Failure
 pub mod Output
+pub mod Pieces
 pub mod Script
 pub mod Status
 pub mod Steps
