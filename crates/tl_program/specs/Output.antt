@@ -1,15 +1,17 @@
 -- What the program writes, and with which status.
-use Rattle.std.specs.Prelude.{◌≡◌, ℕ, List, [], ◌∷◌, ◌++◌, length, map, take, slice_get, Option, None, Some, Result, Ok, Err, if◌then◌else◌, nat_lt, ◌==◌, string_bytes, ⊤}
+use Rattle.std.specs.Prelude.{◌≡◌, ℕ, List, [], ◌∷◌, ◌++◌, length, map, take, slice_get, Option, None, Some, is_some, Result, Ok, Err, if◌then◌else◌, nat_lt, ◌==◌, string_bytes, ⊤}
 use Rattle.std.specs.Global.{Global}
 use Rattle.std.specs.Option.{option_map_or}
 use Rattle.std.specs.Str.Lossy.{utf8_valid_len}
 use Rattle.std.specs.Io.KnownBytes.{Appends}
 use Rattle.std.specs.declared.string.String.{String}
+use Rattle.tl_spec.specs.Clean.{IsCleanTable}
 use Rattle.tl_spec.specs.Document.{Document, Node, document}
 use Rattle.tl_spec.specs.Edit.{Edited, Refusal, edited_all}
+use Rattle.tl_spec.specs.Normal.{ReadsAs}
 use Rattle.tl_spec.specs.Print.{document_print}
 use Rattle.tl_spec.specs.Text.{inner_text}
-use Rattle.tl_spec.specs.Walk.{TreeFault, Dangling}
+use Rattle.tl_spec.specs.Walk.{TreeFault, Dangling, every, trees, walk}
 use Rattle.tl_program.specs.Asked.{Asked, Prints, Texts, PrintsAgain, Edits}
 use Rattle.tl_program.specs.declared.program.failure.Failure.{Failure}
 use Rattle.tl_program.specs.declared.program.failure.Failure.TheVariants.{Refused, NotUnderstood, OutOfMemory, Fault as StreamFault}
@@ -80,6 +82,27 @@ outcome_of_text asked text =
 abbrev pub output_of : Asked → List ℕ → Outcome
 output_of asked input =
     if utf8_valid_len input == length input then outcome_of_text asked input else not_understood
+
+-- the document that a print is read as
+abbrev pub document_again : Result (List ℕ) TreeFault → Option Document
+document_again (Ok text) = Some (document text)
+document_again (Err fault) = None
+
+-- the document after edits, unless one was refused
+abbrev pub document_edited : Edited → Option Document
+document_edited e = if is_some e.refused then None else Some e.document
+
+-- the document whose print a command makes of a document, if it makes one
+abbrev pub printed_document : Asked → Document → Option Document
+printed_document Prints d = Some d
+printed_document Texts d = None
+printed_document PrintsAgain d = document_again (document_print d)
+printed_document (Edits changes) d = document_edited (edited_all changes d)
+
+-- where there is a document and it is clean, the text is read as its trees
+abbrev pub ReadsBack : Option Document → List ℕ → Type 0
+ReadsBack None text = ⊤
+ReadsBack (Some d) text = IsCleanTable d.nodes d.top → ReadsAs text (trees (walk every d.nodes [] d.top))
 
 -- a failure says this outcome, or is want of memory
 abbrev pub Fails : Outcome → Failure → Type 0

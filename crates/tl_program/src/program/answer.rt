@@ -1,11 +1,12 @@
 //! What a command writes of a text.
-ghost use Rattle.std.specs.Prelude.{map};
+ghost use Rattle.std.specs.Prelude.{map, string_bytes, IfOk};
+ghost use Rattle.tl_spec.specs.Document.{document};
 ghost use Rattle.tl_spec.specs.Edit.{edited_all};
 ghost use Rattle.tl_spec.specs.Print.{document_print};
 ghost use Rattle.tl.specs.Answer.{Answers};
 ghost use Rattle.tl.specs.Shown.{document_of, shown};
 ghost use Rattle.tl_program.specs.Asked.{asked_of};
-ghost use Rattle.tl_program.specs.Output.{outcome_of_text, outcome_of_document, outcome_of_edited, outcome_of_print, text_at, texts_of, Gives};
+ghost use Rattle.tl_program.specs.Output.{outcome_of_text, outcome_of_document, outcome_of_edited, outcome_of_print, text_at, texts_of, Gives, document_again, document_edited, printed_document, ReadsBack};
 ghost use Rattle.tl_program.specs.Steps.{change_of};
 
 use super::asked::Command;
@@ -40,7 +41,8 @@ fn texts(alloc: Global, document: &VDom<'_>) -> Result<String, TreeError>
 
 // The print of the document that the print of a document is read as.
 fn again(alloc: Global, document: &VDom<'_>) -> Result<String, Failure>
-    ensures { Gives (outcome_of_print (document_print (document_of document.now))) result }
+    ensures outcome { Gives (outcome_of_print (document_print (document_of document.now))) result }
+    ensures identity { IfOk result (λ s. ReadsBack (document_again (document_print (document_of document.now))) (string_bytes s)) }
 {
     let print = document.outer_html(alloc)?;
     let document = tl::parse(alloc, print.as_str(), ParserOptions::new())?;
@@ -49,7 +51,8 @@ fn again(alloc: Global, document: &VDom<'_>) -> Result<String, Failure>
 
 // The print after steps.
 fn edited(alloc: Global, document: &mut VDom<'_>, steps: &[Step<'_>]) -> Result<String, Failure>
-    ensures { Gives (outcome_of_edited (edited_all (map change_of steps.now) (document_of document.old))) result }
+    ensures outcome { Gives (outcome_of_edited (edited_all (map change_of steps.now) (document_of document.old))) result }
+    ensures identity { IfOk result (λ s. ReadsBack (document_edited (edited_all (map change_of steps.now) (document_of document.old))) (string_bytes s)) }
 {
     script::run(alloc, document, steps).map_err(|(_, error)| error)?;
     Ok(document.outer_html(alloc)?)
@@ -61,7 +64,8 @@ fn of_document(
     command: &Command<'_>,
     document: &mut VDom<'_>,
 ) -> Result<String, Failure>
-    ensures { Gives (outcome_of_document (asked_of command.now) (document_of document.old)) result }
+    ensures outcome { Gives (outcome_of_document (asked_of command.now) (document_of document.old)) result }
+    ensures identity { IfOk result (λ s. ReadsBack (printed_document (asked_of command.now) (document_of document.old)) (string_bytes s)) }
 {
     match command {
         Command::Print => Ok(document.outer_html(alloc)?),
@@ -73,7 +77,8 @@ fn of_document(
 
 /// What a command writes of a text.
 pub fn answer(alloc: Global, command: &Command<'_>, text: &str) -> Result<String, Failure>
-    ensures { Gives (outcome_of_text (asked_of command.now) text.now) result }
+    ensures outcome { Gives (outcome_of_text (asked_of command.now) text.now) result }
+    ensures identity { IfOk result (λ s. ReadsBack (printed_document (asked_of command.now) (document text.now)) (string_bytes s)) }
 {
     let mut document = tl::parse(alloc, text, ParserOptions::new())?;
     of_document(alloc, command, &mut document)

@@ -1,9 +1,10 @@
 //! A run of the program: it reads all, makes the output, and writes it.
-ghost use Rattle.std.specs.Prelude.{◌≡◌, ◌≢◌, ◌≤◌, ◌<◌, ◌==◌, true, false, ◌||◌, is_err, IfOk, IfErr, IfSome, OnOk, OnErr};
+ghost use Rattle.std.specs.Prelude.{◌≡◌, ◌≢◌, ◌≤◌, ◌<◌, ◌==◌, true, false, ◌||◌, is_err, string_bytes, IfOk, IfErr, IfSome, OnOk, OnErr};
 ghost use Rattle.std.specs.Io.KnownBytes.{Keeps, Appends, IsAtEnd};
+ghost use Rattle.tl_spec.specs.Document.{document};
 ghost use Rattle.tl_program.specs.Asked.{asked_of};
 ghost use Rattle.tl_program.specs.Failure.{is_fault, IsReadFailure};
-ghost use Rattle.tl_program.specs.Output.{output_of, Gives, AppendsBeginning};
+ghost use Rattle.tl_program.specs.Output.{output_of, printed_document, Gives, ReadsBack, AppendsBeginning};
 
 use super::answer::answer;
 use super::asked::Command;
@@ -54,7 +55,8 @@ fn deliver<W: Output>(writer: &mut W, bytes: &[u8]) -> Result<(), Fault>
 
 // What a command writes of the bytes that were read.
 fn output(alloc: Global, command: &Command<'_>, input: &[u8]) -> Result<String, Failure>
-    ensures { Gives (output_of (asked_of command.now) input.now) result }
+    ensures outcome { Gives (output_of (asked_of command.now) input.now) result }
+    ensures identity { IfOk result (λ s. ReadsBack (printed_document (asked_of command.now) (document input.now)) (string_bytes s)) }
 {
     match str::from_utf8(input) {
         Ok(text) => answer(alloc, command, text),
@@ -82,6 +84,11 @@ pub fn run<R: Input, W: Output>(
     ensures written { result ≢ 3 → result ≢ 4 → IfSome (R.left reader.old) (λ input.
         Appends (W.holds writer.old) (W.holds writer.new) (output_of (asked_of command.now) input).bytes) }
     ensures end { result ≢ 3 → result ≢ 4 → IsAtEnd (R.left reader.new) }
+
+    // Where a clean document is printed, what is written is read as its trees again. For `print` that document was
+    // just read, of which `fresh_is_clean` says when it is clean.
+    ensures identity { result ≡ 0 → IfSome (R.left reader.old) (λ input.
+        ReadsBack (printed_document (asked_of command.now) (document input)) (output_of (asked_of command.now) input).bytes) }
 
     // A refusal and a failed read write nothing; a failed write leaves a beginning of what is to be written.
     ensures nothing { 0 < result → result < 4 → Keeps (W.holds writer.old) (W.holds writer.new) }
