@@ -1,5 +1,6 @@
 -- What is written in two goes.
-use Rattle.std.proofs.Common.{ℕ, ◌+◌, List, ◌++◌, Option, None, Some, Result, Ok, Err, OnErr, length, take, drop, append_assoc, ◌∙◌, ap, sym}
+use Rattle.std.proofs.Common.{ℕ, ◌+◌, List, ◌++◌, Option, None, Some, Result, Ok, Err, OnErr, length, take, drop, append_assoc, length-drop, ◌∙◌, ap, sym}
+use Rattle.std.proofs.lemmas.List.{take_rest}
 use Rattle.std.proofs.Math.Seq.{take-add}
 use Rattle.std.proofs.Math.Seq.{take-length}
 use Rattle.std.specs.Io.KnownBytes.{Appends, Keeps}
@@ -23,3 +24,9 @@ Appends-kept (Some x) (Some y) (Some z) bs p q = (length bs, q ∙ (p ∙ ap (λ
 pub Appends-kept_after : (a b c : Option (List ℕ)) (bs : List ℕ) {T E : Type 0} (r : Result T E) → Appends a b bs → Keeps b c → OnErr r (AppendsBeginning a c bs)
 Appends-kept_after a b c bs (Ok x) p q = tt
 Appends-kept_after a b c bs (Err e) p q = Appends-kept a b c bs p q
+
+-- what is written in goes
+pub ruleset written = (Appends-take, take_rest, length-drop)
+
+-- what is written and then flushed
+pub ruleset flushed = (Appends-kept_after)

@@ -1,5 +1,6 @@
 pub mod Asked
 pub mod Failure
+pub mod Marks
 pub mod Output
 pub mod Pieces
 pub mod Script

@@ -3,6 +3,7 @@ mod answer;
 mod asked;
 mod failure;
 mod fault;
+mod flushes;
 mod marked;
 mod running;
 mod status;

@@ -1,5 +1,5 @@
 //! What is read from and written to, and how either fails.
-ghost use Rattle.std.specs.Prelude.{◌≡◌, ℕ, Bool, List, Option, length, ◌<◌, ◌||◌, is_err, IfOk};
+ghost use Rattle.std.specs.Prelude.{◌≡◌, ℕ, ◌+◌, Bool, false, List, Option, length, ◌<◌, ◌||◌, is_ok, is_err, if◌then◌else◌, IfOk};
 ghost use Rattle.std.specs.Io.{ReadsAtMost, WritesAtMost};
 ghost use Rattle.std.specs.Io.KnownBytes.{Keeps, ReadConsumes, WriteAppends};
 
@@ -34,17 +34,27 @@ pub trait Output {
     /// Whether a call of it has answered a fault.
     ghost has_failed: { Self → Bool };
 
+    /// How often it was flushed without a fault.
+    ghost flushes: { Self → ℕ };
+
+    /// Whether it was not written to since it was last flushed without a fault.
+    ghost is_flushed: { Self → Bool };
+
     /// Writes the bytes up to some place, and at least one of them.
     fn write(&mut self, bytes: &[u8]) -> Result<usize, Fault>
         ensures bound { WritesAtMost result bytes.now }
         ensures takes { 0 < length bytes.now → IfOk result (λ n. 0 < n) }
         ensures bytes { WriteAppends (holds self.old) (holds self.new) result bytes.now }
-        ensures marks { has_failed self.new ≡ (has_failed self.old || is_err result) };
+        ensures marks { has_failed self.new ≡ (has_failed self.old || is_err result) }
+        ensures counts { flushes self.new ≡ flushes self.old }
+        ensures unflushed { is_flushed self.new ≡ false };
 
     /// Passes on what it holds back.
     fn flush(&mut self) -> Result<(), Fault>
         ensures bytes { Keeps (holds self.old) (holds self.new) }
-        ensures marks { has_failed self.new ≡ (has_failed self.old || is_err result) };
+        ensures marks { has_failed self.new ≡ (has_failed self.old || is_err result) }
+        ensures counts { flushes self.new ≡ (if is_ok result then flushes self.old + 1 else flushes self.old) }
+        ensures flushed { is_flushed self.new ≡ (is_flushed self.old || is_ok result) };
 
     /// Whether a call of it has answered a fault.
     fn failed(&self) -> bool

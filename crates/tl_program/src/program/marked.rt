@@ -1,10 +1,11 @@
 //! Readers and writers that remember a failure.
-ghost use Rattle.std.specs.Prelude.{◌≡◌, true, false, Bool};
+ghost use Rattle.std.specs.Prelude.{◌≡◌, true, false};
 
 mod input;
 mod output;
 
 use super::fault::Fault;
+use super::flushes::Flushes;
 use std::marker::Model;
 
 /// A reader or a writer that remembers whether it has failed.
@@ -12,29 +13,33 @@ use std::marker::Model;
 pub struct Marked<T> {
     inner: T,
     has_failed: bool,
+    flushes: Flushes,
 }
 
-/// What it wraps, and whether it has failed.
+/// What it wraps, whether it has failed, and of a writer its flushes.
 impl<T> Model for Marked<T> {
-    ghost Value = { T × Bool };
+    ghost use Rattle.tl_program.specs.Marks.{Marks};
 
-    ghost view = { λ m. (m.inner, m.has_failed) };
+    ghost Value = { Marks T };
+
+    ghost view = { λ m. record { inner = m.inner; has_failed = m.has_failed; flushes = m.flushes.count; is_flushed = m.flushes.is_last } };
 }
 
 impl<T> Marked<T> {
-    /// One that has not failed.
+    /// One that has not failed, and was not flushed.
     pub fn new(inner: T) -> Self
-        ensures { result ≡ (inner, false) }
+        ensures { result ≡ record { inner = inner; has_failed = false; flushes = 0; is_flushed = false } }
     {
         Marked {
             inner,
             has_failed: false,
+            flushes: Flushes::new(),
         }
     }
 
     // A fault, which it remembers.
     fn fault(&mut self) -> Fault
-        ensures { self.new ≡ (self.old.0, true) }
+        ensures { self.new ≡ record self.old { has_failed = true } }
     {
         self.has_failed = true;
         Fault

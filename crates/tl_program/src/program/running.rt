@@ -1,5 +1,5 @@
 //! A run of the program: it reads all, makes the output, and writes it.
-ghost use Rattle.std.specs.Prelude.{◌≡◌, ◌≢◌, ◌≤◌, ◌<◌, ◌==◌, true, false, ◌||◌, is_err, string_bytes, IfOk, IfErr, IfSome, OnOk, OnErr};
+ghost use Rattle.std.specs.Prelude.{◌≡◌, ◌≢◌, ◌≤◌, ◌<◌, ◌+◌, ◌==◌, true, false, ◌||◌, is_ok, is_err, if◌then◌else◌, string_bytes, IsTrue, IfOk, IfErr, IfSome, OnOk, OnErr};
 ghost use Rattle.std.specs.Io.KnownBytes.{Keeps, Appends, IsAtEnd};
 ghost use Rattle.tl_spec.specs.Document.{document};
 ghost use Rattle.tl_program.specs.Asked.{asked_of};
@@ -31,10 +31,12 @@ fn read_all<R: Input>(alloc: Global, reader: &mut R) -> Result<Vec<u8>, Failure>
 }
 
 // Writes all the bytes.
+#[tactic(auto, using(crate::proofs::Writing::written))]
 fn write_all<W: Output>(writer: &mut W, bytes: &[u8]) -> Result<(), Fault>
     ensures ok { OnOk result (Appends (W.holds writer.old) (W.holds writer.new) bytes.now) }
     ensures err { OnErr result (AppendsBeginning (W.holds writer.old) (W.holds writer.new) bytes.now) }
     ensures marks { W.has_failed writer.new ≡ (W.has_failed writer.old || is_err result) }
+    ensures counts { W.flushes writer.new ≡ W.flushes writer.old }
 {
     let mut done = 0;
     while done < bytes.len() {
@@ -44,10 +46,13 @@ fn write_all<W: Output>(writer: &mut W, bytes: &[u8]) -> Result<(), Fault>
 }
 
 // Writes all the bytes, and flushes.
+#[tactic(auto, using(crate::proofs::Writing::flushed))]
 fn deliver<W: Output>(writer: &mut W, bytes: &[u8]) -> Result<(), Fault>
     ensures ok { OnOk result (Appends (W.holds writer.old) (W.holds writer.new) bytes.now) }
     ensures err { OnErr result (AppendsBeginning (W.holds writer.old) (W.holds writer.new) bytes.now) }
     ensures marks { W.has_failed writer.new ≡ (W.has_failed writer.old || is_err result) }
+    ensures counts { W.flushes writer.new ≡ (if is_ok result then W.flushes writer.old + 1 else W.flushes writer.old) }
+    ensures flushed { OnOk result (IsTrue (W.is_flushed writer.new)) }
 {
     write_all(writer, bytes)?;
     writer.flush()
@@ -89,6 +94,12 @@ pub fn run<R: Input, W: Output>(
     // just read, of which `fresh_is_clean` says when it is clean.
     ensures identity { result ≡ 0 → IfSome (R.left reader.old) (λ input.
         ReadsBack (printed_document (asked_of command.now) (document input)) (output_of (asked_of command.now) input).bytes) }
+
+    // Where all is done, one flush comes after the last write, and else none. A refusal leaves the writer alone.
+    ensures flushed_once { result ≡ 0 → W.flushes writer.new ≡ W.flushes writer.old + 1 }
+    ensures flushed_last { result ≡ 0 → IsTrue (W.is_flushed writer.new) }
+    ensures unflushed { 0 < result → W.flushes writer.new ≡ W.flushes writer.old }
+    ensures untouched { 0 < result → result < 4 → writer.new ≡ writer.old }
 
     // A refusal and a failed read write nothing; a failed write leaves a beginning of what is to be written.
     ensures nothing { 0 < result → result < 4 → Keeps (W.holds writer.old) (W.holds writer.new) }

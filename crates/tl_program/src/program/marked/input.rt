@@ -4,9 +4,9 @@ use crate::program::fault::{Fault, Input};
 use std::io::Read;
 
 impl<T: Read> Input for Marked<T> {
-    ghost left = { λ m. T.remaining m.0 };
+    ghost left = { λ m. T.remaining m.inner };
 
-    ghost has_failed = { λ m. m.1 };
+    ghost has_failed = { λ m. m.has_failed };
 
     fn read(&mut self, buffer: &mut [u8]) -> Result<usize, Fault> {
         match self.inner.read(buffer) {

@@ -4,11 +4,16 @@ use crate::program::fault::{Fault, Output};
 use std::io::Write;
 
 impl<T: Write> Output for Marked<T> {
-    ghost holds = { λ m. T.contents m.0 };
+    ghost holds = { λ m. T.contents m.inner };
 
-    ghost has_failed = { λ m. m.1 };
+    ghost has_failed = { λ m. m.has_failed };
+
+    ghost flushes = { λ m. m.flushes };
+
+    ghost is_flushed = { λ m. m.is_flushed };
 
     fn write(&mut self, bytes: &[u8]) -> Result<usize, Fault> {
+        self.flushes.wrote();
         match self.inner.write(bytes) {
             Ok(n) if n > 0 || bytes.is_empty() => Ok(n),
             _ => Err(self.fault()),
@@ -17,7 +22,10 @@ impl<T: Write> Output for Marked<T> {
 
     fn flush(&mut self) -> Result<(), Fault> {
         match self.inner.flush() {
-            Ok(()) => Ok(()),
+            Ok(()) => {
+                self.flushes.flushed();
+                Ok(())
+            }
             Err(_) => Err(self.fault()),
         }
     }

@@ -9,6 +9,7 @@ invariant-loop-done g l =
       in_range : l.done ≤ length l.bytes;
       bytes : Appends (g.W.Output.holds l.fn.writer) (g.W.Output.holds l.writer) (take l.done l.bytes);
       marks : g.W.Output.has_failed l.writer ≡ g.W.Output.has_failed l.fn.writer;
+      counts : g.W.Output.flushes l.writer ≡ g.W.Output.flushes l.fn.writer;
     }
 
 abbrev pub decreases-loop-done : goal.decreases-loop-done
