@@ -1,5 +1,5 @@
 -- What the words ask for.
-use Rattle.std.specs.Prelude.{ℕ, List, [], ◌∷◌, Option, None, Some, map, if◌then◌else◌, codes}
+use Rattle.std.specs.Prelude.{◌≡◌, ℕ, List, [], ◌∷◌, Option, None, Some, map, if◌then◌else◌, codes}
 use Rattle.std.specs.Option.{option_map}
 use Rattle.std.specs.Str.{bytes_eq}
 use Rattle.tl_spec.specs.Edit.{Change}
@@ -41,3 +41,7 @@ asked_by [] = None
 asked_by (word ∷ []) = asked_by_one word
 asked_by (word ∷ text ∷ []) = asked_by_two word text
 asked_by (word ∷ text ∷ more ∷ words) = None
+
+-- the word `edit` and a text after it
+abbrev pub AreEditWords : List (List ℕ) → Type 0
+AreEditWords words = (text : List ℕ) × (words ≡ codes "edit" ∷ text ∷ [])

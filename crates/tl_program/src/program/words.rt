@@ -1,7 +1,7 @@
 //! The command that words say.
-ghost use Rattle.std.specs.Prelude.{◌≡◌, IfOk, map, string_bytes};
+ghost use Rattle.std.specs.Prelude.{◌≡◌, IfOk, OnErr, codes, map, string_bytes};
 ghost use Rattle.std.specs.Option.{option_map};
-ghost use Rattle.tl_program.specs.Asked.{asked_of, asked_by, asked_by_one, asked_by_two};
+ghost use Rattle.tl_program.specs.Asked.{asked_of, asked_by, asked_by_one, asked_by_two, AreEditWords};
 
 use super::asked::Command;
 use crate::script::steps;
@@ -24,7 +24,8 @@ fn of_one<'c>(word: &str) -> Option<Command<'c>>
 
 // The command of a word and a text after it.
 fn of_two<'c>(alloc: Global, word: &str, text: &'c str) -> Result<Option<Command<'c>>, AllocError>
-    ensures { IfOk result (λ c. option_map asked_of c ≡ asked_by_two word.now text.now) }
+    ensures ok { IfOk result (λ c. option_map asked_of c ≡ asked_by_two word.now text.now) }
+    ensures memory { OnErr result (word.now ≡ codes "edit") }
 {
     if word == "edit" {
         Ok(steps(alloc, text)?.map(Command::Edit))
@@ -34,9 +35,10 @@ fn of_two<'c>(alloc: Global, word: &str, text: &'c str) -> Result<Option<Command
 }
 
 /// The command that the words say, or None where they say none: `print`, `text`, `again`, or `edit` and after it a
-/// text of step lines.
+/// text of step lines. Only the last takes memory.
 pub fn command<'c>(alloc: Global, words: &'c [String]) -> Result<Option<Command<'c>>, AllocError>
-    ensures { IfOk result (λ c. option_map asked_of c ≡ asked_by (map string_bytes words.now)) }
+    ensures ok { IfOk result (λ c. option_map asked_of c ≡ asked_by (map string_bytes words.now)) }
+    ensures memory { OnErr result (AreEditWords (map string_bytes words.now)) }
 {
     match words {
         [word] => Ok(of_one(word.as_str())),
