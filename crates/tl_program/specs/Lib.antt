@@ -3,6 +3,7 @@ pub mod Failure
 pub mod Marks
 pub mod Output
 pub mod Pieces
+pub mod Said
 pub mod Script
 pub mod Status
 pub mod Steps

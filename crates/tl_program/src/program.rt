@@ -1,6 +1,7 @@
 //! What the program does, over any reader and writer.
 mod answer;
 mod asked;
+mod entry;
 mod failure;
 mod fault;
 mod flushes;
@@ -10,6 +11,7 @@ mod status;
 mod words;
 
 pub use asked::Command;
+pub use entry::run_words;
 pub use fault::{Fault, Input, Output};
 pub use marked::Marked;
 pub use running::run;

@@ -3,7 +3,7 @@
 
 ghost use Rattle.std.specs.Prelude.{◌≤◌};
 
-use program::{Marked, command, line, run};
+use program::{Marked, line, run_words};
 use std::env;
 use std::io::ErrorKind;
 use std::process::ExitCode;
@@ -33,13 +33,7 @@ fn status_of(rt: &HostRuntime) -> u8
             return 3;
         }
     }
-    match command(rt.alloc(), &words) {
-        Ok(Some(asked)) => {
-            let mut reader = Marked::new(rt.stdin());
-            let mut writer = Marked::new(rt.stdout());
-            run(rt.alloc(), &asked, &mut reader, &mut writer)
-        }
-        Ok(None) => 2,
-        Err(_) => 3,
-    }
+    let mut reader = Marked::new(rt.stdin());
+    let mut writer = Marked::new(rt.stdout());
+    run_words(rt.alloc(), &words, &mut reader, &mut writer)
 }
