@@ -21,8 +21,3 @@ module _ {T : Type 0} {N : ℕ} where
   abbrev pub held_with_items : HeldItems T N → List T → HeldItems T N
   held_with_items (Inline v) xs = Inline (inline.with_items v xs)
   held_with_items (Heap v) xs = Heap (vec.with_items v xs)
-
-  -- the items lie inline
-  abbrev pub IsInline : HeldItems T N → Type 0
-  IsInline (Inline v) = Unit {0}
-  IsInline (Heap v) = ⊥

@@ -24,8 +24,6 @@ enum VecStep {
     Index(usize, u8),
     Get(usize, Option<u8>),
     Set(usize, u8),
-    // Makes this the only item, by the inline parts.
-    Restart(u8),
     NoInlineParts,
     // Writes this over each inline item.
     Fill(u8),
@@ -75,12 +73,8 @@ static VECTORS: [VecScript; 7] = [
             VecStep::CloneHolds(&[1, 2], false),
             VecStep::Set(1, 5),
             VecStep::Holds(&[1, 5], false),
-            VecStep::Restart(3),
-            VecStep::Get(0, Some(3)),
-            VecStep::Get(1, None),
-            VecStep::Holds(&[3], false),
             VecStep::Fill(4),
-            VecStep::Holds(&[4], false),
+            VecStep::Holds(&[4, 4], false),
         ],
     ),
     (
@@ -178,28 +172,14 @@ fn set<const N: usize>(v: &mut InlineVec<u8, N>, at: usize, item: u8) -> bool {
     }
 }
 
-fn restart<const N: usize>(v: &mut InlineVec<u8, N>, item: u8) -> bool {
+fn fill<const N: usize>(v: &mut InlineVec<u8, N>, item: u8) -> bool {
     match v.inline_parts_mut() {
-        Some(inline) => {
-            inline.clear();
-            if inline.is_full() {
-                return false;
-            }
-            inline.push(item);
+        Some(items) => {
+            items.fill(item);
             true
         }
         None => false,
     }
-}
-
-fn fill<const N: usize>(v: &mut InlineVec<u8, N>, item: u8) -> bool {
-    if v.is_heap_allocated() {
-        return false;
-    }
-    for place in v.inline_slice_mut() {
-        *place = item;
-    }
-    true
 }
 
 // Whether the vector answers the step as it must.
@@ -211,7 +191,6 @@ fn vec_obeys<const N: usize>(alloc: Global, v: &mut InlineVec<u8, N>, step: &Vec
         VecStep::Index(at, item) => *at < v.len() && v[*at] == *item,
         VecStep::Get(at, item) => v.get(*at).copied() == *item,
         VecStep::Set(at, item) => set(v, *at, *item),
-        VecStep::Restart(item) => restart(v, *item),
         VecStep::NoInlineParts => v.inline_parts_mut().is_none(),
         VecStep::Fill(item) => fill(v, *item),
         VecStep::Holds(items, on_heap) => holds(v, items, *on_heap),

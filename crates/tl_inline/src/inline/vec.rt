@@ -42,7 +42,7 @@ impl<T, const N: usize> Model for InlineVec<T, N> {
 }
 
 impl<T, const N: usize> InlineVec<T, N> {
-    ghost use Rattle.tl_inline.specs.InlineVecLends.{lends_item, lends_inline, lends_slice};
+    ghost use Rattle.tl_inline.specs.InlineVecLends.{lends_item, lends_inline, lends_items};
 
     /// The number of items.
     pub fn len(&self) -> usize
@@ -101,23 +101,24 @@ impl<T, const N: usize> InlineVec<T, N> {
         self.held.get_mut(index)
     }
 
-    /// The inline items for writing, or `None` where they lie on the heap. What is added or taken away through it keeps
-    /// the items inline, since an `ArrayVec` holds at most `N`.
-    pub fn inline_parts_mut(&mut self) -> Option<&mut ArrayVec<T, N>>
+    /// The items for writing, or `None` where they lie on the heap. No item can be added or taken away. A proof that needs
+    /// what a write leaves takes `get_mut` at each place.
+    pub fn inline_parts_mut(&mut self) -> Option<&mut [T]>
         ensures* writes_back { sem 𝓛 (lends_inline T.row N.row self.entry result) }
         ensures variant { is_some result ≡ not self.old.on_heap }
-        ensures value { IfSome result (λ v. v.now.items ≡ self.old.items) }
+        ensures value { IfSome result (λ items. items.now ≡ self.old.items) }
     {
-        self.held.inline_mut()
+        let (items, on_heap) = self.items_mut();
+        if on_heap { None } else { Some(items) }
     }
 
-    /// The items for writing, which must lie inline: `is_heap_allocated` tells.
-    pub fn inline_slice_mut(&mut self) -> &mut [T]
-        requires { self.old.on_heap ≡ false }
-        ensures* writes_back { sem 𝓛 (lends_slice T.row N.row self.entry result) }
-        ensures value { result.now ≡ self.old.items }
+    // The items for writing, and whether they lie on the heap.
+    fn items_mut(&mut self) -> (&mut [T], bool)
+        ensures* writes_back { sem 𝓛 (lends_items T.row N.row self.entry result) }
+        ensures items { result.0.now ≡ self.old.items }
+        ensures on_heap { result.1 ≡ self.old.on_heap }
     {
-        self.held.slice_mut()
+        self.held.items_mut()
     }
 
     /// The items in order.

@@ -13,8 +13,8 @@ pub(super) enum HeldItems<T, const N: usize> {
 }
 
 impl<T, const N: usize> HeldItems<T, N> {
-    ghost use Rattle.tl_inline.specs.HeldItems.{held_view, IsInline};
-    ghost use Rattle.tl_inline.specs.HeldItemsLends.{lends_item, lends_inline, lends_slice};
+    ghost use Rattle.tl_inline.specs.HeldItems.{held_view};
+    ghost use Rattle.tl_inline.specs.HeldItemsLends.{lends_item, lends_items};
 
     pub(super) fn get_mut(&mut self, index: usize) -> Option<&mut T>
         ensures* writes_back { sem 𝓛 (lends_item T.row N.row self.entry index result) }
@@ -28,25 +28,15 @@ impl<T, const N: usize> HeldItems<T, N> {
         }
     }
 
-    pub(super) fn inline_mut(&mut self) -> Option<&mut ArrayVec<T, N>>
-        ensures* writes_back { sem 𝓛 (lends_inline T.row N.row self.entry result) }
-        ensures variant { is_some result ≡ not (held_view self.old).on_heap }
-        ensures value { IfSome result (λ v. v.now.items ≡ (held_view self.old).items) }
+    // The items for writing, and whether they lie on the heap.
+    pub(super) fn items_mut(&mut self) -> (&mut [T], bool)
+        ensures* writes_back { sem 𝓛 (lends_items T.row N.row self.entry result) }
+        ensures items { result.0.now ≡ (held_view self.old).items }
+        ensures on_heap { result.1 ≡ (held_view self.old).on_heap }
     {
         match self {
-            HeldItems::Inline(inline) => Some(inline),
-            HeldItems::Heap(_) => None,
-        }
-    }
-
-    pub(super) fn slice_mut(&mut self) -> &mut [T]
-        requires { IsInline self.old }
-        ensures* writes_back { sem 𝓛 (lends_slice T.row N.row self.entry result) }
-        ensures value { result.now ≡ (held_view self.old).items }
-    {
-        match self {
-            HeldItems::Inline(inline) => inline.as_mut_slice(),
-            HeldItems::Heap(_) => unreachable!(),
+            HeldItems::Inline(inline) => (inline.as_mut_slice(), false),
+            HeldItems::Heap(heap) => (heap.as_mut_slice(), true),
         }
     }
 }
