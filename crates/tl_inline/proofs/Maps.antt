@@ -1,6 +1,6 @@
 -- Facts of a list of pairs with distinct keys.
 use Rattle.std.proofs.Common.{◌≡◌, ℕ, zero, suc, ◌<◌, Bool, true, false, not, cond, List, [], ◌∷◌, ◌++◌, length, get_or, slice_set, position, Option, Some, None, is_some, refl, sym, ap, subst, ◌∙◌, arith, append_assoc, ◌||◌, ◌&&◌, ◌==◌, ◌⊎◌, ◌≤◌, inl, slice_get, true≢false, map, IsPermutation}
-use Rattle.std.specs.List.{IsDistinct, AllZip, Contains, swap_remove, refill}
+use Rattle.std.specs.List.{All, IsDistinct, AllZip, Contains, swap_remove, refill}
 use Rattle.std.specs.Cmp.{IsEquivalence}
 use Rattle.std.specs.HashMap.{HashMap, IsUnique, PutsEntry, get}
 use Rattle.std.proofs.lemmas.List.Sorted.{IsPermutation-push_more}
@@ -117,6 +117,18 @@ clone_is C D m es fs b was ks vs h =
     let back = sym (ap (λ w. w.entries) was) in
     let e = pairs_same C D es fs (subst (λ l. ClonesAreEqual C (keys_of l)) back ks) (subst (λ l. ClonesAreEqual D (values_of l)) back vs) h in
     (e, ap (λ l. same_map l b) e ∙ was)
+
+-- what holds of the keys and of the values holds of the pairs
+pub all_pairs : {K V : Type 0} (P : K → Type 0) (Q : V → Type 0) (es : List (K × V)) → All P (keys_of es) → All Q (values_of es)
+    → All (λ e. P e.0 × Q e.1) es
+all_pairs {K} {V} P Q es ks vs i d h =
+    let key : K × V → K = λ e. e.0 in
+    let value : K × V → V = λ e. e.1 in
+    let keys = length-map es key in
+    let values = length-map es value in (
+      subst P (get_or-map key es i d d.0 h) (ks i d.0 (omega (arith, keys))),
+      subst Q (get_or-map value es i d d.1 h) (vs i d.1 (omega (arith, values))),
+    )
 
 module _ {K V : Type 0} (eq : K → K → Bool) where
   -- a write of the value at a key that is there, through the slice

@@ -1,6 +1,6 @@
 //! `InlineHashMap`: a map that keeps up to `N` pairs in the value itself.
 ghost use Rattle.std.specs.Prelude.{◌^◌, not, is_some, ◌≡◌, ◌<◌, ◌≤◌, ◌↔◌, false, [], length, None, position, IsTrue, IsOk, IfSome, IfOk, IfErr, OnOk, OnErr};
-ghost use Rattle.std.specs.List.{IsDistinct};
+ghost use Rattle.std.specs.List.{All, IsDistinct};
 ghost use Rattle.std.specs.List.Sorted.{IsPermutation};
 ghost use Rattle.std.specs.HashMap.{get};
 ghost use Rattle.std.specs.Map.{lookup, keys_of, values_of};
@@ -225,7 +225,11 @@ impl<K: Default + Eq + Hash + Clone, V: Default + Clone, const N: usize> InlineH
     pub fn clone(&self) -> Result<Self, AllocError>
         requires keys { ClonesAreEqual K.is_clone (keys_of self.now.entries) }
         requires values { ClonesAreEqual V.is_clone (values_of self.now.entries) }
-        ensures { IfOk result (λ m. m ≡ self.now) }
+        ensures ok { IfOk result (λ m. m ≡ self.now) }
+
+        // Of inline pairs whose clones take no memory a clone takes none.
+        ensures succeeds { self.now.on_heap ≡ false → All K.is_infallible (keys_of self.now.entries)
+            → All V.is_infallible (values_of self.now.entries) → IsOk result }
     {
         match &self.held {
             HeldPairs::Inline(inline) => Ok(InlineHashMap {

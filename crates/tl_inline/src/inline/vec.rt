@@ -1,6 +1,6 @@
 //! `InlineVec`: a vector that keeps up to `N` items in the value itself.
 ghost use Rattle.std.specs.Prelude.{◌^◌, not, is_some, ◌≡◌, ◌<◌, ◌≤◌, ◌↔◌, false, [], length, Some, slice_get, slice_index_or, IsTrue, IsOk, IsSome, IfSome, IfOk, IfErr, OnOk, OnErr};
-ghost use Rattle.std.specs.List.{IsItemAtMut};
+ghost use Rattle.std.specs.List.{All, IsItemAtMut};
 ghost use Rattle.std.specs.Option.{option_copied};
 ghost use Rattle.std.specs.Borrow.{sem};
 ghost use Rattle.std.specs.Map.Iter.{deref, ShowsInOrder};
@@ -198,7 +198,10 @@ impl<T: Default + Clone, const N: usize> InlineVec<T, N> {
     /// A vector of clones of the items, which lie where these do. A clone of an item must be that item.
     pub fn clone(&self) -> Result<Self, AllocError>
         requires { ClonesAreEqual T.is_clone self.now.items }
-        ensures { IfOk result (λ v. v ≡ self.now) }
+        ensures ok { IfOk result (λ v. v ≡ self.now) }
+
+        // Of inline items whose clones take no memory a clone takes none.
+        ensures succeeds { self.now.on_heap ≡ false → All T.is_infallible self.now.items → IsOk result }
     {
         match &self.held {
             HeldItems::Inline(inline) => Ok(InlineVec {
