@@ -6,7 +6,9 @@ ghost use Rattle.std.specs.Option.{option_copied, option_copied_mut, option_map,
 ghost use Rattle.tl_spec.specs.Inline.{room, with_entry, with_value, without_key};
 ghost use Rattle.tl_spec.specs.AttributeList.{AreOthers, IsOther, count_of, is_class, is_id};
 ghost use Rattle.tl_spec.specs.AttributeEdit.{value_at, with_attribute, without_attribute, without_value};
+ghost use Rattle.tl_bytes.specs.Held.{borrowed};
 ghost use Rattle.tl_attributes.specs.Attributes.{no_attributes, nested};
+ghost use Rattle.tl_attributes.specs.HeldAttributes.{AreHeldAttributes};
 
 use crate::piece::Piece;
 use std::alloc::{AllocError, Global};
@@ -322,7 +324,10 @@ impl<B: Piece> AttributesOf<B> {
 impl<'a> Attributes<'a> {
     /// The same attributes, each piece held as it is here: borrowed bytes stay borrowed, owned ones are copied.
     pub fn clone(&self) -> Result<Attributes<'a>, AllocError>
-        ensures { IfOk result (λ a. a ≡ self.now) }
+        ensures ok { IfOk result (λ a. a ≡ self.now) }
+
+        // Of borrowed pieces that lie inline a clone takes no memory.
+        ensures succeeds { self.now.others.on_heap ≡ false → AreHeldAttributes borrowed self.now → IsOk result }
     {
         Ok(AttributesOf {
             others: self.others.clone()?,
