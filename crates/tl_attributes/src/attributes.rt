@@ -21,7 +21,7 @@ pub type RawAttributesMap<'a> = InlineHashMap<Bytes<'a>, Option<Bytes<'a>>, 2>;
 
 /// The attributes of a tag, with keys and values of the type `B`. Each key is there once, and `id` and `class`, in exact
 /// case, stand apart: they are there only with a value.
-#[derive(Drop)]
+#[derive(Debug, Drop)]
 pub struct AttributesOf<B: Piece> {
     others: InlineHashMap<B, Option<B>, 2>,
     id: Option<B>,
