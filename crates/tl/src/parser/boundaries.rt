@@ -6,12 +6,12 @@ use crate::parser::base::Parser;
 use crate::parser::tag::HTMLTag;
 
 impl<'a> HTMLTag<'a> {
-    /// The places of the first and of the last byte of the source in the text, whatever the table of `_parser` is. An empty source answers its place twice, and a place past `usize::MAX` is that.
+    /// The places of the first and of the last byte of the source in the text, whatever the table of `_parser` is. An empty source answers its place twice.
     pub fn boundaries(&self, _parser: &Parser<'a>) -> (usize, usize)
         ensures { result ≡ boundaries self.now }
     {
-        let start = self.start();
+        let start = self.start() as usize;
         let len = self.raw().as_bytes().len();
-        (start, start.saturating_add(len.saturating_sub(1)))
+        (start, start + len.saturating_sub(1))
     }
 }

@@ -1,5 +1,5 @@
 //! Reads a text into a table: takes the tokens of the lexer one by one and writes what each stands for.
-ghost use Rattle.std.specs.Prelude.{◌≡◌, ◌↔◌, ◌≤◌, ◌<◌, ◌+◌, length, drop, slice_get, IfOk, OnOk, IsErrOf, All};
+ghost use Rattle.std.specs.Prelude.{◌≡◌, ◌↔◌, ◌≤◌, ◌<◌, ◌+◌, ◌^◌, length, drop, slice_get, IfOk, OnOk, IsErrOf, All};
 ghost use Rattle.tl_bytes.specs.Held.{Held};
 ghost use Rattle.tl_spec.specs.ByteClass.{is_void as is_void_name};
 ghost use Rattle.tl_token.specs.Span.{bytes_at, IsIn};
@@ -162,6 +162,7 @@ impl<'a> TableBuilder<'a> {
         at: usize,
     ) -> Result<usize, AllocError>
         requires order { start < at }
+        requires small { length (S.text source.now) < 2 ^ 32 }
         requires within { at ≤ length (S.text source.now) }
         requires name { IsIn (S.text source.now) name }
         requires room { HasRoom self.old }
@@ -251,6 +252,7 @@ impl<'a> TableBuilder<'a> {
         after: usize,
     ) -> Result<usize, AllocError>
         requires order { start < after }
+        requires small { length (S.text source.now) < 2 ^ 32 }
         requires within { after ≤ length (S.text source.now) }
         requires spans { IsTokenIn (S.text source.now) token }
         requires room { HasRoom self.old }

@@ -22,7 +22,8 @@ struct Parts<A, B> {
     attributes: A,
     children: RawChildren,
     raw: B,
-    start: usize,
+    // A text that is read has at most `u32::MAX` bytes.
+    start: u32,
 }
 
 /// A tag of bytes of the type `B`, with attributes of the type `A`. Its parts lie on the heap, so that a table of nodes stays small.
@@ -59,7 +60,7 @@ impl<A: Drop, B: Drop> TagOf<A, B> {
         name: B,
         attributes: A,
         raw: B,
-        start: usize,
+        start: u32,
     ) -> Result<Self, AllocError>
         ensures { IfOk result (λ t. t ≡ childless name attributes raw start) }
     {
@@ -97,7 +98,7 @@ impl<A, B> TagOf<A, B> {
     }
 
     // Where the tag's `<` stands in the text.
-    pub(crate) fn start(&self) -> usize
+    pub(crate) fn start(&self) -> u32
         ensures { result ≡ self.now.start }
     {
         self.parts.start

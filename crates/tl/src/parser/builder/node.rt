@@ -46,7 +46,7 @@ impl<'a> Node<'a> {
         ensures held { OnOk result (IsHeldNode S.held self.old → IsHeldNode S.held self.new) }
     {
         if let Node::Tag(tag) = self {
-            let start = tag.start().min(to);
+            let start = (tag.start() as usize).min(to);
             tag.set_raw(source.piece(
                 alloc,
                 Span {

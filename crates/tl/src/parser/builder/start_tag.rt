@@ -1,5 +1,5 @@
 //! Reads a start tag.
-ghost use Rattle.std.specs.Prelude.{◌≡◌, ◌≤◌, ◌<◌, [], length, drop, IfOk, OnOk};
+ghost use Rattle.std.specs.Prelude.{◌≡◌, ◌≤◌, ◌<◌, ◌^◌, [], length, drop, IfOk, OnOk};
 ghost use Rattle.tl_spec.specs.Attribute.{attributes};
 ghost use Rattle.tl_spec.specs.AttributeList.{no_attributes};
 ghost use Rattle.tl_spec.specs.Document.{tag_node};
@@ -49,6 +49,7 @@ pub(crate) fn read_start_tag<'a, S: Source<'a>>(
     at: usize,
 ) -> Result<(HTMLTag<'a>, TagEnd, usize), AllocError>
     requires order { start < at }
+    requires small { length (S.text source.now) < 2 ^ 32 }
     requires within { at ≤ length (S.text source.now) }
     requires name { IsIn (S.text source.now) name }
     ensures tag { IfOk result (λ found. shown_tag found.0 ≡ tag_node (S.text source.now) (source_tag (S.text source.now) name at start found.2) []) }
@@ -63,7 +64,7 @@ pub(crate) fn read_start_tag<'a, S: Source<'a>>(
         name,
         AttributesOf::new(alloc),
         Bytes::new(),
-        start,
+        start as u32,
     )?;
     let after = read_into(alloc, source, &mut tag, at)?;
     let (kind, end) = tag_end(source.as_bytes(), after);
