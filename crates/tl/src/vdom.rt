@@ -20,7 +20,7 @@ use tl_attributes::attributes::Attributes;
 use tl_bytes::byte_string::Bytes;
 
 /// A document: the table of its nodes, and which of them stand at its top.
-#[derive(Drop)]
+#[derive(Debug, Drop)]
 pub struct VDomOf<A, B> {
     parser: ParserOf<A, B>,
 }

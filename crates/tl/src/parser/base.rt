@@ -32,7 +32,7 @@ pub enum HTMLVersion {
 }
 
 /// A table of nodes, the handles of its top nodes and its version.
-#[derive(Drop)]
+#[derive(Debug, Drop)]
 pub struct ParserOf<A, B> {
     nodes: Vec<NodeOf<A, B>>,
     top: Vec<NodeHandle>,

@@ -16,7 +16,7 @@ use tl_inline::inline::vec::InlineVec;
 /// The handles of a tag's children, the first two inline.
 pub type RawChildren = InlineVec<NodeHandle, 2>;
 
-#[derive(Drop)]
+#[derive(Debug, Drop)]
 struct Parts<A, B> {
     name: B,
     attributes: A,
@@ -27,7 +27,7 @@ struct Parts<A, B> {
 }
 
 /// A tag of bytes of the type `B`, with attributes of the type `A`. Its parts lie on the heap, so that a table of nodes stays small.
-#[derive(Drop)]
+#[derive(Debug, Drop)]
 pub struct TagOf<A, B> {
     parts: Box<Parts<A, B>>,
 }

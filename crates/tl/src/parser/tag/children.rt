@@ -1,13 +1,14 @@
 //! The children of a tag.
-ghost use Rattle.std.specs.Prelude.{◌≡◌};
+ghost use Rattle.std.specs.Prelude.{◌≡◌, ⊤};
 
 use crate::parser::tag::{RawChildren, TagOf};
+use std::alloc::AllocError;
 use std::marker::Model;
 use tl_attributes::attributes::Attributes;
 use tl_bytes::byte_string::Bytes;
 
 /// The children of a tag for reading, seen as the tag.
-#[derive(Drop)]
+#[derive(Debug, Drop)]
 pub struct ChildrenOf<'b, A, B> {
     tag: &'b TagOf<A, B>,
 }
@@ -23,6 +24,17 @@ impl<'b, A, B> Model for ChildrenOf<'b, A, B> {
     ghost coded = { tag_code A.code B.code };
 
     ghost view = { λ c. c.tag.now };
+}
+
+/// A clone has the same tag, and takes no memory.
+impl<'b, A, B> Clone for ChildrenOf<'b, A, B> {
+    ghost is_clone = { λ c copy. copy ≡ c };
+
+    ghost is_infallible = { λ _. ⊤ };
+
+    fn clone(&self) -> Result<Self, AllocError> {
+        Ok(ChildrenOf { tag: self.tag })
+    }
 }
 
 impl<'b, A, B> ChildrenOf<'b, A, B> {

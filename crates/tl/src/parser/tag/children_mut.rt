@@ -8,7 +8,7 @@ use tl_attributes::attributes::Attributes;
 use tl_bytes::byte_string::Bytes;
 
 /// The children of a tag for writing.
-#[derive(Drop)]
+#[derive(Debug, Drop)]
 pub struct ChildrenMutOf<'b, A, B> {
     tag: &'b mut TagOf<A, B>,
 }

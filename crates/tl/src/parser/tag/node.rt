@@ -12,7 +12,7 @@ use tl_attributes::attributes::Attributes;
 use tl_bytes::byte_string::Bytes;
 
 /// A node of bytes of the type `B`, whose tags have attributes of the type `A`.
-#[derive(Drop)]
+#[derive(Debug, Drop)]
 pub enum NodeOf<A, B> {
     /// A tag.
     Tag(TagOf<A, B>),
