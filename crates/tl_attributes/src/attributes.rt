@@ -266,7 +266,8 @@ impl<B: Piece> AttributesOf<B> {
         self.other_mut(key)
     }
 
-    /// The value at `key` for writing: `None` where the key is missing, `Some(None)` where it has no value.
+    /// The value at `key` for writing: `None` where the key is missing, `Some(None)` where it has no value. A proof that needs
+    /// what a write leaves takes `value_mut`.
     pub fn get_mut(&mut self, key: B) -> Option<Option<&mut B>>
     where
         B: Drop,
