@@ -142,7 +142,8 @@ impl NodeHandle {
         parser.resolve_node_id(self.get_inner())
     }
 
-    /// The node of this number in a table for writing, or None past the table. A proof that needs what a write leaves takes `resolve_node_id_mut`.
+    /// The node of this number in a table for writing, or None past the table. A proof that needs what a write leaves takes
+    /// `resolve_node_id_mut` of the table.
     pub fn get_mut<A, B>(self, parser: &mut ParserOf<A, B>) -> Option<&mut NodeOf<A, B>>
         ensures* writes_back { sem 𝓛 (LendsNode A.row B.row parser.entry self result) }
         ensures value { option_copied_mut result ≡ slice_get parser.old.nodes self }

@@ -17,7 +17,8 @@ pub struct ChildrenMutOf<'b, A, B> {
 pub type ChildrenMut<'a, 'b> = ChildrenMutOf<'b, Attributes<'a>, Bytes<'a>>;
 
 impl<'b, A, B> ChildrenMutOf<'b, A, B> {
-    /// The handles of the children, in order. Nothing ties them to a table.
+    /// The handles of the children, in order. Nothing ties them to a table. A proof that needs what a write leaves calls this
+    /// and `children_mut` in a function generic in `A` and `B`, on `&mut TagOf<A, B>`; a caller at a lifetime calls that one.
     pub fn top_mut<'s>(&'s mut self) -> &'s mut RawChildren
         ensures* writes_back { sem 𝓛 (LendsTopHandles A.row B.row self.entry result) }
         ensures value { result.now ≡ (lent_tag self.old).children }
@@ -28,7 +29,7 @@ impl<'b, A, B> ChildrenMutOf<'b, A, B> {
 }
 
 impl<A, B> TagOf<A, B> {
-    /// The children for writing.
+    /// The children for writing. What a write through them leaves is a clause of `top_mut`, which says how a proof learns it.
     pub fn children_mut(&mut self) -> ChildrenMutOf<'_, A, B>
         ensures name { lent_name result ≡ self.entry.ghost_name }
         ensures value { lent_tag result ≡ self.old }
