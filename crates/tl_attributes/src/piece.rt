@@ -1,5 +1,5 @@
 //! What a name, a key, a value or a text is: a list of bytes.
-ghost use Rattle.std.specs.Prelude.{◌≡◌, List, ℕ, nat_eq, refl, OnOk};
+ghost use Rattle.std.specs.Prelude.{◌≡◌, List, ℕ, nat_eq, refl};
 ghost use Rattle.std.specs.Cmp.Lexicographic.{pointwise};
 
 use std::hash::Hash;

@@ -1,6 +1,6 @@
 //! Worked rows: for each condition of cleanness, trees that fail it alone, their print, and what that is read as.
 
-ghost use Rattle.std.specs.Prelude.{List, [], ◌∷◌, Option, Some, None, codes};
+ghost use Rattle.std.specs.Prelude.{[], ◌∷◌, Some, None, codes};
 ghost use Rattle.tl_spec.specs.Forest.{none, text, comment, tag};
 ghost use Rattle.tl_spec.specs.Clean.{IsClean};
 ghost use Rattle.tl_spec.specs.Misread.{tag_with, IsMisread};

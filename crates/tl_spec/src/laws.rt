@@ -1,6 +1,6 @@
 //! Laws of the definitions.
 
-ghost use Rattle.std.specs.Prelude.{◌≡◌, ◌↔◌, ◌<◌, ◌≤◌, ◌+◌, ℕ, All, sum_by, length, take, drop, slice_get, Some, List, [], ◌∷◌, ◌++◌, Option, None, Bool, Ok};
+ghost use Rattle.std.specs.Prelude.{◌≡◌, ◌↔◌, ◌≤◌, ◌+◌, ℕ, All, sum_by, length, Some, List, [], ◌∷◌, ◌++◌, Option, None, Bool, Ok};
 ghost use Rattle.std.specs.Fmt.{decimal};
 ghost use Rattle.tl_spec.specs.Attribute.{Pair, attribute, attributes};
 ghost use Rattle.tl_spec.specs.Token.{Token, PlacedToken, next_token, tokens};
@@ -8,11 +8,11 @@ ghost use Rattle.tl_spec.specs.Grammar.{AttributeStands, AttributesStand, TokenS
 ghost use Rattle.tl_spec.specs.AttributeList.{PlainAttributes, attributes_of};
 ghost use Rattle.tl_spec.specs.AttributeGrammar.{AreAttributesOf};
 ghost use Rattle.tl_spec.specs.Forest.{Forest, PlainTag, Siblings, Makes, no_siblings, siblings, with_token, forest, plain};
-ghost use Rattle.tl_spec.specs.Document.{Document, Node, TagNode, Tag, document, weight};
+ghost use Rattle.tl_spec.specs.Document.{Document, Node, document, weight};
 ghost use Rattle.tl_spec.specs.Edit.{Change, Refusal, edited, edited_all, done};
 ghost use Rattle.tl_spec.specs.Edits.{later, KeepsShape};
 ghost use Rattle.tl_spec.specs.Machine.{run, start};
-ghost use Rattle.tl_spec.specs.Walk.{Walk, every, shows, row_walk, walk, walk_of, trees, first_fault, visits, visits_from};
+ghost use Rattle.tl_spec.specs.Walk.{every, shows, row_walk, walk, walk_of, trees, first_fault, visits, visits_from};
 ghost use Rattle.tl_spec.specs.Order.{AreChildrenAbove, AreDescendantsNext};
 ghost use Rattle.tl_spec.specs.Print.{print, document_print, outer_html};
 ghost use Rattle.tl_spec.specs.Clean.{IsClean, IsCleanNode, IsCleanTable, HaveOwnKeys, IsTame};

@@ -1,8 +1,8 @@
 //! Attributes of a start tag.
-ghost use Rattle.std.specs.Prelude.{◌≡◌, ◌≤◌, ◌<◌, ◌+◌, length, drop, take, take_while, option_map, IfSome};
+ghost use Rattle.std.specs.Prelude.{◌≡◌, ◌≤◌, ◌<◌, ◌+◌, length, drop, take_while, option_map, IfSome};
 ghost use Rattle.tl_spec.specs.ByteClass.{is_name};
 ghost use Rattle.tl_spec.specs.Runs.{past};
-ghost use Rattle.tl_spec.specs.Attribute.{value, optional_value, past_end, past_blanks, attribute, attributes, next_attribute};
+ghost use Rattle.tl_spec.specs.Attribute.{value, optional_value, past_end, past_blanks, attribute, next_attribute};
 ghost use Rattle.tl_token.specs.Span.{bytes_at, optional_bytes_at, pair_at, IsIn, ArePairIn};
 
 use crate::place::{byte_at, past_blanks, split};

@@ -1,11 +1,10 @@
 //! Tokens.
-ghost use Rattle.std.specs.Prelude.{◌≡◌, ◌≤◌, ◌<◌, ◌+◌, ℕ, length, drop, take_while, codes, IfSome, option_map};
-ghost use Rattle.std.specs.Str.{str_eq_ignore_ascii_case};
+ghost use Rattle.std.specs.Prelude.{◌≡◌, ◌≤◌, ◌<◌, ◌+◌, length, drop, take_while, codes, IfSome, option_map};
 ghost use Rattle.tl_spec.specs.ByteClass.{is_ident};
 ghost use Rattle.tl_token.specs.Span.{bytes_at, IsIn};
 ghost use Rattle.tl_spec.specs.Runs.{after, past};
 ghost use Rattle.tl_spec.specs.Attribute.{past_blanks};
-ghost use Rattle.tl_spec.specs.Token.{end_tag, comment_token, doctype, word, declaration, markup, text_token, next_token};
+ghost use Rattle.tl_spec.specs.Token.{end_tag, comment_token, doctype, word, declaration, markup, next_token};
 
 use crate::attribute::name;
 use crate::place::{byte_at, past_blanks, past_one, split};

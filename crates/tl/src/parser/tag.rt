@@ -1,6 +1,5 @@
 //! Tags.
 ghost use Rattle.std.specs.Prelude.{◌≡◌, IfOk, OnOk, OnErr};
-ghost use Rattle.std.specs.Option.{option_copied};
 
 pub(crate) mod children;
 pub(crate) mod children_mut;

@@ -1,7 +1,7 @@
 //! Byte strings that own their bytes, and the data that they are made of.
 ghost use Rattle.std.specs.Prelude.{◌≡◌, ◌≤◌, ◌<◌, ◌↔◌, IsOk, IfOk, OnOk, OnErr, IsErrOf, length, string_bytes, List, ℕ};
 ghost use Rattle.std.specs.Box.{boxed_slice_items};
-ghost use Rattle.tl_bytes.specs.Held.{as_owned, owned_part};
+ghost use Rattle.tl_bytes.specs.Held.{as_owned};
 ghost use Rattle.tl_bytes.specs.Set.{set_or_refused, GivesBack};
 
 use crate::byte_string::{Bytes, Repr};

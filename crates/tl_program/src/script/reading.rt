@@ -1,5 +1,5 @@
 //! Steps read from text, one on each line.
-ghost use Rattle.std.specs.Prelude.{◌≡◌, ◌==◌, slice_index, ◌∷◌, ◌<◌, length, IfOk, IfSome, map};
+ghost use Rattle.std.specs.Prelude.{◌≡◌, ◌==◌, ◌∷◌, ◌<◌, length, IfOk, IfSome, map};
 ghost use Rattle.std.specs.Option.{option_map};
 ghost use Rattle.std.specs.List.{slice_split};
 ghost use Rattle.tl_spec.specs.StepLine.{is_line_feed, number_of, first_word, after_word, change_by_word, change_of_line, changes_of};

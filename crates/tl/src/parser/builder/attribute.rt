@@ -2,7 +2,7 @@
 ghost use Rattle.std.specs.Prelude.{◌≡◌, ◌≤◌, length, drop, IfOk, OnOk, IfSome};
 ghost use Rattle.tl_spec.specs.Attribute.{attributes as attributes_at};
 ghost use Rattle.tl_spec.specs.AttributeList.{no_attributes, with_pair};
-ghost use Rattle.tl_token.specs.Span.{bytes_at, optional_bytes_at, pair_at, IsIn, ArePairIn};
+ghost use Rattle.tl_token.specs.Span.{optional_bytes_at, pair_at, IsIn, ArePairIn};
 ghost use Rattle.tl_attributes.specs.ShownAttributes.{shown_value, shown_attributes, plain};
 ghost use Rattle.tl_attributes.specs.HeldAttributes.{IsHeld, AreHeldAttributes, AreRead};
 ghost use Rattle.tl.specs.StartTag.{read_of};

@@ -1,5 +1,5 @@
 //! Where the items of an `InlineVec` lie.
-ghost use Rattle.std.specs.Prelude.{not, is_some, ◌≡◌, ◌<◌, ◌↔◌, length, slice_index_or, IsSome, IfSome, IfOk, OnErr, vec_len, vec_capacity};
+ghost use Rattle.std.specs.Prelude.{◌≡◌, ◌<◌, ◌↔◌, length, slice_index_or, IsSome, IfSome, IfOk, OnErr, vec_len, vec_capacity};
 ghost use Rattle.std.specs.List.{IsItemAtMut};
 ghost use Rattle.std.specs.Borrow.{sem};
 
