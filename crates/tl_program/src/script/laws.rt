@@ -8,14 +8,14 @@ ghost use Rattle.tl_program.specs.Pieces.{node_of, NodePasses};
 ghost use Rattle.tl_program.specs.TableEdit.{HTMLTable, edited_table, table_after};
 
 /// An edit of a table is that edit of its document, and is refused for the same cause; so are edits in order.
-pub fn table_edits()
+pub fn table_edits_are_edits()
     ensures one { (c : Change) (t : HTMLTable) → edited c (document_of t) ≡ on_ok document_of (edited_table c t) }
     ensures all { (cs : List Change) (t u : HTMLTable) → table_after cs t ≡ Ok u → edited_all cs (document_of t) ≡ done (document_of u) }
 {}
 
 /// A node that no edit names is the old one. Of the others, what all owned bytes pass and each piece of the old node passes, each piece of
 /// the new one passes: it is a piece that was there, or owned.
-pub fn table_edits_leave()
+pub fn table_edits_keep_the_rest()
     ensures others { (cs : List Change) (t u : HTMLTable) (n : ℕ) → table_after cs t ≡ Ok u →
         AllByRecursion (λ c. node_of c ≢ Some n) cs → slice_get u.nodes n ≡ slice_get t.nodes n }
     ensures pieces { (test : Kept → Bool) (cs : List Change) (t u : HTMLTable) (n : ℕ) → table_after cs t ≡ Ok u →

@@ -1,5 +1,5 @@
 use Rattle.tl_program.proofs.Pieces.{table_after-untouched, table_after-passes}
-use Rattle.tl_program.proofs.script.laws.table_edits_leave.Goals as goal
+use Rattle.tl_program.proofs.script.laws.table_edits_keep_the_rest.Goals as goal
 
 pub returns-clause-others : goal.returns-clause-others
 returns-clause-others c = table_after-untouched
