@@ -1,6 +1,6 @@
 //! The whole program, over its words, a reader and a writer.
 ghost use Rattle.std.specs.Prelude.{◌≡◌, ◌≢◌, ◌≤◌, ◌<◌, ◌+◌, ◌==◌, true, false, ◌||◌, map, string_bytes, IsTrue, IfNone, IfSome, OnSome};
-ghost use Rattle.std.specs.Io.KnownBytes.{Keeps, Appends, IsAtEnd};
+ghost use Rattle.std.specs.Io.KnownBytes.{Appends, IsAtEnd};
 ghost use Rattle.tl_spec.specs.Document.{document};
 ghost use Rattle.tl_program.specs.Asked.{AreEditWords};
 ghost use Rattle.tl_program.specs.Output.{ReadsBack, AppendsBeginning};
@@ -47,11 +47,10 @@ pub fn run_words<R: Input, W: Output>(
     ensures unflushed { 0 < result → W.flushes writer.new ≡ W.flushes writer.old }
     ensures untouched { 0 < result → result < 4 → writer.new ≡ writer.old }
 
-    // A failed read writes nothing; a failed write leaves a beginning of what is to be written.
+    // A failed read leaves it alone too; a failed write leaves a beginning of what is to be written.
     ensures beginning { result ≡ 4 → IfSome (R.left reader.old) (λ input.
         AppendsBeginning (W.holds writer.old) (W.holds writer.new) (output_by words.now input).bytes) }
-    ensures unread { R.has_failed reader.old ≡ false → R.has_failed reader.new ≡ true →
-        Keeps (W.holds writer.old) (W.holds writer.new) }
+    ensures unread { R.has_failed reader.old ≡ false → R.has_failed reader.new ≡ true → writer.new ≡ writer.old }
     ensures unwritten { result ≡ 4 → R.has_failed reader.new ≡ false →
         IsAtEnd (R.left reader.new) × IfSome (R.left reader.old) (λ input. (output_by words.now input).status ≡ 0) }
     ensures failed { R.has_failed reader.old ≡ false → W.has_failed writer.old ≡ false →

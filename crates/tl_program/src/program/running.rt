@@ -101,12 +101,12 @@ pub fn run<R: Input, W: Output>(
     ensures unflushed { 0 < result → W.flushes writer.new ≡ W.flushes writer.old }
     ensures untouched { 0 < result → result < 4 → writer.new ≡ writer.old }
 
-    // A refusal and a failed read write nothing; a failed write leaves a beginning of what is to be written.
+    // A refusal writes nothing, and a failed read leaves the writer alone too; a failed write leaves a beginning of what
+    // is to be written.
     ensures nothing { 0 < result → result < 4 → Keeps (W.holds writer.old) (W.holds writer.new) }
     ensures beginning { result ≡ 4 → IfSome (R.left reader.old) (λ input.
         AppendsBeginning (W.holds writer.old) (W.holds writer.new) (output_of (asked_of command.now) input).bytes) }
-    ensures unread { R.has_failed reader.old ≡ false → R.has_failed reader.new ≡ true →
-        Keeps (W.holds writer.old) (W.holds writer.new) }
+    ensures unread { R.has_failed reader.old ≡ false → R.has_failed reader.new ≡ true → writer.new ≡ writer.old }
     ensures unwritten { result ≡ 4 → R.has_failed reader.new ≡ false →
         IsAtEnd (R.left reader.new) × IfSome (R.left reader.old) (λ input. (output_of (asked_of command.now) input).status ≡ 0) }
     ensures failed { R.has_failed reader.old ≡ false → W.has_failed writer.old ≡ false →
