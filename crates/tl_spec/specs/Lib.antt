@@ -18,6 +18,7 @@ pub mod Clean
 pub mod Normal
 pub mod Misread
 pub mod ClassMember
+pub mod Scan
 pub mod Edit
 pub mod Edits
 pub mod StepLine

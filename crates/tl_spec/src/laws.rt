@@ -11,7 +11,8 @@ ghost use Rattle.tl_spec.specs.Forest.{Forest, PlainTag, Siblings, Makes, no_sib
 ghost use Rattle.tl_spec.specs.Document.{Document, Node, document, weight};
 ghost use Rattle.tl_spec.specs.Edit.{Change, Refusal, edited, edited_all, done};
 ghost use Rattle.tl_spec.specs.Edits.{later, KeepsShape};
-ghost use Rattle.tl_spec.specs.Machine.{run, start};
+ghost use Rattle.tl_spec.specs.Machine.{State, run, start, step};
+ghost use Rattle.tl_spec.specs.Scan.{has_id, is_in_class, IsFirstPlace, ArePlaces, id_scan, class_scan, tags_of};
 ghost use Rattle.tl_spec.specs.Walk.{every, shows, row_walk, walk, walk_of, trees, first_fault, visits, visits_from};
 ghost use Rattle.tl_spec.specs.Order.{AreChildrenAbove, AreDescendantsNext};
 ghost use Rattle.tl_spec.specs.Print.{print, document_print, outer_html};
@@ -119,6 +120,19 @@ pub fn machine_writes_document()
     ensures nodes { (t : List ℕ) → (run t start (tokens t)).nodes ≡ (document t).nodes }
     ensures top { (t : List ℕ) → (run t start (tokens t)).top ≡ (document t).top }
     ensures version { (t : List ℕ) → (run t start (tokens t)).is_html5 ≡ (document t).is_html5 }
+{}
+
+/// A scan for an id finds the first node that has it, and one for a class all nodes that have the member, in order; nothing else is that.
+pub fn scans()
+    ensures id { (nodes : List Node) (i : List ℕ) (n : Option ℕ) → IsFirstPlace (has_id i) nodes n ↔ (n ≡ id_scan nodes i) }
+    ensures class { (nodes : List Node) (c : List ℕ) (ns : List ℕ) → ArePlaces (is_in_class c) nodes ns ↔ (ns ≡ class_scan nodes c) }
+{}
+
+/// What scans find in a table that is written token by token grows with each start tag alone: no later step changes it.
+#[tactic(auto, using(crate::proofs::Seen::ids_grow, crate::proofs::Seen::classes_grow))]
+pub fn scans_grow()
+    ensures ids { (t : List ℕ) (s : State) (k : PlacedToken) (i : List ℕ) → id_scan (step t s k).nodes i ≡ id_scan (s.nodes ++ tags_of t k k.token) i }
+    ensures classes { (t : List ℕ) (s : State) (k : PlacedToken) (c : List ℕ) → class_scan (step t s k).nodes c ≡ class_scan (s.nodes ++ tags_of t k k.token) c }
 {}
 
 /// Edits after edits that were done are edits of what those made, their places counted on. Edits after a refused one are left out.
