@@ -1,0 +1,88 @@
+-- What the maps from ids and classes hold, and how they answer.
+use Rattle.std.specs.Prelude.{◌≡◌, ℕ, ◌-◌, Bool, false, ◌==◌, ⊤, List, [], ◌∷◌, ◌++◌, length, slice_get, if◌then◌else◌, Option, None, Some, refl}
+use Rattle.std.specs.Borrow.{Bor}
+use Rattle.std.specs.Coded.{Coded, code_by, coded×, coded_list, coded_option, coded_ℕ}
+use Rattle.std.specs.List.{list_any}
+use Rattle.std.specs.Map.{lookup}
+use Rattle.std.specs.Str.{bytes_eq}
+use Rattle.tl_spec.specs.Inline.{InlineVec}
+use Rattle.tl_spec.specs.Document.{Node}
+use Rattle.tl_spec.specs.Scan.{id_scan, class_scan}
+use Rattle.tl_options.specs.Options.{Options}
+use Rattle.tl_inline.specs.InlineVec.{inline_vec_code}
+
+-- the pairs of the map from ids, and of that from members of classes, where they are tracked
+pub record Tracking (B : Type 0) : Type 0 where
+  pub ids : Option (List (B × ℕ))
+  pub classes : Option (List (B × InlineVec ℕ))
+
+-- they are stored as their fields
+abbrev pub tracking_code : {B : Type 0} → Coded B → Coded (Tracking B)
+tracking_code {B} piece =
+    code_by (Option (List (B × ℕ)) × Option (List (B × InlineVec ℕ))) (coded× (coded_option (coded_list (coded× piece coded_ℕ))) (coded_option (coded_list (coded× piece (inline_vec_code coded_ℕ)))))
+    (λ t. (t.ids, t.classes)) (λ p. record { ids = p.0; classes = p.1 }) (λ _. refl)
+
+-- a map without pairs, where it is asked for
+abbrev pub empty_if : {A : Type 0} → Bool → Option (List A)
+empty_if asked = if asked then Some [] else None
+
+-- what is asked for, before any tag
+abbrev pub nothing_noted : {B : Type 0} → Options → Tracking B
+nothing_noted asked = record { ids = empty_if asked.ids; classes = empty_if asked.classes }
+
+-- n, if it is there
+abbrev pub one_if : Bool → ℕ → List ℕ
+one_if is_there n = if is_there then n ∷ [] else []
+
+-- whether there is a number, and it is n
+abbrev pub is_number : ℕ → Option ℕ → Bool
+is_number n None = false
+is_number n (Some m) = m == n
+
+-- whether n is the last
+abbrev pub ends_with : ℕ → List ℕ → Bool
+ends_with n ns = is_number n (slice_get ns (length ns - 1))
+
+-- with n at the end, once
+abbrev pub with_number : ℕ → List ℕ → List ℕ
+with_number n ns = if ends_with n ns then ns else ns ++ n ∷ []
+
+-- the numbers of a list, if there is one
+abbrev pub numbers_of : Option (InlineVec ℕ) → List ℕ
+numbers_of None = []
+numbers_of (Some numbers) = numbers.items
+
+-- the numbers of a slice, if there is one
+abbrev pub numbers_lent : Option (Bor (List ℕ)) → List ℕ
+numbers_lent None = []
+numbers_lent (Some numbers) = numbers.now
+
+-- the numbers under a member of classes
+abbrev pub class_at : {B : Type 0} → (B → B → Bool) → List (B × InlineVec ℕ) → B → List ℕ
+class_at eq pairs member = numbers_of (lookup (eq member) pairs)
+
+-- the number under an id, where ids are tracked
+abbrev pub id_in : {B : Type 0} → (B → B → Bool) → Option (List (B × ℕ)) → B → Option ℕ
+id_in eq None id = None
+id_in eq (Some pairs) id = lookup (eq id) pairs
+
+-- the numbers under a member, where classes are tracked
+abbrev pub class_in : {B : Type 0} → (B → B → Bool) → Option (List (B × InlineVec ℕ)) → B → List ℕ
+class_in eq None member = []
+class_in eq (Some pairs) member = class_at eq pairs member
+
+module _ {B : Type 0} (list : B → List ℕ) (eq : B → B → Bool) where
+  -- where ids are tracked, each is answered as by a scan of these nodes
+  abbrev pub TracksIds : Option (List (B × ℕ)) → List Node → Type 0
+  TracksIds None nodes = ⊤
+  TracksIds (Some pairs) nodes = (id : B) → lookup (eq id) pairs ≡ id_scan nodes (list id)
+
+  -- where classes are tracked, each member is answered as by a scan of these nodes
+  abbrev pub TracksClasses : Option (List (B × InlineVec ℕ)) → List Node → Type 0
+  TracksClasses None nodes = ⊤
+  TracksClasses (Some pairs) nodes = (member : B) → class_at eq pairs member ≡ class_scan nodes (list member)
+
+  -- the same, and the tag after these nodes stands under these of its members
+  abbrev pub TracksMembers : Option (List (B × InlineVec ℕ)) → List Node → List (List ℕ) → Type 0
+  TracksMembers None nodes noted = ⊤
+  TracksMembers (Some pairs) nodes noted = (member : B) → class_at eq pairs member ≡ class_scan nodes (list member) ++ one_if (list_any (bytes_eq (list member)) noted) (length nodes)

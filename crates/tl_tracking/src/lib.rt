@@ -1,0 +1,8 @@
+//! Maps from ids and classes to the numbers of tags, made while a text is read.
+#![tactic(auto)]
+
+mod laws;
+mod numbers;
+mod tracking;
+
+pub use tracking::TrackingOf;

@@ -1,0 +1,76 @@
+//! What is kept under one id, and under one member of classes.
+ghost use Rattle.std.specs.Prelude.{◌≡◌, OnOk, OnErr, Some, None, if◌then◌else◌};
+ghost use Rattle.std.specs.Map.{lookup};
+ghost use Rattle.std.specs.Option.{option_or};
+ghost use Rattle.tl_tracking.specs.Tracking.{class_at, ends_with, with_number};
+
+use std::alloc::{AllocError, Global};
+use std::collections::HashMap;
+use tl_attributes::piece::Piece;
+use tl_inline::inline::vec::InlineVec;
+
+// The first tag of each id.
+pub(crate) type Ids<B> = HashMap<B, u32>;
+
+// The tags of each member of classes.
+pub(crate) type Classes<B> = HashMap<B, InlineVec<u32, 2>>;
+
+// Keeps a number under an id, unless there is one.
+pub(crate) fn keep_first<B: Piece + Drop>(
+    ids: &mut Ids<B>,
+    id: B,
+    number: u32,
+) -> Result<(), AllocError>
+    ensures ok { OnOk result ((key : B) → lookup (B.eq key) ids.new.entries ≡ option_or (lookup (B.eq key) ids.old.entries) (if B.eq key id then Some number else None)) }
+    ensures err { OnErr result (ids.new.entries ≡ ids.old.entries) }
+{
+    if !ids.contains_key(&id) {
+        ids.insert(id, number)?;
+    }
+    Ok(())
+}
+
+// Whether a number is the last of a list.
+fn is_last(numbers: &[u32], number: u32) -> bool
+    ensures { result ≡ ends_with number numbers.now }
+{
+    match numbers.last() {
+        Some(last) => *last == number,
+        None => false,
+    }
+}
+
+// Adds a number to a list, unless it is the last.
+fn add_last(numbers: &mut InlineVec<u32, 2>, number: u32) -> Result<(), AllocError>
+    ensures ok { OnOk result (numbers.new.items ≡ with_number number numbers.old.items) }
+    ensures err { OnErr result (numbers.new ≡ numbers.old) }
+{
+    if is_last(numbers.as_slice(), number) {
+        return Ok(());
+    }
+    match numbers.push(number) {
+        Ok(()) => Ok(()),
+        Err(_) => Err(AllocError),
+    }
+}
+
+// Adds a number under a member, unless it is the last there.
+pub(crate) fn add_member<B: Piece + Drop>(
+    classes: &mut Classes<B>,
+    alloc: Global,
+    member: B,
+    number: u32,
+) -> Result<(), AllocError>
+    ensures ok { OnOk result ((key : B) → class_at B.eq classes.new.entries key ≡ (if B.eq key member then with_number number (class_at B.eq classes.old.entries key) else class_at B.eq classes.old.entries key)) }
+    ensures err { OnErr result (classes.new.entries ≡ classes.old.entries) }
+{
+    match classes.get_mut(&member) {
+        Some(numbers) => add_last(numbers, number),
+        None => {
+            let mut numbers = InlineVec::new(alloc);
+            add_last(&mut numbers, number)?;
+            classes.insert(member, numbers)?;
+            Ok(())
+        }
+    }
+}

@@ -1,0 +1,116 @@
+//! The maps.
+ghost use Rattle.std.specs.Prelude.{◌≡◌, List, ℕ, ◌∷◌, [], ◌++◌, length, is_some, OnOk, OnErr, Some, None, IsOk, IsSome};
+ghost use Rattle.tl_spec.specs.Document.{Node};
+ghost use Rattle.tl_spec.specs.Scan.{id_of, id_scan, class_scan};
+ghost use Rattle.tl_tracking.specs.Tracking.{TracksIds, TracksMembers, TracksClasses, nothing_noted, id_in, class_in, numbers_lent};
+
+use crate::numbers::{Classes, Ids, add_member, keep_first};
+use std::alloc::{AllocError, Global};
+use std::collections::HashMap;
+use std::marker::Model;
+use tl_attributes::piece::Piece;
+use tl_options::ParserOptions;
+
+/// The number of the first tag of each id, and those of the tags of each member of classes, where they are tracked.
+#[derive(Drop)]
+pub struct TrackingOf<B: Piece> {
+    alloc: Global,
+    ids: Option<Ids<B>>,
+    classes: Option<Classes<B>>,
+}
+
+impl<B: Piece> Model for TrackingOf<B> {
+    ghost use Rattle.std.specs.Prelude.{option_map};
+    ghost use Rattle.tl_tracking.specs.Tracking.{Tracking, tracking_code};
+
+    ghost Value = { Tracking B };
+
+    ghost coded = { tracking_code B.code };
+
+    ghost view = { λ t. record { ids = option_map (λ m. m.entries) t.ids; classes = option_map (λ m. m.entries) t.classes } };
+}
+
+impl<B: Piece> TrackingOf<B> {
+    /// Maps without tags, as far as the options ask for them. They take no memory before the first tag.
+    pub fn new(alloc: Global, options: ParserOptions) -> Self
+        ensures { result ≡ nothing_noted options }
+    {
+        TrackingOf {
+            alloc,
+            ids: if options.is_tracking_ids() {
+                Some(HashMap::new(alloc))
+            } else {
+                None
+            },
+            classes: if options.is_tracking_classes() {
+                Some(HashMap::new(alloc))
+            } else {
+                None
+            },
+        }
+    }
+
+    /// Whether ids are tracked.
+    pub fn is_tracking_ids(&self) -> bool
+        ensures { result ≡ is_some self.now.ids }
+    {
+        self.ids.is_some()
+    }
+
+    /// Whether classes are tracked.
+    pub fn is_tracking_classes(&self) -> bool
+        ensures { result ≡ is_some self.now.classes }
+    {
+        self.classes.is_some()
+    }
+
+    /// The number of the first tag with this id. `None` where there is none, and where ids are not tracked.
+    pub fn id(&self, id: &B) -> Option<u32>
+        ensures value { result ≡ id_in B.eq self.now.ids id.now }
+        ensures scan { (nodes : List Node) → IsSome self.now.ids → TracksIds B.list B.eq self.now.ids nodes → result ≡ id_scan nodes (B.list id.now) }
+    {
+        self.ids.as_ref()?.get(id).copied()
+    }
+
+    /// The numbers of the tags with this member of their class, rising. `None` where there is none, and where classes are not tracked.
+    pub fn class(&self, member: &B) -> Option<&[u32]>
+        ensures value { numbers_lent result ≡ class_in B.eq self.now.classes member.now }
+        ensures scan { (nodes : List Node) → IsSome self.now.classes → TracksClasses B.list B.eq self.now.classes nodes → numbers_lent result ≡ class_scan nodes (B.list member.now) }
+    {
+        Some(self.classes.as_ref()?.get(member)?.as_slice())
+    }
+}
+
+impl<B: Piece + Drop> TrackingOf<B> {
+    /// Notes the id of a tag. A tag that was noted before under this id stays.
+    pub fn note_id(&mut self, id: B, number: u32) -> Result<(), AllocError>
+        ensures noted { OnOk result ((nodes : List Node) (node : Node) → id_of node ≡ Some (B.list id) → number ≡ length nodes → TracksIds B.list B.eq self.old.ids nodes → TracksIds B.list B.eq self.new.ids (nodes ++ node ∷ [])) }
+        ensures tracked { is_some self.new.ids ≡ is_some self.old.ids }
+        ensures classes { self.new.classes ≡ self.old.classes }
+        ensures err { OnErr result (self.new ≡ self.old) }
+
+        // Where ids are not tracked a note takes no memory.
+        ensures succeeds { self.old.ids ≡ None → IsOk result }
+    {
+        let Some(ids) = &mut self.ids else {
+            return Ok(());
+        };
+        keep_first(ids, id, number)
+    }
+
+    /// Notes one member of the class of a tag. A member that is noted again for this tag changes nothing.
+    pub fn note_class(&mut self, member: B, number: u32) -> Result<(), AllocError>
+        ensures noted { OnOk result ((nodes : List Node) (noted : List (List ℕ)) → number ≡ length nodes → TracksMembers B.list B.eq self.old.classes nodes noted → TracksMembers B.list B.eq self.new.classes nodes (noted ++ B.list member ∷ [])) }
+        ensures tracked { is_some self.new.classes ≡ is_some self.old.classes }
+        ensures ids { self.new.ids ≡ self.old.ids }
+        ensures err { OnErr result (self.new ≡ self.old) }
+
+        // Where classes are not tracked a note takes no memory.
+        ensures succeeds { self.old.classes ≡ None → IsOk result }
+    {
+        let Some(classes) = &mut self.classes else {
+            return Ok(());
+        };
+        add_member(classes, self.alloc, member, number)
+    }
+}
