@@ -25,7 +25,6 @@ pub mod bytes {
 pub use errors::ParseError;
 pub use parser::base::{ClassVec, HTMLVersion, Parser, ParserOf, Tree};
 pub use parser::handle::{InnerNodeHandle, NodeHandle};
-pub use parser::options::ParserOptions;
 pub use parser::tag::children::{Children, ChildrenOf};
 pub use parser::tag::children_mut::{ChildrenMut, ChildrenMutOf};
 pub use parser::tag::node::{Node, NodeOf};
@@ -37,6 +36,7 @@ pub use tl_attributes::class_iter::ClassIter;
 pub use tl_bytes::byte_string::{Bytes, IntoOwnedBytes};
 pub use tl_bytes::simd;
 pub use tl_inline::inline;
+pub use tl_options::ParserOptions;
 pub use vdom::{VDom, VDomOf};
 
 /// Reads a text into a document whose pieces are slices of it.

@@ -3,5 +3,4 @@ pub(crate) mod base;
 pub(crate) mod boundaries;
 pub(crate) mod builder;
 pub(crate) mod handle;
-pub(crate) mod options;
 pub(crate) mod tag;
