@@ -9,6 +9,7 @@ mod containers;
 mod documents;
 mod program;
 mod stop;
+mod tracking;
 
 use std::alloc::Global;
 use std::io::Read;
@@ -63,5 +64,6 @@ fn all(alloc: Global) -> Result<(), Stop> {
     byte_strings::all(alloc)?;
     containers::all(alloc)?;
     documents::all(alloc)?;
+    tracking::all(alloc)?;
     program::all(alloc)
 }

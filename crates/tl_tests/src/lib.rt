@@ -30,4 +30,6 @@ mod step_lines;
 #[cfg(test)]
 mod texts;
 #[cfg(test)]
+mod tracking;
+#[cfg(test)]
 mod words;

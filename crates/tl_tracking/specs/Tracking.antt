@@ -30,9 +30,9 @@ empty_if asked = if asked then Some [] else None
 abbrev pub nothing_noted : {B : Type 0} → Options → Tracking B
 nothing_noted asked = record { ids = empty_if asked.ids; classes = empty_if asked.classes }
 
--- n, if it is there
-abbrev pub one_if : Bool → ℕ → List ℕ
-one_if is_there n = if is_there then n ∷ [] else []
+-- n alone, if it is there
+abbrev pub only_if : Bool → ℕ → List ℕ
+only_if is_there n = if is_there then n ∷ [] else []
 
 -- whether there is a number, and it is n
 abbrev pub is_number : ℕ → Option ℕ → Bool
@@ -85,4 +85,4 @@ module _ {B : Type 0} (list : B → List ℕ) (eq : B → B → Bool) where
   -- the same, and the tag after these nodes stands under these of its members
   abbrev pub TracksMembers : Option (List (B × InlineVec ℕ)) → List Node → List (List ℕ) → Type 0
   TracksMembers None nodes noted = ⊤
-  TracksMembers (Some pairs) nodes noted = (member : B) → class_at eq pairs member ≡ class_scan nodes (list member) ++ one_if (list_any (bytes_eq (list member)) noted) (length nodes)
+  TracksMembers (Some pairs) nodes noted = (member : B) → class_at eq pairs member ≡ class_scan nodes (list member) ++ only_if (list_any (bytes_eq (list member)) noted) (length nodes)

@@ -31,9 +31,11 @@ impl<B: Piece> Model for TrackingOf<B> {
 }
 
 impl<B: Piece> TrackingOf<B> {
-    /// Maps without tags, as far as the options ask for them. They take no memory before the first tag.
+    /// Maps without tags, which answer as scans of no node do, as far as the options ask for them. They take no memory before the first tag.
     pub fn new(alloc: Global, options: ParserOptions) -> Self
-        ensures { result ≡ nothing_noted options }
+        ensures value { result ≡ nothing_noted options }
+        ensures ids { TracksIds B.list B.eq result.ids [] }
+        ensures classes { TracksClasses B.list B.eq result.classes [] }
     {
         TrackingOf {
             alloc,
