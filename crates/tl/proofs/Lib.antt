@@ -1,5 +1,6 @@
 pub mod ReadAttributes
 pub mod StartTags
+pub mod Tracked
 pub mod Building
 pub mod Following
 pub mod Marks

@@ -4,15 +4,12 @@ use Rattle.std.specs.Option.{option_copied_mut, option_map}
 use Rattle.std.specs.List.{IsItemAtMut, slice_get, slice_set}
 use Rattle.std.proofs.lemmas.Option.{slice_get_past, slice_get_read, slice_get-map}
 use Rattle.std.proofs.lemmas.List.{map-set}
-use Rattle.tl_bytes.specs.Held.{Kept}
 use Rattle.tl_spec.specs.Document.{Node, TagNode as ShownTagNode}
 use Rattle.tl_spec.specs.Document.{Tag as ShownTag}
 use Rattle.tl_spec.specs.Edit.{Refusal, at_node, at_tag, of_node, of_tag, on_ok}
-use Rattle.tl_spec.specs.AttributeList.{Attributes}
 use Rattle.tl.specs.Tag.{Tag}
-use Rattle.tl.specs.Table.{Table}
 use Rattle.tl.specs.Node.{tag_of}
-use Rattle.tl.specs.Shown.{HTMLTag, HTMLNode, shown, shown_tag, document_of}
+use Rattle.tl.specs.Shown.{HTMLTag, HTMLNode, HTMLTable, shown, shown_tag, document_of}
 use Rattle.tl.specs.declared.parser.tag.node.NodeOf.{NodeOf}
 use Rattle.tl.specs.declared.parser.tag.node.NodeOf.TheVariants.{Tag as TagNode, Raw, Comment}
 
@@ -38,7 +35,7 @@ pub set_back : {A B : Type 0} (ns : List (NodeOf A B)) (i : ℕ) (n : NodeOf A B
 set_back ns i n t e h = ap (λ m. slice_set ns i m) (tag_is n t h) ∙ set_same ns i n e
 
 -- a table with a node put in the place of another is the document after that edit
-pub edited_node : (d : Table (Attributes Kept) Kept) (i : ℕ) (n m : HTMLNode) (change : Node → Result Node Refusal)
+pub edited_node : (d : HTMLTable) (i : ℕ) (n m : HTMLNode) (change : Node → Result Node Refusal)
     → Some n ≡ slice_get d.nodes i → change (shown n) ≡ Ok (shown m)
     → at_node i change (document_of d) ≡ Ok (document_of (record d { nodes = slice_set d.nodes i m }))
 edited_node d i n m change e is =
@@ -48,7 +45,7 @@ edited_node d i n m change e is =
     ∙ ap (λ ns. Ok (record (document_of d) { nodes = ns })) (sym (map-set shown d.nodes i m))
 
 -- the same of a tag
-pub edited_tag : (d : Table (Attributes Kept) Kept) (i : ℕ) (n : HTMLNode) (t u : HTMLTag) (change : ShownTagNode → ShownTagNode)
+pub edited_tag : (d : HTMLTable) (i : ℕ) (n : HTMLNode) (t u : HTMLTag) (change : ShownTagNode → ShownTagNode)
     → Some n ≡ slice_get d.nodes i → Some t ≡ tag_of n → shown_tag u ≡ change (shown_tag t)
     → at_tag i change (document_of d) ≡ Ok (document_of (record d { nodes = slice_set d.nodes i (TagNode u) }))
 edited_tag d i n t u change e h is =

@@ -8,6 +8,7 @@ pub mod Answer
 pub mod StartTag
 pub mod Builder
 pub mod Marks
+pub mod Tracked
 pub mod Walker
 pub mod Writing
 pub mod Boundaries

@@ -4,6 +4,7 @@ use Rattle.tl_spec.specs.Document.{TagNode, Node, Tag, Raw, Comment, Document}
 use Rattle.tl_bytes.specs.Held.{Kept}
 use Rattle.tl_spec.specs.AttributeList.{Attributes}
 use Rattle.tl_attributes.specs.ShownAttributes.{shown_bytes, shown_attributes}
+use Rattle.tl_tracking.specs.Tracking.{Tracking}
 use Rattle.tl.specs.Tag.{Tag as KeptTag}
 use Rattle.tl.specs.Table.{Table}
 use Rattle.tl.specs.declared.parser.tag.node.NodeOf.{NodeOf}
@@ -45,6 +46,10 @@ abbrev pub version_of : Bool → Option HTMLVersion
 version_of true = Some HTML5
 version_of false = None
 
+-- a table that `parse` gives
+abbrev pub HTMLTable : Type 0
+HTMLTable = Table (Attributes Kept) Kept (Tracking Kept)
+
 -- a table as a document
-abbrev pub document_of : Table (Attributes Kept) Kept → Document
+abbrev pub document_of : HTMLTable → Document
 document_of t = record { nodes = map shown t.nodes; top = t.top; is_html5 = is_html5 t.version }

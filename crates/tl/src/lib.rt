@@ -10,6 +10,7 @@ ghost use Rattle.tl_spec.specs.Token.{tokens};
 ghost use Rattle.tl_bytes.specs.Held.{borrowed};
 ghost use Rattle.tl.specs.Shown.{document_of, version_of};
 ghost use Rattle.tl.specs.HeldAlike.{IsHeldNode};
+ghost use Rattle.tl.specs.Tracked.{AreAsked, AnswerIds, AnswerClasses};
 ghost use Rattle.tl.specs.declared.errors.ParseError.TheVariants.{InvalidLength};
 
 pub mod errors;
@@ -58,8 +59,15 @@ pub fn parse<'a>(
     ensures interval { IfOk result (λ d. AreDescendantsNext (document_of d).nodes) }
     ensures size { IfOk result (λ d. sum_by weight (document_of d).nodes ≤ length text.now) }
 
+    // What is tracked answers as a scan of the table that was read.
+    ensures asked { IfOk result (λ d. AreAsked options d.tracking) }
+    ensures ids { IfOk result (λ d. AnswerIds d.tracking (document text.now).nodes) }
+    ensures classes { IfOk result (λ d. AnswerClasses d.tracking (document text.now).nodes) }
+
     // So what `outer_html` says of a clean table is said of a text with tame trees.
     ensures clean { IsTame (plain (forest (tokens text.now))) → IfOk result (λ d. IsCleanTable (document_of d).nodes (document_of d).top) }
 {
-    Ok(VDom::from(parser::builder::read(alloc, &text, options)?))
+    let mut parser = parser::builder::read(alloc, &text)?;
+    parser.track(alloc, options)?;
+    Ok(VDom::from(parser))
 }

@@ -4,3 +4,4 @@ pub(crate) mod boundaries;
 pub(crate) mod builder;
 pub(crate) mod handle;
 pub(crate) mod tag;
+mod tracking;

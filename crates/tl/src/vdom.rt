@@ -10,7 +10,7 @@ ghost use Rattle.tl.specs.Shown.{document_of};
 ghost use Rattle.tl.specs.TableLends.{LendsParser, LendsNodes, LendsTop};
 
 use crate::errors::TreeError;
-use crate::parser::base::{HTMLVersion, ParserOf};
+use crate::parser::base::{HTMLVersion, ParserOf, Tracking};
 use crate::parser::handle::NodeHandle;
 use crate::parser::tag::node::NodeOf;
 use crate::walk::print::write_row;
@@ -21,32 +21,32 @@ use tl_bytes::byte_string::Bytes;
 
 /// A document: the table of its nodes, and which of them stand at its top.
 #[derive(Debug, Drop)]
-pub struct VDomOf<A, B> {
-    parser: ParserOf<A, B>,
+pub struct VDomOf<A, B, M> {
+    parser: ParserOf<A, B, M>,
 }
 
 /// A document whose nodes borrow from a text.
-pub type VDom<'a> = VDomOf<Attributes<'a>, Bytes<'a>>;
+pub type VDom<'a> = VDomOf<Attributes<'a>, Bytes<'a>, Tracking<'a>>;
 
-impl<A, B> Model for VDomOf<A, B> {
+impl<A, B, M> Model for VDomOf<A, B, M> {
     ghost use Rattle.tl.specs.Table.{Table};
 
-    ghost Value = { Table A B };
+    ghost Value = { Table A B M };
 
     ghost view = { λ v. v.parser };
 }
 
-impl<A, B> From<ParserOf<A, B>> for VDomOf<A, B> {
+impl<A, B, M> From<ParserOf<A, B, M>> for VDomOf<A, B, M> {
     ghost from_gives = { λ p d. d ≡ p };
 
-    fn from(parser: ParserOf<A, B>) -> Self {
+    fn from(parser: ParserOf<A, B, M>) -> Self {
         VDomOf { parser }
     }
 }
 
-impl<A, B> VDomOf<A, B> {
+impl<A, B, M> VDomOf<A, B, M> {
     /// The table.
-    pub fn parser(&self) -> &ParserOf<A, B>
+    pub fn parser(&self) -> &ParserOf<A, B, M>
         ensures { result.now ≡ self.now }
     {
         &self.parser
@@ -74,8 +74,8 @@ impl<A, B> VDomOf<A, B> {
     }
 
     /// The table for writing. A table put there brings all that it holds.
-    pub fn parser_mut(&mut self) -> &mut ParserOf<A, B>
-        ensures* writes_back { sem 𝓛 (LendsParser A.row B.row self.entry result) }
+    pub fn parser_mut(&mut self) -> &mut ParserOf<A, B, M>
+        ensures* writes_back { sem 𝓛 (LendsParser A.row B.row M.row self.entry result) }
         ensures value { result.now ≡ self.old }
     {
         &mut self.parser
@@ -83,7 +83,7 @@ impl<A, B> VDomOf<A, B> {
 
     /// All nodes for writing, in the order of the text. No node can be added or taken away.
     pub fn nodes_mut(&mut self) -> &mut [NodeOf<A, B>]
-        ensures* writes_back { sem 𝓛 (LendsNodes A.row B.row self.entry result) }
+        ensures* writes_back { sem 𝓛 (LendsNodes A.row B.row M.row self.entry result) }
         ensures value { result.now ≡ self.old.nodes }
     {
         self.parser.nodes_mut()
@@ -91,7 +91,7 @@ impl<A, B> VDomOf<A, B> {
 
     /// The handles of the top nodes for writing. None can be added or taken away.
     pub fn children_mut(&mut self) -> &mut [NodeHandle]
-        ensures* writes_back { sem 𝓛 (LendsTop A.row B.row self.entry result) }
+        ensures* writes_back { sem 𝓛 (LendsTop A.row B.row M.row self.entry result) }
         ensures value { result.now ≡ self.old.top }
     {
         self.parser.top_mut()

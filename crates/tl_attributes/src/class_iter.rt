@@ -26,6 +26,15 @@ impl<'t> Model for ClassIter<'t> {
     ghost view = { λ c. parts c.rest.now };
 }
 
+impl<'t> ClassIter<'t> {
+    /// The parts of a text.
+    pub fn of(text: &'t str) -> Self
+        ensures { result ≡ parts text.now }
+    {
+        ClassIter { rest: text }
+    }
+}
+
 // How many bytes at the front are not white space.
 fn part_len(bytes: &[u8]) -> usize
     ensures place { result ≡ prefix_len (λ b. not (is_ascii_whitespace b)) bytes.now }

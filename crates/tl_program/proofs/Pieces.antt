@@ -11,9 +11,9 @@ use Rattle.tl_spec.specs.AttributeList.{Attributes, is_id, is_class, with_at}
 use Rattle.tl_spec.specs.Document.{Handles}
 use Rattle.tl_spec.specs.Edit.{Change, Names, Texts, Comments, Sets, Flags, Unsets, Bares, Pushes, Pulls, Roots, Refusal, no_node, not_tag, no_place, on_ok, without_handle}
 use Rattle.tl.specs.TableLends.{with_node}
-use Rattle.tl.specs.Shown.{HTMLTag, HTMLNode}
+use Rattle.tl.specs.Shown.{HTMLTag, HTMLNode, HTMLTable}
 use Rattle.tl.specs.declared.parser.tag.node.NodeOf.TheVariants.{Tag, Raw, Comment}
-use Rattle.tl_program.specs.TableEdit.{HTMLTable, with_attribute, without_attribute, without_value, of_tag, of_node, at_node, edited_table, table_after}
+use Rattle.tl_program.specs.TableEdit.{with_attribute, without_attribute, without_value, of_tag, of_node, at_node, edited_table, table_after}
 use Rattle.tl_program.specs.Pieces.{node_of, Passes, PairPasses, AttributesPass, NodePasses}
 use Rattle.tl_program.proofs.Tables.{apart, next-ok}
 

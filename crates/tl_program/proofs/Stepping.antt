@@ -7,7 +7,7 @@ use Rattle.std.proofs.lemmas.List.{length-map, take_all}
 use Rattle.tl_spec.specs.Document.{Document}
 use Rattle.tl_spec.specs.Edit.{Change, Refusal, no_node, not_tag, no_place, on_ok, edited, edited_all, done, stopped}
 use Rattle.tl_spec.proofs.Edits.{edited_all-refused}
-use Rattle.tl.specs.Shown.{HTMLTag, HTMLNode, document_of}
+use Rattle.tl.specs.Shown.{HTMLTag, HTMLNode, document_of, HTMLTable}
 use Rattle.tl.specs.TableLends.{with_node}
 use Rattle.tl.specs.declared.parser.tag.node.NodeOf.TheVariants.{Tag}
 use Rattle.tl.proofs.Nodes.{set_same}
@@ -15,7 +15,7 @@ use Rattle.tl_program.specs.Steps.{change_of}
 use Rattle.tl_program.specs.declared.script.step.Step.{Step}
 use Rattle.tl_program.specs.declared.script.step.StepError.{StepError}
 use Rattle.tl_program.specs.declared.script.step.StepError.TheVariants.{NoNode, NotTag, NoPlace, OutOfMemory}
-use Rattle.tl_program.specs.TableEdit.{HTMLTable, of_tag, of_node, at_node, edited_table, table_after, takes_memory}
+use Rattle.tl_program.specs.TableEdit.{of_tag, of_node, at_node, edited_table, table_after, takes_memory}
 use Rattle.tl_program.specs.Script.{IsRefused, Changes, StopsAt}
 use Rattle.tl_program.proofs.Tables.{image-edited_table, image-table_after, table_after-more}
 

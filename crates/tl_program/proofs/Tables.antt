@@ -14,9 +14,9 @@ use Rattle.tl_spec.specs.Edit.{Change, Names, Texts, Comments, Sets, Flags, Unse
 use Rattle.tl_spec.proofs.Images.{image-with_attribute, image-without_attribute, image-without_value}
 use Rattle.tl_attributes.specs.ShownAttributes.{shown_bytes, shown_attributes}
 use Rattle.tl.specs.TableLends.{with_node}
-use Rattle.tl.specs.Shown.{HTMLTag, HTMLNode, shown_tag, shown, document_of}
+use Rattle.tl.specs.Shown.{HTMLTag, HTMLNode, shown_tag, shown, document_of, HTMLTable}
 use Rattle.tl.specs.declared.parser.tag.node.NodeOf.TheVariants.{Tag, Raw, Comment}
-use Rattle.tl_program.specs.TableEdit.{HTMLTable, with_attribute, without_attribute, without_value, of_tag, of_node, at_node, at_tag, edited_table, next, table_after}
+use Rattle.tl_program.specs.TableEdit.{with_attribute, without_attribute, without_value, of_tag, of_node, at_node, at_tag, edited_table, next, table_after}
 
 -- what is refused makes nothing
 pub apart : {A : Type 0} {x : A} (refusal : Refusal) → Err refusal ≡ Ok x → ⊥

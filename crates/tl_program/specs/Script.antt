@@ -7,9 +7,9 @@ use Rattle.tl_spec.specs.Edit.{Change, Refusal, no_node, not_tag, no_place, edit
 use Rattle.tl.specs.Node.{tag_of}
 use Rattle.tl.specs.Tag.{Tag}
 use Rattle.tl.specs.Table.{Table}
-use Rattle.tl.specs.Shown.{HTMLTag, HTMLNode}
+use Rattle.tl.specs.Shown.{HTMLTag, HTMLNode, HTMLTable}
 use Rattle.tl.specs.declared.parser.tag.node.NodeOf.TheVariants.{Tag as ATag}
-use Rattle.tl_program.specs.TableEdit.{HTMLTable, at_node, of_tag}
+use Rattle.tl_program.specs.TableEdit.{at_node, of_tag}
 use Rattle.tl_program.specs.declared.script.step.StepError.{StepError}
 use Rattle.tl_program.specs.declared.script.step.StepError.TheVariants.{NoNode, NotTag, NoPlace, OutOfMemory}
 
@@ -21,7 +21,7 @@ IsRefused takes r NoPlace = r ≡ Err no_place
 IsRefused takes r OutOfMemory = IsTrue takes × IsOk r
 
 -- a reference shows the tag at a number of a table, or there is none for this cause
-abbrev pub IsTagAt : {A B : Type 0} → Table A B → ℕ → Result (MutBor (Tag A B)) StepError → Type 0
+abbrev pub IsTagAt : {A B M : Type 0} → Table A B M → ℕ → Result (MutBor (Tag A B)) StepError → Type 0
 IsTagAt d n (Ok tag) = slice_get d.nodes n ≡ Some (ATag tag.now)
 IsTagAt d n (Err NoNode) = slice_get d.nodes n ≡ None
 IsTagAt d n (Err NotTag) = IsSomeAnd (slice_get d.nodes n) (λ node. tag_of node ≡ None)

@@ -8,14 +8,9 @@ use Rattle.tl_spec.specs.AttributeList.{Attributes}
 use Rattle.tl_spec.specs.AttributeEdit as any
 use Rattle.tl_spec.specs.Edit.{Change, Names, Texts, Comments, Sets, Flags, Unsets, Bares, Pushes, Pulls, Roots, Refusal, no_node, not_tag, no_place, on_ok, without_handle}
 use Rattle.tl_attributes.specs.ShownAttributes.{shown_bytes}
-use Rattle.tl.specs.Table.{Table}
 use Rattle.tl.specs.TableLends.{with_node}
-use Rattle.tl.specs.Shown.{HTMLTag, HTMLNode}
+use Rattle.tl.specs.Shown.{HTMLTag, HTMLNode, HTMLTable}
 use Rattle.tl.specs.declared.parser.tag.node.NodeOf.TheVariants.{Tag, Raw, Comment}
-
--- a table that `parse` gives
-abbrev pub HTMLTable : Type 0
-HTMLTable = Table (Attributes Kept) Kept
 
 -- attributes with v at a key; a key that is there stays, held as it was
 abbrev pub with_attribute : Attributes Kept → List ℕ → Option Kept → Attributes Kept

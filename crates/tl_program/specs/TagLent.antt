@@ -10,5 +10,5 @@ use Rattle.tl.specs.contracts.parser.tag.TagOf.{the_row as tag_row}
 use Rattle.tl_program.specs.declared.script.step.StepError.{StepError}
 
 -- once the borrow r ends, the number has the tag that was last written through r, and at `Err` the table stays as it is
-abbrev pub LendsTagAt : (A B : RattleType) → MutBor (Table A.Denot B.Denot) → ℕ → Result (MutBor (Tag A.Denot B.Denot)) StepError → Fml
-LendsTagAt A B d n r = LendsIfOk (parser_row A B) (tag_row A B) d r (λ tag. with_node d.now n (ATag tag)) d.now
+abbrev pub LendsTagAt : (A B M : RattleType) → MutBor (Table A.Denot B.Denot M.Denot) → ℕ → Result (MutBor (Tag A.Denot B.Denot)) StepError → Fml
+LendsTagAt A B M d n r = LendsIfOk (parser_row A B M) (tag_row A B) d r (λ tag. with_node d.now n (ATag tag)) d.now

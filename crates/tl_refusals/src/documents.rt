@@ -17,7 +17,8 @@ pub fn all(alloc: Global) -> Result<(), Stop> {
 }
 
 fn pages(alloc: Global) -> Result<(), Stop> {
-    let document = parse(alloc, PAGE, ParserOptions::new())?;
+    let options = ParserOptions::new().track_ids().track_classes();
+    let document = parse(alloc, PAGE, options)?;
     calls(alloc, &document)
 }
 

@@ -12,7 +12,7 @@ use tl_attributes::piece::Piece;
 use tl_options::ParserOptions;
 
 /// The number of the first tag of each id, and those of the tags of each member of classes, where they are tracked.
-#[derive(Drop)]
+#[derive(Debug, Drop)]
 pub struct TrackingOf<B: Piece> {
     alloc: Global,
     ids: Option<Ids<B>>,

@@ -11,6 +11,7 @@ use std::marker::Model;
 use tl_attributes::attributes::Attributes;
 use tl_bytes::byte_string::Bytes;
 use tl_inline::inline::vec::InlineVec;
+use tl_tracking::TrackingOf;
 
 /// The nodes of a document, in the order of their first byte.
 pub type Tree<'a> = Vec<Node<'a>>;
@@ -31,38 +32,44 @@ pub enum HTMLVersion {
     FramesetHTML401,
 }
 
-/// A table of nodes, the handles of its top nodes and its version.
+/// A table of nodes, the handles of its top nodes, its version, and what was tracked of it in a value of the type `M`.
 #[derive(Debug, Drop)]
-pub struct ParserOf<A, B> {
+pub struct ParserOf<A, B, M> {
     nodes: Vec<NodeOf<A, B>>,
     top: Vec<NodeHandle>,
     version: Option<HTMLVersion>,
+    tracking: M,
 }
+
+/// Maps from the ids and classes of tags to their numbers, as far as they are tracked.
+pub type Tracking<'a> = TrackingOf<Bytes<'a>>;
 
 /// A table of nodes that borrow from a text.
-pub type Parser<'a> = ParserOf<Attributes<'a>, Bytes<'a>>;
+pub type Parser<'a> = ParserOf<Attributes<'a>, Bytes<'a>, Tracking<'a>>;
 
-impl<A, B> Model for ParserOf<A, B> {
+impl<A, B, M> Model for ParserOf<A, B, M> {
     ghost use Rattle.tl.specs.Table.{Table};
 
-    ghost Value = { Table A B };
+    ghost Value = { Table A B M };
 
-    ghost view = { λ p. record { nodes = p.nodes.items; top = p.top.items; version = p.version } };
+    ghost view = { λ p. record { nodes = p.nodes.items; top = p.top.items; version = p.version; tracking = p.tracking } };
 }
 
-impl<A, B> ParserOf<A, B> {
+impl<A, B, M> ParserOf<A, B, M> {
     // A table of these parts.
     pub(crate) fn from_parts(
         nodes: Vec<NodeOf<A, B>>,
         top: Vec<NodeHandle>,
         version: Option<HTMLVersion>,
+        tracking: M,
     ) -> Self
-        ensures { result ≡ record { nodes = nodes.items; top = top.items; version = version } }
+        ensures { result ≡ record { nodes = nodes.items; top = top.items; version = version; tracking = tracking } }
     {
         ParserOf {
             nodes,
             top,
             version,
+            tracking,
         }
     }
 
@@ -102,7 +109,7 @@ impl<A, B> ParserOf<A, B> {
     /// The node of a number for writing, or None past the table.
     #[tactic(auto, using(crate::proofs::Nodes::copied_of_item))]
     pub fn resolve_node_id_mut(&mut self, id: InnerNodeHandle) -> Option<&mut NodeOf<A, B>>
-        ensures* writes_back { sem 𝓛 (LendsNode A.row B.row self.entry id result) }
+        ensures* writes_back { sem 𝓛 (LendsNode A.row B.row M.row self.entry id result) }
         ensures value { option_copied_mut result ≡ slice_get self.old.nodes id }
     {
         self.nodes.get_mut(id as usize)
@@ -110,7 +117,7 @@ impl<A, B> ParserOf<A, B> {
 
     // The node of a handle for writing, or None past the table.
     fn resolve_handle_mut(&mut self, handle: NodeHandle) -> Option<&mut NodeOf<A, B>>
-        ensures* writes_back { sem 𝓛 (LendsNode A.row B.row self.entry handle result) }
+        ensures* writes_back { sem 𝓛 (LendsNode A.row B.row M.row self.entry handle result) }
         ensures value { option_copied_mut result ≡ slice_get self.old.nodes handle }
     {
         let number = handle.get_inner();
@@ -119,7 +126,7 @@ impl<A, B> ParserOf<A, B> {
 
     // All nodes for writing.
     pub(crate) fn nodes_mut(&mut self) -> &mut [NodeOf<A, B>]
-        ensures* writes_back { sem 𝓛 (LendsTableNodes A.row B.row self.entry result) }
+        ensures* writes_back { sem 𝓛 (LendsTableNodes A.row B.row M.row self.entry result) }
         ensures value { result.now ≡ self.old.nodes }
     {
         self.nodes.as_mut_slice()
@@ -127,16 +134,25 @@ impl<A, B> ParserOf<A, B> {
 
     // The handles of the top nodes for writing.
     pub(crate) fn top_mut(&mut self) -> &mut [NodeHandle]
-        ensures* writes_back { sem 𝓛 (LendsTableTop A.row B.row self.entry result) }
+        ensures* writes_back { sem 𝓛 (LendsTableTop A.row B.row M.row self.entry result) }
         ensures value { result.now ≡ self.old.top }
     {
         self.top.as_mut_slice()
     }
 }
 
+impl<A: Drop, B: Drop, M: Drop> ParserOf<A, B, M> {
+    // Makes this what was tracked.
+    pub(crate) fn set_tracking(&mut self, tracking: M)
+        ensures { self.new ≡ record self.old { tracking = tracking } }
+    {
+        self.tracking = tracking;
+    }
+}
+
 impl NodeHandle {
     /// The node of this number in a table, or None past the table.
-    pub fn get<A, B>(self, parser: &ParserOf<A, B>) -> Option<&NodeOf<A, B>>
+    pub fn get<A, B, M>(self, parser: &ParserOf<A, B, M>) -> Option<&NodeOf<A, B>>
         ensures { option_copied result ≡ slice_get parser.now.nodes self }
     {
         parser.resolve_node_id(self.get_inner())
@@ -144,8 +160,8 @@ impl NodeHandle {
 
     /// The node of this number in a table for writing, or None past the table. A proof that needs what a write leaves takes
     /// `resolve_node_id_mut` of the table.
-    pub fn get_mut<A, B>(self, parser: &mut ParserOf<A, B>) -> Option<&mut NodeOf<A, B>>
-        ensures* writes_back { sem 𝓛 (LendsNode A.row B.row parser.entry self result) }
+    pub fn get_mut<A, B, M>(self, parser: &mut ParserOf<A, B, M>) -> Option<&mut NodeOf<A, B>>
+        ensures* writes_back { sem 𝓛 (LendsNode A.row B.row M.row parser.entry self result) }
         ensures value { option_copied_mut result ≡ slice_get parser.old.nodes self }
     {
         parser.resolve_handle_mut(self)

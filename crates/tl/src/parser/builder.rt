@@ -18,7 +18,7 @@ mod source;
 mod start_tag;
 
 use crate::errors::ParseError;
-use crate::parser::base::{HTMLVersion, Parser};
+use crate::parser::base::{HTMLVersion, Parser, Tracking};
 use crate::parser::builder::source::Source;
 use crate::parser::builder::start_tag::read_start_tag;
 use crate::parser::handle::NodeHandle;
@@ -271,8 +271,8 @@ impl<'a> TableBuilder<'a> {
         }
     }
 
-    // The table, whose tags that are still open stay as they are.
-    fn finish(self) -> Parser<'a>
+    // The table, whose tags that are still open stay as they are, and of which nothing is tracked.
+    fn finish(self, alloc: Global) -> Parser<'a>
         ensures document { document_of result ≡ written (state_of self.entry) }
         ensures version { result.version ≡ version_of (state_of self.entry).is_html5 }
         ensures held { (held : Held) → AreHeld held self.entry → All (IsHeldNode held) result.nodes }
@@ -283,20 +283,23 @@ impl<'a> TableBuilder<'a> {
             top,
             is_html5,
         } = self;
-        Parser::from_parts(nodes, top, is_html5.then_some(HTMLVersion::HTML5))
+        let version = is_html5.then_some(HTMLVersion::HTML5);
+        Parser::from_parts(
+            nodes,
+            top,
+            version,
+            Tracking::new(alloc, ParserOptions::new()),
+        )
     }
 }
 
-// Reads the text of a source.
-pub(crate) fn read<'a, S: Source<'a>>(
-    alloc: Global,
-    source: &S,
-    _options: ParserOptions,
-) -> Result<Parser<'a>, ParseError>
+// Reads the text of a source into a table of which nothing is tracked.
+pub(crate) fn read<'a, S: Source<'a>>(alloc: Global, source: &S) -> Result<Parser<'a>, ParseError>
     ensures length { IsErrOf result InvalidLength ↔ (4294967295 < length (S.text source.now)) }
     ensures document { IfOk result (λ p. document_of p ≡ document (S.text source.now)) }
     ensures version { IfOk result (λ p. p.version ≡ version_of (document (S.text source.now)).is_html5) }
     ensures held { IfOk result (λ p. All (IsHeldNode S.held) p.nodes) }
+    ensures numbers { IfOk result (λ p. length p.nodes < 2 ^ 32) }
 {
     let text = source.as_bytes();
     // A node takes at least a byte of the text, and its number is a `u32`.
@@ -308,5 +311,5 @@ pub(crate) fn read<'a, S: Source<'a>>(
     while let Some((token, after)) = next_token(text, at) {
         at = table.take(alloc, source, at, token, after)?;
     }
-    Ok(table.finish())
+    Ok(table.finish(alloc))
 }

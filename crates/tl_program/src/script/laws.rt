@@ -3,9 +3,9 @@ ghost use Rattle.std.specs.Prelude.{◌≡◌, ◌≢◌, ℕ, Bool, IsTrue, Lis
 ghost use Rattle.std.specs.List.{AllByRecursion};
 ghost use Rattle.tl_bytes.specs.Held.{Kept, as_owned};
 ghost use Rattle.tl_spec.specs.Edit.{Change, on_ok, edited, edited_all, done};
-ghost use Rattle.tl.specs.Shown.{document_of};
+ghost use Rattle.tl.specs.Shown.{document_of, HTMLTable};
 ghost use Rattle.tl_program.specs.Pieces.{node_of, NodePasses};
-ghost use Rattle.tl_program.specs.TableEdit.{HTMLTable, edited_table, table_after};
+ghost use Rattle.tl_program.specs.TableEdit.{edited_table, table_after};
 
 /// An edit of a table is that edit of its document, and is refused for the same cause; so are edits in order.
 pub fn table_edits_are_edits()

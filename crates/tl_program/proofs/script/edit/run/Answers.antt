@@ -1,6 +1,6 @@
+use Rattle.tl.specs.Shown.{HTMLTable}
 use Rattle.std.proofs.Common.{map, take, ap, ◌∙◌}
 use Rattle.tl_program.specs.Steps.{change_of}
-use Rattle.tl_program.specs.TableEdit.{HTMLTable}
 use Rattle.tl_program.proofs.Tables.{image-table_after, table_after-version}
 use Rattle.tl_program.proofs.Stepping.{steps-taken, steps-refused, steps-want, steps-all}
 use Rattle.tl_program.proofs.script.edit.run.Goals as goal

@@ -40,12 +40,12 @@ use Rattle.tl.proofs.parser.base.ParserOf.resolve_handle_mut.Met.{met}
 use Rattle.tl.proofs.parser.handle.NodeHandle.get_mut.Code as code
 use Rattle.tl.proofs.parser.handle.NodeHandle.get_mut.Statement.{statement}
 
-module _ (A B : RattleType) where
+module _ (A B T : RattleType) where
   abbrev Node : RattleType
   Node = node_row (param 0 A) (param 1 B)
 
   abbrev Table : RattleType
-  Table = table_row (param 0 A) (param 1 B)
+  Table = table_row (param 0 A) (param 1 B) (param 2 T)
 
   -- the type of what is lent
   abbrev Lent : Lft → RattleType
@@ -56,28 +56,28 @@ module _ (A B : RattleType) where
       let to : NamedLft = record { mir = named 0; lft = κ } in
       option_laws (MutRef (named 0) κ Node) (of_field (mut_ref_field to Node tt) (mut_ref_laws to Node tt) refl (mut_ref_shared to Node tt (row_shared Node (node_laws (param 0 A) (param 1 B) (param_laws 0 A LA) (param_laws 1 B LB)))))
 
-  abbrev stayed : Stays (f.ended A B).signature.params (f.ended A B).kept
+  abbrev stayed : Stays (f.ended A B T).signature.params (f.ended A B T).kept
   stayed = (stay_dropped (plain (λ _. handle_row)) yes, (stay_dropped (RefMutOf (0 ∷ []) tt (plain (λ _. Table)) (λ _. tt)) no, tt))
 
 pub get_mut_spec : {M : Type 1} → statement M
-get_mut_spec 𝓤 𝓛 𝓜 𝓡 wired A B LA LB =
+get_mut_spec 𝓤 𝓛 𝓜 𝓡 wired A B T LA LB LT =
     let H = 𝓛.H in
     let 𝓣 = tables 𝓤 H 𝓜 𝓡 𝓡.env in
-    let En = f.ended A B in
-    let inst = layouts (a_type ∷ a_type ∷ []) (A, (B, tt)) in
+    let En = f.ended A B T in
+    let inst = layouts (a_type ∷ a_type ∷ a_type ∷ []) (A, (B, (T, tt))) in
     let fn = inst_fn inst code.function in
-    let c = f.clauses A B 𝓛 𝓜.mem 𝓡.returns in
-    let hs = stayed A B in
+    let c = f.clauses A B T 𝓛 𝓜.mem 𝓡.returns in
+    let hs = stayed A B T in
     proved 𝓛 En hs c 𝓜 𝓡
-    (Goes-dropped 𝓛 3 (plain (λ _. handle_row)) yes (λ κs x h. refl), (Goes-spent_ref 𝓛 3 (0 ∷ []) tt (plain (λ _. Table A B)), tt))
-    (f.Key.name inst) fn (code.unfolded 𝓤 H 𝓜 𝓡 wired (A, (B, tt)))
-    (λ κs. ((λ x. handle_told.val x ∷ []), (mut_vals, tt))) (λ κs. (handle_told.tells, (mut_Tells (named 0) κs.0 (Table A B), tt)))
+    (Goes-dropped 𝓛 4 (plain (λ _. handle_row)) yes (λ κs x h. refl), (Goes-spent_ref 𝓛 4 (0 ∷ []) tt (plain (λ _. Table A B T)), tt))
+    (f.Key.name inst) fn (code.unfolded 𝓤 H 𝓜 𝓡 wired (A, (B, (T, tt))))
+    (λ κs. ((λ x. handle_told.val x ∷ []), (mut_vals, tt))) (λ κs. (handle_told.tells, (mut_Tells (named 0) κs.0 (Table A B T), tt)))
     (λ κs qs bounds a gh are.
     let handle = handle_told.val a.0 in
     let ptr = mut_vals a.1.0 in
     let y : (walk_of 𝓛 En hs c).Ghost = ((κs, qs, bounds, a, (handle ∷ [], (ptr, tt))), gh) in
-    let Opt = Lent A B κs.0 in
-    let G = triple_of 𝓛 (g.signature A B) (g.spec A B 𝓛 𝓜.mem 𝓡.returns) in
+    let Opt = Lent A B T κs.0 in
+    let G = triple_of 𝓛 (g.signature A B T) (g.spec A B T 𝓛 𝓜.mem 𝓡.returns) in
     let z : G.Ghost = ((κs, qs, bounds, (a.1.0, (a.0, tt)), (ptr, (handle ∷ [], tt))), gh) in
     qed 𝓛 ((raw (alive 𝓛 En.signature κs qs) ⊛ ‵ (owns (types_at En.signature.params κs) a y.0.4)) ∷ raw ((c κs a).requires gh) ∷ []) ∵
     split ! $ move ! (1 ∷ []) $ fsplit ! $ move ! (1 ∷ []) $ fsplit ! $ keep ! (3 ∷ 0 ∷ 2 ∷ 4 ∷ []) $
@@ -85,12 +85,12 @@ get_mut_spec 𝓤 𝓛 𝓜 𝓡 wired A B LA LB =
     sets ! (addr ! (through ! refl (stop !))) refl (tt, tt) $
     -- [the tokens; the table's reference; the number; the bounds on lifetimes; the locals]
     move ! (2 ∷ []) $ nothing ! $ move ! (1 ∷ 0 ∷ []) $ fjoin ! $ move ! (2 ∷ 0 ∷ []) $ fjoin ! $ move ! (1 ∷ 0 ∷ []) $ join ! $ use2 𝓛 (raw (G.pre z)) (id⊢ 𝓤 _) $
-    calls_at ! (framed 𝓤 H 𝓜 𝓣) G (met 𝓤 𝓛 𝓜 𝓡 (code.calls-tl::parser::base::ParserOf::resolve_handle_mut 𝓡.env wired) A B LA LB) z
+    calls_at ! (framed 𝓤 H 𝓜 𝓣) G (met 𝓤 𝓛 𝓜 𝓡 (code.calls-tl::parser::base::ParserOf::resolve_handle_mut 𝓡.env wired) A B T LA LB LT) z
     (and_then ! (get ! refl) (and_then ! (get ! refl) (no_more !))) (λ v.
     use1 𝓛 (later (some (λ (r : Opt.Denot). (raw (alive 𝓛 En.signature κs qs) ⊛ ‵ (Opt.own_val r (v ∷ []))) ⊛
-    some (λ (ws : Lasts (g.ended A B) κs z.0.3). ‵ (lasts (g.ended A B) κs z.0.3 ws) ⊛ raw ((g.clauses A B 𝓛 𝓜.mem 𝓡.returns κs z.0.3).ensures gh r (at_exit (g.ended A B) κs z.0.3 ws)))))) (id⊢ 𝓤 _) $
+    some (λ (ws : Lasts (g.ended A B T) κs z.0.3). ‵ (lasts (g.ended A B T) κs z.0.3 ws) ⊛ raw ((g.clauses A B T 𝓛 𝓜.mem 𝓡.returns κs z.0.3).ensures gh r (at_exit (g.ended A B T) κs z.0.3 ws)))))) (id⊢ 𝓤 _) $
     await ! tt $ pick ! (λ r. split ! $ split ! $ move ! (1 ∷ []) $ peeks ! Opt (Is Opt) (shows 𝓛 Opt) r (v ∷ []) (λ is.
-    lands_as ! refl refl (((lent_laws A B LA LB κs.0).lawful 𝓛).typed r (v ∷ []) is).0 $
+    lands_as ! refl refl (((lent_laws A B T LA LB κs.0).lawful 𝓛).typed r (v ∷ []) is).0 $
     returns ! (look_at ! 0 refl) $ free_all ! refl $
     -- [what is lent; the tokens; what the call ensures]
     move ! (2 ∷ []) $ pick ! (λ ws. split ! $ nothing ! $ nothing ! $ fjoin ! $ nothing ! $ fjoin ! $

@@ -1,0 +1,128 @@
+//! Tracks the tags of a table that was read: their ids, and the members of their classes.
+ghost use Rattle.std.specs.Prelude.{◌≡◌, ◌<◌, ◌^◌, ◌++◌, ◌∷◌, [], All, List, ℕ, length, map, is_some, IfOk, OnOk, Some, IfSome, option_map};
+ghost use Rattle.std.specs.Option.{option_copied};
+ghost use Rattle.tl_bytes.specs.Held.{borrowed};
+ghost use Rattle.tl_spec.specs.ClassMember.{members};
+ghost use Rattle.tl_spec.specs.Document.{Node};
+ghost use Rattle.tl_spec.specs.Scan.{id_of, class_of};
+ghost use Rattle.tl.specs.Shown.{shown};
+ghost use Rattle.tl.specs.HeldAlike.{IsHeldNode};
+ghost use Rattle.tl.specs.Tracked.{AreAsked, AnswerIds, AnswerClasses, AnswerMembers};
+
+use crate::parser::base::{Parser, Tracking};
+use crate::parser::tag::node::Node;
+use std::alloc::{AllocError, Global};
+use std::str;
+use tl_attributes::class_iter::ClassIter;
+use tl_bytes::byte_string::Bytes;
+use tl_options::ParserOptions;
+
+// Notes the parts of a class, each as a slice of the text.
+fn note_parts<'a>(
+    tracking: &mut Tracking<'a>,
+    parts: ClassIter<'a>,
+    number: u32,
+) -> Result<(), AllocError>
+    ensures members { OnOk result ((nodes : List Node) → number ≡ length nodes → AnswerMembers tracking.old nodes [] → AnswerMembers tracking.new nodes parts.entry) }
+    ensures ids { tracking.new.ids ≡ tracking.old.ids }
+    ensures tracked { is_some tracking.new.classes ≡ is_some tracking.old.classes }
+{
+    for part in parts {
+        tracking.note_class(Bytes::from(part), number)?;
+    }
+    Ok(())
+}
+
+// Notes the members of a class that was read.
+fn note_members<'a>(
+    tracking: &mut Tracking<'a>,
+    class: &Bytes<'a>,
+    number: u32,
+) -> Result<(), AllocError>
+    requires { class.now.held ≡ borrowed }
+    ensures members { OnOk result ((nodes : List Node) → number ≡ length nodes → AnswerMembers tracking.old nodes [] → AnswerMembers tracking.new nodes (members (Some class.now.list))) }
+    ensures ids { tracking.new.ids ≡ tracking.old.ids }
+    ensures tracked { is_some tracking.new.classes ≡ is_some tracking.old.classes }
+{
+    match class.as_bytes_borrowed() {
+        Some(bytes) => match str::from_utf8(bytes) {
+            Ok(text) => note_parts(tracking, ClassIter::of(text), number),
+            Err(_) => Ok(()),
+        },
+        None => unreachable!(),
+    }
+}
+
+// Notes the id of a node, if it has one.
+fn note_id<'a>(tracking: &mut Tracking<'a>, node: &Node<'a>, number: u32) -> Result<(), AllocError>
+    ensures ids { OnOk result ((nodes : List Node) → number ≡ length nodes → AnswerIds tracking.old nodes → AnswerIds tracking.new (nodes ++ shown node.now ∷ [])) }
+    ensures classes { tracking.new.classes ≡ tracking.old.classes }
+    ensures tracked { is_some tracking.new.ids ≡ is_some tracking.old.ids }
+{
+    let Node::Tag(tag) = node else {
+        return Ok(());
+    };
+    let Some(id) = tag.attributes().id() else {
+        return Ok(());
+    };
+    tracking.note_id(id.clone()?, number)
+}
+
+// Notes the class of a node, if it has one.
+fn note_class<'a>(
+    tracking: &mut Tracking<'a>,
+    node: &Node<'a>,
+    number: u32,
+) -> Result<(), AllocError>
+    requires { IsHeldNode borrowed node.now }
+    ensures classes { OnOk result ((nodes : List Node) → number ≡ length nodes → AnswerClasses tracking.old nodes → AnswerClasses tracking.new (nodes ++ shown node.now ∷ [])) }
+    ensures ids { tracking.new.ids ≡ tracking.old.ids }
+    ensures tracked { is_some tracking.new.classes ≡ is_some tracking.old.classes }
+{
+    let Node::Tag(tag) = node else {
+        return Ok(());
+    };
+    let Some(class) = tag.attributes().class() else {
+        return Ok(());
+    };
+    note_members(tracking, class, number)
+}
+
+// The maps of nodes that were read.
+fn tracked<'a>(
+    alloc: Global,
+    nodes: &[Node<'a>],
+    options: ParserOptions,
+) -> Result<Tracking<'a>, AllocError>
+    requires held { All (IsHeldNode borrowed) nodes.now }
+    requires numbers { length nodes.now < 2 ^ 32 }
+    ensures asked { IfOk result (AreAsked options) }
+    ensures ids { IfOk result (λ t. AnswerIds t (map shown nodes.now)) }
+    ensures classes { IfOk result (λ t. AnswerClasses t (map shown nodes.now)) }
+{
+    let mut tracking = Tracking::new(alloc, options);
+    if !options.is_tracking() {
+        return Ok(tracking);
+    }
+    for (number, node) in nodes.iter().enumerate() {
+        note_id(&mut tracking, node, number as u32)?;
+        note_class(&mut tracking, node, number as u32)?;
+    }
+    Ok(tracking)
+}
+
+impl<'a> Parser<'a> {
+    // Tracks what the options ask for, where the pieces are slices of the text.
+    pub(crate) fn track(&mut self, alloc: Global, options: ParserOptions) -> Result<(), AllocError>
+        requires held { All (IsHeldNode borrowed) self.old.nodes }
+        requires numbers { length self.old.nodes < 2 ^ 32 }
+        ensures table { self.new ≡ record self.old { tracking = self.new.tracking } }
+        ensures asked { OnOk result (AreAsked options self.new.tracking) }
+        ensures ids { OnOk result (AnswerIds self.new.tracking (map shown self.old.nodes)) }
+        ensures classes { OnOk result (AnswerClasses self.new.tracking (map shown self.old.nodes)) }
+    {
+        let tracking = tracked(alloc, self.nodes(), options)?;
+        self.set_tracking(tracking);
+        Ok(())
+    }
+}
