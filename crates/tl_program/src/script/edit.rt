@@ -63,7 +63,10 @@ fn take_step<'a>(alloc: Global, document: &mut VDom<'a>, step: &Step<'_>) -> Res
 }
 
 // The tag at a number for writing.
-fn tag_mut<A, B, M>(table: &mut ParserOf<A, B, M>, number: u32) -> Result<&mut TagOf<A, B>, StepError>
+fn tag_mut<A, B, M>(
+    table: &mut ParserOf<A, B, M>,
+    number: u32,
+) -> Result<&mut TagOf<A, B>, StepError>
     ensures* writes_back { sem 𝓛 (LendsTagAt A.row B.row M.row table.entry number result) }
     ensures value { IsTagAt table.old number result }
 {
