@@ -44,6 +44,7 @@ pub use vdom::{VDom, VDomOf};
 ///
 /// Markup that is broken is dropped without a fault. A text longer than 4294967295 bytes is refused before any memory is taken.
 /// The nodes stand in the order of the text: what hangs below a tag is the nodes right after it.
+/// The ids and classes that `options` ask for are tracked in one pass over the nodes; no later edit changes what was tracked.
 pub fn parse<'a>(
     alloc: Global,
     text: &'a str,
