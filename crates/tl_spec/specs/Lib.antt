@@ -19,6 +19,10 @@ pub mod Normal
 pub mod Misread
 pub mod ClassMember
 pub mod Scan
+pub mod Element
+pub mod Selector
+pub mod LossyText
+pub mod SelectorMeaning
 pub mod Edit
 pub mod Edits
 pub mod StepLine

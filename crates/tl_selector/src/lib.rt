@@ -1,0 +1,4 @@
+//! Selectors, and where they hold.
+#![tactic(auto)]
+
+pub mod selector;
