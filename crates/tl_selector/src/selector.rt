@@ -2,10 +2,10 @@
 ghost use Rattle.std.specs.Prelude.{◌≡◌, IfOk};
 ghost use Rattle.tl_selector.specs.View.{selector};
 
-use std::alloc::{AllocError, Global};
+use std::alloc::AllocError;
 
 /// A test of a node. Its names, keys and values are bytes, in exact case.
-#[derive(Debug, Drop, PartialEq, Eq)]
+#[derive(Debug, Drop)]
 pub enum Selector<'a> {
     /// A tag of this name.
     Tag(&'a [u8]),
