@@ -1,2 +1,147 @@
-//! To come.
+//! Tests of byte strings by their lossy texts, in which U+FFFD stands for bytes that are no UTF-8. None takes memory.
 #![tactic(auto)]
+
+ghost use Rattle.std.specs.Prelude.{◌≡◌, ℕ, List, IsTrue, ◌↔◌, length, Option, option_map, Some, reverse, ◌&&◌};
+ghost use Rattle.bstr.specs.Utf8.{lossy_chars};
+ghost use Rattle.tl_spec.specs.LossyText.{IsSameText, BeginsWith, EndsWith, HasPart, HasWord};
+ghost use Rattle.tl_lossy.specs.Chars.{begins, same, has_part, advance, is_done, scan};
+
+use bstr::{ByteSlice, Chars};
+
+/// Whether both have the same text.
+#[tactic(auto, using(crate::proofs::Texts::same_texts))]
+pub fn is_same_text(value: &[u8], other: &[u8]) -> bool
+    ensures { IsTrue result ↔ IsSameText value.now other.now }
+{
+    same(value, other)
+}
+
+/// Whether the text of `value` begins with that of `front`.
+#[tactic(auto, using(crate::proofs::Texts::begins_texts))]
+pub fn begins_with(value: &[u8], front: &[u8]) -> bool
+    ensures { IsTrue result ↔ BeginsWith value.now front.now }
+{
+    begins(value, front)
+}
+
+/// Whether the text of `value` ends with that of `back`.
+#[tactic(auto, using(crate::proofs::Parts::ends_texts))]
+pub fn ends_with(value: &[u8], back: &[u8]) -> bool
+    ensures { IsTrue result ↔ EndsWith value.now back.now }
+{
+    ends(value, back)
+}
+
+/// Whether the text of `part` stands in that of `value`. The time may be the product of the lengths.
+#[tactic(auto, using(crate::proofs::Parts::part_texts))]
+pub fn has_part(value: &[u8], part: &[u8]) -> bool
+    ensures { IsTrue result ↔ HasPart value.now part.now }
+{
+    contains(value, part)
+}
+
+/// Whether the text of `word`, which is not empty, is one of those that Unicode white space
+/// parts the text of `value` into.
+#[tactic(auto, using(crate::proofs::Words::word_texts, crate::proofs::Words::no_word))]
+pub fn has_word(value: &[u8], word: &[u8]) -> bool
+    ensures { IsTrue result ↔ HasWord value.now word.now }
+{
+    if word.is_empty() {
+        false
+    } else {
+        is_among_words(value, word)
+    }
+}
+
+fn same(value: &[u8], other: &[u8]) -> bool
+    ensures { result ≡ same (lossy_chars value.now) (lossy_chars other.now) }
+{
+    let mut chars = value.chars();
+    for c in other.chars() {
+        if chars.next() != Some(c) {
+            return false;
+        }
+    }
+    chars.next().is_none()
+}
+
+fn begins(value: &[u8], front: &[u8]) -> bool
+    ensures { result ≡ begins (lossy_chars value.now) (lossy_chars front.now) }
+{
+    let mut chars = value.chars();
+    for c in front.chars() {
+        if chars.next() != Some(c) {
+            return false;
+        }
+    }
+    true
+}
+
+fn ends(value: &[u8], back: &[u8]) -> bool
+    ensures { result ≡ begins (reverse (lossy_chars value.now)) (reverse (lossy_chars back.now)) }
+{
+    let mut chars = value.chars();
+    let mut left = back.chars();
+    'left: while let Some(c) = left.next_back() {
+        if chars.next_back() != Some(c) {
+            return false;
+        }
+    }
+    true
+}
+
+#[tactic(auto, using(crate::proofs::Texts::part_front))]
+fn contains(value: &[u8], part: &[u8]) -> bool
+    ensures { result ≡ has_part (lossy_chars value.now) (lossy_chars part.now) }
+{
+    let mut rest = value;
+    'places: loop {
+        if begins(rest, part) {
+            return true;
+        }
+        let mut chars = rest.chars();
+        if chars.next().is_none() {
+            return false;
+        }
+        rest = chars.as_bytes();
+    }
+}
+
+fn is_among_words(value: &[u8], word: &[u8]) -> bool
+    ensures { result ≡ scan (lossy_chars word.now) (Some (lossy_chars word.now)) (lossy_chars value.now) }
+{
+    let mut left = Some(word.chars());
+    for c in value.chars() {
+        if c.is_whitespace() {
+            if is_done(&left) {
+                return true;
+            }
+            left = Some(word.chars());
+        } else {
+            left = advance(left, c);
+        }
+    }
+    is_done(&left)
+}
+
+// What is left of a word after `c`, if it goes on so.
+fn advance<'a>(left: Option<Chars<'a>>, c: char) -> Option<Chars<'a>>
+    ensures { result ≡ advance left.entry c }
+{
+    let mut chars = left?;
+    if chars.next()? == c {
+        Some(chars)
+    } else {
+        None
+    }
+}
+
+// Whether nothing of the word is left.
+fn is_done(left: &Option<Chars<'_>>) -> bool
+    ensures { result ≡ is_done left.now }
+{
+    match left {
+        None => false,
+        Some(chars) => chars.as_bytes().chars().next().is_none(),
+    }
+}
