@@ -49,7 +49,7 @@ ends_texts a b = (
       subst (λ (z : List ℕ). begins z (reverse (lossy_chars b)) ≡ true) (sym g) (begins-append (reverse (lossy_chars b)) (reverse (lossy_chars h.0))),
 )
 
-part-some : (xs ys : List ℕ) → has_part xs ys ≡ true → (x : List ℕ) × (z : List ℕ) × (xs ≡ x ++ (ys ++ z))
+pub part-some : (xs ys : List ℕ) → has_part xs ys ≡ true → (x : List ℕ) × (z : List ℕ) × (xs ≡ x ++ (ys ++ z))
 part-some [] ys h = let r = begins-front [] ys h in ([], r.0, r.1)
 part-some (x ∷ xs) ys h =
     elim (cases_Bool (begins (x ∷ xs) ys)) [
@@ -66,7 +66,7 @@ front-nil : (xs ys : List ℕ) → ys ≡ [] → has_part xs ys ≡ true
 front-nil xs ys e = part_front xs ys (subst (λ (y : List ℕ). begins xs y ≡ true) (sym e) (begins-append [] xs))
 
 -- the empty part, or one with a first character
-part-bytes : (a xs cs ys : List ℕ) → scalars cs ≡ true → a ≡ xs ++ (encode_utf8_all cs ++ ys) → has_part (lossy_chars a) cs ≡ true
+pub part-bytes : (a xs cs ys : List ℕ) → scalars cs ≡ true → a ≡ xs ++ (encode_utf8_all cs ++ ys) → has_part (lossy_chars a) cs ≡ true
 part-bytes a xs [] ys h e = front-nil (lossy_chars a) [] refl
 part-bytes a xs (c ∷ cs) ys h e =
     subst (λ (z : List ℕ). has_part z (c ∷ cs) ≡ true) (sym (ap lossy_chars e ∙ behind_before xs (c ∷ cs) ys h (λ (k : c ∷ cs ≡ []). cc))) (part-append (lossy_chars xs) (c ∷ cs) (lossy_chars ys))

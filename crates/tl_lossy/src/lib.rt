@@ -9,19 +9,27 @@ ghost use Rattle.tl_lossy.specs.Chars.{begins, same, has_part, advance, is_done,
 use bstr::{ByteSlice, Chars};
 
 /// Whether both have the same text.
-#[tactic(auto, using(crate::proofs::Texts::same_texts))]
+#[tactic(auto, using(crate::proofs::Texts::same_texts, crate::proofs::Ascii::same_ascii))]
 pub fn is_same_text(value: &[u8], other: &[u8]) -> bool
     ensures { IsTrue result ↔ IsSameText value.now other.now }
 {
-    same(value, other)
+    if other.is_ascii() {
+        value == other
+    } else {
+        same(value, other)
+    }
 }
 
 /// Whether the text of `value` begins with that of `front`.
-#[tactic(auto, using(crate::proofs::Texts::begins_texts))]
+#[tactic(auto, using(crate::proofs::Texts::begins_texts, crate::proofs::Ascii::begins_ascii))]
 pub fn begins_with(value: &[u8], front: &[u8]) -> bool
     ensures { IsTrue result ↔ BeginsWith value.now front.now }
 {
-    begins(value, front)
+    if front.is_ascii() {
+        value.starts_with(front)
+    } else {
+        begins(value, front)
+    }
 }
 
 /// Whether the text of `value` ends with that of `back`.
@@ -33,11 +41,15 @@ pub fn ends_with(value: &[u8], back: &[u8]) -> bool
 }
 
 /// Whether the text of `part` stands in that of `value`. The time may be the product of the lengths.
-#[tactic(auto, using(crate::proofs::Parts::part_texts))]
+#[tactic(auto, using(crate::proofs::Parts::part_texts, crate::proofs::Ascii::part_ascii))]
 pub fn has_part(value: &[u8], part: &[u8]) -> bool
     ensures { IsTrue result ↔ HasPart value.now part.now }
 {
-    contains(value, part)
+    if part.is_ascii() {
+        value.contains_str(part)
+    } else {
+        contains(value, part)
+    }
 }
 
 /// Whether the text of `word`, which is not empty, is one of those that Unicode white space
