@@ -1,5 +1,5 @@
 -- Of an ASCII text the bytes may be compared: a lossy text has an ASCII character where the bytes have it.
-use Rattle.std.proofs.Common.{◌≡◌, ◌+◌, ◌-◌, ◌<◌, ◌≤◌, ◌&&◌, ◌↔◌, ℕ, zero, suc, Bool, true, false, cond, List, [], ◌∷◌, ◌++◌, length, take, drop, refl, sym, ap, subst, ◌∙◌, arith, Option, Some, None, IsTrue, ◌==◌, append_assoc, append-nil, take-append-drop, length-append, length-drop}
+use Rattle.std.proofs.Common.{◌≡◌, ◌+◌, ◌-◌, ◌<◌, ◌↔◌, ℕ, suc, true, List, [], ◌∷◌, ◌++◌, length, take, drop, refl, sym, ap, subst, ◌∙◌, arith, Option, Some, None, IsTrue, ◌==◌, append_assoc, append-nil, take-append-drop, length-append}
 use Rattle.std.specs.Char.{encode_utf8}
 use Rattle.std.specs.Str.{encode_utf8_all, IsAscii, bytes_eq}
 use Rattle.std.specs.Str.Lossy.{utf8_lossy}
@@ -14,13 +14,12 @@ use Rattle.bstr.specs.Text.{Contains}
 use Rattle.bstr.proofs.lemmas.PieceLemmas.{lossy_chars-step, lossy_chars-nil}
 use Rattle.bstr.proofs.lemmas.SoundLemmas.{SpellsChar-decoded}
 use Rattle.bstr.proofs.lemmas.EncodeLemmas.{lossy_chars-encode}
-use Rattle.bstr.proofs.lemmas.LossyLemmas.{lossy_chars-utf8_lossy, lossy_chars-front}
-use Rattle.memchr.specs.Find.{OccursAt}
+use Rattle.bstr.proofs.lemmas.LossyLemmas.{lossy_chars-front}
 use Rattle.memchr.proofs.lemmas.MatchLemmas.{OccursAt-split, OccursAt-from_part}
 use Rattle.tl_spec.specs.LossyText.{IsSameText, BeginsWith, EndsWith, HasPart}
-use Rattle.tl_lossy.specs.Chars.{begins, same, has_part}
-use Rattle.tl_lossy.proofs.Texts.{same_texts, same-refl, same-eq, begins_texts, begins-front, begins-append}
-use Rattle.tl_lossy.proofs.Parts.{part_texts, part-some, part-bytes}
+use Rattle.tl_lossy.specs.Chars.{begins, has_part}
+use Rattle.tl_lossy.proofs.Texts.{same_texts, same-eq, begins_texts, begins-front, begins-append}
+use Rattle.tl_lossy.proofs.Parts.{chars_behind, ends-from_chars, chars-from_ends, part_texts, part-some, part-bytes}
 
 encode_ascii : (c : ℕ) → c < 128 → encode_utf8 c ≡ c ∷ []
 unfolding encode_utf8
@@ -72,6 +71,9 @@ front_ascii (p ∷ ps) bs rest h e =
     let more = front_ascii ps one.0 rest (λ i. h (suc i)) one.2 in
     (more.0, one.1 ∙ ap (λ z. p ∷ z) more.1, more.2)
 
+cut_front : (n : ℕ) (bs front behind : List ℕ) → drop n bs ≡ front ++ behind → bs ≡ (take n bs ++ front) ++ behind
+cut_front n bs front behind e = sym (take-append-drop n bs) ∙ ap (λ z. take n bs ++ z) e ∙ sym (append_assoc (take n bs) front behind)
+
 -- the bytes of the characters behind some
 bytes_behind : (xs zs bs : List ℕ) → lossy_chars bs ≡ xs ++ zs → (front : List ℕ) × (behind : List ℕ) × (bs ≡ front ++ behind) × (lossy_chars behind ≡ zs)
 bytes_behind [] zs bs e = ([], bs, refl, e)
@@ -82,8 +84,7 @@ bytes_behind (x ∷ xs) zs (b ∷ bs) e =
     let step = sym (lossy_chars-step (b ∷ bs) some) ∙ e in
     let later : lossy_chars (drop size (b ∷ bs)) ≡ xs ++ zs = cc in
     let r = bytes_behind xs zs (drop size (b ∷ bs)) later in
-    let cut = take size (b ∷ bs) in
-    (cut ++ r.0, r.1, sym (take-append-drop size (b ∷ bs)) ∙ ap (λ z. cut ++ z) r.2 ∙ sym (append_assoc cut r.0 r.1), r.3)
+    (take size (b ∷ bs) ++ r.0, r.1, cut_front size (b ∷ bs) r.0 r.1 r.2, r.3)
 
 module _ (a p : List ℕ) (ascii : IsAscii p) where
   pub same_ascii : (IsTrue (bytes_eq a p)) ↔ (IsSameText a p)
@@ -106,6 +107,18 @@ module _ (a p : List ℕ) (ascii : IsAscii p) where
         λ h. let r = begins-front (lossy_chars a) (lossy_chars p) ((begins_texts a p).1 h) in
             let s = front_ascii p a r.0 ascii (r.1 ∙ ap (λ z. z ++ r.0) (chars_ascii p ascii)) in
             decides.1 s.0 s.1,
+      )
+
+  pub ends_ascii : (IsTrue (ends_with ◌==◌ a p)) ↔ (EndsWith a p)
+  ends_ascii =
+      let decides = ends_is Decides-eqb a p (ends_with ◌==◌ a p) refl in
+      let front = take (length a - length p) a in (
+        λ h. let e = ap lossy_chars (decides.0 h ∙ ap (λ z. front ++ z) (sym (encode_all_ascii p ascii))) ∙ chars_behind front p (scalars_ascii p ascii) in
+            ends-from_chars a p (lossy_chars front) (e ∙ ap (λ z. lossy_chars front ++ z) (sym (chars_ascii p ascii))),
+        λ h. let r = chars-from_ends a p h in
+            let b = bytes_behind r.0 p a (r.1 ∙ ap (λ z. r.0 ++ z) (chars_ascii p ascii)) in
+            let s = front_ascii p b.1 [] ascii (b.3 ∙ sym (append-nil p)) in
+            decides.1 b.0 (b.2 ∙ ap (λ z. b.0 ++ z) (s.1 ∙ ap (λ z. p ++ z) (no_chars s.0 s.2) ∙ append-nil p)),
       )
 
   pub part_ascii : (Contains a p) ↔ (HasPart a p)

@@ -36,17 +36,28 @@ behind_before xs (c ∷ cs) ys h f =
     let clean : StartsClean (encode_utf8_all (c ∷ cs) ++ ys) = subst StartsClean (sym (append_assoc (encode_utf8 c) (encode_utf8_all cs) ys)) (clean_char c (encode_utf8_all cs ++ ys) both.0) in
     lossy_behind xs (encode_utf8_all (c ∷ cs) ++ ys) clean ∙ ap (λ (z : List ℕ). lossy_chars xs ++ z) (lossy_chars-front (c ∷ cs) ys h)
 
+-- a text ends with another where its characters do
+pub ends-from_chars : (a b front : List ℕ) → lossy_chars a ≡ front ++ lossy_chars b → EndsWith a b
+ends-from_chars a b front e =
+    (encode_utf8_all front, sym (lossy_chars-utf8_lossy a) ∙ (ap encode_utf8_all e ∙ (encode_all-append front (lossy_chars b) ∙ ap (λ (z : List ℕ). encode_utf8_all front ++ z) (lossy_chars-utf8_lossy b))))
+
+pub chars_behind : (xs cs : List ℕ) → scalars cs ≡ true → lossy_chars (xs ++ encode_utf8_all cs) ≡ lossy_chars xs ++ cs
+chars_behind xs cs h =
+    ap (λ (z : List ℕ). lossy_chars (xs ++ z)) (sym (append-nil (encode_utf8_all cs))) ∙ behind_before xs cs [] h (λ _. refl)
+    ∙ ap (λ (z : List ℕ). lossy_chars xs ++ z) (ap (λ (z : List ℕ). cs ++ z) lossy_chars-nil ∙ append-nil cs)
+
+pub chars-from_ends : (a b : List ℕ) → EndsWith a b → (front : List ℕ) × (lossy_chars a ≡ front ++ lossy_chars b)
+chars-from_ends a b h =
+    (lossy_chars h.0, sym (chars_of a) ∙ (ap lossy_chars (h.1 ∙ ap (λ (z : List ℕ). h.0 ++ z) (sym (lossy_chars-utf8_lossy b))) ∙ chars_behind h.0 (lossy_chars b) (scalars_of b)))
+
 pub ends_texts : (a b : List ℕ) → (IsTrue (begins (reverse (lossy_chars a)) (reverse (lossy_chars b)))) ↔ (EndsWith a b)
 ends_texts a b = (
   λ h. let r = begins-front (reverse (lossy_chars a)) (reverse (lossy_chars b)) h in
-      let e : lossy_chars a ≡ reverse r.0 ++ lossy_chars b =
-      sym (reverse-reverse (lossy_chars a)) ∙ (ap reverse r.1 ∙ (reverse-append (reverse (lossy_chars b)) r.0 ∙ ap (λ (z : List ℕ). reverse r.0 ++ z) (reverse-reverse (lossy_chars b)))) in
-      (encode_utf8_all (reverse r.0), sym (lossy_chars-utf8_lossy a) ∙ (ap encode_utf8_all e ∙ (encode_all-append (reverse r.0) (lossy_chars b) ∙ ap (λ (z : List ℕ). encode_utf8_all (reverse r.0) ++ z) (lossy_chars-utf8_lossy b)))),
-  λ h. let e : lossy_chars a ≡ lossy_chars h.0 ++ (lossy_chars b ++ lossy_chars []) =
-      sym (chars_of a) ∙ (ap lossy_chars (h.1 ∙ ap (λ (z : List ℕ). h.0 ++ z) (sym (lossy_chars-utf8_lossy b) ∙ sym (append-nil (encode_utf8_all (lossy_chars b))))) ∙ behind_before h.0 (lossy_chars b) [] (scalars_of b) (λ _. refl)) in
-      let f : lossy_chars a ≡ lossy_chars h.0 ++ lossy_chars b = e ∙ ap (λ (z : List ℕ). lossy_chars h.0 ++ z) (ap (λ (z : List ℕ). lossy_chars b ++ z) lossy_chars-nil ∙ append-nil (lossy_chars b)) in
-      let g : reverse (lossy_chars a) ≡ reverse (lossy_chars b) ++ reverse (lossy_chars h.0) = ap reverse f ∙ reverse-append (lossy_chars h.0) (lossy_chars b) in
-      subst (λ (z : List ℕ). begins z (reverse (lossy_chars b)) ≡ true) (sym g) (begins-append (reverse (lossy_chars b)) (reverse (lossy_chars h.0))),
+      ends-from_chars a b (reverse r.0)
+      (sym (reverse-reverse (lossy_chars a)) ∙ (ap reverse r.1 ∙ (reverse-append (reverse (lossy_chars b)) r.0 ∙ ap (λ (z : List ℕ). reverse r.0 ++ z) (reverse-reverse (lossy_chars b))))),
+  λ h. let r = chars-from_ends a b h in
+      let turned = ap reverse r.1 ∙ reverse-append r.0 (lossy_chars b) in
+      subst (λ (z : List ℕ). begins z (reverse (lossy_chars b)) ≡ true) (sym turned) (begins-append (reverse (lossy_chars b)) (reverse r.0)),
 )
 
 pub part-some : (xs ys : List ℕ) → has_part xs ys ≡ true → (x : List ℕ) × (z : List ℕ) × (xs ≡ x ++ (ys ++ z))

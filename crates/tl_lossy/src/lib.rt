@@ -33,11 +33,15 @@ pub fn begins_with(value: &[u8], front: &[u8]) -> bool
 }
 
 /// Whether the text of `value` ends with that of `back`.
-#[tactic(auto, using(crate::proofs::Parts::ends_texts))]
+#[tactic(auto, using(crate::proofs::Parts::ends_texts, crate::proofs::Ascii::ends_ascii))]
 pub fn ends_with(value: &[u8], back: &[u8]) -> bool
     ensures { IsTrue result ↔ EndsWith value.now back.now }
 {
-    ends(value, back)
+    if back.is_ascii() {
+        value.ends_with(back)
+    } else {
+        ends(value, back)
+    }
 }
 
 /// Whether the text of `part` stands in that of `value`. The time may be the product of the lengths.

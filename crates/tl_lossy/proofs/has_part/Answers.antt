@@ -1,4 +1,4 @@
-use Rattle.std.proofs.Common.{rules, ◌∙◌}
+use Rattle.std.proofs.Common.{rules}
 use Rattle.std.specs.Str.{IsAscii}
 use Rattle.tl_lossy.proofs.Ascii.{part_ascii}
 use Rattle.tl_lossy.proofs.has_part.Goals as goal
