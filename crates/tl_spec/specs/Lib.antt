@@ -23,6 +23,7 @@ pub mod Element
 pub mod Selector
 pub mod LossyText
 pub mod SelectorMeaning
+pub mod SelectorSearch
 pub mod Edit
 pub mod Edits
 pub mod StepLine

@@ -1,0 +1,12 @@
+use Rattle.tl_spec.proofs.SelectorTests.{holds_alone-is}
+use Rattle.tl_spec.proofs.SelectorSearch.{holds-is, matches-are, matches-only}
+use Rattle.tl_spec.proofs.search_laws.selector_search.Goals as goal
+
+pub returns-clause-alone : goal.returns-clause-alone
+returns-clause-alone c = holds_alone-is
+
+pub returns-clause-among : goal.returns-clause-among
+returns-clause-among c = holds-is
+
+pub returns-clause-between : goal.returns-clause-between
+returns-clause-between c = λ nodes e from to ns. (matches-only nodes e from to ns, matches-are nodes e from to ns)
