@@ -171,16 +171,17 @@ passes-is p n i = (λ h. elim (leb_tells (suc i) n) [ inl w ↦ (w.1, same_Some 
 
 module _ (nodes : List Node) (e : Selector) (from to : ℕ) where
   abbrev passes : ℕ → Bool
-  passes n = nat_le from n && (nat_lt n to && holds nodes e n)
+  passes n = nat_le from n && nat_lt n to && holds nodes e n
 
   abbrev Passes : ℕ → Type 0
   Passes n = (from ≤ n) × (n < to) × Holds nodes e n
 
   passes-decided : (n : ℕ) → Decides (passes n) (Passes n)
   passes-decided n =
-      Decides-like (passes n) (λ h. (h.0, h.1.0, h.1.1)) (λ h. (h.0, (h.1, h.2)))
-      (Decides-and (nat_le from n) (nat_lt n to && holds nodes e n) (leb-true from n, le-leb from n)
-      (Decides-and (nat_lt n to) (holds nodes e n) (Decides-ltb n to) (holds-is nodes e n)))
+      Decides-like (passes n) (λ h. (h.0.0, h.0.1, h.1)) (λ h. ((h.0, h.1), h.2))
+      (Decides-and (nat_le from n && nat_lt n to) (holds nodes e n)
+      (Decides-and (nat_le from n) (nat_lt n to) (leb-true from n, le-leb from n) (Decides-ltb n to))
+      (holds-is nodes e n))
 
   passing : (n : ℕ) → Passes n ↔ PassesAt passes (numbers nodes) n
   passing n = let at = passes-is passes (length nodes) n in (λ h. at.1 (holds-within nodes e n h.2, (passes-decided n).1 h), λ h. (passes-decided n).0 (at.0 h).1)

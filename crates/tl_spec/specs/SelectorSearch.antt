@@ -69,8 +69,8 @@ module _ (nodes : List Node) where
   abbrev pub is_child : ℕ → ℕ → Bool
   is_child m n = nat_lt n (length nodes) && option_map_or (λ node. list_any (nat_eq n) (children_of node)) (slice_get nodes m) false
 
-  -- whether one or more steps lead from m down to n, with no node between them but some of a list: a way either passes the first of
-  -- these or not, and if it does, then one way that passes it once does too
+  -- whether one or more steps lead from m down to n, where all nodes between the two are from a list: a way passes the first of the list
+  -- or doesn't, and where one does, one that passes it once does
   abbrev pub is_below_by : List ℕ → ℕ → ℕ → Bool
   is_below_by [] m n = is_child m n
   is_below_by (l ∷ ls) m n = is_below_by ls m n || (is_below_by ls m l && is_below_by ls l n)
@@ -89,4 +89,4 @@ module _ (nodes : List Node) where
 
   -- the numbers from one on, and below another, of the nodes where a selector holds, in order
   abbrev pub matches_between : Selector → ℕ → ℕ → List ℕ
-  matches_between e from to = filter (λ n. nat_le from n && (nat_lt n to && holds e n)) numbers
+  matches_between e from to = filter (λ n. nat_le from n && nat_lt n to && holds e n) numbers
