@@ -2,7 +2,7 @@ use Rattle.std.proofs.Common.{refl}
 use Rattle.std.specs.Str.{chars, is_utf8}
 use Rattle.std.specs.Str.Lossy.{utf8_valid_len, utf8_error_len, utf8_lossy}
 use lib.Utf8.{encode}
-use Rattle.tl_spec.proofs.selector_rows.broken_values.Goals as goal
+use Rattle.tl_spec.proofs.search_rows.broken_values.Goals as goal
 
 pub returns-clause-other_byte : goal.returns-clause-other_byte
 unfolding utf8_lossy utf8_valid_len utf8_error_len is_utf8 chars encode

@@ -1,6 +1,6 @@
 use Rattle.std.proofs.Common.{refl}
 use Rattle.bstr.specs.Utf8.{pieces_from}
-use Rattle.tl_spec.proofs.selector_rows.words_of_values.Goals as goal
+use Rattle.tl_spec.proofs.search_rows.words_of_values.Goals as goal
 
 pub returns-clause-no_break_space : goal.returns-clause-no_break_space
 unfolding pieces_from
