@@ -24,6 +24,8 @@ pub mod Selector
 pub mod LossyText
 pub mod SelectorMeaning
 pub mod SelectorSearch
+pub mod SelectorText
+pub mod SelectorReading
 pub mod Edit
 pub mod Edits
 pub mod StepLine

@@ -1,0 +1,19 @@
+//! Laws of selector texts.
+
+ghost use Rattle.std.specs.Prelude.{◌↔◌, ◌≡◌, ℕ, List, Some, None};
+ghost use Rattle.tl_spec.specs.Selector.{Selector};
+ghost use Rattle.tl_spec.specs.SelectorText.{IsSelectorText, StandsAlone};
+ghost use Rattle.tl_spec.specs.SelectorReading.{selector_at};
+
+/// A text is derived as a selector exactly where it is read as that one; so there is at most one.
+#[tactic(auto, using(crate::proofs::SelectorText::laws))]
+pub fn selector_text()
+    ensures some { (s : List ℕ) (e : Selector) → IsSelectorText s e ↔ (selector_at s ≡ Some e) }
+    ensures none { (s : List ℕ) → ((e : Selector) → IsSelectorText s e → ⊥) ↔ (selector_at s ≡ None) }
+{}
+
+/// A simple part with spaces around it is a selector.
+#[tactic(auto, using(crate::proofs::SelectorText::laws))]
+pub fn alone_is_a_selector()
+    ensures { (s : List ℕ) → StandsAlone s → (e : Selector) × IsSelectorText s e }
+{}
