@@ -20,6 +20,7 @@ pub mod Misread
 pub mod ClassMember
 pub mod Scan
 pub mod Element
+pub mod Range
 pub mod Selector
 pub mod LossyText
 pub mod SelectorMeaning

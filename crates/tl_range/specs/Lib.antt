@@ -1,0 +1,2 @@
+pub mod RangeError
+pub mod Climb
