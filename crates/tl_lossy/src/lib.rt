@@ -1,4 +1,7 @@
-//! Tests of byte strings by their lossy texts, in which U+FFFD stands for bytes that are no UTF-8. None takes memory.
+//! Tests of byte strings by their lossy texts, in which U+FFFD stands for bytes that are no UTF-8.
+//! None of them takes memory.
+//!
+//! Where the text looked for is ASCII, bytes say the same as characters, and are compared.
 #![tactic(auto)]
 
 ghost use Rattle.std.specs.Prelude.{◌≡◌, ℕ, List, IsTrue, ◌↔◌, length, Option, option_map, Some, reverse, ◌&&◌};
@@ -44,7 +47,8 @@ pub fn ends_with(value: &[u8], back: &[u8]) -> bool
     }
 }
 
-/// Whether the text of `part` stands in that of `value`. The time may be the product of the lengths.
+/// Whether the text of `part` stands in that of `value`. Where `part` is not ASCII, the time may be
+/// the product of their lengths.
 #[tactic(auto, using(crate::proofs::Parts::part_texts, crate::proofs::Ascii::part_ascii))]
 pub fn has_part(value: &[u8], part: &[u8]) -> bool
     ensures { IsTrue result ↔ HasPart value.now part.now }
@@ -69,6 +73,7 @@ pub fn has_word(value: &[u8], word: &[u8]) -> bool
     }
 }
 
+// Whether their characters are the same.
 fn same(value: &[u8], other: &[u8]) -> bool
     ensures { result ≡ same (lossy_chars value.now) (lossy_chars other.now) }
 {
@@ -81,6 +86,7 @@ fn same(value: &[u8], other: &[u8]) -> bool
     chars.next().is_none()
 }
 
+// Whether the characters of `value` begin with those of `front`.
 fn begins(value: &[u8], front: &[u8]) -> bool
     ensures { result ≡ begins (lossy_chars value.now) (lossy_chars front.now) }
 {
@@ -93,6 +99,7 @@ fn begins(value: &[u8], front: &[u8]) -> bool
     true
 }
 
+// Whether the characters of `value` end with those of `back`.
 fn ends(value: &[u8], back: &[u8]) -> bool
     ensures { result ≡ begins (reverse (lossy_chars value.now)) (reverse (lossy_chars back.now)) }
 {
@@ -106,6 +113,7 @@ fn ends(value: &[u8], back: &[u8]) -> bool
     true
 }
 
+// Whether the characters of `part` stand somewhere among those of `value`.
 #[tactic(auto, using(crate::proofs::Texts::part_front))]
 fn contains(value: &[u8], part: &[u8]) -> bool
     ensures { result ≡ has_part (lossy_chars value.now) (lossy_chars part.now) }
@@ -123,6 +131,7 @@ fn contains(value: &[u8], part: &[u8]) -> bool
     }
 }
 
+// Whether one of the words has the characters of `word`.
 fn is_among_words(value: &[u8], word: &[u8]) -> bool
     ensures { result ≡ scan (lossy_chars word.now) (Some (lossy_chars word.now)) (lossy_chars value.now) }
 {
