@@ -152,7 +152,7 @@ module _ (nodes : List Node) where
   holds-within (Parent a b) n h = holds-within b n h.0
   holds-within e n h = some-within (HoldsAlone e) nodes n h
 
--- the numbers of a list that pass a test stand at their own places
+-- each number of a table stands at its own place, so a filter of numbers gives places
 number-at : (a n i : ℕ) → i < n → slice_get (range_with_len a n) i ≡ Some (a + i)
 number-at a n i h = slice_get-get_or (range_with_len a n) i 0 (omega (arith, h, length-range_with_len a n)) ∙ ap Some (get_or-range_with_len a n i 0 h)
 
@@ -167,7 +167,13 @@ answer-past : (p : ℕ → Bool) (n i : ℕ) → n ≤ i → option_map p (slice
 answer-past p n i h = ap (option_map p) (slice_get_past (range_with_len 0 n) i (omega (arith, h, length-range_with_len 0 n)))
 
 passes-is : (p : ℕ → Bool) (n i : ℕ) → PassesAt p (range_with_len 0 n) i ↔ ((i < n) × (p i ≡ true))
-passes-is p n i = (λ h. elim (leb_tells (suc i) n) [ inl w ↦ (w.1, same_Some (p i) true (sym (answer-at p n i w.1) ∙ h)) | inr w ↦ absurd (none-some true (sym (answer-past p n i (omega (arith, w.1))) ∙ h)) ], λ h. answer-at p n i h.0 ∙ ap Some h.1)
+passes-is p n i = (forth, λ h. answer-at p n i h.0 ∙ ap Some h.1)
+  where
+    forth : PassesAt p (range_with_len 0 n) i → (i < n) × (p i ≡ true)
+    forth h = elim (leb_tells (suc i) n) [
+      | inl w ↦ (w.1, same_Some (p i) true (sym (answer-at p n i w.1) ∙ h))
+      | inr w ↦ absurd (none-some true (sym (answer-past p n i (omega (arith, w.1))) ∙ h))
+    ]
 
 module _ (nodes : List Node) (e : Selector) (from to : ℕ) where
   abbrev passes : ℕ → Bool

@@ -1,7 +1,7 @@
 -- Where a selector holds.
 use Rattle.std.specs.Prelude.{◌≡◌, ◌↔◌, ◌<◌, ◌≤◌, ℕ, zero, suc, ◌⊎◌, ⊤, Bool, true, false, ◌||◌, List, length, Option, None, Some, slice_get}
 use Rattle.std.specs.List.{AllPairs, Contains}
-use Rattle.std.specs.Option.{IsSome, IsSomeAnd, option_map_or}
+use Rattle.std.specs.Option.{IsSome, IsSomeAnd}
 use Rattle.tl_spec.specs.Document.{Node}
 use Rattle.tl_spec.specs.Element.{name_of, attribute_of, children_of}
 use Rattle.tl_spec.specs.LossyText.{IsSameText, BeginsWith, EndsWith, HasPart, HasWord}

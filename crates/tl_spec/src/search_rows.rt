@@ -3,7 +3,7 @@
 ghost use Rattle.std.specs.Prelude.{◌≡◌, List, [], ◌∷◌, ◌++◌, codes};
 ghost use Rattle.tl_spec.specs.Document.{document};
 ghost use Rattle.tl_spec.specs.Edit.{Pushes, Pulls, edited_all};
-ghost use Rattle.tl_spec.specs.Selector.{Tag, All, Or, Descendant, Parent, Attribute, AttributeValue, AttributeValueStartsWith, AttributeValueEndsWith, AttributeValueSubstring, AttributeValueWhitespacedContains};
+ghost use Rattle.tl_spec.specs.Selector.{Tag, Id, Class, All, And, Or, Descendant, Parent, Attribute, AttributeValue, AttributeValueWhitespacedContains, AttributeValueStartsWith, AttributeValueEndsWith, AttributeValueSubstring};
 ghost use Rattle.tl_spec.specs.SelectorSearch.{matches_between};
 
 /// A descendant at any depth, and a child.
@@ -11,6 +11,8 @@ pub fn below_tags()
     ensures descendant { matches_between (document (codes "<a><b><c></c></b></a>")).nodes (Descendant (Tag (codes "a")) (Tag (codes "c"))) 0 3 ≡ 2 ∷ [] }
     ensures no_child { matches_between (document (codes "<a><b><c></c></b></a>")).nodes (Parent (Tag (codes "a")) (Tag (codes "c"))) 0 3 ≡ [] }
     ensures child_of_child { matches_between (document (codes "<a><b><c></c></b></a>")).nodes (Parent (Parent (Tag (codes "a")) (Tag (codes "b"))) (Tag (codes "c"))) 0 3 ≡ 2 ∷ [] }
+    ensures deep { matches_between (document (codes "<a><b><c><d></d></c></b></a>")).nodes (Descendant (Tag (codes "a")) (Tag (codes "d"))) 0 4 ≡ 3 ∷ [] }
+    ensures ancestor_between { matches_between (document (codes "<a><b><c></c></b></a>")).nodes (Descendant (Parent (Tag (codes "a")) (Tag (codes "b"))) (Tag (codes "c"))) 0 3 ≡ 2 ∷ [] }
     ensures either { matches_between (document (codes "<a><b><c></c></b></a>")).nodes (Or (Descendant (Tag (codes "a")) (Tag (codes "b"))) (Tag (codes "c"))) 0 3 ≡ 1 ∷ 2 ∷ [] }
     ensures texts_count { matches_between (document (codes "<a>x<b></b></a>")).nodes (Parent (Tag (codes "a")) All) 0 3 ≡ 1 ∷ 2 ∷ [] }
 {}
@@ -28,8 +30,18 @@ pub fn below_moved_tags()
     ensures under_later { matches_between (edited_all (Pushes 1 0 ∷ []) (document (codes "<a></a><b></b>"))).document.nodes (Parent (Tag (codes "b")) (Tag (codes "a"))) 0 2 ≡ 0 ∷ [] }
     ensures child_of_itself { matches_between (edited_all (Pushes 0 0 ∷ []) (document (codes "<a></a>"))).document.nodes (Parent (Tag (codes "a")) (Tag (codes "a"))) 0 1 ≡ 0 ∷ [] }
     ensures below_itself { matches_between (edited_all (Pushes 0 0 ∷ []) (document (codes "<a></a>"))).document.nodes (Descendant (Tag (codes "a")) (Tag (codes "a"))) 0 1 ≡ 0 ∷ [] }
+    ensures up_the_table { matches_between (edited_all (Pushes 2 1 ∷ Pushes 1 0 ∷ []) (document (codes "<a></a><b></b><c></c>"))).document.nodes (Descendant (Tag (codes "c")) (Tag (codes "a"))) 0 3 ≡ 0 ∷ [] }
+    ensures round_a_ring { matches_between (edited_all (Pushes 0 2 ∷ Pushes 2 1 ∷ Pushes 1 0 ∷ []) (document (codes "<a></a><b></b><c></c>"))).document.nodes (Descendant (Tag (codes "b")) (Tag (codes "b"))) 0 3 ≡ 1 ∷ [] }
     ensures pulled { matches_between (edited_all (Pulls 0 0 ∷ []) (document (codes "<a><b></b></a>"))).document.nodes (Descendant (Tag (codes "a")) (Tag (codes "b"))) 0 2 ≡ [] }
     ensures past_the_table { matches_between (edited_all (Pushes 0 7 ∷ []) (document (codes "<a></a>"))).document.nodes (Parent (Tag (codes "a")) All) 0 9 ≡ [] }
+{}
+
+/// Tests of one node, alone and joined.
+pub fn names_ids_and_classes()
+    ensures id { matches_between (document (codes "<p id=i></p><b id=i class=\"k l\"></b>")).nodes (Id (codes "i")) 0 2 ≡ 0 ∷ 1 ∷ [] }
+    ensures class { matches_between (document (codes "<p id=i></p><b id=i class=\"k l\"></b>")).nodes (Class (codes "l")) 0 2 ≡ 1 ∷ [] }
+    ensures both { matches_between (document (codes "<p id=i></p><b id=i class=\"k l\"></b>")).nodes (And (Tag (codes "b")) (Id (codes "i"))) 0 2 ≡ 1 ∷ [] }
+    ensures not_both { matches_between (document (codes "<p id=i></p><b id=i class=\"k l\"></b>")).nodes (And (Tag (codes "p")) (Class (codes "k"))) 0 2 ≡ [] }
 {}
 
 /// Keys with a value and without one.

@@ -1,7 +1,6 @@
-use Rattle.std.proofs.Common.{◌≡◌, ℕ, Bool, false, List, [], ◌∷◌, ◌++◌, Some, refl, codes}
+use Rattle.std.proofs.Common.{◌≡◌, false, [], ◌∷◌, ◌++◌, refl, codes}
 use Rattle.std.specs.Str.{chars, is_utf8}
 use lib.Utf8.{encode}
-use Rattle.tl_spec.specs.ClassMember.{members}
 use Rattle.tl_spec.proofs.Ascii.{members-ascii}
 use Rattle.tl_spec.proofs.rows.members_of_a_class.Goals as goal
 
