@@ -70,8 +70,9 @@ pub fn range<N: Element>(
     let Some((from, to)) = boundaries(alloc, nodes, first, last)? else {
         return Ok(0..0);
     };
-    if to < from {
-        return Ok(0..0);
+    if from <= to {
+        Ok(from as usize..to as usize + 1)
+    } else {
+        Ok(0..0)
     }
-    Ok(from as usize..to as usize + 1)
 }
