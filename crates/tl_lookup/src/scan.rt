@@ -5,10 +5,11 @@ ghost use Rattle.std.specs.List.{position_from};
 ghost use Rattle.std.specs.Map.Iter.{TakesFirst};
 ghost use Rattle.tl_spec.specs.Scan.{is_in_class, id_scan, class_scan};
 
-use crate::element::Element;
+
 use std::alloc::AllocError;
 use std::iter::FusedIterator;
 use std::marker::Model;
+use tl_element::Element;
 
 /// The place of the first node with this id, `None` where no node has it. It takes no memory.
 pub fn first_with_id<N: Element>(nodes: &[N], id: &[u8]) -> Option<usize>
