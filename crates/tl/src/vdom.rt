@@ -1,5 +1,5 @@
 //! Documents.
-ghost use Rattle.std.specs.Prelude.{◌≡◌, [], IfOk, string_bytes};
+ghost use Rattle.std.specs.Prelude.{◌≡◌, ◌<◌, ◌^◌, [], length, IfOk, string_bytes};
 ghost use Rattle.std.specs.Borrow.{sem};
 ghost use Rattle.tl_spec.specs.Clean.{IsCleanTable};
 ghost use Rattle.tl_spec.specs.Normal.{ReadsAs};
@@ -54,7 +54,10 @@ impl<A, B, M> VDomOf<A, B, M> {
 
     /// All nodes, in the order of the text.
     pub fn nodes(&self) -> &[NodeOf<A, B>]
-        ensures { result.now ≡ self.now.nodes }
+        ensures value { result.now ≡ self.now.nodes }
+
+        // So the place of a node is a handle.
+        ensures within { length self.now.nodes < 2 ^ 32 }
     {
         self.parser.nodes()
     }

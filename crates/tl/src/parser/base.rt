@@ -1,5 +1,5 @@
 //! The table of nodes.
-ghost use Rattle.std.specs.Prelude.{◌≡◌, slice_get, Option};
+ghost use Rattle.std.specs.Prelude.{◌≡◌, ◌<◌, ◌^◌, length, slice_get, Option};
 ghost use Rattle.std.specs.Borrow.{sem};
 ghost use Rattle.std.specs.Option.{option_copied, option_copied_mut};
 ghost use Rattle.tl.specs.TableLends.{LendsNode, LendsTableNodes, LendsTableTop};
@@ -32,7 +32,7 @@ pub enum HTMLVersion {
     FramesetHTML401,
 }
 
-/// A table of nodes, the handles of its top nodes, its version, and what was tracked of it in a value of the type `M`.
+/// A table of fewer than 2^32 nodes, the handles of its top nodes, its version, and what was tracked of it in a value of the type `M`.
 #[derive(Debug, Drop)]
 pub struct ParserOf<A, B, M> {
     nodes: Vec<NodeOf<A, B>>,
@@ -48,11 +48,14 @@ pub type Tracking<'a> = TrackingOf<Bytes<'a>>;
 pub type Parser<'a> = ParserOf<Attributes<'a>, Bytes<'a>, Tracking<'a>>;
 
 impl<A, B, M> Model for ParserOf<A, B, M> {
+    ghost use Rattle.std.specs.Prelude.{◌<◌, ◌^◌, length};
     ghost use Rattle.tl.specs.Table.{Table};
 
     ghost Value = { Table A B M };
 
     ghost view = { λ p. record { nodes = p.nodes.items; top = p.top.items; version = p.version; tracking = p.tracking } };
+
+    ghost invariant = { λ p. length p.nodes.items < 2 ^ 32 };
 }
 
 impl<A, B, M> ParserOf<A, B, M> {
@@ -63,6 +66,7 @@ impl<A, B, M> ParserOf<A, B, M> {
         version: Option<HTMLVersion>,
         tracking: M,
     ) -> Self
+        requires { length nodes.items < 2 ^ 32 }
         ensures { result ≡ record { nodes = nodes.items; top = top.items; version = version; tracking = tracking } }
     {
         ParserOf {
@@ -82,7 +86,10 @@ impl<A, B, M> ParserOf<A, B, M> {
 
     // All nodes.
     pub(crate) fn nodes(&self) -> &[NodeOf<A, B>]
-        ensures { result.now ≡ self.now.nodes }
+        ensures value { result.now ≡ self.now.nodes }
+
+        // So the place of a node is a handle.
+        ensures within { length self.now.nodes < 2 ^ 32 }
     {
         self.nodes.as_slice()
     }
@@ -97,6 +104,13 @@ impl<A, B, M> ParserOf<A, B, M> {
         ensures { result.now ≡ self.now.top }
     {
         self.top.as_slice()
+    }
+
+    // What was tracked.
+    pub(crate) fn tracking(&self) -> &M
+        ensures { result.now ≡ self.now.tracking }
+    {
+        &self.tracking
     }
 
     // The version.

@@ -273,6 +273,7 @@ impl<'a> TableBuilder<'a> {
 
     // The table, whose tags that are still open stay as they are, and of which nothing is tracked.
     fn finish(self, alloc: Global) -> Parser<'a>
+        requires { length self.nodes.items < 2 ^ 32 }
         ensures document { document_of result ≡ written (state_of self.entry) }
         ensures version { result.version ≡ version_of (state_of self.entry).is_html5 }
         ensures held { (held : Held) → AreHeld held self.entry → All (IsHeldNode held) result.nodes }

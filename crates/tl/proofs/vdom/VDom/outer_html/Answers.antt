@@ -8,7 +8,7 @@ use Rattle.tl.proofs.vdom.VDom.outer_html.Goals as goal
 pub returns-clause-identity : goal.returns-clause-identity
 returns-clause-identity c =
     let written : List ℕ = print (trees (walk shows (map shown c.nodes.result.now) [] c.children.result.now)) in
-    rw (← c.nodes.ensures, ← c.children.ensures)
+    rw (← c.nodes.ensures.value, ← c.children.ensures)
     (reads-printed (map shown c.nodes.result.now) c.children.result.now _ c.in_ok-write_row.ensures.writes.0
     (c.in_ok-write_row.ensures.writes.1 ∙ ap (λ old. old ++ written) c.new-out.ensures.bytes) c.in_ok-write_row.ensures.own)
 

@@ -15,6 +15,6 @@ pub returns-clause-identity : goal.returns-clause-identity
 returns-clause-identity c =
     let own = Tag (shown_tag c.args.self.now) in
     let written : List ℕ = print (trees (walk_of shows (map shown c.nodes.result.now) own)) in
-    subst (λ ns. IsCleanNode (map shown ns) own → ReadsAs (string_bytes c.write_tag.new.out) (trees (walk_of every (map shown ns) own))) c.nodes.ensures
+    subst (λ ns. IsCleanNode (map shown ns) own → ReadsAs (string_bytes c.write_tag.new.out) (trees (walk_of every (map shown ns) own))) c.nodes.ensures.value
     (reads-node (map shown c.nodes.result.now) own (string_bytes c.write_tag.new.out) c.in_ok-write_tag.ensures.writes.0
     (c.in_ok-write_tag.ensures.writes.1 ∙ ap (λ old. old ++ written) c.new-out.ensures.bytes) c.in_ok-write_tag.ensures.own)

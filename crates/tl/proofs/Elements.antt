@@ -1,0 +1,25 @@
+-- What stands at a key among pairs, however they are held.
+use Rattle.std.proofs.Common.{◌≡◌, ℕ, suc, ◌-◌, Bool, true, false, cond, List, [], ◌∷◌, length, map, slice_get, Option, Some, None, refl, sym, ap, ◌∙◌, sub-one}
+use Rattle.std.specs.Option.{option_map}
+use Rattle.std.specs.List.{find, last_or}
+use Rattle.std.specs.Map.{lookup}
+use Rattle.std.specs.Str.{bytes_eq}
+use Rattle.tl_bytes.specs.Held.{Kept}
+use Rattle.tl_attributes.specs.ShownAttributes.{shown_bytes, shown_value, shown_pair}
+
+-- the value of the pair that is found
+pub lookup-shown : (key : List ℕ) (es : List (Kept × Option Kept))
+    → option_map (λ (e : Kept × Option Kept). shown_value e.1) (find (λ (e : Kept × Option Kept). bytes_eq key (shown_bytes e.0)) es) ≡ lookup (bytes_eq key) (map shown_pair es)
+lookup-shown key [] = refl
+lookup-shown key (e ∷ es) = by (bytes_eq key (shown_bytes e.0)) (lookup-shown key es)
+  where
+    by : (b : Bool) → option_map (λ (x : Kept × Option Kept). shown_value x.1) (find (λ (x : Kept × Option Kept). bytes_eq key (shown_bytes x.0)) es) ≡ lookup (bytes_eq key) (map shown_pair es)
+        → option_map (λ (x : Kept × Option Kept). shown_value x.1) (cond b (Some e) (find (λ (x : Kept × Option Kept). bytes_eq key (shown_bytes x.0)) es)) ≡ cond b (Some (shown_value e.1)) (lookup (bytes_eq key) (map shown_pair es))
+    by true later = refl
+    by false later = later
+
+-- the last item, by its place
+pub last_at_end : {A : Type 0} (xs : List A) → slice_get xs (length xs - 1) ≡ last_or None xs
+last_at_end [] = refl
+last_at_end (x ∷ []) = refl
+last_at_end (x ∷ y ∷ xs) = ap (slice_get (x ∷ y ∷ xs)) (sub-one (suc (suc (length xs)))) ∙ ap (slice_get (y ∷ xs)) (sym (sub-one (suc (length xs)))) ∙ last_at_end (y ∷ xs)

@@ -1,0 +1,95 @@
+//! What lookups, selectors and ranges see of a node of a table.
+ghost use Rattle.std.specs.Prelude.{◌≡◌, option_map};
+ghost use Rattle.std.specs.Map.{lookup};
+ghost use Rattle.std.specs.Option.{option_copied};
+ghost use Rattle.std.specs.Str.{bytes_eq};
+ghost use Rattle.tl_spec.specs.AttributeEdit.{value_at};
+ghost use Rattle.tl_attributes.specs.ShownAttributes.{shown_entries, shown_attributes};
+ghost use Rattle.tl.specs.Shown.{shown};
+
+use crate::parser::tag::node::Node;
+use tl_attributes::attributes::{Attributes, RawAttributesMap};
+use tl_element::Element;
+
+// What stands at a key among the pairs other than `id` and `class`. They are gone through, since the keys of a map live as long as
+// the text, and this key may not.
+fn value_among<'s>(others: &'s RawAttributesMap<'_>, key: &[u8]) -> Option<Option<&'s [u8]>>
+    ensures { option_map option_copied result ≡ lookup (bytes_eq key.now) (shown_entries others.now).entries }
+{
+    let pair = others.iter().find(|pair| key == pair.0.as_bytes())?;
+    Some(pair.1.as_ref().map(|value| value.as_bytes()))
+}
+
+// What stands at a key.
+fn value_of<'s>(attributes: &'s Attributes<'_>, key: &[u8]) -> Option<Option<&'s [u8]>>
+    ensures { option_map option_copied result ≡ value_at (λ bytes. bytes) bytes_eq (shown_attributes attributes.now) key.now }
+{
+    if key == b"id".as_slice() {
+        return attributes.id().map(|id| Some(id.as_bytes()));
+    }
+    if key == b"class".as_slice() {
+        return attributes.class().map(|class| Some(class.as_bytes()));
+    }
+    value_among(attributes.unstable_raw(), key)
+}
+
+impl<'a> Element for Node<'a> {
+    ghost node = { shown };
+
+    fn name(&self) -> Option<&[u8]> {
+        match self {
+            Node::Tag(tag) => Some(tag.name().as_bytes()),
+            _ => None,
+        }
+    }
+
+    fn id(&self) -> Option<&[u8]> {
+        match self {
+            Node::Tag(tag) => tag.attributes().id().map(|id| id.as_bytes()),
+            _ => None,
+        }
+    }
+
+    fn is_class_member(&self, class: &[u8]) -> bool {
+        match self {
+            Node::Tag(tag) => tag.attributes().is_class_member(class),
+            _ => false,
+        }
+    }
+
+    fn attribute(&self, key: &[u8]) -> Option<Option<&[u8]>> {
+        match self {
+            Node::Tag(tag) => value_of(tag.attributes(), key),
+            _ => None,
+        }
+    }
+
+    fn child_count(&self) -> usize {
+        match self {
+            Node::Tag(tag) => tag.child_handles().len(),
+            _ => 0,
+        }
+    }
+
+    fn child(&self, place: usize) -> Option<u32> {
+        match self {
+            Node::Tag(tag) => tag
+                .child_handles()
+                .get(place)
+                .map(|child| child.get_inner()),
+            _ => None,
+        }
+    }
+
+    #[tactic(auto, using(crate::proofs::Elements::last_at_end))]
+    fn last_child(&self) -> Option<u32> {
+        match self {
+            Node::Tag(tag) => tag
+                .child_handles()
+                .as_slice()
+                .last()
+                .map(|child| child.get_inner()),
+            _ => None,
+        }
+    }
+}
