@@ -2,6 +2,7 @@ pub mod ReadAttributes
 pub mod StartTags
 pub mod Tracked
 pub mod Elements
+pub mod Lookups
 pub mod Building
 pub mod Following
 pub mod Marks

@@ -9,6 +9,8 @@ pub mod StartTag
 pub mod Builder
 pub mod Marks
 pub mod Tracked
+pub mod Lookup
+pub mod HandlesLeft
 pub mod Walker
 pub mod Writing
 pub mod Boundaries

@@ -14,6 +14,7 @@ ghost use Rattle.tl.specs.Tracked.{AreAsked, AnswerIds, AnswerClasses};
 ghost use Rattle.tl.specs.declared.errors.ParseError.TheVariants.{InvalidLength};
 
 pub mod errors;
+pub mod laws;
 mod parser;
 mod vdom;
 mod walk;
@@ -38,6 +39,7 @@ pub use tl_bytes::byte_string::{Bytes, IntoOwnedBytes};
 pub use tl_bytes::simd;
 pub use tl_inline::inline;
 pub use tl_options::ParserOptions;
+pub use vdom::lookup::ElementsByClassName;
 pub use vdom::{VDom, VDomOf};
 
 /// Reads a text into a document whose pieces are slices of it.

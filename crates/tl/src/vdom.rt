@@ -9,6 +9,8 @@ ghost use Rattle.tl.specs.Answer.{Answers};
 ghost use Rattle.tl.specs.Shown.{document_of};
 ghost use Rattle.tl.specs.TableLends.{LendsParser, LendsNodes, LendsTop};
 
+pub(crate) mod lookup;
+
 use crate::errors::TreeError;
 use crate::parser::base::{HTMLVersion, ParserOf, Tracking};
 use crate::parser::handle::NodeHandle;
