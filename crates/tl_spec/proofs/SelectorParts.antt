@@ -77,7 +77,6 @@ value_by-some s (Some q) {v} e h =
     (subst (λ (x : List ℕ). ValueStands x b.0.0 (93 ∷ m.0)) (sym t.0) (quoted t.1 inside))
 
 value-some : (s : List ℕ) {v : List ℕ × List ℕ} → value_at s ≡ Some v → ValueStands s v.0 (93 ∷ v.1)
-unfolding value_at
 value-some s h = value_by-some s (quote_at s) refl h
 
 -- an ident byte is none of these
@@ -94,7 +93,6 @@ no_quote (b ∷ v) rest h =
     if_no _ _ _ (neither (b == 34) (b == 39) (ident-not b 34 y refl) (ident-not b 39 y refl))
 
 value-is : {s v rest : List ℕ} → ValueStands s v (93 ∷ rest) → value_at s ≡ Some (v, rest)
-unfolding value_at
 value-is {rest = rest} (bare {s = s} {v = v} r) =
     ap (λ (o : Option (ℕ × List ℕ)). value_by o s) (ap quote_at r.parts ∙ no_quote v rest r.inside) ∙ run_before-is r
 value-is {rest = rest} (quoted {s = s} {v = v} {q = q} y r) =
@@ -135,7 +133,6 @@ op_by-some b (Some op) s {p} e h =
     subst (λ (p : Op × List ℕ). b ∷ s ≡ spelled p.0 ++ p.1) m.2 (ap (λ s. b ∷ s) (after_byte-some 61 s m.1) ∙ sym (ap (λ (x : List ℕ). x ++ m.0) (op_of-some b e)))
 
 op_at-some : (s : List ℕ) {p : Op × List ℕ} → op_at s ≡ Some p → s ≡ spelled p.0 ++ p.1
-unfolding op_at
 op_at-some [] h = cc
 op_at-some (b ∷ s) {p} h =
     elim (if_is (b == 61) h) [
@@ -153,12 +150,10 @@ spelled-gives Contains = contains
 -- brackets
 
 key-is : {s k m : List ℕ} → IsRun is_ident s k m → bracket_at s ≡ bracket_by (after_byte 93 m) k m
-unfolding bracket_at
 key-is r = λ i. bracket_by (after_byte 93 (run-past r i)) (run-take r i) (run-past r i)
 
 op_at-is : {op : List ℕ} {gives : List ℕ → List ℕ → Selector} (u : List ℕ) → OpGives op gives →
     (o : Op) × (with_op o ≡ gives) × (op_at (op ++ u) ≡ Some (o, u)) × (after_byte 93 (op ++ u) ≡ None)
-unfolding op_at
 op_at-is u equal = (Equals, refl, refl, refl)
 op_at-is u has_part = (HasPart, refl, refl, refl)
 op_at-is u starts = (StartsWith, refl, refl, refl)
@@ -188,7 +183,6 @@ bracket_by-some s None {p} e h =
     subst (λ (p : Selector × List ℕ). SimpleStands (91 ∷ s) p.0 p.1) v.2 (value_part r (spelled-gives b.0.0) (value-some b.0.1 v.1))
 
 bracket-some : (s : List ℕ) {p : Selector × List ℕ} → bracket_at s ≡ Some p → SimpleStands (91 ∷ s) p.0 p.1
-unfolding bracket_at
 bracket-some s h = bracket_by-some s (after_byte 93 (past is_ident s)) refl h
 
 -- simple parts
@@ -199,7 +193,6 @@ tag-some b s y =
     tag_part some (run-of is_ident (b ∷ s))
 
 pub simple-some : (s : List ℕ) {p : Selector × List ℕ} → simple_at s ≡ Some p → SimpleStands s p.0 p.1
-unfolding simple_at
 simple-some [] h = cc
 simple-some (b ∷ s) {p} h =
     let from : (n : ℕ) → (b == n) ≡ true → SimpleStands (n ∷ s) p.0 p.1 → SimpleStands (b ∷ s) p.0 p.1 =
@@ -222,7 +215,6 @@ simple-some (b ∷ s) {p} h =
     ]
 
 tag-is : (b : ℕ) (s : List ℕ) → is_ident b ≡ true → simple_at (b ∷ s) ≡ Some (Tag (take_while is_ident (b ∷ s)), past is_ident (b ∷ s))
-unfolding simple_at
 tag-is b s y =
     if_no _ _ _ (ident-not b 35 y refl) ∙ (if_no _ _ _ (ident-not b 46 y refl) ∙ (if_no _ _ _ (ident-not b 42 y refl) ∙ (if_no _ _ _ (ident-not b 91 y refl) ∙ if_yes _ _ _ y)))
 
@@ -239,7 +231,6 @@ tag-run {s} n r =
     here ∙ (λ j. Some (Tag (run-take r j), run-past r j))
 
 pub simple-is : {s rest : List ℕ} {e : Selector} → SimpleStands s e rest → simple_at s ≡ Some (e, rest)
-unfolding simple_at
 simple-is (id_part r) = λ j. Some (Id (run-take r j), run-past r j)
 simple-is (class_part r) = λ j. Some (Class (run-take r j), run-past r j)
 simple-is all_part = refl

@@ -52,21 +52,18 @@ link-part v b =
     (if_no _ _ _ b.4 ∙ if_no _ _ _ b.5)
 
 touch-is : {s : List ℕ} → BeginsPart s → link_at s ≡ Some (Touch, s)
-unfolding link_at
 touch-is {s} b =
     let same : past is_space s ≡ s = past-no is_space s (subst (Stops is_space) (sym b.2) b.3) in
     let no : starts_with_space s ≡ false = ap starts_with_space b.2 ∙ b.3 in
     (λ i. link_by (no i) (same i)) ∙ link-part false b
 
 spaced-is : {spaces s : List ℕ} → AreSpaces spaces → BeginsPart s → link_at (32 ∷ spaces ++ s) ≡ Some (Spaces, s)
-unfolding link_at
 spaced-is {spaces} {s} h b =
     let same : past is_space s ≡ s = past-no is_space s (subst (Stops is_space) (sym b.2) b.3) in
     ap (link_by true) (past-spaces s (one_space h) ∙ same) ∙ link-part true b
 
 byte-is : {before : List ℕ} (b : ℕ) (t : List ℕ) (link : Link) → AreSpaces before → (b == 32) ≡ false →
     ((v : Bool) → link_by v (b ∷ t) ≡ Some (link, past is_space t)) → link_at (before ++ b ∷ t) ≡ Some (link, past is_space t)
-unfolding link_at
 byte-is {before} b t link h n by =
     ap (link_by (starts_with_space (before ++ b ∷ t))) (past-spaces (b ∷ t) h ∙ past-no is_space (b ∷ t) n) ∙ by (starts_with_space (before ++ b ∷ t))
 
@@ -79,7 +76,6 @@ step-is t h = byte-is 62 t Step h refl (λ _. refl)
 -- a joint, and the part after it
 pub joint-next : {m n rest : List ℕ} {gives : Selector → Selector → Selector} {e : Selector} → JointStands m gives n → SimpleStands n e rest →
     (link : Link) × (next_at m ≡ Part link e rest) × ((before : Option Selector) (chain : Selector) → (before_after link before chain ≡ before) × (chain_after link chain e ≡ gives chain e))
-unfolding next_at
 joint-next touching h = (Touch, rw (touch-is (begins-part h)) (rw (simple-is h) refl), λ _ _. (refl, refl))
 joint-next (spaced k) h = (Spaces, rw (spaced-is k (begins-part h)) (rw (simple-is h) refl), λ _ _. (refl, refl))
 joint-next (stepped {after = after} {rest = n} k l) h =
@@ -126,7 +122,6 @@ link_by-some s (b ∷ t) {q} e h =
     ]
 
 link-some : (s : List ℕ) {q : Link × List ℕ} → link_at s ≡ Some q → LinkStands s q.0 q.1
-unfolding link_at
 link-some s h = link_by-some s (past is_space s) refl h
 
 link_by-none : (v : Bool) (u : List ℕ) → link_by v u ≡ None → u ≡ []
@@ -138,7 +133,6 @@ link_by-none v (b ∷ t) h =
     ]
 
 link-none : (s : List ℕ) → link_at s ≡ None → past is_space s ≡ []
-unfolding link_at
 link-none s h = link_by-none (starts_with_space s) (past is_space s) h
 
 -- the next part
@@ -158,7 +152,6 @@ next_by-part s (Some q) e h =
     (q.1, subst (λ (l : Link). LinkStands s l q.1) p.0 (link-some s e), simple-some q.1 p.1)
 
 pub next-part : (s : List ℕ) {l : Link} {e : Selector} {r : List ℕ} → next_at s ≡ Part l e r → (t : List ℕ) × LinkStands s l t × SimpleStands t e r
-unfolding next_at
 next-part s h = next_by-part s (link_at s) refl h
 
 part_by-end : (link : Link) (o : Option (Selector × List ℕ)) → part_by link o ≡ End → ⊥
@@ -170,14 +163,12 @@ next_by-end s None e h = link-none s e
 next_by-end s (Some q) e h = absurd (part_by-end q.0 (simple_at q.1) h)
 
 next-end : (s : List ℕ) → next_at s ≡ End → AreSpaces s
-unfolding next_at
 next-end s h =
     let i = spaces_of s in
     let e = i.2 ∙ (ap (λ (t : List ℕ). i.0 ++ t) (next_by-end s (link_at s) refl h) ∙ append-nil i.0) in
     subst AreSpaces (sym e) i.1
 
 end-next : {s : List ℕ} → AreSpaces s → next_at s ≡ End
-unfolding next_at link_at
 end-next {s} h =
     let e : past is_space s ≡ [] = ap (past is_space) (sym (append-nil s)) ∙ past-spaces [] h in
     rw e refl
@@ -191,8 +182,8 @@ link-le : {s r : List ℕ} {l : Link} → LinkStands s l r → length r ≤ leng
 link-le (comma_link {before = before} {after = after} {rest = rest} k l) = omega (arith, length-append before (44 ∷ (after ++ rest)), length-append after rest)
 link-le (joint_link n j) = joint-le j
 
-pub next-lt : (s : List ℕ) (l : Link) (e : Selector) (r : List ℕ) → next_at s ≡ Part l e r → length r < length s
-next-lt s l e r h = let p = next-part s h in omega (arith, link-le p.1, simple-lt p.2)
+pub next_lt : (s : List ℕ) (l : Link) (e : Selector) (r : List ℕ) → next_at s ≡ Part l e r → length r < length s
+next_lt s l e r h = let p = next-part s h in omega (arith, link-le p.1, simple-lt p.2)
 
 -- all parts, step by step
 
@@ -204,7 +195,7 @@ within-enough (suc n) (suc m) s h k =
       | End ↦ λ e. refl
       | Bad ↦ λ e. refl
       | Part l p r ↦ λ e.
-          let short = next-lt s l p r e in
+          let short = next_lt s l p r e in
           ap (option_map (λ (ps : List (Link × Selector)). (l, p) ∷ ps)) (within-enough n m r (omega arith) (omega arith))
     ]) refl
 
@@ -219,7 +210,7 @@ parts-step s =
       | End ↦ λ e. refl
       | Bad ↦ λ e. refl
       | Part l p r ↦ λ e.
-          let short = next-lt s l p r e in
+          let short = next_lt s l p r e in
           ap (option_map (λ (ps : List (Link × Selector)). (l, p) ∷ ps)) (parts-enough (length s + 1) r (omega arith))
     ]) refl
 
@@ -231,16 +222,16 @@ map_map : {A B C : Type 0} (f : B → C) (g : A → B) (o : Option A) → option
 map_map f g None = refl
 map_map f g (Some x) = refl
 
-pub rest-part : (before : Option Selector) (chain : Selector) (s : List ℕ) (l : Link) (e : Selector) (r : List ℕ) → next_at s ≡ Part l e r →
+pub rest_part : (before : Option Selector) (chain : Selector) (s : List ℕ) (l : Link) (e : Selector) (r : List ℕ) → next_at s ≡ Part l e r →
     rest_read before chain s ≡ rest_read (before_after l before chain) (chain_after l chain e) r
-rest-part before chain s l e r h =
+rest_part before chain s l e r h =
     ap (option_map (nested before chain)) (parts-step s ∙ ap (parts_by parts_at) h) ∙ map_map (nested before chain) (λ ps. (l, e) ∷ ps) (parts_at r)
 
-pub rest-end : (before : Option Selector) (chain : Selector) (s : List ℕ) → next_at s ≡ End → rest_read before chain s ≡ Some (closed before chain)
-rest-end before chain s h = ap (option_map (nested before chain)) (parts-step s ∙ ap (parts_by parts_at) h)
+pub rest_end : (before : Option Selector) (chain : Selector) (s : List ℕ) → next_at s ≡ End → rest_read before chain s ≡ Some (closed before chain)
+rest_end before chain s h = ap (option_map (nested before chain)) (parts-step s ∙ ap (parts_by parts_at) h)
 
-pub rest-bad : (before : Option Selector) (chain : Selector) (s : List ℕ) → next_at s ≡ Bad → rest_read before chain s ≡ None
-rest-bad before chain s h = ap (option_map (nested before chain)) (parts-step s ∙ ap (parts_by parts_at) h)
+pub rest_bad : (before : Option Selector) (chain : Selector) (s : List ℕ) → next_at s ≡ Bad → rest_read before chain s ≡ None
+rest_bad before chain s h = ap (option_map (nested before chain)) (parts-step s ∙ ap (parts_by parts_at) h)
 
 -- whole texts: what is read, from what stands
 
@@ -264,22 +255,21 @@ chain-is : {s rest : List ℕ} {e : Selector} → ChainStands s e rest → (befo
 chain-is (first_part h) before = rw (simple-is h) refl
 chain-is (next_part {m = m} {rest = rest} {a = a} {b = b} c j h) before =
     let n = joint-next j h in
-    chain-is c before ∙ (rest-part before a m n.0 b rest n.1 ∙ (λ i. rest_read ((n.2 before a).0 i) ((n.2 before a).1 i) rest))
+    chain-is c before ∙ (rest_part before a m n.0 b rest n.1 ∙ (λ i. rest_read ((n.2 before a).0 i) ((n.2 before a).1 i) rest))
 
 comma-next : {after : List ℕ} (t : List ℕ) → AreSpaces after → next_at (after ++ 44 ∷ t) ≡ part_by Comma (simple_at (past is_space t))
-unfolding next_at
 comma-next t h = ap next_by (comma-is t h)
 
 rest-comma : (o : Option (Selector × List ℕ)) (before : Option Selector) (chain : Selector) (s : List ℕ) → next_at s ≡ part_by Comma o →
     rest_read before chain s ≡ option_and_then (λ (p : Selector × List ℕ). rest_read (Some (closed before chain)) p.0 p.1) o
-rest-comma None before chain s h = rest-bad before chain s h
-rest-comma (Some p) before chain s h = rest-part before chain s Comma p.0 p.1 h
+rest-comma None before chain s h = rest_bad before chain s h
+rest-comma (Some p) before chain s h = rest_part before chain s Comma p.0 p.1 h
 
 rest-finish : (before : Option Selector) (chain : Selector) {after : List ℕ} (rest : List ℕ) → AreSpaces after → EndsChain rest →
     rest_read before chain (after ++ rest) ≡ finish (closed before chain) rest
 rest-finish before chain {after} rest h (inl e) =
     subst (λ (rest : List ℕ). rest_read before chain (after ++ rest) ≡ finish (closed before chain) rest) (sym e)
-    (rest-end before chain (after ++ []) (end-next (subst AreSpaces (sym (append-nil after)) h)))
+    (rest_end before chain (after ++ []) (end-next (subst AreSpaces (sym (append-nil after)) h)))
 rest-finish before chain {after} rest h (inr t) =
     subst (λ (rest : List ℕ). rest_read before chain (after ++ rest) ≡ finish (closed before chain) rest) (sym t.1)
     (rest-comma (simple_at (past is_space t.0)) before chain (after ++ 44 ∷ t.0) (comma-next t.0 h))
@@ -290,7 +280,6 @@ spaced_chain-is (spaced_chain {s = s} {rest = rest} {e = e} k c l) n before =
     ap (chain_read before) (past-spaces s k ∙ chain-begins c) ∙ (chain-is c before ∙ rest-finish before e rest l n)
 
 chains-is : {s rest : List ℕ} {e : Selector} → ChainsStand s e rest → EndsChain rest → selector_at s ≡ finish e rest
-unfolding selector_at
 chains-is (first_chain c) n = spaced_chain-is c n None
 chains-is (next_chain {m = m} {a = a} cs c) n = chains-is cs (inr (m, refl)) ∙ spaced_chain-is c n (Some a)
 
@@ -344,7 +333,7 @@ within-stands (suc n) s u r before chain ps h b c =
     ]) refl h
 
 text-some : (s : List ℕ) (e : Selector) → selector_at s ≡ Some e → IsSelectorText s e
-unfolding selector_at parts_at StandsBefore
+unfolding parts_at StandsBefore
 text-some s e h =
     let b = bind-some (λ (p : Selector × List ℕ). option_map (nested None p.0) (parts_at p.1)) (simple_at (past is_space s)) h in
     let m = map-some (nested None b.0.0) (parts_at b.0.1) b.2 in

@@ -32,7 +32,7 @@ value_by None s = run_before 93 s
 value_by (Some q) s = run_before q.0 q.1 >>= λ v. option_map (λ rest. (v.0, rest)) (after_byte 93 v.1)
 
 -- a value, and what stands after the `]` that has to follow it
-unfoldable pub value_at : List ℕ → Option (List ℕ × List ℕ)
+abbrev pub value_at : List ℕ → Option (List ℕ × List ℕ)
 value_at s = value_by (quote_at s) s
 
 -- what an op asks of a value
@@ -59,7 +59,7 @@ op_by None s = None
 op_by (Some op) s = option_map (λ rest. (op, rest)) (after_byte 61 s)
 
 -- an op, and what stands after it
-unfoldable pub op_at : List ℕ → Option (Op × List ℕ)
+abbrev pub op_at : List ℕ → Option (Op × List ℕ)
 op_at [] = None
 op_at (b ∷ s) = if b == 61 then Some (Equals, s) else op_by (op_of b) s
 
@@ -68,11 +68,11 @@ bracket_by (Some rest) key s = Some (Attribute key, rest)
 bracket_by None key s = op_at s >>= λ op. option_map (λ v. (with_op op.0 key v.0, v.1)) (value_at op.1)
 
 -- a test of a key, and what stands after its `]`, from after its `[` on
-unfoldable pub bracket_at : List ℕ → Option (Selector × List ℕ)
+abbrev pub bracket_at : List ℕ → Option (Selector × List ℕ)
 bracket_at s = let m = past is_ident s in bracket_by (after_byte 93 m) (take_while is_ident s) m
 
 -- a simple part, and what stands after it
-unfoldable pub simple_at : List ℕ → Option (Selector × List ℕ)
+abbrev pub simple_at : List ℕ → Option (Selector × List ℕ)
 simple_at [] = None
 simple_at (b ∷ s) =
     if b == 35 then Some (Id (take_while is_ident s), past is_ident s)
@@ -101,7 +101,7 @@ link_by spaced (b ∷ s) =
     else Some ((if spaced then Spaces else Touch), b ∷ s))
 
 -- the link after a part with the spaces around it, and what stands after it; none where the text ends
-unfoldable pub link_at : List ℕ → Option (Link × List ℕ)
+abbrev pub link_at : List ℕ → Option (Link × List ℕ)
 link_at s = link_by (starts_with_space s) (past is_space s)
 
 -- what comes after a part: the end, what is no part, or a link, a part and what stands after it
@@ -118,7 +118,7 @@ abbrev pub next_by : Option (Link × List ℕ) → Next
 next_by None = End
 next_by (Some link) = part_by link.0 (simple_at link.1)
 
-unfoldable pub next_at : List ℕ → Next
+abbrev pub next_at : List ℕ → Next
 next_at s = next_by (link_at s)
 
 abbrev pub parts_by : (List ℕ → Option (List (Link × Selector))) → Next → Option (List (Link × Selector))
@@ -161,5 +161,5 @@ nested before chain [] = closed before chain
 nested before chain (p ∷ ps) = nested (before_after p.0 before chain) (chain_after p.0 chain p.1) ps
 
 -- the selector of a text, `None` where the text is none
-unfoldable pub selector_at : List ℕ → Option Selector
+abbrev pub selector_at : List ℕ → Option Selector
 selector_at s = simple_at (past is_space s) >>= λ first. option_map (nested None first.0) (parts_at first.1)

@@ -4,7 +4,7 @@ ghost use Rattle.tl_spec.specs.Selector.{Tag, Id, Class, All, And, Or, Descendan
 ghost use Rattle.tl_spec.specs.SelectorReading.{selector_at};
 
 /// Parts nest from the left, and `,` is loosest.
-#[tactic(auto, unfolding(crate::specs::SelectorReading::selector_at, crate::specs::SelectorReading::simple_at, crate::specs::SelectorReading::parts_at, crate::specs::SelectorReading::next_at, crate::specs::SelectorReading::link_at))]
+#[tactic(auto, unfolding(crate::specs::SelectorReading::parts_at))]
 pub fn nested_from_the_left()
     ensures chain_first { selector_at (codes "a.b, c") ≡ Some (Or (And (Tag (codes "a")) (Class (codes "b"))) (Tag (codes "c"))) }
     ensures chains { selector_at (codes "a, b, c") ≡ Some (Or (Or (Tag (codes "a")) (Tag (codes "b"))) (Tag (codes "c"))) }
@@ -13,7 +13,7 @@ pub fn nested_from_the_left()
 {}
 
 /// Spaces, and no other blanks, may stand around parts, `,` and `>`, and alone they are a joint.
-#[tactic(auto, unfolding(crate::specs::SelectorReading::selector_at, crate::specs::SelectorReading::simple_at, crate::specs::SelectorReading::parts_at, crate::specs::SelectorReading::next_at, crate::specs::SelectorReading::link_at))]
+#[tactic(auto, unfolding(crate::specs::SelectorReading::parts_at))]
 pub fn spaces_in_selectors()
     ensures around_chains { selector_at (codes " a , b ") ≡ Some (Or (Tag (codes "a")) (Tag (codes "b"))) }
     ensures no_spaces { selector_at (codes "a>b") ≡ Some (Parent (Tag (codes "a")) (Tag (codes "b"))) }
@@ -25,7 +25,7 @@ pub fn spaces_in_selectors()
 {}
 
 /// What lacks a part is no selector.
-#[tactic(auto, unfolding(crate::specs::SelectorReading::selector_at, crate::specs::SelectorReading::simple_at, crate::specs::SelectorReading::parts_at, crate::specs::SelectorReading::next_at, crate::specs::SelectorReading::link_at))]
+#[tactic(auto, unfolding(crate::specs::SelectorReading::parts_at))]
 pub fn lacking_parts()
     ensures empty { selector_at [] ≡ None }
     ensures space { selector_at (codes " ") ≡ None }
@@ -38,7 +38,7 @@ pub fn lacking_parts()
 {}
 
 /// A name may be empty but for a tag's, and may hold `:`, `+` and `/`.
-#[tactic(auto, unfolding(crate::specs::SelectorReading::selector_at, crate::specs::SelectorReading::simple_at, crate::specs::SelectorReading::parts_at, crate::specs::SelectorReading::next_at, crate::specs::SelectorReading::link_at))]
+#[tactic(auto, unfolding(crate::specs::SelectorReading::parts_at))]
 pub fn names_in_selectors()
     ensures id { selector_at (codes "#a") ≡ Some (Id (codes "a")) }
     ensures empty_id { selector_at (codes "#") ≡ Some (Id []) }
@@ -49,7 +49,7 @@ pub fn names_in_selectors()
 {}
 
 /// What stands in brackets holds no space; a value may stand between two of the same quote.
-#[tactic(auto, unfolding(crate::specs::SelectorReading::selector_at, crate::specs::SelectorReading::simple_at, crate::specs::SelectorReading::parts_at, crate::specs::SelectorReading::next_at, crate::specs::SelectorReading::link_at, crate::specs::SelectorReading::bracket_at, crate::specs::SelectorReading::op_at, crate::specs::SelectorReading::value_at))]
+#[tactic(auto, unfolding(crate::specs::SelectorReading::parts_at))]
 pub fn brackets()
     ensures key { selector_at (codes "[a/b]") ≡ Some (Attribute (codes "a/b")) }
     ensures no_key { selector_at (codes "[]") ≡ Some (Attribute []) }
