@@ -1,10 +1,9 @@
 -- How parts are nested, one after the other, and what a reader answers.
-use Rattle.std.proofs.Common.{◌≡◌, ◌≢◌, ℕ, ◌<◌, List, length, refl, sym, ap, ◌∙◌, Option, Some, None, option_map, IfSome, IfNone}
+use Rattle.std.proofs.Common.{◌≡◌, ◌≢◌, ℕ, List, refl, sym, ap, ◌∙◌, Option, Some, None, option_map, IfSome, IfNone}
 use Rattle.tl_spec.specs.Runs.{past}
 use Rattle.tl_spec.specs.Selector as spec
 use Rattle.tl_spec.specs.SelectorText.{IsSelectorText, StandsAlone}
-use Rattle.tl_spec.specs.SelectorReading.{is_space, simple_at, End, Bad, Part, next_at, parts_at, joined, closed, before_after, chain_after, nested, selector_at}
-use Rattle.tl_spec.specs.SelectorReading as r
+use Rattle.tl_spec.specs.SelectorReading.{is_space, simple_at, End, next_at, joined, before_after, chain_after, selector_at}
 use Rattle.tl_spec.proofs.SelectorText.{alone-read, text-only, text-none}
 pub use Rattle.tl_spec.proofs.SelectorText.{rest_part, rest_end, rest_bad, next_lt}
 use Rattle.tl_selector.specs.View.{selector}

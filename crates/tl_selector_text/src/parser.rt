@@ -31,8 +31,8 @@ impl<'a> Parser<'a> {
         Parser { rest: input }
     }
 
-    /// The selector that all that is left is derived as, `None` where it is none. Its names, keys
-    /// and values are slices of the text. What it takes memory for are the joints.
+    /// Reads all that is left as one selector: `None` where it is none. Names, keys and values are
+    /// slices of the text, and memory is taken for joints alone.
     #[tactic(auto, using(crate::proofs::Parts::selector_found, crate::proofs::Parts::selector_none))]
     pub fn selector(&mut self, alloc: Global) -> Result<Option<Selector<'a>>, AllocError>
         ensures found { IfOk result (λ o. IfSome o (λ e. IsSelectorText self.old (selector e))) }
@@ -54,7 +54,8 @@ impl<'a> Parser<'a> {
     }
 }
 
-/// The selector that a text is derived as, `None` where it is none.
+/// The selector of a text, `None` where it is none. Names, keys and values are slices of the text,
+/// and memory is taken for joints alone.
 pub fn parse_query_selector<'a>(
     alloc: Global,
     input: &'a str,

@@ -1,4 +1,4 @@
-use Rattle.std.proofs.Common.{◌≡◌, refl, ap, sym, ◌∙◌, subst, option_map, Some, None}
+use Rattle.std.proofs.Common.{◌≡◌, ap, sym, ◌∙◌, subst, option_map}
 use Rattle.tl_selector.specs.View.{selector}
 use Rattle.tl_selector_text.specs.Views.{link}
 use Rattle.tl_spec.specs.SelectorReading.{nested, before_after, chain_after}

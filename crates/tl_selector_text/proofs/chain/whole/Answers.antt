@@ -1,6 +1,5 @@
-use Rattle.std.proofs.Common.{◌≡◌, refl, ap, sym, ◌∙◌, subst, option_map, Some, None}
+use Rattle.std.proofs.Common.{sym}
 use Rattle.tl_selector.specs.View.{selector}
-use Rattle.tl_spec.specs.SelectorReading.{simple_at}
 use Rattle.tl_selector_text.proofs.Parts.{alone_end}
 use Rattle.tl_selector_text.proofs.chain.whole.Goals as goal
 
