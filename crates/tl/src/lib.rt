@@ -14,7 +14,7 @@ ghost use Rattle.tl.specs.Tracked.{AreAsked, AnswerIds, AnswerClasses};
 ghost use Rattle.tl.specs.declared.errors.ParseError.TheVariants.{InvalidLength};
 
 pub mod errors;
-pub mod laws;
+mod laws;
 mod parser;
 mod vdom;
 mod walk;

@@ -139,10 +139,7 @@ impl<'a> VDom<'a> {
     }
 
     /// The handles of the tags with this member of their class, in exact case. Where classes are tracked, those are the tags that were read with it, whatever was edited since; else the table is gone through as it stands.
-    pub fn get_elements_by_class_name<'s>(
-        &'s self,
-        member: &'s str,
-    ) -> ElementsByClassName<'s, 'a>
+    pub fn get_elements_by_class_name<'s>(&'s self, member: &'s str) -> ElementsByClassName<'s, 'a>
         ensures value { result ≡ with_member self.now member.now }
         ensures tracked { (nodes : List ShownNode) → IsSome self.now.tracking.classes → AnswerClasses self.now.tracking nodes → result ≡ class_scan nodes member.now }
         ensures untracked { self.now.tracking.classes ≡ None → result ≡ class_scan (document_of self.now).nodes member.now }
