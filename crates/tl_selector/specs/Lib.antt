@@ -1,1 +1,4 @@
+pub mod Alone
+pub mod Found
+pub mod Marks
 pub mod View

@@ -1,4 +1,9 @@
 //! Selectors, and where they hold.
 #![tactic(auto)]
 
+pub mod found;
+mod marks;
+mod matching;
+mod node_test;
 pub mod selector;
+pub mod table;

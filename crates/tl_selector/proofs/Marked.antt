@@ -1,0 +1,143 @@
+-- Marks of a selector from those of its parts.
+use Rattle.std.proofs.Common.{◌≡◌, ◌<◌, ◌⊎◌, ◌&&◌, ◌||◌, ℕ, zero, suc, Bool, true, false, List, [], ◌∷◌, length, map, refl, sym, ap, ◌∙◌, arith, inl, inr, slice_get, Option, None, Some}
+use Rattle.std.specs.Bool.{Decides}
+use Rattle.std.specs.Option.{IsSomeAnd, option_map_or}
+use Rattle.std.proofs.lemmas.Bool.{and_parts, or_parts}
+use Rattle.tl_spec.specs.Document.{Node}
+use Rattle.tl_spec.specs.Selector.{Selector, Tag, Id, Class, All, And, Or, Descendant, Parent, Attribute, AttributeValue, AttributeValueWhitespacedContains, AttributeValueStartsWith, AttributeValueEndsWith, AttributeValueSubstring}
+use Rattle.tl_spec.specs.SelectorMeaning.{Holds, HoldsAlone, has_joint}
+use Rattle.tl_selector.specs.Alone.{holds_alone}
+use Rattle.tl_selector.specs.Marks.{is_at, IsUnderMark, IsBelowMark, AreMarks}
+use Rattle.tl_selector.proofs.Decided.{or_cases, or_left, or_right, and_both, alone_tells}
+
+pub marks_and : (a b : Selector) (g : List Node) (x y z : List Bool) → AreMarks a g x → AreMarks b g y → length z ≡ length x → ((n : ℕ) → is_at z n ≡ (is_at x n && is_at y n)) → AreMarks (And a b) g z
+marks_and a b g x y z h k l f = record {
+  len = l ∙ h.len;
+  sound = λ n e. let p = and_parts (is_at x n) (is_at y n) (sym (f n) ∙ e) in (h.sound n p.0, k.sound n p.1);
+  complete = λ n e. f n ∙ and_both (is_at x n) (is_at y n) (h.complete n e.0) (k.complete n e.1);
+}
+
+pub marks_or : (a b : Selector) (g : List Node) (x y z : List Bool) → AreMarks a g x → AreMarks b g y → length z ≡ length x → ((n : ℕ) → is_at z n ≡ (is_at x n || is_at y n)) → AreMarks (Or a b) g z
+marks_or a b g x y z h k l f = record {
+  len = l ∙ h.len;
+  sound = λ n e. elim (or_cases (is_at x n) (is_at y n) (sym (f n) ∙ e)) [ inl p ↦ inl (h.sound n p) | inr p ↦ inr (k.sound n p) ];
+  complete = λ n e. elim e [ inl p ↦ f n ∙ or_left (is_at x n) (is_at y n) (h.complete n p) | inr p ↦ f n ∙ or_right (is_at x n) (is_at y n) (k.complete n p) ];
+}
+
+pub marks_below : (a b : Selector) (g : List Node) (x y w z : List Bool) → AreMarks a g x → AreMarks b g y → length w ≡ length g → ((n : ℕ) → is_at w n ≡ true → IsBelowMark g x n) → ((n : ℕ) → IsBelowMark g x n → is_at w n ≡ true)
+    → length z ≡ length w → ((n : ℕ) → is_at z n ≡ (is_at w n && is_at y n)) → AreMarks (Descendant a b) g z
+marks_below a b g x y w z h k m s c l f = record {
+  len = l ∙ m;
+  sound = λ n e. let p = and_parts (is_at w n) (is_at y n) (sym (f n) ∙ e) in let q = s n p.0 in (k.sound n p.1, q.0, h.sound q.0 q.2, (q.1, q.3));
+  complete = λ n e. f n ∙ and_both (is_at w n) (is_at y n) (c n (e.1, e.3.0, h.complete e.1 e.2, e.3.1)) (k.complete n e.0);
+}
+
+pub marks_under : (a b : Selector) (g : List Node) (x y w z : List Bool) → AreMarks a g x → AreMarks b g y → length w ≡ length g → ((n : ℕ) → is_at w n ≡ true → IsUnderMark g x n) → ((n : ℕ) → IsUnderMark g x n → is_at w n ≡ true)
+    → length z ≡ length w → ((n : ℕ) → is_at z n ≡ (is_at w n && is_at y n)) → AreMarks (Parent a b) g z
+marks_under a b g x y w z h k m s c l f = record {
+  len = l ∙ m;
+  sound = λ n e. let p = and_parts (is_at w n) (is_at y n) (sym (f n) ∙ e) in let q = s n p.0 in (k.sound n p.1, q.0, h.sound q.0 q.1, q.2);
+  complete = λ n e. f n ∙ and_both (is_at w n) (is_at y n) (c n (e.1, h.complete e.1 e.2, e.3)) (k.complete n e.0);
+}
+
+both : (o : Option Node) (P Q : Node → Type 0) → IsSomeAnd o P → IsSomeAnd o Q → IsSomeAnd o (λ d. P d × Q d)
+both None P Q h k = absurd h
+both (Some d) P Q h k = (h, k)
+
+first : (o : Option Node) (P Q : Node → Type 0) → IsSomeAnd o (λ d. P d × Q d) → IsSomeAnd o P
+first None P Q h = absurd h
+first (Some d) P Q h = h.0
+
+second : (o : Option Node) (P Q : Node → Type 0) → IsSomeAnd o (λ d. P d × Q d) → IsSomeAnd o Q
+second None P Q h = absurd h
+second (Some d) P Q h = h.1
+
+left : (o : Option Node) (P Q : Node → Type 0) → IsSomeAnd o P → IsSomeAnd o (λ d. P d ⊎ Q d)
+left None P Q h = absurd h
+left (Some d) P Q h = inl h
+
+right : (o : Option Node) (P Q : Node → Type 0) → IsSomeAnd o Q → IsSomeAnd o (λ d. P d ⊎ Q d)
+right None P Q h = absurd h
+right (Some d) P Q h = inr h
+
+either : (o : Option Node) (P Q : Node → Type 0) → IsSomeAnd o (λ d. P d ⊎ Q d) → IsSomeAnd o P ⊎ IsSomeAnd o Q
+either None P Q h = absurd h
+either (Some d) P Q h = h
+
+-- where it asks for no ancestors, a selector holds where it holds at the node alone
+pub holds_without : (e : Selector) → has_joint e ≡ false → (g : List Node) (n : ℕ) → (Holds g e n → IsSomeAnd (slice_get g n) (HoldsAlone e)) × (IsSomeAnd (slice_get g n) (HoldsAlone e) → Holds g e n)
+holds_without (And a b) h g n =
+    let p = or_parts (has_joint a) (has_joint b) h in
+    let s = holds_without a p.0 g n in
+    let t = holds_without b p.1 g n in
+    let o = slice_get g n in
+    (λ k. both o (HoldsAlone a) (HoldsAlone b) (s.0 k.0) (t.0 k.1), λ k. (s.1 (first o (HoldsAlone a) (HoldsAlone b) k), t.1 (second o (HoldsAlone a) (HoldsAlone b) k)))
+holds_without (Or a b) h g n =
+    let p = or_parts (has_joint a) (has_joint b) h in
+    let s = holds_without a p.0 g n in
+    let t = holds_without b p.1 g n in
+    let o = slice_get g n in (
+      λ k. elim k [ inl l ↦ left o (HoldsAlone a) (HoldsAlone b) (s.0 l) | inr r ↦ right o (HoldsAlone a) (HoldsAlone b) (t.0 r) ],
+      λ k. elim (either o (HoldsAlone a) (HoldsAlone b) k) [ inl l ↦ inl (s.1 l) | inr r ↦ inr (t.1 r) ],
+    )
+holds_without (Descendant a b) h g n = absurd (cc)
+holds_without (Parent a b) h g n = absurd (cc)
+holds_without (Tag name) h g n = (λ k. k, λ k. k)
+holds_without (Id id) h g n = (λ k. k, λ k. k)
+holds_without (Class member) h g n = (λ k. k, λ k. k)
+holds_without All h g n = (λ k. k, λ k. k)
+holds_without (Attribute key) h g n = (λ k. k, λ k. k)
+holds_without (AttributeValue key value) h g n = (λ k. k, λ k. k)
+holds_without (AttributeValueWhitespacedContains key value) h g n = (λ k. k, λ k. k)
+holds_without (AttributeValueStartsWith key value) h g n = (λ k. k, λ k. k)
+holds_without (AttributeValueEndsWith key value) h g n = (λ k. k, λ k. k)
+holds_without (AttributeValueSubstring key value) h g n = (λ k. k, λ k. k)
+
+at-tells : (e : Selector) (o : Option Node) → Decides (option_map_or (holds_alone e) o false) (IsSomeAnd o (HoldsAlone e))
+at-tells e None = (λ h. cc, λ h. absurd h)
+at-tells e (Some d) = alone_tells e d
+
+-- a selector that asks for no ancestors holds where its test at the node passes
+pub without_tells : (e : Selector) → has_joint e ≡ false → (g : List Node) (n : ℕ) → Decides (option_map_or (holds_alone e) (slice_get g n) false) (Holds g e n)
+without_tells e h g n =
+    let s = at-tells e (slice_get g n) in
+    let t = holds_without e h g n in
+    (λ k. t.1 (s.0 k), λ k. s.1 (t.0 k))
+
+at-map : (p : Node → Bool) (g : List Node) (n : ℕ) → is_at (map p g) n ≡ option_map_or p (slice_get g n) false
+at-map p [] n = refl
+at-map p (d ∷ g) zero = refl
+at-map p (d ∷ g) (suc n) = at-map p g n
+
+length-marks : (p : Node → Bool) (g : List Node) → length (map p g) ≡ length g
+length-marks p [] = refl
+length-marks p (d ∷ g) = ap suc (length-marks p g)
+
+pub marks_without : (e : Selector) → has_joint e ≡ false → (g : List Node) → AreMarks e g (map (holds_alone e) g)
+marks_without e h g = record {
+  len = length-marks (holds_alone e) g;
+  sound = λ n k. (without_tells e h g n).0 (sym (at-map (holds_alone e) g n) ∙ k);
+  complete = λ n k. at-map (holds_alone e) g n ∙ (without_tells e h g n).1 k;
+}
+
+some-within : (g : List Node) (n : ℕ) (P : Node → Type 0) → IsSomeAnd (slice_get g n) P → n < length g
+some-within [] n P h = absurd h
+some-within (d ∷ g) zero P h = omega arith
+some-within (d ∷ g) (suc n) P h = let l = some-within g n P h in omega arith
+
+-- a selector holds at nodes of the table alone
+pub holds_within : (e : Selector) (g : List Node) (n : ℕ) → Holds g e n → n < length g
+holds_within (And a b) g n h = holds_within a g n h.0
+holds_within (Or a b) g n h = elim h [ inl k ↦ holds_within a g n k | inr k ↦ holds_within b g n k ]
+holds_within (Descendant a b) g n h = holds_within b g n h.0
+holds_within (Parent a b) g n h = holds_within b g n h.0
+holds_within (Tag name) g n h = some-within g n (HoldsAlone (Tag name)) h
+holds_within (Id id) g n h = some-within g n (HoldsAlone (Id id)) h
+holds_within (Class member) g n h = some-within g n (HoldsAlone (Class member)) h
+holds_within All g n h = some-within g n (HoldsAlone All) h
+holds_within (Attribute key) g n h = some-within g n (HoldsAlone (Attribute key)) h
+holds_within (AttributeValue key value) g n h = some-within g n (HoldsAlone (AttributeValue key value)) h
+holds_within (AttributeValueWhitespacedContains key value) g n h = some-within g n (HoldsAlone (AttributeValueWhitespacedContains key value)) h
+holds_within (AttributeValueStartsWith key value) g n h = some-within g n (HoldsAlone (AttributeValueStartsWith key value)) h
+holds_within (AttributeValueEndsWith key value) g n h = some-within g n (HoldsAlone (AttributeValueEndsWith key value)) h
+holds_within (AttributeValueSubstring key value) g n h = some-within g n (HoldsAlone (AttributeValueSubstring key value)) h

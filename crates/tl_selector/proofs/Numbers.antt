@@ -1,0 +1,85 @@
+-- The numbers of the places that pass.
+use Rattle.std.proofs.Common.{◌≡◌, ◌+◌, ◌-◌, ◌<◌, ◌≤◌, ℕ, zero, suc, Bool, true, false, cond, List, [], ◌∷◌, length, map, min, refl, sym, ap, ◌∙◌, arith, inl, inr}
+use Rattle.std.specs.Bool.{Decides}
+use Rattle.std.specs.List.{All, AllPairs}
+use Rattle.std.proofs.lemmas.Bool.{cases_Bool}
+use Rattle.std.proofs.lemmas.Bool.Decides.{eqb_tells}
+use Rattle.std.proofs.lemmas.List.{length-map}
+use Rattle.std.proofs.lemmas.List.Elements.{All-nil, All-cons}
+use Rattle.std.proofs.lemmas.List.Kept.{AllPairs-cons}
+use Rattle.tl_spec.specs.Document.{Node}
+use Rattle.tl_spec.specs.Selector.{Selector}
+use Rattle.tl_spec.specs.SelectorMeaning.{Holds, AreMatches}
+use Rattle.tl_selector.specs.Found.{numbers}
+use Rattle.tl_selector.specs.Marks.{is_in}
+use Rattle.tl_selector.proofs.Children.{in_contains, contains_in}
+use Rattle.tl_selector.proofs.Marked.{holds_within}
+
+numbers-step : (p : ℕ → Bool) (i e : ℕ) → i < e → numbers p i (e - i) ≡ cond (p i) (i ∷ numbers p (i + 1) (e - (i + 1))) (numbers p (i + 1) (e - (i + 1)))
+numbers-step p i e h = let k : e - i ≡ suc (e - (i + 1)) = omega arith in ap (numbers p i) k
+
+-- the first place passes
+pub numbers_here : (p : ℕ → Bool) (i e : ℕ) → i < e → p i ≡ true → numbers p i (e - i) ≡ i ∷ numbers p (i + 1) (e - (i + 1))
+numbers_here p i e h k = numbers-step p i e h ∙ ap (λ b. cond b (i ∷ numbers p (i + 1) (e - (i + 1))) (numbers p (i + 1) (e - (i + 1)))) k
+
+-- it doesn't
+pub numbers_skip : (p : ℕ → Bool) (i e : ℕ) → i < e → p i ≡ false → numbers p i (e - i) ≡ numbers p (i + 1) (e - (i + 1))
+numbers_skip p i e h k = numbers-step p i e h ∙ ap (λ b. cond b (i ∷ numbers p (i + 1) (e - (i + 1))) (numbers p (i + 1) (e - (i + 1)))) k
+
+-- no place is left
+pub numbers_none : (p : ℕ → Bool) (i e : ℕ) → e ≤ i → numbers p i (e - i) ≡ []
+numbers_none p i e h = let k : e - i ≡ 0 = omega arith in ap (numbers p i) k
+
+above : (p : ℕ → Bool) (m i k : ℕ) → m < i → All (λ n. m < n) (numbers p i k)
+above p m i zero h = All-nil (λ n. m < n)
+above p m i (suc k) h = one (above p m (i + 1) k (omega arith)) (p i)
+  where
+    one : All (λ n. m < n) (numbers p (i + 1) k) → (b : Bool) → All (λ n. m < n) (cond b (i ∷ numbers p (i + 1) k) (numbers p (i + 1) k))
+    one r true = All-cons (λ n. m < n) i (numbers p (i + 1) k) h r
+    one r false = r
+
+rising : (p : ℕ → Bool) (i k : ℕ) → AllPairs (λ m n. m < n) (numbers p i k)
+rising p i zero = λ a b d l m. absurd (omega (arith, m))
+rising p i (suc k) = one (rising p (i + 1) k) (p i)
+  where
+    one : AllPairs (λ m n. m < n) (numbers p (i + 1) k) → (b : Bool) → AllPairs (λ m n. m < n) (cond b (i ∷ numbers p (i + 1) k) (numbers p (i + 1) k))
+    one r true = AllPairs-cons (λ m n. m < n) i (numbers p (i + 1) k) (above p i (i + 1) k (omega arith)) r
+    one r false = r
+
+only : (p : ℕ → Bool) (i k n : ℕ) → is_in (numbers p i k) n ≡ true → (i ≤ n) × (n < i + k) × (p n ≡ true)
+only p i zero n h = cc
+only p i (suc k) n h =
+    let later : is_in (numbers p (i + 1) k) n ≡ true → (i ≤ n) × (n < i + suc k) × (p n ≡ true) = λ e. let r = only p (i + 1) k n e in let a = r.0 in let b = r.1 in (omega arith, omega arith, r.2) in
+    elim (cases_Bool (p i)) [
+      | inl y ↦
+          let e : is_in (i ∷ numbers p (i + 1) k) n ≡ true = rw y at h in
+          elim (eqb_tells n i) [
+            | inl w ↦ let v = w.1 in (omega arith, omega arith, ap p w.1 ∙ y)
+            | inr w ↦ let f : is_in (numbers p (i + 1) k) n ≡ true = rw w.0 at e in later f
+          ]
+      | inr m ↦ let e : is_in (numbers p (i + 1) k) n ≡ true = rw m at h in later e
+    ]
+
+all : (p : ℕ → Bool) (i k n : ℕ) → i ≤ n → n < i + k → p n ≡ true → is_in (numbers p i k) n ≡ true
+all p i zero n h l e = absurd (omega arith)
+all p i (suc k) n h l e =
+    elim (eqb_tells n i) [
+      | inl w ↦ rw (sym (ap p w.1) ∙ e) (rw w.0 refl)
+      | inr w ↦
+          let v = w.1 in
+          let r = all p (i + 1) k n (omega arith) (omega arith) e in
+          elim (cases_Bool (p i)) [ inl y ↦ rw y (rw w.0 r) | inr m ↦ rw m r ]
+    ]
+
+-- where a test tells where a selector holds, the numbers that pass are those of the matches
+pub numbers_are : {A : Type 0} (f : A → Node) (xs : List A) (e : Selector) (p : ℕ → Bool) → ((n : ℕ) → Decides (p n) (Holds (map f xs) e n)) → (from to : ℕ) → AreMatches (map f xs) e from to (numbers p from (min to (length xs) - from))
+numbers_are f xs e p t from to =
+    let k = min to (length xs) - from in
+    record {
+      rising = rising p from k;
+      each = λ n. (
+        λ c. let r = only p from k n (contains_in (numbers p from k) n c) in let a = r.0 in let b = r.1 in (a, omega arith, (t n).0 r.2),
+        λ h. let a = h.0 in let b = h.1 in let l = holds_within e (map f xs) n h.2 in let s = length-map xs f in
+            in_contains (numbers p from k) n (all p from k n a (omega arith) ((t n).1 h.2)),
+      );
+    }

@@ -1,0 +1,18 @@
+-- Where the selector of an iterator holds, and the numbers that it has left.
+use Rattle.std.specs.Prelude.{ℕ, zero, suc, ◌+◌, Bool, false, List, [], ◌∷◌, slice_get, slice_index_or, if◌then◌else◌}
+use Rattle.std.specs.Option.{option_map_or}
+use Rattle.tl_spec.specs.Document.{Node}
+use Rattle.tl_selector.specs.Alone.{holds_alone}
+use Rattle.tl_selector.specs.View.{selector}
+use Rattle.tl_selector.specs.declared.node_test.Test.{Test}
+use Rattle.tl_selector.specs.declared.node_test.Test.TheVariants.{Alone, Marked}
+
+-- the numbers of k places from n on that pass
+abbrev pub numbers : (ℕ → Bool) → ℕ → ℕ → List ℕ
+numbers p n zero = []
+numbers p n (suc k) = if p n then n ∷ numbers p (n + 1) k else numbers p (n + 1) k
+
+-- whether a test finds the node of a number
+abbrev pub is_found : Test → List Node → ℕ → Bool
+is_found (Alone e) nodes n = option_map_or (holds_alone (selector e)) (slice_get nodes n) false
+is_found (Marked marks) nodes n = slice_index_or marks.items n false

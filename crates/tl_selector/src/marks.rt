@@ -1,0 +1,247 @@
+//! A mark for each node where a selector holds. Each part of the selector costs a pass over the nodes and their
+//! children, however deep the table is and however often a node stands among children.
+ghost use Rattle.std.specs.Prelude.{◌≡◌, ◌↔◌, ℕ, List, IsTrue, IsOk, IfOk, OnOk, length, true, false, map, slice_get, ◌&&◌, ◌||◌};
+ghost use Rattle.std.specs.Option.{option_map_or};
+ghost use Rattle.tl_spec.specs.Element.{children_of};
+ghost use Rattle.tl_spec.specs.SelectorMeaning.{Holds, has_joint};
+ghost use Rattle.tl_selector.specs.Alone.{holds_alone};
+ghost use Rattle.tl_selector.specs.Marks.{is_at, is_in, mark_one, spread, child_at, children_at, IsUnderMark, IsBelowMark, AreMarks};
+ghost use Rattle.tl_selector.specs.View.{selector};
+
+use crate::selector::Selector;
+use std::alloc::{AllocError, Global};
+use tl_element::Element;
+
+/// Whether it asks for ancestors.
+pub fn has_joint(e: &Selector<'_>) -> bool
+    ensures { result ≡ has_joint (selector e.now) }
+{
+    match e {
+        Selector::And(a, b) => has_joint(a) || has_joint(b),
+        Selector::Or(a, b) => has_joint(a) || has_joint(b),
+        Selector::Descendant(_, _) => true,
+        Selector::Parent(_, _) => true,
+        _ => false,
+    }
+}
+
+/// Whether a node is marked.
+pub fn is_marked(marks: &[bool], number: usize) -> bool
+    ensures { result ≡ is_at marks.now number }
+{
+    number < marks.len() && marks[number]
+}
+
+/// Whether the selector holds at the node alone.
+pub fn holds_alone<N: Element>(e: &Selector<'_>, node: &N) -> bool
+    ensures { result ≡ holds_alone (selector e.now) (N.node node.now) }
+{
+    e.matches(node)
+}
+
+/// Whether it holds at the node of a number alone: not past the last one.
+pub fn holds_alone_at<N: Element>(e: &Selector<'_>, nodes: &[N], number: usize) -> bool
+    ensures { result ≡ option_map_or (holds_alone (selector e.now)) (slice_get (map N.node nodes.now) number) false }
+{
+    match nodes.get(number) {
+        Some(node) => holds_alone(e, node),
+        None => false,
+    }
+}
+
+// Marks a node that has no mark yet, and puts it into the queue.
+fn mark(number: usize, marks: &mut Vec<bool>, queue: &mut Vec<usize>) -> Result<(), AllocError>
+    ensures { OnOk result ((marks.new.items, queue.new.items) ≡ mark_one number (marks.old.items, queue.old.items)) }
+{
+    if number < marks.len() && !marks[number] {
+        marks[number] = true;
+        queue.push(number)?;
+    }
+    Ok(())
+}
+
+// The same of the child at a place, if there is one.
+fn mark_child<N: Element>(
+    node: &N,
+    place: usize,
+    marks: &mut Vec<bool>,
+    queue: &mut Vec<usize>,
+) -> Result<(), AllocError>
+    ensures { OnOk result ((marks.new.items, queue.new.items) ≡ spread (child_at (children_of (N.node node.now)) place) (marks.old.items, queue.old.items)) }
+{
+    match node.child(place) {
+        Some(child) => mark(child as usize, marks, queue),
+        None => Ok(()),
+    }
+}
+
+// The same of each child of a node.
+fn mark_children<N: Element>(
+    node: &N,
+    marks: &mut Vec<bool>,
+    queue: &mut Vec<usize>,
+) -> Result<(), AllocError>
+    ensures { OnOk result ((marks.new.items, queue.new.items) ≡ spread (children_of (N.node node.now)) (marks.old.items, queue.old.items)) }
+{
+    for place in 0..node.child_count() {
+        mark_child(node, place, marks, queue)?;
+    }
+    Ok(())
+}
+
+// The same of the node of a number, if there is one.
+fn mark_children_at<N: Element>(
+    nodes: &[N],
+    number: usize,
+    marks: &mut Vec<bool>,
+    queue: &mut Vec<usize>,
+) -> Result<(), AllocError>
+    ensures { OnOk result ((marks.new.items, queue.new.items) ≡ spread (children_at (map N.node nodes.now) number) (marks.old.items, queue.old.items)) }
+{
+    match nodes.get(number) {
+        Some(node) => mark_children(node, marks, queue),
+        None => Ok(()),
+    }
+}
+
+// The nodes that are marked.
+fn holders(alloc: Global, holds: &[bool]) -> Result<Vec<usize>, AllocError>
+    ensures all { IfOk result (λ queue. (m : ℕ) → is_at holds.now m ≡ true → is_in queue.items m ≡ true) }
+    ensures only { IfOk result (λ queue. (m : ℕ) → is_in queue.items m ≡ true → is_at holds.now m ≡ true) }
+{
+    let mut queue = Vec::new(alloc);
+    for (m, held) in holds.iter().enumerate() {
+        if *held {
+            queue.push(m)?;
+        }
+    }
+    Ok(queue)
+}
+
+// A mark for each node below a marked one, by one step or more.
+fn below<N: Element>(alloc: Global, nodes: &[N], holds: &[bool]) -> Result<Vec<bool>, AllocError>
+    requires { length holds.now ≡ length nodes.now }
+    ensures len { IfOk result (λ marks. length marks.items ≡ length nodes.now) }
+    ensures sound { IfOk result (λ marks. (n : ℕ) → is_at marks.items n ≡ true → IsBelowMark (map N.node nodes.now) holds.now n) }
+    ensures complete { IfOk result (λ marks. (n : ℕ) → IsBelowMark (map N.node nodes.now) holds.now n → is_at marks.items n ≡ true) }
+{
+    let mut marks = vec![in alloc; false; nodes.len()]?;
+    let mut queue = holders(alloc, holds)?;
+    'work: while let Some(m) = queue.pop() {
+        mark_children_at(nodes, m, &mut marks, &mut queue)?;
+    }
+    Ok(marks)
+}
+
+// A mark for each child of a marked node.
+fn under<N: Element>(alloc: Global, nodes: &[N], holds: &[bool]) -> Result<Vec<bool>, AllocError>
+    requires { length holds.now ≡ length nodes.now }
+    ensures len { IfOk result (λ marks. length marks.items ≡ length nodes.now) }
+    ensures sound { IfOk result (λ marks. (n : ℕ) → is_at marks.items n ≡ true → IsUnderMark (map N.node nodes.now) holds.now n) }
+    ensures complete { IfOk result (λ marks. (n : ℕ) → IsUnderMark (map N.node nodes.now) holds.now n → is_at marks.items n ≡ true) }
+{
+    let mut marks = vec![in alloc; false; nodes.len()]?;
+    let mut queue = holders(alloc, holds)?;
+    let mut found = Vec::new(alloc);
+    'work: while let Some(m) = queue.pop() {
+        mark_children_at(nodes, m, &mut marks, &mut found)?;
+    }
+    Ok(marks)
+}
+
+// Leaves the marks that both have.
+fn meet(a: &mut Vec<bool>, b: &[bool])
+    requires { length a.old.items ≡ length b.now }
+    ensures len { length a.new.items ≡ length a.old.items }
+    ensures both { (n : ℕ) → is_at a.new.items n ≡ (is_at a.old.items n && is_at b.now n) }
+{
+    for i in 0..a.len() {
+        a[i] = a[i] && b[i];
+    }
+}
+
+// Adds the marks of the other.
+fn unite(a: &mut Vec<bool>, b: &[bool])
+    requires { length a.old.items ≡ length b.now }
+    ensures len { length a.new.items ≡ length a.old.items }
+    ensures either { (n : ℕ) → is_at a.new.items n ≡ (is_at a.old.items n || is_at b.now n) }
+{
+    for i in 0..a.len() {
+        a[i] = a[i] || b[i];
+    }
+}
+
+// The marks of a selector that asks for no ancestors.
+fn without<N: Element>(
+    alloc: Global,
+    nodes: &[N],
+    e: &Selector<'_>,
+) -> Result<Vec<bool>, AllocError>
+    ensures { IfOk result (λ marks. marks.items ≡ map (holds_alone (selector e.now)) (map N.node nodes.now)) }
+{
+    let mut marks = Vec::with_capacity(alloc, nodes.len())?;
+    for node in nodes {
+        marks.push(holds_alone(e, node))?;
+    }
+    Ok(marks)
+}
+
+/// A mark for each node where the selector holds.
+pub fn marks<N: Element>(
+    alloc: Global,
+    nodes: &[N],
+    e: &Selector<'_>,
+) -> Result<Vec<bool>, AllocError>
+    ensures { IfOk result (λ marks. AreMarks (selector e.now) (map N.node nodes.now) marks.items) }
+{
+    if !has_joint(e) {
+        return without(alloc, nodes, e);
+    }
+    match e {
+        Selector::And(a, b) => {
+            let mut first = marks(alloc, nodes, a)?;
+            let second = marks(alloc, nodes, b)?;
+            meet(&mut first, &second);
+            Ok(first)
+        }
+        Selector::Or(a, b) => {
+            let mut first = marks(alloc, nodes, a)?;
+            let second = marks(alloc, nodes, b)?;
+            unite(&mut first, &second);
+            Ok(first)
+        }
+        Selector::Descendant(a, b) => {
+            let first = marks(alloc, nodes, a)?;
+            let second = marks(alloc, nodes, b)?;
+            let mut lower = below(alloc, nodes, &first)?;
+            meet(&mut lower, &second);
+            Ok(lower)
+        }
+        Selector::Parent(a, b) => {
+            let first = marks(alloc, nodes, a)?;
+            let second = marks(alloc, nodes, b)?;
+            let mut lower = under(alloc, nodes, &first)?;
+            meet(&mut lower, &second);
+            Ok(lower)
+        }
+        _ => without(alloc, nodes, e),
+    }
+}
+
+/// Whether the selector holds at the node of a number.
+pub fn holds_at<N: Element>(
+    alloc: Global,
+    e: &Selector<'_>,
+    nodes: &[N],
+    number: usize,
+) -> Result<bool, AllocError>
+    ensures held { IfOk result (λ held. IsTrue held ↔ Holds (map N.node nodes.now) (selector e.now) number) }
+    ensures alone { has_joint (selector e.now) ≡ false → IsOk result }
+{
+    if has_joint(e) {
+        let marked = marks(alloc, nodes, e)?;
+        Ok(is_marked(&marked, number))
+    } else {
+        Ok(holds_alone_at(e, nodes, number))
+    }
+}
