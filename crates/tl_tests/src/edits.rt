@@ -27,6 +27,7 @@ pub enum Edit {
 pub enum Part {
     Name(&'static str),
     Value(&'static str, &'static str),
+    Bytes(&'static str, &'static [u8]),
     Bare(&'static str),
     Unset(&'static str),
 }
@@ -136,7 +137,8 @@ fn write_part_of(node: &mut Node<'static>, part: &Part) -> Result<(), Fail> {
 fn edit_tag(tag: &mut HTMLTag<'static>, part: &Part) {
     match part {
         Part::Name(name) => *tag.name_mut() = Bytes::from(*name),
-        Part::Value(key, value) => write_value(tag, key, value),
+        Part::Value(key, value) => write_value(tag, key, Bytes::from(*value)),
+        Part::Bytes(key, value) => write_value(tag, key, Bytes::from(*value)),
         Part::Bare(key) => {
             tag.attributes_mut().remove_value(Bytes::from(*key));
         }
@@ -146,9 +148,9 @@ fn edit_tag(tag: &mut HTMLTag<'static>, part: &Part) {
     }
 }
 
-fn write_value(tag: &mut HTMLTag<'static>, key: &'static str, value: &'static str) {
+fn write_value(tag: &mut HTMLTag<'static>, key: &'static str, value: Bytes<'static>) {
     if let Some(place) = tag.attributes_mut().value_mut(&Bytes::from(key)) {
-        *place = Bytes::from(value);
+        *place = value;
     }
 }
 

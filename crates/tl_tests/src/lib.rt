@@ -14,6 +14,8 @@ mod edits;
 #[cfg(test)]
 mod errors;
 #[cfg(test)]
+mod lookups;
+#[cfg(test)]
 mod prints;
 #[cfg(test)]
 mod program;

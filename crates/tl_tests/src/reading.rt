@@ -107,11 +107,13 @@ fn tables(rt: HostRuntime) -> Result<(), Fail> {
     all_look(&rt, rt.alloc(), &Look::Table, &CUT)
 }
 
-static VERSIONS: [(&str, Option<HTMLVersion>); 7] = [
+static VERSIONS: [(&str, Option<HTMLVersion>); 9] = [
     ("<!DOCTYPE html PUBLIC>", Some(HTMLVersion::HTML5)),
     ("<!DOCTYPE html> hello", Some(HTMLVersion::HTML5)),
     ("<p><!doctype HTML>x</p>", Some(HTMLVersion::HTML5)),
     ("<!doctype html", Some(HTMLVersion::HTML5)),
+    ("<!doctype html\u{e9}>", Some(HTMLVersion::HTML5)),
+    ("<!foo bar>", None),
     ("<!doctype xhtml>", None),
     ("<! doctype html>", None),
     ("<p>x</p>", None),

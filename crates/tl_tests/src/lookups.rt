@@ -1,0 +1,343 @@
+//! Lookups by id and by class, with maps and without.
+use crate::edits::{Edit, Part, edit_all};
+use std::alloc::Global;
+use std::test::Fail;
+use tl::{Bytes, ElementsByClassName, NodeHandle, ParserOptions, VDom, parse};
+
+// What is looked up.
+enum Sought {
+    Id(&'static [u8]),
+    Class(&'static str),
+}
+
+// Whether the handles left are these, and then none for good.
+fn gives(mut handles: ElementsByClassName<'_, '_>, wanted: &[u32]) -> bool {
+    for number in wanted {
+        if handles.next() != Some(NodeHandle::new(*number)) {
+            return false;
+        }
+    }
+    handles.next().is_none() && handles.next().is_none()
+}
+
+// Whether an answer is the one of these numbers, and none where there is none.
+fn is_first(handle: Option<NodeHandle>, wanted: &[u32]) -> bool {
+    match (handle, wanted) {
+        (Some(handle), [number]) => handle.get_inner() == *number,
+        (None, []) => true,
+        _ => false,
+    }
+}
+
+fn finds(document: &VDom<'_>, sought: &Sought, wanted: &[u32]) -> bool {
+    match sought {
+        Sought::Id(id) => is_first(document.get_element_by_id(Bytes::from(*id)), wanted),
+        Sought::Class(member) => gives(document.get_elements_by_class_name(member), wanted),
+    }
+}
+
+fn both() -> ParserOptions {
+    ParserOptions::new().track_ids().track_classes()
+}
+
+// A page, what is looked up, and what is found, whatever is tracked.
+static READ: [(&str, Sought, &[u32]); 46] = [
+    ("<a id=u54423>Hello World</a>", Sought::Id(b"u54423"), &[0]),
+    ("<p id=\"a\"></p><p id=\"b\"></p>", Sought::Id(b"a"), &[0]),
+    ("<p id=\"a\"></p><p id=\"b\"></p>", Sought::Id(b"b"), &[1]),
+    ("<p id=\"a\"></p><p id=\"b\"></p>", Sought::Id(b"c"), &[]),
+    ("<div>x<p id=a></p></div>", Sought::Id(b"a"), &[2]),
+    // Of one id the first tag, in exact case.
+    (TWICE, Sought::Id(b"x"), &[0]),
+    (TWICE, Sought::Class("k"), &[1]),
+    ("<p id=A><p id=a>", Sought::Id(b"a"), &[1]),
+    ("<p class=K><p class=k>", Sought::Class("k"), &[1]),
+    ("<p ID=a CLASS=k>", Sought::Id(b"a"), &[]),
+    ("<p ID=a CLASS=k>", Sought::Class("k"), &[]),
+    // An empty value is an id, and none is not.
+    ("<p id><p id=\"\">", Sought::Id(b""), &[1]),
+    ("<p id=a id>", Sought::Id(b"a"), &[]),
+    ("<p id=a id=b>", Sought::Id(b"a"), &[]),
+    ("<p id=a id=b>", Sought::Id(b"b"), &[0]),
+    ("<p></p>", Sought::Id(b""), &[]),
+    // All tags with a member, each once.
+    ("<p class=\"k k\"><br class=k>", Sought::Class("k"), &[0, 1]),
+    ("<p class=\"k k\"><br class=k>", Sought::Class(""), &[]),
+    ("<p class=\"k m k\">", Sought::Class("k"), &[0]),
+    (
+        "<div></div><p class=\"a b\">hey</p><p></p>",
+        Sought::Class("a"),
+        &[1],
+    ),
+    (
+        "<p class=k></p>a<b class=m><i class=\"m k\"></i></b><i class=k>",
+        Sought::Class("k"),
+        &[0, 3, 4],
+    ),
+    ("<p class=\"\">", Sought::Class(""), &[]),
+    ("<p class=\" \">", Sought::Class(""), &[]),
+    ("<p class=\"ab\">", Sought::Class("a"), &[]),
+    ("<p class=\"a b\">", Sought::Class("a b"), &[]),
+    // White space of ASCII parts members, and other space does not.
+    (SPACES, Sought::Class("a"), &[0]),
+    (SPACES, Sought::Class("b"), &[0]),
+    (SPACES, Sought::Class("c"), &[0]),
+    (SPACES, Sought::Class("d"), &[0]),
+    (SPACES, Sought::Class("e"), &[0]),
+    (SPACES, Sought::Class("f"), &[0]),
+    ("<p class=\"a\x0bb\">", Sought::Class("a"), &[]),
+    ("<p class=\"a\x0bb\">", Sought::Class("a\x0bb"), &[0]),
+    ("<p class=\"a\u{a0}b\">", Sought::Class("a"), &[]),
+    // Tags that are cut, or dropped as broken.
+    ("<p id=x class=k", Sought::Id(b"x"), &[]),
+    ("<p id=x class=k", Sought::Class("k"), &[]),
+    (
+        "<p id=x class=k /y><b id=x class=k>",
+        Sought::Id(b"x"),
+        &[1],
+    ),
+    (
+        "<p id=x class=k /y><b id=x class=k>",
+        Sought::Class("k"),
+        &[1],
+    ),
+    // Void tags, tags that do not open, and tags that stay open.
+    ("<br id=x class=k>", Sought::Id(b"x"), &[0]),
+    ("<br id=x class=k>", Sought::Class("k"), &[0]),
+    ("<p id=x class=k />a", Sought::Id(b"x"), &[0]),
+    ("<p id=x class=k />a", Sought::Class("k"), &[0]),
+    ("<p id=x class=k>a", Sought::Id(b"x"), &[0]),
+    ("<p id=x class=k>a", Sought::Class("k"), &[0]),
+    // Comments and texts have neither.
+    ("<!-- id=x class=k -->id=x class=k", Sought::Id(b"x"), &[]),
+    ("<!-- id=x class=k -->id=x class=k", Sought::Class("k"), &[]),
+];
+
+const TWICE: &str = "<img id=\"x\"><p id=\"x\" class=\"k k\">";
+
+const SPACES: &str = "<p class=\"a\tb\nc\x0cd\re f\">";
+
+// Whether a page is answered so.
+fn reads(
+    alloc: Global,
+    page: &'static str,
+    options: ParserOptions,
+    sought: &Sought,
+    wanted: &[u32],
+) -> Result<bool, Fail> {
+    let document = parse(alloc, page, options)?;
+    Ok(finds(&document, sought, wanted))
+}
+
+#[test]
+fn what_was_read(rt: HostRuntime) -> Result<(), Fail> {
+    for (page, sought, wanted) in &READ {
+        for number in 0..4 {
+            let options = ParserOptions::from_raw_checked(number).unwrap_or_default();
+            let found = reads(rt.alloc(), page, options, sought, wanted)?;
+            assert!(rt; found, "{page} with the options {number}");
+        }
+    }
+    Ok(())
+}
+
+// Whether two documents answer alike.
+fn agree(one: &VDom<'_>, other: &VDom<'_>, sought: &Sought) -> bool {
+    match sought {
+        Sought::Id(id) => {
+            one.get_element_by_id(Bytes::from(*id)) == other.get_element_by_id(Bytes::from(*id))
+        }
+        Sought::Class(member) => one
+            .get_elements_by_class_name(member)
+            .eq(other.get_elements_by_class_name(member)),
+    }
+}
+
+fn agree_on_all(tracked: &VDom<'_>, untracked: &VDom<'_>) -> bool {
+    for (_, sought, _) in &READ {
+        if !agree(tracked, untracked, sought) {
+            return false;
+        }
+    }
+    true
+}
+
+// Whether whatever any row looks up is found alike in a page, with maps and without.
+fn agrees(alloc: Global, page: &'static str) -> Result<bool, Fail> {
+    let tracked = parse(alloc, page, both())?;
+    let untracked = parse(alloc, page, ParserOptions::new())?;
+    Ok(agree_on_all(&tracked, &untracked))
+}
+
+#[test]
+fn maps_and_scans(rt: HostRuntime) -> Result<(), Fail> {
+    for (page, _, _) in &READ {
+        let agree = agrees(rt.alloc(), page)?;
+        assert!(rt; agree, "{page}");
+    }
+    Ok(())
+}
+
+// A page, what is done to its document, what is looked up then, and what is found with maps and without.
+type EditedRow = (
+    &'static str,
+    &'static [Edit],
+    Sought,
+    &'static [u32],
+    &'static [u32],
+);
+
+const TWO: &str = "<p id=\"a\"></p><p id=\"b\"></p>";
+
+const MOVED: [Edit; 2] = [
+    Edit::Part(0, Part::Value("id", "z")),
+    Edit::Part(1, Part::Value("id", "a")),
+];
+
+static EDITED: [EditedRow; 17] = [
+    (TWO, &MOVED, Sought::Id(b"a"), &[0], &[1]),
+    (TWO, &MOVED, Sought::Id(b"z"), &[], &[0]),
+    (TWO, &MOVED, Sought::Id(b"b"), &[1], &[]),
+    (TWO, &[Edit::SwapNodes], Sought::Id(b"a"), &[0], &[1]),
+    (TWO, &[Edit::SwapTop], Sought::Id(b"a"), &[0], &[0]),
+    (TWO, &[Edit::Put(0, b"t")], Sought::Id(b"a"), &[0], &[]),
+    (
+        TWO,
+        &[Edit::Part(0, Part::Unset("id"))],
+        Sought::Id(b"a"),
+        &[0],
+        &[],
+    ),
+    (
+        TWO,
+        &[Edit::Part(0, Part::Bare("id"))],
+        Sought::Id(b"a"),
+        &[0],
+        &[],
+    ),
+    // An id that is not UTF-8 is one, and a class that is not has no members.
+    (
+        TWO,
+        &[Edit::Part(1, Part::Bytes("id", b"\xff"))],
+        Sought::Id(b"\xff"),
+        &[],
+        &[1],
+    ),
+    (
+        TWO,
+        &[Edit::Part(1, Part::Bytes("id", b"\xff"))],
+        Sought::Id(b"\xfe"),
+        &[],
+        &[],
+    ),
+    (
+        "<p class=k>",
+        &[Edit::Part(0, Part::Bytes("class", b"\xff"))],
+        Sought::Class("k"),
+        &[0],
+        &[],
+    ),
+    (
+        "<p class=k>",
+        &[Edit::Part(0, Part::Bytes("class", b"k \xff"))],
+        Sought::Class("k"),
+        &[0],
+        &[],
+    ),
+    (
+        "<p class=k>",
+        &[Edit::Part(0, Part::Value("class", "m n"))],
+        Sought::Class("n"),
+        &[],
+        &[0],
+    ),
+    (
+        "<p class=k><p class=k><p class=k>",
+        &[Edit::Part(1, Part::Unset("class"))],
+        Sought::Class("k"),
+        &[0, 1, 2],
+        &[0, 2],
+    ),
+    (
+        "<p class=k>x<p class=m>",
+        &[Edit::Part(2, Part::Value("class", "k k"))],
+        Sought::Class("k"),
+        &[0],
+        &[0, 2],
+    ),
+    // A name and a child change neither.
+    (
+        TWO,
+        &[Edit::Part(1, Part::Name("br"))],
+        Sought::Id(b"b"),
+        &[1],
+        &[1],
+    ),
+    (TWO, &[Edit::Push(0, 1)], Sought::Id(b"b"), &[1], &[1]),
+];
+
+// Whether an edited page is answered so.
+fn finds_edited(
+    alloc: Global,
+    row: &EditedRow,
+    options: ParserOptions,
+    wanted: &[u32],
+) -> Result<bool, Fail> {
+    let mut document = parse(alloc, row.0, options)?;
+    edit_all(&mut document, row.1)?;
+    Ok(finds(&document, &row.2, wanted))
+}
+
+#[test]
+fn what_was_edited(rt: HostRuntime) -> Result<(), Fail> {
+    for (at, row) in EDITED.iter().enumerate() {
+        let tracked = finds_edited(rt.alloc(), row, both(), row.3)?;
+        assert!(rt; tracked, "row {at} with maps");
+        let untracked = finds_edited(rt.alloc(), row, ParserOptions::new(), row.4)?;
+        assert!(rt; untracked, "row {at} without");
+    }
+    Ok(())
+}
+
+// Whether a clone of what is left goes on where it was taken, and leaves the first one as it is.
+fn clone_goes_on(document: &VDom<'_>) -> Result<bool, Fail> {
+    let mut handles = document.get_elements_by_class_name("k");
+    let first = handles.next();
+    let copy = handles.clone()?;
+    Ok(first == Some(NodeHandle::new(0)) && gives(copy, &[1, 2]) && gives(handles, &[1, 2]))
+}
+
+fn clones(alloc: Global, options: ParserOptions) -> Result<bool, Fail> {
+    let document = parse(alloc, "<p class=k><p class=k><p class=k>", options)?;
+    clone_goes_on(&document)
+}
+
+#[test]
+fn clones_of_what_is_left(rt: HostRuntime) -> Result<(), Fail> {
+    let tracked = clones(rt.alloc(), both())?;
+    assert!(rt; tracked, "with maps");
+    let untracked = clones(rt.alloc(), ParserOptions::new())?;
+    assert!(rt; untracked, "without");
+    Ok(())
+}
+
+// Whether the tag with an id, which need not live as long as the document, has this text.
+fn has_text(alloc: Global, document: &VDom<'_>, id: &str, wanted: &str) -> Result<bool, Fail> {
+    let parser = document.parser();
+    match document.get_element_by_id(Bytes::from(id)) {
+        Some(handle) => match handle.get(parser) {
+            Some(node) => Ok(node.inner_text(alloc, parser)?.as_str() == wanted),
+            None => Ok(false),
+        },
+        None => Ok(false),
+    }
+}
+
+#[test]
+fn text_of_an_id(rt: HostRuntime) -> Result<(), Fail> {
+    let document = parse(rt.alloc(), "<a id=u54423>Hello World</a>", both())?;
+    let id = format!(in rt.alloc(); "u{}", 54423)?;
+    let found = has_text(rt.alloc(), &document, id.as_str(), "Hello World")?;
+    assert!(rt; found);
+    Ok(())
+}
