@@ -7,7 +7,8 @@ use Rattle.tl_spec.specs.ByteClass.{is_ident}
 use Rattle.tl_spec.specs.Runs.{past}
 use Rattle.tl_spec.specs.Grammar.{Stops}
 use Rattle.tl_spec.specs.Selector.{Selector, And, Descendant, Parent}
-use Rattle.tl_spec.specs.SelectorText.{AreSpaces, no_space, one_space, SimpleStands, id_part, class_part, all_part, tag_part, key_part, value_part, JointStands, touching, spaced, stepped, ChainStands, first_part, next_part, SpacedChainStands, spaced_chain, ChainsStand, first_chain, next_chain, IsSelectorText, StandsAlone, alone}
+use Rattle.tl_spec.specs.SelectorMeaning.{has_joint}
+use Rattle.tl_spec.specs.SelectorText.{AreSpaces, no_space, one_space, OpGives, equal, has_part, starts, ends, contains, SimpleStands, id_part, class_part, all_part, tag_part, key_part, value_part, JointStands, touching, spaced, stepped, ChainStands, first_part, next_part, SpacedChainStands, spaced_chain, ChainsStand, first_chain, next_chain, IsSelectorText, StandsAlone, alone}
 use Rattle.tl_spec.specs.SelectorReading.{is_space, simple_at, Link, Comma, Step, Spaces, Touch, starts_with_space, link_by, link_at, Next, End, Bad, Part, part_by, next_by, next_at, parts_by, parts_within, parts_at, joined, closed, before_after, chain_after, nested, selector_at}
 use Rattle.tl_spec.proofs.Bytes.{not_this, past-yes, past-no}
 use Rattle.tl_spec.proofs.Grammar.{if_no}
@@ -360,4 +361,28 @@ pub alone-read : (s : List ℕ) → StandsAlone s → (p : Selector × List ℕ)
 alone-read s (alone {s = t} {after = after} {e = e} k h l) =
     ((e, after), ap simple_at (past-spaces t k ∙ past-part h) ∙ simple-is h, end-next l)
 
-pub ruleset laws = (text-only, text-none, alone-text)
+-- a simple part asks for no ancestors
+op_joins_not : {op : List ℕ} {gives : List ℕ → List ℕ → Selector} → OpGives op gives → (k v : List ℕ) → has_joint (gives k v) ≡ false
+op_joins_not equal k v = refl
+op_joins_not has_part k v = refl
+op_joins_not starts k v = refl
+op_joins_not ends k v = refl
+op_joins_not contains k v = refl
+
+part_joins_not : {s rest : List ℕ} {e : Selector} → SimpleStands s e rest → has_joint e ≡ false
+part_joins_not (id_part r) = refl
+part_joins_not (class_part r) = refl
+part_joins_not all_part = refl
+part_joins_not (tag_part n r) = refl
+part_joins_not (key_part r) = refl
+part_joins_not (value_part {k = k} {v = v} r g w) = op_joins_not g k v
+
+pub alone_without_joint : (s : List ℕ) (e : Selector) → StandsAlone s → IsSelectorText s e → has_joint e ≡ false
+unfolding alone-text
+alone_without_joint s e (alone {e = f} k h l) t =
+    let p : selector_at s ≡ Some f = (text-only s f).0 (alone-text s (alone k h l)).1 in
+    let q : selector_at s ≡ Some e = (text-only s e).0 t in
+    let same : e ≡ f = cc in
+    ap has_joint same ∙ part_joins_not h
+
+pub ruleset laws = (text-only, text-none, alone-text, alone_without_joint)

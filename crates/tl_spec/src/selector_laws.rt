@@ -1,7 +1,8 @@
 //! Laws of selector texts.
 
-ghost use Rattle.std.specs.Prelude.{◌↔◌, ◌≡◌, ℕ, List, Some, None};
+ghost use Rattle.std.specs.Prelude.{◌↔◌, ◌≡◌, ℕ, List, Some, None, false};
 ghost use Rattle.tl_spec.specs.Selector.{Selector};
+ghost use Rattle.tl_spec.specs.SelectorMeaning.{has_joint};
 ghost use Rattle.tl_spec.specs.SelectorText.{IsSelectorText, StandsAlone};
 ghost use Rattle.tl_spec.specs.SelectorReading.{selector_at};
 
@@ -12,8 +13,9 @@ pub fn selector_text()
     ensures none { (s : List ℕ) → ((e : Selector) → IsSelectorText s e → ⊥) ↔ (selector_at s ≡ None) }
 {}
 
-/// A simple part with spaces around it is a selector.
+/// A simple part with spaces around it is a selector, and one that asks for no ancestors.
 #[tactic(auto, using(crate::proofs::SelectorText::laws))]
 pub fn alone_is_a_selector()
-    ensures { (s : List ℕ) → StandsAlone s → (e : Selector) × IsSelectorText s e }
+    ensures selector { (s : List ℕ) → StandsAlone s → (e : Selector) × IsSelectorText s e }
+    ensures alone { (s : List ℕ) (e : Selector) → StandsAlone s → IsSelectorText s e → has_joint e ≡ false }
 {}
