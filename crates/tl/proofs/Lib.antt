@@ -11,3 +11,4 @@ pub mod OwnKeys
 pub mod Printing
 pub mod Nodes
 pub mod Searching
+pub mod OnePart

@@ -1,5 +1,5 @@
 -- What lookups answer where a map answers as a scan of some nodes does.
-use Rattle.std.proofs.Common.{◌≡◌, ℕ, Bool, true, false, cond, List, Option, None, Some, is_some, IsSome, refl, ap, ◌∙◌}
+use Rattle.std.proofs.Common.{◌≡◌, ℕ, cond, List, Option, None, Some, is_some, ap}
 use Rattle.tl_bytes.specs.Held.{Kept, borrowed}
 use Rattle.tl_bytes.specs.Keys.{same_list}
 use Rattle.tl_spec.specs.Document.{Node}

@@ -19,3 +19,5 @@ pub mod NodeLends
 pub mod TableLends
 pub mod ChildrenLends
 pub mod Find
+pub mod Ranges
+pub mod Query

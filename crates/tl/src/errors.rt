@@ -2,11 +2,13 @@
 ghost use Rattle.std.specs.Prelude.{◌≡◌};
 ghost use Rattle.tl.specs.declared.errors.ParseError.TheVariants.{OutOfMemory as ParseMemory};
 ghost use Rattle.tl.specs.declared.errors.TreeError.TheVariants.{OutOfMemory as TreeMemory};
+ghost use Rattle.tl.specs.Ranges.{error_of_range};
 
 use crate::parser::handle::NodeHandle;
 use std::alloc::{AllocError, AllocFailed};
 use thiserror::Error;
 pub use tl_bytes::byte_string::SetBytesError;
+use tl_range::errors::RangeError;
 
 /// Why a text was not read.
 #[derive(Clone, Copy, PartialEq, Eq, PartialOrd, Ord, Debug, Error)]
@@ -54,5 +56,17 @@ impl<T: Drop> From<AllocFailed<T>> for TreeError {
 
     fn from(_: AllocFailed<T>) -> Self {
         TreeError::OutOfMemory
+    }
+}
+
+impl From<RangeError> for TreeError {
+    ghost from_gives = { λ error e. e ≡ error_of_range error };
+
+    fn from(error: RangeError) -> Self {
+        match error {
+            RangeError::Dangling(number) => TreeError::Dangling(NodeHandle::new(number)),
+            RangeError::Cycle(number) => TreeError::Cycle(NodeHandle::new(number)),
+            RangeError::OutOfMemory => TreeError::OutOfMemory,
+        }
     }
 }

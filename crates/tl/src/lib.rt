@@ -16,6 +16,7 @@ ghost use Rattle.tl.specs.declared.errors.ParseError.TheVariants.{InvalidLength}
 pub mod errors;
 mod laws;
 mod parser;
+pub mod queryselector;
 mod vdom;
 mod walk;
 
@@ -31,6 +32,7 @@ pub use parser::tag::children::{Children, ChildrenOf};
 pub use parser::tag::children_mut::{ChildrenMut, ChildrenMutOf};
 pub use parser::tag::node::{Node, NodeOf};
 pub use parser::tag::{HTMLTag, RawChildren, TagOf};
+pub use queryselector::{QueryIterable, parse_query_selector};
 use std::alloc::Global;
 pub use tl_attributes::attributes::{Attributes, AttributesOf, RawAttributesMap};
 pub use tl_attributes::attributes_iter::AttributesIter;

@@ -4,6 +4,7 @@ ghost use Rattle.std.specs.Prelude.{◌≡◌, IfOk, OnOk, OnErr};
 pub(crate) mod children;
 pub(crate) mod children_mut;
 pub(crate) mod node;
+mod range;
 
 use crate::parser::handle::NodeHandle;
 use std::alloc::{AllocError, Global};

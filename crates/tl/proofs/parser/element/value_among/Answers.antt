@@ -1,13 +1,12 @@
-use Rattle.std.proofs.Common.{◌≡◌, Option, None, Some, map, sym, ap, ◌∙◌, rules, tests}
+use Rattle.std.proofs.Common.{◌≡◌, Option, None, Some, sym, ap, ◌∙◌, rules, tests}
 use Rattle.std.specs.List.{find}
-use Rattle.std.specs.Map.{lookup}
 use Rattle.std.specs.Map.Iter.{deref_pair}
 use Rattle.std.specs.Option.{option_copied, option_map}
 use Rattle.std.specs.Str.{bytes_eq}
 use Rattle.std.proofs.lemmas.Iterator.Consumers.{YieldsList-from_rest}
 use Rattle.std.proofs.lemmas.Iterator.Search.{find_from_yields_List}
 use Rattle.tl_bytes.specs.Held.{Kept}
-use Rattle.tl_attributes.specs.ShownAttributes.{shown_bytes, shown_value, shown_pair}
+use Rattle.tl_attributes.specs.ShownAttributes.{shown_bytes, shown_value}
 use Rattle.tl.proofs.Elements.{lookup-shown}
 use Rattle.tl.proofs.parser.element.value_among.Goals as goal
 

@@ -1,4 +1,4 @@
-use Rattle.std.proofs.Common.{◌≡◌, List, [], None, Option, Some, refl, sym, ap, ◌∙◌, subst}
+use Rattle.std.proofs.Common.{◌≡◌, None, Option, Some, refl, sym, ap, ◌∙◌, subst}
 use Rattle.std.specs.Option.{option_copied, option_map}
 use Rattle.std.proofs.lemmas.Result.{on_ok_weaker}
 use Rattle.tl_bytes.specs.Held.{Kept}

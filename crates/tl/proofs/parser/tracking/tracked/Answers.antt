@@ -1,11 +1,10 @@
-use Rattle.std.proofs.Common.{◌≡◌, ℕ, ◌+◌, List, [], ◌∷◌, ◌++◌, length, map, take, is_some, refl, sym, ap, ◌∙◌, subst, arith}
+use Rattle.std.proofs.Common.{◌≡◌, ◌+◌, [], ◌∷◌, ◌++◌, length, map, take, is_some, sym, ap, ◌∙◌, subst, arith}
 use Rattle.std.proofs.lemmas.List.{map-append, length-map, length-take-le, take_more, take_all}
 use Rattle.tl_bytes.specs.Held.{Kept}
 use Rattle.tl_bytes.specs.Keys.{same_list}
-use Rattle.tl_spec.specs.Document.{Node}
-use Rattle.tl_tracking.specs.Tracking.{Tracking, TracksIds, TracksClasses, empty_if}
-use Rattle.tl.specs.Shown.{HTMLNode, shown}
-use Rattle.tl.specs.Tracked.{AreAsked, AnswerIds, AnswerClasses}
+use Rattle.tl_tracking.specs.Tracking.{TracksIds, TracksClasses}
+use Rattle.tl.specs.Shown.{shown}
+use Rattle.tl.specs.Tracked.{AnswerIds, AnswerClasses}
 use Rattle.tl.proofs.Tracked.{asked-first}
 use Rattle.tl.proofs.parser.tracking.tracked.Goals as goal
 

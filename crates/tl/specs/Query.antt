@@ -1,0 +1,36 @@
+-- What a query gives.
+use Rattle.std.specs.Prelude.{◌≡◌, ℕ, ◌+◌, ◌-◌, List, Option, Some, None, Result, Ok, Err, slice_get, unwrap_or}
+use Rattle.std.specs.Borrow.{Bor}
+use Rattle.std.specs.Option.{option_map}
+use Rattle.tl_spec.specs.Document.{Node}
+use Rattle.tl_spec.specs.Selector.{Selector}
+use Rattle.tl_spec.specs.SelectorMeaning.{AreMatches}
+use Rattle.tl_spec.specs.SelectorText.{IsSelectorText}
+use Rattle.tl_spec.specs.Walk.{TreeFault}
+
+-- a node and its handle
+abbrev pub item_of : {N : Type 0} → Bor N × ℕ → N × ℕ
+item_of p = (p.0.now, p.1)
+
+-- the node of a table at a place counted from a first number, and its handle
+abbrev pub item_at : {N : Type 0} → Option ℕ → List N → ℕ → Option (N × ℕ)
+item_at None nodes index = None
+item_at (Some first) nodes index = option_map (λ node. (node, first + index)) (slice_get nodes (first + index))
+
+-- how many numbers a range has
+abbrev pub count_in : Result (ℕ × ℕ) TreeFault → Result ℕ TreeFault
+count_in (Ok range) = Ok (range.1 - range.0)
+count_in (Err fault) = Err fault
+
+-- the numbers at which a selector holds, among so many from the first one on
+abbrev pub AreAmong : List Node → Selector → Option ℕ → Result ℕ TreeFault → List ℕ → Type 0
+AreAmong nodes e first count ns = (n : ℕ) × (count ≡ Ok n) × AreMatches nodes e (unwrap_or first 0) (unwrap_or first 0 + n) ns
+
+-- the numbers at which a selector holds, in a range
+abbrev pub AreIn : List Node → Result (ℕ × ℕ) TreeFault → Selector → List ℕ → Type 0
+AreIn nodes is e ns = (range : ℕ × ℕ) × (is ≡ Ok range) × AreMatches nodes e range.0 range.1 ns
+
+-- nothing where a text stands for no selector, and else what the selector finds that it stands for
+abbrev pub Finds : List ℕ → (Selector → List ℕ → Type 0) → Option (List ℕ) → Type 0
+Finds text AreFound None = (e : Selector) → IsSelectorText text e → ⊥
+Finds text AreFound (Some ns) = (e : Selector) × IsSelectorText text e × AreFound e ns

@@ -1,0 +1,62 @@
+//! Queries by a selector text, of a document and below a tag.
+ghost use Rattle.std.specs.Prelude.{◌≡◌, IfOk, IfErr, IsOk, length, map};
+ghost use Rattle.std.specs.Result.{result_err};
+ghost use Rattle.tl_spec.specs.Range.{range_of};
+ghost use Rattle.tl_spec.specs.SelectorMeaning.{AreMatches};
+ghost use Rattle.tl_spec.specs.SelectorText.{StandsAlone};
+ghost use Rattle.tl.specs.Query.{AreIn, Finds};
+ghost use Rattle.tl.specs.Shown.{shown};
+ghost use Rattle.tl.specs.TreeFault.{IsRefusal};
+ghost use Rattle.tl.specs.declared.errors.TreeError.TheVariants.{OutOfMemory};
+
+use crate::errors::TreeError;
+use crate::parser::base::Parser;
+use crate::parser::tag::HTMLTag;
+use crate::queryselector::iterator::QuerySelectorIterator;
+use crate::vdom::VDom;
+use std::alloc::Global;
+use tl_selector_text::parse_query_selector;
+
+impl<'a> VDom<'a> {
+    /// The nodes of the document where a selector holds, rising; None where the text stands for no selector.
+    #[tactic(auto, using(crate::proofs::OnePart::alone_without_joint))]
+    pub fn query_selector<'b>(
+        &'b self,
+        alloc: Global,
+        selector: &'b str,
+    ) -> Result<Option<QuerySelectorIterator<'a, 'b>>, TreeError>
+        ensures ok { IfOk result (Finds selector.now (λ e. AreMatches (map shown self.now.nodes) e 0 (length self.now.nodes))) }
+        ensures err { IfErr result (λ error. error ≡ OutOfMemory) }
+
+        // A selector of one simple part takes no memory.
+        ensures alone { StandsAlone selector.now → IsOk result }
+    {
+        let Some(selector) = parse_query_selector(alloc, selector)? else {
+            return Ok(None);
+        };
+        let len = self.nodes().len();
+        let found = QuerySelectorIterator::between(selector, self.parser(), 0, len)?;
+        Ok(Some(found))
+    }
+}
+
+impl<'a> HTMLTag<'a> {
+    /// The nodes in the range of the tag where a selector holds, rising; None where the text stands for no selector, which
+    /// is looked at before the range. All nodes of the table count as ancestors.
+    pub fn query_selector<'b>(
+        &self,
+        alloc: Global,
+        parser: &'b Parser<'a>,
+        selector: &'b str,
+    ) -> Result<Option<QuerySelectorIterator<'a, 'b>>, TreeError>
+        ensures ok { IfOk result (Finds selector.now (AreIn (map shown parser.now.nodes) (range_of (map shown parser.now.nodes) self.now.children.items))) }
+        ensures err { IfErr result (IsRefusal (result_err (range_of (map shown parser.now.nodes) self.now.children.items))) }
+    {
+        let Some(selector) = parse_query_selector(alloc, selector)? else {
+            return Ok(None);
+        };
+        let range = self.children().range(parser)?;
+        let found = QuerySelectorIterator::between(selector, parser, range.start, range.end)?;
+        Ok(Some(found))
+    }
+}
