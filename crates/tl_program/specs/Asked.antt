@@ -6,12 +6,15 @@ use Rattle.tl_spec.specs.Edit.{Change}
 use Rattle.tl_spec.specs.StepLine.{changes_of}
 use Rattle.tl_program.specs.Steps.{change_of}
 use Rattle.tl_program.specs.declared.program.asked.Command.{Command}
-use Rattle.tl_program.specs.declared.program.asked.Command.TheVariants.{Print, Text, Again, Edit}
+use Rattle.tl_program.specs.declared.program.asked.Command.TheVariants.{Print, Text, Again, Select, Id, Class, Edit}
 
 pub data Asked : Type 0 where
   Prints : Asked
   Texts : Asked
   PrintsAgain : Asked
+  Selects : (text : List ℕ) → Asked
+  FindsId : (id : List ℕ) → Asked
+  FindsClass : (member : List ℕ) → Asked
   Edits : (changes : List Change) → Asked
 
 -- what a command asks for
@@ -19,6 +22,9 @@ abbrev pub asked_of : Command → Asked
 asked_of Print = Prints
 asked_of Text = Texts
 asked_of Again = PrintsAgain
+asked_of (Select text) = Selects text.now
+asked_of (Id id) = FindsId id.now
+asked_of (Class member) = FindsClass member.now
 asked_of (Edit steps) = Edits (map change_of steps.items)
 
 -- what one word asks for, if anything
@@ -33,6 +39,9 @@ asked_by_one word =
 abbrev pub asked_by_two : List ℕ → List ℕ → Option Asked
 asked_by_two word text =
     if bytes_eq word (codes "edit") then option_map Edits (changes_of text)
+    else if bytes_eq word (codes "select") then Some (Selects text)
+    else if bytes_eq word (codes "id") then Some (FindsId text)
+    else if bytes_eq word (codes "class") then Some (FindsClass text)
     else None
 
 -- what the words ask for, if anything

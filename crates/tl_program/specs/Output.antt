@@ -1,7 +1,9 @@
 -- What the program writes, and with which status.
 use Rattle.std.specs.Prelude.{◌≡◌, ℕ, List, [], ◌∷◌, ◌++◌, length, map, take, slice_get, Option, None, Some, is_some, Result, Ok, Err, if◌then◌else◌, nat_lt, ◌==◌, string_bytes, ⊤}
+use Rattle.std.specs.Fmt.{decimal}
 use Rattle.std.specs.Global.{Global}
-use Rattle.std.specs.Option.{option_map_or}
+use Rattle.std.specs.List.{flat_map}
+use Rattle.std.specs.Option.{option_map_or, option_to_list}
 use Rattle.std.specs.Str.Lossy.{utf8_valid_len}
 use Rattle.std.specs.Io.KnownBytes.{Appends}
 use Rattle.std.specs.declared.string.String.{String}
@@ -10,9 +12,13 @@ use Rattle.tl_spec.specs.Document.{Document, Node, document}
 use Rattle.tl_spec.specs.Edit.{Edited, Refusal, edited_all}
 use Rattle.tl_spec.specs.Normal.{ReadsAs}
 use Rattle.tl_spec.specs.Print.{document_print}
+use Rattle.tl_spec.specs.Scan.{id_scan, class_scan}
+use Rattle.tl_spec.specs.Selector.{Selector}
+use Rattle.tl_spec.specs.SelectorReading.{selector_at}
+use Rattle.tl_spec.specs.SelectorSearch.{matches_between}
 use Rattle.tl_spec.specs.Text.{inner_text}
 use Rattle.tl_spec.specs.Walk.{TreeFault, Dangling, every, trees, walk}
-use Rattle.tl_program.specs.Asked.{Asked, Prints, Texts, PrintsAgain, Edits}
+use Rattle.tl_program.specs.Asked.{Asked, Prints, Texts, PrintsAgain, Selects, FindsId, FindsClass, Edits}
 use Rattle.tl_program.specs.declared.program.failure.Failure.{Failure}
 use Rattle.tl_program.specs.declared.program.failure.Failure.TheVariants.{Refused, NotUnderstood, OutOfMemory, Fault as StreamFault}
 
@@ -66,11 +72,27 @@ outcome_of_edit (Some refusal) d = refused
 abbrev pub outcome_of_edited : Edited → Outcome
 outcome_of_edited e = outcome_of_edit e.refused e.document
 
+-- a number in decimal, and a line feed
+abbrev pub number_line : ℕ → List ℕ
+number_line n = decimal n ++ 10 ∷ []
+
+-- numbers in order, one on each line
+abbrev pub number_lines : List ℕ → List ℕ
+number_lines = flat_map number_line
+
+-- the nodes of a document where a selector holds; a text that stands for no selector is refused
+abbrev pub outcome_of_query : Option Selector → Document → Outcome
+outcome_of_query None d = refused
+outcome_of_query (Some e) d = done (number_lines (matches_between d.nodes e 0 (length d.nodes)))
+
 -- what a command makes of a document
 abbrev pub outcome_of_document : Asked → Document → Outcome
 outcome_of_document Prints d = outcome_of_reading (document_print d)
 outcome_of_document Texts d = outcome_of_reading (texts_of d)
 outcome_of_document PrintsAgain d = outcome_of_print (document_print d)
+outcome_of_document (Selects text) d = outcome_of_query (selector_at text) d
+outcome_of_document (FindsId id) d = done (number_lines (option_to_list (id_scan d.nodes id)))
+outcome_of_document (FindsClass member) d = done (number_lines (class_scan d.nodes member))
 outcome_of_document (Edits changes) d = outcome_of_edited (edited_all changes d)
 
 -- a text longer than 4294967295 bytes is not understood
@@ -97,6 +119,9 @@ abbrev pub printed_document : Asked → Document → Option Document
 printed_document Prints d = Some d
 printed_document Texts d = None
 printed_document PrintsAgain d = document_again (document_print d)
+printed_document (Selects text) d = None
+printed_document (FindsId id) d = None
+printed_document (FindsClass member) d = None
 printed_document (Edits changes) d = document_edited (edited_all changes d)
 
 -- where there is a document and it is clean, the text is read as its trees

@@ -8,6 +8,7 @@ mod byte_strings;
 mod containers;
 mod documents;
 mod program;
+mod queries;
 mod stop;
 mod tracking;
 
@@ -65,5 +66,6 @@ fn all(alloc: Global) -> Result<(), Stop> {
     containers::all(alloc)?;
     documents::all(alloc)?;
     tracking::all(alloc)?;
+    queries::all(alloc)?;
     program::all(alloc)
 }

@@ -5,6 +5,8 @@ use tl_program::program::{Command, Marked, command, run};
 
 const PAGE: &[u8] = b"<p a=1 b=2 c=3>x<b>y</b>\xc3\xa9<!-- z --><br></p>";
 
+const NAMED: &[u8] = b"<p id=i class=\"k l\"><b class=k></b><i id=j class=\"l k\"></i></p>";
+
 /// A run of each command.
 pub fn all(alloc: Global) -> Result<(), Stop> {
     said(
@@ -22,14 +24,27 @@ pub fn all(alloc: Global) -> Result<(), Stop> {
         alloc,
         &["edit", "set 0 d 4\nunset 0 a\nname 2 i\ntext 4 w\npush 0 1"],
         b"<p d=\"4\" b=\"2\" c=\"3\">x<i>y</i>w<!-- z --><br>x</p>",
-    )
+    )?;
+    lookups(alloc)
+}
+
+fn lookups(alloc: Global) -> Result<(), Stop> {
+    said_of(alloc, &["id", "j"], NAMED, b"2\n")?;
+    said_of(alloc, &["class", "k"], NAMED, b"0\n1\n2\n")?;
+    said_of(alloc, &["select", "b"], NAMED, b"1\n")?;
+    said_of(alloc, &["select", "p > .k, p i"], NAMED, b"1\n2\n")
 }
 
 // A run of the command that the words say.
 fn said(alloc: Global, words: &[&str], wanted: &[u8]) -> Result<(), Stop> {
+    said_of(alloc, words, PAGE, wanted)
+}
+
+// The same of this page.
+fn said_of(alloc: Global, words: &[&str], page: &[u8], wanted: &[u8]) -> Result<(), Stop> {
     let words = owned(alloc, words)?;
     match command(alloc, &words)? {
-        Some(asked) => ran(alloc, &asked, wanted),
+        Some(asked) => ran(alloc, &asked, page, wanted),
         None => Err(Stop::Wrong("command")),
     }
 }
@@ -43,9 +58,9 @@ fn owned(alloc: Global, words: &[&str]) -> Result<Vec<String>, AllocError> {
 }
 
 // The writer has room for the page, so that it makes no request of its own. Without memory nothing is written.
-fn ran(alloc: Global, asked: &Command<'_>, wanted: &[u8]) -> Result<(), Stop> {
+fn ran(alloc: Global, asked: &Command<'_>, page: &[u8], wanted: &[u8]) -> Result<(), Stop> {
     let mut written = Vec::with_capacity(alloc, wanted.len())?;
-    let mut reader = Marked::new(PAGE);
+    let mut reader = Marked::new(page);
     let mut writer = Marked::new(&mut written);
     match run(alloc, asked, &mut reader, &mut writer) {
         0 => expect(written.as_slice() == wanted, "run"),

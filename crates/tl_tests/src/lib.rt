@@ -20,11 +20,15 @@ mod prints;
 #[cfg(test)]
 mod program;
 #[cfg(test)]
+mod queries;
+#[cfg(test)]
 mod reading;
 #[cfg(test)]
 mod scripts;
 #[cfg(test)]
 mod searches;
+#[cfg(test)]
+mod selector_texts;
 #[cfg(test)]
 mod show;
 #[cfg(test)]

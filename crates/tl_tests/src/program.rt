@@ -322,6 +322,26 @@ const ANSWERS: &[(&[&str], &[u8], u8, &[u8])] = &[
     (&["edit", "push 0 0"], b"<a></a>", 1, b""),
     (&["edit", "root 0 4294967295"], b"<a></a>", 1, b""),
     (&["edit", "push 0"], b"<a></a>", 2, b""),
+    (&["select", "p"], b"<p>a</p><p>b</p>", 0, b"0\n2\n"),
+    (&["select", "div p"], b"<div><p></p></div>", 0, b"1\n"),
+    (&["select", "q"], b"<p>a</p>", 0, b""),
+    (&["select", ",a"], b"<p>a</p>", 1, b""),
+    (&["select", ",a"], b"", 1, b""),
+    (&["select", ""], b"<p>a</p>", 1, b""),
+    (&["select", ",a"], b"\xff", 2, b""),
+    (&["id", "b"], b"<p id=a><p id=b><p id=b>", 0, b"1\n"),
+    (&["id", "c"], b"<p id=a>", 0, b""),
+    (&["id", ""], b"<p><p id=\"\">", 0, b"1\n"),
+    (&["id", ""], b"<p>", 0, b""),
+    (&["id", "a"], b"\xff", 2, b""),
+    (
+        &["class", "k"],
+        b"<p class=\"k k\"><br class=k>",
+        0,
+        b"0\n1\n",
+    ),
+    (&["class", ""], b"<p class=\"k k\"><br class=k>", 0, b""),
+    (&["class", "l"], b"<p class=k>", 0, b""),
 ];
 
 #[test]

@@ -29,13 +29,19 @@ fn of_two<'c>(alloc: Global, word: &str, text: &'c str) -> Result<Option<Command
 {
     if word == "edit" {
         Ok(steps(alloc, text)?.map(Command::Edit))
+    } else if word == "select" {
+        Ok(Some(Command::Select(text)))
+    } else if word == "id" {
+        Ok(Some(Command::Id(text)))
+    } else if word == "class" {
+        Ok(Some(Command::Class(text)))
     } else {
         Ok(None)
     }
 }
 
-/// The command that the words say, or None where they say none: `print`, `text`, `again`, or `edit` and after it a
-/// text of step lines. Only the last takes memory.
+/// The command that the words say, or None where they say none: `print`, `text`, `again`, `select` and a selector
+/// text, `id` or `class` and a name, or `edit` and a text of step lines. Only the last takes memory.
 pub fn command<'c>(alloc: Global, words: &'c [String]) -> Result<Option<Command<'c>>, AllocError>
     ensures ok { IfOk result (λ c. option_map asked_of c ≡ asked_by (map string_bytes words.now)) }
     ensures memory { OnErr result (AreEditWords (map string_bytes words.now)) }
