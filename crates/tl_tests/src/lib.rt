@@ -15,6 +15,7 @@ mod edits;
 mod errors;
 #[cfg(test)]
 mod lookups;
+mod lossy;
 #[cfg(test)]
 mod prints;
 #[cfg(test)]
