@@ -5,6 +5,7 @@ mod entry;
 mod failure;
 mod fault;
 mod flushes;
+mod lookup;
 mod marked;
 mod running;
 mod status;

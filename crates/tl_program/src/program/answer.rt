@@ -5,12 +5,14 @@ ghost use Rattle.tl_spec.specs.Edit.{edited_all};
 ghost use Rattle.tl_spec.specs.Print.{document_print};
 ghost use Rattle.tl.specs.Answer.{Answers};
 ghost use Rattle.tl.specs.Shown.{document_of, shown};
+ghost use Rattle.tl.specs.Tracked.{AnswerIds, AnswerClasses};
 ghost use Rattle.tl_program.specs.Asked.{asked_of};
 ghost use Rattle.tl_program.specs.Output.{outcome_of_text, outcome_of_document, outcome_of_edited, outcome_of_print, text_at, texts_of, Gives, document_again, document_edited, printed_document, ReadsBack};
 ghost use Rattle.tl_program.specs.Steps.{change_of};
 
 use super::asked::Command;
 use super::failure::Failure;
+use super::lookup::{by_class, by_id, by_selector};
 use crate::script;
 use crate::script::Step;
 use std::alloc::Global;
@@ -58,12 +60,23 @@ fn edited(alloc: Global, document: &mut VDom<'_>, steps: &[Step<'_>]) -> Result<
     Ok(document.outer_html(alloc)?)
 }
 
-// What a command writes of a document, which it may edit.
+// What is tracked while the text is read of which a command writes something.
+fn options_of(command: &Command<'_>) -> ParserOptions {
+    match command {
+        Command::Id(_) => ParserOptions::new().track_ids(),
+        Command::Class(_) => ParserOptions::new().track_classes(),
+        _ => ParserOptions::new(),
+    }
+}
+
+// What a command writes of a document that was just read, and which it may edit.
 fn of_document(
     alloc: Global,
     command: &Command<'_>,
     document: &mut VDom<'_>,
 ) -> Result<String, Failure>
+    requires ids { AnswerIds document.old.tracking (document_of document.old).nodes }
+    requires classes { AnswerClasses document.old.tracking (document_of document.old).nodes }
     ensures outcome { Gives (outcome_of_document (asked_of command.now) (document_of document.old)) result }
     ensures identity { IfOk result (λ s. ReadsBack (printed_document (asked_of command.now) (document_of document.old)) (string_bytes s)) }
 {
@@ -71,6 +84,9 @@ fn of_document(
         Command::Print => Ok(document.outer_html(alloc)?),
         Command::Text => Ok(texts(alloc, document)?),
         Command::Again => again(alloc, document),
+        Command::Select(selector) => by_selector(alloc, document, selector),
+        Command::Id(id) => Ok(by_id(alloc, document, id)?),
+        Command::Class(member) => Ok(by_class(alloc, document, member)?),
         Command::Edit(steps) => edited(alloc, document, steps),
     }
 }
@@ -80,6 +96,6 @@ pub fn answer(alloc: Global, command: &Command<'_>, text: &str) -> Result<String
     ensures outcome { Gives (outcome_of_text (asked_of command.now) text.now) result }
     ensures identity { IfOk result (λ s. ReadsBack (printed_document (asked_of command.now) (document text.now)) (string_bytes s)) }
 {
-    let mut document = tl::parse(alloc, text, ParserOptions::new())?;
+    let mut document = tl::parse(alloc, text, options_of(command))?;
     of_document(alloc, command, &mut document)
 }
