@@ -3,7 +3,8 @@ ghost use Rattle.std.specs.Prelude.{◌≡◌, IfOk, IfErr, IsOk, length, map};
 ghost use Rattle.std.specs.Result.{result_err};
 ghost use Rattle.tl_spec.specs.Range.{range_of};
 ghost use Rattle.tl_spec.specs.SelectorMeaning.{AreMatches};
-ghost use Rattle.tl_spec.specs.SelectorText.{StandsAlone};
+ghost use Rattle.tl_spec.specs.Selector.{Selector as SelectorOf};
+ghost use Rattle.tl_spec.specs.SelectorText.{IsSelectorText, StandsAlone};
 ghost use Rattle.tl.specs.Query.{AreIn, Finds};
 ghost use Rattle.tl.specs.Shown.{shown};
 ghost use Rattle.tl.specs.TreeFault.{IsRefusal};
@@ -51,12 +52,15 @@ impl<'a> HTMLTag<'a> {
     ) -> Result<Option<QuerySelectorIterator<'a, 'b>>, TreeError>
         ensures ok { IfOk result (Finds selector.now (AreIn (map shown parser.now.nodes) (range_of (map shown parser.now.nodes) self.now.children.items))) }
         ensures err { IfErr result (IsRefusal (result_err (range_of (map shown parser.now.nodes) self.now.children.items))) }
+
+        // Where the text stands for no selector, no fault of the range is looked at.
+        ensures outside { ((e : SelectorOf) → IsSelectorText selector.now e → ⊥) → IfErr result (λ error. error ≡ OutOfMemory) }
     {
-        let Some(selector) = parse_query_selector(alloc, selector)? else {
+        let Some(parsed) = parse_query_selector(alloc, selector)? else {
             return Ok(None);
         };
         let range = self.children().range(parser)?;
-        let found = QuerySelectorIterator::between(selector, parser, range.start, range.end)?;
+        let found = QuerySelectorIterator::between(parsed, parser, range.start, range.end)?;
         Ok(Some(found))
     }
 }
