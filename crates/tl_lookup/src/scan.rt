@@ -5,7 +5,6 @@ ghost use Rattle.std.specs.List.{position_from};
 ghost use Rattle.std.specs.Map.Iter.{TakesFirst};
 ghost use Rattle.tl_spec.specs.Scan.{is_in_class, id_scan, class_scan};
 
-
 use std::alloc::AllocError;
 use std::iter::FusedIterator;
 use std::marker::Model;

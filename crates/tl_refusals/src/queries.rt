@@ -2,8 +2,8 @@
 use crate::stop::{Stop, expect};
 use std::alloc::Global;
 use tl::queryselector::{Parser, QuerySelectorIterator, Selector};
-use tl_program::script::{Step, run};
 use tl::{HTMLTag, Node, NodeHandle, ParserOptions, VDom, parse, parse_query_selector};
+use tl_program::script::{Step, run};
 
 const PAGE: &str = "<a><b><c></c></b><b>x</b></a>";
 
@@ -19,7 +19,10 @@ fn texts(alloc: Global) -> Result<(), Stop> {
     let mut parser = Parser::new(b"a b, c");
     let selector = read(alloc, &mut parser)?;
     let twin = selector.clone()?;
-    expect(is_either(&selector) && is_either(&twin), "selector and clone")
+    expect(
+        is_either(&selector) && is_either(&twin),
+        "selector and clone",
+    )
 }
 
 // A refused text is there again.
@@ -61,7 +64,10 @@ fn three(mut found: QuerySelectorIterator<'_, '_>) -> Result<(), Stop> {
     expect(found.next() == Some(NodeHandle::new(1)), "first of a query")?;
     let mut twin = found.clone()?;
     expect(twin.next() == Some(NodeHandle::new(2)), "clone of a query")?;
-    expect(found.next() == Some(NodeHandle::new(2)), "second of a query")?;
+    expect(
+        found.next() == Some(NodeHandle::new(2)),
+        "second of a query",
+    )?;
     expect(found.next() == Some(NodeHandle::new(3)), "third of a query")?;
     expect(found.next() == None, "end of a query")
 }
@@ -76,7 +82,10 @@ fn joined(document: &VDom<'_>, selector: Selector<'_>) -> Result<(), Stop> {
 
 fn of_tag(alloc: Global, document: &VDom<'_>, tag: &HTMLTag<'_>) -> Result<(), Stop> {
     match tag.query_selector(alloc, document.parser(), "a > b")? {
-        Some(mut found) => expect(found.next() == Some(NodeHandle::new(1)), "query_selector of a tag"),
+        Some(mut found) => expect(
+            found.next() == Some(NodeHandle::new(1)),
+            "query_selector of a tag",
+        ),
         None => Err(Stop::Wrong("query_selector of a tag")),
     }
 }

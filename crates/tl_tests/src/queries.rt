@@ -38,7 +38,13 @@ fn show_found(
 }
 
 // Queries a tag, if the node of this number is one.
-fn query_tag(alloc: Global, document: &VDom<'_>, number: u32, selector: &str, out: &mut String) -> bool {
+fn query_tag(
+    alloc: Global,
+    document: &VDom<'_>,
+    number: u32,
+    selector: &str,
+    out: &mut String,
+) -> bool {
     let parser = document.parser();
     match NodeHandle::new(number).get(parser) {
         Some(Node::Tag(tag)) => show_found(tag.query_selector(alloc, parser, selector), out),
@@ -53,7 +59,14 @@ enum Place {
 }
 
 // Queries a page after steps.
-fn query(alloc: Global, page: &str, lines: &str, place: &Place, selector: &str, out: &mut String) -> bool {
+fn query(
+    alloc: Global,
+    page: &str,
+    lines: &str,
+    place: &Place,
+    selector: &str,
+    out: &mut String,
+) -> bool {
     let Ok(mut document) = parse(alloc, page, ParserOptions::new()) else {
         return false;
     };
@@ -67,7 +80,14 @@ fn query(alloc: Global, page: &str, lines: &str, place: &Place, selector: &str, 
 }
 
 // Whether a query gives this.
-fn gives(alloc: Global, page: &str, lines: &str, place: &Place, selector: &str, wanted: &str) -> bool {
+fn gives(
+    alloc: Global,
+    page: &str,
+    lines: &str,
+    place: &Place,
+    selector: &str,
+    wanted: &str,
+) -> bool {
     let mut out = String::new(alloc);
     query(alloc, page, lines, place, selector, &mut out) && out.as_str() == wanted
 }
@@ -75,13 +95,43 @@ fn gives(alloc: Global, page: &str, lines: &str, place: &Place, selector: &str, 
 // Pages, steps, where a query is made, its selector, and what it gives.
 const ROWS: &[(&str, &str, Place, &str, &str)] = &[
     ("<div><a><a></a></a></div>", "", Place::Tag(0), "a", "1 2 "),
-    ("<a><b></b></a><c></c>", "push 0 1\npull 0 0\npush 0 1\npull 0 0", Place::Tag(0), "*", "1 "),
-    ("<a><b></b></a><c></c>", "pull 0 0\npush 0 2\npush 0 1", Place::Tag(0), "*", ""),
-    ("<a><b></b></a>", "push 1 0", Place::Tag(0), "a", "Cycle(NodeHandle(1))"),
+    (
+        "<a><b></b></a><c></c>",
+        "push 0 1\npull 0 0\npush 0 1\npull 0 0",
+        Place::Tag(0),
+        "*",
+        "1 ",
+    ),
+    (
+        "<a><b></b></a><c></c>",
+        "pull 0 0\npush 0 2\npush 0 1",
+        Place::Tag(0),
+        "*",
+        "",
+    ),
+    (
+        "<a><b></b></a>",
+        "push 1 0",
+        Place::Tag(0),
+        "a",
+        "Cycle(NodeHandle(1))",
+    ),
     ("<a><b></b></a>", "push 1 0", Place::Tag(0), "a,", "none"),
     ("<a><b></b></a>", "push 1 0", Place::Document, "a", "0 "),
-    ("<a><b></b></a>", "pull 0 0\npush 0 9\npush 0 1", Place::Tag(0), "*", ""),
-    ("<a><b></b></a>", "push 0 9", Place::Tag(0), "*", "Dangling(NodeHandle(9))"),
+    (
+        "<a><b></b></a>",
+        "pull 0 0\npush 0 9\npush 0 1",
+        Place::Tag(0),
+        "*",
+        "",
+    ),
+    (
+        "<a><b></b></a>",
+        "push 0 9",
+        Place::Tag(0),
+        "*",
+        "Dangling(NodeHandle(9))",
+    ),
     ("<p>a</p><p>b</p>", "", Place::Document, "p", "0 2 "),
     (
         "<div><meta property=\"og:title\" content=\"hello\" /></div>",
@@ -97,7 +147,13 @@ const ROWS: &[(&str, &str, Place, &str, &str)] = &[
         "div.y",
         "2 ",
     ),
-    ("<div><img src=\"cool-image.png\" /></div>", "", Place::Document, "img[src]", "1 "),
+    (
+        "<div><img src=\"cool-image.png\" /></div>",
+        "",
+        Place::Document,
+        "img[src]",
+        "1 ",
+    ),
     ("<p a=\"x y\">", "", Place::Document, "[a~=y]", "0 "),
     ("<p a=\"x y\">", "", Place::Document, "[a^=x]", "0 "),
     ("<p a=\"x y\">", "", Place::Document, "[a$=y]", "0 "),
@@ -109,14 +165,62 @@ const ROWS: &[(&str, &str, Place, &str, &str)] = &[
     ("<p a=\"\">", "", Place::Document, "[a=]", "0 "),
     ("<p a=\"\">", "", Place::Document, "[a^=]", "0 "),
     ("<p a=\"x\u{a0}y\">", "", Place::Document, "[a~=x]", "0 "),
-    ("<p a=\"y\u{85}x\u{2003}z\">", "", Place::Document, "[a~=x]", "0 "),
-    ("<p a=\"y\u{1c}x\u{1c}z\">", "", Place::Document, "[a~=x]", ""),
-    ("<p id=i class=\"k l\">x</p>", "", Place::Document, "#i", "0 "),
-    ("<p id=i class=\"k l\">x</p>", "", Place::Document, ".l", "0 "),
-    ("<p id=i class=\"k l\">x</p>", "", Place::Document, "[id]", "0 "),
-    ("<p id=i class=\"k l\">x</p>", "", Place::Document, "[class=k]", ""),
-    ("<p id=i class=\"k l\">x</p>", "", Place::Document, "[class~=k]", "0 "),
-    ("<p id=i class=\"k l\">x</p>", "", Place::Document, "*", "0 1 "),
+    (
+        "<p a=\"y\u{85}x\u{2003}z\">",
+        "",
+        Place::Document,
+        "[a~=x]",
+        "0 ",
+    ),
+    (
+        "<p a=\"y\u{1c}x\u{1c}z\">",
+        "",
+        Place::Document,
+        "[a~=x]",
+        "",
+    ),
+    (
+        "<p id=i class=\"k l\">x</p>",
+        "",
+        Place::Document,
+        "#i",
+        "0 ",
+    ),
+    (
+        "<p id=i class=\"k l\">x</p>",
+        "",
+        Place::Document,
+        ".l",
+        "0 ",
+    ),
+    (
+        "<p id=i class=\"k l\">x</p>",
+        "",
+        Place::Document,
+        "[id]",
+        "0 ",
+    ),
+    (
+        "<p id=i class=\"k l\">x</p>",
+        "",
+        Place::Document,
+        "[class=k]",
+        "",
+    ),
+    (
+        "<p id=i class=\"k l\">x</p>",
+        "",
+        Place::Document,
+        "[class~=k]",
+        "0 ",
+    ),
+    (
+        "<p id=i class=\"k l\">x</p>",
+        "",
+        Place::Document,
+        "*",
+        "0 1 ",
+    ),
     ("<p id=i>", "", Place::Document, "#I", ""),
     ("<p id=\"\" class=\"\">", "", Place::Document, "#", "0 "),
     ("<p id=\"\" class=\"\">", "", Place::Document, ".", ""),
@@ -127,15 +231,39 @@ const ROWS: &[(&str, &str, Place, &str, &str)] = &[
     ("<div><p></p></div>", "", Place::Tag(0), "div > p", "1 "),
     ("<a><b><c></c></b></a>", "", Place::Document, "a c", "2 "),
     ("<a><b><c></c></b></a>", "", Place::Document, "a > c", ""),
-    ("<a><b><c></c></b></a>", "", Place::Document, "a > b > c", "2 "),
-    ("<a><b><c></c></b></a>", "", Place::Document, "a b, c", "1 2 "),
+    (
+        "<a><b><c></c></b></a>",
+        "",
+        Place::Document,
+        "a > b > c",
+        "2 ",
+    ),
+    (
+        "<a><b><c></c></b></a>",
+        "",
+        Place::Document,
+        "a b, c",
+        "1 2 ",
+    ),
     ("<a>x<b></b></a>", "", Place::Document, "a > *", "1 2 "),
     ("<a></a><b></b>", "push 1 0", Place::Document, "b > a", "0 "),
     ("<a></a>", "push 0 0", Place::Document, "a > a", "0 "),
     ("<a></a>", "push 0 0", Place::Document, "a a", "0 "),
     ("<a><b></b></a>", "pull 0 0", Place::Document, "a b", ""),
-    ("<a><b></b></a>", "pull 0 0", Place::Document, "a, b", "0 1 "),
-    ("<a></a><b><c></c></b><d></d>", "push 3 0", Place::Document, "d > a, b c", "0 2 "),
+    (
+        "<a><b></b></a>",
+        "pull 0 0",
+        Place::Document,
+        "a, b",
+        "0 1 ",
+    ),
+    (
+        "<a></a><b><c></c></b><d></d>",
+        "push 3 0",
+        Place::Document,
+        "d > a, b c",
+        "0 2 ",
+    ),
     ("<a></a>", "push 0 7", Place::Document, "a > *", ""),
     ("", "", Place::Document, "*", ""),
     ("<a></a>", "", Place::Document, "", "none"),
@@ -144,7 +272,10 @@ const ROWS: &[(&str, &str, Place, &str, &str)] = &[
 #[test]
 fn queries_give_what_selectors_hold_at(rt: HostRuntime) {
     for (page, lines, place, selector, wanted) in ROWS {
-        assert!(rt; gives(rt.alloc(), page, lines, place, selector, wanted), "{page} {selector:?}");
+        assert!(rt;
+            gives(rt.alloc(), page, lines, place, selector, wanted),
+            "{page} {selector:?}"
+        );
     }
 }
 
@@ -157,7 +288,12 @@ fn show_range(document: &VDom<'_>, number: u32, out: &mut String) -> bool {
             let boundaries = children.boundaries(parser);
             let end = children.end(parser);
             let count = children.all(parser).map(|nodes| nodes.len());
-            write!(out, "{:?} {end:?} {boundaries:?} {count:?}", children.start()).is_ok()
+            write!(
+                out,
+                "{:?} {end:?} {boundaries:?} {count:?}",
+                children.start()
+            )
+            .is_ok()
         }
         _ => false,
     }
@@ -177,7 +313,12 @@ fn has_range(alloc: Global, page: &str, lines: &str, number: u32, wanted: &str) 
 
 // Pages, steps, the number of a tag, and its start, end, boundaries and number of nodes.
 const RANGES: &[(&str, &str, u32, &str)] = &[
-    ("<a><b></b></a><c></c>", "", 0, "Some(1) Ok(Some(1)) Ok(Some((1, 1))) Ok(1)"),
+    (
+        "<a><b></b></a><c></c>",
+        "",
+        0,
+        "Some(1) Ok(Some(1)) Ok(Some((1, 1))) Ok(1)",
+    ),
     ("<a></a>", "", 0, "None Ok(None) Ok(None) Ok(0)"),
     (
         "<div id=\"a\"><div id=\"b\"><span>Hello</span><span>World</span><span>!</span></div></div>",
@@ -226,12 +367,21 @@ const RANGES: &[(&str, &str, u32, &str)] = &[
 #[test]
 fn ranges_end_at_the_last_on_the_way(rt: HostRuntime) {
     for (page, lines, number, wanted) in RANGES {
-        assert!(rt; has_range(rt.alloc(), page, lines, *number, wanted), "{page}");
+        assert!(rt;
+            has_range(rt.alloc(), page, lines, *number, wanted),
+            "{page}"
+        );
     }
 }
 
 // What a selector answers at a node alone, and by its table.
-fn answers(alloc: Global, parser: &Parser<'_>, selector: &Selector<'_>, number: u32, out: &mut String) -> bool {
+fn answers(
+    alloc: Global,
+    parser: &Parser<'_>,
+    selector: &Selector<'_>,
+    number: u32,
+    out: &mut String,
+) -> bool {
     let handle = NodeHandle::new(number);
     let alone = handle.get(parser).map(|node| selector.matches(node));
     write!(out, "{alone:?} {:?}", selector.matches_in(parser, handle)).is_ok()
@@ -239,7 +389,10 @@ fn answers(alloc: Global, parser: &Parser<'_>, selector: &Selector<'_>, number: 
 
 fn answers_on(alloc: Global, page: &str, selector: &str, number: u32, wanted: &str) -> bool {
     let mut out = String::new(alloc);
-    match (parse(alloc, page, ParserOptions::new()), parse_query_selector(alloc, selector)) {
+    match (
+        parse(alloc, page, ParserOptions::new()),
+        parse_query_selector(alloc, selector),
+    ) {
         (Ok(document), Ok(Some(selector))) => {
             answers(alloc, document.parser(), &selector, number, &mut out) && out.as_str() == wanted
         }
@@ -263,7 +416,10 @@ const MATCHES: &[(&str, &str, u32, &str)] = &[
 #[test]
 fn selectors_match_alone_and_by_the_table(rt: HostRuntime) {
     for (page, selector, number, wanted) in MATCHES {
-        assert!(rt; answers_on(rt.alloc(), page, selector, *number, wanted), "{page} {selector}");
+        assert!(rt;
+            answers_on(rt.alloc(), page, selector, *number, wanted),
+            "{page} {selector}"
+        );
     }
 }
 

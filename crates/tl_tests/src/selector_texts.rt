@@ -78,8 +78,14 @@ const ROWS: &[(&str, &str)] = &[
     ("a, b, c", "Or(Or(Tag(a), Tag(b)), Tag(c))"),
     ("a b.c", "And(Descendant(Tag(a), Tag(b)), Class(c))"),
     ("a > b > c", "Parent(Parent(Tag(a), Tag(b)), Tag(c))"),
-    ("a b > c d", "Descendant(Parent(Descendant(Tag(a), Tag(b)), Tag(c)), Tag(d))"),
-    ("a b, c > d", "Or(Descendant(Tag(a), Tag(b)), Parent(Tag(c), Tag(d)))"),
+    (
+        "a b > c d",
+        "Descendant(Parent(Descendant(Tag(a), Tag(b)), Tag(c)), Tag(d))",
+    ),
+    (
+        "a b, c > d",
+        "Or(Descendant(Tag(a), Tag(b)), Parent(Tag(c), Tag(d)))",
+    ),
     ("a,", "none"),
     (",a", "none"),
     ("a,,b", "none"),
@@ -142,7 +148,10 @@ const ROWS: &[(&str, &str)] = &[
     ("[a*x]", "none"),
     ("[a!=x]", "none"),
     ("[a~x]", "none"),
-    ("meta[property=\"og:title\"]", "And(Tag(meta), [property = og:title])"),
+    (
+        "meta[property=\"og:title\"]",
+        "And(Tag(meta), [property = og:title])",
+    ),
 ];
 
 #[test]
@@ -171,7 +180,13 @@ fn finds_once(alloc: Global, text: &[u8], wanted: bool) -> bool {
 }
 
 // Bytes, and whether they stand for a selector.
-const READINGS: &[(&[u8], bool)] = &[(b"a b", true), (b"a,", false), (b"", false), (b"a\xff", false), (b"\xff", false)];
+const READINGS: &[(&[u8], bool)] = &[
+    (b"a b", true),
+    (b"a,", false),
+    (b"", false),
+    (b"a\xff", false),
+    (b"\xff", false),
+];
 
 #[test]
 fn readers_end_after_an_answer(rt: HostRuntime) {
@@ -185,7 +200,9 @@ fn clones_alike(alloc: Global, selector: &Selector<'_>) -> bool {
     let mut first = String::new(alloc);
     let mut second = String::new(alloc);
     match selector.clone() {
-        Ok(copy) => show(selector, &mut first) && show(&copy, &mut second) && first.as_str() == second.as_str(),
+        Ok(copy) => show(selector, &mut first)
+            && show(&copy, &mut second)
+            && first.as_str() == second.as_str(),
         Err(_) => false,
     }
 }
