@@ -5,7 +5,7 @@ use std::test::Fail;
 use tl::errors::TreeError;
 use tl::queryselector::{QuerySelectorIterator, Selector};
 use tl::{Node, NodeHandle, Parser, ParserOptions, VDom, parse, parse_query_selector};
-use tl_program::script::{run, steps};
+use tl_program::script::{Step, run, steps};
 
 // Takes the steps that the lines say, if they say steps.
 fn take(alloc: Global, document: &mut VDom<'_>, lines: &str) -> bool {
@@ -421,6 +421,22 @@ fn selectors_match_alone_and_by_the_table(rt: HostRuntime) {
             "{page} {selector}"
         );
     }
+}
+
+// Whether a selector holds at a tag whose key `a` has a value that is no UTF-8.
+fn holds_at_broken(alloc: Global, selector: &Selector<'_>) -> bool {
+    let Ok(mut document) = parse(alloc, "<p a>", ParserOptions::new()) else {
+        return false;
+    };
+    let steps = [Step::Set(0, b"a", b"\xff")];
+    run(alloc, &mut document, &steps).is_ok()
+        && selector.matches_in(document.parser(), NodeHandle::new(0)) == Ok(true)
+}
+
+#[test]
+fn broken_values_are_compared_by_their_texts(rt: HostRuntime) {
+    assert!(rt; holds_at_broken(rt.alloc(), &Selector::AttributeValue(b"a", b"\xfe")));
+    assert!(rt; !holds_at_broken(rt.alloc(), &Selector::AttributeValue(b"a", b"x")));
 }
 
 // Whether a query of the handed table passes over the numbers that it lacks.

@@ -59,7 +59,8 @@ impl<'a, 'b> Children<'a, 'b> {
         ensures boundaries { Reads (λ both. both) (boundaries_of (map shown parser.now.nodes) self.now.children.items) result }
         ensures memory { AreChildrenAbove (map shown parser.now.nodes) → WantsNoMemory result }
     {
-        Ok(range::boundaries(parser.alloc(), parser.nodes(), self.start(), self.last())?)
+        let first = self.start();
+        Ok(range::boundaries(parser.alloc(), parser.nodes(), first, self.last())?)
     }
 
     // The numbers from start to end.
