@@ -16,7 +16,7 @@ fn take(alloc: Global, document: &mut VDom<'_>, lines: &str) -> bool {
 }
 
 // Writes the numbers that a query gives, each with a space after it.
-fn show_all<I: Iterator<Item = NodeHandle>>(found: I, out: &mut String) -> bool {
+fn show_all(found: QuerySelectorIterator<'_, '_>, out: &mut String) -> bool {
     for handle in found {
         if write!(out, "{} ", handle.get_inner()).is_err() {
             return false;
@@ -383,7 +383,10 @@ fn answers(
     out: &mut String,
 ) -> bool {
     let handle = NodeHandle::new(number);
-    let alone = handle.get(parser).map(|node| selector.matches(node));
+    let alone = match handle.get(parser) {
+        Some(node) => Some(selector.matches(node)),
+        None => None,
+    };
     write!(out, "{alone:?} {:?}", selector.matches_in(parser, handle)).is_ok()
 }
 
@@ -440,7 +443,7 @@ fn broken_values_are_compared_by_their_texts(rt: HostRuntime) {
 }
 
 // Whether a query of the handed table passes over the numbers that it lacks.
-fn passes_over(alloc: Global, other: &VDom<'_>, document: &VDom<'_>) -> bool {
+fn passes_over<'a>(alloc: Global, other: &VDom<'a>, document: &VDom<'a>) -> bool {
     let mut out = String::new(alloc);
     let parser = other.parser();
     match QuerySelectorIterator::new(Selector::All, parser, document) {

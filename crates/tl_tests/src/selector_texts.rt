@@ -22,33 +22,37 @@ fn show_test(operator: &str, key: &[u8], value: &[u8], out: &mut String) -> bool
     }
 }
 
-// Writes a word and, in brackets, two selectors.
-#[cycle(shows)]
-fn show_both(
-    word: &str,
-    first: &Box<Selector<'_>>,
-    second: &Box<Selector<'_>>,
-    out: &mut String,
-) -> bool {
+fn open(word: &str, out: &mut String) -> bool {
     write!(out, "{word}(").is_ok()
-        && show(first, out)
-        && out.push_str(", ").is_ok()
-        && show(second, out)
-        && out.push(')').is_ok()
+}
+
+fn part(out: &mut String) -> bool {
+    out.push_str(", ").is_ok()
+}
+
+fn close(out: &mut String) -> bool {
+    out.push(')').is_ok()
 }
 
 // Writes a selector.
-#[cycle(shows)]
 fn show(selector: &Selector<'_>, out: &mut String) -> bool {
     match selector {
         Selector::Tag(name) => show_name("Tag", name, out),
         Selector::Id(id) => show_name("Id", id, out),
         Selector::Class(member) => show_name("Class", member, out),
         Selector::All => out.push_str("All").is_ok(),
-        Selector::And(a, b) => show_both("And", a, b, out),
-        Selector::Or(a, b) => show_both("Or", a, b, out),
-        Selector::Descendant(a, b) => show_both("Descendant", a, b, out),
-        Selector::Parent(a, b) => show_both("Parent", a, b, out),
+        Selector::And(a, b) => {
+            open("And", out) && show(a, out) && part(out) && show(b, out) && close(out)
+        }
+        Selector::Or(a, b) => {
+            open("Or", out) && show(a, out) && part(out) && show(b, out) && close(out)
+        }
+        Selector::Descendant(a, b) => {
+            open("Descendant", out) && show(a, out) && part(out) && show(b, out) && close(out)
+        }
+        Selector::Parent(a, b) => {
+            open("Parent", out) && show(a, out) && part(out) && show(b, out) && close(out)
+        }
         Selector::Attribute(key) => show_name("Attribute", key, out),
         Selector::AttributeValue(key, value) => show_test("=", key, value, out),
         Selector::AttributeValueWhitespacedContains(key, value) => {
