@@ -1,12 +1,12 @@
 -- The parts of a class value, from the front.
-use Rattle.std.proofs.Common.{◌≡◌, ℕ, zero, suc, ◌+◌, ◌<◌, ◌≤◌, Bool, true, false, not, List, [], ◌∷◌, length, take, drop, slice_index, nat_le, ◌||◌, ◌⊎◌, inl, inr, Option, Some, None, option_map, subst, refl, sym, ◌∙◌, ap, arith, cond, filter}
-use Rattle.std.proofs.lemmas.Bool.{and_parts, or_cases, leb-true}
+use Rattle.std.proofs.Common.{◌≡◌, ℕ, zero, suc, ◌+◌, ◌<◌, ◌≤◌, Bool, true, false, not, List, [], ◌∷◌, length, take, drop, slice_index, nat_eq, nat_le, ◌&&◌, ◌||◌, ◌⊎◌, inl, inr, Option, Some, None, option_map, subst, refl, sym, ◌∙◌, ap, arith, cond, filter, unwrap_or}
+use Rattle.std.proofs.lemmas.Bool.{and_parts, or_cases, eqb-true, leb-true}
 use Rattle.std.proofs.lemmas.Str.{is_utf8-from_IsUtf8, IsUtf8-from_is_utf8}
-use Rattle.std.specs.List.{prefix_len, slice_split, onto_first}
+use Rattle.std.specs.List.{list_any, prefix_len, slice_split, onto_first}
 use Rattle.std.specs.Char.{is_ascii_whitespace}
 use Rattle.std.specs.Int.{is_in_range}
-use Rattle.std.specs.Str.{IsCharBoundary, IsUtf8, is_utf8}
-use Rattle.tl_spec.specs.ClassMember.{has_bytes, parts, class_parts}
+use Rattle.std.specs.Str.{IsCharBoundary, IsUtf8, bytes_eq, is_utf8}
+use Rattle.tl_spec.specs.ClassMember.{has_bytes, has_member, parts, class_parts}
 
 abbrev pub in_part : ℕ → Bool
 in_part b = not (is_ascii_whitespace b)
@@ -137,3 +137,41 @@ module _ {B : Type 0} (list : B → List ℕ) (class : Option B) (x : B) (v : Li
   -- a class that is not UTF-8 has none
   pub no_text : Some x ≡ class → v ≡ list x → (IsUtf8 v → ⊥) → None ≡ class_parts (option_map list class)
   no_text h e u = other_parts v (is_utf8 v) refl u ∙ same_class h e
+
+-- a part that is no empty list stands among the parts between white space where it stands in the split
+pub any_kept : (part : List ℕ) (ws : List (List ℕ)) → list_any (bytes_eq part) (filter has_bytes ws) ≡ (has_bytes part && list_any (bytes_eq part) ws)
+any_kept [] [] = refl
+any_kept [] ([] ∷ ws) = any_kept [] ws
+any_kept [] ((b ∷ bs) ∷ ws) = any_kept [] ws
+any_kept (c ∷ cs) [] = refl
+any_kept (c ∷ cs) ([] ∷ ws) = any_kept (c ∷ cs) ws
+any_kept (c ∷ cs) ((b ∷ bs) ∷ ws) = ap (λ r. bytes_eq (c ∷ cs) (b ∷ bs) || r) (any_kept (c ∷ cs) ws)
+
+-- a member of a class is a part of it, and the class is a text
+pub member_is : (class name : List ℕ) → has_member (Some class) name ≡ (list_any (bytes_eq name) (parts class) && is_utf8 class)
+member_is class name = one (list_any (bytes_eq name) (parts class)) refl (is_utf8 class)
+  where
+    one : (a : Bool) → list_any (bytes_eq name) (parts class) ≡ a → (b : Bool) → list_any (bytes_eq name) (unwrap_or (cond b (Some (parts class)) None) []) ≡ (a && b)
+    one true e true = e
+    one false e true = e
+    one true e false = refl
+    one false e false = refl
+
+-- whether there is a byte, by the length
+pub has_some : (bs : List ℕ) → nat_eq (length bs) 0 ≡ false → has_bytes bs ≡ true
+has_some [] e = cc
+has_some (b ∷ bs) e = refl
+
+pub has_none : (bs : List ℕ) → nat_eq (length bs) 0 ≡ true → has_bytes bs ≡ false
+has_none [] e = refl
+has_none (b ∷ bs) e = absurd (omega (arith, eqb-true (length (b ∷ bs)) 0 e))
+
+pub is_text : (bs : List ℕ) → IsUtf8 bs → true ≡ is_utf8 bs
+is_text bs h = sym (is_utf8-from_IsUtf8 bs h)
+
+pub is_no_text : (bs : List ℕ) → (IsUtf8 bs → ⊥) → false ≡ is_utf8 bs
+is_no_text bs h = one (is_utf8 bs) refl
+  where
+    one : (b : Bool) → is_utf8 bs ≡ b → false ≡ b
+    one true e = absurd (h (IsUtf8-from_is_utf8 bs e))
+    one false e = refl

@@ -1,6 +1,7 @@
 //! The members of a tag's class.
-ghost use Rattle.std.specs.Prelude.{◌≡◌, ◌≤◌, ◌<◌, [], ◌∷◌, not, length, option_map, MatchOption, IfSome};
-ghost use Rattle.std.specs.List.{prefix_len};
+ghost use Rattle.std.specs.Prelude.{◌≡◌, ◌≤◌, ◌<◌, [], ◌∷◌, not, length, option_map, Some, MatchOption, IfSome};
+ghost use Rattle.std.specs.List.{prefix_len, list_any};
+ghost use Rattle.std.specs.Str.{bytes_eq, is_utf8};
 ghost use Rattle.std.specs.Char.{is_ascii_whitespace};
 ghost use Rattle.std.specs.Map.Iter.{TakesFirst, deref};
 ghost use Rattle.std.specs.Iterator.{at_most};
@@ -44,6 +45,37 @@ fn part_len(bytes: &[u8]) -> usize
         .iter()
         .take_while(|b| !b.is_ascii_whitespace())
         .count()
+}
+
+// Whether `part` is one of the parts between white space.
+fn has_part(bytes: &[u8], part: &[u8]) -> bool
+    ensures { result ≡ list_any (bytes_eq part.now) (parts bytes.now) }
+{
+    !part.is_empty()
+        && bytes
+            .split(|b| b.is_ascii_whitespace())
+            .any(|own| part == own)
+}
+
+// Whether the bytes are UTF-8. Most are ASCII, which is seen sooner.
+fn is_text(bytes: &[u8]) -> bool
+    ensures { result ≡ is_utf8 bytes.now }
+{
+    if bytes.is_ascii() {
+        return true;
+    }
+    match str::from_utf8(bytes) {
+        Ok(_) => true,
+        Err(_) => false,
+    }
+}
+
+// Whether `name` is a member of this class. Most classes have no such part, and only those that do are gone through once more.
+#[tactic(auto, using(crate::proofs::ClassParts::member_is))]
+fn has_member(class: &[u8], name: &[u8]) -> bool
+    ensures { result ≡ has_member (Some class.now) name.now }
+{
+    has_part(class, name) && is_text(class)
 }
 
 // The first part, and what stands after it.
@@ -90,8 +122,8 @@ impl<B: Piece> AttributesOf<B> {
     pub fn is_class_member(&self, class: &[u8]) -> bool
         ensures { result ≡ has_member (option_map B.list self.now.class) class.now }
     {
-        match self.class_iter() {
-            Some(mut parts) => parts.any(|part| class == part.as_bytes()),
+        match self.class() {
+            Some(own) => has_member(own.as_bytes(), class),
             None => false,
         }
     }

@@ -20,8 +20,8 @@ pub fn first_with_id<N: Element>(nodes: &[N], id: &[u8]) -> Option<usize>
     nodes.iter().position(|node| node.id() == Some(id))
 }
 
-// The place of the first node with a member of its class.
-fn first_in_class<N: Element>(nodes: &[N], class: &[u8]) -> Option<usize>
+/// The place of the first node with this member of its class, `None` where no node has it. It takes no memory.
+pub fn first_in_class<N: Element>(nodes: &[N], class: &[u8]) -> Option<usize>
     ensures scan { result ≡ position_from (is_in_class class.now) 0 (map N.node nodes.now) }
     ensures within { IfSome result (λ n. n < length nodes.now) }
 {

@@ -1,7 +1,7 @@
 pub mod Children
-pub mod Decided
 pub mod Marked
 pub mod Numbers
+pub mod Parts
 pub mod Spreads
 pub mod Unders
 pub mod Works

@@ -2,19 +2,19 @@
 use Rattle.std.proofs.Common.{◌≡◌, ◌<◌, ◌⊎◌, ◌&&◌, ◌||◌, ℕ, zero, suc, Bool, true, false, List, [], ◌∷◌, length, map, refl, sym, ap, ◌∙◌, arith, inl, inr, slice_get, Option, None, Some}
 use Rattle.std.specs.Bool.{Decides}
 use Rattle.std.specs.Option.{IsSomeAnd, option_map_or}
-use Rattle.std.proofs.lemmas.Bool.{and_parts, or_parts}
+use Rattle.std.proofs.lemmas.Bool.{and_from, and_parts, or_cases, or_left, or_parts, or_right}
 use Rattle.tl_spec.specs.Document.{Node}
 use Rattle.tl_spec.specs.Selector.{Selector, Tag, Id, Class, All, And, Or, Descendant, Parent, Attribute, AttributeValue, AttributeValueWhitespacedContains, AttributeValueStartsWith, AttributeValueEndsWith, AttributeValueSubstring}
 use Rattle.tl_spec.specs.SelectorMeaning.{Holds, HoldsAlone, has_joint}
-use Rattle.tl_selector.specs.Alone.{holds_alone}
+use Rattle.tl_spec.specs.SelectorSearch.{holds_alone}
 use Rattle.tl_selector.specs.Marks.{is_at, IsUnderMark, IsBelowMark, AreMarks}
-use Rattle.tl_selector.proofs.Decided.{or_cases, or_left, or_right, and_both, alone_tells}
+use Rattle.tl_spec.proofs.SelectorTests.{holds_alone-is, some-passes}
 
 pub marks_and : (a b : Selector) (g : List Node) (x y z : List Bool) → AreMarks a g x → AreMarks b g y → length z ≡ length x → ((n : ℕ) → is_at z n ≡ (is_at x n && is_at y n)) → AreMarks (And a b) g z
 marks_and a b g x y z h k l f = record {
   len = l ∙ h.len;
   sound = λ n e. let p = and_parts (is_at x n) (is_at y n) (sym (f n) ∙ e) in (h.sound n p.0, k.sound n p.1);
-  complete = λ n e. f n ∙ and_both (is_at x n) (is_at y n) (h.complete n e.0) (k.complete n e.1);
+  complete = λ n e. f n ∙ and_from (is_at x n) (is_at y n) (h.complete n e.0) (k.complete n e.1);
 }
 
 pub marks_or : (a b : Selector) (g : List Node) (x y z : List Bool) → AreMarks a g x → AreMarks b g y → length z ≡ length x → ((n : ℕ) → is_at z n ≡ (is_at x n || is_at y n)) → AreMarks (Or a b) g z
@@ -29,7 +29,7 @@ pub marks_below : (a b : Selector) (g : List Node) (x y w z : List Bool) → Are
 marks_below a b g x y w z h k m s c l f = record {
   len = l ∙ m;
   sound = λ n e. let p = and_parts (is_at w n) (is_at y n) (sym (f n) ∙ e) in let q = s n p.0 in (k.sound n p.1, q.0, h.sound q.0 q.2, (q.1, q.3));
-  complete = λ n e. f n ∙ and_both (is_at w n) (is_at y n) (c n (e.1, e.3.0, h.complete e.1 e.2, e.3.1)) (k.complete n e.0);
+  complete = λ n e. f n ∙ and_from (is_at w n) (is_at y n) (c n (e.1, e.3.0, h.complete e.1 e.2, e.3.1)) (k.complete n e.0);
 }
 
 pub marks_under : (a b : Selector) (g : List Node) (x y w z : List Bool) → AreMarks a g x → AreMarks b g y → length w ≡ length g → ((n : ℕ) → is_at w n ≡ true → IsUnderMark g x n) → ((n : ℕ) → IsUnderMark g x n → is_at w n ≡ true)
@@ -37,7 +37,7 @@ pub marks_under : (a b : Selector) (g : List Node) (x y w z : List Bool) → Are
 marks_under a b g x y w z h k m s c l f = record {
   len = l ∙ m;
   sound = λ n e. let p = and_parts (is_at w n) (is_at y n) (sym (f n) ∙ e) in let q = s n p.0 in (k.sound n p.1, q.0, h.sound q.0 q.1, q.2);
-  complete = λ n e. f n ∙ and_both (is_at w n) (is_at y n) (c n (e.1, h.complete e.1 e.2, e.3)) (k.complete n e.0);
+  complete = λ n e. f n ∙ and_from (is_at w n) (is_at y n) (c n (e.1, h.complete e.1 e.2, e.3)) (k.complete n e.0);
 }
 
 both : (o : Option Node) (P Q : Node → Type 0) → IsSomeAnd o P → IsSomeAnd o Q → IsSomeAnd o (λ d. P d × Q d)
@@ -93,14 +93,10 @@ holds_without (AttributeValueStartsWith key value) h g n = (λ k. k, λ k. k)
 holds_without (AttributeValueEndsWith key value) h g n = (λ k. k, λ k. k)
 holds_without (AttributeValueSubstring key value) h g n = (λ k. k, λ k. k)
 
-at-tells : (e : Selector) (o : Option Node) → Decides (option_map_or (holds_alone e) o false) (IsSomeAnd o (HoldsAlone e))
-at-tells e None = (λ h. cc, λ h. absurd h)
-at-tells e (Some d) = alone_tells e d
-
 -- a selector that asks for no ancestors holds where its test at the node passes
 pub without_tells : (e : Selector) → has_joint e ≡ false → (g : List Node) (n : ℕ) → Decides (option_map_or (holds_alone e) (slice_get g n) false) (Holds g e n)
 without_tells e h g n =
-    let s = at-tells e (slice_get g n) in
+    let s = some-passes (holds_alone e) (HoldsAlone e) (holds_alone-is e) (slice_get g n) in
     let t = holds_without e h g n in
     (λ k. t.1 (s.0 k), λ k. s.1 (t.0 k))
 

@@ -1,5 +1,5 @@
 -- The numbers of the places that pass.
-use Rattle.std.proofs.Common.{◌≡◌, ◌+◌, ◌-◌, ◌<◌, ◌≤◌, ℕ, zero, suc, Bool, true, false, cond, List, [], ◌∷◌, length, map, min, refl, sym, ap, ◌∙◌, arith, inl, inr}
+use Rattle.std.proofs.Common.{◌≡◌, ◌+◌, ◌-◌, ◌<◌, ◌≤◌, ℕ, zero, suc, Bool, true, false, cond, List, [], ◌∷◌, None, Some, length, map, min, refl, sym, ap, ◌∙◌, arith, inl, inr}
 use Rattle.std.specs.Bool.{Decides}
 use Rattle.std.specs.List.{All, AllPairs}
 use Rattle.std.proofs.lemmas.Bool.{cases_Bool}
@@ -10,7 +10,7 @@ use Rattle.std.proofs.lemmas.List.Kept.{AllPairs-cons}
 use Rattle.tl_spec.specs.Document.{Node}
 use Rattle.tl_spec.specs.Selector.{Selector}
 use Rattle.tl_spec.specs.SelectorMeaning.{Holds, AreMatches}
-use Rattle.tl_selector.specs.Found.{numbers}
+use Rattle.tl_selector.specs.Found.{numbers, IsFirst}
 use Rattle.tl_selector.specs.Marks.{is_in}
 use Rattle.tl_selector.proofs.Children.{in_contains, contains_in}
 use Rattle.tl_selector.proofs.Marked.{holds_within}
@@ -19,16 +19,31 @@ numbers-step : (p : ℕ → Bool) (i e : ℕ) → i < e → numbers p i (e - i) 
 numbers-step p i e h = let k : e - i ≡ suc (e - (i + 1)) = omega arith in ap (numbers p i) k
 
 -- the first place passes
-pub numbers_here : (p : ℕ → Bool) (i e : ℕ) → i < e → p i ≡ true → numbers p i (e - i) ≡ i ∷ numbers p (i + 1) (e - (i + 1))
-numbers_here p i e h k = numbers-step p i e h ∙ ap (λ b. cond b (i ∷ numbers p (i + 1) (e - (i + 1))) (numbers p (i + 1) (e - (i + 1)))) k
+numbers-here : (p : ℕ → Bool) (i e : ℕ) → i < e → p i ≡ true → numbers p i (e - i) ≡ i ∷ numbers p (i + 1) (e - (i + 1))
+numbers-here p i e h k = numbers-step p i e h ∙ ap (λ b. cond b (i ∷ numbers p (i + 1) (e - (i + 1))) (numbers p (i + 1) (e - (i + 1)))) k
 
 -- it doesn't
-pub numbers_skip : (p : ℕ → Bool) (i e : ℕ) → i < e → p i ≡ false → numbers p i (e - i) ≡ numbers p (i + 1) (e - (i + 1))
-numbers_skip p i e h k = numbers-step p i e h ∙ ap (λ b. cond b (i ∷ numbers p (i + 1) (e - (i + 1))) (numbers p (i + 1) (e - (i + 1)))) k
+numbers-skip : (p : ℕ → Bool) (i e : ℕ) → i < e → p i ≡ false → numbers p i (e - i) ≡ numbers p (i + 1) (e - (i + 1))
+numbers-skip p i e h k = numbers-step p i e h ∙ ap (λ b. cond b (i ∷ numbers p (i + 1) (e - (i + 1))) (numbers p (i + 1) (e - (i + 1)))) k
 
--- no place is left
-pub numbers_none : (p : ℕ → Bool) (i e : ℕ) → e ≤ i → numbers p i (e - i) ≡ []
-numbers_none p i e h = let k : e - i ≡ 0 = omega arith in ap (numbers p i) k
+-- the first number that passes, and those that are left after it
+pub numbers_first : (p : ℕ → Bool) (i e m : ℕ) → IsFirst p i e (Some m) → numbers p i (e - i) ≡ m ∷ numbers p (m + 1) (e - (m + 1))
+numbers_first p i e m h = let a = h.0 in after (m - i) i (omega arith) h
+  where
+    after : (k i : ℕ) → m ≡ i + k → IsFirst p i e (Some m) → numbers p i (e - i) ≡ m ∷ numbers p (m + 1) (e - (m + 1))
+    after zero i s h = let same : i ≡ m = omega arith in let l = h.1 in rw same (numbers-here p m e l h.2)
+    after (suc k) i s h =
+        let l = h.1 in
+        numbers-skip p i e (omega arith) (h.3 i (omega arith) (omega arith))
+        ∙ after k (i + 1) (omega arith) (omega arith, l, h.2, λ n g. h.3 n (omega arith))
+
+-- none passes
+pub numbers_none : (p : ℕ → Bool) (i e : ℕ) → IsFirst p i e None → numbers p i (e - i) ≡ []
+numbers_none p i e h = after (e - i) i refl h
+  where
+    after : (k i : ℕ) → e - i ≡ k → IsFirst p i e None → numbers p i (e - i) ≡ []
+    after zero i s h = ap (numbers p i) s
+    after (suc k) i s h = numbers-skip p i e (omega arith) (h i (omega arith) (omega arith)) ∙ after k (i + 1) (omega arith) (λ n g. h n (omega arith))
 
 above : (p : ℕ → Bool) (m i k : ℕ) → m < i → All (λ n. m < n) (numbers p i k)
 above p m i zero h = All-nil (λ n. m < n)

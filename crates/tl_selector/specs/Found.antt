@@ -1,8 +1,8 @@
 -- Where the selector of an iterator holds, and the numbers that it has left.
-use Rattle.std.specs.Prelude.{ℕ, zero, suc, ◌+◌, Bool, false, List, [], ◌∷◌, slice_get, slice_index_or, if◌then◌else◌}
+use Rattle.std.specs.Prelude.{◌≡◌, ◌<◌, ◌≤◌, ℕ, zero, suc, ◌+◌, Bool, true, false, Option, MatchOption, List, [], ◌∷◌, slice_get, slice_index_or, if◌then◌else◌}
 use Rattle.std.specs.Option.{option_map_or}
 use Rattle.tl_spec.specs.Document.{Node}
-use Rattle.tl_selector.specs.Alone.{holds_alone}
+use Rattle.tl_spec.specs.SelectorSearch.{holds_alone}
 use Rattle.tl_selector.specs.View.{selector}
 use Rattle.tl_selector.specs.declared.node_test.Test.{Test}
 use Rattle.tl_selector.specs.declared.node_test.Test.TheVariants.{Alone, Marked}
@@ -11,6 +11,10 @@ use Rattle.tl_selector.specs.declared.node_test.Test.TheVariants.{Alone, Marked}
 abbrev pub numbers : (ℕ → Bool) → ℕ → ℕ → List ℕ
 numbers p n zero = []
 numbers p n (suc k) = if p n then n ∷ numbers p (n + 1) k else numbers p (n + 1) k
+
+-- a number is the first from one on, and below another, that passes; none where none does
+abbrev pub IsFirst : (ℕ → Bool) → ℕ → ℕ → Option ℕ → Type 0
+IsFirst p from to first = MatchOption first ((n : ℕ) → from ≤ n → n < to → p n ≡ false) (λ m. (from ≤ m) × (m < to) × (p m ≡ true) × ((n : ℕ) → from ≤ n → n < m → p n ≡ false))
 
 -- whether a test finds the node of a number
 abbrev pub is_found : Test → List Node → ℕ → Bool

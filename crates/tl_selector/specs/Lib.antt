@@ -1,4 +1,3 @@
-pub mod Alone
 pub mod Found
 pub mod Marks
 pub mod View

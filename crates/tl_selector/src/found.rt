@@ -5,7 +5,7 @@ ghost use Rattle.std.specs.Map.Iter.{TakesFirst};
 ghost use Rattle.tl_spec.specs.SelectorMeaning.{AreMatches, has_joint};
 ghost use Rattle.tl_selector.specs.View.{selector as selector_of};
 
-use crate::node_test::{Test, is_found, test_of};
+use crate::node_test::{Test, first_found, test_of};
 use crate::selector::Selector;
 use std::alloc::{AllocError, Global};
 use std::iter::FusedIterator;
@@ -23,7 +23,7 @@ pub struct Matches<'s, 'n, N: Element> {
 }
 
 impl<'s, 'n, N: Element> Model for Matches<'s, 'n, N> {
-    ghost use Rattle.std.specs.Prelude.{List, ℕ, ◌-◌, ◌<◌, ◌^◌, map};
+    ghost use Rattle.std.specs.Prelude.{List, ℕ, ◌-◌, ◌<◌, ◌≤◌, ◌^◌, length, map};
     ghost use Rattle.tl_selector.specs.Found.{numbers, is_found};
 
     ghost Value = { List ℕ };
@@ -31,7 +31,7 @@ impl<'s, 'n, N: Element> Model for Matches<'s, 'n, N> {
     ghost view = { λ m. numbers (is_found m.test (map N.node m.nodes.now)) m.place (m.end - m.place) };
 
     // Their numbers are of 32 bits.
-    ghost invariant = { λ m. m.end < 2 ^ 32 };
+    ghost invariant = { λ m. (m.end ≤ length m.nodes.now) × (length m.nodes.now < 2 ^ 32) };
 }
 
 /// The numbers of the nodes where the selector holds, from `from` on and below `to`, rising. Where the selector asks for
@@ -65,16 +65,10 @@ impl<'s, 'n, N: Element> Iterator for Matches<'s, 'n, N> {
 
     ghost remaining = { λ s. at_most (length s) };
 
-    #[tactic(auto, using(crate::proofs::Numbers::numbers_here, crate::proofs::Numbers::numbers_skip, crate::proofs::Numbers::numbers_none))]
     fn next(&mut self) -> Option<u32> {
-        'places: while self.place < self.end {
-            let place = self.place;
-            self.place += 1;
-            if is_found(&self.test, self.nodes, place) {
-                return Some(place as u32);
-            }
-        }
-        None
+        let place = first_found(&self.test, self.nodes, self.place, self.end)?;
+        self.place = place + 1;
+        Some(place as u32)
     }
 }
 

@@ -1,6 +1,7 @@
 //! Selectors, and where they hold.
 #![tactic(auto)]
 
+mod first;
 pub mod found;
 mod marks;
 mod matching;

@@ -4,7 +4,7 @@ ghost use Rattle.std.specs.Prelude.{◌≡◌, ◌↔◌, ℕ, List, IsTrue, IsO
 ghost use Rattle.std.specs.Option.{option_map_or};
 ghost use Rattle.tl_spec.specs.Element.{children_of};
 ghost use Rattle.tl_spec.specs.SelectorMeaning.{Holds, has_joint};
-ghost use Rattle.tl_selector.specs.Alone.{holds_alone};
+ghost use Rattle.tl_spec.specs.SelectorSearch.{holds_alone};
 ghost use Rattle.tl_selector.specs.Marks.{is_at, is_in, mark_one, spread, child_at, children_at, IsUnderMark, IsBelowMark, AreMarks};
 ghost use Rattle.tl_selector.specs.View.{selector};
 

@@ -1,10 +1,11 @@
 //! How the nodes of a table are looked at one by one.
-ghost use Rattle.std.specs.Prelude.{◌≡◌, ◌↔◌, ℕ, false, map, IsTrue, IsOk, IfOk};
+ghost use Rattle.std.specs.Prelude.{◌≡◌, ◌↔◌, ◌≤◌, ℕ, false, length, map, IsTrue, IsOk, IfOk};
 ghost use Rattle.tl_spec.specs.SelectorMeaning.{Holds, has_joint};
-ghost use Rattle.tl_selector.specs.Found.{is_found};
+ghost use Rattle.tl_selector.specs.Found.{is_found, IsFirst};
 ghost use Rattle.tl_selector.specs.View.{selector as selector_of};
 
-use crate::marks::{has_joint, holds_alone_at, is_marked, marks};
+use crate::first::first_alone;
+use crate::marks::{has_joint, is_marked, marks};
 use crate::selector::Selector;
 use std::alloc::{AllocError, Global};
 use tl_element::Element;
@@ -34,13 +35,19 @@ pub fn test_of<'s, N: Element>(
     }
 }
 
-/// Whether the node of a number is found.
-pub fn is_found<N: Element>(test: &Test<'_>, nodes: &[N], number: usize) -> bool
-    ensures { result ≡ is_found test.now (map N.node nodes.now) number }
+/// The first number from `from` on, and below `to`, whose node is found.
+pub fn first_found<N: Element>(
+    test: &Test<'_>,
+    nodes: &[N],
+    from: usize,
+    to: usize,
+) -> Option<usize>
+    requires { to ≤ length nodes.now }
+    ensures { IsFirst (is_found test.now (map N.node nodes.now)) from to result }
 {
     match test {
-        Test::Alone(e) => holds_alone_at(e, nodes, number),
-        Test::Marked(marked) => is_marked(marked, number),
+        Test::Alone(e) => Some(from + first_alone(e, nodes.get(from..to)?)?),
+        Test::Marked(marked) => (from..to).find(|number| is_marked(marked, *number)),
     }
 }
 

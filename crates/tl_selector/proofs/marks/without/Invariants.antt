@@ -1,5 +1,5 @@
 use Rattle.std.proofs.Common.{◌≡◌, take, map}
-use Rattle.tl_selector.specs.Alone.{holds_alone}
+use Rattle.tl_spec.specs.SelectorSearch.{holds_alone}
 use Rattle.tl_selector.specs.View.{selector}
 use Rattle.tl_selector.proofs.marks.without.Given as goal
 
