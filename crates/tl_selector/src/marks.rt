@@ -17,10 +17,8 @@ pub fn has_joint(e: &Selector<'_>) -> bool
     ensures { result ≡ has_joint (selector e.now) }
 {
     match e {
-        Selector::And(a, b) => has_joint(a) || has_joint(b),
-        Selector::Or(a, b) => has_joint(a) || has_joint(b),
-        Selector::Descendant(_, _) => true,
-        Selector::Parent(_, _) => true,
+        Selector::And(a, b) | Selector::Or(a, b) => has_joint(a) || has_joint(b),
+        Selector::Descendant(_, _) | Selector::Parent(_, _) => true,
         _ => false,
     }
 }

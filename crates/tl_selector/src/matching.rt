@@ -1,8 +1,8 @@
 //! Where a selector holds at a node alone.
 ghost use Rattle.std.specs.Prelude.{IsTrue, ◌↔◌, ◌≡◌};
+ghost use Rattle.std.specs.Option.{option_copied, option_flatten};
 ghost use Rattle.tl_spec.specs.Element.{attribute_of};
-ghost use Rattle.tl_spec.specs.LossyText.{IsSameText, BeginsWith, EndsWith, HasPart, HasWord};
-ghost use Rattle.tl_spec.specs.SelectorMeaning.{HoldsAlone, HasValue};
+ghost use Rattle.tl_spec.specs.SelectorMeaning.{HoldsAlone};
 ghost use Rattle.tl_selector.specs.View.{selector};
 
 use crate::selector::Selector;
@@ -21,66 +21,30 @@ impl<'a> Selector<'a> {
             Selector::All => true,
             Selector::And(a, b) => a.matches(node) && b.matches(node),
             Selector::Or(a, b) => a.matches(node) || b.matches(node),
-            Selector::Descendant(_, _) => false,
-            Selector::Parent(_, _) => false,
+            Selector::Descendant(_, _) | Selector::Parent(_, _) => false,
             Selector::Attribute(key) => node.attribute(key).is_some(),
-            Selector::AttributeValue(key, value) => is_value(node, key, value),
-            Selector::AttributeValueWhitespacedContains(key, value) => has_word_at(
-                node, key, value,
-            ),
-            Selector::AttributeValueStartsWith(key, value) => begins_at(node, key, value),
-            Selector::AttributeValueEndsWith(key, value) => ends_at(node, key, value),
-            Selector::AttributeValueSubstring(key, value) => has_part_at(node, key, value),
+            Selector::AttributeValue(key, value) => {
+                value_at(node, key).is_some_and(|own| is_same_text(own, value))
+            }
+            Selector::AttributeValueWhitespacedContains(key, value) => {
+                value_at(node, key).is_some_and(|own| has_word(own, value))
+            }
+            Selector::AttributeValueStartsWith(key, value) => {
+                value_at(node, key).is_some_and(|own| begins_with(own, value))
+            }
+            Selector::AttributeValueEndsWith(key, value) => {
+                value_at(node, key).is_some_and(|own| ends_with(own, value))
+            }
+            Selector::AttributeValueSubstring(key, value) => {
+                value_at(node, key).is_some_and(|own| has_part(own, value))
+            }
         }
     }
 }
 
-// Whether the value at the key has the text of `value`.
-fn is_value<E: Element>(node: &E, key: &[u8], value: &[u8]) -> bool
-    ensures { IsTrue result ↔ HasValue (λ own. IsSameText own value.now) (attribute_of key.now (E.node node.now)) }
+// The value at the key, `None` where there is no such key, or no value.
+fn value_at<'n, E: Element>(node: &'n E, key: &[u8]) -> Option<&'n [u8]>
+    ensures { option_copied result ≡ option_flatten (attribute_of key.now (E.node node.now)) }
 {
-    match node.attribute(key) {
-        Some(Some(own)) => is_same_text(own, value),
-        _ => false,
-    }
-}
-
-// Whether `word` is one of the words of the value at the key.
-fn has_word_at<E: Element>(node: &E, key: &[u8], word: &[u8]) -> bool
-    ensures { IsTrue result ↔ HasValue (λ own. HasWord own word.now) (attribute_of key.now (E.node node.now)) }
-{
-    match node.attribute(key) {
-        Some(Some(own)) => has_word(own, word),
-        _ => false,
-    }
-}
-
-// Whether the value at the key begins with `front`.
-fn begins_at<E: Element>(node: &E, key: &[u8], front: &[u8]) -> bool
-    ensures { IsTrue result ↔ HasValue (λ own. BeginsWith own front.now) (attribute_of key.now (E.node node.now)) }
-{
-    match node.attribute(key) {
-        Some(Some(own)) => begins_with(own, front),
-        _ => false,
-    }
-}
-
-// Whether the value at the key ends with `back`.
-fn ends_at<E: Element>(node: &E, key: &[u8], back: &[u8]) -> bool
-    ensures { IsTrue result ↔ HasValue (λ own. EndsWith own back.now) (attribute_of key.now (E.node node.now)) }
-{
-    match node.attribute(key) {
-        Some(Some(own)) => ends_with(own, back),
-        _ => false,
-    }
-}
-
-// Whether `part` stands in the value at the key.
-fn has_part_at<E: Element>(node: &E, key: &[u8], part: &[u8]) -> bool
-    ensures { IsTrue result ↔ HasValue (λ own. HasPart own part.now) (attribute_of key.now (E.node node.now)) }
-{
-    match node.attribute(key) {
-        Some(Some(own)) => has_part(own, part),
-        _ => false,
-    }
+    node.attribute(key)?
 }
