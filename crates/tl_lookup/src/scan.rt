@@ -70,7 +70,11 @@ impl<'s, N: Element> Iterator for InClass<'s, N> {
     ghost remaining = { λ s. at_most (length s) };
 
     fn next(&mut self) -> Option<usize> {
-        let skipped = first_in_class(self.nodes, self.class)?;
+        let Some(skipped) = first_in_class(self.nodes, self.class) else {
+            // Where it is asked again, no node is looked at again.
+            self.nodes = &[];
+            return None;
+        };
         let place = self.place + skipped;
         self.nodes = &self.nodes[skipped + 1..];
         self.place = place + 1;

@@ -66,7 +66,11 @@ impl<'s, 'n, N: Element> Iterator for Matches<'s, 'n, N> {
     ghost remaining = { λ s. at_most (length s) };
 
     fn next(&mut self) -> Option<u32> {
-        let place = first_found(&self.test, self.nodes, self.place, self.end)?;
+        let Some(place) = first_found(&self.test, self.nodes, self.place, self.end) else {
+            // Where it is asked again, no node is looked at again.
+            self.place = self.end;
+            return None;
+        };
         self.place = place + 1;
         Some(place as u32)
     }
