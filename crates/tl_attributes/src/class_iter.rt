@@ -70,9 +70,11 @@ fn is_text(bytes: &[u8]) -> bool
     }
 }
 
-// Whether `name` is a member of this class. Most classes have no such part, and only those that do are gone through once more.
+/// Whether `name` is a member of this class, in exact case. It takes no memory.
+///
+/// Most classes have no such part, and only those that do are gone through once more, for bytes that are no text.
 #[tactic(auto, using(crate::proofs::ClassParts::member_is))]
-fn has_member(class: &[u8], name: &[u8]) -> bool
+pub fn has_member(class: &[u8], name: &[u8]) -> bool
     ensures { result ≡ has_member (Some class.now) name.now }
 {
     has_part(class, name) && is_text(class)

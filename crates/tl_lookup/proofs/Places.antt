@@ -1,7 +1,7 @@
 -- Places in a list of images, and a scan that goes on after the first place.
-use Rattle.std.proofs.Common.{◌≡◌, ℕ, zero, suc, ◌+◌, ◌-◌, ◌<◌, ◌≤◌, Bool, true, false, cond, List, [], ◌∷◌, length, map, take, drop, None, Some, refl, sym, ◌∙◌, ap, arith, add-one}
+use Rattle.std.proofs.Common.{◌≡◌, ℕ, zero, suc, ◌+◌, ◌-◌, ◌<◌, ◌≤◌, Bool, true, false, cond, List, [], ◌∷◌, length, map, take, drop, ◌++◌, None, Some, refl, sym, ◌∙◌, ap, arith, add-one}
 use Rattle.std.specs.List.{All, position_from}
-use Rattle.std.proofs.lemmas.List.{drop-map, take_rest}
+use Rattle.std.proofs.lemmas.List.{drop-map, take_rest, map-append, length-map}
 use Rattle.std.proofs.lemmas.List.Elements.{All-nil, All-cons}
 use Rattle.tl_spec.specs.Scan.{places_from}
 
@@ -45,6 +45,19 @@ module _ {A : Type 0} (p : A → Bool) where
       one q true f = let same : m ≡ i = cc in absurd (omega (arith, same, h))
       one q false f = q f (omega (arith, h)) (omega (arith, g))
 
+  -- the places of two lists, one after the other
+  places-append : (n : ℕ) (xs ys : List A) → places_from p n (xs ++ ys) ≡ places_from p n xs ++ places_from p (n + length xs) ys
+  places-append n [] ys = ap (λ m. places_from p m ys) (omega arith)
+  places-append n (x ∷ xs) ys = one (places-append (n + 1) xs ys) (p x)
+    where
+      later : places_from p (n + 1 + length xs) ys ≡ places_from p (n + length (x ∷ xs)) ys
+      later = ap (λ m. places_from p m ys) (omega arith)
+
+      one : places_from p (n + 1) (xs ++ ys) ≡ places_from p (n + 1) xs ++ places_from p (n + 1 + length xs) ys
+          → (b : Bool) → cond b (n ∷ places_from p (n + 1) (xs ++ ys)) (places_from p (n + 1) (xs ++ ys)) ≡ cond b (n ∷ places_from p (n + 1) xs) (places_from p (n + 1) xs) ++ places_from p (n + length (x ∷ xs)) ys
+      one h true = ap (λ r. n ∷ r) (h ∙ ap (λ r. places_from p (n + 1) xs ++ r) later)
+      one h false = h ∙ ap (λ r. places_from p (n + 1) xs ++ r) later
+
   -- no place is past the end
   pub places-below : (n m : ℕ) (xs : List A) → n + length xs ≤ m → All (λ k. k < m) (places_from p n xs)
   places-below n m [] h = All-nil (λ k. k < m)
@@ -54,9 +67,9 @@ module _ {A : Type 0} (p : A → Bool) where
       one q true = All-cons (λ k. k < m) n (places_from p (n + 1) xs) (omega (arith, h)) q
       one q false = q
 
--- the same of images, where what is left is a slice
-pub places-next : {A B : Type 0} (f : A → B) (p : B → Bool) (n k : ℕ) (xs : List A) → Some k ≡ position_from p 0 (map f xs)
-    → places_from p n (map f xs) ≡ (n + k) ∷ places_from p (n + k + 1) (map f (take (length xs - (k + 1)) (drop (k + 1) xs)))
-places-next f p n k xs e =
-    places-first p n 0 k (n + k) k (map f xs) (sym e) (omega arith) refl
-    ∙ ap (λ ys. (n + k) ∷ places_from p (n + k + 1) ys) (drop-map f (suc k) xs ∙ ap (map f) (ap (λ m. drop m xs) (sym (add-one k)) ∙ sym (take_rest xs (k + 1))))
+-- the places of images of two lists, one after the other
+pub places-split : {A B : Type 0} (f : A → B) (p : B → Bool) (n : ℕ) (xs ys : List A) → places_from p n (map f (xs ++ ys)) ≡ places_from p n (map f xs) ++ places_from p (n + length xs) (map f ys)
+places-split f p n xs ys =
+    ap (places_from p n) (map-append f xs ys)
+    ∙ places-append p n (map f xs) (map f ys)
+    ∙ ap (λ m. places_from p n (map f xs) ++ places_from p (n + m) (map f ys)) (length-map xs f)

@@ -1,3 +1,4 @@
 pub mod Found
+pub mod Left
 pub mod Marks
 pub mod View

@@ -8,3 +8,4 @@ mod matching;
 mod node_test;
 pub mod selector;
 pub mod table;
+mod tested;

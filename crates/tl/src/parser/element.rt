@@ -50,10 +50,10 @@ impl<'a> Element for Node<'a> {
         }
     }
 
-    fn is_class_member(&self, class: &[u8]) -> bool {
+    fn class(&self) -> Option<&[u8]> {
         match self {
-            Node::Tag(tag) => tag.attributes().is_class_member(class),
-            _ => false,
+            Node::Tag(tag) => tag.attributes().class().map(|class| class.as_bytes()),
+            _ => None,
         }
     }
 
