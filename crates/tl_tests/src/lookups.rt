@@ -341,3 +341,56 @@ fn text_of_an_id(rt: HostRuntime) -> Result<(), Fail> {
     assert!(rt; found);
     Ok(())
 }
+
+// A page of tags, of which every third has the class member `k`.
+fn page_of(alloc: Global, tags: u32) -> Result<String, Fail> {
+    let mut page = String::new(alloc);
+    for number in 0..tags {
+        let tag = if number % 3 == 0 {
+            "<br class=\"a k\">"
+        } else {
+            "<br>"
+        };
+        page.push_str(tag)?;
+    }
+    Ok(page)
+}
+
+// Whether every third tag is found by its class, and no other.
+fn looks_up_thirds(document: &VDom<'_>, tags: u32) -> bool {
+    let mut handles = document.get_elements_by_class_name("k");
+    for number in 0..tags {
+        if number % 3 == 0 && handles.next() != Some(NodeHandle::new(number)) {
+            return false;
+        }
+    }
+    handles.next().is_none() && handles.next().is_none()
+}
+
+// The same by a selector.
+fn selects_thirds(alloc: Global, document: &VDom<'_>, tags: u32) -> bool {
+    let Ok(Some(mut handles)) = document.query_selector(alloc, ".k") else {
+        return false;
+    };
+    for number in 0..tags {
+        if number % 3 == 0 && handles.next() != Some(NodeHandle::new(number)) {
+            return false;
+        }
+    }
+    handles.next().is_none() && handles.next().is_none()
+}
+
+// Classes are looked at 64 nodes at a time.
+#[test]
+fn classes_of_many_tags(rt: HostRuntime) -> Result<(), Fail> {
+    for tags in [1, 63, 64, 65, 127, 128, 129, 200] {
+        let page = page_of(rt.alloc(), tags)?;
+        let document = parse(rt.alloc(), &page, ParserOptions::new())?;
+        assert!(rt; looks_up_thirds(&document, tags), "{tags} tags, a lookup");
+        assert!(rt;
+            selects_thirds(rt.alloc(), &document, tags),
+            "{tags} tags, a selector"
+        );
+    }
+    Ok(())
+}
