@@ -1,8 +1,7 @@
-use Rattle.std.proofs.Common.{◌<◌, ◌+◌, ◌++◌, map, length, subst, sym, arith}
+use Rattle.std.proofs.Common.{◌<◌, ◌+◌, ◌++◌, map, length, reverse, subst, sym, arith}
 use Rattle.std.specs.List.{All}
 use Rattle.std.proofs.lemmas.List.{length-map}
 use Rattle.tl_spec.specs.Scan.{is_in_class, places_from}
-use Rattle.tl_lookup.specs.Ahead.{places_ahead}
 use Rattle.tl_lookup.proofs.Places.{places-below}
 use Rattle.tl_lookup.proofs.in_class.in_class_from.Goals as goal
 
@@ -12,5 +11,5 @@ returns-clause-within g c =
     let nodes = c.args.nodes.now in
     let class = c.args.class.now in
     let first = c.args.first in
-    subst (λ classes. All (λ n. n < first + length nodes) (places_ahead class classes ++ places_from (is_in_class class) first (map node nodes))) (sym c.new.ensures)
+    subst (λ found. All (λ n. n < first + length nodes) (map (λ n. first + n) (reverse found) ++ places_from (is_in_class class) first (map node nodes))) (sym c.new.ensures)
     (places-below (is_in_class class) first (first + length nodes) (map node nodes) (omega (arith, length-map nodes node)))

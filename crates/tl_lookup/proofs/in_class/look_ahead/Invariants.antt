@@ -5,8 +5,8 @@ use Rattle.tl_lookup.proofs.in_class.look_ahead.Given as goal
 
 abbrev pub invariant-nodes : goal.invariant-nodes
 invariant-nodes g l = record {
-  found : (class : List ℕ) → places_from (is_in_class class) l.fn.first (map g.N.Element.node l.fn.nodes) ≡ places_from (is_in_class class) l.fn.first (map g.N.Element.node l.left) ++ places_ahead class l.ahead.items;
-  room : length l.ahead.items + length l.left ≤ length l.fn.nodes;
+  found : (class : List ℕ) → places_from (is_in_class class) 0 (map g.N.Element.node l.fn.nodes) ≡ places_from (is_in_class class) 0 (map g.N.Element.node l.left) ++ places_ahead class l.classes.items;
+  room : length l.classes.items + length l.left ≤ length l.fn.nodes;
 }
 
 abbrev pub decreases-nodes : goal.decreases-nodes
