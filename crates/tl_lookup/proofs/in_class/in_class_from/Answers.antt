@@ -1,8 +1,9 @@
 use Rattle.std.proofs.Common.{◌<◌, ◌+◌, ◌++◌, map, length, reverse, subst, sym, arith}
 use Rattle.std.specs.List.{All}
 use Rattle.std.proofs.lemmas.List.{length-map}
+use Rattle.std.proofs.lemmas.List.Elements.{All-from_recursion}
 use Rattle.tl_spec.specs.Scan.{is_in_class, places_from}
-use Rattle.tl_lookup.proofs.Places.{places-below}
+use Rattle.tl_lookup.proofs.Places.{places-within}
 use Rattle.tl_lookup.proofs.in_class.in_class_from.Goals as goal
 
 pub returns-clause-within : goal.returns-clause-within
@@ -12,4 +13,5 @@ returns-clause-within g c =
     let class = c.args.class.now in
     let first = c.args.first in
     subst (λ found. All (λ n. n < first + length nodes) (map (λ n. first + n) (reverse found) ++ places_from (is_in_class class) first (map node nodes))) (sym c.new.ensures)
-    (places-below (is_in_class class) first (first + length nodes) (map node nodes) (omega (arith, length-map nodes node)))
+    (All-from_recursion (λ n. n < first + length nodes) (places_from (is_in_class class) first (map node nodes))
+    (places-within (is_in_class class) (λ n. n < first + length nodes) first (first + length nodes) (map node nodes) (omega (arith, length-map nodes node)) (λ n l. l)))

@@ -1,4 +1,4 @@
-use Rattle.std.proofs.Common.{ℕ, List, map, ◌++◌, ap, sym, ◌∙◌, rules, arith}
+use Rattle.std.proofs.Common.{ℕ, List, map, ◌++◌, ap, sym, ◌∙◌, rules}
 use Rattle.std.specs.Option.{option_copied}
 use Rattle.tl_spec.specs.Scan.{is_in_class, places_from}
 use Rattle.tl_lookup.specs.Ahead.{places_ahead}
