@@ -77,7 +77,7 @@ pub fn in_class<'s, 'n, N: Element>(nodes: &'n [N], class: &'s [u8]) -> InClass<
     in_class_from(nodes, class, 0)
 }
 
-// Takes the classes of the nodes.
+// Takes the classes of the nodes with their places, the last one first.
 fn look_ahead<'n, N: Element>(nodes: &'n [N], classes: &mut Classes<'n>)
     requires none { classes.old.items ≡ [] }
     requires room { length nodes.now ≤ 64 }

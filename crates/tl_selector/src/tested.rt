@@ -34,8 +34,7 @@ impl<'s, 'n, N: Element> Model for Tested<'s, 'n, N> {
     ghost invariant = { λ m. (m.end ≤ length m.nodes.now) × (length m.nodes.now < 2 ^ 32) };
 }
 
-/// The numbers of the nodes where the selector holds, from `from` on and below `to`, rising. Where the selector asks for
-/// ancestors, all nodes of the table are looked at here, once for each of its parts.
+/// The numbers of the nodes where the selector holds, as `matches_between` gives them, by a test of one node after the other.
 pub fn tested_between<'s, 'n, N: Element>(
     alloc: Global,
     selector: Selector<'s>,
