@@ -25,13 +25,13 @@ set_same (y ∷ ys) zero x h = let same : x ≡ y = cc in ap (λ z. z ∷ ys) sa
 set_same (y ∷ ys) (suc i) x h = ap (λ l. y ∷ l) (set_same ys i x h)
 
 -- a node that is this tag
-tag_is : {A B : Type 0} (n : NodeOf A B) (t : Tag A B) → Some t ≡ tag_of n → TagNode t ≡ n
+tag_is : {A B O : Type 0} (n : NodeOf A B O) (t : Tag A B) → Some t ≡ tag_of n → TagNode t ≡ n
 tag_is (TagNode u) t e = let same : t ≡ u = cc in ap TagNode same
 tag_is (Raw b) t e = cc
 tag_is (Comment b) t e = cc
 
 -- a tag put back where it was
-pub set_back : {A B : Type 0} (ns : List (NodeOf A B)) (i : ℕ) (n : NodeOf A B) (t : Tag A B) → Some n ≡ slice_get ns i → Some t ≡ tag_of n → slice_set ns i (TagNode t) ≡ ns
+pub set_back : {A B O : Type 0} (ns : List (NodeOf A B O)) (i : ℕ) (n : NodeOf A B O) (t : Tag A B) → Some n ≡ slice_get ns i → Some t ≡ tag_of n → slice_set ns i (TagNode t) ≡ ns
 set_back ns i n t e h = ap (λ m. slice_set ns i m) (tag_is n t h) ∙ set_same ns i n e
 
 -- a table with a node put in the place of another is the document after that edit

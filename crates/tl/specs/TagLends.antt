@@ -4,19 +4,20 @@ use denote.Param.{number}
 use Rattle.std.specs.Borrow.{Lends, Fml, RattleType, MutBor}
 use Rattle.tl_spec.specs.Inline.{InlineVec}
 use Rattle.tl_inline.specs.contracts.inline.vec.InlineVec.{the_row as inline_vec_row}
+use Rattle.tl_attributes.specs.declared.outline.OutlineOf.{Ghosts}
 use Rattle.tl.specs.Tag.{Tag}
 use Rattle.tl.specs.contracts.parser.handle.NodeHandle.{the_row as handle_row}
 use Rattle.tl.specs.contracts.parser.tag.TagOf.{the_row}
 
-module _ (A B : RattleType) (t : MutBor (Tag A.Denot B.Denot)) where
+module _ (A B O : RattleType) (o : Ghosts O.Denot A.Denot) (t : MutBor (Tag A.Denot B.Denot)) where
   -- once the borrow r ends, the name is the last one written through r
   abbrev pub LendsName : MutBor B.Denot → Fml
-  LendsName r = Lends (the_row A B) B t r (λ w. record t.now { name = w })
+  LendsName r = Lends (the_row A B O o) B t r (λ w. record t.now { name = w })
 
   -- the same of the attributes
   abbrev pub LendsAttributes : MutBor A.Denot → Fml
-  LendsAttributes r = Lends (the_row A B) A t r (λ w. record t.now { attributes = w })
+  LendsAttributes r = Lends (the_row A B O o) A t r (λ w. record t.now { attributes = w })
 
   -- the same of the handles of the children
   abbrev pub LendsChildren : MutBor (InlineVec ℕ) → Fml
-  LendsChildren r = Lends (the_row A B) (inline_vec_row handle_row (number 2)) t r (λ w. record t.now { children = w })
+  LendsChildren r = Lends (the_row A B O o) (inline_vec_row handle_row (number 2)) t r (λ w. record t.now { children = w })

@@ -37,6 +37,7 @@ use std::alloc::Global;
 pub use tl_attributes::attributes::{Attributes, AttributesOf, RawAttributesMap};
 pub use tl_attributes::attributes_iter::AttributesIter;
 pub use tl_attributes::class_iter::ClassIter;
+pub use tl_attributes::outline::{ClassOutline, OutlineOf};
 pub use tl_bytes::byte_string::{Bytes, IntoOwnedBytes};
 pub use tl_bytes::simd;
 pub use tl_inline::inline;

@@ -19,43 +19,44 @@ use crate::walk::print::write_row;
 use std::alloc::Global;
 use std::marker::Model;
 use tl_attributes::attributes::Attributes;
+use tl_attributes::outline::{ClassOutline, OutlineOf};
 use tl_bytes::byte_string::Bytes;
 
 /// A document: the table of its nodes, and which of them stand at its top.
 #[derive(Debug, Drop)]
-pub struct VDomOf<A, B, M> {
-    parser: ParserOf<A, B, M>,
+pub struct VDomOf<A, B, O: OutlineOf<A>, M> {
+    parser: ParserOf<A, B, O, M>,
 }
 
 /// A document whose nodes borrow from a text.
-pub type VDom<'a> = VDomOf<Attributes<'a>, Bytes<'a>, Tracking<'a>>;
+pub type VDom<'a> = VDomOf<Attributes<'a>, Bytes<'a>, ClassOutline<'a>, Tracking<'a>>;
 
-impl<A, B, M> Model for VDomOf<A, B, M> {
+impl<A, B, O: OutlineOf<A>, M> Model for VDomOf<A, B, O, M> {
     ghost use Rattle.tl.specs.Table.{Table};
 
-    ghost Value = { Table A B M };
+    ghost Value = { Table A B O M };
 
     ghost view = { λ v. v.parser };
 }
 
-impl<A, B, M> From<ParserOf<A, B, M>> for VDomOf<A, B, M> {
+impl<A, B, O: OutlineOf<A>, M> From<ParserOf<A, B, O, M>> for VDomOf<A, B, O, M> {
     ghost from_gives = { λ p d. d ≡ p };
 
-    fn from(parser: ParserOf<A, B, M>) -> Self {
+    fn from(parser: ParserOf<A, B, O, M>) -> Self {
         VDomOf { parser }
     }
 }
 
-impl<A, B, M> VDomOf<A, B, M> {
+impl<A, B, O: OutlineOf<A>, M> VDomOf<A, B, O, M> {
     /// The table.
-    pub fn parser(&self) -> &ParserOf<A, B, M>
+    pub fn parser(&self) -> &ParserOf<A, B, O, M>
         ensures { result.now ≡ self.now }
     {
         &self.parser
     }
 
     /// All nodes, in the order of the text.
-    pub fn nodes(&self) -> &[NodeOf<A, B>]
+    pub fn nodes(&self) -> &[NodeOf<A, B, O>]
         ensures value { result.now ≡ self.now.nodes }
 
         // So the place of a node is a handle.
@@ -79,16 +80,16 @@ impl<A, B, M> VDomOf<A, B, M> {
     }
 
     /// The table for writing. A table put there brings all that it holds.
-    pub fn parser_mut(&mut self) -> &mut ParserOf<A, B, M>
-        ensures* writes_back { sem 𝓛 (LendsParser A.row B.row M.row self.entry result) }
+    pub fn parser_mut(&mut self) -> &mut ParserOf<A, B, O, M>
+        ensures* writes_back { sem 𝓛 (LendsParser A.row B.row O.row M.row O.OutlineOf self.entry result) }
         ensures value { result.now ≡ self.old }
     {
         &mut self.parser
     }
 
     /// All nodes for writing, in the order of the text. No node can be added or taken away.
-    pub fn nodes_mut(&mut self) -> &mut [NodeOf<A, B>]
-        ensures* writes_back { sem 𝓛 (LendsNodes A.row B.row M.row self.entry result) }
+    pub fn nodes_mut(&mut self) -> &mut [NodeOf<A, B, O>]
+        ensures* writes_back { sem 𝓛 (LendsNodes A.row B.row O.row M.row O.OutlineOf self.entry result) }
         ensures value { result.now ≡ self.old.nodes }
     {
         self.parser.nodes_mut()
@@ -96,7 +97,7 @@ impl<A, B, M> VDomOf<A, B, M> {
 
     /// The handles of the top nodes for writing. None can be added or taken away.
     pub fn children_mut(&mut self) -> &mut [NodeHandle]
-        ensures* writes_back { sem 𝓛 (LendsTop A.row B.row M.row self.entry result) }
+        ensures* writes_back { sem 𝓛 (LendsTop A.row B.row O.row M.row O.OutlineOf self.entry result) }
         ensures value { result.now ≡ self.old.top }
     {
         self.parser.top_mut()

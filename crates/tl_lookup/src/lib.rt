@@ -1,5 +1,4 @@
 //! Lookups by a scan of a table of nodes. They keep no map and take no memory.
 #![tactic(auto)]
 
-pub mod in_class;
 pub mod scan;

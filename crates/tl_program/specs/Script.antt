@@ -21,7 +21,7 @@ IsRefused takes r NoPlace = r ≡ Err no_place
 IsRefused takes r OutOfMemory = IsTrue takes × IsOk r
 
 -- a reference shows the tag at a number of a table, or there is none for this cause
-abbrev pub IsTagAt : {A B M : Type 0} → Table A B M → ℕ → Result (MutBor (Tag A B)) StepError → Type 0
+abbrev pub IsTagAt : {A B O M : Type 0} → Table A B O M → ℕ → Result (MutBor (Tag A B)) StepError → Type 0
 IsTagAt d n (Ok tag) = slice_get d.nodes n ≡ Some (ATag tag.now)
 IsTagAt d n (Err NoNode) = slice_get d.nodes n ≡ None
 IsTagAt d n (Err NotTag) = IsSomeAnd (slice_get d.nodes n) (λ node. tag_of node ≡ None)

@@ -1,7 +1,10 @@
 //! Documents, their tags, and the attributes of a tag.
 use crate::stop::{Stop, expect};
 use std::alloc::Global;
-use tl::{Attributes, Bytes, HTMLTag, Node, NodeHandle, Parser, ParserOptions, TagOf, VDom, parse};
+use tl::{
+    Attributes, Bytes, HTMLTag, Node, NodeHandle, OutlineOf, Parser, ParserOptions, TagOf, VDom,
+    parse,
+};
 
 const PAGE: &str = "<!doctype html><p a=1 b=2 c=3 id=i class=k>x<b>y<!-- z --></b><br>w</p>v";
 
@@ -98,7 +101,7 @@ fn push(node: &mut Node<'_>) -> Result<(), Stop> {
 }
 
 // The third child moves the handles to the heap. A refused one comes back, and they stay where they are.
-fn push_first<A, B>(tag: &mut TagOf<A, B>) -> Result<(), Stop> {
+fn push_first<A, B, O: OutlineOf<A>>(tag: &mut TagOf<A, B, O>) -> Result<(), Stop> {
     let mut children = tag.children_mut();
     let handles = children.top_mut();
     match handles.push(NodeHandle::new(0)) {

@@ -2,7 +2,6 @@ pub mod Children
 pub mod Marked
 pub mod Numbers
 pub mod Parts
-pub mod Places
 pub mod Spreads
 pub mod Unders
 pub mod Works

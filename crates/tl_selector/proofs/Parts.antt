@@ -19,7 +19,7 @@ drop-at xs zero k = let same : 0 + k ≡ k = omega arith in rw same refl
 drop-at [] (suc i) k = refl
 drop-at (x ∷ xs) (suc i) k = let same : suc i + k ≡ suc (i + k) = omega arith in rw same (drop-at xs i k)
 
-pub part-at : {A B : Type 0} (f : A → B) (xs : List A) (i n k : ℕ) → k < n → slice_get (map f (take n (drop i xs))) k ≡ slice_get (map f xs) (i + k)
+part-at : {A B : Type 0} (f : A → B) (xs : List A) (i n k : ℕ) → k < n → slice_get (map f (take n (drop i xs))) k ≡ slice_get (map f xs) (i + k)
 part-at f xs i n k h =
     slice_get-map f (take n (drop i xs)) k
     ∙ ap (option_map f) (take-at (drop i xs) n k h ∙ drop-at xs i k)

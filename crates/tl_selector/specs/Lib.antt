@@ -1,4 +1,3 @@
 pub mod Found
-pub mod Left
 pub mod Marks
 pub mod View

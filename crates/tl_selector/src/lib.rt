@@ -8,4 +8,3 @@ mod matching;
 mod node_test;
 pub mod selector;
 pub mod table;
-mod tested;

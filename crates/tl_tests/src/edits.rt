@@ -3,7 +3,7 @@ use crate::show::{Look, Row, all_show};
 use std::alloc::Global;
 use std::mem;
 use std::test::Fail;
-use tl::{Bytes, HTMLTag, Node, NodeHandle, NodeOf, ParserOptions, TagOf, VDom, parse};
+use tl::{Bytes, HTMLTag, Node, NodeHandle, NodeOf, OutlineOf, ParserOptions, TagOf, VDom, parse};
 
 // What is done to a document.
 pub enum Edit {
@@ -63,7 +63,7 @@ fn node_mut<'d>(
 }
 
 // Makes a handle the last child.
-fn push_to<A, B>(tag: &mut TagOf<A, B>, child: u32) -> Result<(), Fail> {
+fn push_to<A, B, O: OutlineOf<A>>(tag: &mut TagOf<A, B, O>, child: u32) -> Result<(), Fail> {
     let mut children = tag.children_mut();
     children.top_mut().push(NodeHandle::new(child))?;
     Ok(())

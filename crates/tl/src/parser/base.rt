@@ -9,6 +9,7 @@ use crate::parser::tag::node::{Node, NodeOf};
 use std::alloc::Global;
 use std::marker::Model;
 use tl_attributes::attributes::Attributes;
+use tl_attributes::outline::{ClassOutline, OutlineOf};
 use tl_bytes::byte_string::Bytes;
 use tl_inline::inline::vec::InlineVec;
 use tl_tracking::TrackingOf;
@@ -34,8 +35,8 @@ pub enum HTMLVersion {
 
 /// A table of fewer than 2^32 nodes, the handles of its top nodes, its version, and what was tracked of it in a value of the type `M`.
 #[derive(Debug, Drop)]
-pub struct ParserOf<A, B, M> {
-    nodes: Vec<NodeOf<A, B>>,
+pub struct ParserOf<A, B, O: OutlineOf<A>, M> {
+    nodes: Vec<NodeOf<A, B, O>>,
     top: Vec<NodeHandle>,
     version: Option<HTMLVersion>,
     tracking: M,
@@ -45,23 +46,23 @@ pub struct ParserOf<A, B, M> {
 pub type Tracking<'a> = TrackingOf<Bytes<'a>>;
 
 /// A table of nodes that borrow from a text.
-pub type Parser<'a> = ParserOf<Attributes<'a>, Bytes<'a>, Tracking<'a>>;
+pub type Parser<'a> = ParserOf<Attributes<'a>, Bytes<'a>, ClassOutline<'a>, Tracking<'a>>;
 
-impl<A, B, M> Model for ParserOf<A, B, M> {
+impl<A, B, O: OutlineOf<A>, M> Model for ParserOf<A, B, O, M> {
     ghost use Rattle.std.specs.Prelude.{◌<◌, ◌^◌, length};
     ghost use Rattle.tl.specs.Table.{Table};
 
-    ghost Value = { Table A B M };
+    ghost Value = { Table A B O M };
 
     ghost view = { λ p. record { nodes = p.nodes.items; top = p.top.items; version = p.version; tracking = p.tracking } };
 
     ghost invariant = { λ p. length p.nodes.items < 2 ^ 32 };
 }
 
-impl<A, B, M> ParserOf<A, B, M> {
+impl<A, B, O: OutlineOf<A>, M> ParserOf<A, B, O, M> {
     // A table of these parts.
     pub(crate) fn from_parts(
-        nodes: Vec<NodeOf<A, B>>,
+        nodes: Vec<NodeOf<A, B, O>>,
         top: Vec<NodeHandle>,
         version: Option<HTMLVersion>,
         tracking: M,
@@ -78,14 +79,14 @@ impl<A, B, M> ParserOf<A, B, M> {
     }
 
     /// The node of a number, or None past the table.
-    pub fn resolve_node_id(&self, id: InnerNodeHandle) -> Option<&NodeOf<A, B>>
+    pub fn resolve_node_id(&self, id: InnerNodeHandle) -> Option<&NodeOf<A, B, O>>
         ensures { option_copied result ≡ slice_get self.now.nodes id }
     {
         self.nodes.get(id as usize)
     }
 
     // All nodes.
-    pub(crate) fn nodes(&self) -> &[NodeOf<A, B>]
+    pub(crate) fn nodes(&self) -> &[NodeOf<A, B, O>]
         ensures value { result.now ≡ self.now.nodes }
 
         // So the place of a node is a handle.
@@ -122,16 +123,16 @@ impl<A, B, M> ParserOf<A, B, M> {
 
     /// The node of a number for writing, or None past the table.
     #[tactic(auto, using(crate::proofs::Nodes::copied_of_item))]
-    pub fn resolve_node_id_mut(&mut self, id: InnerNodeHandle) -> Option<&mut NodeOf<A, B>>
-        ensures* writes_back { sem 𝓛 (LendsNode A.row B.row M.row self.entry id result) }
+    pub fn resolve_node_id_mut(&mut self, id: InnerNodeHandle) -> Option<&mut NodeOf<A, B, O>>
+        ensures* writes_back { sem 𝓛 (LendsNode A.row B.row O.row M.row O.OutlineOf self.entry id result) }
         ensures value { option_copied_mut result ≡ slice_get self.old.nodes id }
     {
         self.nodes.get_mut(id as usize)
     }
 
     // The node of a handle for writing, or None past the table.
-    fn resolve_handle_mut(&mut self, handle: NodeHandle) -> Option<&mut NodeOf<A, B>>
-        ensures* writes_back { sem 𝓛 (LendsNode A.row B.row M.row self.entry handle result) }
+    fn resolve_handle_mut(&mut self, handle: NodeHandle) -> Option<&mut NodeOf<A, B, O>>
+        ensures* writes_back { sem 𝓛 (LendsNode A.row B.row O.row M.row O.OutlineOf self.entry handle result) }
         ensures value { option_copied_mut result ≡ slice_get self.old.nodes handle }
     {
         let number = handle.get_inner();
@@ -139,8 +140,8 @@ impl<A, B, M> ParserOf<A, B, M> {
     }
 
     // All nodes for writing.
-    pub(crate) fn nodes_mut(&mut self) -> &mut [NodeOf<A, B>]
-        ensures* writes_back { sem 𝓛 (LendsTableNodes A.row B.row M.row self.entry result) }
+    pub(crate) fn nodes_mut(&mut self) -> &mut [NodeOf<A, B, O>]
+        ensures* writes_back { sem 𝓛 (LendsTableNodes A.row B.row O.row M.row O.OutlineOf self.entry result) }
         ensures value { result.now ≡ self.old.nodes }
     {
         self.nodes.as_mut_slice()
@@ -148,14 +149,14 @@ impl<A, B, M> ParserOf<A, B, M> {
 
     // The handles of the top nodes for writing.
     pub(crate) fn top_mut(&mut self) -> &mut [NodeHandle]
-        ensures* writes_back { sem 𝓛 (LendsTableTop A.row B.row M.row self.entry result) }
+        ensures* writes_back { sem 𝓛 (LendsTableTop A.row B.row O.row M.row O.OutlineOf self.entry result) }
         ensures value { result.now ≡ self.old.top }
     {
         self.top.as_mut_slice()
     }
 }
 
-impl<A: Drop, B: Drop, M: Drop> ParserOf<A, B, M> {
+impl<A: Drop, B: Drop, O: OutlineOf<A>, M: Drop> ParserOf<A, B, O, M> {
     // Makes this what was tracked.
     pub(crate) fn set_tracking(&mut self, tracking: M)
         ensures { self.new ≡ record self.old { tracking = tracking } }
@@ -166,7 +167,10 @@ impl<A: Drop, B: Drop, M: Drop> ParserOf<A, B, M> {
 
 impl NodeHandle {
     /// The node of this number in a table, or None past the table.
-    pub fn get<A, B, M>(self, parser: &ParserOf<A, B, M>) -> Option<&NodeOf<A, B>>
+    pub fn get<A, B, O: OutlineOf<A>, M>(
+        self,
+        parser: &ParserOf<A, B, O, M>,
+    ) -> Option<&NodeOf<A, B, O>>
         ensures { option_copied result ≡ slice_get parser.now.nodes self }
     {
         parser.resolve_node_id(self.get_inner())
@@ -174,8 +178,11 @@ impl NodeHandle {
 
     /// The node of this number in a table for writing, or None past the table. A proof that needs what a write leaves takes
     /// `resolve_node_id_mut` of the table.
-    pub fn get_mut<A, B, M>(self, parser: &mut ParserOf<A, B, M>) -> Option<&mut NodeOf<A, B>>
-        ensures* writes_back { sem 𝓛 (LendsNode A.row B.row M.row parser.entry self result) }
+    pub fn get_mut<A, B, O: OutlineOf<A>, M>(
+        self,
+        parser: &mut ParserOf<A, B, O, M>,
+    ) -> Option<&mut NodeOf<A, B, O>>
+        ensures* writes_back { sem 𝓛 (LendsNode A.row B.row O.row M.row O.OutlineOf parser.entry self result) }
         ensures value { option_copied_mut result ≡ slice_get parser.old.nodes self }
     {
         parser.resolve_handle_mut(self)

@@ -230,9 +230,14 @@ impl<'a> TableBuilder<'a> {
         ensures held { OnOk result (AreHeld S.held self.old → AreHeld S.held self.new) }
     {
         match token {
-            Token::Text(span) => self.add_leaf(alloc, source, span, Node::Raw),
+            Token::Text(span) => self.add_leaf(alloc, source, span, |bytes| Node::Raw(bytes)),
             Token::End(name) => self.end_tag(alloc, source, name.of(source.as_bytes()), to),
-            Token::Comment(span) => self.add_leaf(alloc, source, span, Node::Comment),
+            Token::Comment(span) => self.add_leaf(
+                alloc,
+                source,
+                span,
+                |bytes| Node::Comment(bytes),
+            ),
             Token::Doctype(is_html5) => {
                 self.is_html5 |= is_html5;
                 Ok(())

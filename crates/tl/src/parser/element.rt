@@ -5,10 +5,13 @@ ghost use Rattle.std.specs.Option.{option_copied};
 ghost use Rattle.std.specs.Str.{bytes_eq};
 ghost use Rattle.tl_spec.specs.AttributeEdit.{value_at};
 ghost use Rattle.tl_attributes.specs.ShownAttributes.{shown_entries, shown_attributes};
+ghost use Rattle.tl_bytes.specs.Held.{Kept};
 ghost use Rattle.tl.specs.Shown.{shown};
 
+use crate::parser::tag::HTMLTag;
 use crate::parser::tag::node::Node;
 use tl_attributes::attributes::{Attributes, RawAttributesMap};
+use tl_attributes::outline::ClassOutline;
 use tl_element::Element;
 
 // What stands at a key among the pairs other than `id` and `class`. They are gone through, since the keys of a map live as long as
@@ -33,6 +36,17 @@ fn value_of<'s>(attributes: &'s Attributes<'_>, key: &[u8]) -> Option<Option<&'s
     value_among(attributes.unstable_raw(), key)
 }
 
+// The value of a tag's class, from its attributes only where it isn't at hand.
+fn class_of<'s>(tag: &'s HTMLTag<'_>) -> Option<&'s [u8]>
+    ensures { option_copied result ≡ option_map (λ (bytes : Kept). bytes.list) tag.now.attributes.class }
+{
+    match tag.outline() {
+        ClassOutline::Known(class) => Some(class),
+        ClassOutline::Absent => None,
+        ClassOutline::Unknown => tag.attributes().class().map(|class| class.as_bytes()),
+    }
+}
+
 impl<'a> Element for Node<'a> {
     ghost node = { shown };
 
@@ -52,7 +66,7 @@ impl<'a> Element for Node<'a> {
 
     fn class(&self) -> Option<&[u8]> {
         match self {
-            Node::Tag(tag) => tag.attributes().class().map(|class| class.as_bytes()),
+            Node::Tag(tag) => class_of(tag),
             _ => None,
         }
     }

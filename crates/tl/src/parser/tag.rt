@@ -10,6 +10,7 @@ use crate::parser::handle::NodeHandle;
 use std::alloc::{AllocError, Global};
 use std::marker::Model;
 use tl_attributes::attributes::Attributes;
+use tl_attributes::outline::{ClassOutline, OutlineOf};
 use tl_bytes::byte_string::Bytes;
 use tl_inline::inline::vec::InlineVec;
 
@@ -18,24 +19,27 @@ pub type RawChildren = InlineVec<NodeHandle, 2>;
 
 #[derive(Debug, Drop)]
 struct Parts<A, B> {
-    // A text that is read has at most `u32::MAX` bytes. It stands first, so that the class after it lies in one line of cache.
-    start: u32,
-    name: B,
     attributes: A,
     children: RawChildren,
     raw: B,
+    // A text that is read has at most `u32::MAX` bytes.
+    start: u32,
 }
 
-/// A tag of bytes of the type `B`, with attributes of the type `A`. Its parts lie on the heap, so that a table of nodes stays small.
+/// A tag of bytes of the type `B`, with attributes of the type `A`. What is asked of it most is at hand, and the rest lies on
+/// the heap, so that a table of nodes stays small.
 #[derive(Debug, Drop)]
-pub struct TagOf<A, B> {
+pub struct TagOf<A, B, O: OutlineOf<A>> {
+    name: B,
+    // What is known of the attributes without a look at them.
+    outline: O,
     parts: Box<Parts<A, B>>,
 }
 
 /// A tag: its name, its attributes, the handles of its children, and where it stands in the text.
-pub type HTMLTag<'a> = TagOf<Attributes<'a>, Bytes<'a>>;
+pub type HTMLTag<'a> = TagOf<Attributes<'a>, Bytes<'a>, ClassOutline<'a>>;
 
-impl<A, B> Model for TagOf<A, B> {
+impl<A, B, O: OutlineOf<A>> Model for TagOf<A, B, O> {
     ghost use Rattle.tl.specs.Tag.{Tag, tag_code};
 
     ghost Value = { Tag A B };
@@ -43,15 +47,17 @@ impl<A, B> Model for TagOf<A, B> {
     ghost coded = { tag_code A.code B.code };
 
     ghost view = { λ t. record {
-      name = t.parts.value.name;
+      name = t.name;
       attributes = t.parts.value.attributes;
       children = t.parts.value.children;
       raw = t.parts.value.raw;
       start = t.parts.value.start;
     } };
+
+    ghost invariant = { λ t. O.is_outline t.outline t.parts.value.attributes };
 }
 
-impl<A: Drop, B: Drop> TagOf<A, B> {
+impl<A: Drop, B: Drop, O: OutlineOf<A>> TagOf<A, B, O> {
     ghost use Rattle.tl.specs.Tag.{childless};
 
     // A tag without children.
@@ -64,14 +70,16 @@ impl<A: Drop, B: Drop> TagOf<A, B> {
     ) -> Result<Self, AllocError>
         ensures { IfOk result (λ t. t ≡ childless name attributes raw start) }
     {
+        let outline = O::of(&attributes);
         let parts = Parts {
-            name,
             attributes,
             children: InlineVec::new(alloc),
             raw,
             start,
         };
         Ok(TagOf {
+            name,
+            outline,
             parts: Box::new(alloc, parts)?,
         })
     }
@@ -84,7 +92,7 @@ impl<A: Drop, B: Drop> TagOf<A, B> {
     }
 }
 
-impl<A, B> TagOf<A, B> {
+impl<A, B, O: OutlineOf<A>> TagOf<A, B, O> {
     ghost use Rattle.std.specs.Borrow.{sem};
     ghost use Rattle.tl_spec.specs.Inline.{room, with_last};
     ghost use Rattle.tl.specs.TagLends.{LendsName, LendsAttributes, LendsChildren};
@@ -108,7 +116,7 @@ impl<A, B> TagOf<A, B> {
     pub fn name(&self) -> &B
         ensures { result.now ≡ self.now.name }
     {
-        &self.parts.name
+        &self.name
     }
 
     /// The whole source of the tag: up to the end of its end tag where one closed it, else its start tag alone. No edit changes it.
@@ -125,6 +133,20 @@ impl<A, B> TagOf<A, B> {
         &self.parts.attributes
     }
 
+    // What is known of the attributes without a look at them.
+    pub(crate) fn outline(&self) -> O
+        ensures { O.is_outline result self.now.attributes }
+    {
+        self.outline
+    }
+
+    // Makes the outline that of the attributes as they are.
+    pub(crate) fn renew_outline(&mut self)
+        ensures { self.new ≡ self.old }
+    {
+        self.outline = O::of(&self.parts.attributes);
+    }
+
     // The handles of the children.
     pub(crate) fn child_handles(&self) -> &RawChildren
         ensures { result.now ≡ self.now.children }
@@ -134,23 +156,24 @@ impl<A, B> TagOf<A, B> {
 
     /// The name for writing. The raw keeps the name that was read.
     pub fn name_mut(&mut self) -> &mut B
-        ensures* writes_back { sem 𝓛 (LendsName A.row B.row self.entry result) }
+        ensures* writes_back { sem 𝓛 (LendsName A.row B.row O.row O.OutlineOf self.entry result) }
         ensures value { result.now ≡ self.old.name }
     {
-        &mut self.parts.name
+        &mut self.name
     }
 
     /// The attributes for writing.
     pub fn attributes_mut(&mut self) -> &mut A
-        ensures* writes_back { sem 𝓛 (LendsAttributes A.row B.row self.entry result) }
+        ensures* writes_back { sem 𝓛 (LendsAttributes A.row B.row O.row O.OutlineOf self.entry result) }
         ensures value { result.now ≡ self.old.attributes }
     {
+        self.outline = O::nothing();
         &mut self.parts.attributes
     }
 
     // The handles of the children for writing.
     pub(crate) fn child_handles_mut(&mut self) -> &mut RawChildren
-        ensures* writes_back { sem 𝓛 (LendsChildren A.row B.row self.entry result) }
+        ensures* writes_back { sem 𝓛 (LendsChildren A.row B.row O.row O.OutlineOf self.entry result) }
         ensures value { result.now ≡ self.old.children }
     {
         &mut self.parts.children
@@ -185,16 +208,18 @@ impl<'a> HTMLTag<'a> {
     {
         let parts = &*self.parts;
         let alloc = *Box::allocator(&self.parts);
-        let (name, raw) = copied_texts(&parts.name, &parts.raw)?;
+        let (name, raw) = copied_texts(&self.name, &parts.raw)?;
         let (attributes, children) = copied_lists(&parts.attributes, &parts.children)?;
+        let outline = ClassOutline::of(&attributes);
         let copy = Parts {
-            name,
             attributes,
             children,
             raw,
             start: parts.start,
         };
         Ok(TagOf {
+            name,
+            outline,
             parts: Box::new(alloc, copy)?,
         })
     }

@@ -20,14 +20,13 @@ use std::alloc::AllocError;
 use std::iter::FusedIterator;
 use std::marker::Model;
 use tl_bytes::byte_string::Bytes;
-use tl_lookup::in_class::{InClass, in_class};
-use tl_lookup::scan::first_with_id;
+use tl_lookup::scan::{InClass, first_with_id, in_class};
 
 // Handles that are numbers of a map, or places that a scan finds.
 #[derive(Debug, Drop)]
 enum HandlesLeft<'s, 'a> {
     Tracked(&'s [u32]),
-    Scanned(InClass<'s, 's, Node<'a>>),
+    Scanned(InClass<'s, Node<'a>>),
 }
 
 /// The handles of the tags of a class, rising. A clause sees it as the list of those that are left. A step takes no memory.

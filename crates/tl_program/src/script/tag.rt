@@ -8,7 +8,7 @@ ghost use Rattle.tl_program.specs.Script.{Changes};
 
 use crate::script::step::StepError;
 use std::alloc::{AllocError, Global};
-use tl::{HTMLTag, NodeHandle, TagOf};
+use tl::{HTMLTag, NodeHandle, OutlineOf, TagOf};
 use tl_bytes::byte_string::copied;
 
 // Names the tag.
@@ -97,7 +97,10 @@ pub(super) fn pull_child<'a>(tag: &mut HTMLTag<'a>, place: usize) -> Result<(), 
 }
 
 // A push of a tag of any parts: what a tag with a lifetime holds after the list was lent is not seen.
-fn push_handle<A, B>(tag: &mut TagOf<A, B>, child: NodeHandle) -> Result<(), AllocError>
+fn push_handle<A, B, O: OutlineOf<A>>(
+    tag: &mut TagOf<A, B, O>,
+    child: NodeHandle,
+) -> Result<(), AllocError>
     ensures ok { OnOk result (tag.new ≡ record tag.old { children = with_last room tag.old.children child }) }
     ensures err { OnErr result (tag.new ≡ tag.old) }
 {
@@ -107,7 +110,7 @@ fn push_handle<A, B>(tag: &mut TagOf<A, B>, child: NodeHandle) -> Result<(), All
 }
 
 // The same of a child at a place.
-fn pull_handle<A, B>(tag: &mut TagOf<A, B>, place: usize)
+fn pull_handle<A, B, O: OutlineOf<A>>(tag: &mut TagOf<A, B, O>, place: usize)
     requires { place < length tag.old.children.items }
     ensures { tag.new ≡ record tag.old { children = without_item tag.old.children place } }
 {

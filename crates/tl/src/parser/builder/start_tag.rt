@@ -36,7 +36,9 @@ fn read_into<'a, S: Source<'a>>(
     ensures order { IfOk result (λ end. at ≤ end) }
     ensures within { IfOk result (λ end. end ≤ length (S.text source.now)) }
 {
-    read_attributes(alloc, source, tag.attributes_mut(), at)
+    let end = read_attributes(alloc, source, tag.attributes_mut(), at)?;
+    tag.renew_outline();
+    Ok(end)
 }
 
 /// Reads a start tag of this name that begins at `start` and whose attributes stand from `at` on: its tag, how it ends, and

@@ -5,18 +5,19 @@ use crate::parser::tag::{RawChildren, TagOf};
 use std::alloc::AllocError;
 use std::marker::Model;
 use tl_attributes::attributes::Attributes;
+use tl_attributes::outline::{ClassOutline, OutlineOf};
 use tl_bytes::byte_string::Bytes;
 
 /// The children of a tag for reading, seen as the tag.
 #[derive(Debug, Drop)]
-pub struct ChildrenOf<'b, A, B> {
-    tag: &'b TagOf<A, B>,
+pub struct ChildrenOf<'b, A, B, O: OutlineOf<A>> {
+    tag: &'b TagOf<A, B, O>,
 }
 
 /// The children of a tag of a table.
-pub type Children<'a, 'b> = ChildrenOf<'b, Attributes<'a>, Bytes<'a>>;
+pub type Children<'a, 'b> = ChildrenOf<'b, Attributes<'a>, Bytes<'a>, ClassOutline<'a>>;
 
-impl<'b, A, B> Model for ChildrenOf<'b, A, B> {
+impl<'b, A, B, O: OutlineOf<A>> Model for ChildrenOf<'b, A, B, O> {
     ghost use Rattle.tl.specs.Tag.{Tag, tag_code};
 
     ghost Value = { Tag A B };
@@ -27,7 +28,7 @@ impl<'b, A, B> Model for ChildrenOf<'b, A, B> {
 }
 
 /// A clone has the same tag, and takes no memory.
-impl<'b, A, B> Clone for ChildrenOf<'b, A, B> {
+impl<'b, A, B, O: OutlineOf<A>> Clone for ChildrenOf<'b, A, B, O> {
     ghost is_clone = { λ c copy. copy ≡ c };
 
     ghost is_infallible = { λ _. ⊤ };
@@ -37,7 +38,7 @@ impl<'b, A, B> Clone for ChildrenOf<'b, A, B> {
     }
 }
 
-impl<'b, A, B> ChildrenOf<'b, A, B> {
+impl<'b, A, B, O: OutlineOf<A>> ChildrenOf<'b, A, B, O> {
     /// The handles of the children, in order.
     pub fn top(&self) -> &RawChildren
         ensures { result.now ≡ self.now.children }
@@ -46,9 +47,9 @@ impl<'b, A, B> ChildrenOf<'b, A, B> {
     }
 }
 
-impl<A, B> TagOf<A, B> {
+impl<A, B, O: OutlineOf<A>> TagOf<A, B, O> {
     /// The children for reading.
-    pub fn children(&self) -> ChildrenOf<'_, A, B>
+    pub fn children(&self) -> ChildrenOf<'_, A, B, O>
         ensures { result ≡ self.now }
     {
         ChildrenOf { tag: self }

@@ -5,22 +5,23 @@ ghost use Rattle.tl.specs.ChildrenLends.{LendsTopHandles, lent_tag, lent_name};
 
 use crate::parser::tag::{RawChildren, TagOf};
 use tl_attributes::attributes::Attributes;
+use tl_attributes::outline::{ClassOutline, OutlineOf};
 use tl_bytes::byte_string::Bytes;
 
 /// The children of a tag for writing.
 #[derive(Debug, Drop)]
-pub struct ChildrenMutOf<'b, A, B> {
-    tag: &'b mut TagOf<A, B>,
+pub struct ChildrenMutOf<'b, A, B, O: OutlineOf<A>> {
+    tag: &'b mut TagOf<A, B, O>,
 }
 
 /// The children of a tag of a table for writing.
-pub type ChildrenMut<'a, 'b> = ChildrenMutOf<'b, Attributes<'a>, Bytes<'a>>;
+pub type ChildrenMut<'a, 'b> = ChildrenMutOf<'b, Attributes<'a>, Bytes<'a>, ClassOutline<'a>>;
 
-impl<'b, A, B> ChildrenMutOf<'b, A, B> {
+impl<'b, A, B, O: OutlineOf<A>> ChildrenMutOf<'b, A, B, O> {
     /// The handles of the children, in order. Nothing ties them to a table. A proof that needs what a write leaves calls this
-    /// and `children_mut` in a function generic in `A` and `B`, on `&mut TagOf<A, B>`; a caller at a lifetime calls that one.
+    /// and `children_mut` in a function generic in `A`, `B` and `O`, on `&mut TagOf<A, B, O>`; a caller at a lifetime calls that one.
     pub fn top_mut<'s>(&'s mut self) -> &'s mut RawChildren
-        ensures* writes_back { sem 𝓛 (LendsTopHandles A.row B.row self.entry result) }
+        ensures* writes_back { sem 𝓛 (LendsTopHandles A.row B.row O.row O.OutlineOf self.entry result) }
         ensures value { result.now ≡ (lent_tag self.old).children }
     {
         let tag = &mut *self.tag;
@@ -28,9 +29,9 @@ impl<'b, A, B> ChildrenMutOf<'b, A, B> {
     }
 }
 
-impl<A, B> TagOf<A, B> {
+impl<A, B, O: OutlineOf<A>> TagOf<A, B, O> {
     /// The children for writing. What a write through them leaves is a clause of `top_mut`, which says how a proof learns it.
-    pub fn children_mut(&mut self) -> ChildrenMutOf<'_, A, B>
+    pub fn children_mut(&mut self) -> ChildrenMutOf<'_, A, B, O>
         ensures name { lent_name result ≡ self.entry.ghost_name }
         ensures value { lent_tag result ≡ self.old }
     {

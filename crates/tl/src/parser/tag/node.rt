@@ -9,13 +9,14 @@ use crate::parser::tag::TagOf;
 use crate::parser::tag::children::ChildrenOf;
 use std::alloc::AllocError;
 use tl_attributes::attributes::Attributes;
+use tl_attributes::outline::{ClassOutline, OutlineOf};
 use tl_bytes::byte_string::Bytes;
 
 /// A node of bytes of the type `B`, whose tags have attributes of the type `A`.
 #[derive(Debug, Drop)]
-pub enum NodeOf<A, B> {
+pub enum NodeOf<A, B, O: OutlineOf<A>> {
     /// A tag.
-    Tag(TagOf<A, B>),
+    Tag(TagOf<A, B, O>),
     /// A text.
     Raw(B),
     /// A comment, from its `<` to its `>`; one that never ends has no bytes.
@@ -23,11 +24,11 @@ pub enum NodeOf<A, B> {
 }
 
 /// A node of a table: a tag, a text or a comment.
-pub type Node<'a> = NodeOf<Attributes<'a>, Bytes<'a>>;
+pub type Node<'a> = NodeOf<Attributes<'a>, Bytes<'a>, ClassOutline<'a>>;
 
-impl<A, B> NodeOf<A, B> {
+impl<A, B, O: OutlineOf<A>> NodeOf<A, B, O> {
     /// The tag, if it is one.
-    pub fn as_tag(&self) -> Option<&TagOf<A, B>>
+    pub fn as_tag(&self) -> Option<&TagOf<A, B, O>>
         ensures { option_copied result ≡ tag_of self.now }
     {
         match self {
@@ -57,8 +58,8 @@ impl<A, B> NodeOf<A, B> {
     }
 
     /// The tag for writing, if it is one.
-    pub fn as_tag_mut(&mut self) -> Option<&mut TagOf<A, B>>
-        ensures* writes_back { sem 𝓛 (LendsTag A.row B.row self.entry result) }
+    pub fn as_tag_mut(&mut self) -> Option<&mut TagOf<A, B, O>>
+        ensures* writes_back { sem 𝓛 (LendsTag A.row B.row O.row O.OutlineOf self.entry result) }
         ensures value { option_copied_mut result ≡ tag_of self.old }
     {
         match self {
@@ -69,7 +70,7 @@ impl<A, B> NodeOf<A, B> {
 
     /// The bytes of the text for writing, if it is one.
     pub fn as_raw_mut(&mut self) -> Option<&mut B>
-        ensures* writes_back { sem 𝓛 (LendsRaw A.row B.row self.entry result) }
+        ensures* writes_back { sem 𝓛 (LendsRaw A.row B.row O.row O.OutlineOf self.entry result) }
         ensures value { option_copied_mut result ≡ raw_of self.old }
     {
         match self {
@@ -80,7 +81,7 @@ impl<A, B> NodeOf<A, B> {
 
     /// The bytes of the comment for writing, if it is one.
     pub fn as_comment_mut(&mut self) -> Option<&mut B>
-        ensures* writes_back { sem 𝓛 (LendsComment A.row B.row self.entry result) }
+        ensures* writes_back { sem 𝓛 (LendsComment A.row B.row O.row O.OutlineOf self.entry result) }
         ensures value { option_copied_mut result ≡ comment_of self.old }
     {
         match self {
@@ -90,9 +91,9 @@ impl<A, B> NodeOf<A, B> {
     }
 }
 
-impl<A, B> NodeOf<A, B> {
+impl<A, B, O: OutlineOf<A>> NodeOf<A, B, O> {
     /// The children, if it is a tag.
-    pub fn children(&self) -> Option<ChildrenOf<'_, A, B>>
+    pub fn children(&self) -> Option<ChildrenOf<'_, A, B, O>>
         ensures { result ≡ tag_of self.now }
     {
         match self {

@@ -12,9 +12,10 @@ use crate::parser::handle::{InnerNodeHandle, NodeHandle};
 use crate::parser::tag::children::{Children, ChildrenOf};
 use crate::parser::tag::node::Node;
 use std::ops::Range;
+use tl_attributes::outline::OutlineOf;
 use tl_range::range;
 
-impl<'b, A, B> ChildrenOf<'b, A, B> {
+impl<'b, A, B, O: OutlineOf<A>> ChildrenOf<'b, A, B, O> {
     /// The number of the first child, which is not looked up; None where there is no child.
     pub fn start(&self) -> Option<InnerNodeHandle>
         ensures { result ≡ slice_get self.now.children.items 0 }

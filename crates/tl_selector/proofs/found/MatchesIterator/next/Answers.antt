@@ -1,7 +1,7 @@
 use Rattle.std.proofs.Common.{◌∙◌, map, subst, sym, arith, rules}
 use Rattle.tl_selector.specs.Found.{is_found, IsFirst}
 use Rattle.tl_selector.proofs.Numbers.{numbers_first, numbers_none}
-use Rattle.tl_selector.proofs.tested.TestedIterator.next.Goals as goal
+use Rattle.tl_selector.proofs.found.MatchesIterator.next.Goals as goal
 
 pub returns-in_default-clause-steps : goal.returns-in_default-clause-steps
 returns-in_default-clause-steps g c =
