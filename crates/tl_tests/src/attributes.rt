@@ -12,7 +12,7 @@ const UPPER: &str = "<p ID=i CLASS=k>";
 
 const CLASS: &str = "<p class=\"a b\tb\">";
 
-static LOOKS: [Row; 23] = [
+static LOOKS: [Row; 27] = [
     (PAGE, &[], Look::Key("a"), "4, there"),
     (PAGE, &[], Look::Key("c"), "3, there"),
     (PAGE, &[], Look::Key("id"), "i, there"),
@@ -46,6 +46,10 @@ static LOOKS: [Row; 23] = [
     (CLASS, &[], Look::Member("A"), "false"),
     (CLASS, &[], Look::Member(""), "false"),
     (CLASS, &[], Look::Member("a b"), "false"),
+    (PAGE, &[], Look::Outline, "k/unknown"),
+    (UPPER, &[], Look::Outline, "absent/unknown"),
+    ("<p class>", &[], Look::Outline, "absent/unknown"),
+    ("<p class=''>", &[], Look::Outline, "/unknown"),
 ];
 
 #[test]

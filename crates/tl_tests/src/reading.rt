@@ -273,5 +273,5 @@ fn deep_nesting(rt: HostRuntime) -> Result<(), Fail> {
 #[test]
 fn sizes(rt: HostRuntime) {
     assert!(rt; size_of::<Bytes<'static>>() <= 32);
-    assert!(rt; size_of::<Node<'static>>() <= 40);
+    assert!(rt; size_of::<Node<'static>>() <= 72);
 }

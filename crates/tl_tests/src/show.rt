@@ -5,7 +5,10 @@ use std::fmt::Write;
 use std::process::Abort;
 use std::test::Fail;
 use tl::errors::TreeError;
-use tl::{Attributes, Bytes, HTMLTag, Node, NodeHandle, Parser, ParserOptions, VDom, parse};
+use tl::{
+    Attributes, Bytes, ClassOutline, HTMLTag, Node, NodeHandle, OutlineOf, Parser, ParserOptions,
+    VDom, parse,
+};
 
 // What is looked at.
 pub enum Look {
@@ -25,6 +28,8 @@ pub enum Look {
     Members,
     // Whether the class of the first tag has a member.
     Member(&'static str),
+    // What is known of the class of the first tag, and after a `/` what is known of all.
+    Outline,
 }
 
 // A page, what is done to its document, what is looked at then, and what that shows.
@@ -83,6 +88,7 @@ fn show(
         Look::Measures => show_measures(document, out),
         Look::Members => show_members(document, out),
         Look::Member(class) => show_member(document, class, out),
+        Look::Outline => show_outlines(document, out),
     }
 }
 
@@ -359,4 +365,19 @@ fn show_members(document: &VDom<'static>, out: &mut String) -> Result<(), Fail> 
 fn show_member(document: &VDom<'static>, class: &str, out: &mut String) -> Result<(), Fail> {
     let found = first_of(document)?.is_class_member(class.as_bytes());
     Ok(write!(out, "{found}")?)
+}
+
+fn show_outlines(document: &VDom<'static>, out: &mut String) -> Result<(), Fail> {
+    let attributes = first_of(document)?;
+    show_outline(ClassOutline::of(attributes), out)?;
+    out.push('/')?;
+    Ok(show_outline(ClassOutline::nothing(), out)?)
+}
+
+fn show_outline(outline: ClassOutline<'_>, out: &mut String) -> Result<(), AllocError> {
+    match outline {
+        ClassOutline::Unknown => out.push_str("unknown"),
+        ClassOutline::Absent => out.push_str("absent"),
+        ClassOutline::Known(class) => show_bytes(&Bytes::from(class), out),
+    }
 }
