@@ -1,44 +1,53 @@
 -- Marks of a selector from those of its parts.
-use Rattle.std.proofs.Common.{◌≡◌, ◌<◌, ◌⊎◌, ◌&&◌, ◌||◌, ℕ, zero, suc, Bool, true, false, List, [], ◌∷◌, length, map, refl, sym, ap, ◌∙◌, arith, inl, inr, slice_get, Option, None, Some}
+use Rattle.std.proofs.Common.{◌≡◌, ◌<◌, ◌≤◌, ◌⊎◌, ◌&&◌, ◌||◌, ℕ, zero, suc, Bool, true, false, List, [], ◌∷◌, length, refl, sym, ◌∙◌, arith, inl, inr, slice_get, Option, None, Some}
 use Rattle.std.specs.Bool.{Decides}
 use Rattle.std.specs.Option.{IsSomeAnd, option_map_or}
-use Rattle.std.proofs.lemmas.Bool.{and_from, and_parts, or_cases, or_left, or_parts, or_right}
+use Rattle.std.proofs.lemmas.Bool.{and_from, and_parts, cases_lt, or_cases, or_left, or_parts, or_right}
 use Rattle.tl_spec.specs.Document.{Node}
 use Rattle.tl_spec.specs.Selector.{Selector, Tag, Id, Class, All, And, Or, Descendant, Parent, Attribute, AttributeValue, AttributeValueWhitespacedContains, AttributeValueStartsWith, AttributeValueEndsWith, AttributeValueSubstring}
 use Rattle.tl_spec.specs.SelectorMeaning.{Holds, HoldsAlone, has_joint}
 use Rattle.tl_spec.specs.SelectorSearch.{holds_alone}
-use Rattle.tl_selector.specs.Marks.{is_at, IsUnderMark, IsBelowMark, AreMarks}
+use Rattle.tl_selector.specs.Marks.{is_among, is_at, IsUnderMark, IsBelowMark, AreMarks}
 use Rattle.tl_spec.proofs.SelectorTests.{holds_alone-is, some-passes}
 
-pub marks_and : (a b : Selector) (g : List Node) (x y z : List Bool) → AreMarks a g x → AreMarks b g y → length z ≡ length x → ((n : ℕ) → is_at z n ≡ (is_at x n && is_at y n)) → AreMarks (And a b) g z
-marks_and a b g x y z h k l f = record {
-  len = l ∙ h.len;
-  sound = λ n e. let p = and_parts (is_at x n) (is_at y n) (sym (f n) ∙ e) in (h.sound n p.0, k.sound n p.1);
-  complete = λ n e. f n ∙ and_from (is_at x n) (is_at y n) (h.complete n e.0) (k.complete n e.1);
-}
+module _ (among : Option (List Bool)) (a b : Selector) (g : List Node) where
+  pub marks_and : (x z : List Bool) → AreMarks among a g x → AreMarks (Some x) b g z → AreMarks among (And a b) g z
+  marks_and x z h k = record {
+    len = k.len;
+    sound = λ n e. let p = k.sound n e in let q = h.sound n p.0 in (q.0, (q.1, p.1));
+    complete = λ n m e. k.complete n (h.complete n m e.0) e.1;
+  }
 
-pub marks_or : (a b : Selector) (g : List Node) (x y z : List Bool) → AreMarks a g x → AreMarks b g y → length z ≡ length x → ((n : ℕ) → is_at z n ≡ (is_at x n || is_at y n)) → AreMarks (Or a b) g z
-marks_or a b g x y z h k l f = record {
-  len = l ∙ h.len;
-  sound = λ n e. elim (or_cases (is_at x n) (is_at y n) (sym (f n) ∙ e)) [ inl p ↦ inl (h.sound n p) | inr p ↦ inr (k.sound n p) ];
-  complete = λ n e. elim e [ inl p ↦ f n ∙ or_left (is_at x n) (is_at y n) (h.complete n p) | inr p ↦ f n ∙ or_right (is_at x n) (is_at y n) (k.complete n p) ];
-}
+  pub marks_or : (x y z : List Bool) → AreMarks among a g x → AreMarks among b g y → length z ≡ length x → ((n : ℕ) → is_at z n ≡ (is_at x n || is_at y n)) → AreMarks among (Or a b) g z
+  marks_or x y z h k l f = record {
+    len = l ∙ h.len;
+    sound = λ n e. elim (or_cases (is_at x n) (is_at y n) (sym (f n) ∙ e)) [ inl p ↦ let q = h.sound n p in (q.0, inl q.1) | inr p ↦ let q = k.sound n p in (q.0, inr q.1) ];
+    complete = λ n m e. elim e [ inl p ↦ f n ∙ or_left (is_at x n) (is_at y n) (h.complete n m p) | inr p ↦ f n ∙ or_right (is_at x n) (is_at y n) (k.complete n m p) ];
+  }
 
-pub marks_below : (a b : Selector) (g : List Node) (x y w z : List Bool) → AreMarks a g x → AreMarks b g y → length w ≡ length g → ((n : ℕ) → is_at w n ≡ true → IsBelowMark g x n) → ((n : ℕ) → IsBelowMark g x n → is_at w n ≡ true)
-    → length z ≡ length w → ((n : ℕ) → is_at z n ≡ (is_at w n && is_at y n)) → AreMarks (Descendant a b) g z
-marks_below a b g x y w z h k m s c l f = record {
-  len = l ∙ m;
-  sound = λ n e. let p = and_parts (is_at w n) (is_at y n) (sym (f n) ∙ e) in let q = s n p.0 in (k.sound n p.1, q.0, h.sound q.0 q.2, (q.1, q.3));
-  complete = λ n e. f n ∙ and_from (is_at w n) (is_at y n) (c n (e.1, e.3.0, h.complete e.1 e.2, e.3.1)) (k.complete n e.0);
-}
+  pub marks_below : (x w v z : List Bool) → AreMarks None a g x → ((n : ℕ) → is_at w n ≡ true → IsBelowMark g x n) → ((n : ℕ) → IsBelowMark g x n → is_at w n ≡ true)
+      → ((n : ℕ) → is_at v n ≡ (is_at w n && is_among among n)) → AreMarks (Some v) b g z → AreMarks among (Descendant a b) g z
+  marks_below x w v z h s c f k = record {
+    len = k.len;
+    sound = λ n e.
+        let p = k.sound n e in
+        let q = and_parts (is_at w n) (is_among among n) (sym (f n) ∙ p.0) in
+        let r = s n q.0 in
+        (q.1, (p.1, r.0, (h.sound r.0 r.2).1, (r.1, r.3)));
+    complete = λ n m e. k.complete n (f n ∙ and_from (is_at w n) (is_among among n) (c n (e.1, e.3.0, h.complete e.1 refl e.2, e.3.1)) m) e.0;
+  }
 
-pub marks_under : (a b : Selector) (g : List Node) (x y w z : List Bool) → AreMarks a g x → AreMarks b g y → length w ≡ length g → ((n : ℕ) → is_at w n ≡ true → IsUnderMark g x n) → ((n : ℕ) → IsUnderMark g x n → is_at w n ≡ true)
-    → length z ≡ length w → ((n : ℕ) → is_at z n ≡ (is_at w n && is_at y n)) → AreMarks (Parent a b) g z
-marks_under a b g x y w z h k m s c l f = record {
-  len = l ∙ m;
-  sound = λ n e. let p = and_parts (is_at w n) (is_at y n) (sym (f n) ∙ e) in let q = s n p.0 in (k.sound n p.1, q.0, h.sound q.0 q.1, q.2);
-  complete = λ n e. f n ∙ and_from (is_at w n) (is_at y n) (c n (e.1, h.complete e.1 e.2, e.3)) (k.complete n e.0);
-}
+  pub marks_under : (x w v z : List Bool) → AreMarks None a g x → ((n : ℕ) → is_at w n ≡ true → IsUnderMark g x n) → ((n : ℕ) → IsUnderMark g x n → is_at w n ≡ true)
+      → ((n : ℕ) → is_at v n ≡ (is_at w n && is_among among n)) → AreMarks (Some v) b g z → AreMarks among (Parent a b) g z
+  marks_under x w v z h s c f k = record {
+    len = k.len;
+    sound = λ n e.
+        let p = k.sound n e in
+        let q = and_parts (is_at w n) (is_among among n) (sym (f n) ∙ p.0) in
+        let r = s n q.0 in
+        (q.1, (p.1, r.0, (h.sound r.0 r.1).1, r.2));
+    complete = λ n m e. k.complete n (f n ∙ and_from (is_at w n) (is_among among n) (c n (e.1, h.complete e.1 refl e.2, e.3)) m) e.0;
+  }
 
 both : (o : Option Node) (P Q : Node → Type 0) → IsSomeAnd o P → IsSomeAnd o Q → IsSomeAnd o (λ d. P d × Q d)
 both None P Q h k = absurd h
@@ -100,20 +109,29 @@ without_tells e h g n =
     let t = holds_without e h g n in
     (λ k. t.1 (s.0 k), λ k. s.1 (t.0 k))
 
-at-map : (p : Node → Bool) (g : List Node) (n : ℕ) → is_at (map p g) n ≡ option_map_or p (slice_get g n) false
-at-map p [] n = refl
-at-map p (d ∷ g) zero = refl
-at-map p (d ∷ g) (suc n) = at-map p g n
+past-none : (p : Node → Bool) (g : List Node) (n : ℕ) → length g ≤ n → option_map_or p (slice_get g n) false ≡ false
+past-none p [] n h = refl
+past-none p (d ∷ g) zero h = absurd (omega arith)
+past-none p (d ∷ g) (suc n) h = past-none p g n (omega arith)
 
-length-marks : (p : Node → Bool) (g : List Node) → length (map p g) ≡ length g
-length-marks p [] = refl
-length-marks p (d ∷ g) = ap suc (length-marks p g)
+past-mark : (z : List Bool) (n : ℕ) → length z ≤ n → is_at z n ≡ false
+past-mark [] n h = refl
+past-mark (b ∷ z) zero h = absurd (omega arith)
+past-mark (b ∷ z) (suc n) h = past-mark z n (omega arith)
 
-pub marks_without : (e : Selector) → has_joint e ≡ false → (g : List Node) → AreMarks e g (map (holds_alone e) g)
-marks_without e h g = record {
-  len = length-marks (holds_alone e) g;
-  sound = λ n k. (without_tells e h g n).0 (sym (at-map (holds_alone e) g n) ∙ k);
-  complete = λ n k. at-map (holds_alone e) g n ∙ (without_tells e h g n).1 k;
+-- marks that tell at each node whether it is in question and the selector's test passes there
+pub marks_without : (among : Option (List Bool)) (e : Selector) → has_joint e ≡ false → (g : List Node) (z : List Bool) → length z ≡ length g
+    → ((n : ℕ) → n < length g → is_at z n ≡ (is_among among n && option_map_or (holds_alone e) (slice_get g n) false)) → AreMarks among e g z
+marks_without among e h g z l f = record {
+  len = l;
+  sound = λ n k. elim (cases_lt n (length g)) [
+    | inl w ↦ let p = and_parts (is_among among n) (option_map_or (holds_alone e) (slice_get g n) false) (sym (f n w) ∙ k) in (p.0, (without_tells e h g n).0 p.1)
+    | inr w ↦ let none = past-mark z n (omega (arith, l)) in cc
+  ];
+  complete = λ n m k. elim (cases_lt n (length g)) [
+    | inl w ↦ f n w ∙ and_from (is_among among n) (option_map_or (holds_alone e) (slice_get g n) false) m ((without_tells e h g n).1 k)
+    | inr w ↦ let none = past-none (holds_alone e) g n w in let some = (without_tells e h g n).1 k in cc
+  ];
 }
 
 some-within : (g : List Node) (n : ℕ) (P : Node → Type 0) → IsSomeAnd (slice_get g n) P → n < length g

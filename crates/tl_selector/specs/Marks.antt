@@ -1,5 +1,5 @@
 -- Marks of the nodes of a table, and how they are passed on to children.
-use Rattle.std.specs.Prelude.{◌≡◌, ℕ, Bool, true, false, List, [], ◌∷◌, ◌++◌, length, nat_eq, slice_get, slice_index_or, slice_set, if◌then◌else◌}
+use Rattle.std.specs.Prelude.{◌≡◌, ℕ, Bool, true, false, Option, List, [], ◌∷◌, ◌++◌, length, nat_eq, slice_get, slice_index_or, slice_set, if◌then◌else◌}
 use Rattle.std.specs.List.{cons_option, list_any}
 use Rattle.std.specs.Option.{option_map_or}
 use Rattle.tl_spec.specs.Document.{Node}
@@ -40,8 +40,12 @@ IsUnderMark nodes marks n = (m : ℕ) × (is_at marks m ≡ true) × IsChild nod
 abbrev pub IsBelowMark : List Node → List Bool → ℕ → Type 0
 IsBelowMark nodes marks n = (m : ℕ) × (k : ℕ) × (is_at marks m ≡ true) × IsChain nodes k m n
 
--- a mark for each node where the selector holds, and for no other
-pub record AreMarks (e : Selector) (nodes : List Node) (marks : List Bool) : Type 0 where
+-- whether a node is in question: one with a mark, and where no marks are given each
+abbrev pub is_among : Option (List Bool) → ℕ → Bool
+is_among among n = option_map_or (λ marks. is_at marks n) among true
+
+-- a mark for each node in question where the selector holds, and for no other
+pub record AreMarks (among : Option (List Bool)) (e : Selector) (nodes : List Node) (marks : List Bool) : Type 0 where
   pub len : length marks ≡ length nodes
-  pub sound : (n : ℕ) → is_at marks n ≡ true → Holds nodes e n
-  pub complete : (n : ℕ) → Holds nodes e n → is_at marks n ≡ true
+  pub sound : (n : ℕ) → is_at marks n ≡ true → (is_among among n ≡ true) × Holds nodes e n
+  pub complete : (n : ℕ) → is_among among n ≡ true → Holds nodes e n → is_at marks n ≡ true

@@ -1,11 +1,11 @@
 //! A mark for each node where a selector holds. Each part of the selector costs a pass over the nodes and their
 //! children, however deep the table is and however often a node stands among children.
 ghost use Rattle.std.specs.Prelude.{◌≡◌, ◌↔◌, ℕ, List, IsTrue, IsOk, IfOk, OnOk, length, true, false, map, slice_get, ◌&&◌, ◌||◌};
-ghost use Rattle.std.specs.Option.{option_map_or};
+ghost use Rattle.std.specs.Option.{option_copied, option_map_or};
 ghost use Rattle.tl_spec.specs.Element.{children_of};
 ghost use Rattle.tl_spec.specs.SelectorMeaning.{Holds, has_joint};
 ghost use Rattle.tl_spec.specs.SelectorSearch.{holds_alone};
-ghost use Rattle.tl_selector.specs.Marks.{is_at, is_in, mark_one, spread, child_at, children_at, IsUnderMark, IsBelowMark, AreMarks};
+ghost use Rattle.tl_selector.specs.Marks.{is_among, is_at, is_in, mark_one, spread, child_at, children_at, IsUnderMark, IsBelowMark, AreMarks};
 ghost use Rattle.tl_selector.specs.View.{selector};
 
 use crate::selector::Selector;
@@ -28,6 +28,16 @@ pub fn is_marked(marks: &[bool], number: usize) -> bool
     ensures { result ≡ is_at marks.now number }
 {
     number < marks.len() && marks[number]
+}
+
+// Whether a node is in question: where no marks are given, every node is.
+fn is_among(among: Option<&[bool]>, number: usize) -> bool
+    ensures { result ≡ is_among (option_copied among.entry) number }
+{
+    match among {
+        Some(marks) => is_marked(marks, number),
+        None => true,
+    }
 }
 
 /// Whether the selector holds at the node alone.
@@ -147,82 +157,77 @@ fn under<N: Element>(alloc: Global, nodes: &[N], holds: &[bool]) -> Result<Vec<b
     Ok(marks)
 }
 
-// Leaves the marks that both have.
-fn meet(a: &mut Vec<bool>, b: &[bool])
-    requires { length a.old.items ≡ length b.now }
-    ensures len { length a.new.items ≡ length a.old.items }
-    ensures both { (n : ℕ) → is_at a.new.items n ≡ (is_at a.old.items n && is_at b.now n) }
+// Takes the mark from each node that is not in question.
+fn keep_among(marks: &mut Vec<bool>, among: Option<&[bool]>)
+    ensures len { length marks.new.items ≡ length marks.old.items }
+    ensures kept { (n : ℕ) → is_at marks.new.items n ≡ (is_at marks.old.items n && is_among (option_copied among.entry) n) }
 {
-    for i in 0..a.len() {
-        a[i] = a[i] && b[i];
+    for (number, mark) in marks.iter_mut().enumerate() {
+        *mark = *mark && is_among(among, number);
     }
 }
 
 // Adds the marks of the other.
-fn unite(a: &mut Vec<bool>, b: &[bool])
-    requires { length a.old.items ≡ length b.now }
-    ensures len { length a.new.items ≡ length a.old.items }
-    ensures either { (n : ℕ) → is_at a.new.items n ≡ (is_at a.old.items n || is_at b.now n) }
+fn unite(marks: &mut Vec<bool>, others: &[bool])
+    requires { length marks.old.items ≡ length others.now }
+    ensures len { length marks.new.items ≡ length marks.old.items }
+    ensures either { (n : ℕ) → is_at marks.new.items n ≡ (is_at marks.old.items n || is_at others.now n) }
 {
-    for i in 0..a.len() {
-        a[i] = a[i] || b[i];
+    for (number, mark) in marks.iter_mut().enumerate() {
+        *mark = *mark || others[number];
     }
 }
 
-// The marks of a selector that asks for no ancestors.
-fn without<N: Element>(
+// The marks of a selector that asks for no ancestors, which is asked only at the nodes in question.
+fn marks_alone<N: Element>(
     alloc: Global,
     nodes: &[N],
+    among: Option<&[bool]>,
     e: &Selector<'_>,
 ) -> Result<Vec<bool>, AllocError>
-    ensures { IfOk result (λ marks. marks.items ≡ map (holds_alone (selector e.now)) (map N.node nodes.now)) }
+    ensures { has_joint (selector e.now) ≡ false → IfOk result (λ marks. AreMarks (option_copied among.entry) (selector e.now) (map N.node nodes.now) marks.items) }
 {
     let mut marks = Vec::with_capacity(alloc, nodes.len())?;
-    for node in nodes {
-        marks.push(holds_alone(e, node))?;
+    for (number, node) in nodes.iter().enumerate() {
+        marks.push(is_among(among, number) && holds_alone(e, node))?;
     }
     Ok(marks)
 }
 
-/// A mark for each node where the selector holds.
+/// A mark for each node in question where the selector holds. In question are the nodes that `among` marks, and where it is
+/// `None` all: so the second of two parts is asked only where the first holds.
 pub fn marks<N: Element>(
     alloc: Global,
     nodes: &[N],
+    among: Option<&[bool]>,
     e: &Selector<'_>,
 ) -> Result<Vec<bool>, AllocError>
-    ensures { IfOk result (λ marks. AreMarks (selector e.now) (map N.node nodes.now) marks.items) }
+    ensures { IfOk result (λ marks. AreMarks (option_copied among.entry) (selector e.now) (map N.node nodes.now) marks.items) }
 {
-    if !has_joint(e) {
-        return without(alloc, nodes, e);
-    }
     match e {
         Selector::And(a, b) => {
-            let mut first = marks(alloc, nodes, a)?;
-            let second = marks(alloc, nodes, b)?;
-            meet(&mut first, &second);
-            Ok(first)
+            let first = marks(alloc, nodes, among, a)?;
+            marks(alloc, nodes, Some(&first), b)
         }
         Selector::Or(a, b) => {
-            let mut first = marks(alloc, nodes, a)?;
-            let second = marks(alloc, nodes, b)?;
+            let mut first = marks(alloc, nodes, among, a)?;
+            let second = marks(alloc, nodes, among, b)?;
             unite(&mut first, &second);
             Ok(first)
         }
         Selector::Descendant(a, b) => {
-            let first = marks(alloc, nodes, a)?;
-            let second = marks(alloc, nodes, b)?;
-            let mut lower = below(alloc, nodes, &first)?;
-            meet(&mut lower, &second);
-            Ok(lower)
+            let above = marks(alloc, nodes, None, a)?;
+            let mut lower = below(alloc, nodes, &above)?;
+            keep_among(&mut lower, among);
+            marks(alloc, nodes, Some(&lower), b)
         }
         Selector::Parent(a, b) => {
-            let first = marks(alloc, nodes, a)?;
-            let second = marks(alloc, nodes, b)?;
-            let mut lower = under(alloc, nodes, &first)?;
-            meet(&mut lower, &second);
-            Ok(lower)
+            let above = marks(alloc, nodes, None, a)?;
+            let mut lower = under(alloc, nodes, &above)?;
+            keep_among(&mut lower, among);
+            marks(alloc, nodes, Some(&lower), b)
         }
-        _ => without(alloc, nodes, e),
+        _ => marks_alone(alloc, nodes, among, e),
     }
 }
 
@@ -237,7 +242,7 @@ pub fn holds_at<N: Element>(
     ensures alone { has_joint (selector e.now) ≡ false → IsOk result }
 {
     if has_joint(e) {
-        let marked = marks(alloc, nodes, e)?;
+        let marked = marks(alloc, nodes, None, e)?;
         Ok(is_marked(&marked, number))
     } else {
         Ok(holds_alone_at(e, nodes, number))

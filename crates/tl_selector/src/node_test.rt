@@ -29,7 +29,7 @@ pub fn test_of<'s, N: Element>(
     ensures alone { has_joint (selector_of selector.entry) ≡ false → IsOk result }
 {
     if has_joint(&selector) {
-        Ok(Test::Marked(marks(alloc, nodes, &selector)?))
+        Ok(Test::Marked(marks(alloc, nodes, None, &selector)?))
     } else {
         Ok(Test::Alone(selector))
     }

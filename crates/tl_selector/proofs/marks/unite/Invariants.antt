@@ -2,9 +2,9 @@ use Rattle.std.proofs.Common.{◌≡◌, ◌<◌, ◌≤◌, ◌||◌, ℕ, leng
 use Rattle.tl_selector.specs.Marks.{is_at}
 use Rattle.tl_selector.proofs.marks.unite.Given as goal
 
-abbrev pub invariant-loop-i : goal.invariant-loop-i
-invariant-loop-i l = record {
-  len : length l.a.items ≡ length l.fn.a.items;
-  done : (n : ℕ) → n < l.i → is_at l.a.items n ≡ (is_at l.fn.a.items n || is_at l.b n);
-  left : (n : ℕ) → l.i ≤ n → is_at l.a.items n ≡ is_at l.fn.a.items n;
+abbrev pub invariant-loop-number : goal.invariant-loop-number
+invariant-loop-number l = record {
+  len : length l.mark-items ≡ length l.fn.marks.items;
+  done : (n : ℕ) → n < l.number → is_at l.mark-items n ≡ (is_at l.fn.marks.items n || is_at l.others n);
+  left : (n : ℕ) → l.number ≤ n → is_at l.mark-items n ≡ is_at l.fn.marks.items n;
 }
