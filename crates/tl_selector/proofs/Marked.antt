@@ -1,8 +1,10 @@
 -- Marks of a selector from those of its parts.
-use Rattle.std.proofs.Common.{◌≡◌, ◌<◌, ◌≤◌, ◌⊎◌, ◌&&◌, ◌||◌, ℕ, zero, suc, Bool, true, false, List, [], ◌∷◌, length, refl, sym, ◌∙◌, arith, inl, inr, slice_get, Option, None, Some}
+use Rattle.std.proofs.Common.{◌≡◌, ◌<◌, ◌⊎◌, ◌&&◌, ◌||◌, ℕ, zero, suc, Bool, true, false, List, [], ◌∷◌, length, refl, sym, ap, ◌∙◌, arith, inl, inr, slice_get, Option, None, Some}
 use Rattle.std.specs.Bool.{Decides}
 use Rattle.std.specs.Option.{IsSomeAnd, option_map_or}
 use Rattle.std.proofs.lemmas.Bool.{and_from, and_parts, cases_lt, or_cases, or_left, or_parts, or_right}
+use Rattle.std.proofs.lemmas.List.{get_or_past}
+use Rattle.std.proofs.lemmas.Option.{slice_get_past}
 use Rattle.tl_spec.specs.Document.{Node}
 use Rattle.tl_spec.specs.Selector.{Selector, Tag, Id, Class, All, And, Or, Descendant, Parent, Attribute, AttributeValue, AttributeValueWhitespacedContains, AttributeValueStartsWith, AttributeValueEndsWith, AttributeValueSubstring}
 use Rattle.tl_spec.specs.SelectorMeaning.{Holds, HoldsAlone, has_joint}
@@ -109,16 +111,6 @@ without_tells e h g n =
     let t = holds_without e h g n in
     (λ k. t.1 (s.0 k), λ k. s.1 (t.0 k))
 
-past-none : (p : Node → Bool) (g : List Node) (n : ℕ) → length g ≤ n → option_map_or p (slice_get g n) false ≡ false
-past-none p [] n h = refl
-past-none p (d ∷ g) zero h = absurd (omega arith)
-past-none p (d ∷ g) (suc n) h = past-none p g n (omega arith)
-
-past-mark : (z : List Bool) (n : ℕ) → length z ≤ n → is_at z n ≡ false
-past-mark [] n h = refl
-past-mark (b ∷ z) zero h = absurd (omega arith)
-past-mark (b ∷ z) (suc n) h = past-mark z n (omega arith)
-
 -- marks that tell at each node whether it is in question and the selector's test passes there
 pub marks_without : (among : Option (List Bool)) (e : Selector) → has_joint e ≡ false → (g : List Node) (z : List Bool) → length z ≡ length g
     → ((n : ℕ) → n < length g → is_at z n ≡ (is_among among n && option_map_or (holds_alone e) (slice_get g n) false)) → AreMarks among e g z
@@ -126,11 +118,11 @@ marks_without among e h g z l f = record {
   len = l;
   sound = λ n k. elim (cases_lt n (length g)) [
     | inl w ↦ let p = and_parts (is_among among n) (option_map_or (holds_alone e) (slice_get g n) false) (sym (f n w) ∙ k) in (p.0, (without_tells e h g n).0 p.1)
-    | inr w ↦ let none = past-mark z n (omega (arith, l)) in cc
+    | inr w ↦ let none = get_or_past z n false (omega (arith, l)) in cc
   ];
   complete = λ n m k. elim (cases_lt n (length g)) [
     | inl w ↦ f n w ∙ and_from (is_among among n) (option_map_or (holds_alone e) (slice_get g n) false) m ((without_tells e h g n).1 k)
-    | inr w ↦ let none = past-none (holds_alone e) g n w in let some = (without_tells e h g n).1 k in cc
+    | inr w ↦ let none = ap (λ (o : Option Node). option_map_or (holds_alone e) o false) (slice_get_past g n w) in let some = (without_tells e h g n).1 k in cc
   ];
 }
 
