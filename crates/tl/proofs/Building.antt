@@ -1,5 +1,5 @@
 -- A table that is being written: how its nodes are held, and where its open tags are.
-use Rattle.std.proofs.Common.{◌≡◌, ℕ, ◌<◌, List, [], ◌∷◌, ◌++◌, length, get_or, set, reverse, Some, sym, subst, ◌∙◌}
+use Rattle.std.proofs.Common.{◌≡◌, ℕ, ◌<◌, Bool, true, false, cond, List, [], ◌∷◌, ◌++◌, length, get_or, set, reverse, Some, sym, subst, ◌∙◌}
 use Rattle.std.specs.Prelude.{All, slice_get, ◌-◌}
 use Rattle.std.proofs.lemmas.List.Elements.{All-set, All-push, All-pop}
 use Rattle.std.proofs.lemmas.Option.{get_or_from_slice_get, slice_get_within}
@@ -26,6 +26,11 @@ innermost_within n tags p all e =
 -- and so is the last one, where others stand before it
 pub last_within : (n : ℕ) (tags others : List ℕ) (p : ℕ) → All (λ p. p < n) tags → tags ≡ others ++ p ∷ [] → p < n
 last_within n tags others p all e = (All-pop (λ p. p < n) tags others (Some p) e all).1
+
+-- a node may be opened after them, or be refused
+pub opened_within : (n p : ℕ) (tags more : List ℕ) (b : Bool) → more ≡ cond b (tags ++ p ∷ []) tags → p < n → All (λ p. p < n) tags → All (λ p. p < n) more
+opened_within n p tags more true e h all = subst (All (λ p. p < n)) (sym e) (All-push (λ p. p < n) tags p all h)
+opened_within n p tags more false e h all = subst (All (λ p. p < n)) (sym e) all
 
 -- tags stay open while the table keeps its length
 pub still_open : (m n : ℕ) (tags : List ℕ) → n ≡ m → All (λ p. p < m) tags → All (λ p. p < n) tags

@@ -9,7 +9,7 @@ use Rattle.tl.specs.Tag.{Tag as KeptTag}
 use Rattle.tl.specs.Table.{Table}
 use Rattle.tl.specs.declared.parser.tag.node.NodeOf.{NodeOf}
 use Rattle.tl.specs.declared.parser.tag.node.NodeOf.TheVariants.{Tag as ATag, Raw as ARaw, Comment as AComment}
-use Rattle.tl_attributes.specs.declared.outline.ClassOutline.{ClassOutline}
+use Rattle.tl_attributes.specs.declared.outline.Outline.{Outline}
 use Rattle.tl.specs.declared.parser.base.HTMLVersion.{HTMLVersion}
 use Rattle.tl.specs.declared.parser.base.HTMLVersion.TheVariants.{HTML5, StrictHTML401, TransitionalHTML401, FramesetHTML401}
 
@@ -28,7 +28,7 @@ shown_tag t = record {
 
 -- a node of such a table
 abbrev pub HTMLNode : Type 0
-HTMLNode = NodeOf (Attributes Kept) Kept ClassOutline
+HTMLNode = NodeOf (Attributes Kept) Kept Outline
 
 abbrev pub shown : HTMLNode → Node
 shown (ATag t) = Tag (shown_tag t)
@@ -49,7 +49,7 @@ version_of false = None
 
 -- a table that `parse` gives
 abbrev pub HTMLTable : Type 0
-HTMLTable = Table (Attributes Kept) Kept ClassOutline (Tracking Kept)
+HTMLTable = Table (Attributes Kept) Kept Outline (Tracking Kept)
 
 -- a table as a document
 abbrev pub document_of : HTMLTable → Document

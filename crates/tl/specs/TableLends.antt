@@ -9,6 +9,7 @@ use Rattle.tl.specs.contracts.parser.handle.NodeHandle.{the_row as handle_row}
 use Rattle.tl.specs.contracts.parser.tag.node.NodeOf.{the_row as node_row}
 use Rattle.tl.specs.contracts.parser.base.ParserOf.{the_row as parser_row}
 use Rattle.tl.specs.contracts.vdom.VDomOf.{the_row as document_row}
+use Rattle.tl.specs.contracts.vdom.guard.VDomGuardOf.{the_row as guard_row}
 
 module _ {A B O M : Type 0} where
   -- a table with this node at the number
@@ -47,3 +48,7 @@ module _ (A B O M : RattleType) (o : Ghosts O.Denot A.Denot) (d : MutBor (Table 
   -- the same of the handles of its top nodes
   abbrev pub LendsTop : MutBor (List ℕ) → Fml
   LendsTop r = Lends (document_row A B O M o) (Array handle_row 0) d r (with_top d.now)
+
+  -- once the borrow r ends, what is guarded is the document that was last written through r
+  abbrev pub LendsDocument : MutBor (Table A.Denot B.Denot O.Denot M.Denot) → Fml
+  LendsDocument r = Lends (guard_row A B O M o) (document_row A B O M o) d r (λ w. w)

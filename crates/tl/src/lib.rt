@@ -1,13 +1,13 @@
 //! Reads HTML into a table of nodes that borrow from the text, and prints it again.
 #![tactic(auto)]
 
-ghost use Rattle.std.specs.Prelude.{◌≡◌, ◌↔◌, ◌<◌, ◌≤◌, length, sum_by, IfOk, IsErrOf, All};
+ghost use Rattle.std.specs.Prelude.{◌≡◌, ◌↔◌, ◌<◌, ◌≤◌, length, sum_by, string_bytes, IfOk, IsErrOf, All};
 ghost use Rattle.tl_spec.specs.Clean.{IsTame, IsCleanTable};
 ghost use Rattle.tl_spec.specs.Document.{document, weight};
 ghost use Rattle.tl_spec.specs.Forest.{forest, plain};
 ghost use Rattle.tl_spec.specs.Order.{AreChildrenAbove, AreDescendantsNext};
 ghost use Rattle.tl_spec.specs.Token.{tokens};
-ghost use Rattle.tl_bytes.specs.Held.{borrowed};
+ghost use Rattle.tl_bytes.specs.Held.{borrowed, shared};
 ghost use Rattle.tl.specs.Shown.{document_of, version_of};
 ghost use Rattle.tl.specs.HeldAlike.{IsHeldNode};
 ghost use Rattle.tl.specs.Tracked.{AreAsked, AnswerIds, AnswerClasses};
@@ -27,6 +27,7 @@ pub mod bytes {
 
 pub use errors::ParseError;
 pub use parser::base::{ClassVec, HTMLVersion, Parser, ParserOf, Tree};
+use parser::builder::source::Source;
 pub use parser::handle::{InnerNodeHandle, NodeHandle};
 pub use parser::tag::children::{Children, ChildrenOf};
 pub use parser::tag::children_mut::{ChildrenMut, ChildrenMutOf};
@@ -37,13 +38,38 @@ use std::alloc::Global;
 pub use tl_attributes::attributes::{Attributes, AttributesOf, RawAttributesMap};
 pub use tl_attributes::attributes_iter::AttributesIter;
 pub use tl_attributes::class_iter::ClassIter;
-pub use tl_attributes::outline::{ClassOutline, OutlineOf};
+pub use tl_attributes::outline::{IdOutline, Mark, Outline, OutlineOf};
+use tl_bytes::byte_string::Shared;
 pub use tl_bytes::byte_string::{Bytes, IntoOwnedBytes};
 pub use tl_bytes::simd;
 pub use tl_inline::inline;
 pub use tl_options::ParserOptions;
+pub use vdom::guard::{VDomGuard, VDomGuardOf};
 pub use vdom::lookup::ElementsByClassName;
 pub use vdom::{VDom, VDomOf};
+
+// Reads the text of a source into a document, and tracks what the options ask for.
+fn read_document<'a, S: Source<'a>>(
+    alloc: Global,
+    source: &S,
+    options: ParserOptions,
+) -> Result<VDom<'a>, ParseError>
+    ensures length { IsErrOf result InvalidLength ↔ (4294967295 < length (S.text source.now)) }
+    ensures document { IfOk result (λ d. document_of d ≡ document (S.text source.now)) }
+    ensures version { IfOk result (λ d. d.version ≡ version_of (document (S.text source.now)).is_html5) }
+    ensures held { IfOk result (λ d. All (IsHeldNode S.held) d.nodes) }
+    ensures above { IfOk result (λ d. AreChildrenAbove (document_of d).nodes) }
+    ensures interval { IfOk result (λ d. AreDescendantsNext (document_of d).nodes) }
+    ensures size { IfOk result (λ d. sum_by weight (document_of d).nodes ≤ length (S.text source.now)) }
+    ensures asked { IfOk result (λ d. AreAsked options d.tracking) }
+    ensures ids { IfOk result (λ d. AnswerIds d.tracking (document (S.text source.now)).nodes) }
+    ensures classes { IfOk result (λ d. AnswerClasses d.tracking (document (S.text source.now)).nodes) }
+    ensures clean { IsTame (plain (forest (tokens (S.text source.now)))) → IfOk result (λ d. IsCleanTable (document_of d).nodes (document_of d).top) }
+{
+    let mut parser = parser::builder::read(alloc, source)?;
+    parser.track(alloc, options)?;
+    Ok(VDom::from(parser))
+}
 
 /// Reads a text into a document whose pieces are slices of it.
 ///
@@ -73,7 +99,40 @@ pub fn parse<'a>(
     // So what `outer_html` says of a clean table is said of a text with tame trees.
     ensures clean { IsTame (plain (forest (tokens text.now))) → IfOk result (λ d. IsCleanTable (document_of d).nodes (document_of d).top) }
 {
-    let mut parser = parser::builder::read(alloc, &text)?;
-    parser.track(alloc, options)?;
-    Ok(VDom::from(parser))
+    read_document(alloc, &text, options)
+}
+
+/// Reads a text into a document that keeps it: its pieces are shares of the one text, which is not copied.
+///
+/// It reads, tracks and refuses as [`parse`] does.
+pub fn parse_owned(
+    alloc: Global,
+    text: String,
+    options: ParserOptions,
+) -> Result<VDomGuard, ParseError>
+    ensures length { IsErrOf result InvalidLength ↔ (4294967295 < length (string_bytes text)) }
+    ensures document { IfOk result (λ d. document_of d ≡ document (string_bytes text)) }
+    ensures version { IfOk result (λ d. d.version ≡ version_of (document (string_bytes text)).is_html5) }
+    ensures shared { IfOk result (λ d. All (IsHeldNode shared) d.nodes) }
+
+    // What callers go by who count nodes: their order, and that they and their attributes are no more than the bytes.
+    ensures above { IfOk result (λ d. AreChildrenAbove (document_of d).nodes) }
+    ensures interval { IfOk result (λ d. AreDescendantsNext (document_of d).nodes) }
+    ensures size { IfOk result (λ d. sum_by weight (document_of d).nodes ≤ length (string_bytes text)) }
+
+    // What is tracked answers as a scan of the table that was read.
+    ensures asked { IfOk result (λ d. AreAsked options d.tracking) }
+    ensures ids { IfOk result (λ d. AnswerIds d.tracking (document (string_bytes text)).nodes) }
+    ensures classes { IfOk result (λ d. AnswerClasses d.tracking (document (string_bytes text)).nodes) }
+
+    // So what `outer_html` says of a clean table is said of a text with tame trees.
+    ensures clean { IsTame (plain (forest (tokens (string_bytes text)))) → IfOk result (λ d. IsCleanTable (document_of d).nodes (document_of d).top) }
+{
+    // Before the memory that the shares of the text are counted in.
+    if text.len() > u32::MAX as usize {
+        return Err(ParseError::InvalidLength);
+    }
+    let source = Shared::new(alloc, text)?;
+    let document = read_document(alloc, &source, options)?;
+    Ok(VDomGuard::new(document))
 }

@@ -9,6 +9,7 @@ ghost use Rattle.tl.specs.Answer.{Answers};
 ghost use Rattle.tl.specs.Shown.{document_of};
 ghost use Rattle.tl.specs.TableLends.{LendsParser, LendsNodes, LendsTop};
 
+pub(crate) mod guard;
 pub(crate) mod lookup;
 
 use crate::errors::TreeError;
@@ -19,7 +20,7 @@ use crate::walk::print::write_row;
 use std::alloc::Global;
 use std::marker::Model;
 use tl_attributes::attributes::Attributes;
-use tl_attributes::outline::{ClassOutline, OutlineOf};
+use tl_attributes::outline::{Outline, OutlineOf};
 use tl_bytes::byte_string::Bytes;
 
 /// A document: the table of its nodes, and which of them stand at its top.
@@ -29,7 +30,7 @@ pub struct VDomOf<A, B, O: OutlineOf<A>, M> {
 }
 
 /// A document whose nodes borrow from a text.
-pub type VDom<'a> = VDomOf<Attributes<'a>, Bytes<'a>, ClassOutline<'a>, Tracking<'a>>;
+pub type VDom<'a> = VDomOf<Attributes<'a>, Bytes<'a>, Outline, Tracking<'a>>;
 
 impl<A, B, O: OutlineOf<A>, M> Model for VDomOf<A, B, O, M> {
     ghost use Rattle.tl.specs.Table.{Table};

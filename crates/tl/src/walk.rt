@@ -54,6 +54,7 @@ pub(crate) struct Walker<'s, 'a> {
 }
 
 // The node of a handle, or None past the table.
+#[inline(always)]
 fn node_at<'s, 'a>(nodes: &'s [Node<'a>], handle: NodeHandle) -> Option<&'s Node<'a>>
     ensures { option_copied result ≡ slice_get nodes.now handle }
 {
@@ -83,6 +84,7 @@ impl<'s, 'a> Walker<'s, 'a> {
     }
 
     // Whether a tag is entered.
+    #[inline(always)]
     fn enters(&self, tag: &HTMLTag<'a>) -> bool
         ensures { result ≡ enters self.now.entered tag.now.name.list }
     {
@@ -93,6 +95,7 @@ impl<'s, 'a> Walker<'s, 'a> {
     }
 
     // Goes to the node of a handle, and into it where it is a tag that is entered.
+    #[inline(always)]
     fn meet(&mut self, handle: NodeHandle) -> Result<Option<Event<'s, 'a>>, TreeError>
         requires { IsMarked self.old }
         ensures marked { OnOk result (IsMarked self.new) }
@@ -126,6 +129,7 @@ impl<'s, 'a> Walker<'s, 'a> {
     }
 
     // Goes into a tag, whose handle may follow the path.
+    #[inline(always)]
     fn enter(&mut self, handle: NodeHandle, tag: &'s HTMLTag<'a>) -> Result<(), TreeError>
         requires marked { IsMarked self.old }
         requires in_table { handle < length self.old.nodes.now }
@@ -150,6 +154,7 @@ impl<'s, 'a> Walker<'s, 'a> {
     }
 
     // Goes back to what comes after the last tag that was entered, or ends.
+    #[inline(always)]
     fn leave(&mut self) -> Option<Event<'s, 'a>>
         requires marked { IsMarked self.old }
         requires done { self.old.rest.now ≡ [] }
@@ -167,6 +172,7 @@ impl<'s, 'a> Walker<'s, 'a> {
     }
 
     // The next event, or None at the end; or the first fault.
+    #[inline(always)]
     pub(crate) fn next_event(&mut self) -> Result<Option<Event<'s, 'a>>, TreeError>
         requires { IsMarked self.old }
         ensures marked { OnOk result (IsMarked self.new) }

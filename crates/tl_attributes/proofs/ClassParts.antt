@@ -1,6 +1,7 @@
 -- The parts of a class value, from the front.
-use Rattle.std.proofs.Common.{◌≡◌, ℕ, zero, suc, ◌+◌, ◌<◌, ◌≤◌, Bool, true, false, not, List, [], ◌∷◌, length, take, drop, slice_index, nat_eq, nat_le, ◌&&◌, ◌||◌, ◌⊎◌, inl, inr, Option, Some, None, option_map, subst, refl, sym, ◌∙◌, ap, arith, cond, filter, unwrap_or}
+use Rattle.std.proofs.Common.{◌≡◌, ℕ, zero, suc, ◌+◌, ◌<◌, ◌≤◌, Bool, true, false, not, List, [], ◌∷◌, length, take, drop, slice_range, slice_index, nat_eq, nat_le, ◌&&◌, ◌||◌, ◌⊎◌, inl, inr, Option, Some, None, option_map, subst, refl, sym, ◌∙◌, ap, arith, cond, filter, unwrap_or}
 use Rattle.std.proofs.lemmas.Bool.{and_parts, or_cases, eqb-true, leb-true}
+use Rattle.std.proofs.lemmas.List.{drop-drop}
 use Rattle.std.proofs.lemmas.Str.{is_utf8-from_IsUtf8, IsUtf8-from_is_utf8}
 use Rattle.std.specs.List.{list_any, prefix_len, slice_split, onto_first}
 use Rattle.std.specs.Char.{is_ascii_whitespace}
@@ -91,6 +92,21 @@ none_left (b ∷ bs) e f = one (is_ascii_whitespace b) refl
 -- text whose front is neither white nor in a part has no parts
 pub no_parts : (bs : List ℕ) (n : ℕ) → prefix_len is_ascii_whitespace bs ≡ 0 → n ≡ prefix_len in_part bs → n ≡ 0 → parts bs ≡ []
 no_parts bs n e f g = ap parts (none_left bs e (sym f ∙ g))
+
+-- white bytes from a place on change no part
+pub past_white : (bs : List ℕ) (at n : ℕ) → n ≡ prefix_len is_ascii_whitespace (drop at bs) → parts (drop at bs) ≡ parts (drop (at + n) bs)
+past_white bs at n e = sym (parts_past (drop at bs)) ∙ ap (λ m. parts (drop m (drop at bs))) (sym e) ∙ ap parts (drop-drop n at bs)
+
+-- and none of them stands after them
+pub no_white : (bs : List ℕ) (at n : ℕ) → n ≡ prefix_len is_ascii_whitespace (drop at bs) → prefix_len is_ascii_whitespace (drop (at + n) bs) ≡ 0
+no_white bs at n e = ap (prefix_len is_ascii_whitespace) (sym (drop-drop n at bs) ∙ ap (λ m. drop m (drop at bs)) e) ∙ no_more is_ascii_whitespace (drop at bs)
+
+-- the run at a place is the first part from there on
+pub part_at : (bs : List ℕ) (at n : ℕ) → n ≡ prefix_len in_part (drop at bs) → n ≤ length (drop at bs) → 0 < n → parts (drop at bs) ≡ slice_range bs at (at + n) ∷ parts (drop (at + n) bs)
+part_at bs at n e h g =
+    one_part (drop at bs) n e h g
+    ∙ ap (λ rest. take n (drop at bs) ∷ parts rest) (drop-drop n at bs)
+    ∙ ap (λ m. take m (drop at bs) ∷ parts (drop (at + n) bs)) (omega arith)
 
 in_low : (lo hi b : ℕ) → is_in_range lo hi b ≡ true → b ≤ hi
 in_low lo hi b e = leb-true b hi (and_parts (nat_le lo b) (nat_le b hi) e).1

@@ -1,3 +1,4 @@
 pub mod Others
 pub mod ClassParts
 pub mod Puts
+pub mod Bits

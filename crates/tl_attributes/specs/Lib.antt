@@ -1,6 +1,6 @@
 pub mod Attributes
 pub mod Listed
 pub mod AttributesLends
-pub mod ClassOutline
+pub mod Outline
 pub mod ShownAttributes
 pub mod HeldAttributes

@@ -71,6 +71,7 @@ fn nested<B>(value: Result<&mut B, bool>) -> Option<Option<&mut B>>
 
 impl<B: Piece + Default> AttributesOf<B> {
     /// No attributes, which take no memory. What they take later comes from `alloc`.
+    #[inline(always)]
     pub fn new(alloc: Global) -> Self
         ensures { result ≡ no_attributes }
     {
@@ -153,6 +154,7 @@ impl<B: Piece> AttributesOf<B> {
 impl<B: Piece + Default + Drop> AttributesOf<B> {
     /// Puts `value` at `key`. A key that is there keeps its place, and a new one goes last; `id` and `class` without a
     /// value are taken out. `Err` means that memory was refused; at `id`, `class` and a key that is there none is taken.
+    #[inline(always)]
     pub fn insert(&mut self, key: B, value: Option<B>) -> Result<(), AllocError>
         ensures ok { OnOk result (self.new ≡ with_attribute B.list B.eq self.old key value) }
         ensures err { OnErr result (self.new ≡ self.old) }

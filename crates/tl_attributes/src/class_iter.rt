@@ -1,5 +1,5 @@
 //! The members of a tag's class.
-ghost use Rattle.std.specs.Prelude.{◌≡◌, ◌≤◌, ◌<◌, [], ◌∷◌, not, length, option_map, Some, MatchOption, IfSome};
+ghost use Rattle.std.specs.Prelude.{◌≡◌, ◌≤◌, ◌<◌, [], ◌∷◌, not, length, drop, slice_range, option_map, Some, MatchOption, IfSome};
 ghost use Rattle.std.specs.List.{prefix_len, list_any};
 ghost use Rattle.std.specs.Str.{bytes_eq, is_utf8};
 ghost use Rattle.std.specs.Char.{is_ascii_whitespace};
@@ -27,15 +27,6 @@ impl<'t> Model for ClassIter<'t> {
     ghost view = { λ c. parts c.rest.now };
 }
 
-impl<'t> ClassIter<'t> {
-    /// The parts of a text.
-    pub fn of(text: &'t str) -> Self
-        ensures { result ≡ parts text.now }
-    {
-        ClassIter { rest: text }
-    }
-}
-
 // How many bytes at the front are not white space.
 fn part_len(bytes: &[u8]) -> usize
     ensures place { result ≡ prefix_len (λ b. not (is_ascii_whitespace b)) bytes.now }
@@ -45,6 +36,31 @@ fn part_len(bytes: &[u8]) -> usize
         .iter()
         .take_while(|b| !b.is_ascii_whitespace())
         .count()
+}
+
+// How many bytes at the front are white space.
+fn white_len(bytes: &[u8]) -> usize
+    ensures place { result ≡ prefix_len is_ascii_whitespace bytes.now }
+    ensures within { result ≤ length bytes.now }
+{
+    bytes.iter().take_while(|b| b.is_ascii_whitespace()).count()
+}
+
+/// Where the first part stands that begins at the place `at` or after it: the place of its first byte, and that after its last.
+/// None where there is no more. It takes no memory.
+pub fn next_part(bytes: &[u8], at: usize) -> Option<(usize, usize)>
+    requires { at ≤ length bytes.now }
+    ensures first { MatchOption result (parts (drop at bytes.now) ≡ [])
+        (λ p. parts (drop at bytes.now) ≡ slice_range bytes.now p.0 p.1 ∷ parts (drop p.1 bytes.now)) }
+    ensures order { IfSome result (λ p. (at ≤ p.0) × (p.0 < p.1)) }
+    ensures within { IfSome result (λ p. p.1 ≤ length bytes.now) }
+{
+    let start = at + white_len(&bytes[at..]);
+    let len = part_len(&bytes[start..]);
+    if len == 0 {
+        return None;
+    }
+    Some((start, start + len))
 }
 
 // Whether `part` is one of the parts between white space.

@@ -1,7 +1,9 @@
 //! What is known of a tag's attributes without a look at them.
-ghost use Rattle.tl_attributes.specs.ClassOutline.{IsOutline};
+ghost use Rattle.std.specs.Prelude.{◌≡◌, ◌↔◌, ◌<◌, IsTrue, Some};
+ghost use Rattle.tl_attributes.specs.Outline.{mark_of, bit_of, MayBeId, MayBeMember, AreClassBits, IsOutline};
 
 use crate::attributes::Attributes;
+use crate::class_iter::next_part;
 
 /// What attributes of the type `A` are known to be, for a reader of many tags that would have to fetch each one's attributes.
 pub trait OutlineOf<A>: Copy {
@@ -17,31 +19,122 @@ pub trait OutlineOf<A>: Copy {
         ensures { (attributes : A) → is_outline result attributes };
 }
 
-/// What is known of the value of `class`.
-#[derive(Clone, Copy, Debug)]
-pub enum ClassOutline<'a> {
+/// The length and the ends of some bytes. Bytes of different marks differ.
+#[derive(Clone, Copy, PartialEq, Eq, Debug)]
+pub struct Mark {
+    /// What is left of the length by 256.
+    pub len: u8,
+    /// The first byte, 0 where there is none.
+    pub first: u8,
+    /// The last byte, 0 where there is none.
+    pub last: u8,
+}
+
+impl Mark {
+    /// The mark of these bytes.
+    #[inline]
+    pub fn of(bytes: &[u8]) -> Mark
+        ensures { result ≡ mark_of bytes.now }
+    {
+        Mark {
+            len: (bytes.len() % 256) as u8,
+            first: bytes.first().copied().unwrap_or(0),
+            last: bytes.last().copied().unwrap_or(0),
+        }
+    }
+
+    // The number of its bit among the 32 of a class.
+    #[inline]
+    fn bit(self) -> u32
+        ensures value { result ≡ bit_of self }
+        ensures within { result < 32 }
+    {
+        (self.first as u32 + 3 * self.last as u32 + 5 * self.len as u32) % 32
+    }
+}
+
+/// What is known of the value of `id`.
+#[derive(Clone, Copy, PartialEq, Eq, Debug)]
+pub enum IdOutline {
     /// Nothing.
     Unknown,
     /// There is none.
     Absent,
-    /// These are its bytes.
-    Known(&'a [u8]),
+    /// There is one, of this mark.
+    Known(Mark),
 }
 
-impl<'a> OutlineOf<Attributes<'a>> for ClassOutline<'a> {
-    ghost is_outline = { IsOutline };
+/// What is known of the values of `id` and `class`, however they are held, in 8 bytes.
+#[derive(Clone, Copy, PartialEq, Eq, Debug)]
+pub struct Outline {
+    /// What is known of the value of `id`.
+    pub id: IdOutline,
+    /// One bit for each member of the class, that of its mark. Where all are set nothing is known.
+    pub classes: u32,
+}
 
-    fn of(attributes: &Attributes<'a>) -> ClassOutline<'a> {
-        match attributes.class() {
-            Some(class) => match class.as_bytes_borrowed() {
-                Some(bytes) => ClassOutline::Known(bytes),
-                None => ClassOutline::Unknown,
-            },
-            None => ClassOutline::Absent,
+impl Outline {
+    /// Whether bytes of this mark may be the id.
+    #[inline]
+    pub fn may_be_id(self, mark: Mark) -> bool
+        ensures { IsTrue result ↔ MayBeId self.id mark }
+    {
+        match self.id {
+            IdOutline::Unknown => true,
+            IdOutline::Absent => false,
+            IdOutline::Known(own) => own == mark,
         }
     }
 
-    fn nothing() -> ClassOutline<'a> {
-        ClassOutline::Unknown
+    /// Whether bytes of this mark may be a member of the class.
+    #[inline]
+    pub fn may_be_member(self, mark: Mark) -> bool
+        ensures { IsTrue result ↔ MayBeMember self.classes mark }
+    {
+        (self.classes >> mark.bit()) & 1 == 1
+    }
+}
+
+// The bits of the parts between white space, be they members or the bytes no text.
+#[inline]
+fn class_bits(class: &[u8]) -> u32
+    ensures { AreClassBits result (Some class.now) }
+{
+    let mut bits = 0;
+    let mut at = 0;
+    while let Some((start, end)) = next_part(class, at) {
+        bits |= 1 << Mark::of(&class[start..end]).bit();
+        at = end;
+    }
+    bits
+}
+
+impl<'a> OutlineOf<Attributes<'a>> for Outline {
+    ghost use Rattle.tl_spec.specs.AttributeList.{Attributes};
+    ghost use Rattle.tl_bytes.specs.Held.{Kept};
+
+    ghost is_outline = { IsOutline };
+
+    fn of(attributes: &Attributes<'a>) -> Outline
+        ensures { IsOutline result attributes.now }
+    {
+        let id = match attributes.id() {
+            Some(id) => IdOutline::Known(Mark::of(id.as_bytes())),
+            None => IdOutline::Absent,
+        };
+        let classes = match attributes.class() {
+            Some(class) => class_bits(class.as_bytes()),
+            None => 0,
+        };
+        Outline { id, classes }
+    }
+
+    fn nothing() -> Outline
+        ensures { (attributes : Attributes Kept) → IsOutline result attributes }
+    {
+        Outline {
+            id: IdOutline::Unknown,
+            classes: u32::MAX,
+        }
     }
 }

@@ -1,1 +1,4 @@
 pub mod Searches
+mod Shares
+pub mod Lanes
+pub mod Chunks

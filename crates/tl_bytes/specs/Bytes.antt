@@ -7,4 +7,4 @@ use Rattle.tl_bytes.specs.declared.byte_string.Repr.TheVariants.{Borrowed, Owned
 abbrev pub kept : Repr → Kept
 kept (Borrowed slice) = record { list = slice.now; held = borrowed }
 kept (Owned vec) = record { list = vec.items; held = owned }
-kept (Shared part) = record { list = part.value; held = shared }
+kept (Shared share) = record { list = share; held = shared }

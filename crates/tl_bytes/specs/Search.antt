@@ -1,5 +1,6 @@
 -- What a search of bytes answers.
-use Rattle.std.specs.Prelude.{ℕ, Bool, ◌==◌, not, List, Option}
+use Rattle.std.specs.Prelude.{ℕ, Bool, ◌==◌, not, if◌then◌else◌, List, Option}
+use Rattle.std.specs.Int.{w64, trailing_zeros}
 use Rattle.std.specs.List.{list_any, position}
 use Rattle.tl_spec.specs.ByteClass.{is_ident, is_name}
 
@@ -18,3 +19,7 @@ is_not_ident b = not (is_ident b)
 -- the class of what no name of a tag or an attribute holds
 abbrev pub is_not_name : ℕ → Bool
 is_not_name b = not (is_name b)
+
+-- the place of the lowest bit that is set in a mask of sixteen, or 16
+abbrev pub lowest_bit : ℕ → ℕ
+lowest_bit mask = if mask == 0 then 16 else trailing_zeros w64 mask

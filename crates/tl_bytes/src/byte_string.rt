@@ -1,5 +1,5 @@
 //! Lists of bytes that are borrowed, owned, or a share of a buffer.
-ghost use Rattle.std.specs.Prelude.{◌≡◌, ◌↔◌, [], IsTrue, IsSome, IsOk, IfSome, IfOk};
+ghost use Rattle.std.specs.Prelude.{◌≡◌, ◌↔◌, ◌≤◌, [], IsTrue, IsSome, IsOk, IfSome, IfOk, length, slice_range};
 ghost use Rattle.std.specs.Str.{IsUtf8};
 ghost use Rattle.std.specs.Str.Lossy.{utf8_lossy};
 ghost use Rattle.std.specs.Cow.{cow_str_bytes};
@@ -16,14 +16,15 @@ mod owned;
 mod shared;
 
 pub use owned::{IntoOwnedBytes, SetBytesError, copied};
+use shared::Share;
 pub use shared::Shared;
 
-// The share stands in a box, so that a `Bytes` is no larger than a vector and a tag.
+// A share is a place in a text that is counted once for all, so that a `Bytes` is no larger than a vector and a tag.
 #[derive(Drop)]
 enum Repr<'a> {
     Borrowed(&'a [u8]),
     Owned(Vec<u8>),
-    Shared(Box<bytes::Bytes>),
+    Shared(Share),
 }
 
 /// A list of bytes: a borrowed slice, an owned vector, or a share of a [`Shared`] buffer.
@@ -68,7 +69,7 @@ impl<'a> Bytes<'a> {
         match &self.repr {
             Repr::Borrowed(slice) => slice,
             Repr::Owned(vec) => vec.as_slice(),
-            Repr::Shared(part) => part.as_slice(),
+            Repr::Shared(share) => share.as_slice(),
         }
     }
 
@@ -116,6 +117,27 @@ impl<'a> Bytes<'a> {
     }
 }
 
+/// The bytes from `start` up to `end` without `end`, held in the same way. A part of borrowed ones takes no memory.
+pub fn part<'a>(
+    bytes: &Bytes<'a>,
+    alloc: Global,
+    start: usize,
+    end: usize,
+) -> Result<Bytes<'a>, AllocError>
+    requires order { start ≤ end }
+    requires within { end ≤ length bytes.now.list }
+    ensures ok { IfOk result
+        (λ part. part ≡ record { list = slice_range bytes.now.list start end; held = bytes.now.held }) }
+    ensures succeeds { bytes.now.held ≡ borrowed → IsOk result }
+{
+    let repr = match &bytes.repr {
+        Repr::Borrowed(slice) => Repr::Borrowed(&slice[start..end]),
+        Repr::Owned(vec) => Repr::Owned(Vec::from_slice(alloc, &vec.as_slice()[start..end])?),
+        Repr::Shared(share) => Repr::Shared(share.part(start, end)?),
+    };
+    Ok(Bytes { repr })
+}
+
 impl<'a> From<&'a [u8]> for Bytes<'a> {
     ghost from_gives = { λ slice b. b ≡ record { list = slice.now; held = borrowed } };
 
@@ -152,7 +174,7 @@ impl<'a> Clone for Bytes<'a> {
         let repr = match &self.repr {
             Repr::Borrowed(slice) => Repr::Borrowed(*slice),
             Repr::Owned(vec) => Repr::Owned(vec.clone()?),
-            Repr::Shared(part) => Repr::Shared(part.clone()?),
+            Repr::Shared(share) => Repr::Shared(share.again()?),
         };
         Ok(Bytes { repr })
     }

@@ -6,6 +6,9 @@ ghost use Rattle.tl_bytes.specs.Search.{first, is_one_of, is_not_ident, is_not_n
 
 /// The same searches, byte by byte.
 pub mod fallback;
+mod lanes;
+
+use lanes::{before_any, before_non_ident, before_non_name};
 
 /// The first place of `haystack` that holds `needle`.
 pub fn find(haystack: &[u8], needle: u8) -> Option<usize>
@@ -18,15 +21,18 @@ pub fn find(haystack: &[u8], needle: u8) -> Option<usize>
 pub fn find4(haystack: &[u8], needle: [u8; 4]) -> Option<usize>
     ensures { result ≡ first (is_one_of needle) haystack.now }
 {
-    haystack.iter().position(|b| is_one_of_four(needle, *b))
-}
-
-// Whether the byte is one of the four.
-#[inline]
-fn is_one_of_four(needle: [u8; 4], byte: u8) -> bool
-    ensures { result ≡ is_one_of needle byte }
-{
-    byte == needle[0] || byte == needle[1] || byte == needle[2] || byte == needle[3]
+    let mut at = 0;
+    while haystack.len() - at >= 16 {
+        let before = before_any(haystack, at, needle);
+        if before < 16 {
+            return Some(at + before);
+        }
+        at += 16;
+    }
+    match fallback::find_multi(&haystack[at..], needle) {
+        Some(place) => Some(at + place),
+        None => None,
+    }
 }
 
 /// The first place of `haystack` that holds one of the bytes of `needle`.
@@ -41,7 +47,18 @@ pub fn find_multi<const N: usize>(haystack: &[u8], needle: [u8; N]) -> Option<us
 pub fn search_non_ident(haystack: &[u8]) -> Option<usize>
     ensures { result ≡ first is_not_ident haystack.now }
 {
-    fallback::search_non_ident(haystack)
+    let mut at = 0;
+    while haystack.len() - at >= 16 {
+        let before = before_non_ident(haystack, at);
+        if before < 16 {
+            return Some(at + before);
+        }
+        at += 16;
+    }
+    match fallback::search_non_ident(&haystack[at..]) {
+        Some(place) => Some(at + place),
+        None => None,
+    }
 }
 
 /// The first place of `haystack` that holds no byte of a name of a tag or an attribute: no ident
@@ -49,7 +66,18 @@ pub fn search_non_ident(haystack: &[u8]) -> Option<usize>
 pub fn search_non_name(haystack: &[u8]) -> Option<usize>
     ensures { result ≡ first is_not_name haystack.now }
 {
-    fallback::search_non_name(haystack)
+    let mut at = 0;
+    while haystack.len() - at >= 16 {
+        let before = before_non_name(haystack, at);
+        if before < 16 {
+            return Some(at + before);
+        }
+        at += 16;
+    }
+    match fallback::search_non_name(&haystack[at..]) {
+        Some(place) => Some(at + place),
+        None => None,
+    }
 }
 
 /// Whether a list of attributes ends before this byte: `/` or `>`.

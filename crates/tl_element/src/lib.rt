@@ -5,7 +5,7 @@ ghost use Rattle.std.specs.Prelude.{◌≡◌, length, option_map, slice_get};
 ghost use Rattle.std.specs.Option.{option_copied};
 ghost use Rattle.tl_spec.specs.Document.{Node};
 ghost use Rattle.tl_spec.specs.Element.{name_of, attribute_of, children_of, last_child_of};
-ghost use Rattle.tl_spec.specs.Scan.{id_of, class_of};
+ghost use Rattle.tl_spec.specs.Scan.{has_id, is_in_class};
 
 /// A node of a table: a tag, or a text or comment, which has no name, no attributes and no children.
 pub trait Element {
@@ -16,13 +16,13 @@ pub trait Element {
     fn name(&self) -> Option<&[u8]>
         ensures { option_copied result ≡ name_of (node self.now) };
 
-    /// The value of `id`, `None` where there is none.
-    fn id(&self) -> Option<&[u8]>
-        ensures { option_copied result ≡ id_of (node self.now) };
+    /// Whether its `id` is this one, in exact case.
+    fn has_id(&self, id: &[u8]) -> bool
+        ensures { result ≡ has_id id.now (node self.now) };
 
-    /// The value of `class`, `None` where there is none.
-    fn class(&self) -> Option<&[u8]>
-        ensures { option_copied result ≡ class_of (node self.now) };
+    /// Whether this is a member of its class, in exact case.
+    fn is_in_class(&self, class: &[u8]) -> bool
+        ensures { result ≡ is_in_class class.now (node self.now) };
 
     /// What stands at a key, in exact case: `None` where the key is missing, `Some(None)` where it has no value.
     fn attribute(&self, key: &[u8]) -> Option<Option<&[u8]>>

@@ -17,10 +17,10 @@ module _ {K V : Type 0} {N : ℕ} (eq : K → K → Bool) where
   -- a write by index leaves the keys
   pub distinct_with_value : (h : HeldPairs K V N) (i : ℕ) (w : V) → IsDistinct eq (keys_of (held_view h).entries) → IsDistinct eq (keys_of (held_view (held_with_value_at h i w)).entries)
   distinct_with_value (Inline m) i w s = subst (IsDistinct eq) (sym (keys-set_value_at eq m.items i w)) s
-  distinct_with_value (Heap m) i w s = subst (IsDistinct eq) (sym (keys-set_value_at eq m.entries i w)) s
+  distinct_with_value (Heap es) i w s = subst (IsDistinct eq) (sym (keys-set_value_at eq es i w)) s
 
   -- a write at the index of a key is one at the key
   pub view_with_value : (h : HeldPairs K V N) (k : K) (i : ℕ) → Some i ≡ position (eq k) (keys_of (held_view h).entries) → (w : V)
       → held_view (held_with_value_at h i w) ≡ with_value eq (held_view h) k w
   view_with_value (Inline m) k i index w = ap (λ l. same_map l false) (set_value-at eq k w m.items i index)
-  view_with_value (Heap m) k i index w = ap (λ l. same_map l true) (set_value-at eq k w m.entries i index)
+  view_with_value (Heap es) k i index w = ap (λ l. same_map l true) (set_value-at eq k w es i index)

@@ -1,3 +1,4 @@
 pub mod Lists
 pub mod Maps
+pub mod HeapFormLemmas
 pub mod HeldPairsLemmas

@@ -8,14 +8,14 @@ use Rattle.std.specs.Option.{IfSome, IfNone, option_map}
 use Rattle.std.specs.Map.{keys_of, values_of, lookup, set_value}
 use Rattle.std.proofs.lemmas.List.{get_or-map, length-map}
 use Rattle.std.proofs.lemmas.List.Elements.{Contains-get_or, Contains-append_right}
-use Rattle.std.proofs.lemmas.Option.{slice_get-get_or, slice_get-map, slice_get_past}
+use Rattle.std.proofs.lemmas.Option.{slice_get-get_or, slice_get-map, slice_get_past, get_or_from_slice_get}
 use Rattle.indexmap.specs.Layout.{length-set_value_at}
 use Rattle.indexmap.specs.IndexMap.{insert_entry, swap_remove_entry, set_value_at}
 use Rattle.indexmap.proofs.MapLemmas.{Found-position, Missing-position, swap_remove_entry-found, swap_remove_entry-missing, absent_before, some_index, lookup_permutation}
 use Rattle.indexmap.proofs.RemoveLemmas.{swap_out}
 use Rattle.tl_inline.specs.InlineVec.{ClonesAreEqual}
 use Rattle.tl_spec.specs.Inline.{InlineMap, with_entry}
-use Rattle.tl_spec.proofs.Pairs.{insert_new, insert_present, position-map}
+use Rattle.tl_spec.proofs.Pairs.{insert_new, insert_present, distinct_insert, position-map}
 use Rattle.arrayvec.proofs.ArrayVecLemmas.{items-with_items}
 
 first_of_list : {X : Type 0} (xs : List X) → 0 < length xs → X
@@ -81,6 +81,10 @@ module _ {K V : Type 0} (eq : K → K → Bool) (o : IsEquivalence eq) where
           let at = slice_get-get_or es i d f.within in
           (swap_out eq o (eq k) (o.congr k) es i p e at s (swap_remove_entry (eq k) es) (swap_remove_entry-found (eq k) es i p e)).unique
 
+  -- so does an insert
+  pub distinct_inserted : (es fs : List (K × V)) (k : K) (v : V) → fs ≡ insert_entry eq es k v → IsDistinct eq (keys_of es) → IsDistinct eq (keys_of fs)
+  distinct_inserted es fs k v after s = subst (λ l. IsDistinct eq (keys_of l)) (sym after) (distinct_insert eq o es k v s)
+
   -- a key that comes later is not among those before it
   pub new_before : (items es ds rest : List (K × V)) (k : K) (v : V) → IsDistinct eq (keys_of items) → es ++ ds ≡ items → ds ≡ (k, v) ∷ rest → lookup (eq k) es ≡ None
   new_before items es ds rest k v s whole next =
@@ -104,6 +108,12 @@ pairs_same C D (e ∷ es) (f ∷ fs) ks vs h =
     let value = vs e.1 f.1 (Contains-get_or (e.1 ∷ values_of es) 0 e.1 (omega arith)) h.0.1 in
     let rest = pairs_same C D es fs (λ a b k. ks a b (Contains-append_right (e.0 ∷ []) (keys_of es) a k)) (λ a b k. vs a b (Contains-append_right (e.1 ∷ []) (values_of es) a k)) h.1 in
     λ i. (key i, value i) ∷ rest i
+
+-- clones of the pairs, where the pairs are those of a list
+pub list_clone_is : {K V : Type 0} (C : K → K → Type 0) (D : V → V → Type 0) (items es fs : List (K × V)) → es ≡ items
+    → ClonesAreEqual C (keys_of items) → ClonesAreEqual D (values_of items) → AllZip (λ p q. C p.0 q.0 × D p.1 q.1) es fs → fs ≡ items
+list_clone_is C D items es fs was ks vs h =
+    pairs_same C D es fs (subst (λ l. ClonesAreEqual C (keys_of l)) (sym was) ks) (subst (λ l. ClonesAreEqual D (values_of l)) (sym was) vs) h ∙ was
 
 -- the map with these fields
 abbrev pub same_map : {K V : Type 0} → List (K × V) → Bool → InlineMap K V
@@ -138,6 +148,11 @@ module _ {K V : Type 0} (eq : K → K → Bool) where
       let same : length ys ≡ length es = ap length put ∙ length-set_value_at es i v in
       items-with_items (record { items = es }) ys same ∙ put ∙ sym (insert_present eq es k v i index)
 
+  -- the same, where n is how many there are
+  pub replaced_of : (n : ℕ) (es ys : List (K × V)) (k : K) (v : V) (i : ℕ) → n ≡ length es → Some i ≡ position (eq k) (keys_of es) → ys ≡ set_value_at es i v
+      → refill n es ys ≡ insert_entry eq es k v
+  replaced_of n es ys k v i counted index put = ap (λ m. refill m es ys) counted ∙ replaced es ys k v i index put
+
   -- a new key, once the pairs lie on the heap
   pub moved_in : (n : ℕ) (m : InlineMap K V) (es fs : List (K × V)) (k : K) (v : V) → same_map es false ≡ m → is_some (lookup (eq k) es) ≡ false
       → (length es == n) ≡ true → fs ≡ insert_entry eq es k v → same_map fs true ≡ with_entry eq n m k v
@@ -165,6 +180,16 @@ module _ {K V : Type 0} (es : List (K × V)) (i : ℕ) where
 
   pub no_value_at : length es ≤ i → None ≡ slice_get (values_of es) i
   no_value_at le = sym (slice_get-map (λ p. p.1) es i ∙ ap (option_map (λ p. p.1)) (slice_get_past es i le))
+
+  -- a write of the second part of the pair that was found at i
+  pub set-found : (p : K × V) (w : V) → slice_get es i ≡ Some p → slice_set es i (p.0, w) ≡ set_value_at es i w
+  set-found p w found = set-part p w (sym (get_or_from_slice_get es i p p found))
+
+-- past the end there is nothing to write
+pub set-past : {K V : Type 0} (es : List (K × V)) (i : ℕ) (w : V) → slice_get es i ≡ None → set_value_at es i w ≡ es
+set-past [] i w past = refl
+set-past (e ∷ es) zero w past = absurd (true≢false (ap is_some past))
+set-past (e ∷ es) (suc i) w past = ap (λ l. e ∷ l) (set-past es i w past)
 
 module _ {K V : Type 0} (eq : K → K → Bool) (k : K) (w : V) where
   -- at a key that is there an insert only changes the value

@@ -1,6 +1,6 @@
 -- Where an `InlineHashMap` keeps its pairs. No public clause cites this module.
 use Rattle.std.specs.Prelude.{ℕ, true, false}
-use Rattle.indexmap.specs.IndexMap.{set_value_at, with_value_at}
+use Rattle.indexmap.specs.IndexMap.{set_value_at}
 use Rattle.tl_spec.specs.Inline.{InlineMap}
 use Rattle.tl_inline.specs.declared.inline.hashmap.held.HeldPairs.{HeldPairs}
 use Rattle.tl_inline.specs.declared.inline.hashmap.held.HeldPairs.TheVariants.{Inline, Heap}
@@ -9,9 +9,9 @@ module _ {K V : Type 0} {N : ℕ} where
   -- what a contract sees
   abbrev pub held_view : HeldPairs K V N → InlineMap K V
   held_view (Inline m) = record { entries = m.items; on_heap = false }
-  held_view (Heap m) = record { entries = m.entries; on_heap = true }
+  held_view (Heap es) = record { entries = es; on_heap = true }
 
   -- h with w as the value at the index
   abbrev pub held_with_value_at : HeldPairs K V N → ℕ → V → HeldPairs K V N
   held_with_value_at (Inline m) i w = Inline (record { items = set_value_at m.items i w })
-  held_with_value_at (Heap m) i w = Heap (with_value_at m i w)
+  held_with_value_at (Heap es) i w = Heap (set_value_at es i w)

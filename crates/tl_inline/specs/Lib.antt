@@ -4,6 +4,9 @@ pub mod InlineMap
 pub mod InlineMapLends
 pub mod HeldItems
 pub mod HeldItemsLends
+pub mod HeapForm
+pub mod HeapFormLends
+pub mod HeapPairsLends
 pub mod HeldPairs
 pub mod HeldPairsLends
 pub mod PairsLeft

@@ -16,7 +16,8 @@ type Pairs = InlineHashMap<u8, u8, 2>;
 pub fn all(alloc: Global) -> Result<(), Stop> {
     lists(alloc)?;
     maps(alloc)?;
-    pairs(alloc)
+    pairs(alloc)?;
+    rows(alloc)
 }
 
 fn lists(alloc: Global) -> Result<(), Stop> {
@@ -135,4 +136,52 @@ fn replace(map: &mut Pairs) -> Result<(), Stop> {
         removed == Some(9) && inserted.is_ok() && are_on_heap(map, &[(3, 3), (2, 5)]),
         "insert at a key that is there",
     )
+}
+
+// A list is made of the third pair, grows, and becomes an index map at the seventeenth.
+fn rows(alloc: Global) -> Result<(), Stop> {
+    let mut map = Pairs::new(alloc);
+    for key in 0..20 {
+        insert_next(&mut map, key)?;
+        if key == 15 {
+            twins(&map, 16)?;
+        }
+    }
+    twins(&map, 20)
+}
+
+fn twins(map: &Pairs, end: u8) -> Result<(), Stop> {
+    let twin = map.clone()?;
+    expect(is_row(&twin, end), "clone of pairs on the heap")
+}
+
+// Whether the pairs are those of the keys below this one, in order, and on the heap from the third on.
+fn is_row(map: &Pairs, end: u8) -> bool {
+    if map.len() != usize::from(end) || map.is_heap_allocated() != (end > 2) {
+        return false;
+    }
+    for ((key, value), wanted) in map.iter().zip(0..end) {
+        if *key != wanted || *value != u8::MAX - wanted {
+            return false;
+        }
+    }
+    true
+}
+
+// A refused pair comes back, and the others stay where and as they were.
+fn insert_next(map: &mut Pairs, key: u8) -> Result<(), Stop> {
+    let value = u8::MAX - key;
+    match map.insert(key, value) {
+        Ok(()) => expect(
+            is_row(map, key.saturating_add(1)),
+            "insert after the others",
+        ),
+        Err(back) => {
+            expect(
+                back == (key, value) && is_row(map, key),
+                "insert after the others, refused",
+            )?;
+            Err(Stop::NoMemory)
+        }
+    }
 }

@@ -3,7 +3,7 @@ use crate::stop::{Stop, expect};
 use std::alloc::Global;
 use tl::{
     Attributes, Bytes, HTMLTag, Node, NodeHandle, OutlineOf, Parser, ParserOptions, TagOf, VDom,
-    parse,
+    parse, parse_owned,
 };
 
 const PAGE: &str = "<!doctype html><p a=1 b=2 c=3 id=i class=k>x<b>y<!-- z --></b><br>w</p>v";
@@ -22,7 +22,9 @@ pub fn all(alloc: Global) -> Result<(), Stop> {
 fn pages(alloc: Global) -> Result<(), Stop> {
     let options = ParserOptions::new().track_ids().track_classes();
     let document = parse(alloc, PAGE, options)?;
-    calls(alloc, &document)
+    calls(alloc, &document)?;
+    let guard = parse_owned(alloc, String::from_str(alloc, PAGE)?, options)?;
+    calls(alloc, guard.get_ref())
 }
 
 fn calls(alloc: Global, document: &VDom<'_>) -> Result<(), Stop> {

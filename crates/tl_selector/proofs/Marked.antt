@@ -1,13 +1,14 @@
 -- Marks of a selector from those of its parts.
 use Rattle.std.proofs.Common.{◌≡◌, ◌<◌, ◌⊎◌, ◌&&◌, ◌||◌, ℕ, zero, suc, Bool, true, false, List, [], ◌∷◌, length, refl, sym, ap, ◌∙◌, arith, inl, inr, slice_get, Option, None, Some}
 use Rattle.std.specs.Bool.{Decides}
-use Rattle.std.specs.Option.{IsSomeAnd, option_map_or}
+use Rattle.std.specs.Option.{IsSomeAnd, option_map, option_map_or}
 use Rattle.std.proofs.lemmas.Bool.{and_from, and_parts, cases_lt, or_cases, or_left, or_parts, or_right}
 use Rattle.std.proofs.lemmas.List.{get_or_past}
 use Rattle.std.proofs.lemmas.Option.{slice_get_past}
 use Rattle.tl_spec.specs.Document.{Node}
 use Rattle.tl_spec.specs.Selector.{Selector, Tag, Id, Class, All, And, Or, Descendant, Parent, Attribute, AttributeValue, AttributeValueWhitespacedContains, AttributeValueStartsWith, AttributeValueEndsWith, AttributeValueSubstring}
 use Rattle.tl_spec.specs.SelectorMeaning.{Holds, HoldsAlone, has_joint}
+use Rattle.tl_spec.specs.Scan.{IsFirstPlace}
 use Rattle.tl_spec.specs.SelectorSearch.{holds_alone}
 use Rattle.tl_selector.specs.Marks.{is_among, is_at, IsUnderMark, IsBelowMark, AreMarks}
 use Rattle.tl_spec.proofs.SelectorTests.{holds_alone-is, some-passes}
@@ -147,3 +148,11 @@ holds_within (AttributeValueWhitespacedContains key value) g n h = some-within g
 holds_within (AttributeValueStartsWith key value) g n h = some-within g n (HoldsAlone (AttributeValueStartsWith key value)) h
 holds_within (AttributeValueEndsWith key value) g n h = some-within g n (HoldsAlone (AttributeValueEndsWith key value)) h
 holds_within (AttributeValueSubstring key value) g n h = some-within g n (HoldsAlone (AttributeValueSubstring key value)) h
+
+passes-read : (p : Node → Bool) (o : Option Node) → option_map_or p o false ≡ true → option_map p o ≡ Some true
+passes-read p None h = cc
+passes-read p (Some x) h = ap Some h
+
+-- a selector without joints that no node passes
+pub none_without : (e : Selector) → has_joint e ≡ false → (g : List Node) → IsFirstPlace (holds_alone e) g None → (n : ℕ) → Holds g e n → ⊥
+none_without e h g none n k = none n (passes-read (holds_alone e) (slice_get g n) ((without_tells e h g n).1 k))

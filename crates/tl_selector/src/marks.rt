@@ -8,6 +8,7 @@ ghost use Rattle.tl_spec.specs.SelectorSearch.{holds_alone};
 ghost use Rattle.tl_selector.specs.Marks.{is_among, is_at, is_in, mark_one, spread, child_at, children_at, IsUnderMark, IsBelowMark, AreMarks};
 ghost use Rattle.tl_selector.specs.View.{selector};
 
+use crate::first::first_alone;
 use crate::selector::Selector;
 use std::alloc::{AllocError, Global};
 use tl_element::Element;
@@ -194,6 +195,31 @@ fn marks_alone<N: Element>(
     Ok(marks)
 }
 
+// Whether the selector asks for no ancestors and holds at no node.
+fn holds_nowhere<N: Element>(e: &Selector<'_>, nodes: &[N]) -> bool
+    ensures { result ≡ true → (n : ℕ) → Holds (map N.node nodes.now) (selector e.now) n → ⊥ }
+{
+    if has_joint(e) {
+        return false;
+    }
+    match first_alone(e, nodes) {
+        Some(_) => false,
+        None => true,
+    }
+}
+
+// Whether it is a joint of which one side holds at no node, as is seen without a mark.
+fn joins_nothing<N: Element>(e: &Selector<'_>, nodes: &[N]) -> bool
+    ensures { result ≡ true → (n : ℕ) → Holds (map N.node nodes.now) (selector e.now) n → ⊥ }
+{
+    match e {
+        Selector::Descendant(a, b) | Selector::Parent(a, b) => {
+            holds_nowhere(a, nodes) || holds_nowhere(b, nodes)
+        }
+        _ => false,
+    }
+}
+
 /// A mark for each node in question where the selector holds. In question are the nodes that `among` marks, and where it is
 /// `None` all: so the second of two parts is asked only where the first holds.
 pub fn marks<N: Element>(
@@ -204,6 +230,9 @@ pub fn marks<N: Element>(
 ) -> Result<Vec<bool>, AllocError>
     ensures { IfOk result (λ marks. AreMarks (option_copied among.entry) (selector e.now) (map N.node nodes.now) marks.items) }
 {
+    if joins_nothing(e, nodes) {
+        return vec![in alloc; false; nodes.len()];
+    }
     match e {
         Selector::And(a, b) => {
             let first = marks(alloc, nodes, among, a)?;

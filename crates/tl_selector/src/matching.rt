@@ -7,7 +7,6 @@ ghost use Rattle.tl_selector.specs.View.{selector};
 
 use crate::selector::Selector;
 use tl_element::Element;
-use tl_lookup::scan::is_in_class;
 use tl_lossy::{begins_with, ends_with, has_part, has_word, is_same_text};
 
 impl<'a> Selector<'a> {
@@ -17,8 +16,8 @@ impl<'a> Selector<'a> {
     {
         match self {
             Selector::Tag(name) => node.name() == Some(*name),
-            Selector::Id(id) => node.id() == Some(*id),
-            Selector::Class(class) => is_in_class(node, class),
+            Selector::Id(id) => node.has_id(id),
+            Selector::Class(class) => node.is_in_class(class),
             Selector::All => true,
             Selector::And(a, b) => a.matches(node) && b.matches(node),
             Selector::Or(a, b) => a.matches(node) || b.matches(node),

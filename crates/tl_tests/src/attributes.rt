@@ -1,8 +1,10 @@
 //! The calls of a tag's attributes.
+use crate::edits::{Edit, Part};
+use crate::owned::read;
 use crate::show::{Look, Row, all_show, first_of, show_pairs, show_value};
 use std::alloc::{AllocError, Global};
 use std::test::Fail;
-use tl::{Attributes, Bytes, ParserOptions, parse};
+use tl::{Attributes, Bytes, ParserOptions};
 
 const PAGE: &str = "<p a=1 b=2 c=3 id=i class=k a=4>";
 
@@ -12,7 +14,7 @@ const UPPER: &str = "<p ID=i CLASS=k>";
 
 const CLASS: &str = "<p class=\"a b\tb\">";
 
-static LOOKS: [Row; 27] = [
+static LOOKS: [Row; 37] = [
     (PAGE, &[], Look::Key("a"), "4, there"),
     (PAGE, &[], Look::Key("c"), "3, there"),
     (PAGE, &[], Look::Key("id"), "i, there"),
@@ -46,10 +48,52 @@ static LOOKS: [Row; 27] = [
     (CLASS, &[], Look::Member("A"), "false"),
     (CLASS, &[], Look::Member(""), "false"),
     (CLASS, &[], Look::Member("a b"), "false"),
-    (PAGE, &[], Look::Outline, "k/unknown"),
-    (UPPER, &[], Look::Outline, "absent/unknown"),
-    ("<p class>", &[], Look::Outline, "absent/unknown"),
-    ("<p class=''>", &[], Look::Outline, "/unknown"),
+    // Of an id the length and its first and last byte. Of a member the number of a bit: what is left by 32 of the first byte,
+    // three times the last and five times the length.
+    (PAGE, &[], Look::Outline, "1 105 105; 17/unknown; all"),
+    (UPPER, &[], Look::Outline, "absent;/unknown; all"),
+    ("<p id=ab>", &[], Look::Outline, "2 97 98;/unknown; all"),
+    ("<p id=''>", &[], Look::Outline, "0 0 0;/unknown; all"),
+    ("<p id>", &[], Look::Outline, "absent;/unknown; all"),
+    ("<p class>", &[], Look::Outline, "absent;/unknown; all"),
+    ("<p class=''>", &[], Look::Outline, "absent;/unknown; all"),
+    ("<p class=' '>", &[], Look::Outline, "absent;/unknown; all"),
+    (CLASS, &[], Look::Outline, "absent; 9 13/unknown; all"),
+    // Two members with one bit.
+    (
+        "<p class='k ab'>",
+        &[],
+        Look::Outline,
+        "absent; 17/unknown; all",
+    ),
+    // Parts of a class that is not UTF-8, which has no members, and what was written over what was read.
+    (
+        "<p class=k>",
+        &[Edit::Part(0, Part::Bytes("class", b"k \xff"))],
+        Look::Outline,
+        "absent; 1 17/unknown; all",
+    ),
+    (
+        PAGE,
+        &[Edit::Part(0, Part::Value("id", "abc"))],
+        Look::Outline,
+        "3 97 99; 17/unknown; all",
+    ),
+    (
+        PAGE,
+        &[
+            Edit::Part(0, Part::Unset("id")),
+            Edit::Part(0, Part::Value("class", "b")),
+        ],
+        Look::Outline,
+        "absent; 13/unknown; all",
+    ),
+    (
+        PAGE,
+        &[Edit::Part(0, Part::Bare("class"))],
+        Look::Outline,
+        "1 105 105;/unknown; all",
+    ),
 ];
 
 #[test]
@@ -156,9 +200,9 @@ fn make_all(
     Ok(())
 }
 
-// A clone of the attributes of the first tag of a page.
-fn copied<'a>(alloc: Global, page: &'a str) -> Result<Attributes<'a>, Fail> {
-    let document = parse(alloc, page, ParserOptions::new())?;
+// A clone of the attributes of the page's tag.
+fn copied(alloc: Global, keeps: bool) -> Result<Attributes<'static>, Fail> {
+    let document = read(alloc, PAGE, ParserOptions::new(), keeps)?;
     Ok(first_of(&document)?.clone()?)
 }
 
@@ -174,8 +218,8 @@ fn calls_on(
 }
 
 // Whether the calls in turn, on a clone of the page's attributes, show this.
-fn calls_show(alloc: Global, calls: &[Call], wanted: &str) -> Result<bool, Fail> {
-    match copied(alloc, PAGE) {
+fn calls_show(alloc: Global, calls: &[Call], wanted: &str, keeps: bool) -> Result<bool, Fail> {
+    match copied(alloc, keeps) {
         Ok(mut attributes) => calls_on(alloc, &mut attributes, calls, wanted),
         Err(fail) => Err(fail),
     }
@@ -184,8 +228,10 @@ fn calls_show(alloc: Global, calls: &[Call], wanted: &str) -> Result<bool, Fail>
 #[test]
 fn calls_that_write(rt: HostRuntime) -> Result<(), Fail> {
     for (calls, wanted) in &CALLS {
-        let holds = calls_show(rt.alloc(), calls, wanted)?;
-        assert!(rt; holds, "{wanted}");
+        let borrowed = calls_show(rt.alloc(), calls, wanted, false)?;
+        assert!(rt; borrowed, "{wanted}");
+        let kept = calls_show(rt.alloc(), calls, wanted, true)?;
+        assert!(rt; kept, "kept: {wanted}");
     }
     Ok(())
 }

@@ -239,6 +239,13 @@ enum MapStep {
     Set(u8, u8),
     Holds(Pairs, bool),
     CloneHolds(Pairs, bool),
+    // Inserts each key from the first up to the second, with 255 less the key as its value.
+    InsertRow(u8, u8),
+    // These pairs lie on the heap, in the order of their keys.
+    HoldsRow(u8, u8),
+    CloneHoldsRow(u8, u8),
+    // Pairs with these keys and such values lie on the heap in this order.
+    HoldsKeys(Items),
     // How many pairs the copy has, and one of them.
     CopyHas(usize, u8, u8),
     Prints(&'static str),
@@ -247,7 +254,7 @@ enum MapStep {
 // How many pairs have room inline, what the script shows, and its steps.
 type MapScript = (Room, &'static str, &'static [MapStep]);
 
-static MAPS: [MapScript; 7] = [
+static MAPS: [MapScript; 11] = [
     (
         Room::None,
         "no pair fits inline in a map of none",
@@ -318,6 +325,80 @@ static MAPS: [MapScript; 7] = [
         ],
     ),
     (
+        Room::Two,
+        "no pair is lost as more come to the heap",
+        &[
+            MapStep::InsertRow(0, 3),
+            MapStep::HoldsRow(0, 3),
+            MapStep::InsertRow(3, 16),
+            MapStep::HoldsRow(0, 16),
+            MapStep::CloneHoldsRow(0, 16),
+            MapStep::Lacks(16),
+            MapStep::InsertRow(16, 17),
+            MapStep::HoldsRow(0, 17),
+            MapStep::CloneHoldsRow(0, 17),
+            MapStep::CopyHas(17, 16, 239),
+            MapStep::InsertRow(17, 18),
+            MapStep::HoldsRow(0, 18),
+            MapStep::InsertRow(18, 40),
+            MapStep::HoldsRow(0, 40),
+            MapStep::Lacks(40),
+        ],
+    ),
+    (
+        Room::Two,
+        "a key on the heap keeps its place, among few and among many",
+        &[
+            MapStep::InsertRow(0, 16),
+            MapStep::Set(0, 1),
+            MapStep::Insert(15, 2),
+            MapStep::Get(0, 1),
+            MapStep::Get(15, 2),
+            MapStep::InsertRow(0, 16),
+            MapStep::HoldsRow(0, 16),
+            MapStep::InsertRow(16, 40),
+            MapStep::Set(0, 1),
+            MapStep::Insert(39, 2),
+            MapStep::Get(0, 1),
+            MapStep::Get(39, 2),
+            MapStep::InsertRow(0, 40),
+            MapStep::HoldsRow(0, 40),
+        ],
+    ),
+    (
+        Room::Two,
+        "pairs leave a list",
+        &[
+            MapStep::InsertRow(0, 5),
+            MapStep::Remove(0, 255),
+            MapStep::HoldsKeys(&[4, 1, 2, 3]),
+            MapStep::Lacks(0),
+            MapStep::Remove(3, 252),
+            MapStep::InsertRow(0, 1),
+            MapStep::HoldsKeys(&[4, 1, 2, 0]),
+            MapStep::Remove(2, 253),
+            MapStep::Remove(4, 251),
+            MapStep::HoldsKeys(&[0, 1]),
+        ],
+    ),
+    (
+        Room::Two,
+        "the first keys of many leave",
+        &[
+            MapStep::InsertRow(0, 18),
+            MapStep::Remove(0, 255),
+            MapStep::HoldsKeys(&[17, 1, 2, 3, 4, 5, 6, 7, 8, 9, 10, 11, 12, 13, 14, 15, 16]),
+            MapStep::Remove(1, 254),
+            MapStep::HoldsKeys(&[17, 16, 2, 3, 4, 5, 6, 7, 8, 9, 10, 11, 12, 13, 14, 15]),
+            MapStep::Remove(17, 238),
+            MapStep::Lacks(0),
+            MapStep::Lacks(1),
+            MapStep::Lacks(17),
+            MapStep::InsertRow(0, 2),
+            MapStep::HoldsKeys(&[15, 16, 2, 3, 4, 5, 6, 7, 8, 9, 10, 11, 12, 13, 14, 0, 1]),
+        ],
+    ),
+    (
         Room::Four,
         "the last pair moves into the place",
         &[
@@ -363,6 +444,53 @@ fn map_clone_holds<const N: usize>(
 ) -> bool {
     match map.clone() {
         Ok(copy) => map_holds(&copy, pairs, on_heap),
+        Err(_) => false,
+    }
+}
+
+// Whether each key from the first up to the second goes in, with 255 less the key as its value.
+fn insert_row<const N: usize>(map: &mut InlineHashMap<u8, u8, N>, first: u8, end: u8) -> bool {
+    for key in first..end {
+        if map.insert(key, u8::MAX - key).is_err() {
+            return false;
+        }
+    }
+    true
+}
+
+// Whether a look-up of the key finds 255 less it.
+fn finds<const N: usize>(map: &InlineHashMap<u8, u8, N>, key: u8) -> bool {
+    map.get(&key) == Some(&(u8::MAX - key))
+}
+
+// Whether these are the keys, in order and on the heap, and each is found.
+fn holds_keys<const N: usize>(map: &InlineHashMap<u8, u8, N>, keys: &[u8]) -> bool {
+    if map.len() != keys.len() || !map.is_heap_allocated() {
+        return false;
+    }
+    for ((key, _), wanted) in map.iter().zip(keys) {
+        if *key != *wanted || !finds(map, *wanted) {
+            return false;
+        }
+    }
+    true
+}
+
+fn holds_row<const N: usize>(map: &InlineHashMap<u8, u8, N>, first: u8, end: u8) -> bool {
+    if map.len() != usize::from(end.saturating_sub(first)) || !map.is_heap_allocated() {
+        return false;
+    }
+    for ((key, _), wanted) in map.iter().zip(first..end) {
+        if *key != wanted || !finds(map, wanted) {
+            return false;
+        }
+    }
+    true
+}
+
+fn clone_holds_row<const N: usize>(map: &InlineHashMap<u8, u8, N>, first: u8, end: u8) -> bool {
+    match map.clone() {
+        Ok(copy) => holds_row(&copy, first, end),
         Err(_) => false,
     }
 }
@@ -424,6 +552,10 @@ fn map_obeys<const N: usize>(
         MapStep::Set(key, value) => map_set(map, *key, *value),
         MapStep::Holds(pairs, on_heap) => map_holds(map, pairs, *on_heap),
         MapStep::CloneHolds(pairs, on_heap) => map_clone_holds(map, pairs, *on_heap),
+        MapStep::InsertRow(first, end) => insert_row(map, *first, *end),
+        MapStep::HoldsRow(first, end) => holds_row(map, *first, *end),
+        MapStep::CloneHoldsRow(first, end) => clone_holds_row(map, *first, *end),
+        MapStep::HoldsKeys(keys) => holds_keys(map, keys),
         MapStep::CopyHas(count, key, value) => map_copy_has(alloc, map, *count, *key, *value),
         MapStep::Prints(text) => map_prints(alloc, map, text),
     }

@@ -1,6 +1,7 @@
 //! Documents that are edited, and what they print then.
+use crate::owned::owned;
 use crate::show::{Look, Row, all_show};
-use std::alloc::Global;
+use std::alloc::{AllocError, Global};
 use std::mem;
 use std::test::Fail;
 use tl::{Bytes, HTMLTag, Node, NodeHandle, NodeOf, OutlineOf, ParserOptions, TagOf, VDom, parse};
@@ -9,6 +10,8 @@ use tl::{Bytes, HTMLTag, Node, NodeHandle, NodeOf, OutlineOf, ParserOptions, Tag
 pub enum Edit {
     // Makes the second handle the last child of the tag of the first number.
     Push(u32, u32),
+    // Takes the child at a place out of the tag of a number.
+    Pull(u32, usize),
     // Puts a text in the place of the node of a number.
     Put(u32, &'static [u8]),
     // Exchanges the first two nodes.
@@ -28,6 +31,8 @@ pub enum Part {
     Name(&'static str),
     Value(&'static str, &'static str),
     Bytes(&'static str, &'static [u8]),
+    // A value of a key that needn't be there.
+    Insert(&'static str, &'static str),
     Bare(&'static str),
     Unset(&'static str),
 }
@@ -42,6 +47,7 @@ pub fn edit_all(document: &mut VDom<'static>, edits: &[Edit]) -> Result<(), Fail
 fn edit_one(document: &mut VDom<'static>, edit: &Edit) -> Result<(), Fail> {
     match edit {
         Edit::Push(number, child) => push(document, *number, *child),
+        Edit::Pull(number, place) => pull(document, *number, *place),
         Edit::Put(number, bytes) => put(document, *number, bytes),
         Edit::SwapNodes => swap_nodes(document),
         Edit::SwapTop => swap_top(document),
@@ -72,6 +78,24 @@ fn push_to<A, B, O: OutlineOf<A>>(tag: &mut TagOf<A, B, O>, child: u32) -> Resul
 fn push(document: &mut VDom<'static>, number: u32, child: u32) -> Result<(), Fail> {
     match node_mut(document, number)?.as_tag_mut() {
         Some(tag) => push_to(tag, child),
+        None => Err(Fail::from("no tag")),
+    }
+}
+
+// Takes the child at a place out.
+fn pull_from<A, B, O: OutlineOf<A>>(tag: &mut TagOf<A, B, O>, place: usize) -> Result<(), Fail> {
+    let mut children = tag.children_mut();
+    let handles = children.top_mut();
+    if place >= handles.len() {
+        return Err(Fail::from("no such child"));
+    }
+    handles.remove(place);
+    Ok(())
+}
+
+fn pull(document: &mut VDom<'static>, number: u32, place: usize) -> Result<(), Fail> {
+    match node_mut(document, number)?.as_tag_mut() {
+        Some(tag) => pull_from(tag, place),
         None => Err(Fail::from("no tag")),
     }
 }
@@ -126,19 +150,20 @@ fn write_part(document: &mut VDom<'static>, number: u32, part: &Part) -> Result<
 
 fn write_part_of(node: &mut Node<'static>, part: &Part) -> Result<(), Fail> {
     match node.as_tag_mut() {
-        Some(tag) => {
-            edit_tag(tag, part);
-            Ok(())
-        }
+        Some(tag) => Ok(edit_tag(tag, part)?),
         None => Err(Fail::from("no tag")),
     }
 }
 
-fn edit_tag(tag: &mut HTMLTag<'static>, part: &Part) {
+fn edit_tag(tag: &mut HTMLTag<'static>, part: &Part) -> Result<(), AllocError> {
     match part {
         Part::Name(name) => *tag.name_mut() = Bytes::from(*name),
         Part::Value(key, value) => write_value(tag, key, Bytes::from(*value)),
         Part::Bytes(key, value) => write_value(tag, key, Bytes::from(*value)),
+        Part::Insert(key, value) => {
+            let value = Some(Bytes::from(*value));
+            tag.attributes_mut().insert(Bytes::from(*key), value)?;
+        }
         Part::Bare(key) => {
             tag.attributes_mut().remove_value(Bytes::from(*key));
         }
@@ -146,6 +171,7 @@ fn edit_tag(tag: &mut HTMLTag<'static>, part: &Part) {
             tag.attributes_mut().remove(Bytes::from(*key));
         }
     }
+    Ok(())
 }
 
 fn write_value(tag: &mut HTMLTag<'static>, key: &'static str, value: Bytes<'static>) {
@@ -276,27 +302,37 @@ fn prints(alloc: Global, document: &VDom<'static>, wanted: &str) -> Result<bool,
     Ok(print.as_str() == wanted)
 }
 
-fn each_prints(
+const FIRST: &str = "<p>a</p>";
+
+const SECOND: &str = "b";
+
+// Whether each of the documents of the two pages prints the other page once their tables were exchanged.
+fn exchanges(
     alloc: Global,
-    one: &VDom<'static>,
-    of_one: &str,
-    other: &VDom<'static>,
-    of_other: &str,
+    first: &mut VDom<'static>,
+    second: &mut VDom<'static>,
 ) -> Result<bool, Fail> {
-    Ok(prints(alloc, one, of_one)? && prints(alloc, other, of_other)?)
+    mem::swap(first.parser_mut(), second.parser_mut());
+    Ok(prints(alloc, first, SECOND)? && prints(alloc, second, FIRST)?)
 }
 
-// Whether each of two pages prints the other once their tables were exchanged.
-fn exchanges(alloc: Global, first: &'static str, second: &'static str) -> Result<bool, Fail> {
-    let mut one = parse(alloc, first, ParserOptions::new())?;
-    let mut other = parse(alloc, second, ParserOptions::new())?;
-    mem::swap(one.parser_mut(), other.parser_mut());
-    each_prints(alloc, &one, second, &other, first)
+fn borrowed_exchange(alloc: Global) -> Result<bool, Fail> {
+    let mut first = parse(alloc, FIRST, ParserOptions::new())?;
+    let mut second = parse(alloc, SECOND, ParserOptions::new())?;
+    exchanges(alloc, &mut first, &mut second)
+}
+
+fn kept_exchange(alloc: Global) -> Result<bool, Fail> {
+    let mut first = owned(alloc, FIRST, ParserOptions::new())?;
+    let mut second = owned(alloc, SECOND, ParserOptions::new())?;
+    exchanges(alloc, first.get_mut_ref(), second.get_mut_ref())
 }
 
 #[test]
 fn exchanged_tables(rt: HostRuntime) -> Result<(), Fail> {
-    let holds = exchanges(rt.alloc(), "<p>a</p>", "b")?;
-    assert!(rt; holds);
+    let borrowed = borrowed_exchange(rt.alloc())?;
+    assert!(rt; borrowed);
+    let kept = kept_exchange(rt.alloc())?;
+    assert!(rt; kept);
     Ok(())
 }

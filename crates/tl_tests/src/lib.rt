@@ -1,8 +1,6 @@
-//! Worked rows and vectors, over the public calls of all crates.
+//! Worked rows and vectors, over the public calls of `tl` and of the crates below it.
 #![tactic(auto)]
 
-#[cfg(test)]
-mod again;
 #[cfg(test)]
 mod attributes;
 #[cfg(test)]
@@ -15,17 +13,16 @@ mod edits;
 mod errors;
 #[cfg(test)]
 mod lookups;
+#[cfg(test)]
 mod lossy;
 #[cfg(test)]
-mod prints;
+mod owned;
 #[cfg(test)]
-mod program;
+mod prints;
 #[cfg(test)]
 mod queries;
 #[cfg(test)]
 mod reading;
-#[cfg(test)]
-mod scripts;
 #[cfg(test)]
 mod searches;
 #[cfg(test)]
@@ -33,10 +30,6 @@ mod selector_texts;
 #[cfg(test)]
 mod show;
 #[cfg(test)]
-mod step_lines;
-#[cfg(test)]
 mod texts;
 #[cfg(test)]
 mod tracking;
-#[cfg(test)]
-mod words;

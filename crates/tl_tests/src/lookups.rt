@@ -1,5 +1,6 @@
 //! Lookups by id and by class, with maps and without.
 use crate::edits::{Edit, Part, edit_all};
+use crate::owned::{owned, read};
 use std::alloc::Global;
 use std::test::Fail;
 use tl::{Bytes, ElementsByClassName, NodeHandle, ParserOptions, VDom, parse};
@@ -41,7 +42,7 @@ fn both() -> ParserOptions {
 }
 
 // A page, what is looked up, and what is found, whatever is tracked.
-static READ: [(&str, Sought, &[u32]); 46] = [
+static READ: [(&str, Sought, &[u32]); 56] = [
     ("<a id=u54423>Hello World</a>", Sought::Id(b"u54423"), &[0]),
     ("<p id=\"a\"></p><p id=\"b\"></p>", Sought::Id(b"a"), &[0]),
     ("<p id=\"a\"></p><p id=\"b\"></p>", Sought::Id(b"b"), &[1]),
@@ -54,15 +55,27 @@ static READ: [(&str, Sought, &[u32]); 46] = [
     ("<p class=K><p class=k>", Sought::Class("k"), &[1]),
     ("<p ID=a CLASS=k>", Sought::Id(b"a"), &[]),
     ("<p ID=a CLASS=k>", Sought::Class("k"), &[]),
+    ("<p id=a><p id=b><p id=b>", Sought::Id(b"b"), &[1]),
     // An empty value is an id, and none is not.
+    ("<p><p id=\"\">", Sought::Id(b""), &[1]),
     ("<p id><p id=\"\">", Sought::Id(b""), &[1]),
     ("<p id=a id>", Sought::Id(b"a"), &[]),
     ("<p id=a id=b>", Sought::Id(b"a"), &[]),
     ("<p id=a id=b>", Sought::Id(b"b"), &[0]),
     ("<p></p>", Sought::Id(b""), &[]),
+    // The length, the first and the last byte of two ids, or of two members, may be the same.
+    ("<p id=abc><p id=axc>", Sought::Id(b"axc"), &[1]),
+    ("<p id=abc>", Sought::Id(b"axc"), &[]),
+    ("<p class=\"abc m\">", Sought::Class("axc"), &[]),
+    ("<p class=\"abc axc\">", Sought::Class("axc"), &[0]),
+    // And two members may have the same bit in an outline.
+    ("<p class=\"k m\">", Sought::Class("ab"), &[]),
+    ("<p class=\"k m\"><p class=ab>", Sought::Class("ab"), &[1]),
+    ("<p class=\"k m\"><p class=ab>", Sought::Class("k"), &[0]),
     // All tags with a member, each once.
     ("<p class=\"k k\"><br class=k>", Sought::Class("k"), &[0, 1]),
     ("<p class=\"k k\"><br class=k>", Sought::Class(""), &[]),
+    ("<p class=k>", Sought::Class("l"), &[]),
     ("<p class=\"k m k\">", Sought::Class("k"), &[0]),
     (
         "<div></div><p class=\"a b\">hey</p><p></p>",
@@ -126,7 +139,8 @@ fn reads(
     wanted: &[u32],
 ) -> Result<bool, Fail> {
     let document = parse(alloc, page, options)?;
-    Ok(finds(&document, sought, wanted))
+    let guard = owned(alloc, page, options)?;
+    Ok(finds(&document, sought, wanted) && finds(guard.get_ref(), sought, wanted))
 }
 
 #[test]
@@ -163,17 +177,19 @@ fn agree_on_all(tracked: &VDom<'_>, untracked: &VDom<'_>) -> bool {
 }
 
 // Whether whatever any row looks up is found alike in a page, with maps and without.
-fn agrees(alloc: Global, page: &'static str) -> Result<bool, Fail> {
-    let tracked = parse(alloc, page, both())?;
-    let untracked = parse(alloc, page, ParserOptions::new())?;
+fn agrees(alloc: Global, page: &'static str, keeps: bool) -> Result<bool, Fail> {
+    let tracked = read(alloc, page, both(), keeps)?;
+    let untracked = read(alloc, page, ParserOptions::new(), keeps)?;
     Ok(agree_on_all(&tracked, &untracked))
 }
 
 #[test]
 fn maps_and_scans(rt: HostRuntime) -> Result<(), Fail> {
     for (page, _, _) in &READ {
-        let agree = agrees(rt.alloc(), page)?;
-        assert!(rt; agree, "{page}");
+        let borrowed = agrees(rt.alloc(), page, false)?;
+        assert!(rt; borrowed, "{page}");
+        let kept = agrees(rt.alloc(), page, true)?;
+        assert!(rt; kept, "{page}, kept");
     }
     Ok(())
 }
@@ -194,7 +210,7 @@ const MOVED: [Edit; 2] = [
     Edit::Part(1, Part::Value("id", "a")),
 ];
 
-static EDITED: [EditedRow; 17] = [
+static EDITED: [EditedRow; 20] = [
     (TWO, &MOVED, Sought::Id(b"a"), &[0], &[1]),
     (TWO, &MOVED, Sought::Id(b"z"), &[], &[0]),
     (TWO, &MOVED, Sought::Id(b"b"), &[1], &[]),
@@ -258,6 +274,28 @@ static EDITED: [EditedRow; 17] = [
         &[0, 1, 2],
         &[0, 2],
     ),
+    // What had neither an id nor a class gets one.
+    (
+        "<p>",
+        &[Edit::Part(0, Part::Insert("id", "a"))],
+        Sought::Id(b"a"),
+        &[],
+        &[0],
+    ),
+    (
+        "<p>",
+        &[Edit::Part(0, Part::Insert("class", "k"))],
+        Sought::Class("k"),
+        &[],
+        &[0],
+    ),
+    (
+        "<p class=k>",
+        &[Edit::Part(0, Part::Value("class", "ab"))],
+        Sought::Class("k"),
+        &[0],
+        &[],
+    ),
     (
         "<p class=k>x<p class=m>",
         &[Edit::Part(2, Part::Value("class", "k k"))],
@@ -276,7 +314,13 @@ static EDITED: [EditedRow; 17] = [
     (TWO, &[Edit::Push(0, 1)], Sought::Id(b"b"), &[1], &[1]),
 ];
 
-// Whether an edited page is answered so.
+// Whether a document is answered so once it was edited.
+fn finds_then(document: &mut VDom<'static>, row: &EditedRow, wanted: &[u32]) -> Result<bool, Fail> {
+    edit_all(document, row.1)?;
+    Ok(finds(document, &row.2, wanted))
+}
+
+// Whether an edited page is answered so, whether its document borrows its text or keeps it.
 fn finds_edited(
     alloc: Global,
     row: &EditedRow,
@@ -284,8 +328,11 @@ fn finds_edited(
     wanted: &[u32],
 ) -> Result<bool, Fail> {
     let mut document = parse(alloc, row.0, options)?;
-    edit_all(&mut document, row.1)?;
-    Ok(finds(&document, &row.2, wanted))
+    if !finds_then(&mut document, row, wanted)? {
+        return Ok(false);
+    }
+    let mut guard = owned(alloc, row.0, options)?;
+    finds_then(guard.get_mut_ref(), row, wanted)
 }
 
 #[test]
@@ -309,7 +356,8 @@ fn clone_goes_on(document: &VDom<'_>) -> Result<bool, Fail> {
 
 fn clones(alloc: Global, options: ParserOptions) -> Result<bool, Fail> {
     let document = parse(alloc, "<p class=k><p class=k><p class=k>", options)?;
-    clone_goes_on(&document)
+    let guard = owned(alloc, "<p class=k><p class=k><p class=k>", options)?;
+    Ok(clone_goes_on(&document)? && clone_goes_on(guard.get_ref())?)
 }
 
 #[test]
@@ -336,9 +384,12 @@ fn has_text(alloc: Global, document: &VDom<'_>, id: &str, wanted: &str) -> Resul
 #[test]
 fn text_of_an_id(rt: HostRuntime) -> Result<(), Fail> {
     let document = parse(rt.alloc(), "<a id=u54423>Hello World</a>", both())?;
+    let guard = owned(rt.alloc(), "<a id=u54423>Hello World</a>", both())?;
     let id = format!(in rt.alloc(); "u{}", 54423)?;
     let found = has_text(rt.alloc(), &document, id.as_str(), "Hello World")?;
     assert!(rt; found);
+    let kept = has_text(rt.alloc(), guard.get_ref(), id.as_str(), "Hello World")?;
+    assert!(rt; kept);
     Ok(())
 }
 
@@ -380,17 +431,24 @@ fn selects_thirds(alloc: Global, document: &VDom<'_>, tags: u32) -> bool {
     handles.next().is_none() && handles.next().is_none()
 }
 
+fn finds_thirds(alloc: Global, document: &VDom<'_>, tags: u32) -> bool {
+    looks_up_thirds(document, tags) && selects_thirds(alloc, document, tags)
+}
+
+// Whether they are found in a page of so many tags.
+fn page_finds_thirds(alloc: Global, tags: u32) -> Result<bool, Fail> {
+    let page = page_of(alloc, tags)?;
+    let guard = owned(alloc, page.as_str(), ParserOptions::new())?;
+    let document = parse(alloc, page.as_str(), ParserOptions::new())?;
+    Ok(finds_thirds(alloc, &document, tags) && finds_thirds(alloc, guard.get_ref(), tags))
+}
+
 // Classes are looked at 64 nodes at a time.
 #[test]
 fn classes_of_many_tags(rt: HostRuntime) -> Result<(), Fail> {
     for tags in [1, 63, 64, 65, 127, 128, 129, 200] {
-        let page = page_of(rt.alloc(), tags)?;
-        let document = parse(rt.alloc(), &page, ParserOptions::new())?;
-        assert!(rt; looks_up_thirds(&document, tags), "{tags} tags, a lookup");
-        assert!(rt;
-            selects_thirds(rt.alloc(), &document, tags),
-            "{tags} tags, a selector"
-        );
+        let found = page_finds_thirds(rt.alloc(), tags)?;
+        assert!(rt; found, "{tags} tags");
     }
     Ok(())
 }

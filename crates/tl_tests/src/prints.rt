@@ -2,7 +2,7 @@
 use crate::show::{Look, all_look, shows};
 use std::test::Fail;
 
-static UNCHANGED: [&str; 13] = [
+static UNCHANGED: [&str; 15] = [
     "",
     "abc <p>test<span>a</span></p> def",
     "<p a b=\"c\">x</p>",
@@ -16,6 +16,8 @@ static UNCHANGED: [&str; 13] = [
     "<!-->x",
     "<!--->x",
     "\u{feff}<p>x</p>",
+    "a<p>b<br>c</p><!-- d -->",
+    "<p>\u{e9}</p> <q>x</q>",
 ];
 
 #[test]

@@ -1,19 +1,12 @@
 //! Selectors in documents: where they hold, and what queries and ranges give.
+use crate::edits::{Edit, Part, edit_all};
+use crate::owned::read;
 use std::alloc::Global;
 use std::fmt::Write;
 use std::test::Fail;
 use tl::errors::TreeError;
 use tl::queryselector::{QuerySelectorIterator, Selector};
-use tl::{Node, NodeHandle, Parser, ParserOptions, VDom, parse, parse_query_selector};
-use tl_program::script::{Step, run, steps};
-
-// Takes the steps that the lines say, if they say steps.
-fn take(alloc: Global, document: &mut VDom<'_>, lines: &str) -> bool {
-    match steps(alloc, lines) {
-        Ok(Some(steps)) => run(alloc, document, steps.as_slice()).is_ok(),
-        _ => false,
-    }
-}
+use tl::{Node, NodeHandle, Parser, ParserOptions, VDom, parse_query_selector};
 
 // Writes the numbers that a query gives, each with a space after it.
 fn show_all(found: QuerySelectorIterator<'_, '_>, out: &mut String) -> bool {
@@ -58,225 +51,279 @@ enum Place {
     Tag(u32),
 }
 
-// Queries a page after steps.
-fn query(
-    alloc: Global,
-    page: &str,
-    lines: &str,
-    place: &Place,
-    selector: &str,
-    out: &mut String,
-) -> bool {
-    let Ok(mut document) = parse(alloc, page, ParserOptions::new()) else {
-        return false;
-    };
-    if !take(alloc, &mut document, lines) {
-        return false;
-    }
-    match place {
-        Place::Document => show_found(document.query_selector(alloc, selector), out),
-        Place::Tag(number) => query_tag(alloc, &document, *number, selector, out),
+// A page, what is done to its document, where a query is made then, its selector, and what it gives.
+type Row = (
+    &'static str,
+    &'static [Edit],
+    Place,
+    &'static str,
+    &'static str,
+);
+
+fn query(alloc: Global, document: &VDom<'_>, row: &Row, out: &mut String) -> bool {
+    match &row.2 {
+        Place::Document => show_found(document.query_selector(alloc, row.3), out),
+        Place::Tag(number) => query_tag(alloc, document, *number, row.3, out),
     }
 }
 
-// Whether a query gives this.
-fn gives(
-    alloc: Global,
-    page: &str,
-    lines: &str,
-    place: &Place,
-    selector: &str,
-    wanted: &str,
-) -> bool {
+// Whether a query gives what it must once the document was edited.
+fn gives(alloc: Global, document: &mut VDom<'static>, row: &Row) -> Result<bool, Fail> {
+    edit_all(document, row.1)?;
     let mut out = String::new(alloc);
-    query(alloc, page, lines, place, selector, &mut out) && out.as_str() == wanted
+    Ok(query(alloc, document, row, &mut out) && out.as_str() == row.4)
 }
 
-// Pages, steps, where a query is made, its selector, and what it gives.
-const ROWS: &[(&str, &str, Place, &str, &str)] = &[
-    ("<div><a><a></a></a></div>", "", Place::Tag(0), "a", "1 2 "),
+fn page_gives(alloc: Global, row: &Row, keeps: bool) -> Result<bool, Fail> {
+    let mut document = read(alloc, row.0, ParserOptions::new(), keeps)?;
+    gives(alloc, &mut document, row)
+}
+
+static ROWS: [Row; 59] = [
+    ("<div><a><a></a></a></div>", &[], Place::Tag(0), "a", "1 2 "),
     (
         "<a><b></b></a><c></c>",
-        "push 0 1\npull 0 0\npush 0 1\npull 0 0",
+        &[
+            Edit::Push(0, 1),
+            Edit::Pull(0, 0),
+            Edit::Push(0, 1),
+            Edit::Pull(0, 0),
+        ],
         Place::Tag(0),
         "*",
         "1 ",
     ),
     (
         "<a><b></b></a><c></c>",
-        "pull 0 0\npush 0 2\npush 0 1",
+        &[Edit::Pull(0, 0), Edit::Push(0, 2), Edit::Push(0, 1)],
         Place::Tag(0),
         "*",
         "",
     ),
     (
         "<a><b></b></a>",
-        "push 1 0",
+        &[Edit::Push(1, 0)],
         Place::Tag(0),
         "a",
         "Cycle(NodeHandle(1))",
     ),
-    ("<a><b></b></a>", "push 1 0", Place::Tag(0), "a,", "none"),
-    ("<a><b></b></a>", "push 1 0", Place::Document, "a", "0 "),
     (
         "<a><b></b></a>",
-        "pull 0 0\npush 0 9\npush 0 1",
+        &[Edit::Push(1, 0)],
+        Place::Tag(0),
+        "a,",
+        "none",
+    ),
+    (
+        "<a><b></b></a>",
+        &[Edit::Push(1, 0)],
+        Place::Document,
+        "a",
+        "0 ",
+    ),
+    (
+        "<a><b></b></a>",
+        &[Edit::Pull(0, 0), Edit::Push(0, 9), Edit::Push(0, 1)],
         Place::Tag(0),
         "*",
         "",
     ),
     (
         "<a><b></b></a>",
-        "push 0 9",
+        &[Edit::Push(0, 9)],
         Place::Tag(0),
         "*",
         "Dangling(NodeHandle(9))",
     ),
-    ("<p>a</p><p>b</p>", "", Place::Document, "p", "0 2 "),
+    ("<p>a</p><p>b</p>", &[], Place::Document, "p", "0 2 "),
+    ("<p>a</p>", &[], Place::Document, "q", ""),
+    ("<p>a</p>", &[], Place::Document, ",a", "none"),
     (
         "<div><meta property=\"og:title\" content=\"hello\" /></div>",
-        "",
+        &[],
         Place::Document,
         "meta[property=\"og:title\"]",
         "1 ",
     ),
     (
         "<p><div class=\"z\"><div class=\"y\">PASS</div></div></p>",
-        "",
+        &[],
         Place::Tag(0),
         "div.y",
         "2 ",
     ),
     (
         "<div><img src=\"cool-image.png\" /></div>",
-        "",
+        &[],
         Place::Document,
         "img[src]",
         "1 ",
     ),
-    ("<p a=\"x y\">", "", Place::Document, "[a~=y]", "0 "),
-    ("<p a=\"x y\">", "", Place::Document, "[a^=x]", "0 "),
-    ("<p a=\"x y\">", "", Place::Document, "[a$=y]", "0 "),
-    ("<p a=\"x y\">", "", Place::Document, "[a*=]", "0 "),
-    ("<p a=\"x y\">", "", Place::Document, "[a~=]", ""),
-    ("<p a>", "", Place::Document, "[a]", "0 "),
-    ("<p a>", "", Place::Document, "[a=]", ""),
-    ("<p a>", "", Place::Document, "[a^=]", ""),
-    ("<p a=\"\">", "", Place::Document, "[a=]", "0 "),
-    ("<p a=\"\">", "", Place::Document, "[a^=]", "0 "),
-    ("<p a=\"x\u{a0}y\">", "", Place::Document, "[a~=x]", "0 "),
+    ("<p a=\"x y\">", &[], Place::Document, "[a~=y]", "0 "),
+    ("<p a=\"x y\">", &[], Place::Document, "[a^=x]", "0 "),
+    ("<p a=\"x y\">", &[], Place::Document, "[a$=y]", "0 "),
+    ("<p a=\"x y\">", &[], Place::Document, "[a*=]", "0 "),
+    ("<p a=\"x y\">", &[], Place::Document, "[a~=]", ""),
+    ("<p a>", &[], Place::Document, "[a]", "0 "),
+    ("<p a>", &[], Place::Document, "[a=]", ""),
+    ("<p a>", &[], Place::Document, "[a^=]", ""),
+    ("<p a=\"\">", &[], Place::Document, "[a=]", "0 "),
+    ("<p a=\"\">", &[], Place::Document, "[a^=]", "0 "),
+    ("<p a=\"x\u{a0}y\">", &[], Place::Document, "[a~=x]", "0 "),
     (
         "<p a=\"y\u{85}x\u{2003}z\">",
-        "",
+        &[],
         Place::Document,
         "[a~=x]",
         "0 ",
     ),
     (
         "<p a=\"y\u{1c}x\u{1c}z\">",
-        "",
+        &[],
         Place::Document,
         "[a~=x]",
         "",
     ),
     (
         "<p id=i class=\"k l\">x</p>",
-        "",
+        &[],
         Place::Document,
         "#i",
         "0 ",
     ),
     (
         "<p id=i class=\"k l\">x</p>",
-        "",
+        &[],
         Place::Document,
         ".l",
         "0 ",
     ),
     (
         "<p id=i class=\"k l\">x</p>",
-        "",
+        &[],
         Place::Document,
         "[id]",
         "0 ",
     ),
     (
         "<p id=i class=\"k l\">x</p>",
-        "",
+        &[],
         Place::Document,
         "[class=k]",
         "",
     ),
     (
         "<p id=i class=\"k l\">x</p>",
-        "",
+        &[],
         Place::Document,
         "[class~=k]",
         "0 ",
     ),
     (
         "<p id=i class=\"k l\">x</p>",
-        "",
+        &[],
         Place::Document,
         "*",
         "0 1 ",
     ),
-    ("<p id=i>", "", Place::Document, "#I", ""),
-    ("<p id=\"\" class=\"\">", "", Place::Document, "#", "0 "),
-    ("<p id=\"\" class=\"\">", "", Place::Document, ".", ""),
-    ("<P>x</P><p>y</p>", "", Place::Document, "p", "2 "),
-    ("<div><p></p></div>", "", Place::Document, "div p", "1 "),
-    ("<div><p></p></div>", "", Place::Document, "div > p", "1 "),
-    ("<div><p></p></div>", "", Place::Tag(0), "div p", "1 "),
-    ("<div><p></p></div>", "", Place::Tag(0), "div > p", "1 "),
-    ("<a><b><c></c></b></a>", "", Place::Document, "a c", "2 "),
-    ("<a><b><c></c></b></a>", "", Place::Document, "a > c", ""),
+    ("<p id=i>", &[], Place::Document, "#I", ""),
+    // The length and the ends of two ids are the same, and so is the bit of two members.
+    ("<p id=axc><p id=abc>", &[], Place::Document, "p#abc", "1 "),
+    (
+        "<p class=\"k m\"><p class=ab>",
+        &[],
+        Place::Document,
+        "p.ab",
+        "1 ",
+    ),
+    (
+        "<p>",
+        &[Edit::Part(0, Part::Insert("id", "a"))],
+        Place::Document,
+        "#a",
+        "0 ",
+    ),
+    (
+        "<p>",
+        &[Edit::Part(0, Part::Insert("class", "k"))],
+        Place::Document,
+        "p.k",
+        "0 ",
+    ),
+    ("<p id=\"\" class=\"\">", &[], Place::Document, "#", "0 "),
+    ("<p id=\"\" class=\"\">", &[], Place::Document, ".", ""),
+    ("<P>x</P><p>y</p>", &[], Place::Document, "p", "2 "),
+    ("<div><p></p></div>", &[], Place::Document, "div p", "1 "),
+    ("<div><p></p></div>", &[], Place::Document, "div > p", "1 "),
+    ("<div><p></p></div>", &[], Place::Tag(0), "div p", "1 "),
+    ("<div><p></p></div>", &[], Place::Tag(0), "div > p", "1 "),
+    ("<a><b><c></c></b></a>", &[], Place::Document, "a c", "2 "),
+    ("<a><b><c></c></b></a>", &[], Place::Document, "a > c", ""),
     (
         "<a><b><c></c></b></a>",
-        "",
+        &[],
         Place::Document,
         "a > b > c",
         "2 ",
     ),
     (
         "<a><b><c></c></b></a>",
-        "",
+        &[],
         Place::Document,
         "a b, c",
         "1 2 ",
     ),
-    ("<a>x<b></b></a>", "", Place::Document, "a > *", "1 2 "),
-    ("<a></a><b></b>", "push 1 0", Place::Document, "b > a", "0 "),
-    ("<a></a>", "push 0 0", Place::Document, "a > a", "0 "),
-    ("<a></a>", "push 0 0", Place::Document, "a a", "0 "),
-    ("<a><b></b></a>", "pull 0 0", Place::Document, "a b", ""),
+    ("<a>x<b></b></a>", &[], Place::Document, "a > *", "1 2 "),
+    (
+        "<a></a><b></b>",
+        &[Edit::Push(1, 0)],
+        Place::Document,
+        "b > a",
+        "0 ",
+    ),
+    (
+        "<a></a>",
+        &[Edit::Push(0, 0)],
+        Place::Document,
+        "a > a",
+        "0 ",
+    ),
+    ("<a></a>", &[Edit::Push(0, 0)], Place::Document, "a a", "0 "),
     (
         "<a><b></b></a>",
-        "pull 0 0",
+        &[Edit::Pull(0, 0)],
+        Place::Document,
+        "a b",
+        "",
+    ),
+    (
+        "<a><b></b></a>",
+        &[Edit::Pull(0, 0)],
         Place::Document,
         "a, b",
         "0 1 ",
     ),
     (
         "<a></a><b><c></c></b><d></d>",
-        "push 3 0",
+        &[Edit::Push(3, 0)],
         Place::Document,
         "d > a, b c",
         "0 2 ",
     ),
-    ("<a></a>", "push 0 7", Place::Document, "a > *", ""),
-    ("", "", Place::Document, "*", ""),
-    ("<a></a>", "", Place::Document, "", "none"),
+    ("<a></a>", &[Edit::Push(0, 7)], Place::Document, "a > *", ""),
+    ("", &[], Place::Document, "*", ""),
+    ("<a></a>", &[], Place::Document, "", "none"),
 ];
 
 #[test]
-fn queries_give_what_selectors_hold_at(rt: HostRuntime) {
-    for (page, lines, place, selector, wanted) in ROWS {
-        assert!(rt;
-            gives(rt.alloc(), page, lines, place, selector, wanted),
-            "{page} {selector:?}"
-        );
+fn queries_give_what_selectors_hold_at(rt: HostRuntime) -> Result<(), Fail> {
+    for row in &ROWS {
+        let borrowed = page_gives(rt.alloc(), row, false)?;
+        assert!(rt; borrowed, "{} {:?}", row.0, row.3);
+        let kept = page_gives(rt.alloc(), row, true)?;
+        assert!(rt; kept, "{} {:?}, kept", row.0, row.3);
     }
+    Ok(())
 }
 
 // Writes the boundaries of the children of a tag, and how many nodes its range has.
@@ -299,79 +346,81 @@ fn show_range(document: &VDom<'_>, number: u32, out: &mut String) -> bool {
     }
 }
 
-fn has_range(alloc: Global, page: &str, lines: &str, number: u32, wanted: &str) -> bool {
+// A page, what is done to its document, the number of a tag, and its start, end, boundaries and number of nodes.
+type Range = (&'static str, &'static [Edit], u32, &'static str);
+
+fn has_range(alloc: Global, document: &mut VDom<'static>, row: &Range) -> Result<bool, Fail> {
+    edit_all(document, row.1)?;
     let mut out = String::new(alloc);
-    match parse(alloc, page, ParserOptions::new()) {
-        Ok(mut document) => {
-            take(alloc, &mut document, lines)
-                && show_range(&document, number, &mut out)
-                && out.as_str() == wanted
-        }
-        Err(_) => false,
-    }
+    Ok(show_range(document, row.2, &mut out) && out.as_str() == row.3)
 }
 
-// Pages, steps, the number of a tag, and its start, end, boundaries and number of nodes.
-const RANGES: &[(&str, &str, u32, &str)] = &[
+fn page_has_range(alloc: Global, row: &Range, keeps: bool) -> Result<bool, Fail> {
+    let mut document = read(alloc, row.0, ParserOptions::new(), keeps)?;
+    has_range(alloc, &mut document, row)
+}
+
+static RANGES: [Range; 9] = [
     (
         "<a><b></b></a><c></c>",
-        "",
+        &[],
         0,
         "Some(1) Ok(Some(1)) Ok(Some((1, 1))) Ok(1)",
     ),
-    ("<a></a>", "", 0, "None Ok(None) Ok(None) Ok(0)"),
+    ("<a></a>", &[], 0, "None Ok(None) Ok(None) Ok(0)"),
     (
         "<div id=\"a\"><div id=\"b\"><span>Hello</span><span>World</span><span>!</span></div></div>",
-        "",
+        &[],
         0,
         "Some(1) Ok(Some(7)) Ok(Some((1, 7))) Ok(7)",
     ),
     (
         "<a><b></b></a><c></c>",
-        "pull 0 0\npush 0 2\npush 0 1",
+        &[Edit::Pull(0, 0), Edit::Push(0, 2), Edit::Push(0, 1)],
         0,
         "Some(2) Ok(Some(1)) Ok(Some((2, 1))) Ok(0)",
     ),
     (
         "<a><b></b></a><c></c><d></d>",
-        "pull 0 0\npush 0 3\npush 0 1",
+        &[Edit::Pull(0, 0), Edit::Push(0, 3), Edit::Push(0, 1)],
         0,
         "Some(3) Ok(Some(1)) Ok(Some((3, 1))) Ok(0)",
     ),
     (
         "<a><b></b></a>",
-        "pull 0 0\npush 0 9\npush 0 1",
+        &[Edit::Pull(0, 0), Edit::Push(0, 9), Edit::Push(0, 1)],
         0,
         "Some(9) Ok(Some(1)) Ok(Some((9, 1))) Ok(0)",
     ),
     (
         "<a><b></b></a>",
-        "push 1 0",
+        &[Edit::Push(1, 0)],
         0,
         "Some(1) Err(Cycle(NodeHandle(1))) Err(Cycle(NodeHandle(1))) Err(Cycle(NodeHandle(1)))",
     ),
     (
         "<a><b></b></a>",
-        "push 1 0",
+        &[Edit::Push(1, 0)],
         1,
         "Some(0) Err(Cycle(NodeHandle(0))) Err(Cycle(NodeHandle(0))) Err(Cycle(NodeHandle(0)))",
     ),
     (
         "<a></a>",
-        "push 0 7",
+        &[Edit::Push(0, 7)],
         0,
         "Some(7) Err(Dangling(NodeHandle(7))) Err(Dangling(NodeHandle(7))) Err(Dangling(NodeHandle(7)))",
     ),
 ];
 
 #[test]
-fn ranges_end_at_the_last_on_the_way(rt: HostRuntime) {
-    for (page, lines, number, wanted) in RANGES {
-        assert!(rt;
-            has_range(rt.alloc(), page, lines, *number, wanted),
-            "{page}"
-        );
+fn ranges_end_at_the_last_on_the_way(rt: HostRuntime) -> Result<(), Fail> {
+    for row in &RANGES {
+        let borrowed = page_has_range(rt.alloc(), row, false)?;
+        assert!(rt; borrowed, "{} {:?}", row.0, row.3);
+        let kept = page_has_range(rt.alloc(), row, true)?;
+        assert!(rt; kept, "{} {:?}, kept", row.0, row.3);
     }
+    Ok(())
 }
 
 // What a selector answers at a node alone, and by its table.
@@ -390,21 +439,23 @@ fn answers(
     write!(out, "{alone:?} {:?}", selector.matches_in(parser, handle)).is_ok()
 }
 
-fn answers_on(alloc: Global, page: &str, selector: &str, number: u32, wanted: &str) -> bool {
+// A page, a selector, the number of a node, and what is answered at it alone and by the table.
+type Match = (&'static str, &'static str, u32, &'static str);
+
+fn answers_on(alloc: Global, document: &VDom<'_>, row: &Match) -> Result<bool, Fail> {
+    let Some(selector) = parse_query_selector(alloc, row.1)? else {
+        return Ok(false);
+    };
     let mut out = String::new(alloc);
-    match (
-        parse(alloc, page, ParserOptions::new()),
-        parse_query_selector(alloc, selector),
-    ) {
-        (Ok(document), Ok(Some(selector))) => {
-            answers(alloc, document.parser(), &selector, number, &mut out) && out.as_str() == wanted
-        }
-        _ => false,
-    }
+    Ok(answers(alloc, document.parser(), &selector, row.2, &mut out) && out.as_str() == row.3)
 }
 
-// Pages, selectors, the number of a node, and what is answered at it alone and by the table.
-const MATCHES: &[(&str, &str, u32, &str)] = &[
+fn page_answers(alloc: Global, row: &Match, keeps: bool) -> Result<bool, Fail> {
+    let document = read(alloc, row.0, ParserOptions::new(), keeps)?;
+    answers_on(alloc, &document, row)
+}
+
+static MATCHES: [Match; 9] = [
     ("<a><b></b></a>", "* *", 0, "Some(false) Ok(false)"),
     ("<a><b></b></a>", "* *", 1, "Some(false) Ok(true)"),
     ("<a><b></b></a>", "a > b", 1, "Some(false) Ok(true)"),
@@ -417,29 +468,38 @@ const MATCHES: &[(&str, &str, u32, &str)] = &[
 ];
 
 #[test]
-fn selectors_match_alone_and_by_the_table(rt: HostRuntime) {
-    for (page, selector, number, wanted) in MATCHES {
-        assert!(rt;
-            answers_on(rt.alloc(), page, selector, *number, wanted),
-            "{page} {selector}"
-        );
+fn selectors_match_alone_and_by_the_table(rt: HostRuntime) -> Result<(), Fail> {
+    for row in &MATCHES {
+        let borrowed = page_answers(rt.alloc(), row, false)?;
+        assert!(rt; borrowed, "{} {}", row.0, row.1);
+        let kept = page_answers(rt.alloc(), row, true)?;
+        assert!(rt; kept, "{} {}, kept", row.0, row.1);
     }
+    Ok(())
 }
 
-// Whether a selector holds at a tag whose key `a` has a value that is no UTF-8.
-fn holds_at_broken(alloc: Global, selector: &Selector<'_>) -> bool {
-    let Ok(mut document) = parse(alloc, "<p a>", ParserOptions::new()) else {
-        return false;
-    };
-    let steps = [Step::Set(0, b"a", b"\xff")];
-    run(alloc, &mut document, &steps).is_ok()
-        && selector.matches_in(document.parser(), NodeHandle::new(0)) == Ok(true)
+// What a value that is no UTF-8 is compared with, and whether they are the same text.
+static BROKEN: [(&[u8], bool); 2] = [(b"\xfe", true), (b"x", false)];
+
+static BREAKING: [Edit; 1] = [Edit::Part(0, Part::Bytes("a", b"\xff"))];
+
+// Whether it is answered so at a tag whose key `a` has a value that is no UTF-8.
+fn compares_broken(alloc: Global, value: &[u8], wanted: bool, keeps: bool) -> Result<bool, Fail> {
+    let mut document = read(alloc, "<p a=x>", ParserOptions::new(), keeps)?;
+    edit_all(&mut document, &BREAKING)?;
+    let selector = Selector::AttributeValue(b"a", value);
+    Ok(selector.matches_in(document.parser(), NodeHandle::new(0)) == Ok(wanted))
 }
 
 #[test]
-fn broken_values_are_compared_by_their_texts(rt: HostRuntime) {
-    assert!(rt; holds_at_broken(rt.alloc(), &Selector::AttributeValue(b"a", b"\xfe")));
-    assert!(rt; !holds_at_broken(rt.alloc(), &Selector::AttributeValue(b"a", b"x")));
+fn broken_values_are_compared_by_their_texts(rt: HostRuntime) -> Result<(), Fail> {
+    for (value, wanted) in &BROKEN {
+        let borrowed = compares_broken(rt.alloc(), value, *wanted, false)?;
+        assert!(rt; borrowed, "{value:?}");
+        let kept = compares_broken(rt.alloc(), value, *wanted, true)?;
+        assert!(rt; kept, "{value:?}, kept");
+    }
+    Ok(())
 }
 
 // Whether a query of the handed table passes over the numbers that it lacks.
@@ -469,12 +529,17 @@ fn ends(document: &VDom<'_>, alloc: Global) -> bool {
         && found.next() == None
 }
 
+fn iterator_ends(alloc: Global, keeps: bool) -> Result<bool, Fail> {
+    let document = read(alloc, "<a>x<b></b></a>", ParserOptions::new(), keeps)?;
+    let other = read(alloc, "y", ParserOptions::new(), keeps)?;
+    Ok(passes_over(alloc, &other, &document) && ends(&document, alloc))
+}
+
 #[test]
 fn iterators_end(rt: HostRuntime) -> Result<(), Fail> {
-    let alloc = rt.alloc();
-    let document = parse(alloc, "<a>x<b></b></a>", ParserOptions::new())?;
-    let other = parse(alloc, "y", ParserOptions::new())?;
-    assert!(rt; passes_over(alloc, &other, &document));
-    assert!(rt; ends(&document, alloc));
+    let borrowed = iterator_ends(rt.alloc(), false)?;
+    assert!(rt; borrowed);
+    let kept = iterator_ends(rt.alloc(), true)?;
+    assert!(rt; kept);
     Ok(())
 }

@@ -1,4 +1,5 @@
 //! Pages, and the tables that are read.
+use crate::owned::{owned, read};
 use crate::show::{Look, all_look};
 use std::alloc::Global;
 use std::mem::size_of;
@@ -123,16 +124,19 @@ fn has_version(
     alloc: Global,
     page: &'static str,
     version: &Option<HTMLVersion>,
+    keeps: bool,
 ) -> Result<bool, Fail> {
-    let document = parse(alloc, page, ParserOptions::default())?;
+    let document = read(alloc, page, ParserOptions::default(), keeps)?;
     Ok(document.version() == *version)
 }
 
 #[test]
 fn versions(rt: HostRuntime) -> Result<(), Fail> {
     for (page, version) in &VERSIONS {
-        let holds = has_version(rt.alloc(), page, version)?;
-        assert!(rt; holds, "{page}");
+        let borrowed = has_version(rt.alloc(), page, version, false)?;
+        assert!(rt; borrowed, "{page}");
+        let kept = has_version(rt.alloc(), page, version, true)?;
+        assert!(rt; kept, "{page}, kept");
     }
     Ok(())
 }
@@ -170,17 +174,20 @@ fn page_prints_over(
     alloc: Global,
     other: &'static str,
     wanted: &Result<&str, u32>,
+    keeps: bool,
 ) -> Result<bool, Fail> {
-    let document = parse(alloc, NESTED, ParserOptions::new())?;
-    let other = parse(alloc, other, ParserOptions::new())?;
+    let document = read(alloc, NESTED, ParserOptions::new(), keeps)?;
+    let other = read(alloc, other, ParserOptions::new(), keeps)?;
     Ok(prints_over(alloc, &document, &other, wanted))
 }
 
 #[test]
 fn prints_over_tables(rt: HostRuntime) -> Result<(), Fail> {
     for (other, wanted) in &OVER {
-        let holds = page_prints_over(rt.alloc(), other, wanted)?;
-        assert!(rt; holds, "over {other}");
+        let borrowed = page_prints_over(rt.alloc(), other, wanted, false)?;
+        assert!(rt; borrowed, "over {other}");
+        let kept = page_prints_over(rt.alloc(), other, wanted, true)?;
+        assert!(rt; kept, "over {other}, kept");
     }
     Ok(())
 }
@@ -245,11 +252,15 @@ fn print_to(alloc: Global, document: &VDom<'_>, out: &mut String) -> Result<(), 
     Ok(out.push_str(print.as_str())?)
 }
 
-// Whether a page is read as these many nodes, one in the other, and its print.
-fn nests(alloc: Global, page: &str, nodes: usize, print: &mut String) -> Result<bool, Fail> {
-    let document = parse(alloc, page, ParserOptions::new())?;
-    print_to(alloc, &document, print)?;
-    let walks = walks_below(alloc, &document)?;
+// Whether a document has these many nodes, one in the other. Writes its print.
+fn nests(
+    alloc: Global,
+    document: &VDom<'_>,
+    nodes: usize,
+    print: &mut String,
+) -> Result<bool, Fail> {
+    print_to(alloc, document, print)?;
+    let walks = walks_below(alloc, document)?;
     Ok(
         walks
             && document.nodes().len() == nodes
@@ -258,13 +269,38 @@ fn nests(alloc: Global, page: &str, nodes: usize, print: &mut String) -> Result<
     )
 }
 
+fn borrowed_nests(
+    alloc: Global,
+    page: &str,
+    nodes: usize,
+    print: &mut String,
+) -> Result<bool, Fail> {
+    let document = parse(alloc, page, ParserOptions::new())?;
+    nests(alloc, &document, nodes, print)
+}
+
+fn kept_nests(alloc: Global, page: &str, nodes: usize, print: &mut String) -> Result<bool, Fail> {
+    let guard = owned(alloc, page, ParserOptions::new())?;
+    nests(alloc, guard.get_ref(), nodes, print)
+}
+
+// Whether a page is read both ways as these many nodes, one in the other. Writes its print.
+fn both_nest(alloc: Global, page: &str, nodes: usize, print: &mut String) -> Result<bool, Fail> {
+    let mut kept = String::new(alloc);
+    Ok(
+        borrowed_nests(alloc, page, nodes, print)?
+            && kept_nests(alloc, page, nodes, &mut kept)?
+            && kept.as_str() == print.as_str(),
+    )
+}
+
 #[test]
 fn deep_nesting(rt: HostRuntime) -> Result<(), Fail> {
     let page = nested(rt.alloc())?;
     let mut print = String::new(rt.alloc());
     let mut again = String::new(rt.alloc());
-    let open = nests(rt.alloc(), page.as_str(), 10_000, &mut print)?;
-    let closed = nests(rt.alloc(), print.as_str(), 10_000, &mut again)?;
+    let open = both_nest(rt.alloc(), page.as_str(), 10_000, &mut print)?;
+    let closed = both_nest(rt.alloc(), print.as_str(), 10_000, &mut again)?;
     assert!(rt; open && print.len() == 70_000);
     assert!(rt; closed && again.as_str() == print.as_str());
     Ok(())
@@ -273,5 +309,5 @@ fn deep_nesting(rt: HostRuntime) -> Result<(), Fail> {
 #[test]
 fn sizes(rt: HostRuntime) {
     assert!(rt; size_of::<Bytes<'static>>() <= 32);
-    assert!(rt; size_of::<Node<'static>>() <= 72);
+    assert!(rt; size_of::<Node<'static>>() <= 56);
 }

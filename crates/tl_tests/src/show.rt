@@ -1,13 +1,14 @@
 //! Rows of pages: what is done to a document, what is looked at then, and what that shows.
 use crate::edits::{Edit, edit_all};
+use crate::owned::owned;
 use std::alloc::{AllocError, Global};
 use std::fmt::Write;
 use std::process::Abort;
 use std::test::Fail;
 use tl::errors::TreeError;
 use tl::{
-    Attributes, Bytes, ClassOutline, HTMLTag, Node, NodeHandle, OutlineOf, Parser, ParserOptions,
-    VDom, parse,
+    Attributes, Bytes, HTMLTag, IdOutline, Node, NodeHandle, Outline, OutlineOf, Parser,
+    ParserOptions, VDom, parse,
 };
 
 // What is looked at.
@@ -28,7 +29,7 @@ pub enum Look {
     Members,
     // Whether the class of the first tag has a member.
     Member(&'static str),
-    // What is known of the class of the first tag, and after a `/` what is known of all.
+    // What an outline says of the first tag, and after a `/` what one says that knows nothing.
     Outline,
 }
 
@@ -58,7 +59,7 @@ pub fn all_look(
     Ok(())
 }
 
-// Whether a page shows this.
+// Whether a page shows this, whether its document borrows its text or keeps it.
 pub fn shows(
     alloc: Global,
     page: &'static str,
@@ -67,9 +68,24 @@ pub fn shows(
     wanted: &str,
 ) -> Result<bool, Fail> {
     let mut document = parse(alloc, page, ParserOptions::new())?;
-    edit_all(&mut document, edits)?;
+    if !shows_then(alloc, &mut document, edits, look, wanted)? {
+        return Ok(false);
+    }
+    let mut guard = owned(alloc, page, ParserOptions::new())?;
+    shows_then(alloc, guard.get_mut_ref(), edits, look, wanted)
+}
+
+// Whether a document shows this once it was edited.
+fn shows_then(
+    alloc: Global,
+    document: &mut VDom<'static>,
+    edits: &[Edit],
+    look: &Look,
+    wanted: &str,
+) -> Result<bool, Fail> {
+    edit_all(document, edits)?;
     let mut out = String::new(alloc);
-    show(alloc, &document, look, &mut out)?;
+    show(alloc, document, look, &mut out)?;
     Ok(out.as_str() == wanted)
 }
 
@@ -369,15 +385,29 @@ fn show_member(document: &VDom<'static>, class: &str, out: &mut String) -> Resul
 
 fn show_outlines(document: &VDom<'static>, out: &mut String) -> Result<(), Fail> {
     let attributes = first_of(document)?;
-    show_outline(ClassOutline::of(attributes), out)?;
+    show_outline(Outline::of(attributes), out)?;
     out.push('/')?;
-    Ok(show_outline(ClassOutline::nothing(), out)?)
+    show_outline(Outline::nothing(), out)
 }
 
-fn show_outline(outline: ClassOutline<'_>, out: &mut String) -> Result<(), AllocError> {
-    match outline {
-        ClassOutline::Unknown => out.push_str("unknown"),
-        ClassOutline::Absent => out.push_str("absent"),
-        ClassOutline::Known(class) => show_bytes(&Bytes::from(class), out),
+// Writes the length and the ends of the id, and after a `;` the numbers of the bits of the class.
+fn show_outline(outline: Outline, out: &mut String) -> Result<(), Fail> {
+    match outline.id {
+        IdOutline::Unknown => out.push_str("unknown;")?,
+        IdOutline::Absent => out.push_str("absent;")?,
+        IdOutline::Known(mark) => write!(out, "{} {} {};", mark.len, mark.first, mark.last)?,
     }
+    show_bits(outline.classes, out)
+}
+
+fn show_bits(bits: u32, out: &mut String) -> Result<(), Fail> {
+    if bits == u32::MAX {
+        return Ok(out.push_str(" all")?);
+    }
+    for number in 0..32u32 {
+        if (bits >> number) & 1 == 1 {
+            write!(out, " {number}")?;
+        }
+    }
+    Ok(())
 }

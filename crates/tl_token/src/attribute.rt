@@ -69,6 +69,7 @@ fn past_end(text: &[u8], at: usize) -> usize
 }
 
 // The attribute at a place, and the place after it.
+#[inline(always)]
 fn attribute(text: &[u8], at: usize) -> (AttributeSpan, usize)
     requires { at ≤ length text.now }
     ensures read { (pair_at text.now result.0, drop result.1 text.now) ≡ attribute (drop at text.now) }
@@ -82,6 +83,7 @@ fn attribute(text: &[u8], at: usize) -> (AttributeSpan, usize)
 }
 
 /// The attribute at a place, and the place after it and blanks; none at `/`, `>` or the end.
+#[inline(always)]
 pub fn next_attribute(text: &[u8], at: usize) -> Option<(AttributeSpan, usize)>
     requires { at ≤ length text.now }
     ensures read { option_map (λ found. (pair_at text.now found.0, drop found.1 text.now)) result ≡ next_attribute (drop at text.now) }

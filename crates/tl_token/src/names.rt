@@ -6,6 +6,10 @@ ghost use Rattle.tl_spec.specs.ByteClass.{is_void, is_printed_alone};
 pub fn is_void(name: &[u8]) -> bool
     ensures { result ≡ is_void name.now }
 {
+    // No void name is shorter or longer.
+    if name.len() < 2 || name.len() > 6 {
+        return false;
+    }
     name == b"area".as_slice()
         || name == b"base".as_slice()
         || name == b"br".as_slice()

@@ -134,6 +134,7 @@ fn declaration(text: &[u8], start: usize, at: usize) -> (Token, usize)
 }
 
 // What stands after `<` and blanks, where that `<` stands at `start`.
+#[inline(always)]
 fn markup(text: &[u8], start: usize, at: usize) -> (Token, usize)
     requires order { start < at }
     requires within { at ≤ length text.now }
@@ -154,6 +155,7 @@ fn markup(text: &[u8], start: usize, at: usize) -> (Token, usize)
 }
 
 /// The token at a place, and the place after it, which for a start tag stands after its name and blanks; none at the end.
+#[inline(always)]
 pub fn next_token(text: &[u8], at: usize) -> Option<(Token, usize)>
     requires { at ≤ length text.now }
     ensures read { option_map (λ found. meant text.now found.0 found.1) result ≡ next_token (drop at text.now) }

@@ -9,7 +9,7 @@ use crate::parser::tag::node::{Node, NodeOf};
 use std::alloc::Global;
 use std::marker::Model;
 use tl_attributes::attributes::Attributes;
-use tl_attributes::outline::{ClassOutline, OutlineOf};
+use tl_attributes::outline::{Outline, OutlineOf};
 use tl_bytes::byte_string::Bytes;
 use tl_inline::inline::vec::InlineVec;
 use tl_tracking::TrackingOf;
@@ -46,7 +46,7 @@ pub struct ParserOf<A, B, O: OutlineOf<A>, M> {
 pub type Tracking<'a> = TrackingOf<Bytes<'a>>;
 
 /// A table of nodes that borrow from a text.
-pub type Parser<'a> = ParserOf<Attributes<'a>, Bytes<'a>, ClassOutline<'a>, Tracking<'a>>;
+pub type Parser<'a> = ParserOf<Attributes<'a>, Bytes<'a>, Outline, Tracking<'a>>;
 
 impl<A, B, O: OutlineOf<A>, M> Model for ParserOf<A, B, O, M> {
     ghost use Rattle.std.specs.Prelude.{◌<◌, ◌^◌, length};

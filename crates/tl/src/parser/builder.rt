@@ -14,7 +14,7 @@ ghost use Rattle.tl.specs.declared.parser.tag.node.NodeOf.TheVariants.{Tag};
 
 mod attribute;
 mod node;
-mod source;
+pub(crate) mod source;
 mod start_tag;
 
 use crate::errors::ParseError;
@@ -32,6 +32,21 @@ use tl_token::span::Span;
 use tl_token::tag::TagEnd;
 use tl_token::token::{Token, next_token};
 
+// How many bytes at the front of a text are looked at to guess how many nodes it has.
+const SAMPLE: usize = 4096;
+
+// For how many nodes memory is taken at most before the first of them is read.
+const MOST_AT_ONCE: usize = 65536;
+
+// About how many nodes a text has, by how often `<` stands at its front. With room for them few nodes are moved as the table
+// grows, and a text that only begins with many tags takes no memory that counts.
+fn guessed_nodes(text: &[u8]) -> usize {
+    let front = &text[..text.len().min(SAMPLE)];
+    let tags = front.iter().filter(|byte| **byte == b'<').count();
+    tags.saturating_mul(text.len() / SAMPLE + 1)
+        .min(MOST_AT_ONCE)
+}
+
 // A table that tokens are written into.
 #[derive(Drop)]
 pub(crate) struct TableBuilder<'a> {
@@ -47,20 +62,21 @@ pub(crate) struct TableBuilder<'a> {
 impl<'a> TableBuilder<'a> {
     ghost use Rattle.tl.specs.Builder.{state_of, with_tag, with_whole, placed, piece_at, written, HasRoom, AreHeld};
 
-    // An empty table.
-    fn new(alloc: Global) -> Self
-        ensures state { state_of result ≡ start }
-        ensures held { (held : Held) → AreHeld held result }
+    // An empty table with room for so many nodes.
+    fn new(alloc: Global, room: usize) -> Result<Self, AllocError>
+        ensures state { IfOk result (λ table. state_of table ≡ start) }
+        ensures held { IfOk result (λ table. (held : Held) → AreHeld held table) }
     {
-        TableBuilder {
-            nodes: Vec::new(alloc),
+        Ok(TableBuilder {
+            nodes: Vec::with_capacity(alloc, room)?,
             open_tags: Vec::new(alloc),
             top: Vec::new(alloc),
             is_html5: false,
-        }
+        })
     }
 
     // The place of the innermost open tag in the table.
+    #[inline(always)]
     fn innermost(&self) -> Option<usize>
         ensures { result ≡ slice_get (state_of self.now).open_tags 0 }
     {
@@ -68,6 +84,7 @@ impl<'a> TableBuilder<'a> {
     }
 
     // Makes a node the last child of the innermost open tag, or the last top node.
+    #[inline(always)]
     fn adopt(&mut self, node: NodeHandle) -> Result<(), AllocError>
         ensures ok { OnOk result (state_of self.new ≡ adopted node (state_of self.old)) }
         ensures len { length self.new.nodes.items ≡ length self.old.nodes.items }
@@ -81,6 +98,7 @@ impl<'a> TableBuilder<'a> {
     }
 
     // Adds a node as the last child of the innermost open tag.
+    #[inline(always)]
     fn add(&mut self, node: Node<'a>) -> Result<(), AllocError>
         requires { HasRoom self.old }
         ensures ok { OnOk result (state_of self.new ≡ added (shown node.entry) (state_of self.old)) }
@@ -94,6 +112,7 @@ impl<'a> TableBuilder<'a> {
     }
 
     // Adds a tag, and opens it.
+    #[inline(always)]
     fn open(&mut self, tag: HTMLTag<'a>) -> Result<(), AllocError>
         requires { HasRoom self.old }
         ensures ok { OnOk result (state_of self.new ≡ opened (shown (Tag tag.entry)) (state_of self.old)) }
@@ -106,6 +125,7 @@ impl<'a> TableBuilder<'a> {
     }
 
     // Whether the innermost open tag has this name.
+    #[inline(always)]
     fn is_innermost(&self, name: &[u8]) -> bool
         ensures { result ≡ closes name.now (enclosing_name (state_of self.now).nodes (state_of self.now).open_tags) }
     {
@@ -116,6 +136,7 @@ impl<'a> TableBuilder<'a> {
     }
 
     // Closes the innermost open tag, whose raw then ends at the place `to` of the text.
+    #[inline(always)]
     fn close<S: Source<'a>>(
         &mut self,
         alloc: Global,
@@ -133,6 +154,7 @@ impl<'a> TableBuilder<'a> {
     }
 
     // Adds the tag of a start tag, and opens it unless it stands alone. Of a broken one nothing comes.
+    #[inline(always)]
     fn add_tag(&mut self, tag: HTMLTag<'a>, end: TagEnd) -> Result<(), AllocError>
         requires { HasRoom self.old }
         ensures ok { OnOk result (state_of self.new ≡ with_tag (shown (Tag tag.entry)) (is_void_name tag.entry.name.list) (state_of self.old) end) }
@@ -153,6 +175,7 @@ impl<'a> TableBuilder<'a> {
 
     // Writes the start tag of this name that begins at `start` and whose attributes stand from `at` on, and answers the place
     // after it.
+    #[inline(always)]
     fn start_tag<S: Source<'a>>(
         &mut self,
         alloc: Global,
@@ -178,6 +201,7 @@ impl<'a> TableBuilder<'a> {
     }
 
     // Adds the node that `leaf` makes of the bytes at a span.
+    #[inline(always)]
     fn add_leaf<S: Source<'a>, F: FnOnce(Bytes<'a>) -> Node<'a>>(
         &mut self,
         alloc: Global,
@@ -197,6 +221,7 @@ impl<'a> TableBuilder<'a> {
     }
 
     // Closes the innermost open tag if it has this name: its raw then ends at the place `to` of the text.
+    #[inline(always)]
     fn end_tag<S: Source<'a>>(
         &mut self,
         alloc: Global,
@@ -216,6 +241,7 @@ impl<'a> TableBuilder<'a> {
     }
 
     // Writes a token that is no start tag and ends at the place `to` of the text.
+    #[inline(always)]
     fn take_whole<S: Source<'a>>(
         &mut self,
         alloc: Global,
@@ -248,6 +274,7 @@ impl<'a> TableBuilder<'a> {
 
     // Writes a token that the lexer found from `start` up to `after`, and answers the place after it, which is that after the whole
     // tag for a start tag. After an error what has been written means nothing.
+    #[inline(always)]
     fn take<S: Source<'a>>(
         &mut self,
         alloc: Global,
@@ -312,7 +339,7 @@ pub(crate) fn read<'a, S: Source<'a>>(alloc: Global, source: &S) -> Result<Parse
     if text.len() > u32::MAX as usize {
         return Err(ParseError::InvalidLength);
     }
-    let mut table = TableBuilder::new(alloc);
+    let mut table = TableBuilder::new(alloc, guessed_nodes(text))?;
     let mut at = 0;
     while let Some((token, after)) = next_token(text, at) {
         at = table.take(alloc, source, at, token, after)?;

@@ -4,6 +4,8 @@ ghost use Rattle.std.specs.Map.{lookup};
 ghost use Rattle.std.specs.Option.{option_copied};
 ghost use Rattle.std.specs.Str.{bytes_eq};
 ghost use Rattle.tl_spec.specs.AttributeEdit.{value_at};
+ghost use Rattle.tl_spec.specs.ClassMember.{has_member};
+ghost use Rattle.tl_spec.specs.Scan.{is_value};
 ghost use Rattle.tl_attributes.specs.ShownAttributes.{shown_entries, shown_attributes};
 ghost use Rattle.tl_bytes.specs.Held.{Kept};
 ghost use Rattle.tl.specs.Shown.{shown};
@@ -11,7 +13,7 @@ ghost use Rattle.tl.specs.Shown.{shown};
 use crate::parser::tag::HTMLTag;
 use crate::parser::tag::node::Node;
 use tl_attributes::attributes::{Attributes, RawAttributesMap};
-use tl_attributes::outline::ClassOutline;
+use tl_attributes::outline::Mark;
 use tl_element::Element;
 
 // What stands at a key among the pairs other than `id` and `class`. They are gone through, since the keys of a map live as long as
@@ -36,15 +38,22 @@ fn value_of<'s>(attributes: &'s Attributes<'_>, key: &[u8]) -> Option<Option<&'s
     value_among(attributes.unstable_raw(), key)
 }
 
-// The value of a tag's class, from its attributes only where it isn't at hand.
-fn class_of<'s>(tag: &'s HTMLTag<'_>) -> Option<&'s [u8]>
-    ensures { option_copied result ≡ option_map (λ (bytes : Kept). bytes.list) tag.now.attributes.class }
+// Whether a tag has this id. Its attributes are looked at only where its outline allows that.
+fn has_id(tag: &HTMLTag<'_>, id: &[u8]) -> bool
+    ensures { result ≡ is_value id.now (option_map (λ (bytes : Kept). bytes.list) tag.now.attributes.id) }
 {
-    match tag.outline() {
-        ClassOutline::Known(class) => Some(class),
-        ClassOutline::Absent => None,
-        ClassOutline::Unknown => tag.attributes().class().map(|class| class.as_bytes()),
-    }
+    tag.outline().may_be_id(Mark::of(id))
+        && tag
+            .attributes()
+            .id()
+            .is_some_and(|own| id == own.as_bytes())
+}
+
+// Whether this is a member of a tag's class. Its attributes are looked at only where its outline allows that.
+fn is_in_class(tag: &HTMLTag<'_>, class: &[u8]) -> bool
+    ensures { result ≡ has_member (option_map (λ (bytes : Kept). bytes.list) tag.now.attributes.class) class.now }
+{
+    tag.outline().may_be_member(Mark::of(class)) && tag.attributes().is_class_member(class)
 }
 
 impl<'a> Element for Node<'a> {
@@ -57,17 +66,17 @@ impl<'a> Element for Node<'a> {
         }
     }
 
-    fn id(&self) -> Option<&[u8]> {
+    fn has_id(&self, id: &[u8]) -> bool {
         match self {
-            Node::Tag(tag) => tag.attributes().id().map(|id| id.as_bytes()),
-            _ => None,
+            Node::Tag(tag) => has_id(tag, id),
+            _ => false,
         }
     }
 
-    fn class(&self) -> Option<&[u8]> {
+    fn is_in_class(&self, class: &[u8]) -> bool {
         match self {
-            Node::Tag(tag) => class_of(tag),
-            _ => None,
+            Node::Tag(tag) => is_in_class(tag, class),
+            _ => false,
         }
     }
 

@@ -10,7 +10,7 @@ use crate::parser::handle::NodeHandle;
 use std::alloc::{AllocError, Global};
 use std::marker::Model;
 use tl_attributes::attributes::Attributes;
-use tl_attributes::outline::{ClassOutline, OutlineOf};
+use tl_attributes::outline::{Outline, OutlineOf};
 use tl_bytes::byte_string::Bytes;
 use tl_inline::inline::vec::InlineVec;
 
@@ -37,7 +37,7 @@ pub struct TagOf<A, B, O: OutlineOf<A>> {
 }
 
 /// A tag: its name, its attributes, the handles of its children, and where it stands in the text.
-pub type HTMLTag<'a> = TagOf<Attributes<'a>, Bytes<'a>, ClassOutline<'a>>;
+pub type HTMLTag<'a> = TagOf<Attributes<'a>, Bytes<'a>, Outline>;
 
 impl<A, B, O: OutlineOf<A>> Model for TagOf<A, B, O> {
     ghost use Rattle.tl.specs.Tag.{Tag, tag_code};
@@ -61,6 +61,7 @@ impl<A: Drop, B: Drop, O: OutlineOf<A>> TagOf<A, B, O> {
     ghost use Rattle.tl.specs.Tag.{childless};
 
     // A tag without children.
+    #[inline(always)]
     pub(crate) fn new(
         alloc: Global,
         name: B,
@@ -210,7 +211,7 @@ impl<'a> HTMLTag<'a> {
         let alloc = *Box::allocator(&self.parts);
         let (name, raw) = copied_texts(&self.name, &parts.raw)?;
         let (attributes, children) = copied_lists(&parts.attributes, &parts.children)?;
-        let outline = ClassOutline::of(&attributes);
+        let outline = Outline::of(&attributes);
         let copy = Parts {
             attributes,
             children,

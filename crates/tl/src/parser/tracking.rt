@@ -1,55 +1,54 @@
 //! Tracks the tags of a table that was read: their ids, and the members of their classes.
-ghost use Rattle.std.specs.Prelude.{◌≡◌, ◌<◌, ◌^◌, ◌++◌, ◌∷◌, [], All, List, ℕ, length, map, is_some, IfOk, OnOk, Some, IfSome, option_map};
+ghost use Rattle.std.specs.Prelude.{◌≡◌, ◌<◌, ◌^◌, ◌++◌, ◌∷◌, [], List, ℕ, length, map, is_some, IfOk, OnOk, Some, IfSome, option_map};
 ghost use Rattle.std.specs.Option.{option_copied};
-ghost use Rattle.tl_bytes.specs.Held.{borrowed};
-ghost use Rattle.tl_spec.specs.ClassMember.{members};
+ghost use Rattle.tl_spec.specs.ClassMember.{members, parts};
 ghost use Rattle.tl_spec.specs.Document.{Node};
 ghost use Rattle.tl_spec.specs.Scan.{id_of, class_of};
 ghost use Rattle.tl.specs.Shown.{shown};
-ghost use Rattle.tl.specs.HeldAlike.{IsHeldNode};
 ghost use Rattle.tl.specs.Tracked.{AreAsked, AnswerIds, AnswerClasses, AnswerMembers};
 
 use crate::parser::base::{Parser, Tracking};
 use crate::parser::tag::node::Node;
 use std::alloc::{AllocError, Global};
 use std::str;
-use tl_attributes::class_iter::ClassIter;
-use tl_bytes::byte_string::Bytes;
+use tl_attributes::class_iter::next_part;
+use tl_bytes::byte_string::{Bytes, part};
 use tl_options::ParserOptions;
 
-// Notes the parts of a class, each as a slice of the text.
+// Notes the parts of a class, each held as the class is.
 fn note_parts<'a>(
-    tracking: &mut Tracking<'a>,
-    parts: ClassIter<'a>,
-    number: u32,
-) -> Result<(), AllocError>
-    ensures members { OnOk result ((nodes : List Node) → number ≡ length nodes → AnswerMembers tracking.old nodes [] → AnswerMembers tracking.new nodes parts.entry) }
-    ensures ids { tracking.new.ids ≡ tracking.old.ids }
-    ensures tracked { is_some tracking.new.classes ≡ is_some tracking.old.classes }
-{
-    for part in parts {
-        tracking.note_class(Bytes::from(part), number)?;
-    }
-    Ok(())
-}
-
-// Notes the members of a class that was read.
-fn note_members<'a>(
+    alloc: Global,
     tracking: &mut Tracking<'a>,
     class: &Bytes<'a>,
     number: u32,
 ) -> Result<(), AllocError>
-    requires { class.now.held ≡ borrowed }
+    ensures members { OnOk result ((nodes : List Node) → number ≡ length nodes → AnswerMembers tracking.old nodes [] → AnswerMembers tracking.new nodes (parts class.now.list)) }
+    ensures ids { tracking.new.ids ≡ tracking.old.ids }
+    ensures tracked { is_some tracking.new.classes ≡ is_some tracking.old.classes }
+{
+    let mut at = 0;
+    while let Some((start, end)) = next_part(class.as_bytes(), at) {
+        let member = part(class, alloc, start, end)?;
+        tracking.note_class(member, number)?;
+        at = end;
+    }
+    Ok(())
+}
+
+// Notes the members of a class.
+fn note_members<'a>(
+    alloc: Global,
+    tracking: &mut Tracking<'a>,
+    class: &Bytes<'a>,
+    number: u32,
+) -> Result<(), AllocError>
     ensures members { OnOk result ((nodes : List Node) → number ≡ length nodes → AnswerMembers tracking.old nodes [] → AnswerMembers tracking.new nodes (members (Some class.now.list))) }
     ensures ids { tracking.new.ids ≡ tracking.old.ids }
     ensures tracked { is_some tracking.new.classes ≡ is_some tracking.old.classes }
 {
-    match class.as_bytes_borrowed() {
-        Some(bytes) => match str::from_utf8(bytes) {
-            Ok(text) => note_parts(tracking, ClassIter::of(text), number),
-            Err(_) => Ok(()),
-        },
-        None => unreachable!(),
+    match str::from_utf8(class.as_bytes()) {
+        Ok(_) => note_parts(alloc, tracking, class, number),
+        Err(_) => Ok(()),
     }
 }
 
@@ -70,11 +69,11 @@ fn note_id<'a>(tracking: &mut Tracking<'a>, node: &Node<'a>, number: u32) -> Res
 
 // Notes the class of a node, if it has one.
 fn note_class<'a>(
+    alloc: Global,
     tracking: &mut Tracking<'a>,
     node: &Node<'a>,
     number: u32,
 ) -> Result<(), AllocError>
-    requires { IsHeldNode borrowed node.now }
     ensures classes { OnOk result ((nodes : List Node) → number ≡ length nodes → AnswerClasses tracking.old nodes → AnswerClasses tracking.new (nodes ++ shown node.now ∷ [])) }
     ensures ids { tracking.new.ids ≡ tracking.old.ids }
     ensures tracked { is_some tracking.new.classes ≡ is_some tracking.old.classes }
@@ -85,7 +84,7 @@ fn note_class<'a>(
     let Some(class) = tag.attributes().class() else {
         return Ok(());
     };
-    note_members(tracking, class, number)
+    note_members(alloc, tracking, class, number)
 }
 
 // The maps of nodes that were read.
@@ -94,8 +93,7 @@ fn tracked<'a>(
     nodes: &[Node<'a>],
     options: ParserOptions,
 ) -> Result<Tracking<'a>, AllocError>
-    requires held { All (IsHeldNode borrowed) nodes.now }
-    requires numbers { length nodes.now < 2 ^ 32 }
+    requires { length nodes.now < 2 ^ 32 }
     ensures asked { IfOk result (AreAsked options) }
     ensures ids { IfOk result (λ t. AnswerIds t (map shown nodes.now)) }
     ensures classes { IfOk result (λ t. AnswerClasses t (map shown nodes.now)) }
@@ -106,16 +104,15 @@ fn tracked<'a>(
     }
     for (number, node) in nodes.iter().enumerate() {
         note_id(&mut tracking, node, number as u32)?;
-        note_class(&mut tracking, node, number as u32)?;
+        note_class(alloc, &mut tracking, node, number as u32)?;
     }
     Ok(tracking)
 }
 
 impl<'a> Parser<'a> {
-    // Tracks what the options ask for, where the pieces are slices of the text.
+    // Tracks what the options ask for.
     pub(crate) fn track(&mut self, alloc: Global, options: ParserOptions) -> Result<(), AllocError>
-        requires held { All (IsHeldNode borrowed) self.old.nodes }
-        requires numbers { length self.old.nodes < 2 ^ 32 }
+        requires { length self.old.nodes < 2 ^ 32 }
         ensures table { self.new ≡ record self.old { tracking = self.new.tracking } }
         ensures asked { OnOk result (AreAsked options self.new.tracking) }
         ensures ids { OnOk result (AnswerIds self.new.tracking (map shown self.old.nodes)) }

@@ -12,6 +12,7 @@ use crate::walk::Frame;
 use std::alloc::Global;
 
 // Sets the mark of a handle, where there are marks.
+#[inline(always)]
 pub(crate) fn put_mark(marks: &mut Vec<bool>, handle: NodeHandle, mark: bool)
     ensures { marks.new.items ≡ set marks.old.items handle mark }
 {
@@ -22,6 +23,7 @@ pub(crate) fn put_mark(marks: &mut Vec<bool>, handle: NodeHandle, mark: bool)
 }
 
 // The marks of all frames, among n.
+#[inline(never)]
 fn all_marks<'s, 'a>(
     alloc: Global,
     n: usize,
@@ -38,6 +40,7 @@ fn all_marks<'s, 'a>(
 }
 
 // Whether a handle is above that of the last frame.
+#[inline(always)]
 fn is_above<'s, 'a>(frames: &[Frame<'s, 'a>], handle: NodeHandle) -> bool
     ensures { (result ≡ true) ↔ IsAbove handle (path_from [] frames.now) }
 {
@@ -48,6 +51,7 @@ fn is_above<'s, 'a>(frames: &[Frame<'s, 'a>], handle: NodeHandle) -> bool
 }
 
 // Whether a handle of the table, which has n nodes, stands on the path of the frames.
+#[inline(always)]
 pub(crate) fn stands_on_path<'s, 'a>(
     alloc: Global,
     n: usize,

@@ -68,6 +68,7 @@ fn write_pairs(attributes: &Attributes<'_>, out: &mut String) -> Result<(), Tree
 }
 
 // Writes a start tag.
+#[inline(always)]
 fn write_start(tag: &HTMLTag<'_>, out: &mut String) -> Result<(), TreeError>
     ensures ok { OnOk result (string_bytes out.new ≡ string_bytes out.old ++ print_start (plain_node (shown_tag tag.now))) }
     ensures err { IfErr result (λ e. e ≡ TreeError.OutOfMemory) }
@@ -81,6 +82,7 @@ fn write_start(tag: &HTMLTag<'_>, out: &mut String) -> Result<(), TreeError>
 }
 
 // Writes an end tag.
+#[inline(always)]
 fn write_end(tag: &HTMLTag<'_>, out: &mut String) -> Result<(), TreeError>
     ensures ok { OnOk result (string_bytes out.new ≡ string_bytes out.old ++ print_end (plain_node (shown_tag tag.now))) }
     ensures err { IfErr result (λ e. e ≡ TreeError.OutOfMemory) }
@@ -92,6 +94,7 @@ fn write_end(tag: &HTMLTag<'_>, out: &mut String) -> Result<(), TreeError>
 }
 
 // Writes what one event prints.
+#[inline(always)]
 fn write_event<'s, 'a>(event: Event<'s, 'a>, out: &mut String) -> Result<(), TreeError>
     ensures ok { OnOk result (string_bytes out.new ≡ string_bytes out.old ++ printed (shown_event event.entry)) }
     ensures err { IfErr result (λ e. e ≡ TreeError.OutOfMemory) }

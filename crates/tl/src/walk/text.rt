@@ -17,6 +17,7 @@ use crate::walk::{Entered, Event, Walker};
 use std::alloc::Global;
 
 // Writes the text of a node that is met: that of a text alone.
+#[inline(always)]
 fn write_event<'s, 'a>(event: Event<'s, 'a>, out: &mut String) -> Result<(), TreeError>
     ensures ok { OnOk result (string_bytes out.new ≡ string_bytes out.old ++ event_text (shown_event event.entry)) }
     ensures err { IfErr result (λ e. e ≡ TreeError.OutOfMemory) }

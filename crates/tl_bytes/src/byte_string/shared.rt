@@ -6,10 +6,11 @@ use crate::byte_string::{Bytes, Repr};
 use bytes::ByteStr;
 use std::alloc::{AllocError, Global};
 use std::marker::Model;
+use std::rc::Rc;
 
 /// A text that is kept for as long as there is a slice of it.
 pub struct Shared {
-    text: ByteStr,
+    text: Rc<ByteStr>,
 }
 
 impl Model for Shared {
@@ -17,7 +18,7 @@ impl Model for Shared {
 
     ghost Value = { List ℕ };
 
-    ghost view = { λ s. s.text };
+    ghost view = { λ s. s.text.value };
 }
 
 // By hand, so that a caller's proof has one step for a drop.
@@ -27,13 +28,78 @@ impl Drop for Shared {
     }
 }
 
+// The bytes of a text from one place up to another.
+pub(crate) struct Share {
+    text: Rc<ByteStr>,
+    start: usize,
+    end: usize,
+}
+
+impl Model for Share {
+    ghost use Rattle.std.specs.Prelude.{List, ℕ, ◌≤◌, length, slice_range};
+
+    ghost Value = { List ℕ };
+
+    ghost view = { λ s. slice_range s.text.value s.start s.end };
+
+    ghost invariant = { λ s. (s.start ≤ s.end) × (s.end ≤ length s.text.value) };
+}
+
+// By hand, as that of `Shared`.
+impl Drop for Share {
+    fn drop(self) {
+        let Share {
+            text: _,
+            start: _,
+            end: _,
+        } = self;
+    }
+}
+
+impl Share {
+    // The bytes.
+    pub(crate) fn as_slice(&self) -> &[u8]
+        ensures { result.now ≡ self.now }
+    {
+        &self.text.as_str().as_bytes()[self.start..self.end]
+    }
+
+    // Those of them from `start` up to `end` without `end`. `Err` means that the count of owners is full.
+    #[tactic(auto, using(crate::proofs::Shares::part_of_part, crate::proofs::Shares::part_len))]
+    pub(crate) fn part(&self, start: usize, end: usize) -> Result<Share, AllocError>
+        requires order { start ≤ end }
+        requires within { end ≤ length self.now }
+        ensures { IfOk result (λ share. share ≡ slice_range self.now start end) }
+    {
+        prove!(end <= self.end - self.start);
+        Ok(Share {
+            text: self.text.clone()?,
+            start: self.start + start,
+            end: self.start + end,
+        })
+    }
+
+    // The same bytes. `Err` means that the count of owners is full.
+    pub(crate) fn again(&self) -> Result<Share, AllocError>
+        ensures { IfOk result (λ share. share ≡ self.now) }
+    {
+        Ok(Share {
+            text: self.text.clone()?,
+            start: self.start,
+            end: self.end,
+        })
+    }
+}
+
 impl Shared {
     /// The text, moved. `Err` means that memory for the count of its owners was refused.
-    pub fn new(_alloc: Global, text: String) -> Result<Shared, AllocError>
+    pub fn new(alloc: Global, text: String) -> Result<Shared, AllocError>
         ensures { IfOk result (λ buffer. buffer ≡ string_bytes text) }
     {
         let text = ByteStr::from_string(text)?;
-        Ok(Shared { text })
+        Ok(Shared {
+            text: Rc::new(alloc, text)?,
+        })
     }
 
     /// The whole text.
@@ -44,10 +110,10 @@ impl Shared {
     }
 
     /// The bytes from `start` up to `end` without `end`, which may cut a character. No byte is
-    /// copied. `Err` means that memory for the slice was refused.
+    /// copied and no memory is taken. `Err` means that the count of owners is full.
     pub fn slice(
         &self,
-        alloc: Global,
+        _alloc: Global,
         start: usize,
         end: usize,
     ) -> Result<Bytes<'static>, AllocError>
@@ -56,9 +122,9 @@ impl Shared {
         ensures { IfOk result
             (λ part. part ≡ record { list = slice_range self.now start end; held = shared }) }
     {
-        let part = self.text.as_bytes().slice(start..end)?;
+        let text = self.text.clone()?;
         Ok(Bytes {
-            repr: Repr::Shared(Box::new(alloc, part)?),
+            repr: Repr::Shared(Share { text, start, end }),
         })
     }
 }

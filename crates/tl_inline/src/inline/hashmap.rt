@@ -10,13 +10,17 @@ ghost use Rattle.std.specs.Map.Iter.{deref_pair, ShowsInOrder};
 ghost use Rattle.tl_spec.specs.Inline.{with_entry, without_key};
 ghost use Rattle.tl_inline.specs.InlineVec.{ClonesAreEqual};
 
+mod heap;
 mod held;
 mod iter;
+mod pairs;
 
 use arrayvec::ArrayVec;
-use held::{HeldPairs, find, move_out, push_heap, push_inline, remove_inline, replace};
+use heap::HeapPairs;
+use held::{HeldPairs, push_inline, remove_inline, replace};
 pub use iter::InlineHashMapIterator;
 use iter::PairsLeft;
+use pairs::find;
 use std::alloc::{AllocError, Global};
 use std::collections::HashMap;
 use std::fmt;
@@ -148,11 +152,9 @@ impl<K: Eq + Hash, V, const N: usize> InlineHashMap<K, V, N> {
     {
         match &self.held {
             HeldPairs::Inline(inline) => InlineHashMapIterator {
-                left: PairsLeft::Inline(inline.as_slice().iter()),
+                left: PairsLeft::Slice(inline.as_slice().iter()),
             },
-            HeldPairs::Heap(heap) => InlineHashMapIterator {
-                left: PairsLeft::Heap(heap.iter()),
-            },
+            HeldPairs::Heap(heap) => heap.iter(),
         }
     }
 }
@@ -192,19 +194,15 @@ impl<K: Default + Eq + Hash + Drop, V: Default + Drop, const N: usize> InlineHas
                     push_inline(inline, key, value);
                     return Ok(());
                 }
-                match move_out(self.alloc, inline) {
-                    Ok(mut heap) => {
-                        push_heap(&mut heap, key, value);
+                match HeapPairs::take(self.alloc, inline, key, value) {
+                    Ok(heap) => {
                         self.held = HeldPairs::Heap(heap);
                         Ok(())
                     }
-                    Err(_) => Err((key, value)),
+                    Err(pair) => Err(pair),
                 }
             }
-            HeldPairs::Heap(heap) => match heap.insert(key, value) {
-                Ok(_) => Ok(()),
-                Err(failed) => Err(failed.value),
-            },
+            HeldPairs::Heap(heap) => heap.insert(key, value),
         }
     }
 

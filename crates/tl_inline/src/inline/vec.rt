@@ -10,8 +10,9 @@ ghost use Rattle.tl_inline.specs.InlineVec.{ClonesAreEqual};
 mod held;
 mod iter;
 
+use super::spill::move_out;
 use arrayvec::ArrayVec;
-use held::{HeldItems, move_out};
+use held::HeldItems;
 pub use iter::InlineVecIter;
 use std::alloc::{AllocError, Global};
 use std::fmt;
@@ -164,7 +165,7 @@ impl<T: Default + Drop, const N: usize> InlineVec<T, N> {
                     inline.push(item);
                     return Ok(());
                 }
-                let moved = move_out(self.alloc, inline);
+                let moved = move_out(self.alloc, inline, 1);
                 match moved {
                     Ok(mut heap) => {
                         heap.push_reserved(item);

@@ -1,13 +1,12 @@
 //! What a command writes of a text.
-ghost use Rattle.std.specs.Prelude.{map, string_bytes, IfOk};
+ghost use Rattle.std.specs.Prelude.{◌≡◌, ◌++◌, map, string_bytes, IfOk, OnOk, Ok};
 ghost use Rattle.tl_spec.specs.Document.{document};
 ghost use Rattle.tl_spec.specs.Edit.{edited_all};
 ghost use Rattle.tl_spec.specs.Print.{document_print};
-ghost use Rattle.tl.specs.Answer.{Answers};
 ghost use Rattle.tl.specs.Shown.{document_of, shown};
 ghost use Rattle.tl.specs.Tracked.{AnswerIds, AnswerClasses};
 ghost use Rattle.tl_program.specs.Asked.{asked_of};
-ghost use Rattle.tl_program.specs.Output.{outcome_of_text, outcome_of_document, outcome_of_edited, outcome_of_print, text_at, texts_of, Gives, document_again, document_edited, printed_document, ReadsBack};
+ghost use Rattle.tl_program.specs.Output.{outcome_of_text, outcome_of_document, outcome_of_edited, outcome_of_print, own_text, texts_of, Gives, IsJustRead, document_again, document_edited, printed_document, ReadsBack};
 ghost use Rattle.tl_program.specs.Steps.{change_of};
 
 use super::asked::Command;
@@ -15,28 +14,28 @@ use super::failure::Failure;
 use super::lookup::{by_class, by_id, by_selector};
 use crate::script;
 use crate::script::Step;
-use std::alloc::Global;
-use tl::errors::TreeError;
-use tl::{NodeHandle, Parser, ParserOptions, VDom};
+use std::alloc::{AllocError, Global};
+use std::mem;
+use tl::{Node, ParserOptions, VDom};
 
-// The text of the node of a handle.
-fn text_at(alloc: Global, handle: NodeHandle, parser: &Parser<'_>) -> Result<String, TreeError>
-    ensures { Answers (text_at (map shown parser.now.nodes) handle) result }
+// Adds the text of a node by itself.
+fn add_text(alloc: Global, node: &Node<'_>, all: &mut String) -> Result<(), AllocError>
+    ensures { OnOk result (string_bytes all.new ≡ string_bytes all.old ++ own_text (shown node.now)) }
 {
-    match handle.get(parser) {
-        Some(node) => node.inner_text(alloc, parser),
-        None => Err(TreeError::Dangling(handle)),
+    match node {
+        Node::Raw(bytes) => all.push_str(bytes.as_utf8_str(alloc)?.as_str()),
+        Node::Tag(_) | Node::Comment(_) => Ok(()),
     }
 }
 
-// The texts of the top nodes, joined in order.
-fn texts(alloc: Global, document: &VDom<'_>) -> Result<String, TreeError>
-    ensures { Answers (texts_of (document_of document.now)) result }
+// The texts of the top nodes of a document just read, joined in order: its table has them in that order.
+fn texts(alloc: Global, document: &VDom<'_>) -> Result<String, AllocError>
+    requires { IsJustRead (document_of document.now) }
+    ensures { IfOk result (λ s. texts_of (document_of document.now) ≡ Ok (string_bytes s)) }
 {
     let mut all = String::new(alloc);
-    for handle in document.children() {
-        let text = text_at(alloc, *handle, document.parser())?;
-        all.push_str(text.as_str())?;
+    for node in document.nodes() {
+        add_text(alloc, node, &mut all)?;
     }
     Ok(all)
 }
@@ -77,6 +76,7 @@ fn of_document(
 ) -> Result<String, Failure>
     requires ids { AnswerIds document.old.tracking (document_of document.old).nodes }
     requires classes { AnswerClasses document.old.tracking (document_of document.old).nodes }
+    requires read { IsJustRead (document_of document.old) }
     ensures outcome { Gives (outcome_of_document (asked_of command.now) (document_of document.old)) result }
     ensures identity { IfOk result (λ s. ReadsBack (printed_document (asked_of command.now) (document_of document.old)) (string_bytes s)) }
 {
@@ -97,5 +97,8 @@ pub fn answer(alloc: Global, command: &Command<'_>, text: &str) -> Result<String
     ensures identity { IfOk result (λ s. ReadsBack (printed_document (asked_of command.now) (document text.now)) (string_bytes s)) }
 {
     let mut document = tl::parse(alloc, text, options_of(command))?;
-    of_document(alloc, command, &mut document)
+    let answer = of_document(alloc, command, &mut document);
+    // The program ends soon, and its memory with it.
+    mem::forget(document);
+    answer
 }

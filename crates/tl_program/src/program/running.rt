@@ -20,7 +20,7 @@ fn read_all<R: Input>(alloc: Global, reader: &mut R) -> Result<Vec<u8>, Failure>
     ensures marks { R.has_failed reader.new ≡ (R.has_failed reader.old || is_fault result) }
 {
     let mut all = Vec::new(alloc);
-    let mut buffer = [0u8; 4096];
+    let mut buffer = [0u8; 65536];
     loop {
         let n = reader.read(&mut buffer)?;
         if n == 0 {

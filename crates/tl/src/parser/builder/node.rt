@@ -14,6 +14,7 @@ use tl_token::span::Span;
 
 impl<'a> Node<'a> {
     // Whether it is a tag of this name.
+    #[inline(always)]
     pub(crate) fn is_named(&self, name: &[u8]) -> bool
         ensures { result ≡ closes name.now (name_of (Some (shown self.now))) }
     {
@@ -24,6 +25,7 @@ impl<'a> Node<'a> {
     }
 
     // Makes `child` the last child, if it is a tag.
+    #[inline(always)]
     pub(crate) fn push_child(&mut self, child: NodeHandle) -> Result<(), AllocError>
         ensures ok { OnOk result (shown self.new ≡ with_child child (shown self.old)) }
         ensures held { OnOk result ((held : Held) → IsHeldNode held self.old → IsHeldNode held self.new) }
@@ -35,6 +37,7 @@ impl<'a> Node<'a> {
     }
 
     // Lets its raw end at the place `to` of the text, if it is a tag.
+    #[inline(always)]
     pub(crate) fn set_raw<S: Source<'a>>(
         &mut self,
         alloc: Global,

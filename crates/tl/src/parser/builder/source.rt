@@ -1,10 +1,10 @@
 //! What a text is read from.
 ghost use Rattle.std.specs.Prelude.{◌≡◌, IfOk, IsOk, List, ℕ};
-ghost use Rattle.tl_bytes.specs.Held.{Held, borrowed};
+ghost use Rattle.tl_bytes.specs.Held.{Held, borrowed, shared};
 ghost use Rattle.tl_token.specs.Span.{bytes_at, IsIn};
 
 use std::alloc::{AllocError, Global};
-use tl_bytes::byte_string::Bytes;
+use tl_bytes::byte_string::{Bytes, Shared};
 use tl_token::span::Span;
 
 /// A text, and how its pieces are held.
@@ -38,5 +38,22 @@ impl<'a> Source<'a> for &'a str {
     fn piece(&self, _alloc: Global, span: Span) -> Result<Bytes<'a>, AllocError> {
         let text: &'a str = *self;
         Ok(Bytes::from(span.of(text.as_bytes())))
+    }
+}
+
+// Pieces are shares of the one buffer, empty ones too.
+impl<'a> Source<'a> for Shared {
+    ghost text = { λ s. s };
+
+    ghost held = { shared };
+
+    fn as_bytes(&self) -> &[u8] {
+        self.as_str().as_bytes()
+    }
+
+    fn piece(&self, alloc: Global, span: Span) -> Result<Bytes<'a>, AllocError> {
+        // Tells the proof that the places of the text fit their type.
+        let _len = self.as_str().len();
+        self.slice(alloc, span.start, span.start + span.len)
     }
 }

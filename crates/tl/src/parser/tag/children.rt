@@ -5,7 +5,7 @@ use crate::parser::tag::{RawChildren, TagOf};
 use std::alloc::AllocError;
 use std::marker::Model;
 use tl_attributes::attributes::Attributes;
-use tl_attributes::outline::{ClassOutline, OutlineOf};
+use tl_attributes::outline::{Outline, OutlineOf};
 use tl_bytes::byte_string::Bytes;
 
 /// The children of a tag for reading, seen as the tag.
@@ -15,7 +15,7 @@ pub struct ChildrenOf<'b, A, B, O: OutlineOf<A>> {
 }
 
 /// The children of a tag of a table.
-pub type Children<'a, 'b> = ChildrenOf<'b, Attributes<'a>, Bytes<'a>, ClassOutline<'a>>;
+pub type Children<'a, 'b> = ChildrenOf<'b, Attributes<'a>, Bytes<'a>, Outline>;
 
 impl<'b, A, B, O: OutlineOf<A>> Model for ChildrenOf<'b, A, B, O> {
     ghost use Rattle.tl.specs.Tag.{Tag, tag_code};

@@ -5,7 +5,7 @@ ghost use Rattle.tl.specs.ChildrenLends.{LendsTopHandles, lent_tag, lent_name};
 
 use crate::parser::tag::{RawChildren, TagOf};
 use tl_attributes::attributes::Attributes;
-use tl_attributes::outline::{ClassOutline, OutlineOf};
+use tl_attributes::outline::{Outline, OutlineOf};
 use tl_bytes::byte_string::Bytes;
 
 /// The children of a tag for writing.
@@ -15,7 +15,7 @@ pub struct ChildrenMutOf<'b, A, B, O: OutlineOf<A>> {
 }
 
 /// The children of a tag of a table for writing.
-pub type ChildrenMut<'a, 'b> = ChildrenMutOf<'b, Attributes<'a>, Bytes<'a>, ClassOutline<'a>>;
+pub type ChildrenMut<'a, 'b> = ChildrenMutOf<'b, Attributes<'a>, Bytes<'a>, Outline>;
 
 impl<'b, A, B, O: OutlineOf<A>> ChildrenMutOf<'b, A, B, O> {
     /// The handles of the children, in order. Nothing ties them to a table. A proof that needs what a write leaves calls this

@@ -9,7 +9,7 @@ use crate::parser::tag::TagOf;
 use crate::parser::tag::children::ChildrenOf;
 use std::alloc::AllocError;
 use tl_attributes::attributes::Attributes;
-use tl_attributes::outline::{ClassOutline, OutlineOf};
+use tl_attributes::outline::{Outline, OutlineOf};
 use tl_bytes::byte_string::Bytes;
 
 /// A node of bytes of the type `B`, whose tags have attributes of the type `A`.
@@ -24,7 +24,7 @@ pub enum NodeOf<A, B, O: OutlineOf<A>> {
 }
 
 /// A node of a table: a tag, a text or a comment.
-pub type Node<'a> = NodeOf<Attributes<'a>, Bytes<'a>, ClassOutline<'a>>;
+pub type Node<'a> = NodeOf<Attributes<'a>, Bytes<'a>, Outline>;
 
 impl<A, B, O: OutlineOf<A>> NodeOf<A, B, O> {
     /// The tag, if it is one.

@@ -8,8 +8,8 @@ use std::slice;
 
 #[derive(Drop)]
 pub(super) enum PairsLeft<'a, K, V> {
-    Inline(slice::Iter<'a, (K, V)>),
-    Heap(indexmap::map::Iter<'a, K, V>),
+    Slice(slice::Iter<'a, (K, V)>),
+    Map(indexmap::map::Iter<'a, K, V>),
 }
 
 /// The pairs of an `InlineHashMap` in order. A clause sees it as the list of those that are left.
@@ -37,11 +37,11 @@ impl<'a, K, V> Iterator for InlineHashMapIterator<'a, K, V> {
 
     fn next(&mut self) -> Option<(&'a K, &'a V)> {
         match &mut self.left {
-            PairsLeft::Inline(pairs) => match pairs.next() {
+            PairsLeft::Slice(pairs) => match pairs.next() {
                 Some(pair) => Some((&pair.0, &pair.1)),
                 None => None,
             },
-            PairsLeft::Heap(pairs) => pairs.next(),
+            PairsLeft::Map(pairs) => pairs.next(),
         }
     }
 }

@@ -1,10 +1,9 @@
 //! Where the items of an `InlineVec` lie.
-ghost use Rattle.std.specs.Prelude.{◌≡◌, ◌<◌, ◌↔◌, length, slice_index_or, IsSome, IfSome, IfOk, OnErr, vec_len, vec_capacity};
+ghost use Rattle.std.specs.Prelude.{◌≡◌, ◌<◌, ◌↔◌, length, slice_index_or, IsSome, IfSome};
 ghost use Rattle.std.specs.List.{IsItemAtMut};
 ghost use Rattle.std.specs.Borrow.{sem};
 
 use arrayvec::ArrayVec;
-use std::alloc::{AllocError, Global};
 
 #[derive(Drop)]
 pub(super) enum HeldItems<T, const N: usize> {
@@ -39,21 +38,4 @@ impl<T, const N: usize> HeldItems<T, N> {
             HeldItems::Heap(heap) => (heap.as_mut_slice(), true),
         }
     }
-}
-
-// Moves the items to an allocation with room for one more. What can fail comes first, so an `Err` moves none.
-pub(super) fn move_out<T: Default + Drop, const N: usize>(
-    alloc: Global,
-    inline: &mut ArrayVec<T, N>,
-) -> Result<Vec<T>, AllocError>
-    ensures items { IfOk result (λ v. v.items ≡ inline.old.items) }
-    ensures room { IfOk result (λ v. vec_len v < vec_capacity v) }
-    ensures err { OnErr result (inline.new ≡ inline.old) }
-{
-    let room = inline.len().checked_add(1).ok_or(AllocError)?;
-    let mut heap = Vec::with_capacity(alloc, room)?;
-    for item in inline.drain(..) {
-        heap.push_reserved(item);
-    }
-    Ok(heap)
 }

@@ -13,8 +13,8 @@ returns-then-text-clause-length g c = (λ _. rw (← c.as_bytes-text.ensures) c.
 
 pub loop-token-init : goal.loop-token-init
 loop-token-init g c = record {
-  reached = IsReached-start (g.S.Source.text c.args.source.now) (state_of c.new-table.result) c.new-table.ensures.state;
-  held = c.new-table.ensures.held g.S.Source.held;
+  reached = IsReached-start (g.S.Source.text c.args.source.now) (state_of c.in_ok-table.table) c.in_ok-table.ensures.state;
+  held = c.in_ok-table.ensures.held g.S.Source.held;
 }
 
 pub loop-token-preserved : goal.loop-token-preserved

@@ -1,42 +1,27 @@
-use Rattle.std.proofs.Common.{◌≡◌, ap, ◌∙◌, ◌++◌, ◌∷◌, [], sym, refl, subst, append-nil}
+use Rattle.std.proofs.Common.{◌≡◌, ◌≤◌, ap, ◌∙◌, ◌++◌, ◌∷◌, [], List, ℕ, length, drop, slice_range, sym, subst}
 use Rattle.std.proofs.lemmas.List.{append_assoc}
 use Rattle.tl_bytes.specs.Held.{Kept}
+use Rattle.tl_spec.specs.ClassMember.{parts}
 use Rattle.tl.specs.Tracked.{AnswerMembers}
 use Rattle.tl.proofs.parser.tracking.note_parts.Goals as goal
 
-pub loop-part-init : goal.loop-part-init
-loop-part-init c = (tt, tt, ([], c.into_iter-part-iterator.ensures.into_iter_gives, λ nodes e h. h), refl, refl)
-
-pub loop-part-preserved : goal.loop-part-preserved
-loop-part-preserved c =
-    let i = c.loop-part.invariant.2 in
-    let done = i.0 in
-    let w = c.in-Some.part.now in (
-      tt,
-      tt,
-      (
-        done ++ w ∷ [],
-        append_assoc done (w ∷ []) c.next.new.self ∙ ap (λ s. done ++ s) (sym c.in-Some.ensures.steps) ∙ i.1,
-        λ nodes e h. subst (λ v. AnswerMembers c.note_class.new.self nodes (done ++ v ∷ [])) (ap (λ (k : Kept). k.list) c.from.ensures) (c.in_ok-note_class.ensures.noted nodes done e (i.2 nodes e h)),
-      ),
-      c.note_class.ensures.ids ∙ c.loop-part.invariant.3,
-      c.note_class.ensures.tracked ∙ c.loop-part.invariant.4,
-    )
-
-pub returns-in_err-note_class-clause-ids : goal.returns-in_err-note_class-clause-ids
-returns-in_err-note_class-clause-ids c = c.note_class.ensures.ids ∙ c.loop-part.invariant.3
-
-pub returns-in_err-note_class-clause-tracked : goal.returns-in_err-note_class-clause-tracked
-returns-in_err-note_class-clause-tracked c = c.note_class.ensures.tracked ∙ c.loop-part.invariant.4
-
-pub returns-clause-members : goal.returns-clause-members
-returns-clause-members c =
-    let i = c.loop-part.invariant.2 in
-    let all : i.0 ≡ c.args.parts = sym (append-nil i.0) ∙ ap (λ s. i.0 ++ s) (sym c.in-None.ensures.steps.0) ∙ i.1 in
-    λ nodes e h. subst (λ ms. AnswerMembers c.loop-part.tracking nodes ms) all (i.2 nodes e h)
-
-pub returns-clause-ids : goal.returns-clause-ids
-returns-clause-ids c = c.loop-part.invariant.3
-
-pub returns-clause-tracked : goal.returns-clause-tracked
-returns-clause-tracked c = c.loop-part.invariant.4
+pub loop-start-preserved : goal.loop-start-preserved
+loop-start-preserved c =
+    let class = c.args.class.now.list in
+    let old = c.loop-start.invariant in
+    let done = old.noted.0 in
+    let member = slice_range class c.in-Some.start c.in-Some.end in
+    let rest = parts (drop c.in-Some.end class) in
+    let first : parts (drop c.loop-start.at class) ≡ member ∷ rest =
+    subst (λ (v : List ℕ). parts (drop c.loop-start.at v) ≡ slice_range v c.in-Some.start c.in-Some.end ∷ parts (drop c.in-Some.end v)) c.as_bytes.ensures c.in-Some.ensures.first in
+    let is : c.in_ok-member.member.list ≡ member = ap (λ (k : Kept). k.list) c.in_ok-member.ensures.ok in
+    record {
+      within = subst (λ (v : List ℕ). c.in-Some.end ≤ length v) c.as_bytes.ensures c.in-Some.ensures.within;
+      noted = (
+        done ++ member ∷ [],
+        append_assoc done (member ∷ []) rest ∙ ap (λ (s : List (List ℕ)). done ++ s) (sym first) ∙ old.noted.1,
+        λ nodes e h. subst (λ v. AnswerMembers c.note_class.new.self nodes (done ++ v ∷ [])) is (c.in_ok-note_class.ensures.noted nodes done e (old.noted.2 nodes e h)),
+      );
+      ids = c.note_class.ensures.ids ∙ old.ids;
+      tracked = c.note_class.ensures.tracked ∙ old.tracked;
+    }

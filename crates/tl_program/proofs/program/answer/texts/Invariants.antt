@@ -1,9 +1,9 @@
-use Rattle.std.proofs.Common.{◌≡◌, Ok, drop, map, string_bytes}
-use Rattle.tl.specs.Shown.{document_of}
-use Rattle.tl_program.specs.Output.{followed_by, joined, text_at, texts_of}
+use Rattle.std.proofs.Common.{◌≡◌, map, take, string_bytes}
+use Rattle.std.specs.List.{flat_map}
+use Rattle.tl.specs.Shown.{shown}
+use Rattle.tl_program.specs.Output.{own_text}
 use Rattle.tl_program.proofs.program.answer.texts.Given as goal
 
--- what is written, and then the texts from here on, are all the texts
-abbrev pub invariant-loop-handle : goal.invariant-loop-handle
-invariant-loop-handle l =
-    texts_of (document_of l.document) ≡ followed_by (Ok (string_bytes l.all)) (joined (map (text_at (document_of l.document).nodes) (drop l.handle-index l.handle-items)))
+-- what is written is the texts of the nodes so far
+abbrev pub invariant-loop-node : goal.invariant-loop-node
+invariant-loop-node l = string_bytes l.all ≡ flat_map own_text (map shown (take l.node-index l.node-items))

@@ -1,9 +1,9 @@
-use Rattle.std.proofs.Common.{◌≡◌, ap, sym, subst, true, false}
+use Rattle.std.proofs.Common.{◌≡◌, ◌∙◌, ap, sym, subst, true, false}
 use Rattle.std.specs.List.{All, IsDistinct}
 use Rattle.std.specs.Map.{keys_of, values_of}
 use Rattle.tl_spec.specs.Inline.{InlineMap}
 use Rattle.tl_inline.specs.HeldPairs.{held_view}
-use Rattle.tl_inline.proofs.Maps.{all_pairs, clone_is}
+use Rattle.tl_inline.proofs.Maps.{all_pairs, clone_is, same_map}
 use Rattle.tl_inline.proofs.inline.hashmap.InlineHashMap.clone.Goals as goal
 
 pub invariant_of-result : goal.invariant_of-result
@@ -22,8 +22,7 @@ returns-in_ok-clone-in-Inline-clause-ok g c =
 pub returns-in_ok-clone-in-Heap-clause-ok : goal.returns-in_ok-clone-in-Heap-clause-ok
 returns-in_ok-clone-in-Heap-clause-ok g c =
     let at : held_view c.self.inside.held ≡ c.args.self.now = c.self.view_is in
-    (clone_is g.K.Clone.is_clone g.V.Clone.is_clone c.args.self.now c.in-Heap.heap.entries _ true (rw c.in-Heap.is at at)
-    c.requires.keys c.requires.values c.in_ok-clone-in-Heap.ensures.cases).1
+    ap (λ l. same_map l true) c.in_ok-clone-in-Heap.ensures ∙ rw c.in-Heap.is at at
 
 pub returns-in_err-clone-in-Inline-clause-succeeds : goal.returns-in_err-clone-in-Inline-clause-succeeds
 returns-in_err-clone-in-Inline-clause-succeeds g c =

@@ -1,0 +1,194 @@
+//! The pairs of an `InlineHashMap` that lie on the heap.
+ghost use Rattle.std.specs.Prelude.{◌≡◌, ◌^◌, ◌<◌, length, None, position, slice_get, IfOk, IfErr, OnOk, OnErr};
+ghost use Rattle.std.specs.List.{IsDistinct};
+ghost use Rattle.std.specs.Map.{lookup, keys_of, values_of};
+ghost use Rattle.std.specs.Option.{option_copied, option_copied_mut};
+ghost use Rattle.std.specs.Borrow.{sem};
+ghost use Rattle.indexmap.specs.IndexMap.{insert_entry, swap_remove_entry};
+ghost use Rattle.tl_inline.specs.InlineVec.{ClonesAreEqual};
+
+mod form;
+
+use super::iter::{InlineHashMapIterator, PairsLeft};
+use super::pairs::{find, put_value};
+use crate::inline::spill::move_out;
+use arrayvec::ArrayVec;
+use form::{HeapForm, map_of, push_few, put_in_room, remove_few};
+use std::alloc::{AllocError, Global};
+use std::hash::Hash;
+use std::marker::Model;
+
+// Up to how many pairs a list is looked through one by one, which takes one request for memory and no hash. Above it
+// an index map finds a key, so that the time stays linear whoever wrote the page.
+const FEW: usize = 16;
+
+// For how many more pairs there is room as they come to the heap.
+const MORE: usize = 2;
+
+// A map that keeps the order in which its keys came: a list of few pairs, an index map of many. That stays one, also
+// when pairs are removed. A clause sees the pairs in order, with distinct keys.
+#[derive(Drop)]
+pub(super) struct HeapPairs<K: Eq + Hash, V> {
+    form: HeapForm<K, V>,
+}
+
+impl<K: Eq + Hash, V> Model for HeapPairs<K, V> {
+    ghost use Rattle.std.specs.Prelude.{List};
+    ghost use Rattle.std.specs.Coded.{coded×, coded_list};
+    ghost use Rattle.std.specs.List.{IsDistinct};
+    ghost use Rattle.std.specs.Map.{keys_of};
+
+    ghost Value = { List (K × V) };
+
+    ghost coded = { coded_list (coded× K.code V.code) };
+
+    ghost use Rattle.tl_inline.specs.HeapForm.{form_entries};
+
+    ghost view = { λ h. form_entries h.form };
+
+    ghost invariant = { λ h. IsDistinct K.eq (keys_of (form_entries h.form)) };
+}
+
+impl<K: Eq + Hash, V> HeapPairs<K, V> {
+    ghost use Rattle.tl_inline.specs.HeapPairsLends.{lends_index};
+
+    pub(super) fn len(&self) -> usize
+        ensures len { result ≡ length self.now }
+        ensures small { result < 2 ^ 63 }
+    {
+        match &self.form {
+            HeapForm::Few(few) => few.len(),
+            HeapForm::Many(many) => many.len(),
+        }
+    }
+
+    pub(super) fn get(&self, key: &K) -> Option<&V>
+        ensures { option_copied result ≡ lookup (K.eq key.now) self.now }
+    {
+        match &self.form {
+            HeapForm::Few(few) => {
+                let i = find(few.as_slice(), key)?;
+                Some(&few.as_slice()[i].1)
+            }
+            HeapForm::Many(many) => many.get(key),
+        }
+    }
+
+    pub(super) fn get_index_of(&self, key: &K) -> Option<usize>
+        ensures { result ≡ position (K.eq key.now) (keys_of self.now) }
+    {
+        match &self.form {
+            HeapForm::Few(few) => find(few.as_slice(), key),
+            HeapForm::Many(many) => many.get_index_of(key),
+        }
+    }
+
+    pub(super) fn get_index_mut(&mut self, index: usize) -> Option<&mut V>
+        ensures* writes_back { sem 𝓛 (lends_index K.row V.row K.Hash self.entry index result) }
+        ensures value { option_copied_mut result ≡ slice_get (values_of self.old) index }
+    {
+        self.form.value_at_mut(index)
+    }
+
+    pub(super) fn iter(&self) -> InlineHashMapIterator<'_, K, V>
+        ensures rest { result ≡ self.now }
+        ensures fits { length self.now < 2 ^ 63 }
+    {
+        match &self.form {
+            HeapForm::Few(few) => InlineHashMapIterator {
+                left: PairsLeft::Slice(few.as_slice().iter()),
+            },
+            HeapForm::Many(many) => InlineHashMapIterator {
+                left: PairsLeft::Map(many.iter()),
+            },
+        }
+    }
+}
+
+impl<K: Default + Eq + Hash + Drop, V: Default + Drop> HeapPairs<K, V> {
+    // Takes the pairs from inline, and a new one after them. Where memory is refused it hands that back, and the others stay.
+    pub(super) fn take<const N: usize>(
+        alloc: Global,
+        inline: &mut ArrayVec<(K, V), N>,
+        key: K,
+        value: V,
+    ) -> Result<Self, (K, V)>
+        requires distinct { IsDistinct K.eq (keys_of inline.old.items) }
+        requires new { lookup (K.eq key) inline.old.items ≡ None }
+        ensures ok { IfOk result (λ h. h ≡ insert_entry K.eq inline.old.items key value) }
+        ensures unique { IfOk result (λ h. IsDistinct K.eq (keys_of h)) }
+        ensures err { OnErr result (inline.new ≡ inline.old) }
+        ensures returned { IfErr result (λ pair. pair ≡ (key, value)) }
+    {
+        match move_out(alloc, inline, MORE) {
+            Ok(mut few) => {
+                few.push_reserved((key, value));
+                Ok(HeapPairs {
+                    form: HeapForm::Few(few),
+                })
+            }
+            Err(_) => Err((key, value)),
+        }
+    }
+
+    pub(super) fn insert(&mut self, key: K, value: V) -> Result<(), (K, V)>
+        ensures ok { OnOk result (self.new ≡ insert_entry K.eq self.old key value) }
+        ensures err { OnErr result (self.new ≡ self.old) }
+        ensures returned { IfErr result (λ pair. pair ≡ (key, value)) }
+        ensures absent { OnErr result (lookup (K.eq key) self.old ≡ None) }
+        ensures unique { IsDistinct K.eq (keys_of self.new) }
+    {
+        match &mut self.form {
+            HeapForm::Few(few) => {
+                if let Some(i) = find(few.as_slice(), &key) {
+                    put_value(few.as_mut_slice(), i, value);
+                    return Ok(());
+                }
+                if few.len() < FEW {
+                    return push_few(few, key, value);
+                }
+                match map_of(few) {
+                    Ok(mut many) => {
+                        put_in_room(&mut many, key, value);
+                        self.form = HeapForm::Many(many);
+                        Ok(())
+                    }
+                    Err(_) => Err((key, value)),
+                }
+            }
+            HeapForm::Many(many) => match many.insert(key, value) {
+                Ok(_) => Ok(()),
+                Err(failed) => Err(failed.value),
+            },
+        }
+    }
+
+    pub(super) fn swap_remove(&mut self, key: &K) -> Option<V>
+        ensures value { result ≡ lookup (K.eq key.now) self.old }
+        ensures entries { self.new ≡ swap_remove_entry (K.eq key.now) self.old }
+        ensures unique { IsDistinct K.eq (keys_of self.new) }
+    {
+        match &mut self.form {
+            HeapForm::Few(few) => remove_few(few, key),
+            HeapForm::Many(many) => many.swap_remove(key),
+        }
+    }
+}
+
+impl<K: Default + Eq + Hash + Clone, V: Default + Clone> HeapPairs<K, V> {
+    // The clones lie in the form of these pairs. A clone of a key or a value must be that key or value.
+    pub(super) fn clone(&self) -> Result<Self, AllocError>
+        requires keys { ClonesAreEqual K.is_clone (keys_of self.now) }
+        requires values { ClonesAreEqual V.is_clone (values_of self.now) }
+        ensures { IfOk result (λ h. h ≡ self.now) }
+    {
+        match &self.form {
+            HeapForm::Few(few) => Ok(HeapPairs {
+                form: HeapForm::Few(few.clone()?),
+            }),
+            HeapForm::Many(many) => Ok(HeapPairs {
+                form: HeapForm::Many(many.clone()?),
+            }),
+        }
+    }
+}

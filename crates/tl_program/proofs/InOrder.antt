@@ -1,0 +1,116 @@
+-- The texts of a document just read stand in its table in their order.
+use Rattle.std.proofs.Common.{◌≡◌, ℕ, zero, suc, ◌+◌, ◌==◌, Bool, true, false, List, [], ◌∷◌, ◌++◌, length, map, slice_get, Option, Some, None, Result, Ok, Err, refl, sym, ◌∙◌, ap, ap₂, append-nil}
+use Rattle.std.specs.List.{flat_map}
+use Rattle.std.specs.Option.{option_map_or}
+use Rattle.std.specs.Str.Lossy.{utf8_lossy}
+use Rattle.std.proofs.lemmas.Bool.{or_from, or_parts}
+use Rattle.std.proofs.lemmas.Grind.{flat_map-append}
+use Rattle.tl_spec.specs.Document.{Node, Tag, Raw, Comment, document}
+use Rattle.tl_spec.specs.Text.{inner_text, text_of}
+use Rattle.tl_spec.specs.Walk.{TreeFault, Walk, Dangling, answer, end, every, first_fault, handle_walk, meets_comment, meets_fault, meets_tag, meets_text, or_else, passes_tag, row_walk, stands_on, trees, unless, visits, visits_from, walk, walk_within}
+use Rattle.tl_spec.proofs.Order.{document-faultless, document-ordered}
+use Rattle.tl_spec.proofs.Walks.{walk-step}
+use Rattle.tl_program.specs.Output.{followed_by, joined, own_text, text_at, texts_of}
+
+-- the first path holds no handle that the second doesn't
+abbrev IsWithin : List ℕ → List ℕ → Type 0
+IsWithin q path = (g : ℕ) → stands_on path g ≡ false → stands_on q g ≡ false
+
+IsWithin-below : (q path : List ℕ) (h : ℕ) → IsWithin q path → IsWithin (h ∷ q) (h ∷ path)
+IsWithin-below q path h within g off =
+    let parts = or_parts (h == g) (stands_on path g) off in
+    or_from (h == g) (stands_on q g) parts.0 (within g parts.1)
+
+faultless-below : (a b : Option TreeFault) → or_else a b ≡ None → (a ≡ None) × (b ≡ None)
+faultless-below None b e = (refl, e)
+faultless-below (Some x) b e = absurd (cc)
+
+module _ (nodes : List Node) where
+  -- one handle, whose walk met no fault, on another path
+  handle-same : (f g : List ℕ → Walk) (h : ℕ) (more later : Walk) (b c : Bool) (o : Option Node)
+      → (b ≡ false → c ≡ false)
+      → ((cs : List ℕ) → first_fault (f cs) ≡ None → g cs ≡ f cs)
+      → (first_fault more ≡ None → later ≡ more)
+      → first_fault (handle_walk every nodes f h more b o) ≡ None
+      → handle_walk every nodes g h later c o ≡ handle_walk every nodes f h more b o
+  handle-same f g h more later b c None off below after e = absurd (cc)
+  handle-same f g h more later true c (Some x) off below after e = absurd (cc)
+  handle-same f g h more later false true (Some x) off below after e = absurd (let no : true ≡ false = off refl in cc)
+  handle-same f g h more later false false (Some (Raw u)) off below after e = ap (meets_text h u) (after e)
+  handle-same f g h more later false false (Some (Comment u)) off below after e = ap (meets_comment h u) (after e)
+  handle-same f g h more later false false (Some (Tag own)) off below after e =
+      let parts = faultless-below (first_fault (f own.children.items)) (first_fault more) e in
+      ap₂ (meets_tag h own) (below own.children.items parts.0) (after parts.1)
+
+  -- handles in a row, on a path within the other
+  row-same : (f : List ℕ → List ℕ → Walk)
+      → ((q path cs : List ℕ) → IsWithin q path → first_fault (f path cs) ≡ None → f q cs ≡ f path cs)
+      → (q path hs : List ℕ) → IsWithin q path → first_fault (row_walk every nodes f path hs) ≡ None
+      → row_walk every nodes f q hs ≡ row_walk every nodes f path hs
+  row-same f below q path [] within e = refl
+  row-same f below q path (h ∷ hs) within e =
+      handle-same (f (h ∷ path)) (f (h ∷ q)) h (row_walk every nodes f path hs) (row_walk every nodes f q hs)
+      (stands_on path h) (stands_on q h) (slice_get nodes h) (within h)
+      (λ cs. below (h ∷ q) (h ∷ path) cs (IsWithin-below q path h within))
+      (row-same f below q path hs within) e
+
+  within-same : (n : ℕ) (q path hs : List ℕ) → IsWithin q path → first_fault (walk_within every nodes n path hs) ≡ None
+      → walk_within every nodes n q hs ≡ walk_within every nodes n path hs
+  within-same zero = row-same (λ _ _. end) (λ q path cs _ _. refl)
+  within-same (suc n) = row-same (walk_within every nodes n) (within-same n)
+
+  -- the text of one node, and what is joined after it
+  one-joined : (h : ℕ) (o : Option Node) (more : Walk) (later : List (Result (List ℕ) TreeFault))
+      → (first_fault more ≡ None → joined later ≡ Ok (text_of (trees more)))
+      → first_fault (handle_walk every nodes (walk every nodes (h ∷ [])) h more false o) ≡ None
+      → joined (option_map_or (λ node. inner_text nodes node) o (Err (Dangling h)) ∷ later)
+      ≡ Ok (text_of (trees (handle_walk every nodes (walk every nodes (h ∷ [])) h more false o)))
+  one-joined h None more later after e = absurd (cc)
+  one-joined h (Some (Raw u)) more later after e =
+      ap (followed_by (Ok (utf8_lossy u ++ []))) (after e) ∙ ap (λ (s : List ℕ). Ok (s ++ text_of (trees more))) (append-nil (utf8_lossy u))
+  one-joined h (Some (Comment u)) more later after e = ap (followed_by (Ok [])) (after e)
+  one-joined h (Some (Tag own)) more later after e =
+      let cs = own.children.items in
+      let parts = faultless-below (first_fault (walk every nodes (h ∷ []) cs)) (first_fault more) e in
+      let same : walk every nodes [] cs ≡ walk every nodes (h ∷ []) cs = within-same (length nodes) [] (h ∷ []) cs (λ g off. refl) parts.0 in
+      let read : inner_text nodes (Tag own) ≡ Ok (text_of (trees (walk every nodes (h ∷ []) cs)))
+      = ap (λ (w : Walk). answer text_of (meets_tag 0 own w end)) same
+      ∙ ap (λ (o : Option TreeFault). unless (or_else o None) (text_of (trees (walk every nodes (h ∷ []) cs)) ++ [])) parts.0
+      ∙ ap (λ (s : List ℕ). Ok s) (append-nil (text_of (trees (walk every nodes (h ∷ []) cs)))) in
+      ap₂ followed_by read (after parts.1)
+
+  -- the texts of top nodes, each by a walk of its own, are those of one walk that meets no fault
+  texts-joined : (hs : List ℕ) → first_fault (row_walk every nodes (walk every nodes) [] hs) ≡ None
+      → joined (map (text_at nodes) hs) ≡ Ok (text_of (trees (row_walk every nodes (walk every nodes) [] hs)))
+  texts-joined [] e = refl
+  texts-joined (h ∷ hs) e =
+      one-joined h (slice_get nodes h) (row_walk every nodes (walk every nodes) [] hs) (map (text_at nodes) hs) (texts-joined hs) e
+
+visit_text : Result (ℕ × Node) TreeFault → List ℕ
+visit_text (Ok v) = own_text v.1
+visit_text (Err fault) = []
+
+-- the texts of trees are those of the nodes that are met
+visits-text : (w : Walk) → text_of (trees w) ≡ flat_map visit_text (visits w)
+unfolding visit_text
+visits-text end = refl
+visits-text (meets_text h u more) = ap (λ (s : List ℕ). utf8_lossy u ++ s) (visits-text more)
+visits-text (meets_comment h u more) = visits-text more
+visits-text (meets_tag h own children more) =
+    ap₂ (λ (r s : List ℕ). r ++ s) (visits-text children) (visits-text more) ∙ sym (flat_map-append visit_text (visits children) (visits more))
+visits-text (passes_tag h own more) = visits-text more
+visits-text (meets_fault fault more) = visits-text more
+
+row-text : (nodes : List Node) (n : ℕ) → flat_map visit_text (visits_from n nodes) ≡ flat_map own_text nodes
+unfolding visit_text
+row-text [] n = refl
+row-text (x ∷ xs) n = ap (λ (s : List ℕ). own_text x ++ s) (row-text xs (n + 1))
+
+pub texts_in_order : (t : List ℕ) → texts_of (document t) ≡ Ok (flat_map own_text (document t).nodes)
+texts_in_order t =
+    let xs = (document t).nodes in
+    let hs = (document t).top in
+    let step : walk every xs [] hs ≡ row_walk every xs (walk every xs) [] hs = walk-step every xs [] hs in
+    texts-joined xs hs (ap first_fault (sym step) ∙ document-faultless t)
+    ∙ ap (λ (w : Walk). Ok (text_of (trees w))) (sym step)
+    ∙ ap (λ (s : List ℕ). Ok s) (visits-text (walk every xs [] hs) ∙ ap (flat_map visit_text) (document-ordered t) ∙ row-text xs 0)

@@ -1,0 +1,13 @@
+//! Worked rows and vectors, over the public calls of `tl_program`.
+#![tactic(auto)]
+
+#[cfg(test)]
+mod again;
+#[cfg(test)]
+mod program;
+#[cfg(test)]
+mod scripts;
+#[cfg(test)]
+mod step_lines;
+#[cfg(test)]
+mod words;
