@@ -1,7 +1,8 @@
 //! Options, and the maps that they ask for.
 use std::alloc::{AllocError, Global};
 use std::test::Fail;
-use tl::{Bytes, ParserOptions};
+use tl_base::bytes::Bytes;
+use tl_options::ParserOptions;
 use tl_tracking::TrackingOf;
 
 // A number of options, and whether it asks for ids and for classes.

@@ -1,0 +1,13 @@
+//! Worked rows and vectors, over the public calls of the crates that `tl` stands on.
+#![tactic(auto)]
+
+#[cfg(test)]
+mod byte_strings;
+#[cfg(test)]
+mod containers;
+#[cfg(test)]
+mod lossy;
+#[cfg(test)]
+mod searches;
+#[cfg(test)]
+mod tracking;
