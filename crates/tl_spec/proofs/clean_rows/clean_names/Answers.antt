@@ -7,3 +7,6 @@ returns-clause-with_a_blank c = misread _ _ _ refl refl refl refl
 
 pub returns-clause-empty_with_a_key : goal.returns-clause-empty_with_a_key
 returns-clause-empty_with_a_key c = misread _ _ _ refl refl refl refl
+
+pub returns-clause-with_a_slash : goal.returns-clause-with_a_slash
+returns-clause-with_a_slash c = misread _ _ _ refl refl refl refl

@@ -10,3 +10,6 @@ returns-clause-empty_key c = misread _ _ _ refl refl refl refl
 
 pub returns-clause-value_with_a_quote : goal.returns-clause-value_with_a_quote
 returns-clause-value_with_a_quote c = misread _ _ _ refl refl refl refl
+
+pub returns-clause-key_with_a_slash : goal.returns-clause-key_with_a_slash
+returns-clause-key_with_a_slash c = misread _ _ _ refl refl refl refl
