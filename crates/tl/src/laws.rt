@@ -1,11 +1,13 @@
-//! Laws of what calls answer together.
-ghost use Rattle.std.specs.Prelude.{◌≡◌, List, ℕ};
+//! Laws of what calls answer together, and of what a loan for writing leaves.
+ghost use Rattle.std.specs.Prelude.{◌≡◌, All, List, ℕ, length, map};
 ghost use Rattle.tl_bytes.specs.Held.{Kept};
 ghost use Rattle.tl_options.specs.Options.{Options};
 ghost use Rattle.tl_spec.specs.Document.{Node, document};
+ghost use Rattle.tl_spec.specs.Each.{HoldOfNode, IsCleanAlone, Tests};
 ghost use Rattle.tl_spec.specs.Scan.{has_id, is_in_class, IsFirstPlace, ArePlaces};
 ghost use Rattle.tl.specs.Lookup.{with_id, with_member};
-ghost use Rattle.tl.specs.Shown.{document_of, HTMLTable};
+ghost use Rattle.tl.specs.Shown.{document_of, shown, HTMLNode, HTMLTable};
+ghost use Rattle.tl.specs.TableLends.{with_nodes};
 ghost use Rattle.tl.specs.Tracked.{AreAsked, AnswerIds, AnswerClasses};
 
 /// What is looked up in a document that was just read is the first tag of the text with the id, and all its tags with the class
@@ -27,4 +29,15 @@ pub fn lookups_answer_alike()
     ensures class { (d e : HTMLTable) (asked : Options) (read : List Node) (member : List ℕ) → (document_of d).nodes ≡ (document_of e).nodes →
         AreAsked asked d.tracking → AreAsked asked e.tracking → AnswerClasses d.tracking read → AnswerClasses e.tracking read →
         with_member d member ≡ with_member e member }
+{}
+
+/// What is written through the nodes that `nodes_mut` lends, whose number stays, is the nodes of the document, and all else of it is
+/// as it was. So what holds of each node that was written holds of the document's.
+pub fn written_nodes()
+    ensures document { (d : HTMLTable) (nodes : List HTMLNode) → length nodes ≡ length d.nodes →
+        document_of (with_nodes d nodes) ≡ record (document_of d) { nodes = map shown nodes } }
+    ensures clean { (d : HTMLTable) (nodes : List HTMLNode) → length nodes ≡ length d.nodes →
+        All (λ n. IsCleanAlone (shown n)) nodes → All IsCleanAlone (document_of (with_nodes d nodes)).nodes }
+    ensures hold { (d : HTMLTable) (nodes : List HTMLNode) (tests : Tests) → length nodes ≡ length d.nodes →
+        All (λ n. HoldOfNode tests (shown n)) nodes → All (HoldOfNode tests) (document_of (with_nodes d nodes)).nodes }
 {}

@@ -14,7 +14,7 @@ ghost use Rattle.tl.specs.Tracked.{AreAsked, AnswerIds, AnswerClasses};
 ghost use Rattle.tl.specs.declared.errors.ParseError.TheVariants.{InvalidLength};
 
 pub mod errors;
-mod laws;
+pub mod laws;
 mod parser;
 pub mod queryselector;
 mod vdom;

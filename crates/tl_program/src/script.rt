@@ -1,6 +1,6 @@
 //! Edits as values, and the lines that spell them.
 mod edit;
-mod laws;
+pub mod laws;
 mod reading;
 mod step;
 mod tag;

@@ -31,3 +31,4 @@ pub mod Edit
 pub mod Edits
 pub mod StepLine
 pub mod StepGrammar
+pub mod Each

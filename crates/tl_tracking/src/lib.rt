@@ -1,7 +1,7 @@
 //! Maps from ids and classes to the numbers of tags, made while a text is read.
 #![tactic(auto)]
 
-mod laws;
+pub mod laws;
 mod numbers;
 mod tracking;
 
