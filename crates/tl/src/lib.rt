@@ -6,6 +6,7 @@ ghost use Rattle.tl_spec.specs.Clean.{IsTame, IsCleanTable};
 ghost use Rattle.tl_spec.specs.Document.{document, weight};
 ghost use Rattle.tl_spec.specs.Forest.{forest, plain};
 ghost use Rattle.tl_spec.specs.Order.{AreChildrenAbove, AreDescendantsNext};
+ghost use Rattle.tl_spec.specs.Range.{AreRangesOfDescendants};
 ghost use Rattle.tl_spec.specs.Token.{tokens};
 ghost use Rattle.tl_bytes.specs.Held.{borrowed, shared};
 ghost use Rattle.tl.specs.Shown.{document_of, version_of};
@@ -60,6 +61,7 @@ fn read_document<'a, S: Source<'a>>(
     ensures held { IfOk result (λ d. All (IsHeldNode S.held) d.nodes) }
     ensures above { IfOk result (λ d. AreChildrenAbove (document_of d).nodes) }
     ensures interval { IfOk result (λ d. AreDescendantsNext (document_of d).nodes) }
+    ensures ranges { IfOk result (λ d. AreRangesOfDescendants (document_of d).nodes) }
     ensures size { IfOk result (λ d. sum_by weight (document_of d).nodes ≤ length (S.text source.now)) }
     ensures asked { IfOk result (λ d. AreAsked options d.tracking) }
     ensures ids { IfOk result (λ d. AnswerIds d.tracking (document (S.text source.now)).nodes) }
@@ -74,7 +76,7 @@ fn read_document<'a, S: Source<'a>>(
 /// Reads a text into a document whose pieces are slices of it.
 ///
 /// Markup that is broken is dropped without a fault. A text longer than 4294967295 bytes is refused before any memory is taken.
-/// The nodes stand in the order of the text: what hangs below a tag is the nodes right after it.
+/// The nodes stand in the order of the text: what hangs below a tag is the nodes right after it, and these are the tag's range.
 /// The ids and classes that `options` ask for are tracked in one pass over the nodes; no later edit changes what was tracked.
 pub fn parse<'a>(
     alloc: Global,
@@ -86,9 +88,10 @@ pub fn parse<'a>(
     ensures version { IfOk result (λ d. d.version ≡ version_of (document text.now).is_html5) }
     ensures borrowed { IfOk result (λ d. All (IsHeldNode borrowed) d.nodes) }
 
-    // What callers go by who count nodes: their order, and that they and their attributes are no more than the bytes.
+    // What callers go by who count nodes: their order, the ranges of tags, and that they and their attributes are no more than the bytes.
     ensures above { IfOk result (λ d. AreChildrenAbove (document_of d).nodes) }
     ensures interval { IfOk result (λ d. AreDescendantsNext (document_of d).nodes) }
+    ensures ranges { IfOk result (λ d. AreRangesOfDescendants (document_of d).nodes) }
     ensures size { IfOk result (λ d. sum_by weight (document_of d).nodes ≤ length text.now) }
 
     // What is tracked answers as a scan of the table that was read.
@@ -115,9 +118,10 @@ pub fn parse_owned(
     ensures version { IfOk result (λ d. d.version ≡ version_of (document (string_bytes text)).is_html5) }
     ensures shared { IfOk result (λ d. All (IsHeldNode shared) d.nodes) }
 
-    // What callers go by who count nodes: their order, and that they and their attributes are no more than the bytes.
+    // What callers go by who count nodes: their order, the ranges of tags, and that they and their attributes are no more than the bytes.
     ensures above { IfOk result (λ d. AreChildrenAbove (document_of d).nodes) }
     ensures interval { IfOk result (λ d. AreDescendantsNext (document_of d).nodes) }
+    ensures ranges { IfOk result (λ d. AreRangesOfDescendants (document_of d).nodes) }
     ensures size { IfOk result (λ d. sum_by weight (document_of d).nodes ≤ length (string_bytes text)) }
 
     // What is tracked answers as a scan of the table that was read.

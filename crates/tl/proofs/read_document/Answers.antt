@@ -3,8 +3,10 @@ use Rattle.std.specs.Prelude.{sum_by}
 use Rattle.tl_spec.specs.Clean.{IsCleanTable}
 use Rattle.tl_spec.specs.Document.{Document, document, weight}
 use Rattle.tl_spec.specs.Order.{AreChildrenAbove, AreDescendantsNext}
+use Rattle.tl_spec.specs.Range.{AreRangesOfDescendants}
 use Rattle.tl_spec.proofs.Count.{document-weight}
 use Rattle.tl_spec.proofs.Order.{children-above, descendants-interval, fresh_table}
+use Rattle.tl_spec.proofs.Ranges.{ranges-descendants}
 use Rattle.tl.specs.Shown.{document_of}
 use Rattle.tl.proofs.read_document.Goals as goal
 
@@ -25,6 +27,12 @@ returns-clause-interval g c =
     let t = g.S.Source.text c.args.source.now in
     let read : document_of c.from.result ≡ document t = ap document_of (c.from.ensures ∙ c.in_ok-track.ensures.table) ∙ c.in_ok-parser.ensures.document in
     subst (λ (d : Document). AreDescendantsNext d.nodes) (sym read) (descendants-interval t)
+
+pub returns-clause-ranges : goal.returns-clause-ranges
+returns-clause-ranges g c =
+    let t = g.S.Source.text c.args.source.now in
+    let read : document_of c.from.result ≡ document t = ap document_of (c.from.ensures ∙ c.in_ok-track.ensures.table) ∙ c.in_ok-parser.ensures.document in
+    subst (λ (d : Document). AreRangesOfDescendants d.nodes) (sym read) (ranges-descendants t)
 
 pub returns-clause-size : goal.returns-clause-size
 returns-clause-size g c =
