@@ -1,8 +1,23 @@
 //! Selectors: their texts, where they hold, and queries by them.
-mod iterable;
+pub mod iterable;
 mod iterator;
 mod query;
 mod table;
+
+/// The nodes that a query gives.
+pub mod iter {
+    pub use super::iterator::QuerySelectorIterator;
+}
+
+/// The reader of selector texts.
+pub mod parser {
+    pub use tl_selector_text::parser::Parser;
+}
+
+/// Selectors as values.
+pub mod selector {
+    pub use tl_selector::selector::Selector;
+}
 
 pub use iterable::QueryIterable;
 pub use iterator::QuerySelectorIterator;

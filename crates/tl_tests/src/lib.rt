@@ -12,6 +12,8 @@ mod lookups;
 #[cfg(test)]
 mod owned;
 #[cfg(test)]
+mod paths;
+#[cfg(test)]
 mod prints;
 #[cfg(test)]
 mod queries;
