@@ -82,15 +82,24 @@ pub reads-leaf : (nodes : List Node) (node : Node) (s : List ℕ) (r : Result (S
 reads-leaf nodes node s (Ok t) is own answers clean = node_identity nodes node clean own (string_bytes t) (is ∙ answers)
 reads-leaf nodes node s (Err e) is own answers clean = tt
 
--- the events of the walk below a tag say what its text is
-pub writes-text : {A : Type 0} (nodes : List Node) (own : TagNode) (es : List Event) (old : List ℕ) (r : Result A TreeError) (new : List ℕ) →
-    es ≡ events (walk every nodes [] own.children.items) → Writes (fault_among es) (flat_map event_text es) old r new →
+-- a walk's events say what the texts of its trees are
+pub writes-texts : {A : Type 0} (nodes : List Node) (hs : List ℕ) (es : List Event) (old : List ℕ) (r : Result A TreeError) (new : List ℕ) →
+    es ≡ events (walk every nodes [] hs) → Writes (fault_among es) (flat_map event_text es) old r new →
+    Writes (first_fault (walk every nodes [] hs)) (text_of (trees (walk every nodes [] hs))) old r new
+writes-texts nodes hs es old r new e h =
+    let w : Walk = walk every nodes [] hs in
+    subst₂ (λ f s. Writes f s old r new) (ap fault_among e ∙ sym (first_fault-events w)) (ap (flat_map event_text) e ∙ sym (text_of-events w)) h
+
+-- the texts of the walk below a tag are the tag's
+pub writes-below : {A : Type 0} (nodes : List Node) (own : TagNode) (hs : List ℕ) (old : List ℕ) (r : Result A TreeError) (new : List ℕ) →
+    hs ≡ own.children.items → Writes (first_fault (walk every nodes [] hs)) (text_of (trees (walk every nodes [] hs))) old r new →
     Writes (first_fault (walk_of every nodes (Tag own))) (text_of (trees (walk_of every nodes (Tag own)))) old r new
-writes-text nodes own es old r new e h =
+writes-below nodes own hs old r new e h =
     let below : Walk = walk every nodes [] own.children.items in
+    let same : walk every nodes [] hs ≡ below = ap (walk every nodes []) e in
     subst₂ (λ f s. Writes f s old r new)
-    (ap fault_among e ∙ sym (first_fault-events below) ∙ sym (or_else-none (first_fault below)))
-    (ap (flat_map event_text) e ∙ sym (text_of-events below) ∙ sym (append-nil (text_of (trees below))))
+    (ap first_fault same ∙ sym (or_else-none (first_fault below)))
+    (ap (λ w. text_of (trees w)) same ∙ sym (append-nil (text_of (trees below))))
     h
 
 -- the attributes in order, as they are printed

@@ -1,5 +1,5 @@
 -- What a write of all nodes leaves.
-use Rattle.std.proofs.Common.{◌≡◌, ℕ, List, ◌++◌, length, map, take, drop, ap, sym, subst, ◌∙◌}
+use Rattle.std.proofs.Common.{◌≡◌, List, ◌++◌, length, map, take, drop, ap, sym, subst, ◌∙◌}
 use Rattle.std.specs.List.{All, refill}
 use Rattle.std.proofs.Math.Seq.{take-append_seam}
 use Rattle.std.proofs.lemmas.List.Elements.{All-map}

@@ -43,6 +43,7 @@ pub use tl_attributes::outline::{IdOutline, Mark, Outline, OutlineOf};
 use tl_bytes::byte_string::Shared;
 pub use tl_bytes::byte_string::{Bytes, IntoOwnedBytes};
 pub use tl_bytes::simd;
+pub use tl_element::Element;
 pub use tl_inline::inline;
 pub use tl_options::ParserOptions;
 pub use vdom::guard::{VDomGuard, VDomGuardOf};

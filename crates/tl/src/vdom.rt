@@ -4,6 +4,7 @@ ghost use Rattle.std.specs.Borrow.{sem};
 ghost use Rattle.tl_spec.specs.Clean.{IsCleanTable};
 ghost use Rattle.tl_spec.specs.Normal.{ReadsAs};
 ghost use Rattle.tl_spec.specs.Print.{document_print};
+ghost use Rattle.tl_spec.specs.Text.{document_text};
 ghost use Rattle.tl_spec.specs.Walk.{every, trees, walk};
 ghost use Rattle.tl.specs.Answer.{Answers};
 ghost use Rattle.tl.specs.Shown.{document_of};
@@ -17,6 +18,7 @@ use crate::parser::base::{HTMLVersion, ParserOf, Tracking};
 use crate::parser::handle::NodeHandle;
 use crate::parser::tag::node::NodeOf;
 use crate::walk::print::write_row;
+use crate::walk::text::write_row_texts;
 use std::alloc::Global;
 use std::marker::Model;
 use tl_attributes::attributes::Attributes;
@@ -114,6 +116,15 @@ impl<'a> VDom<'a> {
     {
         let mut out = String::new(alloc);
         write_row(alloc, self.nodes(), self.children(), &mut out)?;
+        Ok(out)
+    }
+
+    /// The texts at or below the top nodes, in the order of the walk. Comments give none.
+    pub fn inner_text(&self, alloc: Global) -> Result<String, TreeError>
+        ensures { Answers (document_text (document_of self.now)) result }
+    {
+        let mut out = String::new(alloc);
+        write_row_texts(alloc, self.nodes(), self.children(), &mut out)?;
         Ok(out)
     }
 }

@@ -31,6 +31,8 @@ fn calls(alloc: Global, document: &VDom<'_>) -> Result<(), Stop> {
     expect(document.nodes().len() == 8, "parse")?;
     let made = document.outer_html(alloc)?;
     expect(made.as_str() == PRINT, "outer_html of a document")?;
+    let made = document.inner_text(alloc)?;
+    expect(made.as_str() == "xywv", "inner_text of a document")?;
     match document.nodes().first() {
         Some(node) => calls_of_node(alloc, document.parser(), node),
         None => Err(Stop::Wrong("parse")),

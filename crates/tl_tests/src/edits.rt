@@ -18,6 +18,8 @@ pub enum Edit {
     SwapNodes,
     // Exchanges the first two top handles.
     SwapTop,
+    // Puts a handle at a place of the top list.
+    Root(usize, u32),
     // Writes a text over that of the node of a number.
     Text(u32, &'static str),
     // The same for a comment.
@@ -51,6 +53,7 @@ fn edit_one(document: &mut VDom<'static>, edit: &Edit) -> Result<(), Fail> {
         Edit::Put(number, bytes) => put(document, *number, bytes),
         Edit::SwapNodes => swap_nodes(document),
         Edit::SwapTop => swap_top(document),
+        Edit::Root(place, handle) => put_top(document, *place, *handle),
         Edit::Text(number, text) => write_text(document, *number, text),
         Edit::Comment(number, text) => write_comment(document, *number, text),
         Edit::Part(number, part) => write_part(document, *number, part),
@@ -118,6 +121,14 @@ fn swap_top(document: &mut VDom<'static>) -> Result<(), Fail> {
         return Err(Fail::from("too few top nodes"));
     }
     document.children_mut().swap(0, 1);
+    Ok(())
+}
+
+fn put_top(document: &mut VDom<'static>, place: usize, handle: u32) -> Result<(), Fail> {
+    match document.children_mut().get_mut(place) {
+        Some(top) => *top = NodeHandle::new(handle),
+        None => return Err(Fail::from("no such place")),
+    }
     Ok(())
 }
 

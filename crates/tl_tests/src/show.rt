@@ -15,6 +15,8 @@ use tl::{
 pub enum Look {
     // The print.
     Print,
+    // The texts of the top nodes.
+    Text,
     // The nodes, each with a `|` after it, and the numbers of the top list.
     Table,
     // The text of a node, what it holds as markup, and the node as markup; after a `/` the first two of its tag.
@@ -97,6 +99,7 @@ fn show(
 ) -> Result<(), Fail> {
     match look {
         Look::Print => show_reading(document.outer_html(alloc), out),
+        Look::Text => show_reading(document.inner_text(alloc), out),
         Look::Table => show_table(document, out),
         Look::Texts(number) => show_texts(alloc, document, *number, out),
         Look::Search(number, wanted) => show_searches(alloc, document, *number, wanted, out),

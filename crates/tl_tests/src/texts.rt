@@ -103,3 +103,25 @@ static SEARCHES: [Row; 5] = [
 fn searches(rt: HostRuntime) -> Result<(), Fail> {
     all_show(&rt, rt.alloc(), &SEARCHES)
 }
+
+static TOP_TEXTS: [Row; 8] = [
+    ("", &[], Look::Text, ""),
+    ("a<p>b<br>c</p><!-- d -->", &[], Look::Text, "abc"),
+    ("<p>\u{e9}</p> <q>x</q>", &[], Look::Text, "\u{e9} x"),
+    ("<command>x</command>y", &[], Look::Text, "xy"),
+    // The bytes of one letter, in two texts.
+    (
+        "a<b></b>c",
+        &[Edit::Put(0, b"\xc3"), Edit::Put(2, b"\xa9")],
+        Look::Text,
+        "\u{fffd}\u{fffd}",
+    ),
+    ("<p>x</p>", &[Edit::Push(0, 1)], Look::Text, "xx"),
+    ("a<b></b>", &[Edit::Push(1, 1)], Look::Text, "cycle 1"),
+    ("a<b></b>", &[Edit::Root(0, 7)], Look::Text, "dangling 7"),
+];
+
+#[test]
+fn texts_of_documents(rt: HostRuntime) -> Result<(), Fail> {
+    all_show(&rt, rt.alloc(), &TOP_TEXTS)
+}

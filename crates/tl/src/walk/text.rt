@@ -1,8 +1,8 @@
 //! Texts.
-ghost use Rattle.std.specs.Prelude.{◌≡◌, ◌++◌, map, flat_map, OnOk, IfErr, string_bytes};
+ghost use Rattle.std.specs.Prelude.{◌≡◌, ◌++◌, [], map, flat_map, OnOk, IfErr, string_bytes};
 ghost use Rattle.tl_spec.specs.Document.{Tag};
 ghost use Rattle.tl_spec.specs.Text.{inner_text, text_of, event_text};
-ghost use Rattle.tl_spec.specs.Walk.{every, fault_among, first_fault, trees, walk_of};
+ghost use Rattle.tl_spec.specs.Walk.{every, fault_among, first_fault, trees, walk, walk_of};
 ghost use Rattle.tl.specs.Shown.{shown, shown_tag};
 ghost use Rattle.tl.specs.Answer.{Answers};
 ghost use Rattle.tl.specs.Walker.{IsMarked, left, shown_event};
@@ -10,6 +10,7 @@ ghost use Rattle.tl.specs.Writing.{Writes};
 
 use crate::errors::TreeError;
 use crate::parser::base::Parser;
+use crate::parser::handle::NodeHandle;
 use crate::parser::tag::HTMLTag;
 use crate::parser::tag::node::Node;
 use crate::walk::print::{lossy_text, write_lossy};
@@ -45,6 +46,19 @@ fn write_texts<'s, 'a>(mut walker: Walker<'s, 'a>, out: &mut String) -> Result<(
     }
 }
 
+// Writes the texts of the nodes of these handles in order, and of what hangs below them.
+pub(crate) fn write_row_texts<'s, 'a>(
+    alloc: Global,
+    nodes: &'s [Node<'a>],
+    handles: &'s [NodeHandle],
+    out: &mut String,
+) -> Result<(), TreeError>
+    ensures { let w = walk every (map shown nodes.now) [] handles.now in
+        Writes (first_fault w) (text_of (trees w)) (string_bytes out.old) result (string_bytes out.new) }
+{
+    write_texts(Walker::new(alloc, nodes, Entered::All, handles), out)
+}
+
 // Writes the texts below a tag.
 fn write_text_of<'s, 'a>(
     alloc: Global,
@@ -56,7 +70,7 @@ fn write_text_of<'s, 'a>(
         Writes (first_fault w) (text_of (trees w)) (string_bytes out.old) result (string_bytes out.new) }
 {
     let below = tag.child_handles().as_slice();
-    write_texts(Walker::new(alloc, nodes, Entered::All, below), out)
+    write_row_texts(alloc, nodes, below, out)
 }
 
 impl<'a> HTMLTag<'a> {
