@@ -1,4 +1,4 @@
-//! Laws of what calls answer together, and of what a loan for writing leaves.
+//! Laws of what calls answer together, and of what a loan for writing leaves; and those of the definitions that a caller needs.
 ghost use Rattle.std.specs.Prelude.{◌≡◌, All, List, ℕ, length, map};
 ghost use Rattle.tl_bytes.specs.Held.{Kept};
 ghost use Rattle.tl_options.specs.Options.{Options};
@@ -9,6 +9,16 @@ ghost use Rattle.tl.specs.Lookup.{with_id, with_member};
 ghost use Rattle.tl.specs.Shown.{document_of, shown, HTMLNode, HTMLTable};
 ghost use Rattle.tl.specs.TableLends.{with_nodes};
 ghost use Rattle.tl.specs.Tracked.{AreAsked, AnswerIds, AnswerClasses};
+
+pub use tl_spec::laws::{
+    document_order, document_size, document_walk, fresh_is_clean, node_print_then_parse, scans,
+    siblings_by_rules, siblings_by_token, table_print_then_parse, token_stands, tokens_stand,
+    trees_print_then_parse, walk_by_step,
+};
+pub use tl_spec::node_laws::{clean_nodes, nodes_of_a_walk, trees_of_the_normal_form};
+pub use tl_spec::range_laws::{end_by_step, end_of_the_walk, ranges_are_descendants};
+pub use tl_spec::search_laws::selector_search;
+pub use tl_spec::selector_laws::{alone_is_a_selector, selector_text};
 
 /// What is looked up in a document that was just read is the first tag of the text with the id, and all its tags with the class
 /// member, rising, whatever is tracked. The premises are what `parse` ensures, and the answers those of the lookups.
