@@ -14,7 +14,7 @@ const UPPER: &str = "<p ID=i CLASS=k>";
 
 const CLASS: &str = "<p class=\"a b\tb\">";
 
-static LOOKS: [Row; 37] = [
+static LOOKS: [Row; 40] = [
     (PAGE, &[], Look::Key("a"), "4, there"),
     (PAGE, &[], Look::Key("c"), "3, there"),
     (PAGE, &[], Look::Key("id"), "i, there"),
@@ -44,10 +44,29 @@ static LOOKS: [Row; 37] = [
     (CLASS, &[], Look::Members, "|a|b|b"),
     ("<p id=a>", &[], Look::Members, "none"),
     ("<p class=' '>", &[], Look::Members, ""),
-    (CLASS, &[], Look::Member("b"), "true"),
-    (CLASS, &[], Look::Member("A"), "false"),
-    (CLASS, &[], Look::Member(""), "false"),
-    (CLASS, &[], Look::Member("a b"), "false"),
+    (CLASS, &[], Look::Member(b"b"), "true"),
+    (CLASS, &[], Look::Member(b"A"), "false"),
+    (CLASS, &[], Look::Member(b""), "false"),
+    (CLASS, &[], Look::Member(b"a b"), "false"),
+    // A class that is not UTF-8 has no members.
+    (
+        "<p class=k>",
+        &[Edit::Part(0, Part::Bytes("class", b"\xff"))],
+        Look::Members,
+        "none",
+    ),
+    (
+        "<p class=k>",
+        &[Edit::Part(0, Part::Bytes("class", b"\xff"))],
+        Look::Member(b"\xff"),
+        "false",
+    ),
+    (
+        "<p class=k>",
+        &[Edit::Part(0, Part::Bytes("class", b"\xff"))],
+        Look::Member(b"k"),
+        "false",
+    ),
     // Of an id the length and its first and last byte. Of a member the number of a bit: what is left by 32 of the first byte,
     // three times the last and five times the length.
     (PAGE, &[], Look::Outline, "1 105 105; 17/unknown; all"),

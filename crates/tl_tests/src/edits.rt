@@ -195,7 +195,7 @@ const LINK: &str = "<div><p href=\"/about\" id=\"find-me\">Hello world</p></div>
 
 const EDITABLE: &str = "<span contenteditable=\"true\">testing</a>";
 
-static EDITED: [Row; 22] = [
+static EDITED: [Row; 24] = [
     (
         "<a><b></b></a>",
         &[Edit::Push(1, 0)],
@@ -206,6 +206,12 @@ static EDITED: [Row; 22] = [
     (
         "<a><b></b></a>",
         &[Edit::Push(1, 9)],
+        Look::Print,
+        "dangling 9",
+    ),
+    (
+        "<a><b></b></a>",
+        &[Edit::Pull(0, 0), Edit::Push(0, 9), Edit::Push(0, 1)],
         Look::Print,
         "dangling 9",
     ),
@@ -300,6 +306,7 @@ static EDITED: [Row; 22] = [
         "<!-- b -->x",
     ),
     ("a<b>c</b>", &[Edit::SwapTop], Look::Print, "<b>c</b>a"),
+    ("<a><b></b></a>x", &[Edit::Root(0, 2)], Look::Print, "xx"),
     ("a<b>c</b>", &[Edit::SwapNodes], Look::Print, "<b>c</b>a"),
 ];
 

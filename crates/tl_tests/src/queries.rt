@@ -6,7 +6,7 @@ use std::fmt::Write;
 use std::test::Fail;
 use tl::errors::TreeError;
 use tl::queryselector::{QuerySelectorIterator, Selector};
-use tl::{Node, NodeHandle, Parser, ParserOptions, VDom, parse_query_selector};
+use tl::{Element, Node, NodeHandle, Parser, ParserOptions, VDom, parse_query_selector};
 
 // Writes the numbers that a query gives, each with a space after it.
 fn show_all(found: QuerySelectorIterator<'_, '_>, out: &mut String) -> bool {
@@ -79,7 +79,22 @@ fn page_gives(alloc: Global, row: &Row, keeps: bool) -> Result<bool, Fail> {
     gives(alloc, &mut document, row)
 }
 
-static ROWS: [Row; 59] = [
+static ROWS: [Row; 61] = [
+    // Ancestors that the top list doesn't reach count as others do.
+    (
+        "<a><b></b></a>x",
+        &[Edit::Root(0, 2)],
+        Place::Document,
+        "a > b",
+        "1 ",
+    ),
+    (
+        "<a><b></b></a>x",
+        &[Edit::Root(0, 2)],
+        Place::Document,
+        "a b",
+        "1 ",
+    ),
     ("<div><a><a></a></a></div>", &[], Place::Tag(0), "a", "1 2 "),
     (
         "<a><b></b></a><c></c>",
@@ -419,6 +434,98 @@ fn ranges_end_at_the_last_on_the_way(rt: HostRuntime) -> Result<(), Fail> {
         assert!(rt; borrowed, "{} {:?}", row.0, row.3);
         let kept = page_has_range(rt.alloc(), row, true)?;
         assert!(rt; kept, "{} {:?}, kept", row.0, row.3);
+    }
+    Ok(())
+}
+
+// What is read of a node that was found.
+enum Reading {
+    // What stands at a key that may be gone before the page.
+    Value(&'static [u8]),
+    Text,
+}
+
+// A page, where a query is made, its selector, and what is read of the first node that it gives.
+type Found = (&'static str, Place, &'static str, Reading, &'static str);
+
+// The first handle that a query gives.
+fn first_found(
+    alloc: Global,
+    document: &VDom<'_>,
+    place: &Place,
+    text: &str,
+) -> Option<NodeHandle> {
+    match place {
+        Place::Document => document.query_selector(alloc, text).ok()??.next(),
+        Place::Tag(number) => {
+            let parser = document.parser();
+            let tag = NodeHandle::new(*number).get(parser)?.as_tag()?;
+            tag.query_selector(alloc, parser, text).ok()??.next()
+        }
+    }
+}
+
+// Whether this is read of a node.
+fn reads(alloc: Global, node: &Node<'_>, parser: &Parser<'_>, row: &Found) -> bool {
+    match row.3 {
+        Reading::Value(key) => node.attribute(key) == Some(Some(row.4.as_bytes())),
+        Reading::Text => match node.inner_text(alloc, parser) {
+            Ok(text) => text.as_str() == row.4,
+            Err(_) => false,
+        },
+    }
+}
+
+fn page_reads(alloc: Global, row: &Found, keeps: bool) -> Result<bool, Fail> {
+    let document = read(alloc, row.0, ParserOptions::new(), keeps)?;
+    let parser = document.parser();
+    let Some(handle) = first_found(alloc, &document, &row.1, row.2) else {
+        return Ok(false);
+    };
+    match handle.get(parser) {
+        Some(node) => Ok(reads(alloc, node, parser, row)),
+        None => Ok(false),
+    }
+}
+
+static FOUND: [Found; 4] = [
+    (
+        "<div><meta property=\"og:title\" content=\"hello\" /></div>",
+        Place::Document,
+        "meta[property=\"og:title\"]",
+        Reading::Value(b"content"),
+        "hello",
+    ),
+    (
+        "<p><div class=\"z\"><div class=\"y\">PASS</div></div></p>",
+        Place::Tag(0),
+        "div.y",
+        Reading::Text,
+        "PASS",
+    ),
+    (
+        "<p id=i class=\"k l\">x</p>",
+        Place::Document,
+        "p",
+        Reading::Value(b"class"),
+        "k l",
+    ),
+    (
+        "<p id=i class=\"k l\">x</p>",
+        Place::Document,
+        "p",
+        Reading::Value(b"id"),
+        "i",
+    ),
+];
+
+#[test]
+fn nodes_that_are_found_are_read(rt: HostRuntime) -> Result<(), Fail> {
+    for row in &FOUND {
+        let borrowed = page_reads(rt.alloc(), row, false)?;
+        assert!(rt; borrowed, "{} {}", row.0, row.2);
+        let kept = page_reads(rt.alloc(), row, true)?;
+        assert!(rt; kept, "{} {}, kept", row.0, row.2);
     }
     Ok(())
 }

@@ -30,7 +30,7 @@ pub enum Look {
     // The members of the class of the first tag, each after a `|`, or `none`.
     Members,
     // Whether the class of the first tag has a member.
-    Member(&'static str),
+    Member(&'static [u8]),
     // What an outline says of the first tag, and after a `/` what one says that knows nothing.
     Outline,
 }
@@ -381,8 +381,8 @@ fn show_members(document: &VDom<'static>, out: &mut String) -> Result<(), Fail> 
     Ok(())
 }
 
-fn show_member(document: &VDom<'static>, class: &str, out: &mut String) -> Result<(), Fail> {
-    let found = first_of(document)?.is_class_member(class.as_bytes());
+fn show_member(document: &VDom<'static>, class: &[u8], out: &mut String) -> Result<(), Fail> {
+    let found = first_of(document)?.is_class_member(class);
     Ok(write!(out, "{found}")?)
 }
 
