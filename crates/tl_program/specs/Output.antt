@@ -4,11 +4,11 @@ use Rattle.std.specs.Fmt.{decimal}
 use Rattle.std.specs.Global.{Global}
 use Rattle.std.specs.List.{flat_map}
 use Rattle.std.specs.Option.{option_map_or, option_to_list}
-use Rattle.std.specs.Str.Lossy.{utf8_lossy, utf8_valid_len}
+use Rattle.std.specs.Str.Lossy.{utf8_valid_len}
 use Rattle.std.specs.Io.KnownBytes.{Appends}
 use Rattle.std.specs.declared.string.String.{String}
 use Rattle.tl_spec.specs.Clean.{IsCleanTable}
-use Rattle.tl_spec.specs.Document.{Document, Node, Tag, Raw, Comment, document}
+use Rattle.tl_spec.specs.Document.{Document, Node, document}
 use Rattle.tl_spec.specs.Edit.{Edited, Refusal, edited_all}
 use Rattle.tl_spec.specs.Normal.{ReadsAs}
 use Rattle.tl_spec.specs.Print.{document_print}
@@ -63,12 +63,6 @@ text_at nodes h = option_map_or (λ node. inner_text nodes node) (slice_get node
 -- the text of each top node, joined in order
 abbrev pub texts_of : Document → Result (List ℕ) TreeFault
 texts_of d = joined (map (text_at d.nodes) d.top)
-
--- the text of a node by itself: that of a text alone
-abbrev pub own_text : Node → List ℕ
-own_text (Raw bytes) = utf8_lossy bytes
-own_text (Comment bytes) = []
-own_text (Tag own) = []
 
 -- the document that a text is read as
 abbrev pub IsJustRead : Document → Type 0

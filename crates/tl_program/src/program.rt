@@ -13,8 +13,9 @@ mod words;
 
 pub use asked::Command;
 pub use entry::run_words;
+pub use failure::Failure;
 pub use fault::{Fault, Input, Output};
 pub use marked::Marked;
-pub use running::run;
+pub use running::{output, run};
 pub use status::line;
 pub use words::command;

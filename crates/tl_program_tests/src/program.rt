@@ -3,7 +3,7 @@ use crate::words::owned;
 use std::alloc::{AllocError, Global};
 use std::io;
 use std::io::{ErrorKind, Read, Write};
-use tl_program::program::{Command, Input, Marked, Output, command, line, run};
+use tl_program::program::{Command, Fault, Input, Marked, Output, command, line, output, run};
 
 const NEVER: usize = usize::MAX;
 
@@ -352,6 +352,47 @@ fn commands_of_words(rt: HostRuntime) {
             "row {place}"
         );
     }
+}
+
+// What the command of the words gives of a page, or the number of its failure.
+fn given(alloc: Global, words: &[&str], page: &[u8]) -> Result<String, u8> {
+    let Ok(words) = owned(alloc, words) else {
+        return Err(3);
+    };
+    match command(alloc, &words) {
+        Ok(Some(asked)) => output(alloc, &asked, page).map_err(|failure| failure as u8),
+        _ => Err(2),
+    }
+}
+
+// Whether words give these bytes of a page, or with another status than 0 nothing and that status.
+fn are_given(alloc: Global, words: &[&str], page: &[u8], status: u8, bytes: &[u8]) -> bool {
+    match given(alloc, words, page) {
+        Ok(text) => status == 0 && text.as_bytes() == bytes,
+        Err(failure) => status == failure && bytes.is_empty(),
+    }
+}
+
+#[test]
+fn what_commands_give(rt: HostRuntime) {
+    for (place, (words, page, status, bytes)) in ANSWERS.iter().enumerate() {
+        assert!(rt;
+            are_given(rt.alloc(), words, page, *status, bytes),
+            "row {place}"
+        );
+    }
+}
+
+// A writer that was written to comes back with what it holds.
+fn comes_back(alloc: Global, bytes: &[u8]) -> Result<bool, Fault> {
+    let mut writer = Marked::new(Vec::new(alloc));
+    let taken = writer.write(bytes)?;
+    Ok(taken == bytes.len() && writer.into_inner().as_slice() == bytes)
+}
+
+#[test]
+fn what_was_marked_comes_back(rt: HostRuntime) {
+    assert!(rt; comes_back(rt.alloc(), b"abc") == Ok(true));
 }
 
 // Statuses, and their lines.

@@ -1,7 +1,7 @@
 //! Runs of the program.
 use crate::stop::{Stop, expect};
 use std::alloc::{AllocError, Global};
-use tl_program::program::{Command, Marked, command, run};
+use tl_program::program::{Command, Failure, Marked, command, output, run};
 
 const PAGE: &[u8] = b"<p a=1 b=2 c=3>x<b>y</b>\xc3\xa9<!-- z --><br></p>";
 
@@ -44,7 +44,10 @@ fn said(alloc: Global, words: &[&str], wanted: &[u8]) -> Result<(), Stop> {
 fn said_of(alloc: Global, words: &[&str], page: &[u8], wanted: &[u8]) -> Result<(), Stop> {
     let words = owned(alloc, words)?;
     match command(alloc, &words)? {
-        Some(asked) => ran(alloc, &asked, page, wanted),
+        Some(asked) => {
+            gave(alloc, &asked, page, wanted)?;
+            ran(alloc, &asked, page, wanted)
+        }
         None => Err(Stop::Wrong("command")),
     }
 }
@@ -55,6 +58,15 @@ fn owned(alloc: Global, words: &[&str]) -> Result<Vec<String>, AllocError> {
         owned.push(String::from_str(alloc, *word)?)?;
     }
     Ok(owned)
+}
+
+// What the command gives as a value.
+fn gave(alloc: Global, asked: &Command<'_>, page: &[u8], wanted: &[u8]) -> Result<(), Stop> {
+    match output(alloc, asked, page) {
+        Ok(text) => expect(text.as_bytes() == wanted, "output"),
+        Err(Failure::OutOfMemory) => Err(Stop::NoMemory),
+        Err(_) => Err(Stop::Wrong("output")),
+    }
 }
 
 // The writer has room for the page, so that it makes no request of its own. Without memory nothing is written.

@@ -1,12 +1,13 @@
 //! What a command writes of a text.
-ghost use Rattle.std.specs.Prelude.{◌≡◌, ◌++◌, map, string_bytes, IfOk, OnOk, Ok};
+ghost use Rattle.std.specs.Prelude.{map, string_bytes, IfOk};
 ghost use Rattle.tl_spec.specs.Document.{document};
 ghost use Rattle.tl_spec.specs.Edit.{edited_all};
 ghost use Rattle.tl_spec.specs.Print.{document_print};
-ghost use Rattle.tl.specs.Shown.{document_of, shown};
+ghost use Rattle.tl.specs.Answer.{Answers};
+ghost use Rattle.tl.specs.Shown.{document_of};
 ghost use Rattle.tl.specs.Tracked.{AnswerIds, AnswerClasses};
 ghost use Rattle.tl_program.specs.Asked.{asked_of};
-ghost use Rattle.tl_program.specs.Output.{outcome_of_text, outcome_of_document, outcome_of_edited, outcome_of_print, own_text, texts_of, Gives, IsJustRead, document_again, document_edited, printed_document, ReadsBack};
+ghost use Rattle.tl_program.specs.Output.{outcome_of_text, outcome_of_document, outcome_of_edited, outcome_of_print, texts_of, Gives, IsJustRead, document_again, document_edited, printed_document, ReadsBack};
 ghost use Rattle.tl_program.specs.Steps.{change_of};
 
 use super::asked::Command;
@@ -14,30 +15,17 @@ use super::failure::Failure;
 use super::lookup::{by_class, by_id, by_selector};
 use crate::script;
 use crate::script::Step;
-use std::alloc::{AllocError, Global};
+use std::alloc::Global;
 use std::mem;
-use tl::{Node, ParserOptions, VDom};
+use tl::errors::TreeError;
+use tl::{ParserOptions, VDom};
 
-// Adds the text of a node by itself.
-fn add_text(alloc: Global, node: &Node<'_>, all: &mut String) -> Result<(), AllocError>
-    ensures { OnOk result (string_bytes all.new ≡ string_bytes all.old ++ own_text (shown node.now)) }
-{
-    match node {
-        Node::Raw(bytes) => all.push_str(bytes.as_utf8_str(alloc)?.as_str()),
-        Node::Tag(_) | Node::Comment(_) => Ok(()),
-    }
-}
-
-// The texts of the top nodes of a document just read, joined in order: its table has them in that order.
-fn texts(alloc: Global, document: &VDom<'_>) -> Result<String, AllocError>
+// The texts of the top nodes of a document just read, joined in order. One walk has them all, since it meets no fault.
+fn texts(alloc: Global, document: &VDom<'_>) -> Result<String, TreeError>
     requires { IsJustRead (document_of document.now) }
-    ensures { IfOk result (λ s. texts_of (document_of document.now) ≡ Ok (string_bytes s)) }
+    ensures { Answers (texts_of (document_of document.now)) result }
 {
-    let mut all = String::new(alloc);
-    for node in document.nodes() {
-        add_text(alloc, node, &mut all)?;
-    }
-    Ok(all)
+    document.inner_text(alloc)
 }
 
 // The print of the document that the print of a document is read as.

@@ -10,7 +10,7 @@ use tl::ParseError;
 use tl::errors::TreeError;
 
 /// Why a command was not carried out. Its number is the status.
-#[derive(Clone, Copy)]
+#[derive(Clone, Copy, PartialEq, Eq, Debug)]
 pub enum Failure {
     /// The tree has a fault, or a step is refused.
     Refused = 1,

@@ -37,6 +37,13 @@ impl<T> Marked<T> {
         }
     }
 
+    /// What it wraps.
+    pub fn into_inner(self) -> T
+        ensures { result ≡ self.inner }
+    {
+        self.inner
+    }
+
     // A fault, which it remembers.
     fn fault(&mut self) -> Fault
         ensures { self.new ≡ record self.old { has_failed = true } }

@@ -58,8 +58,9 @@ fn deliver<W: Output>(writer: &mut W, bytes: &[u8]) -> Result<(), Fault>
     writer.flush()
 }
 
-// What a command writes of the bytes that were read.
-fn output(alloc: Global, command: &Command<'_>, input: &[u8]) -> Result<String, Failure>
+/// What a command gives of a page, as `run` writes it of the page that it reads; or why it gives nothing, where the number of the
+/// failure is the status. The memory of the page's document is not taken back.
+pub fn output(alloc: Global, command: &Command<'_>, input: &[u8]) -> Result<String, Failure>
     ensures outcome { Gives (output_of (asked_of command.now) input.now) result }
     ensures identity { IfOk result (λ s. ReadsBack (printed_document (asked_of command.now) (document input.now)) (string_bytes s)) }
 {

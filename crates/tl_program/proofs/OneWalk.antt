@@ -1,16 +1,14 @@
--- The texts of a document just read stand in its table in their order.
-use Rattle.std.proofs.Common.{◌≡◌, ℕ, zero, suc, ◌+◌, ◌==◌, Bool, true, false, List, [], ◌∷◌, ◌++◌, length, map, slice_get, Option, Some, None, Result, Ok, Err, refl, sym, ◌∙◌, ap, ap₂, append-nil}
-use Rattle.std.specs.List.{flat_map}
+-- The texts of the top nodes of a document just read, each by a walk of its own, are those of one walk.
+use Rattle.std.proofs.Common.{◌≡◌, ℕ, zero, suc, ◌==◌, Bool, true, false, List, [], ◌∷◌, ◌++◌, length, map, slice_get, Option, Some, None, Result, Ok, Err, refl, sym, ◌∙◌, ap, ap₂, append-nil}
 use Rattle.std.specs.Option.{option_map_or}
 use Rattle.std.specs.Str.Lossy.{utf8_lossy}
 use Rattle.std.proofs.lemmas.Bool.{or_from, or_parts}
-use Rattle.std.proofs.lemmas.Grind.{flat_map-append}
 use Rattle.tl_spec.specs.Document.{Node, Tag, Raw, Comment, document}
-use Rattle.tl_spec.specs.Text.{inner_text, text_of}
-use Rattle.tl_spec.specs.Walk.{TreeFault, Walk, Dangling, answer, end, every, first_fault, handle_walk, meets_comment, meets_fault, meets_tag, meets_text, or_else, passes_tag, row_walk, stands_on, trees, unless, visits, visits_from, walk, walk_within}
-use Rattle.tl_spec.proofs.Order.{document-faultless, document-ordered}
+use Rattle.tl_spec.specs.Text.{document_text, inner_text, text_of}
+use Rattle.tl_spec.specs.Walk.{TreeFault, Walk, Dangling, answer, end, every, first_fault, handle_walk, meets_comment, meets_tag, meets_text, or_else, row_walk, stands_on, trees, unless, walk, walk_within}
+use Rattle.tl_spec.proofs.Order.{document-faultless}
 use Rattle.tl_spec.proofs.Walks.{walk-step}
-use Rattle.tl_program.specs.Output.{followed_by, joined, own_text, text_at, texts_of}
+use Rattle.tl_program.specs.Output.{followed_by, joined, text_at, texts_of}
 
 -- the first path holds no handle that the second doesn't
 abbrev IsWithin : List ℕ → List ℕ → Type 0
@@ -86,31 +84,11 @@ module _ (nodes : List Node) where
   texts-joined (h ∷ hs) e =
       one-joined h (slice_get nodes h) (row_walk every nodes (walk every nodes) [] hs) (map (text_at nodes) hs) (texts-joined hs) e
 
-visit_text : Result (ℕ × Node) TreeFault → List ℕ
-visit_text (Ok v) = own_text v.1
-visit_text (Err fault) = []
-
--- the texts of trees are those of the nodes that are met
-visits-text : (w : Walk) → text_of (trees w) ≡ flat_map visit_text (visits w)
-unfolding visit_text
-visits-text end = refl
-visits-text (meets_text h u more) = ap (λ (s : List ℕ). utf8_lossy u ++ s) (visits-text more)
-visits-text (meets_comment h u more) = visits-text more
-visits-text (meets_tag h own children more) =
-    ap₂ (λ (r s : List ℕ). r ++ s) (visits-text children) (visits-text more) ∙ sym (flat_map-append visit_text (visits children) (visits more))
-visits-text (passes_tag h own more) = visits-text more
-visits-text (meets_fault fault more) = visits-text more
-
-row-text : (nodes : List Node) (n : ℕ) → flat_map visit_text (visits_from n nodes) ≡ flat_map own_text nodes
-unfolding visit_text
-row-text [] n = refl
-row-text (x ∷ xs) n = ap (λ (s : List ℕ). own_text x ++ s) (row-text xs (n + 1))
-
-pub texts_in_order : (t : List ℕ) → texts_of (document t) ≡ Ok (flat_map own_text (document t).nodes)
-texts_in_order t =
+pub texts_of_one_walk : (t : List ℕ) → texts_of (document t) ≡ document_text (document t)
+texts_of_one_walk t =
     let xs = (document t).nodes in
     let hs = (document t).top in
     let step : walk every xs [] hs ≡ row_walk every xs (walk every xs) [] hs = walk-step every xs [] hs in
     texts-joined xs hs (ap first_fault (sym step) ∙ document-faultless t)
     ∙ ap (λ (w : Walk). Ok (text_of (trees w))) (sym step)
-    ∙ ap (λ (s : List ℕ). Ok s) (visits-text (walk every xs [] hs) ∙ ap (flat_map visit_text) (document-ordered t) ∙ row-text xs 0)
+    ∙ sym (ap (λ (o : Option TreeFault). unless o (text_of (trees (walk every xs [] hs)))) (document-faultless t))
