@@ -1,17 +1,19 @@
 -- The way along last children, one step on, and what is known of its path.
 use Rattle.std.proofs.Common.{◌≡◌, ℕ, ◌+◌, ◌<◌, Bool, true, false, cond, ◌||◌, List, [], ◌∷◌, length, get_or, set, replicate, slice_get, Option, Some, None, Result, Ok, Err, refl, ap, sym, ◌∙◌, subst, arith, inl, inr, ne_eqb, ltb-true, ltb-false, nat_lt, map, zero, suc}
 use Rattle.std.specs.Prelude.{⊤, sum_by, option_map, IfSome}
+use Rattle.std.specs.Option.{option_and_then}
 use Rattle.std.specs.List.{last_or, AllByRecursion}
 use Rattle.std.proofs.lemmas.Bool.Decides.{eqb_tells}
 use Rattle.std.proofs.lemmas.List.{get_or-set_same, get_or-set_other, get_or-replicate, length-set, length-replicate}
 use Rattle.std.proofs.lemmas.List.Elements.{recursion_from_All}
 use Rattle.std.proofs.lemmas.List.Sums.{sum_by-set}
-use Rattle.std.proofs.lemmas.Option.{slice_get-map, slice_get-get_or, slice_get_past, slice_get_within}
+use Rattle.std.proofs.lemmas.Option.{option_and_then_some, slice_get-map, slice_get-get_or, slice_get_past, slice_get_within}
 use Rattle.tl_spec.specs.Document.{Node, Raw, Comment, Tag}
 use Rattle.tl_spec.specs.Element.{last_child_of}
 use Rattle.tl_spec.specs.Order.{AreChildrenAbove}
 use Rattle.tl_spec.specs.Range.{handle_end, step_end, end_within, end_below, last_below, with_end, boundaries_from}
 use Rattle.tl_spec.specs.Walk.{TreeFault, Dangling, Cycle, stands_on}
+use Rattle.tl_range.specs.Way.{last_child_at, after_steps, Rises}
 use Rattle.tl_spec.proofs.Ranges.{end-step}
 
 module _ (nodes : List Node) (path : List ℕ) where
@@ -109,6 +111,20 @@ pub child-above : (nodes : List Node) → AreChildrenAbove nodes → (h k : ℕ)
 child-above nodes above h k (Tag own) is e = last-child (λ c. h < c) k own.children.items (recursion_from_All (λ c. h < c) own.children.items (above h own is)) e
 child-above nodes above h k (Raw bytes) is e = absurd (cc)
 child-above nodes above h k (Comment bytes) is e = absurd (cc)
+
+-- the handle of a node with a last child is below that one where all children are above
+child-at-above : (nodes : List Node) → AreChildrenAbove nodes → (h k : ℕ) → last_child_at nodes h ≡ Some k → h < k
+child-at-above nodes above h k e = option_and_then_some last_child_of (slice_get nodes h) k e (λ x is last. child-above nodes above h k x is last)
+
+-- so each way rises then
+pub all_rise : (nodes : List Node) → AreChildrenAbove nodes → (last : Option ℕ) → Rises nodes last
+all_rise nodes above last n h k here next =
+    child-at-above nodes above h k (sym (ap (option_and_then (last_child_at nodes)) here) ∙ next)
+
+-- one step further on the way
+module _ (nodes : List Node) (last : Option ℕ) (n h k : ℕ) (x : Node) where
+  pub steps-on : after_steps nodes last n ≡ Some h → slice_get nodes h ≡ Some x → last_child_of x ≡ Some k → after_steps nodes last (suc n) ≡ Some k
+  steps-on here is child = ap (option_and_then (last_child_at nodes)) here ∙ ap (option_and_then last_child_of) is ∙ child
 
 -- a mark for each handle of the path, and no others, among n
 pub record AreMarks (n : ℕ) (path : List ℕ) (marks : List Bool) : Type 0 where

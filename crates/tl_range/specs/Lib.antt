@@ -1,2 +1,3 @@
 pub mod RangeError
+pub mod Way
 pub mod Climb

@@ -3,5 +3,6 @@
 
 mod climb;
 pub mod errors;
+pub mod laws;
 mod marked;
 pub mod range;

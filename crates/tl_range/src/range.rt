@@ -1,9 +1,10 @@
 //! The end, the boundaries and the range of what hangs below a node.
 //!
-//! Memory is taken only where some node on the way has a last child whose number is not above its own.
+//! Memory is taken only where the way along last children doesn't rise: where some node on it has a last child whose number
+//! is not above its own.
 ghost use Rattle.std.specs.Prelude.{◌≤◌, IfOk, length, map};
 ghost use Rattle.tl_range.specs.RangeError.{Answers, WantsNoMemory};
-ghost use Rattle.tl_spec.specs.Order.{AreChildrenAbove};
+ghost use Rattle.tl_range.specs.Way.{Rises};
 ghost use Rattle.tl_spec.specs.Range.{last_below, boundaries_from, range_from};
 
 use crate::climb::{Stop, climb};
@@ -20,7 +21,7 @@ pub fn end<N: Element>(
     last: Option<u32>,
 ) -> Result<Option<u32>, RangeError>
     ensures end { Answers (λ end. end) (last_below (map N.node nodes.now) last) result }
-    ensures memory { AreChildrenAbove (map N.node nodes.now) → WantsNoMemory result }
+    ensures memory { Rises (map N.node nodes.now) last → WantsNoMemory result }
 {
     let Some(first) = last else {
         return Ok(None);
@@ -43,7 +44,7 @@ pub fn boundaries<N: Element>(
     last: Option<u32>,
 ) -> Result<Option<(u32, u32)>, RangeError>
     ensures boundaries { Answers (λ both. both) (boundaries_from (map N.node nodes.now) first last) result }
-    ensures memory { AreChildrenAbove (map N.node nodes.now) → WantsNoMemory result }
+    ensures memory { Rises (map N.node nodes.now) last → WantsNoMemory result }
 {
     let Some(from) = first else {
         return Ok(None);
@@ -65,7 +66,7 @@ pub fn range<N: Element>(
 
     // It is a range of the table.
     ensures within { IfOk result (λ r. (r.start ≤ r.end) × (r.end ≤ length nodes.now)) }
-    ensures memory { AreChildrenAbove (map N.node nodes.now) → WantsNoMemory result }
+    ensures memory { Rises (map N.node nodes.now) last → WantsNoMemory result }
 {
     let Some((from, to)) = boundaries(alloc, nodes, first, last)? else {
         return Ok(0..0);

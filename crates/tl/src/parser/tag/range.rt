@@ -1,7 +1,7 @@
 //! The range of a tag: the nodes from its first child to the last of what hangs below it.
 ghost use Rattle.std.specs.Prelude.{◌≡◌, ◌<◌, ◌≤◌, ◌^◌, IfOk, None, length, map, slice_get};
 ghost use Rattle.std.specs.List.{last_or};
-ghost use Rattle.tl_spec.specs.Order.{AreChildrenAbove};
+ghost use Rattle.tl_range.specs.Way.{RisesBelow};
 ghost use Rattle.tl_spec.specs.Range.{last_below, boundaries_of, range_of};
 ghost use Rattle.tl.specs.Shown.{shown};
 ghost use Rattle.tl.specs.Ranges.{Reads, ReadsNodes, WantsNoMemory};
@@ -47,7 +47,8 @@ impl<'a, 'b> Children<'a, 'b> {
     /// there is no child.
     pub fn end(&self, parser: &Parser<'_>) -> Result<Option<InnerNodeHandle>, TreeError>
         ensures end { Reads (λ end. end) (last_below (map shown parser.now.nodes) (last_or None self.now.children.items)) result }
-        ensures memory { AreChildrenAbove (map shown parser.now.nodes) → WantsNoMemory result }
+        ensures memory { RisesBelow (map shown parser.now.nodes) self.now.children.items
+            → WantsNoMemory result }
     {
         Ok(range::end(parser.alloc(), parser.nodes(), self.last())?)
     }
@@ -58,7 +59,8 @@ impl<'a, 'b> Children<'a, 'b> {
         parser: &Parser<'_>,
     ) -> Result<Option<(InnerNodeHandle, InnerNodeHandle)>, TreeError>
         ensures boundaries { Reads (λ both. both) (boundaries_of (map shown parser.now.nodes) self.now.children.items) result }
-        ensures memory { AreChildrenAbove (map shown parser.now.nodes) → WantsNoMemory result }
+        ensures memory { RisesBelow (map shown parser.now.nodes) self.now.children.items
+            → WantsNoMemory result }
     {
         let first = self.start();
         Ok(range::boundaries(parser.alloc(), parser.nodes(), first, self.last())?)
@@ -69,7 +71,8 @@ impl<'a, 'b> Children<'a, 'b> {
         ensures range { Reads (λ r. (r.start, r.end)) (range_of (map shown parser.now.nodes) self.now.children.items) result }
         ensures within { IfOk result (λ r. (r.start ≤ r.end) × (r.end ≤ length parser.now.nodes)) }
         ensures fits { IfOk result (λ r. r.end < 2 ^ 32) }
-        ensures memory { AreChildrenAbove (map shown parser.now.nodes) → WantsNoMemory result }
+        ensures memory { RisesBelow (map shown parser.now.nodes) self.now.children.items
+            → WantsNoMemory result }
     {
         Ok(range::range(parser.alloc(), parser.nodes(), self.start(), self.last())?)
     }
@@ -77,7 +80,8 @@ impl<'a, 'b> Children<'a, 'b> {
     /// The nodes from start to end, both included: none where there is no child, or the end is below the start.
     pub fn all<'p>(&self, parser: &'p Parser<'a>) -> Result<&'p [Node<'a>], TreeError>
         ensures all { ReadsNodes (range_of (map shown parser.now.nodes) self.now.children.items) parser.now.nodes result }
-        ensures memory { AreChildrenAbove (map shown parser.now.nodes) → WantsNoMemory result }
+        ensures memory { RisesBelow (map shown parser.now.nodes) self.now.children.items
+            → WantsNoMemory result }
     {
         let range = self.range(parser)?;
         Ok(&parser.nodes()[range])
