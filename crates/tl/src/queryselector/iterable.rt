@@ -1,8 +1,8 @@
 //! What a selector is asked of: a document, or what hangs below a tag.
-ghost use Rattle.std.specs.Prelude.{◌≡◌, ◌≤◌, ◌^◌, ℕ, IfOk, List, Ok, Option, Result, Some, length, map, slice_get};
+ghost use Rattle.std.specs.Prelude.{◌≡◌, ◌≤◌, ◌^◌, ℕ, ⊤, IfOk, List, Ok, Option, Result, Some, length, map, slice_get};
 ghost use Rattle.std.specs.Option.{option_map};
+ghost use Rattle.tl_range.specs.Way.{RisesBelow};
 ghost use Rattle.tl_spec.specs.Document.{Node};
-ghost use Rattle.tl_spec.specs.Order.{AreChildrenAbove};
 ghost use Rattle.tl_spec.specs.Range.{range_of};
 ghost use Rattle.tl_spec.specs.Walk.{TreeFault};
 ghost use Rattle.tl.specs.Query.{item_at, item_of, count_in};
@@ -29,6 +29,9 @@ pub trait QueryIterable<'a>: private::Sealed {
     /// How many numbers there are, by the nodes of the table that is handed in; or the fault on the way.
     ghost count: { Self → List Node → Result ℕ TreeFault };
 
+    /// The tables of which they are counted without memory.
+    ghost counts_freely: { Self → List Node → Type 0 };
+
     /// The node of a table at a place counted from the first number, and its handle; None past the table.
     fn get<'p>(
         &'p self,
@@ -40,7 +43,8 @@ pub trait QueryIterable<'a>: private::Sealed {
     /// How many numbers there are.
     fn len(&self, parser: &Parser<'_>) -> Result<usize, TreeError>
         ensures len { Reads (λ n. n) (count self.now (map shown parser.now.nodes)) result }
-        ensures fits { IfOk result (λ n. n ≤ 2 ^ 32) };
+        ensures fits { IfOk result (λ n. n ≤ 2 ^ 32) }
+        ensures memory { counts_freely self.now (map shown parser.now.nodes) → WantsNoMemory result };
 
     /// The first number, if there is one.
     fn start(&self) -> Option<InnerNodeHandle>
@@ -49,11 +53,13 @@ pub trait QueryIterable<'a>: private::Sealed {
 
 impl<'a> private::Sealed for VDom<'a> {}
 
-/// A document is asked at all numbers that its own table has.
+/// A document is asked at all numbers that its own table has. They are counted without memory.
 impl<'a> QueryIterable<'a> for VDom<'a> {
     ghost first = { λ d. Some 0 };
 
     ghost count = { λ d nodes. Ok (length d.nodes) };
+
+    ghost counts_freely = { λ d nodes. ⊤ };
 
     fn get<'p>(
         &'p self,
@@ -74,11 +80,14 @@ impl<'a> QueryIterable<'a> for VDom<'a> {
 
 impl<'a> private::Sealed for HTMLTag<'a> {}
 
-/// A tag is asked at the numbers from its first child to the last of what hangs below it.
+/// A tag is asked at the numbers from its first child to the last of what hangs below it. They are counted without memory
+/// where the way along last children rises.
 impl<'a> QueryIterable<'a> for HTMLTag<'a> {
     ghost first = { λ t. slice_get t.children.items 0 };
 
     ghost count = { λ t nodes. count_in (range_of nodes t.children.items) };
+
+    ghost counts_freely = { λ t nodes. RisesBelow nodes t.children.items };
 
     fn get<'p>(
         &'p self,

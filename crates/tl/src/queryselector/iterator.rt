@@ -6,6 +6,7 @@ ghost use Rattle.std.specs.Result.{result_err};
 ghost use Rattle.tl_selector.specs.View.{selector as selector_of};
 ghost use Rattle.tl_spec.specs.SelectorMeaning.{AreMatches, has_joint};
 ghost use Rattle.tl.specs.Query.{AreAmong};
+ghost use Rattle.tl.specs.Ranges.{WantsNoMemory};
 ghost use Rattle.tl.specs.Shown.{shown};
 ghost use Rattle.tl.specs.TreeFault.{IsRefusal};
 
@@ -44,6 +45,11 @@ impl<'a, 'b> QuerySelectorIterator<'a, 'b> {
     ) -> Result<Self, TreeError>
         ensures ok { IfOk result (AreAmong (map shown parser.now.nodes) (selector_of selector.entry) (Q.first collection.now) (Q.count collection.now (map shown parser.now.nodes))) }
         ensures err { IfErr result (IsRefusal (result_err (Q.count collection.now (map shown parser.now.nodes)))) }
+
+        // A selector that asks for no ancestors takes no memory itself.
+        ensures memory { has_joint (selector_of selector.entry) ≡ false
+            → Q.counts_freely collection.now (map shown parser.now.nodes)
+            → WantsNoMemory result }
     {
         let len = collection.len(parser)?;
         let start = collection.start().unwrap_or(0) as usize;

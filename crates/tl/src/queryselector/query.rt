@@ -1,11 +1,13 @@
 //! Queries by a selector text, of a document and below a tag.
 ghost use Rattle.std.specs.Prelude.{◌≡◌, IfOk, IfErr, IsOk, length, map};
 ghost use Rattle.std.specs.Result.{result_err};
+ghost use Rattle.tl_range.specs.Way.{RisesBelow};
 ghost use Rattle.tl_spec.specs.Range.{range_of};
 ghost use Rattle.tl_spec.specs.SelectorMeaning.{AreMatches};
 ghost use Rattle.tl_spec.specs.Selector.{Selector as SelectorOf};
 ghost use Rattle.tl_spec.specs.SelectorText.{IsSelectorText, StandsAlone};
 ghost use Rattle.tl.specs.Query.{AreIn, Finds};
+ghost use Rattle.tl.specs.Ranges.{WantsNoMemory};
 ghost use Rattle.tl.specs.Shown.{shown};
 ghost use Rattle.tl.specs.TreeFault.{IsRefusal};
 ghost use Rattle.tl.specs.declared.errors.TreeError.TheVariants.{OutOfMemory};
@@ -44,6 +46,7 @@ impl<'a> VDom<'a> {
 impl<'a> HTMLTag<'a> {
     /// The nodes in the range of the tag where a selector holds, rising; None where the text stands for no selector, which
     /// is looked at before the range. All nodes of the table count as ancestors.
+    #[tactic(auto, using(crate::proofs::OnePart::alone_without_joint))]
     pub fn query_selector<'b>(
         &self,
         alloc: Global,
@@ -55,6 +58,11 @@ impl<'a> HTMLTag<'a> {
 
         // Where the text stands for no selector, no fault of the range is looked at.
         ensures outside { ((e : SelectorOf) → IsSelectorText selector.now e → ⊥) → IfErr result (λ error. error ≡ OutOfMemory) }
+
+        // A selector of one simple part takes no memory, nor does a way along last children that rises.
+        ensures memory { StandsAlone selector.now
+            → RisesBelow (map shown parser.now.nodes) self.now.children.items
+            → WantsNoMemory result }
     {
         let Some(parsed) = parse_query_selector(alloc, selector)? else {
             return Ok(None);
