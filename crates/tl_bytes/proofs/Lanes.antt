@@ -63,6 +63,10 @@ four_of (a ∷ b ∷ c ∷ []) x e = absurd (omega arith)
 four_of (a ∷ b ∷ c ∷ d ∷ []) x e = refl
 four_of (a ∷ b ∷ c ∷ d ∷ y ∷ ys) x e = absurd (omega arith)
 
+pub lane_of : (b : Bool) → top 7 (cond b 255 0) ≡ b
+lane_of true = refl
+lane_of false = refl
+
 pub any_of_four : (a b c d : Bool) → top 7 (bit_or (bit_or (bit_or (cond a 255 0) (cond b 255 0)) (cond c 255 0)) (cond d 255 0)) ≡ (a || (b || (c || (d || false))))
 any_of_four true true true true = refl
 any_of_four true true true false = refl

@@ -8,10 +8,32 @@ ghost use Rattle.tl_bytes.specs.Search.{first, is_one_of, is_not_ident, is_not_n
 pub mod fallback;
 mod lanes;
 
-use lanes::{before_any, before_non_ident, before_non_name};
+use lanes::{before_any, before_byte, before_non_ident, before_non_name};
+
+// So many bytes are looked at sixteen at once before the search that is faster for far hits: most hits in a page are near.
+const NEAR: usize = 16;
 
 /// The first place of `haystack` that holds `needle`.
+#[inline]
 pub fn find(haystack: &[u8], needle: u8) -> Option<usize>
+    ensures { result ≡ first (λ b. b == needle) haystack.now }
+{
+    let mut at = 0;
+    while at < NEAR && haystack.len() - at >= 16 {
+        let before = before_byte(haystack, at, needle);
+        if before < 16 {
+            return Some(at + before);
+        }
+        at += 16;
+    }
+    match find_far(&haystack[at..], needle) {
+        Some(place) => Some(at + place),
+        None => None,
+    }
+}
+
+// The same search, for hits that are mostly far.
+fn find_far(haystack: &[u8], needle: u8) -> Option<usize>
     ensures { result ≡ first (λ b. b == needle) haystack.now }
 {
     memchr::memchr(needle, haystack)

@@ -25,6 +25,7 @@ pub fn name(text: &[u8], at: usize) -> (Span, usize)
 }
 
 // The value at a place, and the place where it ends.
+#[inline(always)]
 fn value(text: &[u8], at: usize) -> (Span, usize)
     requires { at ≤ length text.now }
     ensures read { (bytes_at text.now result.0, drop result.1 text.now) ≡ value (drop at text.now) }
@@ -39,6 +40,7 @@ fn value(text: &[u8], at: usize) -> (Span, usize)
 }
 
 // The value after `=` and blanks, if `=` stands at a place, and the place where it ends.
+#[inline(always)]
 fn optional_value(text: &[u8], at: usize) -> (Option<Span>, usize)
     requires { at ≤ length text.now }
     ensures read { (optional_bytes_at text.now result.0, drop result.1 text.now) ≡ optional_value (drop at text.now) }

@@ -43,9 +43,5 @@ pub fn len_until(s: &[u8], byte: u8) -> usize
     ensures run { result ≡ prefix_len (λ b. not (b == byte)) s.now }
     ensures within { result ≤ length s.now }
 {
-    // A run of no bytes needs no search.
-    if s.first() == Some(&byte) {
-        return 0;
-    }
     simd::find(s, byte).unwrap_or(s.len())
 }

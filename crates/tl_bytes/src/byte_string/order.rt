@@ -17,6 +17,7 @@ impl<'a> PartialEq for Bytes<'a> {
 
     ghost laws = { on_per (λ b. b.list) (partial_equiv_from_equiv nat_list_eq_equiv) };
 
+    #[inline(always)]
     fn eq(&self, other: &Self) -> bool {
         self.as_bytes() == other.as_bytes()
     }

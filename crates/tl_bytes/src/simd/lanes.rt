@@ -1,5 +1,5 @@
 //! How many of sixteen bytes come before the first of a class, from one load.
-ghost use Rattle.std.specs.Prelude.{◌≡◌, ◌+◌, ◌≤◌, length, take, drop};
+ghost use Rattle.std.specs.Prelude.{◌≡◌, ◌==◌, ◌+◌, ◌≤◌, length, take, drop};
 ghost use Rattle.std.specs.List.{position_or_len};
 ghost use Rattle.tl_bytes.specs.Search.{is_one_of, is_not_ident, is_not_name, lowest_bit};
 
@@ -15,6 +15,16 @@ fn lowest_bit(mask: u64) -> usize
     } else {
         mask.trailing_zeros() as usize
     }
+}
+
+/// How many of the sixteen bytes from `at` on come before the first `needle`.
+#[inline(always)]
+pub(super) fn before_byte(haystack: &[u8], at: usize, needle: u8) -> usize
+    requires { at + 16 ≤ length haystack.now }
+    ensures { result ≡ position_or_len (λ b. b == needle) (take 16 (drop at haystack.now)) }
+{
+    let lanes = u8x16::from_slice(&haystack[at..]);
+    lowest_bit(lanes.simd_eq(u8x16::splat(needle)).to_bitmask())
 }
 
 /// How many of the sixteen bytes from `at` on come before the first that is one of the four of `needle`.
