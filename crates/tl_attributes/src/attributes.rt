@@ -71,7 +71,8 @@ fn nested<B>(value: Result<&mut B, bool>) -> Option<Option<&mut B>>
 
 impl<B: Piece + Default> AttributesOf<B> {
     /// No attributes, which take no memory. What they take later comes from `alloc`.
-    #[inline(always)]
+    // Out of line: where it is seen that each field is constant, they are copied one by one at each step on their way.
+    #[inline(never)]
     pub fn new(alloc: Global) -> Self
         ensures { result ≡ no_attributes }
     {

@@ -115,6 +115,7 @@ impl<'a> OutlineOf<Attributes<'a>> for Outline {
 
     ghost is_outline = { IsOutline };
 
+    #[inline(always)]
     fn of(attributes: &Attributes<'a>) -> Outline
         ensures { IsOutline result attributes.now }
     {

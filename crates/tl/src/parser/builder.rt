@@ -38,12 +38,15 @@ const SAMPLE: usize = 4096;
 // For how many nodes memory is taken at most before the first of them is read.
 const MOST_AT_ONCE: usize = 65536;
 
-// About how many nodes a text has, by how often `<` stands at its front. With room for them few nodes are moved as the table
-// grows, and a text that only begins with many tags takes no memory that counts.
+// About how many nodes a text has, by how often `<` stands at its front: a tag and a text for each. With room for them few nodes
+// are moved as the table grows, and a text that only begins with many tags takes no memory that counts.
 fn guessed_nodes(text: &[u8]) -> usize {
     let front = &text[..text.len().min(SAMPLE)];
-    let tags = front.iter().filter(|byte| **byte == b'<').count();
-    tags.saturating_mul(text.len() / SAMPLE + 1)
+    let mut tags = 0usize;
+    for byte in front {
+        tags = tags.wrapping_add(usize::from(*byte == b'<'));
+    }
+    tags.saturating_mul(2 * (text.len() / SAMPLE + 1))
         .min(MOST_AT_ONCE)
 }
 

@@ -60,7 +60,7 @@ impl<A, B, O: OutlineOf<A>> Model for TagOf<A, B, O> {
 impl<A: Drop, B: Drop, O: OutlineOf<A>> TagOf<A, B, O> {
     ghost use Rattle.tl.specs.Tag.{childless};
 
-    // A tag without children.
+    // A tag without children, of whose attributes nothing is known but by a look at them.
     #[inline(always)]
     pub(crate) fn new(
         alloc: Global,
@@ -71,7 +71,6 @@ impl<A: Drop, B: Drop, O: OutlineOf<A>> TagOf<A, B, O> {
     ) -> Result<Self, AllocError>
         ensures { IfOk result (λ t. t ≡ childless name attributes raw start) }
     {
-        let outline = O::of(&attributes);
         let parts = Parts {
             attributes,
             children: InlineVec::new(alloc),
@@ -80,12 +79,13 @@ impl<A: Drop, B: Drop, O: OutlineOf<A>> TagOf<A, B, O> {
         };
         Ok(TagOf {
             name,
-            outline,
+            outline: O::nothing(),
             parts: Box::new(alloc, parts)?,
         })
     }
 
     // Makes `raw` the source of the tag.
+    #[inline(always)]
     pub(crate) fn set_raw(&mut self, raw: B)
         ensures { self.new ≡ record self.old { raw = raw } }
     {
@@ -142,6 +142,7 @@ impl<A, B, O: OutlineOf<A>> TagOf<A, B, O> {
     }
 
     // Makes the outline that of the attributes as they are.
+    #[inline(always)]
     pub(crate) fn renew_outline(&mut self)
         ensures { self.new ≡ self.old }
     {
