@@ -6,7 +6,9 @@ use std::fmt::Write;
 use std::test::Fail;
 use tl::errors::TreeError;
 use tl::queryselector::{QuerySelectorIterator, Selector};
-use tl::{Element, Node, NodeHandle, Parser, ParserOptions, VDom, parse_query_selector};
+use tl::{
+    Element, Node, NodeHandle, Parser, ParserOptions, QueryIterable, VDom, parse_query_selector,
+};
 
 // Writes the numbers that a query gives, each with a space after it.
 fn show_all(found: QuerySelectorIterator<'_, '_>, out: &mut String) -> bool {
@@ -375,7 +377,7 @@ fn page_has_range(alloc: Global, row: &Range, keeps: bool) -> Result<bool, Fail>
     has_range(alloc, &mut document, row)
 }
 
-static RANGES: [Range; 9] = [
+static RANGES: [Range; 11] = [
     (
         "<a><b></b></a><c></c>",
         &[],
@@ -425,6 +427,19 @@ static RANGES: [Range; 9] = [
         0,
         "Some(7) Err(Dangling(NodeHandle(7))) Err(Dangling(NodeHandle(7))) Err(Dangling(NodeHandle(7)))",
     ),
+    // The way falls, from the second tag to the first, and ends there or goes on to a handle that dangles.
+    (
+        "<a></a><b></b><c></c>",
+        &[Edit::Push(2, 1), Edit::Push(1, 0)],
+        2,
+        "Some(1) Ok(Some(0)) Ok(Some((1, 0))) Ok(0)",
+    ),
+    (
+        "<a></a><b></b><c></c>",
+        &[Edit::Push(2, 1), Edit::Push(1, 0), Edit::Push(0, 9)],
+        2,
+        "Some(1) Err(Dangling(NodeHandle(9))) Err(Dangling(NodeHandle(9))) Err(Dangling(NodeHandle(9)))",
+    ),
 ];
 
 #[test]
@@ -434,6 +449,221 @@ fn ranges_end_at_the_last_on_the_way(rt: HostRuntime) -> Result<(), Fail> {
         assert!(rt; borrowed, "{} {:?}", row.0, row.3);
         let kept = page_has_range(rt.alloc(), row, true)?;
         assert!(rt; kept, "{} {:?}, kept", row.0, row.3);
+    }
+    Ok(())
+}
+
+// Writes the number of a node and its name or bytes.
+fn show_item(item: Option<(&Node<'_>, NodeHandle)>, out: &mut String) -> bool {
+    let Some((node, handle)) = item else {
+        return out.push_str("none").is_ok();
+    };
+    let bytes = match node {
+        Node::Tag(tag) => tag.name(),
+        Node::Raw(bytes) | Node::Comment(bytes) => bytes,
+    };
+    write!(out, "{} {bytes:?}", handle.get_inner()).is_ok()
+}
+
+// Writes where a collection begins, how many nodes it has, and the one at a place.
+fn show_collection<'a, Q: QueryIterable<'a>>(
+    collection: &Q,
+    parser: &Parser<'a>,
+    place: usize,
+    out: &mut String,
+) -> bool {
+    let begun = write!(
+        out,
+        "{:?} {:?} ",
+        collection.start(),
+        collection.len(parser)
+    );
+    begun.is_ok() && show_item(collection.get(parser, place), out)
+}
+
+// A page, what is done to its document, what is asked of it, a place, and what is answered there.
+type Collection = (&'static str, &'static [Edit], Place, usize, &'static str);
+
+fn show_asked<'a>(
+    document: &VDom<'a>,
+    parser: &Parser<'a>,
+    row: &Collection,
+    out: &mut String,
+) -> bool {
+    match &row.2 {
+        Place::Document => show_collection(document, parser, row.3, out),
+        Place::Tag(number) => match NodeHandle::new(*number).get(document.parser()) {
+            Some(Node::Tag(tag)) => show_collection(tag, parser, row.3, out),
+            _ => false,
+        },
+    }
+}
+
+// By the document's own table, or by that of another document.
+fn is_asked<'a>(
+    alloc: Global,
+    document: &VDom<'a>,
+    handed: Option<&VDom<'a>>,
+    row: &Collection,
+) -> bool {
+    let mut out = String::new(alloc);
+    let parser = match handed {
+        Some(other) => other.parser(),
+        None => document.parser(),
+    };
+    show_asked(document, parser, row, &mut out) && out.as_str() == row.4
+}
+
+fn page_is_asked(alloc: Global, row: &Collection, keeps: bool) -> Result<bool, Fail> {
+    let mut document = read(alloc, row.0, ParserOptions::new(), keeps)?;
+    edit_all(&mut document, row.1)?;
+    Ok(is_asked(alloc, &document, None, row))
+}
+
+static COLLECTIONS: [Collection; 14] = [
+    ("", &[], Place::Document, 0, "Some(0) Ok(0) none"),
+    (
+        "<a><b>x</b></a><c></c>",
+        &[],
+        Place::Document,
+        0,
+        "Some(0) Ok(4) 0 Bytes(\"a\")",
+    ),
+    (
+        "<a><b>x</b></a><c></c>",
+        &[],
+        Place::Document,
+        3,
+        "Some(0) Ok(4) 3 Bytes(\"c\")",
+    ),
+    (
+        "<a><b>x</b></a><c></c>",
+        &[],
+        Place::Document,
+        4,
+        "Some(0) Ok(4) none",
+    ),
+    (
+        "<a><b>x</b></a><c></c>",
+        &[],
+        Place::Tag(0),
+        0,
+        "Some(1) Ok(2) 1 Bytes(\"b\")",
+    ),
+    (
+        "<a><b>x</b></a><c></c>",
+        &[],
+        Place::Tag(0),
+        1,
+        "Some(1) Ok(2) 2 Bytes(\"x\")",
+    ),
+    // A place past the range is looked up in the table.
+    (
+        "<a><b>x</b></a><c></c>",
+        &[],
+        Place::Tag(0),
+        2,
+        "Some(1) Ok(2) 3 Bytes(\"c\")",
+    ),
+    (
+        "<a><b>x</b></a><c></c>",
+        &[],
+        Place::Tag(0),
+        3,
+        "Some(1) Ok(2) none",
+    ),
+    (
+        "<a><b>x</b></a><c></c>",
+        &[],
+        Place::Tag(3),
+        0,
+        "None Ok(0) none",
+    ),
+    (
+        "<a><b></b></a><c></c>",
+        &[Edit::Pull(0, 0), Edit::Push(0, 2), Edit::Push(0, 1)],
+        Place::Tag(0),
+        0,
+        "Some(2) Ok(0) 2 Bytes(\"c\")",
+    ),
+    (
+        "<a></a>",
+        &[Edit::Push(0, 9)],
+        Place::Tag(0),
+        0,
+        "Some(9) Err(Dangling(NodeHandle(9))) none",
+    ),
+    (
+        "<a><b></b></a>",
+        &[Edit::Push(1, 0)],
+        Place::Tag(0),
+        0,
+        "Some(1) Err(Cycle(NodeHandle(1))) 1 Bytes(\"b\")",
+    ),
+    (
+        "<a></a><b></b>",
+        &[Edit::Push(1, 0)],
+        Place::Tag(1),
+        0,
+        "Some(0) Ok(1) 0 Bytes(\"a\")",
+    ),
+    (
+        "<a></a><b></b><c></c>",
+        &[Edit::Push(2, 1), Edit::Push(1, 0), Edit::Push(0, 9)],
+        Place::Tag(2),
+        0,
+        "Some(1) Err(Dangling(NodeHandle(9))) 1 Bytes(\"b\")",
+    ),
+];
+
+#[test]
+fn collections_are_asked(rt: HostRuntime) -> Result<(), Fail> {
+    for row in &COLLECTIONS {
+        let borrowed = page_is_asked(rt.alloc(), row, false)?;
+        assert!(rt; borrowed, "{} {:?}", row.0, row.4);
+        let kept = page_is_asked(rt.alloc(), row, true)?;
+        assert!(rt; kept, "{} {:?}, kept", row.0, row.4);
+    }
+    Ok(())
+}
+
+// The same by the table of a page of one text: a document counts by its own table, a tag by the handed one.
+static HANDED: [Collection; 4] = [
+    (
+        "<a><b></b></a>",
+        &[],
+        Place::Document,
+        0,
+        "Some(0) Ok(2) 0 Bytes(\"y\")",
+    ),
+    (
+        "<a><b></b></a>",
+        &[],
+        Place::Document,
+        1,
+        "Some(0) Ok(2) none",
+    ),
+    (
+        "<a><b></b></a>",
+        &[],
+        Place::Tag(0),
+        0,
+        "Some(1) Err(Dangling(NodeHandle(1))) none",
+    ),
+    ("<a></a>", &[], Place::Tag(0), 0, "None Ok(0) none"),
+];
+
+fn other_is_asked(alloc: Global, row: &Collection) -> Result<bool, Fail> {
+    let document = read(alloc, row.0, ParserOptions::new(), false)?;
+    let other = read(alloc, "y", ParserOptions::new(), false)?;
+    Ok(is_asked(alloc, &document, Some(&other), row))
+}
+
+#[test]
+fn collections_are_asked_by_another_table(rt: HostRuntime) -> Result<(), Fail> {
+    for row in &HANDED {
+        let holds = other_is_asked(rt.alloc(), row)?;
+        assert!(rt; holds, "{} {:?}", row.0, row.4);
     }
     Ok(())
 }
