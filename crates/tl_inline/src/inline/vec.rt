@@ -19,6 +19,9 @@ use std::fmt;
 use std::marker::Model;
 use std::ops::Index;
 
+// For how many more items there is room as they come to the heap, so that few small lists grow there.
+const MORE: usize = 4;
+
 /// A vector that keeps up to `N` items in the value itself. A push while `N` are held moves all of them to the heap,
 /// and there they stay, also when some are removed. `N` may be 0.
 ///
@@ -165,7 +168,7 @@ impl<T: Default + Drop, const N: usize> InlineVec<T, N> {
                     inline.push(item);
                     return Ok(());
                 }
-                let moved = move_out(self.alloc, inline, 1);
+                let moved = move_out(self.alloc, inline, MORE);
                 match moved {
                     Ok(mut heap) => {
                         heap.push_reserved(item);
