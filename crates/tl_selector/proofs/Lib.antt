@@ -1,3 +1,4 @@
+pub mod Chains
 pub mod Children
 pub mod Marked
 pub mod Numbers

@@ -1,3 +1,4 @@
 pub mod Found
 pub mod Marks
+pub mod Sides
 pub mod View

@@ -4,9 +4,10 @@ ghost use Rattle.std.specs.List.{position_from};
 ghost use Rattle.tl_spec.specs.Element.{name_of};
 ghost use Rattle.tl_spec.specs.Scan.{is_value, IsFirstPlace};
 ghost use Rattle.tl_spec.specs.SelectorSearch.{holds_alone};
+ghost use Rattle.tl_selector.specs.Sides.{first_part, others_hold};
 ghost use Rattle.tl_selector.specs.View.{selector};
 
-use crate::marks::holds_alone;
+use crate::matching::holds_alone;
 use crate::selector::Selector;
 use tl_element::Element;
 use tl_lookup::scan::{first_in_class, first_with_id};
@@ -27,39 +28,59 @@ fn first_passing<N: Element>(e: &Selector<'_>, nodes: &[N]) -> Option<usize>
     nodes.iter().position(|node| holds_alone(e, node))
 }
 
-// The same of a selector of which two parts have to hold: the second is asked only where the first holds. It stands apart, since
-// a function that calls itself would slow down the others.
-#[cycle(firsts)]
-#[inline(never)]
-fn first_joined<N: Element>(e: &Selector<'_>, nodes: &[N]) -> Option<usize>
+// The same of a part that is no `And`.
+fn first_of_part<N: Element>(part: &Selector<'_>, nodes: &[N]) -> Option<usize>
+    ensures first { IsFirstPlace (holds_alone (selector part.now)) (map N.node nodes.now) result }
+    ensures within { IfSome result (λ n. n < length nodes.now) }
+{
+    match part {
+        Selector::Tag(name) => first_named(nodes, name),
+        Selector::Id(id) => first_with_id(nodes, id),
+        Selector::Class(class) => first_in_class(nodes, class),
+        Selector::All if !nodes.is_empty() => Some(0),
+        _ => first_passing(part, nodes),
+    }
+}
+
+// The first of the parts that all have to hold.
+fn first_part<'e, 'a>(e: &'e Selector<'a>) -> &'e Selector<'a>
+    ensures { selector result.now ≡ first_part (selector e.entry.now) }
+{
+    let mut part = e;
+    'parts: while let Selector::And(a, _) = part {
+        part = a;
+    }
+    part
+}
+
+// Whether all the others hold at a node.
+fn others_hold<N: Element>(e: &Selector<'_>, node: &N) -> bool
+    ensures { result ≡ others_hold (selector e.now) (N.node node.now) }
+{
+    let mut whole = e;
+    'parts: while let Selector::And(a, b) = whole {
+        if !holds_alone(b, node) {
+            return false;
+        }
+        whole = a;
+    }
+    true
+}
+
+/// The place of the first node where the selector holds at the node alone, `None` where it holds at none. Of parts that all have
+/// to hold the others are asked only where the first holds.
+pub fn first_alone<N: Element>(e: &Selector<'_>, nodes: &[N]) -> Option<usize>
     ensures first { IsFirstPlace (holds_alone (selector e.now)) (map N.node nodes.now) result }
     ensures within { IfSome result (λ n. n < length nodes.now) }
 {
-    let Selector::And(a, b) = e else {
-        return first_passing(e, nodes);
-    };
+    let part = first_part(e);
     let mut from = 0;
     'candidates: while from < nodes.len() {
-        let place = from + first_alone(a, &nodes[from..])?;
-        if holds_alone(b, &nodes[place]) {
+        let place = from + first_of_part(part, &nodes[from..])?;
+        if others_hold(e, &nodes[place]) {
             return Some(place);
         }
         from = place + 1;
     }
     None
-}
-
-/// The place of the first node where the selector holds at the node alone, `None` where it holds at none.
-#[cycle(firsts)]
-pub fn first_alone<N: Element>(e: &Selector<'_>, nodes: &[N]) -> Option<usize>
-    ensures first { IsFirstPlace (holds_alone (selector e.now)) (map N.node nodes.now) result }
-    ensures within { IfSome result (λ n. n < length nodes.now) }
-{
-    match e {
-        Selector::Tag(name) => first_named(nodes, name),
-        Selector::Id(id) => first_with_id(nodes, id),
-        Selector::Class(class) => first_in_class(nodes, class),
-        Selector::All if !nodes.is_empty() => Some(0),
-        _ => first_joined(e, nodes),
-    }
 }

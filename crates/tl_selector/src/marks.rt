@@ -9,6 +9,7 @@ ghost use Rattle.tl_selector.specs.Marks.{is_among, is_at, is_in, mark_one, spre
 ghost use Rattle.tl_selector.specs.View.{selector};
 
 use crate::first::first_alone;
+use crate::matching::holds_alone;
 use crate::selector::Selector;
 use std::alloc::{AllocError, Global};
 use tl_element::Element;
@@ -17,10 +18,18 @@ use tl_element::Element;
 pub fn has_joint(e: &Selector<'_>) -> bool
     ensures { result ≡ has_joint (selector e.now) }
 {
-    match e {
-        Selector::And(a, b) | Selector::Or(a, b) => has_joint(a) || has_joint(b),
-        Selector::Descendant(_, _) | Selector::Parent(_, _) => true,
-        _ => false,
+    let mut whole = e;
+    'sides: loop {
+        match whole {
+            Selector::And(a, b) | Selector::Or(a, b) => {
+                if has_joint(b) {
+                    return true;
+                }
+                whole = a;
+            }
+            Selector::Descendant(_, _) | Selector::Parent(_, _) => return true,
+            _ => return false,
+        }
     }
 }
 
@@ -39,13 +48,6 @@ fn is_among(among: Option<&[bool]>, number: usize) -> bool
         Some(marks) => is_marked(marks, number),
         None => true,
     }
-}
-
-/// Whether the selector holds at the node alone.
-pub fn holds_alone<N: Element>(e: &Selector<'_>, node: &N) -> bool
-    ensures { result ≡ holds_alone (selector e.now) (N.node node.now) }
-{
-    e.matches(node)
 }
 
 /// Whether it holds at the node of a number alone: not past the last one.

@@ -1,8 +1,10 @@
 //! Where a selector holds at a node alone.
-ghost use Rattle.std.specs.Prelude.{IsTrue, ◌↔◌, ◌≡◌};
+ghost use Rattle.std.specs.Prelude.{IsTrue, ◌↔◌, ◌≡◌, false};
 ghost use Rattle.std.specs.Option.{option_copied, option_flatten};
 ghost use Rattle.tl_spec.specs.Element.{attribute_of};
 ghost use Rattle.tl_spec.specs.SelectorMeaning.{HoldsAlone};
+ghost use Rattle.tl_spec.specs.SelectorSearch.{holds_alone};
+ghost use Rattle.tl_selector.specs.Sides.{has_sides};
 ghost use Rattle.tl_selector.specs.View.{selector};
 
 use crate::selector::Selector;
@@ -14,31 +16,61 @@ impl<'a> Selector<'a> {
     pub fn matches<E: Element>(&self, node: &E) -> bool
         ensures { IsTrue result ↔ HoldsAlone (selector self.now) (E.node node.now) }
     {
-        match self {
-            Selector::Tag(name) => node.name() == Some(*name),
-            Selector::Id(id) => node.has_id(id),
-            Selector::Class(class) => node.is_in_class(class),
-            Selector::All => true,
-            Selector::And(a, b) => a.matches(node) && b.matches(node),
-            Selector::Or(a, b) => a.matches(node) || b.matches(node),
-            Selector::Descendant(_, _) | Selector::Parent(_, _) => false,
-            Selector::Attribute(key) => node.attribute(key).is_some(),
-            Selector::AttributeValue(key, value) => {
-                value_at(node, key).is_some_and(|own| is_same_text(own, value))
+        holds_alone(self, node)
+    }
+}
+
+/// Whether the selector holds at the node alone. First sides are gone along by a loop.
+pub fn holds_alone<E: Element>(e: &Selector<'_>, node: &E) -> bool
+    ensures { result ≡ holds_alone (selector e.now) (E.node node.now) }
+{
+    let mut whole = e;
+    'sides: loop {
+        match whole {
+            Selector::And(a, b) => {
+                if !holds_alone(b, node) {
+                    return false;
+                }
+                whole = a;
             }
-            Selector::AttributeValueWhitespacedContains(key, value) => {
-                value_at(node, key).is_some_and(|own| has_word(own, value))
+            Selector::Or(a, b) => {
+                if holds_alone(b, node) {
+                    return true;
+                }
+                whole = a;
             }
-            Selector::AttributeValueStartsWith(key, value) => {
-                value_at(node, key).is_some_and(|own| begins_with(own, value))
-            }
-            Selector::AttributeValueEndsWith(key, value) => {
-                value_at(node, key).is_some_and(|own| ends_with(own, value))
-            }
-            Selector::AttributeValueSubstring(key, value) => {
-                value_at(node, key).is_some_and(|own| has_part(own, value))
-            }
+            Selector::Descendant(_, _) | Selector::Parent(_, _) => return false,
+            _ => return is_met(whole, node),
         }
+    }
+}
+
+// The same of one that has no sides.
+fn is_met<E: Element>(e: &Selector<'_>, node: &E) -> bool
+    ensures { has_sides (selector e.now) ≡ false → (IsTrue result ↔ HoldsAlone (selector e.now) (E.node node.now)) }
+{
+    match e {
+        Selector::Tag(name) => node.name() == Some(*name),
+        Selector::Id(id) => node.has_id(id),
+        Selector::Class(class) => node.is_in_class(class),
+        Selector::All => true,
+        Selector::Attribute(key) => node.attribute(key).is_some(),
+        Selector::AttributeValue(key, value) => {
+            value_at(node, key).is_some_and(|own| is_same_text(own, value))
+        }
+        Selector::AttributeValueWhitespacedContains(key, value) => {
+            value_at(node, key).is_some_and(|own| has_word(own, value))
+        }
+        Selector::AttributeValueStartsWith(key, value) => {
+            value_at(node, key).is_some_and(|own| begins_with(own, value))
+        }
+        Selector::AttributeValueEndsWith(key, value) => {
+            value_at(node, key).is_some_and(|own| ends_with(own, value))
+        }
+        Selector::AttributeValueSubstring(key, value) => {
+            value_at(node, key).is_some_and(|own| has_part(own, value))
+        }
+        _ => false,
     }
 }
 

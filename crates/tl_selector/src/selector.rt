@@ -1,11 +1,13 @@
 //! Selectors as values.
-ghost use Rattle.std.specs.Prelude.{◌≡◌, IfOk};
+ghost use Rattle.std.specs.Prelude.{◌≡◌};
 ghost use Rattle.tl_selector.specs.View.{selector};
 
+use crate::copies::copied;
+use crate::show::show;
 use std::alloc::AllocError;
+use std::fmt;
 
 /// A test of a node. Its names, keys and values are bytes, in exact case.
-#[derive(Debug, Drop)]
 pub enum Selector<'a> {
     /// A tag of this name.
     Tag(&'a [u8]),
@@ -37,6 +39,31 @@ pub enum Selector<'a> {
     AttributeValueSubstring(&'a [u8], &'a [u8]),
 }
 
+// Chains are nested to the left: the first sides are gone along by a loop, as long as a chain may be. A second side is dropped
+// by a call of its own.
+impl<'a> Drop for Selector<'a> {
+    fn drop(mut self) {
+        'sides: loop {
+            match self {
+                Selector::And(a, _b)
+                | Selector::Or(a, _b)
+                | Selector::Descendant(a, _b)
+                | Selector::Parent(a, _b) => self = Box::into_inner(a),
+                Selector::Tag(_)
+                | Selector::Id(_)
+                | Selector::Class(_)
+                | Selector::All
+                | Selector::Attribute(_)
+                | Selector::AttributeValue(_, _)
+                | Selector::AttributeValueWhitespacedContains(_, _)
+                | Selector::AttributeValueStartsWith(_, _)
+                | Selector::AttributeValueEndsWith(_, _)
+                | Selector::AttributeValueSubstring(_, _) => return,
+            }
+        }
+    }
+}
+
 impl<'a> Clone for Selector<'a> {
     ghost is_clone = { λ e copy. selector copy ≡ selector e };
 
@@ -45,40 +72,8 @@ impl<'a> Clone for Selector<'a> {
     }
 }
 
-// The same selector, joined parts in boxes of their own.
-#[cycle(copies)]
-fn copied<'a>(e: &Selector<'a>) -> Result<Selector<'a>, AllocError>
-    ensures { IfOk result (λ f. selector f ≡ selector e.now) }
-{
-    Ok(match e {
-        Selector::Tag(name) => Selector::Tag(name),
-        Selector::Id(id) => Selector::Id(id),
-        Selector::Class(class) => Selector::Class(class),
-        Selector::All => Selector::All,
-        Selector::And(a, b) => Selector::And(boxed(a)?, boxed(b)?),
-        Selector::Or(a, b) => Selector::Or(boxed(a)?, boxed(b)?),
-        Selector::Descendant(a, b) => Selector::Descendant(boxed(a)?, boxed(b)?),
-        Selector::Parent(a, b) => Selector::Parent(boxed(a)?, boxed(b)?),
-        Selector::Attribute(key) => Selector::Attribute(key),
-        Selector::AttributeValue(key, value) => Selector::AttributeValue(key, value),
-        Selector::AttributeValueWhitespacedContains(key, value) => {
-            Selector::AttributeValueWhitespacedContains(key, value)
-        }
-        Selector::AttributeValueStartsWith(key, value) => {
-            Selector::AttributeValueStartsWith(key, value)
-        }
-        Selector::AttributeValueEndsWith(key, value) => {
-            Selector::AttributeValueEndsWith(key, value)
-        }
-        Selector::AttributeValueSubstring(key, value) => {
-            Selector::AttributeValueSubstring(key, value)
-        }
-    })
-}
-
-#[cycle(copies)]
-fn boxed<'a>(e: &Box<Selector<'a>>) -> Result<Box<Selector<'a>>, AllocError>
-    ensures { IfOk result (λ f. selector f.value ≡ selector e.now.value) }
-{
-    Ok(Box::new(*Box::allocator(e), copied(e)?)?)
+impl<'a> fmt::Debug for Selector<'a> {
+    fn fmt<W: fmt::Write>(&self, f: &mut fmt::Formatter<W>) -> fmt::Result {
+        show(self, f)
+    }
 }

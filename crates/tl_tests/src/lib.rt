@@ -4,6 +4,8 @@
 #[cfg(test)]
 mod attributes;
 #[cfg(test)]
+mod chains;
+#[cfg(test)]
 mod edits;
 #[cfg(test)]
 mod errors;

@@ -221,6 +221,9 @@ fn clones_are_alike(rt: HostRuntime) -> Result<(), Fail> {
     }
     let selector = parse_query_selector(alloc, "a > b")?;
     let debug = format!(in alloc; "{selector:?}")?;
-    assert_eq!(rt; debug.as_str(), "Some(Parent(Tag([97]), Tag([98])))");
+    assert_eq!(rt;
+        debug.as_str(),
+        "Some(Parent { second: Tag([98]), first: Tag([97]) })"
+    );
     Ok(())
 }

@@ -1,0 +1,67 @@
+-- The sides of joined selectors.
+use Rattle.std.proofs.Common.{◌≡◌, ◌&&◌, ◌||◌, ℕ, Bool, true, false, List, [], ◌∷◌, ◌++◌, Option, map, refl, sym, ap, subst, ◌∙◌}
+use Rattle.std.proofs.lemmas.List.{map-append}
+use denote.Ref.{Bor}
+use Rattle.tl_spec.specs.Scan.{IsFirstPlace}
+use Rattle.tl_spec.specs.Document.{Node}
+use Rattle.tl_spec.specs.Selector.{Selector, Tag, Id, Class, All, And, Or, Descendant, Parent, Attribute, AttributeValue, AttributeValueWhitespacedContains, AttributeValueStartsWith, AttributeValueEndsWith, AttributeValueSubstring}
+use Rattle.tl_spec.specs.SelectorSearch.{holds_alone}
+use Rattle.tl_selector.specs.Sides.{with_first, nested_in, selectors, first_part, others_hold}
+use Rattle.tl_selector.specs.View.{selector}
+use Rattle.tl_selector.specs.declared.selector.Selector as declared
+
+-- what stands in the last of a list
+pub nested_more : (xs : List Selector) (x e : Selector) → nested_in (xs ++ x ∷ []) e ≡ nested_in xs (with_first x e)
+nested_more [] x e = refl
+nested_more (y ∷ xs) x e = ap (with_first y) (nested_more xs x e)
+
+and-true : (b : Bool) → b ≡ (b && true)
+and-true true = refl
+and-true false = refl
+
+and-assoc : (a b c : Bool) → ((a && b) && c) ≡ (a && (b && c))
+and-assoc true b c = refl
+and-assoc false b c = refl
+
+-- a selector holds alone where its first part does, and all the others do
+pub parts_hold : (e : Selector) (node : Node) → holds_alone e node ≡ (holds_alone (first_part e) node && others_hold e node)
+parts_hold (And a b) node = ap (λ h. h && holds_alone b node) (parts_hold a node) ∙ and-assoc (holds_alone (first_part a) node) (others_hold a node) (holds_alone b node)
+parts_hold (Or a b) node = and-true (holds_alone (Or a b) node)
+parts_hold (Descendant a b) node = refl
+parts_hold (Parent a b) node = refl
+parts_hold (Tag name) node = and-true (holds_alone (Tag name) node)
+parts_hold (Id id) node = and-true (holds_alone (Id id) node)
+parts_hold (Class member) node = and-true (holds_alone (Class member) node)
+parts_hold All node = refl
+parts_hold (Attribute key) node = and-true (holds_alone (Attribute key) node)
+parts_hold (AttributeValue key value) node = and-true (holds_alone (AttributeValue key value) node)
+parts_hold (AttributeValueWhitespacedContains key value) node = and-true (holds_alone (AttributeValueWhitespacedContains key value) node)
+parts_hold (AttributeValueStartsWith key value) node = and-true (holds_alone (AttributeValueStartsWith key value) node)
+parts_hold (AttributeValueEndsWith key value) node = and-true (holds_alone (AttributeValueEndsWith key value) node)
+parts_hold (AttributeValueSubstring key value) node = and-true (holds_alone (AttributeValueSubstring key value) node)
+
+-- what is first where both hold is first where the selector does
+pub first_by_parts : (e part : Selector) (xs : List Node) (first : Option ℕ) → part ≡ first_part e → IsFirstPlace (λ x. holds_alone part x && others_hold e x) xs first → IsFirstPlace (holds_alone e) xs first
+first_by_parts e part xs first h f =
+    let tests : (λ (x : Node). holds_alone (first_part e) x && others_hold e x) ≡ holds_alone e = λ i x. sym (parts_hold e x) i in
+    subst (λ t. IsFirstPlace t xs first) tests (subst (λ p. IsFirstPlace (λ x. holds_alone p x && others_hold e x) xs first) h f)
+
+pub and_fails : (a b : Bool) → b ≡ false → (a && b) ≡ false
+and_fails true b h = h
+and_fails false b h = refl
+
+pub and_second : (a b : Bool) → b ≡ true → (a && b) ≡ a
+and_second true b h = h
+and_second false b h = refl
+
+pub or_holds : (a b : Bool) → b ≡ true → (a || b) ≡ true
+or_holds true b h = refl
+or_holds false b h = h
+
+pub or_second : (a b : Bool) → b ≡ false → (a || b) ≡ a
+or_second true b h = refl
+or_second false b h = h
+
+-- one more whole, of which the next is the first side
+pub selectors_more : (refs : List (Bor declared.Selector)) (x : Bor declared.Selector) (e : Selector) → nested_in (selectors (refs ++ x ∷ [])) e ≡ nested_in (selectors refs) (with_first (selector x.now) e)
+selectors_more refs x e = ap (λ xs. nested_in xs e) (map-append (λ (r : Bor declared.Selector). selector r.now) refs (x ∷ [])) ∙ nested_more (selectors refs) (selector x.now) e

@@ -1,0 +1,98 @@
+//! Selectors of some hundred parts: what queries by them and by their clones give.
+use std::alloc::Global;
+use std::fmt::Write;
+use std::test::Fail;
+use tl::queryselector::{QuerySelectorIterator, Selector};
+use tl::{ParserOptions, VDom, parse, parse_query_selector};
+
+// What is repeated, and how often.
+type Repeated = (&'static str, u32);
+
+// The parts of a text, what stands after them, the page, and the nodes that are found, `none` where the text is no selector.
+type Row = (Repeated, &'static str, Repeated, &'static str);
+
+const PAGE: Repeated = ("<p class=a></p><b></b>", 2);
+
+// Of these tags, each below the one before it, the last has 299 ancestors.
+const TOWER: Repeated = ("<a>", 300);
+
+static ROWS: [Row; 14] = [
+    ((".a", 300), "", PAGE, "0 2 "),
+    ((".a", 300), "b", PAGE, ""),
+    (("p", 1), ".a.a.a.a", PAGE, "0 2 "),
+    (("* ", 300), "", TOWER, "299 "),
+    (("* ", 301), "", TOWER, ""),
+    (("* > ", 299), "*", TOWER, "299 "),
+    (("* > ", 300), "*", TOWER, ""),
+    (("i, ", 299), "b", PAGE, "1 3 "),
+    (("i i.a > i, ", 99), "b", PAGE, "1 3 "),
+    (("q ", 300), "a", TOWER, ""),
+    ((".a", 300), ",", PAGE, "none"),
+    (("* ", 300), "!", PAGE, "none"),
+    (("* > ", 300), "", PAGE, "none"),
+    (("i, ", 300), "", PAGE, "none"),
+];
+
+fn repeated(alloc: Global, repeated: &Repeated, end: &str) -> Result<String, Fail> {
+    let mut text = String::new(alloc);
+    for _ in 0..repeated.1 {
+        text.push_str(repeated.0)?;
+    }
+    text.push_str(end)?;
+    Ok(text)
+}
+
+// Writes the numbers of the nodes where it holds.
+fn show_found(document: &VDom<'_>, selector: Selector<'_>, out: &mut String) -> bool {
+    match QuerySelectorIterator::new(selector, document.parser(), document) {
+        Ok(found) => {
+            for handle in found {
+                if write!(out, "{} ", handle.get_inner()).is_err() {
+                    return false;
+                }
+            }
+            true
+        }
+        Err(_) => false,
+    }
+}
+
+// Whether a selector and its clone, which have one debug text, give these nodes.
+fn are_found(
+    alloc: Global,
+    document: &VDom<'_>,
+    selector: Selector<'_>,
+    wanted: &str,
+) -> Result<bool, Fail> {
+    let twin = selector.clone()?;
+    let shown = format!(in alloc; "{selector:?}")?;
+    let twin_shown = format!(in alloc; "{twin:?}")?;
+    let mut found = String::new(alloc);
+    let mut twin_found = String::new(alloc);
+    Ok(
+        show_found(document, selector, &mut found)
+            && show_found(document, twin, &mut twin_found)
+            && shown.as_str() == twin_shown.as_str()
+            && found.as_str() == wanted
+            && twin_found.as_str() == wanted,
+    )
+}
+
+fn row_is_found(alloc: Global, row: &Row) -> Result<bool, Fail> {
+    let text = repeated(alloc, &row.0, row.1)?;
+    let page = repeated(alloc, &row.2, "")?;
+    let document = parse(alloc, page.as_str(), ParserOptions::new())?;
+    match parse_query_selector(alloc, text.as_str())? {
+        Some(selector) => are_found(alloc, &document, selector, row.3),
+        None => Ok(row.3 == "none"),
+    }
+}
+
+#[test]
+fn chains_are_found(rt: HostRuntime) -> Result<(), Fail> {
+    for row in &ROWS {
+        let is_found = row_is_found(rt.alloc(), row)?;
+        assert!(rt; is_found, "{:?} {:?}", row.0, row.1);
+    }
+    Ok(())
+}
