@@ -1,6 +1,8 @@
 -- The sides of joined selectors.
-use Rattle.std.proofs.Common.{◌≡◌, ◌&&◌, ◌||◌, ℕ, Bool, true, false, List, [], ◌∷◌, ◌++◌, Option, map, refl, sym, ap, subst, ◌∙◌}
+use Rattle.std.proofs.Common.{◌≡◌, ◌≤◌, ◌&&◌, ◌||◌, ℕ, Bool, true, false, List, [], ◌∷◌, ◌++◌, Option, map, refl, sym, ap, subst, ◌∙◌, arith}
 use Rattle.std.proofs.lemmas.List.{map-append}
+use Rattle.std.specs.List.{All as AllOf}
+use Rattle.std.proofs.lemmas.List.Elements.{All-push, All-same}
 use denote.Ref.{Bor}
 use Rattle.tl_spec.specs.Scan.{IsFirstPlace}
 use Rattle.tl_spec.specs.Document.{Node}
@@ -8,7 +10,10 @@ use Rattle.tl_spec.specs.Selector.{Selector, Tag, Id, Class, All, And, Or, Desce
 use Rattle.tl_spec.specs.SelectorSearch.{holds_alone}
 use Rattle.tl_selector.specs.Sides.{with_first, nested_in, selectors, first_part, others_hold}
 use Rattle.tl_selector.specs.View.{selector}
+use Rattle.tl_selector.specs.declared.selector.Selector.{size-Selector}
 use Rattle.tl_selector.specs.declared.selector.Selector as declared
+use Rattle.tl_selector.specs.declared.selector.Selector.TheVariants.{And', Or', Descendant', Parent'}
+use Rattle.tl_selector.specs.declared.selector.Selector.TheViews.{deep-And', deep-Or', deep-Descendant', deep-Parent'}
 
 -- what stands in the last of a list
 pub nested_more : (xs : List Selector) (x e : Selector) → nested_in (xs ++ x ∷ []) e ≡ nested_in xs (with_first x e)
@@ -65,3 +70,30 @@ or_second false b h = h
 -- one more whole, of which the next is the first side
 pub selectors_more : (refs : List (Bor declared.Selector)) (x : Bor declared.Selector) (e : Selector) → nested_in (selectors (refs ++ x ∷ [])) e ≡ nested_in (selectors refs) (with_first (selector x.now) e)
 selectors_more refs x e = ap (λ xs. nested_in xs e) (map-append (λ (r : Bor declared.Selector). selector r.now) refs (x ∷ [])) ∙ nested_more (selectors refs) (selector x.now) e
+
+-- one step further in: the first side of what was innermost is innermost now
+pub further_in : (e : Selector) (refs grown : List (Bor declared.Selector)) (first inner : Bor declared.Selector) → grown ≡ refs ++ first ∷ [] → with_first (selector first.now) (selector inner.now) ≡ selector first.now → nested_in (selectors refs) (selector first.now) ≡ e → nested_in (selectors grown) (selector inner.now) ≡ e
+further_in e refs grown first inner g h w =
+    subst (λ (xs : List (Bor declared.Selector)). nested_in (selectors xs) (selector inner.now) ≡ e) (sym g) (selectors_more refs first (selector inner.now) ∙ ap (nested_in (selectors refs)) h ∙ w)
+
+-- and none of the wholes is larger than the outermost
+pub no_larger : (bound : ℕ) (refs grown : List (Bor declared.Selector)) (first : Bor declared.Selector) → grown ≡ refs ++ first ∷ [] → AllOf (λ (x : Bor declared.Selector). size-Selector x.now ≤ bound) refs → size-Selector first.now ≤ bound → AllOf (λ (x : Bor declared.Selector). size-Selector x.now ≤ bound) grown
+no_larger bound refs grown first g h d =
+    let P = λ (x : Bor declared.Selector). size-Selector x.now ≤ bound in
+    All-same P grown (refs ++ first ∷ []) g (All-push P refs first h d)
+
+-- the first side in the code, the selector itself where it has none
+abbrev pub first_of : declared.Selector → declared.Selector
+first_of (And' p a q b) = a
+first_of (Or' p a q b) = a
+first_of (Descendant' p a q b) = a
+first_of (Parent' p a q b) = a
+first_of e = e
+
+-- it is no larger
+pub first_no_larger : (e : declared.Selector) → size-Selector (first_of e) ≤ size-Selector e
+first_no_larger (And' p a q b) = omega (arith, deep-And' p a q b)
+first_no_larger (Or' p a q b) = omega (arith, deep-Or' p a q b)
+first_no_larger (Descendant' p a q b) = omega (arith, deep-Descendant' p a q b)
+first_no_larger (Parent' p a q b) = omega (arith, deep-Parent' p a q b)
+first_no_larger e = omega arith

@@ -9,4 +9,5 @@ mod matching;
 mod node_test;
 pub mod selector;
 mod show;
+mod sides;
 pub mod table;

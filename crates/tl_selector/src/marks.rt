@@ -1,16 +1,21 @@
 //! A mark for each node where a selector holds. Each part of the selector costs a pass over the nodes and their
 //! children, however deep the table is and however often a node stands among children.
-ghost use Rattle.std.specs.Prelude.{◌≡◌, ◌↔◌, ℕ, List, IsTrue, IsOk, IfOk, OnOk, length, true, false, map, slice_get, ◌&&◌, ◌||◌};
+ghost use Rattle.std.specs.Prelude.{◌≡◌, ◌≤◌, ◌↔◌, ℕ, List, IsTrue, IsOk, IfOk, OnOk, None, length, true, false, map, slice_get, ◌&&◌, ◌||◌};
+ghost use Rattle.std.specs.List.{All};
 ghost use Rattle.std.specs.Option.{option_copied, option_map_or};
 ghost use Rattle.tl_spec.specs.Element.{children_of};
 ghost use Rattle.tl_spec.specs.SelectorMeaning.{Holds, has_joint};
 ghost use Rattle.tl_spec.specs.SelectorSearch.{holds_alone};
 ghost use Rattle.tl_selector.specs.Marks.{is_among, is_at, is_in, mark_one, spread, child_at, children_at, IsUnderMark, IsBelowMark, AreMarks};
+ghost use Rattle.tl_selector.specs.Sides.{has_sides, nested_in, selectors, with_first};
 ghost use Rattle.tl_selector.specs.View.{selector};
+ghost use Rattle.tl_selector.specs.declared.selector.Selector.{size-Selector};
+ghost use Rattle.tl_spec.specs.Selector.{Selector as SelectorOf};
 
 use crate::first::first_alone;
 use crate::matching::holds_alone;
 use crate::selector::Selector;
+use crate::sides::has_sides;
 use std::alloc::{AllocError, Global};
 use tl_element::Element;
 
@@ -222,8 +227,109 @@ fn joins_nothing<N: Element>(e: &Selector<'_>, nodes: &[N]) -> bool
     }
 }
 
+// The selectors that stand in one another as first sides, from the outermost on, and the innermost that is looked at: one
+// without sides, or a joint that holds nowhere.
+fn looked_at<'e, 'a, N: Element>(
+    alloc: Global,
+    nodes: &[N],
+    e: &'e Selector<'a>,
+) -> Result<(Vec<&'e Selector<'a>>, &'e Selector<'a>), AllocError>
+    ensures whole { IfOk result (λ way. nested_in (selectors way.0.items) (selector way.1.now) ≡ selector e.entry.now) }
+    ensures innermost { IfOk result (λ way. has_sides (selector way.1.now) ≡ true → (n : ℕ) → Holds (map N.node nodes.now) (selector way.1.now) n → ⊥) }
+    ensures depth { IfOk result (λ way. All (λ x. size-Selector x.now ≤ size-Selector e.entry.now) way.0.items) }
+{
+    let mut wholes = Vec::new(alloc);
+    let mut first = e;
+    'inwards: while !joins_nothing(first, nodes) {
+        match first {
+            Selector::And(a, _) => {
+                wholes.push(first)?;
+                first = a;
+            }
+            Selector::Or(a, _) => {
+                wholes.push(first)?;
+                first = a;
+            }
+            Selector::Descendant(a, _) => {
+                wholes.push(first)?;
+                first = a;
+            }
+            Selector::Parent(a, _) => {
+                wholes.push(first)?;
+                first = a;
+            }
+            _ => return Ok((wholes, first)),
+        }
+    }
+    Ok((wholes, first))
+}
+
+// The marks of one that has no sides, or holds nowhere.
+fn marks_innermost<N: Element>(
+    alloc: Global,
+    nodes: &[N],
+    e: &Selector<'_>,
+) -> Result<Vec<bool>, AllocError>
+    requires { has_sides (selector e.now) ≡ true → (n : ℕ) → Holds (map N.node nodes.now) (selector e.now) n → ⊥ }
+    ensures { IfOk result (λ marks. AreMarks None (selector e.now) (map N.node nodes.now) marks.items) }
+{
+    if has_sides(e) {
+        return vec![in alloc; false; nodes.len()];
+    }
+    marks_alone(alloc, nodes, None, e)
+}
+
+// The marks of a selector from those of its first side. Where both sides have to hold the second is asked only where the first holds.
+#[cycle(marks)]
+fn marks_around<N: Element>(
+    alloc: Global,
+    nodes: &[N],
+    mut first: Vec<bool>,
+    e: &Selector<'_>,
+) -> Result<Vec<bool>, AllocError>
+    requires { length first.items ≡ length nodes.now }
+    ensures { (a : SelectorOf) → AreMarks None a (map N.node nodes.now) first.items → IfOk result (λ marks. AreMarks None (with_first (selector e.now) a) (map N.node nodes.now) marks.items) }
+{
+    match e {
+        Selector::And(_, b) => marks(alloc, nodes, Some(&first), b),
+        Selector::Or(_, b) => {
+            let second = marks(alloc, nodes, None, b)?;
+            unite(&mut first, &second);
+            Ok(first)
+        }
+        Selector::Descendant(_, b) => {
+            let lower = below(alloc, nodes, &first)?;
+            marks(alloc, nodes, Some(&lower), b)
+        }
+        Selector::Parent(_, b) => {
+            let lower = under(alloc, nodes, &first)?;
+            marks(alloc, nodes, Some(&lower), b)
+        }
+        _ => Ok(first),
+    }
+}
+
+// The marks of a selector, where every node is in question: first of the innermost of its first sides, then of what that stands in,
+// from the inside out.
+#[cycle(marks)]
+fn marks_of_all<N: Element>(
+    alloc: Global,
+    nodes: &[N],
+    e: &Selector<'_>,
+) -> Result<Vec<bool>, AllocError>
+    ensures { IfOk result (λ marks. AreMarks None (selector e.now) (map N.node nodes.now) marks.items) }
+{
+    let (mut wholes, first) = looked_at(alloc, nodes, e)?;
+    let mut marks = marks_innermost(alloc, nodes, first)?;
+    'outwards: while let Some(whole) = wholes.pop() {
+        marks = marks_around(alloc, nodes, marks, whole)?;
+    }
+    Ok(marks)
+}
+
 /// A mark for each node in question where the selector holds. In question are the nodes that `among` marks, and where it is
-/// `None` all: so the second of two parts is asked only where the first holds.
+/// `None` all.
+#[cycle(marks)]
 pub fn marks<N: Element>(
     alloc: Global,
     nodes: &[N],
@@ -232,34 +338,12 @@ pub fn marks<N: Element>(
 ) -> Result<Vec<bool>, AllocError>
     ensures { IfOk result (λ marks. AreMarks (option_copied among.entry) (selector e.now) (map N.node nodes.now) marks.items) }
 {
-    if joins_nothing(e, nodes) {
-        return vec![in alloc; false; nodes.len()];
+    if !has_sides(e) {
+        return marks_alone(alloc, nodes, among, e);
     }
-    match e {
-        Selector::And(a, b) => {
-            let first = marks(alloc, nodes, among, a)?;
-            marks(alloc, nodes, Some(&first), b)
-        }
-        Selector::Or(a, b) => {
-            let mut first = marks(alloc, nodes, among, a)?;
-            let second = marks(alloc, nodes, among, b)?;
-            unite(&mut first, &second);
-            Ok(first)
-        }
-        Selector::Descendant(a, b) => {
-            let above = marks(alloc, nodes, None, a)?;
-            let mut lower = below(alloc, nodes, &above)?;
-            keep_among(&mut lower, among);
-            marks(alloc, nodes, Some(&lower), b)
-        }
-        Selector::Parent(a, b) => {
-            let above = marks(alloc, nodes, None, a)?;
-            let mut lower = under(alloc, nodes, &above)?;
-            keep_among(&mut lower, among);
-            marks(alloc, nodes, Some(&lower), b)
-        }
-        _ => marks_alone(alloc, nodes, among, e),
-    }
+    let mut marks = marks_of_all(alloc, nodes, e)?;
+    keep_among(&mut marks, among);
+    Ok(marks)
 }
 
 /// Whether the selector holds at the node of a number.
