@@ -1,5 +1,5 @@
 //! What is kept under one id, and under one member of classes.
-ghost use Rattle.std.specs.Prelude.{◌≡◌, OnOk, OnErr, Some, None, if◌then◌else◌};
+ghost use Rattle.std.specs.Prelude.{◌≡◌, true, OnOk, OnErr, Some, None, IsOk, IsSome, if◌then◌else◌};
 ghost use Rattle.std.specs.Map.{lookup};
 ghost use Rattle.std.specs.Option.{option_or};
 ghost use Rattle.tl_tracking.specs.Tracking.{class_at, ends_with, with_number};
@@ -23,6 +23,7 @@ pub(crate) fn keep_first<B: Piece + Drop>(
 ) -> Result<(), AllocError>
     ensures ok { OnOk result ((key : B) → lookup (B.eq key) ids.new.entries ≡ option_or (lookup (B.eq key) ids.old.entries) (if B.eq key id then Some number else None)) }
     ensures err { OnErr result (ids.new.entries ≡ ids.old.entries) }
+    ensures known { IsSome (lookup (B.eq id) ids.old.entries) → IsOk result }
 {
     if !ids.contains_key(&id) {
         ids.insert(id, number)?;
@@ -44,6 +45,7 @@ fn is_last(numbers: &[u32], number: u32) -> bool
 fn add_last(numbers: &mut InlineVec<u32, 2>, number: u32) -> Result<(), AllocError>
     ensures ok { OnOk result (numbers.new.items ≡ with_number number numbers.old.items) }
     ensures err { OnErr result (numbers.new ≡ numbers.old) }
+    ensures repeated { ends_with number numbers.old.items ≡ true → IsOk result }
 {
     if is_last(numbers.as_slice(), number) {
         return Ok(());
@@ -63,6 +65,7 @@ pub(crate) fn add_member<B: Piece + Drop>(
 ) -> Result<(), AllocError>
     ensures ok { OnOk result ((key : B) → class_at B.eq classes.new.entries key ≡ (if B.eq key member then with_number number (class_at B.eq classes.old.entries key) else class_at B.eq classes.old.entries key)) }
     ensures err { OnErr result (classes.new.entries ≡ classes.old.entries) }
+    ensures repeated { ends_with number (class_at B.eq classes.old.entries member) ≡ true → IsOk result }
 {
     match classes.get_mut(&member) {
         Some(numbers) => add_last(numbers, number),

@@ -1,8 +1,8 @@
 //! The maps.
-ghost use Rattle.std.specs.Prelude.{◌≡◌, List, ℕ, ◌∷◌, [], ◌++◌, length, is_some, OnOk, OnErr, Some, None, IsOk, IsSome};
+ghost use Rattle.std.specs.Prelude.{◌≡◌, ◌≢◌, List, ℕ, true, ◌∷◌, [], ◌++◌, length, is_some, OnOk, OnErr, Some, None, IsOk, IsSome, IfSome};
 ghost use Rattle.tl_spec.specs.Document.{Node};
 ghost use Rattle.tl_spec.specs.Scan.{id_of, id_scan, class_scan};
-ghost use Rattle.tl_tracking.specs.Tracking.{TracksIds, TracksMembers, TracksClasses, nothing_noted, id_in, class_in, numbers_lent};
+ghost use Rattle.tl_tracking.specs.Tracking.{TracksIds, TracksMembers, TracksClasses, nothing_noted, ends_with, id_in, class_in, numbers_lent};
 
 use crate::numbers::{Classes, Ids, add_member, keep_first};
 use std::alloc::{AllocError, Global};
@@ -78,8 +78,21 @@ impl<B: Piece> TrackingOf<B> {
     pub fn class(&self, member: &B) -> Option<&[u32]>
         ensures value { numbers_lent result ≡ class_in B.eq self.now.classes member.now }
         ensures scan { (nodes : List Node) → IsSome self.now.classes → TracksClasses B.list B.eq self.now.classes nodes → numbers_lent result ≡ class_scan nodes (B.list member.now) }
+
+        // An answer is never an empty list,
+        ensures none { IfSome result (λ numbers. numbers.now ≢ []) }
+
+        // so it is `None` for a member that no tag has,
+        ensures unknown { class_in B.eq self.now.classes member.now ≡ [] → result ≡ None }
+
+        // and for each where classes are not tracked.
+        ensures untracked { self.now.classes ≡ None → result ≡ None }
     {
-        Some(self.classes.as_ref()?.get(member)?.as_slice())
+        let numbers = self.classes.as_ref()?.get(member)?.as_slice();
+        if numbers.is_empty() {
+            return None;
+        }
+        Some(numbers)
     }
 }
 
@@ -93,6 +106,12 @@ impl<B: Piece + Drop> TrackingOf<B> {
 
         // Where ids are not tracked a note takes no memory.
         ensures succeeds { self.old.ids ≡ None → IsOk result }
+
+        // Nor does one of an id that is there,
+        ensures known { IsSome (id_in B.eq self.old.ids id) → IsOk result }
+
+        // and what is under an id stays.
+        ensures kept { (key : B) (first : ℕ) → id_in B.eq self.old.ids key ≡ Some first → id_in B.eq self.new.ids key ≡ Some first }
     {
         let Some(ids) = &mut self.ids else {
             return Ok(());
@@ -109,6 +128,9 @@ impl<B: Piece + Drop> TrackingOf<B> {
 
         // Where classes are not tracked a note takes no memory.
         ensures succeeds { self.old.classes ≡ None → IsOk result }
+
+        // Nor does one of a member that was noted last for this tag.
+        ensures repeated { ends_with number (class_in B.eq self.old.classes member) ≡ true → IsOk result }
     {
         let Some(classes) = &mut self.classes else {
             return Ok(());
