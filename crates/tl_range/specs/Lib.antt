@@ -1,3 +1,4 @@
 pub mod RangeError
 pub mod Way
 pub mod Climb
+pub mod Fault

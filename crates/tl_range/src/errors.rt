@@ -1,6 +1,7 @@
 //! Why a range has no end.
 ghost use Rattle.std.specs.Prelude.{◌≡◌};
 ghost use Rattle.tl_range.specs.declared.errors.RangeError.TheVariants.{OutOfMemory as RangeMemory};
+ghost use Rattle.tl_range.specs.Fault.{range_error};
 
 use std::alloc::AllocError;
 
@@ -20,5 +21,22 @@ impl From<AllocError> for RangeError {
 
     fn from(_: AllocError) -> Self {
         RangeError::OutOfMemory
+    }
+}
+
+// Why the way has no end over marks that are there already: want of memory is no reason.
+pub(crate) enum Fault {
+    Dangling(u32),
+    Cycle(u32),
+}
+
+impl From<Fault> for RangeError {
+    ghost from_gives = { λ fault e. e ≡ range_error fault };
+
+    fn from(fault: Fault) -> Self {
+        match fault {
+            Fault::Dangling(handle) => RangeError::Dangling(handle),
+            Fault::Cycle(handle) => RangeError::Cycle(handle),
+        }
     }
 }

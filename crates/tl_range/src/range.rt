@@ -29,10 +29,7 @@ pub fn end<N: Element>(
     match climb(nodes, first) {
         Stop::End(handle) => Ok(Some(handle)),
         Stop::Dangling(handle) => Err(RangeError::Dangling(handle)),
-        Stop::Fall => {
-            let handle = marked_end(alloc, nodes, first)?;
-            Ok(Some(handle))
-        }
+        Stop::Fall => marked_end(nodes, vec![in alloc; false; nodes.len()], first),
     }
 }
 
