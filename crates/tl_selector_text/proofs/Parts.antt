@@ -3,11 +3,12 @@ use Rattle.std.proofs.Common.{◌≡◌, ◌≢◌, ℕ, List, refl, sym, ap, �
 use Rattle.tl_spec.specs.Runs.{past}
 use Rattle.tl_spec.specs.Selector as spec
 use Rattle.tl_spec.specs.SelectorText.{IsSelectorText, StandsAlone}
-use Rattle.tl_spec.specs.SelectorReading.{is_space, simple_at, End, next_at, joined, before_after, chain_after, selector_at}
+use Rattle.tl_spec.specs.SelectorReading.{is_space, simple_at, End, Bad, next_at, joined, before_after, chain_after, selector_at}
 use Rattle.tl_spec.proofs.SelectorText.{alone-read, text-only, text-none}
 pub use Rattle.tl_spec.proofs.SelectorText.{rest_part, rest_end, rest_bad, next_lt}
 use Rattle.tl_selector.specs.View.{selector}
 use Rattle.tl_selector.specs.declared.selector.Selector.{Selector}
+use Rattle.tl_selector_text.specs.Lacks.{LacksSecond}
 use Rattle.tl_selector_text.specs.Views.{link}
 use Rattle.tl_selector_text.specs.declared.chain.Link.{Link}
 use Rattle.tl_selector_text.specs.declared.chain.Link.TheVariants.{Comma, Step, Spaces, Touch}
@@ -30,6 +31,12 @@ alone_end s p h e =
     let k : Some a.0 ≡ Some p = sym a.1 ∙ e in
     let w : a.0 ≡ p = cc in
     ap (λ (p : spec.Selector × List ℕ). next_at p.1) (sym w) ∙ a.2
+
+-- what comes after the first part, where the second is lacking
+pub second_bad : (s : List ℕ) (p : spec.Selector × List ℕ) → LacksSecond s → simple_at (past is_space s) ≡ Some p → next_at p.1 ≡ Bad
+second_bad s p h e =
+    let k : Some (next_at p.1) ≡ Some Bad = sym (ap (option_map (λ first. next_at first.1)) e) ∙ h in
+    cc
 
 -- what a reader answers
 

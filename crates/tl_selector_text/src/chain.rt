@@ -1,6 +1,7 @@
 //! The parts of a selector's text, and how they are nested.
 ghost use Rattle.std.specs.Prelude.{◌≡◌, option_map, IfOk, IsOk, Ok, None, []};
 ghost use Rattle.tl_selector.specs.View.{selector};
+ghost use Rattle.tl_selector_text.specs.Lacks.{LacksFirst, LacksSecond};
 ghost use Rattle.tl_selector_text.specs.Views.{link, next};
 ghost use Rattle.tl_spec.specs.SelectorReading as r;
 ghost use Rattle.tl_spec.specs.SelectorReading.{joined, closed, nested, starts_with_space, link_at, next_at, parts_at, selector_at};
@@ -106,6 +107,7 @@ fn chained<'a>(
 ) -> Result<Option<Selector<'a>>, AllocError>
     ensures nests { IfOk result (λ o. option_map selector o ≡ option_map (nested None (selector first.entry)) (parts_at s.now)) }
     ensures alone { next_at s.now ≡ r.End → IsOk result }
+    ensures bad { next_at s.now ≡ r.Bad → result ≡ Ok None }
 {
     let mut before = None;
     let mut chain = first;
@@ -136,6 +138,8 @@ pub fn whole<'a>(alloc: Global, s: &'a [u8]) -> Result<Option<Selector<'a>>, All
     ensures reads { IfOk result (λ o. option_map selector o ≡ selector_at s.now) }
     ensures alone { StandsAlone s.now → IsOk result }
     ensures empty { s.now ≡ [] → result ≡ Ok None }
+    ensures no_part { LacksFirst s.now → result ≡ Ok None }
+    ensures bad { LacksSecond s.now → result ≡ Ok None }
 {
     match simple(past_spaces(s)) {
         None => Ok(None),

@@ -1,6 +1,7 @@
 //! The reader of a selector's text.
 ghost use Rattle.std.specs.Prelude.{◌≡◌, IfOk, IfSome, IfNone, IsOk, OnOk, OnErr, Ok, None, []};
 ghost use Rattle.tl_selector.specs.View.{selector};
+ghost use Rattle.tl_selector_text.specs.Lacks.{LacksFirst, LacksSecond};
 ghost use Rattle.tl_spec.specs.Selector as s;
 ghost use Rattle.tl_spec.specs.SelectorText.{IsSelectorText, StandsAlone};
 
@@ -47,6 +48,10 @@ impl<'a> Parser<'a> {
 
         // One simple part takes no memory.
         ensures alone { StandsAlone self.old → IsOk result }
+
+        // Nor does a text take any that lacks its first part, or the second.
+        ensures no_part { LacksFirst self.old → result ≡ Ok None }
+        ensures bad { LacksSecond self.old → result ≡ Ok None }
     {
         let found = whole(alloc, self.rest)?;
         self.rest = &[];
@@ -65,6 +70,10 @@ pub fn parse_query_selector<'a>(
 
     // One simple part takes no memory.
     ensures alone { StandsAlone input.now → IsOk result }
+
+    // Nor does a text take any that lacks its first part, or the second.
+    ensures no_part { LacksFirst input.now → result ≡ Ok None }
+    ensures bad { LacksSecond input.now → result ≡ Ok None }
 {
     Parser::new(input.as_bytes()).selector(alloc)
 }

@@ -2,7 +2,7 @@ use Rattle.std.proofs.Common.{◌≡◌, ap, sym, ◌∙◌, subst, option_map}
 use Rattle.tl_selector.specs.View.{selector}
 use Rattle.tl_selector_text.specs.Views.{link}
 use Rattle.tl_spec.specs.SelectorReading.{nested, before_after, chain_after}
-use Rattle.tl_spec.specs.SelectorReading.{parts_at, next_at, End, Part}
+use Rattle.tl_spec.specs.SelectorReading.{parts_at, next_at, End, Bad, Part}
 use Rattle.tl_spec.proofs.SelectorText.{rest_part, next_lt}
 use Rattle.tl_selector_text.proofs.Parts.{kept_chain}
 use Rattle.tl_selector_text.specs.declared.chain.Link.{Link}
@@ -18,6 +18,7 @@ parts-preserved-in-Comma c =
     record {
       nests = rw c.in_ok-close-in-Comma.ensures.closed (sym here ∙ c.parts.invariant.nests);
       alone = λ e. let a = c.parts.invariant.alone e in let k = sym c.in-Part.ensures in let w = ap next_at a.0 in let z : Part (link c.in-Part.link) part c.in-Part.text.now ≡ End = sym k ∙ (w ∙ e) in cc;
+      bad = λ e. let k = sym c.in-Part.ensures in let z : Part (link c.in-Part.link) part c.in-Part.text.now ≡ Bad = sym k ∙ (ap next_at (c.parts.invariant.bad e) ∙ e) in cc;
     }
 
 pub parts-preserved : goal.parts-preserved
@@ -30,6 +31,7 @@ parts-preserved c =
     record {
       nests = rw (c.in_ok-chain-in_default.ensures, ← kept.0, ← kept.1) (sym step ∙ c.parts.invariant.nests);
       alone = λ e. let a = c.parts.invariant.alone e in let k = sym c.in-Part.ensures in let w = ap next_at a.0 in let z : Part (link c.in-Part.link) part c.in-Part.text.now ≡ End = sym k ∙ (w ∙ e) in cc;
+      bad = λ e. let k = sym c.in-Part.ensures in let z : Part (link c.in-Part.link) part c.in-Part.text.now ≡ Bad = sym k ∙ (ap next_at (c.parts.invariant.bad e) ∙ e) in cc;
     }
 
 pub parts-smaller-in-Comma : goal.parts-smaller-in-Comma

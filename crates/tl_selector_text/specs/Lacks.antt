@@ -1,0 +1,12 @@
+-- Texts that the first or the second of their parts shows to be no selector.
+use Rattle.std.specs.Prelude.{◌≡◌, ℕ, List, None, Some, option_map}
+use Rattle.tl_spec.specs.Runs.{past}
+use Rattle.tl_spec.specs.SelectorReading.{is_space, simple_at, next_at, Bad}
+
+-- no part stands first, as in `,a`
+abbrev pub LacksFirst : List ℕ → Type 0
+LacksFirst s = simple_at (past is_space s) ≡ None
+
+-- after the first part a part is due, and none stands there, as in `a,` or `a >`
+abbrev pub LacksSecond : List ℕ → Type 0
+LacksSecond s = option_map (λ first. next_at first.1) (simple_at (past is_space s)) ≡ Some Bad
