@@ -43,7 +43,7 @@ fn repeated(alloc: Global, repeated: &Repeated, end: &str) -> Result<String, Fai
 }
 
 // Writes the numbers of the nodes where it holds.
-fn show_found(document: &VDom<'_>, selector: Selector<'_>, out: &mut String) -> bool {
+fn show_found<'b>(document: &'b VDom<'_>, selector: Selector<'b>, out: &mut String) -> bool {
     match QuerySelectorIterator::new(selector, document.parser(), document) {
         Ok(found) => {
             for handle in found {
@@ -58,10 +58,10 @@ fn show_found(document: &VDom<'_>, selector: Selector<'_>, out: &mut String) -> 
 }
 
 // Whether a selector and its clone, which have one debug text, give these nodes.
-fn are_found(
+fn are_found<'b>(
     alloc: Global,
-    document: &VDom<'_>,
-    selector: Selector<'_>,
+    document: &'b VDom<'_>,
+    selector: Selector<'b>,
     wanted: &str,
 ) -> Result<bool, Fail> {
     let twin = selector.clone()?;

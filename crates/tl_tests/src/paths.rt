@@ -49,33 +49,33 @@ pub mod parts {
 }
 
 // The selector of a text: by either path it is one type.
-fn selector_of(alloc: Global, text: &'static str) -> Option<queries::Selector<'static>> {
-    let mut reader: parts::Parser<'static> = queries::Parser::new(text.as_bytes());
+fn selector_of<'t>(alloc: Global, text: &'t str) -> Option<queries::Selector<'t>> {
+    let mut reader: parts::Parser<'t> = queries::Parser::new(text.as_bytes());
     reader.selector(alloc).ok()?
 }
 
-// How many nodes of what is asked a selector finds.
-fn count<'a, Q: parts::QueryIterable<'a>>(
-    selector: parts::Selector<'static>,
-    parser: &root::Parser<'a>,
-    asked: &Q,
-) -> Option<usize> {
-    let found: queries::QuerySelectorIterator<'_, '_> = parts::QuerySelectorIterator::new(
-        selector, parser, asked,
-    ).ok()?;
-    Some(found.count())
+// The number of the first node of a document that a selector finds.
+fn first<'b>(document: &'b root::VDom<'_>, selector: parts::Selector<'b>) -> Option<u32> {
+    match parts::QuerySelectorIterator::new(selector, document.parser(), document) {
+        Ok(mut found) => match found.next() {
+            Some(handle) => Some(handle.get_inner()),
+            None => None,
+        },
+        Err(_) => None,
+    }
 }
 
 // The same of a page and a text.
-fn count_in(alloc: Global, page: &'static str, text: &'static str) -> Option<usize> {
+fn first_in<'t>(alloc: Global, page: &'t str, text: &'t str) -> Option<u32> {
     let document = root::parse(alloc, page, root::ParserOptions::new()).ok()?;
-    count(selector_of(alloc, text)?, document.parser(), &document)
+    let selector = selector_of(alloc, text)?;
+    first(&document, selector)
 }
 
 #[test]
 fn types_are_the_same_by_each_path(rt: HostRuntime) -> Result<(), Fail> {
-    assert!(rt; count_in(rt.alloc(), "<a><b></b></a><b>x</b>", "b") == Some(2));
-    assert!(rt; count_in(rt.alloc(), "<a><b></b></a>", "a > b") == Some(1));
+    assert!(rt; first_in(rt.alloc(), "<a>x</a><b></b>", "b") == Some(2));
+    assert!(rt; first_in(rt.alloc(), "<a><b></b></a>", "a > b") == Some(1));
     assert!(rt; fallback::find(b"ab", b'b') == simd::find(b"ab", b'b'));
     Ok(())
 }

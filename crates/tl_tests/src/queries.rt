@@ -454,39 +454,39 @@ fn ranges_end_at_the_last_on_the_way(rt: HostRuntime) -> Result<(), Fail> {
 }
 
 // Writes the number of a node and its name or bytes.
-fn show_item(item: Option<(&Node<'_>, NodeHandle)>, out: &mut String) -> bool {
-    let Some((node, handle)) = item else {
-        return out.push_str("none").is_ok();
-    };
+fn show_item(node: &Node<'_>, number: u32, out: &mut String) -> bool {
     let bytes = match node {
         Node::Tag(tag) => tag.name(),
-        Node::Raw(bytes) | Node::Comment(bytes) => bytes,
+        Node::Raw(bytes) => bytes,
+        Node::Comment(bytes) => bytes,
     };
-    write!(out, "{} {bytes:?}", handle.get_inner()).is_ok()
+    write!(out, "{number} {bytes:?}").is_ok()
 }
 
 // Writes where a collection begins, how many nodes it has, and the one at a place.
-fn show_collection<'a, Q: QueryIterable<'a>>(
-    collection: &Q,
-    parser: &Parser<'a>,
+fn show_collection<'p, 'a, Q: QueryIterable<'a>>(
+    collection: &'p Q,
+    parser: &'p Parser<'a>,
     place: usize,
     out: &mut String,
 ) -> bool {
-    let begun = write!(
-        out,
-        "{:?} {:?} ",
-        collection.start(),
-        collection.len(parser)
-    );
-    begun.is_ok() && show_item(collection.get(parser, place), out)
+    let start = collection.start();
+    let len = collection.len(parser);
+    if write!(out, "{start:?} {len:?} ").is_err() {
+        return false;
+    }
+    match collection.get(parser, place) {
+        Some(item) => show_item(item.0, item.1.get_inner(), out),
+        None => out.push_str("none").is_ok(),
+    }
 }
 
 // A page, what is done to its document, what is asked of it, a place, and what is answered there.
 type Collection = (&'static str, &'static [Edit], Place, usize, &'static str);
 
-fn show_asked<'a>(
-    document: &VDom<'a>,
-    parser: &Parser<'a>,
+fn show_asked<'p, 'a>(
+    document: &'p VDom<'a>,
+    parser: &'p Parser<'a>,
     row: &Collection,
     out: &mut String,
 ) -> bool {
@@ -500,10 +500,10 @@ fn show_asked<'a>(
 }
 
 // By the document's own table, or by that of another document.
-fn is_asked<'a>(
+fn is_asked<'p, 'a>(
     alloc: Global,
-    document: &VDom<'a>,
-    handed: Option<&VDom<'a>>,
+    document: &'p VDom<'a>,
+    handed: Option<&'p VDom<'a>>,
     row: &Collection,
 ) -> bool {
     let mut out = String::new(alloc);
@@ -696,9 +696,12 @@ fn first_found(
 }
 
 // Whether this is read of a node.
-fn reads(alloc: Global, node: &Node<'_>, parser: &Parser<'_>, row: &Found) -> bool {
+fn reads<'a>(alloc: Global, node: &Node<'a>, parser: &Parser<'a>, row: &Found) -> bool {
     match row.3 {
-        Reading::Value(key) => node.attribute(key) == Some(Some(row.4.as_bytes())),
+        Reading::Value(key) => match node.attribute(key) {
+            Some(Some(value)) => value == row.4.as_bytes(),
+            _ => false,
+        },
         Reading::Text => match node.inner_text(alloc, parser) {
             Ok(text) => text.as_str() == row.4,
             Err(_) => false,
