@@ -1,0 +1,50 @@
+//! What callers write over `tl`, proved: each module is one of them, with a contract that follows from the public clauses.
+//!
+//! | Words | What is written of the page on standard input |
+//! |---|---|
+//! | `uses links` | the values of `href` in the tags named `a`, one on each line |
+//! | `uses pick SELECTOR KEY` | the values at a key of the nodes where a selector holds, one on each line |
+//! | `uses outline` | each node on a line: its number, what it is, and the numbers of its children |
+//!
+//! It ends with 0, or with 1 and a line on standard error that says why not.
+#![tactic(auto)]
+
+mod links;
+mod outline;
+mod pick;
+
+use anyhow::{Result, bail};
+use std::env;
+use std::io::{Read, Write};
+use tl::{ParserOptions, VDom, parse};
+
+fn main(rt: HostRuntime) -> Result<()> {
+    let mut words = Vec::new(rt.alloc());
+    for word in env::args(&rt)?.skip(1) {
+        words.push(word)?;
+    }
+    let mut page = String::new(rt.alloc());
+    rt.stdin().read_to_string(&mut page)?;
+    let document = parse(rt.alloc(), page.as_str(), ParserOptions::new())?;
+    let bytes = written(&rt, words.as_slice(), &document)?;
+    let mut out = rt.stdout();
+    out.write_all(bytes.as_slice())?;
+    out.flush()?;
+    Ok(())
+}
+
+// What the words ask for.
+fn written(rt: &HostRuntime, words: &[String], document: &VDom<'_>) -> Result<Vec<u8>> {
+    match words {
+        [word] if word.as_str() == "links" => Ok(links::links(rt.alloc(), document)?.into_bytes()),
+        [word] if word.as_str() == "outline" => Ok(outline::outline(rt.alloc(), document)?),
+        [word, selector, key] if word.as_str() == "pick" => {
+            let found = pick::values(rt.alloc(), document, selector.as_str(), key.as_bytes())?;
+            match found {
+                Some(lines) => Ok(lines),
+                None => bail!("not a selector"),
+            }
+        }
+        _ => bail!("usage: uses links | outline | pick SELECTOR KEY < page"),
+    }
+}
