@@ -1,5 +1,5 @@
 -- The faults of a walk as errors.
-use Rattle.std.specs.Prelude.{◌≡◌, Option, Some, None, IfSome}
+use Rattle.std.specs.Prelude.{◌≡◌, ℕ, List, Option, Some, None, IfSome, slice_get}
 use Rattle.tl_spec.specs.Walk.{TreeFault, Dangling, Cycle}
 use Rattle.tl.specs.declared.errors.TreeError.{TreeError}
 use Rattle.tl.specs.declared.errors.TreeError.TheVariants.{Dangling as DanglingError, Cycle as CycleError, OutOfMemory}
@@ -18,3 +18,7 @@ fault_of OutOfMemory = None
 -- the error says this fault; or memory ran out
 abbrev pub IsRefusal : Option TreeFault → TreeError → Type 0
 IsRefusal fault error = IfSome (fault_of error) (λ f. fault ≡ Some f)
+
+-- the first of these handles is this one, and the table has no node of it
+abbrev pub FirstDangles : {N : Type 0} → List N → List ℕ → ℕ → Type 0
+FirstDangles nodes handles h = (slice_get handles 0 ≡ Some h) × (slice_get nodes h ≡ None)

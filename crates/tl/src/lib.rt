@@ -1,7 +1,7 @@
 //! Reads HTML into a table of nodes that borrow from the text, and prints it again.
 #![tactic(auto)]
 
-ghost use Rattle.std.specs.Prelude.{◌≡◌, ◌↔◌, ◌<◌, ◌≤◌, length, sum_by, string_bytes, IfOk, IsErrOf, All};
+ghost use Rattle.std.specs.Prelude.{◌≡◌, ◌↔◌, ◌<◌, ◌≤◌, [], length, sum_by, string_bytes, IfOk, IsOk, IsErrOf, All};
 ghost use Rattle.tl_spec.specs.Clean.{IsTame, IsCleanTable};
 ghost use Rattle.tl_spec.specs.Document.{document, weight};
 ghost use Rattle.tl_spec.specs.Forest.{forest, plain};
@@ -57,6 +57,7 @@ fn read_document<'a, S: Source<'a>>(
     options: ParserOptions,
 ) -> Result<VDom<'a>, ParseError>
     ensures length { IsErrOf result InvalidLength ↔ (4294967295 < length (S.text source.now)) }
+    ensures empty { S.text source.now ≡ [] → IsOk result }
     ensures document { IfOk result (λ d. document_of d ≡ document (S.text source.now)) }
     ensures version { IfOk result (λ d. d.version ≡ version_of (document (S.text source.now)).is_html5) }
     ensures held { IfOk result (λ d. All (IsHeldNode S.held) d.nodes) }
@@ -86,6 +87,9 @@ pub fn parse<'a>(
 ) -> Result<VDom<'a>, ParseError>
     ensures length { IsErrOf result InvalidLength ↔ (4294967295 < length text.now) }
     ensures document { IfOk result (λ d. document_of d ≡ document text.now) }
+
+    // The document of the empty text takes no memory.
+    ensures empty { text.now ≡ [] → IsOk result }
     ensures version { IfOk result (λ d. d.version ≡ version_of (document text.now).is_html5) }
     ensures borrowed { IfOk result (λ d. All (IsHeldNode borrowed) d.nodes) }
 

@@ -1,5 +1,5 @@
 //! Documents.
-ghost use Rattle.std.specs.Prelude.{◌≡◌, ◌<◌, ◌^◌, [], length, IfOk, string_bytes};
+ghost use Rattle.std.specs.Prelude.{◌≡◌, ◌<◌, ◌^◌, ℕ, [], length, Err, IfOk, string_bytes};
 ghost use Rattle.std.specs.Borrow.{sem};
 ghost use Rattle.tl_spec.specs.Clean.{IsCleanTable};
 ghost use Rattle.tl_spec.specs.Normal.{ReadsAs};
@@ -8,6 +8,7 @@ ghost use Rattle.tl_spec.specs.Text.{document_text};
 ghost use Rattle.tl_spec.specs.Walk.{every, trees, walk};
 ghost use Rattle.tl.specs.Answer.{Answers};
 ghost use Rattle.tl.specs.Shown.{document_of};
+ghost use Rattle.tl.specs.TreeFault.{FirstDangles};
 ghost use Rattle.tl.specs.TableLends.{LendsParser, LendsNodes, LendsTop};
 
 pub(crate) mod guard;
@@ -113,6 +114,10 @@ impl<'a> VDom<'a> {
         ensures answers { Answers (document_print (document_of self.now)) result }
         ensures identity { let d = document_of self.now in
             IsCleanTable d.nodes d.top → IfOk result (λ s. ReadsAs (string_bytes s) (trees (walk every d.nodes [] d.top))) }
+
+        // A first top handle that dangles is answered before any memory is taken.
+        ensures dangling { (h : ℕ) → FirstDangles self.now.nodes self.now.top h
+            → result ≡ Err (TreeError.Dangling h) }
     {
         let mut out = String::new(alloc);
         write_row(alloc, self.nodes(), self.children(), &mut out)?;

@@ -1,10 +1,11 @@
 //! The walk over a table: each handle's node is met, and then what hangs below it, unless the handle dangles or stands on its own path.
-ghost use Rattle.std.specs.Prelude.{◌≡◌, ◌<◌, false, [], ◌∷◌, length, map, OnOk, IfOk, IfErr, IfSome};
+ghost use Rattle.std.specs.Prelude.{◌≡◌, ◌≢◌, ◌<◌, ℕ, true, false, [], ◌∷◌, length, map, None, Err, OnOk, IfOk, IfErr, IfSome};
 ghost use Rattle.std.specs.Option.{option_copied};
 ghost use Rattle.std.specs.List.{slice_get};
 ghost use Rattle.tl_spec.specs.Walk.{stands_on, walk, events};
 ghost use Rattle.tl.specs.Shown.{shown, shown_tag};
 ghost use Rattle.tl.specs.Marks.{MayFollow};
+ghost use Rattle.tl.specs.TreeFault.{FirstDangles};
 ghost use Rattle.tl.specs.Walker.{enters, path_of, left, left_at, left_in, Takes, Steps, IsMarked, IsMetIn};
 
 pub(crate) mod find;
@@ -72,6 +73,7 @@ impl<'s, 'a> Walker<'s, 'a> {
         ensures marked { IsMarked result }
         ensures left { left result ≡ events (walk (enters entered) (map shown nodes.now) [] handles.now) }
         ensures table { result.nodes.now ≡ nodes.now }
+        ensures rest { result.rest.now ≡ handles.now }
     {
         Walker {
             nodes,
@@ -102,6 +104,11 @@ impl<'s, 'a> Walker<'s, 'a> {
         ensures steps { Steps (left_at self.old (handle ∷ self.old.rest.now)) result (left self.new) }
         ensures met { IfOk result (λ event. IfSome event (IsMetIn self.old.nodes.now)) }
         ensures table { self.new.nodes.now ≡ self.old.nodes.now }
+
+        // Neither fault is hidden as want of memory, which only the first marks and a deeper path take.
+        ensures dangling { slice_get self.old.nodes.now handle ≡ None → result ≡ Err (TreeError.Dangling handle) }
+        ensures cycle { self.old.marks.items ≢ [] → handle < length self.old.nodes.now
+            → stands_on (path_of self.old) handle ≡ true → result ≡ Err (TreeError.Cycle handle) }
     {
         let Some(node) = node_at(self.nodes, handle) else {
             return Err(TreeError::Dangling(handle));
@@ -179,6 +186,8 @@ impl<'s, 'a> Walker<'s, 'a> {
         ensures steps { Steps (left self.old) result (left self.new) }
         ensures met { IfOk result (λ e. IfSome e (IsMetIn self.old.nodes.now)) }
         ensures table { self.new.nodes.now ≡ self.old.nodes.now }
+        ensures dangling { (h : ℕ) → FirstDangles self.old.nodes.now self.old.rest.now h
+            → result ≡ Err (TreeError.Dangling h) }
     {
         let Some((handle, rest)) = self.rest.split_first() else {
             return Ok(self.leave());

@@ -3,6 +3,7 @@ use Rattle.std.specs.Prelude.{◌≡◌, ◌<◌, ◌≤◌, ℕ, zero, suc, ◌
 use Rattle.std.specs.Option.{option_map_or}
 use Rattle.tl_spec.specs.Document.{Node}
 use Rattle.tl_spec.specs.SelectorSearch.{holds_alone}
+use Rattle.tl_selector.specs.Sides.{has_sides}
 use Rattle.tl_selector.specs.View.{selector}
 use Rattle.tl_selector.specs.declared.node_test.Test.{Test}
 use Rattle.tl_selector.specs.declared.node_test.Test.TheVariants.{Alone, Marked}
@@ -20,3 +21,8 @@ IsFirst p from to first = MatchOption first ((n : ℕ) → from ≤ n → n < to
 abbrev pub is_found : Test → List Node → ℕ → Bool
 is_found (Alone e) nodes n = option_map_or (holds_alone (selector e)) (slice_get nodes n) false
 is_found (Marked marks) nodes n = slice_index_or marks.items n false
+
+-- the test of a selector that isn't joined of two, which is cloned without memory
+abbrev pub IsOfOnePart : Test → Type 0
+IsOfOnePart (Alone e) = has_sides (selector e) ≡ false
+IsOfOnePart (Marked marks) = ⊥

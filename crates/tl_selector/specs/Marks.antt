@@ -19,6 +19,10 @@ is_in xs n = list_any (nat_eq n) xs
 abbrev pub children_at : List Node → ℕ → List ℕ
 children_at nodes m = option_map_or children_of (slice_get nodes m) []
 
+-- whether a number has its mark, or there is no node of it
+abbrev pub is_done : List Bool → ℕ → Bool
+is_done marks n = slice_index_or marks n true
+
 -- marks a child that has no mark yet, and puts it at the end of the queue
 abbrev pub mark_one : ℕ → List Bool × List ℕ → List Bool × List ℕ
 mark_one c s = if slice_index_or s.0 c true then s else (slice_set s.0 c true, s.1 ++ c ∷ [])

@@ -1,12 +1,12 @@
 //! A mark for each node where a selector holds. Each part of the selector costs a pass over the nodes and their
 //! children, however deep the table is and however often a node stands among children.
-ghost use Rattle.std.specs.Prelude.{◌≡◌, ◌≤◌, ◌↔◌, ℕ, List, IsTrue, IsOk, IfOk, OnOk, None, length, true, false, map, slice_get, ◌&&◌, ◌||◌};
+ghost use Rattle.std.specs.Prelude.{◌≡◌, ◌≤◌, ◌↔◌, ℕ, List, IsTrue, IsOk, IfOk, IfSome, OnOk, None, length, true, false, map, slice_get, ◌&&◌, ◌||◌};
 ghost use Rattle.std.specs.List.{All};
 ghost use Rattle.std.specs.Option.{option_copied, option_map_or};
 ghost use Rattle.tl_spec.specs.Element.{children_of};
 ghost use Rattle.tl_spec.specs.SelectorMeaning.{Holds, has_joint};
 ghost use Rattle.tl_spec.specs.SelectorSearch.{holds_alone};
-ghost use Rattle.tl_selector.specs.Marks.{is_among, is_at, is_in, mark_one, spread, child_at, children_at, IsUnderMark, IsBelowMark, AreMarks};
+ghost use Rattle.tl_selector.specs.Marks.{is_among, is_at, is_done, is_in, mark_one, spread, child_at, children_at, IsUnderMark, IsBelowMark, AreMarks};
 ghost use Rattle.tl_selector.specs.Sides.{has_sides, nested_in, selectors, with_first};
 ghost use Rattle.tl_selector.specs.View.{selector};
 ghost use Rattle.tl_selector.specs.declared.selector.Selector.{size-Selector};
@@ -67,7 +67,10 @@ pub fn holds_alone_at<N: Element>(e: &Selector<'_>, nodes: &[N], number: usize) 
 
 // Marks a node that has no mark yet, and puts it into the queue.
 fn mark(number: usize, marks: &mut Vec<bool>, queue: &mut Vec<usize>) -> Result<(), AllocError>
-    ensures { OnOk result ((marks.new.items, queue.new.items) ≡ mark_one number (marks.old.items, queue.old.items)) }
+    ensures ok { OnOk result ((marks.new.items, queue.new.items) ≡ mark_one number (marks.old.items, queue.old.items)) }
+
+    // Memory is taken for a new mark alone.
+    ensures done { is_done marks.old.items number ≡ true → IsOk result }
 {
     if number < marks.len() && !marks[number] {
         marks[number] = true;
@@ -83,7 +86,10 @@ fn mark_child<N: Element>(
     marks: &mut Vec<bool>,
     queue: &mut Vec<usize>,
 ) -> Result<(), AllocError>
-    ensures { OnOk result ((marks.new.items, queue.new.items) ≡ spread (child_at (children_of (N.node node.now)) place) (marks.old.items, queue.old.items)) }
+    ensures ok { OnOk result ((marks.new.items, queue.new.items) ≡ spread (child_at (children_of (N.node node.now)) place) (marks.old.items, queue.old.items)) }
+
+    // Memory is taken for a new mark alone: not for a child that has its mark, nor for one past the table.
+    ensures done { IfSome (slice_get (children_of (N.node node.now)) place) (λ child. is_done marks.old.items child ≡ true) → IsOk result }
 {
     match node.child(place) {
         Some(child) => mark(child as usize, marks, queue),
@@ -124,6 +130,9 @@ fn mark_children_at<N: Element>(
 fn holders(alloc: Global, holds: &[bool]) -> Result<Vec<usize>, AllocError>
     ensures all { IfOk result (λ queue. (m : ℕ) → is_at holds.now m ≡ true → is_in queue.items m ≡ true) }
     ensures only { IfOk result (λ queue. (m : ℕ) → is_in queue.items m ≡ true → is_at holds.now m ≡ true) }
+
+    // Where no node is marked it takes no memory.
+    ensures none { ((m : ℕ) → is_at holds.now m ≡ false) → IsOk result }
 {
     let mut queue = Vec::new(alloc);
     for (m, held) in holds.iter().enumerate() {

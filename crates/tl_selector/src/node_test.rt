@@ -1,7 +1,7 @@
 //! How the nodes of a table are looked at one by one.
 ghost use Rattle.std.specs.Prelude.{◌≡◌, ◌↔◌, ◌≤◌, ℕ, false, length, map, IsTrue, IsOk, IfOk};
 ghost use Rattle.tl_spec.specs.SelectorMeaning.{Holds, has_joint};
-ghost use Rattle.tl_selector.specs.Found.{is_found, IsFirst};
+ghost use Rattle.tl_selector.specs.Found.{is_found, IsFirst, IsOfOnePart};
 ghost use Rattle.tl_selector.specs.View.{selector as selector_of};
 
 use crate::first::first_alone;
@@ -56,6 +56,8 @@ impl<'s> Clone for Test<'s> {
     ghost use Rattle.std.specs.Prelude.{List};
 
     ghost is_clone = { λ x y. (nodes : List Node) (n : ℕ) → is_found y nodes n ≡ is_found x nodes n };
+
+    ghost is_infallible = { IsOfOnePart };
 
     fn clone(&self) -> Result<Test<'s>, AllocError> {
         Ok(match self {

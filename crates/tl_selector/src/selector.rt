@@ -1,5 +1,6 @@
 //! Selectors as values.
-ghost use Rattle.std.specs.Prelude.{◌≡◌};
+ghost use Rattle.std.specs.Prelude.{◌≡◌, false};
+ghost use Rattle.tl_selector.specs.Sides.{has_sides};
 ghost use Rattle.tl_selector.specs.View.{selector};
 
 use crate::copies::copied;
@@ -64,8 +65,11 @@ impl<'a> Drop for Selector<'a> {
     }
 }
 
+// A clone of a selector without sides takes no memory.
 impl<'a> Clone for Selector<'a> {
     ghost is_clone = { λ e copy. selector copy ≡ selector e };
+
+    ghost is_infallible = { λ e. has_sides (selector e) ≡ false };
 
     fn clone(&self) -> Result<Self, AllocError> {
         copied(self)

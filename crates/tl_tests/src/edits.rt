@@ -195,7 +195,7 @@ const LINK: &str = "<div><p href=\"/about\" id=\"find-me\">Hello world</p></div>
 
 const EDITABLE: &str = "<span contenteditable=\"true\">testing</a>";
 
-static EDITED: [Row; 24] = [
+static EDITED: [Row; 25] = [
     (
         "<a><b></b></a>",
         &[Edit::Push(1, 0)],
@@ -307,6 +307,7 @@ static EDITED: [Row; 24] = [
     ),
     ("a<b>c</b>", &[Edit::SwapTop], Look::Print, "<b>c</b>a"),
     ("<a><b></b></a>x", &[Edit::Root(0, 2)], Look::Print, "xx"),
+    ("<a></a>", &[Edit::Root(0, 7)], Look::Print, "dangling 7"),
     ("a<b>c</b>", &[Edit::SwapNodes], Look::Print, "<b>c</b>a"),
 ];
 

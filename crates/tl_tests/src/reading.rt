@@ -141,6 +141,23 @@ fn versions(rt: HostRuntime) -> Result<(), Fail> {
     Ok(())
 }
 
+// Each version, and one that comes later.
+static LATER: [(HTMLVersion, HTMLVersion); 3] = [
+    (HTMLVersion::HTML5, HTMLVersion::StrictHTML401),
+    (HTMLVersion::StrictHTML401, HTMLVersion::TransitionalHTML401),
+    (
+        HTMLVersion::TransitionalHTML401,
+        HTMLVersion::FramesetHTML401,
+    ),
+];
+
+#[test]
+fn versions_have_an_order(rt: HostRuntime) {
+    for (first, later) in &LATER {
+        assert!(rt; first < later, "{first:?} {later:?}");
+    }
+}
+
 const NESTED: &str = "abc <p>test<span>a</span></p> def";
 
 // A page whose table is walked for node 1 of the page above, and the print, or the number of the handle that dangles.

@@ -76,7 +76,7 @@ const NESTED: &str = "<p>a<b>c</b></p>";
 
 const DANGLING: &str = "<a><b></b></a>";
 
-static SEARCHES: [Row; 5] = [
+static SEARCHES: [Row; 6] = [
     (NESTED, &[], Look::Search(0, "c"), " a b c: 3 / a b: none"),
     (NESTED, &[], Look::Search(0, "b"), " a b: 2 / a b: 2"),
     (
@@ -96,6 +96,12 @@ static SEARCHES: [Row; 5] = [
         &[Edit::Push(0, 0)],
         Look::Search(0, "?"),
         " a: cycle 0 / a: none",
+    ),
+    (
+        "<a></a>",
+        &[Edit::Push(0, 9)],
+        Look::Search(0, "?"),
+        ": dangling 9 / : dangling 9",
     ),
 ];
 

@@ -1,5 +1,5 @@
 //! Reads a text into a table: takes the tokens of the lexer one by one and writes what each stands for.
-ghost use Rattle.std.specs.Prelude.{◌≡◌, ◌↔◌, ◌≤◌, ◌<◌, ◌+◌, ◌^◌, length, drop, slice_get, IfOk, OnOk, IsErrOf, All};
+ghost use Rattle.std.specs.Prelude.{◌≡◌, ◌↔◌, ◌≤◌, ◌<◌, ◌+◌, ◌^◌, [], length, drop, slice_get, IfOk, OnOk, IsOk, IsErrOf, All};
 ghost use Rattle.tl_bytes.specs.Held.{Held};
 ghost use Rattle.tl_spec.specs.ByteClass.{is_void as is_void_name};
 ghost use Rattle.tl_token.specs.Span.{bytes_at, IsIn};
@@ -40,7 +40,9 @@ const MOST_AT_ONCE: usize = 65536;
 
 // About how many nodes a text has, by how often `<` stands at its front: a tag and a text for each. With room for them few nodes
 // are moved as the table grows, and a text that only begins with many tags takes no memory that counts.
-fn guessed_nodes(text: &[u8]) -> usize {
+fn guessed_nodes(text: &[u8]) -> usize
+    ensures { text.now ≡ [] → result ≡ 0 }
+{
     let front = &text[..text.len().min(SAMPLE)];
     let mut tags = 0usize;
     for byte in front {
@@ -69,6 +71,7 @@ impl<'a> TableBuilder<'a> {
     fn new(alloc: Global, room: usize) -> Result<Self, AllocError>
         ensures state { IfOk result (λ table. state_of table ≡ start) }
         ensures held { IfOk result (λ table. (held : Held) → AreHeld held table) }
+        ensures empty { room ≡ 0 → IsOk result }
     {
         Ok(TableBuilder {
             nodes: Vec::with_capacity(alloc, room)?,
@@ -336,6 +339,7 @@ pub(crate) fn read<'a, S: Source<'a>>(alloc: Global, source: &S) -> Result<Parse
     ensures version { IfOk result (λ p. p.version ≡ version_of (document (S.text source.now)).is_html5) }
     ensures held { IfOk result (λ p. All (IsHeldNode S.held) p.nodes) }
     ensures numbers { IfOk result (λ p. length p.nodes < 2 ^ 32) }
+    ensures empty { S.text source.now ≡ [] → IsOk result }
 {
     let text = source.as_bytes();
     // A node takes at least a byte of the text, and its number is a `u32`.

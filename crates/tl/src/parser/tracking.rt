@@ -1,5 +1,5 @@
 //! Tracks the tags of a table that was read: their ids, and the members of their classes.
-ghost use Rattle.std.specs.Prelude.{◌≡◌, ◌<◌, ◌^◌, ◌++◌, ◌∷◌, [], List, ℕ, length, map, is_some, IfOk, OnOk, Some, IfSome, option_map};
+ghost use Rattle.std.specs.Prelude.{◌≡◌, ◌<◌, ◌^◌, ◌++◌, ◌∷◌, [], List, ℕ, length, map, is_some, IfOk, OnOk, IsOk, Some, IfSome, option_map};
 ghost use Rattle.std.specs.Option.{option_copied};
 ghost use Rattle.tl_spec.specs.ClassMember.{members, parts};
 ghost use Rattle.tl_spec.specs.Document.{Node};
@@ -97,6 +97,7 @@ fn tracked<'a>(
     ensures asked { IfOk result (AreAsked options) }
     ensures ids { IfOk result (λ t. AnswerIds t (map shown nodes.now)) }
     ensures classes { IfOk result (λ t. AnswerClasses t (map shown nodes.now)) }
+    ensures empty { nodes.now ≡ [] → IsOk result }
 {
     let mut tracking = Tracking::new(alloc, options);
     if !options.is_tracking() {
@@ -117,6 +118,7 @@ impl<'a> Parser<'a> {
         ensures asked { OnOk result (AreAsked options self.new.tracking) }
         ensures ids { OnOk result (AnswerIds self.new.tracking (map shown self.old.nodes)) }
         ensures classes { OnOk result (AnswerClasses self.new.tracking (map shown self.old.nodes)) }
+        ensures empty { self.old.nodes ≡ [] → IsOk result }
     {
         let tracking = tracked(alloc, self.nodes(), options)?;
         self.set_tracking(tracking);

@@ -1,7 +1,8 @@
 //! Queries by a selector text, of a document and below a tag.
-ghost use Rattle.std.specs.Prelude.{◌≡◌, IfOk, IfErr, IsOk, length, map};
+ghost use Rattle.std.specs.Prelude.{◌≡◌, IfOk, IfErr, IsOk, Ok, None, length, map};
 ghost use Rattle.std.specs.Result.{result_err};
 ghost use Rattle.tl_range.specs.Way.{RisesBelow};
+ghost use Rattle.tl_selector_text.specs.Lacks.{LacksFirst, LacksSecond};
 ghost use Rattle.tl_spec.specs.Range.{range_of};
 ghost use Rattle.tl_spec.specs.SelectorMeaning.{AreMatches};
 ghost use Rattle.tl_spec.specs.Selector.{Selector as SelectorOf};
@@ -33,6 +34,10 @@ impl<'a> VDom<'a> {
 
         // A selector of one simple part takes no memory.
         ensures alone { StandsAlone selector.now → IsOk result }
+
+        // Nor does a text take any that lacks its first part, or the second: no want of memory hides that it is no selector.
+        ensures no_part { LacksFirst selector.now → result ≡ Ok None }
+        ensures bad { LacksSecond selector.now → result ≡ Ok None }
     {
         let Some(selector) = parse_query_selector(alloc, selector)? else {
             return Ok(None);
@@ -63,6 +68,10 @@ impl<'a> HTMLTag<'a> {
         ensures memory { StandsAlone selector.now
             → RisesBelow (map shown parser.now.nodes) self.now.children.items
             → WantsNoMemory result }
+
+        // Nor does a text take any that lacks its first part, or the second: no want of memory hides that it is no selector.
+        ensures no_part { LacksFirst selector.now → result ≡ Ok None }
+        ensures bad { LacksSecond selector.now → result ≡ Ok None }
     {
         let Some(parsed) = parse_query_selector(alloc, selector)? else {
             return Ok(None);

@@ -1,7 +1,10 @@
 //! Searches.
-ghost use Rattle.std.specs.Prelude.{◌≡◌, map};
+ghost use Rattle.std.specs.Prelude.{◌≡◌, ℕ, map, Ok, Err, None};
+ghost use Rattle.tl_spec.specs.Element.{children_of};
 ghost use Rattle.tl.specs.Find.{Finds, FindsOrStops, sight, sights, sights_below};
 ghost use Rattle.tl.specs.Node.{tag_of};
+ghost use Rattle.tl.specs.Shown.{shown};
+ghost use Rattle.tl.specs.TreeFault.{FirstDangles};
 ghost use Rattle.tl.specs.Walker.{IsMarked, left};
 
 use crate::errors::TreeError;
@@ -18,7 +21,9 @@ fn find_in_walk<'s, 'a, F: FnMut(&Node<'a>) -> bool>(
 ) -> Result<Option<NodeHandle>, TreeError>
     requires callable { F.IsAlwaysCallable f.old }
     requires marked { IsMarked walker }
-    ensures { FindsOrStops F.FnMut f.old (sights walker.entry.nodes.now (left walker.entry)) result f.new }
+    ensures search { FindsOrStops F.FnMut f.old (sights walker.entry.nodes.now (left walker.entry)) result f.new }
+    ensures dangling { (h : ℕ) → FirstDangles walker.entry.nodes.now walker.entry.rest.now h
+        → result ≡ Err (TreeError.Dangling h) }
 {
     loop {
         match walker.next_event() {
@@ -67,6 +72,10 @@ impl<'a> Node<'a> {
         requires { F.IsAlwaysCallable f.old }
         ensures search { FindsOrStops F.FnMut f.old (sights_below parser.now.nodes self.now) result f.new }
         ensures leaf { tag_of self.now ≡ None → result ≡ Ok None }
+
+        // A first child that dangles is answered before any memory is taken.
+        ensures dangling { (h : ℕ) → FirstDangles parser.now.nodes (children_of (shown self.now)) h
+            → result ≡ Err (TreeError.Dangling h) }
     {
         match self {
             Node::Tag(tag) => {

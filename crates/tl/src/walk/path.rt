@@ -1,7 +1,7 @@
 //! Whether a handle stands on the path of a walk.
 //!
 //! While the handles of a path rise, the last one tells. The first that doesn't rise makes a mark for each node of the table, so that most walks take no memory for marks and none looks through its path twice.
-ghost use Rattle.std.specs.Prelude.{◌≡◌, ◌↔◌, ◌<◌, [], OnOk, IfOk, IfErr, true, set};
+ghost use Rattle.std.specs.Prelude.{◌≡◌, ◌≢◌, ◌↔◌, ◌<◌, [], OnOk, IfOk, IfErr, IsOk, true, set};
 ghost use Rattle.tl_spec.specs.Walk.{stands_on};
 ghost use Rattle.tl.specs.Marks.{marks_of, IsAbove, IsKept, MayFollow};
 ghost use Rattle.tl.specs.Walker.{path_from};
@@ -65,6 +65,9 @@ pub(crate) fn stands_on_path<'s, 'a>(
     ensures may { OnOk result (MayFollow handle (path_from [] frames.now) marks.new.items) }
     ensures says { IfOk result (λ b. b ≡ stands_on (path_from [] frames.now) handle) }
     ensures err { IfErr result (λ e. e ≡ TreeError.OutOfMemory) }
+
+    // Marks that are there take no memory.
+    ensures marked { marks.old.items ≢ [] → IsOk result }
 {
     if marks.len() == 0 {
         if is_above(frames, handle) {

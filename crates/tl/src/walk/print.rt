@@ -1,5 +1,5 @@
 //! Prints.
-ghost use Rattle.std.specs.Prelude.{◌≡◌, ◌++◌, [], map, flat_map, codes, OnOk, IfOk, IfErr, string_bytes};
+ghost use Rattle.std.specs.Prelude.{◌≡◌, ◌++◌, ℕ, [], map, flat_map, codes, Ok, Err, OnOk, IfOk, IfErr, string_bytes};
 ghost use Rattle.std.specs.List.{AllByRecursion};
 ghost use Rattle.std.specs.Option.{option_copied};
 ghost use Rattle.std.specs.Str.Lossy.{utf8_lossy};
@@ -12,6 +12,7 @@ ghost use Rattle.tl_spec.specs.Walk.{every, fault_among, first_fault, plain_node
 ghost use Rattle.tl.specs.Shown.{shown, shown_tag};
 ghost use Rattle.tl_attributes.specs.ShownAttributes.{plain, shown_value};
 ghost use Rattle.tl.specs.Answer.{Answers};
+ghost use Rattle.tl.specs.TreeFault.{FirstDangles};
 ghost use Rattle.tl.specs.Walker.{IsMarked, left, shown_event};
 ghost use Rattle.tl.specs.Writing.{Writes};
 
@@ -114,6 +115,8 @@ fn write_walk<'s, 'a>(mut walker: Walker<'s, 'a>, out: &mut String) -> Result<()
     ensures writes { let es = left walker.entry in
         Writes (fault_among es) (flat_map printed es) (string_bytes out.old) result (string_bytes out.new) }
     ensures own { OnOk result (AllByRecursion MeetsOwnKeys (left walker.entry)) }
+    ensures dangling { (h : ℕ) → FirstDangles walker.entry.nodes.now walker.entry.rest.now h
+        → result ≡ Err (TreeError.Dangling h) }
 {
     loop {
         match walker.next_event() {
@@ -134,6 +137,7 @@ pub(crate) fn write_row<'s, 'a>(
     ensures writes { let w = walk shows (map shown nodes.now) [] handles.now in
         Writes (first_fault w) (print (trees w)) (string_bytes out.old) result (string_bytes out.new) }
     ensures own { OnOk result (HaveOwnKeys (trees (walk shows (map shown nodes.now) [] handles.now))) }
+    ensures dangling { (h : ℕ) → FirstDangles nodes.now handles.now h → result ≡ Err (TreeError.Dangling h) }
 {
     write_walk(Walker::new(alloc, nodes, Entered::Shown, handles), out)
 }
@@ -182,7 +186,11 @@ impl<'a> HTMLTag<'a> {
 
     /// The children as markup, with all that they hold by the table of `parser`: those of a void tag too.
     pub fn inner_html(&self, alloc: Global, parser: &Parser<'a>) -> Result<String, TreeError>
-        ensures { Answers (inner_html (map shown parser.now.nodes) (Tag (shown_tag self.now))) result }
+        ensures answers { Answers (inner_html (map shown parser.now.nodes) (Tag (shown_tag self.now))) result }
+
+        // A first child that dangles is answered before any memory is taken.
+        ensures dangling { (h : ℕ) → FirstDangles parser.now.nodes self.now.children.items h
+            → result ≡ Err (TreeError.Dangling h) }
     {
         let mut out = String::new(alloc);
         write_row(

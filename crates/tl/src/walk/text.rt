@@ -1,10 +1,12 @@
 //! Texts.
-ghost use Rattle.std.specs.Prelude.{◌≡◌, ◌++◌, [], map, flat_map, OnOk, IfErr, string_bytes};
+ghost use Rattle.std.specs.Prelude.{◌≡◌, ◌++◌, ℕ, [], map, flat_map, Err, OnOk, IfErr, IsOk, IsSome, string_bytes};
 ghost use Rattle.tl_spec.specs.Document.{Tag};
 ghost use Rattle.tl_spec.specs.Text.{inner_text, text_of, event_text};
 ghost use Rattle.tl_spec.specs.Walk.{every, fault_among, first_fault, trees, walk, walk_of};
 ghost use Rattle.tl.specs.Shown.{shown, shown_tag};
 ghost use Rattle.tl.specs.Answer.{Answers};
+ghost use Rattle.tl.specs.Node.{comment_of};
+ghost use Rattle.tl.specs.TreeFault.{FirstDangles};
 ghost use Rattle.tl.specs.Walker.{IsMarked, left, shown_event};
 ghost use Rattle.tl.specs.Writing.{Writes};
 
@@ -34,8 +36,10 @@ fn write_event<'s, 'a>(event: Event<'s, 'a>, out: &mut String) -> Result<(), Tre
 // Writes the texts of what is left of a walk.
 fn write_texts<'s, 'a>(mut walker: Walker<'s, 'a>, out: &mut String) -> Result<(), TreeError>
     requires { IsMarked walker }
-    ensures { let es = left walker.entry in
+    ensures writes { let es = left walker.entry in
         Writes (fault_among es) (flat_map event_text es) (string_bytes out.old) result (string_bytes out.new) }
+    ensures dangling { (h : ℕ) → FirstDangles walker.entry.nodes.now walker.entry.rest.now h
+        → result ≡ Err (TreeError.Dangling h) }
 {
     loop {
         match walker.next_event() {
@@ -53,8 +57,9 @@ pub(crate) fn write_row_texts<'s, 'a>(
     handles: &'s [NodeHandle],
     out: &mut String,
 ) -> Result<(), TreeError>
-    ensures { let w = walk every (map shown nodes.now) [] handles.now in
+    ensures writes { let w = walk every (map shown nodes.now) [] handles.now in
         Writes (first_fault w) (text_of (trees w)) (string_bytes out.old) result (string_bytes out.new) }
+    ensures dangling { (h : ℕ) → FirstDangles nodes.now handles.now h → result ≡ Err (TreeError.Dangling h) }
 {
     write_texts(Walker::new(alloc, nodes, Entered::All, handles), out)
 }
@@ -87,7 +92,10 @@ impl<'a> HTMLTag<'a> {
 impl<'a> Node<'a> {
     /// The texts at or below the node by the table of `parser`, in the order of the walk. Comments give none.
     pub fn inner_text(&self, alloc: Global, parser: &Parser<'a>) -> Result<String, TreeError>
-        ensures { Answers (inner_text (map shown parser.now.nodes) (shown self.now)) result }
+        ensures answers { Answers (inner_text (map shown parser.now.nodes) (shown self.now)) result }
+
+        // A comment has no text, which takes no memory.
+        ensures comment { IsSome (comment_of self.now) → IsOk result }
     {
         match self {
             Node::Tag(tag) => tag.inner_text(alloc, parser),

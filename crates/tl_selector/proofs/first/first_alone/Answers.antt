@@ -1,4 +1,4 @@
-use Rattle.std.proofs.Common.{◌≡◌, ◌∙◌, ◌<◌, ◌-◌, ◌+◌, ◌&&◌, true, false, None, Some, length, map, option_map, take, drop, slice_get, refl, sym, ap, arith}
+use Rattle.std.proofs.Common.{◌≡◌, ◌∙◌, ◌<◌, ◌-◌, ◌+◌, ◌&&◌, true, false, None, Some, length, map, option_map, slice_get, refl, sym, ap, arith}
 use Rattle.std.proofs.lemmas.Option.{slice_get-map, slice_get_read}
 use Rattle.tl_spec.specs.Document.{Node}
 use Rattle.tl_spec.specs.SelectorSearch.{holds_alone}

@@ -6,11 +6,11 @@ use Rattle.tl.specs.Walker.{left}
 use Rattle.tl.proofs.Searching.{stopped, found, passed}
 use Rattle.tl.proofs.walk.find.find_in_walk.Goals as goal
 
-pub returns-in-Err : goal.returns-in-Err
-returns-in-Err g c = c.loop-event.invariant.2 _ _ (stopped g.F.FnMut c.loop-event.f c.loop-event.walker.nodes.now (left c.loop-event.walker) c.in-Err.error c.in-Err.ensures.steps)
+pub returns-in-Err-clause-search : goal.returns-in-Err-clause-search
+returns-in-Err-clause-search g c = c.loop-event.invariant.2 _ _ (stopped g.F.FnMut c.loop-event.f c.loop-event.walker.nodes.now (left c.loop-event.walker) c.in-Err.error c.in-Err.ensures.steps)
 
-pub returns-then-f : goal.returns-then-f
-returns-then-f g c =
+pub returns-then-f-clause-search : goal.returns-then-f-clause-search
+returns-then-f-clause-search g c =
     let nodes = c.loop-event.walker.nodes.now in
     let h = c.in-Meets.handle in
     let node = c.in-Meets.node.now in
@@ -34,4 +34,5 @@ loop-event-preserved-else-f g c =
       search (rules, of_calls),
       c.in-Ok-Some.ensures.marked,
       λ r q rest. c.loop-event.invariant.2 r q (rw steps (passed g.F.FnMut c.loop-event.f after q nodes h node (sights nodes later) r met called (subst (λ table. searches_on table r q) c.in-Ok-Some.ensures.table rest))),
+      λ h p. let no = c.in-Ok-Some.ensures.dangling h (c.loop-event.invariant.3 h p) in cc,
     )

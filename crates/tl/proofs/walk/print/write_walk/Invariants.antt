@@ -1,8 +1,9 @@
-use Rattle.std.proofs.Common.{◌≡◌, ◌++◌, length, flat_map, string_bytes}
+use Rattle.std.proofs.Common.{◌≡◌, ℕ, ◌++◌, length, flat_map, string_bytes}
 use Rattle.std.specs.List.{AllByRecursion}
 use Rattle.tl_spec.specs.Clean.{MeetsOwnKeys}
 use Rattle.tl_spec.specs.Print.{printed}
 use Rattle.tl_spec.specs.Walk.{fault_among}
+use Rattle.tl.specs.TreeFault.{FirstDangles}
 use Rattle.tl.specs.Walker.{left, IsMarked}
 use Rattle.tl.proofs.walk.print.write_walk.Given as goal
 
@@ -12,6 +13,7 @@ invariant-loop-event l = record {
   bytes : string_bytes l.initial.out ++ flat_map printed (left l.initial.walker) ≡ string_bytes l.out ++ flat_map printed (left l.walker);
   faults : fault_among (left l.initial.walker) ≡ fault_among (left l.walker);
   own : AllByRecursion MeetsOwnKeys (left l.walker) → AllByRecursion MeetsOwnKeys (left l.initial.walker);
+  dangling : (h : ℕ) → FirstDangles l.fn.walker.nodes.now l.fn.walker.rest.now h → FirstDangles l.walker.nodes.now l.walker.rest.now h;
 }
 
 abbrev pub decreases-loop-event : goal.decreases-loop-event

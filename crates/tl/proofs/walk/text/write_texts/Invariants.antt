@@ -1,6 +1,7 @@
-use Rattle.std.proofs.Common.{◌≡◌, ◌++◌, length, flat_map, string_bytes}
+use Rattle.std.proofs.Common.{◌≡◌, ℕ, ◌++◌, length, flat_map, string_bytes}
 use Rattle.tl_spec.specs.Text.{event_text}
 use Rattle.tl_spec.specs.Walk.{fault_among}
+use Rattle.tl.specs.TreeFault.{FirstDangles}
 use Rattle.tl.specs.Walker.{left, IsMarked}
 use Rattle.tl.proofs.walk.text.write_texts.Given as goal
 
@@ -9,6 +10,7 @@ invariant-loop-event l = record {
   marked : IsMarked l.walker;
   bytes : string_bytes l.initial.out ++ flat_map event_text (left l.initial.walker) ≡ string_bytes l.out ++ flat_map event_text (left l.walker);
   faults : fault_among (left l.initial.walker) ≡ fault_among (left l.walker);
+  dangling : (h : ℕ) → FirstDangles l.fn.walker.nodes.now l.fn.walker.rest.now h → FirstDangles l.walker.nodes.now l.walker.rest.now h;
 }
 
 abbrev pub decreases-loop-event : goal.decreases-loop-event

@@ -9,4 +9,4 @@ returns-in-Comment-clause-search g c = rw c.in-Comment.is (inl (refl, refl))
 
 pub returns-in-Tag-clause-search : goal.returns-in-Tag-clause-search
 returns-in-Tag-clause-search g c =
-    rw c.in-Tag.is (rw (c.new-walker.ensures.left, c.new-walker.ensures.table, c.nodes.ensures.value, c.as_slice-handles.ensures, c.child_handles.ensures) at c.find_in_walk.ensures)
+    rw c.in-Tag.is (rw (c.new-walker.ensures.left, c.new-walker.ensures.table, c.nodes.ensures.value, c.as_slice-handles.ensures, c.child_handles.ensures) at c.find_in_walk.ensures.search)
