@@ -1,8 +1,7 @@
 //! The whole program, over its words, a reader and a writer.
-ghost use Rattle.std.specs.Prelude.{◌≡◌, ◌≢◌, ◌≤◌, ◌<◌, ◌+◌, ◌==◌, true, false, ◌||◌, map, string_bytes, IsTrue, IfNone, IfSome, OnSome};
+ghost use Rattle.std.specs.Prelude.{◌≡◌, ◌≢◌, ◌≤◌, ◌<◌, ◌+◌, ◌==◌, true, false, ◌||◌, IsTrue, IfNone, IfSome, OnSome};
 ghost use Rattle.std.specs.Io.KnownBytes.{Appends, IsAtEnd};
 ghost use Rattle.tl_spec.specs.Document.{document};
-ghost use Rattle.tl_program.specs.Asked.{AreEditWords};
 ghost use Rattle.tl_program.specs.Output.{ReadsBack, AppendsBeginning};
 ghost use Rattle.tl_program.specs.Said.{asked_in, output_by, printed_by};
 
@@ -14,8 +13,7 @@ use std::alloc::Global;
 
 /// Runs the command that the words say, and answers the status, as `run` does.
 ///
-/// Words that say no command are not understood: the status is 2, or 3 where memory runs out over lines of steps, and
-/// nothing is asked of the reader and the writer.
+/// Words that say no command are not understood: the status is 2, and nothing is asked of the reader and the writer.
 pub fn run_words<R: Input, W: Output>(
     alloc: Global,
     words: &[String],
@@ -25,8 +23,7 @@ pub fn run_words<R: Input, W: Output>(
     ensures range { result ≤ 4 }
 
     // Words that say no command.
-    ensures unasked { IfNone (asked_in words.now) (result ≢ 3 → result ≡ 2) }
-    ensures unasked_memory { IfNone (asked_in words.now) (result ≡ 3 → AreEditWords (map string_bytes words.now)) }
+    ensures unasked { IfNone (asked_in words.now) (result ≡ 2) }
     ensures unasked_reader { IfNone (asked_in words.now) (reader.new ≡ reader.old) }
     ensures unasked_writer { IfNone (asked_in words.now) (writer.new ≡ writer.old) }
 

@@ -1,11 +1,11 @@
 //! What lookups and queries write: the numbers of nodes, one on each line.
-ghost use Rattle.std.specs.Prelude.{◌≡◌, ◌++◌, IfOk, OnOk, string_bytes};
+ghost use Rattle.std.specs.Prelude.{◌≡◌, ◌++◌, Err, IfOk, IfNone, OnOk, string_bytes};
 ghost use Rattle.std.specs.Option.{option_to_list};
 ghost use Rattle.tl_bytes.specs.Held.{borrowed};
 ghost use Rattle.tl_spec.specs.SelectorReading.{selector_at};
 ghost use Rattle.tl.specs.Lookup.{with_id, with_member};
 ghost use Rattle.tl.specs.Shown.{document_of};
-ghost use Rattle.tl_program.specs.Output.{number_line, number_lines, outcome_of_query, Gives};
+ghost use Rattle.tl_program.specs.Output.{number_line, number_lines, outcome_of_numbers, outcome_of_query, Gives};
 
 use super::failure::Failure;
 use std::alloc::{AllocError, Global};
@@ -54,12 +54,24 @@ fn lines_of(alloc: Global, found: QuerySelectorIterator<'_, '_>) -> Result<Strin
     Ok(lines)
 }
 
+// The lines of what a query found; a text that stands for no selector finds nothing, and is refused.
+fn lines_found(
+    alloc: Global,
+    found: Option<QuerySelectorIterator<'_, '_>>,
+) -> Result<String, Failure>
+    ensures outcome { Gives (outcome_of_numbers found.entry) result }
+    ensures none { IfNone found.entry (result ≡ Err Failure.Refused) }
+{
+    match found {
+        Some(found) => Ok(lines_of(alloc, found)?),
+        None => Err(Failure::Refused),
+    }
+}
+
 /// The lines of the nodes where a selector holds; a text that stands for no selector is refused.
 pub fn by_selector(alloc: Global, document: &VDom<'_>, selector: &str) -> Result<String, Failure>
     ensures { Gives (outcome_of_query (selector_at selector.now) (document_of document.now)) result }
 {
-    match document.query_selector(alloc, selector)? {
-        Some(found) => Ok(lines_of(alloc, found)?),
-        None => Err(Failure::Refused),
-    }
+    let found = document.query_selector(alloc, selector)?;
+    lines_found(alloc, found)
 }

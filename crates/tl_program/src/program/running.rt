@@ -1,10 +1,10 @@
 //! A run of the program: it reads all, makes the output, and writes it.
-ghost use Rattle.std.specs.Prelude.{◌≡◌, ◌≢◌, ◌≤◌, ◌<◌, ◌+◌, ◌==◌, true, false, ◌||◌, is_ok, is_err, if◌then◌else◌, string_bytes, IsTrue, IfOk, IfErr, IfSome, OnOk, OnErr};
+ghost use Rattle.std.specs.Prelude.{◌≡◌, ◌≢◌, ◌≤◌, ◌<◌, ◌+◌, ◌==◌, true, false, ◌||◌, is_ok, is_err, if◌then◌else◌, length, string_bytes, IsUtf8, IsTrue, Err, IfOk, IfErr, IfSome, OnOk, OnErr};
 ghost use Rattle.std.specs.Io.KnownBytes.{Keeps, Appends, IsAtEnd};
 ghost use Rattle.tl_spec.specs.Document.{document};
 ghost use Rattle.tl_program.specs.Asked.{asked_of};
 ghost use Rattle.tl_program.specs.Failure.{is_fault, IsReadFailure};
-ghost use Rattle.tl_program.specs.Output.{output_of, printed_document, Gives, ReadsBack, AppendsBeginning};
+ghost use Rattle.tl_program.specs.Output.{output_of, printed_document, Gives, PrintsBack, ReadsBack, AppendsBeginning};
 
 use super::answer::answer;
 use super::asked::Command;
@@ -62,7 +62,11 @@ fn deliver<W: Output>(writer: &mut W, bytes: &[u8]) -> Result<(), Fault>
 /// failure is the status. The memory of the page's document is not taken back.
 pub fn output(alloc: Global, command: &Command<'_>, input: &[u8]) -> Result<String, Failure>
     ensures outcome { Gives (output_of (asked_of command.now) input.now) result }
-    ensures identity { IfOk result (λ s. ReadsBack (printed_document (asked_of command.now) (document input.now)) (string_bytes s)) }
+    ensures identity { PrintsBack (printed_document (asked_of command.now) (document input.now)) result }
+
+    // What is no text, or too long, is not understood before memory is asked for.
+    ensures no_text { ¬ (IsUtf8 input.now) → result ≡ Err Failure.NotUnderstood }
+    ensures long { 4294967295 < length input.now → result ≡ Err Failure.NotUnderstood }
 {
     match str::from_utf8(input) {
         Ok(text) => answer(alloc, command, text),
