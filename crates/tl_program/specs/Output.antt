@@ -18,7 +18,8 @@ use Rattle.tl_spec.specs.SelectorReading.{selector_at}
 use Rattle.tl_spec.specs.SelectorSearch.{matches_between}
 use Rattle.tl_spec.specs.Text.{inner_text}
 use Rattle.tl_spec.specs.Walk.{TreeFault, Dangling, every, trees, walk}
-use Rattle.tl_program.specs.Asked.{Asked, Prints, Texts, PrintsAgain, Selects, FindsId, FindsClass, Edits}
+use Rattle.tl_program.specs.Asked.{Asked, asked_of, Prints, Texts, PrintsAgain, Selects, FindsId, FindsClass, Edits}
+use Rattle.tl_program.specs.declared.program.asked.Command.{Command}
 use Rattle.tl_program.specs.declared.program.failure.Failure.{Failure}
 use Rattle.tl_program.specs.declared.program.failure.Failure.TheVariants.{Refused, NotUnderstood, OutOfMemory, Fault as StreamFault}
 
@@ -132,6 +133,14 @@ printed_document (Selects text) d = None
 printed_document (FindsId id) d = None
 printed_document (FindsClass member) d = None
 printed_document (Edits changes) d = document_edited (edited_all changes d)
+
+-- what a command makes of an input
+abbrev pub command_output : Command → List ℕ → Outcome
+command_output command input = output_of (asked_of command) input
+
+-- the document whose print a command makes of a document, if it makes one
+abbrev pub command_print : Command → Document → Option Document
+command_print command d = printed_document (asked_of command) d
 
 -- where there is a document and it is clean, the text is read as its trees
 abbrev pub ReadsBack : Option Document → List ℕ → Type 0

@@ -1,5 +1,5 @@
 //! What a command writes of a text.
-ghost use Rattle.std.specs.Prelude.{◌≡◌, ◌<◌, length, map, string_bytes, IsSome, IfOk, Ok, Some, Err};
+ghost use Rattle.std.specs.Prelude.{◌≡◌, ◌<◌, length, IsSome, Ok, Some, Err};
 ghost use Rattle.tl_spec.specs.Document.{document};
 ghost use Rattle.tl_spec.specs.Edit.{edited_all};
 ghost use Rattle.tl_spec.specs.Print.{document_print};
@@ -7,7 +7,7 @@ ghost use Rattle.tl.specs.Answer.{Answers};
 ghost use Rattle.tl.specs.Shown.{document_of};
 ghost use Rattle.tl.specs.Tracked.{AnswerIds, AnswerClasses};
 ghost use Rattle.tl_program.specs.Asked.{asked_of};
-ghost use Rattle.tl_program.specs.Output.{outcome_of_text, outcome_of_document, outcome_of_edited, outcome_of_print, texts_of, Gives, IsJustRead, document_again, document_edited, printed_document, PrintsBack};
+ghost use Rattle.tl_program.specs.Output.{outcome_of_text, outcome_of_document, outcome_of_edited, outcome_of_print, texts_of, Gives, IsJustRead, document_again, document_edited, command_print, PrintsBack};
 ghost use Rattle.tl_program.specs.Steps.{changes_in};
 ghost use Rattle.tl_program.specs.TableEdit.{TakeNoMemory};
 
@@ -79,7 +79,7 @@ fn of_document(
     requires classes { AnswerClasses document.old.tracking (document_of document.old).nodes }
     requires read { IsJustRead (document_of document.old) }
     ensures outcome { Gives (outcome_of_document (asked_of command.now) (document_of document.old)) result }
-    ensures identity { PrintsBack (printed_document (asked_of command.now) (document_of document.old)) result }
+    ensures identity { PrintsBack (command_print command.now (document_of document.old)) result }
 {
     match command {
         Command::Print => Ok(document.outer_html(alloc)?),
@@ -95,7 +95,7 @@ fn of_document(
 /// What a command writes of a text.
 pub fn answer(alloc: Global, command: &Command<'_>, text: &str) -> Result<String, Failure>
     ensures outcome { Gives (outcome_of_text (asked_of command.now) text.now) result }
-    ensures identity { PrintsBack (printed_document (asked_of command.now) (document text.now)) result }
+    ensures identity { PrintsBack (command_print command.now (document text.now)) result }
     ensures long { 4294967295 < length text.now → result ≡ Err Failure.NotUnderstood }
 {
     let mut document = tl::parse(alloc, text, options_of(command))?;

@@ -32,7 +32,8 @@ pub fn run_words<R: Input, W: Output>(
         result ≡ (output_by words.now input).status) }
     ensures written { result ≢ 3 → result ≢ 4 → IfSome (R.left reader.old) (λ input.
         Appends (W.holds writer.old) (W.holds writer.new) (output_by words.now input).bytes) }
-    ensures end { result ≢ 3 → result ≢ 4 → OnSome (asked_in words.now) (IsAtEnd (R.left reader.new)) }
+    ensures end { result ≢ 3 → result ≢ 4 →
+        OnSome (asked_in words.now) (IsAtEnd (R.left reader.new)) }
 
     // Where a clean document is printed, what is written is read as its trees again.
     ensures identity { result ≡ 0 → IfSome (R.left reader.old) (λ input.
@@ -46,10 +47,13 @@ pub fn run_words<R: Input, W: Output>(
 
     // A failed read leaves it alone too; a failed write leaves a beginning of what is to be written.
     ensures beginning { result ≡ 4 → IfSome (R.left reader.old) (λ input.
-        AppendsBeginning (W.holds writer.old) (W.holds writer.new) (output_by words.now input).bytes) }
-    ensures unread { R.has_failed reader.old ≡ false → R.has_failed reader.new ≡ true → writer.new ≡ writer.old }
+        AppendsBeginning (W.holds writer.old) (W.holds writer.new)
+        (output_by words.now input).bytes) }
+    ensures unread { R.has_failed reader.old ≡ false → R.has_failed reader.new ≡ true →
+        writer.new ≡ writer.old }
     ensures unwritten { result ≡ 4 → R.has_failed reader.new ≡ false →
-        IsAtEnd (R.left reader.new) × IfSome (R.left reader.old) (λ input. (output_by words.now input).status ≡ 0) }
+        IsAtEnd (R.left reader.new) × IfSome (R.left reader.old) (λ input.
+        (output_by words.now input).status ≡ 0) }
     ensures failed { R.has_failed reader.old ≡ false → W.has_failed writer.old ≡ false →
         (result == 4) ≡ (R.has_failed reader.new || W.has_failed writer.new) }
 {

@@ -23,7 +23,8 @@ fn add_line(alloc: Global, lines: &mut String, handle: NodeHandle) -> Result<(),
 
 /// The line of the first tag with an id, or nothing.
 pub fn by_id(alloc: Global, document: &VDom<'_>, id: &str) -> Result<String, AllocError>
-    ensures { IfOk result (λ s. string_bytes s ≡ number_lines (option_to_list (with_id document.now (record { list = id.now; held = borrowed })))) }
+    ensures { IfOk result (λ s. string_bytes s ≡ number_lines (option_to_list
+        (with_id document.now (record { list = id.now; held = borrowed })))) }
 {
     let mut lines = String::new(alloc);
     if let Some(handle) = document.get_element_by_id(Bytes::from(id)) {
@@ -34,7 +35,8 @@ pub fn by_id(alloc: Global, document: &VDom<'_>, id: &str) -> Result<String, All
 
 /// The lines of the tags with a class member.
 pub fn by_class(alloc: Global, document: &VDom<'_>, member: &str) -> Result<String, AllocError>
-    ensures { IfOk result (λ s. string_bytes s ≡ number_lines (with_member document.now member.now)) }
+    ensures { IfOk result (λ s.
+        string_bytes s ≡ number_lines (with_member document.now member.now)) }
 {
     let mut lines = String::new(alloc);
     for handle in document.get_elements_by_class_name(member) {

@@ -1,9 +1,9 @@
 //! Steps read from text, one on each line.
-ghost use Rattle.std.specs.Prelude.{◌≡◌, ◌==◌, ◌∷◌, ◌<◌, length, is_some, IsSome, IfOk, IfSome, IfNone, Ok, None, Some, map};
+ghost use Rattle.std.specs.Prelude.{◌≡◌, ◌==◌, ◌∷◌, ◌<◌, length, is_some, IsSome, IfOk, IfSome, IfNone, Ok, None, Some};
 ghost use Rattle.std.specs.Option.{option_map};
 ghost use Rattle.std.specs.List.{slice_split};
 ghost use Rattle.tl_spec.specs.StepLine.{is_line_feed, number_of, first_word, after_word, change_by_word, change_of_line, changes_of};
-ghost use Rattle.tl_program.specs.Steps.{change_of, change_of_text, change_of_numbers, lines_left};
+ghost use Rattle.tl_program.specs.Steps.{change_of, changes_in, change_of_text, change_of_numbers, lines_left};
 
 use super::step::Step;
 use std::alloc::{AllocError, Global};
@@ -115,7 +115,7 @@ fn are_steps(text: &str) -> bool
 // The steps of a text whose lines say steps.
 fn listed<'s>(alloc: Global, text: &'s str) -> Result<Vec<Step<'s>>, AllocError>
     requires { IsSome (changes_of text.now) }
-    ensures { IfOk result (λ steps. changes_of text.now ≡ Some (map change_of steps.items)) }
+    ensures { IfOk result (λ steps. changes_of text.now ≡ Some (changes_in steps.items)) }
 {
     let mut steps = Vec::new(alloc);
     let mut rest = Some(text);
@@ -149,7 +149,8 @@ fn listed<'s>(alloc: Global, text: &'s str) -> Result<Vec<Step<'s>>, AllocError>
 /// | `pull N I` | `Pull(N, I)` |
 /// | `root I M` | `Root(I, M)` |
 pub fn steps<'s>(alloc: Global, text: &'s str) -> Result<Option<Vec<Step<'s>>>, AllocError>
-    ensures ok { IfOk result (λ steps. option_map (λ v. map change_of v.items) steps ≡ changes_of text.now) }
+    ensures ok { IfOk result (λ steps.
+        option_map (λ v. changes_in v.items) steps ≡ changes_of text.now) }
     ensures none { IfNone (changes_of text.now) (result ≡ Ok None) }
 {
     if !are_steps(text) {

@@ -26,7 +26,8 @@ impl<T: Writer> Output for Marked<T> {
         // It answers what one call of the wrapped writer answers, but a fault where that took none of the bytes.
         ensures ok { IfOk result (λ n. T.writes self.old.inner bytes.now (Ok n) self.new.inner) }
         ensures fault { IfErr result (λ e. T.writes self.old.inner bytes.now (Err e) self.new.inner
-            ⊎ ((0 < length bytes.now) × T.writes self.old.inner bytes.now (Ok 0) self.new.inner)) }
+            ⊎ ((0 < length bytes.now)
+            × T.writes self.old.inner bytes.now (Ok 0) self.new.inner)) }
     {
         self.flushes.wrote();
         match self.inner.write_once(bytes) {
