@@ -1,10 +1,10 @@
 -- What the words ask for.
-use Rattle.std.specs.Prelude.{◌≡◌, ℕ, List, [], ◌∷◌, Option, None, Some, map, if◌then◌else◌, codes}
+use Rattle.std.specs.Prelude.{◌≡◌, ℕ, List, [], ◌∷◌, Option, None, Some, if◌then◌else◌, codes}
 use Rattle.std.specs.Option.{option_map}
 use Rattle.std.specs.Str.{bytes_eq}
 use Rattle.tl_spec.specs.Edit.{Change}
 use Rattle.tl_spec.specs.StepLine.{changes_of}
-use Rattle.tl_program.specs.Steps.{change_of}
+use Rattle.tl_program.specs.Steps.{changes_in}
 use Rattle.tl_program.specs.declared.program.asked.Command.{Command}
 use Rattle.tl_program.specs.declared.program.asked.Command.TheVariants.{Print, Text, Again, Select, Id, Class, Edit}
 
@@ -25,7 +25,7 @@ asked_of Again = PrintsAgain
 asked_of (Select text) = Selects text.now
 asked_of (Id id) = FindsId id.now
 asked_of (Class member) = FindsClass member.now
-asked_of (Edit steps) = Edits (map change_of steps.items)
+asked_of (Edit steps) = Edits (changes_in steps.items)
 
 -- what one word asks for, if anything
 abbrev pub asked_by_one : List ℕ → Option Asked

@@ -1,5 +1,5 @@
 -- What the program writes, and with which status.
-use Rattle.std.specs.Prelude.{◌≡◌, ℕ, List, [], ◌∷◌, ◌++◌, length, map, take, slice_get, Option, None, Some, is_some, Result, Ok, Err, if◌then◌else◌, nat_lt, ◌==◌, string_bytes, ⊤}
+use Rattle.std.specs.Prelude.{◌≡◌, ℕ, List, [], ◌∷◌, ◌++◌, length, map, take, slice_get, Option, None, Some, is_some, Result, Ok, Err, if◌then◌else◌, nat_lt, ◌==◌, string_bytes, IfOk, ⊤}
 use Rattle.std.specs.Fmt.{decimal}
 use Rattle.std.specs.Global.{Global}
 use Rattle.std.specs.List.{flat_map}
@@ -18,7 +18,8 @@ use Rattle.tl_spec.specs.SelectorReading.{selector_at}
 use Rattle.tl_spec.specs.SelectorSearch.{matches_between}
 use Rattle.tl_spec.specs.Text.{inner_text}
 use Rattle.tl_spec.specs.Walk.{TreeFault, Dangling, every, trees, walk}
-use Rattle.tl_program.specs.Asked.{Asked, Prints, Texts, PrintsAgain, Selects, FindsId, FindsClass, Edits}
+use Rattle.tl_program.specs.Asked.{Asked, asked_of, Prints, Texts, PrintsAgain, Selects, FindsId, FindsClass, Edits}
+use Rattle.tl_program.specs.declared.program.asked.Command.{Command}
 use Rattle.tl_program.specs.declared.program.failure.Failure.{Failure}
 use Rattle.tl_program.specs.declared.program.failure.Failure.TheVariants.{Refused, NotUnderstood, OutOfMemory, Fault as StreamFault}
 
@@ -84,6 +85,11 @@ number_line n = decimal n ++ 10 ∷ []
 abbrev pub number_lines : List ℕ → List ℕ
 number_lines = flat_map number_line
 
+-- the numbers that a query found are written; a text that stands for no selector finds none, and is refused
+abbrev pub outcome_of_numbers : Option (List ℕ) → Outcome
+outcome_of_numbers None = refused
+outcome_of_numbers (Some numbers) = done (number_lines numbers)
+
 -- the nodes of a document where a selector holds; a text that stands for no selector is refused
 abbrev pub outcome_of_query : Option Selector → Document → Outcome
 outcome_of_query None d = refused
@@ -128,10 +134,22 @@ printed_document (FindsId id) d = None
 printed_document (FindsClass member) d = None
 printed_document (Edits changes) d = document_edited (edited_all changes d)
 
+-- what a command makes of an input
+abbrev pub command_output : Command → List ℕ → Outcome
+command_output command input = output_of (asked_of command) input
+
+-- the document whose print a command makes of a document, if it makes one
+abbrev pub command_print : Command → Document → Option Document
+command_print command d = printed_document (asked_of command) d
+
 -- where there is a document and it is clean, the text is read as its trees
 abbrev pub ReadsBack : Option Document → List ℕ → Type 0
 ReadsBack None text = ⊤
 ReadsBack (Some d) text = IsCleanTable d.nodes d.top → ReadsAs text (trees (walk every d.nodes [] d.top))
+
+-- what is given is read as the trees of this document, where there is one and it is clean
+abbrev pub PrintsBack : Option Document → Result (String Global) Failure → Type 0
+PrintsBack d result = IfOk result (λ text. ReadsBack d (string_bytes text))
 
 -- a failure says this outcome, or is want of memory
 abbrev pub Fails : Outcome → Failure → Type 0

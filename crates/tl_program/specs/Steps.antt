@@ -1,5 +1,5 @@
 -- What a step is in the words of the definitions.
-use Rattle.std.specs.Prelude.{ℕ, List, [], Option, None, Some, if◌then◌else◌, codes}
+use Rattle.std.specs.Prelude.{ℕ, List, [], map, Option, None, Some, if◌then◌else◌, codes}
 use Rattle.std.specs.List.{slice_split}
 use Rattle.std.specs.Borrow.{Bor}
 use Rattle.std.specs.Str.{bytes_eq}
@@ -20,6 +20,10 @@ change_of (Bare n key) = Bares n key.now
 change_of (Push n h) = Pushes n h
 change_of (Pull n i) = Pulls n i
 change_of (Root i h) = Roots i h
+
+-- the edits that steps are
+abbrev pub changes_in : List Step → List Change
+changes_in steps = map change_of steps
 
 -- what a word says of a number and a text, if anything
 abbrev pub change_of_text : List ℕ → ℕ → List ℕ → Option Change

@@ -1,6 +1,6 @@
 -- Edits of a table, each piece of which is held in its own way: what an edit puts is owned, and what it leaves is held as it was.
-use Rattle.std.specs.Prelude.{ℕ, nat_lt, List, [], ◌∷◌, length, take, slice_set, Bool, true, false, Option, Some, None, Result, Ok, Err, if◌then◌else◌}
-use Rattle.std.specs.List.{slice_get}
+use Rattle.std.specs.Prelude.{◌≡◌, ℕ, nat_lt, List, [], ◌∷◌, length, take, slice_set, Bool, true, false, Option, Some, None, Result, Ok, Err, IsTrue, IsSomeAnd, if◌then◌else◌}
+use Rattle.std.specs.List.{slice_get, AllByRecursion}
 use Rattle.tl_bytes.specs.Held.{Kept, as_owned}
 use Rattle.tl_bytes.specs.Keys.{same_list}
 use Rattle.tl_spec.specs.Inline.{room, with_last}
@@ -83,3 +83,11 @@ takes_memory (Bares n key) = true
 takes_memory (Pushes n h) = true
 takes_memory (Pulls n i) = false
 takes_memory (Roots i h) = false
+
+-- the edit at a place takes memory
+abbrev pub TakesMemoryAt : List Change → ℕ → Type 0
+TakesMemoryAt cs i = IsSomeAnd (slice_get cs i) (λ c. IsTrue (takes_memory c))
+
+-- no edit of these takes memory
+abbrev pub TakeNoMemory : List Change → Type 0
+TakeNoMemory cs = AllByRecursion (λ c. takes_memory c ≡ false) cs

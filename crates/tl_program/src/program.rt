@@ -10,6 +10,7 @@ mod marked;
 mod running;
 mod status;
 mod words;
+mod wrapped;
 
 pub use asked::Command;
 pub use entry::run_words;
@@ -19,3 +20,4 @@ pub use marked::Marked;
 pub use running::{output, run};
 pub use status::line;
 pub use words::command;
+pub use wrapped::{Reader, Writer};

@@ -4,6 +4,8 @@
 #[cfg(test)]
 mod again;
 #[cfg(test)]
+mod marked;
+#[cfg(test)]
 mod program;
 #[cfg(test)]
 mod scripts;

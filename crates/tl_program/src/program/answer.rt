@@ -1,5 +1,5 @@
 //! What a command writes of a text.
-ghost use Rattle.std.specs.Prelude.{map, string_bytes, IfOk};
+ghost use Rattle.std.specs.Prelude.{◌≡◌, ◌<◌, length, IsSome, Ok, Some, Err};
 ghost use Rattle.tl_spec.specs.Document.{document};
 ghost use Rattle.tl_spec.specs.Edit.{edited_all};
 ghost use Rattle.tl_spec.specs.Print.{document_print};
@@ -7,8 +7,9 @@ ghost use Rattle.tl.specs.Answer.{Answers};
 ghost use Rattle.tl.specs.Shown.{document_of};
 ghost use Rattle.tl.specs.Tracked.{AnswerIds, AnswerClasses};
 ghost use Rattle.tl_program.specs.Asked.{asked_of};
-ghost use Rattle.tl_program.specs.Output.{outcome_of_text, outcome_of_document, outcome_of_edited, outcome_of_print, texts_of, Gives, IsJustRead, document_again, document_edited, printed_document, ReadsBack};
-ghost use Rattle.tl_program.specs.Steps.{change_of};
+ghost use Rattle.tl_program.specs.Output.{outcome_of_text, outcome_of_document, outcome_of_edited, outcome_of_print, texts_of, Gives, IsJustRead, document_again, document_edited, command_print, PrintsBack};
+ghost use Rattle.tl_program.specs.Steps.{changes_in};
+ghost use Rattle.tl_program.specs.TableEdit.{TakeNoMemory};
 
 use super::asked::Command;
 use super::failure::Failure;
@@ -28,20 +29,32 @@ fn texts(alloc: Global, document: &VDom<'_>) -> Result<String, TreeError>
     document.inner_text(alloc)
 }
 
+// The print of the document that a print is read as.
+fn print_of_print(alloc: Global, print: &str) -> Result<String, Failure>
+    ensures outcome { Gives (outcome_of_print (Ok print.now)) result }
+    ensures identity { PrintsBack (Some (document print.now)) result }
+    ensures long { 4294967295 < length print.now → result ≡ Err Failure.NotUnderstood }
+{
+    let document = tl::parse(alloc, print, ParserOptions::new())?;
+    Ok(document.outer_html(alloc)?)
+}
+
 // The print of the document that the print of a document is read as.
 fn again(alloc: Global, document: &VDom<'_>) -> Result<String, Failure>
     ensures outcome { Gives (outcome_of_print (document_print (document_of document.now))) result }
-    ensures identity { IfOk result (λ s. ReadsBack (document_again (document_print (document_of document.now))) (string_bytes s)) }
+    ensures identity { PrintsBack (document_again (document_print (document_of document.now))) result }
 {
     let print = document.outer_html(alloc)?;
-    let document = tl::parse(alloc, print.as_str(), ParserOptions::new())?;
-    Ok(document.outer_html(alloc)?)
+    print_of_print(alloc, print.as_str())
 }
 
 // The print after steps.
 fn edited(alloc: Global, document: &mut VDom<'_>, steps: &[Step<'_>]) -> Result<String, Failure>
-    ensures outcome { Gives (outcome_of_edited (edited_all (map change_of steps.now) (document_of document.old))) result }
-    ensures identity { IfOk result (λ s. ReadsBack (document_edited (edited_all (map change_of steps.now) (document_of document.old))) (string_bytes s)) }
+    ensures outcome { Gives (outcome_of_edited (edited_all (changes_in steps.now) (document_of document.old))) result }
+    ensures identity { PrintsBack (document_edited (edited_all (changes_in steps.now) (document_of document.old))) result }
+    ensures refused { TakeNoMemory (changes_in steps.now)
+        → IsSome (edited_all (changes_in steps.now) (document_of document.old)).refused
+        → result ≡ Err Failure.Refused }
 {
     script::run(alloc, document, steps).map_err(|(_, error)| error)?;
     Ok(document.outer_html(alloc)?)
@@ -66,7 +79,7 @@ fn of_document(
     requires classes { AnswerClasses document.old.tracking (document_of document.old).nodes }
     requires read { IsJustRead (document_of document.old) }
     ensures outcome { Gives (outcome_of_document (asked_of command.now) (document_of document.old)) result }
-    ensures identity { IfOk result (λ s. ReadsBack (printed_document (asked_of command.now) (document_of document.old)) (string_bytes s)) }
+    ensures identity { PrintsBack (command_print command.now (document_of document.old)) result }
 {
     match command {
         Command::Print => Ok(document.outer_html(alloc)?),
@@ -82,7 +95,8 @@ fn of_document(
 /// What a command writes of a text.
 pub fn answer(alloc: Global, command: &Command<'_>, text: &str) -> Result<String, Failure>
     ensures outcome { Gives (outcome_of_text (asked_of command.now) text.now) result }
-    ensures identity { IfOk result (λ s. ReadsBack (printed_document (asked_of command.now) (document text.now)) (string_bytes s)) }
+    ensures identity { PrintsBack (command_print command.now (document text.now)) result }
+    ensures long { 4294967295 < length text.now → result ≡ Err Failure.NotUnderstood }
 {
     let mut document = tl::parse(alloc, text, options_of(command))?;
     let answer = of_document(alloc, command, &mut document);

@@ -1,8 +1,7 @@
 //! The whole program, over its words, a reader and a writer.
-ghost use Rattle.std.specs.Prelude.{◌≡◌, ◌≢◌, ◌≤◌, ◌<◌, ◌+◌, ◌==◌, true, false, ◌||◌, map, string_bytes, IsTrue, IfNone, IfSome, OnSome};
+ghost use Rattle.std.specs.Prelude.{◌≡◌, ◌≢◌, ◌≤◌, ◌<◌, ◌+◌, ◌==◌, true, false, ◌||◌, IsTrue, IfNone, IfSome, OnSome};
 ghost use Rattle.std.specs.Io.KnownBytes.{Appends, IsAtEnd};
 ghost use Rattle.tl_spec.specs.Document.{document};
-ghost use Rattle.tl_program.specs.Asked.{AreEditWords};
 ghost use Rattle.tl_program.specs.Output.{ReadsBack, AppendsBeginning};
 ghost use Rattle.tl_program.specs.Said.{asked_in, output_by, printed_by};
 
@@ -14,8 +13,7 @@ use std::alloc::Global;
 
 /// Runs the command that the words say, and answers the status, as `run` does.
 ///
-/// Words that say no command are not understood: the status is 2, or 3 where memory runs out over lines of steps, and
-/// nothing is asked of the reader and the writer.
+/// Words that say no command are not understood: the status is 2, and nothing is asked of the reader and the writer.
 pub fn run_words<R: Input, W: Output>(
     alloc: Global,
     words: &[String],
@@ -25,8 +23,7 @@ pub fn run_words<R: Input, W: Output>(
     ensures range { result ≤ 4 }
 
     // Words that say no command.
-    ensures unasked { IfNone (asked_in words.now) (result ≢ 3 → result ≡ 2) }
-    ensures unasked_memory { IfNone (asked_in words.now) (result ≡ 3 → AreEditWords (map string_bytes words.now)) }
+    ensures unasked { IfNone (asked_in words.now) (result ≡ 2) }
     ensures unasked_reader { IfNone (asked_in words.now) (reader.new ≡ reader.old) }
     ensures unasked_writer { IfNone (asked_in words.now) (writer.new ≡ writer.old) }
 
@@ -35,7 +32,8 @@ pub fn run_words<R: Input, W: Output>(
         result ≡ (output_by words.now input).status) }
     ensures written { result ≢ 3 → result ≢ 4 → IfSome (R.left reader.old) (λ input.
         Appends (W.holds writer.old) (W.holds writer.new) (output_by words.now input).bytes) }
-    ensures end { result ≢ 3 → result ≢ 4 → OnSome (asked_in words.now) (IsAtEnd (R.left reader.new)) }
+    ensures end { result ≢ 3 → result ≢ 4 →
+        OnSome (asked_in words.now) (IsAtEnd (R.left reader.new)) }
 
     // Where a clean document is printed, what is written is read as its trees again.
     ensures identity { result ≡ 0 → IfSome (R.left reader.old) (λ input.
@@ -49,10 +47,13 @@ pub fn run_words<R: Input, W: Output>(
 
     // A failed read leaves it alone too; a failed write leaves a beginning of what is to be written.
     ensures beginning { result ≡ 4 → IfSome (R.left reader.old) (λ input.
-        AppendsBeginning (W.holds writer.old) (W.holds writer.new) (output_by words.now input).bytes) }
-    ensures unread { R.has_failed reader.old ≡ false → R.has_failed reader.new ≡ true → writer.new ≡ writer.old }
+        AppendsBeginning (W.holds writer.old) (W.holds writer.new)
+        (output_by words.now input).bytes) }
+    ensures unread { R.has_failed reader.old ≡ false → R.has_failed reader.new ≡ true →
+        writer.new ≡ writer.old }
     ensures unwritten { result ≡ 4 → R.has_failed reader.new ≡ false →
-        IsAtEnd (R.left reader.new) × IfSome (R.left reader.old) (λ input. (output_by words.now input).status ≡ 0) }
+        IsAtEnd (R.left reader.new) × IfSome (R.left reader.old) (λ input.
+        (output_by words.now input).status ≡ 0) }
     ensures failed { R.has_failed reader.old ≡ false → W.has_failed writer.old ≡ false →
         (result == 4) ≡ (R.has_failed reader.new || W.has_failed writer.new) }
 {

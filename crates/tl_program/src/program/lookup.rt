@@ -1,11 +1,11 @@
 //! What lookups and queries write: the numbers of nodes, one on each line.
-ghost use Rattle.std.specs.Prelude.{◌≡◌, ◌++◌, IfOk, OnOk, string_bytes};
+ghost use Rattle.std.specs.Prelude.{◌≡◌, ◌++◌, Err, IfOk, IfNone, OnOk, string_bytes};
 ghost use Rattle.std.specs.Option.{option_to_list};
 ghost use Rattle.tl_bytes.specs.Held.{borrowed};
 ghost use Rattle.tl_spec.specs.SelectorReading.{selector_at};
 ghost use Rattle.tl.specs.Lookup.{with_id, with_member};
 ghost use Rattle.tl.specs.Shown.{document_of};
-ghost use Rattle.tl_program.specs.Output.{number_line, number_lines, outcome_of_query, Gives};
+ghost use Rattle.tl_program.specs.Output.{number_line, number_lines, outcome_of_numbers, outcome_of_query, Gives};
 
 use super::failure::Failure;
 use std::alloc::{AllocError, Global};
@@ -23,7 +23,8 @@ fn add_line(alloc: Global, lines: &mut String, handle: NodeHandle) -> Result<(),
 
 /// The line of the first tag with an id, or nothing.
 pub fn by_id(alloc: Global, document: &VDom<'_>, id: &str) -> Result<String, AllocError>
-    ensures { IfOk result (λ s. string_bytes s ≡ number_lines (option_to_list (with_id document.now (record { list = id.now; held = borrowed })))) }
+    ensures { IfOk result (λ s. string_bytes s ≡ number_lines (option_to_list
+        (with_id document.now (record { list = id.now; held = borrowed })))) }
 {
     let mut lines = String::new(alloc);
     if let Some(handle) = document.get_element_by_id(Bytes::from(id)) {
@@ -34,7 +35,8 @@ pub fn by_id(alloc: Global, document: &VDom<'_>, id: &str) -> Result<String, All
 
 /// The lines of the tags with a class member.
 pub fn by_class(alloc: Global, document: &VDom<'_>, member: &str) -> Result<String, AllocError>
-    ensures { IfOk result (λ s. string_bytes s ≡ number_lines (with_member document.now member.now)) }
+    ensures { IfOk result (λ s.
+        string_bytes s ≡ number_lines (with_member document.now member.now)) }
 {
     let mut lines = String::new(alloc);
     for handle in document.get_elements_by_class_name(member) {
@@ -54,12 +56,24 @@ fn lines_of(alloc: Global, found: QuerySelectorIterator<'_, '_>) -> Result<Strin
     Ok(lines)
 }
 
+// The lines of what a query found; a text that stands for no selector finds nothing, and is refused.
+fn lines_found(
+    alloc: Global,
+    found: Option<QuerySelectorIterator<'_, '_>>,
+) -> Result<String, Failure>
+    ensures outcome { Gives (outcome_of_numbers found.entry) result }
+    ensures none { IfNone found.entry (result ≡ Err Failure.Refused) }
+{
+    match found {
+        Some(found) => Ok(lines_of(alloc, found)?),
+        None => Err(Failure::Refused),
+    }
+}
+
 /// The lines of the nodes where a selector holds; a text that stands for no selector is refused.
 pub fn by_selector(alloc: Global, document: &VDom<'_>, selector: &str) -> Result<String, Failure>
     ensures { Gives (outcome_of_query (selector_at selector.now) (document_of document.now)) result }
 {
-    match document.query_selector(alloc, selector)? {
-        Some(found) => Ok(lines_of(alloc, found)?),
-        None => Err(Failure::Refused),
-    }
+    let found = document.query_selector(alloc, selector)?;
+    lines_found(alloc, found)
 }

@@ -1,10 +1,9 @@
 //! A run of the program: it reads all, makes the output, and writes it.
-ghost use Rattle.std.specs.Prelude.{◌≡◌, ◌≢◌, ◌≤◌, ◌<◌, ◌+◌, ◌==◌, true, false, ◌||◌, is_ok, is_err, if◌then◌else◌, string_bytes, IsTrue, IfOk, IfErr, IfSome, OnOk, OnErr};
+ghost use Rattle.std.specs.Prelude.{◌≡◌, ◌≢◌, ◌≤◌, ◌<◌, ◌+◌, ◌==◌, true, false, ◌||◌, is_ok, is_err, if◌then◌else◌, length, IsUtf8, IsTrue, Err, IfOk, IfErr, IfSome, OnOk, OnErr};
 ghost use Rattle.std.specs.Io.KnownBytes.{Keeps, Appends, IsAtEnd};
 ghost use Rattle.tl_spec.specs.Document.{document};
-ghost use Rattle.tl_program.specs.Asked.{asked_of};
 ghost use Rattle.tl_program.specs.Failure.{is_fault, IsReadFailure};
-ghost use Rattle.tl_program.specs.Output.{output_of, printed_document, Gives, ReadsBack, AppendsBeginning};
+ghost use Rattle.tl_program.specs.Output.{command_output, command_print, Gives, PrintsBack, ReadsBack, AppendsBeginning};
 
 use super::answer::answer;
 use super::asked::Command;
@@ -61,8 +60,12 @@ fn deliver<W: Output>(writer: &mut W, bytes: &[u8]) -> Result<(), Fault>
 /// What a command gives of a page, as `run` writes it of the page that it reads; or why it gives nothing, where the number of the
 /// failure is the status. The memory of the page's document is not taken back.
 pub fn output(alloc: Global, command: &Command<'_>, input: &[u8]) -> Result<String, Failure>
-    ensures outcome { Gives (output_of (asked_of command.now) input.now) result }
-    ensures identity { IfOk result (λ s. ReadsBack (printed_document (asked_of command.now) (document input.now)) (string_bytes s)) }
+    ensures outcome { Gives (command_output command.now input.now) result }
+    ensures identity { PrintsBack (command_print command.now (document input.now)) result }
+
+    // What is no text, or too long, is not understood before memory is asked for.
+    ensures no_text { ¬ (IsUtf8 input.now) → result ≡ Err Failure.NotUnderstood }
+    ensures long { 4294967295 < length input.now → result ≡ Err Failure.NotUnderstood }
 {
     match str::from_utf8(input) {
         Ok(text) => answer(alloc, command, text),
@@ -86,15 +89,16 @@ pub fn run<R: Input, W: Output>(
 
     // Where memory is found and nothing fails.
     ensures exact { result ≢ 3 → result ≢ 4 → IfSome (R.left reader.old) (λ input.
-        result ≡ (output_of (asked_of command.now) input).status) }
+        result ≡ (command_output command.now input).status) }
     ensures written { result ≢ 3 → result ≢ 4 → IfSome (R.left reader.old) (λ input.
-        Appends (W.holds writer.old) (W.holds writer.new) (output_of (asked_of command.now) input).bytes) }
+        Appends (W.holds writer.old) (W.holds writer.new) (command_output command.now input).bytes) }
     ensures end { result ≢ 3 → result ≢ 4 → IsAtEnd (R.left reader.new) }
 
     // Where a clean document is printed, what is written is read as its trees again. For `print` that document was
     // just read, of which `fresh_is_clean` says when it is clean.
     ensures identity { result ≡ 0 → IfSome (R.left reader.old) (λ input.
-        ReadsBack (printed_document (asked_of command.now) (document input)) (output_of (asked_of command.now) input).bytes) }
+        ReadsBack (command_print command.now (document input))
+        (command_output command.now input).bytes) }
 
     // Where all is done, one flush comes after the last write, and else none. A refusal leaves the writer alone.
     ensures flushed_once { result ≡ 0 → W.flushes writer.new ≡ W.flushes writer.old + 1 }
@@ -106,10 +110,13 @@ pub fn run<R: Input, W: Output>(
     // is to be written.
     ensures nothing { 0 < result → result < 4 → Keeps (W.holds writer.old) (W.holds writer.new) }
     ensures beginning { result ≡ 4 → IfSome (R.left reader.old) (λ input.
-        AppendsBeginning (W.holds writer.old) (W.holds writer.new) (output_of (asked_of command.now) input).bytes) }
-    ensures unread { R.has_failed reader.old ≡ false → R.has_failed reader.new ≡ true → writer.new ≡ writer.old }
+        AppendsBeginning (W.holds writer.old) (W.holds writer.new)
+        (command_output command.now input).bytes) }
+    ensures unread { R.has_failed reader.old ≡ false → R.has_failed reader.new ≡ true →
+        writer.new ≡ writer.old }
     ensures unwritten { result ≡ 4 → R.has_failed reader.new ≡ false →
-        IsAtEnd (R.left reader.new) × IfSome (R.left reader.old) (λ input. (output_of (asked_of command.now) input).status ≡ 0) }
+        IsAtEnd (R.left reader.new) × IfSome (R.left reader.old) (λ input.
+        (command_output command.now input).status ≡ 0) }
     ensures failed { R.has_failed reader.old ≡ false → W.has_failed writer.old ≡ false →
         (result == 4) ≡ (R.has_failed reader.new || W.has_failed writer.new) }
 {

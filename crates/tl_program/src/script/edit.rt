@@ -1,11 +1,11 @@
 //! Steps on a document.
-ghost use Rattle.std.specs.Prelude.{◌≡◌, map, slice_get, OnOk, IfErr, IsSomeAnd, IsTrue};
+ghost use Rattle.std.specs.Prelude.{◌≡◌, OnOk, IfErr};
 ghost use Rattle.std.specs.Borrow.{sem};
 ghost use Rattle.tl_spec.specs.Edit.{Roots, edited_all, done};
 ghost use Rattle.tl.specs.Shown.{document_of};
-ghost use Rattle.tl_program.specs.Steps.{change_of};
+ghost use Rattle.tl_program.specs.Steps.{change_of, changes_in};
 ghost use Rattle.std.specs.Fn.{FnOnceReturnsAtMut};
-ghost use Rattle.tl_program.specs.TableEdit.{edited_table, table_after, done_edits, takes_memory};
+ghost use Rattle.tl_program.specs.TableEdit.{edited_table, table_after, done_edits, takes_memory, TakesMemoryAt};
 ghost use Rattle.tl_program.specs.Script.{Changes, ChangesTagAt, PutsNode, StopsAt, IsTagAt};
 ghost use Rattle.tl_program.specs.TagLent.{LendsTagAt};
 
@@ -24,12 +24,15 @@ pub fn run<'a>(
     document: &mut VDom<'a>,
     steps: &[Step<'_>],
 ) -> Result<(), (usize, StepError)>
-    ensures ok { OnOk result (edited_all (map change_of steps.now) (document_of document.old) ≡ done (document_of document.new)) }
-    ensures err { IfErr result (λ e. StopsAt (map change_of steps.now) (document_of document.old) (document_of document.new) e.0 e.1) }
+    ensures ok { OnOk result
+        (edited_all (changes_in steps.now) (document_of document.old) ≡ done (document_of document.new)) }
+    ensures err { IfErr result (λ e.
+        StopsAt (changes_in steps.now) (document_of document.old) (document_of document.new) e.0 e.1) }
     // How each piece is held: what a step puts is owned, and what it leaves is held as it was.
-    ensures held { table_after (done_edits (map change_of steps.now) result) document.old ≡ Ok document.new }
+    ensures held { table_after (done_edits (changes_in steps.now) result) document.old ≡ Ok document.new }
     ensures first { IfErr result (λ e. e.0 ≡ 0 → document.new ≡ document.old) }
-    ensures memory { IfErr result (λ e. e.1 ≡ StepError.OutOfMemory → IsSomeAnd (slice_get (map change_of steps.now) e.0) (λ c. IsTrue (takes_memory c))) }
+    ensures memory { IfErr result (λ e.
+        e.1 ≡ StepError.OutOfMemory → TakesMemoryAt (changes_in steps.now) e.0) }
     ensures version { document.new.version ≡ document.old.version }
 {
     for (place, step) in steps.iter().enumerate() {

@@ -1,9 +1,9 @@
 //! Steps read from text, one on each line.
-ghost use Rattle.std.specs.Prelude.{◌≡◌, ◌==◌, ◌∷◌, ◌<◌, length, IfOk, IfSome, map};
+ghost use Rattle.std.specs.Prelude.{◌≡◌, ◌==◌, ◌∷◌, ◌<◌, length, is_some, IsSome, IfOk, IfSome, IfNone, Ok, None, Some};
 ghost use Rattle.std.specs.Option.{option_map};
 ghost use Rattle.std.specs.List.{slice_split};
 ghost use Rattle.tl_spec.specs.StepLine.{is_line_feed, number_of, first_word, after_word, change_by_word, change_of_line, changes_of};
-ghost use Rattle.tl_program.specs.Steps.{change_of, change_of_text, change_of_numbers, lines_left};
+ghost use Rattle.tl_program.specs.Steps.{change_of, changes_in, change_of_text, change_of_numbers, lines_left};
 
 use super::step::Step;
 use std::alloc::{AllocError, Global};
@@ -97,7 +97,40 @@ fn cut_line<'s>(text: &'s str) -> (&'s str, Option<&'s str>)
     }
 }
 
+// Whether each line of a text says a step, but for empty ones.
+fn are_steps(text: &str) -> bool
+    ensures { result ≡ is_some (changes_of text.now) }
+{
+    let mut rest = Some(text);
+    while let Some(all) = rest {
+        let (line, more) = cut_line(all);
+        rest = more;
+        if !line.is_empty() && step(line).is_none() {
+            return false;
+        }
+    }
+    true
+}
+
+// The steps of a text whose lines say steps.
+fn listed<'s>(alloc: Global, text: &'s str) -> Result<Vec<Step<'s>>, AllocError>
+    requires { IsSome (changes_of text.now) }
+    ensures { IfOk result (λ steps. changes_of text.now ≡ Some (changes_in steps.items)) }
+{
+    let mut steps = Vec::new(alloc);
+    let mut rest = Some(text);
+    while let Some(all) = rest {
+        let (line, more) = cut_line(all);
+        rest = more;
+        if let Some(step) = step(line) {
+            steps.push(step)?;
+        }
+    }
+    Ok(steps)
+}
+
 /// The steps that a text says, one a line, or None where a line is of none of the forms. Empty lines are passed over.
+/// Memory is taken once all lines are known to say steps.
 ///
 /// A line is a word, and after a space each what the table says. A number is one or more decimal digits of a value of
 /// at most 4294967295. What stands last in a line runs to its end, spaces and a carriage return included, and is empty
@@ -116,20 +149,12 @@ fn cut_line<'s>(text: &'s str) -> (&'s str, Option<&'s str>)
 /// | `pull N I` | `Pull(N, I)` |
 /// | `root I M` | `Root(I, M)` |
 pub fn steps<'s>(alloc: Global, text: &'s str) -> Result<Option<Vec<Step<'s>>>, AllocError>
-    ensures { IfOk result (λ steps. option_map (λ v. map change_of v.items) steps ≡ changes_of text.now) }
+    ensures ok { IfOk result (λ steps.
+        option_map (λ v. changes_in v.items) steps ≡ changes_of text.now) }
+    ensures none { IfNone (changes_of text.now) (result ≡ Ok None) }
 {
-    let mut steps = Vec::new(alloc);
-    let mut rest = Some(text);
-    while let Some(all) = rest {
-        let (line, more) = cut_line(all);
-        rest = more;
-        if line.is_empty() {
-            continue;
-        }
-        match step(line) {
-            Some(step) => steps.push(step)?,
-            None => return Ok(None),
-        }
+    if !are_steps(text) {
+        return Ok(None);
     }
-    Ok(Some(steps))
+    Ok(Some(listed(alloc, text)?))
 }

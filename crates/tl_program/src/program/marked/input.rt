@@ -1,17 +1,27 @@
 //! `Marked` as what is read from.
+ghost use Rattle.std.specs.Prelude.{◌≡◌, ◌||◌, is_err};
+ghost use Rattle.std.specs.Io.{ReadsAtMost};
+ghost use Rattle.std.specs.Io.KnownBytes.{ReadConsumes};
+
 use super::Marked;
 use crate::program::fault::{Fault, Input};
-use std::io::Read;
+use crate::program::wrapped::Reader;
 
-impl<T: Read> Input for Marked<T> {
-    ghost left = { λ m. T.remaining m.inner };
+impl<T: Reader> Input for Marked<T> {
+    ghost left = { λ m. T.left m.inner };
 
     ghost has_failed = { λ m. m.has_failed };
 
-    fn read(&mut self, buffer: &mut [u8]) -> Result<usize, Fault> {
-        match self.inner.read(buffer) {
+    fn read(&mut self, buffer: &mut [u8]) -> Result<usize, Fault>
+        ensures bound { ReadsAtMost result buffer.new }
+        ensures bytes { ReadConsumes (T.left self.old.inner) (T.left self.new.inner) result buffer.new }
+        ensures marks { self.new.has_failed ≡ (self.old.has_failed || is_err result) }
+        // It answers what one call of the wrapped reader answers.
+        ensures one { T.reads self.old.inner buffer.old result buffer.new self.new.inner }
+    {
+        match self.inner.read_once(buffer) {
             Ok(n) => Ok(n),
-            Err(_) => Err(self.fault()),
+            Err(Fault) => Err(self.fault()),
         }
     }
 

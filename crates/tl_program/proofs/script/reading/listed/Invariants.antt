@@ -3,7 +3,7 @@ use Rattle.std.specs.Option.{option_map_or}
 use Rattle.tl_spec.specs.StepLine.{changes_of, changes_of_lines}
 use Rattle.tl_program.specs.Steps.{change_of, lines_left}
 use Rattle.tl_program.proofs.Lines.{after_changes}
-use Rattle.tl_program.proofs.script.reading.steps.Given as goal
+use Rattle.tl_program.proofs.script.reading.listed.Given as goal
 
 -- the steps so far, and then those of what is left, are those of the text
 abbrev pub invariant-loop-rest : goal.invariant-loop-rest
