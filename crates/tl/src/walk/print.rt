@@ -1,5 +1,5 @@
 //! Prints.
-ghost use Rattle.std.specs.Prelude.{◌≡◌, ◌++◌, ℕ, [], map, flat_map, codes, Ok, Err, OnOk, IfOk, IfErr, string_bytes};
+ghost use Rattle.std.specs.Prelude.{◌≡◌, ◌++◌, ℕ, [], map, flat_map, codes, Ok, Err, OnOk, IfOk, IfErr, IsAscii, IsTrue, string_bytes};
 ghost use Rattle.std.specs.List.{AllByRecursion};
 ghost use Rattle.std.specs.Option.{option_copied};
 ghost use Rattle.std.specs.Str.Lossy.{utf8_lossy};
@@ -28,11 +28,38 @@ use tl_attributes::attributes::Attributes;
 use tl_bytes::byte_string::Bytes;
 use tl_token::names::is_printed_alone;
 
+// Up to how many bytes are pushed one by one, which costs less than a search for a byte above ASCII and a copy.
+const FEW: usize = 8;
+
+// Whether there are few bytes, all ASCII.
+#[inline(always)]
+fn are_few_ascii(bytes: &[u8]) -> bool
+    ensures { IsTrue result → IsAscii bytes.now }
+{
+    bytes.len() <= FEW && bytes.iter().all(|byte| byte.is_ascii())
+}
+
+// Pushes ASCII bytes one by one.
+#[inline(always)]
+fn push_ascii(bytes: &[u8], out: &mut String) -> Result<(), TreeError>
+    requires { IsAscii bytes.now }
+    ensures ok { OnOk result (string_bytes out.new ≡ string_bytes out.old ++ bytes.now) }
+    ensures err { IfErr result (λ e. e ≡ TreeError.OutOfMemory) }
+{
+    for byte in bytes {
+        out.push(*byte as char)?;
+    }
+    Ok(())
+}
+
 // Writes bytes as text.
 pub(crate) fn write_lossy(bytes: &[u8], out: &mut String) -> Result<(), TreeError>
     ensures ok { OnOk result (string_bytes out.new ≡ string_bytes out.old ++ utf8_lossy bytes.now) }
     ensures err { IfErr result (λ e. e ≡ TreeError.OutOfMemory) }
 {
+    if are_few_ascii(bytes) {
+        return push_ascii(bytes, out);
+    }
     bytes.to_str_lossy_into(out)?;
     Ok(())
 }

@@ -23,7 +23,7 @@ use std::marker::Model;
 const FEW: usize = 16;
 
 // For how many more pairs there is room as they come to the heap.
-const MORE: usize = 2;
+const MORE: usize = 3;
 
 // A map that keeps the order in which its keys came: a list of few pairs, an index map of many. That stays one, also
 // when pairs are removed. A clause sees the pairs in order, with distinct keys.
