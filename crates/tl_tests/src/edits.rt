@@ -195,7 +195,7 @@ const LINK: &str = "<div><p href=\"/about\" id=\"find-me\">Hello world</p></div>
 
 const EDITABLE: &str = "<span contenteditable=\"true\">testing</a>";
 
-static EDITED: [Row; 24] = [
+static EDITED: [Row; 25] = [
     (
         "<a><b></b></a>",
         &[Edit::Push(1, 0)],
@@ -308,6 +308,12 @@ static EDITED: [Row; 24] = [
     ("a<b>c</b>", &[Edit::SwapTop], Look::Print, "<b>c</b>a"),
     ("<a><b></b></a>x", &[Edit::Root(0, 2)], Look::Print, "xx"),
     ("a<b>c</b>", &[Edit::SwapNodes], Look::Print, "<b>c</b>a"),
+    (
+        "<a></a>",
+        &[Edit::Root(0, 4294967295)],
+        Look::Print,
+        "dangling 4294967295",
+    ),
 ];
 
 #[test]
