@@ -9,6 +9,7 @@ const NEVER: usize = usize::MAX;
 
 // How a writer takes what it is given: at most `most` bytes a call, with an error at the call `bad`, counted from 0, and
 // with or without one at the first flush, of this kind. It would take what is tried again.
+#[derive(Clone, Copy)]
 struct Manner {
     most: usize,
     bad: usize,
