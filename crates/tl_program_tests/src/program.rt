@@ -8,53 +8,62 @@ use tl_program::program::{Command, Fault, Input, Marked, Output, command, line, 
 const NEVER: usize = usize::MAX;
 
 // How a writer takes what it is given: at most `most` bytes a call, with an error at the call `bad`, counted from 0, and
-// with or without one at the first flush. It would take what is tried again.
+// with or without one at the first flush, of this kind. It would take what is tried again.
+#[derive(Clone, Copy)]
 struct Manner {
     most: usize,
     bad: usize,
     flush_fails: bool,
+    kind: ErrorKind,
 }
 
 const WHOLE: Manner = Manner {
     most: usize::MAX,
     bad: NEVER,
     flush_fails: false,
+    kind: ErrorKind::Interrupted,
 };
 
 const THREE_BYTES: Manner = Manner {
     most: 3,
     bad: NEVER,
     flush_fails: false,
+    kind: ErrorKind::Interrupted,
 };
 
 const ONE_BYTE: Manner = Manner {
     most: 1,
     bad: NEVER,
     flush_fails: false,
+    kind: ErrorKind::Interrupted,
 };
 
 const NO_BYTE: Manner = Manner {
     most: 0,
     bad: NEVER,
     flush_fails: false,
+    kind: ErrorKind::Interrupted,
 };
 
 const FIRST_FAILS: Manner = Manner {
     most: 3,
     bad: 0,
     flush_fails: false,
+    kind: ErrorKind::Interrupted,
 };
 
 const SECOND_FAILS: Manner = Manner {
     most: 3,
     bad: 1,
     flush_fails: false,
+    kind: ErrorKind::Interrupted,
 };
 
 const FLUSH_FAILS: Manner = Manner {
     most: 100,
     bad: NEVER,
     flush_fails: true,
+    kind: ErrorKind::Other,
 };
 
 // A writer of that manner.
@@ -71,7 +80,7 @@ impl<'a> Write for Narrow<'a> {
         let call = self.calls;
         self.calls = call.saturating_add(1);
         if call == self.manner.bad {
-            return Err(io::Error::from(ErrorKind::Interrupted));
+            return Err(io::Error::from(self.manner.kind));
         }
         let n = buffer.len().min(self.manner.most);
         self.taken.extend_from_slice(&buffer[..n])?;
@@ -82,7 +91,7 @@ impl<'a> Write for Narrow<'a> {
         let flush = self.flushes;
         self.flushes = flush.saturating_add(1);
         if flush == 0 && self.manner.flush_fails {
-            Err(io::Error::from(ErrorKind::Other))
+            Err(io::Error::from(self.manner.kind))
         } else {
             Ok(())
         }
@@ -191,13 +200,14 @@ fn writes_are_answered(rt: HostRuntime) {
     }
 }
 
-// A reader of a text in pieces of three bytes, with an error at the call `bad`, counted from 0. It would go on with the
-// text where that is tried again.
+// A reader of a text in pieces of three bytes, with an error of this kind at the call `bad`, counted from 0. It would go on
+// with the text where that is tried again.
 #[derive(Drop)]
 struct Pieces<'a> {
     left: &'a [u8],
     calls: usize,
     bad: usize,
+    kind: ErrorKind,
 }
 
 impl<'a> Read for Pieces<'a> {
@@ -205,7 +215,7 @@ impl<'a> Read for Pieces<'a> {
         let call = self.calls;
         self.calls = call.saturating_add(1);
         if call == self.bad {
-            return Err(io::Error::from(ErrorKind::Interrupted));
+            return Err(io::Error::from(self.kind));
         }
         let n = self.left.len().min(3).min(buffer.len());
         let (front, rest) = self.left.split_at(n);
@@ -226,6 +236,7 @@ fn printed_from_pieces(
         left: page,
         calls: 0,
         bad,
+        kind: ErrorKind::Interrupted,
     });
     let mut writer = Marked::new(written);
     let status = run(alloc, &Command::Print, &mut reader, &mut writer);
@@ -329,6 +340,7 @@ const ANSWERS: &[(&[&str], &[u8], u8, &[u8])] = &[
     (&["select", ",a"], b"", 1, b""),
     (&["select", ""], b"<p>a</p>", 1, b""),
     (&["select", ",a"], b"\xff", 2, b""),
+    (&["select", ","], b"\xff", 2, b""),
     (&["id", "b"], b"<p id=a><p id=b><p id=b>", 0, b"1\n"),
     (&["id", "c"], b"<p id=a>", 0, b""),
     (&["id", ""], b"<p><p id=\"\">", 0, b"1\n"),
@@ -351,6 +363,139 @@ fn commands_of_words(rt: HostRuntime) {
             are_answered(rt.alloc(), words, page, *status, bytes),
             "row {place}"
         );
+    }
+}
+
+// What a stream fails with. That memory ran out there is a fault like the others.
+static KINDS: [ErrorKind; 6] = [
+    ErrorKind::Interrupted,
+    ErrorKind::OutOfMemory,
+    ErrorKind::WouldBlock,
+    ErrorKind::UnexpectedEof,
+    ErrorKind::WriteZero,
+    ErrorKind::Other,
+];
+
+// Words, a page, and what is written where no stream fails.
+type Streamed = (&'static [&'static str], &'static [u8], &'static [u8]);
+
+static STREAMED: [Streamed; 12] = [
+    (&["print"], b"<p>a</p>", b"<p>a</p>"),
+    (&["text"], b"a<p>b<br>c</p>", b"abc"),
+    (&["again"], b"<p a='x\"y'>z</p>", b"<p a=\"x\" y>z</p>"),
+    (&["edit", "name 0 b"], b"<a>y</a>", b"<b>y</b>"),
+    (&["select", "p"], b"<p><p><b><p>", b"0\n1\n3\n"),
+    (&["id", "i"], b"<p><p id=i>", b"1\n"),
+    (&["class", "k"], b"<p class=k><p class=\"l k\">", b"0\n1\n"),
+    // Nothing is written, so no write fails.
+    (&["print"], b"", b""),
+    (&["text"], b"<p></p>", b""),
+    (&["select", "q"], b"<p>", b""),
+    (&["id", "zz"], b"<p>", b""),
+    (&["class", "zz"], b"<p>", b""),
+];
+
+// Runs the command of the words between two streams, and answers the status and whether each stream is marked as failed.
+fn run_streams(
+    alloc: Global,
+    words: &[String],
+    reader: Pieces<'_>,
+    manner: &Manner,
+    taken: &mut Vec<u8>,
+) -> Result<(u8, bool, bool), AllocError> {
+    let mut reader = Marked::new(reader);
+    let mut writer = narrow_writer(manner, taken);
+    match command(alloc, words)? {
+        Some(asked) => {
+            let status = run(alloc, &asked, &mut reader, &mut writer);
+            Ok((status, reader.failed(), writer.failed()))
+        }
+        None => Ok((2, false, false)),
+    }
+}
+
+// Whether a run with a reader that fails at a call, if it comes to that, and a writer of that manner has this status, writes
+// so many bytes of what it is to write, and marks one stream as failed at status 4 and none else.
+fn streams(
+    alloc: Global,
+    row: &Streamed,
+    bad_read: usize,
+    manner: &Manner,
+    wanted: u8,
+    len: usize,
+) -> Result<bool, AllocError> {
+    let words = owned(alloc, row.0)?;
+    let mut taken = Vec::new(alloc);
+    let reader = Pieces {
+        left: row.1,
+        calls: 0,
+        bad: bad_read,
+        kind: manner.kind,
+    };
+    let (status, read_failed, write_failed) = run_streams(
+        alloc, &words, reader, manner, &mut taken,
+    )?;
+    Ok(
+        status == wanted
+            && read_failed == (wanted == 4 && bad_read != NEVER)
+            && write_failed == (wanted == 4 && bad_read == NEVER)
+            && row.2.get(..len) == Some(taken.as_slice()),
+    )
+}
+
+// The same where each write takes a byte and the one of this number fails: there is one for each byte.
+fn writes_fail(alloc: Global, row: &Streamed, kind: ErrorKind) -> Result<bool, AllocError> {
+    let len = row.2.len();
+    for bad in 0..=len {
+        let manner = Manner {
+            most: 1,
+            bad,
+            flush_fails: false,
+            kind,
+        };
+        let status = if bad < len { 4 } else { 0 };
+        if !streams(alloc, row, NEVER, &manner, status, bad)? {
+            return Ok(false);
+        }
+    }
+    Ok(true)
+}
+
+// Where a read fails, be it the one that would say that the page ends, nothing is written.
+fn reads_fail(alloc: Global, row: &Streamed, kind: ErrorKind) -> Result<bool, AllocError> {
+    let manner = Manner { kind, ..WHOLE };
+    for bad in 0..=row.1.len().div_ceil(3) {
+        if !streams(alloc, row, bad, &manner, 4, 0)? {
+            return Ok(false);
+        }
+    }
+    Ok(true)
+}
+
+// Where the flush fails, or a write takes nothing of something.
+fn ends_fail(alloc: Global, row: &Streamed, kind: ErrorKind) -> Result<bool, AllocError> {
+    let len = row.2.len();
+    let flush = Manner {
+        kind,
+        ..FLUSH_FAILS
+    };
+    let none = Manner { kind, ..NO_BYTE };
+    let status = if len == 0 { 0 } else { 4 };
+    Ok(streams(alloc, row, NEVER, &flush, 4, len)? && streams(alloc, row, NEVER, &none, status, 0)?)
+}
+
+fn all_fail(alloc: Global, row: &Streamed, kind: ErrorKind) -> bool {
+    writes_fail(alloc, row, kind) == Ok(true)
+        && reads_fail(alloc, row, kind) == Ok(true)
+        && ends_fail(alloc, row, kind) == Ok(true)
+}
+
+#[test]
+fn streams_that_fail(rt: HostRuntime) {
+    for row in &STREAMED {
+        for kind in &KINDS {
+            assert!(rt; all_fail(rt.alloc(), row, *kind), "{:?} {kind:?}", row.0);
+        }
     }
 }
 

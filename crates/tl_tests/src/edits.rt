@@ -309,6 +309,12 @@ static EDITED: [Row; 25] = [
     ("<a><b></b></a>x", &[Edit::Root(0, 2)], Look::Print, "xx"),
     ("<a></a>", &[Edit::Root(0, 7)], Look::Print, "dangling 7"),
     ("a<b>c</b>", &[Edit::SwapNodes], Look::Print, "<b>c</b>a"),
+    (
+        "<a></a>",
+        &[Edit::Root(0, 4294967295)],
+        Look::Print,
+        "dangling 4294967295",
+    ),
 ];
 
 #[test]

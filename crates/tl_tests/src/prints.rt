@@ -87,7 +87,7 @@ static COMMENTS_AND_DOCTYPES: [(&str, &str); 7] = [
     ("<!<p>", "<p></p>"),
 ];
 
-static CUT: [(&str, &str); 7] = [
+static CUT: [(&str, &str); 10] = [
     ("<", ""),
     ("<!", ""),
     ("<p a=", ""),
@@ -95,6 +95,9 @@ static CUT: [(&str, &str); 7] = [
     ("<!--", ""),
     ("<!doctype html", ""),
     ("<p>abcd</p", "<p>abcd</p>"),
+    ("<p>x<", "<p>x</p>"),
+    ("<p>x</", "<p>x</p>"),
+    ("<p>x</p", "<p>x</p>"),
 ];
 
 #[test]

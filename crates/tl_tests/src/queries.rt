@@ -377,7 +377,7 @@ fn page_has_range(alloc: Global, row: &Range, keeps: bool) -> Result<bool, Fail>
     has_range(alloc, &mut document, row)
 }
 
-static RANGES: [Range; 11] = [
+static RANGES: [Range; 12] = [
     (
         "<a><b></b></a><c></c>",
         &[],
@@ -419,6 +419,12 @@ static RANGES: [Range; 11] = [
         "<a><b></b></a>",
         &[Edit::Push(1, 0)],
         1,
+        "Some(0) Err(Cycle(NodeHandle(0))) Err(Cycle(NodeHandle(0))) Err(Cycle(NodeHandle(0)))",
+    ),
+    (
+        "<a></a>",
+        &[Edit::Push(0, 0)],
+        0,
         "Some(0) Err(Cycle(NodeHandle(0))) Err(Cycle(NodeHandle(0))) Err(Cycle(NodeHandle(0)))",
     ),
     (
