@@ -1,187 +1,443 @@
-//! Lists and maps with room for one or two items inline.
-use crate::stop::{Stop, expect};
-use std::alloc::Global;
+//! Lists and maps with room for no, one or two items inline.
+use crate::Named;
+use crate::case::Case;
+use crate::stop::{Stop, refused, value};
+use std::alloc::{AllocError, Global};
+use std::collections::HashMap;
 use tl::inline::hashmap::InlineHashMap;
 use tl::inline::vec::InlineVec;
 use tl::{Bytes, NodeHandle};
 
-type List = InlineVec<NodeHandle, 1>;
-
-type Map = InlineHashMap<Bytes<'static>, NodeHandle, 1>;
-
-// A map with room for two pairs inline.
-type Pairs = InlineHashMap<u8, u8, 2>;
-
-/// Each call of a container that takes memory.
-pub fn all(alloc: Global) -> Result<(), Stop> {
-    lists(alloc)?;
-    maps(alloc)?;
-    pairs(alloc)?;
-    rows(alloc)
+// How many items or pairs have room inline.
+enum Room {
+    None,
+    Two,
 }
 
-fn lists(alloc: Global) -> Result<(), Stop> {
-    let mut list = List::new(alloc);
-    push(&mut list, 7)?;
-    push(&mut list, 8)?;
-    let twin = list.clone()?;
-    expect(
-        twin.len() == 2 && twin.is_heap_allocated(),
-        "clone of a list",
-    )?;
-    let items = list.to_vec(alloc)?;
-    expect(items.len() == 2, "to_vec")
+// What is called of a list.
+enum ListCall {
+    Push,
+    Clone,
+    ToVec,
 }
 
-// A refused push leaves the list as it was and hands its item back.
-fn push(list: &mut List, number: u32) -> Result<(), Stop> {
-    let len = list.len();
-    let on_heap = list.is_heap_allocated();
-    match list.push(NodeHandle::new(number)) {
-        Ok(()) => expect(list.get(len) == Some(&NodeHandle::new(number)), "push"),
-        Err(back) => {
-            let unchanged = list.len() == len && list.is_heap_allocated() == on_heap;
-            expect(unchanged && back.get_inner() == number, "push, refused")?;
-            Err(Stop::NoMemory)
-        }
+// The name of a call, the room inline, the items that are held, and the call.
+type ListRow = (&'static str, Room, &'static [u8], ListCall);
+
+static LISTS: [ListRow; 9] = [
+    (
+        "push of a first item, with no room inline",
+        Room::None,
+        &[],
+        ListCall::Push,
+    ),
+    (
+        "push of a fifth item, with no room inline",
+        Room::None,
+        &[1, 2, 3, 4],
+        ListCall::Push,
+    ),
+    ("push into inline room", Room::Two, &[1], ListCall::Push),
+    (
+        "push of a third item, with room for two inline",
+        Room::Two,
+        &[1, 2],
+        ListCall::Push,
+    ),
+    (
+        "push of a seventh item, with room for two inline",
+        Room::Two,
+        &[1, 2, 3, 4, 5, 6],
+        ListCall::Push,
+    ),
+    (
+        "clone of a list inline",
+        Room::Two,
+        &[1, 2],
+        ListCall::Clone,
+    ),
+    (
+        "clone of a list on the heap",
+        Room::Two,
+        &[1, 2, 3],
+        ListCall::Clone,
+    ),
+    (
+        "to_vec of a list inline",
+        Room::Two,
+        &[1, 2],
+        ListCall::ToVec,
+    ),
+    (
+        "to_vec of a list on the heap",
+        Room::Two,
+        &[1, 2, 3],
+        ListCall::ToVec,
+    ),
+];
+
+// What is called of a map.
+enum MapCall {
+    Insert(u8),
+    Clone,
+    ToMap,
+}
+
+// The name of a call, the room inline, the pairs that are held, and the call.
+type MapRow = (&'static str, Room, &'static [(u8, u8)], MapCall);
+
+static MAPS: [MapRow; 11] = [
+    (
+        "insert of a first pair, with no room inline",
+        Room::None,
+        &[],
+        MapCall::Insert(1),
+    ),
+    (
+        "insert of a fifth pair, with no room inline",
+        Room::None,
+        &[(1, 9), (2, 8), (3, 7), (4, 6)],
+        MapCall::Insert(5),
+    ),
+    (
+        "insert into inline room",
+        Room::Two,
+        &[(1, 9)],
+        MapCall::Insert(2),
+    ),
+    (
+        "insert of a third pair, with room for two inline",
+        Room::Two,
+        &[(1, 9), (2, 8)],
+        MapCall::Insert(3),
+    ),
+    (
+        "insert of a fifth pair, with room for two inline",
+        Room::Two,
+        &[(1, 9), (2, 8), (3, 7), (4, 6)],
+        MapCall::Insert(5),
+    ),
+    (
+        "insert of a key that is there, inline",
+        Room::Two,
+        &[(1, 9), (2, 8)],
+        MapCall::Insert(1),
+    ),
+    (
+        "insert of a key that is there, on the heap",
+        Room::Two,
+        &[(1, 9), (2, 8), (3, 7)],
+        MapCall::Insert(2),
+    ),
+    (
+        "clone of a map inline",
+        Room::Two,
+        &[(1, 9), (2, 8)],
+        MapCall::Clone,
+    ),
+    (
+        "clone of a map on the heap",
+        Room::Two,
+        &[(1, 9), (2, 8), (3, 7)],
+        MapCall::Clone,
+    ),
+    (
+        "to_map of a map inline",
+        Room::Two,
+        &[(1, 9), (2, 8)],
+        MapCall::ToMap,
+    ),
+    (
+        "to_map of a map on the heap",
+        Room::Two,
+        &[(1, 9), (2, 8), (3, 7)],
+        MapCall::ToMap,
+    ),
+];
+
+// The item and the value that are put.
+const PUT: u8 = 200;
+
+/// A call of a container, if there is one of this number.
+pub fn call(number: usize, case: &mut Case) -> Option<Named> {
+    if let Some(row) = LISTS.get(number) {
+        return Some((row.0, list(row, case)));
+    }
+    let number = number - LISTS.len();
+    match MAPS.get(number) {
+        Some(row) => Some((row.0, map(row, case))),
+        None => of_pieces(number - MAPS.len(), case),
     }
 }
 
-fn maps(alloc: Global) -> Result<(), Stop> {
-    let mut map = Map::new(alloc);
-    insert(&mut map, "a", 7)?;
-    insert(&mut map, "b", 8)?;
-    copies(&map)?;
-    tables(alloc, &map)
+fn list(row: &ListRow, case: &mut Case) -> Result<(), Stop> {
+    match row.1 {
+        Room::None => of_list(&mut InlineVec::<u8, 0>::new(case.alloc()), row, case),
+        Room::Two => of_list(&mut InlineVec::<u8, 2>::new(case.alloc()), row, case),
+    }
 }
 
-fn copies(map: &Map) -> Result<(), Stop> {
-    let twin = map.clone()?;
-    expect(
-        twin.len() == 2 && twin.is_heap_allocated(),
-        "clone of a map",
-    )
+fn of_list<const N: usize>(
+    list: &mut InlineVec<u8, N>,
+    row: &ListRow,
+    case: &mut Case,
+) -> Result<(), Stop> {
+    for item in row.2 {
+        list.push(*item).map_err(|_| Stop::NoMemory)?;
+    }
+    match row.3 {
+        ListCall::Push => push(list, row.2, case),
+        ListCall::Clone => list_clone(list, row.2, case),
+        ListCall::ToVec => to_vec(list, row.2, case),
+    }
 }
 
-fn tables(alloc: Global, map: &Map) -> Result<(), Stop> {
-    let table = map.to_map(alloc)?;
-    expect(table.len() == 2, "to_map")
+// A refused item comes back, and the list holds what it held, where it held it.
+fn push<const N: usize>(
+    list: &mut InlineVec<u8, N>,
+    held: &[u8],
+    case: &mut Case,
+) -> Result<(), Stop> {
+    case.begin()?;
+    let answer = list.push(PUT);
+    case.end();
+    match answer {
+        Ok(()) => value(list.as_slice().split_last() == Some((&PUT, held)) && lies(list)),
+        Err(back) => refused(back == PUT && list.as_slice() == held && lies(list)),
+    }
 }
 
-// A refused insert leaves the map as it was and hands its pair back.
-fn insert(map: &mut Map, key: &'static str, number: u32) -> Result<(), Stop> {
+// Whether a list that only grew lies where its length says.
+fn lies<const N: usize>(list: &InlineVec<u8, N>) -> bool {
+    list.is_heap_allocated() == (list.len() > N)
+}
+
+fn list_clone<const N: usize>(
+    list: &InlineVec<u8, N>,
+    held: &[u8],
+    case: &mut Case,
+) -> Result<(), Stop> {
+    case.begin()?;
+    let answer = list.clone();
+    case.end();
+    let twin = answer?;
+    value(twin.as_slice() == held && lies(&twin))
+}
+
+fn to_vec<const N: usize>(
+    list: &InlineVec<u8, N>,
+    held: &[u8],
+    case: &mut Case,
+) -> Result<(), Stop> {
+    case.begin()?;
+    let answer = list.to_vec(case.alloc());
+    case.end();
+    value(answer?.as_slice() == held)
+}
+
+fn map(row: &MapRow, case: &mut Case) -> Result<(), Stop> {
+    match row.1 {
+        Room::None => of_map(
+            &mut InlineHashMap::<u8, u8, 0>::new(case.alloc()),
+            row,
+            case,
+        ),
+        Room::Two => of_map(
+            &mut InlineHashMap::<u8, u8, 2>::new(case.alloc()),
+            row,
+            case,
+        ),
+    }
+}
+
+fn of_map<const N: usize>(
+    map: &mut InlineHashMap<u8, u8, N>,
+    row: &MapRow,
+    case: &mut Case,
+) -> Result<(), Stop> {
+    for pair in row.2 {
+        map.insert(pair.0, pair.1).map_err(|_| Stop::NoMemory)?;
+    }
+    match row.3 {
+        MapCall::Insert(key) => insert(map, row.2, key, case),
+        MapCall::Clone => map_clone(map, row.2, case),
+        MapCall::ToMap => to_map(map, row.2, case),
+    }
+}
+
+// A refused pair comes back, and the map holds what it held, where it held it.
+fn insert<const N: usize>(
+    map: &mut InlineHashMap<u8, u8, N>,
+    held: &[(u8, u8)],
+    key: u8,
+    case: &mut Case,
+) -> Result<(), Stop> {
     let len = map.len();
-    let on_heap = map.is_heap_allocated();
-    match map.insert(Bytes::from(key), NodeHandle::new(number)) {
-        Ok(()) => expect(
-            map.get(&Bytes::from(key)) == Some(&NodeHandle::new(number)),
-            "insert",
-        ),
-        Err(back) => {
-            let unchanged = map.len() == len && map.is_heap_allocated() == on_heap;
-            expect(unchanged && back.0.eq_str(key), "insert, refused")?;
-            Err(Stop::NoMemory)
-        }
+    case.begin()?;
+    let answer = map.insert(key, PUT);
+    case.end();
+    match answer {
+        Ok(()) => value(is_with(map, held, key)),
+        Err(back) => refused(back == (key, PUT) && map.len() == len && holds(map, held)),
     }
 }
 
-fn pairs(alloc: Global) -> Result<(), Stop> {
-    let mut map = Pairs::new(alloc);
-    let inserted = map.insert(1, 9).is_ok() && map.insert(2, 2).is_ok();
-    expect(inserted && is_inline(&map), "insert inline")?;
-    move_out(&mut map)?;
-    replace(&mut map)
-}
-
-fn is_inline(map: &Pairs) -> bool {
-    map.inline_parts() == Some([(1, 9), (2, 2)].as_slice())
-}
-
-// Whether the pairs lie on the heap, in this order.
-fn are_on_heap(map: &Pairs, wanted: &[(u8, u8)]) -> bool {
-    if map.len() != wanted.len() || !map.is_heap_allocated() {
+// Whether a map that only grew holds these pairs, in order and where their number says, and maybe more behind them.
+fn holds<const N: usize>(map: &InlineHashMap<u8, u8, N>, pairs: &[(u8, u8)]) -> bool {
+    if map.len() < pairs.len() || map.is_heap_allocated() != (map.len() > N) {
         return false;
     }
-    for ((key, value), pair) in map.iter().zip(wanted) {
-        if (*key, *value) != *pair {
+    for (pair, wanted) in map.iter().zip(pairs) {
+        if (*pair.0, *pair.1) != *wanted {
             return false;
         }
     }
     true
 }
 
-// A refused pair that would move the others to the heap comes back, and they stay inline.
-fn move_out(map: &mut Pairs) -> Result<(), Stop> {
-    match map.insert(3, 3) {
-        Ok(()) => expect(
-            are_on_heap(map, &[(1, 9), (2, 2), (3, 3)]),
-            "insert of a third pair",
-        ),
-        Err(back) => {
-            expect(
-                back == (3, 3) && is_inline(map),
-                "insert of a third pair, refused",
-            )?;
-            Err(Stop::NoMemory)
+// Whether a map holds these pairs with the value that was put at a key: in its place, or behind the others.
+fn is_with<const N: usize>(map: &InlineHashMap<u8, u8, N>, pairs: &[(u8, u8)], key: u8) -> bool {
+    let mut place = pairs.len();
+    for (i, pair) in pairs.iter().enumerate() {
+        if pair.0 == key {
+            place = i;
         }
     }
-}
-
-// A key that is there takes no memory on the heap either: were a request made here, the run in which it is refused would
-// end with another status.
-fn replace(map: &mut Pairs) -> Result<(), Stop> {
-    let removed = map.remove(&1);
-    let inserted = map.insert(2, 5);
-    expect(
-        removed == Some(9) && inserted.is_ok() && are_on_heap(map, &[(3, 3), (2, 5)]),
-        "insert at a key that is there",
-    )
-}
-
-// A list is made of the third pair, grows, and becomes an index map at the seventeenth.
-fn rows(alloc: Global) -> Result<(), Stop> {
-    let mut map = Pairs::new(alloc);
-    for key in 0..20 {
-        insert_next(&mut map, key)?;
-        if key == 15 {
-            twins(&map, 16)?;
-        }
-    }
-    twins(&map, 20)
-}
-
-fn twins(map: &Pairs, end: u8) -> Result<(), Stop> {
-    let twin = map.clone()?;
-    expect(is_row(&twin, end), "clone of pairs on the heap")
-}
-
-// Whether the pairs are those of the keys below this one, in order, and on the heap from the third on.
-fn is_row(map: &Pairs, end: u8) -> bool {
-    if map.len() != usize::from(end) || map.is_heap_allocated() != (end > 2) {
-        return false;
-    }
-    for ((key, value), wanted) in map.iter().zip(0..end) {
-        if *key != wanted || *value != u8::MAX - wanted {
+    for (i, pair) in map.iter().enumerate() {
+        let wanted = if i == place { (key, PUT) } else { at(pairs, i) };
+        if (*pair.0, *pair.1) != wanted {
             return false;
         }
     }
-    true
+    map.len() == pairs.len().max(place.saturating_add(1))
+        && map.is_heap_allocated() == (map.len() > N)
 }
 
-// A refused pair comes back, and the others stay where and as they were.
-fn insert_next(map: &mut Pairs, key: u8) -> Result<(), Stop> {
-    let value = u8::MAX - key;
-    match map.insert(key, value) {
-        Ok(()) => expect(
-            is_row(map, key.saturating_add(1)),
-            "insert after the others",
-        ),
-        Err(back) => {
-            expect(
-                back == (key, value) && is_row(map, key),
-                "insert after the others, refused",
-            )?;
-            Err(Stop::NoMemory)
+fn at(pairs: &[(u8, u8)], place: usize) -> (u8, u8) {
+    match pairs.get(place) {
+        Some(pair) => *pair,
+        None => (0, 0),
+    }
+}
+
+fn map_clone<const N: usize>(
+    map: &InlineHashMap<u8, u8, N>,
+    held: &[(u8, u8)],
+    case: &mut Case,
+) -> Result<(), Stop> {
+    case.begin()?;
+    let answer = map.clone();
+    case.end();
+    let twin = answer?;
+    value(twin.len() == held.len() && holds(&twin, held))
+}
+
+fn to_map<const N: usize>(
+    map: &InlineHashMap<u8, u8, N>,
+    held: &[(u8, u8)],
+    case: &mut Case,
+) -> Result<(), Stop> {
+    case.begin()?;
+    let answer = map.to_map(case.alloc());
+    case.end();
+    let table = answer?;
+    for pair in held {
+        if table.get(&pair.0) != Some(&pair.1) {
+            return Err(Stop::WrongValue);
         }
     }
+    value(table.len() == held.len())
+}
+
+type Handles = InlineVec<NodeHandle, 1>;
+
+type Names = InlineHashMap<Bytes<'static>, NodeHandle, 1>;
+
+// The same of handles, and of byte strings as keys.
+fn of_pieces(number: usize, case: &mut Case) -> Option<Named> {
+    match number {
+        0 => Some((
+            "push of a second handle, with room for one inline",
+            second_handle(case),
+        )),
+        1 => Some((
+            "insert of a second name, with room for one inline",
+            second_name(case),
+        )),
+        2 => Some(("clone of a map of owned names", names_clone(case))),
+        3 => Some(("to_map of owned names", names_to_map(case))),
+        _ => None,
+    }
+}
+
+fn second_handle(case: &mut Case) -> Result<(), Stop> {
+    let mut handles = Handles::new(case.alloc());
+    let pushed = handles.push(NodeHandle::new(7)).is_ok();
+    case.begin()?;
+    let answer = handles.push(NodeHandle::new(8));
+    case.end();
+    let is_first = pushed && handles.get(0) == Some(&NodeHandle::new(7));
+    match answer {
+        Ok(()) => value(is_first && is_grown(&handles)),
+        Err(back) => {
+            let is_inline = !handles.is_heap_allocated() && handles.len() == 1;
+            refused(is_first && is_inline && back.get_inner() == 8)
+        }
+    }
+}
+
+fn is_grown(handles: &Handles) -> bool {
+    handles.is_heap_allocated() && handles.len() == 2 && handles.get(1) == Some(&NodeHandle::new(8))
+}
+
+fn owned(alloc: Global, name: &str) -> Result<Bytes<'static>, AllocError> {
+    tl_base::bytes::copied(alloc, name.as_bytes())
+}
+
+fn one_name(alloc: Global) -> Result<Names, Stop> {
+    let mut names = Names::new(alloc);
+    match names.insert(owned(alloc, "a")?, NodeHandle::new(7)) {
+        Ok(()) => Ok(names),
+        Err(_) => Err(Stop::NoMemory),
+    }
+}
+
+fn second_name(case: &mut Case) -> Result<(), Stop> {
+    let mut names = one_name(case.alloc())?;
+    let second = owned(case.alloc(), "b")?;
+    case.begin()?;
+    let answer = names.insert(second, NodeHandle::new(8));
+    case.end();
+    match answer {
+        Ok(()) => value(are_names(&names, 2)),
+        Err(back) => refused(are_names(&names, 1) && back.0.eq_str("b") && back.1.get_inner() == 8),
+    }
+}
+
+// Whether these are the names `a` and `b`, or `a` alone.
+fn are_names(names: &Names, len: usize) -> bool {
+    names.len() == len
+        && names.is_heap_allocated() == (len == 2)
+        && names.get(&Bytes::from("a")) == Some(&NodeHandle::new(7))
+        && names.get(&Bytes::from("b")).is_some() == (len == 2)
+}
+
+fn names_clone(case: &mut Case) -> Result<(), Stop> {
+    let names = one_name(case.alloc())?;
+    case.begin()?;
+    let answer = names.clone();
+    case.end();
+    value(are_names(&answer?, 1))
+}
+
+fn names_to_map(case: &mut Case) -> Result<(), Stop> {
+    let names = one_name(case.alloc())?;
+    case.begin()?;
+    let answer = names.to_map(case.alloc());
+    case.end();
+    value(is_table(&answer?))
+}
+
+fn is_table(table: &HashMap<Bytes<'static>, NodeHandle>) -> bool {
+    table.len() == 1 && table.get(&Bytes::from("a")) == Some(&NodeHandle::new(7))
 }

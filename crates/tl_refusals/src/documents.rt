@@ -1,155 +1,215 @@
-//! Documents, their tags, and the attributes of a tag.
-use crate::stop::{Stop, expect};
-use std::alloc::Global;
+//! Documents that are read, and the attributes and children of a tag.
+use crate::Named;
+use crate::case::Case;
+use crate::stop::{Stop, refused, value};
+use std::alloc::{AllocError, Global};
 use tl::{
-    Attributes, Bytes, HTMLTag, Node, NodeHandle, OutlineOf, Parser, ParserOptions, TagOf, VDom,
-    parse, parse_owned,
+    Attributes, Bytes, ElementsByClassName, Node, NodeHandle, OutlineOf, ParserOptions,
+    RawChildren, TagOf, VDom, parse, parse_owned,
 };
 
-const PAGE: &str = "<!doctype html><p a=1 b=2 c=3 id=i class=k>x<b>y<!-- z --></b><br>w</p>v";
+const PAGE: &str =
+    "<!doctype html><p a=1 b=2 c=3 id=i class='k l'>x<b class=k>y<!-- z --></b><br>w</p>v";
 
-const PRINT: &str = "<p a=\"1\" b=\"2\" c=\"3\" id=\"i\" class=\"k\">x<b>y<!-- z --></b><br>w</p>v";
+const PRINT: &str =
+    "<p a=\"1\" b=\"2\" c=\"3\" id=\"i\" class=\"k l\">x<b class=\"k\">y<!-- z --></b><br>w</p>v";
 
-const INNER: &str = "x<b>y<!-- z --></b><br>w";
-
-/// Each call of a document, a tag and its attributes that takes memory.
-pub fn all(alloc: Global) -> Result<(), Stop> {
-    pages(alloc)?;
-    turns(alloc)?;
-    attributes(alloc)
-}
-
-fn pages(alloc: Global) -> Result<(), Stop> {
-    let options = ParserOptions::new().track_ids().track_classes();
-    let document = parse(alloc, PAGE, options)?;
-    calls(alloc, &document)?;
-    let guard = parse_owned(alloc, String::from_str(alloc, PAGE)?, options)?;
-    calls(alloc, guard.get_ref())
-}
-
-fn calls(alloc: Global, document: &VDom<'_>) -> Result<(), Stop> {
-    expect(document.nodes().len() == 8, "parse")?;
-    let made = document.outer_html(alloc)?;
-    expect(made.as_str() == PRINT, "outer_html of a document")?;
-    let made = document.inner_text(alloc)?;
-    expect(made.as_str() == "xywv", "inner_text of a document")?;
-    match document.nodes().first() {
-        Some(node) => calls_of_node(alloc, document.parser(), node),
-        None => Err(Stop::Wrong("parse")),
+/// A call that reads a document, or of attributes or children, if there is one of this number.
+pub fn call(number: usize, case: &mut Case) -> Option<Named> {
+    match number {
+        0 => Some(("parse", read(0, case))),
+        1 => Some(("parse that tracks ids", read(1, case))),
+        2 => Some(("parse that tracks classes", read(2, case))),
+        3 => Some(("parse that tracks both", read(3, case))),
+        4 => Some(("parse_owned", keep(0, case))),
+        5 => Some(("parse_owned that tracks ids", keep(1, case))),
+        6 => Some(("parse_owned that tracks classes", keep(2, case))),
+        7 => Some(("parse_owned that tracks both", keep(3, case))),
+        _ => of_tag(number, case),
     }
 }
 
-fn calls_of_node<'a>(alloc: Global, parser: &Parser<'a>, node: &Node<'a>) -> Result<(), Stop> {
-    let made = node.outer_html(alloc, parser)?;
-    expect(
-        made.as_str().len() + 1 == PRINT.len(),
-        "outer_html of a node",
-    )?;
-    reads(alloc, parser, node)?;
-    finds(parser, node)?;
-    let twin = node.clone()?;
-    expect(twin.as_tag().is_some_and(is_first), "clone of a node")?;
-    match node.as_tag() {
-        Some(tag) => calls_of_tag(alloc, parser, tag),
-        None => Err(Stop::Wrong("parse")),
+fn of_tag(number: usize, case: &mut Case) -> Option<Named> {
+    match number {
+        8 => Some(("insert of a third key", insert_other(case))),
+        9 => Some(("insert of a key that is there", insert_known(case))),
+        10 => Some(("insert of an id", insert_id(case))),
+        11 => Some(("clone of attributes", clone_attributes(case))),
+        12 => Some(("push of a third child", push(case))),
+        13 => Some(("clone of the tags of a class", clone_tags(case))),
+        _ => None,
     }
 }
 
-fn calls_of_tag<'a>(alloc: Global, parser: &Parser<'a>, tag: &HTMLTag<'a>) -> Result<(), Stop> {
-    let made = tag.outer_html(alloc, parser)?;
-    expect(made.len() + 1 == PRINT.len(), "outer_html of a tag")?;
-    let made = tag.inner_html(alloc, parser)?;
-    expect(made.as_str() == INNER, "inner_html of a tag")?;
-    let made = tag.inner_text(alloc, parser)?;
-    expect(made.as_str() == "xyw", "inner_text of a tag")?;
-    let twin = tag.clone()?;
-    expect(is_first(&twin), "clone of a tag")
+// The options of a number.
+fn options(number: u8) -> Result<ParserOptions, Stop> {
+    ParserOptions::from_raw_checked(number).ok_or(Stop::WrongValue)
 }
 
-fn reads<'a>(alloc: Global, parser: &Parser<'a>, node: &Node<'a>) -> Result<(), Stop> {
-    let made = node.inner_html(alloc, parser)?;
-    expect(made.as_str() == INNER, "inner_html")?;
-    let made = node.inner_text(alloc, parser)?;
-    expect(made.as_str() == "xyw", "inner_text")
+fn read(number: u8, case: &mut Case) -> Result<(), Stop> {
+    let options = options(number)?;
+    case.begin()?;
+    let answer = parse(case.alloc(), PAGE, options);
+    case.end();
+    is_page(case.alloc(), &answer?)
 }
 
-fn finds<'a>(parser: &Parser<'a>, node: &Node<'a>) -> Result<(), Stop> {
-    let found = node.find_node(parser, &mut |shown| shown.as_comment().is_some())?;
-    expect(found == Some(NodeHandle::new(4)), "find_node")
+fn keep(number: u8, case: &mut Case) -> Result<(), Stop> {
+    let options = options(number)?;
+    let text = String::from_str(case.alloc(), PAGE)?;
+    case.begin()?;
+    let answer = parse_owned(case.alloc(), text, options);
+    case.end();
+    is_page(case.alloc(), answer?.get_ref())
 }
 
-// Whether it is the first tag of the page.
-fn is_first(tag: &HTMLTag<'_>) -> bool {
-    tag.name().eq_str("p") && tag.attributes().len() == 5 && tag.children().top().len() == 4
-}
-
-// A walk whose handles don't rise: below the second node stands the first.
-fn turns(alloc: Global) -> Result<(), Stop> {
-    let mut document = parse(alloc, "<a></a><b>x<i></i></b>", ParserOptions::new())?;
-    match document.parser_mut().resolve_node_id_mut(1) {
-        Some(node) => push(node)?,
-        None => return Err(Stop::Wrong("parse")),
-    }
-    let made = document.outer_html(alloc)?;
-    expect(
-        made.as_str() == "<a></a><b>x<i></i><a></a></b>",
-        "outer_html of handles that don't rise",
+fn is_page(alloc: Global, document: &VDom<'_>) -> Result<(), Stop> {
+    let print = document.outer_html(alloc)?;
+    value(
+        print.as_str() == PRINT
+            && document.nodes().len() == 8
+            && document.version().is_some()
+            && is_looked_up(document),
     )
 }
 
-fn push(node: &mut Node<'_>) -> Result<(), Stop> {
-    match node.as_tag_mut() {
-        Some(tag) => push_first(tag),
-        None => Err(Stop::Wrong("parse")),
-    }
+fn is_looked_up(document: &VDom<'_>) -> bool {
+    let mut found = document.get_elements_by_class_name("k");
+    document.get_element_by_id(Bytes::from("i")) == Some(NodeHandle::new(0))
+        && found.next() == Some(NodeHandle::new(0))
+        && found.next() == Some(NodeHandle::new(2))
+        && found.next() == None
 }
 
-// The third child moves the handles to the heap. A refused one comes back, and they stay where they are.
-fn push_first<A, B, O: OutlineOf<A>>(tag: &mut TagOf<A, B, O>) -> Result<(), Stop> {
-    let mut children = tag.children_mut();
-    let handles = children.top_mut();
-    match handles.push(NodeHandle::new(0)) {
-        Ok(()) => expect(
-            handles.len() == 3 && handles.is_heap_allocated(),
-            "push of a child",
-        ),
-        Err(back) => {
-            let unchanged = handles.len() == 2 && !handles.is_heap_allocated();
-            expect(
-                unchanged && back.get_inner() == 0,
-                "push of a child, refused",
-            )?;
-            Err(Stop::NoMemory)
-        }
-    }
-}
-
-fn attributes(alloc: Global) -> Result<(), Stop> {
+// Attributes with the keys `a` and `b`, which lie inline.
+fn two(alloc: Global) -> Result<Attributes<'static>, Stop> {
     let mut attributes = Attributes::new(alloc);
-    insert(&mut attributes, "a")?;
-    insert(&mut attributes, "b")?;
-    insert(&mut attributes, "c")?;
-    let twin = attributes.clone()?;
-    expect(
-        twin.len() == 3 && twin.unstable_raw().is_heap_allocated(),
-        "clone of attributes",
+    attributes.insert(Bytes::from("a"), Some(Bytes::from("1")))?;
+    attributes.insert(Bytes::from("b"), Some(Bytes::from("2")))?;
+    Ok(attributes)
+}
+
+fn insert_other(case: &mut Case) -> Result<(), Stop> {
+    let mut attributes = two(case.alloc())?;
+    insert(&mut attributes, "c", 3, case)
+}
+
+fn insert_known(case: &mut Case) -> Result<(), Stop> {
+    let mut attributes = two(case.alloc())?;
+    insert(&mut attributes, "b", 2, case)
+}
+
+fn insert_id(case: &mut Case) -> Result<(), Stop> {
+    let mut attributes = two(case.alloc())?;
+    insert(&mut attributes, "id", 3, case)
+}
+
+// A refused key is not there, and the others are, where they were.
+fn insert(
+    attributes: &mut Attributes<'static>,
+    key: &'static str,
+    wanted: usize,
+    case: &mut Case,
+) -> Result<(), Stop> {
+    case.begin()?;
+    let answer = attributes.insert(Bytes::from(key), Some(Bytes::from("9")));
+    case.end();
+    match answer {
+        Ok(()) => value(
+            is_at(attributes, key, "9")
+                && is_at(attributes, "a", "1")
+                && attributes.len() == wanted,
+        ),
+        Err(_) => refused(are_two(attributes)),
+    }
+}
+
+fn is_at(attributes: &Attributes<'static>, key: &'static str, wanted: &str) -> bool {
+    match attributes.get(Bytes::from(key)) {
+        Some(Some(value)) => value.eq_str(wanted),
+        _ => false,
+    }
+}
+
+fn are_two(attributes: &Attributes<'static>) -> bool {
+    attributes.len() == 2
+        && !attributes.unstable_raw().is_heap_allocated()
+        && is_at(attributes, "a", "1")
+        && is_at(attributes, "b", "2")
+}
+
+fn clone_attributes(case: &mut Case) -> Result<(), Stop> {
+    let mut attributes = two(case.alloc())?;
+    attributes.insert(Bytes::from("c"), Some(Bytes::from("3")))?;
+    case.begin()?;
+    let answer = attributes.clone();
+    case.end();
+    let twin = answer?;
+    value(
+        twin.len() == 3
+            && twin.unstable_raw().is_heap_allocated()
+            && is_at(&twin, "a", "1")
+            && is_at(&twin, "c", "3"),
     )
 }
 
-// A refused key is not there, and the others are.
-fn insert(attributes: &mut Attributes<'static>, key: &'static str) -> Result<(), Stop> {
-    let len = attributes.len();
-    let on_heap = attributes.unstable_raw().is_heap_allocated();
-    match attributes.insert(Bytes::from(key), Some(Bytes::from(key))) {
-        Ok(()) => expect(attributes.contains(Bytes::from(key)), "insert of a key"),
-        Err(_) => {
-            let unchanged = attributes.len() == len
-                && attributes.unstable_raw().is_heap_allocated() == on_heap;
-            expect(
-                unchanged && !attributes.contains(Bytes::from(key)),
-                "insert of a key, refused",
-            )?;
-            Err(Stop::NoMemory)
+fn push(case: &mut Case) -> Result<(), Stop> {
+    let mut document = parse(case.alloc(), "<b>x<i></i></b>", ParserOptions::new())?;
+    match document.parser_mut().resolve_node_id_mut(0) {
+        Some(node) => push_to_node(node, case),
+        None => Err(Stop::WrongValue),
+    }
+}
+
+fn push_to_node(node: &mut Node<'_>, case: &mut Case) -> Result<(), Stop> {
+    match node.as_tag_mut() {
+        Some(tag) => push_to_tag(tag, case),
+        None => Err(Stop::WrongValue),
+    }
+}
+
+fn push_to_tag<A, B, O: OutlineOf<A>>(
+    tag: &mut TagOf<A, B, O>,
+    case: &mut Case,
+) -> Result<(), Stop> {
+    let mut children = tag.children_mut();
+    push_child(children.top_mut(), case)
+}
+
+// A refused handle comes back, and the others stay where they are.
+fn push_child(handles: &mut RawChildren, case: &mut Case) -> Result<(), Stop> {
+    case.begin()?;
+    let answer = handles.push(NodeHandle::new(5));
+    case.end();
+    let are_there = handles.get(0) == Some(&NodeHandle::new(1))
+        && handles.get(1) == Some(&NodeHandle::new(2));
+    match answer {
+        Ok(()) => value(are_there && handles.len() == 3 && handles.is_heap_allocated()),
+        Err(back) => {
+            let is_inline = handles.len() == 2 && !handles.is_heap_allocated();
+            refused(are_there && is_inline && back.get_inner() == 5)
         }
     }
+}
+
+fn clone_tags(case: &mut Case) -> Result<(), Stop> {
+    let document = parse(case.alloc(), PAGE, ParserOptions::new())?;
+    clone_found(document.get_elements_by_class_name("k"), case)
+}
+
+fn clone_found<'s, 'a>(
+    mut found: ElementsByClassName<'s, 'a>,
+    case: &mut Case,
+) -> Result<(), Stop> {
+    let first = found.next();
+    case.begin()?;
+    let answer: Result<ElementsByClassName<'s, 'a>, AllocError> = found.clone();
+    case.end();
+    let mut twin = answer?;
+    value(
+        first == Some(NodeHandle::new(0))
+            && twin.next() == Some(NodeHandle::new(2))
+            && twin.next() == None
+            && found.next() == Some(NodeHandle::new(2)),
+    )
 }

@@ -1,71 +1,116 @@
-//! Calls whatever takes memory, and runs each command of the program. Where memory is refused each call has to answer that and nothing else, and to leave what
-//! it promises: then the status is 3, and 1 where a call does otherwise. Standard input says how many requests are made
-//! before the first call, so that a run in which always the same request is refused meets another one of the calls;
-//! `refusals` at the top of the repository goes through all of them.
+//! One call that takes memory, or promises to take none, in a run in which one request for memory is refused.
+//!
+//! Standard input says which call, and how many requests are made right before it, so that the one that is refused is one of
+//! its own; without that number the case ends right before the call. One line is written: the name of the call, and before it
+//! how it ended. `refusals` at the top of the repository goes through all requests of all calls.
+//!
+//! | Line begins | Status | Says |
+//! |---|---|---|
+//! | a number | 0 | the call took as much memory as it wanted and answered the right value; so many requests were made then until one was refused |
+//! | `refused` | 3 | a request of the call was refused, and it answered want of memory and left what it promises |
+//! | else | 1 | the call did something else, which the line names |
+//!
+//! There is no line, and the status is 2, where there is no such call.
 #![tactic(auto)]
 
 mod byte_strings;
+mod case;
 mod containers;
 mod documents;
+mod numbers;
 mod program;
-mod queries;
+mod script;
+mod selectors;
 mod stop;
+mod texts;
 mod tracking;
 
+use case::{Case, Point};
 use std::alloc::Global;
 use std::io::Read;
 use std::process::ExitCode;
 use stop::Stop;
 
+// Each module has room for so many calls.
+const CALLS: usize = 32;
+
+/// The name of a call, and how its case ended.
+pub type Named = (&'static str, Result<(), Stop>);
+
 fn main(rt: HostRuntime) -> ExitCode {
-    let answer = match made(rt.alloc(), requests_before(&rt)) {
-        Ok(()) => all(rt.alloc()),
-        Err(stop) => Err(stop),
+    let (number, before) = asked(&rt);
+    let mut case = Case::new(rt.alloc(), before);
+    match call(number, &mut case) {
+        Some((name, answer)) => said(&rt, name, judged(answer, case.point())),
+        None => ExitCode::from(2),
+    }
+}
+
+// The call of a number.
+fn call(number: usize, case: &mut Case) -> Option<Named> {
+    let place = number % CALLS;
+    match number / CALLS {
+        0 => byte_strings::call(place, case),
+        1 => containers::call(place, case),
+        2 => documents::call(place, case),
+        3 => texts::call(place, case),
+        4 => numbers::call(place, case),
+        5 => selectors::call(place, case),
+        6 => script::call(place, case),
+        7 => program::call(place, case),
+        8 => tracking::call(place, case),
+        _ => None,
+    }
+}
+
+// The numbers on standard input.
+fn asked(rt: &HostRuntime) -> (usize, Option<u32>) {
+    let mut words = [0u8; 16];
+    let len = rt.stdin().read(&mut words).unwrap_or(0);
+    let text = str::from_utf8(&words[..len]).unwrap_or("");
+    match text.split_once(' ') {
+        Some((call, before)) => (number(call), before.parse().ok()),
+        None => (number(text), None),
+    }
+}
+
+fn number(digits: &str) -> usize {
+    digits.parse().unwrap_or(usize::MAX)
+}
+
+// How a case ended.
+enum Ending {
+    Whole(u32),
+    Refused,
+    Wrong(&'static str),
+}
+
+fn judged(answer: Result<(), Stop>, point: Point) -> Ending {
+    match (answer, point) {
+        (Ok(()), Point::Ended(Some(left))) => Ending::Whole(left),
+        (Err(Stop::NoCall), Point::Ended(Some(left))) => Ending::Whole(left),
+        (Err(Stop::NoMemory), Point::Ended(None)) => Ending::Refused,
+        (Ok(()), _) => Ending::Wrong("answered though memory was refused"),
+        (Err(Stop::NoMemory), Point::Ended(_)) => Ending::Wrong(
+            "no memory though none was refused",
+        ),
+        (Err(Stop::NoMemory), _) => Ending::Wrong("no memory before the call"),
+        (Err(Stop::NoCall), _) => Ending::Wrong("no request is refused"),
+        (Err(Stop::WrongValue), _) => Ending::Wrong("another value"),
+        (Err(Stop::WrongError), _) => Ending::Wrong("another error"),
+        (Err(Stop::Changed), _) => Ending::Wrong("changed though it was refused"),
+    }
+}
+
+// Writes the line of a case, and answers its status.
+fn said(rt: &HostRuntime, name: &str, ending: Ending) -> ExitCode {
+    let (written, status) = match ending {
+        Ending::Whole(left) => (println!(rt; "{left} {name}"), 0),
+        Ending::Refused => (println!(rt; "refused {name}"), 3),
+        Ending::Wrong(what) => (println!(rt; "{what}: {name}"), 1),
     };
-    match answer {
-        Ok(()) => said(&rt, "each call answers", 0),
-        Err(Stop::NoMemory) => ExitCode::from(3),
-        Err(Stop::Wrong(call)) => said(&rt, call, 1),
-    }
-}
-
-// The number on standard input, or none.
-fn requests_before(rt: &HostRuntime) -> u32 {
-    let mut digits = [0u8; 4];
-    match rt.stdin().read(&mut digits) {
-        Ok(len) => number(&digits[..len]),
-        Err(_) => 0,
-    }
-}
-
-fn number(digits: &[u8]) -> u32 {
-    match str::from_utf8(digits) {
-        Ok(text) => text.parse().unwrap_or(0),
-        Err(_) => 0,
-    }
-}
-
-// Makes requests for memory that no call needs.
-fn made(alloc: Global, requests: u32) -> Result<(), Stop> {
-    for _ in 0..requests {
-        Box::new(alloc, 0u8)?;
-    }
-    Ok(())
-}
-
-// Writes a line, and answers the status, or 3 where the line could not be written.
-fn said(rt: &HostRuntime, line: &str, status: u8) -> ExitCode {
-    match println!(rt; "{line}") {
+    match written {
         Ok(()) => ExitCode::from(status),
-        Err(_) => ExitCode::from(3),
+        Err(_) => ExitCode::from(4),
     }
-}
-
-fn all(alloc: Global) -> Result<(), Stop> {
-    byte_strings::all(alloc)?;
-    containers::all(alloc)?;
-    documents::all(alloc)?;
-    tracking::all(alloc)?;
-    queries::all(alloc)?;
-    program::all(alloc)
 }

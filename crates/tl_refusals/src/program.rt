@@ -1,54 +1,127 @@
-//! Runs of the program.
-use crate::stop::{Stop, expect};
+//! The commands of the program.
+use crate::Named;
+use crate::case::Case;
+use crate::stop::{Stop, refused, value};
 use std::alloc::{AllocError, Global};
-use tl_program::program::{Command, Failure, Marked, command, output, run};
+use tl_program::program::{Command, Failure, Marked, command, output, run, run_words};
 
 const PAGE: &[u8] = b"<p a=1 b=2 c=3>x<b>y</b>\xc3\xa9<!-- z --><br></p>";
 
+const PRINT: &[u8] = b"<p a=\"1\" b=\"2\" c=\"3\">x<b>y</b>\xc3\xa9<!-- z --><br></p>";
+
 const NAMED: &[u8] = b"<p id=i class=\"k l\"><b class=k></b><i id=j class=\"l k\"></i></p>";
 
-/// A run of each command.
-pub fn all(alloc: Global) -> Result<(), Stop> {
-    said(
-        alloc,
+// The names of the four calls of a command, its words, the page, and what is written.
+type Row = (
+    [&'static str; 4],
+    &'static [&'static str],
+    &'static [u8],
+    &'static [u8],
+);
+
+static ROWS: [Row; 8] = [
+    (
+        [
+            "command print",
+            "output of print",
+            "run of print",
+            "run_words of print",
+        ],
         &["print"],
-        b"<p a=\"1\" b=\"2\" c=\"3\">x<b>y</b>\xc3\xa9<!-- z --><br></p>",
-    )?;
-    said(alloc, &["text"], b"xy\xc3\xa9")?;
-    said(
-        alloc,
+        PAGE,
+        PRINT,
+    ),
+    (
+        [
+            "command text",
+            "output of text",
+            "run of text",
+            "run_words of text",
+        ],
+        &["text"],
+        PAGE,
+        b"xy\xc3\xa9",
+    ),
+    (
+        [
+            "command again",
+            "output of again",
+            "run of again",
+            "run_words of again",
+        ],
         &["again"],
-        b"<p a=\"1\" b=\"2\" c=\"3\">x<b>y</b>\xc3\xa9<!-- z --><br></p>",
-    )?;
-    said(
-        alloc,
+        PAGE,
+        PRINT,
+    ),
+    (
+        [
+            "command edit",
+            "output of edit",
+            "run of edit",
+            "run_words of edit",
+        ],
         &["edit", "set 0 d 4\nunset 0 a\nname 2 i\ntext 4 w\npush 0 1"],
+        PAGE,
         b"<p d=\"4\" b=\"2\" c=\"3\">x<i>y</i>w<!-- z --><br>x</p>",
-    )?;
-    lookups(alloc)
+    ),
+    (
+        ["command id", "output of id", "run of id", "run_words of id"],
+        &["id", "j"],
+        NAMED,
+        b"2\n",
+    ),
+    (
+        [
+            "command class",
+            "output of class",
+            "run of class",
+            "run_words of class",
+        ],
+        &["class", "k"],
+        NAMED,
+        b"0\n1\n2\n",
+    ),
+    (
+        [
+            "command select",
+            "output of select",
+            "run of select",
+            "run_words of select",
+        ],
+        &["select", "b"],
+        NAMED,
+        b"1\n",
+    ),
+    (
+        [
+            "command select, ancestors",
+            "output of select, ancestors",
+            "run of select, ancestors",
+            "run_words of select, ancestors",
+        ],
+        &["select", "p > .k, p i"],
+        NAMED,
+        b"1\n2\n",
+    ),
+];
+
+/// A call of the program, if there is one of this number.
+pub fn call(number: usize, case: &mut Case) -> Option<Named> {
+    let row = ROWS.get(number / 4)?;
+    let name = row.0.get(number % 4)?;
+    Some((name, of_words(number % 4, row, case)))
 }
 
-fn lookups(alloc: Global) -> Result<(), Stop> {
-    said_of(alloc, &["id", "j"], NAMED, b"2\n")?;
-    said_of(alloc, &["class", "k"], NAMED, b"0\n1\n2\n")?;
-    said_of(alloc, &["select", "b"], NAMED, b"1\n")?;
-    said_of(alloc, &["select", "p > .k, p i"], NAMED, b"1\n2\n")
-}
-
-// A run of the command that the words say.
-fn said(alloc: Global, words: &[&str], wanted: &[u8]) -> Result<(), Stop> {
-    said_of(alloc, words, PAGE, wanted)
-}
-
-// The same of this page.
-fn said_of(alloc: Global, words: &[&str], page: &[u8], wanted: &[u8]) -> Result<(), Stop> {
-    let words = owned(alloc, words)?;
-    match command(alloc, &words)? {
-        Some(asked) => {
-            gave(alloc, &asked, page, wanted)?;
-            ran(alloc, &asked, page, wanted)
-        }
-        None => Err(Stop::Wrong("command")),
+fn of_words(call: usize, row: &Row, case: &mut Case) -> Result<(), Stop> {
+    let words = owned(case.alloc(), row.1)?;
+    match call {
+        0 => of_command(&words, row, case),
+        3 => of_run_words(&words, row, case),
+        _ => match command(case.alloc(), &words)? {
+            Some(asked) if call == 1 => of_output(&asked, row, case),
+            Some(asked) => of_run(&asked, row, case),
+            None => Err(Stop::WrongValue),
+        },
     }
 }
 
@@ -60,26 +133,70 @@ fn owned(alloc: Global, words: &[&str]) -> Result<Vec<String>, AllocError> {
     Ok(owned)
 }
 
-// What the command gives as a value.
-fn gave(alloc: Global, asked: &Command<'_>, page: &[u8], wanted: &[u8]) -> Result<(), Stop> {
-    match output(alloc, asked, page) {
-        Ok(text) => expect(text.as_bytes() == wanted, "output"),
+fn of_command(words: &[String], row: &Row, case: &mut Case) -> Result<(), Stop> {
+    case.begin()?;
+    let answer = command(case.alloc(), words);
+    case.end();
+    match answer? {
+        Some(asked) => value(is_asked(&asked, row.1)),
+        None => Err(Stop::WrongValue),
+    }
+}
+
+// Whether it is the command of these words. Of an edit only the number of steps is compared.
+fn is_asked(asked: &Command<'_>, words: &[&str]) -> bool {
+    match (asked, words) {
+        (Command::Print, [word]) => *word == "print",
+        (Command::Text, [word]) => *word == "text",
+        (Command::Again, [word]) => *word == "again",
+        (Command::Edit(steps), [word, _]) => *word == "edit" && steps.len() == 5,
+        (Command::Id(id), [word, wanted]) => *word == "id" && *id == *wanted,
+        (Command::Class(member), [word, wanted]) => *word == "class" && *member == *wanted,
+        (Command::Select(text), [word, wanted]) => *word == "select" && *text == *wanted,
+        _ => false,
+    }
+}
+
+fn of_output(asked: &Command<'_>, row: &Row, case: &mut Case) -> Result<(), Stop> {
+    case.begin()?;
+    let answer = output(case.alloc(), asked, row.2);
+    case.end();
+    match answer {
+        Ok(text) => value(text.as_bytes() == row.3),
         Err(Failure::OutOfMemory) => Err(Stop::NoMemory),
-        Err(_) => Err(Stop::Wrong("output")),
+        Err(_) => Err(Stop::WrongError),
     }
 }
 
 // The writer has room for the page, so that it makes no request of its own. Without memory nothing is written.
-fn ran(alloc: Global, asked: &Command<'_>, page: &[u8], wanted: &[u8]) -> Result<(), Stop> {
-    let mut written = Vec::with_capacity(alloc, wanted.len())?;
-    let mut reader = Marked::new(page);
-    let mut writer = Marked::new(&mut written);
-    match run(alloc, asked, &mut reader, &mut writer) {
-        0 => expect(written.as_slice() == wanted, "run"),
-        3 => {
-            expect(written.is_empty(), "run, refused")?;
-            Err(Stop::NoMemory)
-        }
-        _ => Err(Stop::Wrong("run")),
+fn of_run(asked: &Command<'_>, row: &Row, case: &mut Case) -> Result<(), Stop> {
+    let mut written = Vec::with_capacity(case.alloc(), row.3.len())?;
+    let mut reader = Marked::new(row.2);
+    case.begin()?;
+    let status = {
+        let mut writer = Marked::new(&mut written);
+        run(case.alloc(), asked, &mut reader, &mut writer)
+    };
+    case.end();
+    is_written(status, &written, row.3)
+}
+
+fn of_run_words(words: &[String], row: &Row, case: &mut Case) -> Result<(), Stop> {
+    let mut written = Vec::with_capacity(case.alloc(), row.3.len())?;
+    let mut reader = Marked::new(row.2);
+    case.begin()?;
+    let status = {
+        let mut writer = Marked::new(&mut written);
+        run_words(case.alloc(), words, &mut reader, &mut writer)
+    };
+    case.end();
+    is_written(status, &written, row.3)
+}
+
+fn is_written(status: u8, written: &Vec<u8>, wanted: &[u8]) -> Result<(), Stop> {
+    match status {
+        0 => value(written.as_slice() == wanted),
+        3 => refused(written.is_empty()),
+        _ => Err(Stop::WrongError),
     }
 }

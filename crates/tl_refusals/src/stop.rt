@@ -1,23 +1,38 @@
-//! Why the calls end before the last of them.
+//! How a case ends that isn't carried out.
 use std::alloc::{AllocError, AllocFailed};
 use tl::ParseError;
 use tl::errors::{SetBytesError, TreeError};
 
-/// Why the calls ended.
-#[derive(Drop)]
+/// Why a case ended.
+#[derive(Clone, Copy)]
 pub enum Stop {
-    /// A call answered that memory ran out, and left what it promises.
+    /// What the call needs was made, and the call was not wanted.
+    NoCall,
+    /// Want of memory was answered, and what the call leaves then is what it promises.
     NoMemory,
-    /// A call answered something else than it promises, or left something else.
-    Wrong(&'static str),
+    /// Another value was answered than the right one.
+    WrongValue,
+    /// Another error was answered than want of memory.
+    WrongError,
+    /// Want of memory was answered, and something was left otherwise than it was.
+    Changed,
 }
 
-/// Goes on where `holds`, and else names the call.
-pub fn expect(holds: bool, call: &'static str) -> Result<(), Stop> {
-    if holds {
+/// Goes on where the call answered the right value.
+pub fn value(is_right: bool) -> Result<(), Stop> {
+    if is_right {
         Ok(())
     } else {
-        Err(Stop::Wrong(call))
+        Err(Stop::WrongValue)
+    }
+}
+
+/// Want of memory was answered; whether all is as the call promises then.
+pub fn refused(is_kept: bool) -> Result<(), Stop> {
+    if is_kept {
+        Err(Stop::NoMemory)
+    } else {
+        Err(Stop::Changed)
     }
 }
 
@@ -37,7 +52,7 @@ impl From<ParseError> for Stop {
     fn from(error: ParseError) -> Self {
         match error {
             ParseError::OutOfMemory => Stop::NoMemory,
-            ParseError::InvalidLength => Stop::Wrong("parse"),
+            ParseError::InvalidLength => Stop::WrongError,
         }
     }
 }
@@ -46,7 +61,7 @@ impl From<TreeError> for Stop {
     fn from(error: TreeError) -> Self {
         match error {
             TreeError::OutOfMemory => Stop::NoMemory,
-            TreeError::Dangling(_) | TreeError::Cycle(_) => Stop::Wrong("a walk"),
+            TreeError::Dangling(_) | TreeError::Cycle(_) => Stop::WrongError,
         }
     }
 }
@@ -55,7 +70,7 @@ impl From<SetBytesError> for Stop {
     fn from(error: SetBytesError) -> Self {
         match error {
             SetBytesError::OutOfMemory => Stop::NoMemory,
-            SetBytesError::LengthOverflow => Stop::Wrong("set"),
+            SetBytesError::LengthOverflow => Stop::WrongError,
         }
     }
 }

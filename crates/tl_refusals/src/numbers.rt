@@ -1,0 +1,513 @@
+//! Searches, ranges and queries: what answers numbers of nodes.
+use crate::Named;
+use crate::case::Case;
+use crate::stop::{Stop, refused, value};
+use crate::texts::{Page, steps};
+use std::alloc::AllocError;
+use tl::errors::TreeError;
+use tl::queryselector::{QueryIterable, QuerySelectorIterator, Selector};
+use tl::{HTMLTag, Node, NodeHandle, Parser, ParserOptions, VDom, parse, parse_query_selector};
+use tl_program::script::Step;
+
+// What is called, of a document or of a tag of it. A search is for the last node of the walk, of which the first bytes are
+// given.
+#[derive(Clone, Copy)]
+enum NumberCall {
+    Find(&'static [u8]),
+    FindChild(&'static [u8]),
+    End,
+    Boundaries,
+    All,
+    LenOfTag,
+    LenOfDocument,
+    Query(&'static str),
+    QueryBelow(&'static str),
+    New(&'static str),
+    NewBelow(&'static str),
+    Clone(&'static str),
+    MatchesIn(&'static str),
+}
+
+// The name of a call, the call, how the document is made, the number of the node, and the numbers that are answered.
+type Row = (&'static str, NumberCall, Page, u32, &'static [u32]);
+
+const PLAIN: Page = Page {
+    text: "<a><b>x<c></c></b><b></b></a>",
+    steps: &[],
+};
+
+// Handles that don't rise: the children of the fourth tag are the first and the third, and that of the third is the second.
+const FALLS: Page = Page {
+    text: "<a></a><b></b><c></c><d></d>",
+    steps: &[Step::Push(3, 0), Step::Push(3, 2), Step::Push(2, 1)],
+};
+
+static ROWS: [Row; 26] = [
+    (
+        "find_node of a node",
+        NumberCall::Find(b"bxcb"),
+        PLAIN,
+        0,
+        &[4],
+    ),
+    (
+        "find_node of a node with marks",
+        NumberCall::Find(b"acb"),
+        FALLS,
+        3,
+        &[1],
+    ),
+    (
+        "find_node of a tag",
+        NumberCall::FindChild(b"bb"),
+        PLAIN,
+        0,
+        &[4],
+    ),
+    ("end", NumberCall::End, PLAIN, 0, &[4]),
+    ("end with marks", NumberCall::End, FALLS, 3, &[1]),
+    ("boundaries", NumberCall::Boundaries, PLAIN, 0, &[1, 4]),
+    (
+        "boundaries with marks",
+        NumberCall::Boundaries,
+        FALLS,
+        3,
+        &[0, 1],
+    ),
+    ("all", NumberCall::All, PLAIN, 0, &[4]),
+    ("all with marks", NumberCall::All, FALLS, 3, &[2]),
+    (
+        "len of a document",
+        NumberCall::LenOfDocument,
+        PLAIN,
+        0,
+        &[5],
+    ),
+    ("len of a tag", NumberCall::LenOfTag, PLAIN, 0, &[4]),
+    (
+        "len of a tag with marks",
+        NumberCall::LenOfTag,
+        FALLS,
+        3,
+        &[2],
+    ),
+    (
+        "query_selector of a document, one part",
+        NumberCall::Query("b"),
+        PLAIN,
+        0,
+        &[1, 4],
+    ),
+    (
+        "query_selector of a document, two parts",
+        NumberCall::Query("c, a"),
+        PLAIN,
+        0,
+        &[0, 3],
+    ),
+    (
+        "query_selector of a document, ancestors",
+        NumberCall::Query("a > b, b c"),
+        PLAIN,
+        0,
+        &[1, 3, 4],
+    ),
+    (
+        "query_selector of a tag, one part",
+        NumberCall::QueryBelow("c"),
+        PLAIN,
+        0,
+        &[3],
+    ),
+    (
+        "query_selector of a tag, ancestors",
+        NumberCall::QueryBelow("a > b"),
+        PLAIN,
+        0,
+        &[1, 4],
+    ),
+    (
+        "query_selector of a tag with marks",
+        NumberCall::QueryBelow("b"),
+        FALLS,
+        3,
+        &[1],
+    ),
+    (
+        "QuerySelectorIterator::new over a document",
+        NumberCall::New("a b"),
+        PLAIN,
+        0,
+        &[1, 4],
+    ),
+    (
+        "QuerySelectorIterator::new over a tag",
+        NumberCall::NewBelow("c"),
+        PLAIN,
+        0,
+        &[3],
+    ),
+    (
+        "QuerySelectorIterator::new over a tag, ancestors",
+        NumberCall::NewBelow("b c"),
+        PLAIN,
+        0,
+        &[3],
+    ),
+    (
+        "QuerySelectorIterator::new over a tag with marks",
+        NumberCall::NewBelow("b"),
+        FALLS,
+        3,
+        &[1],
+    ),
+    (
+        "clone of a query, one part",
+        NumberCall::Clone("b"),
+        PLAIN,
+        0,
+        &[1, 4],
+    ),
+    (
+        "clone of a query, ancestors",
+        NumberCall::Clone("a > b, b c"),
+        PLAIN,
+        0,
+        &[1, 3, 4],
+    ),
+    (
+        "matches_in, one part",
+        NumberCall::MatchesIn("b"),
+        PLAIN,
+        4,
+        &[1],
+    ),
+    (
+        "matches_in, ancestors",
+        NumberCall::MatchesIn("a > b, b c"),
+        PLAIN,
+        3,
+        &[1],
+    ),
+];
+
+/// A call that answers numbers, if there is one of this number.
+pub fn call(number: usize, case: &mut Case) -> Option<Named> {
+    let row = ROWS.get(number)?;
+    Some((row.0, of_page(row, case)))
+}
+
+fn of_page(row: &Row, case: &mut Case) -> Result<(), Stop> {
+    let mut document = parse(case.alloc(), row.2.text, ParserOptions::new())?;
+    steps(case.alloc(), &mut document, row.2.steps)?;
+    of_document(&document, row, case)
+}
+
+fn of_document(document: &VDom<'_>, row: &Row, case: &mut Case) -> Result<(), Stop> {
+    match row.1 {
+        NumberCall::LenOfDocument => {
+            case.begin()?;
+            let answer = document.len(document.parser());
+            case.end();
+            value(are(&[answer?], row.4))
+        }
+        NumberCall::Query(text) => query(document, text, row.4, case),
+        NumberCall::New(text) => new(document, document, text, row.4, case),
+        NumberCall::Clone(text) => clone(document, text, row.4, case),
+        NumberCall::MatchesIn(text) => matches_in(document, text, row, case),
+        _ => match document.parser().resolve_node_id(row.3) {
+            Some(node) => of_node(document, node, row, case),
+            None => Err(Stop::WrongValue),
+        },
+    }
+}
+
+fn are(numbers: &[usize], wanted: &[u32]) -> bool {
+    if numbers.len() != wanted.len() {
+        return false;
+    }
+    for (number, wanted) in numbers.iter().zip(wanted) {
+        if *number != *wanted as usize {
+            return false;
+        }
+    }
+    true
+}
+
+// Whether a query gives these numbers, and then ends.
+fn gives(mut found: QuerySelectorIterator<'_, '_>, wanted: &[u32]) -> bool {
+    for number in wanted {
+        if found.next() != Some(NodeHandle::new(*number)) {
+            return false;
+        }
+    }
+    found.next() == None
+}
+
+fn of_query(
+    answer: Result<Option<QuerySelectorIterator<'_, '_>>, TreeError>,
+    wanted: &[u32],
+) -> Result<(), Stop> {
+    match answer? {
+        Some(found) => value(gives(found, wanted)),
+        None => Err(Stop::WrongValue),
+    }
+}
+
+fn query(document: &VDom<'_>, text: &str, wanted: &[u32], case: &mut Case) -> Result<(), Stop> {
+    case.begin()?;
+    let answer = document.query_selector(case.alloc(), text);
+    case.end();
+    of_query(answer, wanted)
+}
+
+fn read<'t>(text: &'t str, case: &Case) -> Result<Selector<'t>, Stop> {
+    match parse_query_selector(case.alloc(), text)? {
+        Some(selector) => Ok(selector),
+        None => Err(Stop::WrongValue),
+    }
+}
+
+fn new<'x, 'a, Q: QueryIterable<'a>>(
+    document: &'x VDom<'a>,
+    asked: &Q,
+    text: &'x str,
+    wanted: &[u32],
+    case: &mut Case,
+) -> Result<(), Stop> {
+    let selector = read(text, case)?;
+    case.begin()?;
+    let answer = QuerySelectorIterator::new(selector, document.parser(), asked);
+    case.end();
+    value(gives(answer?, wanted))
+}
+
+fn clone<'x>(
+    document: &'x VDom<'_>,
+    text: &'x str,
+    wanted: &[u32],
+    case: &mut Case,
+) -> Result<(), Stop> {
+    match document.query_selector(case.alloc(), text)? {
+        Some(found) => clone_query(found, wanted, case),
+        None => Err(Stop::WrongValue),
+    }
+}
+
+fn clone_query<'x, 'a>(
+    found: QuerySelectorIterator<'a, 'x>,
+    wanted: &[u32],
+    case: &mut Case,
+) -> Result<(), Stop> {
+    case.begin()?;
+    let answer: Result<QuerySelectorIterator<'a, 'x>, AllocError> = found.clone();
+    case.end();
+    let twin = answer?;
+    value(gives(twin, wanted) && gives(found, wanted))
+}
+
+fn matches_in(document: &VDom<'_>, text: &str, row: &Row, case: &mut Case) -> Result<(), Stop> {
+    let selector = read(text, case)?;
+    case.begin()?;
+    let answer = selector.matches_in(document.parser(), NodeHandle::new(row.3));
+    case.end();
+    value(answer? == (row.4 == [1].as_slice()))
+}
+
+fn of_node<'a>(
+    document: &VDom<'a>,
+    node: &Node<'a>,
+    row: &Row,
+    case: &mut Case,
+) -> Result<(), Stop> {
+    match row.1 {
+        NumberCall::Find(walk) => find(document.parser(), node, walk, row.4, case),
+        _ => match node.as_tag() {
+            Some(tag) => of_tag(document, tag, row, case),
+            None => Err(Stop::WrongValue),
+        },
+    }
+}
+
+// What a search has still to show, of which the first bytes are known, and whether all was right until now.
+#[derive(Drop)]
+struct Seen<'w> {
+    left: &'w [u8],
+    in_order: bool,
+}
+
+impl<'w> Seen<'w> {
+    fn new(walk: &'w [u8]) -> Self {
+        Seen {
+            left: walk,
+            in_order: true,
+        }
+    }
+
+    // Whether it is the last.
+    fn see(&mut self, node: &Node<'_>) -> bool {
+        match self.left.split_first() {
+            Some((first, left)) => {
+                self.in_order = self.in_order && first_byte(node) == Some(*first);
+                self.left = left;
+            }
+            None => self.in_order = false,
+        }
+        self.left.is_empty()
+    }
+
+    fn is_whole(&self) -> bool {
+        self.in_order && self.left.is_empty()
+    }
+}
+
+// The first byte of a name, a text or a comment.
+fn first_byte(node: &Node<'_>) -> Option<u8> {
+    let bytes = match node {
+        Node::Tag(tag) => tag.name(),
+        Node::Raw(bytes) => bytes,
+        Node::Comment(bytes) => bytes,
+    };
+    bytes.as_bytes().first().copied()
+}
+
+fn find<'a>(
+    parser: &Parser<'a>,
+    node: &Node<'a>,
+    walk: &[u8],
+    wanted: &[u32],
+    case: &mut Case,
+) -> Result<(), Stop> {
+    let mut seen = Seen::new(walk);
+    case.begin()?;
+    let answer = node.find_node(parser, &mut |shown| seen.see(shown));
+    case.end();
+    is_found(answer, &seen, wanted)
+}
+
+fn find_child<'a>(
+    parser: &Parser<'a>,
+    tag: &HTMLTag<'a>,
+    walk: &[u8],
+    wanted: &[u32],
+    case: &mut Case,
+) -> Result<(), Stop> {
+    let mut seen = Seen::new(walk);
+    case.begin()?;
+    let answer = tag.find_node(parser, &mut |shown| seen.see(shown));
+    case.end();
+    is_found(answer, &seen, wanted)
+}
+
+// Where memory was refused, a beginning of the walk was shown.
+fn is_found(
+    answer: Result<Option<NodeHandle>, TreeError>,
+    seen: &Seen<'_>,
+    wanted: &[u32],
+) -> Result<(), Stop> {
+    match answer {
+        Ok(Some(handle)) => value(seen.is_whole() && wanted == [handle.get_inner()].as_slice()),
+        Ok(None) => Err(Stop::WrongValue),
+        Err(TreeError::OutOfMemory) => refused(seen.in_order),
+        Err(_) => Err(Stop::WrongError),
+    }
+}
+
+fn of_tag<'a>(
+    document: &VDom<'a>,
+    tag: &HTMLTag<'a>,
+    row: &Row,
+    case: &mut Case,
+) -> Result<(), Stop> {
+    match row.1 {
+        NumberCall::FindChild(walk) => find_child(document.parser(), tag, walk, row.4, case),
+        NumberCall::QueryBelow(text) => query_below(document.parser(), tag, text, row.4, case),
+        NumberCall::NewBelow(text) => new(document, tag, text, row.4, case),
+        NumberCall::LenOfTag => {
+            case.begin()?;
+            let answer = tag.len(document.parser());
+            case.end();
+            value(are(&[answer?], row.4))
+        }
+        _ => range(document.parser(), tag, row, case),
+    }
+}
+
+fn query_below<'x, 'a>(
+    parser: &'x Parser<'a>,
+    tag: &'x HTMLTag<'a>,
+    text: &'x str,
+    wanted: &[u32],
+    case: &mut Case,
+) -> Result<(), Stop> {
+    case.begin()?;
+    let answer = tag.query_selector(case.alloc(), parser, text);
+    case.end();
+    of_query(answer, wanted)
+}
+
+fn range<'a>(
+    parser: &Parser<'a>,
+    tag: &HTMLTag<'a>,
+    row: &Row,
+    case: &mut Case,
+) -> Result<(), Stop> {
+    match row.1 {
+        NumberCall::End => end(parser, tag, row.4, case),
+        NumberCall::Boundaries => boundaries(parser, tag, row.4, case),
+        _ => all(parser, tag, row.4, case),
+    }
+}
+
+fn end(
+    parser: &Parser<'_>,
+    tag: &HTMLTag<'_>,
+    wanted: &[u32],
+    case: &mut Case,
+) -> Result<(), Stop> {
+    let children = tag.children();
+    case.begin()?;
+    let answer = children.end(parser);
+    case.end();
+    is_end(answer?, wanted)
+}
+
+fn boundaries(
+    parser: &Parser<'_>,
+    tag: &HTMLTag<'_>,
+    wanted: &[u32],
+    case: &mut Case,
+) -> Result<(), Stop> {
+    let children = tag.children();
+    case.begin()?;
+    let answer = children.boundaries(parser);
+    case.end();
+    are_boundaries(answer?, wanted)
+}
+
+fn all<'a>(
+    parser: &Parser<'a>,
+    tag: &HTMLTag<'a>,
+    wanted: &[u32],
+    case: &mut Case,
+) -> Result<(), Stop> {
+    let children = tag.children();
+    case.begin()?;
+    let answer = children.all(parser).map(|nodes| nodes.len());
+    case.end();
+    value(are(&[answer?], wanted))
+}
+
+fn is_end(end: Option<u32>, wanted: &[u32]) -> Result<(), Stop> {
+    match end {
+        Some(end) => value(wanted == [end].as_slice()),
+        None => Err(Stop::WrongValue),
+    }
+}
+
+fn are_boundaries(boundaries: Option<(u32, u32)>, wanted: &[u32]) -> Result<(), Stop> {
+    match boundaries {
+        Some((first, end)) => value(wanted == [first, end].as_slice()),
+        None => Err(Stop::WrongValue),
+    }
+}

@@ -1,0 +1,335 @@
+//! Prints, texts and clones of what stands in a document.
+use crate::Named;
+use crate::case::Case;
+use crate::stop::{Stop, value};
+use std::alloc::{AllocError, Global};
+use tl::errors::TreeError;
+use tl::{HTMLTag, Node, Parser, ParserOptions, VDom, parse};
+use tl_program::script::{Step, run};
+
+// What is called of a document, of a node of it, or of its tag.
+#[derive(Clone, Copy)]
+enum TextCall {
+    DocumentHtml,
+    DocumentText,
+    OuterHtml,
+    InnerHtml,
+    InnerText,
+    TagHtml,
+    TagInside,
+    TagText,
+    CloneNode,
+    CloneTag,
+}
+
+// The name of a call, the call, how the document is made, the number of the node, and the text.
+type Row = (&'static str, TextCall, Page, u32, &'static str);
+
+/// A text, and the steps that are taken with its document.
+pub struct Page {
+    pub text: &'static str,
+    pub steps: &'static [Step<'static>],
+}
+
+const PLAIN: Page = Page {
+    text: "<p a=1 b=2 c=3 id=i class=k>x<b>y<!-- z --></b><br>w</p>v",
+    steps: &[],
+};
+
+// Handles that don't rise: below the second tag stands the first.
+const FALLS: Page = Page {
+    text: "<a>x</a><b>y<i></i></b>",
+    steps: &[Step::Push(2, 0)],
+};
+
+// Pieces that are owned, and as many attributes and children as lie on the heap.
+const OWNED: Page = Page {
+    text: "<p a=1 b=2>x<b>y</b></p>",
+    steps: &[
+        Step::Name(0, b"q"),
+        Step::Set(0, b"c", b"3"),
+        Step::Set(0, b"id", b"i"),
+        Step::Text(1, b"t"),
+        Step::Comment(3, b"<!---->"),
+        Step::Push(0, 1),
+    ],
+};
+
+static ROWS: [Row; 22] = [
+    (
+        "outer_html of a document",
+        TextCall::DocumentHtml,
+        PLAIN,
+        0,
+        "<p a=\"1\" b=\"2\" c=\"3\" id=\"i\" class=\"k\">x<b>y<!-- z --></b><br>w</p>v",
+    ),
+    (
+        "outer_html of a document with marks",
+        TextCall::DocumentHtml,
+        FALLS,
+        0,
+        "<a>x</a><b>y<i></i><a>x</a></b>",
+    ),
+    (
+        "inner_text of a document",
+        TextCall::DocumentText,
+        PLAIN,
+        0,
+        "xywv",
+    ),
+    (
+        "inner_text of a document with marks",
+        TextCall::DocumentText,
+        FALLS,
+        0,
+        "xyx",
+    ),
+    (
+        "outer_html of a node",
+        TextCall::OuterHtml,
+        PLAIN,
+        0,
+        "<p a=\"1\" b=\"2\" c=\"3\" id=\"i\" class=\"k\">x<b>y<!-- z --></b><br>w</p>",
+    ),
+    (
+        "outer_html of a node with marks",
+        TextCall::OuterHtml,
+        FALLS,
+        2,
+        "<b>y<i></i><a>x</a></b>",
+    ),
+    ("outer_html of a text", TextCall::OuterHtml, PLAIN, 1, "x"),
+    (
+        "inner_html of a node",
+        TextCall::InnerHtml,
+        PLAIN,
+        0,
+        "x<b>y<!-- z --></b><br>w",
+    ),
+    (
+        "inner_html of a node with marks",
+        TextCall::InnerHtml,
+        FALLS,
+        2,
+        "y<i></i><a>x</a>",
+    ),
+    ("inner_text of a node", TextCall::InnerText, PLAIN, 0, "xyw"),
+    (
+        "inner_text of a node with marks",
+        TextCall::InnerText,
+        FALLS,
+        2,
+        "yx",
+    ),
+    (
+        "outer_html of a tag",
+        TextCall::TagHtml,
+        PLAIN,
+        0,
+        "<p a=\"1\" b=\"2\" c=\"3\" id=\"i\" class=\"k\">x<b>y<!-- z --></b><br>w</p>",
+    ),
+    (
+        "outer_html of a tag with marks",
+        TextCall::TagHtml,
+        FALLS,
+        2,
+        "<b>y<i></i><a>x</a></b>",
+    ),
+    (
+        "inner_html of a tag",
+        TextCall::TagInside,
+        PLAIN,
+        0,
+        "x<b>y<!-- z --></b><br>w",
+    ),
+    (
+        "inner_html of a tag with marks",
+        TextCall::TagInside,
+        FALLS,
+        2,
+        "y<i></i><a>x</a>",
+    ),
+    ("inner_text of a tag", TextCall::TagText, PLAIN, 0, "xyw"),
+    (
+        "inner_text of a tag with marks",
+        TextCall::TagText,
+        FALLS,
+        2,
+        "yx",
+    ),
+    (
+        "clone of a node, a tag",
+        TextCall::CloneNode,
+        OWNED,
+        0,
+        "<q a=\"1\" b=\"2\" c=\"3\" id=\"i\">t<b><!----></b>t</q>",
+    ),
+    (
+        "clone of a node, a text",
+        TextCall::CloneNode,
+        OWNED,
+        1,
+        "t",
+    ),
+    (
+        "clone of a node, a comment",
+        TextCall::CloneNode,
+        OWNED,
+        3,
+        "<!---->",
+    ),
+    (
+        "clone of a tag",
+        TextCall::CloneTag,
+        OWNED,
+        0,
+        "<q a=\"1\" b=\"2\" c=\"3\" id=\"i\">t<b><!----></b>t</q>",
+    ),
+    (
+        "clone of a tag that borrows",
+        TextCall::CloneTag,
+        PLAIN,
+        2,
+        "<b>y<!-- z --></b>",
+    ),
+];
+
+/// A call that answers a text or a clone, if there is one of this number.
+pub fn call(number: usize, case: &mut Case) -> Option<Named> {
+    let row = ROWS.get(number)?;
+    Some((row.0, of_page(row, case)))
+}
+
+fn of_page(row: &Row, case: &mut Case) -> Result<(), Stop> {
+    let mut document = parse(case.alloc(), row.2.text, ParserOptions::new())?;
+    steps(case.alloc(), &mut document, row.2.steps)?;
+    of_document(&document, row, case)
+}
+
+/// Takes steps that none refuses.
+pub fn steps(alloc: Global, document: &mut VDom<'_>, steps: &[Step<'_>]) -> Result<(), Stop> {
+    match run(alloc, document, steps) {
+        Ok(()) => Ok(()),
+        Err(_) => Err(Stop::WrongError),
+    }
+}
+
+fn of_document(document: &VDom<'_>, row: &Row, case: &mut Case) -> Result<(), Stop> {
+    match row.1 {
+        TextCall::DocumentHtml => {
+            case.begin()?;
+            let answer = document.outer_html(case.alloc());
+            case.end();
+            is_text(answer, row.4)
+        }
+        TextCall::DocumentText => {
+            case.begin()?;
+            let answer = document.inner_text(case.alloc());
+            case.end();
+            is_text(answer, row.4)
+        }
+        _ => match document.parser().resolve_node_id(row.3) {
+            Some(node) => of_node(document.parser(), node, row, case),
+            None => Err(Stop::WrongValue),
+        },
+    }
+}
+
+fn is_text(answer: Result<String, TreeError>, wanted: &str) -> Result<(), Stop> {
+    value(answer?.as_str() == wanted)
+}
+
+fn of_node<'a>(
+    parser: &Parser<'a>,
+    node: &Node<'a>,
+    row: &Row,
+    case: &mut Case,
+) -> Result<(), Stop> {
+    match row.1 {
+        TextCall::OuterHtml | TextCall::InnerHtml | TextCall::InnerText => {
+            text_of_node(parser, node, row, case)
+        }
+        TextCall::CloneNode => clone_node(parser, node, row, case),
+        _ => match node.as_tag() {
+            Some(tag) => of_tag(parser, tag, row, case),
+            None => Err(Stop::WrongValue),
+        },
+    }
+}
+
+fn text_of_node<'a>(
+    parser: &Parser<'a>,
+    node: &Node<'a>,
+    row: &Row,
+    case: &mut Case,
+) -> Result<(), Stop> {
+    case.begin()?;
+    let alloc = case.alloc();
+    let answer = match row.1 {
+        TextCall::OuterHtml => node.outer_html(alloc, parser),
+        TextCall::InnerHtml => node.inner_html(alloc, parser),
+        _ => node.inner_text(alloc, parser),
+    };
+    case.end();
+    is_text(answer, row.4)
+}
+
+fn clone_node<'a>(
+    parser: &Parser<'a>,
+    node: &Node<'a>,
+    row: &Row,
+    case: &mut Case,
+) -> Result<(), Stop> {
+    case.begin()?;
+    let answer: Result<Node<'a>, AllocError> = node.clone();
+    case.end();
+    let print = answer?.outer_html(case.alloc(), parser);
+    is_text(print, row.4)
+}
+
+fn of_tag<'a>(
+    parser: &Parser<'a>,
+    tag: &HTMLTag<'a>,
+    row: &Row,
+    case: &mut Case,
+) -> Result<(), Stop> {
+    match row.1 {
+        TextCall::CloneTag => clone_tag(parser, tag, row, case),
+        _ => text_of_tag(parser, tag, row, case),
+    }
+}
+
+fn text_of_tag<'a>(
+    parser: &Parser<'a>,
+    tag: &HTMLTag<'a>,
+    row: &Row,
+    case: &mut Case,
+) -> Result<(), Stop> {
+    case.begin()?;
+    let alloc = case.alloc();
+    let answer = match row.1 {
+        TextCall::TagHtml => tag.outer_html(alloc, parser),
+        TextCall::TagInside => tag.inner_html(alloc, parser),
+        _ => tag.inner_text(alloc, parser),
+    };
+    case.end();
+    is_text(answer, row.4)
+}
+
+fn clone_tag<'a>(
+    parser: &Parser<'a>,
+    tag: &HTMLTag<'a>,
+    row: &Row,
+    case: &mut Case,
+) -> Result<(), Stop> {
+    case.begin()?;
+    let answer: Result<HTMLTag<'a>, AllocError> = tag.clone();
+    case.end();
+    let twin = answer?;
+    let lies_alike = twin.children().top().is_heap_allocated()
+        == tag.children().top().is_heap_allocated()
+        && twin.attributes().unstable_raw().is_heap_allocated()
+            == tag.attributes().unstable_raw().is_heap_allocated();
+    let print = twin.outer_html(case.alloc(), parser)?;
+    value(lies_alike && print.as_str() == row.4)
+}
