@@ -195,7 +195,7 @@ const LINK: &str = "<div><p href=\"/about\" id=\"find-me\">Hello world</p></div>
 
 const EDITABLE: &str = "<span contenteditable=\"true\">testing</a>";
 
-static EDITED: [Row; 25] = [
+static EDITED: [Row; 26] = [
     (
         "<a><b></b></a>",
         &[Edit::Push(1, 0)],
