@@ -3,7 +3,7 @@ use crate::wrong::{Wrong, expect};
 use std::alloc::{AllocError, Global};
 use tl::errors::TreeError;
 use tl::queryselector::QuerySelectorIterator;
-use tl::{Bytes, HTMLTag, Node, NodeHandle, ParserOptions, VDom, parse};
+use tl::{Bytes, HTMLTag, Node, NodeHandle, ParserOptions, VDom, parse, parse_owned};
 use tl_program::script::{Step, run};
 
 // The tag that is sought.
@@ -43,15 +43,14 @@ pub fn wide(alloc: Global, count: u32) -> Result<(), Wrong> {
 // and its print is read again and is edited.
 fn of_page(alloc: Global, page: &str, count: u32) -> Result<(), Wrong> {
     let mut print = String::new(alloc);
-    searched(alloc, page, ParserOptions::new(), count, &mut print)?;
+    borrowed(alloc, page, count, &mut print)?;
     let tags = (count as usize).saturating_mul(OF_TAG);
     expect(
         print.len() == tags.saturating_add(OF_SOUGHT),
         "the print is as long as its tags are",
     )?;
     let mut again = String::new(alloc);
-    let options = ParserOptions::new().track_ids().track_classes();
-    searched(alloc, print.as_str(), options, count, &mut again)?;
+    kept(alloc, print.as_str(), count, &mut again)?;
     expect(
         again.as_str() == print.as_str(),
         "the print is read as a document that prints the same",
@@ -59,34 +58,50 @@ fn of_page(alloc: Global, page: &str, count: u32) -> Result<(), Wrong> {
     edited(alloc, page, count)
 }
 
-// A text is read and searched. Writes its print.
+// A document that borrows its text and tracks nothing.
+fn borrowed(alloc: Global, text: &str, count: u32, print: &mut String) -> Result<(), Wrong> {
+    let document = parse(alloc, text, ParserOptions::new())?;
+    searched(alloc, &document, count, print)
+}
+
+// A document that keeps its text, and tracks ids and classes.
+fn kept(alloc: Global, text: &str, count: u32, print: &mut String) -> Result<(), Wrong> {
+    let options = ParserOptions::new().track_ids().track_classes();
+    let guard = parse_owned(alloc, String::from_str(alloc, text)?, options)?;
+    searched(alloc, guard.get_ref(), count, print)
+}
+
+// What is looked for in a document is found. Writes its print.
 fn searched(
     alloc: Global,
-    text: &str,
-    options: ParserOptions,
+    document: &VDom<'_>,
     count: u32,
     print: &mut String,
 ) -> Result<(), Wrong> {
-    let document = parse(alloc, text, options)?;
     let last = count.saturating_sub(1);
     let below = last as usize;
     expect(
         document.nodes().len() == count as usize && document.children().len() == 1,
         "each tag is a node, and one stands at the top",
     )?;
-    looked_up(&document, NodeHandle::new(last))?;
-    let first = tag_of(&document, 0)?;
-    ranges(&document, first, last)?;
-    walks(alloc, &document, 0, below)?;
-    queries(alloc, &document, below)?;
-    let found = first.query_selector(alloc, document.parser(), "p")?;
-    expect(
-        counted(found) == below,
-        "a query of the first tag finds all others",
-    )?;
+    looked_up(document, NodeHandle::new(last))?;
+    of_first(alloc, document, last)?;
+    walks(alloc, document, 0, below)?;
+    queries(alloc, document, below)?;
     let made = document.outer_html(alloc)?;
     print.push_str(made.as_str())?;
     Ok(())
+}
+
+// The range of the first tag is all others, up to the last, and a query of it finds them.
+fn of_first(alloc: Global, document: &VDom<'_>, last: u32) -> Result<(), Wrong> {
+    let first = tag_of(document, 0)?;
+    ranges(document, first, last)?;
+    let found = first.query_selector(alloc, document.parser(), "p")?;
+    expect(
+        counted(found) == last as usize,
+        "a query of the first tag finds all others",
+    )
 }
 
 // The tag of a number.
