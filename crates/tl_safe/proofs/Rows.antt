@@ -1,0 +1,278 @@
+-- What the walk writes, handle by handle and frame by frame.
+use Rattle.std.proofs.Common.{◌≡◌, ℕ, zero, suc, ◌+◌, ◌*◌, ◌<◌, ◌≤◌, Bool, true, false, not, List, [], ◌∷◌, ◌++◌, length, drop, slice_get, Option, Some, None, option_map, refl, ap, ap₂, sym, ◌∙◌, arith, append_assoc, append-nil, length-append, ne_eqb, true≢false, if◌then◌else◌}
+use Rattle.std.specs.Prelude.{⊤}
+use Rattle.std.specs.List.{All, AllByRecursion}
+use Rattle.std.specs.Str.Lossy.{utf8_lossy}
+use Rattle.tl_spec.specs.ByteClass.{is_void, is_printed_alone}
+use Rattle.tl_spec.specs.Document.{Node, Tag, Raw, Comment, TagNode}
+use Rattle.tl_spec.specs.Element.{children_of}
+use Rattle.tl_spec.specs.Forest.{Forest, none, text, comment, tag, PlainTag}
+use Rattle.tl_spec.specs.Order.{AreChildrenAbove}
+use Rattle.tl_spec.specs.Print.{print, print_end, print_start}
+use Rattle.tl_spec.specs.Walk.{Walk, end, every, handle_walk, meets_tag, plain_node, row_walk, stands_on, trees, visits, walk, walk_within}
+use Rattle.tl_spec.proofs.Identity.{not_command}
+use Rattle.tl_spec.proofs.Walks.{walk-cons, walk-nil}
+use Rattle.tl.specs.Shown.{shown}
+use Rattle.tl_safe.specs.Lists.{Lists, are_lawful, is_among, is_among_in_any_case, opaque_names}
+use Rattle.tl_safe.specs.Kept.{joined, kept, kept_tag}
+use Rattle.tl_safe.specs.Left.{child_at, end_print, frame_print, frame_steps, handle_met, handle_print, met, node_print, owed, owed_from, row, steps}
+use Rattle.tl_safe.specs.declared.walk.Frame.{Frame}
+use Rattle.tl_safe.proofs.Listed.{listed_tag}
+
+-- paths
+
+abbrev Below : List ℕ → ℕ → Type 0
+Below [] h = ⊤
+Below (g ∷ gs) h = (g < h) × Below gs h
+
+below-off : (path : List ℕ) (h : ℕ) → Below path h → stands_on path h ≡ false
+below-off [] h b = refl
+below-off (g ∷ gs) h b = rw (ne_eqb g h (omega (arith, b.0))) (below-off gs h b.1)
+
+below-le : (path : List ℕ) (h c : ℕ) → h < c → Below path h → Below path c
+below-le [] h c l b = tt
+below-le (g ∷ gs) h c l b = (omega (arith, b.0), below-le gs h c l b.1)
+
+abbrev Each : List ℕ → List ℕ → Type 0
+Each path hs = AllByRecursion (Below path) hs
+
+each-none : (hs : List ℕ) → Each [] hs
+each-none [] = tt
+each-none (h ∷ hs) = (tt, each-none hs)
+
+each-above : (path : List ℕ) (h : ℕ) → Below path h → (cs : List ℕ) → All (λ c. h < c) cs → Each (h ∷ path) cs
+each-above path h b [] all = tt
+each-above path h b (c ∷ cs) all =
+    let above : h < c = all 0 c (omega arith) in
+    ((above, below-le path h c above b), each-above path h b cs (λ k d l. all (suc k) d (omega arith)))
+
+module _ (nodes : List Node) (rising : AreChildrenAbove nodes) where
+  handle-same : (f g : List ℕ → Walk) (h : ℕ) (m : Walk) (b : Bool) (o : Option Node) → ((own : TagNode) → o ≡ Some (Tag own) → f own.children.items ≡ g own.children.items) →
+      handle_walk every nodes f h m b o ≡ handle_walk every nodes g h m b o
+  handle-same f g h m b None e = refl
+  handle-same f g h m true (Some x) e = refl
+  handle-same f g h m false (Some (Raw bytes)) e = refl
+  handle-same f g h m false (Some (Comment bytes)) e = refl
+  handle-same f g h m false (Some (Tag own)) e = ap (λ c. meets_tag h own c m) (e own refl)
+
+  row-same : (f : List ℕ → List ℕ → Walk) (path other hs : List ℕ)
+      → ((h : ℕ) (own : TagNode) → slice_get nodes h ≡ Some (Tag own) → Below path h → Below other h → f (h ∷ path) own.children.items ≡ f (h ∷ other) own.children.items)
+      → Each path hs → Each other hs → row_walk every nodes f path hs ≡ row_walk every nodes f other hs
+  row-same f path other [] e a b = refl
+  row-same f path other (h ∷ hs) e a b =
+      ap₂ (λ s m. handle_walk every nodes (f (h ∷ path)) h m s (slice_get nodes h)) (below-off path h a.0 ∙ sym (below-off other h b.0)) (row-same f path other hs e a.1 b.1)
+      ∙ handle-same (f (h ∷ path)) (f (h ∷ other)) h (row_walk every nodes f other hs) (stands_on other h) (slice_get nodes h) (λ own is. e h own is a.0 b.0)
+
+  -- below handles that rise a walk doesn't look at its path
+  within-same : (n : ℕ) (path other hs : List ℕ) → Each path hs → Each other hs → walk_within every nodes n path hs ≡ walk_within every nodes n other hs
+  within-same zero path other hs a b = row-same (λ _ _. end) path other hs (λ h own is x y. refl) a b
+  within-same (suc n) path other hs a b =
+      row-same (walk_within every nodes n) path other hs
+      (λ h own is x y. within-same n (h ∷ path) (h ∷ other) own.children.items
+      (each-above path h x own.children.items (rising h own is)) (each-above other h y own.children.items (rising h own is))) a b
+
+  -- one handle on
+  walk-one : (h : ℕ) (hs : List ℕ) (o : Option Node) → slice_get nodes h ≡ o →
+      walk every nodes [] (h ∷ hs) ≡ handle_walk every nodes (walk every nodes []) h (walk every nodes [] hs) false o
+  walk-one h hs o is =
+      walk-cons every nodes [] h hs false o refl is
+      ∙ handle-same (walk every nodes (h ∷ [])) (walk every nodes []) h (walk every nodes [] hs) false o
+      (λ own e. within-same (length nodes) (h ∷ []) [] own.children.items (each-above [] h tt own.children.items (rising h own (is ∙ e))) (each-none own.children.items))
+
+  met-by-node : (h : ℕ) (hs : List ℕ) (o : Option Node) → length (visits (handle_walk every nodes (walk every nodes []) h (walk every nodes [] hs) false o)) ≡ handle_met nodes o + met nodes hs
+  met-by-node h hs None = omega arith
+  met-by-node h hs (Some (Raw bytes)) = omega arith
+  met-by-node h hs (Some (Comment bytes)) = omega arith
+  met-by-node h hs (Some (Tag own)) = omega (arith, length-append (visits (walk every nodes [] own.children.items)) (visits (walk every nodes [] hs)))
+
+  pub met-cons : (h : ℕ) (hs : List ℕ) → met nodes (h ∷ hs) ≡ handle_met nodes (slice_get nodes h) + met nodes hs
+  met-cons h hs = ap (λ w. length (visits w)) (walk-one h hs (slice_get nodes h) refl) ∙ met-by-node h hs (slice_get nodes h)
+
+  module _ (p : Lists) (lawful : are_lawful p ≡ true) where
+    print-joined : (f g : Forest PlainTag) → print (joined f g) ≡ print f ++ print g
+    print-joined none g = refl
+    print-joined (text bytes more) g = ap (λ s. utf8_lossy bytes ++ s) (print-joined more g) ∙ sym (append_assoc (utf8_lossy bytes) (print more) (print g))
+    print-joined (comment bytes more) g = ap (λ s. utf8_lossy bytes ++ s) (print-joined more g) ∙ sym (append_assoc (utf8_lossy bytes) (print more) (print g))
+    print-joined (tag own children more) g =
+        let here : List ℕ = print_start own ++ (if is_printed_alone own.name then [] else print children ++ print_end own) in
+        ap (λ s. here ++ s) (print-joined more g) ∙ sym (append_assoc here (print more) (print g))
+
+    listed-print : (own : PlainTag) (inner later : Forest PlainTag) (v : Bool) → is_printed_alone own.name ≡ v →
+        print (tag own (if v then none else inner) later) ≡ (print_start own ++ (if v then [] else print inner ++ print_end own)) ++ print later
+    listed-print own inner later true e = ap (λ a. (print_start own ++ (if a then [] else print none ++ print_end own)) ++ print later) e
+    listed-print own inner later false e = ap (λ a. (print_start own ++ (if a then [] else print inner ++ print_end own)) ++ print later) e
+
+    tag-print : (own : PlainTag) (inner later : Forest PlainTag) (b o : Bool) → is_among p.tags own.name ≡ b →
+        print (if b then tag (kept_tag p own) (if is_void own.name then none else inner) later else if o then later else joined inner later)
+        ≡ (if b then print_start (kept_tag p own) ++ (if is_void own.name then [] else print inner ++ print_end own) else if o then [] else print inner) ++ print later
+    tag-print own inner later true o e = listed-print (kept_tag p own) inner later (is_void own.name) (not_command own.name (listed_tag p lawful own.name e).no_command)
+    tag-print own inner later false true e = refl
+    tag-print own inner later false false e = print-joined inner later
+
+    row-by-node : (h : ℕ) (m : Walk) (o : Option Node) →
+        print (kept p (trees (handle_walk every nodes (walk every nodes []) h m false o))) ≡ handle_print p nodes o ++ print (kept p (trees m))
+    row-by-node h m None = refl
+    row-by-node h m (Some (Raw bytes)) = refl
+    row-by-node h m (Some (Comment bytes)) = refl
+    row-by-node h m (Some (Tag own)) =
+        tag-print (plain_node own) (kept p (trees (walk every nodes [] own.children.items))) (kept p (trees m))
+        (is_among p.tags own.name) (is_among_in_any_case opaque_names own.name) refl
+
+    pub row-cons : (h : ℕ) (hs : List ℕ) → row p nodes (h ∷ hs) ≡ handle_print p nodes (slice_get nodes h) ++ row p nodes hs
+    row-cons h hs = ap (λ w. print (kept p (trees w))) (walk-one h hs (slice_get nodes h) refl) ∙ row-by-node h (walk every nodes [] hs) (slice_get nodes h)
+
+pub row-nil : (p : Lists) (nodes : List Node) → row p nodes [] ≡ []
+row-nil p nodes = ap (λ w. print (kept p (trees w))) (walk-nil every nodes [])
+
+-- frames
+
+module _ (p : Lists) (nodes : List Node) where
+  owed_from-push : (later : List ℕ) (fs : List Frame) (f : Frame) → owed_from p nodes later (fs ++ f ∷ []) ≡ frame_print p nodes f ++ owed_from p nodes later fs
+  owed_from-push later [] f = refl
+  owed_from-push later (g ∷ fs) f = owed_from-push (frame_print p nodes g ++ later) fs f
+
+  pub owed-push : (fs : List Frame) (f : Frame) → owed p nodes (fs ++ f ∷ []) ≡ frame_print p nodes f ++ owed p nodes fs
+  unfolding owed
+  owed-push fs f = owed_from-push [] fs f
+
+  pub owed-none : owed p nodes [] ≡ []
+  unfolding owed
+  owed-none = refl
+
+pub steps-push : (nodes : List Node) (fs : List Frame) (f : Frame) → steps nodes (fs ++ f ∷ []) ≡ frame_steps nodes f + steps nodes fs
+unfolding steps
+steps-push nodes [] f = refl
+steps-push nodes (g ∷ fs) f = let more = steps-push nodes fs f in omega arith
+
+-- what is written at a tag that is entered, and at one that is not
+
+pub entered_shape : (b v o : Bool) (start inner stop out later : List ℕ) → (if b then not v else not o) ≡ true →
+    (out ++ (if b then start else [])) ++ ((inner ++ (if b then stop else [])) ++ later)
+    ≡ out ++ ((if b then start ++ (if v then [] else inner ++ stop) else if o then [] else inner) ++ later)
+entered_shape true true o start inner stop out later h = absurd (true≢false (sym h))
+entered_shape true false o start inner stop out later h =
+    append_assoc out start ((inner ++ stop) ++ later) ∙ ap (λ s. out ++ s) (sym (append_assoc start (inner ++ stop) later))
+entered_shape false v true start inner stop out later h = absurd (true≢false (sym h))
+entered_shape false v false start inner stop out later h =
+    ap₂ (λ x y. x ++ (y ++ later)) (append-nil out) (append-nil inner)
+
+pub passed_shape : (b v o : Bool) (start inner stop out later : List ℕ) → (if b then not v else not o) ≡ false →
+    (out ++ (if b then start else [])) ++ later ≡ out ++ ((if b then start ++ (if v then [] else inner ++ stop) else if o then [] else inner) ++ later)
+passed_shape true true o start inner stop out later h = append_assoc out start later ∙ ap (λ s. out ++ (s ++ later)) (sym (append-nil start))
+passed_shape true false o start inner stop out later h = absurd (true≢false h)
+passed_shape false v true start inner stop out later h = ap (λ s. s ++ later) (append-nil out)
+passed_shape false v false start inner stop out later h = absurd (true≢false h)
+
+-- the handle at a place, and those after it
+
+pub drop-some : (xs : List ℕ) (i x : ℕ) → slice_get xs i ≡ Some x → drop i xs ≡ x ∷ drop (i + 1) xs
+drop-some [] i x h = absurd (cc)
+drop-some (y ∷ xs) zero x h = let e : y ≡ x = cc in ap (λ z. z ∷ xs) e
+drop-some (y ∷ xs) (suc i) x h = let e : suc (i + 1) ≡ suc i + 1 = omega arith in drop-some xs i x h ∙ ap (λ k. x ∷ drop k (y ∷ xs)) e
+
+pub drop-none : (xs : List ℕ) (i : ℕ) → slice_get xs i ≡ None → drop i xs ≡ []
+drop-none [] zero h = refl
+drop-none [] (suc i) h = refl
+drop-none (y ∷ xs) zero h = absurd (cc)
+drop-none (y ∷ xs) (suc i) h = drop-none xs i h
+
+-- a handle of any kind takes a step
+pub met_some : (nodes : List Node) (o : Option Node) → 1 ≤ handle_met nodes o
+met_some nodes None = omega arith
+met_some nodes (Some (Raw bytes)) = omega arith
+met_some nodes (Some (Comment bytes)) = omega arith
+met_some nodes (Some (Tag own)) = omega arith
+
+-- a visit of a tag that is entered
+
+module _ (p : Lists) (nodes : List Node) where
+  pub visit_entered : (own : TagNode) (stands : Bool) (f : Frame) (frames new : List Frame) (out one : List ℕ)
+      → stands ≡ is_among p.tags own.name → one ≡ out ++ (if stands then print_start (kept_tag p (plain_node own)) else [])
+      → new ≡ frames ++ f ∷ [] → frame_print p nodes f ≡ row p nodes own.children.items ++ (if stands then print_end (plain_node own) else [])
+      → (if stands then not (is_void own.name) else not (is_among_in_any_case opaque_names own.name)) ≡ true
+      → one ++ owed p nodes new ≡ out ++ (node_print p nodes (Tag own) ++ owed p nodes frames)
+  visit_entered own stands f frames new out one e w n fp h =
+      let v : Bool = is_void own.name in
+      let o : Bool = is_among_in_any_case opaque_names own.name in
+      let start : List ℕ = print_start (kept_tag p (plain_node own)) in
+      let inner : List ℕ = row p nodes own.children.items in
+      let stop : List ℕ = print_end (plain_node own) in
+      ap₂ (λ x y. x ++ y) w (ap (owed p nodes) n ∙ owed-push p nodes frames f ∙ ap (λ x. x ++ owed p nodes frames) fp)
+      ∙ entered_shape stands v o start inner stop out (owed p nodes frames) h
+      ∙ ap (λ b. out ++ ((if b then start ++ (if v then [] else inner ++ stop) else if o then [] else inner) ++ owed p nodes frames)) e
+
+  pub visit_passed : (own : TagNode) (stands : Bool) (frames : List Frame) (out one : List ℕ)
+      → stands ≡ is_among p.tags own.name → one ≡ out ++ (if stands then print_start (kept_tag p (plain_node own)) else [])
+      → (if stands then not (is_void own.name) else not (is_among_in_any_case opaque_names own.name)) ≡ false
+      → one ++ owed p nodes frames ≡ out ++ (node_print p nodes (Tag own) ++ owed p nodes frames)
+  visit_passed own stands frames out one e w h =
+      let v : Bool = is_void own.name in
+      let o : Bool = is_among_in_any_case opaque_names own.name in
+      let start : List ℕ = print_start (kept_tag p (plain_node own)) in
+      let inner : List ℕ = row p nodes own.children.items in
+      let stop : List ℕ = print_end (plain_node own) in
+      ap (λ x. x ++ owed p nodes frames) w
+      ∙ passed_shape stands v o start inner stop out (owed p nodes frames) h
+      ∙ ap (λ b. out ++ ((if b then start ++ (if v then [] else inner ++ stop) else if o then [] else inner) ++ owed p nodes frames)) e
+
+pub steps_entered : (nodes : List Node) (own : TagNode) (f : Frame) (frames new : List Frame) → new ≡ frames ++ f ∷ [] → frame_steps nodes f ≡ 2 * met nodes own.children.items + 1 →
+    steps nodes new < 2 * handle_met nodes (Some (Tag own)) + steps nodes frames
+steps_entered nodes own f frames new n e = let more : steps nodes new ≡ frame_steps nodes f + steps nodes frames = ap (steps nodes) n ∙ steps-push nodes frames f in omega arith
+
+-- one step in a frame
+
+abbrev pair : ℕ → ℕ → ℕ × ℕ
+pair child next = (child, next)
+
+abbrev given : ℕ → ℕ → Option (ℕ × ℕ)
+given child next = Some (child, next)
+
+abbrev following : ℕ → Option ℕ → Option (ℕ × ℕ)
+following place o = option_map (λ (c : ℕ). (c, place + 1)) o
+
+child_found : (place child next : ℕ) (o : Option ℕ) → given child next ≡ following place o → (o ≡ Some child) × (next ≡ place + 1)
+child_found place child next None e = absurd (cc)
+child_found place child next (Some c) e =
+    let both : pair child next ≡ pair c (place + 1) = cc in
+    (ap (λ (q : ℕ × ℕ). Some q.0) (sym both), ap (λ (q : ℕ × ℕ). q.1) both)
+
+child_missing : (place : ℕ) (o : Option ℕ) → None ≡ following place o → o ≡ None
+child_missing place None e = refl
+child_missing place (Some c) e = absurd (cc)
+
+module _ (nodes : List Node) where
+  pub closed_print : (p : Lists) (f : Frame) → None ≡ child_at (children_of (shown f.node.now)) f.next →
+      frame_print p nodes f ≡ end_print f.stands (shown f.node.now)
+  closed_print p f e =
+      let cs : List ℕ = children_of (shown f.node.now) in
+      ap (λ hs. row p nodes hs ++ end_print f.stands (shown f.node.now)) (drop-none cs f.next (child_missing f.next (slice_get cs f.next) e))
+      ∙ ap (λ s. s ++ end_print f.stands (shown f.node.now)) (row-nil p nodes)
+
+  module _ (rising : AreChildrenAbove nodes) (f g : Frame) (child : ℕ) (same : g.node ≡ f.node) (alike : g.stands ≡ f.stands)
+      (found : given child g.next ≡ child_at (children_of (shown f.node.now)) f.next) where
+    later : drop f.next (children_of (shown f.node.now)) ≡ child ∷ drop g.next (children_of (shown g.node.now))
+    later =
+        let cs : List ℕ = children_of (shown f.node.now) in
+        let is = child_found f.next child g.next (slice_get cs f.next) found in
+        drop-some cs f.next child is.0 ∙ ap₂ (λ n b. child ∷ drop n (children_of (shown b.now))) (sym is.1) (sym same)
+
+    pub went_on : (p : Lists) → are_lawful p ≡ true → (frames one : List Frame) → one ≡ frames ++ g ∷ [] →
+        handle_print p nodes (slice_get nodes child) ++ owed p nodes one ≡ frame_print p nodes f ++ owed p nodes frames
+    went_on p lawful frames one n =
+        let hp : List ℕ = handle_print p nodes (slice_get nodes child) in
+        let rest : List ℕ = row p nodes (drop g.next (children_of (shown g.node.now))) in
+        let stop : List ℕ = end_print f.stands (shown f.node.now) in
+        let first : frame_print p nodes f ≡ (hp ++ rest) ++ stop =
+        ap (λ hs. row p nodes hs ++ stop) later ∙ ap (λ s. s ++ stop) (row-cons nodes rising p lawful child (drop g.next (children_of (shown g.node.now)))) in
+        let second : frame_print p nodes g ≡ rest ++ stop = ap₂ (λ s b. rest ++ end_print s (shown b.now)) alike same in
+        ap (λ s. hp ++ s) (ap (owed p nodes) n ∙ owed-push p nodes frames g ∙ ap (λ s. s ++ owed p nodes frames) second)
+        ∙ sym (append_assoc hp (rest ++ stop) (owed p nodes frames))
+        ∙ ap (λ s. s ++ owed p nodes frames) (sym (append_assoc hp rest stop) ∙ sym first)
+
+    pub steps_on : (frames one : List Frame) → one ≡ frames ++ g ∷ [] →
+        2 * handle_met nodes (slice_get nodes child) + steps nodes one ≡ frame_steps nodes f + steps nodes frames
+    steps_on frames one n =
+        let all : steps nodes one ≡ frame_steps nodes g + steps nodes frames = ap (steps nodes) n ∙ steps-push nodes frames g in
+        let before : met nodes (drop f.next (children_of (shown f.node.now))) ≡ handle_met nodes (slice_get nodes child) + met nodes (drop g.next (children_of (shown g.node.now))) =
+        ap (met nodes) later ∙ met-cons nodes rising child (drop g.next (children_of (shown g.node.now))) in
+        omega arith

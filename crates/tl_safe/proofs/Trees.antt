@@ -1,0 +1,157 @@
+-- What is kept of trees: by its form, clean, and with keys of its own.
+use Rattle.std.proofs.Common.{◌≡◌, ℕ, Bool, true, false, cond, not, ◌&&◌, ◌==◌, List, [], ◌∷◌, ◌++◌, Option, Some, None, codes, refl, ap, ap₂, sym, ◌∙◌, true≢false, if◌then◌else◌}
+use Rattle.std.specs.Prelude.{⊤}
+use Rattle.std.specs.List.{filter, list_all}
+use Rattle.std.specs.Str.{bytes_eq}
+use Rattle.std.proofs.lemmas.Bool.{and_parts, and_from}
+use Rattle.std.proofs.lemmas.List.Elements.{filter-append}
+use Rattle.std.proofs.lemmas.Map.Made.{IsDistinct-keys_filter}
+use Rattle.tl_spec.specs.Attribute.{Pair}
+use Rattle.tl_spec.specs.AttributeList.{AreOthers, HasOwnKeys, PlainAttributes, named, printed_pairs}
+use Rattle.tl_spec.specs.ByteClass.{is_void}
+use Rattle.tl_spec.specs.Clean.{AreCleanPairs, HaveOwnKeys, IsClean, IsCleanStart, IsName}
+use Rattle.tl_spec.specs.Forest.{Forest, none, text, comment, tag, PlainTag}
+use Rattle.tl_safe.specs.Lists.{Lists, are_lawful, is_among, is_among_in_any_case, opaque_names}
+use Rattle.tl_safe.specs.Kept.{is_text_byte, is_value_byte, joined, kept, kept_attributes, kept_value, stays, value_stays}
+use Rattle.tl_safe.proofs.Listed.{listed_key, listed_tag}
+
+-- what holds of both of two trees holds of the chosen one
+choose : (P : Forest PlainTag → Type 0) (b : Bool) (x y : Forest PlainTag) → (b ≡ true → P x) → (b ≡ false → P y) → P (if b then x else y)
+choose P true x y h k = h refl
+choose P false x y h k = k refl
+
+module _ (p : Lists) where
+  -- trees of what stays alone
+  abbrev pub AreKept : Forest PlainTag → Type 0
+  AreKept none = ⊤
+  AreKept (text bytes more) = (list_all is_text_byte bytes ≡ true) × AreKept more
+  AreKept (comment bytes more) = ⊥
+  AreKept (tag own children more) =
+      (is_among p.tags own.name ≡ true) × (list_all (stays p) (printed_pairs own.attributes) ≡ true) × (is_void own.name ≡ true → children ≡ none)
+      × AreKept children × AreKept more
+
+  joined-AreKept : (f g : Forest PlainTag) → AreKept f → AreKept g → AreKept (joined f g)
+  joined-AreKept none g h k = k
+  joined-AreKept (text bytes more) g h k = (h.0, joined-AreKept more g h.1 k)
+  joined-AreKept (comment bytes more) g h k = absurd h
+  joined-AreKept (tag own children more) g h k = (h.0, h.1, h.2, h.3, joined-AreKept more g h.4 k)
+
+  filter_all : {X : Type 0} (test : X → Bool) (xs : List X) → list_all test (filter test xs) ≡ true
+  filter_all test [] = refl
+  filter_all test (x ∷ xs) = here (test x) refl (filter_all test xs)
+    where
+      here : (b : Bool) → test x ≡ b → list_all test (filter test xs) ≡ true → list_all test (cond b (x ∷ filter test xs) (filter test xs)) ≡ true
+      here true e rest = and_from _ _ e rest
+      here false e rest = rest
+
+  kept-named : (key : List ℕ) (v : Option (List ℕ)) → named key (kept_value p key v) ≡ filter (stays p) (named key v)
+  kept-named key None = refl
+  kept-named key (Some v) = here (stays p (key, Some v))
+    where
+      here : (b : Bool) → named key (if b then Some v else None) ≡ cond b ((key, Some v) ∷ []) []
+      here true = refl
+      here false = refl
+
+  kept-printed : (a : PlainAttributes) → printed_pairs (kept_attributes p a) ≡ filter (stays p) (printed_pairs a)
+  kept-printed a =
+      ap₂ (λ x y. (filter (stays p) a.others ++ x) ++ y) (kept-named (codes "id") a.id) (kept-named (codes "class") a.class)
+      ∙ ap (λ x. x ++ filter (stays p) (named (codes "class") a.class)) (sym (filter-append (stays p) a.others (named (codes "id") a.id)))
+      ∙ sym (filter-append (stays p) (a.others ++ named (codes "id") a.id) (named (codes "class") a.class))
+
+  pub kept-pairs : (a : PlainAttributes) → printed_pairs (kept_attributes p a) ≡ filter (stays p) (printed_pairs a)
+  kept-pairs a = kept-printed a
+
+  void_children : (b : Bool) (f : Forest PlainTag) → b ≡ true → (if b then none else f) ≡ none
+  void_children true f e = refl
+  void_children false f e = absurd (true≢false (sym e))
+
+  pub kept-AreKept : (f : Forest PlainTag) → AreKept (kept p f)
+  kept-AreKept none = tt
+  kept-AreKept (text bytes more) = (filter_all is_text_byte bytes, kept-AreKept more)
+  kept-AreKept (comment bytes more) = kept-AreKept more
+  kept-AreKept (tag own children more) =
+      let below = kept-AreKept children in
+      let after = kept-AreKept more in
+      choose AreKept (is_among p.tags own.name) _ _
+      (λ listed. (
+        listed,
+        ap (list_all (stays p)) (kept-printed own.attributes) ∙ filter_all (stays p) (printed_pairs own.attributes),
+        void_children (is_void own.name) (kept p children),
+        choose AreKept (is_void own.name) none (kept p children) (λ _. tt) (λ _. below),
+        after,
+      ))
+      (λ _. choose AreKept (is_among_in_any_case opaque_names own.name) (kept p more) (joined (kept p children) (kept p more))
+      (λ _. after) (λ _. joined-AreKept (kept p children) (kept p more) below after))
+
+  -- keys
+
+  others-filter : (es : List Pair) → AreOthers (λ key. key) es → AreOthers (λ key. key) (filter (stays p) es)
+  others-filter [] h = tt
+  others-filter (e ∷ es) h = here (stays p e) (others-filter es h.1)
+    where
+      here : (b : Bool) → AreOthers (λ key. key) (filter (stays p) es) → AreOthers (λ key. key) (cond b (e ∷ filter (stays p) es) (filter (stays p) es))
+      here true rest = (h.0, rest)
+      here false rest = rest
+
+  own-kept : (a : PlainAttributes) → HasOwnKeys a → HasOwnKeys (kept_attributes p a)
+  own-kept a h = record { distinct = IsDistinct-keys_filter bytes_eq (stays p) a.others h.distinct; others = others-filter a.others h.others }
+
+  joined-own : (f g : Forest PlainTag) → HaveOwnKeys f → HaveOwnKeys g → HaveOwnKeys (joined f g)
+  joined-own none g h k = k
+  joined-own (text bytes more) g h k = joined-own more g h k
+  joined-own (comment bytes more) g h k = joined-own more g h k
+  joined-own (tag own children more) g h k = (h.0, h.1, joined-own more g h.2 k)
+
+  pub kept-own : (f : Forest PlainTag) → HaveOwnKeys f → HaveOwnKeys (kept p f)
+  kept-own none h = tt
+  kept-own (text bytes more) h = kept-own more h
+  kept-own (comment bytes more) h = kept-own more h
+  kept-own (tag own children more) h =
+      let below = kept-own children h.1 in
+      let after = kept-own more h.2 in
+      choose HaveOwnKeys (is_among p.tags own.name) _ _
+      (λ _. (own-kept own.attributes h.0, choose HaveOwnKeys (is_void own.name) none (kept p children) (λ _. tt) (λ _. below), after))
+      (λ _. choose HaveOwnKeys (is_among_in_any_case opaque_names own.name) (kept p more) (joined (kept p children) (kept p more))
+      (λ _. after) (λ _. joined-own (kept p children) (kept p more) below after))
+
+  -- clean
+
+  module _ (lawful : are_lawful p ≡ true) where
+    no_less : (s : List ℕ) → list_all is_text_byte s ≡ true → list_all (λ b. not (b == 60)) s ≡ true
+    no_less [] h = refl
+    no_less (b ∷ s) h =
+        let here = and_parts (is_text_byte b) (list_all is_text_byte s) h in
+        and_from _ _ (and_parts (not (b == 60)) (not (b == 0)) (and_parts (not (b == 60) && not (b == 0)) (not (b == 27)) here.0).0).0 (no_less s here.1)
+
+    no_quote : (s : List ℕ) → list_all is_value_byte s ≡ true → list_all (λ b. not (b == 34)) s ≡ true
+    no_quote [] h = refl
+    no_quote (b ∷ s) h =
+        let here = and_parts (is_value_byte b) (list_all is_value_byte s) h in
+        and_from _ _ (and_parts (not (b == 34)) (not (b == 0)) (and_parts (not (b == 34) && not (b == 0)) (not (b == 27)) here.0).0).0 (no_quote s here.1)
+
+    clean-pairs : (ps : List Pair) → list_all (stays p) ps ≡ true → AreCleanPairs ps
+    clean-pairs [] h = tt
+    clean-pairs ((key, None) ∷ ps) h =
+        let here = and_parts (stays p (key, None)) (list_all (stays p) ps) h in
+        ((listed_key p lawful key here.0).name, tt, clean-pairs ps here.1)
+    clean-pairs ((key, Some value) ∷ ps) h =
+        let here = and_parts (stays p (key, Some value)) (list_all (stays p) ps) h in
+        let parts = and_parts (is_among p.keys key) (value_stays p key value) here.0 in
+        ((listed_key p lawful key parts.0).name, no_quote value (and_parts _ _ (and_parts _ _ parts.1).0).0, clean-pairs ps here.1)
+
+    clean_start : (name : List ℕ) → IsName name → (ps : List Pair) → AreCleanPairs ps → IsCleanStart name ps
+    clean_start [] n ps h = absurd n
+    clean_start (b ∷ name) n ps h = (n, h)
+
+    pub kept-clean : (f : Forest PlainTag) → AreKept f → IsClean f
+    kept-clean none h = tt
+    kept-clean (text bytes more) h = (no_less bytes h.0, kept-clean more h.1)
+    kept-clean (comment bytes more) h = absurd h
+    kept-clean (tag own children more) h =
+        let name = listed_tag p lawful own.name h.0 in
+        let ps = printed_pairs own.attributes in (
+          record { start = clean_start own.name name.name ps (clean-pairs ps h.1); no_command = name.no_command },
+          h.2,
+          kept-clean children h.3,
+          kept-clean more h.4,
+        )

@@ -1,0 +1,46 @@
+//! What a policy keeps of attributes.
+ghost use Rattle.std.specs.Prelude.{◌≡◌};
+ghost use Rattle.std.specs.Option.{option_copied};
+ghost use Rattle.tl_attributes.specs.ShownAttributes.{shown_value};
+ghost use Rattle.tl_safe.specs.Kept.{is_link, is_own_name, stays, value_stays};
+ghost use Rattle.tl_safe.specs.Policies.{lists_of};
+
+use crate::policy::Policy;
+use crate::words::{ByteClass, are_of, begins_with_any, is_among, is_naming};
+use tl::Bytes;
+
+// Whether a value is a link that may stand.
+fn is_link(policy: &Policy<'_>, value: &[u8]) -> bool
+    ensures { result ≡ is_link (lists_of policy.now) value.now }
+{
+    begins_with_any(policy.link_beginnings, value) && are_of(ByteClass::OfLink, value)
+}
+
+// Whether a value is one word with the prefix.
+fn is_own_name(policy: &Policy<'_>, value: &[u8]) -> bool
+    ensures { result ≡ is_own_name (lists_of policy.now) value.now }
+{
+    value.starts_with(policy.prefix.as_bytes()) && are_of(ByteClass::OfOwnName, value)
+}
+
+// Whether a value stays at a key.
+fn value_stays(policy: &Policy<'_>, key: &[u8], value: &[u8]) -> bool
+    ensures { result ≡ value_stays (lists_of policy.now) key.now value.now }
+{
+    are_of(ByteClass::OfValue, value)
+        && (!is_among(policy.link_keys, key) || is_link(policy, value))
+        && (!is_naming(key) || is_own_name(policy, value))
+}
+
+// Whether a key stays, with its value if it has one.
+pub(crate) fn stays(policy: &Policy<'_>, key: &[u8], value: Option<&Bytes<'_>>) -> bool
+    ensures { result ≡ stays (lists_of policy.now) (key.now, shown_value (option_copied value.entry)) }
+{
+    if !is_among(policy.keys, key) {
+        return false;
+    }
+    match value {
+        Some(value) => value_stays(policy, key, value.as_bytes()),
+        None => true,
+    }
+}

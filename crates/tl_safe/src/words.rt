@@ -1,0 +1,306 @@
+//! Words, and the classes of their bytes.
+ghost use Rattle.std.specs.Prelude.{◌≡◌, IsTrue, false, MatchOption};
+ghost use Rattle.std.specs.List.{list_all};
+ghost use Rattle.tl_safe.specs.Kept.{is_text_byte, naming_keys};
+ghost use Rattle.tl_safe.specs.Lists.{bending_names, begins_path, begins_with_any, has_colon, has_scheme, is_among, is_among_in_any_case, is_word_of, may_be_key, may_be_tag, may_begin_links, opaque_names};
+ghost use Rattle.tl_safe.specs.Words.{is_of, may_be, words_of};
+
+// Classes of bytes.
+#[derive(Clone, Copy)]
+pub(crate) enum ByteClass {
+    OfTag,
+    OfKey,
+    OfLink,
+    OfOwnName,
+    OfValue,
+    OfText,
+}
+
+// What a word is listed as.
+#[derive(Clone, Copy)]
+pub(crate) enum Role {
+    Tag,
+    Key,
+    LinkBeginning,
+}
+
+static OPAQUE_NAMES: [&str; 12] = [
+    "script",
+    "style",
+    "textarea",
+    "title",
+    "xmp",
+    "iframe",
+    "noembed",
+    "noframes",
+    "noscript",
+    "plaintext",
+    "svg",
+    "math",
+];
+
+static BENDING_NAMES: [&str; 29] = [
+    "html",
+    "head",
+    "body",
+    "base",
+    "basefont",
+    "bgsound",
+    "link",
+    "meta",
+    "frameset",
+    "frame",
+    "template",
+    "select",
+    "option",
+    "optgroup",
+    "selectedcontent",
+    "form",
+    "input",
+    "button",
+    "keygen",
+    "isindex",
+    "image",
+    "applet",
+    "marquee",
+    "object",
+    "embed",
+    "param",
+    "portal",
+    "fencedframe",
+    "command",
+];
+
+static ACTIVE_KEYS: [&str; 7] = [
+    "style",
+    "srcdoc",
+    "srcset",
+    "imagesrcset",
+    "ping",
+    "archive",
+    "is",
+];
+
+static KNOWN_LINK_KEYS: [&str; 17] = [
+    "href",
+    "src",
+    "cite",
+    "action",
+    "formaction",
+    "poster",
+    "background",
+    "data",
+    "longdesc",
+    "manifest",
+    "codebase",
+    "classid",
+    "profile",
+    "usemap",
+    "lowsrc",
+    "dynsrc",
+    "icon",
+];
+
+static ACTIVE_SCHEMES: [&str; 7] = [
+    "javascript:",
+    "vbscript:",
+    "livescript:",
+    "data:",
+    "blob:",
+    "filesystem:",
+    "about:",
+];
+
+// Whether a byte is of a class.
+#[inline(always)]
+fn is_of(class: ByteClass, byte: u8) -> bool
+    ensures { result ≡ is_of class byte }
+{
+    match class {
+        ByteClass::OfTag => byte.is_ascii_lowercase() || byte.is_ascii_digit(),
+        ByteClass::OfKey => byte.is_ascii_lowercase() || byte == b'-',
+        ByteClass::OfLink => byte > 32 && byte < 127 && byte != b'"',
+        ByteClass::OfOwnName => byte.is_ascii_alphanumeric() || byte == b'-' || byte == b'_',
+        ByteClass::OfValue => byte != b'"' && byte != 0 && byte != 27,
+        ByteClass::OfText => byte != b'<' && byte != 0 && byte != 27,
+    }
+}
+
+// Whether a byte stays in a text.
+pub(crate) fn is_text_byte(byte: u8) -> bool
+    ensures { result ≡ is_text_byte byte }
+{
+    is_of(ByteClass::OfText, byte)
+}
+
+// Whether all bytes are of a class.
+#[inline(always)]
+pub(crate) fn are_of(class: ByteClass, bytes: &[u8]) -> bool
+    ensures { result ≡ list_all (is_of class) bytes.now }
+{
+    for byte in bytes {
+        if !is_of(class, *byte) {
+            return false;
+        }
+    }
+    true
+}
+
+// Whether a word is one of these, in exact case.
+pub(crate) fn is_among(words: &[&str], word: &[u8]) -> bool
+    ensures { result ≡ is_among (words_of words.now) word.now }
+{
+    for own in words {
+        if word == own.as_bytes() {
+            return true;
+        }
+    }
+    false
+}
+
+// Whether what stands in a tag of this name is no markup of HTML.
+pub(crate) fn is_opaque(name: &[u8]) -> bool
+    ensures { result ≡ is_among_in_any_case opaque_names name.now }
+{
+    is_among_in_any_case(&OPAQUE_NAMES, name)
+}
+
+// Whether a word is one of these, in any ASCII case.
+fn is_among_in_any_case(words: &[&str], word: &[u8]) -> bool
+    ensures { result ≡ is_among_in_any_case (words_of words.now) word.now }
+{
+    for own in words {
+        if word.eq_ignore_ascii_case(own.as_bytes()) {
+            return true;
+        }
+    }
+    false
+}
+
+// Whether one of these stands at the front of a word.
+pub(crate) fn begins_with_any(fronts: &[&str], word: &[u8]) -> bool
+    ensures { result ≡ begins_with_any (words_of fronts.now) word.now }
+{
+    for front in fronts {
+        if word.starts_with(front.as_bytes()) {
+            return true;
+        }
+    }
+    false
+}
+
+// Whether others refer to the values of a key.
+pub(crate) fn is_naming(key: &[u8]) -> bool
+    ensures { result ≡ is_among naming_keys key.now }
+{
+    key == b"id".as_slice() || key == b"name".as_slice() || key == b"class".as_slice()
+}
+
+// Whether a word is a letter and then bytes of a class.
+pub(crate) fn is_word_of(class: ByteClass, word: &[u8]) -> bool
+    ensures { result ≡ is_word_of (is_of class) word.now }
+{
+    match word {
+        [] => false,
+        [first, rest @ ..] => first.is_ascii_lowercase() && are_of(class, rest),
+    }
+}
+
+// Whether a tag of this name changes what is around it.
+fn is_bending(name: &[u8]) -> bool
+    ensures { result ≡ is_among bending_names name.now }
+{
+    is_among(&BENDING_NAMES, name)
+}
+
+// Whether a tag of this name, in exact case, holds what is no markup of HTML.
+fn is_opaque_in_lowercase(name: &[u8]) -> bool
+    ensures { result ≡ is_among opaque_names name.now }
+{
+    is_among(&OPAQUE_NAMES, name)
+}
+
+// Whether a policy may list a tag's name.
+fn may_be_tag(name: &[u8]) -> bool
+    ensures { result ≡ may_be_tag name.now }
+{
+    is_word_of(ByteClass::OfTag, name) && !is_opaque_in_lowercase(name) && !is_bending(name)
+}
+
+// Whether a policy with these link keys may list a key.
+fn may_be_key(link_keys: &[&str], key: &[u8]) -> bool
+    ensures { result ≡ may_be_key (words_of link_keys.now) key.now }
+{
+    is_word_of(ByteClass::OfKey, key)
+        && !key.starts_with(b"on")
+        && !is_among(&ACTIVE_KEYS, key)
+        && (!is_among(&KNOWN_LINK_KEYS, key) || is_among(link_keys, key))
+}
+
+// Whether a word begins a link within a site.
+fn begins_path(word: &[u8]) -> bool
+    ensures { result ≡ begins_path word.now }
+{
+    match word {
+        [] => false,
+        [first, ..] => *first == b'/' || *first == b'#' || *first == b'?' || *first == b'.',
+    }
+}
+
+// Whether bytes of names stand up to a `:`.
+fn has_colon(word: &[u8]) -> bool
+    ensures { result ≡ has_colon word.now }
+{
+    for byte in word {
+        if *byte == b':' {
+            return true;
+        }
+        if !is_of(ByteClass::OfTag, *byte) {
+            return false;
+        }
+    }
+    false
+}
+
+// Whether a word begins with a scheme and its `:`.
+fn has_scheme(word: &[u8]) -> bool
+    ensures { result ≡ has_scheme word.now }
+{
+    match word {
+        [] => false,
+        [first, rest @ ..] => first.is_ascii_lowercase() && has_colon(rest),
+    }
+}
+
+// Whether a policy may let links begin with a word.
+fn may_begin_links(word: &[u8]) -> bool
+    ensures { result ≡ may_begin_links word.now }
+{
+    are_of(ByteClass::OfLink, word)
+        && (begins_path(word) || (has_scheme(word) && !begins_with_any(&ACTIVE_SCHEMES, word)))
+}
+
+// Whether a policy with these link keys may list a word in a role.
+fn may_be(role: Role, link_keys: &[&str], word: &[u8]) -> bool
+    ensures { result ≡ may_be role (words_of link_keys.now) word.now }
+{
+    match role {
+        Role::Tag => may_be_tag(word),
+        Role::Key => may_be_key(link_keys, word),
+        Role::LinkBeginning => may_begin_links(word),
+    }
+}
+
+// The first word that a policy may not list in a role.
+pub(crate) fn refused<'w>(role: Role, link_keys: &[&str], words: &'w [&'w str]) -> Option<&'w str>
+    ensures { MatchOption result
+        (IsTrue (list_all (may_be role (words_of link_keys.now)) (words_of words.now)))
+        (λ word. IsTrue (is_among (words_of words.now) word.now) × (may_be role (words_of link_keys.now) word.now ≡ false)) }
+{
+    for word in words {
+        if !may_be(role, link_keys, word.as_bytes()) {
+            return Some(*word);
+        }
+    }
+    None
+}

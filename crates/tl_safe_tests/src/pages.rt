@@ -1,0 +1,111 @@
+//! What is printed of pages that attack a browser, by the policy for the text of a blog; and lists that are no policy.
+
+use std::alloc::Global;
+use tl_safe::{Policy, PolicyError, sanitised};
+
+static ROWS: [(&str, &str); 20] = [
+    // what stands in these is no markup, in any case of their names
+    ("<script>steal()</script>x", "x"),
+    (
+        "<IMG SRC=x ONERROR=\"steal()\"><SCRIPT>steal()</SCRIPT>",
+        "",
+    ),
+    ("<SvG><p>a</p></SvG>b", "b"),
+    (
+        "<style><a title=\"</style><img src=x onerror=1>\">x</a></style>",
+        "",
+    ),
+    // links
+    ("<a href=\"&#106;avascript:steal()\">c</a>", "<a>c</a>"),
+    ("<a href=\"java\tscript:steal()\">c</a>", "<a>c</a>"),
+    ("<a href=\" javascript:steal()\">c</a>", "<a>c</a>"),
+    ("<a href=\"JaVaScRiPt:steal()\">c</a>", "<a>c</a>"),
+    (
+        "<a href=\"/x?a=1&amp;b\">c</a>",
+        "<a href=\"/x?a=1&amp;b\">c</a>",
+    ),
+    // comments, and what a browser takes for their end
+    ("<!--x--!><img src=x onerror=\"steal()\">-->", ""),
+    ("< !-- <img src=x onerror=\"steal()\"> -->", ""),
+    // quotes, and an end tag with attributes
+    (
+        "<p title='\"><img src=x onerror=steal()>'>x</p>",
+        "<p>x</p>",
+    ),
+    ("<p>a</p title=\"><img src=x>\">", "<p>a<img>\"></p>"),
+    ("<p<img src=x onerror=\"steal()\">x</p>", "<p>x</p>"),
+    // keys and names
+    (
+        "<img src=\"https://e/x\" alt=\"y\" onerror=\"z\">",
+        "<img src=\"https://e/x\" alt=\"y\">",
+    ),
+    (
+        "<p id=\"body\" class=\"user-x\">x</p>",
+        "<p class=\"user-x\">x</p>",
+    ),
+    ("<p class=\"user-x admin\">x</p>", "<p>x</p>"),
+    // tags that are not listed, not ended, or void
+    ("<table><tr><td>x</td></tr></table>", "x"),
+    ("a<b>c<br>d", "a<b>c<br>d</b>"),
+    // another character set
+    ("x\x1b$By\x00z", "x$Byz"),
+];
+
+// Whether what is printed of a page is this.
+fn is_printed(alloc: Global, page: &str, expected: &str) -> bool {
+    match sanitised(alloc, &Policy::page(), page) {
+        Ok(safe) => safe.as_str() == expected,
+        Err(_) => false,
+    }
+}
+
+#[test]
+fn pages(rt: HostRuntime) {
+    for row in &ROWS {
+        assert!(rt; is_printed(rt.alloc(), row.0, row.1), "{}", row.0);
+    }
+}
+
+// Whether these lists are refused for a word.
+fn is_refused(
+    tags: &[&str],
+    keys: &[&str],
+    beginnings: &[&str],
+    expected: PolicyError<'_>,
+) -> bool {
+    match Policy::checked(tags, keys, &["href"], beginnings, "user-") {
+        Ok(_) => false,
+        Err(error) => error == expected,
+    }
+}
+
+#[test]
+fn lists(rt: HostRuntime) {
+    assert!(rt; is_refused(&["p", "style"], &[], &[], PolicyError::Tag("style")));
+    assert!(rt; is_refused(&["P"], &[], &[], PolicyError::Tag("P")));
+    assert!(rt;
+        is_refused(
+            &["p"],
+            &["title", "onclick"],
+            &[],
+            PolicyError::Key("onclick")
+        )
+    );
+    assert!(rt; is_refused(&["p"], &["src"], &[], PolicyError::Key("src")));
+    assert!(rt;
+        is_refused(
+            &["p"],
+            &["href"],
+            &["java"],
+            PolicyError::LinkBeginning("java")
+        )
+    );
+    assert!(rt;
+        is_refused(
+            &["p"],
+            &["href"],
+            &["data:"],
+            PolicyError::LinkBeginning("data:")
+        )
+    );
+}
