@@ -101,7 +101,7 @@ static SEARCHES: [Row; 6] = [
         "<a></a>",
         &[Edit::Push(0, 9)],
         Look::Search(0, "?"),
-        ": dangling 9 / : dangling 9",
+        ": dangling 9 /: dangling 9",
     ),
 ];
 
