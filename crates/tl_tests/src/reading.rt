@@ -5,7 +5,8 @@ use std::alloc::Global;
 use std::mem::size_of;
 use std::test::Fail;
 use tl::errors::TreeError;
-use tl::{Bytes, HTMLVersion, Node, NodeHandle, Parser, ParserOptions, VDom, parse};
+use tl::queryselector::QuerySelectorIterator;
+use tl::{Bytes, HTMLTag, HTMLVersion, Node, NodeHandle, Parser, ParserOptions, VDom, parse};
 
 static TAGS: [(&str, &str); 23] = [
     ("", ""),
@@ -254,14 +255,50 @@ fn text_len<'a>(alloc: Global, node: &Node<'a>, parser: &Parser<'a>) -> Result<u
     Ok(text.len())
 }
 
-// Whether a search below the first node is shown all others, and its text is empty.
+// Whether a search below the first tag is shown all others, as are its range and queries, and its text is empty.
 fn walks_below(alloc: Global, document: &VDom<'_>) -> Result<bool, Fail> {
     let Some(node) = document.nodes().first() else {
         return Err(Fail::from("no node"));
     };
+    let Some(tag) = node.as_tag() else {
+        return Err(Fail::from("no tag"));
+    };
+    let below = document.nodes().len() - 1;
     let shown = shown_below(node, document.parser())?;
     let text = text_len(alloc, node, document.parser())?;
-    Ok(shown == document.nodes().len() - 1 && text == 0)
+    Ok(shown == below && text == 0 && finds_below(alloc, document, tag, below)?)
+}
+
+// How many nodes a query finds.
+fn counted(found: Option<QuerySelectorIterator<'_, '_>>) -> usize {
+    let mut count = 0usize;
+    if let Some(found) = found {
+        for _ in found {
+            count = count.saturating_add(1);
+        }
+    }
+    count
+}
+
+// Whether the range of the first tag is all others, and queries find them.
+fn finds_below<'a>(
+    alloc: Global,
+    document: &VDom<'a>,
+    tag: &HTMLTag<'a>,
+    below: usize,
+) -> Result<bool, Fail> {
+    let parser = document.parser();
+    let children = tag.children();
+    let end = children.end(parser)?;
+    let all = children.all(parser).map(|nodes| nodes.len())?;
+    let in_tag = counted(tag.query_selector(alloc, parser, "p")?);
+    let in_document = counted(document.query_selector(alloc, "p")?);
+    Ok(
+        end.is_some_and(|last| last as usize == below)
+            && all == below
+            && in_tag == below
+            && in_document == document.nodes().len(),
+    )
 }
 
 fn print_to(alloc: Global, document: &VDom<'_>, out: &mut String) -> Result<(), Fail> {
