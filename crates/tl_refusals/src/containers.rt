@@ -94,10 +94,10 @@ static MAPS: [MapRow; 11] = [
         MapCall::Insert(1),
     ),
     (
-        "insert of a fifth pair, with no room inline",
+        "insert of a fourth pair, with no room inline",
         Room::None,
-        &[(1, 9), (2, 8), (3, 7), (4, 6)],
-        MapCall::Insert(5),
+        &[(1, 9), (2, 8), (3, 7)],
+        MapCall::Insert(4),
     ),
     (
         "insert into inline room",
@@ -112,10 +112,10 @@ static MAPS: [MapRow; 11] = [
         MapCall::Insert(3),
     ),
     (
-        "insert of a fifth pair, with room for two inline",
+        "insert of a sixth pair, with room for two inline",
         Room::Two,
-        &[(1, 9), (2, 8), (3, 7), (4, 6)],
-        MapCall::Insert(5),
+        &[(1, 9), (2, 8), (3, 7), (4, 6), (5, 5)],
+        MapCall::Insert(6),
     ),
     (
         "insert of a key that is there, inline",
