@@ -5,8 +5,8 @@ use Rattle.tl_spec.specs.Document.{document}
 use Rattle.tl_spec.specs.Machine.{State, step, IsReached}
 use Rattle.tl_spec.proofs.Reached.{IsTokenAt-found, IsReached-next, IsReached-end}
 use Rattle.tl_spec.proofs.Stand.{none-end, place}
-use Rattle.tl_token.specs.Lexed.{meant}
-use Rattle.tl_token.specs.declared.token.Token.{Token}
+use Rattle.tl_lexer.specs.Lexed.{meant}
+use Rattle.tl_lexer.specs.declared.token.Token.{Token}
 use Rattle.tl.specs.Builder.{placed, written}
 
 -- after the next token

@@ -2,7 +2,7 @@
 use Rattle.std.proofs.Common.{◌≡◌, ℕ, Bool, cond, List, Option, None, Some, is_some, ap, sym, ◌∙◌}
 use Rattle.tl_bytes.specs.Held.{Kept, borrowed}
 use Rattle.tl_bytes.specs.Keys.{same_list}
-use Rattle.tl_options.specs.Options.{Options}
+use Rattle.tl_tracking.specs.Options.{Options}
 use Rattle.tl_spec.specs.Document.{Node}
 use Rattle.tl_spec.specs.Inline.{InlineVec}
 use Rattle.tl_spec.specs.Scan.{id_scan, class_scan}

@@ -4,7 +4,7 @@ use Rattle.tl_spec.specs.Attribute.{attributes, next_attribute}
 use Rattle.tl_spec.specs.AttributeList.{no_attributes, with_pair, Attributes}
 use Rattle.tl_spec.specs.Document.{held_attributes}
 use Rattle.tl_bytes.specs.Held.{Held, Kept}
-use Rattle.tl_token.proofs.Tags.{ArePut, put-all}
+use Rattle.tl_lexer.proofs.Tags.{ArePut, put-all}
 use Rattle.tl_attributes.specs.ShownAttributes.{shown_attributes}
 use Rattle.tl_attributes.specs.ShownAttributes.{plain}
 use Rattle.tl_attributes.specs.HeldAttributes.{AreRead}

@@ -4,8 +4,8 @@ use Rattle.tl_spec.specs.Attribute.{Pair, attributes}
 use Rattle.tl_spec.specs.AttributeList.{Attributes, attributes_of}
 use Rattle.tl_spec.specs.Token.{Token, closed}
 use Rattle.tl_spec.specs.Document.{TagNode, held_items, tag_node}
-use Rattle.tl_token.specs.Lexed.{ended, tag_of}
-use Rattle.tl_token.specs.declared.tag.TagEnd.{TagEnd}
+use Rattle.tl_lexer.specs.Lexed.{ended, tag_of}
+use Rattle.tl_lexer.specs.declared.tag.TagEnd.{TagEnd}
 use Rattle.tl.specs.StartTag.{read_of}
 
 module _ (t name : List ℕ) (at after : ℕ) (attrs : Attributes (List ℕ))

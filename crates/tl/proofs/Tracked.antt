@@ -7,7 +7,7 @@ use Rattle.tl_bytes.specs.Keys.{same_list}
 use Rattle.tl_spec.specs.ClassMember.{members, parts}
 use Rattle.tl_spec.specs.Document.{Node}
 use Rattle.tl_spec.specs.Scan.{id_of, class_of}
-use Rattle.tl_options.specs.Options.{Options}
+use Rattle.tl_tracking.specs.Options.{Options}
 use Rattle.tl_tracking.specs.Tracking.{Tracking, nothing_noted, empty_if}
 use Rattle.tl_tracking.proofs.Noted.{members_begin, members_end, id_missing}
 use Rattle.tl.specs.Shown.{HTMLTag, HTMLNode, shown}

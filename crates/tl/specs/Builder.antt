@@ -5,13 +5,13 @@ use Rattle.tl_spec.specs.Token.{PlacedToken}
 use Rattle.tl_spec.specs.Forest.{closes}
 use Rattle.tl_spec.specs.Document.{Node, Raw, Comment, Document}
 use Rattle.tl_spec.specs.Machine.{State, added, opened, after_end, enclosing_name}
-use Rattle.tl_token.specs.Span.{bytes_at}
-use Rattle.tl_token.specs.declared.span.Span.{Span}
-use Rattle.tl_token.specs.Lexed.{meant}
-use Rattle.tl_token.specs.declared.tag.TagEnd.{TagEnd}
-use Rattle.tl_token.specs.declared.tag.TagEnd.TheVariants.{Opens, Alone, Broken}
-use Rattle.tl_token.specs.declared.token.Token.{Token}
-use Rattle.tl_token.specs.declared.token.Token.TheVariants.{Text as TextToken, End as EndToken, Comment as CommentToken, Doctype as DoctypeToken, Start as StartToken, Nothing as NothingToken}
+use Rattle.tl_lexer.specs.Span.{bytes_at}
+use Rattle.tl_lexer.specs.declared.span.Span.{Span}
+use Rattle.tl_lexer.specs.Lexed.{meant}
+use Rattle.tl_lexer.specs.declared.tag.TagEnd.{TagEnd}
+use Rattle.tl_lexer.specs.declared.tag.TagEnd.TheVariants.{Opens, Alone, Broken}
+use Rattle.tl_lexer.specs.declared.token.Token.{Token}
+use Rattle.tl_lexer.specs.declared.token.Token.TheVariants.{Text as TextToken, End as EndToken, Comment as CommentToken, Doctype as DoctypeToken, Start as StartToken, Nothing as NothingToken}
 use Rattle.tl.specs.Shown.{shown}
 use Rattle.tl.specs.HeldAlike.{IsHeldNode}
 use Rattle.tl.specs.declared.parser.builder.TableBuilder.{TableBuilder}

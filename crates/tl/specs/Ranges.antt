@@ -3,8 +3,8 @@ use Rattle.std.specs.Prelude.{◌≡◌, ◌≢◌, ℕ, ⊤, List, Result, Ok, 
 use Rattle.std.specs.Borrow.{Bor}
 use Rattle.std.specs.List.{between}
 use Rattle.std.specs.Result.{result_err}
-use Rattle.tl_range.specs.declared.errors.RangeError.{RangeError}
-use Rattle.tl_range.specs.declared.errors.RangeError.TheVariants as r
+use Rattle.tl_table.specs.declared.errors.RangeError.{RangeError}
+use Rattle.tl_table.specs.declared.errors.RangeError.TheVariants as r
 use Rattle.tl_spec.specs.Walk.{TreeFault}
 use Rattle.tl.specs.TreeFault.{IsRefusal}
 use Rattle.tl.specs.declared.errors.TreeError.{TreeError}

@@ -4,8 +4,8 @@ use Rattle.tl_spec.specs.Attribute.{Pair, attributes}
 use Rattle.tl_spec.specs.AttributeList.{Attributes, attributes_of}
 use Rattle.tl_spec.specs.Forest.{SourceTag}
 use Rattle.tl_spec.specs.Document.{held_attributes}
-use Rattle.tl_token.specs.Span.{bytes_at}
-use Rattle.tl_token.specs.declared.span.Span.{Span}
+use Rattle.tl_lexer.specs.Span.{bytes_at}
+use Rattle.tl_lexer.specs.declared.span.Span.{Span}
 
 -- pairs as the attributes of a tag, and what stands after them
 abbrev pub read_of : List Pair × List ℕ → Attributes (List ℕ) × List ℕ

@@ -8,7 +8,7 @@ use crate::parser::handle::NodeHandle;
 use std::alloc::{AllocError, AllocFailed};
 use thiserror::Error;
 pub use tl_bytes::byte_string::SetBytesError;
-use tl_range::errors::RangeError;
+use tl_table::errors::RangeError;
 
 /// Why a text was not read.
 #[derive(Clone, Copy, PartialEq, Eq, PartialOrd, Ord, Debug, Error)]

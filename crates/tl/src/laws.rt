@@ -1,7 +1,7 @@
 //! Laws of what calls answer together, and of what a loan for writing leaves; and those of the definitions that a caller needs.
 ghost use Rattle.std.specs.Prelude.{◌≡◌, All, List, ℕ, length, map};
 ghost use Rattle.tl_bytes.specs.Held.{Kept};
-ghost use Rattle.tl_options.specs.Options.{Options};
+ghost use Rattle.tl_tracking.specs.Options.{Options};
 ghost use Rattle.tl_spec.specs.Document.{Node, document};
 ghost use Rattle.tl_spec.specs.Each.{HoldOfNode, IsCleanAlone, Tests};
 ghost use Rattle.tl_spec.specs.Scan.{has_id, is_in_class, IsFirstPlace, ArePlaces};

@@ -11,7 +11,7 @@ pub mod iter {
 
 /// The reader of selector texts.
 pub mod parser {
-    pub use tl_selector_text::parser::Parser;
+    pub use tl_selector::text::Parser;
 }
 
 /// Selectors as values.
@@ -22,5 +22,4 @@ pub mod selector {
 pub use iterable::QueryIterable;
 pub use iterator::QuerySelectorIterator;
 pub use tl_selector::selector::Selector;
-pub use tl_selector_text::parse_query_selector;
-pub use tl_selector_text::parser::Parser;
+pub use tl_selector::text::{Parser, parse_query_selector};

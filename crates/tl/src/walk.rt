@@ -19,7 +19,7 @@ use crate::parser::tag::HTMLTag;
 use crate::parser::tag::node::Node;
 use path::{put_mark, stands_on_path};
 use std::alloc::Global;
-use tl_token::names::is_printed_alone;
+use tl_lexer::names::is_printed_alone;
 
 // Which tags a walk enters: all, or those that are printed with their children.
 #[derive(Clone, Copy)]

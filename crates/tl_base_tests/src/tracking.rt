@@ -2,8 +2,7 @@
 use std::alloc::{AllocError, Global};
 use std::test::Fail;
 use tl_base::bytes::Bytes;
-use tl_options::ParserOptions;
-use tl_tracking::TrackingOf;
+use tl_tracking::{ParserOptions, TrackingOf};
 
 // A number of options, and whether it asks for ids and for classes.
 static NUMBERS: [(u8, bool, bool); 4] = [

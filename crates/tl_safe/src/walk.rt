@@ -17,7 +17,7 @@ use crate::words::{is_among, is_opaque};
 use crate::write::{write_end, write_start, write_text};
 use std::alloc::{AllocError, Global};
 use tl::{Element, HTMLTag, Node, NodeHandle};
-use tl_token::names::is_void;
+use tl_lexer::names::is_void;
 
 // A tag that was entered, the place of its next child, and whether the tag itself stands.
 #[derive(Clone, Copy)]

@@ -6,3 +6,9 @@ pub mod Parts
 pub mod Spreads
 pub mod Unders
 pub mod Works
+pub mod LossyTexts
+pub mod LossyParts
+pub mod LossyWords
+pub mod LossyAscii
+pub mod TextRuns
+pub mod TextParts

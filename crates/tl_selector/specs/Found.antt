@@ -5,8 +5,8 @@ use Rattle.tl_spec.specs.Document.{Node}
 use Rattle.tl_spec.specs.SelectorSearch.{holds_alone}
 use Rattle.tl_selector.specs.Sides.{has_sides}
 use Rattle.tl_selector.specs.View.{selector}
-use Rattle.tl_selector.specs.declared.node_test.Test.{Test}
-use Rattle.tl_selector.specs.declared.node_test.Test.TheVariants.{Alone, Marked}
+use Rattle.tl_selector.specs.declared.matches.node_test.Test.{Test}
+use Rattle.tl_selector.specs.declared.matches.node_test.Test.TheVariants.{Alone, Marked}
 
 -- the numbers of k places from n on that pass
 abbrev pub numbers : (ℕ → Bool) → ℕ → ℕ → List ℕ

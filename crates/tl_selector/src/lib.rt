@@ -1,13 +1,10 @@
-//! Selectors, and where they hold.
+//! Selectors: as values, as texts, and where they hold.
 #![tactic(auto)]
 
-mod copies;
-mod first;
-pub mod found;
+pub mod lossy;
 mod marks;
+pub mod matches;
 mod matching;
-mod node_test;
 pub mod selector;
-mod show;
-mod sides;
 pub mod table;
+pub mod text;

@@ -1,42 +1,22 @@
 //! A mark for each node where a selector holds. Each part of the selector costs a pass over the nodes and their
 //! children, however deep the table is and however often a node stands among children.
-ghost use Rattle.std.specs.Prelude.{◌≡◌, ◌≤◌, ◌↔◌, ℕ, List, IsTrue, IsOk, IfOk, IfSome, OnOk, None, length, true, false, map, slice_get, ◌&&◌, ◌||◌};
+ghost use Rattle.std.specs.Prelude.{◌≡◌, ◌≤◌, ℕ, IsOk, IfOk, IfSome, OnOk, None, length, true, false, map, slice_get, ◌&&◌, ◌||◌};
 ghost use Rattle.std.specs.List.{All};
-ghost use Rattle.std.specs.Option.{option_copied, option_map_or};
+ghost use Rattle.std.specs.Option.{option_copied};
 ghost use Rattle.tl_spec.specs.Element.{children_of};
 ghost use Rattle.tl_spec.specs.SelectorMeaning.{Holds, has_joint};
-ghost use Rattle.tl_spec.specs.SelectorSearch.{holds_alone};
 ghost use Rattle.tl_selector.specs.Marks.{is_among, is_at, is_done, is_in, mark_one, spread, child_at, children_at, IsUnderMark, IsBelowMark, AreMarks};
 ghost use Rattle.tl_selector.specs.Sides.{has_sides, nested_in, selectors, with_first};
 ghost use Rattle.tl_selector.specs.View.{selector};
 ghost use Rattle.tl_selector.specs.declared.selector.Selector.{size-Selector};
 ghost use Rattle.tl_spec.specs.Selector.{Selector as SelectorOf};
 
-use crate::first::first_alone;
+use crate::matching::first::first_alone;
 use crate::matching::holds_alone;
 use crate::selector::Selector;
-use crate::sides::has_sides;
+use crate::selector::sides::{has_joint, has_sides};
 use std::alloc::{AllocError, Global};
-use tl_element::Element;
-
-/// Whether it asks for ancestors.
-pub fn has_joint(e: &Selector<'_>) -> bool
-    ensures { result ≡ has_joint (selector e.now) }
-{
-    let mut whole = e;
-    'sides: loop {
-        match whole {
-            Selector::And(a, b) | Selector::Or(a, b) => {
-                if has_joint(b) {
-                    return true;
-                }
-                whole = a;
-            }
-            Selector::Descendant(_, _) | Selector::Parent(_, _) => return true,
-            _ => return false,
-        }
-    }
-}
+use tl_table::element::Element;
 
 /// Whether a node is marked.
 pub fn is_marked(marks: &[bool], number: usize) -> bool
@@ -52,16 +32,6 @@ fn is_among(among: Option<&[bool]>, number: usize) -> bool
     match among {
         Some(marks) => is_marked(marks, number),
         None => true,
-    }
-}
-
-/// Whether it holds at the node of a number alone: not past the last one.
-pub fn holds_alone_at<N: Element>(e: &Selector<'_>, nodes: &[N], number: usize) -> bool
-    ensures { result ≡ option_map_or (holds_alone (selector e.now)) (slice_get (map N.node nodes.now) number) false }
-{
-    match nodes.get(number) {
-        Some(node) => holds_alone(e, node),
-        None => false,
     }
 }
 
@@ -353,22 +323,4 @@ pub fn marks<N: Element>(
     let mut marks = marks_of_all(alloc, nodes, e)?;
     keep_among(&mut marks, among);
     Ok(marks)
-}
-
-/// Whether the selector holds at the node of a number.
-pub fn holds_at<N: Element>(
-    alloc: Global,
-    e: &Selector<'_>,
-    nodes: &[N],
-    number: usize,
-) -> Result<bool, AllocError>
-    ensures held { IfOk result (λ held. IsTrue held ↔ Holds (map N.node nodes.now) (selector e.now) number) }
-    ensures alone { has_joint (selector e.now) ≡ false → IsOk result }
-{
-    if has_joint(e) {
-        let marked = marks(alloc, nodes, None, e)?;
-        Ok(is_marked(&marked, number))
-    } else {
-        Ok(holds_alone_at(e, nodes, number))
-    }
 }

@@ -1,15 +1,17 @@
 //! Where a selector holds at a node alone.
-ghost use Rattle.std.specs.Prelude.{IsTrue, ◌↔◌, ◌≡◌, false};
-ghost use Rattle.std.specs.Option.{option_copied, option_flatten};
+ghost use Rattle.std.specs.Prelude.{IsTrue, ◌↔◌, ◌≡◌, false, map, slice_get};
+ghost use Rattle.std.specs.Option.{option_copied, option_flatten, option_map_or};
 ghost use Rattle.tl_spec.specs.Element.{attribute_of};
 ghost use Rattle.tl_spec.specs.SelectorMeaning.{HoldsAlone};
 ghost use Rattle.tl_spec.specs.SelectorSearch.{holds_alone};
 ghost use Rattle.tl_selector.specs.Sides.{has_sides};
 ghost use Rattle.tl_selector.specs.View.{selector};
 
+pub mod first;
+
+use crate::lossy::{begins_with, ends_with, has_part, has_word, is_same_text};
 use crate::selector::Selector;
-use tl_element::Element;
-use tl_lossy::{begins_with, ends_with, has_part, has_word, is_same_text};
+use tl_table::element::Element;
 
 impl<'a> Selector<'a> {
     /// Whether it holds at the node alone. No ancestors are known, so `Descendant` and `Parent` hold nowhere. It takes no memory.
@@ -79,4 +81,14 @@ fn value_at<'n, E: Element>(node: &'n E, key: &[u8]) -> Option<&'n [u8]>
     ensures { option_copied result ≡ option_flatten (attribute_of key.now (E.node node.now)) }
 {
     node.attribute(key)?
+}
+
+/// Whether it holds at the node of a number alone: not past the last one.
+pub fn holds_alone_at<N: Element>(e: &Selector<'_>, nodes: &[N], number: usize) -> bool
+    ensures { result ≡ option_map_or (holds_alone (selector e.now)) (slice_get (map N.node nodes.now) number) false }
+{
+    match nodes.get(number) {
+        Some(node) => holds_alone(e, node),
+        None => false,
+    }
 }

@@ -3,8 +3,12 @@ ghost use Rattle.std.specs.Prelude.{◌≡◌, false};
 ghost use Rattle.tl_selector.specs.Sides.{has_sides};
 ghost use Rattle.tl_selector.specs.View.{selector};
 
-use crate::copies::copied;
-use crate::show::show;
+mod copies;
+mod debug_text;
+pub(crate) mod sides;
+
+use crate::selector::copies::copied;
+use crate::selector::debug_text::show;
 use std::alloc::AllocError;
 use std::fmt;
 

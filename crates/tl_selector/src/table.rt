@@ -4,10 +4,12 @@ ghost use Rattle.tl_spec.specs.Document.{Node};
 ghost use Rattle.tl_spec.specs.SelectorMeaning.{Holds, has_joint};
 ghost use Rattle.tl_selector.specs.View.{selector};
 
-use crate::marks::holds_at;
+use crate::marks::{is_marked, marks};
+use crate::matching::holds_alone_at;
 use crate::selector::Selector;
-use std::alloc::Global;
-use tl_element::Element;
+use crate::selector::sides::has_joint;
+use std::alloc::{AllocError, Global};
+use tl_table::element::Element;
 
 /// A table of nodes that are named by handles.
 pub trait Table {
@@ -53,6 +55,24 @@ pub trait Table {
 
     /// Where memory is taken.
     fn allocator(&self) -> Global;
+}
+
+// Whether the selector holds at the node of a number.
+fn holds_at<N: Element>(
+    alloc: Global,
+    e: &Selector<'_>,
+    nodes: &[N],
+    number: usize,
+) -> Result<bool, AllocError>
+    ensures held { IfOk result (λ held. IsTrue held ↔ Holds (map N.node nodes.now) (selector e.now) number) }
+    ensures alone { has_joint (selector e.now) ≡ false → IsOk result }
+{
+    if has_joint(e) {
+        let marked = marks(alloc, nodes, None, e)?;
+        Ok(is_marked(&marked, number))
+    } else {
+        Ok(holds_alone_at(e, nodes, number))
+    }
 }
 
 impl<'a> Selector<'a> {

@@ -8,7 +8,7 @@ use Rattle.std.specs.Str.{bytes_eq}
 use Rattle.tl_spec.specs.Inline.{InlineVec}
 use Rattle.tl_spec.specs.Document.{Node}
 use Rattle.tl_spec.specs.Scan.{id_scan, class_scan}
-use Rattle.tl_options.specs.Options.{Options}
+use Rattle.tl_tracking.specs.Options.{Options}
 use Rattle.tl_inline.specs.InlineVec.{inline_vec_code}
 
 -- the pairs of the map from ids, and of that from members of classes, where they are tracked

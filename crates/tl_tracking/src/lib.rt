@@ -1,8 +1,10 @@
-//! Maps from ids and classes to the numbers of tags, made while a text is read.
+//! What is tracked while a text is read: maps from ids and classes to the numbers of tags.
 #![tactic(auto)]
 
 pub mod laws;
 mod numbers;
+mod options;
 mod tracking;
 
+pub use options::ParserOptions;
 pub use tracking::TrackingOf;

@@ -5,11 +5,11 @@ ghost use Rattle.tl_spec.specs.Scan.{id_of, id_scan, class_scan};
 ghost use Rattle.tl_tracking.specs.Tracking.{TracksIds, TracksMembers, TracksClasses, nothing_noted, ends_with, id_in, class_in, numbers_lent};
 
 use crate::numbers::{Classes, Ids, add_member, keep_first};
+use crate::options::ParserOptions;
 use std::alloc::{AllocError, Global};
 use std::collections::HashMap;
 use std::marker::Model;
 use tl_attributes::piece::Piece;
-use tl_options::ParserOptions;
 
 /// The number of the first tag of each id, and those of the tags of each member of classes, where they are tracked.
 #[derive(Debug, Drop)]

@@ -2,8 +2,8 @@
 ghost use Rattle.std.specs.Prelude.{◌≡◌, ◌↔◌, ◌≤◌, ◌<◌, ◌+◌, ◌^◌, [], length, drop, slice_get, IfOk, OnOk, IsOk, IsErrOf, All};
 ghost use Rattle.tl_bytes.specs.Held.{Held};
 ghost use Rattle.tl_spec.specs.ByteClass.{is_void as is_void_name};
-ghost use Rattle.tl_token.specs.Span.{bytes_at, IsIn};
-ghost use Rattle.tl_token.specs.Lexed.{meant, tag_of, IsTokenIn};
+ghost use Rattle.tl_lexer.specs.Span.{bytes_at, IsIn};
+ghost use Rattle.tl_lexer.specs.Lexed.{meant, tag_of, IsTokenIn};
 ghost use Rattle.tl_spec.specs.Forest.{closes};
 ghost use Rattle.tl_spec.specs.Document.{Raw, Comment, document};
 ghost use Rattle.tl_spec.specs.Machine.{start, adopted, added, opened, closed, after_end, step, enclosing_name};
@@ -26,11 +26,11 @@ use crate::parser::tag::HTMLTag;
 use crate::parser::tag::node::Node;
 use std::alloc::{AllocError, Global};
 use tl_bytes::byte_string::Bytes;
-use tl_options::ParserOptions;
-use tl_token::names::is_void;
-use tl_token::span::Span;
-use tl_token::tag::TagEnd;
-use tl_token::token::{Token, next_token};
+use tl_lexer::names::is_void;
+use tl_lexer::span::Span;
+use tl_lexer::tag::TagEnd;
+use tl_lexer::token::{Token, next_token};
+use tl_tracking::ParserOptions;
 
 // How many bytes at the front of a text are looked at to guess how many nodes it has.
 const SAMPLE: usize = 4096;

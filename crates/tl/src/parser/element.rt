@@ -14,7 +14,7 @@ use crate::parser::tag::HTMLTag;
 use crate::parser::tag::node::Node;
 use tl_attributes::attributes::{Attributes, RawAttributesMap};
 use tl_attributes::outline::Mark;
-use tl_element::Element;
+use tl_table::element::Element;
 
 // What stands at a key among the pairs other than `id` and `class`. They are gone through, since the keys of a map live as long as
 // the text, and this key may not.

@@ -13,7 +13,7 @@ use std::alloc::{AllocError, Global};
 use std::str;
 use tl_attributes::class_iter::next_part;
 use tl_bytes::byte_string::{Bytes, part};
-use tl_options::ParserOptions;
+use tl_tracking::ParserOptions;
 
 // Notes the parts of a class, each held as the class is.
 fn note_parts<'a>(

@@ -1,7 +1,7 @@
 //! What a selector is asked of: a document, or what hangs below a tag.
 ghost use Rattle.std.specs.Prelude.{◌≡◌, ◌≤◌, ◌^◌, ℕ, ⊤, IfOk, List, Ok, Option, Result, Some, length, map, slice_get};
 ghost use Rattle.std.specs.Option.{option_map};
-ghost use Rattle.tl_range.specs.Way.{RisesBelow};
+ghost use Rattle.tl_table.specs.Way.{RisesBelow};
 ghost use Rattle.tl_spec.specs.Document.{Node};
 ghost use Rattle.tl_spec.specs.Range.{range_of};
 ghost use Rattle.tl_spec.specs.Walk.{TreeFault};

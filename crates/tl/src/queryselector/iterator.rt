@@ -18,7 +18,7 @@ use crate::queryselector::iterable::QueryIterable;
 use std::alloc::AllocError;
 use std::iter::FusedIterator;
 use std::marker::Model;
-use tl_selector::found::{Matches, matches_between};
+use tl_selector::matches::{Matches, matches_between};
 use tl_selector::selector::Selector;
 
 /// The handles of the nodes that a query gives, rising, seen as the list of those that are left. A step takes no memory.

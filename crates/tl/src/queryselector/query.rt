@@ -1,8 +1,8 @@
 //! Queries by a selector text, of a document and below a tag.
 ghost use Rattle.std.specs.Prelude.{◌≡◌, IfOk, IfErr, IsOk, Ok, None, length, map};
 ghost use Rattle.std.specs.Result.{result_err};
-ghost use Rattle.tl_range.specs.Way.{RisesBelow};
-ghost use Rattle.tl_selector_text.specs.Lacks.{LacksFirst, LacksSecond};
+ghost use Rattle.tl_table.specs.Way.{RisesBelow};
+ghost use Rattle.tl_selector.specs.Lacks.{LacksFirst, LacksSecond};
 ghost use Rattle.tl_spec.specs.Range.{range_of};
 ghost use Rattle.tl_spec.specs.SelectorMeaning.{AreMatches};
 ghost use Rattle.tl_spec.specs.Selector.{Selector as SelectorOf};
@@ -19,7 +19,7 @@ use crate::parser::tag::HTMLTag;
 use crate::queryselector::iterator::QuerySelectorIterator;
 use crate::vdom::VDom;
 use std::alloc::Global;
-use tl_selector_text::parse_query_selector;
+use tl_selector::text::parse_query_selector;
 
 impl<'a> VDom<'a> {
     /// The nodes of the document where a selector holds, rising; None where the text stands for no selector.

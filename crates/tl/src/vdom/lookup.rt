@@ -20,7 +20,7 @@ use std::alloc::AllocError;
 use std::iter::FusedIterator;
 use std::marker::Model;
 use tl_bytes::byte_string::Bytes;
-use tl_lookup::scan::{InClass, first_with_id, in_class};
+use tl_table::lookup::{InClass, first_with_id, in_class};
 
 // Handles that are numbers of a map, or places that a scan finds.
 #[derive(Debug, Drop)]

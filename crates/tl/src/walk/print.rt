@@ -26,7 +26,7 @@ use bstr::ByteSlice;
 use std::alloc::Global;
 use tl_attributes::attributes::Attributes;
 use tl_bytes::byte_string::Bytes;
-use tl_token::names::is_printed_alone;
+use tl_lexer::names::is_printed_alone;
 
 // Up to how many bytes are pushed one by one, which costs less than a search for a byte above ASCII and a copy.
 const FEW: usize = 8;

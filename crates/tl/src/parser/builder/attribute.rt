@@ -2,7 +2,7 @@
 ghost use Rattle.std.specs.Prelude.{◌≡◌, ◌≤◌, length, drop, IfOk, OnOk, IfSome};
 ghost use Rattle.tl_spec.specs.Attribute.{attributes as attributes_at};
 ghost use Rattle.tl_spec.specs.AttributeList.{no_attributes, with_pair};
-ghost use Rattle.tl_token.specs.Span.{optional_bytes_at, pair_at, IsIn, ArePairIn};
+ghost use Rattle.tl_lexer.specs.Span.{optional_bytes_at, pair_at, IsIn, ArePairIn};
 ghost use Rattle.tl_attributes.specs.ShownAttributes.{shown_value, shown_attributes, plain};
 ghost use Rattle.tl_attributes.specs.HeldAttributes.{IsHeld, AreHeldAttributes, AreRead};
 ghost use Rattle.tl.specs.StartTag.{read_of};
@@ -11,8 +11,8 @@ use crate::parser::builder::source::Source;
 use std::alloc::{AllocError, Global};
 use tl_attributes::attributes::Attributes;
 use tl_bytes::byte_string::Bytes;
-use tl_token::attribute::next_attribute;
-use tl_token::span::{AttributeSpan, Span};
+use tl_lexer::attribute::next_attribute;
+use tl_lexer::span::{AttributeSpan, Span};
 
 // The bytes of a span, where there is one.
 fn optional_piece<'a, S: Source<'a>>(

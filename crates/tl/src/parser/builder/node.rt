@@ -10,7 +10,7 @@ use crate::parser::builder::source::Source;
 use crate::parser::handle::NodeHandle;
 use crate::parser::tag::node::Node;
 use std::alloc::{AllocError, Global};
-use tl_token::span::Span;
+use tl_lexer::span::Span;
 
 impl<'a> Node<'a> {
     // Whether it is a tag of this name.

@@ -1,11 +1,11 @@
 //! What a text is read from.
 ghost use Rattle.std.specs.Prelude.{◌≡◌, IfOk, IsOk, List, ℕ};
 ghost use Rattle.tl_bytes.specs.Held.{Held, borrowed, shared};
-ghost use Rattle.tl_token.specs.Span.{bytes_at, IsIn};
+ghost use Rattle.tl_lexer.specs.Span.{bytes_at, IsIn};
 
 use std::alloc::{AllocError, Global};
 use tl_bytes::byte_string::{Bytes, Shared};
-use tl_token::span::Span;
+use tl_lexer::span::Span;
 
 /// A text, and how its pieces are held.
 pub(crate) trait Source<'a> {

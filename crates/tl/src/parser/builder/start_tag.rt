@@ -3,8 +3,8 @@ ghost use Rattle.std.specs.Prelude.{◌≡◌, ◌≤◌, ◌<◌, ◌^◌, [], 
 ghost use Rattle.tl_spec.specs.Attribute.{attributes};
 ghost use Rattle.tl_spec.specs.AttributeList.{no_attributes};
 ghost use Rattle.tl_spec.specs.Document.{tag_node};
-ghost use Rattle.tl_token.specs.Span.{bytes_at, IsIn};
-ghost use Rattle.tl_token.specs.Lexed.{ended, tag_of};
+ghost use Rattle.tl_lexer.specs.Span.{bytes_at, IsIn};
+ghost use Rattle.tl_lexer.specs.Lexed.{ended, tag_of};
 ghost use Rattle.tl_attributes.specs.ShownAttributes.{plain, shown_attributes};
 ghost use Rattle.tl_attributes.specs.HeldAttributes.{AreRead, AreHeldAttributes};
 ghost use Rattle.tl.specs.StartTag.{read_of, source_tag};
@@ -17,8 +17,8 @@ use crate::parser::tag::{HTMLTag, TagOf};
 use std::alloc::{AllocError, Global};
 use tl_attributes::attributes::AttributesOf;
 use tl_bytes::byte_string::Bytes;
-use tl_token::span::Span;
-use tl_token::tag::{TagEnd, tag_end};
+use tl_lexer::span::Span;
+use tl_lexer::tag::{TagEnd, tag_end};
 
 // Reads the attributes from a place on into a tag without any, and answers the place that ends them.
 fn read_into<'a, S: Source<'a>>(

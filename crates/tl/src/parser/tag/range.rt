@@ -1,7 +1,7 @@
 //! The range of a tag: the nodes from its first child to the last of what hangs below it.
 ghost use Rattle.std.specs.Prelude.{◌≡◌, ◌<◌, ◌≤◌, ◌^◌, IfOk, None, length, map, slice_get};
 ghost use Rattle.std.specs.List.{last_or};
-ghost use Rattle.tl_range.specs.Way.{RisesBelow};
+ghost use Rattle.tl_table.specs.Way.{RisesBelow};
 ghost use Rattle.tl_spec.specs.Range.{last_below, boundaries_of, range_of};
 ghost use Rattle.tl.specs.Shown.{shown};
 ghost use Rattle.tl.specs.Ranges.{Reads, ReadsNodes, WantsNoMemory};
@@ -13,7 +13,7 @@ use crate::parser::tag::children::{Children, ChildrenOf};
 use crate::parser::tag::node::Node;
 use std::ops::Range;
 use tl_attributes::outline::OutlineOf;
-use tl_range::range;
+use tl_table::range;
 
 impl<'b, A, B, O: OutlineOf<A>> ChildrenOf<'b, A, B, O> {
     /// The number of the first child, which is not looked up; None where there is no child.

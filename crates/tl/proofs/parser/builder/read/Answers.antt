@@ -2,7 +2,7 @@ use Rattle.std.proofs.Common.{◌≡◌, ℕ, List, Option, Some, None, refl, dr
 use Rattle.tl_spec.specs.Token.{Token, next_token}
 use Rattle.tl_spec.specs.Document.{Document}
 use Rattle.tl_spec.proofs.Reached.{IsReached-start}
-use Rattle.tl_token.specs.Lexed.{meant}
+use Rattle.tl_lexer.specs.Lexed.{meant}
 use Rattle.tl.specs.Shown.{version_of}
 use Rattle.tl.specs.Builder.{state_of}
 use Rattle.tl.proofs.Following.{reached_next, reached_end}

@@ -1,6 +1,6 @@
 use Rattle.std.proofs.Common.{ap}
 use Rattle.tl_bytes.specs.Held.{Kept}
-use Rattle.tl_token.specs.Span.{pair_at}
+use Rattle.tl_lexer.specs.Span.{pair_at}
 use Rattle.tl_attributes.proofs.Puts.{after-put, after-read}
 use Rattle.tl.proofs.parser.builder.attribute.insert_at.Goals as goal
 

@@ -3,8 +3,8 @@ use Rattle.tl_spec.specs.Attribute.{Pair}
 use Rattle.tl_spec.specs.Token.{Token, closed}
 use Rattle.tl_spec.specs.Document.{Handles, held_items}
 use Rattle.tl_bytes.specs.Held.{Kept}
-use Rattle.tl_token.specs.Span.{bytes_at}
-use Rattle.tl_token.specs.Lexed.{ended}
+use Rattle.tl_lexer.specs.Span.{bytes_at}
+use Rattle.tl_lexer.specs.Lexed.{ended}
 use Rattle.tl_attributes.specs.ShownAttributes.{shown_attributes}
 use Rattle.tl.specs.Shown.{HTMLTag, shown_tag}
 use Rattle.tl.proofs.StartTags.{tag-made, tag-ends}

@@ -1,4 +1,0 @@
-pub mod Texts
-pub mod Parts
-pub mod Words
-pub mod Ascii

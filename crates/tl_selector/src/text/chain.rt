@@ -1,0 +1,148 @@
+//! The parts of a selector's text, and how they are nested.
+ghost use Rattle.std.specs.Prelude.{◌≡◌, option_map, IfOk, IsOk, Ok, None, []};
+ghost use Rattle.tl_selector.specs.View.{selector};
+ghost use Rattle.tl_selector.specs.Lacks.{LacksFirst, LacksSecond};
+ghost use Rattle.tl_selector.specs.TextViews.{link, next};
+ghost use Rattle.tl_spec.specs.SelectorReading as r;
+ghost use Rattle.tl_spec.specs.SelectorReading.{joined, closed, nested, starts_with_space, link_at, next_at, parts_at, selector_at};
+ghost use Rattle.tl_spec.specs.SelectorText.{StandsAlone};
+
+use crate::selector::Selector;
+use crate::text::part::{past_spaces, simple};
+use std::alloc::{AllocError, Global};
+
+// What stands between two parts.
+#[derive(Clone, Copy)]
+enum Link {
+    Comma,
+    Step,
+    Spaces,
+    Touch,
+}
+
+impl Link {
+    // What it gives of what stands before it and the part after it.
+    fn join<'a>(
+        self,
+        alloc: Global,
+        before: Selector<'a>,
+        part: Selector<'a>,
+    ) -> Result<Selector<'a>, AllocError>
+        ensures { IfOk result (λ e. selector e ≡ joined (link self) (selector before.entry) (selector part.entry)) }
+    {
+        let before = Box::new(alloc, before)?;
+        let part = Box::new(alloc, part)?;
+        Ok(match self {
+            Link::Comma => Selector::Or(before, part),
+            Link::Step => Selector::Parent(before, part),
+            Link::Spaces => Selector::Descendant(before, part),
+            Link::Touch => Selector::And(before, part),
+        })
+    }
+}
+
+fn starts_with_space(s: &[u8]) -> bool
+    ensures { result ≡ starts_with_space s.now }
+{
+    matches!(s, [b' ', ..])
+}
+
+// The link at the front, if the text doesn't end there.
+
+fn read_link(s: &[u8]) -> Option<(Link, &[u8])>
+    ensures { option_map (λ p. (link p.0, p.1.now)) result ≡ link_at s.now }
+{
+    let spaced = starts_with_space(s);
+    let text = past_spaces(s);
+    let (first, rest) = text.split_first()?;
+    Some(match *first {
+        b',' => (Link::Comma, past_spaces(rest)),
+        b'>' => (Link::Step, past_spaces(rest)),
+        _ if spaced => (Link::Spaces, text),
+        _ => (Link::Touch, text),
+    })
+}
+
+// What comes after a part: the end, what is no part, or a part and what stands after it.
+#[derive(Drop)]
+enum Next<'a> {
+    End,
+    Bad,
+    Part(Link, Selector<'a>, &'a [u8]),
+}
+
+fn read_next(s: &[u8]) -> Next<'_>
+    ensures { next result ≡ next_at s.now }
+{
+    match read_link(s) {
+        None => Next::End,
+        Some((link, text)) => match simple(text) {
+            None => Next::Bad,
+            Some((part, rest)) => Next::Part(link, part, rest),
+        },
+    }
+}
+
+// The chains up to here: those before the last `,`, if there is one, and the one after it.
+fn close<'a>(
+    alloc: Global,
+    before: Option<Selector<'a>>,
+    chain: Selector<'a>,
+) -> Result<Selector<'a>, AllocError>
+    ensures closed { IfOk result (λ e. selector e ≡ closed (option_map selector before.entry) (selector chain.entry)) }
+    ensures alone { before.entry ≡ None → IsOk result }
+{
+    match before {
+        None => Ok(chain),
+        Some(before) => Link::Comma.join(alloc, before, chain),
+    }
+}
+
+// The selector whose first part is `first`, where the text goes on with `s`.
+#[tactic(auto, using(crate::proofs::TextParts::rest_part, crate::proofs::TextParts::rest_end, crate::proofs::TextParts::rest_bad))]
+fn chained<'a>(
+    alloc: Global,
+    first: Selector<'a>,
+    s: &'a [u8],
+) -> Result<Option<Selector<'a>>, AllocError>
+    ensures nests { IfOk result (λ o. option_map selector o ≡ option_map (nested None (selector first.entry)) (parts_at s.now)) }
+    ensures alone { next_at s.now ≡ r.End → IsOk result }
+    ensures bad { next_at s.now ≡ r.Bad → result ≡ Ok None }
+{
+    let mut before = None;
+    let mut chain = first;
+    let mut rest = s;
+    'parts: loop {
+        match read_next(rest) {
+            Next::End => return Ok(Some(close(alloc, before, chain)?)),
+            Next::Bad => return Ok(None),
+            Next::Part(link, part, text) => {
+                rest = text;
+                match link {
+                    Link::Comma => {
+                        before = Some(close(alloc, before, chain)?);
+                        chain = part;
+                    }
+                    _ => {
+                        chain = link.join(alloc, chain, part)?;
+                    }
+                }
+            }
+        }
+    }
+}
+
+// The selector of a whole text.
+#[tactic(auto, using(crate::proofs::TextParts::alone_some))]
+pub fn whole<'a>(alloc: Global, s: &'a [u8]) -> Result<Option<Selector<'a>>, AllocError>
+    ensures reads { IfOk result (λ o. option_map selector o ≡ selector_at s.now) }
+    ensures alone { StandsAlone s.now → IsOk result }
+    ensures empty { s.now ≡ [] → result ≡ Ok None }
+    ensures no_part { LacksFirst s.now → result ≡ Ok None }
+    ensures bad { LacksSecond s.now → result ≡ Ok None }
+{
+    match simple(past_spaces(s)) {
+        None => Ok(None),
+        Some((first, rest)) => chained(alloc, first, rest),
+    }
+}

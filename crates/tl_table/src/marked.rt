@@ -1,0 +1,47 @@
+//! The way along last children, with a mark at each number that it passes.
+ghost use Rattle.std.specs.Prelude.{◌≡◌, false, map, length, replicate, Some, IfOk, IsOk};
+ghost use Rattle.tl_table.specs.Fault.{EndsAs};
+ghost use Rattle.tl_table.specs.RangeError.{Answers, WantsNoMemory};
+ghost use Rattle.tl_spec.specs.Range.{last_below};
+
+use crate::element::Element;
+use crate::errors::{Fault, RangeError};
+use std::alloc::AllocError;
+
+// The end of the way, from this number on, over a table without marks.
+fn end_by_marks<N: Element>(nodes: &[N], marks: &mut [bool], first: u32) -> Result<u32, Fault>
+    requires { marks.old ≡ replicate (length nodes.now) false }
+    ensures { EndsAs (last_below (map N.node nodes.now) (Some first)) result }
+{
+    let mut handle = first;
+    loop {
+        let Some(node) = nodes.get(handle as usize) else {
+            return Err(Fault::Dangling(handle));
+        };
+        if marks[handle as usize] {
+            return Err(Fault::Cycle(handle));
+        }
+        marks[handle as usize] = true;
+        let Some(next) = node.last_child() else {
+            return Ok(handle);
+        };
+        handle = next;
+    }
+}
+
+/// The end of the way, from this number on, with these marks, none of which is set, if there was memory for them.
+pub fn marked_end<N: Element>(
+    nodes: &[N],
+    marks: Result<Vec<bool>, AllocError>,
+    first: u32,
+) -> Result<Option<u32>, RangeError>
+    requires { IfOk marks (λ m. m.items ≡ replicate (length nodes.now) false) }
+    ensures end { Answers (λ end. end) (last_below (map N.node nodes.now) (Some first)) result }
+
+    // Want of memory is answered for that of the marks alone.
+    ensures memory { IsOk marks → WantsNoMemory result }
+{
+    let mut marks = marks?;
+    let handle = end_by_marks(nodes, &mut marks, first)?;
+    Ok(Some(handle))
+}
