@@ -11,5 +11,4 @@ pub mod OwnKeys
 pub mod Printing
 pub mod Nodes
 pub mod Searching
-pub mod OnePart
 pub mod Written

@@ -1,5 +1,6 @@
 -- What maps answer with one more node.
-use Rattle.std.proofs.Common.{◌≡◌, ℕ, Bool, true, false, ◌++◌, ◌∷◌, [], List, None, Some, is_some, refl, ap, ◌∙◌}
+use Rattle.std.proofs.Common.{◌≡◌, ℕ, Bool, true, false, ◌++◌, ◌∷◌, [], List, Option, None, Some, is_some, refl, ap, ◌∙◌}
+use Rattle.std.proofs.lemmas.Bool.{true≢false}
 use Rattle.std.proofs.lemmas.Str.{is_utf8-from_IsUtf8, IsUtf8-from_is_utf8}
 use Rattle.std.specs.Str.{IsUtf8, is_utf8}
 use Rattle.tl_bytes.specs.Held.{Kept}
@@ -7,8 +8,9 @@ use Rattle.tl_bytes.specs.Keys.{same_list}
 use Rattle.tl_spec.specs.ClassMember.{members, parts}
 use Rattle.tl_spec.specs.Document.{Node}
 use Rattle.tl_spec.specs.Scan.{id_of, class_of}
+use Rattle.tl_spec.specs.Inline.{InlineVec}
 use Rattle.tl_tracking.specs.Options.{Options}
-use Rattle.tl_tracking.specs.Tracking.{Tracking, nothing_noted, empty_if}
+use Rattle.tl_tracking.specs.Tracking.{Tracking, TracksIds, TracksClasses, nothing_noted, empty_if}
 use Rattle.tl_tracking.proofs.Noted.{members_begin, members_end, id_missing}
 use Rattle.tl.specs.Shown.{HTMLTag, HTMLNode, shown}
 use Rattle.tl.specs.Tracked.{AreAsked, AnswerIds, AnswerClasses, AnswerMembers}
@@ -23,6 +25,21 @@ pub classes-noted : (old new : Tracking Kept) (nodes : List Node) (node : Node) 
     → AnswerClasses old nodes → AnswerClasses new (nodes ++ node ∷ [])
 classes-noted old new nodes node noted h =
     members_end (λ (b : Kept). b.list) same_list new.classes nodes node (noted ((members_begin (λ (b : Kept). b.list) same_list old.classes nodes).0 h))
+
+-- what is not tracked answers for any nodes
+pub ids-untracked : (t : Tracking Kept) (nodes : List Node) → is_some t.ids ≡ false → AnswerIds t nodes
+ids-untracked t nodes e = one t.ids e
+  where
+    one : (ids : Option (List (Kept × ℕ))) → is_some ids ≡ false → TracksIds (λ (b : Kept). b.list) same_list ids nodes
+    one None e = tt
+    one (Some pairs) e = absurd (true≢false e)
+
+pub classes-untracked : (t : Tracking Kept) (nodes : List Node) → is_some t.classes ≡ false → AnswerClasses t nodes
+classes-untracked t nodes e = one t.classes e
+  where
+    one : (classes : Option (List (Kept × InlineVec ℕ))) → is_some classes ≡ false → TracksClasses (λ (b : Kept). b.list) same_list classes nodes
+    one None e = tt
+    one (Some pairs) e = absurd (true≢false e)
 
 -- what is no tag has neither
 pub no-id : (node : HTMLNode) → ((x : HTMLTag) → node ≡ Tag x → ⊥) → id_of (shown node) ≡ None

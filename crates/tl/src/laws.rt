@@ -23,9 +23,11 @@ pub use tl_spec::selector_laws::{alone_is_a_selector, selector_text};
 /// What is looked up in a document that was just read is the first tag of the text with the id, and all its tags with the class
 /// member, rising, whatever is tracked. The premises are what `parse` ensures, and the answers those of the lookups.
 pub fn lookups_find_tags_of_the_text()
-    ensures id { (d : HTMLTable) (t : List ℕ) (id : Kept) → document_of d ≡ document t → AnswerIds d.tracking (document t).nodes →
+    ensures id { (d : HTMLTable) (t : List ℕ) (id : Kept) → document_of d ≡ document t
+        → AnswerIds d.tracking (document t).nodes →
         IsFirstPlace (has_id id.list) (document t).nodes (with_id d id) }
-    ensures class { (d : HTMLTable) (t : List ℕ) (member : List ℕ) → document_of d ≡ document t → AnswerClasses d.tracking (document t).nodes →
+    ensures class { (d : HTMLTable) (t : List ℕ) (member : List ℕ) → document_of d ≡ document t
+        → AnswerClasses d.tracking (document t).nodes →
         ArePlaces (is_in_class member) (document t).nodes (with_member d member) }
 {}
 
@@ -33,10 +35,12 @@ pub fn lookups_find_tags_of_the_text()
 /// after edits. The premises are that they were read with the same options, and that their maps are of the same nodes; of one text
 /// `parse` and `parse_owned` ensure both, and no edit of a node changes it.
 pub fn lookups_answer_alike()
-    ensures id { (d e : HTMLTable) (asked : Options) (read : List Node) (id : Kept) → (document_of d).nodes ≡ (document_of e).nodes →
+    ensures id { (d e : HTMLTable) (asked : Options) (read : List Node) (id : Kept)
+        → (document_of d).nodes ≡ (document_of e).nodes →
         AreAsked asked d.tracking → AreAsked asked e.tracking → AnswerIds d.tracking read → AnswerIds e.tracking read →
         with_id d id ≡ with_id e id }
-    ensures class { (d e : HTMLTable) (asked : Options) (read : List Node) (member : List ℕ) → (document_of d).nodes ≡ (document_of e).nodes →
+    ensures class { (d e : HTMLTable) (asked : Options) (read : List Node) (member : List ℕ)
+        → (document_of d).nodes ≡ (document_of e).nodes →
         AreAsked asked d.tracking → AreAsked asked e.tracking → AnswerClasses d.tracking read → AnswerClasses e.tracking read →
         with_member d member ≡ with_member e member }
 {}
@@ -48,6 +52,7 @@ pub fn written_nodes()
         document_of (with_nodes d nodes) ≡ record (document_of d) { nodes = map shown nodes } }
     ensures clean { (d : HTMLTable) (nodes : List HTMLNode) → length nodes ≡ length d.nodes →
         All (λ n. IsCleanAlone (shown n)) nodes → All IsCleanAlone (document_of (with_nodes d nodes)).nodes }
-    ensures hold { (d : HTMLTable) (nodes : List HTMLNode) (tests : Tests) → length nodes ≡ length d.nodes →
+    ensures hold { (d : HTMLTable) (nodes : List HTMLNode) (tests : Tests)
+        → length nodes ≡ length d.nodes →
         All (λ n. HoldOfNode tests (shown n)) nodes → All (HoldOfNode tests) (document_of (with_nodes d nodes)).nodes }
 {}

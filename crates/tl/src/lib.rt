@@ -56,19 +56,23 @@ fn read_document<'a, S: Source<'a>>(
     source: &S,
     options: ParserOptions,
 ) -> Result<VDom<'a>, ParseError>
-    ensures length { IsErrOf result InvalidLength ↔ (4294967295 < length (S.text source.now)) }
+    ensures length { IsErrOf result InvalidLength ↔ (u32.MAX < length (S.text source.now)) }
     ensures empty { S.text source.now ≡ [] → IsOk result }
     ensures document { IfOk result (λ d. document_of d ≡ document (S.text source.now)) }
-    ensures version { IfOk result (λ d. d.version ≡ version_of (document (S.text source.now)).is_html5) }
+    ensures version { IfOk result (λ d. d.version
+        ≡ version_of (document (S.text source.now)).is_html5) }
     ensures held { IfOk result (λ d. All (IsHeldNode S.held) d.nodes) }
     ensures above { IfOk result (λ d. AreChildrenAbove (document_of d).nodes) }
     ensures interval { IfOk result (λ d. AreDescendantsNext (document_of d).nodes) }
     ensures ranges { IfOk result (λ d. AreRangesOfDescendants (document_of d).nodes) }
-    ensures size { IfOk result (λ d. sum_by weight (document_of d).nodes ≤ length (S.text source.now)) }
+    ensures size { IfOk result (λ d. sum_by weight (document_of d).nodes
+        ≤ length (S.text source.now)) }
     ensures asked { IfOk result (λ d. AreAsked options d.tracking) }
     ensures ids { IfOk result (λ d. AnswerIds d.tracking (document (S.text source.now)).nodes) }
-    ensures classes { IfOk result (λ d. AnswerClasses d.tracking (document (S.text source.now)).nodes) }
-    ensures clean { IsTame (plain (forest (tokens (S.text source.now)))) → IfOk result (λ d. IsCleanTable (document_of d).nodes (document_of d).top) }
+    ensures classes { IfOk result (λ d. AnswerClasses d.tracking
+        (document (S.text source.now)).nodes) }
+    ensures clean { IsTame (plain (forest (tokens (S.text source.now))))
+        → IfOk result (λ d. IsCleanTable (document_of d).nodes (document_of d).top) }
 {
     let mut parser = parser::builder::read(alloc, source)?;
     parser.track(alloc, options)?;
@@ -85,7 +89,7 @@ pub fn parse<'a>(
     text: &'a str,
     options: ParserOptions,
 ) -> Result<VDom<'a>, ParseError>
-    ensures length { IsErrOf result InvalidLength ↔ (4294967295 < length text.now) }
+    ensures length { IsErrOf result InvalidLength ↔ (u32.MAX < length text.now) }
     ensures document { IfOk result (λ d. document_of d ≡ document text.now) }
 
     // The document of the empty text takes no memory.
@@ -105,7 +109,8 @@ pub fn parse<'a>(
     ensures classes { IfOk result (λ d. AnswerClasses d.tracking (document text.now).nodes) }
 
     // So what `outer_html` says of a clean table is said of a text with tame trees.
-    ensures clean { IsTame (plain (forest (tokens text.now))) → IfOk result (λ d. IsCleanTable (document_of d).nodes (document_of d).top) }
+    ensures clean { IsTame (plain (forest (tokens text.now)))
+        → IfOk result (λ d. IsCleanTable (document_of d).nodes (document_of d).top) }
 {
     read_document(alloc, &text, options)
 }
@@ -118,24 +123,28 @@ pub fn parse_owned(
     text: String,
     options: ParserOptions,
 ) -> Result<VDomGuard, ParseError>
-    ensures length { IsErrOf result InvalidLength ↔ (4294967295 < length (string_bytes text)) }
+    ensures length { IsErrOf result InvalidLength ↔ (u32.MAX < length (string_bytes text)) }
     ensures document { IfOk result (λ d. document_of d ≡ document (string_bytes text)) }
-    ensures version { IfOk result (λ d. d.version ≡ version_of (document (string_bytes text)).is_html5) }
+    ensures version { IfOk result (λ d. d.version
+        ≡ version_of (document (string_bytes text)).is_html5) }
     ensures shared { IfOk result (λ d. All (IsHeldNode shared) d.nodes) }
 
     // What callers go by who count nodes: their order, the ranges of tags, and that they and their attributes are no more than the bytes.
     ensures above { IfOk result (λ d. AreChildrenAbove (document_of d).nodes) }
     ensures interval { IfOk result (λ d. AreDescendantsNext (document_of d).nodes) }
     ensures ranges { IfOk result (λ d. AreRangesOfDescendants (document_of d).nodes) }
-    ensures size { IfOk result (λ d. sum_by weight (document_of d).nodes ≤ length (string_bytes text)) }
+    ensures size { IfOk result (λ d. sum_by weight (document_of d).nodes
+        ≤ length (string_bytes text)) }
 
     // What is tracked answers as a scan of the table that was read.
     ensures asked { IfOk result (λ d. AreAsked options d.tracking) }
     ensures ids { IfOk result (λ d. AnswerIds d.tracking (document (string_bytes text)).nodes) }
-    ensures classes { IfOk result (λ d. AnswerClasses d.tracking (document (string_bytes text)).nodes) }
+    ensures classes { IfOk result (λ d. AnswerClasses d.tracking
+        (document (string_bytes text)).nodes) }
 
     // So what `outer_html` says of a clean table is said of a text with tame trees.
-    ensures clean { IsTame (plain (forest (tokens (string_bytes text)))) → IfOk result (λ d. IsCleanTable (document_of d).nodes (document_of d).top) }
+    ensures clean { IsTame (plain (forest (tokens (string_bytes text))))
+        → IfOk result (λ d. IsCleanTable (document_of d).nodes (document_of d).top) }
 {
     // Before the memory that the shares of the text are counted in.
     if text.len() > u32::MAX as usize {

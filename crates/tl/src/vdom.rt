@@ -85,7 +85,8 @@ impl<A, B, O: OutlineOf<A>, M> VDomOf<A, B, O, M> {
 
     /// The table for writing. A table put there brings all that it holds.
     pub fn parser_mut(&mut self) -> &mut ParserOf<A, B, O, M>
-        ensures* writes_back { sem 𝓛 (LendsParser A.row B.row O.row M.row O.OutlineOf self.entry result) }
+        ensures* writes_back { sem 𝓛
+            (LendsParser A.row B.row O.row M.row O.OutlineOf self.entry result) }
         ensures value { result.now ≡ self.old }
     {
         &mut self.parser
@@ -93,7 +94,8 @@ impl<A, B, O: OutlineOf<A>, M> VDomOf<A, B, O, M> {
 
     /// All nodes for writing, in the order of the text. No node can be added or taken away.
     pub fn nodes_mut(&mut self) -> &mut [NodeOf<A, B, O>]
-        ensures* writes_back { sem 𝓛 (LendsNodes A.row B.row O.row M.row O.OutlineOf self.entry result) }
+        ensures* writes_back { sem 𝓛
+            (LendsNodes A.row B.row O.row M.row O.OutlineOf self.entry result) }
         ensures value { result.now ≡ self.old.nodes }
     {
         self.parser.nodes_mut()
@@ -101,7 +103,8 @@ impl<A, B, O: OutlineOf<A>, M> VDomOf<A, B, O, M> {
 
     /// The handles of the top nodes for writing. None can be added or taken away.
     pub fn children_mut(&mut self) -> &mut [NodeHandle]
-        ensures* writes_back { sem 𝓛 (LendsTop A.row B.row O.row M.row O.OutlineOf self.entry result) }
+        ensures* writes_back { sem 𝓛
+            (LendsTop A.row B.row O.row M.row O.OutlineOf self.entry result) }
         ensures value { result.now ≡ self.old.top }
     {
         self.parser.top_mut()

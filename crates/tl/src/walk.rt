@@ -71,7 +71,8 @@ impl<'s, 'a> Walker<'s, 'a> {
         handles: &'s [NodeHandle],
     ) -> Self
         ensures marked { IsMarked result }
-        ensures left { left result ≡ events (walk (enters entered) (map shown nodes.now) [] handles.now) }
+        ensures left { left result ≡ events (walk (enters entered)
+            (map shown nodes.now) [] handles.now) }
         ensures table { result.nodes.now ≡ nodes.now }
         ensures rest { result.rest.now ≡ handles.now }
     {
@@ -101,12 +102,14 @@ impl<'s, 'a> Walker<'s, 'a> {
     fn meet(&mut self, handle: NodeHandle) -> Result<Option<Event<'s, 'a>>, TreeError>
         requires { IsMarked self.old }
         ensures marked { OnOk result (IsMarked self.new) }
-        ensures steps { Steps (left_at self.old (handle ∷ self.old.rest.now)) result (left self.new) }
+        ensures steps { Steps (left_at self.old (handle ∷ self.old.rest.now)) result
+            (left self.new) }
         ensures met { IfOk result (λ event. IfSome event (IsMetIn self.old.nodes.now)) }
         ensures table { self.new.nodes.now ≡ self.old.nodes.now }
 
         // Neither fault is hidden as want of memory, which only the first marks and a deeper path take.
-        ensures dangling { slice_get self.old.nodes.now handle ≡ None → result ≡ Err (TreeError.Dangling handle) }
+        ensures dangling { slice_get self.old.nodes.now handle ≡ None
+            → result ≡ Err (TreeError.Dangling handle) }
         ensures cycle { self.old.marks.items ≢ [] → handle < length self.old.nodes.now
             → stands_on (path_of self.old) handle ≡ true → result ≡ Err (TreeError.Cycle handle) }
     {

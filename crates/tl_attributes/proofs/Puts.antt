@@ -1,25 +1,23 @@
 -- What an insert makes of attributes, in the words of the definitions.
-use Rattle.std.proofs.Common.{◌≡◌, ℕ, suc, Bool, true, false, cond, not, nat_lt, ◌||◌, ◌&&◌, ◌==◌, List, length, map, Option, is_some, Result, Ok, Err, OnOk, sym, ap, subst, ◌∙◌, arith}
+use Rattle.std.proofs.Common.{◌≡◌, ℕ, suc, Bool, true, false, cond, not, nat_lt, ◌||◌, ◌&&◌, ◌==◌, List, length, Option, is_some, Result, Ok, Err, OnOk, sym, ap, subst, ◌∙◌, arith}
 use Rattle.std.specs.Prelude.{IfSome}
 use Rattle.std.specs.List.{All}
 use Rattle.std.specs.Str.{bytes_eq}
 use Rattle.std.specs.Map.{lookup}
 use Rattle.std.proofs.lemmas.Bool.Decides.{nat_tests}
-use Rattle.std.proofs.lemmas.List.{length-map}
 use Rattle.std.proofs.lemmas.List.Elements.{All-from_recursion, recursion_from_All}
 use Rattle.indexmap.specs.IndexMap.{insert_entry}
 use Rattle.tl_spec.specs.Inline.{InlineMap, room, with_entry}
 use Rattle.tl_spec.specs.Attribute.{Pair}
 use Rattle.tl_spec.specs.AttributeList.{Attributes, with_at, with_pair}
 use Rattle.tl_spec.specs.AttributeEdit.{with_attribute}
-use Rattle.tl_spec.specs.Document.{held_attributes}
 use Rattle.tl_spec.proofs.ByKey.{by_key-all}
 use Rattle.tl_spec.proofs.Images.{image-insert_entry, image-with_at}
 use Rattle.tl_spec.proofs.Pairs.{all-insert_entry, length-insert_entry}
 use Rattle.tl_bytes.specs.Held.{Held, Kept}
 use Rattle.tl_bytes.specs.Keys.{same_list}
 use Rattle.tl_attributes.specs.HeldAttributes.{AreRead, IsHeld, IsHeldPair}
-use Rattle.tl_attributes.specs.ShownAttributes.{plain, shown_bytes, shown_entries, shown_value, shown_pair, shown_attributes}
+use Rattle.tl_attributes.specs.ShownAttributes.{plain, shown_bytes, shown_entries, shown_value}
 
 -- an insert, by the bytes of the key
 abbrev pub put_piece : Attributes Kept → Kept → Option Kept → Attributes Kept
@@ -70,9 +68,3 @@ module _ {U E : Type 0} (old new : Attributes Kept) (k : Kept) (v : Option Kept)
   pub after-read : (held : Held) (r : Result U E) → OnOk r (new ≡ put_piece old k v) → IsHeld held k → IfSome v (IsHeld held) → AreRead held old → OnOk r (AreRead held new)
   after-read held (Ok x) is key value h = subst (AreRead held) (sym is) (read-put old k v held key value h)
   after-read held (Err e) is key value h = is
-
--- what is shown of attributes that were read
-pub shown-read : (held : Held) (a : Attributes Kept) → AreRead held a → shown_attributes a ≡ held_attributes (plain a)
-shown-read held a h =
-    ap (λ (b : Bool). record { others = record { entries = map shown_pair a.others.entries; on_heap = b }; id = shown_value a.id; class = shown_value a.class })
-    (h.heap ∙ ap (λ n. nat_lt room n) (sym (length-map a.others.entries shown_pair)))

@@ -163,7 +163,8 @@ impl<B: Piece + Default + Drop> AttributesOf<B> {
         // At `id`, at `class`, at a key that is there, and into inline room, an insert takes no memory.
         ensures other { OnErr result (IsOther (B.list key)) }
         ensures absent { OnErr result (value_at B.list B.eq self.old key ≡ None) }
-        ensures succeeds { self.old.others.on_heap ≡ false → length self.old.others.entries < room → IsOk result }
+        ensures succeeds { self.old.others.on_heap ≡ false → length self.old.others.entries < room
+            → IsOk result }
     {
         if is_id(key.as_bytes()) {
             self.id = value;
@@ -179,10 +180,13 @@ impl<B: Piece + Default + Drop> AttributesOf<B> {
     // Puts `value` at a key that is neither `id` nor `class`.
     fn insert_other(&mut self, key: B, value: Option<B>) -> Result<(), AllocError>
         requires { IsOther (B.list key) }
-        ensures ok { OnOk result (self.new ≡ record self.old { others = with_entry B.eq room self.old.others key value }) }
+        ensures ok { OnOk result
+            (self.new
+            ≡ record self.old { others = with_entry B.eq room self.old.others key value }) }
         ensures err { OnErr result (self.new ≡ self.old) }
         ensures absent { OnErr result (lookup (B.eq key) self.old.others.entries ≡ None) }
-        ensures succeeds { self.old.others.on_heap ≡ false → length self.old.others.entries < room → IsOk result }
+        ensures succeeds { self.old.others.on_heap ≡ false → length self.old.others.entries < room
+            → IsOk result }
     {
         self.others.insert(key, value).map_err(|_| AllocError)
     }
@@ -205,7 +209,8 @@ impl<B: Piece + Default + Drop> AttributesOf<B> {
     fn remove_other(&mut self, key: B) -> Option<Option<B>>
         requires { IsOther (B.list key) }
         ensures value { result ≡ lookup (B.eq key) self.old.others.entries }
-        ensures left { self.new ≡ record self.old { others = without_key B.eq self.old.others key } }
+        ensures left { self.new
+            ≡ record self.old { others = without_key B.eq self.old.others key } }
     {
         self.others.remove(&key)
     }
@@ -229,7 +234,8 @@ impl<B: Piece + Default + Drop> AttributesOf<B> {
     fn remove_other_value(&mut self, key: B) -> Option<B>
         requires { IsOther (B.list key) }
         ensures value { result ≡ option_flatten (lookup (B.eq key) self.old.others.entries) }
-        ensures left { self.new ≡ record self.old { others = with_value B.eq self.old.others key None } }
+        ensures left { self.new
+            ≡ record self.old { others = with_value B.eq self.old.others key None } }
     {
         self.others.get_mut(&key)?.take()
     }
@@ -258,7 +264,8 @@ impl<B: Piece> AttributesOf<B> {
     /// The value at `key` for writing: `None` where the key is missing, and where it has no value.
     pub fn value_mut(&mut self, key: &B) -> Option<&mut B>
         ensures* writes_back { sem 𝓛 (LendsValueAt B.row B.Piece self.entry key.now result) }
-        ensures value { option_copied_mut result ≡ option_flatten (value_at B.list B.eq self.old key.now) }
+        ensures value { option_copied_mut result
+            ≡ option_flatten (value_at B.list B.eq self.old key.now) }
     {
         if is_id(key.as_bytes()) {
             return self.id_mut();
@@ -274,7 +281,8 @@ impl<B: Piece> AttributesOf<B> {
     pub fn get_mut(&mut self, key: B) -> Option<Option<&mut B>>
     where
         B: Drop,
-        ensures* writes_back { sem 𝓛 (LendsValueAt B.row B.Piece self.entry key (option_flatten result)) }
+        ensures* writes_back { sem 𝓛 (LendsValueAt B.row B.Piece self.entry key
+            (option_flatten result)) }
         ensures value { option_map option_copied_mut result ≡ value_at B.list B.eq self.old key }
     {
         nested(self.value_or_presence_mut(key))
@@ -285,7 +293,8 @@ impl<B: Piece> AttributesOf<B> {
     where
         B: Drop,
         ensures* writes_back { sem 𝓛 (LendsValueAtOk B.row B.Piece self.entry key result) }
-        ensures value { option_map option_copied_mut (nested result) ≡ value_at B.list B.eq self.old key }
+        ensures value { option_map option_copied_mut (nested result)
+            ≡ value_at B.list B.eq self.old key }
     {
         // Asked first, since nothing can be asked while the value is lent.
         let is_there = self.holds(&key);
@@ -319,7 +328,8 @@ impl<B: Piece> AttributesOf<B> {
     // The value at a key that is neither `id` nor `class`, where it has one.
     fn other_mut(&mut self, key: &B) -> Option<&mut B>
         ensures* writes_back { sem 𝓛 (LendsValue B.row B.Piece self.entry key.now result) }
-        ensures value { option_copied_mut result ≡ option_flatten (lookup (B.eq key.now) self.old.others.entries) }
+        ensures value { option_copied_mut result
+            ≡ option_flatten (lookup (B.eq key.now) self.old.others.entries) }
     {
         self.slot_mut(key)?.as_mut()
     }
@@ -331,7 +341,8 @@ impl<'a> Attributes<'a> {
         ensures ok { IfOk result (λ a. a ≡ self.now) }
 
         // Of borrowed pieces that lie inline a clone takes no memory.
-        ensures succeeds { self.now.others.on_heap ≡ false → AreHeldAttributes borrowed self.now → IsOk result }
+        ensures succeeds { self.now.others.on_heap ≡ false → AreHeldAttributes borrowed self.now
+            → IsOk result }
     {
         Ok(AttributesOf {
             others: self.others.clone()?,

@@ -51,7 +51,8 @@ fn white_len(bytes: &[u8]) -> usize
 pub fn next_part(bytes: &[u8], at: usize) -> Option<(usize, usize)>
     requires { at ≤ length bytes.now }
     ensures first { MatchOption result (parts (drop at bytes.now) ≡ [])
-        (λ p. parts (drop at bytes.now) ≡ slice_range bytes.now p.0 p.1 ∷ parts (drop p.1 bytes.now)) }
+        (λ p. parts (drop at bytes.now) ≡ slice_range bytes.now p.0 p.1
+        ∷ parts (drop p.1 bytes.now)) }
     ensures order { IfSome result (λ p. (at ≤ p.0) × (p.0 < p.1)) }
     ensures within { IfSome result (λ p. p.1 ≤ length bytes.now) }
 {
@@ -98,7 +99,8 @@ pub fn has_member(class: &[u8], name: &[u8]) -> bool
 
 // The first part, and what stands after it.
 fn first_part(text: &str) -> Option<(&str, &str)>
-    ensures first { MatchOption result (parts text.now ≡ []) (λ p. parts text.now ≡ p.0.now ∷ parts p.1.now) }
+    ensures first { MatchOption result (parts text.now ≡ [])
+        (λ p. parts text.now ≡ p.0.now ∷ parts p.1.now) }
     ensures shorter { IfSome result (λ p. length p.1.now < length text.now) }
 {
     let visible = text.trim_ascii_start();

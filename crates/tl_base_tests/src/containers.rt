@@ -254,7 +254,7 @@ enum MapStep {
 // How many pairs have room inline, what the script shows, and its steps.
 type MapScript = (Room, &'static str, &'static [MapStep]);
 
-static MAPS: [MapScript; 11] = [
+static MAPS: [MapScript; 14] = [
     (
         Room::None,
         "no pair fits inline in a map of none",
@@ -396,6 +396,67 @@ static MAPS: [MapScript; 11] = [
             MapStep::Lacks(17),
             MapStep::InsertRow(0, 2),
             MapStep::HoldsKeys(&[15, 16, 2, 3, 4, 5, 6, 7, 8, 9, 10, 11, 12, 13, 14, 0, 1]),
+        ],
+    ),
+    (
+        Room::Two,
+        "no pair is lost as keys become so many that their places are noted",
+        &[
+            MapStep::InsertRow(0, 64),
+            MapStep::HoldsRow(0, 64),
+            MapStep::InsertRow(64, 65),
+            MapStep::HoldsRow(0, 65),
+            MapStep::CloneHoldsRow(0, 65),
+            MapStep::Lacks(65),
+            MapStep::InsertRow(65, 200),
+            MapStep::HoldsRow(0, 200),
+            MapStep::CloneHoldsRow(0, 200),
+            MapStep::CopyHas(200, 199, 56),
+            MapStep::Lacks(200),
+        ],
+    ),
+    (
+        Room::Two,
+        "a noted key keeps its place",
+        &[
+            MapStep::InsertRow(0, 200),
+            MapStep::Set(0, 1),
+            MapStep::Insert(199, 2),
+            MapStep::Get(0, 1),
+            MapStep::Get(199, 2),
+            MapStep::InsertRow(0, 200),
+            MapStep::HoldsRow(0, 200),
+        ],
+    ),
+    (
+        Room::Two,
+        "noted keys leave from the middle, the front and the end",
+        &[
+            MapStep::InsertRow(0, 70),
+            MapStep::Remove(5, 250),
+            MapStep::HoldsKeys(&[
+                0, 1, 2, 3, 4, 69, 6, 7, 8, 9, 10, 11, 12, 13, 14, 15, 16, 17, 18, 19, 20, 21, 22,
+                23, 24, 25, 26, 27, 28, 29, 30, 31, 32, 33, 34, 35, 36, 37, 38, 39, 40, 41, 42, 43,
+                44, 45, 46, 47, 48, 49, 50, 51, 52, 53, 54, 55, 56, 57, 58, 59, 60, 61, 62, 63, 64,
+                65, 66, 67, 68,
+            ]),
+            MapStep::Lacks(5),
+            MapStep::Remove(8, 247),
+            MapStep::HoldsKeys(&[
+                0, 1, 2, 3, 4, 69, 6, 7, 68, 9, 10, 11, 12, 13, 14, 15, 16, 17, 18, 19, 20, 21, 22,
+                23, 24, 25, 26, 27, 28, 29, 30, 31, 32, 33, 34, 35, 36, 37, 38, 39, 40, 41, 42, 43,
+                44, 45, 46, 47, 48, 49, 50, 51, 52, 53, 54, 55, 56, 57, 58, 59, 60, 61, 62, 63, 64,
+                65, 66, 67,
+            ]),
+            MapStep::InsertRow(8, 9),
+            MapStep::Remove(8, 247),
+            MapStep::Lacks(8),
+            MapStep::Remove(0, 255),
+            MapStep::Get(67, 188),
+            MapStep::InsertRow(0, 9),
+            MapStep::Get(0, 255),
+            MapStep::Get(5, 250),
+            MapStep::Get(8, 247),
         ],
     ),
     (

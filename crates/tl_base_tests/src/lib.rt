@@ -2,6 +2,8 @@
 #![tactic(auto)]
 
 #[cfg(test)]
+mod alike_keys;
+#[cfg(test)]
 mod byte_strings;
 #[cfg(test)]
 mod containers;

@@ -127,7 +127,8 @@ pub fn part<'a>(
     requires order { start ≤ end }
     requires within { end ≤ length bytes.now.list }
     ensures ok { IfOk result
-        (λ part. part ≡ record { list = slice_range bytes.now.list start end; held = bytes.now.held }) }
+        (λ part. part
+        ≡ record { list = slice_range bytes.now.list start end; held = bytes.now.held }) }
     ensures succeeds { bytes.now.held ≡ borrowed → IsOk result }
 {
     let repr = match &bytes.repr {

@@ -1,4 +1,4 @@
 pub mod Lists
 pub mod Maps
-pub mod HeapFormLemmas
 pub mod HeldPairsLemmas
+pub mod PlacesLemmas

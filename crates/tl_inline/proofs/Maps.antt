@@ -18,7 +18,8 @@ use Rattle.tl_spec.specs.Inline.{InlineMap, with_entry}
 use Rattle.tl_spec.proofs.Pairs.{insert_new, insert_present, distinct_insert, position-map}
 use Rattle.arrayvec.proofs.ArrayVecLemmas.{items-with_items}
 
-first_of_list : {X : Type 0} (xs : List X) → 0 < length xs → X
+-- an item of a list that has some
+pub first_of_list : {X : Type 0} (xs : List X) → 0 < length xs → X
 first_of_list [] h = absurd (omega arith)
 first_of_list (x ∷ xs) h = x
 

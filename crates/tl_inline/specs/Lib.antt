@@ -4,9 +4,8 @@ pub mod InlineMap
 pub mod InlineMapLends
 pub mod HeldItems
 pub mod HeldItemsLends
-pub mod HeapForm
-pub mod HeapFormLends
+pub mod Digest
+pub mod Places
 pub mod HeapPairsLends
 pub mod HeldPairs
 pub mod HeldPairsLends
-pub mod PairsLeft

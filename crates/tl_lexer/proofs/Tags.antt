@@ -1,13 +1,10 @@
 -- What a builder proves with while it takes the attributes of a start tag one at a time.
-use Rattle.std.proofs.Common.{◌≡◌, ℕ, List, [], ◌∷◌, length, drop, Some, None, fold, refl, sym, ap, ◌∙◌, arith}
+use Rattle.std.proofs.Common.{◌≡◌, ℕ, List, ◌∷◌, length, drop, Some, fold, refl, sym, ap, ◌∙◌, arith}
 use Rattle.tl_spec.specs.Attribute.{Pair, attributes, next_attribute}
-use Rattle.tl_spec.proofs.Many.{many-none, many-some}
+use Rattle.tl_spec.proofs.Many.{many-some}
 use Rattle.tl_spec.proofs.Shrinks.{next_attribute-shrinks}
 use Rattle.tl_lexer.specs.Span.{pair_at}
 use Rattle.tl_lexer.specs.declared.span.AttributeSpan.{AttributeSpan}
-
-pub attributes-none : (s : List ℕ) → next_attribute s ≡ None → attributes s ≡ ([], s)
-attributes-none s e = many-none next_attribute s e
 
 pub attributes-some : (s : List ℕ) (pair : Pair) (rest : List ℕ) → next_attribute s ≡ Some (pair, rest) → attributes s ≡ (pair ∷ (attributes rest).0, (attributes rest).1)
 attributes-some s pair rest e = many-some next_attribute next_attribute-shrinks s (pair, rest) e (length s) (length rest) (omega arith) (omega arith)
@@ -28,11 +25,3 @@ module _ {A : Type 0} (put : A → Pair → A) (t : List ℕ) (begin : ℕ) (fir
         told = sym (ap (λ (found : List Pair × List ℕ). fold put now found.0) more) ∙ h.told;
         left = sym (ap (λ (found : List Pair × List ℕ). found.1) more) ∙ h.left;
       }
-
-  pub put-all : (at : ℕ) (now : A) → None ≡ next_attribute (drop at t) → ArePut put t begin at first now
-      → ◌≡◌ {A = A × List ℕ} (now, drop at t) (fold put first (attributes (drop begin t)).0, (attributes (drop begin t)).1)
-  put-all at now read h =
-      let stop = attributes-none (drop at t) (sym read) in
-      let told : now ≡ fold put first (attributes (drop begin t)).0 = sym (ap (λ (found : List Pair × List ℕ). fold put now found.0) stop) ∙ h.told in
-      let left : drop at t ≡ (attributes (drop begin t)).1 = sym (ap (λ (found : List Pair × List ℕ). found.1) stop) ∙ h.left in
-      λ i. (told i, left i)

@@ -43,7 +43,8 @@ fn value(text: &[u8], at: usize) -> (Span, usize)
 #[inline(always)]
 fn optional_value(text: &[u8], at: usize) -> (Option<Span>, usize)
     requires { at ≤ length text.now }
-    ensures read { (optional_bytes_at text.now result.0, drop result.1 text.now) ≡ optional_value (drop at text.now) }
+    ensures read { (optional_bytes_at text.now result.0, drop result.1 text.now)
+        ≡ optional_value (drop at text.now) }
     ensures span { IfSome result.0 (IsIn text.now) }
     ensures order { at ≤ result.1 }
     ensures within { result.1 ≤ length text.now }
@@ -74,7 +75,8 @@ fn past_end(text: &[u8], at: usize) -> usize
 #[inline(always)]
 fn attribute(text: &[u8], at: usize) -> (AttributeSpan, usize)
     requires { at ≤ length text.now }
-    ensures read { (pair_at text.now result.0, drop result.1 text.now) ≡ attribute (drop at text.now) }
+    ensures read { (pair_at text.now result.0, drop result.1 text.now)
+        ≡ attribute (drop at text.now) }
     ensures spans { ArePairIn text.now result.0 }
     ensures order { at ≤ result.1 }
     ensures within { result.1 ≤ length text.now }
@@ -88,7 +90,8 @@ fn attribute(text: &[u8], at: usize) -> (AttributeSpan, usize)
 #[inline(always)]
 pub fn next_attribute(text: &[u8], at: usize) -> Option<(AttributeSpan, usize)>
     requires { at ≤ length text.now }
-    ensures read { option_map (λ found. (pair_at text.now found.0, drop found.1 text.now)) result ≡ next_attribute (drop at text.now) }
+    ensures read { option_map (λ found. (pair_at text.now found.0, drop found.1 text.now)) result
+        ≡ next_attribute (drop at text.now) }
     ensures spans { IfSome result (λ found. ArePairIn text.now found.0) }
     ensures order { IfSome result (λ found. at < found.1) }
     ensures within { IfSome result (λ found. found.1 ≤ length text.now) }

@@ -19,7 +19,9 @@ ghost use Rattle.tl_lexer.specs.Lexed.{ended};
 /// How a start tag ends after its attributes, and the place after that.
 pub fn tag_end(text: &[u8], at: usize) -> (TagEnd, usize)
     requires { at ≤ length text.now }
-    ensures read { (name : List ℕ) (pairs : List Pair) → (ended name pairs result.0, drop result.1 text.now) ≡ closed name pairs (drop at text.now) }
+    ensures read { (name : List ℕ) (pairs : List Pair)
+        → (ended name pairs result.0, drop result.1 text.now)
+        ≡ closed name pairs (drop at text.now) }
     ensures order { at ≤ result.1 }
     ensures within { result.1 ≤ length text.now }
 {

@@ -34,7 +34,8 @@ ghost use Rattle.tl_lexer.specs.Lexed.{meant, IsTokenIn};
 // The place after the first `-->` from a place on.
 fn past_arrow(text: &[u8], at: usize) -> Option<usize>
     requires { at ≤ length text.now }
-    ensures rest { option_map (λ end. drop end text.now) result ≡ after (codes "-->") (drop at text.now) }
+    ensures rest { option_map (λ end. drop end text.now) result
+        ≡ after (codes "-->") (drop at text.now) }
     ensures order { IfSome result (λ end. at ≤ end) }
     ensures within { IfSome result (λ end. end ≤ length text.now) }
 {
@@ -100,7 +101,8 @@ fn word(text: &[u8], at: usize) -> (Token, usize)
 fn comment(text: &[u8], start: usize, at: usize) -> (Token, usize)
     requires order { start ≤ at }
     requires within { at ≤ length text.now }
-    ensures read { meant text.now result.0 result.1 ≡ comment_token (drop start text.now) (after (codes "-->") (drop at text.now)) }
+    ensures read { meant text.now result.0 result.1
+        ≡ comment_token (drop start text.now) (after (codes "-->") (drop at text.now)) }
     ensures spans { IsTokenIn text.now result.0 }
     ensures order { at ≤ result.1 }
     ensures within { result.1 ≤ length text.now }
@@ -121,7 +123,8 @@ fn comment(text: &[u8], start: usize, at: usize) -> (Token, usize)
 fn declaration(text: &[u8], start: usize, at: usize) -> (Token, usize)
     requires order { start ≤ at }
     requires within { at ≤ length text.now }
-    ensures read { meant text.now result.0 result.1 ≡ declaration (drop start text.now) (drop at text.now) }
+    ensures read { meant text.now result.0 result.1
+        ≡ declaration (drop start text.now) (drop at text.now) }
     ensures spans { IsTokenIn text.now result.0 }
     ensures order { at ≤ result.1 }
     ensures within { result.1 ≤ length text.now }
@@ -138,7 +141,8 @@ fn declaration(text: &[u8], start: usize, at: usize) -> (Token, usize)
 fn markup(text: &[u8], start: usize, at: usize) -> (Token, usize)
     requires order { start < at }
     requires within { at ≤ length text.now }
-    ensures read { meant text.now result.0 result.1 ≡ markup (drop start text.now) (drop at text.now) }
+    ensures read { meant text.now result.0 result.1
+        ≡ markup (drop start text.now) (drop at text.now) }
     ensures spans { IsTokenIn text.now result.0 }
     ensures order { at ≤ result.1 }
     ensures within { result.1 ≤ length text.now }
@@ -158,7 +162,8 @@ fn markup(text: &[u8], start: usize, at: usize) -> (Token, usize)
 #[inline(always)]
 pub fn next_token(text: &[u8], at: usize) -> Option<(Token, usize)>
     requires { at ≤ length text.now }
-    ensures read { option_map (λ found. meant text.now found.0 found.1) result ≡ next_token (drop at text.now) }
+    ensures read { option_map (λ found. meant text.now found.0 found.1) result
+        ≡ next_token (drop at text.now) }
     ensures spans { IfSome result (λ found. IsTokenIn text.now found.0) }
     ensures order { IfSome result (λ found. at < found.1) }
     ensures within { IfSome result (λ found. found.1 ≤ length text.now) }

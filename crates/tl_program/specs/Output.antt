@@ -7,6 +7,7 @@ use Rattle.std.specs.Option.{option_map_or, option_to_list}
 use Rattle.std.specs.Str.Lossy.{utf8_valid_len}
 use Rattle.std.specs.Io.KnownBytes.{Appends}
 use Rattle.std.specs.declared.string.String.{String}
+use Rattle.tl_spec.specs.ByteClass.{largest_u32, line_feed}
 use Rattle.tl_spec.specs.Clean.{IsCleanTable}
 use Rattle.tl_spec.specs.Document.{Document, Node, document}
 use Rattle.tl_spec.specs.Edit.{Edited, Refusal, edited_all}
@@ -43,7 +44,8 @@ outcome_of_reading (Err fault) = refused
 
 -- the document that a print is read as, printed; a print longer than 4294967295 bytes is not understood
 abbrev pub outcome_of_print : Result (List ℕ) TreeFault → Outcome
-outcome_of_print (Ok text) = if nat_lt 4294967295 (length text) then not_understood else outcome_of_reading (document_print (document text))
+outcome_of_print (Ok text) =
+    if nat_lt largest_u32 (length text) then not_understood else outcome_of_reading (document_print (document text))
 outcome_of_print (Err fault) = refused
 
 -- a text and the one after it, or the first fault
@@ -79,7 +81,7 @@ outcome_of_edited e = outcome_of_edit e.refused e.document
 
 -- a number in decimal, and a line feed
 abbrev pub number_line : ℕ → List ℕ
-number_line n = decimal n ++ 10 ∷ []
+number_line n = decimal n ++ line_feed ∷ []
 
 -- numbers in order, one on each line
 abbrev pub number_lines : List ℕ → List ℕ
@@ -108,7 +110,7 @@ outcome_of_document (Edits changes) d = outcome_of_edited (edited_all changes d)
 -- a text longer than 4294967295 bytes is not understood
 abbrev pub outcome_of_text : Asked → List ℕ → Outcome
 outcome_of_text asked text =
-    if nat_lt 4294967295 (length text) then not_understood else outcome_of_document asked (document text)
+    if nat_lt largest_u32 (length text) then not_understood else outcome_of_document asked (document text)
 
 -- input that is no text is not understood
 abbrev pub output_of : Asked → List ℕ → Outcome

@@ -19,6 +19,7 @@ pub fn call(number: usize, case: &mut Case) -> Option<Named> {
         15..=19 => Some(unchecked_sets(number, case)),
         20 => Some(("Shared::new", buffers(case))),
         21 => Some(("Shared::slice", slices(case))),
+        22..=24 => Some(moved(number, case)),
         _ => None,
     }
 }
@@ -164,7 +165,7 @@ fn set(mut bytes: Bytes<'static>, case: &mut Case, old: Option<&str>) -> Result<
     case.begin()?;
     let answer = bytes.set(case.alloc(), "new");
     case.end();
-    is_set(answer, &bytes, was_borrowed, old)
+    is_set(answer, &mut bytes, was_borrowed, old, case)
 }
 
 fn set_of_slice(case: &mut Case) -> Result<(), Stop> {
@@ -173,7 +174,7 @@ fn set_of_slice(case: &mut Case) -> Result<(), Stop> {
     case.begin()?;
     let answer = bytes.set(case.alloc(), slice);
     case.end();
-    is_set(answer, &bytes, true, None)
+    is_set(answer, &mut bytes, true, None, case)
 }
 
 fn set_of_string(case: &mut Case) -> Result<(), Stop> {
@@ -182,22 +183,32 @@ fn set_of_string(case: &mut Case) -> Result<(), Stop> {
     case.begin()?;
     let answer = bytes.set(case.alloc(), text);
     case.end();
-    is_set(answer, &bytes, true, None)
+    is_set(answer, &mut bytes, true, None, case)
 }
 
-// A refused call leaves the bytes as they were, and held as they were.
+// A refused call leaves the bytes as they were, and held as they were: a call after it gives the old ones back where they
+// are owned.
 fn is_set(
     answer: Result<Option<Vec<u8>>, SetBytesError>,
-    bytes: &Bytes<'_>,
+    bytes: &mut Bytes<'static>,
     was_borrowed: bool,
     old: Option<&str>,
+    case: &Case,
 ) -> Result<(), Stop> {
     match answer {
         Ok(back) => value(bytes.eq_str("new") && !is_borrowed(bytes) && is_old(&back, old)),
         Err(SetBytesError::LengthOverflow) => Err(Stop::WrongError),
         Err(SetBytesError::OutOfMemory) => {
-            refused(bytes.eq_str("page") && is_borrowed(bytes) == was_borrowed)
+            let is_kept = bytes.eq_str("page") && is_borrowed(bytes) == was_borrowed;
+            refused(is_kept && gives_back(bytes, old, case.alloc()))
         }
+    }
+}
+
+fn gives_back(bytes: &mut Bytes<'static>, old: Option<&str>, alloc: Global) -> bool {
+    match bytes.set(alloc, "new") {
+        Ok(back) => is_old(&back, old),
+        Err(_) => false,
     }
 }
 
@@ -236,7 +247,7 @@ fn reset(mut bytes: Bytes<'static>, case: &mut Case, old: Option<&str>) -> Resul
     case.begin()?;
     let answer = bytes.set_unchecked(case.alloc(), "new");
     case.end();
-    is_set(of_set(answer), &bytes, was_borrowed, old)
+    is_set(of_set(answer), &mut bytes, was_borrowed, old, case)
 }
 
 fn reset_of_slice(case: &mut Case) -> Result<(), Stop> {
@@ -245,7 +256,7 @@ fn reset_of_slice(case: &mut Case) -> Result<(), Stop> {
     case.begin()?;
     let answer = bytes.set_unchecked(case.alloc(), slice);
     case.end();
-    is_set(of_set(answer), &bytes, true, None)
+    is_set(of_set(answer), &mut bytes, true, None, case)
 }
 
 fn reset_of_string(case: &mut Case) -> Result<(), Stop> {
@@ -257,7 +268,7 @@ fn reset_of_string(case: &mut Case) -> Result<(), Stop> {
     case.begin()?;
     let answer = bytes.set_unchecked(case.alloc(), text);
     case.end();
-    is_set(of_set(answer), &bytes, true, None)
+    is_set(of_set(answer), &mut bytes, true, None, case)
 }
 
 fn of_set(answer: Result<Option<Vec<u8>>, AllocError>) -> Result<Option<Vec<u8>>, SetBytesError> {
@@ -281,4 +292,39 @@ fn slices(case: &mut Case) -> Result<(), Stop> {
     let answer = buffer.slice(case.alloc(), 2, 6);
     case.end();
     value(answer?.eq_str("page"))
+}
+
+// Vectors and boxed slices, which are moved.
+fn moved(number: usize, case: &mut Case) -> Named {
+    match number {
+        22 => ("into_bytes of a boxed slice", into_of_boxed(case)),
+        23 => ("set of a vector", set_of_vector(case)),
+        _ => ("set of a boxed slice", set_of_boxed(case)),
+    }
+}
+
+fn into_of_boxed(case: &mut Case) -> Result<(), Stop> {
+    let boxed = b"page".to_vec(case.alloc())?.into_boxed_slice();
+    case.begin()?;
+    let answer = boxed.into_bytes(case.alloc());
+    case.end();
+    is_page(answer)
+}
+
+fn set_of_vector(case: &mut Case) -> Result<(), Stop> {
+    let mut bytes = Bytes::from("page");
+    let vector = b"new".to_vec(case.alloc())?;
+    case.begin()?;
+    let answer = bytes.set(case.alloc(), vector);
+    case.end();
+    is_set(answer, &mut bytes, true, None, case)
+}
+
+fn set_of_boxed(case: &mut Case) -> Result<(), Stop> {
+    let mut bytes = Bytes::from("page");
+    let boxed = b"new".to_vec(case.alloc())?.into_boxed_slice();
+    case.begin()?;
+    let answer = bytes.set(case.alloc(), boxed);
+    case.end();
+    is_set(answer, &mut bytes, true, None, case)
 }

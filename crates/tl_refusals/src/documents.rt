@@ -4,8 +4,8 @@ use crate::case::Case;
 use crate::stop::{Stop, refused, value};
 use std::alloc::{AllocError, Global};
 use tl::{
-    Attributes, Bytes, ElementsByClassName, Node, NodeHandle, OutlineOf, ParserOptions,
-    RawChildren, TagOf, VDom, parse, parse_owned,
+    Attributes, Bytes, Children, ElementsByClassName, HTMLTag, Node, NodeHandle, OutlineOf,
+    ParserOptions, RawChildren, TagOf, VDom, parse, parse_owned,
 };
 
 const PAGE: &str =
@@ -36,7 +36,16 @@ fn of_tag(number: usize, case: &mut Case) -> Option<Named> {
         10 => Some(("insert of an id", insert_id(case))),
         11 => Some(("clone of attributes", clone_attributes(case))),
         12 => Some(("push of a third child", push(case))),
-        13 => Some(("clone of the tags of a class", clone_tags(case))),
+        13 => Some((
+            "clone of the tags of a class",
+            clone_tags(ParserOptions::new(), case),
+        )),
+        14 => Some((
+            "clone of the tracked tags of a class",
+            clone_tags(ParserOptions::new().track_classes(), case),
+        )),
+        15 => Some(("insert of a seventh key", insert_seventh(case))),
+        16 => Some(("clone of the children of a tag", clone_children(case))),
         _ => None,
     }
 }
@@ -81,36 +90,46 @@ fn is_looked_up(document: &VDom<'_>) -> bool {
         && found.next() == None
 }
 
-// Attributes with the keys `a` and `b`, which lie inline.
-fn two(alloc: Global) -> Result<Attributes<'static>, Stop> {
+static PAIRS: [(&'static str, &'static str); 6] = [
+    ("a", "1"),
+    ("b", "2"),
+    ("c", "3"),
+    ("d", "4"),
+    ("e", "5"),
+    ("f", "6"),
+];
+
+// The first two lie inline.
+const TWO: usize = 2;
+
+// Attributes with so many of the pairs.
+fn with_pairs(alloc: Global, count: usize) -> Result<Attributes<'static>, Stop> {
     let mut attributes = Attributes::new(alloc);
-    attributes.insert(Bytes::from("a"), Some(Bytes::from("1")))?;
-    attributes.insert(Bytes::from("b"), Some(Bytes::from("2")))?;
+    for pair in PAIRS.iter().take(count) {
+        attributes.insert(Bytes::from(pair.0), Some(Bytes::from(pair.1)))?;
+    }
     Ok(attributes)
 }
 
 fn insert_other(case: &mut Case) -> Result<(), Stop> {
-    let mut attributes = two(case.alloc())?;
-    insert(&mut attributes, "c", 3, case)
+    insert(TWO, "c", 3, case)
 }
 
 fn insert_known(case: &mut Case) -> Result<(), Stop> {
-    let mut attributes = two(case.alloc())?;
-    insert(&mut attributes, "b", 2, case)
+    insert(TWO, "b", 2, case)
 }
 
 fn insert_id(case: &mut Case) -> Result<(), Stop> {
-    let mut attributes = two(case.alloc())?;
-    insert(&mut attributes, "id", 3, case)
+    insert(TWO, "id", 3, case)
+}
+
+fn insert_seventh(case: &mut Case) -> Result<(), Stop> {
+    insert(PAIRS.len(), "g", 7, case)
 }
 
 // A refused key is not there, and the others are, where they were.
-fn insert(
-    attributes: &mut Attributes<'static>,
-    key: &'static str,
-    wanted: usize,
-    case: &mut Case,
-) -> Result<(), Stop> {
+fn insert(count: usize, key: &'static str, wanted: usize, case: &mut Case) -> Result<(), Stop> {
+    let attributes = &mut with_pairs(case.alloc(), count)?;
     case.begin()?;
     let answer = attributes.insert(Bytes::from(key), Some(Bytes::from("9")));
     case.end();
@@ -120,7 +139,7 @@ fn insert(
                 && is_at(attributes, "a", "1")
                 && attributes.len() == wanted,
         ),
-        Err(_) => refused(are_two(attributes)),
+        Err(_) => refused(are_pairs(attributes, count)),
     }
 }
 
@@ -131,26 +150,22 @@ fn is_at(attributes: &Attributes<'static>, key: &'static str, wanted: &str) -> b
     }
 }
 
-fn are_two(attributes: &Attributes<'static>) -> bool {
-    attributes.len() == 2
-        && !attributes.unstable_raw().is_heap_allocated()
-        && is_at(attributes, "a", "1")
-        && is_at(attributes, "b", "2")
+// Whether they are so many of the pairs, and lie where their number says.
+fn are_pairs(attributes: &Attributes<'static>, count: usize) -> bool {
+    for pair in PAIRS.iter().take(count) {
+        if !is_at(attributes, pair.0, pair.1) {
+            return false;
+        }
+    }
+    attributes.len() == count && attributes.unstable_raw().is_heap_allocated() == (count > TWO)
 }
 
 fn clone_attributes(case: &mut Case) -> Result<(), Stop> {
-    let mut attributes = two(case.alloc())?;
-    attributes.insert(Bytes::from("c"), Some(Bytes::from("3")))?;
+    let attributes = with_pairs(case.alloc(), 3)?;
     case.begin()?;
     let answer = attributes.clone();
     case.end();
-    let twin = answer?;
-    value(
-        twin.len() == 3
-            && twin.unstable_raw().is_heap_allocated()
-            && is_at(&twin, "a", "1")
-            && is_at(&twin, "c", "3"),
-    )
+    value(are_pairs(&answer?, 3))
 }
 
 fn push(case: &mut Case) -> Result<(), Stop> {
@@ -192,8 +207,8 @@ fn push_child(handles: &mut RawChildren, case: &mut Case) -> Result<(), Stop> {
     }
 }
 
-fn clone_tags(case: &mut Case) -> Result<(), Stop> {
-    let document = parse(case.alloc(), PAGE, ParserOptions::new())?;
+fn clone_tags(options: ParserOptions, case: &mut Case) -> Result<(), Stop> {
+    let document = parse(case.alloc(), PAGE, options)?;
     clone_found(document.get_elements_by_class_name("k"), case)
 }
 
@@ -212,4 +227,21 @@ fn clone_found<'s, 'a>(
             && twin.next() == None
             && found.next() == Some(NodeHandle::new(2)),
     )
+}
+
+fn clone_children(case: &mut Case) -> Result<(), Stop> {
+    let document = parse(case.alloc(), "<b>x<i></i></b>", ParserOptions::new())?;
+    match document.parser().resolve_node_id(0) {
+        Some(Node::Tag(tag)) => clone_handles(tag, case),
+        _ => Err(Stop::WrongValue),
+    }
+}
+
+fn clone_handles<'a, 'b>(tag: &'b HTMLTag<'a>, case: &mut Case) -> Result<(), Stop> {
+    let children: Children<'a, 'b> = tag.children();
+    case.begin()?;
+    let answer: Result<Children<'a, 'b>, AllocError> = children.clone();
+    case.end();
+    let twin = answer?;
+    value(twin.top().len() == 2 && twin.top().get(1) == Some(&NodeHandle::new(2)))
 }

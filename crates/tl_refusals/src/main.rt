@@ -17,6 +17,8 @@ mod byte_strings;
 mod case;
 mod containers;
 mod documents;
+mod kept;
+mod large;
 mod numbers;
 mod program;
 mod script;
@@ -59,6 +61,8 @@ fn call(number: usize, case: &mut Case) -> Option<Named> {
         6 => script::call(place, case),
         7 => program::call(place, case),
         8 => tracking::call(place, case),
+        9 => kept::call(place, case),
+        10 => large::call(place, case),
         _ => None,
     }
 }

@@ -9,10 +9,10 @@ use tl::queryselector::{QueryIterable, QuerySelectorIterator, Selector};
 use tl::{HTMLTag, Node, NodeHandle, Parser, ParserOptions, VDom, parse, parse_query_selector};
 use tl_program::script::Step;
 
-// What is called, of a document or of a tag of it. A search is for the last node of the walk, of which the first bytes are
-// given.
+/// What is called, of a document or of a tag of it. A search is for the last node of the walk, of which the first bytes are
+/// given.
 #[derive(Clone, Copy)]
-enum NumberCall {
+pub enum NumberCall {
     Find(&'static [u8]),
     FindChild(&'static [u8]),
     End,
@@ -25,24 +25,26 @@ enum NumberCall {
     New(&'static str),
     NewBelow(&'static str),
     Clone(&'static str),
+    CloneAtEnd(&'static str),
     MatchesIn(&'static str),
 }
 
-// The name of a call, the call, how the document is made, the number of the node, and the numbers that are answered.
-type Row = (&'static str, NumberCall, Page, u32, &'static [u32]);
+/// The name of a call, the call, how the document is made, the number of the node, and the numbers that are answered.
+pub type Row = (&'static str, NumberCall, Page, u32, &'static [u32]);
 
-const PLAIN: Page = Page {
+/// Handles that rise.
+pub const PLAIN: Page = Page {
     text: "<a><b>x<c></c></b><b></b></a>",
     steps: &[],
 };
 
-// Handles that don't rise: the children of the fourth tag are the first and the third, and that of the third is the second.
-const FALLS: Page = Page {
+/// Handles that don't rise: the children of the fourth tag are the first and the third, and that of the third is the second.
+pub const FALLS: Page = Page {
     text: "<a></a><b></b><c></c><d></d>",
     steps: &[Step::Push(3, 0), Step::Push(3, 2), Step::Push(2, 1)],
 };
 
-static ROWS: [Row; 26] = [
+static ROWS: [Row; 28] = [
     (
         "find_node of a node",
         NumberCall::Find(b"bxcb"),
@@ -176,6 +178,20 @@ static ROWS: [Row; 26] = [
         &[1, 3, 4],
     ),
     (
+        "clone of a query at its end, one part",
+        NumberCall::CloneAtEnd("b"),
+        PLAIN,
+        0,
+        &[1, 4],
+    ),
+    (
+        "clone of a query at its end, ancestors",
+        NumberCall::CloneAtEnd("a > b, b c"),
+        PLAIN,
+        0,
+        &[1, 3, 4],
+    ),
+    (
         "matches_in, one part",
         NumberCall::MatchesIn("b"),
         PLAIN,
@@ -203,7 +219,8 @@ fn of_page(row: &Row, case: &mut Case) -> Result<(), Stop> {
     of_document(&document, row, case)
 }
 
-fn of_document(document: &VDom<'_>, row: &Row, case: &mut Case) -> Result<(), Stop> {
+/// The call of a row on a document that was made as it says.
+pub fn of_document(document: &VDom<'_>, row: &Row, case: &mut Case) -> Result<(), Stop> {
     match row.1 {
         NumberCall::LenOfDocument => {
             case.begin()?;
@@ -213,7 +230,8 @@ fn of_document(document: &VDom<'_>, row: &Row, case: &mut Case) -> Result<(), St
         }
         NumberCall::Query(text) => query(document, text, row.4, case),
         NumberCall::New(text) => new(document, document, text, row.4, case),
-        NumberCall::Clone(text) => clone(document, text, row.4, case),
+        NumberCall::Clone(text) => clone(document, text, row.4, 0, case),
+        NumberCall::CloneAtEnd(text) => clone(document, text, row.4, row.4.len(), case),
         NumberCall::MatchesIn(text) => matches_in(document, text, row, case),
         _ => match document.parser().resolve_node_id(row.3) {
             Some(node) => of_node(document, node, row, case),
@@ -282,16 +300,21 @@ fn new<'x, 'a, Q: QueryIterable<'a>>(
     value(gives(answer?, wanted))
 }
 
+// A clone after so many steps.
 fn clone<'x>(
     document: &'x VDom<'_>,
     text: &'x str,
     wanted: &[u32],
+    taken: usize,
     case: &mut Case,
 ) -> Result<(), Stop> {
-    match document.query_selector(case.alloc(), text)? {
-        Some(found) => clone_query(found, wanted, case),
-        None => Err(Stop::WrongValue),
+    let Some(mut found) = document.query_selector(case.alloc(), text)? else {
+        return Err(Stop::WrongValue);
+    };
+    for _ in 0..taken {
+        found.next();
     }
+    clone_query(found, wanted.get(taken..).unwrap_or(&[]), case)
 }
 
 fn clone_query<'x, 'a>(

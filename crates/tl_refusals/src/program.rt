@@ -4,6 +4,7 @@ use crate::case::Case;
 use crate::stop::{Stop, refused, value};
 use std::alloc::{AllocError, Global};
 use tl_program::program::{Command, Failure, Marked, command, output, run, run_words};
+use tl_program::script::Step;
 
 const PAGE: &[u8] = b"<p a=1 b=2 c=3>x<b>y</b>\xc3\xa9<!-- z --><br></p>";
 
@@ -18,6 +19,15 @@ type Row = (
     &'static [u8],
     &'static [u8],
 );
+
+// Those of the edit.
+static STEPS: [Step<'static>; 5] = [
+    Step::Set(0, b"d", b"4"),
+    Step::Unset(0, b"a"),
+    Step::Name(2, b"i"),
+    Step::Text(4, b"w"),
+    Step::Push(0, 1),
+];
 
 static ROWS: [Row; 8] = [
     (
@@ -143,13 +153,14 @@ fn of_command(words: &[String], row: &Row, case: &mut Case) -> Result<(), Stop> 
     }
 }
 
-// Whether it is the command of these words. Of an edit only the number of steps is compared.
+// Whether it is the command of these words.
 fn is_asked(asked: &Command<'_>, words: &[&str]) -> bool {
     match (asked, words) {
         (Command::Print, [word]) => *word == "print",
         (Command::Text, [word]) => *word == "text",
         (Command::Again, [word]) => *word == "again",
-        (Command::Edit(steps), [word, _]) => *word == "edit" && steps.len() == 5,
+        (Command::Edit(steps), [word, _]) => *word == "edit"
+            && steps.as_slice() == STEPS.as_slice(),
         (Command::Id(id), [word, wanted]) => *word == "id" && *id == *wanted,
         (Command::Class(member), [word, wanted]) => *word == "class" && *member == *wanted,
         (Command::Select(text), [word, wanted]) => *word == "select" && *text == *wanted,

@@ -7,9 +7,9 @@ use tl::errors::TreeError;
 use tl::{HTMLTag, Node, Parser, ParserOptions, VDom, parse};
 use tl_program::script::{Step, run};
 
-// What is called of a document, of a node of it, or of its tag.
+/// What is called of a document, of a node of it, or of its tag.
 #[derive(Clone, Copy)]
-enum TextCall {
+pub enum TextCall {
     DocumentHtml,
     DocumentText,
     OuterHtml,
@@ -22,8 +22,8 @@ enum TextCall {
     CloneTag,
 }
 
-// The name of a call, the call, how the document is made, the number of the node, and the text.
-type Row = (&'static str, TextCall, Page, u32, &'static str);
+/// The name of a call, the call, how the document is made, the number of the node, and the text.
+pub type Row = (&'static str, TextCall, Page, u32, &'static str);
 
 /// A text, and the steps that are taken with its document.
 pub struct Page {
@@ -31,19 +31,20 @@ pub struct Page {
     pub steps: &'static [Step<'static>],
 }
 
-const PLAIN: Page = Page {
+/// Pieces that are as they were read.
+pub const PLAIN: Page = Page {
     text: "<p a=1 b=2 c=3 id=i class=k>x<b>y<!-- z --></b><br>w</p>v",
     steps: &[],
 };
 
-// Handles that don't rise: below the second tag stands the first.
-const FALLS: Page = Page {
+/// Handles that don't rise: below the second tag stands the first.
+pub const FALLS: Page = Page {
     text: "<a>x</a><b>y<i></i></b>",
     steps: &[Step::Push(2, 0)],
 };
 
-// Pieces that are owned, and as many attributes and children as lie on the heap.
-const OWNED: Page = Page {
+/// Pieces that are owned, and as many attributes and children as lie on the heap.
+pub const OWNED: Page = Page {
     text: "<p a=1 b=2>x<b>y</b></p>",
     steps: &[
         Step::Name(0, b"q"),
@@ -214,7 +215,8 @@ pub fn steps(alloc: Global, document: &mut VDom<'_>, steps: &[Step<'_>]) -> Resu
     }
 }
 
-fn of_document(document: &VDom<'_>, row: &Row, case: &mut Case) -> Result<(), Stop> {
+/// The call of a row on a document that was made as it says.
+pub fn of_document(document: &VDom<'_>, row: &Row, case: &mut Case) -> Result<(), Stop> {
     match row.1 {
         TextCall::DocumentHtml => {
             case.begin()?;

@@ -56,8 +56,11 @@ pub fn call(number: usize, case: &mut Case) -> Option<Named> {
     match IDS.get(number) {
         Some(row) => Some((row.0, note_id(row, case))),
         None => {
-            let row = CLASSES.get(number - IDS.len())?;
-            Some((row.0, note_class(row, case)))
+            let number = number - IDS.len();
+            match CLASSES.get(number) {
+                Some(row) => Some((row.0, note_class(row, case))),
+                None => many(number - CLASSES.len(), case),
+            }
         }
     }
 }
@@ -69,19 +72,29 @@ fn both(case: &Case) -> Tracking {
     )
 }
 
-// A refused note leaves the maps as they were.
 fn note_id(row: &IdRow, case: &mut Case) -> Result<(), Stop> {
     let mut tracking = both(case);
     for note in row.1 {
         tracking.note_id(Bytes::from(note.0), note.1)?;
     }
-    let id = Bytes::from((row.2).0);
+    note_last_id(&mut tracking, (row.2).0, (row.2).1, row.3, case)
+}
+
+// A refused note leaves the maps as they were.
+fn note_last_id(
+    tracking: &mut Tracking,
+    name: &'static str,
+    number: u32,
+    wanted: u32,
+    case: &mut Case,
+) -> Result<(), Stop> {
+    let id = Bytes::from(name);
     let before = tracking.id(&id);
     case.begin()?;
-    let answer = tracking.note_id(Bytes::from((row.2).0), (row.2).1);
+    let answer = tracking.note_id(Bytes::from(name), number);
     case.end();
     match answer {
-        Ok(()) => value(tracking.id(&id) == Some(row.3)),
+        Ok(()) => value(tracking.id(&id) == Some(wanted)),
         Err(_) => refused(tracking.id(&id) == before),
     }
 }
@@ -91,19 +104,108 @@ fn note_class(row: &ClassRow, case: &mut Case) -> Result<(), Stop> {
     for note in row.1 {
         tracking.note_class(Bytes::from(note.0), note.1)?;
     }
-    let before = count(&tracking, (row.2).0);
+    note_last_class(&mut tracking, (row.2).0, (row.2).1, row.3, case)
+}
+
+fn note_last_class(
+    tracking: &mut Tracking,
+    member: &'static str,
+    number: u32,
+    wanted: &[u32],
+    case: &mut Case,
+) -> Result<(), Stop> {
+    let before = numbers(tracking, member).len();
     case.begin()?;
-    let answer = tracking.note_class(Bytes::from((row.2).0), (row.2).1);
+    let answer = tracking.note_class(Bytes::from(member), number);
     case.end();
+    let after = numbers(tracking, member);
     match answer {
-        Ok(()) => value(tracking.class(&Bytes::from((row.2).0)) == Some(row.3)),
-        Err(_) => refused(count(&tracking, (row.2).0) == before),
+        Ok(()) => value(after == wanted),
+        Err(_) => refused(after.len() == before && wanted.starts_with(after)),
     }
 }
 
-// How many tags stand under a member.
-fn count(tracking: &Tracking, member: &'static str) -> usize {
-    tracking
-        .class(&Bytes::from(member))
-        .map_or(0, |numbers| numbers.len())
+// The tags under a member.
+fn numbers<'t>(tracking: &'t Tracking, member: &'static str) -> &'t [u32] {
+    match tracking.class(&Bytes::from(member)) {
+        Some(numbers) => numbers,
+        None => &[],
+    }
+}
+
+// Names of one letter, which are noted in order, for the tags 0, 1 and so on.
+const NAMES: &str = "abcdefghijklmnopqrstuvwxyzABCDEFGHIJKLMNOPQRSTUVWXYZ0123456789";
+
+// The name of a call, and how many names were noted before the next one.
+type ManyRow = (&'static str, u32);
+
+static MANY_IDS: [ManyRow; 3] = [
+    ("note_id of a 15th id", 14),
+    ("note_id of a 29th id", 28),
+    ("note_id of a 33rd id", 32),
+];
+
+static MANY_CLASSES: [ManyRow; 3] = [
+    ("note_class of a 15th member", 14),
+    ("note_class of a 29th member", 28),
+    ("note_class of a 33rd member", 32),
+];
+
+fn many(number: usize, case: &mut Case) -> Option<Named> {
+    if let Some(row) = MANY_IDS.get(number) {
+        return Some((row.0, note_many_ids(row.1, case)));
+    }
+    let row = MANY_CLASSES.get(number - MANY_IDS.len())?;
+    Some((row.0, note_many_members(row.1, case)))
+}
+
+fn name(place: u32) -> &'static str {
+    let place = place as usize;
+    NAMES.get(place..place + 1).unwrap_or("")
+}
+
+fn note_many_ids(count: u32, case: &mut Case) -> Result<(), Stop> {
+    let mut tracking = both(case);
+    for place in 0..count {
+        tracking.note_id(Bytes::from(name(place)), place)?;
+    }
+    let answer = note_last_id(&mut tracking, name(count), count, count, case);
+    are_kept(answer, are_ids(&tracking, count))
+}
+
+// Whether the ids that were noted before are there.
+fn are_ids(tracking: &Tracking, count: u32) -> bool {
+    for place in 0..count {
+        if tracking.id(&Bytes::from(name(place))) != Some(place) {
+            return false;
+        }
+    }
+    true
+}
+
+fn note_many_members(count: u32, case: &mut Case) -> Result<(), Stop> {
+    let mut tracking = both(case);
+    for place in 0..count {
+        tracking.note_class(Bytes::from(name(place)), place)?;
+    }
+    let answer = note_last_class(&mut tracking, name(count), count, &[count], case);
+    are_kept(answer, are_members(&tracking, count))
+}
+
+fn are_members(tracking: &Tracking, count: u32) -> bool {
+    for place in 0..count {
+        if numbers(tracking, name(place)) != [place].as_slice() {
+            return false;
+        }
+    }
+    true
+}
+
+// What stands beside what was noted is looked at where the rest is right.
+fn are_kept(answer: Result<(), Stop>, is_rest_there: bool) -> Result<(), Stop> {
+    match answer {
+        Ok(()) => value(is_rest_there),
+        Err(Stop::NoMemory) => refused(is_rest_there),
+        Err(stop) => Err(stop),
+    }
 }

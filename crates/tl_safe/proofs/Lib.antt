@@ -1,6 +1,7 @@
 pub mod Listed
 pub mod Lent
 pub mod Writes
+pub mod Whole
 pub mod Rows
 pub mod Pages
 pub mod Tokenizer

@@ -5,10 +5,12 @@ use Rattle.std.specs.List.{filter, list_all, starts_with}
 use Rattle.tl_spec.specs.Attribute.{Pair}
 use Rattle.tl_spec.specs.AttributeList.{PlainAttributes}
 use Rattle.tl_spec.specs.ByteClass.{is_void}
-use Rattle.tl_spec.specs.Forest.{Forest, none, text, comment, tag, PlainTag}
+use Rattle.tl_spec.specs.Forest.{Forest, none, text, comment, tag, PlainTag, forest, plain}
+use Rattle.tl_spec.specs.Token.{tokens}
 use Rattle.tl_safe.specs.Lists.{Lists, begins_with_any, is_among, is_among_in_any_case, is_link_byte, opaque_names}
 
--- a byte that stays in a text: no `<`, and neither 0 nor 27, with which a text of another character set begins
+-- a byte that stays in a text: no `<`, and neither 0 nor 27, with which a text of another character
+-- set begins
 abbrev pub is_text_byte : ℕ → Bool
 is_text_byte b = not (b == 60) && not (b == 0) && not (b == 27)
 
@@ -52,7 +54,11 @@ kept_value p key (Some value) = if stays p (key, Some value) then Some value els
 -- attributes that stay, in their order
 abbrev pub kept_attributes : Lists → PlainAttributes → PlainAttributes
 kept_attributes p a =
-    record { others = filter (stays p) a.others; id = kept_value p (codes "id") a.id; class = kept_value p (codes "class") a.class }
+    record {
+      others = filter (stays p) a.others;
+      id = kept_value p (codes "id") a.id;
+      class = kept_value p (codes "class") a.class;
+    }
 
 abbrev pub kept_tag : Lists → PlainTag → PlainTag
 kept_tag p own = record { name = own.name; attributes = kept_attributes p own.attributes }
@@ -64,12 +70,18 @@ joined (text bytes more) later = text bytes (joined more later)
 joined (comment bytes more) later = comment bytes (joined more later)
 joined (tag own children more) later = tag own children (joined more later)
 
--- Of a tag that is not listed nothing is kept where what stands in it is no markup of HTML; else its children stand in its place.
+-- the trees of a page, by the grammar of `tl`
+abbrev pub trees_of : List ℕ → Forest PlainTag
+trees_of page = plain (forest (tokens page))
+
+-- Of a tag that is not listed nothing is kept where what stands in it is no markup of HTML; else
+-- its children stand in its place.
 abbrev pub kept : Lists → Forest PlainTag → Forest PlainTag
 kept p none = none
 kept p (text bytes more) = text (filter is_text_byte bytes) (kept p more)
 kept p (comment bytes more) = kept p more
 kept p (tag own children more) =
-    if is_among p.tags own.name then tag (kept_tag p own) (if is_void own.name then none else kept p children) (kept p more)
+    if is_among p.tags own.name
+    then tag (kept_tag p own) (if is_void own.name then none else kept p children) (kept p more)
     else if is_among_in_any_case opaque_names own.name then kept p more
     else joined (kept p children) (kept p more)

@@ -28,7 +28,8 @@ module _ (p : Lists) (nodes : List Node) where
   node_print (Comment bytes) = []
   node_print (Tag own) =
       if is_among p.tags own.name
-      then print_start (kept_tag p (plain_node own)) ++ (if is_void own.name then [] else row own.children.items ++ print_end (plain_node own))
+      then print_start (kept_tag p (plain_node own))
+      ++ (if is_void own.name then [] else row own.children.items ++ print_end (plain_node own))
       else if is_among_in_any_case opaque_names own.name then [] else row own.children.items
 
   -- and of a handle, which may have no node
@@ -38,7 +39,8 @@ module _ (p : Lists) (nodes : List Node) where
 
   -- what a frame owes
   abbrev pub frame_print : Frame → List ℕ
-  frame_print f = row (drop f.next (children_of (shown f.node.now))) ++ end_print f.stands (shown f.node.now)
+  frame_print f =
+      row (drop f.next (children_of (shown f.node.now))) ++ end_print f.stands (shown f.node.now)
 
   -- what frames owe, the last first, before what comes later
   abbrev pub owed_from : List ℕ → List Frame → List ℕ

@@ -5,3 +5,5 @@ pub mod IsSafe
 pub mod Words
 pub mod Policies
 pub mod Left
+pub mod Writes
+pub mod Causes

@@ -1,12 +1,11 @@
 //! What a policy keeps of attributes.
 ghost use Rattle.std.specs.Prelude.{◌≡◌};
-ghost use Rattle.std.specs.Option.{option_copied};
-ghost use Rattle.tl_attributes.specs.ShownAttributes.{shown_value};
 ghost use Rattle.tl_safe.specs.Kept.{is_link, is_own_name, stays, value_stays};
 ghost use Rattle.tl_safe.specs.Policies.{lists_of};
+ghost use Rattle.tl_safe.specs.Writes.{pair_of};
 
 use crate::policy::Policy;
-use crate::words::{ByteClass, are_of, begins_with_any, is_among, is_naming};
+use crate::words::{ByteClass, are_of, begins_with_any, is_among, is_naming, is_whole_value};
 use tl::Bytes;
 
 // Whether a value is a link that may stand.
@@ -27,14 +26,14 @@ fn is_own_name(policy: &Policy<'_>, value: &[u8]) -> bool
 fn value_stays(policy: &Policy<'_>, key: &[u8], value: &[u8]) -> bool
     ensures { result ≡ value_stays (lists_of policy.now) key.now value.now }
 {
-    are_of(ByteClass::OfValue, value)
+    is_whole_value(value)
         && (!is_among(policy.link_keys, key) || is_link(policy, value))
         && (!is_naming(key) || is_own_name(policy, value))
 }
 
 // Whether a key stays, with its value if it has one.
 pub(crate) fn stays(policy: &Policy<'_>, key: &[u8], value: Option<&Bytes<'_>>) -> bool
-    ensures { result ≡ stays (lists_of policy.now) (key.now, shown_value (option_copied value.entry)) }
+    ensures { result ≡ stays (lists_of policy.now) (pair_of key.now value.entry) }
 {
     if !is_among(policy.keys, key) {
         return false;

@@ -2,16 +2,15 @@
 #![tactic(auto)]
 
 ghost use Rattle.std.specs.Prelude.{◌≡◌, ◌↔◌, ◌<◌, length, string_bytes, IfOk, IsErrOf};
-ghost use Rattle.tl_spec.specs.Forest.{forest, plain};
 ghost use Rattle.tl_spec.specs.Normal.{norm};
 ghost use Rattle.tl_spec.specs.Print.{print};
-ghost use Rattle.tl_spec.specs.Token.{tokens};
 ghost use Rattle.tl.specs.declared.errors.ParseError.TheVariants.{InvalidLength};
 ghost use Rattle.tl_safe.specs.HtmlTokenizer.{data_state, html_tokens};
 ghost use Rattle.tl_safe.specs.IsSafe.{IsSafe, tokens_of};
-ghost use Rattle.tl_safe.specs.Kept.{kept};
-ghost use Rattle.tl_safe.specs.Policies.{lists_of};
+ghost use Rattle.tl_safe.specs.Kept.{trees_of};
+ghost use Rattle.tl_safe.specs.Policies.{kept_of, lists_of};
 
+mod cause;
 mod keep;
 mod policy;
 mod walk;
@@ -26,7 +25,7 @@ use walk::write_row;
 // The print of what is kept of a page.
 fn written(alloc: Global, policy: &Policy<'_>, page: &str) -> Result<String, ParseError>
     ensures length { IsErrOf result InvalidLength ↔ (4294967295 < length page.now) }
-    ensures prints { IfOk result (λ safe. string_bytes safe ≡ print (kept (lists_of policy.now) (plain (forest (tokens page.now))))) }
+    ensures prints { IfOk result (λ safe. string_bytes safe ≡ print (kept_of policy.now page.now)) }
 {
     let document = parse(alloc, page, ParserOptions::new())?;
     let mut out = String::new(alloc);
@@ -40,24 +39,30 @@ fn written(alloc: Global, policy: &Policy<'_>, page: &str) -> Result<String, Par
     Ok(out)
 }
 
-/// A page with what a policy keeps of this one, and nothing else. It is refused exactly as `tl::parse` refuses it.
+/// A page with what a policy keeps of this one, and nothing else. It is refused exactly as
+/// `tl::parse` refuses it.
 ///
-/// A tag that is not listed goes, and its children stand in its place; but nothing is kept of a tag whose name, in any ASCII case,
-/// is one of those that hold no markup of HTML. Comments and doctypes go, and so do keys that are not listed, and a value that may
-/// not stand takes its key along.
+/// A tag that is not listed goes, and its children stand in its place; but nothing is kept of a tag
+/// whose name, in any ASCII case, is one of those that hold no markup of HTML. Comments and
+/// doctypes go, and so do keys that are not listed, and a value that may not stand takes its key
+/// along.
 pub fn sanitised(alloc: Global, policy: &Policy<'_>, page: &str) -> Result<String, ParseError>
     ensures length { IsErrOf result InvalidLength ↔ (4294967295 < length page.now) }
 
     // Read by the grammar of `tl`, it is the kept trees: all that may be kept is.
-    ensures trees { IfOk result (λ safe. plain (forest (tokens (string_bytes safe)))
-        ≡ norm (kept (lists_of policy.now) (plain (forest (tokens page.now))))) }
+    ensures trees { IfOk result (λ safe.
+        trees_of (string_bytes safe) ≡ norm (kept_of policy.now page.now)) }
+
+    // It is printed as those trees are.
+    ensures prints { IfOk result (λ safe. string_bytes safe ≡ print (kept_of policy.now page.now)) }
 
     // Its bytes are texts and balanced elements of listed names, with values between double quotes.
     ensures form { IfOk result (λ safe. IsSafe (lists_of policy.now) (string_bytes safe)) }
 
-    // The tokenizer of the HTML standard emits the start tags, end tags and characters of the kept trees, in order, and nothing else.
+    // The tokenizer of the HTML standard emits the start tags, end tags and characters of the kept
+    // trees, in order, and nothing else.
     ensures standard { IfOk result (λ safe. html_tokens data_state (string_bytes safe)
-        ≡ tokens_of (norm (kept (lists_of policy.now) (plain (forest (tokens page.now)))))) }
+        ≡ tokens_of (norm (kept_of policy.now page.now))) }
 {
     let safe = written(alloc, policy, page)?;
     Ok(safe)

@@ -6,8 +6,8 @@ ghost use Rattle.tl_safe.specs.Words.{words_of, lists};
 use crate::words::{ByteClass, Role, is_word_of, refused};
 use thiserror::Error;
 
-/// What is kept of a page: the names of tags and the keys that may stand, which keys hold links, what links begin with, and what
-/// the values of `id`, `name` and `class` begin with.
+/// What is kept of a page: the names of tags and the keys that may stand, which keys hold links,
+/// what links begin with, and what the values of `id`, `name` and `class` begin with.
 #[derive(Clone, Copy)]
 pub struct Policy<'w> {
     pub(crate) tags: &'w [&'w str],
@@ -15,7 +15,8 @@ pub struct Policy<'w> {
     pub(crate) link_keys: &'w [&'w str],
     pub(crate) link_beginnings: &'w [&'w str],
     pub(crate) prefix: &'w str,
-    ghost lawful: { IsTrue (are_lawful (lists (words_of tags.now) (words_of keys.now) (words_of link_keys.now) (words_of link_beginnings.now) prefix.now)) },
+    ghost lawful: { IsTrue (are_lawful (lists (words_of tags.now) (words_of keys.now)
+        (words_of link_keys.now) (words_of link_beginnings.now) prefix.now)) },
 }
 
 /// The word for which lists are no policy, and where it is listed.
@@ -109,8 +110,9 @@ impl<'w> Policy<'w> {
         link_beginnings: &'w [&'w str],
         prefix: &'w str,
     ) -> Result<Policy<'w>, PolicyError<'w>>
-        ensures { let asked = lists (words_of tags.now) (words_of keys.now) (words_of link_keys.now) (words_of link_beginnings.now) prefix.now in
-            MatchResult result (λ policy. lists_of policy ≡ asked) (λ error. Refuses asked error) }
+        ensures { let asked = lists (words_of tags.now) (words_of keys.now)
+            (words_of link_keys.now) (words_of link_beginnings.now) prefix.now in
+            MatchResult result (λ policy. lists_of policy ≡ asked) (λ e. Refuses asked e) }
     {
         if let Some(word) = refused(Role::Tag, link_keys, tags) {
             return Err(PolicyError::Tag(word));
@@ -133,8 +135,8 @@ impl<'w> Policy<'w> {
         })
     }
 
-    /// A policy for the text of a blog: no parts of tables, no forms, links to the web, to mail and within the site, and names that
-    /// begin with `user-`.
+    /// A policy for the text of a blog: no parts of tables, no forms, links to the web, to mail and
+    /// within the site, and names that begin with `user-`.
     pub fn page() -> Policy<'w>
         ensures { lists_of result ≡ page_lists }
     {
@@ -145,5 +147,40 @@ impl<'w> Policy<'w> {
             link_beginnings: &PAGE_LINK_BEGINNINGS,
             prefix: "user-",
         }
+    }
+
+    /// The names of tags that may stand.
+    pub fn tags(&self) -> &'w [&'w str]
+        ensures { words_of result.now ≡ (lists_of self.now).tags }
+    {
+        self.tags
+    }
+
+    /// The keys that may stand.
+    pub fn keys(&self) -> &'w [&'w str]
+        ensures { words_of result.now ≡ (lists_of self.now).keys }
+    {
+        self.keys
+    }
+
+    /// The keys that hold links.
+    pub fn link_keys(&self) -> &'w [&'w str]
+        ensures { words_of result.now ≡ (lists_of self.now).link_keys }
+    {
+        self.link_keys
+    }
+
+    /// What links begin with.
+    pub fn link_beginnings(&self) -> &'w [&'w str]
+        ensures { words_of result.now ≡ (lists_of self.now).link_beginnings }
+    {
+        self.link_beginnings
+    }
+
+    /// What the values of `id`, `name` and `class` begin with.
+    pub fn prefix(&self) -> &'w str
+        ensures { result.now ≡ (lists_of self.now).prefix }
+    {
+        self.prefix
     }
 }

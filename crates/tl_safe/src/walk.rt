@@ -4,13 +4,11 @@ ghost use Rattle.std.specs.Option.{option_copied};
 ghost use Rattle.tl_spec.specs.ByteClass.{is_void};
 ghost use Rattle.tl_spec.specs.Element.{children_of};
 ghost use Rattle.tl_spec.specs.Order.{AreChildrenAbove};
-ghost use Rattle.tl_spec.specs.Print.{print_start};
-ghost use Rattle.tl_spec.specs.Walk.{plain_node};
 ghost use Rattle.tl.specs.Shown.{shown, shown_tag};
-ghost use Rattle.tl_safe.specs.Kept.{kept_tag};
 ghost use Rattle.tl_safe.specs.Left.{child_at, end_print, frame_print, frame_steps, handle_met, handle_print, owed, row, steps};
 ghost use Rattle.tl_safe.specs.Lists.{is_among, is_among_in_any_case, opaque_names};
 ghost use Rattle.tl_safe.specs.Policies.{lists_of};
+ghost use Rattle.tl_safe.specs.Writes.{Adds, kept_start};
 
 use crate::policy::Policy;
 use crate::words::{is_among, is_opaque};
@@ -29,7 +27,8 @@ pub(crate) struct Frame<'s, 'a> {
 
 // Whether the children of a tag are gone through.
 fn enters(stands: bool, name: &[u8]) -> bool
-    ensures { result ≡ (if stands then not (is_void name.now) else not (is_among_in_any_case opaque_names name.now)) }
+    ensures { result ≡ (if stands then not (is_void name.now)
+        else not (is_among_in_any_case opaque_names name.now)) }
 {
     if stands {
         !is_void(name)
@@ -44,9 +43,10 @@ fn write_opening(
     tag: &HTMLTag<'_>,
     out: &mut String,
 ) -> Result<bool, AllocError>
-    ensures stands { IfOk result (λ stands. stands ≡ is_among (lists_of policy.now).tags tag.now.name.list) }
-    ensures ok { IfOk result (λ stands. string_bytes out.new ≡ string_bytes out.old
-        ++ (if stands then print_start (kept_tag (lists_of policy.now) (plain_node (shown_tag tag.now))) else [])) }
+    ensures stands { IfOk result (λ stands.
+        stands ≡ is_among (lists_of policy.now).tags tag.now.name.list) }
+    ensures ok { IfOk result (λ stands. Adds out.old out.new
+        (if stands then kept_start policy.now (shown_tag tag.now) else [])) }
 {
     let stands = is_among(policy.tags, tag.name().as_bytes());
     if stands {
@@ -72,9 +72,12 @@ fn visit<'s, 'a>(
     out: &mut String,
 ) -> Result<(), AllocError>
     ensures ok { let p = lists_of policy.now in let ns = map shown nodes.now in
-        OnOk result (string_bytes out.new ++ owed p ns frames.new.items ≡ string_bytes out.old ++ (handle_print p ns (slice_get ns number) ++ owed p ns frames.old.items)) }
+        OnOk result (string_bytes out.new ++ owed p ns frames.new.items
+        ≡ string_bytes out.old
+        ++ (handle_print p ns (slice_get ns number) ++ owed p ns frames.old.items)) }
     ensures steps { let ns = map shown nodes.now in
-        OnOk result (steps ns frames.new.items < 2 * handle_met ns (slice_get ns number) + steps ns frames.old.items) }
+        OnOk result (steps ns frames.new.items
+        < 2 * handle_met ns (slice_get ns number) + steps ns frames.old.items) }
 {
     let Some(node) = node_at(nodes, number) else {
         return Ok(());
@@ -110,7 +113,8 @@ fn child_at(node: &Node<'_>, place: usize) -> Option<(u32, usize)>
 
 // Writes the end tag of a tag that stands.
 fn close(frame: &Frame<'_, '_>, out: &mut String) -> Result<(), AllocError>
-    ensures { OnOk result (string_bytes out.new ≡ string_bytes out.old ++ end_print frame.now.stands (shown frame.now.node.now)) }
+    ensures { OnOk result (Adds out.old out.new
+        (end_print frame.now.stands (shown frame.now.node.now))) }
 {
     if frame.stands {
         if let Node::Tag(tag) = frame.node {
@@ -131,9 +135,12 @@ fn go_on<'s, 'a>(
 ) -> Result<(), AllocError>
     requires { AreChildrenAbove (map shown nodes.now) }
     ensures ok { let p = lists_of policy.now in let ns = map shown nodes.now in
-        OnOk result (string_bytes out.new ++ owed p ns frames.new.items ≡ string_bytes out.old ++ (frame_print p ns frame.entry ++ owed p ns frames.old.items)) }
+        OnOk result (string_bytes out.new ++ owed p ns frames.new.items
+        ≡ string_bytes out.old
+        ++ (frame_print p ns frame.entry ++ owed p ns frames.old.items)) }
     ensures steps { let ns = map shown nodes.now in
-        OnOk result (steps ns frames.new.items < frame_steps ns frame.entry + steps ns frames.old.items) }
+        OnOk result (steps ns frames.new.items
+        < frame_steps ns frame.entry + steps ns frames.old.items) }
 {
     let Some((child, next)) = child_at(frame.node, frame.next) else {
         return close(&frame, out);
@@ -155,7 +162,8 @@ fn finish<'s, 'a>(
     out: &mut String,
 ) -> Result<(), AllocError>
     requires { AreChildrenAbove (map shown nodes.now) }
-    ensures ok { OnOk result (string_bytes out.new ≡ string_bytes out.old ++ owed (lists_of policy.now) (map shown nodes.now) frames.old.items) }
+    ensures ok { OnOk result (Adds out.old out.new
+        (owed (lists_of policy.now) (map shown nodes.now) frames.old.items)) }
     ensures empty { OnOk result (frames.new.items ≡ []) }
 {
     while let Some(frame) = frames.pop() {
@@ -173,7 +181,8 @@ pub(crate) fn write_row<'s, 'a>(
     out: &mut String,
 ) -> Result<(), AllocError>
     requires { AreChildrenAbove (map shown nodes.now) }
-    ensures { OnOk result (string_bytes out.new ≡ string_bytes out.old ++ row (lists_of policy.now) (map shown nodes.now) handles.now) }
+    ensures { OnOk result (Adds out.old out.new
+        (row (lists_of policy.now) (map shown nodes.now) handles.now)) }
 {
     let mut frames = Vec::new(alloc);
     for handle in handles {

@@ -1,9 +1,11 @@
 //! Words, and the classes of their bytes.
 ghost use Rattle.std.specs.Prelude.{◌≡◌, IsTrue, false, MatchOption};
 ghost use Rattle.std.specs.List.{list_all};
-ghost use Rattle.tl_safe.specs.Kept.{is_text_byte, naming_keys};
-ghost use Rattle.tl_safe.specs.Lists.{bending_names, begins_path, begins_with_any, has_colon, has_scheme, is_among, is_among_in_any_case, is_word_of, may_be_key, may_be_tag, may_begin_links, opaque_names};
+ghost use Rattle.tl_safe.specs.Kept.{is_text_byte, is_value_byte, naming_keys};
+ghost use Rattle.tl_safe.specs.Lists.{active_keys, bending_names, begins_path, begins_with_any, has_colon, has_scheme, is_among, is_among_in_any_case, is_word_of, may_be_key, may_be_tag, may_begin_links, opaque_names};
 ghost use Rattle.tl_safe.specs.Words.{is_of, may_be, words_of};
+
+use memchr::memchr3;
 
 // Classes of bytes.
 #[derive(Clone, Copy)]
@@ -12,8 +14,6 @@ pub(crate) enum ByteClass {
     OfKey,
     OfLink,
     OfOwnName,
-    OfValue,
-    OfText,
 }
 
 // What a word is listed as.
@@ -121,8 +121,6 @@ fn is_of(class: ByteClass, byte: u8) -> bool
         ByteClass::OfKey => byte.is_ascii_lowercase() || byte == b'-',
         ByteClass::OfLink => byte > 32 && byte < 127 && byte != b'"',
         ByteClass::OfOwnName => byte.is_ascii_alphanumeric() || byte == b'-' || byte == b'_',
-        ByteClass::OfValue => byte != b'"' && byte != 0 && byte != 27,
-        ByteClass::OfText => byte != b'<' && byte != 0 && byte != 27,
     }
 }
 
@@ -130,7 +128,21 @@ fn is_of(class: ByteClass, byte: u8) -> bool
 pub(crate) fn is_text_byte(byte: u8) -> bool
     ensures { result ≡ is_text_byte byte }
 {
-    is_of(ByteClass::OfText, byte)
+    byte != b'<' && byte != 0 && byte != 27
+}
+
+// Whether all bytes of a text stay.
+pub(crate) fn is_whole_text(bytes: &[u8]) -> bool
+    ensures { result ≡ list_all is_text_byte bytes.now }
+{
+    memchr3(b'<', 0, 27, bytes).is_none()
+}
+
+// Whether a value has no byte for which it goes.
+pub(crate) fn is_whole_value(bytes: &[u8]) -> bool
+    ensures { result ≡ list_all is_value_byte bytes.now }
+{
+    memchr3(b'"', 0, 27, bytes).is_none()
 }
 
 // Whether all bytes are of a class.
@@ -214,10 +226,17 @@ fn is_bending(name: &[u8]) -> bool
 }
 
 // Whether a tag of this name, in exact case, holds what is no markup of HTML.
-fn is_opaque_in_lowercase(name: &[u8]) -> bool
+pub(crate) fn is_opaque_in_lowercase(name: &[u8]) -> bool
     ensures { result ≡ is_among opaque_names name.now }
 {
     is_among(&OPAQUE_NAMES, name)
+}
+
+// Whether the values of a key are no names, texts or links.
+pub(crate) fn is_active(key: &[u8]) -> bool
+    ensures { result ≡ is_among active_keys key.now }
+{
+    is_among(&ACTIVE_KEYS, key)
 }
 
 // Whether a policy may list a tag's name.
@@ -233,7 +252,7 @@ fn may_be_key(link_keys: &[&str], key: &[u8]) -> bool
 {
     is_word_of(ByteClass::OfKey, key)
         && !key.starts_with(b"on")
-        && !is_among(&ACTIVE_KEYS, key)
+        && !is_active(key)
         && (!is_among(&KNOWN_LINK_KEYS, key) || is_among(link_keys, key))
 }
 
@@ -263,7 +282,7 @@ fn has_colon(word: &[u8]) -> bool
 }
 
 // Whether a word begins with a scheme and its `:`.
-fn has_scheme(word: &[u8]) -> bool
+pub(crate) fn has_scheme(word: &[u8]) -> bool
     ensures { result ≡ has_scheme word.now }
 {
     match word {
@@ -295,7 +314,8 @@ fn may_be(role: Role, link_keys: &[&str], word: &[u8]) -> bool
 pub(crate) fn refused<'w>(role: Role, link_keys: &[&str], words: &'w [&'w str]) -> Option<&'w str>
     ensures { MatchOption result
         (IsTrue (list_all (may_be role (words_of link_keys.now)) (words_of words.now)))
-        (λ word. IsTrue (is_among (words_of words.now) word.now) × (may_be role (words_of link_keys.now) word.now ≡ false)) }
+        (λ word. IsTrue (is_among (words_of words.now) word.now)
+        × (may_be role (words_of link_keys.now) word.now ≡ false)) }
 {
     for word in words {
         if !may_be(role, link_keys, word.as_bytes()) {

@@ -1,26 +1,25 @@
 //! Writes of what is kept of a node.
-ghost use Rattle.std.specs.Prelude.{◌≡◌, ◌++◌, ◌∷◌, [], map, codes, OnOk, IfOk, string_bytes};
+ghost use Rattle.std.specs.Prelude.{◌≡◌, ◌∷◌, [], OnOk, IfOk};
 ghost use Rattle.std.specs.List.{filter};
-ghost use Rattle.std.specs.Option.{option_copied};
 ghost use Rattle.std.specs.Str.Lossy.{utf8_lossy};
 ghost use Rattle.tl_spec.specs.AttributeList.{printed_pairs};
-ghost use Rattle.tl_spec.specs.Print.{print_end, print_pairs, print_start, print_value};
+ghost use Rattle.tl_spec.specs.Print.{print_end};
 ghost use Rattle.tl_spec.specs.Walk.{plain_node};
-ghost use Rattle.tl_attributes.specs.ShownAttributes.{plain, shown_value};
+ghost use Rattle.tl_attributes.specs.ShownAttributes.{plain};
 ghost use Rattle.tl.specs.Shown.{shown_tag};
-ghost use Rattle.tl_safe.specs.Kept.{is_text_byte, kept_tag, stays};
-ghost use Rattle.tl_safe.specs.Policies.{lists_of};
+ghost use Rattle.tl_safe.specs.Kept.{is_text_byte};
+ghost use Rattle.tl_safe.specs.Writes.{Adds, kept_pairs, kept_start, pair_of, print_pair};
 
 use crate::keep::stays;
 use crate::policy::Policy;
-use crate::words::{ByteClass, are_of, is_text_byte};
+use crate::words::{is_text_byte, is_whole_text};
 use bstr::ByteSlice;
 use std::alloc::{AllocError, Global};
 use tl::{Attributes, Bytes, HTMLTag};
 
 // Writes bytes as text.
 fn write_lossy(bytes: &[u8], out: &mut String) -> Result<(), AllocError>
-    ensures { OnOk result (string_bytes out.new ≡ string_bytes out.old ++ utf8_lossy bytes.now) }
+    ensures { OnOk result (Adds out.old out.new (utf8_lossy bytes.now)) }
 {
     bytes.to_str_lossy_into(out)?;
     Ok(())
@@ -42,9 +41,9 @@ fn text_bytes(alloc: Global, bytes: &[u8]) -> Result<Vec<u8>, AllocError>
 // Writes what is kept of a text. Where all of it is, it is not copied.
 #[tactic(auto, using(crate::proofs::Writes::filter_same))]
 pub(crate) fn write_text(alloc: Global, bytes: &[u8], out: &mut String) -> Result<(), AllocError>
-    ensures { OnOk result (string_bytes out.new ≡ string_bytes out.old ++ utf8_lossy (filter is_text_byte bytes.now)) }
+    ensures { OnOk result (Adds out.old out.new (utf8_lossy (filter is_text_byte bytes.now))) }
 {
-    if are_of(ByteClass::OfText, bytes) {
+    if is_whole_text(bytes) {
         return write_lossy(bytes, out);
     }
     let kept = text_bytes(alloc, bytes)?;
@@ -53,7 +52,7 @@ pub(crate) fn write_text(alloc: Global, bytes: &[u8], out: &mut String) -> Resul
 
 // Writes a space, a key and its value.
 fn write_pair(key: &[u8], value: Option<&Bytes<'_>>, out: &mut String) -> Result<(), AllocError>
-    ensures { OnOk result (string_bytes out.new ≡ string_bytes out.old ++ codes " " ++ utf8_lossy key.now ++ print_value (shown_value (option_copied value.entry))) }
+    ensures { OnOk result (Adds out.old out.new (print_pair (pair_of key.now value.entry))) }
 {
     out.push(' ')?;
     write_lossy(key, out)?;
@@ -75,8 +74,8 @@ fn write_kept_pair(
     value: Option<&Bytes<'_>>,
     out: &mut String,
 ) -> Result<(), AllocError>
-    ensures { OnOk result (string_bytes out.new ≡ string_bytes out.old
-        ++ print_pairs (filter (stays (lists_of policy.now)) ((key.now, shown_value (option_copied value.entry)) ∷ []))) }
+    ensures { OnOk result (Adds out.old out.new
+        (kept_pairs policy.now (pair_of key.now value.entry ∷ []))) }
 {
     if stays(policy, key, value) {
         write_pair(key, value, out)?;
@@ -90,8 +89,8 @@ fn write_pairs(
     attributes: &Attributes<'_>,
     out: &mut String,
 ) -> Result<(), AllocError>
-    ensures { OnOk result (string_bytes out.new ≡ string_bytes out.old
-        ++ print_pairs (filter (stays (lists_of policy.now)) (printed_pairs (plain attributes.now)))) }
+    ensures { OnOk result (Adds out.old out.new
+        (kept_pairs policy.now (printed_pairs (plain attributes.now)))) }
 {
     for pair in attributes.iter() {
         write_kept_pair(policy, pair.0.as_bytes(), pair.1, out)?;
@@ -106,8 +105,7 @@ pub(crate) fn write_start(
     tag: &HTMLTag<'_>,
     out: &mut String,
 ) -> Result<(), AllocError>
-    ensures { OnOk result (string_bytes out.new ≡ string_bytes out.old
-        ++ print_start (kept_tag (lists_of policy.now) (plain_node (shown_tag tag.now)))) }
+    ensures { OnOk result (Adds out.old out.new (kept_start policy.now (shown_tag tag.now))) }
 {
     out.push('<')?;
     write_lossy(tag.name().as_bytes(), out)?;
@@ -118,7 +116,7 @@ pub(crate) fn write_start(
 
 // Writes an end tag.
 pub(crate) fn write_end(tag: &HTMLTag<'_>, out: &mut String) -> Result<(), AllocError>
-    ensures { OnOk result (string_bytes out.new ≡ string_bytes out.old ++ print_end (plain_node (shown_tag tag.now))) }
+    ensures { OnOk result (Adds out.old out.new (print_end (plain_node (shown_tag tag.now)))) }
 {
     out.push_str("</")?;
     write_lossy(tag.name().as_bytes(), out)?;

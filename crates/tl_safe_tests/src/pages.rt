@@ -109,3 +109,26 @@ fn lists(rt: HostRuntime) {
         )
     );
 }
+
+#[test]
+fn causes(rt: HostRuntime) {
+    assert!(rt;
+        PolicyError::Tag("B").cause() == "a name is a letter of a-z, and then letters and digits"
+    );
+    assert!(rt; PolicyError::Tag("svg").cause() == "what stands in it is no markup of HTML");
+    assert!(rt; PolicyError::Key("onclick").cause() == "its value is a script");
+    assert!(rt; PolicyError::Key("poster").cause() == "it holds links, and is no link key");
+    assert!(rt;
+        PolicyError::LinkBeginning("data:").cause() == "such links are programs or documents"
+    );
+}
+
+#[test]
+fn lists_of_the_page(rt: HostRuntime) {
+    let policy = Policy::page();
+    assert!(rt; policy.tags().len() == 49);
+    assert!(rt; policy.keys().len() == 13);
+    assert!(rt; policy.link_keys().len() == 3);
+    assert!(rt; policy.link_beginnings().len() == 5);
+    assert!(rt; policy.prefix() == "user-");
+}

@@ -1,5 +1,5 @@
 -- The sides of joined selectors.
-use Rattle.std.proofs.Common.{◌≡◌, ◌≤◌, ◌&&◌, ◌||◌, ℕ, Bool, true, false, List, [], ◌∷◌, ◌++◌, Option, refl, sym, ap, subst, ◌∙◌, arith}
+use Rattle.std.proofs.Common.{◌≡◌, ◌≤◌, ◌&&◌, ℕ, Bool, true, false, List, [], ◌∷◌, ◌++◌, Option, refl, sym, ap, subst, ◌∙◌, arith}
 use Rattle.std.proofs.lemmas.List.{map-append}
 use Rattle.std.specs.List.{All as AllOf}
 use Rattle.std.proofs.lemmas.List.Elements.{All-push, All-same}
@@ -50,22 +50,6 @@ pub first_by_parts : (e part : Selector) (xs : List Node) (first : Option ℕ) �
 first_by_parts e part xs first h f =
     let tests : (λ (x : Node). holds_alone (first_part e) x && others_hold e x) ≡ holds_alone e = λ i x. sym (parts_hold e x) i in
     subst (λ t. IsFirstPlace t xs first) tests (subst (λ p. IsFirstPlace (λ x. holds_alone p x && others_hold e x) xs first) h f)
-
-pub and_fails : (a b : Bool) → b ≡ false → (a && b) ≡ false
-and_fails true b h = h
-and_fails false b h = refl
-
-pub and_second : (a b : Bool) → b ≡ true → (a && b) ≡ a
-and_second true b h = h
-and_second false b h = refl
-
-pub or_holds : (a b : Bool) → b ≡ true → (a || b) ≡ true
-or_holds true b h = refl
-or_holds false b h = h
-
-pub or_second : (a b : Bool) → b ≡ false → (a || b) ≡ a
-or_second true b h = refl
-or_second false b h = h
 
 -- one more whole, of which the next is the first side
 pub selectors_more : (refs : List (Bor declared.Selector)) (x : Bor declared.Selector) (e : Selector) → nested_in (selectors (refs ++ x ∷ [])) e ≡ nested_in (selectors refs) (with_first (selector x.now) e)

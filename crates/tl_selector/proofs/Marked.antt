@@ -1,8 +1,8 @@
 -- Marks of a selector from those of its parts.
-use Rattle.std.proofs.Common.{◌≡◌, ◌<◌, ◌⊎◌, ◌&&◌, ◌||◌, ℕ, zero, suc, Bool, true, false, List, [], ◌∷◌, length, refl, sym, ap, ◌∙◌, arith, inl, inr, slice_get, Option, None, Some}
+use Rattle.std.proofs.Common.{◌≡◌, ◌<◌, ◌⊎◌, ◌&&◌, ℕ, zero, suc, Bool, true, false, List, [], ◌∷◌, length, sym, ap, ◌∙◌, arith, inl, inr, slice_get, Option, None, Some}
 use Rattle.std.specs.Bool.{Decides}
 use Rattle.std.specs.Option.{IsSomeAnd, option_map, option_map_or}
-use Rattle.std.proofs.lemmas.Bool.{and_from, and_parts, cases_lt, or_cases, or_left, or_parts, or_right}
+use Rattle.std.proofs.lemmas.Bool.{and_from, and_parts, cases_lt, or_parts}
 use Rattle.std.proofs.lemmas.List.{get_or_past}
 use Rattle.std.proofs.lemmas.Option.{slice_get_past}
 use Rattle.tl_spec.specs.Document.{Node}
@@ -10,53 +10,8 @@ use Rattle.tl_spec.specs.Selector.{Selector, Tag, Id, Class, All, And, Or, Desce
 use Rattle.tl_spec.specs.SelectorMeaning.{Holds, HoldsAlone, has_joint}
 use Rattle.tl_spec.specs.Scan.{IsFirstPlace}
 use Rattle.tl_spec.specs.SelectorSearch.{holds_alone}
-use Rattle.tl_selector.specs.Marks.{is_among, is_at, IsUnderMark, IsBelowMark, AreMarks}
+use Rattle.tl_selector.specs.Marks.{is_among, is_at, AreMarks}
 use Rattle.tl_spec.proofs.SelectorTests.{holds_alone-is, some-passes}
-
-module _ (a b : Selector) (g : List Node) where
-  pub marks_and : (x z : List Bool) → AreMarks None a g x → AreMarks (Some x) b g z → AreMarks None (And a b) g z
-  marks_and x z h k = record {
-    len = k.len;
-    sound = λ n e. let p = k.sound n e in let q = h.sound n p.0 in (q.0, (q.1, p.1));
-    complete = λ n m e. k.complete n (h.complete n m e.0) e.1;
-  }
-
-  pub marks_or : (x y z : List Bool) → AreMarks None a g x → AreMarks None b g y → length z ≡ length x → ((n : ℕ) → is_at z n ≡ (is_at x n || is_at y n)) → AreMarks None (Or a b) g z
-  marks_or x y z h k l f = record {
-    len = l ∙ h.len;
-    sound = λ n e. elim (or_cases (is_at x n) (is_at y n) (sym (f n) ∙ e)) [ inl p ↦ let q = h.sound n p in (q.0, inl q.1) | inr p ↦ let q = k.sound n p in (q.0, inr q.1) ];
-    complete = λ n m e. elim e [ inl p ↦ f n ∙ or_left (is_at x n) (is_at y n) (h.complete n m p) | inr p ↦ f n ∙ or_right (is_at x n) (is_at y n) (k.complete n m p) ];
-  }
-
-  pub marks_below : (x w z : List Bool) → AreMarks None a g x → ((n : ℕ) → is_at w n ≡ true → IsBelowMark g x n) → ((n : ℕ) → IsBelowMark g x n → is_at w n ≡ true)
-      → AreMarks (Some w) b g z → AreMarks None (Descendant a b) g z
-  marks_below x w z h s c k = record {
-    len = k.len;
-    sound = λ n e.
-        let p = k.sound n e in
-        let r = s n p.0 in
-        (refl, (p.1, r.0, (h.sound r.0 r.2).1, (r.1, r.3)));
-    complete = λ n m e. k.complete n (c n (e.1, e.3.0, h.complete e.1 refl e.2, e.3.1)) e.0;
-  }
-
-  pub marks_under : (x w z : List Bool) → AreMarks None a g x → ((n : ℕ) → is_at w n ≡ true → IsUnderMark g x n) → ((n : ℕ) → IsUnderMark g x n → is_at w n ≡ true)
-      → AreMarks (Some w) b g z → AreMarks None (Parent a b) g z
-  marks_under x w z h s c k = record {
-    len = k.len;
-    sound = λ n e.
-        let p = k.sound n e in
-        let r = s n p.0 in
-        (refl, (p.1, r.0, (h.sound r.0 r.1).1, r.2));
-    complete = λ n m e. k.complete n (c n (e.1, h.complete e.1 refl e.2, e.3)) e.0;
-  }
-
--- of the marks of all nodes those in question
-pub marks_among : (among : Option (List Bool)) (e : Selector) (g : List Node) (x z : List Bool) → AreMarks None e g x → length z ≡ length x → ((n : ℕ) → is_at z n ≡ (is_at x n && is_among among n)) → AreMarks among e g z
-marks_among among e g x z h l f = record {
-  len = l ∙ h.len;
-  sound = λ n k. let p = and_parts (is_at x n) (is_among among n) (sym (f n) ∙ k) in (p.1, (h.sound n p.0).1);
-  complete = λ n m k. f n ∙ and_from (is_at x n) (is_among among n) (h.complete n refl k) m;
-}
 
 both : (o : Option Node) (P Q : Node → Type 0) → IsSomeAnd o P → IsSomeAnd o Q → IsSomeAnd o (λ d. P d × Q d)
 both None P Q h k = absurd h

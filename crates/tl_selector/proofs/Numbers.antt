@@ -45,6 +45,21 @@ numbers_none p i e h = after (e - i) i refl h
     after zero i s h = ap (numbers p i) s
     after (suc k) i s h = numbers-skip p i e (omega arith) (h i (omega arith) (omega arith)) ∙ after k (i + 1) (omega arith) (λ n g. h n (omega arith))
 
+-- those that pass are the same from the first of them on
+pub numbers_from_first : (p : ℕ → Bool) (i e m : ℕ) → IsFirst p i e (Some m) → numbers p i (e - i) ≡ numbers p m (e - m)
+numbers_from_first p i e m h = let l = h.1 in numbers_first p i e m h ∙ sym (numbers-here p m e l h.2)
+
+-- there are some where one passes
+pub numbers_some : (p : ℕ → Bool) (i e m : ℕ) → IsFirst p i e (Some m) → ¬ (numbers p i (e - i) ≡ [])
+numbers_some p i e m h none =
+    let count : suc (length (numbers p (m + 1) (e - (m + 1)))) ≡ zero = ap length (sym (numbers_first p i e m h) ∙ none) in
+    omega (arith, count)
+
+-- those of tests that answer alike
+pub numbers_alike : (p q : ℕ → Bool) → ((n : ℕ) → p n ≡ q n) → (i k : ℕ) → numbers p i k ≡ numbers q i k
+numbers_alike p q e i zero = refl
+numbers_alike p q e i (suc k) = rw (e i) (ap (λ r. cond (q i) (i ∷ r) r) (numbers_alike p q e (i + 1) k))
+
 above : (p : ℕ → Bool) (m i k : ℕ) → m < i → All (λ n. m < n) (numbers p i k)
 above p m i zero h = All-nil (λ n. m < n)
 above p m i (suc k) h = one (above p m (i + 1) k (omega arith)) (p i)

@@ -3,7 +3,8 @@ use Rattle.std.proofs.Common.{◌≡◌, ◌≢◌, ℕ, List, refl, sym, ap, �
 use Rattle.tl_spec.specs.Runs.{past}
 use Rattle.tl_spec.specs.Selector as spec
 use Rattle.tl_spec.specs.SelectorText.{IsSelectorText, StandsAlone}
-use Rattle.tl_spec.specs.SelectorReading.{is_space, simple_at, End, Bad, next_at, joined, before_after, chain_after, selector_at}
+use Rattle.tl_spec.specs.ByteClass.{is_space}
+use Rattle.tl_spec.specs.SelectorReading.{simple_at, End, Bad, next_at, joined, before_after, chain_after, selector_at}
 use Rattle.tl_spec.proofs.SelectorText.{alone-read, text-only, text-none}
 pub use Rattle.tl_spec.proofs.SelectorText.{rest_part, rest_end, rest_bad, next_lt}
 use Rattle.tl_selector.specs.View.{selector}

@@ -30,6 +30,3 @@ under_step g holds marks queue found m t w e =
         ]
       ];
     }
-
-pub under_done : (g : List Node) (holds marks : List Bool) → Under g holds marks [] → (n : ℕ) → IsUnderMark g holds n → is_at marks n ≡ true
-under_done g holds marks w n b = elim (w.complete b.0 n b.1 b.2) [ inl k ↦ k | inr k ↦ cc ]

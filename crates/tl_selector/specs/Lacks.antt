@@ -1,7 +1,8 @@
 -- Texts that the first or the second of their parts shows to be no selector.
 use Rattle.std.specs.Prelude.{◌≡◌, ℕ, List, None, Some, option_map}
 use Rattle.tl_spec.specs.Runs.{past}
-use Rattle.tl_spec.specs.SelectorReading.{is_space, simple_at, next_at, Bad}
+use Rattle.tl_spec.specs.ByteClass.{is_space}
+use Rattle.tl_spec.specs.SelectorReading.{simple_at, next_at, Bad}
 
 -- no part stands first, as in `,a`
 abbrev pub LacksFirst : List ℕ → Type 0

@@ -131,7 +131,8 @@ fn contains(value: &[u8], part: &[u8]) -> bool
 
 // Whether one of the words has the characters of `word`.
 fn is_among_words(value: &[u8], word: &[u8]) -> bool
-    ensures { result ≡ scan (lossy_chars word.now) (Some (lossy_chars word.now)) (lossy_chars value.now) }
+    ensures { result ≡ scan (lossy_chars word.now) (Some (lossy_chars word.now))
+        (lossy_chars value.now) }
 {
     let mut left = Some(word.chars());
     for c in value.chars() {

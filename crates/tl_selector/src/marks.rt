@@ -37,7 +37,8 @@ fn is_among(among: Option<&[bool]>, number: usize) -> bool
 
 // Marks a node that has no mark yet, and puts it into the queue.
 fn mark(number: usize, marks: &mut Vec<bool>, queue: &mut Vec<usize>) -> Result<(), AllocError>
-    ensures ok { OnOk result ((marks.new.items, queue.new.items) ≡ mark_one number (marks.old.items, queue.old.items)) }
+    ensures ok { OnOk result ((marks.new.items, queue.new.items)
+        ≡ mark_one number (marks.old.items, queue.old.items)) }
 
     // Memory is taken for a new mark alone.
     ensures done { is_done marks.old.items number ≡ true → IsOk result }
@@ -56,10 +57,13 @@ fn mark_child<N: Element>(
     marks: &mut Vec<bool>,
     queue: &mut Vec<usize>,
 ) -> Result<(), AllocError>
-    ensures ok { OnOk result ((marks.new.items, queue.new.items) ≡ spread (child_at (children_of (N.node node.now)) place) (marks.old.items, queue.old.items)) }
+    ensures ok { OnOk result ((marks.new.items, queue.new.items)
+        ≡ spread (child_at (children_of (N.node node.now)) place)
+        (marks.old.items, queue.old.items)) }
 
     // Memory is taken for a new mark alone: not for a child that has its mark, nor for one past the table.
-    ensures done { IfSome (slice_get (children_of (N.node node.now)) place) (λ child. is_done marks.old.items child ≡ true) → IsOk result }
+    ensures done { IfSome (slice_get (children_of (N.node node.now)) place)
+        (λ child. is_done marks.old.items child ≡ true) → IsOk result }
 {
     match node.child(place) {
         Some(child) => mark(child as usize, marks, queue),
@@ -73,7 +77,8 @@ fn mark_children<N: Element>(
     marks: &mut Vec<bool>,
     queue: &mut Vec<usize>,
 ) -> Result<(), AllocError>
-    ensures { OnOk result ((marks.new.items, queue.new.items) ≡ spread (children_of (N.node node.now)) (marks.old.items, queue.old.items)) }
+    ensures { OnOk result ((marks.new.items, queue.new.items)
+        ≡ spread (children_of (N.node node.now)) (marks.old.items, queue.old.items)) }
 {
     for place in 0..node.child_count() {
         mark_child(node, place, marks, queue)?;
@@ -88,7 +93,8 @@ fn mark_children_at<N: Element>(
     marks: &mut Vec<bool>,
     queue: &mut Vec<usize>,
 ) -> Result<(), AllocError>
-    ensures { OnOk result ((marks.new.items, queue.new.items) ≡ spread (children_at (map N.node nodes.now) number) (marks.old.items, queue.old.items)) }
+    ensures { OnOk result ((marks.new.items, queue.new.items)
+        ≡ spread (children_at (map N.node nodes.now) number) (marks.old.items, queue.old.items)) }
 {
     match nodes.get(number) {
         Some(node) => mark_children(node, marks, queue),
@@ -98,8 +104,10 @@ fn mark_children_at<N: Element>(
 
 // The nodes that are marked.
 fn holders(alloc: Global, holds: &[bool]) -> Result<Vec<usize>, AllocError>
-    ensures all { IfOk result (λ queue. (m : ℕ) → is_at holds.now m ≡ true → is_in queue.items m ≡ true) }
-    ensures only { IfOk result (λ queue. (m : ℕ) → is_in queue.items m ≡ true → is_at holds.now m ≡ true) }
+    ensures all { IfOk result (λ queue. (m : ℕ) → is_at holds.now m ≡ true
+        → is_in queue.items m ≡ true) }
+    ensures only { IfOk result (λ queue. (m : ℕ) → is_in queue.items m ≡ true
+        → is_at holds.now m ≡ true) }
 
     // Where no node is marked it takes no memory.
     ensures none { ((m : ℕ) → is_at holds.now m ≡ false) → IsOk result }
@@ -117,8 +125,10 @@ fn holders(alloc: Global, holds: &[bool]) -> Result<Vec<usize>, AllocError>
 fn below<N: Element>(alloc: Global, nodes: &[N], holds: &[bool]) -> Result<Vec<bool>, AllocError>
     requires { length holds.now ≡ length nodes.now }
     ensures len { IfOk result (λ marks. length marks.items ≡ length nodes.now) }
-    ensures sound { IfOk result (λ marks. (n : ℕ) → is_at marks.items n ≡ true → IsBelowMark (map N.node nodes.now) holds.now n) }
-    ensures complete { IfOk result (λ marks. (n : ℕ) → IsBelowMark (map N.node nodes.now) holds.now n → is_at marks.items n ≡ true) }
+    ensures sound { IfOk result (λ marks. (n : ℕ) → is_at marks.items n ≡ true
+        → IsBelowMark (map N.node nodes.now) holds.now n) }
+    ensures complete { IfOk result (λ marks. (n : ℕ)
+        → IsBelowMark (map N.node nodes.now) holds.now n → is_at marks.items n ≡ true) }
 {
     let mut marks = vec![in alloc; false; nodes.len()]?;
     let mut queue = holders(alloc, holds)?;
@@ -132,8 +142,10 @@ fn below<N: Element>(alloc: Global, nodes: &[N], holds: &[bool]) -> Result<Vec<b
 fn under<N: Element>(alloc: Global, nodes: &[N], holds: &[bool]) -> Result<Vec<bool>, AllocError>
     requires { length holds.now ≡ length nodes.now }
     ensures len { IfOk result (λ marks. length marks.items ≡ length nodes.now) }
-    ensures sound { IfOk result (λ marks. (n : ℕ) → is_at marks.items n ≡ true → IsUnderMark (map N.node nodes.now) holds.now n) }
-    ensures complete { IfOk result (λ marks. (n : ℕ) → IsUnderMark (map N.node nodes.now) holds.now n → is_at marks.items n ≡ true) }
+    ensures sound { IfOk result (λ marks. (n : ℕ) → is_at marks.items n ≡ true
+        → IsUnderMark (map N.node nodes.now) holds.now n) }
+    ensures complete { IfOk result (λ marks. (n : ℕ)
+        → IsUnderMark (map N.node nodes.now) holds.now n → is_at marks.items n ≡ true) }
 {
     let mut marks = vec![in alloc; false; nodes.len()]?;
     let mut queue = holders(alloc, holds)?;
@@ -147,7 +159,8 @@ fn under<N: Element>(alloc: Global, nodes: &[N], holds: &[bool]) -> Result<Vec<b
 // Takes the mark from each node that is not in question.
 fn keep_among(marks: &mut Vec<bool>, among: Option<&[bool]>)
     ensures len { length marks.new.items ≡ length marks.old.items }
-    ensures kept { (n : ℕ) → is_at marks.new.items n ≡ (is_at marks.old.items n && is_among (option_copied among.entry) n) }
+    ensures kept { (n : ℕ) → is_at marks.new.items n
+        ≡ (is_at marks.old.items n && is_among (option_copied among.entry) n) }
 {
     for (number, mark) in marks.iter_mut().enumerate() {
         *mark = *mark && is_among(among, number);
@@ -158,7 +171,8 @@ fn keep_among(marks: &mut Vec<bool>, among: Option<&[bool]>)
 fn unite(marks: &mut Vec<bool>, others: &[bool])
     requires { length marks.old.items ≡ length others.now }
     ensures len { length marks.new.items ≡ length marks.old.items }
-    ensures either { (n : ℕ) → is_at marks.new.items n ≡ (is_at marks.old.items n || is_at others.now n) }
+    ensures either { (n : ℕ) → is_at marks.new.items n
+        ≡ (is_at marks.old.items n || is_at others.now n) }
 {
     for (number, mark) in marks.iter_mut().enumerate() {
         *mark = *mark || others[number];
@@ -172,7 +186,9 @@ fn marks_alone<N: Element>(
     among: Option<&[bool]>,
     e: &Selector<'_>,
 ) -> Result<Vec<bool>, AllocError>
-    ensures { has_joint (selector e.now) ≡ false → IfOk result (λ marks. AreMarks (option_copied among.entry) (selector e.now) (map N.node nodes.now) marks.items) }
+    ensures { has_joint (selector e.now) ≡ false
+        → IfOk result (λ marks. AreMarks (option_copied among.entry) (selector e.now)
+        (map N.node nodes.now) marks.items) }
 {
     let mut marks = Vec::with_capacity(alloc, nodes.len())?;
     for (number, node) in nodes.iter().enumerate() {
@@ -213,9 +229,12 @@ fn looked_at<'e, 'a, N: Element>(
     nodes: &[N],
     e: &'e Selector<'a>,
 ) -> Result<(Vec<&'e Selector<'a>>, &'e Selector<'a>), AllocError>
-    ensures whole { IfOk result (λ way. nested_in (selectors way.0.items) (selector way.1.now) ≡ selector e.entry.now) }
-    ensures innermost { IfOk result (λ way. has_sides (selector way.1.now) ≡ true → (n : ℕ) → Holds (map N.node nodes.now) (selector way.1.now) n → ⊥) }
-    ensures depth { IfOk result (λ way. All (λ x. size-Selector x.now ≤ size-Selector e.entry.now) way.0.items) }
+    ensures whole { IfOk result (λ way. nested_in (selectors way.0.items) (selector way.1.now)
+        ≡ selector e.entry.now) }
+    ensures innermost { IfOk result (λ way. has_sides (selector way.1.now) ≡ true → (n : ℕ)
+        → Holds (map N.node nodes.now) (selector way.1.now) n → ⊥) }
+    ensures depth { IfOk result (λ way. All (λ x. size-Selector x.now
+        ≤ size-Selector e.entry.now) way.0.items) }
 {
     let mut wholes = Vec::new(alloc);
     let mut first = e;
@@ -249,8 +268,10 @@ fn marks_innermost<N: Element>(
     nodes: &[N],
     e: &Selector<'_>,
 ) -> Result<Vec<bool>, AllocError>
-    requires { has_sides (selector e.now) ≡ true → (n : ℕ) → Holds (map N.node nodes.now) (selector e.now) n → ⊥ }
-    ensures { IfOk result (λ marks. AreMarks None (selector e.now) (map N.node nodes.now) marks.items) }
+    requires { has_sides (selector e.now) ≡ true → (n : ℕ)
+        → Holds (map N.node nodes.now) (selector e.now) n → ⊥ }
+    ensures { IfOk result (λ marks. AreMarks None (selector e.now)
+        (map N.node nodes.now) marks.items) }
 {
     if has_sides(e) {
         return vec![in alloc; false; nodes.len()];
@@ -267,7 +288,9 @@ fn marks_around<N: Element>(
     e: &Selector<'_>,
 ) -> Result<Vec<bool>, AllocError>
     requires { length first.items ≡ length nodes.now }
-    ensures { (a : SelectorOf) → AreMarks None a (map N.node nodes.now) first.items → IfOk result (λ marks. AreMarks None (with_first (selector e.now) a) (map N.node nodes.now) marks.items) }
+    ensures { (a : SelectorOf) → AreMarks None a (map N.node nodes.now) first.items
+        → IfOk result (λ marks. AreMarks None (with_first (selector e.now) a)
+        (map N.node nodes.now) marks.items) }
 {
     match e {
         Selector::And(_, b) => marks(alloc, nodes, Some(&first), b),
@@ -296,7 +319,8 @@ fn marks_of_all<N: Element>(
     nodes: &[N],
     e: &Selector<'_>,
 ) -> Result<Vec<bool>, AllocError>
-    ensures { IfOk result (λ marks. AreMarks None (selector e.now) (map N.node nodes.now) marks.items) }
+    ensures { IfOk result (λ marks. AreMarks None (selector e.now)
+        (map N.node nodes.now) marks.items) }
 {
     let (mut wholes, first) = looked_at(alloc, nodes, e)?;
     let mut marks = marks_innermost(alloc, nodes, first)?;
@@ -315,7 +339,8 @@ pub fn marks<N: Element>(
     among: Option<&[bool]>,
     e: &Selector<'_>,
 ) -> Result<Vec<bool>, AllocError>
-    ensures { IfOk result (λ marks. AreMarks (option_copied among.entry) (selector e.now) (map N.node nodes.now) marks.items) }
+    ensures { IfOk result (λ marks. AreMarks (option_copied among.entry) (selector e.now)
+        (map N.node nodes.now) marks.items) }
 {
     if !has_sides(e) {
         return marks_alone(alloc, nodes, among, e);

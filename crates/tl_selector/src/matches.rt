@@ -1,5 +1,5 @@
 //! The nodes of a table where a selector holds.
-ghost use Rattle.std.specs.Prelude.{◌≡◌, ◌<◌, ◌^◌, length, map, false, IsOk, IfOk};
+ghost use Rattle.std.specs.Prelude.{◌≡◌, ◌<◌, ◌^◌, [], length, map, false, IsOk, IfOk};
 ghost use Rattle.std.specs.Iterator.{at_most};
 ghost use Rattle.std.specs.Map.Iter.{TakesFirst};
 ghost use Rattle.tl_spec.specs.SelectorMeaning.{AreMatches, has_joint};
@@ -46,7 +46,8 @@ pub fn matches_between<'s, 'n, N: Element>(
     to: usize,
 ) -> Result<Matches<'s, 'n, N>, AllocError>
     requires { length nodes.now < 2 ^ 32 }
-    ensures found { IfOk result (λ numbers. AreMatches (map N.node nodes.now) (selector_of selector.entry) from to numbers) }
+    ensures found { IfOk result (λ numbers. AreMatches (map N.node nodes.now)
+        (selector_of selector.entry) from to numbers) }
 
     // Where it asks for no ancestors it takes no memory.
     ensures alone { has_joint (selector_of selector.entry) ≡ false → IsOk result }
@@ -83,12 +84,24 @@ impl<'s, 'n, N: Element> FusedIterator for Matches<'s, 'n, N> {}
 impl<'s, 'n, N: Element> Clone for Matches<'s, 'n, N> {
     ghost is_clone = { λ x y. y ≡ x };
 
+    // Where none is left a clone takes no memory.
+    ghost is_infallible = { λ m. m ≡ [] };
+
     fn clone(&self) -> Result<Matches<'s, 'n, N>, AllocError> {
-        Ok(Matches {
-            test: self.test.clone()?,
-            nodes: self.nodes,
-            place: self.place,
-            end: self.end,
-        })
+        match first_found(&self.test, self.nodes, self.place, self.end) {
+            Some(place) => Ok(Matches {
+                test: self.test.clone()?,
+                nodes: self.nodes,
+                place,
+                end: self.end,
+            }),
+            // At its end any test finds none.
+            None => Ok(Matches {
+                test: Test::Alone(Selector::All),
+                nodes: self.nodes,
+                place: self.end,
+                end: self.end,
+            }),
+        }
     }
 }

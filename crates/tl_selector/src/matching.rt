@@ -49,7 +49,8 @@ pub fn holds_alone<E: Element>(e: &Selector<'_>, node: &E) -> bool
 
 // The same of one that has no sides.
 fn is_met<E: Element>(e: &Selector<'_>, node: &E) -> bool
-    ensures { has_sides (selector e.now) ≡ false → (IsTrue result ↔ HoldsAlone (selector e.now) (E.node node.now)) }
+    ensures { has_sides (selector e.now) ≡ false
+        → (IsTrue result ↔ HoldsAlone (selector e.now) (E.node node.now)) }
 {
     match e {
         Selector::Tag(name) => node.name() == Some(*name),
@@ -85,7 +86,8 @@ fn value_at<'n, E: Element>(node: &'n E, key: &[u8]) -> Option<&'n [u8]>
 
 /// Whether it holds at the node of a number alone: not past the last one.
 pub fn holds_alone_at<N: Element>(e: &Selector<'_>, nodes: &[N], number: usize) -> bool
-    ensures { result ≡ option_map_or (holds_alone (selector e.now)) (slice_get (map N.node nodes.now) number) false }
+    ensures { result ≡ option_map_or (holds_alone (selector e.now))
+        (slice_get (map N.node nodes.now) number) false }
 {
     match nodes.get(number) {
         Some(node) => holds_alone(e, node),

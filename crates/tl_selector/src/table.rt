@@ -64,7 +64,8 @@ fn holds_at<N: Element>(
     nodes: &[N],
     number: usize,
 ) -> Result<bool, AllocError>
-    ensures held { IfOk result (λ held. IsTrue held ↔ Holds (map N.node nodes.now) (selector e.now) number) }
+    ensures held { IfOk result (λ held. IsTrue held
+        ↔ Holds (map N.node nodes.now) (selector e.now) number) }
     ensures alone { has_joint (selector e.now) ≡ false → IsOk result }
 {
     if has_joint(e) {
@@ -79,12 +80,16 @@ impl<'a> Selector<'a> {
     /// Whether it holds at the node that the handle names, where whatever nodes of the table have it among their
     /// children, or their children's, count as its ancestors.
     pub fn matches_in<T: Table>(&self, table: &T, handle: T::Handle) -> Result<bool, T::Fault>
-        ensures held { IfOk result (λ held. IsTrue held ↔ Holds (T.shown table.now) (selector self.now) (T.number handle)) }
-        ensures dangling { length (T.shown table.now) ≤ T.number handle → result ≡ Err (T.dangling handle) }
-        ensures err { T.number handle < length (T.shown table.now) → IfErr result (λ fault. fault ≡ T.out_of_memory) }
+        ensures held { IfOk result (λ held. IsTrue held
+            ↔ Holds (T.shown table.now) (selector self.now) (T.number handle)) }
+        ensures dangling { length (T.shown table.now) ≤ T.number handle
+            → result ≡ Err (T.dangling handle) }
+        ensures err { T.number handle < length (T.shown table.now)
+            → IfErr result (λ fault. fault ≡ T.out_of_memory) }
 
         // Without ancestors to look for it takes no memory.
-        ensures alone { has_joint (selector self.now) ≡ false → T.number handle < length (T.shown table.now) → IsOk result }
+        ensures alone { has_joint (selector self.now) ≡ false
+            → T.number handle < length (T.shown table.now) → IsOk result }
     {
         let number = table.number(handle) as usize;
         let nodes = table.nodes();

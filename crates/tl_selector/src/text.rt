@@ -40,7 +40,8 @@ impl<'a> Parser<'a> {
     #[tactic(auto, using(crate::proofs::TextParts::selector_found, crate::proofs::TextParts::selector_none))]
     pub fn selector(&mut self, alloc: Global) -> Result<Option<Selector<'a>>, AllocError>
         ensures found { IfOk result (λ o. IfSome o (λ e. IsSelectorText self.old (selector e))) }
-        ensures none { IfOk result (λ o. IfNone o ((e : s.Selector) → IsSelectorText self.old e → ⊥)) }
+        ensures none { IfOk result (λ o. IfNone o
+            ((e : s.Selector) → IsSelectorText self.old e → ⊥)) }
 
         // Nothing is left then,
         ensures end { OnOk result (self.new ≡ []) }

@@ -24,17 +24,6 @@ done-next later d e (Err x) h = absurd (apart (0, x) (ap (λ (w : Edited). w.ref
     apart r same = cc
 
 module _ (c : Change) (e : Document) where
-  -- one more edit
-  pub edited_all-taken : (cs : List Change) (d f : Document) (i : ℕ) → edited_all (take i cs) d ≡ done e → slice_get cs i ≡ Some c → edited c e ≡ Ok f → edited_all (take (suc i) cs) d ≡ done f
-  edited_all-taken [] d f i before here ok = cc
-  edited_all-taken (b ∷ cs) d f zero before here ok =
-      let first : b ≡ c = cc in
-      let start : d ≡ e = ap (λ (w : Edited). w.document) before in
-      (λ t. next done d (edited (first t) (start t))) ∙ ap (next done d) ok
-  edited_all-taken (b ∷ cs) d f (suc i) before here ok =
-      let first = done-next (edited_all (take i cs)) d e (edited b d) before in
-      ap (next (edited_all (take (suc i) cs)) d) first.1 ∙ ap one_later (edited_all-taken cs first.0 f i first.2 here ok)
-
   -- an edit that is refused
   pub edited_all-refused : (cs : List Change) (d : Document) (i : ℕ) (refusal : Refusal) → edited_all (take i cs) d ≡ done e → slice_get cs i ≡ Some c → edited c e ≡ Err refusal → edited_all cs d ≡ stopped i refusal e
   edited_all-refused [] d i refusal before here refuses = cc

@@ -1,5 +1,5 @@
 -- Faults, prints and texts of a walk are read from its events.
-use Rattle.std.proofs.Common.{◌≡◌, ℕ, zero, suc, Bool, true, false, not, if◌then◌else◌, List, [], ◌∷◌, ◌++◌, length, flat_map, Option, Some, None, Ok, refl, ap, ap₂, sym, ◌∙◌, append_assoc, append-nil}
+use Rattle.std.proofs.Common.{◌≡◌, ℕ, zero, suc, Bool, true, false, not, if◌then◌else◌, List, [], ◌∷◌, ◌++◌, length, flat_map, Option, Some, None, refl, ap, ap₂, sym, ◌∙◌, append_assoc}
 use Rattle.std.specs.Prelude.{⊤}
 use Rattle.std.specs.List.{slice_get, AllByRecursion}
 use Rattle.std.proofs.lemmas.List.Concat.{flat_map-append}
@@ -7,9 +7,9 @@ use Rattle.std.specs.Str.Lossy.{utf8_lossy}
 use Rattle.tl_spec.specs.ByteClass.{is_printed_alone}
 use Rattle.tl_spec.specs.Clean.{HaveOwnKeys, MeetsOwnKeys}
 use Rattle.tl_spec.specs.Document.{Comment, Node, Raw, Tag, TagNode}
-use Rattle.tl_spec.specs.Print.{inner_html, outer_html, print, print_end, print_start, printed}
-use Rattle.tl_spec.specs.Text.{inner_text, text_of, event_text}
-use Rattle.tl_spec.specs.Walk.{Cycle, Dangling, Event, TreeFault, Walk, answer, end, events, every, fault_among, faulty, first_fault, handle_walk, leaves, meets, meets_comment, meets_fault, meets_tag, meets_text, node_walk, or_else, passes_tag, plain_node, row_walk, shows, stands_on, tag_walk, trees, unless, walk, walk_of, walk_within}
+use Rattle.tl_spec.specs.Print.{print, print_end, print_start, printed}
+use Rattle.tl_spec.specs.Text.{text_of, event_text}
+use Rattle.tl_spec.specs.Walk.{Cycle, Dangling, Event, TreeFault, Walk, end, events, fault_among, faulty, first_fault, handle_walk, leaves, meets, meets_comment, meets_fault, meets_tag, meets_text, node_walk, or_else, passes_tag, plain_node, row_walk, shows, stands_on, tag_walk, trees, walk, walk_of, walk_within}
 use Rattle.tl_spec.proofs.Walks.{walk-cons, walk-nil}
 
 -- faults
@@ -145,9 +145,6 @@ module _ (enters : List ℕ → Bool) (nodes : List Node) where
   pub Enters-walk : (path hs : List ℕ) → Enters enters (walk enters nodes path hs)
   Enters-walk = Enters-within (length nodes)
 
-  pub Enters-walk_of : (node : Node) → Enters enters (walk_of enters nodes node)
-  Enters-walk_of node = Enters-node (walk enters nodes []) (Enters-walk []) 0 end tt node
-
 -- prints
 
 if_flipped : (b v : Bool) (s t : List ℕ) → not b ≡ v → (if b then s else t) ≡ (if v then t else s)
@@ -184,16 +181,7 @@ print-events (meets_fault e more) shown = print-events more shown
 pub print-walk : (nodes : List Node) (path hs : List ℕ) → print (trees (walk shows nodes path hs)) ≡ flat_map printed (events (walk shows nodes path hs))
 print-walk nodes path hs = print-events (walk shows nodes path hs) (Enters-walk shows nodes path hs)
 
-pub print-walk_of : (nodes : List Node) (node : Node) → print (trees (walk_of shows nodes node)) ≡ flat_map printed (events (walk_of shows nodes node))
-print-walk_of nodes node = print-events (walk_of shows nodes node) (Enters-walk_of shows nodes node)
-
 -- answers: the first fault among the events, or what all of them say
-
-pub answer-printed : (w : Walk) → Enters shows w → answer print w ≡ unless (fault_among (events w)) (flat_map printed (events w))
-answer-printed w shown = ap₂ unless (first_fault-events w) (print-events w shown)
-
-pub answer-event_text : (w : Walk) → answer text_of w ≡ unless (fault_among (events w)) (flat_map event_text (events w))
-answer-event_text w = ap₂ unless (first_fault-events w) (text_of-events w)
 
 -- calls on a node, by the events below it
 
@@ -201,52 +189,4 @@ or_else-none : (o : Option TreeFault) → or_else o None ≡ o
 or_else-none None = refl
 or_else-none (Some e) = refl
 
--- a tag that is printed alone
-pub outer_html-alone : (nodes : List Node) (own : TagNode) → is_printed_alone own.name ≡ true → outer_html nodes (Tag own) ≡ Ok (print_start (plain_node own))
-outer_html-alone nodes own alone =
-    let start : List ℕ = print_start (plain_node own) in
-    ap (answer print) (walk_of-passed shows nodes own (ap not alone))
-    ∙ ap (λ s. Ok ((start ++ s) ++ [])) (if_flipped (is_printed_alone own.name) false [] (print_end (plain_node own)) (ap not alone))
-    ∙ ap Ok (append-nil (start ++ []) ∙ append-nil start)
-
--- every other tag
-pub outer_html-tag : (nodes : List Node) (own : TagNode) → is_printed_alone own.name ≡ false → (es : List Event) → es ≡ events (walk shows nodes [] own.children.items) →
-    outer_html nodes (Tag own) ≡ unless (fault_among es) (print_start (plain_node own) ++ (flat_map printed es ++ print_end (plain_node own)))
-outer_html-tag nodes own shown es is =
-    let start : List ℕ = print_start (plain_node own) in
-    let end_tag : List ℕ = print_end (plain_node own) in
-    let below : Walk = walk shows nodes [] own.children.items in
-    let inner : List ℕ = print (trees below) in
-    let whole : (start ++ (if is_printed_alone own.name then [] else inner ++ end_tag)) ++ [] ≡ start ++ (inner ++ end_tag) =
-    append-nil (start ++ (if is_printed_alone own.name then [] else inner ++ end_tag))
-    ∙ ap (λ s. start ++ s) (if_flipped (is_printed_alone own.name) true [] (inner ++ end_tag) (ap not shown)) in
-    let fault : or_else (first_fault below) None ≡ fault_among es = or_else-none (first_fault below) ∙ first_fault-events below ∙ ap fault_among (sym is) in
-    let text : inner ≡ flat_map printed es = print-walk nodes [] own.children.items ∙ ap (flat_map printed) (sym is) in
-    ap (answer print) (walk_of-tag shows nodes own (ap not shown))
-    ∙ ap₂ unless fault (whole ∙ ap (λ s. start ++ (s ++ end_tag)) text)
-
-pub inner_html-tag : (nodes : List Node) (own : TagNode) (es : List Event) → es ≡ events (walk shows nodes [] own.children.items) →
-    inner_html nodes (Tag own) ≡ unless (fault_among es) (flat_map printed es)
-inner_html-tag nodes own es is =
-    answer-printed (walk shows nodes [] own.children.items) (Enters-walk shows nodes [] own.children.items) ∙ ap (λ es. unless (fault_among es) (flat_map printed es)) (sym is)
-
-pub inner_text-tag : (nodes : List Node) (own : TagNode) (es : List Event) → es ≡ events (walk every nodes [] own.children.items) →
-    inner_text nodes (Tag own) ≡ unless (fault_among es) (flat_map event_text es)
-inner_text-tag nodes own es is =
-    let below : Walk = walk every nodes [] own.children.items in
-    ap₂ unless (or_else-none (first_fault below) ∙ first_fault-events below) (append-nil (text_of (trees below)) ∙ text_of-events below)
-    ∙ ap (λ es. unless (fault_among es) (flat_map event_text es)) (sym is)
-
 -- texts and comments
-
-pub outer_html-text : (nodes : List Node) (bytes : List ℕ) → outer_html nodes (Raw bytes) ≡ Ok (utf8_lossy bytes)
-outer_html-text nodes bytes = ap Ok (append-nil (utf8_lossy bytes))
-
-pub outer_html-comment : (nodes : List Node) (bytes : List ℕ) → outer_html nodes (Comment bytes) ≡ Ok (utf8_lossy bytes)
-outer_html-comment nodes bytes = ap Ok (append-nil (utf8_lossy bytes))
-
-pub inner_text-text : (nodes : List Node) (bytes : List ℕ) → inner_text nodes (Raw bytes) ≡ Ok (utf8_lossy bytes)
-inner_text-text nodes bytes = ap Ok (append-nil (utf8_lossy bytes))
-
-pub inner_text-comment : (nodes : List Node) (bytes : List ℕ) → inner_text nodes (Comment bytes) ≡ Ok []
-inner_text-comment nodes bytes = refl

@@ -9,7 +9,7 @@ use Rattle.tl_spec.specs.ByteClass.{bang, ends_value, equals, greater, is_blank,
 use Rattle.tl_spec.specs.Runs.{after, front, past}
 use Rattle.tl_spec.specs.Attribute.{Pair, attribute, attributes, next_attribute, optional_value, past_blanks, past_end, value}
 use Rattle.tl_spec.specs.Grammar.{AttributeStands, AttributesStand, Begins, EndPassed, EndsWithFirst, IsRun, IsUpTo, MarkupStands, TagStands, Stops, TokenStands, ValueStands, WordStands, another, at_end, attribute_parts, bare, closing, comment_closed, comment_cut, doctype_word, end_closed, end_cut, left, markup_after, tag_parts, no_markup, no_more, no_value, other_word, passed, quoted, start_alone, start_cut, start_open, start_slash, text_up_to, word_parts}
-use Rattle.tl_spec.specs.Token.{Comment, Doctype, End, Nothing, Text, Token, closed, comment_token, declaration, doctype, end_tag, markup, next_token, self_closed, start_tag, word}
+use Rattle.tl_spec.specs.Token.{Comment, Doctype, End, Nothing, Text, Token, closed, comment_token, declaration, doctype, end_tag, markup, next_token, token_after_slash, start_tag, word}
 use Rattle.tl_spec.proofs.Bytes.{all-run, past-append, past-stops, take_while-append, take_while-yes}
 use Rattle.tl_spec.proofs.Comments.{front-append, starts_same}
 use Rattle.tl_spec.proofs.Many.{IsRow, next, row-exists, row-is, stop}
@@ -177,9 +177,9 @@ module _ (whole : List ℕ) where
       if_no _ _ _ (begins-no (codes "--") s h)
       ∙ (λ i. if str_eq_ignore_ascii_case (run-take n i) (codes "doctype") then doctype (after_word i) else (Nothing, after_word i))
 
-  self_closed-open : (name : List ℕ) (pairs : List Pair) (s : List ℕ) → Stops (λ b. b == greater) s → self_closed name pairs s ≡ (Nothing, s)
-  self_closed-open name pairs [] h = refl
-  self_closed-open name pairs (b ∷ s) h = if_no _ _ _ h
+  token_after_slash-open : (name : List ℕ) (pairs : List Pair) (s : List ℕ) → Stops (λ b. b == greater) s → token_after_slash name pairs s ≡ (Nothing, s)
+  token_after_slash-open name pairs [] h = refl
+  token_after_slash-open name pairs (b ∷ s) h = if_no _ _ _ h
 
   pub markup-is : {opening m rest : List ℕ} {k : Token} → MarkupStands opening m k rest → whole ≡ opening ++ m → markup whole m ≡ (k, rest)
   markup-is (end_closed r) e = λ i. (End (run-take r i), drop 1 (run-past r i))
@@ -197,7 +197,7 @@ module _ (whole : List ℕ) where
   markup-is (start_alone n) e = name-is n
   markup-is no_markup e = refl
   markup-is (other_word w h) e = word-is w ∙ if_no _ _ _ h
-  markup-is (start_slash {name = name} {rest = rest} {pairs = pairs} n h) e = name-is n ∙ self_closed-open name pairs rest h
+  markup-is (start_slash {name = name} {rest = rest} {pairs = pairs} n h) e = name-is n ∙ token_after_slash-open name pairs rest h
   markup-is (start_cut n) e = name-is n
 
 text-is : (t xs rest : List ℕ) → xs ≢ [] → IsUpTo (λ b. b == less) t xs rest → next_token t ≡ Some (Text xs, rest)
@@ -232,7 +232,7 @@ module _ (opening : List ℕ) where
       not_false true e = refl
       not_false false e = sym e
 
-  open_stands : (m name s : List ℕ) (pairs : List Pair) → TagStands m name pairs (slash ∷ s) → MarkupStands opening m (self_closed name pairs s).0 (self_closed name pairs s).1
+  open_stands : (m name s : List ℕ) (pairs : List Pair) → TagStands m name pairs (slash ∷ s) → MarkupStands opening m (token_after_slash name pairs s).0 (token_after_slash name pairs s).1
   open_stands m name [] pairs n = start_slash n tt
   open_stands m name (b ∷ s) pairs n = if_both (λ (v : Token × List ℕ). MarkupStands opening m v.0 v.1) (b == greater) _ _
       (λ h. start_alone (subst (λ b. TagStands m name pairs (slash ∷ b ∷ s)) (eqb-true b greater h) n))

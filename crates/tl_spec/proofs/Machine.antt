@@ -1,17 +1,14 @@
 -- What one step of the machine keeps, and what many keep.
-use Rattle.std.proofs.Common.{◌≡◌, ℕ, zero, suc, ◌+◌, ◌<◌, ◌≤◌, ◌≢◌, ◌||◌, ◌⊎◌, inl, inr, Bool, true, false, List, [], ◌∷◌, ◌++◌, length, Some, refl, sym, ◌∙◌, ap, subst, arith, set, length-append}
+use Rattle.std.proofs.Common.{◌≡◌, ℕ, zero, suc, ◌+◌, ◌≤◌, ◌||◌, ◌⊎◌, inl, inr, Bool, true, false, List, [], ◌∷◌, ◌++◌, length, Some, refl, sym, ◌∙◌, ap, subst, arith, length-append}
 use Rattle.std.specs.Prelude.{slice_get}
 use Rattle.std.specs.List.{list_any}
 use Rattle.std.proofs.Math.Bool.{or-false}
-use Rattle.std.proofs.lemmas.Option.{slice_get_within}
-use Rattle.std.proofs.lemmas.List.Elements.{All-nil, All-cons, All-tail, All-weaker, All-head, All-same}
-use Rattle.std.proofs.lemmas.List.Sums.{fold-append, fold_push}
+use Rattle.std.proofs.lemmas.List.Elements.{All-nil, All-cons, All-tail, All-weaker, All-same}
 use Rattle.tl_spec.specs.ByteClass.{is_void}
 use Rattle.tl_spec.specs.Token.{Token, PlacedToken, Text, End, Comment, Doctype, Start, Nothing}
-use Rattle.tl_spec.specs.Grammar.{StandFrom}
 use Rattle.tl_spec.specs.Forest.{closes}
 use Rattle.tl_spec.specs.Document.{Node, TagNode, Tag, Raw, Comment as Remark, is_html5_doctype}
-use Rattle.tl_spec.specs.Machine.{State, start, change_at, with_child, with_raw_to, name_of, enclosing_name, adopted_by, adopted, added, opened, closed_by, closed, start_node, after_start, after_end, after_token, step, run, IsOpen, AreOpen}
+use Rattle.tl_spec.specs.Machine.{State, start, change_at, with_child, with_raw_to, enclosing_name, adopted_by, adopted, added, opened, closed_by, closed, start_node, after_start, after_end, after_token, step, run, IsOpen, AreOpen}
 
 -- a list with one item changed
 
@@ -19,18 +16,6 @@ pub length-change_at : {A : Type 0} (f : A → A) (i : ℕ) (xs : List A) → le
 length-change_at f i [] = refl
 length-change_at f zero (x ∷ xs) = refl
 length-change_at f (suc i) (x ∷ xs) = ap suc (length-change_at f i xs)
-
--- as a write of the changed item
-pub change_at-set : {A : Type 0} (f : A → A) (i : ℕ) (xs : List A) (x : A) → slice_get xs i ≡ Some x → change_at f i xs ≡ set xs i (f x)
-change_at-set f i [] x e = refl
-change_at-set f zero (y ∷ xs) x e = let same : y ≡ x = cc in ap (λ z. f z ∷ xs) same
-change_at-set f (suc i) (y ∷ xs) x e = ap (λ ys. y ∷ ys) (change_at-set f i xs x e)
-
--- past the end nothing changes
-pub change_at-past : {A : Type 0} (f : A → A) (i : ℕ) (xs : List A) → length xs ≤ i → change_at f i xs ≡ xs
-change_at-past f i [] h = refl
-change_at-past f zero (x ∷ xs) h = absurd (omega arith)
-change_at-past f (suc i) (x ∷ xs) h = ap (λ ys. x ∷ ys) (change_at-past f i xs (omega arith))
 
 pub change_at-middle : {A : Type 0} (f : A → A) (before : List A) (x : A) (after : List A) → change_at f (length before) (before ++ x ∷ after) ≡ before ++ f x ∷ after
 change_at-middle f [] x after = refl
@@ -45,18 +30,6 @@ slice_get-append [] ys i x e = absurd (cc)
 slice_get-append (y ∷ xs) ys zero x e = e
 slice_get-append (y ∷ xs) ys (suc i) x e = slice_get-append xs ys i x e
 
-pub slice_get-change_at : {A : Type 0} (f : A → A) (i : ℕ) (xs : List A) (x : A) → slice_get xs i ≡ Some x → slice_get (change_at f i xs) i ≡ Some (f x)
-slice_get-change_at f i [] x e = absurd (cc)
-slice_get-change_at f zero (y ∷ xs) x e = let same : y ≡ x = cc in ap (λ z. Some (f z)) same
-slice_get-change_at f (suc i) (y ∷ xs) x e = slice_get-change_at f i xs x e
-
-pub slice_get-change_at_other : {A : Type 0} (f : A → A) (i j : ℕ) (xs : List A) → j ≢ i → slice_get (change_at f i xs) j ≡ slice_get xs j
-slice_get-change_at_other f i j [] ne = refl
-slice_get-change_at_other f zero zero (x ∷ xs) ne = absurd (ne refl)
-slice_get-change_at_other f zero (suc j) (x ∷ xs) ne = refl
-slice_get-change_at_other f (suc i) zero (x ∷ xs) ne = refl
-slice_get-change_at_other f (suc i) (suc j) (x ∷ xs) ne = slice_get-change_at_other f i j xs (λ e. ne (ap suc e))
-
 -- an item is changed or not
 slice_get-change_at_either : {A : Type 0} (f : A → A) (i j : ℕ) (xs : List A) (x : A) → slice_get xs j ≡ Some x →
     (slice_get (change_at f i xs) j ≡ Some x) ⊎ (slice_get (change_at f i xs) j ≡ Some (f x))
@@ -67,16 +40,6 @@ slice_get-change_at_either f (suc i) zero (y ∷ xs) x e = inl e
 slice_get-change_at_either f (suc i) (suc j) (y ∷ xs) x e = slice_get-change_at_either f i j xs x e
 
 -- where a number goes, by the open tags
-
-pub adopted-top : (n : ℕ) (s : State) → s.open_tags ≡ [] → adopted n s ≡ record s { top = s.top ++ n ∷ [] }
-adopted-top n s e = ap (adopted_by n s) e
-
-pub adopted-inside : (n : ℕ) (s : State) (p : ℕ) (ps : List ℕ) → s.open_tags ≡ p ∷ ps → adopted n s ≡ record s { nodes = change_at (with_child n) p s.nodes }
-adopted-inside n s p ps e = ap (adopted_by n s) e
-
-pub closed-inside : (t : List ℕ) (to : ℕ) (s : State) (p : ℕ) (ps : List ℕ) → s.open_tags ≡ p ∷ ps →
-    closed t to s ≡ record s { nodes = change_at (with_raw_to t to) p s.nodes; open_tags = ps }
-closed-inside t to s p ps e = ap (closed_by t to s) e
 
 adopted_by-open_tags : (n : ℕ) (s : State) (ps : List ℕ) → (adopted_by n s ps).open_tags ≡ s.open_tags
 adopted_by-open_tags n s [] = refl
@@ -94,9 +57,6 @@ length-adopted_by n s (p ∷ ps) = length-change_at (with_child n) p s.nodes
 pub length-added : (x : Node) (s : State) → length (added x s).nodes ≡ length s.nodes + 1
 length-added x s =
     length-append (adopted (length s.nodes) s).nodes (x ∷ []) ∙ ap (λ n. n + 1) (length-adopted_by (length s.nodes) s s.open_tags)
-
-pub length-opened : (x : Node) (s : State) → length (opened x s).nodes ≡ length s.nodes + 1
-length-opened x s = length-added x s
 
 length-closed_by : (t : List ℕ) (to : ℕ) (s : State) (ps : List ℕ) → length (closed_by t to s ps).nodes ≡ length s.nodes
 length-closed_by t to s [] = refl
@@ -127,9 +87,6 @@ grown-token t k s (Start name pairs alone) = grown-start t (start_node t k name 
 grown-token t k s (End name) = grown-end t k.to s (closes name (enclosing_name s.nodes s.open_tags))
 grown-token t k s (Doctype html) = (omega arith, omega arith)
 grown-token t k s Nothing = (omega arith, omega arith)
-
-pub length-step-ge : (t : List ℕ) (s : State) (k : PlacedToken) → length s.nodes ≤ length (step t s k).nodes
-length-step-ge t s k = (grown-token t k s k.token).0
 
 pub length-step-le : (t : List ℕ) (s : State) (k : PlacedToken) → length (step t s k).nodes ≤ length s.nodes + 1
 length-step-le t s k = (grown-token t k s k.token).1
@@ -179,9 +136,6 @@ run-html5 t s (k ∷ ks) =
 pub IsOpen-later : (i j : ℕ) (xs : List Node) (p : ℕ) → i ≤ j → IsOpen i xs p → IsOpen j xs p
 IsOpen-later i j xs p le h = record { own = h.own; found = h.found; begun = omega (arith, h.begun) }
 
-pub IsOpen-within : (i : ℕ) (xs : List Node) (p : ℕ) → IsOpen i xs p → p < length xs
-IsOpen-within i xs p h = slice_get_within xs p (Tag h.own) h.found
-
 pub IsOpen-append : (i : ℕ) (xs ys : List Node) (p : ℕ) → IsOpen i xs p → IsOpen i (xs ++ ys) p
 IsOpen-append i xs ys p h = record { own = h.own; found = slice_get-append xs ys p (Tag h.own) h.found; begun = h.begun }
 
@@ -215,17 +169,6 @@ AreOpen-start i = All-nil (IsOpen i [])
 
 pub AreOpen-later : (i j : ℕ) (s : State) → i ≤ j → AreOpen i s → AreOpen j s
 AreOpen-later i j s le h = All-weaker (IsOpen i s.nodes) (IsOpen j s.nodes) (λ p. IsOpen-later i j s.nodes p le) s.open_tags h
-
-pub AreOpen-innermost : (i : ℕ) (s : State) (p : ℕ) (ps : List ℕ) → AreOpen i s → s.open_tags ≡ p ∷ ps → IsOpen i s.nodes p
-AreOpen-innermost i s p ps h e = All-head (IsOpen i s.nodes) p ps (All-same (IsOpen i s.nodes) (p ∷ ps) s.open_tags (sym e) h)
-
--- the same where the first open tag is looked up
-pub AreOpen-first : (i : ℕ) (s : State) (p : ℕ) → AreOpen i s → slice_get s.open_tags 0 ≡ Some p → IsOpen i s.nodes p
-AreOpen-first i s p h e = first s.open_tags refl e
-  where
-    first : (ps : List ℕ) → s.open_tags ≡ ps → slice_get ps 0 ≡ Some p → IsOpen i s.nodes p
-    first [] is e = absurd (cc)
-    first (q ∷ ps) is e = let same : q ≡ p = cc in subst (IsOpen i s.nodes) same (AreOpen-innermost i s q ps h is)
 
 pub AreOpen-added : (i : ℕ) (x : Node) (s : State) → AreOpen i s → AreOpen i (added x s)
 AreOpen-added i x s h =
@@ -269,37 +212,4 @@ token-AreOpen t i k s le h Nothing = h
 pub AreOpen-step : (t : List ℕ) (place : ℕ) (s : State) (k : PlacedToken) → place ≤ k.from → k.from ≤ k.to → AreOpen place s → AreOpen k.to (step t s k)
 AreOpen-step t place s k low high h = token-AreOpen t k.to k s high (AreOpen-later place k.to s (omega arith) h) k.token
 
--- the name that an end tag is compared with
-pub enclosing_name-open : (i : ℕ) (xs : List Node) (p : ℕ) (ps : List ℕ) (h : IsOpen i xs p) → enclosing_name xs (p ∷ ps) ≡ Some h.own.name
-enclosing_name-open i xs p ps h = ap name_of h.found
-
 -- tokens in order
-
-pub run-cons : (t : List ℕ) (s : State) (k : PlacedToken) (ks : List PlacedToken) → run t s (k ∷ ks) ≡ run t (step t s k) ks
-run-cons t s k ks = refl
-
-pub run-append : (t : List ℕ) (s : State) (ks ls : List PlacedToken) → run t s (ks ++ ls) ≡ run t (run t s ks) ls
-run-append t s ks ls = fold-append (step t) s ks ls
-
-pub run-push : (t : List ℕ) (s : State) (ks : List PlacedToken) (k : PlacedToken) → run t s (ks ++ k ∷ []) ≡ step t (run t s ks) k
-run-push t s ks k = fold_push (step t) s ks k
-
--- the place after these tokens
-abbrev pub place_after : ℕ → List PlacedToken → ℕ
-place_after i [] = i
-place_after i (k ∷ ks) = place_after k.to ks
-
-pub place_after-all : (t : List ℕ) (i : ℕ) (ks : List PlacedToken) → StandFrom t i ks → place_after i ks ≡ length t
-place_after-all t i [] h = h
-place_after-all t i (k ∷ ks) h = place_after-all t k.to ks h.2
-
--- the first tokens of a text
-pub AreOpen-run : (t : List ℕ) (i : ℕ) (s : State) (ks more : List PlacedToken) → StandFrom t i (ks ++ more) → AreOpen i s → AreOpen (place_after i ks) (run t s ks)
-AreOpen-run t i s [] more stand h = h
-AreOpen-run t i s (k ∷ ks) more stand h =
-    AreOpen-run t k.to (step t s k) ks more stand.2 (AreOpen-step t i s k (omega (arith, stand.0)) (omega (arith, stand.0, stand.1.0)) h)
-
-pub length-run-le : (t : List ℕ) (i : ℕ) (s : State) (ks more : List PlacedToken) → StandFrom t i (ks ++ more) → length s.nodes ≤ i → length (run t s ks).nodes ≤ place_after i ks
-length-run-le t i s [] more stand h = h
-length-run-le t i s (k ∷ ks) more stand h =
-    length-run-le t k.to (step t s k) ks more stand.2 (omega (arith, stand.0, stand.1.0, length-step-le t s k))

@@ -5,7 +5,7 @@ use Rattle.std.proofs.lemmas.Bool.Decides.{nat_tests}
 use Rattle.std.proofs.lemmas.Slice.Eq.{bytes_eq-Decides}
 use Rattle.tl_spec.specs.Inline.{room, with_last}
 use Rattle.tl_spec.specs.Token.{PlacedToken, Start}
-use Rattle.tl_spec.specs.Forest.{Forest, none, text, comment, tag, SourceTag, Siblings, led_by, started, closes, siblings, forest, Makes, over, a_text, a_comment, alone, opened, ended, stray, a_doctype, dropped}
+use Rattle.tl_spec.specs.Forest.{Forest, none, text, comment, tag, SourceTag, Siblings, with_tree, source_tag, closes, siblings, forest, Makes, over, a_text, a_comment, alone, opened, ended, stray, a_doctype, dropped}
 use Rattle.tl_spec.specs.Document.{Node, Tag, Raw, Comment as Remark, held_items, size, numbers, tag_node, nodes}
 use Rattle.tl_spec.specs.Machine.{State, start, change_at, with_child, with_raw_to, name_of, enclosing_name, added, opened as entered, closed, after_start, after_end, run}
 use Rattle.tl_spec.proofs.Machine.{change_at-middle, slice_get-middle}
@@ -224,7 +224,7 @@ module _ (t : List ℕ) where
   -- one tree more, of the nodes xs
   one-more : (tree : Forest SourceTag → Forest SourceTag) (p : Frame) (bs xs : List Node) →
       ((v : Bool) (f : Forest SourceTag) → grown t (next p bs) (bs ++ xs) v f ≡ grown t p bs v (tree f)) →
-      (s : Siblings) (found more : List Node × List ℕ) → found ≡ more → Leads more s (next p bs) (bs ++ xs) → Leads found (led_by tree s) p bs
+      (s : Siblings) (found more : List Node × List ℕ) → found ≡ more → Leads more s (next p bs) (bs ++ xs) → Leads found (with_tree tree s) p bs
   one-more tree p bs xs grows s found more e h =
       (h.0, e ∙ h.1 ∙ ap (λ g. written (run t (shut t s.closed_at g) s.left)) (grows h.0 s.trees))
 
@@ -242,13 +242,13 @@ module _ (t : List ℕ) where
       (ap (λ s. written (run t s ks)) (added-is t p bs v x))
       (writes m (next p bs) (name_at-adopting p (count_at t p bs ∷ []) ∙ e) (bs ++ x ∷ []) v)
   writes (alone {name = name} {pairs = pairs} {c = c} {i = i} {j = j} {ks = ks} {s = s} stands m) p e bs v =
-      let own : SourceTag = started (record { token = Start name pairs c; from = i; to = j }) name pairs in
+      let own : SourceTag = source_tag (record { token = Start name pairs c; from = i; to = j }) name pairs in
       let x : Node = Tag (tag_node t own []) in
       one-more (tag own none) p bs (x ∷ []) (grown-tag t p bs own none) s _ _
       (ap (λ b. written (run t (after_start t x (state t p bs v) b) ks)) stands ∙ ap (λ s. written (run t s ks)) (added-is t p bs v x))
       (writes m (next p bs) (name_at-adopting p (count_at t p bs ∷ []) ∙ e) (bs ++ x ∷ []) v)
   writes (opened {name = name} {pairs = pairs} {c = c} {i = i} {j = j} {ks = ks} {inner = inner} {s = s} opens children m) p e bs v =
-      let own : SourceTag = started (record { token = Start name pairs c; from = i; to = j }) name pairs in
+      let own : SourceTag = source_tag (record { token = Start name pairs c; from = i; to = j }) name pairs in
       let whole : SourceTag = record own { to = unwrap_or inner.closed_at j } in
       let x : Node = Tag (tag_node t own []) in
       let xs : List Node = tag_nodes t (count_at t p bs) whole inner.trees in

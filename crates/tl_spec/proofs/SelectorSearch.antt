@@ -10,7 +10,7 @@ use Rattle.tl_spec.specs.Element.{children_of}
 use Rattle.tl_spec.specs.Scan.{places_from, PassesAt, ArePlaces}
 use Rattle.tl_spec.specs.Selector.{Selector, And, Or, Descendant, Parent}
 use Rattle.tl_spec.specs.SelectorMeaning.{HoldsAlone, IsChild, IsChain, IsBelow, Holds, AreMatches}
-use Rattle.tl_spec.specs.SelectorSearch.{holds_alone, numbers, is_child, is_below_by, is_below, holds, matches_between}
+use Rattle.tl_spec.specs.SelectorSearch.{holds_alone, node_numbers, is_child, is_below_by, is_below, holds, matches_between}
 use Rattle.tl_spec.proofs.Scans.{places_are, places_only}
 use Rattle.tl_spec.proofs.SelectorTests.{any-contained, some-passes, holds_alone-is}
 
@@ -101,12 +101,12 @@ module _ (nodes : List Node) where
   joined (l ∷ ls) x m n (inr a) (inr h) (inl g) = inr (h.0, joined ls x l n a h.1 g)
   joined (l ∷ ls) x m n (inr a) (inr h) (inr g) = inr (h.0, g.1)
 
-  chain-below : (k m n : ℕ) → IsChain nodes k m n → IsBelowBy (numbers nodes) m n
-  chain-below zero m n h = child-below (numbers nodes) m n h
+  chain-below : (k m n : ℕ) → IsChain nodes k m n → IsBelowBy (node_numbers nodes) m n
+  chain-below zero m n h = child-below (node_numbers nodes) m n h
   chain-below (suc k) m n h =
-      joined (numbers nodes) h.0 m n (among-range 0 (length nodes) h.0 (omega arith) (omega (arith, chain-to k m h.0 h.1)))
+      joined (node_numbers nodes) h.0 m n (among-range 0 (length nodes) h.0 (omega arith) (omega (arith, chain-to k m h.0 h.1)))
       (chain-below k m h.0 h.1)
-      (child-below (numbers nodes) h.0 n h.2)
+      (child-below (node_numbers nodes) h.0 n h.2)
 
   -- and a way is a chain
   below-then : (m l n k : ℕ) → IsBelow nodes m l → IsChain nodes k l n → IsBelow nodes m n
@@ -119,13 +119,13 @@ module _ (nodes : List Node) where
   by-below (l ∷ ls) m n (inr h) = let second = by-below ls l n h.1 in below-then m l n second.0 (by-below ls m l h.0) second.1
 
   is_below-is : (m n : ℕ) → Decides (is_below nodes m n) (IsBelow nodes m n)
-  is_below-is m n = Decides-like (is_below nodes m n) (by-below (numbers nodes) m n) (λ h. chain-below h.0 m n h.1) (is_below_by-is (numbers nodes) m n)
+  is_below-is m n = Decides-like (is_below nodes m n) (by-below (node_numbers nodes) m n) (λ h. chain-below h.0 m n h.1) (is_below_by-is (node_numbers nodes) m n)
 
   -- some ancestor where a selector holds
   ancestor-is : (p : ℕ → Bool) (P : ℕ → Type 0) → ((m : ℕ) → Decides (p m) (P m)) → (r : ℕ → ℕ → Bool) (R : ℕ → ℕ → Type 0) → ((m n : ℕ) → Decides (r m n) (R m n)) → ((m n : ℕ) → R m n → m < length nodes)
-      → (n : ℕ) → Decides (list_any (λ m. p m && r m n) (numbers nodes)) ((m : ℕ) × P m × R m n)
+      → (n : ℕ) → Decides (list_any (λ m. p m && r m n) (node_numbers nodes)) ((m : ℕ) × P m × R m n)
   ancestor-is p P holding r R related within n =
-      Decides-like (list_any (λ m. p m && r m n) (numbers nodes)) (λ h. (h.0, h.3.0, h.3.1)) (λ h. (h.0, omega arith, omega (arith, within h.0 n h.2), (h.1, h.2)))
+      Decides-like (list_any (λ m. p m && r m n) (node_numbers nodes)) (λ h. (h.0, h.3.0, h.3.1)) (λ h. (h.0, omega arith, omega (arith, within h.0 n h.2), (h.1, h.2)))
       (any-number (λ m. p m && r m n) (λ m. P m × R m n) (λ m. Decides-and (p m) (r m n) (holding m) (related m n)) 0 (length nodes))
 
   base-is : (e : Selector) (n : ℕ) → Decides (option_map_or (holds_alone e) (slice_get nodes n) false) (IsSomeAnd (slice_get nodes n) (HoldsAlone e))
@@ -136,11 +136,11 @@ module _ (nodes : List Node) where
   holds-is (Or a b) n = Decides-or (holds nodes a n) (holds nodes b n) (holds-is a n) (holds-is b n)
   holds-is (Descendant a b) n =
       Decides-like (holds nodes (Descendant a b) n) (λ h. (h.0, h.1.0, h.1.1, h.1.2)) (λ h. (h.0, (h.1, h.2, h.3)))
-      (Decides-and (holds nodes b n) (list_any (λ m. holds nodes a m && is_below nodes m n) (numbers nodes)) (holds-is b n)
+      (Decides-and (holds nodes b n) (list_any (λ m. holds nodes a m && is_below nodes m n) (node_numbers nodes)) (holds-is b n)
       (ancestor-is (holds nodes a) (Holds nodes a) (holds-is a) (is_below nodes) (IsBelow nodes) is_below-is (λ m n h. chain-from h.0 m n h.1) n))
   holds-is (Parent a b) n =
       Decides-like (holds nodes (Parent a b) n) (λ h. (h.0, h.1.0, h.1.1, h.1.2)) (λ h. (h.0, (h.1, h.2, h.3)))
-      (Decides-and (holds nodes b n) (list_any (λ m. holds nodes a m && is_child nodes m n) (numbers nodes)) (holds-is b n)
+      (Decides-and (holds nodes b n) (list_any (λ m. holds nodes a m && is_child nodes m n) (node_numbers nodes)) (holds-is b n)
       (ancestor-is (holds nodes a) (Holds nodes a) (holds-is a) (is_child nodes) (IsChild nodes) is_child-is parent-within n))
   holds-is e n = base-is e n
 
@@ -189,15 +189,15 @@ module _ (nodes : List Node) (e : Selector) (from to : ℕ) where
       (Decides-and (nat_le from n) (nat_lt n to) (leb-true from n, le-leb from n) (Decides-ltb n to))
       (holds-is nodes e n))
 
-  passing : (n : ℕ) → Passes n ↔ PassesAt passes (numbers nodes) n
+  passing : (n : ℕ) → Passes n ↔ PassesAt passes (node_numbers nodes) n
   passing n = let at = passes-is passes (length nodes) n in (λ h. at.1 (holds-within nodes e n h.2, (passes-decided n).1 h), λ h. (passes-decided n).0 (at.0 h).1)
 
   pub matches-only : (ns : List ℕ) → AreMatches nodes e from to ns → ns ≡ matches_between nodes e from to
   matches-only ns h =
-      let places : ArePlaces passes (numbers nodes) ns = record { rising = h.rising; passing = λ n. (λ c. (passing n).0 ((h.each n).0 c), λ g. (h.each n).1 ((passing n).1 g)) } in
-      places_only passes (numbers nodes) ns places ∙ sym (filter-places passes 0 (length nodes))
+      let places : ArePlaces passes (node_numbers nodes) ns = record { rising = h.rising; passing = λ n. (λ c. (passing n).0 ((h.each n).0 c), λ g. (h.each n).1 ((passing n).1 g)) } in
+      places_only passes (node_numbers nodes) ns places ∙ sym (filter-places passes 0 (length nodes))
 
   pub matches-are : (ns : List ℕ) → ns ≡ matches_between nodes e from to → AreMatches nodes e from to ns
   matches-are ns h =
-      let places = places_are passes (numbers nodes) ns (h ∙ filter-places passes 0 (length nodes)) in
+      let places = places_are passes (node_numbers nodes) ns (h ∙ filter-places passes 0 (length nodes)) in
       record { rising = places.rising; each = λ n. (λ c. (passing n).1 ((places.passing n).0 c), λ g. (places.passing n).1 ((passing n).0 g)) }

@@ -9,7 +9,7 @@ use Rattle.bstr.specs.Utf8.{lossy_chars}
 use Rattle.std.proofs.lemmas.Bool.Decides.{Decides-like, Decides-and, Decides-or, Decides-by_or, Decides-eqb}
 use Rattle.std.proofs.lemmas.List.Elements.{Decides-contains}
 use Rattle.std.proofs.lemmas.Slice.Eq.{bytes_eq-Decides, starts_is, ends_is}
-use Rattle.tl_spec.specs.ClassMember.{has_bytes}
+use Rattle.tl_spec.specs.Runs.{has_bytes}
 use Rattle.tl_spec.specs.Document.{Node}
 use Rattle.tl_spec.specs.Element.{name_of, attribute_of}
 use Rattle.tl_spec.specs.LossyText.{words, IsSameText, BeginsWith, EndsWith, HasPart, HasWord}

@@ -9,7 +9,8 @@ use Rattle.tl_spec.specs.Grammar.{Stops}
 use Rattle.tl_spec.specs.Selector.{Selector, And, Descendant, Parent}
 use Rattle.tl_spec.specs.SelectorMeaning.{has_joint}
 use Rattle.tl_spec.specs.SelectorText.{AreSpaces, no_space, one_space, OpGives, equal, has_part, starts, ends, contains, SimpleStands, id_part, class_part, all_part, tag_part, key_part, value_part, JointStands, touching, spaced, stepped, ChainStands, first_part, next_part, SpacedChainStands, spaced_chain, ChainsStand, first_chain, next_chain, IsSelectorText, StandsAlone, alone}
-use Rattle.tl_spec.specs.SelectorReading.{is_space, simple_at, Link, Comma, Step, Spaces, Touch, starts_with_space, link_by, link_at, Next, End, Bad, Part, part_by, next_by, next_at, parts_by, parts_within, parts_at, joined, closed, before_after, chain_after, nested, selector_at}
+use Rattle.tl_spec.specs.ByteClass.{is_space}
+use Rattle.tl_spec.specs.SelectorReading.{simple_at, Link, Comma, Step, Spaces, Touch, starts_with_space, link_by, link_at, Next, End, Bad, Part, part_by, next_by, next_at, parts_by, parts_within, parts_at, joined, closed, before_after, chain_after, nested, selector_at}
 use Rattle.tl_spec.proofs.Bytes.{not_this, past-yes, past-no}
 use Rattle.tl_spec.proofs.Grammar.{if_no}
 use Rattle.tl_spec.proofs.SelectorParts.{if_is, bind-some, map-some, none_some, of_pair, run-first, simple-some, simple-is, simple-lt}

@@ -13,19 +13,21 @@ use Rattle.std.proofs.Math.Seq.{drop-append-add}
 use Rattle.std.specs.List.{position_or_len, slice_split}
 use Rattle.std.specs.Str.{all_ascii_digits}
 use Rattle.tl_spec.specs.Edit.{Change, Names, Texts, Comments, Sets, Flags, Unsets, Bares, Pushes, Pulls, Roots}
-use Rattle.tl_spec.specs.StepLine.{is_space, is_line_feed, is_not_empty, changes_of, changes_of_lines, spelled_all, IsLine, number_of, is_number, read_on, first_word, after_word, of_number, of_numbers, change_by_word, change_of_line, spaced, spelled, ReadBack, IsSpellable}
+use Rattle.tl_spec.specs.ByteClass.{is_space}
+use Rattle.tl_spec.specs.Runs.{has_bytes}
+use Rattle.tl_spec.specs.StepLine.{is_line_feed, changes_of, changes_of_lines, lines_of, IsLine, number_of, is_number, read_on, first_word, after_word, of_number, of_numbers, change_by_word, change_of_line, word_and_rest, line_of, ReadBack, IsSpellable}
 
 -- a word without a space ends where the first space stands
-word_length : (word rest : List ℕ) → All (λ b. b ≢ 32) word → position_or_len is_space (spaced word rest) ≡ length word
+word_length : (word rest : List ℕ) → All (λ b. b ≢ 32) word → position_or_len is_space (word_and_rest word rest) ≡ length word
 word_length word rest h =
     position_or_len_is is_space (word ++ 32 ∷ rest) (length word) 0 (grind (arith, common_steps))
     (λ k l. grind (arith, nat_tests, common_steps, All-get_or (λ b. b ≢ 32) word k 0 l h))
     (λ l. grind (arith, nat_tests, common_steps))
 
-pub first_word-spaced : (word rest : List ℕ) → All (λ b. b ≢ 32) word → first_word (spaced word rest) ≡ word
+pub first_word-spaced : (word rest : List ℕ) → All (λ b. b ≢ 32) word → first_word (word_and_rest word rest) ≡ word
 first_word-spaced word rest h = rw (word_length word rest h) (grind (arith, common_steps))
 
-pub after_word-spaced : (word rest : List ℕ) → All (λ b. b ≢ 32) word → after_word (spaced word rest) ≡ rest
+pub after_word-spaced : (word rest : List ℕ) → All (λ b. b ≢ 32) word → after_word (word_and_rest word rest) ≡ rest
 after_word-spaced word rest h = rw (word_length word rest h, drop-append-add) refl
 
 unfoldable pub spaceless : List ℕ → Bool
@@ -49,73 +51,73 @@ pub number-spaceless : (digits : List ℕ) (n : ℕ) → number_of digits ≡ So
 number-spaceless digits n h = digits-spaceless digits (digits_if (is_number digits) digits n refl h)
 
 -- a number and what stands after its space are read as that
-pub number_read : (digits rest : List ℕ) (n : ℕ) (made : ℕ → List ℕ → Option Change) → number_of digits ≡ Some n → of_number made (spaced digits rest) ≡ made n rest
+pub number_read : (digits rest : List ℕ) (n : ℕ) (made : ℕ → List ℕ → Option Change) → number_of digits ≡ Some n → of_number made (word_and_rest digits rest) ≡ made n rest
 number_read digits rest n made h =
     let s = number-spaceless digits n h in
     rw (first_word-spaced digits rest s, after_word-spaced digits rest s, h) refl
 
-pub numbers_read : (digits more : List ℕ) (n m : ℕ) (made : ℕ → ℕ → Change) → number_of digits ≡ Some n → number_of more ≡ Some m → of_numbers made (spaced digits more) ≡ Some (made n m)
+pub numbers_read : (digits more : List ℕ) (n m : ℕ) (made : ℕ → ℕ → Change) → number_of digits ≡ Some n → number_of more ≡ Some m → of_numbers made (word_and_rest digits more) ≡ Some (made n m)
 numbers_read digits more n m made h k =
     number_read digits more n (λ n digits. option_map (λ m. made n m) (number_of digits)) h ∙ rw k refl
 
 -- a line is read by its word
-pub line_read : (word rest : List ℕ) → spaceless word ≡ true → change_of_line (spaced word rest) ≡ change_by_word word rest
+pub line_read : (word rest : List ℕ) → spaceless word ≡ true → change_of_line (word_and_rest word rest) ≡ change_by_word word rest
 line_read word rest h =
     let s = spaceless-All word h in
     rw (first_word-spaced word rest s, after_word-spaced word rest s) refl
 
-pub spelled_read : (digits : ℕ → List ℕ) → ReadBack digits → (c : Change) → IsSpellable c → change_of_line (spelled digits c) ≡ Some c
+pub spelled_read : (digits : ℕ → List ℕ) → ReadBack digits → (c : Change) → IsSpellable c → change_of_line (line_of digits c) ≡ Some c
 unfolding spaceless
 spelled_read digits r (Names n name) h =
-    line_read (codes "name") (spaced (digits n) name) refl ∙ number_read (digits n) name n (λ n text. Some (Names n text)) (r n h)
+    line_read (codes "name") (word_and_rest (digits n) name) refl ∙ number_read (digits n) name n (λ n text. Some (Names n text)) (r n h)
 spelled_read digits r (Texts n text) h =
-    line_read (codes "text") (spaced (digits n) text) refl ∙ number_read (digits n) text n (λ n text. Some (Texts n text)) (r n h)
+    line_read (codes "text") (word_and_rest (digits n) text) refl ∙ number_read (digits n) text n (λ n text. Some (Texts n text)) (r n h)
 spelled_read digits r (Comments n text) h =
-    line_read (codes "comment") (spaced (digits n) text) refl ∙ number_read (digits n) text n (λ n text. Some (Comments n text)) (r n h)
+    line_read (codes "comment") (word_and_rest (digits n) text) refl ∙ number_read (digits n) text n (λ n text. Some (Comments n text)) (r n h)
 spelled_read digits r (Sets n key value) h =
-    line_read (codes "set") (spaced (digits n) (spaced key value)) refl
-    ∙ number_read (digits n) (spaced key value) n (λ n text. Some (Sets n (first_word text) (after_word text))) (r n h.0)
+    line_read (codes "set") (word_and_rest (digits n) (word_and_rest key value)) refl
+    ∙ number_read (digits n) (word_and_rest key value) n (λ n text. Some (Sets n (first_word text) (after_word text))) (r n h.0)
     ∙ rw (first_word-spaced key value h.1, after_word-spaced key value h.1) refl
 spelled_read digits r (Flags n key) h =
-    line_read (codes "flag") (spaced (digits n) key) refl ∙ number_read (digits n) key n (λ n key. Some (Flags n key)) (r n h)
+    line_read (codes "flag") (word_and_rest (digits n) key) refl ∙ number_read (digits n) key n (λ n key. Some (Flags n key)) (r n h)
 spelled_read digits r (Unsets n key) h =
-    line_read (codes "unset") (spaced (digits n) key) refl ∙ number_read (digits n) key n (λ n key. Some (Unsets n key)) (r n h)
+    line_read (codes "unset") (word_and_rest (digits n) key) refl ∙ number_read (digits n) key n (λ n key. Some (Unsets n key)) (r n h)
 spelled_read digits r (Bares n key) h =
-    line_read (codes "bare") (spaced (digits n) key) refl ∙ number_read (digits n) key n (λ n key. Some (Bares n key)) (r n h)
+    line_read (codes "bare") (word_and_rest (digits n) key) refl ∙ number_read (digits n) key n (λ n key. Some (Bares n key)) (r n h)
 spelled_read digits r (Pushes n m) h =
-    line_read (codes "push") (spaced (digits n) (digits m)) refl ∙ numbers_read (digits n) (digits m) n m Pushes (r n h.0) (r m h.1)
+    line_read (codes "push") (word_and_rest (digits n) (digits m)) refl ∙ numbers_read (digits n) (digits m) n m Pushes (r n h.0) (r m h.1)
 spelled_read digits r (Pulls n m) h =
-    line_read (codes "pull") (spaced (digits n) (digits m)) refl ∙ numbers_read (digits n) (digits m) n m Pulls (r n h.0) (r m h.1)
+    line_read (codes "pull") (word_and_rest (digits n) (digits m)) refl ∙ numbers_read (digits n) (digits m) n m Pulls (r n h.0) (r m h.1)
 spelled_read digits r (Roots n m) h =
-    line_read (codes "root") (spaced (digits n) (digits m)) refl ∙ numbers_read (digits n) (digits m) n m Roots (r n h.0) (r m h.1)
+    line_read (codes "root") (word_and_rest (digits n) (digits m)) refl ∙ numbers_read (digits n) (digits m) n m Roots (r n h.0) (r m h.1)
 
-spelled-not_empty : (digits : ℕ → List ℕ) (c : Change) → is_not_empty (spelled digits c) ≡ true
-spelled-not_empty digits (Names n name) = refl
-spelled-not_empty digits (Texts n text) = refl
-spelled-not_empty digits (Comments n text) = refl
-spelled-not_empty digits (Sets n key value) = refl
-spelled-not_empty digits (Flags n key) = refl
-spelled-not_empty digits (Unsets n key) = refl
-spelled-not_empty digits (Bares n key) = refl
-spelled-not_empty digits (Pushes n h) = refl
-spelled-not_empty digits (Pulls n i) = refl
-spelled-not_empty digits (Roots i h) = refl
+line_of-not_empty : (digits : ℕ → List ℕ) (c : Change) → has_bytes (line_of digits c) ≡ true
+line_of-not_empty digits (Names n name) = refl
+line_of-not_empty digits (Texts n text) = refl
+line_of-not_empty digits (Comments n text) = refl
+line_of-not_empty digits (Sets n key value) = refl
+line_of-not_empty digits (Flags n key) = refl
+line_of-not_empty digits (Unsets n key) = refl
+line_of-not_empty digits (Bares n key) = refl
+line_of-not_empty digits (Pushes n h) = refl
+line_of-not_empty digits (Pulls n i) = refl
+line_of-not_empty digits (Roots i h) = refl
 
 pub not_feed : (b : ℕ) → b ≢ 10 → is_line_feed b ≡ false
 not_feed b h = grind (arith, nat_tests)
 
 -- a line in front says its edit first
-pub changes_of_lines-cons : (line : List ℕ) (lines : List (List ℕ)) (c : Change) (cs : List Change) → is_not_empty line ≡ true → change_of_line line ≡ Some c → changes_of_lines lines ≡ Some cs → changes_of_lines (line ∷ lines) ≡ Some (c ∷ cs)
+pub changes_of_lines-cons : (line : List ℕ) (lines : List (List ℕ)) (c : Change) (cs : List Change) → has_bytes line ≡ true → change_of_line line ≡ Some c → changes_of_lines lines ≡ Some cs → changes_of_lines (line ∷ lines) ≡ Some (c ∷ cs)
 changes_of_lines-cons line lines c cs e h k = rw (e, h, k) refl
 
-pub spelled_all_read : (digits : ℕ → List ℕ) → ReadBack digits → (cs : List Change) → All (IsLine digits) cs → changes_of (spelled_all digits cs) ≡ Some cs
+pub spelled_all_read : (digits : ℕ → List ℕ) → ReadBack digits → (cs : List Change) → All (IsLine digits) cs → changes_of (lines_of digits cs) ≡ Some cs
 spelled_all_read digits r [] h = refl
 spelled_all_read digits r (c ∷ cs) h =
     let is_line = All-head (IsLine digits) c cs h in
     let later = spelled_all_read digits r cs (All-tail (IsLine digits) c cs h) in
-    let no_feed = All-weaker (λ b. b ≢ 10) (λ b. is_line_feed b ≡ false) not_feed (spelled digits c) is_line.1 in
-    ap changes_of_lines (slice_split_at is_line_feed (spelled digits c) 10 (spelled_all digits cs) no_feed refl)
-    ∙ changes_of_lines-cons (spelled digits c) (slice_split is_line_feed (spelled_all digits cs)) c cs (spelled-not_empty digits c) (spelled_read digits r c is_line.0) later
+    let no_feed = All-weaker (λ b. b ≢ 10) (λ b. is_line_feed b ≡ false) not_feed (line_of digits c) is_line.1 in
+    ap changes_of_lines (slice_split_at is_line_feed (line_of digits c) 10 (lines_of digits cs) no_feed refl)
+    ∙ changes_of_lines-cons (line_of digits c) (slice_split is_line_feed (lines_of digits cs)) c cs (line_of-not_empty digits c) (spelled_read digits r c is_line.0) later
 
 pub number-if : (digits : List ℕ) → is_number digits ≡ true → number_of digits ≡ Some (read_on 0 digits)
 number-if digits h = rw h refl

@@ -13,7 +13,9 @@ use Rattle.std.specs.List.{position_or_len, slice_split, onto_first}
 use Rattle.std.specs.Str.{all_ascii_digits, bytes_eq}
 use Rattle.std.proofs.lemmas.Slice.Eq.{bytes_eq-Decides}
 use Rattle.tl_spec.specs.Edit.{Change, Names, Texts, Comments, Sets, Flags, Unsets, Bares, Pushes, Pulls, Roots}
-use Rattle.tl_spec.specs.StepLine.{is_space, number_of, is_number, read_on, first_word, after_word, of_number, of_numbers, change_by_word, change_of_line, spaced, is_line_feed, is_not_empty, all_some, changes_of_lines, changes_of}
+use Rattle.tl_spec.specs.ByteClass.{is_space}
+use Rattle.tl_spec.specs.Runs.{has_bytes}
+use Rattle.tl_spec.specs.StepLine.{number_of, is_number, read_on, first_word, after_word, of_number, of_numbers, change_by_word, change_of_line, word_and_rest, is_line_feed, all_some, changes_of_lines, changes_of}
 use Rattle.tl_spec.specs.StepGrammar.{DigitsSay, one_digit, one_more, IsNumber, NumberThenText, number_alone, number_and_text, TwoNumbers, two_numbers, KeyThenValue, key_alone, key_and_value, LineSays, name_line, text_line, comment_line, set_line, flag_line, unset_line, bare_line, push_line, pull_line, root_line, TextSays, no_line, last_line, empty_line, next_line}
 use Rattle.tl_spec.proofs.Shrinks.{if_both}
 use Rattle.tl_spec.proofs.Spelling.{number-if, not_feed, changes_of_lines-cons, number_read, numbers_read, line_read, first_word-spaced, after_word-spaced, spaceless, number-spaceless}
@@ -180,7 +182,7 @@ numbers-there made rest c h =
 
 -- lines
 
-line-is : (word rest : List ℕ) {line : List ℕ} (c : Change) → spaceless word ≡ true → line ≡ spaced word rest → change_by_word word rest ≡ Some c → change_of_line line ≡ Some c
+line-is : (word rest : List ℕ) {line : List ℕ} (c : Change) → spaceless word ≡ true → line ≡ word_and_rest word rest → change_by_word word rest ≡ Some c → change_of_line line ≡ Some c
 line-is word rest {line} c h same is = ap change_of_line same ∙ line_read word rest h ∙ is
 
 pub says-is : {line : List ℕ} {c : Change} → LineSays line c → change_of_line line ≡ Some c
@@ -199,20 +201,20 @@ says-is {line} {c} (root_line {rest = rest} r) = line-is (codes "root") rest c r
 
 -- a line of a form of one number, and of two
 module _ (word form rest : List ℕ) (c : Change) (same : bytes_eq word form ≡ true) where
-  text-form : (made : ℕ → List ℕ → Change) → ((n : ℕ) (text : List ℕ) → NumberThenText rest n text → LineSays (spaced form rest) (made n text)) →
-      of_number (λ n text. Some (made n text)) rest ≡ Some c → LineSays (spaced word rest) c
+  text-form : (made : ℕ → List ℕ → Change) → ((n : ℕ) (text : List ℕ) → NumberThenText rest n text → LineSays (word_and_rest form rest) (made n text)) →
+      of_number (λ n text. Some (made n text)) rest ≡ Some c → LineSays (word_and_rest word rest) c
   text-form made says is =
       let got = text-there (λ n text. Some (made n text)) rest c is in
       let edit : made got.0 got.1 ≡ c = cc in
-      subst (LineSays (spaced word rest)) edit (subst (λ w. LineSays (spaced w rest) (made got.0 got.1)) (sym ((bytes_eq-Decides word form).0 same)) (says got.0 got.1 got.2))
+      subst (LineSays (word_and_rest word rest)) edit (subst (λ w. LineSays (word_and_rest w rest) (made got.0 got.1)) (sym ((bytes_eq-Decides word form).0 same)) (says got.0 got.1 got.2))
 
-  numbers-form : (made : ℕ → ℕ → Change) → ((n m : ℕ) → TwoNumbers rest n m → LineSays (spaced form rest) (made n m)) →
-      of_numbers made rest ≡ Some c → LineSays (spaced word rest) c
+  numbers-form : (made : ℕ → ℕ → Change) → ((n m : ℕ) → TwoNumbers rest n m → LineSays (word_and_rest form rest) (made n m)) →
+      of_numbers made rest ≡ Some c → LineSays (word_and_rest word rest) c
   numbers-form made says is =
       let got = numbers-there made rest c is in
-      subst (LineSays (spaced word rest)) got.3 (subst (λ w. LineSays (spaced w rest) (made got.0 got.1)) (sym ((bytes_eq-Decides word form).0 same)) (says got.0 got.1 got.2))
+      subst (LineSays (word_and_rest word rest)) got.3 (subst (λ w. LineSays (word_and_rest w rest) (made got.0 got.1)) (sym ((bytes_eq-Decides word form).0 same)) (says got.0 got.1 got.2))
 
-form-says : (word rest : List ℕ) (c : Change) → change_by_word word rest ≡ Some c → LineSays (spaced word rest) c
+form-says : (word rest : List ℕ) (c : Change) → change_by_word word rest ≡ Some c → LineSays (word_and_rest word rest) c
 form-says word rest c =
     if_both P (bytes_eq word (codes "name")) _ _ (λ e. text-form word (codes "name") rest c e Names (λ n text. name_line))
     (λ _. if_both P (bytes_eq word (codes "text")) _ _ (λ e. text-form word (codes "text") rest c e Texts (λ n text. text_line))
@@ -227,7 +229,7 @@ form-says word rest c =
     (λ _ is. absurd (none-some is)))))))))))
   where
     P : Option Change → Type 0
-    P o = o ≡ Some c → LineSays (spaced word rest) c
+    P o = o ≡ Some c → LineSays (word_and_rest word rest) c
 
 -- without a space there is no number
 alone-none : (word : List ℕ) → change_by_word word [] ≡ None
@@ -253,7 +255,7 @@ line-none line = (λ h. by h (change_of_line line) refl, λ e c r. none-some (sy
 
 -- texts
 
-not_empty : (line : List ℕ) (c : Change) → change_of_line line ≡ Some c → is_not_empty line ≡ true
+not_empty : (line : List ℕ) (c : Change) → change_of_line line ≡ Some c → has_bytes line ≡ true
 not_empty [] c h = absurd (none-some h)
 not_empty (b ∷ line) c h = refl
 
@@ -307,7 +309,7 @@ lines-say (one {line = b ∷ line} h) cs is =
     subst (TextSays (b ∷ line)) same (last_line h ((line-only (b ∷ line) first.0).1 first.2))
 lines-say (more {line = []} h r) cs is = empty_line (lines-say r cs is)
 lines-say (more {line = b ∷ line} {text = text} {lines = lines} h r) cs is =
-    let first = first-says (change_of_line (b ∷ line)) (map change_of_line (filter is_not_empty lines)) cs is in
+    let first = first-says (change_of_line (b ∷ line)) (map change_of_line (filter has_bytes lines)) cs is in
     subst (TextSays (b ∷ line ++ 10 ∷ text)) first.4 (next_line h ((line-only (b ∷ line) first.0).1 first.2) (lines-say r first.1 first.3))
 
 pub text-only : (text : List ℕ) (cs : List Change) → TextSays text cs ↔ (changes_of text ≡ Some cs)

@@ -1,11 +1,10 @@
 -- What a program writes into a table, as the machine sees it: nodes are items under a view, and the innermost open tag may stand last.
-use Rattle.std.proofs.Common.{◌≡◌, ℕ, zero, suc, ◌+◌, ◌-◌, ◌<◌, ◌≤◌, List, [], ◌∷◌, ◌++◌, length, map, reverse, take, Some, None, get_or, set, refl, sym, ◌∙◌, ap, arith, rules}
-use Rattle.std.specs.Prelude.{slice_get, option_map}
-use Rattle.std.proofs.lemmas.List.{reverse-append, take_more, take_all, map-append, length-map}
-use Rattle.std.proofs.lemmas.Option.{slice_get-get_or, slice_get-map, slice_get_read}
-use Rattle.tl_spec.specs.Document.{Node, TagNode, Tag}
-use Rattle.tl_spec.specs.Machine.{State, change_at, with_child, with_raw_to, adopted, adopted_by, closed, closed_by, added, IsOpen}
-use Rattle.tl_spec.proofs.Machine.{IsOpen-within}
+use Rattle.std.proofs.Common.{◌≡◌, ℕ, zero, suc, ◌+◌, ◌-◌, ◌<◌, List, [], ◌∷◌, ◌++◌, length, map, reverse, take, Some, get_or, set, refl, sym, ◌∙◌, ap, arith, rules}
+use Rattle.std.specs.Prelude.{slice_get}
+use Rattle.std.proofs.lemmas.List.{reverse-append, take_more, take_all}
+use Rattle.std.proofs.lemmas.Option.{slice_get-get_or}
+use Rattle.tl_spec.specs.Document.{Node}
+use Rattle.tl_spec.specs.Machine.{State, change_at, with_child, with_raw_to, adopted, adopted_by, closed, closed_by}
 
 -- one item written
 pub change_at-map : {A B : Type 0} (view : A → B) (f : B → B) (xs : List A) (i : ℕ) (x y : A) → i < length xs → x ≡ get_or xs i x → view y ≡ f (view x) →
@@ -13,17 +12,6 @@ pub change_at-map : {A B : Type 0} (view : A → B) (f : B → B) (xs : List A) 
 change_at-map view f [] i x y h e q = absurd (omega arith)
 change_at-map view f (z ∷ xs) zero x y h e q = ap (λ v. v ∷ map view xs) (q ∙ ap (λ z. f (view z)) e)
 change_at-map view f (z ∷ xs) (suc i) x y h e q = ap (λ vs. view z ∷ vs) (change_at-map view f xs i x y (omega arith) e q)
-
--- the item of an open tag is there, and is a tag that begins at this place or before it
-pub IsOpen-item : {A : Type 0} (view : A → Node) (i : ℕ) (xs : List A) (p : ℕ) → IsOpen i (map view xs) p → p < length xs
-IsOpen-item view i xs p h = let e = length-map xs view in omega (arith, IsOpen-within i (map view xs) p h)
-
-pub IsOpen-starts : {A : Type 0} (view : A → Node) (i : ℕ) (xs : List A) (p : ℕ) (x : A) → IsOpen i (map view xs) p → x ≡ get_or xs p x → (own : TagNode) → view x ≡ Tag own → own.start ≤ i
-IsOpen-starts view i xs p x h e own is =
-    let at : slice_get xs p ≡ Some x = slice_get_read xs (length xs) p x refl (IsOpen-item view i xs p h) e in
-    let found : Some (Tag h.own) ≡ Some (Tag own) = sym h.found ∙ slice_get-map view xs p ∙ ap (option_map view) at ∙ ap (λ (y : Node). Some y) is in
-    let same : h.own ≡ own = cc in
-    omega (arith, h.begun, ap (λ (g : TagNode). g.start) same)
 
 -- the last of a list is the first of it reversed
 pub reverse-last : (front : List ℕ) (p : ℕ) → reverse (front ++ p ∷ []) ≡ p ∷ reverse front
@@ -39,14 +27,6 @@ slice_get-last (y ∷ ys) =
     let there : slice_get xs (length xs - 1) ≡ Some (get_or xs n 0) = search (rules, slice_get-get_or) in
     there ∙ sym back
 
--- a number adopted at the top
-pub adopted-at_top : (n : ℕ) (s : State) → slice_get s.open_tags 0 ≡ None → record s { top = s.top ++ n ∷ [] } ≡ adopted n s
-adopted-at_top n s e = none s.open_tags e
-  where
-    none : (ps : List ℕ) → slice_get ps 0 ≡ None → record s { top = s.top ++ n ∷ [] } ≡ adopted_by n s ps
-    none [] e = refl
-    none (p ∷ ps) e = cc
-
 -- a number adopted by the node x, which is written again as y
 pub adopted-written : {A : Type 0} (view : A → Node) (n p : ℕ) (s : State) (xs : List A) (x y : A) → s.nodes ≡ map view xs → slice_get s.open_tags 0 ≡ Some p →
     p < length xs → x ≡ get_or xs p x → view y ≡ with_child n (view x) → record s { nodes = map view (set xs p y) } ≡ adopted n s
@@ -60,13 +40,6 @@ adopted-written {A} view n p s xs x y is e h at q = first s.open_tags e
     first (r ∷ ps) e =
         let same : p ≡ r = cc in
         ap (λ nodes. record s { nodes = nodes }) (write ∙ ap (λ r. change_at (with_child n) r s.nodes) same)
-
--- a node after the others, once its number is adopted
-pub added-written : {A : Type 0} (view : A → Node) (r s : State) (xs : List A) (x : A) → r ≡ adopted (length s.nodes) s → r.nodes ≡ map view xs →
-    record r { nodes = map view (xs ++ x ∷ []) } ≡ added (view x) s
-added-written view r s xs x e is =
-    ap (λ nodes. record r { nodes = nodes }) (map-append view xs (x ∷ []) ∙ ap (λ nodes. nodes ++ view x ∷ []) (sym is))
-    ∙ ap (λ (r : State). record r { nodes = r.nodes ++ view x ∷ [] }) e
 
 -- the tag x closed, which is written again as y
 pub closed-written : {A : Type 0} (view : A → Node) (t : List ℕ) (to p : ℕ) (ps : List ℕ) (s : State) (xs : List A) (x y : A) → s.nodes ≡ map view xs → s.open_tags ≡ p ∷ ps →

@@ -1,13 +1,9 @@
 -- The members of a class.
-use Rattle.std.specs.Prelude.{ℕ, Bool, true, false, List, [], ◌∷◌, filter, Option, Some, None, unwrap_or, if◌then◌else◌}
+use Rattle.std.specs.Prelude.{ℕ, Bool, List, [], filter, Option, Some, None, unwrap_or, if◌then◌else◌}
 use Rattle.std.specs.Char.{is_ascii_whitespace}
 use Rattle.std.specs.List.{list_any, slice_split}
 use Rattle.std.specs.Str.{is_utf8, bytes_eq}
-
--- whether there is a byte
-abbrev pub has_bytes : List ℕ → Bool
-has_bytes [] = false
-has_bytes (b ∷ bs) = true
+use Rattle.tl_spec.specs.Runs.{has_bytes}
 
 -- the nonempty parts between ASCII white space
 abbrev pub parts : List ℕ → List (List ℕ)

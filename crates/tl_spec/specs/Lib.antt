@@ -32,3 +32,4 @@ pub mod Edits
 pub mod StepLine
 pub mod StepGrammar
 pub mod Each
+pub mod Rows

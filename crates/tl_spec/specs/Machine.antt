@@ -6,7 +6,7 @@ use Rattle.tl_spec.specs.Attribute.{Pair}
 use Rattle.tl_spec.specs.Token.{Token, PlacedToken, Text, End, Comment, Doctype, Start, Nothing, tokens}
 use Rattle.tl_spec.specs.Grammar.{StandFrom}
 use Rattle.tl_spec.specs.Inline.{room, with_last}
-use Rattle.tl_spec.specs.Forest.{closes, started}
+use Rattle.tl_spec.specs.Forest.{closes, source_tag}
 use Rattle.tl_spec.specs.Document.{Node, TagNode, Tag, Raw, Comment as CommentNode, tag_node}
 
 -- what has been written: the nodes, the numbers of the open tags (innermost first), the top list, and whether a doctype was that of HTML5
@@ -78,7 +78,7 @@ closed t to s = closed_by t to s s.open_tags
 
 -- a start tag as a node, without children yet
 abbrev pub start_node : List ℕ → PlacedToken → List ℕ → List Pair → Node
-start_node t k name pairs = Tag (tag_node t (started k name pairs) [])
+start_node t k name pairs = Tag (tag_node t (source_tag k name pairs) [])
 
 module _ (t : List ℕ) where
   -- a start tag, and whether it stands alone

@@ -1,13 +1,10 @@
 -- How a selector text is read from the front.
 use Rattle.std.specs.Prelude.{ℕ, zero, suc, ◌+◌, Bool, false, ◌==◌, if◌then◌else◌, List, [], ◌∷◌, length, Option, Some, None, option_map, option_and_then}
 use Rattle.std.specs.List.{take_while}
-use Rattle.tl_spec.specs.ByteClass.{is_ident, is_quote}
+use Rattle.std.specs.Str.{byte}
+use Rattle.tl_spec.specs.ByteClass.{is_ident, is_quote, is_space}
 use Rattle.tl_spec.specs.Runs.{past}
 use Rattle.tl_spec.specs.Selector.{Selector, Tag, Id, Class, All, And, Or, Descendant, Parent, Attribute, AttributeValue, AttributeValueWhitespacedContains, AttributeValueStartsWith, AttributeValueEndsWith, AttributeValueSubstring}
-
--- no other blank is one
-abbrev pub is_space : ℕ → Bool
-is_space b = b == 32
 
 infixl 10 ◌>>=◌
 abbrev pub ◌>>=◌ : {A B : Type 0} → Option A → (A → Option B) → Option B
@@ -28,8 +25,8 @@ quote_at [] = None
 quote_at (c ∷ s) = if is_quote c then Some (c, s) else None
 
 abbrev pub value_by : Option (ℕ × List ℕ) → List ℕ → Option (List ℕ × List ℕ)
-value_by None s = run_before 93 s
-value_by (Some q) s = run_before q.0 q.1 >>= λ v. option_map (λ rest. (v.0, rest)) (after_byte 93 v.1)
+value_by None s = run_before (byte "]") s
+value_by (Some q) s = run_before q.0 q.1 >>= λ v. option_map (λ rest. (v.0, rest)) (after_byte (byte "]") v.1)
 
 -- a value, and what stands after the `]` that has to follow it
 abbrev pub value_at : List ℕ → Option (List ℕ × List ℕ)
@@ -52,16 +49,21 @@ with_op Contains = AttributeValueSubstring
 
 -- the op whose first byte this is, where a `=` follows
 abbrev pub op_of : ℕ → Option Op
-op_of b = if b == 126 then Some HasPart else (if b == 94 then Some StartsWith else (if b == 36 then Some EndsWith else (if b == 42 then Some Contains else None)))
+op_of b =
+    if b == byte "~" then Some HasPart
+    else (if b == byte "^" then Some StartsWith
+    else (if b == byte "$" then Some EndsWith
+    else (if b == byte "*" then Some Contains
+    else None)))
 
 abbrev pub op_by : Option Op → List ℕ → Option (Op × List ℕ)
 op_by None s = None
-op_by (Some op) s = option_map (λ rest. (op, rest)) (after_byte 61 s)
+op_by (Some op) s = option_map (λ rest. (op, rest)) (after_byte (byte "=") s)
 
 -- an op, and what stands after it
 abbrev pub op_at : List ℕ → Option (Op × List ℕ)
 op_at [] = None
-op_at (b ∷ s) = if b == 61 then Some (Equals, s) else op_by (op_of b) s
+op_at (b ∷ s) = if b == byte "=" then Some (Equals, s) else op_by (op_of b) s
 
 abbrev pub bracket_by : Option (List ℕ) → List ℕ → List ℕ → Option (Selector × List ℕ)
 bracket_by (Some rest) key s = Some (Attribute key, rest)
@@ -69,16 +71,16 @@ bracket_by None key s = op_at s >>= λ op. option_map (λ v. (with_op op.0 key v
 
 -- a test of a key, and what stands after its `]`, from after its `[` on
 abbrev pub bracket_at : List ℕ → Option (Selector × List ℕ)
-bracket_at s = let m = past is_ident s in bracket_by (after_byte 93 m) (take_while is_ident s) m
+bracket_at s = let m = past is_ident s in bracket_by (after_byte (byte "]") m) (take_while is_ident s) m
 
 -- a simple part, and what stands after it
 abbrev pub simple_at : List ℕ → Option (Selector × List ℕ)
 simple_at [] = None
 simple_at (b ∷ s) =
-    if b == 35 then Some (Id (take_while is_ident s), past is_ident s)
-    else (if b == 46 then Some (Class (take_while is_ident s), past is_ident s)
-    else (if b == 42 then Some (All, s)
-    else (if b == 91 then bracket_at s
+    if b == byte "#" then Some (Id (take_while is_ident s), past is_ident s)
+    else (if b == byte "." then Some (Class (take_while is_ident s), past is_ident s)
+    else (if b == byte "*" then Some (All, s)
+    else (if b == byte "[" then bracket_at s
     else (if is_ident b then Some (Tag (take_while is_ident (b ∷ s)), past is_ident (b ∷ s))
     else None))))
 
@@ -96,8 +98,8 @@ starts_with_space (b ∷ s) = is_space b
 abbrev pub link_by : Bool → List ℕ → Option (Link × List ℕ)
 link_by spaced [] = None
 link_by spaced (b ∷ s) =
-    if b == 44 then Some (Comma, past is_space s)
-    else (if b == 62 then Some (Step, past is_space s)
+    if b == byte "," then Some (Comma, past is_space s)
+    else (if b == byte ">" then Some (Step, past is_space s)
     else Some ((if spaced then Spaces else Touch), b ∷ s))
 
 -- the link after a part with the spaces around it, and what stands after it; none where the text ends

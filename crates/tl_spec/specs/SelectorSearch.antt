@@ -6,7 +6,7 @@ use Rattle.std.specs.Option.{is_some, option_map_or}
 use Rattle.std.specs.Str.{bytes_eq}
 use Rattle.std.specs.Str.Lossy.{utf8_lossy}
 use Rattle.bstr.specs.Utf8.{lossy_chars}
-use Rattle.tl_spec.specs.ClassMember.{has_bytes}
+use Rattle.tl_spec.specs.Runs.{has_bytes}
 use Rattle.tl_spec.specs.Document.{Node}
 use Rattle.tl_spec.specs.Element.{name_of, attribute_of, children_of}
 use Rattle.tl_spec.specs.LossyText.{words}
@@ -62,8 +62,8 @@ holds_alone (AttributeValueSubstring key value) node = has_value (λ own. has_pa
 
 module _ (nodes : List Node) where
   -- the numbers of all nodes
-  abbrev pub numbers : List ℕ
-  numbers = range_with_len 0 (length nodes)
+  abbrev pub node_numbers : List ℕ
+  node_numbers = range_with_len 0 (length nodes)
 
   -- whether the node n of the table stands among the children of m
   abbrev pub is_child : ℕ → ℕ → Bool
@@ -77,16 +77,16 @@ module _ (nodes : List Node) where
 
   -- whether one or more steps lead from m down to n
   abbrev pub is_below : ℕ → ℕ → Bool
-  is_below = is_below_by numbers
+  is_below = is_below_by node_numbers
 
   -- whether a selector holds at the node n of the table, whose other nodes count as ancestors
   abbrev pub holds : Selector → ℕ → Bool
   holds (And a b) n = holds a n && holds b n
   holds (Or a b) n = holds a n || holds b n
-  holds (Descendant a b) n = holds b n && list_any (λ m. holds a m && is_below m n) numbers
-  holds (Parent a b) n = holds b n && list_any (λ m. holds a m && is_child m n) numbers
+  holds (Descendant a b) n = holds b n && list_any (λ m. holds a m && is_below m n) node_numbers
+  holds (Parent a b) n = holds b n && list_any (λ m. holds a m && is_child m n) node_numbers
   holds e n = option_map_or (holds_alone e) (slice_get nodes n) false
 
   -- the numbers from one on, and below another, of the nodes where a selector holds, in order
   abbrev pub matches_between : Selector → ℕ → ℕ → List ℕ
-  matches_between e from to = filter (λ n. nat_le from n && nat_lt n to && holds e n) numbers
+  matches_between e from to = filter (λ n. nat_le from n && nat_lt n to && holds e n) node_numbers

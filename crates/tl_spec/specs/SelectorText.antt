@@ -1,13 +1,14 @@
--- Selector texts by cases, one for each row of the grammar, in the words of bytes and what stands after them: 32 is a space, 35 `#`, 42 `*`, 44 `,`, 46 `.`, 62 `>`, 91 `[` and 93 `]`.
+-- Selector texts by cases, one for each row of the grammar, in the words of bytes and what stands after them.
 use Rattle.std.specs.Prelude.{◌≡◌, ◌≢◌, ℕ, true, List, [], ◌∷◌, ◌++◌, codes}
-use Rattle.tl_spec.specs.ByteClass.{is_ident, is_quote}
+use Rattle.std.specs.Str.{byte}
+use Rattle.tl_spec.specs.ByteClass.{space, is_ident, is_quote}
 use Rattle.tl_spec.specs.Grammar.{IsRun}
 use Rattle.tl_spec.specs.Selector.{Selector, Tag, Id, Class, All, And, Or, Descendant, Parent, Attribute, AttributeValue, AttributeValueWhitespacedContains, AttributeValueStartsWith, AttributeValueEndsWith, AttributeValueSubstring}
 
 -- none or more spaces; no other blank is one
 pub data AreSpaces : List ℕ → Type 0 where
   no_space : AreSpaces []
-  one_space : {s : List ℕ} → AreSpaces s → AreSpaces (32 ∷ s)
+  one_space : {s : List ℕ} → AreSpaces s → AreSpaces (space ∷ s)
 
 -- an op, and the selector that it gives of a key and a value
 pub data OpGives : List ℕ → (List ℕ → List ℕ → Selector) → Type 0 where
@@ -24,19 +25,19 @@ pub data ValueStands : List ℕ → List ℕ → List ℕ → Type 0 where
 
 -- the simple part at the front of s, and what stands after it; runs are as long as can be, and empty ones count but for a tag's name
 pub data SimpleStands : List ℕ → Selector → List ℕ → Type 0 where
-  id_part : {s i rest : List ℕ} → IsRun is_ident s i rest → SimpleStands (35 ∷ s) (Id i) rest
-  class_part : {s i rest : List ℕ} → IsRun is_ident s i rest → SimpleStands (46 ∷ s) (Class i) rest
-  all_part : {rest : List ℕ} → SimpleStands (42 ∷ rest) All rest
+  id_part : {s i rest : List ℕ} → IsRun is_ident s i rest → SimpleStands (byte "#" ∷ s) (Id i) rest
+  class_part : {s i rest : List ℕ} → IsRun is_ident s i rest → SimpleStands (byte "." ∷ s) (Class i) rest
+  all_part : {rest : List ℕ} → SimpleStands (byte "*" ∷ rest) All rest
   tag_part : {s i rest : List ℕ} → i ≢ [] → IsRun is_ident s i rest → SimpleStands s (Tag i) rest
-  key_part : {s k rest : List ℕ} → IsRun is_ident s k (93 ∷ rest) → SimpleStands (91 ∷ s) (Attribute k) rest
+  key_part : {s k rest : List ℕ} → IsRun is_ident s k (byte "]" ∷ rest) → SimpleStands (byte "[" ∷ s) (Attribute k) rest
   value_part : {s k op u v rest : List ℕ} {gives : List ℕ → List ℕ → Selector} →
-      IsRun is_ident s k (op ++ u) → OpGives op gives → ValueStands u v (93 ∷ rest) → SimpleStands (91 ∷ s) (gives k v) rest
+      IsRun is_ident s k (op ++ u) → OpGives op gives → ValueStands u v (byte "]" ∷ rest) → SimpleStands (byte "[" ∷ s) (gives k v) rest
 
 -- the joint at the front of s, as what it gives of two selectors, and what stands after it: nothing, at least one space, or `>`
 pub data JointStands : List ℕ → (Selector → Selector → Selector) → List ℕ → Type 0 where
   touching : {rest : List ℕ} → JointStands rest And rest
-  spaced : {spaces rest : List ℕ} → AreSpaces spaces → JointStands (32 ∷ spaces ++ rest) Descendant rest
-  stepped : {before after rest : List ℕ} → AreSpaces before → AreSpaces after → JointStands (before ++ 62 ∷ (after ++ rest)) Parent rest
+  spaced : {spaces rest : List ℕ} → AreSpaces spaces → JointStands (space ∷ spaces ++ rest) Descendant rest
+  stepped : {before after rest : List ℕ} → AreSpaces before → AreSpaces after → JointStands (before ++ byte ">" ∷ (after ++ rest)) Parent rest
 
 -- the chain at the front of s, and what stands after it: simple parts with a joint between each two, from the left
 pub data ChainStands : List ℕ → Selector → List ℕ → Type 0 where
@@ -52,7 +53,7 @@ pub data SpacedChainStands : List ℕ → Selector → List ℕ → Type 0 where
 -- the chains at the front of s with a `,` between each two, from the left, and what stands after them
 pub data ChainsStand : List ℕ → Selector → List ℕ → Type 0 where
   first_chain : {s rest : List ℕ} {e : Selector} → SpacedChainStands s e rest → ChainsStand s e rest
-  next_chain : {s m rest : List ℕ} {a b : Selector} → ChainsStand s a (44 ∷ m) → SpacedChainStands m b rest → ChainsStand s (Or a b) rest
+  next_chain : {s m rest : List ℕ} {a b : Selector} → ChainsStand s a (byte "," ∷ m) → SpacedChainStands m b rest → ChainsStand s (Or a b) rest
 
 -- the text is derived as this selector: its chains end where it does
 abbrev pub IsSelectorText : List ℕ → Selector → Type 0

@@ -1,24 +1,23 @@
 -- What lines of steps say, and which lines say an edit.
-use Rattle.std.specs.Prelude.{ℕ, ◌+◌, ◌-◌, ◌*◌, ◌≤◌, ◌≡◌, ◌≢◌, Bool, true, false, ◌&&◌, List, [], ◌∷◌, ◌++◌, Option, None, Some, All, length, filter, map, if◌then◌else◌, nat_lt, nat_le, ◌==◌, codes}
+use Rattle.std.specs.Prelude.{ℕ, ◌+◌, ◌-◌, ◌*◌, ◌≤◌, ◌≡◌, ◌≢◌, Bool, ◌&&◌, List, [], ◌∷◌, ◌++◌, Option, None, Some, All, length, filter, map, if◌then◌else◌, nat_lt, nat_le, ◌==◌, codes}
 use Rattle.std.specs.Option.{option_map, option_and_then}
 use Rattle.std.specs.List.{before_first, after_first, slice_split}
-use Rattle.std.specs.Str.{all_ascii_digits, bytes_eq}
+use Rattle.std.specs.Str.{all_ascii_digits, byte, bytes_eq}
+use Rattle.tl_spec.specs.ByteClass.{space, line_feed, largest_u32, is_space}
+use Rattle.tl_spec.specs.Runs.{has_bytes}
 use Rattle.tl_spec.specs.Edit.{Change, Names, Texts, Comments, Sets, Flags, Unsets, Bares, Pushes, Pulls, Roots}
 
-abbrev pub is_space : ℕ → Bool
-is_space b = b == 32
-
 abbrev pub is_line_feed : ℕ → Bool
-is_line_feed b = b == 10
+is_line_feed b = b == line_feed
 
 -- the number that digits write after those of n
 abbrev pub read_on : ℕ → List ℕ → ℕ
 read_on n [] = n
-read_on n (digit ∷ digits) = read_on (10 * n + (digit - 48)) digits
+read_on n (digit ∷ digits) = read_on (10 * n + (digit - byte "0")) digits
 
--- one or more decimal digits of a value of at most 4294967295
+-- one or more decimal digits of a value of at most 4294967295, the largest `u32`
 abbrev pub is_number : List ℕ → Bool
-is_number digits = nat_lt 0 (length digits) && (all_ascii_digits digits && nat_le (read_on 0 digits) 4294967295)
+is_number digits = nat_lt 0 (length digits) && (all_ascii_digits digits && nat_le (read_on 0 digits) largest_u32)
 
 abbrev pub number_of : List ℕ → Option ℕ
 number_of digits = if is_number digits then Some (read_on 0 digits) else None
@@ -64,57 +63,53 @@ all_some [] = Some []
 all_some (None ∷ os) = None
 all_some (Some x ∷ os) = option_map (λ xs. x ∷ xs) (all_some os)
 
-abbrev pub is_not_empty : List ℕ → Bool
-is_not_empty [] = false
-is_not_empty (b ∷ bytes) = true
-
 -- what lines say, the empty ones left out
 abbrev pub changes_of_lines : List (List ℕ) → Option (List Change)
-changes_of_lines lines = all_some (map change_of_line (filter is_not_empty lines))
+changes_of_lines lines = all_some (map change_of_line (filter has_bytes lines))
 
 -- what a text of step lines says, if each of its lines says an edit
 abbrev pub changes_of : List ℕ → Option (List Change)
 changes_of text = changes_of_lines (slice_split is_line_feed text)
 
 -- a word, a space, and what stands after it
-abbrev pub spaced : List ℕ → List ℕ → List ℕ
-spaced word rest = word ++ 32 ∷ rest
+abbrev pub word_and_rest : List ℕ → List ℕ → List ℕ
+word_and_rest word rest = word ++ space ∷ rest
 
 -- the line of an edit, its numbers in the given digits
-abbrev pub spelled : (ℕ → List ℕ) → Change → List ℕ
-spelled digits (Names n name) = spaced (codes "name") (spaced (digits n) name)
-spelled digits (Texts n text) = spaced (codes "text") (spaced (digits n) text)
-spelled digits (Comments n text) = spaced (codes "comment") (spaced (digits n) text)
-spelled digits (Sets n key value) = spaced (codes "set") (spaced (digits n) (spaced key value))
-spelled digits (Flags n key) = spaced (codes "flag") (spaced (digits n) key)
-spelled digits (Unsets n key) = spaced (codes "unset") (spaced (digits n) key)
-spelled digits (Bares n key) = spaced (codes "bare") (spaced (digits n) key)
-spelled digits (Pushes n h) = spaced (codes "push") (spaced (digits n) (digits h))
-spelled digits (Pulls n i) = spaced (codes "pull") (spaced (digits n) (digits i))
-spelled digits (Roots i h) = spaced (codes "root") (spaced (digits i) (digits h))
+abbrev pub line_of : (ℕ → List ℕ) → Change → List ℕ
+line_of digits (Names n name) = word_and_rest (codes "name") (word_and_rest (digits n) name)
+line_of digits (Texts n text) = word_and_rest (codes "text") (word_and_rest (digits n) text)
+line_of digits (Comments n text) = word_and_rest (codes "comment") (word_and_rest (digits n) text)
+line_of digits (Sets n key value) = word_and_rest (codes "set") (word_and_rest (digits n) (word_and_rest key value))
+line_of digits (Flags n key) = word_and_rest (codes "flag") (word_and_rest (digits n) key)
+line_of digits (Unsets n key) = word_and_rest (codes "unset") (word_and_rest (digits n) key)
+line_of digits (Bares n key) = word_and_rest (codes "bare") (word_and_rest (digits n) key)
+line_of digits (Pushes n h) = word_and_rest (codes "push") (word_and_rest (digits n) (digits h))
+line_of digits (Pulls n i) = word_and_rest (codes "pull") (word_and_rest (digits n) (digits i))
+line_of digits (Roots i h) = word_and_rest (codes "root") (word_and_rest (digits i) (digits h))
 
 -- digits that read as the number that they stand for, if that is not too large
 abbrev pub ReadBack : (ℕ → List ℕ) → Type 0
-ReadBack digits = (n : ℕ) → n ≤ 4294967295 → number_of (digits n) ≡ Some n
+ReadBack digits = (n : ℕ) → n ≤ largest_u32 → number_of (digits n) ≡ Some n
 
 -- an edit whose numbers are not too large, with no space in the key of a set value
 abbrev pub IsSpellable : Change → Type 0
-IsSpellable (Names n name) = n ≤ 4294967295
-IsSpellable (Texts n text) = n ≤ 4294967295
-IsSpellable (Comments n text) = n ≤ 4294967295
-IsSpellable (Sets n key value) = (n ≤ 4294967295) × All (λ b. b ≢ 32) key
-IsSpellable (Flags n key) = n ≤ 4294967295
-IsSpellable (Unsets n key) = n ≤ 4294967295
-IsSpellable (Bares n key) = n ≤ 4294967295
-IsSpellable (Pushes n h) = (n ≤ 4294967295) × (h ≤ 4294967295)
-IsSpellable (Pulls n i) = (n ≤ 4294967295) × (i ≤ 4294967295)
-IsSpellable (Roots i h) = (i ≤ 4294967295) × (h ≤ 4294967295)
+IsSpellable (Names n name) = n ≤ largest_u32
+IsSpellable (Texts n text) = n ≤ largest_u32
+IsSpellable (Comments n text) = n ≤ largest_u32
+IsSpellable (Sets n key value) = (n ≤ largest_u32) × All (λ b. b ≢ space) key
+IsSpellable (Flags n key) = n ≤ largest_u32
+IsSpellable (Unsets n key) = n ≤ largest_u32
+IsSpellable (Bares n key) = n ≤ largest_u32
+IsSpellable (Pushes n h) = (n ≤ largest_u32) × (h ≤ largest_u32)
+IsSpellable (Pulls n i) = (n ≤ largest_u32) × (i ≤ largest_u32)
+IsSpellable (Roots i h) = (i ≤ largest_u32) × (h ≤ largest_u32)
 
 -- the lines of edits, with a line feed after each
-abbrev pub spelled_all : (ℕ → List ℕ) → List Change → List ℕ
-spelled_all digits [] = []
-spelled_all digits (c ∷ cs) = spelled digits c ++ 10 ∷ spelled_all digits cs
+abbrev pub lines_of : (ℕ → List ℕ) → List Change → List ℕ
+lines_of digits [] = []
+lines_of digits (c ∷ cs) = line_of digits c ++ line_feed ∷ lines_of digits cs
 
 -- an edit that one line can say
 abbrev pub IsLine : (ℕ → List ℕ) → Change → Type 0
-IsLine digits c = IsSpellable c × All (λ b. b ≢ 10) (spelled digits c)
+IsLine digits c = IsSpellable c × All (λ b. b ≢ line_feed) (line_of digits c)

@@ -20,19 +20,23 @@ ghost use Rattle.tl_spec.specs.Clean.{IsClean, IsCleanNode, IsCleanTable, HaveOw
 ghost use Rattle.tl_spec.specs.Normal.{ReadsAs};
 ghost use Rattle.tl_spec.specs.Edit.{Change};
 ghost use Rattle.tl_spec.specs.StepGrammar.{LineSays, TextSays};
-ghost use Rattle.tl_spec.specs.StepLine.{change_of_line, changes_of, spelled, spelled_all, ReadBack, IsSpellable, IsLine};
+ghost use Rattle.tl_spec.specs.StepLine.{change_of_line, changes_of, line_of, lines_of, ReadBack, IsSpellable, IsLine};
 
 /// An attribute stands by cases exactly where the function reads it, alone and in a row.
 #[tactic(auto, using(crate::proofs::All::laws))]
 pub fn attribute_stands()
-    ensures one { (s : List ℕ) (pair : Pair) (rest : List ℕ) → AttributeStands s pair rest ↔ (attribute s ≡ (pair, rest)) }
-    ensures row { (s : List ℕ) (pairs : List Pair) (rest : List ℕ) → AttributesStand s pairs rest ↔ (attributes s ≡ (pairs, rest)) }
+    ensures one { (s : List ℕ) (pair : Pair) (rest : List ℕ) →
+        AttributeStands s pair rest ↔ (attribute s ≡ (pair, rest)) }
+    ensures row { (s : List ℕ) (pairs : List Pair) (rest : List ℕ) →
+        AttributesStand s pairs rest ↔ (attributes s ≡ (pairs, rest)) }
 {}
 
-/// A token stands by cases exactly where the function reads it; so at most one stands at a place, and one does where a byte is left.
+/// A token stands by cases exactly where the function reads it; so at most one stands at a place,
+/// and one does where a byte is left.
 #[tactic(auto, using(crate::proofs::All::laws))]
 pub fn token_stands()
-    ensures { (t : List ℕ) (k : Token) (rest : List ℕ) → TokenStands t k rest ↔ (next_token t ≡ Some (k, rest)) }
+    ensures { (t : List ℕ) (k : Token) (rest : List ℕ) →
+        TokenStands t k rest ↔ (next_token t ≡ Some (k, rest)) }
 {}
 
 /// The tokens of a text are the ones that stand in it in order, and there are no others.
@@ -43,26 +47,30 @@ pub fn tokens_stand()
 
 /// A start tag's attributes, made pair after pair, are those of all its pairs, and no others are.
 pub fn attribute_list()
-    ensures { (pairs : List Pair) (a : PlainAttributes) → AreAttributesOf pairs a ↔ (attributes_of pairs ≡ a) }
+    ensures { (pairs : List Pair) (a : PlainAttributes) →
+        AreAttributesOf pairs a ↔ (attributes_of pairs ≡ a) }
 {}
 
 /// The siblings at the front of some tokens come of the first token and the siblings after it.
 #[tactic(auto, using(crate::proofs::All::laws))]
 pub fn siblings_by_token()
     ensures none { (enclosing : Option (List ℕ)) → siblings enclosing [] ≡ no_siblings }
-    ensures step { (enclosing : Option (List ℕ)) (k : PlacedToken) (ks : List PlacedToken) → siblings enclosing (k ∷ ks) ≡ with_token siblings enclosing k ks k.token }
+    ensures step { (enclosing : Option (List ℕ)) (k : PlacedToken) (ks : List PlacedToken) →
+        siblings enclosing (k ∷ ks) ≡ with_token siblings enclosing k ks k.token }
 {}
 
 /// The rules by cases hold of the siblings, and of nothing else.
 #[tactic(auto, using(crate::proofs::All::laws))]
 pub fn siblings_by_rules()
-    ensures { (enclosing : Option (List ℕ)) (ks : List PlacedToken) (s : Siblings) → Makes enclosing ks s ↔ (s ≡ siblings enclosing ks) }
+    ensures { (enclosing : Option (List ℕ)) (ks : List PlacedToken) (s : Siblings) →
+        Makes enclosing ks s ↔ (s ≡ siblings enclosing ks) }
 {}
 
 /// A walk goes along its handles, and below each new one on.
 #[tactic(auto, using(crate::proofs::All::laws))]
 pub fn walk_by_step()
-    ensures { (enters : List ℕ → Bool) (nodes : List Node) (path : List ℕ) (hs : List ℕ) → walk enters nodes path hs ≡ row_walk enters nodes (walk enters nodes) path hs }
+    ensures { (enters : List ℕ → Bool) (nodes : List Node) (path : List ℕ) (hs : List ℕ) →
+        walk enters nodes path hs ≡ row_walk enters nodes (walk enters nodes) path hs }
 {}
 
 /// The print of clean trees is read as their normal form, holds no doctype, and prints alike.
@@ -71,38 +79,56 @@ pub fn trees_print_then_parse()
     ensures { (f : Forest PlainTag) → IsClean f → HaveOwnKeys f → ReadsAs (print f) f }
 {}
 
-/// A clean table has a print. Where each tag that it meets has the keys that its type allows, the print is read as the normal form
-/// of the full walk of the top list.
+/// A clean table has a print. Where each tag that it meets has the keys that its type allows, the
+/// print is read as the normal form of the full walk of the top list.
 #[tactic(auto, using(crate::proofs::All::laws))]
 pub fn table_print_then_parse()
-    ensures prints { (d : Document) → IsCleanTable d.nodes d.top → document_print d ≡ Ok (print (trees (walk every d.nodes [] d.top))) }
-    ensures reads { (d : Document) → IsCleanTable d.nodes d.top → HaveOwnKeys (trees (walk shows d.nodes [] d.top)) → (s : List ℕ) → document_print d ≡ Ok s → ReadsAs s (trees (walk every d.nodes [] d.top)) }
+    ensures prints { (d : Document) →
+        IsCleanTable d.nodes d.top →
+        document_print d ≡ Ok (print (trees (walk every d.nodes [] d.top))) }
+    ensures reads { (d : Document) →
+        IsCleanTable d.nodes d.top → HaveOwnKeys (trees (walk shows d.nodes [] d.top)) →
+        (s : List ℕ) → document_print d ≡ Ok s → ReadsAs s (trees (walk every d.nodes [] d.top)) }
 {}
 
-/// The same of a node over a table: a clean one has a print, which is read as the normal form of the one tree of its full walk.
+/// The same of a node over a table: a clean one has a print, which is read as the normal form of
+/// the one tree of its full walk.
 #[tactic(auto, using(crate::proofs::All::laws))]
 pub fn node_print_then_parse()
-    ensures prints { (nodes : List Node) (node : Node) → IsCleanNode nodes node → outer_html nodes node ≡ Ok (print (trees (walk_of every nodes node))) }
-    ensures reads { (nodes : List Node) (node : Node) → IsCleanNode nodes node → HaveOwnKeys (trees (walk_of shows nodes node)) → (s : List ℕ) → outer_html nodes node ≡ Ok s → ReadsAs s (trees (walk_of every nodes node)) }
+    ensures prints { (nodes : List Node) (node : Node) →
+        IsCleanNode nodes node →
+        outer_html nodes node ≡ Ok (print (trees (walk_of every nodes node))) }
+    ensures reads { (nodes : List Node) (node : Node) →
+        IsCleanNode nodes node → HaveOwnKeys (trees (walk_of shows nodes node)) → (s : List ℕ) →
+        outer_html nodes node ≡ Ok s → ReadsAs s (trees (walk_of every nodes node)) }
 {}
 
-/// The full walk of a document just read meets no fault, all its nodes in the order of the table, and the trees of its tokens.
+/// The full walk of a document just read meets no fault, all its nodes in the order of the table,
+/// and the trees of its tokens.
 #[tactic(auto, using(crate::proofs::All::laws))]
 pub fn document_walk()
-    ensures faultless { (t : List ℕ) → first_fault (walk every (document t).nodes [] (document t).top) ≡ None }
-    ensures ordered { (t : List ℕ) → visits (walk every (document t).nodes [] (document t).top) ≡ visits_from 0 (document t).nodes }
-    ensures whole { (t : List ℕ) → trees (walk every (document t).nodes [] (document t).top) ≡ plain (forest (tokens t)) }
+    ensures faultless { (t : List ℕ) →
+        first_fault (walk every (document t).nodes [] (document t).top) ≡ None }
+    ensures ordered { (t : List ℕ) →
+        visits (walk every (document t).nodes [] (document t).top)
+        ≡ visits_from 0 (document t).nodes }
+    ensures whole { (t : List ℕ) →
+        trees (walk every (document t).nodes [] (document t).top) ≡ plain (forest (tokens t)) }
 {}
 
-/// What was just read is clean, but for empty keys, a `"` inside a value and the tag `command`; keys are distinct in any case.
+/// What was just read is clean, but for empty keys, a `"` inside a value and the tag `command`;
+/// keys are distinct in any case.
 #[tactic(auto, using(crate::proofs::All::laws))]
 pub fn fresh_is_clean()
-    ensures trees { (t : List ℕ) → IsTame (plain (forest (tokens t))) → IsClean (plain (forest (tokens t))) }
-    ensures table { (t : List ℕ) → IsTame (plain (forest (tokens t))) → IsCleanTable (document t).nodes (document t).top }
+    ensures trees { (t : List ℕ) →
+        IsTame (plain (forest (tokens t))) → IsClean (plain (forest (tokens t))) }
+    ensures table { (t : List ℕ) →
+        IsTame (plain (forest (tokens t))) → IsCleanTable (document t).nodes (document t).top }
     ensures keys { (t : List ℕ) → HaveOwnKeys (plain (forest (tokens t))) }
 {}
 
-/// In a document just read a child's number is above its parent's, and a tag's descendants are the nodes right after it.
+/// In a document just read a child's number is above its parent's, and a tag's descendants are the
+/// nodes right after it.
 #[tactic(auto, using(crate::proofs::All::laws))]
 pub fn document_order()
     ensures above { (t : List ℕ) → AreChildrenAbove (document t).nodes }
@@ -122,44 +148,57 @@ pub fn machine_writes_document()
     ensures version { (t : List ℕ) → (run t start (tokens t)).is_html5 ≡ (document t).is_html5 }
 {}
 
-/// A scan for an id finds the first node that has it, and one for a class all nodes that have the member, in order; nothing else is that.
+/// A scan for an id finds the first node that has it, and one for a class all nodes that have the
+/// member, in order; nothing else is that.
 pub fn scans()
-    ensures id { (nodes : List Node) (i : List ℕ) (n : Option ℕ) → IsFirstPlace (has_id i) nodes n ↔ (n ≡ id_scan nodes i) }
-    ensures class { (nodes : List Node) (c : List ℕ) (ns : List ℕ) → ArePlaces (is_in_class c) nodes ns ↔ (ns ≡ class_scan nodes c) }
+    ensures id { (nodes : List Node) (i : List ℕ) (n : Option ℕ) →
+        IsFirstPlace (has_id i) nodes n ↔ (n ≡ id_scan nodes i) }
+    ensures class { (nodes : List Node) (c : List ℕ) (ns : List ℕ) →
+        ArePlaces (is_in_class c) nodes ns ↔ (ns ≡ class_scan nodes c) }
 {}
 
-/// What scans find in a table that is written token by token grows with each start tag alone: no later step changes it.
+/// What scans find in a table that is written token by token grows with each start tag alone: no
+/// later step changes it.
 #[tactic(auto, using(crate::proofs::Seen::ids_grow, crate::proofs::Seen::classes_grow))]
 pub fn scans_grow()
-    ensures ids { (t : List ℕ) (s : State) (k : PlacedToken) (i : List ℕ) → id_scan (step t s k).nodes i ≡ id_scan (s.nodes ++ tags_of t k k.token) i }
-    ensures classes { (t : List ℕ) (s : State) (k : PlacedToken) (c : List ℕ) → class_scan (step t s k).nodes c ≡ class_scan (s.nodes ++ tags_of t k k.token) c }
+    ensures ids { (t : List ℕ) (s : State) (k : PlacedToken) (i : List ℕ) →
+        id_scan (step t s k).nodes i ≡ id_scan (s.nodes ++ tags_of t k k.token) i }
+    ensures classes { (t : List ℕ) (s : State) (k : PlacedToken) (c : List ℕ) →
+        class_scan (step t s k).nodes c ≡ class_scan (s.nodes ++ tags_of t k k.token) c }
 {}
 
-/// Edits after edits that were done are edits of what those made, their places counted on. Edits after a refused one are left out.
+/// Edits after edits that were done are edits of what those made, their places counted on. Edits
+/// after a refused one are left out.
 #[tactic(auto, using(crate::proofs::All::laws))]
 pub fn edits_compose()
-    ensures after_done { (cs ds : List Change) (d e : Document) → edited_all cs d ≡ done e → edited_all (cs ++ ds) d ≡ later (length cs) (edited_all ds e) }
-    ensures after_refused { (cs ds : List Change) (d : Document) (i : ℕ) (refusal : Refusal) → (edited_all cs d).refused ≡ Some (i, refusal) → edited_all (cs ++ ds) d ≡ edited_all cs d }
+    ensures after_done { (cs ds : List Change) (d e : Document) →
+        edited_all cs d ≡ done e → edited_all (cs ++ ds) d ≡ later (length cs) (edited_all ds e) }
+    ensures after_refused { (cs ds : List Change) (d : Document) (i : ℕ) (refusal : Refusal) →
+        (edited_all cs d).refused ≡ Some (i, refusal) → edited_all (cs ++ ds) d ≡ edited_all cs d }
 {}
 
-/// No edit adds a node or takes one away, nor a place of the top list; none moves a tag in its source, makes one of what
-/// is none, or changes the version.
+/// No edit adds a node or takes one away, nor a place of the top list; none moves a tag in its
+/// source, makes one of what is none, or changes the version.
 pub fn edits_keep_the_shape()
     ensures { (c : Change) (d e : Document) → edited c d ≡ Ok e → KeepsShape d e }
 {}
 
-/// A line says an edit by cases exactly where the function reads it; so it says none exactly where it has none of the ten forms.
+/// A line says an edit by cases exactly where the function reads it; so it says none exactly where
+/// it has none of the ten forms.
 #[tactic(auto, using(crate::proofs::StepForms::laws))]
 pub fn line_says()
     ensures one { (line : List ℕ) (c : Change) → LineSays line c ↔ (change_of_line line ≡ Some c) }
-    ensures none { (line : List ℕ) → ((c : Change) → LineSays line c → ⊥) ↔ (change_of_line line ≡ None) }
+    ensures none { (line : List ℕ) →
+        ((c : Change) → LineSays line c → ⊥) ↔ (change_of_line line ≡ None) }
 {}
 
 /// The same of a text of lines and the edits that it says.
 #[tactic(auto, using(crate::proofs::StepForms::laws))]
 pub fn text_says()
-    ensures all { (text : List ℕ) (cs : List Change) → TextSays text cs ↔ (changes_of text ≡ Some cs) }
-    ensures none { (text : List ℕ) → ((cs : List Change) → TextSays text cs → ⊥) ↔ (changes_of text ≡ None) }
+    ensures all { (text : List ℕ) (cs : List Change) →
+        TextSays text cs ↔ (changes_of text ≡ Some cs) }
+    ensures none { (text : List ℕ) →
+        ((cs : List Change) → TextSays text cs → ⊥) ↔ (changes_of text ≡ None) }
 {}
 
 /// The decimal digits of a number are read as that number.
@@ -171,6 +210,10 @@ pub fn decimal_reads_back()
 /// The line of an edit says that edit, and lines of edits say all of them in order.
 #[tactic(auto, using(crate::proofs::Spelling::laws))]
 pub fn spelled_lines()
-    ensures line { (digits : ℕ → List ℕ) → ReadBack digits → (c : Change) → IsSpellable c → change_of_line (spelled digits c) ≡ Some c }
-    ensures text { (digits : ℕ → List ℕ) → ReadBack digits → (cs : List Change) → All (IsLine digits) cs → changes_of (spelled_all digits cs) ≡ Some cs }
+    ensures line { (digits : ℕ → List ℕ) →
+        ReadBack digits → (c : Change) → IsSpellable c →
+        change_of_line (line_of digits c) ≡ Some c }
+    ensures text { (digits : ℕ → List ℕ) →
+        ReadBack digits → (cs : List Change) → All (IsLine digits) cs →
+        changes_of (lines_of digits cs) ≡ Some cs }
 {}

@@ -6,9 +6,12 @@ ghost use Rattle.tl_spec.specs.Selector.{Selector};
 ghost use Rattle.tl_spec.specs.SelectorMeaning.{HoldsAlone, Holds, AreMatches};
 ghost use Rattle.tl_spec.specs.SelectorSearch.{holds_alone, holds, matches_between};
 
-/// The search says where a selector holds; so the nodes between two numbers where it does are one list, and can be computed.
+/// The search says where a selector holds; so the nodes between two numbers where it does are one
+/// list, and can be computed.
 pub fn selector_search()
     ensures alone { (e : Selector) (node : Node) → (holds_alone e node ≡ true) ↔ HoldsAlone e node }
-    ensures among { (nodes : List Node) (e : Selector) (n : ℕ) → (holds nodes e n ≡ true) ↔ Holds nodes e n }
-    ensures between { (nodes : List Node) (e : Selector) (from to : ℕ) (ns : List ℕ) → AreMatches nodes e from to ns ↔ (ns ≡ matches_between nodes e from to) }
+    ensures among { (nodes : List Node) (e : Selector) (n : ℕ) →
+        (holds nodes e n ≡ true) ↔ Holds nodes e n }
+    ensures between { (nodes : List Node) (e : Selector) (from to : ℕ) (ns : List ℕ) →
+        AreMatches nodes e from to ns ↔ (ns ≡ matches_between nodes e from to) }
 {}

@@ -10,12 +10,14 @@ ghost use Rattle.tl_spec.specs.SelectorReading.{selector_at};
 #[tactic(auto, using(crate::proofs::SelectorText::laws))]
 pub fn selector_text()
     ensures some { (s : List ℕ) (e : Selector) → IsSelectorText s e ↔ (selector_at s ≡ Some e) }
-    ensures none { (s : List ℕ) → ((e : Selector) → IsSelectorText s e → ⊥) ↔ (selector_at s ≡ None) }
+    ensures none { (s : List ℕ) →
+        ((e : Selector) → IsSelectorText s e → ⊥) ↔ (selector_at s ≡ None) }
 {}
 
 /// A simple part with spaces around it is a selector, and one that asks for no ancestors.
 #[tactic(auto, using(crate::proofs::SelectorText::laws))]
 pub fn alone_is_a_selector()
     ensures selector { (s : List ℕ) → StandsAlone s → (e : Selector) × IsSelectorText s e }
-    ensures alone { (s : List ℕ) (e : Selector) → StandsAlone s → IsSelectorText s e → has_joint e ≡ false }
+    ensures alone { (s : List ℕ) (e : Selector) →
+        StandsAlone s → IsSelectorText s e → has_joint e ≡ false }
 {}

@@ -1,13 +1,13 @@
 -- The way along last children, one step on, and what is known of its path.
-use Rattle.std.proofs.Common.{◌≡◌, ℕ, ◌+◌, ◌<◌, Bool, true, false, cond, ◌||◌, List, [], ◌∷◌, length, get_or, set, replicate, slice_get, Option, Some, None, Result, Ok, Err, refl, ap, sym, ◌∙◌, subst, arith, inl, inr, ne_eqb, ltb-true, ltb-false, nat_lt, map, zero, suc}
+use Rattle.std.proofs.Common.{◌≡◌, ℕ, ◌+◌, ◌<◌, Bool, true, false, cond, ◌||◌, List, [], ◌∷◌, length, get_or, set, slice_get, Option, Some, None, Result, Ok, Err, refl, ap, sym, ◌∙◌, subst, arith, inl, inr, ne_eqb, ltb-true, nat_lt, map, zero, suc}
 use Rattle.std.specs.Prelude.{⊤, sum_by, option_map, IfSome}
 use Rattle.std.specs.Option.{option_and_then}
 use Rattle.std.specs.List.{last_or, AllByRecursion}
 use Rattle.std.proofs.lemmas.Bool.Decides.{eqb_tells}
-use Rattle.std.proofs.lemmas.List.{get_or-set_same, get_or-set_other, get_or-replicate, length-set, length-replicate}
+use Rattle.std.proofs.lemmas.List.{get_or-set_same, get_or-set_other, length-set}
 use Rattle.std.proofs.lemmas.List.Elements.{recursion_from_All}
 use Rattle.std.proofs.lemmas.List.Sums.{sum_by-set}
-use Rattle.std.proofs.lemmas.Option.{option_and_then_some, slice_get-map, slice_get-get_or, slice_get_past, slice_get_within}
+use Rattle.std.proofs.lemmas.Option.{option_and_then_some, slice_get-map, slice_get-get_or, slice_get_within}
 use Rattle.tl_spec.specs.Document.{Node, Raw, Comment, Tag}
 use Rattle.tl_spec.specs.Element.{last_child_of}
 use Rattle.tl_spec.specs.Order.{AreChildrenAbove}
@@ -39,9 +39,6 @@ module _ (nodes : List Node) (path : List ℕ) where
 module _ {A : Type 0} (shown : A → Node) (xs : List A) (h : ℕ) where
   pub found-at : (x : A) → true ≡ nat_lt h (length xs) → x ≡ get_or xs h x → slice_get (map shown xs) h ≡ Some (shown x)
   found-at x l e = slice_get-map shown xs h ∙ ap (option_map shown) (slice_get-get_or xs h x (ltb-true h (length xs) (sym l)) ∙ ap Some (sym e))
-
-  pub missing-at : false ≡ nat_lt h (length xs) → slice_get (map shown xs) h ≡ None
-  missing-at l = slice_get-map shown xs h ∙ ap (option_map shown) (slice_get_past xs h (ltb-false h (length xs) (sym l)))
 
 -- the end is in the table
 module _ (nodes : List Node) (k : ℕ) where
@@ -130,12 +127,6 @@ module _ (nodes : List Node) (last : Option ℕ) (n h k : ℕ) (x : Node) where
 pub record AreMarks (n : ℕ) (path : List ℕ) (marks : List Bool) : Type 0 where
   pub long : length marks ≡ n
   pub tell : (k : ℕ) (d : Bool) → k < n → get_or marks k d ≡ stands_on path k
-
-pub no-marks : (n : ℕ) (marks : List Bool) → marks ≡ replicate n false → AreMarks n [] marks
-no-marks n marks e = record {
-  long = ap length e ∙ length-replicate n false;
-  tell = λ k d l. ap (λ m. get_or m k d) e ∙ get_or-replicate n k false d l;
-}
 
 pub one-more : (n : ℕ) (path : List ℕ) (marks : List Bool) (h : ℕ) → h < n → AreMarks n path marks → AreMarks n (h ∷ path) (set marks h true)
 one-more n path marks h l m = record {

@@ -40,7 +40,8 @@ pub fn boundaries<N: Element>(
     first: Option<u32>,
     last: Option<u32>,
 ) -> Result<Option<(u32, u32)>, RangeError>
-    ensures boundaries { Answers (λ both. both) (boundaries_from (map N.node nodes.now) first last) result }
+    ensures boundaries { Answers (λ both. both)
+        (boundaries_from (map N.node nodes.now) first last) result }
     ensures memory { Rises (map N.node nodes.now) last → WantsNoMemory result }
 {
     let Some(from) = first else {
@@ -59,7 +60,8 @@ pub fn range<N: Element>(
     first: Option<u32>,
     last: Option<u32>,
 ) -> Result<Range<usize>, RangeError>
-    ensures range { Answers (λ r. (r.start, r.end)) (range_from (map N.node nodes.now) first last) result }
+    ensures range { Answers (λ r. (r.start, r.end))
+        (range_from (map N.node nodes.now) first last) result }
 
     // It is a range of the table.
     ensures within { IfOk result (λ r. (r.start ≤ r.end) × (r.end ≤ length nodes.now)) }

@@ -4,6 +4,7 @@ ghost use Rattle.tl_spec.specs.Document.{Node};
 ghost use Rattle.tl_spec.specs.Scan.{id_of, id_scan, class_scan};
 ghost use Rattle.tl_tracking.specs.Tracking.{TracksIds, TracksMembers, TracksClasses, nothing_noted, ends_with, id_in, class_in, numbers_lent};
 
+use crate::keyed::Keyed;
 use crate::numbers::{Classes, Ids, add_member, keep_first};
 use crate::options::ParserOptions;
 use std::alloc::{AllocError, Global};
@@ -37,15 +38,25 @@ impl<B: Piece> TrackingOf<B> {
         ensures ids { TracksIds B.list B.eq result.ids [] }
         ensures classes { TracksClasses B.list B.eq result.classes [] }
     {
+        TrackingOf::keyed(alloc, options, 0)
+    }
+
+    /// The same, where names are hashed by a number. Whoever writes a text may not know the number before all names stand: with
+    /// a number that they know they can choose names whose hashes meet, and each of these is looked for along all of them.
+    pub fn keyed(alloc: Global, options: ParserOptions, key: u64) -> Self
+        ensures value { result ≡ nothing_noted options }
+        ensures ids { TracksIds B.list B.eq result.ids [] }
+        ensures classes { TracksClasses B.list B.eq result.classes [] }
+    {
         TrackingOf {
             alloc,
             ids: if options.is_tracking_ids() {
-                Some(HashMap::new(alloc))
+                Some(HashMap::with_hasher(alloc, Keyed::new(key)))
             } else {
                 None
             },
             classes: if options.is_tracking_classes() {
-                Some(HashMap::new(alloc))
+                Some(HashMap::with_hasher(alloc, Keyed::new(key)))
             } else {
                 None
             },

@@ -68,7 +68,8 @@ impl<A, B, O: OutlineOf<A>, M> ParserOf<A, B, O, M> {
         tracking: M,
     ) -> Self
         requires { length nodes.items < 2 ^ 32 }
-        ensures { result ≡ record { nodes = nodes.items; top = top.items; version = version; tracking = tracking } }
+        ensures { result
+            ≡ record { nodes = nodes.items; top = top.items; version = version; tracking = tracking } }
     {
         ParserOf {
             nodes,
@@ -124,7 +125,8 @@ impl<A, B, O: OutlineOf<A>, M> ParserOf<A, B, O, M> {
     /// The node of a number for writing, or None past the table.
     #[tactic(auto, using(crate::proofs::Nodes::copied_of_item))]
     pub fn resolve_node_id_mut(&mut self, id: InnerNodeHandle) -> Option<&mut NodeOf<A, B, O>>
-        ensures* writes_back { sem 𝓛 (LendsNode A.row B.row O.row M.row O.OutlineOf self.entry id result) }
+        ensures* writes_back { sem 𝓛
+            (LendsNode A.row B.row O.row M.row O.OutlineOf self.entry id result) }
         ensures value { option_copied_mut result ≡ slice_get self.old.nodes id }
     {
         self.nodes.get_mut(id as usize)
@@ -132,7 +134,8 @@ impl<A, B, O: OutlineOf<A>, M> ParserOf<A, B, O, M> {
 
     // The node of a handle for writing, or None past the table.
     fn resolve_handle_mut(&mut self, handle: NodeHandle) -> Option<&mut NodeOf<A, B, O>>
-        ensures* writes_back { sem 𝓛 (LendsNode A.row B.row O.row M.row O.OutlineOf self.entry handle result) }
+        ensures* writes_back { sem 𝓛
+            (LendsNode A.row B.row O.row M.row O.OutlineOf self.entry handle result) }
         ensures value { option_copied_mut result ≡ slice_get self.old.nodes handle }
     {
         let number = handle.get_inner();
@@ -141,7 +144,8 @@ impl<A, B, O: OutlineOf<A>, M> ParserOf<A, B, O, M> {
 
     // All nodes for writing.
     pub(crate) fn nodes_mut(&mut self) -> &mut [NodeOf<A, B, O>]
-        ensures* writes_back { sem 𝓛 (LendsTableNodes A.row B.row O.row M.row O.OutlineOf self.entry result) }
+        ensures* writes_back { sem 𝓛
+            (LendsTableNodes A.row B.row O.row M.row O.OutlineOf self.entry result) }
         ensures value { result.now ≡ self.old.nodes }
     {
         self.nodes.as_mut_slice()
@@ -149,7 +153,8 @@ impl<A, B, O: OutlineOf<A>, M> ParserOf<A, B, O, M> {
 
     // The handles of the top nodes for writing.
     pub(crate) fn top_mut(&mut self) -> &mut [NodeHandle]
-        ensures* writes_back { sem 𝓛 (LendsTableTop A.row B.row O.row M.row O.OutlineOf self.entry result) }
+        ensures* writes_back { sem 𝓛
+            (LendsTableTop A.row B.row O.row M.row O.OutlineOf self.entry result) }
         ensures value { result.now ≡ self.old.top }
     {
         self.top.as_mut_slice()
@@ -182,7 +187,8 @@ impl NodeHandle {
         self,
         parser: &mut ParserOf<A, B, O, M>,
     ) -> Option<&mut NodeOf<A, B, O>>
-        ensures* writes_back { sem 𝓛 (LendsNode A.row B.row O.row M.row O.OutlineOf parser.entry self result) }
+        ensures* writes_back { sem 𝓛
+            (LendsNode A.row B.row O.row M.row O.OutlineOf parser.entry self result) }
         ensures value { option_copied_mut result ≡ slice_get parser.old.nodes self }
     {
         parser.resolve_handle_mut(self)

@@ -107,8 +107,10 @@ impl<'a> TableBuilder<'a> {
     #[inline(always)]
     fn add(&mut self, node: Node<'a>) -> Result<(), AllocError>
         requires { HasRoom self.old }
-        ensures ok { OnOk result (state_of self.new ≡ added (shown node.entry) (state_of self.old)) }
-        ensures held { OnOk result ((held : Held) → AreHeld held self.old → IsHeldNode held node.entry → AreHeld held self.new) }
+        ensures ok { OnOk result (state_of self.new
+            ≡ added (shown node.entry) (state_of self.old)) }
+        ensures held { OnOk result ((held : Held) → AreHeld held self.old
+            → IsHeldNode held node.entry → AreHeld held self.new) }
         ensures len { OnOk result (length self.new.nodes.items ≡ length self.old.nodes.items + 1) }
     {
         let number = self.nodes.len() as u32;
@@ -121,8 +123,10 @@ impl<'a> TableBuilder<'a> {
     #[inline(always)]
     fn open(&mut self, tag: HTMLTag<'a>) -> Result<(), AllocError>
         requires { HasRoom self.old }
-        ensures ok { OnOk result (state_of self.new ≡ opened (shown (Tag tag.entry)) (state_of self.old)) }
-        ensures held { OnOk result ((held : Held) → AreHeld held self.old → IsHeldTag held tag.entry → AreHeld held self.new) }
+        ensures ok { OnOk result (state_of self.new
+            ≡ opened (shown (Tag tag.entry)) (state_of self.old)) }
+        ensures held { OnOk result ((held : Held) → AreHeld held self.old
+            → IsHeldTag held tag.entry → AreHeld held self.new) }
     {
         let number = self.nodes.len() as u32;
         self.add(Node::Tag(tag))?;
@@ -133,7 +137,8 @@ impl<'a> TableBuilder<'a> {
     // Whether the innermost open tag has this name.
     #[inline(always)]
     fn is_innermost(&self, name: &[u8]) -> bool
-        ensures { result ≡ closes name.now (enclosing_name (state_of self.now).nodes (state_of self.now).open_tags) }
+        ensures { result ≡ closes name.now (enclosing_name (state_of self.now).nodes
+            (state_of self.now).open_tags) }
     {
         match self.innermost() {
             Some(tag) => self.nodes[tag].is_named(name),
@@ -150,7 +155,8 @@ impl<'a> TableBuilder<'a> {
         to: usize,
     ) -> Result<(), AllocError>
         requires { to ≤ length (S.text source.now) }
-        ensures ok { OnOk result (state_of self.new ≡ closed (S.text source.now) to (state_of self.old)) }
+        ensures ok { OnOk result (state_of self.new
+            ≡ closed (S.text source.now) to (state_of self.old)) }
         ensures held { OnOk result (AreHeld S.held self.old → AreHeld S.held self.new) }
     {
         if let Some(tag) = self.open_tags.pop() {
@@ -163,8 +169,11 @@ impl<'a> TableBuilder<'a> {
     #[inline(always)]
     fn add_tag(&mut self, tag: HTMLTag<'a>, end: TagEnd) -> Result<(), AllocError>
         requires { HasRoom self.old }
-        ensures ok { OnOk result (state_of self.new ≡ with_tag (shown (Tag tag.entry)) (is_void_name tag.entry.name.list) (state_of self.old) end) }
-        ensures held { OnOk result ((held : Held) → AreHeld held self.old → IsHeldTag held tag.entry → AreHeld held self.new) }
+        ensures ok { OnOk result (state_of self.new
+            ≡ with_tag (shown (Tag tag.entry)) (is_void_name tag.entry.name.list)
+            (state_of self.old) end) }
+        ensures held { OnOk result ((held : Held) → AreHeld held self.old
+            → IsHeldTag held tag.entry → AreHeld held self.new) }
     {
         match end {
             TagEnd::Broken => Ok(()),
@@ -195,8 +204,11 @@ impl<'a> TableBuilder<'a> {
         requires within { at ≤ length (S.text source.now) }
         requires name { IsIn (S.text source.now) name }
         requires room { HasRoom self.old }
-        ensures ok { IfOk result (λ to. state_of self.new ≡ step (S.text source.now) (state_of self.old) (placed (S.text source.now) (Token.Start name) at start to)) }
-        ensures rest { IfOk result (λ to. drop to (S.text source.now) ≡ (tag_of (bytes_at (S.text source.now) name) (drop at (S.text source.now))).1) }
+        ensures ok { IfOk result (λ to. state_of self.new
+            ≡ step (S.text source.now) (state_of self.old)
+            (placed (S.text source.now) (Token.Start name) at start to)) }
+        ensures rest { IfOk result (λ to. drop to (S.text source.now)
+            ≡ (tag_of (bytes_at (S.text source.now) name) (drop at (S.text source.now))).1) }
         ensures held { OnOk result (AreHeld S.held self.old → AreHeld S.held self.new) }
         ensures order { IfOk result (λ to. start < to) }
         ensures within { IfOk result (λ to. to ≤ length (S.text source.now)) }
@@ -218,8 +230,12 @@ impl<'a> TableBuilder<'a> {
         requires callable { F.IsAlwaysCallable leaf }
         requires span { IsIn (S.text source.now) span }
         requires room { HasRoom self.old }
-        ensures ok { OnOk result ((node : _) × F.post leaf (piece_at S.held (S.text source.now) span) node × (state_of self.new ≡ added (shown node) (state_of self.old))) }
-        ensures held { OnOk result (((node : _) → F.post leaf (piece_at S.held (S.text source.now) span) node → IsHeldNode S.held node) → AreHeld S.held self.old → AreHeld S.held self.new) }
+        ensures ok { OnOk result ((node : _) × F.post leaf
+            (piece_at S.held (S.text source.now) span) node
+            × (state_of self.new ≡ added (shown node) (state_of self.old))) }
+        ensures held { OnOk result (((node : _)
+            → F.post leaf (piece_at S.held (S.text source.now) span) node → IsHeldNode S.held node)
+            → AreHeld S.held self.old → AreHeld S.held self.new) }
     {
         let bytes = source.piece(alloc, span)?;
         let node = leaf(bytes);
@@ -236,7 +252,10 @@ impl<'a> TableBuilder<'a> {
         to: usize,
     ) -> Result<(), AllocError>
         requires { to ≤ length (S.text source.now) }
-        ensures ok { OnOk result (state_of self.new ≡ after_end (S.text source.now) to (state_of self.old) (closes name.now (enclosing_name (state_of self.old).nodes (state_of self.old).open_tags))) }
+        ensures ok { OnOk result (state_of self.new
+            ≡ after_end (S.text source.now) to (state_of self.old)
+            (closes name.now (enclosing_name (state_of self.old).nodes
+            (state_of self.old).open_tags))) }
         ensures held { OnOk result (AreHeld S.held self.old → AreHeld S.held self.new) }
     {
         if self.is_innermost(name) {
@@ -258,7 +277,8 @@ impl<'a> TableBuilder<'a> {
         requires within { to ≤ length (S.text source.now) }
         requires spans { IsTokenIn (S.text source.now) token }
         requires room { HasRoom self.old }
-        ensures ok { OnOk result (state_of self.new ≡ with_whole (S.text source.now) token to (state_of self.old)) }
+        ensures ok { OnOk result (state_of self.new
+            ≡ with_whole (S.text source.now) token to (state_of self.old)) }
         ensures held { OnOk result (AreHeld S.held self.old → AreHeld S.held self.new) }
     {
         match token {
@@ -294,8 +314,11 @@ impl<'a> TableBuilder<'a> {
         requires within { after ≤ length (S.text source.now) }
         requires spans { IsTokenIn (S.text source.now) token }
         requires room { HasRoom self.old }
-        ensures ok { IfOk result (λ to. state_of self.new ≡ step (S.text source.now) (state_of self.old) (placed (S.text source.now) token after start to)) }
-        ensures rest { IfOk result (λ to. drop to (S.text source.now) ≡ (meant (S.text source.now) token after).1) }
+        ensures ok { IfOk result (λ to. state_of self.new
+            ≡ step (S.text source.now) (state_of self.old)
+            (placed (S.text source.now) token after start to)) }
+        ensures rest { IfOk result (λ to. drop to (S.text source.now)
+            ≡ (meant (S.text source.now) token after).1) }
         ensures held { OnOk result (AreHeld S.held self.old → AreHeld S.held self.new) }
         ensures order { IfOk result (λ to. start < to) }
         ensures within { IfOk result (λ to. to ≤ length (S.text source.now)) }
@@ -314,7 +337,8 @@ impl<'a> TableBuilder<'a> {
         requires { length self.nodes.items < 2 ^ 32 }
         ensures document { document_of result ≡ written (state_of self.entry) }
         ensures version { result.version ≡ version_of (state_of self.entry).is_html5 }
-        ensures held { (held : Held) → AreHeld held self.entry → All (IsHeldNode held) result.nodes }
+        ensures held { (held : Held) → AreHeld held self.entry
+            → All (IsHeldNode held) result.nodes }
     {
         let TableBuilder {
             nodes,
@@ -334,9 +358,10 @@ impl<'a> TableBuilder<'a> {
 
 // Reads the text of a source into a table of which nothing is tracked.
 pub(crate) fn read<'a, S: Source<'a>>(alloc: Global, source: &S) -> Result<Parser<'a>, ParseError>
-    ensures length { IsErrOf result InvalidLength ↔ (4294967295 < length (S.text source.now)) }
+    ensures length { IsErrOf result InvalidLength ↔ (u32.MAX < length (S.text source.now)) }
     ensures document { IfOk result (λ p. document_of p ≡ document (S.text source.now)) }
-    ensures version { IfOk result (λ p. p.version ≡ version_of (document (S.text source.now)).is_html5) }
+    ensures version { IfOk result (λ p. p.version
+        ≡ version_of (document (S.text source.now)).is_html5) }
     ensures held { IfOk result (λ p. All (IsHeldNode S.held) p.nodes) }
     ensures numbers { IfOk result (λ p. length p.nodes < 2 ^ 32) }
     ensures empty { S.text source.now ≡ [] → IsOk result }

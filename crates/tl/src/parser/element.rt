@@ -19,7 +19,8 @@ use tl_table::element::Element;
 // What stands at a key among the pairs other than `id` and `class`. They are gone through, since the keys of a map live as long as
 // the text, and this key may not.
 fn value_among<'s>(others: &'s RawAttributesMap<'_>, key: &[u8]) -> Option<Option<&'s [u8]>>
-    ensures { option_map option_copied result ≡ lookup (bytes_eq key.now) (shown_entries others.now).entries }
+    ensures { option_map option_copied result
+        ≡ lookup (bytes_eq key.now) (shown_entries others.now).entries }
 {
     let pair = others.iter().find(|pair| key == pair.0.as_bytes())?;
     Some(pair.1.as_ref().map(|value| value.as_bytes()))
@@ -27,7 +28,8 @@ fn value_among<'s>(others: &'s RawAttributesMap<'_>, key: &[u8]) -> Option<Optio
 
 // What stands at a key.
 fn value_of<'s>(attributes: &'s Attributes<'_>, key: &[u8]) -> Option<Option<&'s [u8]>>
-    ensures { option_map option_copied result ≡ value_at (λ bytes. bytes) bytes_eq (shown_attributes attributes.now) key.now }
+    ensures { option_map option_copied result
+        ≡ value_at (λ bytes. bytes) bytes_eq (shown_attributes attributes.now) key.now }
 {
     if key == b"id".as_slice() {
         return attributes.id().map(|id| Some(id.as_bytes()));
@@ -40,7 +42,8 @@ fn value_of<'s>(attributes: &'s Attributes<'_>, key: &[u8]) -> Option<Option<&'s
 
 // Whether a tag has this id. Its attributes are looked at only where its outline allows that.
 fn has_id(tag: &HTMLTag<'_>, id: &[u8]) -> bool
-    ensures { result ≡ is_value id.now (option_map (λ (bytes : Kept). bytes.list) tag.now.attributes.id) }
+    ensures { result ≡ is_value id.now (option_map
+        (λ (bytes : Kept). bytes.list) tag.now.attributes.id) }
 {
     tag.outline().may_be_id(Mark::of(id))
         && tag
@@ -51,7 +54,8 @@ fn has_id(tag: &HTMLTag<'_>, id: &[u8]) -> bool
 
 // Whether this is a member of a tag's class. Its attributes are looked at only where its outline allows that.
 fn is_in_class(tag: &HTMLTag<'_>, class: &[u8]) -> bool
-    ensures { result ≡ has_member (option_map (λ (bytes : Kept). bytes.list) tag.now.attributes.class) class.now }
+    ensures { result ≡ has_member (option_map
+        (λ (bytes : Kept). bytes.list) tag.now.attributes.class) class.now }
 {
     tag.outline().may_be_member(Mark::of(class)) && tag.attributes().is_class_member(class)
 }

@@ -100,7 +100,8 @@ impl<A, B, O: OutlineOf<A>> TagOf<A, B, O> {
 
     // Makes `child` the last child.
     pub(crate) fn push_child(&mut self, child: NodeHandle) -> Result<(), AllocError>
-        ensures ok { OnOk result (self.new ≡ record self.old { children = with_last room self.old.children child }) }
+        ensures ok { OnOk result
+            (self.new ≡ record self.old { children = with_last room self.old.children child }) }
         ensures err { OnErr result (self.new ≡ self.old) }
     {
         self.parts.children.push(child).map_err(|_| AllocError)
@@ -166,7 +167,8 @@ impl<A, B, O: OutlineOf<A>> TagOf<A, B, O> {
 
     /// The attributes for writing.
     pub fn attributes_mut(&mut self) -> &mut A
-        ensures* writes_back { sem 𝓛 (LendsAttributes A.row B.row O.row O.OutlineOf self.entry result) }
+        ensures* writes_back { sem 𝓛
+            (LendsAttributes A.row B.row O.row O.OutlineOf self.entry result) }
         ensures value { result.now ≡ self.old.attributes }
     {
         self.outline = O::nothing();
@@ -175,7 +177,8 @@ impl<A, B, O: OutlineOf<A>> TagOf<A, B, O> {
 
     // The handles of the children for writing.
     pub(crate) fn child_handles_mut(&mut self) -> &mut RawChildren
-        ensures* writes_back { sem 𝓛 (LendsChildren A.row B.row O.row O.OutlineOf self.entry result) }
+        ensures* writes_back { sem 𝓛
+            (LendsChildren A.row B.row O.row O.OutlineOf self.entry result) }
         ensures value { result.now ≡ self.old.children }
     {
         &mut self.parts.children

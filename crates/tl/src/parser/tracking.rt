@@ -4,16 +4,18 @@ ghost use Rattle.std.specs.Option.{option_copied};
 ghost use Rattle.tl_spec.specs.ClassMember.{members, parts};
 ghost use Rattle.tl_spec.specs.Document.{Node};
 ghost use Rattle.tl_spec.specs.Scan.{id_of, class_of};
+ghost use Rattle.tl_tracking.specs.Tracking.{nothing_noted};
 ghost use Rattle.tl.specs.Shown.{shown};
 ghost use Rattle.tl.specs.Tracked.{AreAsked, AnswerIds, AnswerClasses, AnswerMembers};
 
 use crate::parser::base::{Parser, Tracking};
+use crate::parser::tag::HTMLTag;
 use crate::parser::tag::node::Node;
 use std::alloc::{AllocError, Global};
 use std::str;
 use tl_attributes::class_iter::next_part;
 use tl_bytes::byte_string::{Bytes, part};
-use tl_tracking::ParserOptions;
+use tl_tracking::{NameKey, ParserOptions};
 
 // Notes the parts of a class, each held as the class is.
 fn note_parts<'a>(
@@ -53,7 +55,11 @@ fn note_members<'a>(
 }
 
 // Notes the id of a node, if it has one.
-fn note_id<'a>(tracking: &mut Tracking<'a>, node: &Node<'a>, number: u32) -> Result<(), AllocError>
+fn note_id_of<'a>(
+    tracking: &mut Tracking<'a>,
+    node: &Node<'a>,
+    number: u32,
+) -> Result<(), AllocError>
     ensures ids { OnOk result ((nodes : List Node) → number ≡ length nodes → AnswerIds tracking.old nodes → AnswerIds tracking.new (nodes ++ shown node.now ∷ [])) }
     ensures classes { tracking.new.classes ≡ tracking.old.classes }
     ensures tracked { is_some tracking.new.ids ≡ is_some tracking.old.ids }
@@ -67,8 +73,20 @@ fn note_id<'a>(tracking: &mut Tracking<'a>, node: &Node<'a>, number: u32) -> Res
     tracking.note_id(id.clone()?, number)
 }
 
+// The same, where ids are tracked.
+fn note_id<'a>(tracking: &mut Tracking<'a>, node: &Node<'a>, number: u32) -> Result<(), AllocError>
+    ensures ids { OnOk result ((nodes : List Node) → number ≡ length nodes → AnswerIds tracking.old nodes → AnswerIds tracking.new (nodes ++ shown node.now ∷ [])) }
+    ensures classes { tracking.new.classes ≡ tracking.old.classes }
+    ensures tracked { is_some tracking.new.ids ≡ is_some tracking.old.ids }
+{
+    if !tracking.is_tracking_ids() {
+        return Ok(());
+    }
+    note_id_of(tracking, node, number)
+}
+
 // Notes the class of a node, if it has one.
-fn note_class<'a>(
+fn note_class_of<'a>(
     alloc: Global,
     tracking: &mut Tracking<'a>,
     node: &Node<'a>,
@@ -87,6 +105,60 @@ fn note_class<'a>(
     note_members(alloc, tracking, class, number)
 }
 
+// The same, where classes are tracked.
+fn note_class<'a>(
+    alloc: Global,
+    tracking: &mut Tracking<'a>,
+    node: &Node<'a>,
+    number: u32,
+) -> Result<(), AllocError>
+    ensures classes { OnOk result ((nodes : List Node) → number ≡ length nodes → AnswerClasses tracking.old nodes → AnswerClasses tracking.new (nodes ++ shown node.now ∷ [])) }
+    ensures ids { tracking.new.ids ≡ tracking.old.ids }
+    ensures tracked { is_some tracking.new.classes ≡ is_some tracking.old.classes }
+{
+    if !tracking.is_tracking_classes() {
+        return Ok(());
+    }
+    note_class_of(alloc, tracking, node, number)
+}
+
+// Adds the names of a tag that are tracked.
+fn add_names(key: &mut NameKey, tag: &HTMLTag<'_>, options: ParserOptions) {
+    if options.is_tracking_ids() {
+        if let Some(id) = tag.attributes().id() {
+            key.add(id.as_bytes());
+        }
+    }
+    if options.is_tracking_classes() {
+        if let Some(class) = tag.attributes().class() {
+            key.add(class.as_bytes());
+        }
+    }
+}
+
+// The number that names are hashed by.
+fn key_of_names(nodes: &[Node<'_>], options: ParserOptions) -> u64 {
+    let mut key = NameKey::new();
+    for node in nodes {
+        if let Node::Tag(tag) = node {
+            add_names(&mut key, tag, options);
+        }
+    }
+    key.number()
+}
+
+// Maps without tags, whose names are hashed by a number that depends on all of them.
+fn nothing_tracked<'a>(alloc: Global, nodes: &[Node<'a>], options: ParserOptions) -> Tracking<'a>
+    ensures value { result ≡ nothing_noted options }
+    ensures ids { AnswerIds result [] }
+    ensures classes { AnswerClasses result [] }
+{
+    if !options.is_tracking() {
+        return Tracking::new(alloc, options);
+    }
+    Tracking::keyed(alloc, options, key_of_names(nodes, options))
+}
+
 // The maps of nodes that were read.
 fn tracked<'a>(
     alloc: Global,
@@ -99,7 +171,7 @@ fn tracked<'a>(
     ensures classes { IfOk result (λ t. AnswerClasses t (map shown nodes.now)) }
     ensures empty { nodes.now ≡ [] → IsOk result }
 {
-    let mut tracking = Tracking::new(alloc, options);
+    let mut tracking = nothing_tracked(alloc, nodes, options);
     if !options.is_tracking() {
         return Ok(tracking);
     }

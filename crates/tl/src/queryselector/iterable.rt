@@ -44,7 +44,8 @@ pub trait QueryIterable<'a>: private::Sealed {
     fn len(&self, parser: &Parser<'_>) -> Result<usize, TreeError>
         ensures len { Reads (λ n. n) (count self.now (map shown parser.now.nodes)) result }
         ensures fits { IfOk result (λ n. n ≤ 2 ^ 32) }
-        ensures memory { counts_freely self.now (map shown parser.now.nodes) → WantsNoMemory result };
+        ensures memory { counts_freely self.now (map shown parser.now.nodes)
+            → WantsNoMemory result };
 
     /// The first number, if there is one.
     fn start(&self) -> Option<InnerNodeHandle>

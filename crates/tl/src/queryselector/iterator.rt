@@ -1,5 +1,5 @@
 //! The nodes that a query gives.
-ghost use Rattle.std.specs.Prelude.{◌≡◌, ◌+◌, IfOk, IfErr, IsOk, Ok, false, length, map, unwrap_or};
+ghost use Rattle.std.specs.Prelude.{◌≡◌, ◌+◌, [], IfOk, IfErr, IsOk, Ok, false, length, map, unwrap_or};
 ghost use Rattle.std.specs.Iterator.{at_most};
 ghost use Rattle.std.specs.Map.Iter.{TakesFirst};
 ghost use Rattle.std.specs.Result.{result_err};
@@ -43,8 +43,11 @@ impl<'a, 'b> QuerySelectorIterator<'a, 'b> {
         parser: &'b Parser<'a>,
         collection: &Q,
     ) -> Result<Self, TreeError>
-        ensures ok { IfOk result (AreAmong (map shown parser.now.nodes) (selector_of selector.entry) (Q.first collection.now) (Q.count collection.now (map shown parser.now.nodes))) }
-        ensures err { IfErr result (IsRefusal (result_err (Q.count collection.now (map shown parser.now.nodes)))) }
+        ensures ok { IfOk result (AreAmong (map shown parser.now.nodes)
+            (selector_of selector.entry) (Q.first collection.now)
+            (Q.count collection.now (map shown parser.now.nodes))) }
+        ensures err { IfErr result (IsRefusal
+            (result_err (Q.count collection.now (map shown parser.now.nodes)))) }
 
         // A selector that asks for no ancestors takes no memory itself.
         ensures memory { has_joint (selector_of selector.entry) ≡ false
@@ -63,7 +66,8 @@ impl<'a, 'b> QuerySelectorIterator<'a, 'b> {
         from: usize,
         to: usize,
     ) -> Result<Self, AllocError>
-        ensures ok { IfOk result (AreMatches (map shown parser.now.nodes) (selector_of selector.entry) from to) }
+        ensures ok { IfOk result (AreMatches (map shown parser.now.nodes)
+            (selector_of selector.entry) from to) }
         ensures alone { has_joint (selector_of selector.entry) ≡ false → IsOk result }
     {
         let found = matches_between(parser.alloc(), selector, parser.nodes(), from, to)?;
@@ -87,6 +91,9 @@ impl<'a, 'b> FusedIterator for QuerySelectorIterator<'a, 'b> {}
 
 impl<'a, 'b> Clone for QuerySelectorIterator<'a, 'b> {
     ghost is_clone = { λ x y. y ≡ x };
+
+    // At its end a clone takes no memory.
+    ghost is_infallible = { λ q. q ≡ [] };
 
     fn clone(&self) -> Result<Self, AllocError> {
         let found = self.found.clone()?;

@@ -23,13 +23,14 @@ use tl_selector::text::parse_query_selector;
 
 impl<'a> VDom<'a> {
     /// The nodes of the document where a selector holds, rising; None where the text stands for no selector.
-    #[tactic(auto, using(crate::proofs::OnePart::alone_without_joint))]
+    #[tactic(auto, using(tl_spec::proofs::SelectorText::alone_without_joint))]
     pub fn query_selector<'b>(
         &'b self,
         alloc: Global,
         selector: &'b str,
     ) -> Result<Option<QuerySelectorIterator<'a, 'b>>, TreeError>
-        ensures ok { IfOk result (Finds selector.now (λ e. AreMatches (map shown self.now.nodes) e 0 (length self.now.nodes))) }
+        ensures ok { IfOk result (Finds selector.now
+            (λ e. AreMatches (map shown self.now.nodes) e 0 (length self.now.nodes))) }
         ensures err { IfErr result (λ error. error ≡ OutOfMemory) }
 
         // A selector of one simple part takes no memory.
@@ -51,18 +52,22 @@ impl<'a> VDom<'a> {
 impl<'a> HTMLTag<'a> {
     /// The nodes in the range of the tag where a selector holds, rising; None where the text stands for no selector, which
     /// is looked at before the range. All nodes of the table count as ancestors.
-    #[tactic(auto, using(crate::proofs::OnePart::alone_without_joint))]
+    #[tactic(auto, using(tl_spec::proofs::SelectorText::alone_without_joint))]
     pub fn query_selector<'b>(
         &self,
         alloc: Global,
         parser: &'b Parser<'a>,
         selector: &'b str,
     ) -> Result<Option<QuerySelectorIterator<'a, 'b>>, TreeError>
-        ensures ok { IfOk result (Finds selector.now (AreIn (map shown parser.now.nodes) (range_of (map shown parser.now.nodes) self.now.children.items))) }
-        ensures err { IfErr result (IsRefusal (result_err (range_of (map shown parser.now.nodes) self.now.children.items))) }
+        ensures ok { IfOk result (Finds selector.now
+            (AreIn (map shown parser.now.nodes)
+            (range_of (map shown parser.now.nodes) self.now.children.items))) }
+        ensures err { IfErr result (IsRefusal
+            (result_err (range_of (map shown parser.now.nodes) self.now.children.items))) }
 
         // Where the text stands for no selector, no fault of the range is looked at.
-        ensures outside { ((e : SelectorOf) → IsSelectorText selector.now e → ⊥) → IfErr result (λ error. error ≡ OutOfMemory) }
+        ensures outside { ((e : SelectorOf) → IsSelectorText selector.now e → ⊥)
+            → IfErr result (λ error. error ≡ OutOfMemory) }
 
         // A selector of one simple part takes no memory, nor does a way along last children that rises.
         ensures memory { StandsAlone selector.now

@@ -44,7 +44,8 @@ impl<A, B, O: OutlineOf<A>, M> VDomGuardOf<A, B, O, M> {
 
     /// The document for writing. What is put there is what it holds afterwards.
     pub fn get_mut_ref(&mut self) -> &mut VDomOf<A, B, O, M>
-        ensures* writes_back { sem 𝓛 (LendsDocument A.row B.row O.row M.row O.OutlineOf self.entry result) }
+        ensures* writes_back { sem 𝓛
+            (LendsDocument A.row B.row O.row M.row O.OutlineOf self.entry result) }
         ensures value { result.now ≡ self.old }
     {
         &mut self.document

@@ -106,7 +106,8 @@ fn scanned_id(nodes: &[Node<'_>], id: &[u8]) -> Option<NodeHandle>
 
 // The numbers of the tags with a class member, by the map.
 fn tracked_class<'s, 'a>(tracking: &'s Tracking<'a>, member: &'s str) -> &'s [u32]
-    ensures { result.now ≡ class_in same_list tracking.now.classes (record { list = member.now; held = borrowed }) }
+    ensures { result.now ≡ class_in same_list tracking.now.classes
+        (record { list = member.now; held = borrowed }) }
 {
     match tracking.class(&Bytes::from(member)) {
         Some(numbers) => numbers,
@@ -127,8 +128,10 @@ impl<'a> VDom<'a> {
     /// The handle of the first tag with this id. Where ids are tracked, that is the one that was read first, whatever was edited since; else the table is gone through as it stands.
     pub fn get_element_by_id<'b>(&self, id: Bytes<'b>) -> Option<NodeHandle>
         ensures value { result ≡ with_id self.now id.entry }
-        ensures tracked { (nodes : List ShownNode) → IsSome self.now.tracking.ids → AnswerIds self.now.tracking nodes → result ≡ id_scan nodes id.entry.list }
-        ensures untracked { self.now.tracking.ids ≡ None → result ≡ id_scan (document_of self.now).nodes id.entry.list }
+        ensures tracked { (nodes : List ShownNode) → IsSome self.now.tracking.ids
+            → AnswerIds self.now.tracking nodes → result ≡ id_scan nodes id.entry.list }
+        ensures untracked { self.now.tracking.ids ≡ None
+            → result ≡ id_scan (document_of self.now).nodes id.entry.list }
     {
         let tracking = self.parser().tracking();
         if tracking.is_tracking_ids() {
@@ -141,8 +144,10 @@ impl<'a> VDom<'a> {
     /// The handles of the tags with this member of their class, in exact case. Where classes are tracked, those are the tags that were read with it, whatever was edited since; else the table is gone through as it stands.
     pub fn get_elements_by_class_name<'s>(&'s self, member: &'s str) -> ElementsByClassName<'s, 'a>
         ensures value { result ≡ with_member self.now member.now }
-        ensures tracked { (nodes : List ShownNode) → IsSome self.now.tracking.classes → AnswerClasses self.now.tracking nodes → result ≡ class_scan nodes member.now }
-        ensures untracked { self.now.tracking.classes ≡ None → result ≡ class_scan (document_of self.now).nodes member.now }
+        ensures tracked { (nodes : List ShownNode) → IsSome self.now.tracking.classes
+            → AnswerClasses self.now.tracking nodes → result ≡ class_scan nodes member.now }
+        ensures untracked { self.now.tracking.classes ≡ None
+            → result ≡ class_scan (document_of self.now).nodes member.now }
     {
         let tracking = self.parser().tracking();
         if tracking.is_tracking_classes() {

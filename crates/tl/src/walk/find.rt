@@ -21,7 +21,8 @@ fn find_in_walk<'s, 'a, F: FnMut(&Node<'a>) -> bool>(
 ) -> Result<Option<NodeHandle>, TreeError>
     requires callable { F.IsAlwaysCallable f.old }
     requires marked { IsMarked walker }
-    ensures search { FindsOrStops F.FnMut f.old (sights walker.entry.nodes.now (left walker.entry)) result f.new }
+    ensures search { FindsOrStops F.FnMut f.old
+        (sights walker.entry.nodes.now (left walker.entry)) result f.new }
     ensures dangling { (h : ℕ) → FirstDangles walker.entry.nodes.now walker.entry.rest.now h
         → result ≡ Err (TreeError.Dangling h) }
 {
@@ -48,7 +49,8 @@ impl<'a> HTMLTag<'a> {
         f: &mut F,
     ) -> Result<Option<NodeHandle>, TreeError>
         requires { F.IsAlwaysCallable f.old }
-        ensures { Finds F.FnMut f.old (map (sight parser.now.nodes) self.now.children.items) result f.new }
+        ensures { Finds F.FnMut f.old
+            (map (sight parser.now.nodes) self.now.children.items) result f.new }
     {
         for child in self.child_handles().as_slice() {
             let Some(node) = child.get(parser) else {
@@ -70,7 +72,8 @@ impl<'a> Node<'a> {
         f: &mut F,
     ) -> Result<Option<NodeHandle>, TreeError>
         requires { F.IsAlwaysCallable f.old }
-        ensures search { FindsOrStops F.FnMut f.old (sights_below parser.now.nodes self.now) result f.new }
+        ensures search { FindsOrStops F.FnMut f.old
+            (sights_below parser.now.nodes self.now) result f.new }
         ensures leaf { tag_of self.now ≡ None → result ≡ Ok None }
 
         // A first child that dangles is answered before any memory is taken.

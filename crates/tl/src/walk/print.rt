@@ -66,7 +66,9 @@ pub(crate) fn write_lossy(bytes: &[u8], out: &mut String) -> Result<(), TreeErro
 
 // Writes a space, a key and its value.
 fn write_pair(key: &[u8], value: Option<&Bytes<'_>>, out: &mut String) -> Result<(), TreeError>
-    ensures ok { OnOk result (string_bytes out.new ≡ string_bytes out.old ++ codes " " ++ utf8_lossy key.now ++ print_value (shown_value (option_copied value.entry))) }
+    ensures ok { OnOk result (string_bytes out.new
+        ≡ string_bytes out.old ++ codes " " ++ utf8_lossy key.now
+        ++ print_value (shown_value (option_copied value.entry))) }
     ensures err { IfErr result (λ e. e ≡ TreeError.OutOfMemory) }
 {
     out.push(' ')?;
@@ -85,7 +87,8 @@ fn write_pair(key: &[u8], value: Option<&Bytes<'_>>, out: &mut String) -> Result
 // Writes all pairs in order.
 #[tactic(auto, using(crate::proofs::OwnKeys::own_keys))]
 fn write_pairs(attributes: &Attributes<'_>, out: &mut String) -> Result<(), TreeError>
-    ensures ok { OnOk result (string_bytes out.new ≡ string_bytes out.old ++ print_pairs (printed_pairs (plain attributes.now))) }
+    ensures ok { OnOk result (string_bytes out.new
+        ≡ string_bytes out.old ++ print_pairs (printed_pairs (plain attributes.now))) }
     ensures err { IfErr result (λ e. e ≡ TreeError.OutOfMemory) }
     ensures own { HasOwnKeys (plain attributes.now) }
 {
@@ -98,7 +101,8 @@ fn write_pairs(attributes: &Attributes<'_>, out: &mut String) -> Result<(), Tree
 // Writes a start tag.
 #[inline(always)]
 fn write_start(tag: &HTMLTag<'_>, out: &mut String) -> Result<(), TreeError>
-    ensures ok { OnOk result (string_bytes out.new ≡ string_bytes out.old ++ print_start (plain_node (shown_tag tag.now))) }
+    ensures ok { OnOk result (string_bytes out.new
+        ≡ string_bytes out.old ++ print_start (plain_node (shown_tag tag.now))) }
     ensures err { IfErr result (λ e. e ≡ TreeError.OutOfMemory) }
     ensures own { OnOk result (NodeHasOwnKeys (Tag (shown_tag tag.now))) }
 {
@@ -112,7 +116,8 @@ fn write_start(tag: &HTMLTag<'_>, out: &mut String) -> Result<(), TreeError>
 // Writes an end tag.
 #[inline(always)]
 fn write_end(tag: &HTMLTag<'_>, out: &mut String) -> Result<(), TreeError>
-    ensures ok { OnOk result (string_bytes out.new ≡ string_bytes out.old ++ print_end (plain_node (shown_tag tag.now))) }
+    ensures ok { OnOk result (string_bytes out.new
+        ≡ string_bytes out.old ++ print_end (plain_node (shown_tag tag.now))) }
     ensures err { IfErr result (λ e. e ≡ TreeError.OutOfMemory) }
 {
     out.push_str("</")?;
@@ -124,7 +129,8 @@ fn write_end(tag: &HTMLTag<'_>, out: &mut String) -> Result<(), TreeError>
 // Writes what one event prints.
 #[inline(always)]
 fn write_event<'s, 'a>(event: Event<'s, 'a>, out: &mut String) -> Result<(), TreeError>
-    ensures ok { OnOk result (string_bytes out.new ≡ string_bytes out.old ++ printed (shown_event event.entry)) }
+    ensures ok { OnOk result (string_bytes out.new
+        ≡ string_bytes out.old ++ printed (shown_event event.entry)) }
     ensures err { IfErr result (λ e. e ≡ TreeError.OutOfMemory) }
     ensures own { OnOk result (MeetsOwnKeys (shown_event event.entry)) }
 {
@@ -163,8 +169,10 @@ pub(crate) fn write_row<'s, 'a>(
 ) -> Result<(), TreeError>
     ensures writes { let w = walk shows (map shown nodes.now) [] handles.now in
         Writes (first_fault w) (print (trees w)) (string_bytes out.old) result (string_bytes out.new) }
-    ensures own { OnOk result (HaveOwnKeys (trees (walk shows (map shown nodes.now) [] handles.now))) }
-    ensures dangling { (h : ℕ) → FirstDangles nodes.now handles.now h → result ≡ Err (TreeError.Dangling h) }
+    ensures own { OnOk result (HaveOwnKeys (trees
+        (walk shows (map shown nodes.now) [] handles.now))) }
+    ensures dangling { (h : ℕ) → FirstDangles nodes.now handles.now h
+        → result ≡ Err (TreeError.Dangling h) }
 {
     write_walk(Walker::new(alloc, nodes, Entered::Shown, handles), out)
 }
@@ -178,7 +186,8 @@ fn write_tag<'s, 'a>(
 ) -> Result<(), TreeError>
     ensures writes { let w = walk_of shows (map shown nodes.now) (Tag (shown_tag tag.now)) in
         Writes (first_fault w) (print (trees w)) (string_bytes out.old) result (string_bytes out.new) }
-    ensures own { OnOk result (HaveOwnKeys (trees (walk_of shows (map shown nodes.now) (Tag (shown_tag tag.now))))) }
+    ensures own { OnOk result (HaveOwnKeys (trees
+        (walk_of shows (map shown nodes.now) (Tag (shown_tag tag.now))))) }
 {
     write_start(tag, out)?;
     if is_printed_alone(tag.name().as_bytes()) {
@@ -202,8 +211,10 @@ impl<'a> HTMLTag<'a> {
     /// The tag as markup, with all that it holds by the table of `parser`. An end tag is written whether or not the text had one.
     /// What is printed of a clean tag is read as that one tree.
     pub fn outer_html(&self, alloc: Global, parser: &Parser<'a>) -> Result<String, TreeError>
-        ensures answers { Answers (outer_html (map shown parser.now.nodes) (Tag (shown_tag self.now))) result }
-        ensures identity { let nodes = map shown parser.now.nodes in let own = Tag (shown_tag self.now) in
+        ensures answers { Answers (outer_html (map shown parser.now.nodes)
+            (Tag (shown_tag self.now))) result }
+        ensures identity { let nodes = map shown parser.now.nodes in
+            let own = Tag (shown_tag self.now) in
             IsCleanNode nodes own → IfOk result (λ s. ReadsAs (string_bytes s) (trees (walk_of every nodes own))) }
     {
         let mut out = String::new(alloc);
@@ -213,7 +224,8 @@ impl<'a> HTMLTag<'a> {
 
     /// The children as markup, with all that they hold by the table of `parser`: those of a void tag too.
     pub fn inner_html(&self, alloc: Global, parser: &Parser<'a>) -> Result<String, TreeError>
-        ensures answers { Answers (inner_html (map shown parser.now.nodes) (Tag (shown_tag self.now))) result }
+        ensures answers { Answers (inner_html (map shown parser.now.nodes)
+            (Tag (shown_tag self.now))) result }
 
         // A first child that dangles is answered before any memory is taken.
         ensures dangling { (h : ℕ) → FirstDangles parser.now.nodes self.now.children.items h
@@ -233,7 +245,8 @@ impl<'a> HTMLTag<'a> {
 impl<'a> Node<'a> {
     /// The node as markup, with all that it holds by the table of `parser`. What is printed of a clean node is read as that one tree.
     pub fn outer_html(&self, alloc: Global, parser: &Parser<'a>) -> Result<String, TreeError>
-        ensures answers { Answers (outer_html (map shown parser.now.nodes) (shown self.now)) result }
+        ensures answers { Answers (outer_html (map shown parser.now.nodes)
+            (shown self.now)) result }
         ensures identity { let nodes = map shown parser.now.nodes in let own = shown self.now in
             IsCleanNode nodes own → IfOk result (λ s. ReadsAs (string_bytes s) (trees (walk_of every nodes own))) }
     {

@@ -22,7 +22,8 @@ use std::alloc::Global;
 // Writes the text of a node that is met: that of a text alone.
 #[inline(always)]
 fn write_event<'s, 'a>(event: Event<'s, 'a>, out: &mut String) -> Result<(), TreeError>
-    ensures ok { OnOk result (string_bytes out.new ≡ string_bytes out.old ++ event_text (shown_event event.entry)) }
+    ensures ok { OnOk result (string_bytes out.new
+        ≡ string_bytes out.old ++ event_text (shown_event event.entry)) }
     ensures err { IfErr result (λ e. e ≡ TreeError.OutOfMemory) }
 {
     match event {
@@ -59,7 +60,8 @@ pub(crate) fn write_row_texts<'s, 'a>(
 ) -> Result<(), TreeError>
     ensures writes { let w = walk every (map shown nodes.now) [] handles.now in
         Writes (first_fault w) (text_of (trees w)) (string_bytes out.old) result (string_bytes out.new) }
-    ensures dangling { (h : ℕ) → FirstDangles nodes.now handles.now h → result ≡ Err (TreeError.Dangling h) }
+    ensures dangling { (h : ℕ) → FirstDangles nodes.now handles.now h
+        → result ≡ Err (TreeError.Dangling h) }
 {
     write_texts(Walker::new(alloc, nodes, Entered::All, handles), out)
 }
@@ -81,7 +83,8 @@ fn write_text_of<'s, 'a>(
 impl<'a> HTMLTag<'a> {
     /// The texts below the tag by the table of `parser`, in the order of the walk. Comments give none.
     pub fn inner_text(&self, alloc: Global, parser: &Parser<'a>) -> Result<String, TreeError>
-        ensures { Answers (inner_text (map shown parser.now.nodes) (Tag (shown_tag self.now))) result }
+        ensures { Answers (inner_text (map shown parser.now.nodes)
+            (Tag (shown_tag self.now))) result }
     {
         let mut out = String::new(alloc);
         write_text_of(alloc, parser.nodes(), self, &mut out)?;
@@ -92,7 +95,8 @@ impl<'a> HTMLTag<'a> {
 impl<'a> Node<'a> {
     /// The texts at or below the node by the table of `parser`, in the order of the walk. Comments give none.
     pub fn inner_text(&self, alloc: Global, parser: &Parser<'a>) -> Result<String, TreeError>
-        ensures answers { Answers (inner_text (map shown parser.now.nodes) (shown self.now)) result }
+        ensures answers { Answers (inner_text (map shown parser.now.nodes)
+            (shown self.now)) result }
 
         // A comment has no text, which takes no memory.
         ensures comment { IsSome (comment_of self.now) → IsOk result }

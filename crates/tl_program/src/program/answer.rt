@@ -33,7 +33,7 @@ fn texts(alloc: Global, document: &VDom<'_>) -> Result<String, TreeError>
 fn print_of_print(alloc: Global, print: &str) -> Result<String, Failure>
     ensures outcome { Gives (outcome_of_print (Ok print.now)) result }
     ensures identity { PrintsBack (Some (document print.now)) result }
-    ensures long { 4294967295 < length print.now → result ≡ Err Failure.NotUnderstood }
+    ensures long { u32.MAX < length print.now → result ≡ Err Failure.NotUnderstood }
 {
     let document = tl::parse(alloc, print, ParserOptions::new())?;
     Ok(document.outer_html(alloc)?)
@@ -42,7 +42,8 @@ fn print_of_print(alloc: Global, print: &str) -> Result<String, Failure>
 // The print of the document that the print of a document is read as.
 fn again(alloc: Global, document: &VDom<'_>) -> Result<String, Failure>
     ensures outcome { Gives (outcome_of_print (document_print (document_of document.now))) result }
-    ensures identity { PrintsBack (document_again (document_print (document_of document.now))) result }
+    ensures identity { PrintsBack (document_again
+        (document_print (document_of document.now))) result }
 {
     let print = document.outer_html(alloc)?;
     print_of_print(alloc, print.as_str())
@@ -50,8 +51,10 @@ fn again(alloc: Global, document: &VDom<'_>) -> Result<String, Failure>
 
 // The print after steps.
 fn edited(alloc: Global, document: &mut VDom<'_>, steps: &[Step<'_>]) -> Result<String, Failure>
-    ensures outcome { Gives (outcome_of_edited (edited_all (changes_in steps.now) (document_of document.old))) result }
-    ensures identity { PrintsBack (document_edited (edited_all (changes_in steps.now) (document_of document.old))) result }
+    ensures outcome { Gives (outcome_of_edited
+        (edited_all (changes_in steps.now) (document_of document.old))) result }
+    ensures identity { PrintsBack (document_edited
+        (edited_all (changes_in steps.now) (document_of document.old))) result }
     ensures refused { TakeNoMemory (changes_in steps.now)
         → IsSome (edited_all (changes_in steps.now) (document_of document.old)).refused
         → result ≡ Err Failure.Refused }
@@ -78,7 +81,8 @@ fn of_document(
     requires ids { AnswerIds document.old.tracking (document_of document.old).nodes }
     requires classes { AnswerClasses document.old.tracking (document_of document.old).nodes }
     requires read { IsJustRead (document_of document.old) }
-    ensures outcome { Gives (outcome_of_document (asked_of command.now) (document_of document.old)) result }
+    ensures outcome { Gives (outcome_of_document (asked_of command.now)
+        (document_of document.old)) result }
     ensures identity { PrintsBack (command_print command.now (document_of document.old)) result }
 {
     match command {
@@ -92,15 +96,26 @@ fn of_document(
     }
 }
 
-/// What a command writes of a text.
-pub fn answer(alloc: Global, command: &Command<'_>, text: &str) -> Result<String, Failure>
+// Gives up a document. Where the program ends soon, its memory is left to that.
+fn give_up(document: VDom<'_>, ends_soon: bool) {
+    if ends_soon {
+        mem::forget(document);
+    }
+}
+
+/// What a command writes of a text. Where the program ends soon, the document's memory is not taken back.
+pub fn answer(
+    alloc: Global,
+    command: &Command<'_>,
+    text: &str,
+    ends_soon: bool,
+) -> Result<String, Failure>
     ensures outcome { Gives (outcome_of_text (asked_of command.now) text.now) result }
     ensures identity { PrintsBack (command_print command.now (document text.now)) result }
-    ensures long { 4294967295 < length text.now → result ≡ Err Failure.NotUnderstood }
+    ensures long { u32.MAX < length text.now → result ≡ Err Failure.NotUnderstood }
 {
     let mut document = tl::parse(alloc, text, options_of(command))?;
     let answer = of_document(alloc, command, &mut document);
-    // The program ends soon, and its memory with it.
-    mem::forget(document);
+    give_up(document, ends_soon);
     answer
 }

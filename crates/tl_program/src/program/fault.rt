@@ -53,7 +53,8 @@ pub trait Output {
     fn flush(&mut self) -> Result<(), Fault>
         ensures bytes { Keeps (holds self.old) (holds self.new) }
         ensures marks { has_failed self.new ≡ (has_failed self.old || is_err result) }
-        ensures counts { flushes self.new ≡ (if is_ok result then flushes self.old + 1 else flushes self.old) }
+        ensures counts { flushes self.new
+            ≡ (if is_ok result then flushes self.old + 1 else flushes self.old) }
         ensures flushed { is_flushed self.new ≡ (is_flushed self.old || is_ok result) };
 
     /// Whether a call of it has answered a fault.

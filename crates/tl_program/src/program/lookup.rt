@@ -72,7 +72,8 @@ fn lines_found(
 
 /// The lines of the nodes where a selector holds; a text that stands for no selector is refused.
 pub fn by_selector(alloc: Global, document: &VDom<'_>, selector: &str) -> Result<String, Failure>
-    ensures { Gives (outcome_of_query (selector_at selector.now) (document_of document.now)) result }
+    ensures { Gives (outcome_of_query (selector_at selector.now)
+        (document_of document.now)) result }
 {
     let found = document.query_selector(alloc, selector)?;
     lines_found(alloc, found)

@@ -28,7 +28,8 @@ impl<T> Model for Marked<T> {
 impl<T> Marked<T> {
     /// One that has not failed, and was not flushed.
     pub fn new(inner: T) -> Self
-        ensures { result ≡ record { inner = inner; has_failed = false; flushes = 0; is_flushed = false } }
+        ensures { result
+            ≡ record { inner = inner; has_failed = false; flushes = 0; is_flushed = false } }
     {
         Marked {
             inner,

@@ -25,11 +25,13 @@ pub fn run<'a>(
     steps: &[Step<'_>],
 ) -> Result<(), (usize, StepError)>
     ensures ok { OnOk result
-        (edited_all (changes_in steps.now) (document_of document.old) ≡ done (document_of document.new)) }
+        (edited_all (changes_in steps.now) (document_of document.old)
+        ≡ done (document_of document.new)) }
     ensures err { IfErr result (λ e.
         StopsAt (changes_in steps.now) (document_of document.old) (document_of document.new) e.0 e.1) }
     // How each piece is held: what a step puts is owned, and what it leaves is held as it was.
-    ensures held { table_after (done_edits (changes_in steps.now) result) document.old ≡ Ok document.new }
+    ensures held { table_after (done_edits (changes_in steps.now) result) document.old
+        ≡ Ok document.new }
     ensures first { IfErr result (λ e. e.0 ≡ 0 → document.new ≡ document.old) }
     ensures memory { IfErr result (λ e.
         e.1 ≡ StepError.OutOfMemory → TakesMemoryAt (changes_in steps.now) e.0) }
@@ -45,7 +47,8 @@ pub fn run<'a>(
 
 // Takes one step.
 fn take_step<'a>(alloc: Global, document: &mut VDom<'a>, step: &Step<'_>) -> Result<(), StepError>
-    ensures { let change = change_of step.now in Changes (takes_memory change) (edited_table change) document.old document.new result }
+    ensures { let change = change_of step.now in
+        Changes (takes_memory change) (edited_table change) document.old document.new result }
 {
     match *step {
         Step::Name(node, name) => change_tag(document, node, |tag| set_name(alloc, tag, name)),
@@ -76,7 +79,8 @@ fn tag_mut<A, B, O: OutlineOf<A>, M>(
     table: &mut ParserOf<A, B, O, M>,
     number: u32,
 ) -> Result<&mut TagOf<A, B, O>, StepError>
-    ensures* writes_back { sem 𝓛 (LendsTagAt A.row B.row O.row M.row O.OutlineOf table.entry number result) }
+    ensures* writes_back { sem 𝓛
+        (LendsTagAt A.row B.row O.row M.row O.OutlineOf table.entry number result) }
     ensures value { IsTagAt table.old number result }
 {
     let Some(node) = table.resolve_node_id_mut(number) else {
@@ -95,7 +99,8 @@ fn change_tag<'a, F: FnOnce(&mut HTMLTag<'a>) -> Result<(), StepError>>(
     change: F,
 ) -> Result<(), StepError>
     requires { F.IsAlwaysCallable change }
-    ensures { ChangesTagAt number (FnOnceReturnsAtMut F.FnOnce change) document.old document.new result }
+    ensures { ChangesTagAt number
+        (FnOnceReturnsAtMut F.FnOnce change) document.old document.new result }
 {
     let tag = tag_mut(document.parser_mut(), number)?;
     change(tag)
@@ -121,7 +126,8 @@ fn put_node<'a, F: FnOnce(Bytes<'a>) -> Node<'a>>(
 }
 
 fn put_top<'a>(document: &mut VDom<'a>, place: usize, child: u32) -> Result<(), StepError>
-    ensures { Changes (takes_memory (Roots place child)) (edited_table (Roots place child)) document.old document.new result }
+    ensures { Changes (takes_memory (Roots place child))
+        (edited_table (Roots place child)) document.old document.new result }
 {
     if place >= document.children().len() {
         return Err(StepError::NoPlace);

@@ -9,8 +9,10 @@ ghost use Rattle.tl_program.specs.TableEdit.{edited_table, table_after};
 
 /// An edit of a table is that edit of its document, and is refused for the same cause; so are edits in order.
 pub fn table_edits_are_edits()
-    ensures one { (c : Change) (t : HTMLTable) → edited c (document_of t) ≡ on_ok document_of (edited_table c t) }
-    ensures all { (cs : List Change) (t u : HTMLTable) → table_after cs t ≡ Ok u → edited_all cs (document_of t) ≡ done (document_of u) }
+    ensures one { (c : Change) (t : HTMLTable)
+        → edited c (document_of t) ≡ on_ok document_of (edited_table c t) }
+    ensures all { (cs : List Change) (t u : HTMLTable) → table_after cs t ≡ Ok u
+        → edited_all cs (document_of t) ≡ done (document_of u) }
 {}
 
 /// A node that no edit names is the old one. Of the others, what all owned bytes pass and each piece of the old node passes, each piece of
@@ -18,6 +20,9 @@ pub fn table_edits_are_edits()
 pub fn table_edits_keep_the_rest()
     ensures others { (cs : List Change) (t u : HTMLTable) (n : ℕ) → table_after cs t ≡ Ok u →
         AllByRecursion (λ c. node_of c ≢ Some n) cs → slice_get u.nodes n ≡ slice_get t.nodes n }
-    ensures pieces { (test : Kept → Bool) (cs : List Change) (t u : HTMLTable) (n : ℕ) → table_after cs t ≡ Ok u →
-        ((bytes : List ℕ) → IsTrue (test (as_owned bytes))) → IfSome (slice_get t.nodes n) (NodePasses test) → IfSome (slice_get u.nodes n) (NodePasses test) }
+    ensures pieces { (test : Kept → Bool) (cs : List Change) (t u : HTMLTable) (n : ℕ)
+        → table_after cs t ≡ Ok u →
+        ((bytes : List ℕ) → IsTrue (test (as_owned bytes)))
+        → IfSome (slice_get t.nodes n) (NodePasses test)
+        → IfSome (slice_get u.nodes n) (NodePasses test) }
 {}

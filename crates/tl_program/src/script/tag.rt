@@ -17,7 +17,8 @@ pub(super) fn set_name<'a>(
     tag: &mut HTMLTag<'a>,
     name: &[u8],
 ) -> Result<(), StepError>
-    ensures { Changes true (λ own. Ok (record own { name = as_owned name.now })) tag.old tag.new result }
+    ensures { Changes true
+        (λ own. Ok (record own { name = as_owned name.now })) tag.old tag.new result }
 {
     *tag.name_mut() = copied(alloc, name)?;
     Ok(())
@@ -30,7 +31,11 @@ pub(super) fn set_value<'a>(
     key: &[u8],
     value: &[u8],
 ) -> Result<(), StepError>
-    ensures { Changes true (λ own. Ok (record own { attributes = with_attribute own.attributes key.now (Some (as_owned value.now)) })) tag.old tag.new result }
+    ensures { Changes true
+        (λ own. Ok (record own {
+          attributes = with_attribute own.attributes key.now
+              (Some (as_owned value.now));
+        })) tag.old tag.new result }
 {
     let key = copied(alloc, key)?;
     let value = copied(alloc, value)?;
@@ -44,7 +49,10 @@ pub(super) fn set_flag<'a>(
     tag: &mut HTMLTag<'a>,
     key: &[u8],
 ) -> Result<(), StepError>
-    ensures { Changes true (λ own. Ok (record own { attributes = with_attribute own.attributes key.now None })) tag.old tag.new result }
+    ensures { Changes true (λ own. Ok (record own {
+      attributes = with_attribute own.attributes key.now None;
+    }))
+        tag.old tag.new result }
 {
     let key = copied(alloc, key)?;
     tag.attributes_mut().insert(key, None)?;
@@ -57,7 +65,10 @@ pub(super) fn remove_key<'a>(
     tag: &mut HTMLTag<'a>,
     key: &[u8],
 ) -> Result<(), StepError>
-    ensures { Changes true (λ own. Ok (record own { attributes = without_attribute own.attributes key.now })) tag.old tag.new result }
+    ensures { Changes true (λ own. Ok (record own {
+      attributes = without_attribute own.attributes key.now;
+    }))
+        tag.old tag.new result }
 {
     let key = copied(alloc, key)?;
     tag.attributes_mut().remove(key);
@@ -70,7 +81,10 @@ pub(super) fn remove_value<'a>(
     tag: &mut HTMLTag<'a>,
     key: &[u8],
 ) -> Result<(), StepError>
-    ensures { Changes true (λ own. Ok (record own { attributes = without_value own.attributes key.now })) tag.old tag.new result }
+    ensures { Changes true (λ own. Ok (record own {
+      attributes = without_value own.attributes key.now;
+    }))
+        tag.old tag.new result }
 {
     let key = copied(alloc, key)?;
     tag.attributes_mut().remove_value(key);
@@ -79,7 +93,10 @@ pub(super) fn remove_value<'a>(
 
 // Makes a handle the last child.
 pub(super) fn push_child<'a>(tag: &mut HTMLTag<'a>, child: u32) -> Result<(), StepError>
-    ensures { Changes true (λ own. Ok (record own { children = with_last room own.children child })) tag.old tag.new result }
+    ensures { Changes true (λ own. Ok (record own {
+      children = with_last room own.children child;
+    }))
+        tag.old tag.new result }
 {
     push_handle(tag, NodeHandle::new(child))?;
     Ok(())
@@ -87,7 +104,8 @@ pub(super) fn push_child<'a>(tag: &mut HTMLTag<'a>, child: u32) -> Result<(), St
 
 // Takes the child at a place out.
 pub(super) fn pull_child<'a>(tag: &mut HTMLTag<'a>, place: usize) -> Result<(), StepError>
-    ensures { Changes false (λ own. on_ok (λ handles. record own { children = handles }) (without_handle own.children place)) tag.old tag.new result }
+    ensures { Changes false (λ own. on_ok (λ handles. record own { children = handles })
+        (without_handle own.children place)) tag.old tag.new result }
 {
     if place >= tag.children().top().len() {
         return Err(StepError::NoPlace);
@@ -101,7 +119,8 @@ fn push_handle<A, B, O: OutlineOf<A>>(
     tag: &mut TagOf<A, B, O>,
     child: NodeHandle,
 ) -> Result<(), AllocError>
-    ensures ok { OnOk result (tag.new ≡ record tag.old { children = with_last room tag.old.children child }) }
+    ensures ok { OnOk result
+        (tag.new ≡ record tag.old { children = with_last room tag.old.children child }) }
     ensures err { OnErr result (tag.new ≡ tag.old) }
 {
     let mut children = tag.children_mut();

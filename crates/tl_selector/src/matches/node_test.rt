@@ -26,7 +26,9 @@ pub fn test_of<'s, N: Element>(
     selector: Selector<'s>,
     nodes: &[N],
 ) -> Result<Test<'s>, AllocError>
-    ensures tells { IfOk result (λ test. (n : ℕ) → IsTrue (is_found test (map N.node nodes.now) n) ↔ Holds (map N.node nodes.now) (selector_of selector.entry) n) }
+    ensures tells { IfOk result (λ test. (n : ℕ)
+        → IsTrue (is_found test (map N.node nodes.now) n)
+        ↔ Holds (map N.node nodes.now) (selector_of selector.entry) n) }
     ensures alone { has_joint (selector_of selector.entry) ≡ false → IsOk result }
 {
     if has_joint(&selector) {

@@ -14,7 +14,8 @@ use tl_table::lookup::{first_in_class, first_with_id};
 
 // The place of the first tag of this name.
 fn first_named<N: Element>(nodes: &[N], name: &[u8]) -> Option<usize>
-    ensures place { result ≡ position_from (λ node. is_value name.now (name_of node)) 0 (map N.node nodes.now) }
+    ensures place { result ≡ position_from (λ node. is_value name.now (name_of node)) 0
+        (map N.node nodes.now) }
     ensures within { IfSome result (λ n. n < length nodes.now) }
 {
     nodes.iter().position(|node| node.name() == Some(name))

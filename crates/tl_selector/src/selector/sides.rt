@@ -27,9 +27,11 @@ pub fn first_sides<'e, 'a>(
     alloc: Global,
     e: &'e Selector<'a>,
 ) -> Result<(Vec<&'e Selector<'a>>, &'e Selector<'a>), AllocError>
-    ensures whole { IfOk result (λ way. nested_in (selectors way.0.items) (selector way.1.now) ≡ selector e.entry.now) }
+    ensures whole { IfOk result (λ way. nested_in (selectors way.0.items) (selector way.1.now)
+        ≡ selector e.entry.now) }
     ensures innermost { IfOk result (λ way. has_sides (selector way.1.now) ≡ false) }
-    ensures depth { IfOk result (λ way. All (λ x. size-Selector x.now ≤ size-Selector e.entry.now) way.0.items) }
+    ensures depth { IfOk result (λ way. All (λ x. size-Selector x.now
+        ≤ size-Selector e.entry.now) way.0.items) }
 {
     let mut wholes = Vec::new(alloc);
     let mut first = e;

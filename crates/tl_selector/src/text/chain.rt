@@ -28,7 +28,8 @@ impl Link {
         before: Selector<'a>,
         part: Selector<'a>,
     ) -> Result<Selector<'a>, AllocError>
-        ensures { IfOk result (λ e. selector e ≡ joined (link self) (selector before.entry) (selector part.entry)) }
+        ensures { IfOk result (λ e. selector e
+            ≡ joined (link self) (selector before.entry) (selector part.entry)) }
     {
         let before = Box::new(alloc, before)?;
         let part = Box::new(alloc, part)?;
@@ -89,7 +90,8 @@ fn close<'a>(
     before: Option<Selector<'a>>,
     chain: Selector<'a>,
 ) -> Result<Selector<'a>, AllocError>
-    ensures closed { IfOk result (λ e. selector e ≡ closed (option_map selector before.entry) (selector chain.entry)) }
+    ensures closed { IfOk result (λ e. selector e
+        ≡ closed (option_map selector before.entry) (selector chain.entry)) }
     ensures alone { before.entry ≡ None → IsOk result }
 {
     match before {
@@ -105,7 +107,8 @@ fn chained<'a>(
     first: Selector<'a>,
     s: &'a [u8],
 ) -> Result<Option<Selector<'a>>, AllocError>
-    ensures nests { IfOk result (λ o. option_map selector o ≡ option_map (nested None (selector first.entry)) (parts_at s.now)) }
+    ensures nests { IfOk result (λ o. option_map selector o
+        ≡ option_map (nested None (selector first.entry)) (parts_at s.now)) }
     ensures alone { next_at s.now ≡ r.End → IsOk result }
     ensures bad { next_at s.now ≡ r.Bad → result ≡ Ok None }
 {

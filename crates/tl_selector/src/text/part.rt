@@ -6,7 +6,8 @@ ghost use Rattle.tl_selector.specs.View.{selector};
 ghost use Rattle.tl_selector.specs.TextViews.{op};
 ghost use Rattle.tl_spec.specs.ByteClass.{is_ident};
 ghost use Rattle.tl_spec.specs.Runs.{past};
-ghost use Rattle.tl_spec.specs.SelectorReading.{is_space, after_byte, run_before, quote_at, value_at, op_of, op_at, with_op, bracket_at, simple_at};
+ghost use Rattle.tl_spec.specs.ByteClass.{is_space};
+ghost use Rattle.tl_spec.specs.SelectorReading.{after_byte, run_before, quote_at, value_at, op_of, op_at, with_op, bracket_at, simple_at};
 
 use crate::selector::Selector;
 use tl_bytes::byte_class;

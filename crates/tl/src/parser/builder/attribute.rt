@@ -21,7 +21,8 @@ fn optional_piece<'a, S: Source<'a>>(
     span: Option<Span>,
 ) -> Result<Option<Bytes<'a>>, AllocError>
     requires { IfSome span (IsIn (S.text source.now)) }
-    ensures list { IfOk result (λ value. shown_value value ≡ optional_bytes_at (S.text source.now) span) }
+    ensures list { IfOk result (λ value. shown_value value
+        ≡ optional_bytes_at (S.text source.now) span) }
     ensures held { IfOk result (λ value. IfSome value (IsHeld S.held)) }
 {
     match span {
@@ -39,7 +40,8 @@ fn insert_at<'a, S: Source<'a>>(
 ) -> Result<(), AllocError>
     requires place { ArePairIn (S.text source.now) place }
     requires read { AreRead S.held attributes.old }
-    ensures pair { OnOk result (plain attributes.new ≡ with_pair (plain attributes.old) (pair_at (S.text source.now) place)) }
+    ensures pair { OnOk result (plain attributes.new
+        ≡ with_pair (plain attributes.old) (pair_at (S.text source.now) place)) }
     ensures read { OnOk result (AreRead S.held attributes.new) }
 {
     let key = source.piece(alloc, place.key)?;
@@ -57,7 +59,11 @@ pub(crate) fn read_attributes<'a, S: Source<'a>>(
     requires within { at ≤ length (S.text source.now) }
     requires empty { plain attributes.old ≡ no_attributes }
     requires read { AreRead S.held attributes.old }
-    ensures read { IfOk result (λ end. (shown_attributes attributes.new, drop end (S.text source.now)) ≡ read_of (attributes_at (drop at (S.text source.now)))) }
+    ensures read { IfOk result (λ end. (
+      shown_attributes attributes.new,
+      drop end
+          (S.text source.now),
+    ) ≡ read_of (attributes_at (drop at (S.text source.now)))) }
     ensures held { OnOk result (AreHeldAttributes S.held attributes.new) }
     ensures order { IfOk result (λ end. at ≤ end) }
     ensures within { IfOk result (λ end. end ≤ length (S.text source.now)) }

@@ -28,7 +28,8 @@ impl<'a> Node<'a> {
     #[inline(always)]
     pub(crate) fn push_child(&mut self, child: NodeHandle) -> Result<(), AllocError>
         ensures ok { OnOk result (shown self.new ≡ with_child child (shown self.old)) }
-        ensures held { OnOk result ((held : Held) → IsHeldNode held self.old → IsHeldNode held self.new) }
+        ensures held { OnOk result ((held : Held) → IsHeldNode held self.old
+            → IsHeldNode held self.new) }
     {
         if let Node::Tag(tag) = self {
             tag.push_child(child)?;
@@ -45,7 +46,8 @@ impl<'a> Node<'a> {
         to: usize,
     ) -> Result<(), AllocError>
         requires { to ≤ length (S.text source.now) }
-        ensures ok { OnOk result (shown self.new ≡ with_raw_to (S.text source.now) to (shown self.old)) }
+        ensures ok { OnOk result (shown self.new
+            ≡ with_raw_to (S.text source.now) to (shown self.old)) }
         ensures held { OnOk result (IsHeldNode S.held self.old → IsHeldNode S.held self.new) }
     {
         if let Node::Tag(tag) = self {

@@ -22,7 +22,11 @@ pub(crate) trait Source<'a> {
     /// The bytes of a span of the text.
     fn piece(&self, alloc: Global, span: Span) -> Result<Bytes<'a>, AllocError>
         requires { IsIn (text self.now) span }
-        ensures ok { IfOk result (λ b. b ≡ record { list = bytes_at (text self.now) span; held = held }) }
+        ensures ok { IfOk result (λ b. b ≡ record {
+          list = bytes_at
+              (text self.now) span;
+          held = held;
+        }) }
         ensures succeeds { held ≡ borrowed → IsOk result };
 }
 

@@ -31,7 +31,11 @@ fn read_into<'a, S: Source<'a>>(
     requires empty { plain tag.old.attributes ≡ no_attributes }
     requires read { AreRead S.held tag.old.attributes }
     ensures kept { tag.new ≡ record tag.old { attributes = tag.new.attributes } }
-    ensures read { IfOk result (λ end. (shown_attributes tag.new.attributes, drop end (S.text source.now)) ≡ read_of (attributes (drop at (S.text source.now)))) }
+    ensures read { IfOk result (λ end. (
+      shown_attributes tag.new.attributes,
+      drop end
+          (S.text source.now),
+    ) ≡ read_of (attributes (drop at (S.text source.now)))) }
     ensures held { OnOk result (AreHeldAttributes S.held tag.new.attributes) }
     ensures order { IfOk result (λ end. at ≤ end) }
     ensures within { IfOk result (λ end. end ≤ length (S.text source.now)) }
@@ -54,8 +58,14 @@ pub(crate) fn read_start_tag<'a, S: Source<'a>>(
     requires small { length (S.text source.now) < 2 ^ 32 }
     requires within { at ≤ length (S.text source.now) }
     requires name { IsIn (S.text source.now) name }
-    ensures tag { IfOk result (λ found. shown_tag found.0 ≡ tag_node (S.text source.now) (source_tag (S.text source.now) name at start found.2) []) }
-    ensures end { IfOk result (λ found. (ended (bytes_at (S.text source.now) name) (attributes (drop at (S.text source.now))).0 found.1, drop found.2 (S.text source.now)) ≡ tag_of (bytes_at (S.text source.now) name) (drop at (S.text source.now))) }
+    ensures tag { IfOk result (λ found. shown_tag found.0
+        ≡ tag_node (S.text source.now) (source_tag (S.text source.now) name at start found.2) []) }
+    ensures end { IfOk result (λ found. (
+      ended (bytes_at (S.text source.now) name)
+          (attributes (drop at (S.text source.now))).0 found.1,
+      drop found.2 (S.text source.now),
+    )
+        ≡ tag_of (bytes_at (S.text source.now) name) (drop at (S.text source.now))) }
     ensures held { IfOk result (λ found. IsHeldTag S.held found.0) }
     ensures order { IfOk result (λ found. start < found.2) }
     ensures within { IfOk result (λ found. found.2 ≤ length (S.text source.now)) }

@@ -21,7 +21,8 @@ impl<'b, A, B, O: OutlineOf<A>> ChildrenMutOf<'b, A, B, O> {
     /// The handles of the children, in order. Nothing ties them to a table. A proof that needs what a write leaves calls this
     /// and `children_mut` in a function generic in `A`, `B` and `O`, on `&mut TagOf<A, B, O>`; a caller at a lifetime calls that one.
     pub fn top_mut<'s>(&'s mut self) -> &'s mut RawChildren
-        ensures* writes_back { sem 𝓛 (LendsTopHandles A.row B.row O.row O.OutlineOf self.entry result) }
+        ensures* writes_back { sem 𝓛
+            (LendsTopHandles A.row B.row O.row O.OutlineOf self.entry result) }
         ensures value { result.now ≡ (lent_tag self.old).children }
     {
         let tag = &mut *self.tag;

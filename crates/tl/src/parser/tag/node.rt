@@ -81,7 +81,8 @@ impl<A, B, O: OutlineOf<A>> NodeOf<A, B, O> {
 
     /// The bytes of the comment for writing, if it is one.
     pub fn as_comment_mut(&mut self) -> Option<&mut B>
-        ensures* writes_back { sem 𝓛 (LendsComment A.row B.row O.row O.OutlineOf self.entry result) }
+        ensures* writes_back { sem 𝓛
+            (LendsComment A.row B.row O.row O.OutlineOf self.entry result) }
         ensures value { option_copied_mut result ≡ comment_of self.old }
     {
         match self {

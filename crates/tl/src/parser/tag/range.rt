@@ -46,7 +46,8 @@ impl<'a, 'b> Children<'a, 'b> {
     /// The number of the last of what hangs below the tag: its last child, that one's last child, and so on; None where
     /// there is no child.
     pub fn end(&self, parser: &Parser<'_>) -> Result<Option<InnerNodeHandle>, TreeError>
-        ensures end { Reads (λ end. end) (last_below (map shown parser.now.nodes) (last_or None self.now.children.items)) result }
+        ensures end { Reads (λ end. end) (last_below (map shown parser.now.nodes)
+            (last_or None self.now.children.items)) result }
         ensures memory { RisesBelow (map shown parser.now.nodes) self.now.children.items
             → WantsNoMemory result }
     {
@@ -58,7 +59,8 @@ impl<'a, 'b> Children<'a, 'b> {
         &self,
         parser: &Parser<'_>,
     ) -> Result<Option<(InnerNodeHandle, InnerNodeHandle)>, TreeError>
-        ensures boundaries { Reads (λ both. both) (boundaries_of (map shown parser.now.nodes) self.now.children.items) result }
+        ensures boundaries { Reads (λ both. both)
+            (boundaries_of (map shown parser.now.nodes) self.now.children.items) result }
         ensures memory { RisesBelow (map shown parser.now.nodes) self.now.children.items
             → WantsNoMemory result }
     {
@@ -68,7 +70,8 @@ impl<'a, 'b> Children<'a, 'b> {
 
     // The numbers from start to end.
     pub(crate) fn range(&self, parser: &Parser<'_>) -> Result<Range<usize>, TreeError>
-        ensures range { Reads (λ r. (r.start, r.end)) (range_of (map shown parser.now.nodes) self.now.children.items) result }
+        ensures range { Reads (λ r. (r.start, r.end))
+            (range_of (map shown parser.now.nodes) self.now.children.items) result }
         ensures within { IfOk result (λ r. (r.start ≤ r.end) × (r.end ≤ length parser.now.nodes)) }
         ensures fits { IfOk result (λ r. r.end < 2 ^ 32) }
         ensures memory { RisesBelow (map shown parser.now.nodes) self.now.children.items
@@ -79,7 +82,9 @@ impl<'a, 'b> Children<'a, 'b> {
 
     /// The nodes from start to end, both included: none where there is no child, or the end is below the start.
     pub fn all<'p>(&self, parser: &'p Parser<'a>) -> Result<&'p [Node<'a>], TreeError>
-        ensures all { ReadsNodes (range_of (map shown parser.now.nodes) self.now.children.items) parser.now.nodes result }
+        ensures all { ReadsNodes
+            (range_of
+            (map shown parser.now.nodes) self.now.children.items) parser.now.nodes result }
         ensures memory { RisesBelow (map shown parser.now.nodes) self.now.children.items
             → WantsNoMemory result }
     {

@@ -4,7 +4,7 @@ use Rattle.std.specs.List.{list_any, slice_split}
 use Rattle.std.specs.Str.{bytes_eq}
 use Rattle.std.proofs.lemmas.Iterator.Search.{any_from_yields_List}
 use Rattle.std.proofs.lemmas.Iterator.Splits.{YieldsList-from_slice_split}
-use Rattle.tl_spec.specs.ClassMember.{has_bytes}
+use Rattle.tl_spec.specs.Runs.{has_bytes}
 use Rattle.tl_attributes.proofs.ClassParts.{any_kept, has_some, has_none}
 use Rattle.tl_attributes.proofs.class_iter.has_part.Goals as goal
 

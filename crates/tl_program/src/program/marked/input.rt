@@ -14,7 +14,8 @@ impl<T: Reader> Input for Marked<T> {
 
     fn read(&mut self, buffer: &mut [u8]) -> Result<usize, Fault>
         ensures bound { ReadsAtMost result buffer.new }
-        ensures bytes { ReadConsumes (T.left self.old.inner) (T.left self.new.inner) result buffer.new }
+        ensures bytes { ReadConsumes (T.left self.old.inner)
+            (T.left self.new.inner) result buffer.new }
         ensures marks { self.new.has_failed ≡ (self.old.has_failed || is_err result) }
         // It answers what one call of the wrapped reader answers.
         ensures one { T.reads self.old.inner buffer.old result buffer.new self.new.inner }

@@ -19,7 +19,8 @@ impl<T: Writer> Output for Marked<T> {
     fn write(&mut self, bytes: &[u8]) -> Result<usize, Fault>
         ensures bound { WritesAtMost result bytes.now }
         ensures takes { 0 < length bytes.now → IfOk result (λ n. 0 < n) }
-        ensures bytes { WriteAppends (T.holds self.old.inner) (T.holds self.new.inner) result bytes.now }
+        ensures bytes { WriteAppends (T.holds self.old.inner)
+            (T.holds self.new.inner) result bytes.now }
         ensures marks { self.new.has_failed ≡ (self.old.has_failed || is_err result) }
         ensures counts { self.new.flushes ≡ self.old.flushes }
         ensures unflushed { self.new.is_flushed ≡ false }
@@ -39,7 +40,8 @@ impl<T: Writer> Output for Marked<T> {
     fn flush(&mut self) -> Result<(), Fault>
         ensures bytes { Keeps (T.holds self.old.inner) (T.holds self.new.inner) }
         ensures marks { self.new.has_failed ≡ (self.old.has_failed || is_err result) }
-        ensures counts { self.new.flushes ≡ (if is_ok result then self.old.flushes + 1 else self.old.flushes) }
+        ensures counts { self.new.flushes
+            ≡ (if is_ok result then self.old.flushes + 1 else self.old.flushes) }
         ensures flushed { self.new.is_flushed ≡ (self.old.is_flushed || is_ok result) }
         // It answers what one call of the wrapped writer answers.
         ensures one { T.flushes self.old.inner result self.new.inner }

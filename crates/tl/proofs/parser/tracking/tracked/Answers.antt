@@ -9,7 +9,7 @@ use Rattle.tl.proofs.Tracked.{asked-first}
 use Rattle.tl.proofs.parser.tracking.tracked.Goals as goal
 
 pub loop-number-init : goal.loop-number-init
-loop-number-init c = record { asked = asked-first c.args.options c.new-tracking.result c.new-tracking.ensures.value; ids = c.new-tracking.ensures.ids; classes = c.new-tracking.ensures.classes }
+loop-number-init c = record { asked = asked-first c.args.options c.nothing_tracked-tracking.result c.nothing_tracked-tracking.ensures.value; ids = c.nothing_tracked-tracking.ensures.ids; classes = c.nothing_tracked-tracking.ensures.classes }
 
 pub loop-number-preserved : goal.loop-number-preserved
 loop-number-preserved c =

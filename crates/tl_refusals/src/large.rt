@@ -1,0 +1,333 @@
+//! Maps of many pairs, and containers that something was taken out of.
+use crate::Named;
+use crate::case::Case;
+use crate::stop::{Stop, refused, value};
+use std::alloc::Global;
+use tl::inline::hashmap::InlineHashMap;
+use tl::inline::vec::InlineVec;
+
+const ROOM: usize = 2;
+
+type Map = InlineHashMap<u8, u8, ROOM>;
+
+type List = InlineVec<u8, ROOM>;
+
+// What was done with a container after it was filled with keys or items, which are 0, 1 and so on.
+#[derive(Clone, Copy)]
+enum Past {
+    Filled,
+    // The first was taken out.
+    Taken,
+    // The first was taken out, and then another put.
+    Swapped,
+}
+
+// What is called of a map.
+enum MapCall {
+    Insert(u8),
+    Clone,
+    ToMap,
+}
+
+// The name of a call, with how many pairs the map was filled, what was done then, and the call.
+type MapRow = (&'static str, u8, Past, MapCall);
+
+static MAPS: [MapRow; 18] = [
+    (
+        "insert of a 17th pair",
+        16,
+        Past::Filled,
+        MapCall::Insert(16),
+    ),
+    (
+        "insert of a 21st pair",
+        20,
+        Past::Filled,
+        MapCall::Insert(20),
+    ),
+    (
+        "insert of a 29th pair",
+        28,
+        Past::Filled,
+        MapCall::Insert(28),
+    ),
+    (
+        "insert of a 65th pair",
+        64,
+        Past::Filled,
+        MapCall::Insert(64),
+    ),
+    (
+        "insert of a 71st pair",
+        70,
+        Past::Filled,
+        MapCall::Insert(70),
+    ),
+    (
+        "insert of a key that is there, of 20 pairs",
+        20,
+        Past::Filled,
+        MapCall::Insert(19),
+    ),
+    (
+        "insert of a key that is there, of 70 pairs",
+        70,
+        Past::Filled,
+        MapCall::Insert(69),
+    ),
+    (
+        "clone of a map of 20 pairs",
+        20,
+        Past::Filled,
+        MapCall::Clone,
+    ),
+    (
+        "clone of a map of 70 pairs",
+        70,
+        Past::Filled,
+        MapCall::Clone,
+    ),
+    (
+        "to_map of a map of 20 pairs",
+        20,
+        Past::Filled,
+        MapCall::ToMap,
+    ),
+    (
+        "to_map of a map of 70 pairs",
+        70,
+        Past::Filled,
+        MapCall::ToMap,
+    ),
+    (
+        "insert after a remove, inline",
+        2,
+        Past::Taken,
+        MapCall::Insert(9),
+    ),
+    (
+        "insert after a remove, on the heap",
+        3,
+        Past::Taken,
+        MapCall::Insert(9),
+    ),
+    (
+        "insert after a remove, of 70 pairs",
+        70,
+        Past::Taken,
+        MapCall::Insert(99),
+    ),
+    (
+        "second insert after a remove, inline",
+        2,
+        Past::Swapped,
+        MapCall::Insert(9),
+    ),
+    (
+        "second insert after a remove, on the heap",
+        5,
+        Past::Swapped,
+        MapCall::Insert(9),
+    ),
+    (
+        "second insert after a remove, of 28 pairs",
+        28,
+        Past::Swapped,
+        MapCall::Insert(99),
+    ),
+    (
+        "clone after a remove, of 70 pairs",
+        70,
+        Past::Swapped,
+        MapCall::Clone,
+    ),
+];
+
+// The name of a call, with how many items the list was filled, and what was done then: an item is pushed.
+type ListRow = (&'static str, u8, Past);
+
+static LISTS: [ListRow; 4] = [
+    ("push after a remove, inline", 2, Past::Taken),
+    ("push after a remove, on the heap", 3, Past::Taken),
+    ("second push after a remove, inline", 2, Past::Swapped),
+    ("second push after a remove, on the heap", 6, Past::Swapped),
+];
+
+// What is put in the place of what was taken out, and what is put by the call.
+const OTHER: u8 = 240;
+
+const PUT: u8 = 250;
+
+/// A call on a container with a past, if there is one of this number.
+pub fn call(number: usize, case: &mut Case) -> Option<Named> {
+    if let Some(row) = MAPS.get(number) {
+        return Some((row.0, of_map(row, case)));
+    }
+    let row = LISTS.get(number - MAPS.len())?;
+    Some((row.0, of_list(row, case)))
+}
+
+// How many pairs or items there are.
+fn len(filled: u8, past: Past) -> u8 {
+    match past {
+        Past::Filled | Past::Swapped => filled,
+        Past::Taken => filled.saturating_sub(1),
+    }
+}
+
+fn of_map(row: &MapRow, case: &mut Case) -> Result<(), Stop> {
+    let map = &mut made_map(row, case.alloc())?;
+    match row.3 {
+        MapCall::Insert(key) => insert(map, row, key, case),
+        MapCall::Clone => clone(map, row, case),
+        MapCall::ToMap => to_map(map, row, case),
+    }
+}
+
+fn made_map(row: &MapRow, alloc: Global) -> Result<Map, Stop> {
+    let mut map = Map::new(alloc);
+    for key in 0..row.1 {
+        put(&mut map, key)?;
+    }
+    match row.2 {
+        Past::Filled => {}
+        Past::Taken => {
+            map.remove(&0);
+        }
+        Past::Swapped => {
+            map.remove(&0);
+            put(&mut map, OTHER)?;
+        }
+    }
+    Ok(map)
+}
+
+fn put(map: &mut Map, key: u8) -> Result<(), Stop> {
+    map.insert(key, value_of(key)).map_err(|_| Stop::NoMemory)
+}
+
+fn value_of(key: u8) -> u8 {
+    255 - key
+}
+
+// The key at a place: the last has the place of what was taken out.
+fn key_at(row: &MapRow, place: u8) -> u8 {
+    let last = row.1.saturating_sub(1);
+    match row.2 {
+        Past::Filled => place,
+        Past::Taken | Past::Swapped if place == 0 => last,
+        Past::Swapped if place == last => OTHER,
+        Past::Taken | Past::Swapped => place,
+    }
+}
+
+// Whether a map lies on the heap if more pairs than there is room inline were ever in it.
+fn lies(map: &Map, row: &MapRow) -> bool {
+    map.is_heap_allocated() == (row.1 as usize > ROOM || map.len() > ROOM)
+}
+
+// Whether a map holds the pairs of a row in order, and maybe more behind them; at one key, if it is there, what was put.
+fn holds(map: &Map, row: &MapRow, changed: Option<u8>) -> bool {
+    let len = len(row.1, row.2);
+    if map.len() < len as usize || !lies(map, row) {
+        return false;
+    }
+    for (pair, place) in map.iter().zip(0..len) {
+        let key = key_at(row, place);
+        let wanted = if changed == Some(key) {
+            PUT
+        } else {
+            value_of(key)
+        };
+        if (*pair.0, *pair.1) != (key, wanted) {
+            return false;
+        }
+    }
+    true
+}
+
+// Whether a map holds the pairs of a row and no others.
+fn is_as_made(map: &Map, row: &MapRow) -> bool {
+    map.len() == len(row.1, row.2) as usize && holds(map, row, None)
+}
+
+// A refused pair comes back, and the map holds what it held.
+fn insert(map: &mut Map, row: &MapRow, key: u8, case: &mut Case) -> Result<(), Stop> {
+    let is_known = map.get(&key).is_some();
+    case.begin()?;
+    let answer = map.insert(key, PUT);
+    case.end();
+    let grown = if is_known { 0 } else { 1 };
+    match answer {
+        Ok(()) => value(
+            map.len() == len(row.1, row.2) as usize + grown
+                && holds(map, row, Some(key))
+                && map.get(&key) == Some(&PUT),
+        ),
+        Err(back) => refused(back == (key, PUT) && is_as_made(map, row)),
+    }
+}
+
+fn clone(map: &Map, row: &MapRow, case: &mut Case) -> Result<(), Stop> {
+    case.begin()?;
+    let answer = map.clone();
+    case.end();
+    value(is_as_made(&answer?, row))
+}
+
+fn to_map(map: &Map, row: &MapRow, case: &mut Case) -> Result<(), Stop> {
+    case.begin()?;
+    let answer = map.to_map(case.alloc());
+    case.end();
+    let table = answer?;
+    for pair in map.iter() {
+        if table.get(pair.0) != Some(pair.1) {
+            return Err(Stop::WrongValue);
+        }
+    }
+    value(table.len() == map.len() && is_as_made(map, row))
+}
+
+// A refused item comes back, and the list holds what it held.
+fn of_list(row: &ListRow, case: &mut Case) -> Result<(), Stop> {
+    let mut list = made_list(row, case.alloc())?;
+    case.begin()?;
+    let answer = list.push(PUT);
+    case.end();
+    let len = len(row.1, row.2) as usize;
+    match answer {
+        Ok(()) => value(
+            list.len() == len + 1 && are_left(&list, row) && list.as_slice().last() == Some(&PUT),
+        ),
+        Err(back) => refused(back == PUT && list.len() == len && are_left(&list, row)),
+    }
+}
+
+fn made_list(row: &ListRow, alloc: Global) -> Result<List, Stop> {
+    let mut list = List::new(alloc);
+    for item in 0..row.1 {
+        list.push(item).map_err(|_| Stop::NoMemory)?;
+    }
+    if !list.is_empty() {
+        list.remove(0);
+    }
+    if let Past::Swapped = row.2 {
+        list.push(OTHER).map_err(|_| Stop::NoMemory)?;
+    }
+    Ok(list)
+}
+
+// Whether a list begins as it was made, and lies on the heap if more items than there is room inline were ever in it.
+fn are_left(list: &List, row: &ListRow) -> bool {
+    for (item, wanted) in list.iter().zip(1..row.1) {
+        if *item != wanted {
+            return false;
+        }
+    }
+    let other = match row.2 {
+        Past::Swapped => Some(&OTHER),
+        Past::Filled | Past::Taken => None,
+    };
+    let is_other = other.is_none() || list.get(row.1.saturating_sub(1) as usize) == other;
+    is_other && list.is_heap_allocated() == (row.1 as usize > ROOM || list.len() > ROOM)
+}

@@ -1,0 +1,46 @@
+-- What is printed and read of a document with fields.
+use Rattle.std.proofs.Common.{◌≡◌, ℕ, List, [], length, map, Ok, ap, sym, ◌∙◌, subst}
+use Rattle.std.proofs.lemmas.List.{length-map}
+use Rattle.tl_spec.specs.Clean.{IsCleanTable}
+use Rattle.tl_spec.specs.Document.{Document, document}
+use Rattle.tl_spec.specs.Forest.{forest, plain}
+use Rattle.tl_spec.specs.Normal.{ReadsAs}
+use Rattle.tl_spec.specs.Print.{document_print}
+use Rattle.tl_spec.specs.Token.{tokens}
+use Rattle.tl_spec.specs.Walk.{every, trees, walk}
+use Rattle.tl_spec.proofs.Order.{document-whole}
+use Rattle.tl.specs.Shown.{HTMLNode, HTMLTable, document_of, shown}
+use Rattle.tl.specs.TableLends.{with_nodes}
+use Rattle.tl.proofs.Written.{written-document}
+use Rattle.uses.specs.Fields.{Fields, document_with, node_with, trees_with}
+use Rattle.uses.specs.Shown.{flow}
+use Rattle.uses.specs.Left.{row}
+use Rattle.uses.proofs.Trees.{clean-document, trees-of-document}
+
+-- a document whose nodes were written, each with fields
+pub written_with : (fields : Fields) (d : HTMLTable) (nodes : List HTMLNode) → map shown nodes ≡ map (node_with fields) (map shown d.nodes) →
+    document_of (with_nodes d nodes) ≡ document_with fields (document_of d)
+written_with fields d nodes e =
+    let long : length nodes ≡ length d.nodes =
+    sym (length-map nodes shown) ∙ ap length e ∙ length-map (map shown d.nodes) (node_with fields) ∙ length-map d.nodes shown in
+    written-document d nodes long ∙ ap (λ ns. record (document_of d) { nodes = ns }) e
+
+-- the document of a text, and that with fields
+module _ (fields : Fields) (t : List ℕ) (read filled : Document) (first : read ≡ document t) (then_ : filled ≡ document_with fields read) where
+  pub print_read : (s : List ℕ) → document_print filled ≡ Ok s → document_print (document_with fields (document t)) ≡ Ok s
+  print_read s e = ap document_print (sym (then_ ∙ ap (document_with fields) first)) ∙ e
+
+  pub clean_read : IsCleanTable read.nodes read.top → IsCleanTable filled.nodes filled.top
+  clean_read h = subst (λ (x : Document). IsCleanTable x.nodes x.top) (sym then_) (clean-document fields read h)
+
+  trees_read : trees (walk every filled.nodes [] filled.top) ≡ trees_with fields (plain (forest (tokens t)))
+  trees_read =
+      ap (λ (x : Document). trees (walk every x.nodes [] x.top)) then_ ∙ trees-of-document fields read
+      ∙ ap (λ (x : Document). trees_with fields (trees (walk every x.nodes [] x.top))) first ∙ ap (trees_with fields) (document-whole t)
+
+  pub reads_read : (s : List ℕ) → ReadsAs s (trees (walk every filled.nodes [] filled.top)) → ReadsAs s (trees_with fields (plain (forest (tokens t))))
+  reads_read s h = subst (ReadsAs s) trees_read h
+
+-- the row of a document just read is the flow of the trees of its text
+pub page_flow : (d : HTMLTable) (t : List ℕ) → document_of d ≡ document t → row (map shown d.nodes) d.top ≡ flow (plain (forest (tokens t)))
+page_flow d t e = ap (λ (x : Document). flow (trees (walk every x.nodes [] x.top))) e ∙ ap flow (document-whole t)
