@@ -5,9 +5,9 @@ use Rattle.tl_spec.specs.ByteClass.{is_printed_alone}
 use Rattle.tl_spec.specs.Clean.{HaveOwnKeys, IsCleanNode, IsCleanTable, NodeHasOwnKeys}
 use Rattle.tl_spec.specs.Document.{Node, Tag, TagNode}
 use Rattle.tl_spec.specs.Normal.{ReadsAs}
-use Rattle.tl_spec.specs.Print.{outer_html, print, print_start, print_end, printed}
+use Rattle.tl_spec.specs.Print.{outer_html, print, print_start, print_end, print_of_event}
 use Rattle.tl_spec.specs.Text.{text_of, event_text}
-use Rattle.tl_spec.specs.Walk.{Event, TreeFault, Walk, events, every, fault_among, first_fault, or_else, plain_node, shows, trees, unless, walk, walk_of}
+use Rattle.tl_spec.specs.Walk.{Event, TreeFault, Walk, events, every, fault_among, first_fault, or_else, plain_node, prints_children, trees, unless, walk, walk_of}
 use Rattle.tl_spec.proofs.Events.{first_fault-events, print-walk, text_of-events, walk_of-passed, walk_of-tag}
 use Rattle.tl_spec.proofs.Images.{image-pairs_in_order}
 use Rattle.tl_spec.specs.Attribute.{Pair}
@@ -31,7 +31,7 @@ chosen b v s t e = ap (λ x. if x then s else t) e
 
 module _ (nodes : List Node) (own : TagNode) where
   abbrev inside : Walk
-  inside = walk shows nodes [] own.children.items
+  inside = walk prints_children nodes [] own.children.items
 
   abbrev start_bytes : List ℕ
   start_bytes = print_start (plain_node own)
@@ -40,44 +40,44 @@ module _ (nodes : List Node) (own : TagNode) where
   end_bytes = print_end (plain_node own)
 
   -- a tag that is not printed alone has the faults of its children
-  pub fault-entered : is_printed_alone own.name ≡ false → first_fault (walk_of shows nodes (Tag own)) ≡ first_fault (walk shows nodes [] own.children.items)
-  fault-entered entered = ap first_fault (walk_of-tag shows nodes own (ap not entered)) ∙ or_else-none (first_fault inside)
+  pub fault-entered : is_printed_alone own.name ≡ false → first_fault (walk_of prints_children nodes (Tag own)) ≡ first_fault (walk prints_children nodes [] own.children.items)
+  fault-entered entered = ap first_fault (walk_of-tag prints_children nodes own (ap not entered)) ∙ or_else-none (first_fault inside)
 
   -- its print is its start tag, the print of its children and its end tag
-  pub print-entered : is_printed_alone own.name ≡ false → print (trees (walk_of shows nodes (Tag own))) ≡ start_bytes ++ (print (trees (walk shows nodes [] own.children.items)) ++ end_bytes)
+  pub print-entered : is_printed_alone own.name ≡ false → print (trees (walk_of prints_children nodes (Tag own))) ≡ start_bytes ++ (print (trees (walk prints_children nodes [] own.children.items)) ++ end_bytes)
   print-entered entered =
-      ap (λ w. print (trees w)) (walk_of-tag shows nodes own (ap not entered))
+      ap (λ w. print (trees w)) (walk_of-tag prints_children nodes own (ap not entered))
       ∙ ap (λ s. (start_bytes ++ s) ++ []) (chosen (is_printed_alone own.name) false [] (print (trees inside) ++ end_bytes) entered)
       ∙ append-nil (start_bytes ++ (print (trees inside) ++ end_bytes))
 
   -- its trees have their own keys where it and those of its children have
-  pub own-entered : is_printed_alone own.name ≡ false → NodeHasOwnKeys (Tag own) → HaveOwnKeys (trees (walk shows nodes [] own.children.items)) → HaveOwnKeys (trees (walk_of shows nodes (Tag own)))
-  own-entered entered start below = subst (λ w. HaveOwnKeys (trees w)) (sym (walk_of-tag shows nodes own (ap not entered))) (start, below, tt)
+  pub own-entered : is_printed_alone own.name ≡ false → NodeHasOwnKeys (Tag own) → HaveOwnKeys (trees (walk prints_children nodes [] own.children.items)) → HaveOwnKeys (trees (walk_of prints_children nodes (Tag own)))
+  own-entered entered start below = subst (λ w. HaveOwnKeys (trees w)) (sym (walk_of-tag prints_children nodes own (ap not entered))) (start, below, tt)
 
-  pub own-passed : is_printed_alone own.name ≡ true → NodeHasOwnKeys (Tag own) → HaveOwnKeys (trees (walk_of shows nodes (Tag own)))
-  own-passed alone start = subst (λ w. HaveOwnKeys (trees w)) (sym (walk_of-passed shows nodes own (ap not alone))) (start, tt, tt)
+  pub own-passed : is_printed_alone own.name ≡ true → NodeHasOwnKeys (Tag own) → HaveOwnKeys (trees (walk_of prints_children nodes (Tag own)))
+  own-passed alone start = subst (λ w. HaveOwnKeys (trees w)) (sym (walk_of-passed prints_children nodes own (ap not alone))) (start, tt, tt)
 
 -- a walk's events say what its trees print
 pub writes-walk : {A : Type 0} (nodes : List Node) (hs : List ℕ) (es : List Event) (old : List ℕ) (r : Result A TreeError) (new : List ℕ) →
-    es ≡ events (walk shows nodes [] hs) → Writes (fault_among es) (flat_map printed es) old r new →
-    Writes (first_fault (walk shows nodes [] hs)) (print (trees (walk shows nodes [] hs))) old r new
+    es ≡ events (walk prints_children nodes [] hs) → Writes (fault_among es) (flat_map print_of_event es) old r new →
+    Writes (first_fault (walk prints_children nodes [] hs)) (print (trees (walk prints_children nodes [] hs))) old r new
 writes-walk nodes hs es old r new e h =
-    subst₂ (λ f s. Writes f s old r new) (ap fault_among e ∙ sym (first_fault-events (walk shows nodes [] hs))) (ap (flat_map printed) e ∙ sym (print-walk nodes [] hs)) h
+    subst₂ (λ f s. Writes f s old r new) (ap fault_among e ∙ sym (first_fault-events (walk prints_children nodes [] hs))) (ap (flat_map print_of_event) e ∙ sym (print-walk nodes [] hs)) h
 
 -- the print of a clean table is read as the table
-pub reads-printed : (nodes : List Node) (top s : List ℕ) → first_fault (walk shows nodes [] top) ≡ None → s ≡ print (trees (walk shows nodes [] top)) → HaveOwnKeys (trees (walk shows nodes [] top)) →
+pub reads-printed : (nodes : List Node) (top s : List ℕ) → first_fault (walk prints_children nodes [] top) ≡ None → s ≡ print (trees (walk prints_children nodes [] top)) → HaveOwnKeys (trees (walk prints_children nodes [] top)) →
     IsCleanTable nodes top → ReadsAs s (trees (walk every nodes [] top))
 reads-printed nodes top s no_fault is own clean =
-    table_identity (record { nodes = nodes; top = top; is_html5 = false }) clean own s (ap (λ o. unless o (print (trees (walk shows nodes [] top)))) no_fault ∙ ap Ok (sym is))
+    table_identity (record { nodes = nodes; top = top; is_html5 = false }) clean own s (ap (λ o. unless o (print (trees (walk prints_children nodes [] top)))) no_fault ∙ ap Ok (sym is))
 
 -- the print of a clean node is read as that one tree
-pub reads-node : (nodes : List Node) (node : Node) (s : List ℕ) → first_fault (walk_of shows nodes node) ≡ None → s ≡ print (trees (walk_of shows nodes node)) →
-    HaveOwnKeys (trees (walk_of shows nodes node)) → IsCleanNode nodes node → ReadsAs s (trees (walk_of every nodes node))
+pub reads-node : (nodes : List Node) (node : Node) (s : List ℕ) → first_fault (walk_of prints_children nodes node) ≡ None → s ≡ print (trees (walk_of prints_children nodes node)) →
+    HaveOwnKeys (trees (walk_of prints_children nodes node)) → IsCleanNode nodes node → ReadsAs s (trees (walk_of every nodes node))
 reads-node nodes node s no_fault is own clean =
-    node_identity nodes node clean own s (ap (λ o. unless o (print (trees (walk_of shows nodes node)))) no_fault ∙ ap Ok (sym is))
+    node_identity nodes node clean own s (ap (λ o. unless o (print (trees (walk_of prints_children nodes node)))) no_fault ∙ ap Ok (sym is))
 
 -- so is that of a text and of a comment
-pub reads-leaf : (nodes : List Node) (node : Node) (s : List ℕ) (r : Result (String Global) TreeError) → outer_html nodes node ≡ Ok s → HaveOwnKeys (trees (walk_of shows nodes node)) →
+pub reads-leaf : (nodes : List Node) (node : Node) (s : List ℕ) (r : Result (String Global) TreeError) → outer_html nodes node ≡ Ok s → HaveOwnKeys (trees (walk_of prints_children nodes node)) →
     Answers (Ok s) r → IsCleanNode nodes node → IfOk r (λ t. ReadsAs (string_bytes t) (trees (walk_of every nodes node)))
 reads-leaf nodes node s (Ok t) is own answers clean = node_identity nodes node clean own (string_bytes t) (is ∙ answers)
 reads-leaf nodes node s (Err e) is own answers clean = tt

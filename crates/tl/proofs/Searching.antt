@@ -6,7 +6,7 @@ use Rattle.std.specs.List.{slice_get}
 use Rattle.tl_spec.specs.Walk.{Event as Happening}
 use Rattle.tl.specs.declared.errors.TreeError.{TreeError}
 use Rattle.tl.specs.declared.errors.TreeError.TheVariants.{Dangling as DanglingError, Cycle as CycleError, OutOfMemory}
-use Rattle.tl.specs.Find.{Finds, FindsOrStops, Passes, Sight, sight, sight_of, sights}
+use Rattle.tl.specs.Find.{FindsNode, FindsNodeOrStops, Passes, Sight, sight, sight_of, sights}
 use Rattle.tl.specs.Shown.{HTMLNode}
 use Rattle.tl.specs.Walker.{Refuses}
 
@@ -18,23 +18,23 @@ module _ {F : Type 0} (calls : Mut F (Bor HTMLNode × Unit {0}) Bool) where
   waits p (Ok v ∷ later) = inl refl
 
   -- for memory, or at a fault
-  pub stopped : (p : F) (nodes : List HTMLNode) (es : List Happening) (e : TreeError) → Refuses es e → FindsOrStops calls p (sights nodes es) (Err e) p
+  pub stopped : (p : F) (nodes : List HTMLNode) (es : List Happening) (e : TreeError) → Refuses es e → FindsNodeOrStops calls p (sights nodes es) (Err e) p
   stopped p nodes es (DanglingError h) (rest, is) = rw is (inl (refl, refl))
   stopped p nodes es (CycleError h) (rest, is) = rw is (inl (refl, refl))
   stopped p nodes es OutOfMemory any = inr (refl, waits p (sights nodes es))
 
   -- at a node
   pub found : (p q : F) (nodes : List HTMLNode) (h : ℕ) (node : HTMLNode) (later : List Sight) → slice_get nodes h ≡ Some node → CalledAt calls p node true q →
-      Finds calls p (sight nodes h ∷ later) (Ok (Some h)) q
+      FindsNode calls p (sight nodes h ∷ later) (Ok (Some h)) q
   found p q nodes h node later is called = let seen : sight nodes h ≡ Ok (h, node) = ap (sight_of h) is in rw seen (inl (called, refl))
 
   -- after a node
   pub went_on : (p m q : F) (nodes : List HTMLNode) (h : ℕ) (node : HTMLNode) (later : List Sight) (r : Result (Option ℕ) TreeError) →
-      slice_get nodes h ≡ Some node → CalledAt calls p node false m → Finds calls m later r q → Finds calls p (sight nodes h ∷ later) r q
+      slice_get nodes h ≡ Some node → CalledAt calls p node false m → FindsNode calls m later r q → FindsNode calls p (sight nodes h ∷ later) r q
   went_on p m q nodes h node later r is called rest = let seen : sight nodes h ≡ Ok (h, node) = ap (sight_of h) is in rw seen (inr (m, called, rest))
 
   -- the same where memory may run out
   pub passed : (p m q : F) (nodes : List HTMLNode) (h : ℕ) (node : HTMLNode) (later : List Sight) (r : Result (Option ℕ) TreeError) →
-      slice_get nodes h ≡ Some node → CalledAt calls p node false m → FindsOrStops calls m later r q → FindsOrStops calls p (sight nodes h ∷ later) r q
+      slice_get nodes h ≡ Some node → CalledAt calls p node false m → FindsNodeOrStops calls m later r q → FindsNodeOrStops calls p (sight nodes h ∷ later) r q
   passed p m q nodes h node later r is called (inl rest) = inl (went_on p m q nodes h node later r is called rest)
   passed p m q nodes h node later r is called (inr (o, rest)) = let seen : sight nodes h ≡ Ok (h, node) = ap (sight_of h) is in rw seen (inr (o, inr (m, called, rest)))

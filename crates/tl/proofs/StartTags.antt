@@ -2,9 +2,9 @@
 use Rattle.std.proofs.Common.{◌≡◌, ℕ, ◌-◌, List, [], take, drop, ap, ◌∙◌}
 use Rattle.tl_spec.specs.Attribute.{Pair, attributes}
 use Rattle.tl_spec.specs.AttributeList.{Attributes, attributes_of}
-use Rattle.tl_spec.specs.Token.{Token, closed}
+use Rattle.tl_spec.specs.Token.{Token, token_after_attributes}
 use Rattle.tl_spec.specs.Document.{TagNode, held_items, tag_node}
-use Rattle.tl_lexer.specs.Lexed.{ended, tag_of}
+use Rattle.tl_lexer.specs.Lexed.{ended, start_tag_of}
 use Rattle.tl_lexer.specs.declared.tag.TagEnd.{TagEnd}
 use Rattle.tl.specs.StartTag.{read_of}
 
@@ -20,8 +20,8 @@ module _ (t name : List ℕ) (at after : ℕ) (attrs : Attributes (List ℕ))
 
   -- how it ends, by how what stands after its attributes does
   pub tag-ends : (kind : TagEnd) (end : ℕ)
-      → ((name : List ℕ) (pairs : List Pair) → ◌≡◌ {A = Token × List ℕ} (ended name pairs kind, drop end t) (closed name pairs (drop after t)))
-      → ◌≡◌ {A = Token × List ℕ} (ended name (attributes (drop at t)).0 kind, drop end t) (tag_of name (drop at t))
+      → ((name : List ℕ) (pairs : List Pair) → ◌≡◌ {A = Token × List ℕ} (ended name pairs kind, drop end t) (token_after_attributes name pairs (drop after t)))
+      → ◌≡◌ {A = Token × List ℕ} (ended name (attributes (drop at t)).0 kind, drop end t) (start_tag_of name (drop at t))
   tag-ends kind end ends =
       let left : drop after t ≡ (attributes (drop at t)).1 = ap (λ (r : Attributes (List ℕ) × List ℕ). r.1) read in
-      ends name (attributes (drop at t)).0 ∙ ap (closed name (attributes (drop at t)).0) left
+      ends name (attributes (drop at t)).0 ∙ ap (token_after_attributes name (attributes (drop at t)).0) left

@@ -4,7 +4,7 @@ use Rattle.tl_bytes.specs.Held.{Held, Kept}
 use Rattle.tl_spec.specs.Token.{PlacedToken}
 use Rattle.tl_spec.specs.Forest.{closes}
 use Rattle.tl_spec.specs.Document.{Node, Raw, Comment, Document}
-use Rattle.tl_spec.specs.Machine.{State, added, opened, after_end, enclosing_name}
+use Rattle.tl_spec.specs.Machine.{State, with_next_node, with_open_tag, after_end, enclosing_name}
 use Rattle.tl_lexer.specs.Span.{bytes_at}
 use Rattle.tl_lexer.specs.declared.span.Span.{Span}
 use Rattle.tl_lexer.specs.Lexed.{meant}
@@ -23,14 +23,14 @@ state_of b = record { nodes = map shown b.nodes.items; open_tags = reverse b.ope
 -- the tag of a start tag written: nothing where that is broken, else opened unless it stands alone
 abbrev pub with_tag : Node → Bool → State → TagEnd → State
 with_tag node void s Broken = s
-with_tag node void s Alone = added node s
-with_tag node void s Opens = (if void then added node s else opened node s)
+with_tag node void s Alone = with_next_node node s
+with_tag node void s Opens = (if void then with_next_node node s else with_open_tag node s)
 
 -- a token that is no start tag and ends at a place written
 abbrev pub with_whole : List ℕ → Token → ℕ → State → State
-with_whole t (TextToken span) to s = added (Raw (bytes_at t span)) s
+with_whole t (TextToken span) to s = with_next_node (Raw (bytes_at t span)) s
 with_whole t (EndToken name) to s = after_end t to s (closes (bytes_at t name) (enclosing_name s.nodes s.open_tags))
-with_whole t (CommentToken span) to s = added (Comment (bytes_at t span)) s
+with_whole t (CommentToken span) to s = with_next_node (Comment (bytes_at t span)) s
 with_whole t (DoctypeToken html) to s = record s { is_html5 = s.is_html5 || html }
 with_whole t (StartToken name) to s = s
 with_whole t NothingToken to s = s

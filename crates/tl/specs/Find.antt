@@ -37,10 +37,10 @@ sights_below nodes (AComment bytes) = []
 
 module _ {F : Type 0} (calls : Mut F (Bor HTMLNode × Unit {0}) Bool) where
   -- calls lead from p to q: false at each node, up to one that is true, or to a fault, or to the end
-  abbrev pub Finds : F → List Sight → Result (Option ℕ) TreeError → F → Type 0
-  Finds p [] r q = (r ≡ Ok None) × (p ≡ q)
-  Finds p (Err e ∷ later) r q = (r ≡ Err e) × (p ≡ q)
-  Finds p (Ok v ∷ later) r q = (CalledAt calls p v.1 true q × (r ≡ Ok (Some v.0))) ⊎ ((m : F) × CalledAt calls p v.1 false m × Finds m later r q)
+  abbrev pub FindsNode : F → List Sight → Result (Option ℕ) TreeError → F → Type 0
+  FindsNode p [] r q = (r ≡ Ok None) × (p ≡ q)
+  FindsNode p (Err e ∷ later) r q = (r ≡ Err e) × (p ≡ q)
+  FindsNode p (Ok v ∷ later) r q = (CalledAt calls p v.1 true q × (r ≡ Ok (Some v.0))) ⊎ ((m : F) × CalledAt calls p v.1 false m × FindsNode m later r q)
 
   -- calls lead from p to q: false at each node of a beginning
   abbrev pub Passes : F → List Sight → F → Type 0
@@ -49,5 +49,5 @@ module _ {F : Type 0} (calls : Mut F (Bor HTMLNode × Unit {0}) Bool) where
   Passes p (Ok v ∷ later) q = (p ≡ q) ⊎ ((m : F) × CalledAt calls p v.1 false m × Passes m later q)
 
   -- the same as `Finds`; or memory ran out, and a beginning was shown
-  abbrev pub FindsOrStops : F → List Sight → Result (Option ℕ) TreeError → F → Type 0
-  FindsOrStops p seen r q = Finds p seen r q ⊎ ((r ≡ Err OutOfMemory) × Passes p seen q)
+  abbrev pub FindsNodeOrStops : F → List Sight → Result (Option ℕ) TreeError → F → Type 0
+  FindsNodeOrStops p seen r q = FindsNode p seen r q ⊎ ((r ≡ Err OutOfMemory) × Passes p seen q)

@@ -31,6 +31,6 @@ abbrev pub AreIn : List Node → Result (ℕ × ℕ) TreeFault → Selector → 
 AreIn nodes is e ns = (range : ℕ × ℕ) × (is ≡ Ok range) × AreMatches nodes e range.0 range.1 ns
 
 -- nothing where a text stands for no selector, and else what the selector finds that it stands for
-abbrev pub Finds : List ℕ → (Selector → List ℕ → Type 0) → Option (List ℕ) → Type 0
-Finds text AreFound None = (e : Selector) → IsSelectorText text e → ⊥
-Finds text AreFound (Some ns) = (e : Selector) × IsSelectorText text e × AreFound e ns
+abbrev pub FindsMatches : List ℕ → (Selector → List ℕ → Type 0) → Option (List ℕ) → Type 0
+FindsMatches text AreFound None = (e : Selector) → IsSelectorText text e → ⊥
+FindsMatches text AreFound (Some ns) = (e : Selector) × IsSelectorText text e × AreFound e ns

@@ -2,7 +2,7 @@
 use Rattle.std.specs.Prelude.{◌≡◌, ℕ, Bool, List, [], ◌∷◌, ◌++◌, length, map, Option, Some, None, Result, Ok, Err, IfSome, ⊤}
 use Rattle.std.specs.List.{slice_get}
 use Rattle.tl_spec.specs.Document.{Node, TagNode}
-use Rattle.tl_spec.specs.Walk.{Event as Happening, meets, leaves, faulty, every, shows, walk, events}
+use Rattle.tl_spec.specs.Walk.{Event as Happening, meets, leaves, faulty, every, prints_children, walk, events}
 use Rattle.tl.specs.declared.errors.TreeError.{TreeError}
 use Rattle.tl.specs.TreeFault.{fault_of}
 use Rattle.tl.specs.declared.walk.Entered.{Entered}
@@ -17,7 +17,7 @@ use Rattle.tl.specs.Shown.{HTMLNode, shown, shown_tag}
 -- the names of the tags that are entered
 abbrev pub enters : Entered → List ℕ → Bool
 enters All = every
-enters Shown = shows
+enters Shown = prints_children
 
 -- the handles of the frames, the last first, before a path
 abbrev pub path_from : List ℕ → List Frame → List ℕ

@@ -37,11 +37,13 @@ pub fn lookups_find_tags_of_the_text()
 pub fn lookups_answer_alike()
     ensures id { (d e : HTMLTable) (asked : Options) (read : List Node) (id : Kept)
         → (document_of d).nodes ≡ (document_of e).nodes →
-        AreAsked asked d.tracking → AreAsked asked e.tracking → AnswerIds d.tracking read → AnswerIds e.tracking read →
+        AreAsked asked d.tracking → AreAsked asked e.tracking → AnswerIds d.tracking read →
+        AnswerIds e.tracking read →
         with_id d id ≡ with_id e id }
     ensures class { (d e : HTMLTable) (asked : Options) (read : List Node) (member : List ℕ)
         → (document_of d).nodes ≡ (document_of e).nodes →
-        AreAsked asked d.tracking → AreAsked asked e.tracking → AnswerClasses d.tracking read → AnswerClasses e.tracking read →
+        AreAsked asked d.tracking → AreAsked asked e.tracking → AnswerClasses d.tracking read →
+        AnswerClasses e.tracking read →
         with_member d member ≡ with_member e member }
 {}
 
@@ -51,8 +53,10 @@ pub fn written_nodes()
     ensures document { (d : HTMLTable) (nodes : List HTMLNode) → length nodes ≡ length d.nodes →
         document_of (with_nodes d nodes) ≡ record (document_of d) { nodes = map shown nodes } }
     ensures clean { (d : HTMLTable) (nodes : List HTMLNode) → length nodes ≡ length d.nodes →
-        All (λ n. IsCleanAlone (shown n)) nodes → All IsCleanAlone (document_of (with_nodes d nodes)).nodes }
+        All (λ n. IsCleanAlone (shown n)) nodes →
+        All IsCleanAlone (document_of (with_nodes d nodes)).nodes }
     ensures hold { (d : HTMLTable) (nodes : List HTMLNode) (tests : Tests)
         → length nodes ≡ length d.nodes →
-        All (λ n. HoldOfNode tests (shown n)) nodes → All (HoldOfNode tests) (document_of (with_nodes d nodes)).nodes }
+        All (λ n. HoldOfNode tests (shown n)) nodes →
+        All (HoldOfNode tests) (document_of (with_nodes d nodes)).nodes }
 {}

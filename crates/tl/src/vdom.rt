@@ -116,7 +116,8 @@ impl<'a> VDom<'a> {
     pub fn outer_html(&self, alloc: Global) -> Result<String, TreeError>
         ensures answers { Answers (document_print (document_of self.now)) result }
         ensures identity { let d = document_of self.now in
-            IsCleanTable d.nodes d.top → IfOk result (λ s. ReadsAs (string_bytes s) (trees (walk every d.nodes [] d.top))) }
+            IsCleanTable d.nodes d.top →
+            IfOk result (λ s. ReadsAs (string_bytes s) (trees (walk every d.nodes [] d.top))) }
 
         // A first top handle that dangles is answered before any memory is taken.
         ensures dangling { (h : ℕ) → FirstDangles self.now.nodes self.now.top h

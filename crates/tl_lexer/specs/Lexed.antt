@@ -1,7 +1,7 @@
 -- What a token of the lexer says.
 use Rattle.std.specs.Prelude.{ℕ, true, false, List, drop, ⊤}
 use Rattle.tl_spec.specs.Attribute.{Pair, attributes}
-use Rattle.tl_spec.specs.Token.{Token as Meant, Nothing, Text, End, Comment, Doctype, Start, closed}
+use Rattle.tl_spec.specs.Token.{Token as Meant, Nothing, Text, End, Comment, Doctype, Start, token_after_attributes}
 use Rattle.tl_lexer.specs.Span.{bytes_at, IsIn}
 use Rattle.tl_lexer.specs.declared.tag.TagEnd.{TagEnd}
 use Rattle.tl_lexer.specs.declared.tag.TagEnd.TheVariants.{Opens, Alone, Broken}
@@ -15,8 +15,8 @@ ended name pairs Alone = Start name pairs true
 ended name pairs Broken = Nothing
 
 -- a start tag whose attributes are those at the front of s, and what stands after it
-abbrev pub tag_of : List ℕ → List ℕ → Meant × List ℕ
-tag_of name s = let a = attributes s in closed name a.0 a.1
+abbrev pub start_tag_of : List ℕ → List ℕ → Meant × List ℕ
+start_tag_of name s = let a = attributes s in token_after_attributes name a.0 a.1
 
 -- what the token says that stands in t before the place `end`, and what stands after it: after a tag's name and blanks its attributes and its end follow
 abbrev pub meant : List ℕ → Token → ℕ → Meant × List ℕ
@@ -24,7 +24,7 @@ meant t (TextToken s) end = (Text (bytes_at t s), drop end t)
 meant t (EndToken name) end = (End (bytes_at t name), drop end t)
 meant t (CommentToken s) end = (Comment (bytes_at t s), drop end t)
 meant t (DoctypeToken html) end = (Doctype html, drop end t)
-meant t (StartToken name) end = tag_of (bytes_at t name) (drop end t)
+meant t (StartToken name) end = start_tag_of (bytes_at t name) (drop end t)
 meant t NothingToken end = (Nothing, drop end t)
 
 -- the spans of a token are in the text

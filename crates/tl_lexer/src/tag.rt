@@ -1,7 +1,7 @@
 //! How a start tag ends.
 ghost use Rattle.std.specs.Prelude.{◌≡◌, ◌≤◌, ◌+◌, ℕ, List, length, drop};
 ghost use Rattle.tl_spec.specs.Attribute.{Pair};
-ghost use Rattle.tl_spec.specs.Token.{closed};
+ghost use Rattle.tl_spec.specs.Token.{token_after_attributes};
 
 /// How a start tag ends.
 #[derive(Clone, Copy)]
@@ -21,7 +21,7 @@ pub fn tag_end(text: &[u8], at: usize) -> (TagEnd, usize)
     requires { at ≤ length text.now }
     ensures read { (name : List ℕ) (pairs : List Pair)
         → (ended name pairs result.0, drop result.1 text.now)
-        ≡ closed name pairs (drop at text.now) }
+        ≡ token_after_attributes name pairs (drop at text.now) }
     ensures order { at ≤ result.1 }
     ensures within { result.1 ≤ length text.now }
 {

@@ -5,7 +5,7 @@ use Rattle.std.specs.Prelude.{IsTrue, IsSomeAnd, IsErrAnd}
 use Rattle.std.proofs.lemmas.Option.{slice_get-map, slice_get-get_or}
 use Rattle.std.proofs.lemmas.List.{length-map, take_all}
 use Rattle.tl_spec.specs.Document.{Document}
-use Rattle.tl_spec.specs.Edit.{Change, Refusal, no_node, not_tag, no_place, on_ok, edited, edited_all, done, stopped}
+use Rattle.tl_spec.specs.Edit.{Change, Refusal, no_node, not_tag, no_place, on_ok, edited, edited_all, all_made, refusal_at}
 use Rattle.tl_spec.proofs.Edits.{edited_all-refused}
 use Rattle.tl.specs.Shown.{HTMLTag, HTMLNode, document_of, HTMLTable}
 use Rattle.tl.specs.TableLends.{with_node}
@@ -72,10 +72,10 @@ module _ (steps : List Step) (old now new : HTMLTable) (i : ℕ) (x : Step) (wit
       let Q : Result Document Refusal → Type 0 = λ r. IsRefused takes r error in
       subst P (sym same) (by error (subst Q (sym (image-edited_table change now)) (IsRefused-on_ok takes document_of (edited_table change now) error h)))
     where
-      shown : edited_all (take i (map change_of steps)) (document_of old) ≡ done (document_of now)
+      shown : edited_all (take i (map change_of steps)) (document_of old) ≡ all_made (document_of now)
       shown = image-table_after (take i (map change_of steps)) old now before
 
-      refused : (refusal : Refusal) → edited change (document_of now) ≡ Err refusal → edited_all (map change_of steps) (document_of old) ≡ stopped i refusal (document_of now)
+      refused : (refusal : Refusal) → edited change (document_of now) ≡ Err refusal → edited_all (map change_of steps) (document_of old) ≡ refusal_at i refusal (document_of now)
       refused refusal is = edited_all-refused change (document_of now) (map change_of steps) (document_of old) i refusal shown here is
 
       by : (e : StepError) → IsRefused takes (edited change (document_of now)) e → StopsAt (map change_of steps) (document_of old) (document_of now) i e
@@ -94,6 +94,6 @@ module _ (steps : List Step) (old now new : HTMLTable) (i : ℕ) (x : Step) (wit
 
 -- steps of which none is left
 pub steps-all : (steps : List Step) (old now : HTMLTable) (i : ℕ) → length steps ≤ i → table_after (take i (map change_of steps)) old ≡ Ok now → table_after (map change_of steps) old ≡ Ok now
-steps-all steps old now i past done =
+steps-all steps old now i past all_made =
     let all : take i (map change_of steps) ≡ map change_of steps = take_all i (map change_of steps) (omega (arith, length-map steps change_of)) in
-    ap (λ (cs : List Change). table_after cs old) (sym all) ∙ done
+    ap (λ (cs : List Change). table_after cs old) (sym all) ∙ all_made

@@ -10,7 +10,7 @@ use Rattle.tl_spec.specs.Document as shown_node
 use Rattle.tl_spec.specs.Inline.{room, with_last}
 use Rattle.tl_spec.specs.AttributeList.{Attributes}
 use Rattle.tl_spec.specs.Edit as shown_edit
-use Rattle.tl_spec.specs.Edit.{Change, Names, Texts, Comments, Sets, Flags, Unsets, Bares, Pushes, Pulls, Roots, Refusal, no_place, on_ok, without_handle, edited, edited_all, done, one_later}
+use Rattle.tl_spec.specs.Edit.{Change, Names, Texts, Comments, Sets, Flags, Unsets, Bares, Pushes, Pulls, Roots, Refusal, no_place, on_ok, without_handle, edited, edited_all, all_made, one_later}
 use Rattle.tl_spec.proofs.Images.{image-with_attribute, image-without_attribute, image-without_value}
 use Rattle.tl_attributes.specs.ShownAttributes.{shown_bytes, shown_attributes}
 use Rattle.tl.specs.TableLends.{with_node}
@@ -101,8 +101,8 @@ next-ok later (Ok t) u h = (t, refl, h)
 next-ok later (Err refusal) u h = absurd (apart refusal h)
 
 -- edits of a table are those edits of its document
-pub image-table_after : (cs : List Change) (t u : HTMLTable) → table_after cs t ≡ Ok u → edited_all cs (document_of t) ≡ done (document_of u)
-image-table_after [] t u h = let same : t ≡ u = cc in ap (λ v. done (document_of v)) same
+pub image-table_after : (cs : List Change) (t u : HTMLTable) → table_after cs t ≡ Ok u → edited_all cs (document_of t) ≡ all_made (document_of u)
+image-table_after [] t u h = let same : t ≡ u = cc in ap (λ v. all_made (document_of v)) same
 image-table_after (c ∷ cs) t u h =
     let first = next-ok (table_after cs) (edited_table c t) u h in
     ap (shown_edit.next (edited_all cs) (document_of t)) (image-edited_table c t ∙ ap (on_ok document_of) first.1) ∙ ap one_later (image-table_after cs first.0 u first.2)

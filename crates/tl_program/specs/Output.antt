@@ -28,8 +28,8 @@ pub record Outcome : Type 0 where
   pub status : ℕ
   pub bytes : List ℕ
 
-abbrev pub done : List ℕ → Outcome
-done bytes = record { status = 0; bytes = bytes }
+abbrev pub success_of : List ℕ → Outcome
+success_of bytes = record { status = 0; bytes = bytes }
 
 abbrev pub refused : Outcome
 refused = record { status = 1; bytes = [] }
@@ -39,7 +39,7 @@ not_understood = record { status = 2; bytes = [] }
 
 -- a text is written, a fault of the tree is refused
 abbrev pub outcome_of_reading : Result (List ℕ) TreeFault → Outcome
-outcome_of_reading (Ok text) = done text
+outcome_of_reading (Ok text) = success_of text
 outcome_of_reading (Err fault) = refused
 
 -- the document that a print is read as, printed; a print longer than 4294967295 bytes is not understood
@@ -90,12 +90,12 @@ number_lines = flat_map number_line
 -- the numbers that a query found are written; a text that stands for no selector finds none, and is refused
 abbrev pub outcome_of_numbers : Option (List ℕ) → Outcome
 outcome_of_numbers None = refused
-outcome_of_numbers (Some numbers) = done (number_lines numbers)
+outcome_of_numbers (Some numbers) = success_of (number_lines numbers)
 
 -- the nodes of a document where a selector holds; a text that stands for no selector is refused
 abbrev pub outcome_of_query : Option Selector → Document → Outcome
 outcome_of_query None d = refused
-outcome_of_query (Some e) d = done (number_lines (matches_between d.nodes e 0 (length d.nodes)))
+outcome_of_query (Some e) d = success_of (number_lines (matches_between d.nodes e 0 (length d.nodes)))
 
 -- what a command makes of a document
 abbrev pub outcome_of_document : Asked → Document → Outcome
@@ -103,8 +103,8 @@ outcome_of_document Prints d = outcome_of_reading (document_print d)
 outcome_of_document Texts d = outcome_of_reading (texts_of d)
 outcome_of_document PrintsAgain d = outcome_of_print (document_print d)
 outcome_of_document (Selects text) d = outcome_of_query (selector_at text) d
-outcome_of_document (FindsId id) d = done (number_lines (option_to_list (id_scan d.nodes id)))
-outcome_of_document (FindsClass member) d = done (number_lines (class_scan d.nodes member))
+outcome_of_document (FindsId id) d = success_of (number_lines (option_to_list (id_scan d.nodes id)))
+outcome_of_document (FindsClass member) d = success_of (number_lines (class_scan d.nodes member))
 outcome_of_document (Edits changes) d = outcome_of_edited (edited_all changes d)
 
 -- a text longer than 4294967295 bytes is not understood
@@ -162,7 +162,7 @@ Fails outcome StreamFault = ⊥
 
 -- the text or the failure is this outcome, or is want of memory
 abbrev pub Gives : Outcome → Result (String Global) Failure → Type 0
-Gives outcome (Ok text) = outcome ≡ done (string_bytes text)
+Gives outcome (Ok text) = outcome ≡ success_of (string_bytes text)
 Gives outcome (Err failure) = Fails outcome failure
 
 -- known bytes grow by a beginning of bs

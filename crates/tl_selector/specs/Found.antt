@@ -9,9 +9,9 @@ use Rattle.tl_selector.specs.declared.matches.node_test.Test.{Test}
 use Rattle.tl_selector.specs.declared.matches.node_test.Test.TheVariants.{Alone, Marked}
 
 -- the numbers of k places from n on that pass
-abbrev pub numbers : (ℕ → Bool) → ℕ → ℕ → List ℕ
-numbers p n zero = []
-numbers p n (suc k) = if p n then n ∷ numbers p (n + 1) k else numbers p (n + 1) k
+abbrev pub found_numbers : (ℕ → Bool) → ℕ → ℕ → List ℕ
+found_numbers p n zero = []
+found_numbers p n (suc k) = if p n then n ∷ found_numbers p (n + 1) k else found_numbers p (n + 1) k
 
 -- a number is the first from one on, and below another, that passes; none where none does
 abbrev pub IsFirst : (ℕ → Bool) → ℕ → ℕ → Option ℕ → Type 0

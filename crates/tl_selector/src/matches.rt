@@ -26,11 +26,12 @@ pub struct Matches<'s, 'n, N: Element> {
 
 impl<'s, 'n, N: Element> Model for Matches<'s, 'n, N> {
     ghost use Rattle.std.specs.Prelude.{List, ℕ, ◌-◌, ◌<◌, ◌≤◌, ◌^◌, length, map};
-    ghost use Rattle.tl_selector.specs.Found.{numbers, is_found};
+    ghost use Rattle.tl_selector.specs.Found.{found_numbers, is_found};
 
     ghost Value = { List ℕ };
 
-    ghost view = { λ m. numbers (is_found m.test (map N.node m.nodes.now)) m.place (m.end - m.place) };
+    ghost view = { λ m. found_numbers (is_found m.test (map N.node m.nodes.now)) m.place
+        (m.end - m.place) };
 
     // Their numbers are of 32 bits.
     ghost invariant = { λ m. (m.end ≤ length m.nodes.now) × (length m.nodes.now < 2 ^ 32) };

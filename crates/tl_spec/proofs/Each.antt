@@ -9,7 +9,7 @@ use Rattle.tl_spec.specs.Forest.{Forest, none, text, comment, tag, PlainTag, for
 use Rattle.tl_spec.specs.Normal.{lossy, join_text, join_comment, tidy, norm, ReadsAs}
 use Rattle.tl_spec.specs.Print.{document_print, print}
 use Rattle.tl_spec.specs.Token.{tokens}
-use Rattle.tl_spec.specs.Walk.{TreeFault, Walk, end, meets_text, meets_comment, meets_tag, passes_tag, meets_fault, every, shows, walk, walk_of, walk_within, row_walk, handle_walk, node_walk, tag_walk, stands_on, trees, first_fault, or_else, unless}
+use Rattle.tl_spec.specs.Walk.{TreeFault, Walk, end, meets_text, meets_comment, meets_tag, passes_tag, meets_fault, every, prints_children, walk, walk_of, walk_within, row_walk, handle_walk, node_walk, tag_walk, stands_on, trees, first_fault, or_else, unless}
 
 -- walks
 
@@ -70,18 +70,18 @@ clean-walk (meets_tag g own children more) h n =
 clean-walk (passes_tag g own more) h n = (h.0.0, h.0.1, clean-walk more h.1 n)
 clean-walk (meets_fault e more) h n = absurd (cc)
 
-pub clean-table : (d : Document) → All IsCleanAlone d.nodes → first_fault (walk shows d.nodes [] d.top) ≡ None → IsCleanTable d.nodes d.top
-clean-table d all n = clean-walk (walk shows d.nodes [] d.top) (each-walk IsCleanAlone shows d.nodes [] d.top all) n
+pub clean-table : (d : Document) → All IsCleanAlone d.nodes → first_fault (walk prints_children d.nodes [] d.top) ≡ None → IsCleanTable d.nodes d.top
+clean-table d all n = clean-walk (walk prints_children d.nodes [] d.top) (each-walk IsCleanAlone prints_children d.nodes [] d.top all) n
 
 no_fault : (o : Option TreeFault) (t s : List ℕ) → unless o t ≡ Ok s → o ≡ None
 no_fault None t s h = refl
 no_fault (Some e) t s h = absurd (cc)
 
 pub clean-printed : (d : Document) (s : List ℕ) → All IsCleanAlone d.nodes → document_print d ≡ Ok s → IsCleanTable d.nodes d.top
-clean-printed d s all e = clean-table d all (no_fault (first_fault (walk shows d.nodes [] d.top)) (print (trees (walk shows d.nodes [] d.top))) s e)
+clean-printed d s all e = clean-table d all (no_fault (first_fault (walk prints_children d.nodes [] d.top)) (print (trees (walk prints_children d.nodes [] d.top))) s e)
 
-pub clean-node : (nodes : List Node) (node : Node) → All IsCleanAlone nodes → IsCleanAlone node → first_fault (walk_of shows nodes node) ≡ None → IsCleanNode nodes node
-clean-node nodes node all own n = clean-walk (walk_of shows nodes node) (each-walk_of IsCleanAlone shows nodes node all own) n
+pub clean-node : (nodes : List Node) (node : Node) → All IsCleanAlone nodes → IsCleanAlone node → first_fault (walk_of prints_children nodes node) ≡ None → IsCleanNode nodes node
+clean-node nodes node all own n = clean-walk (walk_of prints_children nodes node) (each-walk_of IsCleanAlone prints_children nodes node all own) n
 
 -- trees
 

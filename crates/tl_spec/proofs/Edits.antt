@@ -4,11 +4,11 @@ use Rattle.std.proofs.Math.Nat.{suc-add}
 use Rattle.std.proofs.Math.ListN.{length-set}
 use Rattle.std.specs.List.{slice_get}
 use Rattle.tl_spec.specs.Document.{Handles, TagNode, Node, Tag, Raw, Comment, Document}
-use Rattle.tl_spec.specs.Edit.{Change, Refusal, no_node, not_tag, without_handle, of_tag, at_tag, edited, Edited, edited_all, done, stopped, one_later, next, Names, Texts, Comments, Sets, Flags, Unsets, Bares, Pushes, Pulls, Roots, on_ok, of_node, no_place}
+use Rattle.tl_spec.specs.Edit.{Change, Refusal, no_node, not_tag, without_handle, of_tag, at_tag, edited, Edited, edited_all, all_made, refusal_at, one_later, next, Names, Texts, Comments, Sets, Flags, Unsets, Bares, Pushes, Pulls, Roots, on_ok, of_node, no_place}
 use Rattle.tl_spec.specs.Edits.{later, KeepsSource, KeepsShape}
 
 -- where the later edits are done, they were done at the earlier place too
-done-one_later : (w : Edited) (e : Document) → one_later w ≡ done e → w ≡ done e
+done-one_later : (w : Edited) (e : Document) → one_later w ≡ all_made e → w ≡ all_made e
 done-one_later w e h = λ t. record { document = ap (λ (x : Edited). x.document) h t; refused = none w.refused (ap (λ (x : Edited). x.refused) h) t }
   where
     none : (o : Option (ℕ × Refusal)) → option_map {U = ℕ × Refusal} (λ r. (suc r.0, r.1)) o ≡ None → o ≡ None
@@ -16,7 +16,7 @@ done-one_later w e h = λ t. record { document = ap (λ (x : Edited). x.document
     none (Some r) is = cc
 
 -- edits are done where the first is, and then the others
-done-next : (later : Document → Edited) (d e : Document) (r : Result Document Refusal) → next later d r ≡ done e → (f : Document) × (r ≡ Ok f) × (later f ≡ done e)
+done-next : (later : Document → Edited) (d e : Document) (r : Result Document Refusal) → next later d r ≡ all_made e → (f : Document) × (r ≡ Ok f) × (later f ≡ all_made e)
 done-next later d e (Ok f) h = (f, refl, done-one_later (later f) e h)
 done-next later d e (Err x) h = absurd (apart (0, x) (ap (λ (w : Edited). w.refused) h))
   where
@@ -25,7 +25,7 @@ done-next later d e (Err x) h = absurd (apart (0, x) (ap (λ (w : Edited). w.ref
 
 module _ (c : Change) (e : Document) where
   -- an edit that is refused
-  pub edited_all-refused : (cs : List Change) (d : Document) (i : ℕ) (refusal : Refusal) → edited_all (take i cs) d ≡ done e → slice_get cs i ≡ Some c → edited c e ≡ Err refusal → edited_all cs d ≡ stopped i refusal e
+  pub edited_all-refused : (cs : List Change) (d : Document) (i : ℕ) (refusal : Refusal) → edited_all (take i cs) d ≡ all_made e → slice_get cs i ≡ Some c → edited c e ≡ Err refusal → edited_all cs d ≡ refusal_at i refusal e
   edited_all-refused [] d i refusal before here refuses = cc
   edited_all-refused (b ∷ cs) d zero refusal before here refuses =
       let first : b ≡ c = cc in
@@ -53,7 +53,7 @@ later-suc n w = λ t. record { document = w.document; refused = same w.refused t
     same (Some r) = ap (λ (m : ℕ). Some (m, r.1)) (sym (suc-add n r.0))
 
 -- what later edits make after edits that were done
-pub edited_all-append : (cs ds : List Change) (d e : Document) → edited_all cs d ≡ done e → edited_all (cs ++ ds) d ≡ later (length cs) (edited_all ds e)
+pub edited_all-append : (cs ds : List Change) (d e : Document) → edited_all cs d ≡ all_made e → edited_all (cs ++ ds) d ≡ later (length cs) (edited_all ds e)
 edited_all-append [] ds d e before = ap (edited_all ds) (ap (λ (w : Edited). w.document) before) ∙ sym (later-zero (edited_all ds e))
 edited_all-append (c ∷ cs) ds d e before =
     let first = done-next (edited_all cs) d e (edited c d) before in

@@ -7,9 +7,9 @@ use Rattle.std.specs.Str.Lossy.{utf8_lossy}
 use Rattle.tl_spec.specs.ByteClass.{is_printed_alone}
 use Rattle.tl_spec.specs.Clean.{HaveOwnKeys, MeetsOwnKeys}
 use Rattle.tl_spec.specs.Document.{Comment, Node, Raw, Tag, TagNode}
-use Rattle.tl_spec.specs.Print.{print, print_end, print_start, printed}
+use Rattle.tl_spec.specs.Print.{print, print_end, print_start, print_of_event}
 use Rattle.tl_spec.specs.Text.{text_of, event_text}
-use Rattle.tl_spec.specs.Walk.{Cycle, Dangling, Event, TreeFault, Walk, end, events, fault_among, faulty, first_fault, handle_walk, leaves, meets, meets_comment, meets_fault, meets_tag, meets_text, node_walk, or_else, passes_tag, plain_node, row_walk, shows, stands_on, tag_walk, trees, walk, walk_of, walk_within}
+use Rattle.tl_spec.specs.Walk.{Cycle, Dangling, Event, TreeFault, Walk, end, events, fault_among, faulty, first_fault, handle_walk, leaves, meets, meets_comment, meets_fault, meets_tag, meets_text, node_walk, or_else, passes_tag, plain_node, row_walk, prints_children, stands_on, tag_walk, trees, walk, walk_of, walk_within}
 use Rattle.tl_spec.proofs.Walks.{walk-cons, walk-nil}
 
 -- faults
@@ -154,7 +154,7 @@ if_flipped false true s t e = refl
 if_flipped false false s t e = absurd (cc)
 
 -- the print of a walk's trees is what its events print, where the walk passes by the tags that are printed alone
-pub print-events : (w : Walk) → Enters shows w → print (trees w) ≡ flat_map printed (events w)
+pub print-events : (w : Walk) → Enters prints_children w → print (trees w) ≡ flat_map print_of_event (events w)
 print-events end h = refl
 print-events (meets_text h bytes more) shown = ap (λ s. utf8_lossy bytes ++ s) (print-events more shown)
 print-events (meets_comment h bytes more) shown = ap (λ s. utf8_lossy bytes ++ s) (print-events more shown)
@@ -168,7 +168,7 @@ print-events (meets_tag h own children more) shown =
     ∙ ap (λ s. start ++ s) (
     append_assoc inner end_tag after
     ∙ ap₂ (λ s t. s ++ (end_tag ++ t)) (print-events children shown.1) (print-events more shown.2)
-    ∙ sym (flat_map-append printed (events children) (leaves own ∷ events more)))
+    ∙ sym (flat_map-append print_of_event (events children) (leaves own ∷ events more)))
 print-events (passes_tag h own more) shown =
     let start : List ℕ = print_start (plain_node own) in
     let after : List ℕ = print (trees more) in
@@ -178,8 +178,8 @@ print-events (passes_tag h own more) shown =
 print-events (meets_fault e more) shown = print-events more shown
 
 -- the print's walk prints by its events
-pub print-walk : (nodes : List Node) (path hs : List ℕ) → print (trees (walk shows nodes path hs)) ≡ flat_map printed (events (walk shows nodes path hs))
-print-walk nodes path hs = print-events (walk shows nodes path hs) (Enters-walk shows nodes path hs)
+pub print-walk : (nodes : List Node) (path hs : List ℕ) → print (trees (walk prints_children nodes path hs)) ≡ flat_map print_of_event (events (walk prints_children nodes path hs))
+print-walk nodes path hs = print-events (walk prints_children nodes path hs) (Enters-walk prints_children nodes path hs)
 
 -- answers: the first fault among the events, or what all of them say
 

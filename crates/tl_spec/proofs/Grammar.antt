@@ -9,7 +9,7 @@ use Rattle.tl_spec.specs.ByteClass.{bang, ends_value, equals, greater, is_blank,
 use Rattle.tl_spec.specs.Runs.{after, front, past}
 use Rattle.tl_spec.specs.Attribute.{Pair, attribute, attributes, next_attribute, optional_value, past_blanks, past_end, value}
 use Rattle.tl_spec.specs.Grammar.{AttributeStands, AttributesStand, Begins, EndPassed, EndsWithFirst, IsRun, IsUpTo, MarkupStands, TagStands, Stops, TokenStands, ValueStands, WordStands, another, at_end, attribute_parts, bare, closing, comment_closed, comment_cut, doctype_word, end_closed, end_cut, left, markup_after, tag_parts, no_markup, no_more, no_value, other_word, passed, quoted, start_alone, start_cut, start_open, start_slash, text_up_to, word_parts}
-use Rattle.tl_spec.specs.Token.{Comment, Doctype, End, Nothing, Text, Token, closed, comment_token, declaration, doctype, end_tag, markup, next_token, token_after_slash, start_tag, word}
+use Rattle.tl_spec.specs.Token.{Comment, Doctype, End, Nothing, Text, Token, token_after_attributes, comment_token, declaration, doctype, end_tag, markup, next_token, token_after_slash, start_tag, word}
 use Rattle.tl_spec.proofs.Bytes.{all-run, past-append, past-stops, take_while-append, take_while-yes}
 use Rattle.tl_spec.proofs.Comments.{front-append, starts_same}
 use Rattle.tl_spec.proofs.Many.{IsRow, next, row-exists, row-is, stop}
@@ -163,10 +163,10 @@ attributes-end (another h a r more) = attributes-end more
 -- a start tag
 
 module _ (whole : List ℕ) where
-  name-is : {m name e : List ℕ} {pairs : List Pair} → TagStands m name pairs e → markup whole m ≡ closed name pairs e
+  name-is : {m name e : List ℕ} {pairs : List Pair} → TagStands m name pairs e → markup whole m ≡ token_after_attributes name pairs e
   name-is (tag_parts {b = b} {s = s} {name = name} {e = e} {pairs = pairs} h k n r a) =
       let all : attributes (past_blanks (past is_name (b ∷ s))) ≡ (pairs, e) = ap attributes (ap past_blanks (run-past n) ∙ run-past r) ∙ attributes-is a in
-      if_no _ _ _ (differs b slash h) ∙ if_no _ _ _ (differs b bang k) ∙ (λ i. closed (run-take n i) (all i).0 (all i).1)
+      if_no _ _ _ (differs b slash h) ∙ if_no _ _ _ (differs b bang k) ∙ (λ i. token_after_attributes (run-take n i) (all i).0 (all i).1)
 
   -- a word after `!`
 
@@ -239,7 +239,7 @@ module _ (opening : List ℕ) where
       (λ h. start_slash n h)
 
   closed-stands : (m name e : List ℕ) (pairs : List Pair) → TagStands m name pairs e → Stops (λ b. not (is_closing b)) e →
-      MarkupStands opening m (closed name pairs e).0 (closed name pairs e).1
+      MarkupStands opening m (token_after_attributes name pairs e).0 (token_after_attributes name pairs e).1
   closed-stands m name [] pairs n h = start_cut n
   closed-stands m name (b ∷ s) pairs n h = if_both (λ (v : Token × List ℕ). MarkupStands opening m v.0 v.1) (b == greater) _ _
       (λ h. start_open (subst (λ b. TagStands m name pairs (b ∷ s)) (eqb-true b greater h) n))

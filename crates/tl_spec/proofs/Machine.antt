@@ -8,7 +8,7 @@ use Rattle.tl_spec.specs.ByteClass.{is_void}
 use Rattle.tl_spec.specs.Token.{Token, PlacedToken, Text, End, Comment, Doctype, Start, Nothing}
 use Rattle.tl_spec.specs.Forest.{closes}
 use Rattle.tl_spec.specs.Document.{Node, TagNode, Tag, Raw, Comment as Remark, is_html5_doctype}
-use Rattle.tl_spec.specs.Machine.{State, start, change_at, with_child, with_raw_to, enclosing_name, adopted_by, adopted, added, opened, closed_by, closed, start_node, after_start, after_end, after_token, step, run, IsOpen, AreOpen}
+use Rattle.tl_spec.specs.Machine.{State, start, change_at, with_child, with_raw_to, enclosing_name, with_child_of_first, with_child_of_innermost, with_next_node, with_open_tag, with_first_closed, with_innermost_closed, start_node, after_start, after_end, after_token, step, run, IsOpen, AreOpen}
 
 -- a list with one item changed
 
@@ -41,35 +41,35 @@ slice_get-change_at_either f (suc i) (suc j) (y ∷ xs) x e = slice_get-change_a
 
 -- where a number goes, by the open tags
 
-adopted_by-open_tags : (n : ℕ) (s : State) (ps : List ℕ) → (adopted_by n s ps).open_tags ≡ s.open_tags
+adopted_by-open_tags : (n : ℕ) (s : State) (ps : List ℕ) → (with_child_of_first n s ps).open_tags ≡ s.open_tags
 adopted_by-open_tags n s [] = refl
 adopted_by-open_tags n s (p ∷ ps) = refl
 
-pub added-open_tags : (x : Node) (s : State) → (added x s).open_tags ≡ s.open_tags
+pub added-open_tags : (x : Node) (s : State) → (with_next_node x s).open_tags ≡ s.open_tags
 added-open_tags x s = adopted_by-open_tags (length s.nodes) s s.open_tags
 
 -- how many nodes
 
-length-adopted_by : (n : ℕ) (s : State) (ps : List ℕ) → length (adopted_by n s ps).nodes ≡ length s.nodes
+length-adopted_by : (n : ℕ) (s : State) (ps : List ℕ) → length (with_child_of_first n s ps).nodes ≡ length s.nodes
 length-adopted_by n s [] = refl
 length-adopted_by n s (p ∷ ps) = length-change_at (with_child n) p s.nodes
 
-pub length-added : (x : Node) (s : State) → length (added x s).nodes ≡ length s.nodes + 1
+pub length-added : (x : Node) (s : State) → length (with_next_node x s).nodes ≡ length s.nodes + 1
 length-added x s =
-    length-append (adopted (length s.nodes) s).nodes (x ∷ []) ∙ ap (λ n. n + 1) (length-adopted_by (length s.nodes) s s.open_tags)
+    length-append (with_child_of_innermost (length s.nodes) s).nodes (x ∷ []) ∙ ap (λ n. n + 1) (length-adopted_by (length s.nodes) s s.open_tags)
 
-length-closed_by : (t : List ℕ) (to : ℕ) (s : State) (ps : List ℕ) → length (closed_by t to s ps).nodes ≡ length s.nodes
+length-closed_by : (t : List ℕ) (to : ℕ) (s : State) (ps : List ℕ) → length (with_first_closed t to s ps).nodes ≡ length s.nodes
 length-closed_by t to s [] = refl
 length-closed_by t to s (p ∷ ps) = length-change_at (with_raw_to t to) p s.nodes
 
-pub length-closed : (t : List ℕ) (to : ℕ) (s : State) → length (closed t to s).nodes ≡ length s.nodes
+pub length-closed : (t : List ℕ) (to : ℕ) (s : State) → length (with_innermost_closed t to s).nodes ≡ length s.nodes
 length-closed t to s = length-closed_by t to s s.open_tags
 
 -- at most one more
 abbrev IsGrown : State → State → Type 0
 IsGrown s r = (length s.nodes ≤ length r.nodes) × (length r.nodes ≤ length s.nodes + 1)
 
-grown-added : (x : Node) (s : State) → IsGrown s (added x s)
+grown-added : (x : Node) (s : State) → IsGrown s (with_next_node x s)
 grown-added x s = let e = length-added x s in (omega arith, omega arith)
 
 grown-start : (t : List ℕ) (x : Node) (s : State) (alone : Bool) → IsGrown s (after_start t x s alone)
@@ -93,11 +93,11 @@ length-step-le t s k = (grown-token t k s k.token).1
 
 -- the version
 
-adopted_by-html5 : (n : ℕ) (s : State) (ps : List ℕ) → (adopted_by n s ps).is_html5 ≡ s.is_html5
+adopted_by-html5 : (n : ℕ) (s : State) (ps : List ℕ) → (with_child_of_first n s ps).is_html5 ≡ s.is_html5
 adopted_by-html5 n s [] = refl
 adopted_by-html5 n s (p ∷ ps) = refl
 
-closed_by-html5 : (t : List ℕ) (to : ℕ) (s : State) (ps : List ℕ) → (closed_by t to s ps).is_html5 ≡ s.is_html5
+closed_by-html5 : (t : List ℕ) (to : ℕ) (s : State) (ps : List ℕ) → (with_first_closed t to s ps).is_html5 ≡ s.is_html5
 closed_by-html5 t to s [] = refl
 closed_by-html5 t to s (p ∷ ps) = refl
 
@@ -156,13 +156,13 @@ child-keeps n own = (_, refl, refl)
 raw-keeps : (t : List ℕ) (to : ℕ) → KeepsStart (with_raw_to t to)
 raw-keeps t to own = (_, refl, refl)
 
-adopted_by-IsOpen : (i n : ℕ) (s : State) (ps : List ℕ) (p : ℕ) → IsOpen i s.nodes p → IsOpen i (adopted_by n s ps).nodes p
+adopted_by-IsOpen : (i n : ℕ) (s : State) (ps : List ℕ) (p : ℕ) → IsOpen i s.nodes p → IsOpen i (with_child_of_first n s ps).nodes p
 adopted_by-IsOpen i n s [] p h = h
 adopted_by-IsOpen i n s (q ∷ ps) p h = IsOpen-change_at (with_child n) (child-keeps n) i q s.nodes p h
 
-added-IsOpen : (i : ℕ) (x : Node) (s : State) (p : ℕ) → IsOpen i s.nodes p → IsOpen i (added x s).nodes p
+added-IsOpen : (i : ℕ) (x : Node) (s : State) (p : ℕ) → IsOpen i s.nodes p → IsOpen i (with_next_node x s).nodes p
 added-IsOpen i x s p h =
-    IsOpen-append i (adopted (length s.nodes) s).nodes (x ∷ []) p (adopted_by-IsOpen i (length s.nodes) s s.open_tags p h)
+    IsOpen-append i (with_child_of_innermost (length s.nodes) s).nodes (x ∷ []) p (adopted_by-IsOpen i (length s.nodes) s s.open_tags p h)
 
 pub AreOpen-start : (i : ℕ) → AreOpen i start
 AreOpen-start i = All-nil (IsOpen i [])
@@ -170,27 +170,27 @@ AreOpen-start i = All-nil (IsOpen i [])
 pub AreOpen-later : (i j : ℕ) (s : State) → i ≤ j → AreOpen i s → AreOpen j s
 AreOpen-later i j s le h = All-weaker (IsOpen i s.nodes) (IsOpen j s.nodes) (λ p. IsOpen-later i j s.nodes p le) s.open_tags h
 
-pub AreOpen-added : (i : ℕ) (x : Node) (s : State) → AreOpen i s → AreOpen i (added x s)
+pub AreOpen-added : (i : ℕ) (x : Node) (s : State) → AreOpen i s → AreOpen i (with_next_node x s)
 AreOpen-added i x s h =
-    let P : ℕ → Type 0 = IsOpen i (added x s).nodes in
-    All-same P (added x s).open_tags s.open_tags (added-open_tags x s) (All-weaker (IsOpen i s.nodes) P (added-IsOpen i x s) s.open_tags h)
+    let P : ℕ → Type 0 = IsOpen i (with_next_node x s).nodes in
+    All-same P (with_next_node x s).open_tags s.open_tags (added-open_tags x s) (All-weaker (IsOpen i s.nodes) P (added-IsOpen i x s) s.open_tags h)
 
-pub AreOpen-opened : (i : ℕ) (own : TagNode) (s : State) → own.start ≤ i → AreOpen i s → AreOpen i (opened (Tag own) s)
+pub AreOpen-opened : (i : ℕ) (own : TagNode) (s : State) → own.start ≤ i → AreOpen i s → AreOpen i (with_open_tag (Tag own) s)
 AreOpen-opened i own s le h =
     let x : Node = Tag own in
-    let P : ℕ → Type 0 = IsOpen i (added x s).nodes in
-    let before : List Node = (adopted (length s.nodes) s).nodes in
+    let P : ℕ → Type 0 = IsOpen i (with_next_node x s).nodes in
+    let before : List Node = (with_child_of_innermost (length s.nodes) s).nodes in
     let place : slice_get (before ++ x ∷ []) (length s.nodes) ≡ Some x =
     subst (λ n. slice_get (before ++ x ∷ []) n ≡ Some x) (length-adopted_by (length s.nodes) s s.open_tags) (slice_get-middle before x []) in
     All-cons P (length s.nodes) s.open_tags (record { own = own; found = place; begun = le }) (All-weaker (IsOpen i s.nodes) P (added-IsOpen i x s) s.open_tags h)
 
-closed_by-AreOpen : (t : List ℕ) (i to : ℕ) (s : State) (ps : List ℕ) → s.open_tags ≡ ps → AreOpen i s → AreOpen i (closed_by t to s ps)
+closed_by-AreOpen : (t : List ℕ) (i to : ℕ) (s : State) (ps : List ℕ) → s.open_tags ≡ ps → AreOpen i s → AreOpen i (with_first_closed t to s ps)
 closed_by-AreOpen t i to s [] e h = h
 closed_by-AreOpen t i to s (p ∷ ps) e h =
     let rest = All-tail (IsOpen i s.nodes) p ps (All-same (IsOpen i s.nodes) (p ∷ ps) s.open_tags (sym e) h) in
     All-weaker (IsOpen i s.nodes) (IsOpen i (change_at (with_raw_to t to) p s.nodes)) (IsOpen-change_at (with_raw_to t to) (raw-keeps t to) i p s.nodes) ps rest
 
-pub AreOpen-closed : (t : List ℕ) (i to : ℕ) (s : State) → AreOpen i s → AreOpen i (closed t to s)
+pub AreOpen-closed : (t : List ℕ) (i to : ℕ) (s : State) → AreOpen i s → AreOpen i (with_innermost_closed t to s)
 AreOpen-closed t i to s h = closed_by-AreOpen t i to s s.open_tags refl h
 
 start-AreOpen : (t : List ℕ) (i : ℕ) (own : TagNode) (s : State) → own.start ≤ i → AreOpen i s → (alone : Bool) → AreOpen i (after_start t (Tag own) s alone)

@@ -7,7 +7,7 @@ use Rattle.tl_spec.specs.Inline.{room, with_last}
 use Rattle.tl_spec.specs.Token.{PlacedToken, Start}
 use Rattle.tl_spec.specs.Forest.{Forest, none, text, comment, tag, SourceTag, Siblings, with_tree, source_tag, closes, siblings, forest, Makes, over, a_text, a_comment, alone, opened, ended, stray, a_doctype, dropped}
 use Rattle.tl_spec.specs.Document.{Node, Tag, Raw, Comment as Remark, held_items, size, numbers, tag_node, nodes}
-use Rattle.tl_spec.specs.Machine.{State, start, change_at, with_child, with_raw_to, name_of, enclosing_name, added, opened as entered, closed, after_start, after_end, run}
+use Rattle.tl_spec.specs.Machine.{State, start, change_at, with_child, with_raw_to, name_if_tag, enclosing_name, with_next_node, with_open_tag as entered, with_innermost_closed, after_start, after_end, run}
 use Rattle.tl_spec.proofs.Machine.{change_at-middle, slice_get-middle}
 use Rattle.tl_spec.proofs.Siblings.{closes-stray, siblings-Makes}
 
@@ -91,7 +91,7 @@ module _ (t : List ℕ) where
 
   enclosing_name-is : (p : Frame) (bs : List Node) → enclosing_name (nodes_at p bs) (open_at p) ≡ name_at p
   enclosing_name-is (at_top top) bs = refl
-  enclosing_name-is (inside before own children outer top) bs = ap name_of (slice_get-middle before (Tag (tag_node t own children)) bs)
+  enclosing_name-is (inside before own children outer top) bs = ap name_if_tag (slice_get-middle before (Tag (tag_node t own children)) bs)
 
   child-is : (own : SourceTag) (children : List ℕ) (n : ℕ) (before bs : List Node) →
       change_at (with_child n) (length before) (before ++ Tag (tag_node t own children) ∷ bs) ≡ before ++ Tag (tag_node t own (children ++ n ∷ [])) ∷ bs
@@ -99,7 +99,7 @@ module _ (t : List ℕ) where
       change_at-middle (with_child n) before (Tag (tag_node t own children)) bs
       ∙ ap (λ held. before ++ Tag (record (tag_node t own []) { children = held }) ∷ bs) (with_last-held children n)
 
-  added-is : (p : Frame) (bs : List Node) (v : Bool) (x : Node) → added x (state p bs v) ≡ state (adopting p (count_at p bs ∷ [])) (bs ++ x ∷ []) v
+  added-is : (p : Frame) (bs : List Node) (v : Bool) (x : Node) → with_next_node x (state p bs v) ≡ state (adopting p (count_at p bs ∷ [])) (bs ++ x ∷ []) v
   added-is (at_top top) bs v x = refl
   added-is (inside before own children outer top) bs v x =
       let p : Frame = inside before own children outer top in
@@ -157,10 +157,10 @@ module _ (t : List ℕ) where
   -- an end tag that ends at a place, if there was one
   abbrev shut : Option ℕ → State → State
   shut None s = s
-  shut (Some to) s = closed t to s
+  shut (Some to) s = with_innermost_closed t to s
 
   closed-is : (p : Frame) (bs : List Node) (own : SourceTag) (to : ℕ) (ns : List ℕ) (xs : List Node) (v : Bool) →
-      closed t to (state (adopting (within p bs own) ns) xs v) ≡ state (adopting p (count_at p bs ∷ [])) (bs ++ Tag (tag_node t (record own { to = to }) ns) ∷ xs) v
+      with_innermost_closed t to (state (adopting (within p bs own) ns) xs v) ≡ state (adopting p (count_at p bs ∷ [])) (bs ++ Tag (tag_node t (record own { to = to }) ns) ∷ xs) v
   closed-is p bs own to ns xs v =
       let q : Frame = adopting p (count_at p bs ∷ []) in
       let with_nodes : List Node → State = λ ys. record (state q [] v) { nodes = ys } in
@@ -174,7 +174,7 @@ module _ (t : List ℕ) where
   after-children p bs own f v (Some to) left rests =
       let made : ℕ → State = λ n. state (adopting (within p bs own) (numbers n f)) (nodes t n f) v in
       let n : ℕ = count_at p bs + 1 in
-      ap (λ n. written (run t (closed t to (made n)) left)) (count_at-within p bs own)
+      ap (λ n. written (run t (with_innermost_closed t to (made n)) left)) (count_at-within p bs own)
       ∙ ap (λ s. written (run t s left)) (closed-is p bs own to (numbers n f) (nodes t n f) v)
   after-children p bs own f v None left rests =
       let q : Frame = adopting p (count_at p bs ∷ []) in
@@ -264,7 +264,7 @@ module _ (t : List ℕ) where
         v,
         ap (λ o. written (run t (after_end t j s (closes name o)) ks)) (enclosing_name-is t p bs ∙ e)
             ∙ ap (λ b. written (run t (after_end t j s b) ks)) ((bytes_eq-Decides name name).1 refl)
-            ∙ ap (λ s. written (run t (closed t j s) ks)) (sym (grown-none t p bs v)),
+            ∙ ap (λ s. written (run t (with_innermost_closed t j s) ks)) (sym (grown-none t p bs v)),
       )
   writes (stray {o = o} {name = name} {i = i} {j = j} {ks = ks} h m) p e bs v =
       let s : State = state t p bs v in

@@ -6,7 +6,7 @@ use Rattle.tl_spec.specs.ByteClass.{is_void}
 use Rattle.tl_spec.specs.Token.{Token, PlacedToken, Text, End, Comment, Doctype, Start, Nothing}
 use Rattle.tl_spec.specs.Forest.{closes}
 use Rattle.tl_spec.specs.Document.{Node, Tag, Raw, Comment as Remark}
-use Rattle.tl_spec.specs.Machine.{State, change_at, with_child, with_raw_to, enclosing_name, adopted_by, added, closed_by, start_node, after_start, after_end, after_token, step}
+use Rattle.tl_spec.specs.Machine.{State, change_at, with_child, with_raw_to, enclosing_name, with_child_of_first, with_next_node, with_first_closed, start_node, after_start, after_end, after_token, step}
 use Rattle.tl_spec.specs.Scan.{has_id, is_in_class, places_from, id_scan, class_scan, tags_of}
 
 abbrev itself : Bool → Bool
@@ -44,17 +44,17 @@ module _ (p : Node → Bool) (sees : SeesTags p) (t : List ℕ) where
   changed f same zero (x ∷ xs) = ap (λ b. b ∷ map p xs) (same x)
   changed f same (suc i) (x ∷ xs) = ap (λ bs. p x ∷ bs) (changed f same i xs)
 
-  adopting : (n : ℕ) (s : State) (ps : List ℕ) → map p (adopted_by n s ps).nodes ≡ map p s.nodes
+  adopting : (n : ℕ) (s : State) (ps : List ℕ) → map p (with_child_of_first n s ps).nodes ≡ map p s.nodes
   adopting n s [] = refl
   adopting n s (q ∷ ps) = changed (with_child n) (sees.child n) q s.nodes
 
-  closing : (to : ℕ) (s : State) (ps : List ℕ) → map p (closed_by t to s ps).nodes ≡ map p s.nodes
+  closing : (to : ℕ) (s : State) (ps : List ℕ) → map p (with_first_closed t to s ps).nodes ≡ map p s.nodes
   closing to s [] = refl
   closing to s (q ∷ ps) = changed (with_raw_to t to) (sees.source t to) q s.nodes
 
-  adding : (x : Node) (s : State) → map p (added x s).nodes ≡ map p s.nodes ++ p x ∷ []
+  adding : (x : Node) (s : State) → map p (with_next_node x s).nodes ≡ map p s.nodes ++ p x ∷ []
   adding x s =
-      map-append p (adopted_by (length s.nodes) s s.open_tags).nodes (x ∷ []) ∙ ap (λ bs. bs ++ p x ∷ []) (adopting (length s.nodes) s s.open_tags)
+      map-append p (with_child_of_first (length s.nodes) s s.open_tags).nodes (x ∷ []) ∙ ap (λ bs. bs ++ p x ∷ []) (adopting (length s.nodes) s s.open_tags)
 
   -- how the test goes after a step: as before and at the tag that was added, and nowhere else is there more than a failure at the end
   abbrev Grows : State → List Node → State → Type 0
@@ -63,7 +63,7 @@ module _ (p : Node → Bool) (sees : SeesTags p) (t : List ℕ) where
   with_none : (s : State) → map p s.nodes ≡ map p (s.nodes ++ [])
   with_none s = ap (map p) (sym (append-nil s.nodes))
 
-  other-added : (x : Node) (s : State) → p x ≡ false → Grows s [] (added x s)
+  other-added : (x : Node) (s : State) → p x ≡ false → Grows s [] (with_next_node x s)
   other-added x s f = inr (adding x s ∙ ap (λ b. map p s.nodes ++ b ∷ []) f ∙ ap (λ bs. bs ++ false ∷ []) (with_none s))
 
   tag-added : (x : Node) (s : State) (alone : Bool) → Grows s (x ∷ []) (after_start t x s alone)

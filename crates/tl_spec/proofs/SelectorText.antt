@@ -10,7 +10,7 @@ use Rattle.tl_spec.specs.Selector.{Selector, And, Descendant, Parent}
 use Rattle.tl_spec.specs.SelectorMeaning.{has_joint}
 use Rattle.tl_spec.specs.SelectorText.{AreSpaces, no_space, one_space, OpGives, equal, has_part, starts, ends, contains, SimpleStands, id_part, class_part, all_part, tag_part, key_part, value_part, JointStands, touching, spaced, stepped, ChainStands, first_part, next_part, SpacedChainStands, spaced_chain, ChainsStand, first_chain, next_chain, IsSelectorText, StandsAlone, alone}
 use Rattle.tl_spec.specs.ByteClass.{is_space}
-use Rattle.tl_spec.specs.SelectorReading.{simple_at, Link, Comma, Step, Spaces, Touch, starts_with_space, link_by, link_at, Next, End, Bad, Part, part_by, next_by, next_at, parts_by, parts_within, parts_at, joined, closed, before_after, chain_after, nested, selector_at}
+use Rattle.tl_spec.specs.SelectorReading.{simple_at, Link, Comma, Step, Spaces, Touch, starts_with_space, link_by, link_at, Next, End, Bad, Part, part_by, next_by, next_at, parts_by, parts_within, parts_at, joined, with_chain, before_after, chain_after, nested, selector_at}
 use Rattle.tl_spec.proofs.Bytes.{not_this, past-yes, past-no}
 use Rattle.tl_spec.proofs.Grammar.{if_no}
 use Rattle.tl_spec.proofs.SelectorParts.{if_is, bind-some, map-some, none_some, of_pair, run-first, simple-some, simple-is, simple-lt}
@@ -229,7 +229,7 @@ pub rest_part : (before : Option Selector) (chain : Selector) (s : List ℕ) (l 
 rest_part before chain s l e r h =
     ap (option_map (nested before chain)) (parts-step s ∙ ap (parts_by parts_at) h) ∙ map_map (nested before chain) (λ ps. (l, e) ∷ ps) (parts_at r)
 
-pub rest_end : (before : Option Selector) (chain : Selector) (s : List ℕ) → next_at s ≡ End → rest_read before chain s ≡ Some (closed before chain)
+pub rest_end : (before : Option Selector) (chain : Selector) (s : List ℕ) → next_at s ≡ End → rest_read before chain s ≡ Some (with_chain before chain)
 rest_end before chain s h = ap (option_map (nested before chain)) (parts-step s ∙ ap (parts_by parts_at) h)
 
 pub rest_bad : (before : Option Selector) (chain : Selector) (s : List ℕ) → next_at s ≡ Bad → rest_read before chain s ≡ None
@@ -263,21 +263,21 @@ comma-next : {after : List ℕ} (t : List ℕ) → AreSpaces after → next_at (
 comma-next t h = ap next_by (comma-is t h)
 
 rest-comma : (o : Option (Selector × List ℕ)) (before : Option Selector) (chain : Selector) (s : List ℕ) → next_at s ≡ part_by Comma o →
-    rest_read before chain s ≡ option_and_then (λ (p : Selector × List ℕ). rest_read (Some (closed before chain)) p.0 p.1) o
+    rest_read before chain s ≡ option_and_then (λ (p : Selector × List ℕ). rest_read (Some (with_chain before chain)) p.0 p.1) o
 rest-comma None before chain s h = rest_bad before chain s h
 rest-comma (Some p) before chain s h = rest_part before chain s Comma p.0 p.1 h
 
 rest-finish : (before : Option Selector) (chain : Selector) {after : List ℕ} (rest : List ℕ) → AreSpaces after → EndsChain rest →
-    rest_read before chain (after ++ rest) ≡ finish (closed before chain) rest
+    rest_read before chain (after ++ rest) ≡ finish (with_chain before chain) rest
 rest-finish before chain {after} rest h (inl e) =
-    subst (λ (rest : List ℕ). rest_read before chain (after ++ rest) ≡ finish (closed before chain) rest) (sym e)
+    subst (λ (rest : List ℕ). rest_read before chain (after ++ rest) ≡ finish (with_chain before chain) rest) (sym e)
     (rest_end before chain (after ++ []) (end-next (subst AreSpaces (sym (append-nil after)) h)))
 rest-finish before chain {after} rest h (inr t) =
-    subst (λ (rest : List ℕ). rest_read before chain (after ++ rest) ≡ finish (closed before chain) rest) (sym t.1)
+    subst (λ (rest : List ℕ). rest_read before chain (after ++ rest) ≡ finish (with_chain before chain) rest) (sym t.1)
     (rest-comma (simple_at (past is_space t.0)) before chain (after ++ 44 ∷ t.0) (comma-next t.0 h))
 
 spaced_chain-is : {s rest : List ℕ} {e : Selector} → SpacedChainStands s e rest → EndsChain rest → (before : Option Selector) →
-    chain_read before (past is_space s) ≡ finish (closed before e) rest
+    chain_read before (past is_space s) ≡ finish (with_chain before e) rest
 spaced_chain-is (spaced_chain {s = s} {rest = rest} {e = e} k c l) n before =
     ap (chain_read before) (past-spaces s k ∙ chain-begins c) ∙ (chain-is c before ∙ rest-finish before e rest l n)
 
@@ -297,7 +297,7 @@ spaced-stands : {s u after rest : List ℕ} {e : Selector} → ((spaces : List �
 spaced-stands {s} {u} {after} {rest} {e} b c l = subst (λ (s : List ℕ). SpacedChainStands s e rest) (sym b.2) (spaced_chain b.1 c l)
 
 closed-stands : (s u : List ℕ) {after rest : List ℕ} (before : Option Selector) (chain : Selector) → StandsBefore s before u → ChainStands u chain (after ++ rest) → AreSpaces after →
-    ChainsStand s (closed before chain) rest
+    ChainsStand s (with_chain before chain) rest
 unfolding StandsBefore
 closed-stands s u None chain b c l = first_chain (spaced-stands b c l)
 closed-stands s u (Some before) chain b c l = next_chain b.2 (spaced-stands (b.1, b.3, b.4) c l)

@@ -7,7 +7,7 @@ use Rattle.tl_spec.specs.Attribute.{Pair}
 use Rattle.tl_spec.specs.AttributeList.{printed_pairs, HasOwnKeys}
 use Rattle.tl_spec.specs.Forest.{Forest, none, text, comment, tag, PlainTag}
 use Rattle.tl_spec.specs.Document.{Node, Tag, Raw, Comment}
-use Rattle.tl_spec.specs.Walk.{Walk, end, meets_text, meets_comment, meets_tag, passes_tag, meets_fault, Event, meets, leaves, faulty, shows, walk, walk_of, plain_node, plain_attributes}
+use Rattle.tl_spec.specs.Walk.{Walk, end, meets_text, meets_comment, meets_tag, passes_tag, meets_fault, Event, meets, leaves, faulty, prints_children, walk, walk_of, plain_node, plain_attributes}
 
 -- a nonempty run of name bytes
 abbrev pub IsName : List ℕ → Type 0
@@ -73,11 +73,11 @@ IsCleanWalk (meets_fault e more) = ⊥
 
 -- a table whose print's walk of the top list is clean
 abbrev pub IsCleanTable : List Node → List ℕ → Type 0
-IsCleanTable nodes top = IsCleanWalk (walk shows nodes [] top)
+IsCleanTable nodes top = IsCleanWalk (walk prints_children nodes [] top)
 
 -- a node whose print's walk over a table is clean
 abbrev pub IsCleanNode : List Node → Node → Type 0
-IsCleanNode nodes node = IsCleanWalk (walk_of shows nodes node)
+IsCleanNode nodes node = IsCleanWalk (walk_of prints_children nodes node)
 
 -- what the type of attributes keeps, for each tag of trees
 abbrev pub HaveOwnKeys : Forest PlainTag → Type 0

@@ -85,12 +85,12 @@ pub record Edited : Type 0 where
   pub refused : Option (ℕ × Refusal)
 
 -- no edit was refused
-abbrev pub done : Document → Edited
-done d = record { document = d; refused = None }
+abbrev pub all_made : Document → Edited
+all_made d = record { document = d; refused = None }
 
 -- the edit at a place was refused
-abbrev pub stopped : ℕ → Refusal → Document → Edited
-stopped i refusal d = record { document = d; refused = Some (i, refusal) }
+abbrev pub refusal_at : ℕ → Refusal → Document → Edited
+refusal_at i refusal d = record { document = d; refused = Some (i, refusal) }
 
 -- the place counted from one edit earlier
 abbrev pub one_later : Edited → Edited
@@ -99,9 +99,9 @@ one_later e = record e { refused = option_map (λ r. (suc r.0, r.1)) e.refused }
 -- what the later edits make of the document after an edit, if it is not refused
 abbrev pub next : (Document → Edited) → Document → Result Document Refusal → Edited
 next later d (Ok new) = one_later (later new)
-next later d (Err refusal) = stopped 0 refusal d
+next later d (Err refusal) = refusal_at 0 refusal d
 
 -- edits one after the other, up to the first that is refused
 abbrev pub edited_all : List Change → Document → Edited
-edited_all [] d = done d
+edited_all [] d = all_made d
 edited_all (c ∷ cs) d = next (edited_all cs) d (edited c d)

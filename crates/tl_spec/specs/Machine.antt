@@ -39,42 +39,42 @@ with_raw_to t to (Raw bytes) = Raw bytes
 with_raw_to t to (CommentNode bytes) = CommentNode bytes
 
 -- the name of a node that is a tag
-abbrev pub name_of : Option Node → Option (List ℕ)
-name_of None = None
-name_of (Some (Tag own)) = Some own.name
-name_of (Some (Raw bytes)) = None
-name_of (Some (CommentNode bytes)) = None
+abbrev pub name_if_tag : Option Node → Option (List ℕ)
+name_if_tag None = None
+name_if_tag (Some (Tag own)) = Some own.name
+name_if_tag (Some (Raw bytes)) = None
+name_if_tag (Some (CommentNode bytes)) = None
 
 -- the name of the innermost open tag
 abbrev pub enclosing_name : List Node → List ℕ → Option (List ℕ)
 enclosing_name nodes [] = None
-enclosing_name nodes (p ∷ ps) = name_of (slice_get nodes p)
+enclosing_name nodes (p ∷ ps) = name_if_tag (slice_get nodes p)
 
 -- a number becomes the last child of the first of these tags, or the last of the top list where there is none
-abbrev pub adopted_by : ℕ → State → List ℕ → State
-adopted_by n s [] = record s { top = s.top ++ n ∷ [] }
-adopted_by n s (p ∷ ps) = record s { nodes = change_at (with_child n) p s.nodes }
+abbrev pub with_child_of_first : ℕ → State → List ℕ → State
+with_child_of_first n s [] = record s { top = s.top ++ n ∷ [] }
+with_child_of_first n s (p ∷ ps) = record s { nodes = change_at (with_child n) p s.nodes }
 
 -- the same by the tags that are open
-abbrev pub adopted : ℕ → State → State
-adopted n s = adopted_by n s s.open_tags
+abbrev pub with_child_of_innermost : ℕ → State → State
+with_child_of_innermost n s = with_child_of_first n s s.open_tags
 
 -- one more node, as the last child of the innermost open tag
-abbrev pub added : Node → State → State
-added node s = let adopting = adopted (length s.nodes) s in record adopting { nodes = adopting.nodes ++ node ∷ [] }
+abbrev pub with_next_node : Node → State → State
+with_next_node node s = let adopting = with_child_of_innermost (length s.nodes) s in record adopting { nodes = adopting.nodes ++ node ∷ [] }
 
 -- one more tag, which opens
-abbrev pub opened : Node → State → State
-opened node s = let adding = added node s in record adding { open_tags = length s.nodes ∷ s.open_tags }
+abbrev pub with_open_tag : Node → State → State
+with_open_tag node s = let adding = with_next_node node s in record adding { open_tags = length s.nodes ∷ s.open_tags }
 
 -- the first of these tags closed, its raw up to a place of the text
-abbrev pub closed_by : List ℕ → ℕ → State → List ℕ → State
-closed_by t to s [] = s
-closed_by t to s (p ∷ ps) = record s { nodes = change_at (with_raw_to t to) p s.nodes; open_tags = ps }
+abbrev pub with_first_closed : List ℕ → ℕ → State → List ℕ → State
+with_first_closed t to s [] = s
+with_first_closed t to s (p ∷ ps) = record s { nodes = change_at (with_raw_to t to) p s.nodes; open_tags = ps }
 
 -- the innermost open tag closed
-abbrev pub closed : List ℕ → ℕ → State → State
-closed t to s = closed_by t to s s.open_tags
+abbrev pub with_innermost_closed : List ℕ → ℕ → State → State
+with_innermost_closed t to s = with_first_closed t to s s.open_tags
 
 -- a start tag as a node, without children yet
 abbrev pub start_node : List ℕ → PlacedToken → List ℕ → List Pair → Node
@@ -83,18 +83,18 @@ start_node t k name pairs = Tag (tag_node t (source_tag k name pairs) [])
 module _ (t : List ℕ) where
   -- a start tag, and whether it stands alone
   abbrev pub after_start : Node → State → Bool → State
-  after_start node s true = added node s
-  after_start node s false = opened node s
+  after_start node s true = with_next_node node s
+  after_start node s false = with_open_tag node s
 
   -- an end tag that ends at a place, and whether it closes the innermost open tag
   abbrev pub after_end : ℕ → State → Bool → State
-  after_end to s true = closed t to s
+  after_end to s true = with_innermost_closed t to s
   after_end to s false = s
 
   -- one token, which stands where k does
   abbrev pub after_token : PlacedToken → State → Token → State
-  after_token k s (Text bytes) = added (Raw bytes) s
-  after_token k s (Comment bytes) = added (CommentNode bytes) s
+  after_token k s (Text bytes) = with_next_node (Raw bytes) s
+  after_token k s (Comment bytes) = with_next_node (CommentNode bytes) s
   after_token k s (Start name pairs alone) = after_start (start_node t k name pairs) s (alone || is_void name)
   after_token k s (End name) = after_end k.to s (closes name (enclosing_name s.nodes s.open_tags))
   after_token k s (Doctype html) = record s { is_html5 = s.is_html5 || html }

@@ -146,12 +146,12 @@ joined Touch = And
 
 -- The parts are nested from the left, with `,` loosest: all that stands before the last `,`, where there is one, and the chain after it.
 
-abbrev pub closed : Option Selector → Selector → Selector
-closed None chain = chain
-closed (Some before) chain = Or before chain
+abbrev pub with_chain : Option Selector → Selector → Selector
+with_chain None chain = chain
+with_chain (Some before) chain = Or before chain
 
 abbrev pub before_after : Link → Option Selector → Selector → Option Selector
-before_after Comma before chain = Some (closed before chain)
+before_after Comma before chain = Some (with_chain before chain)
 before_after link before chain = before
 
 abbrev pub chain_after : Link → Selector → Selector → Selector
@@ -159,7 +159,7 @@ chain_after Comma chain part = part
 chain_after link chain part = joined link chain part
 
 abbrev pub nested : Option Selector → Selector → List (Link × Selector) → Selector
-nested before chain [] = closed before chain
+nested before chain [] = with_chain before chain
 nested before chain (p ∷ ps) = nested (before_after p.0 before chain) (chain_after p.0 chain p.1) ps
 
 -- the selector of a text, `None` where the text is none

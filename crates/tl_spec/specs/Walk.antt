@@ -65,8 +65,8 @@ abbrev pub every : List ℕ → Bool
 every name = true
 
 -- the print's walk enters no tag that is printed alone
-abbrev pub shows : List ℕ → Bool
-shows name = not (is_printed_alone name)
+abbrev pub prints_children : List ℕ → Bool
+prints_children name = not (is_printed_alone name)
 
 -- the first of two
 abbrev pub or_else : Option TreeFault → Option TreeFault → Option TreeFault

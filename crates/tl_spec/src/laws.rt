@@ -9,11 +9,11 @@ ghost use Rattle.tl_spec.specs.AttributeList.{PlainAttributes, attributes_of};
 ghost use Rattle.tl_spec.specs.AttributeGrammar.{AreAttributesOf};
 ghost use Rattle.tl_spec.specs.Forest.{Forest, PlainTag, Siblings, Makes, no_siblings, siblings, with_token, forest, plain};
 ghost use Rattle.tl_spec.specs.Document.{Document, Node, document, weight};
-ghost use Rattle.tl_spec.specs.Edit.{Change, Refusal, edited, edited_all, done};
+ghost use Rattle.tl_spec.specs.Edit.{Change, Refusal, edited, edited_all, all_made};
 ghost use Rattle.tl_spec.specs.Edits.{later, KeepsShape};
 ghost use Rattle.tl_spec.specs.Machine.{State, run, start, step};
 ghost use Rattle.tl_spec.specs.Scan.{has_id, is_in_class, IsFirstPlace, ArePlaces, id_scan, class_scan, tags_of};
-ghost use Rattle.tl_spec.specs.Walk.{every, shows, row_walk, walk, walk_of, trees, first_fault, visits, visits_from};
+ghost use Rattle.tl_spec.specs.Walk.{every, prints_children, row_walk, walk, walk_of, trees, first_fault, visits, visits_from};
 ghost use Rattle.tl_spec.specs.Order.{AreChildrenAbove, AreDescendantsNext};
 ghost use Rattle.tl_spec.specs.Print.{print, document_print, outer_html};
 ghost use Rattle.tl_spec.specs.Clean.{IsClean, IsCleanNode, IsCleanTable, HaveOwnKeys, IsTame};
@@ -87,7 +87,7 @@ pub fn table_print_then_parse()
         IsCleanTable d.nodes d.top →
         document_print d ≡ Ok (print (trees (walk every d.nodes [] d.top))) }
     ensures reads { (d : Document) →
-        IsCleanTable d.nodes d.top → HaveOwnKeys (trees (walk shows d.nodes [] d.top)) →
+        IsCleanTable d.nodes d.top → HaveOwnKeys (trees (walk prints_children d.nodes [] d.top)) →
         (s : List ℕ) → document_print d ≡ Ok s → ReadsAs s (trees (walk every d.nodes [] d.top)) }
 {}
 
@@ -99,7 +99,8 @@ pub fn node_print_then_parse()
         IsCleanNode nodes node →
         outer_html nodes node ≡ Ok (print (trees (walk_of every nodes node))) }
     ensures reads { (nodes : List Node) (node : Node) →
-        IsCleanNode nodes node → HaveOwnKeys (trees (walk_of shows nodes node)) → (s : List ℕ) →
+        IsCleanNode nodes node → HaveOwnKeys (trees (walk_of prints_children nodes node)) →
+        (s : List ℕ) →
         outer_html nodes node ≡ Ok s → ReadsAs s (trees (walk_of every nodes node)) }
 {}
 
@@ -172,7 +173,8 @@ pub fn scans_grow()
 #[tactic(auto, using(crate::proofs::All::laws))]
 pub fn edits_compose()
     ensures after_done { (cs ds : List Change) (d e : Document) →
-        edited_all cs d ≡ done e → edited_all (cs ++ ds) d ≡ later (length cs) (edited_all ds e) }
+        edited_all cs d ≡ all_made e →
+        edited_all (cs ++ ds) d ≡ later (length cs) (edited_all ds e) }
     ensures after_refused { (cs ds : List Change) (d : Document) (i : ℕ) (refusal : Refusal) →
         (edited_all cs d).refused ≡ Some (i, refusal) → edited_all (cs ++ ds) d ≡ edited_all cs d }
 {}

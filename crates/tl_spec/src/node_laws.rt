@@ -8,18 +8,19 @@ ghost use Rattle.tl_spec.specs.Forest.{Forest, PlainTag, forest, plain};
 ghost use Rattle.tl_spec.specs.Normal.{ReadsAs, norm};
 ghost use Rattle.tl_spec.specs.Print.{document_print};
 ghost use Rattle.tl_spec.specs.Token.{tokens};
-ghost use Rattle.tl_spec.specs.Walk.{every, first_fault, shows, trees, walk, walk_of};
+ghost use Rattle.tl_spec.specs.Walk.{every, first_fault, prints_children, trees, walk, walk_of};
 
 /// Nodes that are clean by themselves make a clean table where the print's walk meets no fault, so
 /// where there is a print.
 pub fn clean_nodes()
     ensures table { (d : Document) →
-        All IsCleanAlone d.nodes → first_fault (walk shows d.nodes [] d.top) ≡ None →
+        All IsCleanAlone d.nodes → first_fault (walk prints_children d.nodes [] d.top) ≡ None →
         IsCleanTable d.nodes d.top }
     ensures printed { (d : Document) (s : List ℕ) →
         All IsCleanAlone d.nodes → document_print d ≡ Ok s → IsCleanTable d.nodes d.top }
     ensures node { (nodes : List Node) (node : Node) →
-        All IsCleanAlone nodes → IsCleanAlone node → first_fault (walk_of shows nodes node) ≡ None →
+        All IsCleanAlone nodes → IsCleanAlone node →
+        first_fault (walk_of prints_children nodes node) ≡ None →
         IsCleanNode nodes node }
 {}
 

@@ -10,7 +10,7 @@ use Rattle.tl_spec.specs.Clean.{AreCleanPairs, IsCleanStart, IsCleanTable, IsCle
 use Rattle.tl_spec.specs.Document.{Document, Node, TagNode, Tag, Raw, Comment}
 use Rattle.tl_spec.specs.Forest.{none, text, comment, tag}
 use Rattle.tl_spec.specs.Inline.{pair_image}
-use Rattle.tl_spec.specs.Walk.{Walk, end, meets_text, meets_comment, meets_tag, passes_tag, meets_fault, Dangling, Cycle, every, shows, handle_walk, node_walk, plain_attributes, plain_node, row_walk, stands_on, tag_walk, trees, walk, walk_within}
+use Rattle.tl_spec.specs.Walk.{Walk, end, meets_text, meets_comment, meets_tag, passes_tag, meets_fault, Dangling, Cycle, every, prints_children, handle_walk, node_walk, plain_attributes, plain_node, row_walk, stands_on, tag_walk, trees, walk, walk_within}
 use Rattle.tl_spec.proofs.Images.{image-pairs_in_order}
 use Rattle.uses.specs.Fields.{Fields, attributes_with, document_with, node_with, plain_attributes_with, text_with, trees_with}
 use Rattle.uses.proofs.Texts.{no_less, no_quote, of-text}
@@ -112,4 +112,4 @@ module _ (fields : Fields) where
   clean-walk (meets_fault e more) h = absurd h
 
   pub clean-document : (d : Document) → IsCleanTable d.nodes d.top → IsCleanTable (document_with fields d).nodes d.top
-  clean-document d h = subst IsCleanWalk (sym (of-walk shows d.nodes [] d.top)) (clean-walk (walk shows d.nodes [] d.top) h)
+  clean-document d h = subst IsCleanWalk (sym (of-walk prints_children d.nodes [] d.top)) (clean-walk (walk prints_children d.nodes [] d.top) h)

@@ -1,7 +1,7 @@
 //! The values of an attribute at the nodes where a selector holds.
 ghost use Rattle.std.specs.Prelude.{◌≡◌, ◌++◌, IfOk, OnOk, map, flat_map};
 ghost use Rattle.std.specs.Option.{option_map};
-ghost use Rattle.tl.specs.Query.{Finds};
+ghost use Rattle.tl.specs.Query.{FindsMatches};
 ghost use Rattle.tl.specs.Shown.{shown};
 ghost use Rattle.uses.specs.Picked.{value_line, AreValueLines};
 
@@ -56,7 +56,8 @@ pub fn values(
     key: &[u8],
 ) -> Result<Option<Vec<u8>>, TreeError>
     ensures { let are_lines = AreValueLines (map shown document.now.nodes) key.now in
-        IfOk result (λ lines. Finds selector.now are_lines (option_map (λ l. l.items) lines)) }
+        IfOk result (λ lines. FindsMatches selector.now are_lines (option_map
+        (λ l. l.items) lines)) }
 {
     match document.query_selector(alloc, selector)? {
         Some(found) => Ok(Some(value_lines(alloc, found, document.parser(), key)?)),

@@ -54,7 +54,12 @@ impl<A, B, O: OutlineOf<A>, M> Model for ParserOf<A, B, O, M> {
 
     ghost Value = { Table A B O M };
 
-    ghost view = { λ p. record { nodes = p.nodes.items; top = p.top.items; version = p.version; tracking = p.tracking } };
+    ghost view = { λ p. record {
+      nodes = p.nodes.items;
+      top = p.top.items;
+      version = p.version;
+      tracking = p.tracking;
+    } };
 
     ghost invariant = { λ p. length p.nodes.items < 2 ^ 32 };
 }

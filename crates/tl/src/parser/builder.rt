@@ -3,10 +3,10 @@ ghost use Rattle.std.specs.Prelude.{◌≡◌, ◌↔◌, ◌≤◌, ◌<◌, �
 ghost use Rattle.tl_bytes.specs.Held.{Held};
 ghost use Rattle.tl_spec.specs.ByteClass.{is_void as is_void_name};
 ghost use Rattle.tl_lexer.specs.Span.{bytes_at, IsIn};
-ghost use Rattle.tl_lexer.specs.Lexed.{meant, tag_of, IsTokenIn};
+ghost use Rattle.tl_lexer.specs.Lexed.{meant, start_tag_of, IsTokenIn};
 ghost use Rattle.tl_spec.specs.Forest.{closes};
 ghost use Rattle.tl_spec.specs.Document.{Raw, Comment, document};
-ghost use Rattle.tl_spec.specs.Machine.{start, adopted, added, opened, closed, after_end, step, enclosing_name};
+ghost use Rattle.tl_spec.specs.Machine.{start, with_child_of_innermost, with_next_node, with_open_tag, with_innermost_closed, after_end, step, enclosing_name};
 ghost use Rattle.tl.specs.Shown.{shown, document_of, version_of};
 ghost use Rattle.tl.specs.HeldAlike.{IsHeldNode, IsHeldTag};
 ghost use Rattle.tl.specs.declared.errors.ParseError.TheVariants.{InvalidLength};
@@ -92,7 +92,8 @@ impl<'a> TableBuilder<'a> {
     // Makes a node the last child of the innermost open tag, or the last top node.
     #[inline(always)]
     fn adopt(&mut self, node: NodeHandle) -> Result<(), AllocError>
-        ensures ok { OnOk result (state_of self.new ≡ adopted node (state_of self.old)) }
+        ensures ok { OnOk result (state_of self.new
+            ≡ with_child_of_innermost node (state_of self.old)) }
         ensures len { length self.new.nodes.items ≡ length self.old.nodes.items }
         ensures held { OnOk result ((held : Held) → AreHeld held self.old → AreHeld held self.new) }
     {
@@ -108,7 +109,7 @@ impl<'a> TableBuilder<'a> {
     fn add(&mut self, node: Node<'a>) -> Result<(), AllocError>
         requires { HasRoom self.old }
         ensures ok { OnOk result (state_of self.new
-            ≡ added (shown node.entry) (state_of self.old)) }
+            ≡ with_next_node (shown node.entry) (state_of self.old)) }
         ensures held { OnOk result ((held : Held) → AreHeld held self.old
             → IsHeldNode held node.entry → AreHeld held self.new) }
         ensures len { OnOk result (length self.new.nodes.items ≡ length self.old.nodes.items + 1) }
@@ -124,7 +125,7 @@ impl<'a> TableBuilder<'a> {
     fn open(&mut self, tag: HTMLTag<'a>) -> Result<(), AllocError>
         requires { HasRoom self.old }
         ensures ok { OnOk result (state_of self.new
-            ≡ opened (shown (Tag tag.entry)) (state_of self.old)) }
+            ≡ with_open_tag (shown (Tag tag.entry)) (state_of self.old)) }
         ensures held { OnOk result ((held : Held) → AreHeld held self.old
             → IsHeldTag held tag.entry → AreHeld held self.new) }
     {
@@ -156,7 +157,7 @@ impl<'a> TableBuilder<'a> {
     ) -> Result<(), AllocError>
         requires { to ≤ length (S.text source.now) }
         ensures ok { OnOk result (state_of self.new
-            ≡ closed (S.text source.now) to (state_of self.old)) }
+            ≡ with_innermost_closed (S.text source.now) to (state_of self.old)) }
         ensures held { OnOk result (AreHeld S.held self.old → AreHeld S.held self.new) }
     {
         if let Some(tag) = self.open_tags.pop() {
@@ -208,7 +209,7 @@ impl<'a> TableBuilder<'a> {
             ≡ step (S.text source.now) (state_of self.old)
             (placed (S.text source.now) (Token.Start name) at start to)) }
         ensures rest { IfOk result (λ to. drop to (S.text source.now)
-            ≡ (tag_of (bytes_at (S.text source.now) name) (drop at (S.text source.now))).1) }
+            ≡ (start_tag_of (bytes_at (S.text source.now) name) (drop at (S.text source.now))).1) }
         ensures held { OnOk result (AreHeld S.held self.old → AreHeld S.held self.new) }
         ensures order { IfOk result (λ to. start < to) }
         ensures within { IfOk result (λ to. to ≤ length (S.text source.now)) }
@@ -232,7 +233,7 @@ impl<'a> TableBuilder<'a> {
         requires room { HasRoom self.old }
         ensures ok { OnOk result ((node : _) × F.post leaf
             (piece_at S.held (S.text source.now) span) node
-            × (state_of self.new ≡ added (shown node) (state_of self.old))) }
+            × (state_of self.new ≡ with_next_node (shown node) (state_of self.old))) }
         ensures held { OnOk result (((node : _)
             → F.post leaf (piece_at S.held (S.text source.now) span) node → IsHeldNode S.held node)
             → AreHeld S.held self.old → AreHeld S.held self.new) }

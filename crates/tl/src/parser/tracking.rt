@@ -24,7 +24,9 @@ fn note_parts<'a>(
     class: &Bytes<'a>,
     number: u32,
 ) -> Result<(), AllocError>
-    ensures members { OnOk result ((nodes : List Node) → number ≡ length nodes → AnswerMembers tracking.old nodes [] → AnswerMembers tracking.new nodes (parts class.now.list)) }
+    ensures members { OnOk result ((nodes : List Node) → number ≡ length nodes →
+        AnswerMembers tracking.old nodes [] →
+        AnswerMembers tracking.new nodes (parts class.now.list)) }
     ensures ids { tracking.new.ids ≡ tracking.old.ids }
     ensures tracked { is_some tracking.new.classes ≡ is_some tracking.old.classes }
 {
@@ -44,7 +46,9 @@ fn note_members<'a>(
     class: &Bytes<'a>,
     number: u32,
 ) -> Result<(), AllocError>
-    ensures members { OnOk result ((nodes : List Node) → number ≡ length nodes → AnswerMembers tracking.old nodes [] → AnswerMembers tracking.new nodes (members (Some class.now.list))) }
+    ensures members { OnOk result ((nodes : List Node) → number ≡ length nodes →
+        AnswerMembers tracking.old nodes [] →
+        AnswerMembers tracking.new nodes (members (Some class.now.list))) }
     ensures ids { tracking.new.ids ≡ tracking.old.ids }
     ensures tracked { is_some tracking.new.classes ≡ is_some tracking.old.classes }
 {
@@ -60,7 +64,8 @@ fn note_id_of<'a>(
     node: &Node<'a>,
     number: u32,
 ) -> Result<(), AllocError>
-    ensures ids { OnOk result ((nodes : List Node) → number ≡ length nodes → AnswerIds tracking.old nodes → AnswerIds tracking.new (nodes ++ shown node.now ∷ [])) }
+    ensures ids { OnOk result ((nodes : List Node) → number ≡ length nodes →
+        AnswerIds tracking.old nodes → AnswerIds tracking.new (nodes ++ shown node.now ∷ [])) }
     ensures classes { tracking.new.classes ≡ tracking.old.classes }
     ensures tracked { is_some tracking.new.ids ≡ is_some tracking.old.ids }
 {
@@ -75,7 +80,8 @@ fn note_id_of<'a>(
 
 // The same, where ids are tracked.
 fn note_id<'a>(tracking: &mut Tracking<'a>, node: &Node<'a>, number: u32) -> Result<(), AllocError>
-    ensures ids { OnOk result ((nodes : List Node) → number ≡ length nodes → AnswerIds tracking.old nodes → AnswerIds tracking.new (nodes ++ shown node.now ∷ [])) }
+    ensures ids { OnOk result ((nodes : List Node) → number ≡ length nodes →
+        AnswerIds tracking.old nodes → AnswerIds tracking.new (nodes ++ shown node.now ∷ [])) }
     ensures classes { tracking.new.classes ≡ tracking.old.classes }
     ensures tracked { is_some tracking.new.ids ≡ is_some tracking.old.ids }
 {
@@ -92,7 +98,9 @@ fn note_class_of<'a>(
     node: &Node<'a>,
     number: u32,
 ) -> Result<(), AllocError>
-    ensures classes { OnOk result ((nodes : List Node) → number ≡ length nodes → AnswerClasses tracking.old nodes → AnswerClasses tracking.new (nodes ++ shown node.now ∷ [])) }
+    ensures classes { OnOk result ((nodes : List Node) → number ≡ length nodes →
+        AnswerClasses tracking.old nodes →
+        AnswerClasses tracking.new (nodes ++ shown node.now ∷ [])) }
     ensures ids { tracking.new.ids ≡ tracking.old.ids }
     ensures tracked { is_some tracking.new.classes ≡ is_some tracking.old.classes }
 {
@@ -112,7 +120,9 @@ fn note_class<'a>(
     node: &Node<'a>,
     number: u32,
 ) -> Result<(), AllocError>
-    ensures classes { OnOk result ((nodes : List Node) → number ≡ length nodes → AnswerClasses tracking.old nodes → AnswerClasses tracking.new (nodes ++ shown node.now ∷ [])) }
+    ensures classes { OnOk result ((nodes : List Node) → number ≡ length nodes →
+        AnswerClasses tracking.old nodes →
+        AnswerClasses tracking.new (nodes ++ shown node.now ∷ [])) }
     ensures ids { tracking.new.ids ≡ tracking.old.ids }
     ensures tracked { is_some tracking.new.classes ≡ is_some tracking.old.classes }
 {

@@ -7,7 +7,7 @@ ghost use Rattle.tl_spec.specs.Range.{range_of};
 ghost use Rattle.tl_spec.specs.SelectorMeaning.{AreMatches};
 ghost use Rattle.tl_spec.specs.Selector.{Selector as SelectorOf};
 ghost use Rattle.tl_spec.specs.SelectorText.{IsSelectorText, StandsAlone};
-ghost use Rattle.tl.specs.Query.{AreIn, Finds};
+ghost use Rattle.tl.specs.Query.{AreIn, FindsMatches};
 ghost use Rattle.tl.specs.Ranges.{WantsNoMemory};
 ghost use Rattle.tl.specs.Shown.{shown};
 ghost use Rattle.tl.specs.TreeFault.{IsRefusal};
@@ -29,7 +29,7 @@ impl<'a> VDom<'a> {
         alloc: Global,
         selector: &'b str,
     ) -> Result<Option<QuerySelectorIterator<'a, 'b>>, TreeError>
-        ensures ok { IfOk result (Finds selector.now
+        ensures ok { IfOk result (FindsMatches selector.now
             (λ e. AreMatches (map shown self.now.nodes) e 0 (length self.now.nodes))) }
         ensures err { IfErr result (λ error. error ≡ OutOfMemory) }
 
@@ -59,7 +59,7 @@ impl<'a> HTMLTag<'a> {
         parser: &'b Parser<'a>,
         selector: &'b str,
     ) -> Result<Option<QuerySelectorIterator<'a, 'b>>, TreeError>
-        ensures ok { IfOk result (Finds selector.now
+        ensures ok { IfOk result (FindsMatches selector.now
             (AreIn (map shown parser.now.nodes)
             (range_of (map shown parser.now.nodes) self.now.children.items))) }
         ensures err { IfErr result (IsRefusal

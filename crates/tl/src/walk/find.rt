@@ -1,7 +1,7 @@
 //! Searches.
 ghost use Rattle.std.specs.Prelude.{◌≡◌, ℕ, map, Ok, Err, None};
 ghost use Rattle.tl_spec.specs.Element.{children_of};
-ghost use Rattle.tl.specs.Find.{Finds, FindsOrStops, sight, sights, sights_below};
+ghost use Rattle.tl.specs.Find.{FindsNode, FindsNodeOrStops, sight, sights, sights_below};
 ghost use Rattle.tl.specs.Node.{tag_of};
 ghost use Rattle.tl.specs.Shown.{shown};
 ghost use Rattle.tl.specs.TreeFault.{FirstDangles};
@@ -21,7 +21,7 @@ fn find_in_walk<'s, 'a, F: FnMut(&Node<'a>) -> bool>(
 ) -> Result<Option<NodeHandle>, TreeError>
     requires callable { F.IsAlwaysCallable f.old }
     requires marked { IsMarked walker }
-    ensures search { FindsOrStops F.FnMut f.old
+    ensures search { FindsNodeOrStops F.FnMut f.old
         (sights walker.entry.nodes.now (left walker.entry)) result f.new }
     ensures dangling { (h : ℕ) → FirstDangles walker.entry.nodes.now walker.entry.rest.now h
         → result ≡ Err (TreeError.Dangling h) }
@@ -49,7 +49,7 @@ impl<'a> HTMLTag<'a> {
         f: &mut F,
     ) -> Result<Option<NodeHandle>, TreeError>
         requires { F.IsAlwaysCallable f.old }
-        ensures { Finds F.FnMut f.old
+        ensures { FindsNode F.FnMut f.old
             (map (sight parser.now.nodes) self.now.children.items) result f.new }
     {
         for child in self.child_handles().as_slice() {
@@ -72,7 +72,7 @@ impl<'a> Node<'a> {
         f: &mut F,
     ) -> Result<Option<NodeHandle>, TreeError>
         requires { F.IsAlwaysCallable f.old }
-        ensures search { FindsOrStops F.FnMut f.old
+        ensures search { FindsNodeOrStops F.FnMut f.old
             (sights_below parser.now.nodes self.now) result f.new }
         ensures leaf { tag_of self.now ≡ None → result ≡ Ok None }
 

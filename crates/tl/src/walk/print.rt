@@ -7,8 +7,8 @@ ghost use Rattle.tl_spec.specs.AttributeList.{printed_pairs, HasOwnKeys};
 ghost use Rattle.tl_spec.specs.Clean.{HaveOwnKeys, IsCleanNode, MeetsOwnKeys, NodeHasOwnKeys};
 ghost use Rattle.tl_spec.specs.Document.{Tag};
 ghost use Rattle.tl_spec.specs.Normal.{ReadsAs};
-ghost use Rattle.tl_spec.specs.Print.{outer_html, inner_html, print, print_value, print_pairs, print_start, print_end, printed};
-ghost use Rattle.tl_spec.specs.Walk.{every, fault_among, first_fault, plain_node, shows, trees, walk, walk_of};
+ghost use Rattle.tl_spec.specs.Print.{outer_html, inner_html, print, print_value, print_pairs, print_start, print_end, print_of_event};
+ghost use Rattle.tl_spec.specs.Walk.{every, fault_among, first_fault, plain_node, prints_children, trees, walk, walk_of};
 ghost use Rattle.tl.specs.Shown.{shown, shown_tag};
 ghost use Rattle.tl_attributes.specs.ShownAttributes.{plain, shown_value};
 ghost use Rattle.tl.specs.Answer.{Answers};
@@ -130,7 +130,7 @@ fn write_end(tag: &HTMLTag<'_>, out: &mut String) -> Result<(), TreeError>
 #[inline(always)]
 fn write_event<'s, 'a>(event: Event<'s, 'a>, out: &mut String) -> Result<(), TreeError>
     ensures ok { OnOk result (string_bytes out.new
-        ≡ string_bytes out.old ++ printed (shown_event event.entry)) }
+        ≡ string_bytes out.old ++ print_of_event (shown_event event.entry)) }
     ensures err { IfErr result (λ e. e ≡ TreeError.OutOfMemory) }
     ensures own { OnOk result (MeetsOwnKeys (shown_event event.entry)) }
 {
@@ -146,7 +146,8 @@ fn write_event<'s, 'a>(event: Event<'s, 'a>, out: &mut String) -> Result<(), Tre
 fn write_walk<'s, 'a>(mut walker: Walker<'s, 'a>, out: &mut String) -> Result<(), TreeError>
     requires { IsMarked walker }
     ensures writes { let es = left walker.entry in
-        Writes (fault_among es) (flat_map printed es) (string_bytes out.old) result (string_bytes out.new) }
+        Writes (fault_among es) (flat_map print_of_event es) (string_bytes out.old) result
+        (string_bytes out.new) }
     ensures own { OnOk result (AllByRecursion MeetsOwnKeys (left walker.entry)) }
     ensures dangling { (h : ℕ) → FirstDangles walker.entry.nodes.now walker.entry.rest.now h
         → result ≡ Err (TreeError.Dangling h) }
@@ -167,10 +168,11 @@ pub(crate) fn write_row<'s, 'a>(
     handles: &'s [NodeHandle],
     out: &mut String,
 ) -> Result<(), TreeError>
-    ensures writes { let w = walk shows (map shown nodes.now) [] handles.now in
-        Writes (first_fault w) (print (trees w)) (string_bytes out.old) result (string_bytes out.new) }
+    ensures writes { let w = walk prints_children (map shown nodes.now) [] handles.now in
+        Writes (first_fault w) (print (trees w)) (string_bytes out.old) result
+        (string_bytes out.new) }
     ensures own { OnOk result (HaveOwnKeys (trees
-        (walk shows (map shown nodes.now) [] handles.now))) }
+        (walk prints_children (map shown nodes.now) [] handles.now))) }
     ensures dangling { (h : ℕ) → FirstDangles nodes.now handles.now h
         → result ≡ Err (TreeError.Dangling h) }
 {
@@ -184,10 +186,12 @@ fn write_tag<'s, 'a>(
     tag: &'s HTMLTag<'a>,
     out: &mut String,
 ) -> Result<(), TreeError>
-    ensures writes { let w = walk_of shows (map shown nodes.now) (Tag (shown_tag tag.now)) in
-        Writes (first_fault w) (print (trees w)) (string_bytes out.old) result (string_bytes out.new) }
+    ensures writes { let w =
+        walk_of prints_children (map shown nodes.now) (Tag (shown_tag tag.now)) in
+        Writes (first_fault w) (print (trees w)) (string_bytes out.old) result
+        (string_bytes out.new) }
     ensures own { OnOk result (HaveOwnKeys (trees
-        (walk_of shows (map shown nodes.now) (Tag (shown_tag tag.now))))) }
+        (walk_of prints_children (map shown nodes.now) (Tag (shown_tag tag.now))))) }
 {
     write_start(tag, out)?;
     if is_printed_alone(tag.name().as_bytes()) {
@@ -215,7 +219,8 @@ impl<'a> HTMLTag<'a> {
             (Tag (shown_tag self.now))) result }
         ensures identity { let nodes = map shown parser.now.nodes in
             let own = Tag (shown_tag self.now) in
-            IsCleanNode nodes own → IfOk result (λ s. ReadsAs (string_bytes s) (trees (walk_of every nodes own))) }
+            IsCleanNode nodes own →
+            IfOk result (λ s. ReadsAs (string_bytes s) (trees (walk_of every nodes own))) }
     {
         let mut out = String::new(alloc);
         write_tag(alloc, parser.nodes(), self, &mut out)?;
@@ -248,7 +253,8 @@ impl<'a> Node<'a> {
         ensures answers { Answers (outer_html (map shown parser.now.nodes)
             (shown self.now)) result }
         ensures identity { let nodes = map shown parser.now.nodes in let own = shown self.now in
-            IsCleanNode nodes own → IfOk result (λ s. ReadsAs (string_bytes s) (trees (walk_of every nodes own))) }
+            IsCleanNode nodes own →
+            IfOk result (λ s. ReadsAs (string_bytes s) (trees (walk_of every nodes own))) }
     {
         match self {
             Node::Tag(tag) => tag.outer_html(alloc, parser),

@@ -38,7 +38,8 @@ fn write_event<'s, 'a>(event: Event<'s, 'a>, out: &mut String) -> Result<(), Tre
 fn write_texts<'s, 'a>(mut walker: Walker<'s, 'a>, out: &mut String) -> Result<(), TreeError>
     requires { IsMarked walker }
     ensures writes { let es = left walker.entry in
-        Writes (fault_among es) (flat_map event_text es) (string_bytes out.old) result (string_bytes out.new) }
+        Writes (fault_among es) (flat_map event_text es) (string_bytes out.old) result
+        (string_bytes out.new) }
     ensures dangling { (h : ℕ) → FirstDangles walker.entry.nodes.now walker.entry.rest.now h
         → result ≡ Err (TreeError.Dangling h) }
 {
@@ -59,7 +60,8 @@ pub(crate) fn write_row_texts<'s, 'a>(
     out: &mut String,
 ) -> Result<(), TreeError>
     ensures writes { let w = walk every (map shown nodes.now) [] handles.now in
-        Writes (first_fault w) (text_of (trees w)) (string_bytes out.old) result (string_bytes out.new) }
+        Writes (first_fault w) (text_of (trees w)) (string_bytes out.old) result
+        (string_bytes out.new) }
     ensures dangling { (h : ℕ) → FirstDangles nodes.now handles.now h
         → result ≡ Err (TreeError.Dangling h) }
 {
@@ -74,7 +76,8 @@ fn write_text_of<'s, 'a>(
     out: &mut String,
 ) -> Result<(), TreeError>
     ensures { let w = walk_of every (map shown nodes.now) (Tag (shown_tag tag.now)) in
-        Writes (first_fault w) (text_of (trees w)) (string_bytes out.old) result (string_bytes out.new) }
+        Writes (first_fault w) (text_of (trees w)) (string_bytes out.old) result
+        (string_bytes out.new) }
 {
     let below = tag.child_handles().as_slice();
     write_row_texts(alloc, nodes, below, out)

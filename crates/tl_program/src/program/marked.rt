@@ -22,7 +22,12 @@ impl<T> Model for Marked<T> {
 
     ghost Value = { Marks T };
 
-    ghost view = { λ m. record { inner = m.inner; has_failed = m.has_failed; flushes = m.flushes.count; is_flushed = m.flushes.is_last } };
+    ghost view = { λ m. record {
+      inner = m.inner;
+      has_failed = m.has_failed;
+      flushes = m.flushes.count;
+      is_flushed = m.flushes.is_last;
+    } };
 }
 
 impl<T> Marked<T> {

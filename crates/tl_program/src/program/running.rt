@@ -109,7 +109,8 @@ pub fn run<R: Input, W: Output>(
     ensures exact { result ≢ 3 → result ≢ 4 → IfSome (R.left reader.old) (λ input.
         result ≡ (command_output command.now input).status) }
     ensures written { result ≢ 3 → result ≢ 4 → IfSome (R.left reader.old) (λ input.
-        Appends (W.holds writer.old) (W.holds writer.new) (command_output command.now input).bytes) }
+        Appends (W.holds writer.old) (W.holds writer.new)
+        (command_output command.now input).bytes) }
     ensures end { result ≢ 3 → result ≢ 4 → IsAtEnd (R.left reader.new) }
 
     // Where a clean document is printed, what is written is read as its trees again. For `print` that document was

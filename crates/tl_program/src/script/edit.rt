@@ -1,7 +1,7 @@
 //! Steps on a document.
 ghost use Rattle.std.specs.Prelude.{◌≡◌, OnOk, IfErr};
 ghost use Rattle.std.specs.Borrow.{sem};
-ghost use Rattle.tl_spec.specs.Edit.{Roots, edited_all, done};
+ghost use Rattle.tl_spec.specs.Edit.{Roots, edited_all, all_made};
 ghost use Rattle.tl.specs.Shown.{document_of};
 ghost use Rattle.tl_program.specs.Steps.{change_of, changes_in};
 ghost use Rattle.std.specs.Fn.{FnOnceReturnsAtMut};
@@ -26,9 +26,10 @@ pub fn run<'a>(
 ) -> Result<(), (usize, StepError)>
     ensures ok { OnOk result
         (edited_all (changes_in steps.now) (document_of document.old)
-        ≡ done (document_of document.new)) }
+        ≡ all_made (document_of document.new)) }
     ensures err { IfErr result (λ e.
-        StopsAt (changes_in steps.now) (document_of document.old) (document_of document.new) e.0 e.1) }
+        StopsAt (changes_in steps.now) (document_of document.old)
+        (document_of document.new) e.0 e.1) }
     // How each piece is held: what a step puts is owned, and what it leaves is held as it was.
     ensures held { table_after (done_edits (changes_in steps.now) result) document.old
         ≡ Ok document.new }

@@ -58,7 +58,8 @@ impl<'s> Clone for Test<'s> {
     ghost use Rattle.tl_spec.specs.Document.{Node};
     ghost use Rattle.std.specs.Prelude.{List};
 
-    ghost is_clone = { λ x y. (nodes : List Node) (n : ℕ) → is_found y nodes n ≡ is_found x nodes n };
+    ghost is_clone = { λ x y. (nodes : List Node) (n : ℕ) →
+        is_found y nodes n ≡ is_found x nodes n };
 
     ghost is_infallible = { IsOfOnePart };
 

@@ -4,7 +4,7 @@ ghost use Rattle.tl_selector.specs.View.{selector};
 ghost use Rattle.tl_selector.specs.Lacks.{LacksFirst, LacksSecond};
 ghost use Rattle.tl_selector.specs.TextViews.{link, next};
 ghost use Rattle.tl_spec.specs.SelectorReading as r;
-ghost use Rattle.tl_spec.specs.SelectorReading.{joined, closed, nested, starts_with_space, link_at, next_at, parts_at, selector_at};
+ghost use Rattle.tl_spec.specs.SelectorReading.{joined, with_chain, nested, starts_with_space, link_at, next_at, parts_at, selector_at};
 ghost use Rattle.tl_spec.specs.SelectorText.{StandsAlone};
 
 use crate::selector::Selector;
@@ -91,7 +91,7 @@ fn close<'a>(
     chain: Selector<'a>,
 ) -> Result<Selector<'a>, AllocError>
     ensures closed { IfOk result (λ e. selector e
-        ≡ closed (option_map selector before.entry) (selector chain.entry)) }
+        ≡ with_chain (option_map selector before.entry) (selector chain.entry)) }
     ensures alone { before.entry ≡ None → IsOk result }
 {
     match before {

@@ -2,7 +2,7 @@
 ghost use Rattle.std.specs.Prelude.{◌≡◌, ◌≤◌, length, Some, OnOk};
 ghost use Rattle.tl_bytes.specs.Held.{Held};
 ghost use Rattle.tl_spec.specs.Forest.{closes};
-ghost use Rattle.tl_spec.specs.Machine.{with_child, with_raw_to, name_of};
+ghost use Rattle.tl_spec.specs.Machine.{with_child, with_raw_to, name_if_tag};
 ghost use Rattle.tl.specs.Shown.{shown};
 ghost use Rattle.tl.specs.HeldAlike.{IsHeldNode};
 
@@ -16,7 +16,7 @@ impl<'a> Node<'a> {
     // Whether it is a tag of this name.
     #[inline(always)]
     pub(crate) fn is_named(&self, name: &[u8]) -> bool
-        ensures { result ≡ closes name.now (name_of (Some (shown self.now))) }
+        ensures { result ≡ closes name.now (name_if_tag (Some (shown self.now))) }
     {
         match self {
             Node::Tag(tag) => name == tag.name().as_bytes(),

@@ -4,7 +4,7 @@ ghost use Rattle.tl_spec.specs.Attribute.{attributes};
 ghost use Rattle.tl_spec.specs.AttributeList.{no_attributes};
 ghost use Rattle.tl_spec.specs.Document.{tag_node};
 ghost use Rattle.tl_lexer.specs.Span.{bytes_at, IsIn};
-ghost use Rattle.tl_lexer.specs.Lexed.{ended, tag_of};
+ghost use Rattle.tl_lexer.specs.Lexed.{ended, start_tag_of};
 ghost use Rattle.tl_attributes.specs.ShownAttributes.{plain, shown_attributes};
 ghost use Rattle.tl_attributes.specs.HeldAttributes.{AreRead, AreHeldAttributes};
 ghost use Rattle.tl.specs.StartTag.{read_of, source_tag};
@@ -65,7 +65,7 @@ pub(crate) fn read_start_tag<'a, S: Source<'a>>(
           (attributes (drop at (S.text source.now))).0 found.1,
       drop found.2 (S.text source.now),
     )
-        ≡ tag_of (bytes_at (S.text source.now) name) (drop at (S.text source.now))) }
+        ≡ start_tag_of (bytes_at (S.text source.now) name) (drop at (S.text source.now))) }
     ensures held { IfOk result (λ found. IsHeldTag S.held found.0) }
     ensures order { IfOk result (λ found. start < found.2) }
     ensures within { IfOk result (λ found. found.2 ≤ length (S.text source.now)) }

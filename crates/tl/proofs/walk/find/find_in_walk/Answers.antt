@@ -1,6 +1,6 @@
 use Rattle.std.proofs.Common.{List, false, inl, of_calls, refl, rules, subst, true, Ok, Some}
 use Rattle.std.specs.Fn.{CalledAt}
-use Rattle.tl.specs.Find.{FindsOrStops, sights}
+use Rattle.tl.specs.Find.{FindsNodeOrStops, sights}
 use Rattle.tl.specs.Shown.{HTMLNode}
 use Rattle.tl.specs.Walker.{left}
 use Rattle.tl.proofs.Searching.{stopped, found, passed}
@@ -27,7 +27,7 @@ loop-event-preserved-else-f g c =
     let node = c.in-Meets.node.now in
     let after = c.f.new.self in
     let later = left c.next_event.new.self in
-    let searches_on : List HTMLNode → _ → _ → Type 0 = λ table r q. FindsOrStops g.F.FnMut after (sights table later) r q in
+    let searches_on : List HTMLNode → _ → _ → Type 0 = λ table r q. FindsNodeOrStops g.F.FnMut after (sights table later) r q in
     let steps = rw (c.in-Ok-Some.field-0-is, c.in-Meets.is) at c.in-Ok-Some.ensures.steps in
     let met = rw (c.in-Ok-Some.field-0-is, c.in-Meets.is) at c.in-Ok-Some.ensures.met in
     let called : CalledAt g.F.FnMut c.loop-event.f node false after = record { shown = _; shows = refl; called = c.if-f.ensures } in (

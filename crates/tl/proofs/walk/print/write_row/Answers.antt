@@ -2,7 +2,7 @@ use Rattle.std.proofs.Common.{[], map, string_bytes, subst}
 use Rattle.std.specs.List.{AllByRecursion}
 use Rattle.std.proofs.lemmas.Result.{on_ok_weaker}
 use Rattle.tl_spec.specs.Clean.{MeetsOwnKeys}
-use Rattle.tl_spec.specs.Walk.{shows, walk}
+use Rattle.tl_spec.specs.Walk.{prints_children, walk}
 use Rattle.tl_spec.proofs.Events.{own-events}
 use Rattle.tl.specs.Shown.{shown}
 use Rattle.tl.specs.Walker.{left}
@@ -14,4 +14,4 @@ returns-clause-writes c = writes-walk (map shown c.args.nodes.now) c.args.handle
 
 pub returns-clause-own : goal.returns-clause-own
 returns-clause-own c =
-    on_ok_weaker c.write_walk.result (λ own. own-events (walk shows (map shown c.args.nodes.now) [] c.args.handles.now) (subst (AllByRecursion MeetsOwnKeys) c.new.ensures.left own)) c.write_walk.ensures.own
+    on_ok_weaker c.write_walk.result (λ own. own-events (walk prints_children (map shown c.args.nodes.now) [] c.args.handles.now) (subst (AllByRecursion MeetsOwnKeys) c.new.ensures.left own)) c.write_walk.ensures.own

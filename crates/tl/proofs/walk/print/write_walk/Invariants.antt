@@ -1,7 +1,7 @@
 use Rattle.std.proofs.Common.{◌≡◌, ℕ, ◌++◌, length, flat_map, string_bytes}
 use Rattle.std.specs.List.{AllByRecursion}
 use Rattle.tl_spec.specs.Clean.{MeetsOwnKeys}
-use Rattle.tl_spec.specs.Print.{printed}
+use Rattle.tl_spec.specs.Print.{print_of_event}
 use Rattle.tl_spec.specs.Walk.{fault_among}
 use Rattle.tl.specs.TreeFault.{FirstDangles}
 use Rattle.tl.specs.Walker.{left, IsMarked}
@@ -10,7 +10,7 @@ use Rattle.tl.proofs.walk.print.write_walk.Given as goal
 abbrev pub invariant-loop-event : goal.invariant-loop-event
 invariant-loop-event l = record {
   marked : IsMarked l.walker;
-  bytes : string_bytes l.initial.out ++ flat_map printed (left l.initial.walker) ≡ string_bytes l.out ++ flat_map printed (left l.walker);
+  bytes : string_bytes l.initial.out ++ flat_map print_of_event (left l.initial.walker) ≡ string_bytes l.out ++ flat_map print_of_event (left l.walker);
   faults : fault_among (left l.initial.walker) ≡ fault_among (left l.walker);
   own : AllByRecursion MeetsOwnKeys (left l.walker) → AllByRecursion MeetsOwnKeys (left l.initial.walker);
   dangling : (h : ℕ) → FirstDangles l.fn.walker.nodes.now l.fn.walker.rest.now h → FirstDangles l.walker.nodes.now l.walker.rest.now h;

@@ -1,6 +1,6 @@
 use Rattle.std.proofs.Common.{◌≡◌, ℕ, ◌-◌, List, [], take, drop, subst, ap, ◌∙◌}
 use Rattle.tl_spec.specs.Attribute.{Pair}
-use Rattle.tl_spec.specs.Token.{Token, closed}
+use Rattle.tl_spec.specs.Token.{Token, token_after_attributes}
 use Rattle.tl_spec.specs.Document.{Handles, held_items}
 use Rattle.tl_bytes.specs.Held.{Kept}
 use Rattle.tl_lexer.specs.Span.{bytes_at}
@@ -31,6 +31,6 @@ returns-clause-end g c =
     let kind = c.tag_end-kind.result.0 in
     let end = c.tag_end-kind.result.1 in
     let after = c.in_ok-after.after in
-    let ends : (name : List ℕ) (pairs : List Pair) → ◌≡◌ {A = Token × List ℕ} (ended name pairs kind, drop end t) (closed name pairs (drop after t)) =
-    subst (λ (T : List ℕ). (name : List ℕ) (pairs : List Pair) → ◌≡◌ {A = Token × List ℕ} (ended name pairs kind, drop end T) (closed name pairs (drop after T))) c.as_bytes.ensures c.tag_end-kind.ensures.read in
+    let ends : (name : List ℕ) (pairs : List Pair) → ◌≡◌ {A = Token × List ℕ} (ended name pairs kind, drop end t) (token_after_attributes name pairs (drop after t)) =
+    subst (λ (T : List ℕ). (name : List ℕ) (pairs : List Pair) → ◌≡◌ {A = Token × List ℕ} (ended name pairs kind, drop end T) (token_after_attributes name pairs (drop after T))) c.as_bytes.ensures c.tag_end-kind.ensures.read in
     tag-ends t (bytes_at t c.args.name) c.args.at after (shown_attributes c.read_into.new.tag.attributes) c.in_ok-after.ensures.read kind end ends
