@@ -114,7 +114,8 @@ impl<K: Eq + Hash, V, const N: usize> InlineHashMap<K, V, N> {
 
     /// The value at `key` for writing, if the key is there.
     pub fn get_mut(&mut self, key: &K) -> Option<&mut V>
-        ensures* writes_back { sem 𝓛 (lends_value K.row V.row N.row K.Hash self.entry key.now result) }
+        ensures* writes_back { sem 𝓛
+            (lends_value K.row V.row N.row K.Hash self.entry key.now result) }
         ensures value { option_copied_mut result ≡ lookup (K.eq key.now) self.old.entries }
     {
         match self.place_of(key) {
@@ -247,7 +248,8 @@ impl<K: Eq + Hash + Clone, V: Clone, const N: usize> InlineHashMap<K, V, N> {
         requires keys { ClonesAreEqual K.is_clone (keys_of self.now.entries) }
         requires values { ClonesAreEqual V.is_clone (values_of self.now.entries) }
         ensures pairs { IfOk result (λ m. IsPermutation self.now.entries m.entries) }
-        ensures gets { IfOk result (λ m. (k : K) → get K.eq m k ≡ lookup (K.eq k) self.now.entries) }
+        ensures gets { IfOk result (λ map.
+            (key : K) → get K.eq map key ≡ lookup (K.eq key) self.now.entries) }
     {
         let mut map = HashMap::new(alloc);
         for (key, value) in self.iter() {

@@ -205,7 +205,8 @@ impl<T: Default + Clone, const N: usize> InlineVec<T, N> {
         ensures ok { IfOk result (λ v. v ≡ self.now) }
 
         // Of inline items whose clones take no memory a clone takes none.
-        ensures succeeds { self.now.on_heap ≡ false → All T.is_infallible self.now.items → IsOk result }
+        ensures succeeds { self.now.on_heap ≡ false → All T.is_infallible self.now.items →
+            IsOk result }
     {
         match &self.held {
             HeldItems::Inline(inline) => Ok(InlineVec {

@@ -22,8 +22,10 @@ impl<K: Eq + Hash, V, const N: usize> HeldPairs<K, V, N> {
     ghost use Rattle.tl_inline.specs.HeldPairsLends.{lends_value_at};
 
     pub(super) fn value_at_mut(&mut self, index: usize) -> Option<&mut V>
-        ensures* writes_back { sem 𝓛 (lends_value_at K.row V.row N.row K.Hash self.entry index result) }
-        ensures value { option_copied_mut result ≡ slice_get (values_of (held_view self.old).entries) index }
+        ensures* writes_back { sem 𝓛
+            (lends_value_at K.row V.row N.row K.Hash self.entry index result) }
+        ensures value { option_copied_mut result
+            ≡ slice_get (values_of (held_view self.old).entries) index }
     {
         match self {
             HeldPairs::Inline(inline) => match inline.get_mut(index) {
@@ -45,7 +47,8 @@ pub(super) fn replace<K: Eq, V: Drop, const N: usize>(
     ensures ok { OnOk result (inline.new.items ≡ insert_entry K.eq inline.old.items key.now value) }
     ensures err { OnErr result (inline.new ≡ inline.old) }
     ensures returned { IfErr result (λ back. back ≡ value) }
-    ensures unique { IsDistinct K.eq (keys_of inline.old.items) → IsDistinct K.eq (keys_of inline.new.items) }
+    ensures unique { IsDistinct K.eq (keys_of inline.old.items) →
+        IsDistinct K.eq (keys_of inline.new.items) }
 {
     match find(inline.as_slice(), key) {
         Some(i) => {
@@ -65,7 +68,8 @@ pub(super) fn push_inline<K: Eq + Drop, V: Drop, const N: usize>(
     requires room { length inline.old.items < N }
     requires new { lookup (K.eq key) inline.old.items ≡ None }
     ensures entries { inline.new.items ≡ insert_entry K.eq inline.old.items key value }
-    ensures unique { IsDistinct K.eq (keys_of inline.old.items) → IsDistinct K.eq (keys_of inline.new.items) }
+    ensures unique { IsDistinct K.eq (keys_of inline.old.items) →
+        IsDistinct K.eq (keys_of inline.new.items) }
 {
     inline.push((key, value));
 }
@@ -77,7 +81,8 @@ pub(super) fn remove_inline<K: Default + Eq + Drop, V: Default + Drop, const N: 
 ) -> Option<V>
     ensures value { result ≡ lookup (K.eq key.now) inline.old.items }
     ensures entries { inline.new.items ≡ swap_remove_entry (K.eq key.now) inline.old.items }
-    ensures unique { IsDistinct K.eq (keys_of inline.old.items) → IsDistinct K.eq (keys_of inline.new.items) }
+    ensures unique { IsDistinct K.eq (keys_of inline.old.items) →
+        IsDistinct K.eq (keys_of inline.new.items) }
 {
     match find(inline.as_slice(), key) {
         Some(i) => {

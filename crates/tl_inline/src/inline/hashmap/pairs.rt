@@ -7,7 +7,8 @@ ghost use Rattle.indexmap.specs.IndexMap.{set_value_at};
 pub(super) fn find<K: Eq, V>(pairs: &[(K, V)], key: &K) -> Option<usize>
     ensures index { result ≡ position (K.eq key.now) (keys_of pairs.now) }
     ensures within { IfSome result (λ i. i < length pairs.now) }
-    ensures value { IfSome result (λ i. (d : K × V) → lookup (K.eq key.now) pairs.now ≡ Some (slice_index_or pairs.now i d).1) }
+    ensures value { IfSome result (λ i. (other : K × V) →
+        lookup (K.eq key.now) pairs.now ≡ Some (slice_index_or pairs.now i other).1) }
     ensures absent { IfNone result (lookup (K.eq key.now) pairs.now ≡ None) }
 {
     find_pair(pairs, key)

@@ -18,7 +18,8 @@ impl<T, const N: usize> HeldItems<T, N> {
     pub(super) fn get_mut(&mut self, index: usize) -> Option<&mut T>
         ensures* writes_back { sem 𝓛 (lends_item T.row N.row self.entry index result) }
         ensures variant { IsSome result ↔ (index < length (held_view self.old).items) }
-        ensures value { IfSome result (λ x. x.now ≡ slice_index_or (held_view self.old).items index x.now) }
+        ensures value { IfSome result (λ item.
+            item.now ≡ slice_index_or (held_view self.old).items index item.now) }
         ensures item { IsItemAtMut (held_view self.old).items index result }
     {
         match self {
