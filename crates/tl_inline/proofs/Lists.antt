@@ -1,11 +1,9 @@
 -- Facts of lists, and of the runs of an iterator that is seen as a list.
-use Rattle.std.proofs.Common.{◌≡◌, ℕ, List, [], ◌∷◌, ◌++◌, length, ap, refl, arith, Result, Bool, subst, sym, ◌∙◌, append_assoc}
+use Rattle.std.proofs.Common.{◌≡◌, ℕ, List, [], ◌∷◌, ◌++◌, length, ap, refl, arith, Bool, subst, sym, ◌∙◌, append_assoc}
 use Rattle.std.specs.List.{AllZip}
 use Rattle.std.specs.Map.Iter.{TakesFirst, ShowsInOrder}
 use Rattle.std.proofs.iter.runs.Sources.{from_front}
 use Rattle.std.proofs.lemmas.List.Elements.{Contains-get_or, Contains-append_right}
-use Rattle.std.specs.Result.{IfOk}
-use Rattle.std.proofs.lemmas.Result.{IfOk-weaker}
 use Rattle.tl_spec.specs.Inline.{InlineVec, with_item}
 use Rattle.tl_inline.specs.InlineVec.{ClonesAreEqual}
 use Rattle.tl_inline.specs.HeldItems.{held_view, held_with_item}
@@ -30,11 +28,6 @@ module _ {X : Type 0} (clones : X → X → Type 0) where
       let first = same x y (Contains-get_or (x ∷ xs) 0 x (omega arith)) h.0 in
       let rest = same_from_clones xs ys (λ a b k. same a b (Contains-append_right (x ∷ []) xs a k)) h.1 in
       λ i. first i ∷ rest i
-
--- the same, as a clause on what a call gave
-pub clones_give : {X E V : Type 0} (clones : X → X → Type 0) (xs : List X) (items : V → List X) (r : Result V E) → ClonesAreEqual clones xs
-    → IfOk r (λ v. AllZip clones xs (items v)) → IfOk r (λ v. items v ≡ xs)
-clones_give clones xs items r same h = IfOk-weaker r _ _ (λ v. same_from_clones clones xs (items v) same) h
 
 -- a vector that lies where v does and has clones of its items is v
 pub clone_is : {X : Type 0} (clones : X → X → Type 0) (v : InlineVec X) (xs ys : List X) (b : Bool) → same_vec xs b ≡ v

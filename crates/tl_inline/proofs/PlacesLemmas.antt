@@ -101,14 +101,6 @@ module _ (old new : Digest → Option Place) (digest : Digest) (w : Option Place
   pub keeps : (d : Digest) → is_same digest d ≡ false → new d ≡ old d
   keeps d e = s d ∙ ap (λ b. cond b w (old d)) e
 
--- a note that says what is noted already
-pub noted_already : (old : Digest → Option Place) (digest : Digest) (w : Option Place) → old digest ≡ w → Notes old old digest w
-noted_already old digest w is = λ d. by d (is_same digest d) refl
-  where
-    by : (d : Digest) (b : Bool) → is_same digest d ≡ b → old d ≡ cond b w (old d)
-    by d true e = ap old (sym (same_digest digest d e)) ∙ is
-    by d false e = refl
-
 still_allows : (o : Option Place) (i n : ℕ) → allows o i ≡ true → allows (with_key o n) i ≡ true
 still_allows None i n h = absurd (true≢false (sym h))
 still_allows (Some p) i n h = refl
@@ -145,9 +137,6 @@ split_push (x ∷ xs) y (suc i) z e =
     ]
 
 module _ {K : Type 0} (f : K → Digest) where
-  pub allows_none : (note : Digest → Option Place) → AllowsAll f note []
-  allows_none note = λ i k e. absurd (none_is_some e)
-
   pub allows_pushed : (old new : Digest → Option Place) (keys : List K) (k : K) (n : ℕ) → n ≡ length keys → Notes old new (f k) (with_key (old (f k)) n)
       → AllowsAll f old keys → AllowsAll f new (keys ++ k ∷ [])
   allows_pushed old new keys k n counted s a = λ i x at.
