@@ -4,7 +4,7 @@ use Rattle.std.specs.Cmp.{IsEquivalence}
 use Rattle.std.specs.Map.{lookup}
 use Rattle.std.specs.HashMap.{HashMap, UpdatesBy}
 use Rattle.tl_spec.specs.Inline.{InlineVec}
-use Rattle.tl_tracking.specs.Tracking.{numbers_of, class_at, with_number}
+use Rattle.tl_tracking.specs.Tracking.{AddsMember, numbers_of, class_at, with_number}
 
 module _ {B : Type 0} (eq : B → B → Bool) (laws : IsEquivalence eq) where
   -- equal keys have one value
@@ -15,7 +15,7 @@ module _ {B : Type 0} (eq : B → B → Bool) (laws : IsEquivalence eq) where
 
   pub put_member : {S : Type 0} (m n : HashMap B (InlineVec ℕ) S) (k : B) (v : InlineVec ℕ) (number : ℕ) → UpdatesBy eq (eq k) m n (Some v)
       → v.items ≡ with_number number (class_at eq m.entries k)
-      → (key : B) → class_at eq n.entries key ≡ cond (eq key k) (with_number number (class_at eq m.entries key)) (class_at eq m.entries key)
+      → AddsMember eq k number m.entries n.entries
   put_member m n k v number u e key = ap numbers_of (u.0 key) ∙ one (eq k key) refl
     where
       one : (b : Bool) → eq k key ≡ b → numbers_of (cond b (Some v) (lookup (eq key) m.entries)) ≡ cond (eq key k) (with_number number (class_at eq m.entries key)) (class_at eq m.entries key)

@@ -1,2 +1,3 @@
+pub mod NameKey
 pub mod Tracking
 pub mod Options

@@ -1,4 +1,7 @@
 //! How names are hashed.
+ghost use Rattle.std.specs.Prelude.{◌≡◌, ℕ, List, [], ◌∷◌, ◌++◌};
+ghost use Rattle.tl_tracking.specs.NameKey.{number_of_names, HasNames};
+
 use md5::{Digest, Md5};
 use std::hash::{BuildHasher, FoldHasher, Hasher};
 
@@ -26,9 +29,9 @@ impl BuildHasher for Keyed {
     }
 }
 
-/// What makes a number of all names of a text: the front of the MD5 digest of all of them, each with the byte 255 after it, which
-/// is no byte of a text. Whoever writes a text learns the number with its last name, so they can't choose names by the number.
-/// MD5 is the fastest digest for which that holds: that two texts can be made of one digest is no help to them.
+/// What makes a number of all names of a text. Whoever writes a text learns the number with its last name, so they can't choose
+/// names by the number. MD5 is the fastest digest for which that holds: that two texts can be made of one digest is no help to
+/// them.
 #[derive(Drop)]
 pub struct NameKey {
     digest: Md5,
@@ -36,18 +39,25 @@ pub struct NameKey {
 
 impl NameKey {
     /// The key of no names.
-    pub fn new() -> NameKey {
+    pub fn new() -> NameKey
+        ensures { HasNames result [] }
+    {
         NameKey { digest: Md5::new() }
     }
 
     /// Adds a name.
-    pub fn add(&mut self, name: &[u8]) {
+    pub fn add(&mut self, name: &[u8])
+        ensures { (names : List (List ℕ)) → HasNames self.old names →
+            HasNames self.new (names ++ name.now ∷ []) }
+    {
         self.digest.update(name);
         self.digest.update(&[255u8]);
     }
 
-    /// The number.
-    pub fn number(self) -> u64 {
+    /// The number of the names.
+    pub fn number(self) -> u64
+        ensures { (names : List (List ℕ)) → HasNames self names → result ≡ number_of_names names }
+    {
         let NameKey { digest } = self;
         let [a, b, c, d, e, f, g, h, ..] = digest.finalize();
         u64::from_le_bytes([a, b, c, d, e, f, g, h])

@@ -1,29 +1,36 @@
 //! Laws of the definitions: what notes of one tag after the other come to.
-ghost use Rattle.std.specs.Prelude.{◌≡◌, ◌↔◌, List, ℕ, ◌∷◌, [], ◌++◌, Option, None};
+ghost use Rattle.std.specs.Prelude.{◌≡◌, ◌↔◌, List, ℕ, ◌∷◌, [], ◌++◌, None};
 ghost use Rattle.tl_spec.specs.ClassMember.{members};
 ghost use Rattle.tl_spec.specs.Document.{Node};
-ghost use Rattle.tl_spec.specs.Inline.{InlineVec};
 ghost use Rattle.tl_spec.specs.Scan.{id_of, class_of, id_scan, class_scan};
-ghost use Rattle.tl_tracking.specs.Tracking.{TracksIds, TracksMembers, TracksClasses};
+ghost use Rattle.tl_tracking.specs.Tracking.{IdPairs, ClassPairs, TracksIds, TracksMembers, TracksClasses};
 
 use tl_attributes::piece::Piece;
 
 /// Before the first member of a tag the nodes before it are tracked, and after the last one that tag as well.
 #[tactic(auto, using(crate::proofs::Noted::laws))]
 pub fn members_noted<B: Piece>()
-    ensures first { (classes : Option (List (B × InlineVec ℕ))) (nodes : List Node) → TracksClasses B.list B.eq classes nodes ↔ TracksMembers B.list B.eq classes nodes [] }
-    ensures last { (classes : Option (List (B × InlineVec ℕ))) (nodes : List Node) (node : Node) → TracksMembers B.list B.eq classes nodes (members (class_of node)) → TracksClasses B.list B.eq classes (nodes ++ node ∷ []) }
+    ensures first { (classes : ClassPairs B) (nodes : List Node) →
+        TracksClasses B.list B.eq classes nodes ↔ TracksMembers B.list B.eq classes nodes [] }
+    ensures last { (classes : ClassPairs B) (nodes : List Node) (node : Node) →
+        TracksMembers B.list B.eq classes nodes (members (class_of node)) →
+        TracksClasses B.list B.eq classes (nodes ++ node ∷ []) }
 {}
 
 /// A node without an id needs no note of one.
 #[tactic(auto, using(crate::proofs::Noted::laws))]
 pub fn id_missing<B: Piece>()
-    ensures { (ids : Option (List (B × ℕ))) (nodes : List Node) (node : Node) → id_of node ≡ None → TracksIds B.list B.eq ids nodes → TracksIds B.list B.eq ids (nodes ++ node ∷ []) }
+    ensures { (ids : IdPairs B) (nodes : List Node) (node : Node) → id_of node ≡ None →
+        TracksIds B.list B.eq ids nodes → TracksIds B.list B.eq ids (nodes ++ node ∷ []) }
 {}
 
 /// What is tracked is that of all nodes where the scans find the same.
 #[tactic(auto, using(crate::proofs::Noted::laws))]
 pub fn same_scans<B: Piece>()
-    ensures ids { (ids : Option (List (B × ℕ))) (nodes more : List Node) → ((i : List ℕ) → id_scan more i ≡ id_scan nodes i) → TracksIds B.list B.eq ids nodes → TracksIds B.list B.eq ids more }
-    ensures classes { (classes : Option (List (B × InlineVec ℕ))) (nodes more : List Node) → ((c : List ℕ) → class_scan more c ≡ class_scan nodes c) → TracksClasses B.list B.eq classes nodes → TracksClasses B.list B.eq classes more }
+    ensures ids { (ids : IdPairs B) (nodes more : List Node) →
+        ((id : List ℕ) → id_scan more id ≡ id_scan nodes id) →
+        TracksIds B.list B.eq ids nodes → TracksIds B.list B.eq ids more }
+    ensures classes { (classes : ClassPairs B) (nodes more : List Node) →
+        ((member : List ℕ) → class_scan more member ≡ class_scan nodes member) →
+        TracksClasses B.list B.eq classes nodes → TracksClasses B.list B.eq classes more }
 {}

@@ -1,8 +1,7 @@
 //! What is kept under one id, and under one member of classes.
-ghost use Rattle.std.specs.Prelude.{◌≡◌, true, OnOk, OnErr, Some, None, IsOk, IsSome, if◌then◌else◌};
+ghost use Rattle.std.specs.Prelude.{◌≡◌, true, OnOk, OnErr, IsOk, IsSome};
 ghost use Rattle.std.specs.Map.{lookup};
-ghost use Rattle.std.specs.Option.{option_or};
-ghost use Rattle.tl_tracking.specs.Tracking.{class_at, ends_with, with_number};
+ghost use Rattle.tl_tracking.specs.Tracking.{KeepsFirst, AddsMember, class_at, ends_with, with_number};
 
 use crate::keyed::Keyed;
 use std::alloc::{AllocError, Global};
@@ -22,7 +21,7 @@ pub(crate) fn keep_first<B: Piece + Drop>(
     id: B,
     number: u32,
 ) -> Result<(), AllocError>
-    ensures ok { OnOk result ((key : B) → lookup (B.eq key) ids.new.entries ≡ option_or (lookup (B.eq key) ids.old.entries) (if B.eq key id then Some number else None)) }
+    ensures ok { OnOk result (KeepsFirst B.eq id number ids.old.entries ids.new.entries) }
     ensures err { OnErr result (ids.new.entries ≡ ids.old.entries) }
     ensures known { IsSome (lookup (B.eq id) ids.old.entries) → IsOk result }
 {
@@ -64,9 +63,11 @@ pub(crate) fn add_member<B: Piece + Drop>(
     member: B,
     number: u32,
 ) -> Result<(), AllocError>
-    ensures ok { OnOk result ((key : B) → class_at B.eq classes.new.entries key ≡ (if B.eq key member then with_number number (class_at B.eq classes.old.entries key) else class_at B.eq classes.old.entries key)) }
+    ensures ok { OnOk result
+        (AddsMember B.eq member number classes.old.entries classes.new.entries) }
     ensures err { OnErr result (classes.new.entries ≡ classes.old.entries) }
-    ensures repeated { ends_with number (class_at B.eq classes.old.entries member) ≡ true → IsOk result }
+    ensures repeated { ends_with number (class_at B.eq classes.old.entries member) ≡ true →
+        IsOk result }
 {
     match classes.get_mut(&member) {
         Some(numbers) => add_last(numbers, number),

@@ -28,7 +28,10 @@ impl<B: Piece> Model for TrackingOf<B> {
 
     ghost coded = { tracking_code B.code };
 
-    ghost view = { λ t. record { ids = option_map (λ m. m.entries) t.ids; classes = option_map (λ m. m.entries) t.classes } };
+    ghost view = { λ t. record {
+      ids = option_map (λ m. m.entries) t.ids;
+      classes = option_map (λ m. m.entries) t.classes;
+    } };
 }
 
 impl<B: Piece> TrackingOf<B> {
@@ -80,7 +83,8 @@ impl<B: Piece> TrackingOf<B> {
     /// The number of the first tag with this id. `None` where there is none, and where ids are not tracked.
     pub fn id(&self, id: &B) -> Option<u32>
         ensures value { result ≡ id_in B.eq self.now.ids id.now }
-        ensures scan { (nodes : List Node) → IsSome self.now.ids → TracksIds B.list B.eq self.now.ids nodes → result ≡ id_scan nodes (B.list id.now) }
+        ensures scan { (nodes : List Node) → IsSome self.now.ids →
+            TracksIds B.list B.eq self.now.ids nodes → result ≡ id_scan nodes (B.list id.now) }
     {
         self.ids.as_ref()?.get(id).copied()
     }
@@ -88,7 +92,9 @@ impl<B: Piece> TrackingOf<B> {
     /// The numbers of the tags with this member of their class, rising. `None` where there is none, and where classes are not tracked.
     pub fn class(&self, member: &B) -> Option<&[u32]>
         ensures value { numbers_lent result ≡ class_in B.eq self.now.classes member.now }
-        ensures scan { (nodes : List Node) → IsSome self.now.classes → TracksClasses B.list B.eq self.now.classes nodes → numbers_lent result ≡ class_scan nodes (B.list member.now) }
+        ensures scan { (nodes : List Node) → IsSome self.now.classes →
+            TracksClasses B.list B.eq self.now.classes nodes →
+            numbers_lent result ≡ class_scan nodes (B.list member.now) }
 
         // An answer is never an empty list,
         ensures none { IfSome result (λ numbers. numbers.now ≢ []) }
@@ -110,7 +116,10 @@ impl<B: Piece> TrackingOf<B> {
 impl<B: Piece + Drop> TrackingOf<B> {
     /// Notes the id of a tag. A tag that was noted before under this id stays.
     pub fn note_id(&mut self, id: B, number: u32) -> Result<(), AllocError>
-        ensures noted { OnOk result ((nodes : List Node) (node : Node) → id_of node ≡ Some (B.list id) → number ≡ length nodes → TracksIds B.list B.eq self.old.ids nodes → TracksIds B.list B.eq self.new.ids (nodes ++ node ∷ [])) }
+        ensures noted { OnOk result ((nodes : List Node) (node : Node) →
+            id_of node ≡ Some (B.list id) → number ≡ length nodes →
+            TracksIds B.list B.eq self.old.ids nodes →
+            TracksIds B.list B.eq self.new.ids (nodes ++ node ∷ [])) }
         ensures tracked { is_some self.new.ids ≡ is_some self.old.ids }
         ensures classes { self.new.classes ≡ self.old.classes }
         ensures err { OnErr result (self.new ≡ self.old) }
@@ -122,7 +131,8 @@ impl<B: Piece + Drop> TrackingOf<B> {
         ensures known { IsSome (id_in B.eq self.old.ids id) → IsOk result }
 
         // and what is under an id stays.
-        ensures kept { (key : B) (first : ℕ) → id_in B.eq self.old.ids key ≡ Some first → id_in B.eq self.new.ids key ≡ Some first }
+        ensures kept { (key : B) (first : ℕ) →
+            id_in B.eq self.old.ids key ≡ Some first → id_in B.eq self.new.ids key ≡ Some first }
     {
         let Some(ids) = &mut self.ids else {
             return Ok(());
@@ -132,7 +142,10 @@ impl<B: Piece + Drop> TrackingOf<B> {
 
     /// Notes one member of the class of a tag. A member that is noted again for this tag changes nothing.
     pub fn note_class(&mut self, member: B, number: u32) -> Result<(), AllocError>
-        ensures noted { OnOk result ((nodes : List Node) (noted : List (List ℕ)) → number ≡ length nodes → TracksMembers B.list B.eq self.old.classes nodes noted → TracksMembers B.list B.eq self.new.classes nodes (noted ++ B.list member ∷ [])) }
+        ensures noted { OnOk result ((nodes : List Node) (noted : List (List ℕ)) →
+            number ≡ length nodes →
+            TracksMembers B.list B.eq self.old.classes nodes noted →
+            TracksMembers B.list B.eq self.new.classes nodes (noted ++ B.list member ∷ [])) }
         ensures tracked { is_some self.new.classes ≡ is_some self.old.classes }
         ensures ids { self.new.ids ≡ self.old.ids }
         ensures err { OnErr result (self.new ≡ self.old) }
@@ -141,7 +154,8 @@ impl<B: Piece + Drop> TrackingOf<B> {
         ensures succeeds { self.old.classes ≡ None → IsOk result }
 
         // Nor does one of a member that was noted last for this tag.
-        ensures repeated { ends_with number (class_in B.eq self.old.classes member) ≡ true → IsOk result }
+        ensures repeated { ends_with number (class_in B.eq self.old.classes member) ≡ true →
+            IsOk result }
     {
         let Some(classes) = &mut self.classes else {
             return Ok(());
