@@ -1,9 +1,8 @@
 -- What a step is in the words of the definitions.
-use Rattle.std.specs.Prelude.{ℕ, List, [], map, Option, None, Some, if◌then◌else◌, codes}
+use Rattle.std.specs.Prelude.{ℕ, List, [], map, Option, None, Some}
 use Rattle.std.specs.List.{slice_split}
 use Rattle.std.specs.Borrow.{Bor}
-use Rattle.std.specs.Str.{bytes_eq}
-use Rattle.tl_spec.specs.StepLine.{is_line_feed, first_word, after_word}
+use Rattle.tl_spec.specs.StepLine.{is_line_feed}
 use Rattle.tl_spec.specs.Edit.{Change, Names, Texts, Comments, Sets, Flags, Unsets, Bares, Pushes, Pulls, Roots}
 use Rattle.tl_program.specs.declared.script.step.Step.{Step}
 use Rattle.tl_program.specs.declared.script.step.Step.TheVariants.{Name, Text, Comment, Set, Flag, Unset, Bare, Push, Pull, Root}
@@ -24,26 +23,6 @@ change_of (Root i h) = Roots i h
 -- the edits that steps are
 abbrev pub changes_in : List Step → List Change
 changes_in steps = map change_of steps
-
--- what a word says of a number and a text, if anything
-abbrev pub change_of_text : List ℕ → ℕ → List ℕ → Option Change
-change_of_text word n text =
-    if bytes_eq word (codes "name") then Some (Names n text)
-    else if bytes_eq word (codes "text") then Some (Texts n text)
-    else if bytes_eq word (codes "comment") then Some (Comments n text)
-    else if bytes_eq word (codes "set") then Some (Sets n (first_word text) (after_word text))
-    else if bytes_eq word (codes "flag") then Some (Flags n text)
-    else if bytes_eq word (codes "unset") then Some (Unsets n text)
-    else if bytes_eq word (codes "bare") then Some (Bares n text)
-    else None
-
--- what a word says of two numbers, if anything
-abbrev pub change_of_numbers : List ℕ → ℕ → ℕ → Option Change
-change_of_numbers word n m =
-    if bytes_eq word (codes "push") then Some (Pushes n m)
-    else if bytes_eq word (codes "pull") then Some (Pulls n m)
-    else if bytes_eq word (codes "root") then Some (Roots n m)
-    else None
 
 -- the lines of what is left of a text, if anything is
 abbrev pub lines_left : Option (Bor (List ℕ)) → List (List ℕ)

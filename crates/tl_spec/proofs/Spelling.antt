@@ -1,6 +1,6 @@
 -- A line that is spelled is read back.
 use Rattle.std.proofs.Common.{◌≡◌, ◌≢◌, ℕ, ◌<◌, ◌^◌, List, [], ◌∷◌, ◌++◌, Bool, true, false, Option, None, Some, length, refl, ap, ◌∙◌, arith, if◌then◌else◌}
-use Rattle.std.specs.Prelude.{codes, not, ◌&&◌, All, option_map}
+use Rattle.std.specs.Prelude.{codes, not, ◌&&◌, All}
 use Rattle.std.proofs.lemmas.Bool.Decides.{nat_tests}
 use Rattle.std.proofs.lemmas.Fmt.{decimal_nonempty, digits_decimal, digits_value-decimal}
 use Rattle.std.proofs.lemmas.Str.Parse.{FoldsDigits, numerals_by_fold, tells_all_ascii_digits}
@@ -15,7 +15,7 @@ use Rattle.std.specs.Str.{all_ascii_digits}
 use Rattle.tl_spec.specs.Edit.{Change, Names, Texts, Comments, Sets, Flags, Unsets, Bares, Pushes, Pulls, Roots}
 use Rattle.tl_spec.specs.ByteClass.{is_space}
 use Rattle.tl_spec.specs.Runs.{has_bytes}
-use Rattle.tl_spec.specs.StepLine.{is_line_feed, changes_of, changes_of_lines, lines_of, IsLine, number_of, is_number, read_on, first_word, after_word, of_number, of_numbers, change_by_word, change_of_line, word_and_rest, line_of, ReadBack, IsSpellable}
+use Rattle.tl_spec.specs.StepLine.{is_line_feed, changes_of, changes_of_lines, lines_of, IsLine, number_of, is_number, read_on, first_word, after_word, of_number, change_of_text, change_of_numbers, change_of_word, change_by_word, change_of_line, word_and_rest, line_of, ReadBack, IsSpellable}
 
 -- a word without a space ends where the first space stands
 word_length : (word rest : List ℕ) → All (λ b. b ≢ 32) word → position_or_len is_space (word_and_rest word rest) ≡ length word
@@ -56,9 +56,9 @@ number_read digits rest n made h =
     let s = number-spaceless digits n h in
     rw (first_word-spaced digits rest s, after_word-spaced digits rest s, h) refl
 
-pub numbers_read : (digits more : List ℕ) (n m : ℕ) (made : ℕ → ℕ → Change) → number_of digits ≡ Some n → number_of more ≡ Some m → of_numbers made (word_and_rest digits more) ≡ Some (made n m)
-numbers_read digits more n m made h k =
-    number_read digits more n (λ n digits. option_map (λ m. made n m) (number_of digits)) h ∙ rw k refl
+pub numbers_read : (word digits more : List ℕ) (n m : ℕ) → number_of digits ≡ Some n → number_of more ≡ Some m → change_of_text word n more ≡ None →
+    change_by_word word (word_and_rest digits more) ≡ change_of_numbers word n m
+numbers_read word digits more n m h k none = number_read digits more n (change_of_word word) h ∙ rw (none, k) refl
 
 -- a line is read by its word
 pub line_read : (word rest : List ℕ) → spaceless word ≡ true → change_of_line (word_and_rest word rest) ≡ change_by_word word rest
@@ -69,27 +69,27 @@ line_read word rest h =
 pub spelled_read : (digits : ℕ → List ℕ) → ReadBack digits → (c : Change) → IsSpellable c → change_of_line (line_of digits c) ≡ Some c
 unfolding spaceless
 spelled_read digits r (Names n name) h =
-    line_read (codes "name") (word_and_rest (digits n) name) refl ∙ number_read (digits n) name n (λ n text. Some (Names n text)) (r n h)
+    line_read (codes "name") (word_and_rest (digits n) name) refl ∙ number_read (digits n) name n (change_of_word (codes "name")) (r n h)
 spelled_read digits r (Texts n text) h =
-    line_read (codes "text") (word_and_rest (digits n) text) refl ∙ number_read (digits n) text n (λ n text. Some (Texts n text)) (r n h)
+    line_read (codes "text") (word_and_rest (digits n) text) refl ∙ number_read (digits n) text n (change_of_word (codes "text")) (r n h)
 spelled_read digits r (Comments n text) h =
-    line_read (codes "comment") (word_and_rest (digits n) text) refl ∙ number_read (digits n) text n (λ n text. Some (Comments n text)) (r n h)
+    line_read (codes "comment") (word_and_rest (digits n) text) refl ∙ number_read (digits n) text n (change_of_word (codes "comment")) (r n h)
 spelled_read digits r (Sets n key value) h =
     line_read (codes "set") (word_and_rest (digits n) (word_and_rest key value)) refl
-    ∙ number_read (digits n) (word_and_rest key value) n (λ n text. Some (Sets n (first_word text) (after_word text))) (r n h.0)
+    ∙ number_read (digits n) (word_and_rest key value) n (change_of_word (codes "set")) (r n h.0)
     ∙ rw (first_word-spaced key value h.1, after_word-spaced key value h.1) refl
 spelled_read digits r (Flags n key) h =
-    line_read (codes "flag") (word_and_rest (digits n) key) refl ∙ number_read (digits n) key n (λ n key. Some (Flags n key)) (r n h)
+    line_read (codes "flag") (word_and_rest (digits n) key) refl ∙ number_read (digits n) key n (change_of_word (codes "flag")) (r n h)
 spelled_read digits r (Unsets n key) h =
-    line_read (codes "unset") (word_and_rest (digits n) key) refl ∙ number_read (digits n) key n (λ n key. Some (Unsets n key)) (r n h)
+    line_read (codes "unset") (word_and_rest (digits n) key) refl ∙ number_read (digits n) key n (change_of_word (codes "unset")) (r n h)
 spelled_read digits r (Bares n key) h =
-    line_read (codes "bare") (word_and_rest (digits n) key) refl ∙ number_read (digits n) key n (λ n key. Some (Bares n key)) (r n h)
+    line_read (codes "bare") (word_and_rest (digits n) key) refl ∙ number_read (digits n) key n (change_of_word (codes "bare")) (r n h)
 spelled_read digits r (Pushes n m) h =
-    line_read (codes "push") (word_and_rest (digits n) (digits m)) refl ∙ numbers_read (digits n) (digits m) n m Pushes (r n h.0) (r m h.1)
+    line_read (codes "push") (word_and_rest (digits n) (digits m)) refl ∙ numbers_read (codes "push") (digits n) (digits m) n m (r n h.0) (r m h.1) refl
 spelled_read digits r (Pulls n m) h =
-    line_read (codes "pull") (word_and_rest (digits n) (digits m)) refl ∙ numbers_read (digits n) (digits m) n m Pulls (r n h.0) (r m h.1)
+    line_read (codes "pull") (word_and_rest (digits n) (digits m)) refl ∙ numbers_read (codes "pull") (digits n) (digits m) n m (r n h.0) (r m h.1) refl
 spelled_read digits r (Roots n m) h =
-    line_read (codes "root") (word_and_rest (digits n) (digits m)) refl ∙ numbers_read (digits n) (digits m) n m Roots (r n h.0) (r m h.1)
+    line_read (codes "root") (word_and_rest (digits n) (digits m)) refl ∙ numbers_read (codes "root") (digits n) (digits m) n m (r n h.0) (r m h.1) refl
 
 line_of-not_empty : (digits : ℕ → List ℕ) (c : Change) → has_bytes (line_of digits c) ≡ true
 line_of-not_empty digits (Names n name) = refl

@@ -1,6 +1,7 @@
 -- The step lines and texts by cases are those of the functions.
 use Rattle.std.proofs.Common.{◌≡◌, ◌≢◌, ℕ, ◌+◌, ◌-◌, ◌*◌, ◌<◌, ◌≤◌, List, [], ◌∷◌, ◌++◌, Bool, true, false, Option, None, Some, length, refl, ap, sym, subst, ◌∙◌, ◌↔◌, arith, if◌then◌else◌, inl, inr}
 use Rattle.std.specs.Prelude.{codes, All, option_map, option_and_then, map, filter}
+use Rattle.std.specs.Option.{option_or}
 use Rattle.std.proofs.lemmas.Bool.Decides.{nat_tests}
 use Rattle.std.proofs.lemmas.Bool.{and_parts, cases_Bool, eqb-true, eqb-false}
 use Rattle.std.proofs.lemmas.Grind.{common_steps}
@@ -12,10 +13,10 @@ use Rattle.std.specs.Char.{is_ascii_digit}
 use Rattle.std.specs.List.{position_or_len, slice_split, onto_first}
 use Rattle.std.specs.Str.{all_ascii_digits, bytes_eq}
 use Rattle.std.proofs.lemmas.Slice.Eq.{bytes_eq-Decides}
-use Rattle.tl_spec.specs.Edit.{Change, Names, Texts, Comments, Sets, Flags, Unsets, Bares, Pushes, Pulls, Roots}
+use Rattle.tl_spec.specs.Edit.{Change, Sets}
 use Rattle.tl_spec.specs.ByteClass.{is_space}
 use Rattle.tl_spec.specs.Runs.{has_bytes}
-use Rattle.tl_spec.specs.StepLine.{number_of, is_number, read_on, first_word, after_word, of_number, of_numbers, change_by_word, change_of_line, word_and_rest, is_line_feed, all_some, changes_of_lines, changes_of}
+use Rattle.tl_spec.specs.StepLine.{number_of, is_number, read_on, first_word, after_word, of_number, change_of_text, change_of_numbers, change_of_word, change_by_word, change_of_line, word_and_rest, is_line_feed, all_some, changes_of_lines, changes_of}
 use Rattle.tl_spec.specs.StepGrammar.{DigitsSay, one_digit, one_more, IsNumber, NumberThenText, number_alone, number_and_text, TwoNumbers, two_numbers, KeyThenValue, key_alone, key_and_value, LineSays, name_line, text_line, comment_line, set_line, flag_line, unset_line, bare_line, push_line, pull_line, root_line, TextSays, no_line, last_line, empty_line, next_line}
 use Rattle.tl_spec.proofs.Shrinks.{if_both}
 use Rattle.tl_spec.proofs.Spelling.{number-if, not_feed, changes_of_lines-cons, number_read, numbers_read, line_read, first_word-spaced, after_word-spaced, spaceless, number-spaceless}
@@ -163,81 +164,76 @@ text-there made rest c h = by (number_of (first_word rest)) refl h
     by None e is = absurd (none-some is)
     by (Some n) e is = (n, after_word rest, number-parts (word-cut rest) (number-there (first_word rest) n e), is)
 
-numbers-are : {rest : List ℕ} {n m : ℕ} (made : ℕ → ℕ → Change) → TwoNumbers rest n m → of_numbers made rest ≡ Some (made n m)
-numbers-are made (two_numbers {digits = digits} {more = more} {n = n} {m = m} k l) = numbers_read digits more n m made (number-is k) (number-is l)
-
 numbers-parts : {rest digits : List ℕ} {n m : ℕ} → NumberThenText rest n digits → IsNumber digits m → TwoNumbers rest n m
 numbers-parts (number_alone k) l = absurd (omega (arith, say-some l.0))
 numbers-parts (number_and_text k) l = two_numbers k l
 
-numbers-there : (made : ℕ → ℕ → Change) (rest : List ℕ) (c : Change) → of_numbers made rest ≡ Some c →
-    (n m : ℕ) × TwoNumbers rest n m × (made n m ≡ c)
-numbers-there made rest c h =
-    let got = text-there (λ n digits. option_map (λ m. made n m) (number_of digits)) rest c h in by got.0 got.1 got.2 (number_of got.1) refl got.3
-  where
-    by : (n : ℕ) (digits : List ℕ) → NumberThenText rest n digits → (o : Option ℕ) → number_of digits ≡ o → option_map (λ m. made n m) o ≡ Some c →
-        (n m : ℕ) × TwoNumbers rest n m × (made n m ≡ c)
-    by n digits r None e is = absurd (none-some is)
-    by n digits r (Some m) e is = (n, m, numbers-parts r (number-there digits m e), cc)
-
 -- lines
 
-line-is : (word rest : List ℕ) {line : List ℕ} (c : Change) → spaceless word ≡ true → line ≡ word_and_rest word rest → change_by_word word rest ≡ Some c → change_of_line line ≡ Some c
-line-is word rest {line} c h same is = ap change_of_line same ∙ line_read word rest h ∙ is
+text-line : (word rest : List ℕ) {line text : List ℕ} {n : ℕ} → spaceless word ≡ true → line ≡ word_and_rest word rest → NumberThenText rest n text →
+    change_of_line line ≡ change_of_word word n text
+text-line word rest h same r = ap change_of_line same ∙ line_read word rest h ∙ text-is (change_of_word word) r
+
+numbers-line : (word rest : List ℕ) {line : List ℕ} {n m : ℕ} → spaceless word ≡ true → line ≡ word_and_rest word rest →
+    ((text : List ℕ) → change_of_text word n text ≡ None) → TwoNumbers rest n m → change_of_line line ≡ change_of_numbers word n m
+numbers-line word rest h same none (two_numbers {digits = digits} {more = more} {n = n} {m = m} k l) =
+    ap change_of_line same ∙ line_read word rest h ∙ numbers_read word digits more n m (number-is k) (number-is l) (none more)
 
 pub says-is : {line : List ℕ} {c : Change} → LineSays line c → change_of_line line ≡ Some c
 unfolding spaceless
-says-is {line} {c} (name_line {rest = rest} r) = line-is (codes "name") rest c refl refl (text-is (λ n name. Some (Names n name)) r)
-says-is {line} {c} (text_line {rest = rest} r) = line-is (codes "text") rest c refl refl (text-is (λ n text. Some (Texts n text)) r)
-says-is {line} {c} (comment_line {rest = rest} r) = line-is (codes "comment") rest c refl refl (text-is (λ n text. Some (Comments n text)) r)
-says-is {line} {c} (set_line {rest = rest} {text = text} {key = key} {value = value} {n = n} r k) =
-    line-is (codes "set") rest c refl refl (text-is (λ n text. Some (Sets n (first_word text) (after_word text))) r ∙ (λ i. Some (Sets n (first-is k i) (after-is k i))))
-says-is {line} {c} (flag_line {rest = rest} r) = line-is (codes "flag") rest c refl refl (text-is (λ n key. Some (Flags n key)) r)
-says-is {line} {c} (unset_line {rest = rest} r) = line-is (codes "unset") rest c refl refl (text-is (λ n key. Some (Unsets n key)) r)
-says-is {line} {c} (bare_line {rest = rest} r) = line-is (codes "bare") rest c refl refl (text-is (λ n key. Some (Bares n key)) r)
-says-is {line} {c} (push_line {rest = rest} r) = line-is (codes "push") rest c refl refl (numbers-are Pushes r)
-says-is {line} {c} (pull_line {rest = rest} r) = line-is (codes "pull") rest c refl refl (numbers-are Pulls r)
-says-is {line} {c} (root_line {rest = rest} r) = line-is (codes "root") rest c refl refl (numbers-are Roots r)
+says-is (name_line {rest = rest} r) = text-line (codes "name") rest refl refl r
+says-is (text_line {rest = rest} r) = text-line (codes "text") rest refl refl r
+says-is (comment_line {rest = rest} r) = text-line (codes "comment") rest refl refl r
+says-is (set_line {rest = rest} {n = n} r k) = text-line (codes "set") rest refl refl r ∙ (λ i. Some (Sets n (first-is k i) (after-is k i)))
+says-is (flag_line {rest = rest} r) = text-line (codes "flag") rest refl refl r
+says-is (unset_line {rest = rest} r) = text-line (codes "unset") rest refl refl r
+says-is (bare_line {rest = rest} r) = text-line (codes "bare") rest refl refl r
+says-is (push_line {rest = rest} r) = numbers-line (codes "push") rest refl refl (λ text. refl) r
+says-is (pull_line {rest = rest} r) = numbers-line (codes "pull") rest refl refl (λ text. refl) r
+says-is (root_line {rest = rest} r) = numbers-line (codes "root") rest refl refl (λ text. refl) r
 
--- a line of a form of one number, and of two
-module _ (word form rest : List ℕ) (c : Change) (same : bytes_eq word form ≡ true) where
-  text-form : (made : ℕ → List ℕ → Change) → ((n : ℕ) (text : List ℕ) → NumberThenText rest n text → LineSays (word_and_rest form rest) (made n text)) →
-      of_number (λ n text. Some (made n text)) rest ≡ Some c → LineSays (word_and_rest word rest) c
-  text-form made says is =
-      let got = text-there (λ n text. Some (made n text)) rest c is in
-      let edit : made got.0 got.1 ≡ c = cc in
-      subst (LineSays (word_and_rest word rest)) edit (subst (λ w. LineSays (word_and_rest w rest) (made got.0 got.1)) (sym ((bytes_eq-Decides word form).0 same)) (says got.0 got.1 got.2))
+-- what a word says of a number and what stands after it
+module _ (word rest : List ℕ) (c : Change) where
+  abbrev IsSaid : Option Change → Type 0
+  IsSaid o = o ≡ Some c → LineSays (word_and_rest word rest) c
 
-  numbers-form : (made : ℕ → ℕ → Change) → ((n m : ℕ) → TwoNumbers rest n m → LineSays (word_and_rest form rest) (made n m)) →
-      of_numbers made rest ≡ Some c → LineSays (word_and_rest word rest) c
-  numbers-form made says is =
-      let got = numbers-there made rest c is in
-      subst (LineSays (word_and_rest word rest)) got.3 (subst (λ w. LineSays (word_and_rest w rest) (made got.0 got.1)) (sym ((bytes_eq-Decides word form).0 same)) (says got.0 got.1 got.2))
+  one-form : (form : List ℕ) {made : Change} → LineSays (word_and_rest form rest) made → bytes_eq word form ≡ true → IsSaid (Some made)
+  one-form form {made} says same is =
+      let edit : made ≡ c = cc in
+      subst (LineSays (word_and_rest word rest)) edit (subst (λ w. LineSays (word_and_rest w rest) made) (sym ((bytes_eq-Decides word form).0 same)) says)
+
+  text-says : (n : ℕ) (text : List ℕ) → NumberThenText rest n text → IsSaid (change_of_text word n text)
+  text-says n text r =
+      if_both IsSaid (bytes_eq word (codes "name")) _ _ (one-form (codes "name") (name_line r))
+      (λ _. if_both IsSaid (bytes_eq word (codes "text")) _ _ (one-form (codes "text") (text_line r))
+      (λ _. if_both IsSaid (bytes_eq word (codes "comment")) _ _ (one-form (codes "comment") (comment_line r))
+      (λ _. if_both IsSaid (bytes_eq word (codes "set")) _ _ (one-form (codes "set") (set_line r (word-cut text)))
+      (λ _. if_both IsSaid (bytes_eq word (codes "flag")) _ _ (one-form (codes "flag") (flag_line r))
+      (λ _. if_both IsSaid (bytes_eq word (codes "unset")) _ _ (one-form (codes "unset") (unset_line r))
+      (λ _. if_both IsSaid (bytes_eq word (codes "bare")) _ _ (one-form (codes "bare") (bare_line r))
+      (λ _ is. absurd (none-some is))))))))
+
+  numbers-say : (n m : ℕ) → TwoNumbers rest n m → IsSaid (change_of_numbers word n m)
+  numbers-say n m r =
+      if_both IsSaid (bytes_eq word (codes "push")) _ _ (one-form (codes "push") (push_line r))
+      (λ _. if_both IsSaid (bytes_eq word (codes "pull")) _ _ (one-form (codes "pull") (pull_line r))
+      (λ _. if_both IsSaid (bytes_eq word (codes "root")) _ _ (one-form (codes "root") (root_line r))
+      (λ _ is. absurd (none-some is))))
+
+  either-says : (n : ℕ) (text : List ℕ) → NumberThenText rest n text → (o : Option Change) → change_of_text word n text ≡ o →
+      (second : Option ℕ) → number_of text ≡ second → IsSaid (option_or o (option_and_then (λ m. change_of_numbers word n m) second))
+  either-says n text r (Some d) e second f is = text-says n text r (e ∙ is)
+  either-says n text r None e None f is = absurd (none-some is)
+  either-says n text r None e (Some m) f is = numbers-say n m (numbers-parts r (number-there text m f)) is
 
 form-says : (word rest : List ℕ) (c : Change) → change_by_word word rest ≡ Some c → LineSays (word_and_rest word rest) c
-form-says word rest c =
-    if_both P (bytes_eq word (codes "name")) _ _ (λ e. text-form word (codes "name") rest c e Names (λ n text. name_line))
-    (λ _. if_both P (bytes_eq word (codes "text")) _ _ (λ e. text-form word (codes "text") rest c e Texts (λ n text. text_line))
-    (λ _. if_both P (bytes_eq word (codes "comment")) _ _ (λ e. text-form word (codes "comment") rest c e Comments (λ n text. comment_line))
-    (λ _. if_both P (bytes_eq word (codes "set")) _ _ (λ e. text-form word (codes "set") rest c e (λ n text. Sets n (first_word text) (after_word text)) (λ n text r. set_line r (word-cut text)))
-    (λ _. if_both P (bytes_eq word (codes "flag")) _ _ (λ e. text-form word (codes "flag") rest c e Flags (λ n text. flag_line))
-    (λ _. if_both P (bytes_eq word (codes "unset")) _ _ (λ e. text-form word (codes "unset") rest c e Unsets (λ n text. unset_line))
-    (λ _. if_both P (bytes_eq word (codes "bare")) _ _ (λ e. text-form word (codes "bare") rest c e Bares (λ n text. bare_line))
-    (λ _. if_both P (bytes_eq word (codes "push")) _ _ (λ e. numbers-form word (codes "push") rest c e Pushes (λ n m. push_line))
-    (λ _. if_both P (bytes_eq word (codes "pull")) _ _ (λ e. numbers-form word (codes "pull") rest c e Pulls (λ n m. pull_line))
-    (λ _. if_both P (bytes_eq word (codes "root")) _ _ (λ e. numbers-form word (codes "root") rest c e Roots (λ n m. root_line))
-    (λ _ is. absurd (none-some is)))))))))))
-  where
-    P : Option Change → Type 0
-    P o = o ≡ Some c → LineSays (word_and_rest word rest) c
+form-says word rest c h =
+    let got = text-there (change_of_word word) rest c h in
+    either-says word rest c got.0 got.1 got.2 (change_of_text word got.0 got.1) refl (number_of got.1) refl got.3
 
 -- without a space there is no number
 alone-none : (word : List ℕ) → change_by_word word [] ≡ None
-alone-none word =
-    none_if (codes "name") (none_if (codes "text") (none_if (codes "comment") (none_if (codes "set") (none_if (codes "flag") (none_if (codes "unset") (none_if (codes "bare") (none_if (codes "push") (none_if (codes "pull") (none_if (codes "root") refl)))))))))
-  where
-    none_if : (form : List ℕ) {other : Option Change} → other ≡ None → (if bytes_eq word form then None else other) ≡ None
-    none_if form e = if_both (λ o. o ≡ None) (bytes_eq word form) _ _ (λ _. refl) (λ _. e)
+alone-none word = refl
 
 cut-says : {line word rest : List ℕ} (c : Change) → KeyThenValue line word rest → change_by_word word rest ≡ Some c → LineSays line c
 cut-says c (key_alone {key = word} h) is = absurd (none-some (sym (alone-none word) ∙ is))

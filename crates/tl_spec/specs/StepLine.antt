@@ -1,6 +1,6 @@
 -- What lines of steps say, and which lines say an edit.
 use Rattle.std.specs.Prelude.{ℕ, ◌+◌, ◌-◌, ◌*◌, ◌≤◌, ◌≡◌, ◌≢◌, Bool, ◌&&◌, List, [], ◌∷◌, ◌++◌, Option, None, Some, All, length, filter, map, if◌then◌else◌, nat_lt, nat_le, ◌==◌, codes}
-use Rattle.std.specs.Option.{option_map, option_and_then}
+use Rattle.std.specs.Option.{option_map, option_and_then, option_or}
 use Rattle.std.specs.List.{before_first, after_first, slice_split}
 use Rattle.std.specs.Str.{all_ascii_digits, byte, bytes_eq}
 use Rattle.tl_spec.specs.ByteClass.{space, line_feed, largest_u32, is_space}
@@ -30,28 +30,38 @@ first_word bytes = before_first is_space bytes
 abbrev pub after_word : List ℕ → List ℕ
 after_word bytes = after_first is_space bytes
 
--- an edit of a number and of all that stands after its space
+-- the edit that a word says of a number and a text, if it is a word of such an edit
+abbrev pub change_of_text : List ℕ → ℕ → List ℕ → Option Change
+change_of_text word n text =
+    if bytes_eq word (codes "name") then Some (Names n text)
+    else if bytes_eq word (codes "text") then Some (Texts n text)
+    else if bytes_eq word (codes "comment") then Some (Comments n text)
+    else if bytes_eq word (codes "set") then Some (Sets n (first_word text) (after_word text))
+    else if bytes_eq word (codes "flag") then Some (Flags n text)
+    else if bytes_eq word (codes "unset") then Some (Unsets n text)
+    else if bytes_eq word (codes "bare") then Some (Bares n text)
+    else None
+
+-- the edit that a word says of two numbers, if it is a word of such an edit
+abbrev pub change_of_numbers : List ℕ → ℕ → ℕ → Option Change
+change_of_numbers word n m =
+    if bytes_eq word (codes "push") then Some (Pushes n m)
+    else if bytes_eq word (codes "pull") then Some (Pulls n m)
+    else if bytes_eq word (codes "root") then Some (Roots n m)
+    else None
+
+-- the edit that a word says of a number and what stands after it: a text, or a second number
+abbrev pub change_of_word : List ℕ → ℕ → List ℕ → Option Change
+change_of_word word n text =
+    option_or (change_of_text word n text) (option_and_then (λ m. change_of_numbers word n m) (number_of text))
+
+-- what is made of a number and of all that stands after its space
 abbrev pub of_number : (ℕ → List ℕ → Option Change) → List ℕ → Option Change
 of_number made bytes = option_and_then (λ n. made n (after_word bytes)) (number_of (first_word bytes))
 
--- an edit of two numbers
-abbrev pub of_numbers : (ℕ → ℕ → Change) → List ℕ → Option Change
-of_numbers made bytes = of_number (λ n digits. option_map (λ m. made n m) (number_of digits)) bytes
-
 -- the edit that a line says: its first word tells the form, and the rest is read by it
 abbrev pub change_by_word : List ℕ → List ℕ → Option Change
-change_by_word word rest =
-    if bytes_eq word (codes "name") then of_number (λ n text. Some (Names n text)) rest
-    else if bytes_eq word (codes "text") then of_number (λ n text. Some (Texts n text)) rest
-    else if bytes_eq word (codes "comment") then of_number (λ n text. Some (Comments n text)) rest
-    else if bytes_eq word (codes "set") then of_number (λ n text. Some (Sets n (first_word text) (after_word text))) rest
-    else if bytes_eq word (codes "flag") then of_number (λ n key. Some (Flags n key)) rest
-    else if bytes_eq word (codes "unset") then of_number (λ n key. Some (Unsets n key)) rest
-    else if bytes_eq word (codes "bare") then of_number (λ n key. Some (Bares n key)) rest
-    else if bytes_eq word (codes "push") then of_numbers Pushes rest
-    else if bytes_eq word (codes "pull") then of_numbers Pulls rest
-    else if bytes_eq word (codes "root") then of_numbers Roots rest
-    else None
+change_by_word word rest = of_number (change_of_word word) rest
 
 -- what one line says, if anything
 abbrev pub change_of_line : List ℕ → Option Change
