@@ -3,9 +3,11 @@ pub mod Failure
 pub mod Marks
 pub mod Output
 pub mod Pieces
+pub mod Run
 pub mod Said
 pub mod Script
 pub mod Status
 pub mod Steps
+pub mod Streams
 pub mod TableEdit
 pub mod TagLent

@@ -8,9 +8,7 @@ use crate::program::fault::{Fault, Input};
 use crate::program::wrapped::Reader;
 
 impl<T: Reader> Input for Marked<T> {
-    ghost left = { λ m. T.left m.inner };
-
-    ghost has_failed = { λ m. m.has_failed };
+    ghost seen = { λ m. record { left = T.left m.inner; has_failed = m.has_failed } };
 
     fn read(&mut self, buffer: &mut [u8]) -> Result<usize, Fault>
         ensures bound { ReadsAtMost result buffer.new }

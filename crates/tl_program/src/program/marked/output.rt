@@ -8,13 +8,12 @@ use crate::program::fault::{Fault, Output};
 use crate::program::wrapped::Writer;
 
 impl<T: Writer> Output for Marked<T> {
-    ghost holds = { λ m. T.holds m.inner };
-
-    ghost has_failed = { λ m. m.has_failed };
-
-    ghost flushes = { λ m. m.flushes };
-
-    ghost is_flushed = { λ m. m.is_flushed };
+    ghost seen = { λ m. record {
+      holds = T.holds m.inner;
+      has_failed = m.has_failed;
+      flushes = m.flushes;
+      is_flushed = m.is_flushed;
+    } };
 
     fn write(&mut self, bytes: &[u8]) -> Result<usize, Fault>
         ensures bound { WritesAtMost result bytes.now }

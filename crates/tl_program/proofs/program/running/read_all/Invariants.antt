@@ -6,8 +6,8 @@ use Rattle.tl_program.proofs.program.running.read_all.Given as goal
 abbrev pub invariant-loop-all : goal.invariant-loop-all
 invariant-loop-all g l =
     record {
-      bytes : Consumes (g.R.Input.left l.fn.reader) (g.R.Input.left l.reader) l.all.items;
-      marks : g.R.Input.has_failed l.reader ≡ g.R.Input.has_failed l.fn.reader;
+      bytes : Consumes (g.R.Input.seen l.fn.reader).left (g.R.Input.seen l.reader).left l.all.items;
+      marks : (g.R.Input.seen l.reader).has_failed ≡ (g.R.Input.seen l.fn.reader).has_failed;
     }
 
 -- a vector has less than 2^63 bytes

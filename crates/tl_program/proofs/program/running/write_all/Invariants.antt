@@ -7,9 +7,9 @@ abbrev pub invariant-loop-done : goal.invariant-loop-done
 invariant-loop-done g l =
     record {
       in_range : l.done ≤ length l.bytes;
-      bytes : Appends (g.W.Output.holds l.fn.writer) (g.W.Output.holds l.writer) (take l.done l.bytes);
-      marks : g.W.Output.has_failed l.writer ≡ g.W.Output.has_failed l.fn.writer;
-      counts : g.W.Output.flushes l.writer ≡ g.W.Output.flushes l.fn.writer;
+      bytes : Appends (g.W.Output.seen l.fn.writer).holds (g.W.Output.seen l.writer).holds (take l.done l.bytes);
+      marks : (g.W.Output.seen l.writer).has_failed ≡ (g.W.Output.seen l.fn.writer).has_failed;
+      counts : (g.W.Output.seen l.writer).flushes ≡ (g.W.Output.seen l.fn.writer).flushes;
     }
 
 abbrev pub decreases-loop-done : goal.decreases-loop-done
