@@ -8,10 +8,10 @@ use Rattle.std.proofs.lemmas.List.Elements.{filter-append}
 use Rattle.std.proofs.lemmas.Map.Made.{IsDistinct-keys_filter}
 use Rattle.tl_spec.specs.Attribute.{Pair}
 use Rattle.tl_spec.specs.AttributeList.{AreOthers, HasOwnKeys, PlainAttributes, named, printed_pairs}
-use Rattle.tl_spec.specs.ByteClass.{is_void}
+use Rattle.tl_spec.specs.ByteClass.{is_among_in_any_case, is_void}
 use Rattle.tl_spec.specs.Clean.{AreCleanPairs, HaveOwnKeys, IsClean, IsCleanStart, IsName}
 use Rattle.tl_spec.specs.Forest.{Forest, none, text, comment, tag, PlainTag}
-use Rattle.tl_safe.specs.Lists.{Lists, are_lawful, is_among, is_among_in_any_case, opaque_names}
+use Rattle.tl_safe.specs.Lists.{Lists, are_lawful, is_among, opaque_names}
 use Rattle.tl_safe.specs.Kept.{is_text_byte, is_value_byte, joined, kept, kept_attributes, kept_value, stays, value_stays}
 use Rattle.tl_safe.proofs.Listed.{listed_key, listed_tag}
 

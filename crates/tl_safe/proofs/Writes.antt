@@ -1,5 +1,5 @@
 -- What is written of a text and of a start tag.
-use Rattle.std.proofs.Common.{◌≡◌, ℕ, Bool, true, false, cond, List, [], ◌∷◌, ◌++◌, codes, refl, ap, sym, ◌∙◌, append-nil}
+use Rattle.std.proofs.Common.{◌≡◌, ℕ, Bool, true, cond, List, [], ◌∷◌, ◌++◌, codes, refl, ap, sym, ◌∙◌, append-nil}
 use Rattle.std.specs.List.{filter, list_all}
 use Rattle.std.specs.Str.Lossy.{utf8_lossy}
 use Rattle.std.proofs.lemmas.Bool.{and_parts}
@@ -27,12 +27,3 @@ kept_start p own = ap (λ ps. codes "<" ++ utf8_lossy own.name ++ print_pairs ps
 
 one_more : (q : Pair) (qs : List Pair) → print_pairs (q ∷ qs) ≡ print_pairs (q ∷ []) ++ print_pairs qs
 one_more q qs = ap (λ x. x ++ print_pairs qs) (sym (append-nil (codes " " ++ utf8_lossy q.0 ++ print_value q.1)))
-
--- one pair before others
-pub pairs_before : (p : Lists) (pair : Pair) (ps : List Pair) →
-    print_pairs (filter (stays p) (pair ∷ ps)) ≡ print_pairs (filter (stays p) (pair ∷ [])) ++ print_pairs (filter (stays p) ps)
-pairs_before p pair ps = here (stays p pair)
-  where
-    here : (b : Bool) → print_pairs (cond b (pair ∷ filter (stays p) ps) (filter (stays p) ps)) ≡ print_pairs (cond b (pair ∷ []) []) ++ print_pairs (filter (stays p) ps)
-    here true = one_more pair (filter (stays p) ps)
-    here false = refl

@@ -1,14 +1,15 @@
 -- What is still to be written of a walk.
-use Rattle.std.specs.Prelude.{ℕ, ◌+◌, ◌*◌, Bool, List, [], ◌∷◌, ◌++◌, drop, length, Option, Some, None, option_map, slice_get, if◌then◌else◌}
+use Rattle.std.specs.Prelude.{ℕ, ◌+◌, ◌*◌, Bool, List, [], ◌∷◌, ◌++◌, drop, Option, Some, None, if◌then◌else◌}
 use Rattle.std.specs.List.{filter}
 use Rattle.std.specs.Str.Lossy.{utf8_lossy}
-use Rattle.tl_spec.specs.ByteClass.{is_void}
+use Rattle.tl_spec.specs.ByteClass.{is_among_in_any_case, is_void}
 use Rattle.tl_spec.specs.Document.{Node, Tag, Raw, Comment}
 use Rattle.tl_spec.specs.Element.{children_of}
+use Rattle.tl_spec.specs.Met.{met}
 use Rattle.tl_spec.specs.Print.{print, print_end, print_start}
-use Rattle.tl_spec.specs.Walk.{every, plain_node, trees, visits, walk}
+use Rattle.tl_spec.specs.Walk.{every, plain_node, trees, walk}
 use Rattle.tl.specs.Shown.{shown}
-use Rattle.tl_safe.specs.Lists.{Lists, is_among, is_among_in_any_case, opaque_names}
+use Rattle.tl_safe.specs.Lists.{Lists, is_among, opaque_names}
 use Rattle.tl_safe.specs.Kept.{is_text_byte, kept, kept_tag}
 use Rattle.tl_safe.specs.declared.walk.Frame.{Frame}
 
@@ -50,23 +51,10 @@ module _ (p : Lists) (nodes : List Node) where
   unfoldable pub owed : List Frame → List ℕ
   owed fs = owed_from [] fs
 
--- the child at a place, with the place after it
-abbrev pub child_at : List ℕ → ℕ → Option (ℕ × ℕ)
-child_at children place = option_map (λ child. (child, place + 1)) (slice_get children place)
-
 module _ (nodes : List Node) where
-  -- how many handles a walk meets
-  abbrev pub met : List ℕ → ℕ
-  met hs = length (visits (walk every nodes [] hs))
-
-  -- the same of one handle
-  abbrev pub handle_met : Option Node → ℕ
-  handle_met (Some (Tag own)) = 1 + met own.children.items
-  handle_met _ = 1
-
   -- steps that a frame takes
   abbrev pub frame_steps : Frame → ℕ
-  frame_steps f = 2 * met (drop f.next (children_of (shown f.node.now))) + 1
+  frame_steps f = 2 * met nodes (drop f.next (children_of (shown f.node.now))) + 1
 
   -- steps that frames take
   unfoldable pub steps : List Frame → ℕ

@@ -24,7 +24,7 @@ use walk::write_row;
 
 // The print of what is kept of a page.
 fn written(alloc: Global, policy: &Policy<'_>, page: &str) -> Result<String, ParseError>
-    ensures length { IsErrOf result InvalidLength ↔ (4294967295 < length page.now) }
+    ensures length { IsErrOf result InvalidLength ↔ (u32.MAX < length page.now) }
     ensures prints { IfOk result (λ safe. string_bytes safe ≡ print (kept_of policy.now page.now)) }
 {
     let document = parse(alloc, page, ParserOptions::new())?;
@@ -47,7 +47,7 @@ fn written(alloc: Global, policy: &Policy<'_>, page: &str) -> Result<String, Par
 /// doctypes go, and so do keys that are not listed, and a value that may not stand takes its key
 /// along.
 pub fn sanitised(alloc: Global, policy: &Policy<'_>, page: &str) -> Result<String, ParseError>
-    ensures length { IsErrOf result InvalidLength ↔ (4294967295 < length page.now) }
+    ensures length { IsErrOf result InvalidLength ↔ (u32.MAX < length page.now) }
 
     // Read by the grammar of `tl`, it is the kept trees: all that may be kept is.
     ensures trees { IfOk result (λ safe.

@@ -1,12 +1,13 @@
 //! The walk over a page, which writes what is kept of it.
 ghost use Rattle.std.specs.Prelude.{◌≡◌, ◌++◌, ◌∷◌, ◌+◌, ◌*◌, ◌<◌, [], map, not, OnOk, IfOk, string_bytes, slice_get, if◌then◌else◌};
 ghost use Rattle.std.specs.Option.{option_copied};
-ghost use Rattle.tl_spec.specs.ByteClass.{is_void};
+ghost use Rattle.tl_spec.specs.ByteClass.{is_among_in_any_case, is_void};
 ghost use Rattle.tl_spec.specs.Element.{children_of};
 ghost use Rattle.tl_spec.specs.Order.{AreChildrenAbove};
 ghost use Rattle.tl.specs.Shown.{shown, shown_tag};
-ghost use Rattle.tl_safe.specs.Left.{child_at, end_print, frame_print, frame_steps, handle_met, handle_print, owed, row, steps};
-ghost use Rattle.tl_safe.specs.Lists.{is_among, is_among_in_any_case, opaque_names};
+ghost use Rattle.tl_spec.specs.Met.{child_at, handle_met};
+ghost use Rattle.tl_safe.specs.Left.{end_print, frame_print, frame_steps, handle_print, owed, row, steps};
+ghost use Rattle.tl_safe.specs.Lists.{is_among, opaque_names};
 ghost use Rattle.tl_safe.specs.Policies.{lists_of};
 ghost use Rattle.tl_safe.specs.Writes.{Adds, kept_start};
 

@@ -1,11 +1,13 @@
 //! Words, and the classes of their bytes.
 ghost use Rattle.std.specs.Prelude.{◌≡◌, IsTrue, false, MatchOption};
 ghost use Rattle.std.specs.List.{list_all};
+ghost use Rattle.tl_spec.specs.ByteClass.{is_among_in_any_case};
 ghost use Rattle.tl_safe.specs.Kept.{is_text_byte, is_value_byte, naming_keys};
-ghost use Rattle.tl_safe.specs.Lists.{active_keys, bending_names, begins_path, begins_with_any, has_colon, has_scheme, is_among, is_among_in_any_case, is_word_of, may_be_key, may_be_tag, may_begin_links, opaque_names};
+ghost use Rattle.tl_safe.specs.Lists.{active_keys, bending_names, begins_path, begins_with_any, has_colon, has_scheme, is_among, is_word_of, may_be_key, may_be_tag, may_begin_links, opaque_names};
 ghost use Rattle.tl_safe.specs.Words.{is_of, may_be, words_of};
 
 use memchr::memchr3;
+use tl_bytes::words::is_among_in_any_case;
 
 // Classes of bytes.
 #[derive(Clone, Copy)]
@@ -175,18 +177,6 @@ pub(crate) fn is_opaque(name: &[u8]) -> bool
     ensures { result ≡ is_among_in_any_case opaque_names name.now }
 {
     is_among_in_any_case(&OPAQUE_NAMES, name)
-}
-
-// Whether a word is one of these, in any ASCII case.
-fn is_among_in_any_case(words: &[&str], word: &[u8]) -> bool
-    ensures { result ≡ is_among_in_any_case (words_of words.now) word.now }
-{
-    for own in words {
-        if word.eq_ignore_ascii_case(own.as_bytes()) {
-            return true;
-        }
-    }
-    false
 }
 
 // Whether one of these stands at the front of a word.

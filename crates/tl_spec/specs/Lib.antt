@@ -13,6 +13,7 @@ pub mod Machine
 pub mod Print
 pub mod Text
 pub mod Walk
+pub mod Met
 pub mod Order
 pub mod Clean
 pub mod Normal

@@ -1,10 +1,12 @@
 -- What is still to be written of a walk, and how many steps it takes.
-use Rattle.std.specs.Prelude.{ℕ, ◌+◌, ◌*◌, List, [], ◌∷◌, ◌++◌, drop, length, map, Option, Some, None, option_map, slice_get, if◌then◌else◌}
+use Rattle.std.specs.Prelude.{ℕ, ◌+◌, ◌*◌, List, [], ◌∷◌, ◌++◌, drop, map, Option, Some, None, if◌then◌else◌}
+use Rattle.tl_spec.specs.ByteClass.{is_among_in_any_case}
 use Rattle.tl_spec.specs.Document.{Node, Tag, Raw, Comment}
 use Rattle.tl_spec.specs.Element.{children_of}
-use Rattle.tl_spec.specs.Walk.{every, trees, visits, walk}
+use Rattle.tl_spec.specs.Met.{met}
+use Rattle.tl_spec.specs.Walk.{every, trees, walk}
 use Rattle.tl.specs.Shown.{shown}
-use Rattle.uses.specs.Shown.{edge, flow, hidden_names, is_among, spaced}
+use Rattle.uses.specs.Shown.{edge, flow, hidden_names, spaced}
 use Rattle.uses.specs.declared.readable.Frame.{Frame}
 
 -- what stands at the end of a node that was entered
@@ -21,7 +23,7 @@ module _ (nodes : List Node) where
   abbrev pub node_flow : Node → List ℕ
   node_flow (Raw bytes) = map spaced bytes
   node_flow (Comment bytes) = []
-  node_flow (Tag own) = if is_among hidden_names own.name then [] else edge own.name ++ (row own.children.items ++ edge own.name)
+  node_flow (Tag own) = if is_among_in_any_case hidden_names own.name then [] else edge own.name ++ (row own.children.items ++ edge own.name)
 
   -- and of a handle, which may have no node
   abbrev pub handle_flow : Option Node → List ℕ
@@ -40,23 +42,10 @@ module _ (nodes : List Node) where
   unfoldable pub owed : List Frame → List ℕ
   owed fs = owed_from [] fs
 
--- the child at a place, with the place after it
-abbrev pub child_at : List ℕ → ℕ → Option (ℕ × ℕ)
-child_at children place = option_map (λ child. (child, place + 1)) (slice_get children place)
-
 module _ (nodes : List Node) where
-  -- how many handles a walk meets
-  abbrev pub met : List ℕ → ℕ
-  met hs = length (visits (walk every nodes [] hs))
-
-  -- the same of one handle
-  abbrev pub handle_met : Option Node → ℕ
-  handle_met (Some (Tag own)) = 1 + met own.children.items
-  handle_met _ = 1
-
   -- steps that a frame takes
   abbrev pub frame_steps : Frame → ℕ
-  frame_steps f = 2 * met (drop f.next (children_of (shown f.node.now))) + 1
+  frame_steps f = 2 * met nodes (drop f.next (children_of (shown f.node.now))) + 1
 
   -- steps that frames take
   unfoldable pub steps : List Frame → ℕ

@@ -3,7 +3,6 @@ pub mod Fields
 pub mod Filling
 pub mod Left
 pub mod Links
-pub mod Names
 pub mod Outlined
 pub mod Picked
 pub mod Shown

@@ -1,15 +1,10 @@
 -- The text of a page, as a reader of its text wants it.
 use Rattle.std.specs.Prelude.{ℕ, Bool, List, [], ◌∷◌, ◌++◌, codes, flat_map, map, if◌then◌else◌}
 use Rattle.std.specs.Char.{is_ascii_whitespace}
-use Rattle.std.specs.List.{list_any}
-use Rattle.std.specs.Str.{str_eq_ignore_ascii_case}
+use Rattle.tl_spec.specs.ByteClass.{is_among_in_any_case}
 use Rattle.tl_spec.specs.ClassMember.{parts}
 use Rattle.tl_spec.specs.Forest.{Forest, PlainTag, none, text, comment, tag}
 use Rattle.uses.specs.Cut.{pieces}
-
--- one of these names, in any ASCII case
-abbrev pub is_among : List (List ℕ) → List ℕ → Bool
-is_among names name = list_any (str_eq_ignore_ascii_case name) names
 
 -- tags whose text is no text of the page
 abbrev pub hidden_names : List (List ℕ)
@@ -29,7 +24,7 @@ cell_names = codes "td" ∷ codes "th" ∷ []
 
 -- what stands at either end of a tag
 abbrev pub edge : List ℕ → List ℕ
-edge name = if is_among block_names name then 10 ∷ [] else if is_among cell_names name then 32 ∷ [] else []
+edge name = if is_among_in_any_case block_names name then 10 ∷ [] else if is_among_in_any_case cell_names name then 32 ∷ [] else []
 
 -- white space is a space
 abbrev pub spaced : ℕ → ℕ
@@ -41,7 +36,7 @@ flow none = []
 flow (text bytes more) = map spaced bytes ++ flow more
 flow (comment bytes more) = flow more
 flow (tag own children more) =
-    (if is_among hidden_names own.name then [] else edge own.name ++ (flow children ++ edge own.name)) ++ flow more
+    (if is_among_in_any_case hidden_names own.name then [] else edge own.name ++ (flow children ++ edge own.name)) ++ flow more
 
 -- what comes after the first word of a line
 abbrev pub words_after : List (List ℕ) → List ℕ

@@ -1,18 +1,20 @@
 //! The text of a page, as a reader of its text wants it.
 ghost use Rattle.std.specs.Prelude.{◌≡◌, ◌++◌, ◌∷◌, ◌+◌, ◌*◌, ◌<◌, [], map, slice_get, IfOk, OnOk};
 ghost use Rattle.std.specs.Option.{option_copied};
+ghost use Rattle.tl_spec.specs.ByteClass.{is_among_in_any_case};
 ghost use Rattle.tl_spec.specs.Element.{children_of};
 ghost use Rattle.tl_spec.specs.Forest.{forest, plain};
 ghost use Rattle.tl_spec.specs.Order.{AreChildrenAbove};
 ghost use Rattle.tl_spec.specs.Token.{tokens};
 ghost use Rattle.tl.specs.Shown.{shown};
-ghost use Rattle.uses.specs.Left.{child_at, end_flow, frame_flow, frame_steps, handle_flow, handle_met, owed, row, steps};
-ghost use Rattle.uses.specs.Names.{names_of};
-ghost use Rattle.uses.specs.Shown.{block_names, cell_names, edge, flow, hidden_names, is_among, readable, spaced};
+ghost use Rattle.tl_spec.specs.Met.{child_at, handle_met};
+ghost use Rattle.uses.specs.Left.{end_flow, frame_flow, frame_steps, handle_flow, owed, row, steps};
+ghost use Rattle.uses.specs.Shown.{block_names, cell_names, edge, flow, hidden_names, readable, spaced};
 
 use crate::lines::lines_of;
 use std::alloc::{AllocError, Global};
 use tl::{Element, Node, NodeHandle, ParseError, ParserOptions, parse};
+use tl_bytes::words::is_among_in_any_case;
 
 static HIDDEN_NAMES: [&str; 2] = ["script", "style"];
 
@@ -55,37 +57,25 @@ pub(crate) struct Frame<'s, 'a> {
     next: usize,
 }
 
-// Whether a name is one of these, in any ASCII case.
-fn is_among(names: &[&str], name: &[u8]) -> bool
-    ensures { result ≡ is_among (names_of names.now) name.now }
-{
-    for own in names {
-        if name.eq_ignore_ascii_case(own.as_bytes()) {
-            return true;
-        }
-    }
-    false
-}
-
 // Whether the text of a tag is no text of the page.
 fn is_hidden(name: &[u8]) -> bool
-    ensures { result ≡ is_among hidden_names name.now }
+    ensures { result ≡ is_among_in_any_case hidden_names name.now }
 {
-    is_among(&HIDDEN_NAMES, name)
+    is_among_in_any_case(&HIDDEN_NAMES, name)
 }
 
 // Whether a tag stands on lines of its own.
 fn is_block(name: &[u8]) -> bool
-    ensures { result ≡ is_among block_names name.now }
+    ensures { result ≡ is_among_in_any_case block_names name.now }
 {
-    is_among(&BLOCK_NAMES, name)
+    is_among_in_any_case(&BLOCK_NAMES, name)
 }
 
 // Whether a tag stands beside others.
 fn is_cell(name: &[u8]) -> bool
-    ensures { result ≡ is_among cell_names name.now }
+    ensures { result ≡ is_among_in_any_case cell_names name.now }
 {
-    is_among(&CELL_NAMES, name)
+    is_among_in_any_case(&CELL_NAMES, name)
 }
 
 // Adds what stands at either end of a tag.

@@ -2,7 +2,7 @@ use Rattle.std.proofs.Common.{◌≡◌, ◌++◌, ◌+◌, ◌*◌, ◌<◌, []
 use Rattle.std.specs.List.{filter}
 use Rattle.std.specs.Str.Lossy.{utf8_lossy}
 use Rattle.std.proofs.lemmas.Result.{on_ok_weaker}
-use Rattle.tl_spec.specs.ByteClass.{is_void}
+use Rattle.tl_spec.specs.ByteClass.{is_among_in_any_case, is_void}
 use Rattle.tl_spec.specs.Document.{Node, Tag, Raw, Comment, TagNode}
 use Rattle.tl_spec.specs.Element.{children_of}
 use Rattle.tl_spec.specs.Print.{print_end}
@@ -10,8 +10,9 @@ use Rattle.tl_spec.specs.Walk.{plain_node}
 use Rattle.tl.specs.Shown.{shown, shown_tag}
 use Rattle.tl.proofs.Frames.{shown_at}
 use Rattle.tl_safe.specs.Kept.{is_text_byte}
-use Rattle.tl_safe.specs.Left.{end_print, frame_print, frame_steps, handle_met, handle_print, met, owed, row, steps}
-use Rattle.tl_safe.specs.Lists.{Lists, is_among_in_any_case, opaque_names}
+use Rattle.tl_spec.specs.Met.{handle_met, met}
+use Rattle.tl_safe.specs.Left.{end_print, frame_print, frame_steps, handle_print, owed, row, steps}
+use Rattle.tl_safe.specs.Lists.{Lists, opaque_names}
 use Rattle.tl_safe.specs.Policies.{lists_of}
 use Rattle.tl_safe.specs.declared.walk.Frame.{Frame}
 use Rattle.tl_safe.proofs.Rows.{steps_entered, visit_entered, visit_passed}

@@ -1,11 +1,13 @@
 use Rattle.std.proofs.Common.{◌≡◌, ◌++◌, ◌+◌, ◌*◌, ◌<◌, List, ℕ, Some, drop, map, ap, sym, subst, ◌∙◌, append_assoc, slice_get}
 use Rattle.std.proofs.lemmas.Result.{on_ok_weaker}
+use Rattle.tl_spec.specs.ByteClass.{is_among_in_any_case}
 use Rattle.tl_spec.specs.Document.{Node, Tag, Raw, Comment, TagNode}
 use Rattle.tl_spec.specs.Element.{children_of}
 use Rattle.tl.specs.Shown.{shown, shown_tag}
 use Rattle.tl.proofs.Frames.{shown_at}
-use Rattle.uses.specs.Left.{end_flow, frame_flow, frame_steps, handle_flow, handle_met, met, owed, row, steps}
-use Rattle.uses.specs.Shown.{edge, hidden_names, is_among, spaced}
+use Rattle.tl_spec.specs.Met.{handle_met, met}
+use Rattle.uses.specs.Left.{end_flow, frame_flow, frame_steps, handle_flow, owed, row, steps}
+use Rattle.uses.specs.Shown.{edge, hidden_names, spaced}
 use Rattle.uses.specs.declared.readable.Frame.{Frame}
 use Rattle.uses.proofs.Rows.{steps_shown, visit_hidden, visit_shown}
 use Rattle.uses.proofs.readable.visit.Goals as goal
@@ -18,7 +20,7 @@ returns-then-is_hidden-clause-ok c =
     let text : List ℕ = c.args.text.now.items in
     let is : slice_get ns c.args.number ≡ Some (Tag own) = shown_at c.args.nodes.now c.args.number c.in-Some.node.now c.in-Some.ensures ∙ ap (λ n. Some (shown n)) c.in-Tag.is in
     let name : c.as_bytes-name.result.now ≡ own.name = c.as_bytes-name.ensures ∙ ap (λ b. b.list) c.name.ensures in
-    let hides = ap (is_among hidden_names) (sym name) ∙ sym c.is_hidden.ensures ∙ c.if-is_hidden.true in
+    let hides = ap (is_among_in_any_case hidden_names) (sym name) ∙ sym c.is_hidden.ensures ∙ c.if-is_hidden.true in
     visit_hidden ns own fs text hides
     ∙ ap (λ o. text ++ (handle_flow ns o ++ owed ns fs)) (sym is)
 
@@ -31,7 +33,7 @@ returns-in_ok-push-in-Tag-clause-ok c =
     let text : List ℕ = c.args.text.now.items in
     let is : slice_get ns c.args.number ≡ Some (Tag own) = shown_at c.args.nodes.now c.args.number c.in-Some.node.now c.in-Some.ensures ∙ ap (λ n. Some (shown n)) c.in-Tag.is in
     let name : c.as_bytes-name.result.now ≡ own.name = c.as_bytes-name.ensures ∙ ap (λ b. b.list) c.name.ensures in
-    let shows = ap (is_among hidden_names) (sym name) ∙ sym c.is_hidden.ensures ∙ c.if-is_hidden.false in
+    let shows = ap (is_among_in_any_case hidden_names) (sym name) ∙ sym c.is_hidden.ensures ∙ c.if-is_hidden.false in
     let owes : frame_flow ns f ≡ row ns own.children.items ++ edge own.name =
     ap (λ n. row ns (drop 0 (children_of (shown n))) ++ end_flow (shown n)) c.in-Tag.is in
     visit_shown ns own f fs c.push.new.self.items text c.add_edge.new.text.items shows (c.in_ok-add_edge-in-Tag.ensures ∙ ap (λ n. text ++ edge n) name)

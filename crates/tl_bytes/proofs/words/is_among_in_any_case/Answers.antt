@@ -1,7 +1,7 @@
 use Rattle.std.proofs.Common.{[], ap, sym, ◌∙◌}
 use Rattle.std.specs.Str.{str_eq_ignore_ascii_case}
-use Rattle.tl_safe.proofs.Lent.{Lent, any_here, any_later, case_test}
-use Rattle.tl_safe.proofs.words.is_among_in_any_case.Goals as goal
+use Rattle.tl_bytes.proofs.Lent.{Lent, any_here, any_later, case_test}
+use Rattle.tl_bytes.proofs.words.is_among_in_any_case.Goals as goal
 
 abbrev unread : Lent
 unread = record { ref_ptr = (0, 0); now = [] }
