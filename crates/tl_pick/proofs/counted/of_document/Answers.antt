@@ -1,0 +1,12 @@
+use Rattle.std.proofs.Common.{ap, sym, subst}
+use Rattle.tl_program.specs.Output.{Gives}
+use Rattle.tl_pick.specs.Counted.{outcome_of_number}
+use Rattle.tl_pick.proofs.Selecting.{found_in-query}
+use Rattle.tl_pick.proofs.counted.of_document.Goals as goal
+
+pub returns : goal.returns
+returns c =
+    let is_found = found_in-query c.args.document.now c.args.selector.now _ c.in_ok-found.ensures.ok in
+    subst (λ outcome. Gives outcome c.number_found.result)
+    (sym (ap (outcome_of_number c.args.end.now) is_found))
+    c.number_found.ensures

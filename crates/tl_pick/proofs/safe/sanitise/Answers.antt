@@ -1,0 +1,13 @@
+use Rattle.std.proofs.Common.{subst}
+use Rattle.tl_program.specs.Output.{Gives}
+use Rattle.tl_safe.specs.Policies.{lists_of}
+use Rattle.tl_pick.specs.Safe.{safe_text}
+use Rattle.tl_pick.proofs.Pages.{of_text-of_page}
+use Rattle.tl_pick.proofs.safe.sanitise.Goals as goal
+
+pub returns-in-Ok : goal.returns-in-Ok
+returns-in-Ok c =
+    let text_is_page = c.in-Ok.ensures.cases in
+    subst (λ outcome. Gives outcome c.of_text.result)
+    (of_text-of_page (safe_text (lists_of c.args.policy.now)) c.args.page.now _ text_is_page.0 text_is_page.1)
+    c.of_text.ensures
