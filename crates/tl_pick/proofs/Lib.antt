@@ -1,0 +1,3 @@
+pub mod Following
+mod Pages
+mod Selecting

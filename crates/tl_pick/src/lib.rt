@@ -1,0 +1,20 @@
+//! What people and other languages ask of a page: what is picked of it by a selector, its links, a
+//! safe page.
+#![tactic(auto)]
+
+mod counted;
+mod linked;
+mod named;
+mod picked;
+mod safe;
+mod wanted;
+
+pub use counted::count;
+pub use linked::links;
+pub use named::with_name;
+pub use picked::select;
+pub use safe::sanitise;
+pub use wanted::Wanted;
+
+/// The version of the program, of the C library and of a release of both.
+pub const VERSION: &str = "0.1.0";
