@@ -63,7 +63,7 @@ void tl_free(tl_document *document);
 tl_status tl_find(tl_document *document, const uint8_t *selector, size_t selector_len, uint32_t *numbers, size_t room,
                   size_t *needed);
 
-/* The value of a node at a key. It is refused where the node has no such key, or the key no value. */
+/* The value of a node at a key. It is refused where the node has no such key, or the key no value. It takes no memory. */
 tl_status tl_attribute(tl_document *document, uint32_t node, const uint8_t *key, size_t key_len, uint8_t *out, size_t room,
                        size_t *needed);
 

@@ -9,6 +9,22 @@ static uint8_t out[64];
 static uint32_t numbers[8];
 static size_t needed;
 
+/* Which request for memory is refused, counted down from this; negative where none is. The linker puts these in the place of the heap's. */
+static long refused = -1;
+
+void *__real_malloc(size_t size);
+void *__real_realloc(void *block, size_t size);
+void *__wrap_malloc(size_t size);
+void *__wrap_realloc(void *block, size_t size);
+
+void *__wrap_malloc(size_t size) {
+    return refused >= 0 && refused-- == 0 ? NULL : __real_malloc(size);
+}
+
+void *__wrap_realloc(void *block, size_t size) {
+    return refused >= 0 && refused-- == 0 ? NULL : __real_realloc(block, size);
+}
+
 #define BYTES(text) (const uint8_t *)(text), sizeof(text) - 1
 #define OUT out, sizeof out, &needed
 #define NUMBERS numbers, sizeof numbers / sizeof *numbers, &needed
@@ -121,10 +137,49 @@ static void calls(void) {
     tl_free(&empty);
 }
 
+/* Whether a call that is refused its request of this number answers so; it is done where it makes no more requests. */
+#define REFUSES(number, call, unchanged) \
+    refused = (number); \
+    tl_status status = (call); \
+    int is_done = refused >= 0; \
+    refused = -1; \
+    CHECK(status == (is_done ? TL_DONE : TL_OUT_OF_MEMORY)); \
+    if (is_done) break; \
+    unchanged
+
+static void refusals(void) {
+    tl_document document = TL_NO_DOCUMENT;
+    CHECK(tl_parse(BYTES("<b>c"), &document) == TL_DONE);
+    for (long number = 0;; number++) {
+        REFUSES(number, tl_parse(BYTES(page), &document), PUTS(tl_node_text(&document, 0, OUT), "c"));
+    }
+    asked(&document);
+    for (long number = 0;; number++) {
+        REFUSES(number, tl_find(&document, BYTES("nav > a"), NUMBERS), CHECK(left(status, TL_OUT_OF_MEMORY, 0)));
+    }
+    CHECK(found(TL_DONE, (const uint32_t[]){1, 3}, 2));
+    for (long number = 0;; number++) {
+        REFUSES(number, tl_node_text(&document, 0, OUT), CHECK(left(status, TL_OUT_OF_MEMORY, 0)));
+    }
+    CHECK(put(TL_DONE, "yz", 2));
+
+    /* What takes no memory is answered though the first request would be refused. */
+    refused = 0;
+    PUTS(tl_attribute(&document, 1, BYTES("href"), OUT), "/x");
+    LEAVES(tl_node_text(&document, 1000, OUT), TL_REFUSED, 0);
+    LEAVES(tl_find(&document, BYTES("\xff"), NUMBERS), TL_NOT_UNDERSTOOD, 0);
+    CHECK(tl_parse(BYTES("\xff"), &document) == TL_NOT_UNDERSTOOD);
+    tl_free(&document);
+    LEAVES(tl_find(&document, BYTES("a"), NUMBERS), TL_REFUSED, 0);
+    CHECK(refused == 0);
+    refused = -1;
+}
+
 int main(void) {
     memset(out, '.', sizeof out);
     for (size_t at = 0; at < 8; at++) numbers[at] = NO_NUMBER;
     /* Many times, so that memory that isn't given back would be seen. */
     for (int turn = 0; turn < 100; turn++) calls();
+    refusals();
     return 0;
 }
