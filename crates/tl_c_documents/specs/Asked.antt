@@ -32,6 +32,11 @@ abbrev pub numbers_in : List ℕ → Option Parsed → Answer ℕ
 numbers_in selector None = refused
 numbers_in selector (Some p) = answer_of_query selector (document_of p.document)
 
+-- the node of a number, in the document that is held, if one is
+abbrev pub node_in : ℕ → Option Parsed → Option Node
+node_in number None = None
+node_in number (Some p) = slice_get (document_of p.document).nodes number
+
 -- a value; where there is none, that is refused
 abbrev pub answer_of_value : Option (List ℕ) → Answer ℕ
 answer_of_value None = refused

@@ -1,6 +1,6 @@
 //! The calls.
-ghost use Rattle.std.specs.Prelude.{◌≡◌, ◌≢◌, None};
-ghost use Rattle.tl_c_documents.specs.Asked.{answer_of_value, numbers_in, text_in, value_in};
+ghost use Rattle.std.specs.Prelude.{◌≡◌, ◌≢◌, IsSome, IsUtf8, None};
+ghost use Rattle.tl_c_documents.specs.Asked.{answer_of_value, node_in, numbers_in, text_in, value_in};
 ghost use Rattle.tl_c_documents.specs.Page.{page_document};
 ghost use Rattle.tl_c_documents.specs.Puts.{Puts, Reads};
 
@@ -13,7 +13,10 @@ use std::alloc::Global;
 /// Reads a copy of a page into a document. What the handle held before is given back.
 #[unsafe(no_mangle)]
 pub extern "C" fn tl_parse(alloc: Global, page: &[u8], document: &mut Document) -> u8
-    ensures { Reads (page_document page.now) document.old.held document.new.held result }
+    ensures reads { Reads (page_document page.now) document.old.held document.new.held result }
+
+    // A page that has no document is refused before any memory is taken.
+    ensures refused { page_document page.now ≡ None → result ≡ 2 }
 {
     match of_page(alloc, page) {
         Ok(read) => {
@@ -45,6 +48,10 @@ pub extern "C" fn tl_find(
     ensures same { document.new.held ≡ document.old.held }
     ensures puts { let answer = numbers_in selector.now document.old.held in
         Puts answer numbers.old numbers.new needed.new result }
+
+    // Neither takes memory.
+    ensures none { document.old.held ≡ None → result ≡ 1 }
+    ensures no_text { IsSome document.old.held → ¬ (IsUtf8 selector.now) → result ≡ 2 }
 {
     let held = document.replace(alloc, None);
     let found = find(alloc, &held, selector);
@@ -87,6 +94,9 @@ pub extern "C" fn tl_node_text(
     ensures same { document.new.held ≡ document.old.held }
     ensures puts { let answer = text_in node document.old.held in
         Puts answer out.old out.new needed.new result }
+
+    // It takes no memory.
+    ensures no_node { node_in node document.old.held ≡ None → result ≡ 1 }
 {
     let held = document.replace(alloc, None);
     let text = node_text(alloc, &held, node);

@@ -1,5 +1,5 @@
 //! What is put into the room that a caller lends.
-ghost use Rattle.std.specs.Prelude.{◌≢◌, option_copied};
+ghost use Rattle.std.specs.Prelude.{◌≡◌, ◌≢◌, Err, option_copied};
 ghost use Rattle.tl_c_documents.specs.Answer.{Answer, Gives, done};
 ghost use Rattle.tl_c_documents.specs.Asked.{answer_of_value};
 ghost use Rattle.tl_c_documents.specs.Puts.{Puts};
@@ -43,8 +43,10 @@ pub(crate) fn put<T: Copy + Drop>(
     out: &mut [T],
     needed: &mut usize,
 ) -> u8
-    ensures { (answer : Answer T) → Gives answer given
+    ensures puts { (answer : Answer T) → Gives answer given
         → Puts answer out.old out.new needed.new result }
+    ensures refused { given ≡ Err Failure.Refused → result ≡ 1 }
+    ensures not_understood { given ≡ Err Failure.NotUnderstood → result ≡ 2 }
 {
     match given {
         Ok(items) => put_items(items.as_slice(), out, needed),

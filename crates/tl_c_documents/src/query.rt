@@ -1,10 +1,10 @@
 //! What is asked of a document that is held, if one is.
-ghost use Rattle.std.specs.Prelude.{◌≡◌, IfOk, option_copied, option_map, slice_get};
+ghost use Rattle.std.specs.Prelude.{◌≡◌, Err, IfOk, IsSome, IsUtf8, None, option_copied, option_map, slice_get};
 ghost use Rattle.tl_spec.specs.SelectorReading.{selector_at};
 ghost use Rattle.tl.specs.Shown.{document_of};
 ghost use Rattle.tl_program.specs.Output.{text_at};
 ghost use Rattle.tl_c_documents.specs.Answer.{Gives};
-ghost use Rattle.tl_c_documents.specs.Asked.{answer_of_numbers, answer_of_query, answer_of_reading, answer_of_selector, numbers_in, text_in, value_in, value_of_node};
+ghost use Rattle.tl_c_documents.specs.Asked.{answer_of_numbers, answer_of_query, answer_of_reading, answer_of_selector, node_in, numbers_in, text_in, value_in, value_of_node};
 
 use crate::parsed::Parsed;
 use std::alloc::{AllocError, Global};
@@ -47,7 +47,8 @@ fn numbers_by(alloc: Global, document: &VDom<'_>, selector: &str) -> Result<Vec<
 
 // The same of bytes, which have to be text.
 fn numbers_of(alloc: Global, document: &VDom<'_>, selector: &[u8]) -> Result<Vec<u32>, Failure>
-    ensures { Gives (answer_of_query selector.now (document_of document.now)) result }
+    ensures gives { Gives (answer_of_query selector.now (document_of document.now)) result }
+    ensures no_text { ¬ (IsUtf8 selector.now) → result ≡ Err Failure.NotUnderstood }
 {
     match str::from_utf8(selector) {
         Ok(selector) => numbers_by(alloc, document, selector),
@@ -61,8 +62,11 @@ pub(crate) fn find(
     held: &Option<Box<Parsed>>,
     selector: &[u8],
 ) -> Result<Vec<u32>, Failure>
-    ensures { let parsed = option_map (λ own. own.value) held.now in
+    ensures gives { let parsed = option_map (λ own. own.value) held.now in
         Gives (numbers_in selector.now parsed) result }
+    ensures none { option_map (λ own. own.value) held.now ≡ None → result ≡ Err Failure.Refused }
+    ensures no_text { IsSome (option_map (λ own. own.value) held.now) → ¬ (IsUtf8 selector.now)
+        → result ≡ Err Failure.NotUnderstood }
 {
     match held {
         Some(own) => numbers_of(alloc, own.document.get_ref(), selector),
@@ -101,8 +105,10 @@ pub(crate) fn attribute<'h>(
 
 // The texts at or below a node of a document.
 fn text_of(alloc: Global, document: &VDom<'_>, node: NodeHandle) -> Result<Vec<u8>, Failure>
-    ensures { let reading = text_at (document_of document.now).nodes node in
+    ensures gives { let reading = text_at (document_of document.now).nodes node in
         Gives (answer_of_reading reading) result }
+    ensures no_node { slice_get (document_of document.now).nodes node ≡ None
+        → result ≡ Err Failure.Refused }
 {
     match node.get(document.parser()) {
         Some(node) => Ok(node.inner_text(alloc, document.parser())?.into_bytes()),
@@ -116,8 +122,10 @@ pub(crate) fn node_text(
     held: &Option<Box<Parsed>>,
     node: u32,
 ) -> Result<Vec<u8>, Failure>
-    ensures { let parsed = option_map (λ own. own.value) held.now in
+    ensures gives { let parsed = option_map (λ own. own.value) held.now in
         Gives (text_in node parsed) result }
+    ensures no_node { node_in node (option_map (λ own. own.value) held.now) ≡ None
+        → result ≡ Err Failure.Refused }
 {
     match held {
         Some(own) => text_of(alloc, own.document.get_ref(), NodeHandle::new(node)),
