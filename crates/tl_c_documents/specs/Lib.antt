@@ -1,0 +1,5 @@
+pub mod Answer
+pub mod Asked
+pub mod Owned
+pub mod Page
+pub mod Puts
