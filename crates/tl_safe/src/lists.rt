@@ -5,10 +5,10 @@ ghost use Rattle.std.specs.Option.{option_map};
 ghost use Rattle.tl_safe.specs.Lists.{page_lists};
 ghost use Rattle.tl_safe.specs.Policies.{lists_of, Refuses};
 ghost use Rattle.tl_safe.specs.Words.{words_of};
-ghost use Rattle.tl_sanitise.specs.Listed.{is_comma, lists_in, lists_said, nothing_said, prefix_said, said, said_with, text_of, words_in, words_left, words_said};
+ghost use Rattle.tl_safe.specs.Said.{is_comma, lists_in, lists_said, nothing_said, prefix_said, said, said_with, text_of, words_in, words_left, words_said};
 
+use crate::policy::{Policy, PolicyError};
 use std::alloc::{AllocError, Global};
-use tl_safe::{Policy, PolicyError};
 
 /// The texts of lists, where they are said: words with commas between them, and a prefix.
 #[derive(Clone, Copy)]

@@ -5,8 +5,8 @@ use Rattle.std.specs.List.{filter, slice_split}
 use Rattle.std.specs.Option.{option_map}
 use Rattle.tl_safe.specs.Lists.{Lists}
 use Rattle.tl_safe.specs.Words.{lists, words_of}
-use Rattle.tl_sanitise.specs.declared.lists.Texts.{Texts}
-use Rattle.tl_sanitise.specs.declared.lists.WordLists.{WordLists}
+use Rattle.tl_safe.specs.declared.lists.Texts.{Texts}
+use Rattle.tl_safe.specs.declared.lists.WordLists.{WordLists}
 
 abbrev pub is_comma : ℕ → Bool
 is_comma b = b == 44
