@@ -1,3 +1,7 @@
+pub mod Cuts
+mod Flows
 pub mod Following
-mod Pages
-mod Selecting
+pub mod Lent
+pub mod Pages
+pub mod Rows
+pub mod Selecting
