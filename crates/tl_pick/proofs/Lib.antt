@@ -1,3 +1,6 @@
+pub mod Cuts
+mod Flows
 pub mod Following
-mod Pages
-mod Selecting
+pub mod Pages
+pub mod Rows
+pub mod Selecting

@@ -1,7 +1,13 @@
+pub mod Bytes
 pub mod Counted
+pub mod Cut
+pub mod First
 pub mod Found
+pub mod Left
 pub mod Linked
 pub mod Named
+pub mod Outlined
 pub mod Page
 pub mod Picked
+pub mod Readable
 pub mod Safe

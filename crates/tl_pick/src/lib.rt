@@ -3,15 +3,24 @@
 #![tactic(auto)]
 
 mod counted;
+mod cutting;
+mod first;
+mod legible;
+mod lines;
 mod linked;
 mod named;
+mod outlined;
 mod picked;
 mod safe;
 mod wanted;
 
 pub use counted::count;
+pub use cutting::cut;
+pub use first::select_first;
+pub use legible::{page_readable, readable};
 pub use linked::links;
 pub use named::with_name;
+pub use outlined::{outline, page_outline};
 pub use picked::select;
 pub use safe::sanitise;
 pub use wanted::Wanted;

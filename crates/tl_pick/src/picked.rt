@@ -80,7 +80,7 @@ fn add_piece<'a>(
 }
 
 // Adds what is asked of the node of a handle, which is refused past the table.
-fn add_piece_at(
+pub(crate) fn add_piece_at(
     alloc: Global,
     out: &mut String,
     parser: &Parser<'_>,

@@ -7,3 +7,4 @@ pub mod Policies
 pub mod Left
 pub mod Writes
 pub mod Causes
+pub mod Said

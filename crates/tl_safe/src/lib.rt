@@ -12,11 +12,13 @@ ghost use Rattle.tl_safe.specs.Policies.{kept_of, lists_of};
 
 mod cause;
 mod keep;
+mod lists;
 mod policy;
 mod walk;
 mod words;
 mod write;
 
+pub use lists::{Texts, WordLists};
 pub use policy::{Policy, PolicyError};
 use std::alloc::Global;
 use tl::{ParseError, ParserOptions, parse};

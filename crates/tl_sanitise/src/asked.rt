@@ -1,6 +1,6 @@
 //! What the words of the program ask for.
-use crate::lists::Texts;
 use std::alloc::{AllocError, AllocFailed, Global};
+use tl_safe::Texts;
 
 /// What is to be done.
 #[derive(Clone, Copy)]

@@ -5,18 +5,16 @@
 
 mod asked;
 mod failure;
-mod lists;
 mod page;
 
 use asked::{Asked, Slip, Task};
 use failure::Failure;
-use lists::WordLists;
 use page::safe_page;
 use std::alloc::{AllocError, Global};
 use std::io::{Read, Write};
 use std::process::ExitCode;
 use std::{env, fs};
-use tl_safe::{Policy, PolicyError};
+use tl_safe::{Policy, PolicyError, WordLists};
 
 const HELP: &str = "\
 usage: tl_sanitise [--tags WORDS] [--keys WORDS] [--link-keys WORDS] [--links WORDS] [--prefix WORD] [FILE..]

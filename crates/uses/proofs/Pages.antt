@@ -13,8 +13,6 @@ use Rattle.tl.specs.Shown.{HTMLNode, HTMLTable, document_of, shown}
 use Rattle.tl.specs.TableLends.{with_nodes}
 use Rattle.tl.proofs.Written.{written-document}
 use Rattle.uses.specs.Fields.{Fields, document_with, node_with, trees_with}
-use Rattle.uses.specs.Shown.{flow}
-use Rattle.uses.specs.Left.{row}
 use Rattle.uses.proofs.Trees.{clean-document, trees-of-document}
 
 -- a document whose nodes were written, each with fields
@@ -40,7 +38,3 @@ module _ (fields : Fields) (t : List ℕ) (read filled : Document) (first : read
 
   pub reads_read : (s : List ℕ) → ReadsAs s (trees (walk every filled.nodes [] filled.top)) → ReadsAs s (trees_with fields (plain (forest (tokens t))))
   reads_read s h = subst (ReadsAs s) trees_read h
-
--- the row of a document just read is the flow of the trees of its text
-pub page_flow : (d : HTMLTable) (t : List ℕ) → document_of d ≡ document t → row (map shown d.nodes) d.top ≡ flow (plain (forest (tokens t)))
-page_flow d t e = ap (λ (x : Document). flow (trees (walk every x.nodes [] x.top))) e ∙ ap flow (document-whole t)

@@ -3,9 +3,9 @@ ghost use Rattle.std.specs.Prelude.{◌≡◌, ◌++◌, IfOk, OnOk};
 ghost use Rattle.std.specs.Option.{option_copied};
 ghost use Rattle.uses.specs.Fields.{escape, escape_of, fields_of, part_with, text_with, value_of};
 
-use crate::cut::cut;
 use std::alloc::{AllocError, Global};
 use tl::simd::find;
+use tl_pick::cut;
 
 /// A name, and the text that stands in its place.
 #[derive(Clone, Copy)]

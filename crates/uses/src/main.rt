@@ -11,14 +11,10 @@
 //! It ends with 0, or with 1 and a line on standard error that says why not.
 #![tactic(auto)]
 
-mod cut;
 mod field;
 mod fill;
-mod lines;
 mod links;
-mod outline;
 mod pick;
-mod readable;
 
 use anyhow::{Result, bail};
 use field::Field;
@@ -48,7 +44,7 @@ fn written(rt: &HostRuntime, words: &[String], page: &str) -> Result<Vec<u8>> {
             let fields = fields_of(rt.alloc(), fields)?;
             Ok(fill::fill(rt.alloc(), fields.as_slice(), page)?.into_bytes())
         }
-        [word] if word.as_str() == "readable" => Ok(readable::readable(rt.alloc(), page)?),
+        [word] if word.as_str() == "readable" => Ok(tl_pick::readable(rt.alloc(), page)?),
         _ => {
             let document = parse(rt.alloc(), page, ParserOptions::new())?;
             seen(rt, words, &document)
@@ -60,7 +56,7 @@ fn written(rt: &HostRuntime, words: &[String], page: &str) -> Result<Vec<u8>> {
 fn seen(rt: &HostRuntime, words: &[String], document: &VDom<'_>) -> Result<Vec<u8>> {
     match words {
         [word] if word.as_str() == "links" => Ok(links::links(rt.alloc(), document)?.into_bytes()),
-        [word] if word.as_str() == "outline" => Ok(outline::outline(rt.alloc(), document)?),
+        [word] if word.as_str() == "outline" => Ok(tl_pick::outline(rt.alloc(), document)?),
         [word, selector, key] if word.as_str() == "pick" => {
             let found = pick::values(rt.alloc(), document, selector.as_str(), key.as_bytes())?;
             match found {

@@ -1,0 +1,83 @@
+-- The lists that texts say.
+use Rattle.std.specs.Prelude.{ℕ, Bool, true, false, ◌==◌, List, [], ◌∷◌, Option, Some, None, codes, bytes_eq, if◌then◌else◌}
+use Rattle.std.specs.Borrow.{Bor}
+use Rattle.std.specs.List.{filter, slice_split}
+use Rattle.std.specs.Option.{option_map}
+use Rattle.tl_safe.specs.Lists.{Lists}
+use Rattle.tl_safe.specs.Words.{lists, words_of}
+use Rattle.tl_safe.specs.declared.lists.Texts.{Texts}
+use Rattle.tl_safe.specs.declared.lists.WordLists.{WordLists}
+
+abbrev pub is_comma : ℕ → Bool
+is_comma b = b == 44
+
+-- a word that is not empty
+abbrev pub is_word : List ℕ → Bool
+is_word [] = false
+is_word (b ∷ word) = true
+
+-- the words between commas, without empty ones
+abbrev pub words_in : List ℕ → List (List ℕ)
+words_in text = filter is_word (slice_split is_comma text)
+
+-- the words of what is left of a text, if anything is, empty ones too
+abbrev pub words_left : Option (Bor (List ℕ)) → List (List ℕ)
+words_left None = []
+words_left (Some rest) = slice_split is_comma rest.now
+
+-- a text that is lent, if there is one
+abbrev pub text_of : Option (Bor (List ℕ)) → Option (List ℕ)
+text_of text = option_map (λ t. t.now) text
+
+-- texts of lists, where they are said
+pub record Said : Type 0 where
+  pub tags : Option (List ℕ)
+  pub keys : Option (List ℕ)
+  pub link_keys : Option (List ℕ)
+  pub link_beginnings : Option (List ℕ)
+  pub prefix : Option (List ℕ)
+
+abbrev pub nothing_said : Said
+nothing_said =
+    record { tags = None; keys = None; link_keys = None; link_beginnings = None; prefix = None }
+
+abbrev pub said : Texts → Said
+said texts = record {
+  tags = text_of texts.tags;
+  keys = text_of texts.keys;
+  link_keys = text_of texts.link_keys;
+  link_beginnings = text_of texts.link_beginnings;
+  prefix = text_of texts.prefix;
+}
+
+-- the words of a text, or these where there is none
+abbrev pub words_said : Option (List ℕ) → List (List ℕ) → List (List ℕ)
+words_said None own = own
+words_said (Some text) own = words_in text
+
+abbrev pub prefix_said : Option (List ℕ) → List ℕ → List ℕ
+prefix_said None own = own
+prefix_said (Some text) own = text
+
+-- the lists that are said, and those of a policy for the others
+abbrev pub lists_said : Said → Lists → Lists
+lists_said s own =
+    lists (words_said s.tags own.tags) (words_said s.keys own.keys)
+    (words_said s.link_keys own.link_keys) (words_said s.link_beginnings own.link_beginnings)
+    (prefix_said s.prefix own.prefix)
+
+-- texts with one more, for the list that an option names, if it names one
+abbrev pub said_with : Said → List ℕ → List ℕ → Option Said
+said_with s option text =
+    if bytes_eq option (codes "--tags") then Some (record s { tags = Some text })
+    else if bytes_eq option (codes "--keys") then Some (record s { keys = Some text })
+    else if bytes_eq option (codes "--link-keys") then Some (record s { link_keys = Some text })
+    else if bytes_eq option (codes "--links") then Some (record s { link_beginnings = Some text })
+    else if bytes_eq option (codes "--prefix") then Some (record s { prefix = Some text })
+    else None
+
+-- the lists of words
+abbrev pub lists_in : WordLists → Lists
+lists_in w =
+    lists (words_of w.tags.items) (words_of w.keys.items) (words_of w.link_keys.items)
+    (words_of w.link_beginnings.items) w.prefix.now
