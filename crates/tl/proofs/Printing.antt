@@ -13,13 +13,13 @@ use Rattle.tl_spec.proofs.Images.{image-pairs_in_order}
 use Rattle.tl_spec.specs.Attribute.{Pair}
 use Rattle.tl_spec.proofs.Walks.{node_identity, table_identity}
 use Rattle.tl_bytes.specs.Held.{Kept}
-use Rattle.tl.specs.declared.errors.TreeError.{TreeError}
+use Rattle.tl_table.specs.declared.errors.TreeError.{TreeError}
 use Rattle.tl_attributes.specs.Listed.{as_borrowed, listed}
 use Rattle.tl_attributes.specs.ShownAttributes.{plain, shown_bytes, shown_pair, shown_value}
 use Rattle.std.specs.Prelude.{IfOk}
 use Rattle.std.specs.Global.{Global}
 use Rattle.std.specs.declared.string.String.{String}
-use Rattle.tl.specs.Answer.{Answers}
+use Rattle.tl_table.specs.Answer.{Answers}
 use Rattle.tl.specs.Writing.{Writes}
 
 or_else-none : (o : Option TreeFault) → or_else o None ≡ o
@@ -78,7 +78,7 @@ reads-node nodes node s no_fault is own clean =
 
 -- so is that of a text and of a comment
 pub reads-leaf : (nodes : List Node) (node : Node) (s : List ℕ) (r : Result (String Global) TreeError) → outer_html nodes node ≡ Ok s → HaveOwnKeys (trees (walk_of prints_children nodes node)) →
-    Answers (Ok s) r → IsCleanNode nodes node → IfOk r (λ t. ReadsAs (string_bytes t) (trees (walk_of every nodes node)))
+    Answers string_bytes (Ok s) r → IsCleanNode nodes node → IfOk r (λ t. ReadsAs (string_bytes t) (trees (walk_of every nodes node)))
 reads-leaf nodes node s (Ok t) is own answers clean = node_identity nodes node clean own (string_bytes t) (is ∙ answers)
 reads-leaf nodes node s (Err e) is own answers clean = tt
 

@@ -4,8 +4,8 @@ use Rattle.std.specs.Borrow.{Bor}
 use Rattle.std.specs.Fn.{CalledAt, Mut}
 use Rattle.std.specs.List.{slice_get}
 use Rattle.tl_spec.specs.Walk.{Event as Happening}
-use Rattle.tl.specs.declared.errors.TreeError.{TreeError}
-use Rattle.tl.specs.declared.errors.TreeError.TheVariants.{Dangling as DanglingError, Cycle as CycleError, OutOfMemory}
+use Rattle.tl_table.specs.declared.errors.TreeError.{TreeError}
+use Rattle.tl_table.specs.declared.errors.TreeError.TheVariants.{Dangling as DanglingError, Cycle as CycleError, OutOfMemory}
 use Rattle.tl.specs.Find.{FindsNode, FindsNodeOrStops, Passes, Sight, sight, sight_of, sights}
 use Rattle.tl.specs.Shown.{HTMLNode}
 use Rattle.tl.specs.Walker.{Refuses}

@@ -9,7 +9,7 @@ use Rattle.tl_inline.specs.contracts.inline.vec.InlineVec.{the_row as inline_vec
 use Rattle.tl_attributes.specs.declared.outline.OutlineOf.{Ghosts}
 use Rattle.tl.specs.Tag.{Tag}
 use Rattle.tl.specs.declared.parser.tag.children_mut.ChildrenMutOf.{ChildrenMutOf}
-use Rattle.tl.specs.contracts.parser.handle.NodeHandle.{the_row as handle_row}
+use Rattle.tl_table.specs.contracts.handle.NodeHandle.{the_row as handle_row}
 use Rattle.tl.specs.contracts.parser.tag.children_mut.ChildrenMutOf.{the_row}
 
 module _ {A B O : Type 0} where

@@ -4,9 +4,9 @@ use Rattle.std.specs.Borrow.{Bor}
 use Rattle.std.specs.Fn.{CalledAt, Mut}
 use Rattle.std.specs.List.{slice_get}
 use Rattle.tl_spec.specs.Walk.{Event, meets, leaves, faulty, every, walk, events}
-use Rattle.tl.specs.declared.errors.TreeError.{TreeError}
-use Rattle.tl.specs.declared.errors.TreeError.TheVariants.{Dangling as DanglingError, OutOfMemory}
-use Rattle.tl.specs.TreeFault.{error_of}
+use Rattle.tl_table.specs.declared.errors.TreeError.{TreeError}
+use Rattle.tl_table.specs.declared.errors.TreeError.TheVariants.{Dangling as DanglingError, OutOfMemory}
+use Rattle.tl_table.specs.TreeFault.{error_of}
 use Rattle.tl.specs.declared.parser.tag.node.NodeOf.TheVariants.{Tag as ATag, Raw as ARaw, Comment as AComment}
 use Rattle.tl.specs.Shown.{HTMLNode, shown}
 

@@ -3,8 +3,8 @@ pub mod Node
 pub mod Table
 pub mod Shown
 pub mod HeldAlike
-pub mod TreeFault
-pub mod Answer
+pub use Rattle.tl_table.specs.TreeFault
+pub use Rattle.tl_table.specs.Answer
 pub mod StartTag
 pub mod Builder
 pub mod Marks

@@ -5,7 +5,7 @@ use Rattle.std.specs.Borrow.{Lends, LendsIf, Fml, RattleType, MutBor, Array}
 use Rattle.tl_attributes.specs.declared.outline.OutlineOf.{Ghosts}
 use Rattle.tl.specs.Table.{Table}
 use Rattle.tl.specs.declared.parser.tag.node.NodeOf.{NodeOf}
-use Rattle.tl.specs.contracts.parser.handle.NodeHandle.{the_row as handle_row}
+use Rattle.tl_table.specs.contracts.handle.NodeHandle.{the_row as handle_row}
 use Rattle.tl.specs.contracts.parser.tag.node.NodeOf.{the_row as node_row}
 use Rattle.tl.specs.contracts.parser.base.ParserOf.{the_row as parser_row}
 use Rattle.tl.specs.contracts.vdom.VDomOf.{the_row as document_row}

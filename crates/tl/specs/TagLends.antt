@@ -6,7 +6,7 @@ use Rattle.tl_spec.specs.Inline.{InlineVec}
 use Rattle.tl_inline.specs.contracts.inline.vec.InlineVec.{the_row as inline_vec_row}
 use Rattle.tl_attributes.specs.declared.outline.OutlineOf.{Ghosts}
 use Rattle.tl.specs.Tag.{Tag}
-use Rattle.tl.specs.contracts.parser.handle.NodeHandle.{the_row as handle_row}
+use Rattle.tl_table.specs.contracts.handle.NodeHandle.{the_row as handle_row}
 use Rattle.tl.specs.contracts.parser.tag.TagOf.{the_row}
 
 module _ (A B O : RattleType) (o : Ghosts O.Denot A.Denot) (t : MutBor (Tag A.Denot B.Denot)) where

@@ -3,8 +3,8 @@ use Rattle.std.specs.Prelude.{◌≡◌, ℕ, Bool, List, [], ◌∷◌, ◌++�
 use Rattle.std.specs.List.{slice_get}
 use Rattle.tl_spec.specs.Document.{Node, TagNode}
 use Rattle.tl_spec.specs.Walk.{Event as Happening, meets, leaves, faulty, every, prints_children, walk, events}
-use Rattle.tl.specs.declared.errors.TreeError.{TreeError}
-use Rattle.tl.specs.TreeFault.{fault_of}
+use Rattle.tl_table.specs.declared.errors.TreeError.{TreeError}
+use Rattle.tl_table.specs.TreeFault.{fault_of}
 use Rattle.tl.specs.declared.walk.Entered.{Entered}
 use Rattle.tl.specs.declared.walk.Entered.TheVariants.{All, Shown}
 use Rattle.tl.specs.declared.walk.Frame.{Frame}

@@ -1,8 +1,8 @@
 -- What a call writes that reads a table.
 use Rattle.std.specs.Prelude.{◌≡◌, ℕ, List, ◌++◌, Option, None, Result, Ok, Err}
 use Rattle.tl_spec.specs.Walk.{TreeFault}
-use Rattle.tl.specs.TreeFault.{IsRefusal}
-use Rattle.tl.specs.declared.errors.TreeError.{TreeError}
+use Rattle.tl_table.specs.TreeFault.{IsRefusal}
+use Rattle.tl_table.specs.declared.errors.TreeError.{TreeError}
 
 -- where there is no fault the text was written after `old`
 abbrev pub Writes : {A : Type 0} → Option TreeFault → List ℕ → List ℕ → Result A TreeError → List ℕ → Type 0

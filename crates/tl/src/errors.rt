@@ -1,14 +1,11 @@
 //! Errors.
 ghost use Rattle.std.specs.Prelude.{◌≡◌};
-ghost use Rattle.tl.specs.declared.errors.ParseError.TheVariants.{OutOfMemory as ParseMemory};
-ghost use Rattle.tl.specs.declared.errors.TreeError.TheVariants.{OutOfMemory as TreeMemory};
-ghost use Rattle.tl.specs.Ranges.{error_of_range};
+ghost use Rattle.tl.specs.declared.errors.ParseError.TheVariants.{OutOfMemory};
 
-use crate::parser::handle::NodeHandle;
-use std::alloc::{AllocError, AllocFailed};
+use std::alloc::AllocError;
 use thiserror::Error;
 pub use tl_bytes::byte_string::SetBytesError;
-use tl_table::errors::RangeError;
+pub use tl_table::errors::TreeError;
 
 /// Why a text was not read.
 #[derive(Clone, Copy, PartialEq, Eq, PartialOrd, Ord, Debug, Error)]
@@ -22,51 +19,9 @@ pub enum ParseError {
 }
 
 impl From<AllocError> for ParseError {
-    ghost from_gives = { λ _ e. e ≡ ParseMemory };
+    ghost from_gives = { λ _ e. e ≡ OutOfMemory };
 
     fn from(_: AllocError) -> Self {
         ParseError::OutOfMemory
-    }
-}
-
-/// Why a walk over a table ended before its end.
-#[derive(Clone, Copy, PartialEq, Eq, PartialOrd, Ord, Debug, Error)]
-pub enum TreeError {
-    /// The table has no node of this number.
-    #[error("a dangling node handle")]
-    Dangling(NodeHandle),
-    /// The node of this number stands above itself.
-    #[error("a cyclic node handle")]
-    Cycle(NodeHandle),
-    /// Memory ran out.
-    #[error("out of memory")]
-    OutOfMemory,
-}
-
-impl From<AllocError> for TreeError {
-    ghost from_gives = { λ _ e. e ≡ TreeMemory };
-
-    fn from(_: AllocError) -> Self {
-        TreeError::OutOfMemory
-    }
-}
-
-impl<T: Drop> From<AllocFailed<T>> for TreeError {
-    ghost from_gives = { λ _ e. e ≡ TreeMemory };
-
-    fn from(_: AllocFailed<T>) -> Self {
-        TreeError::OutOfMemory
-    }
-}
-
-impl From<RangeError> for TreeError {
-    ghost from_gives = { λ error e. e ≡ error_of_range error };
-
-    fn from(error: RangeError) -> Self {
-        match error {
-            RangeError::Dangling(number) => TreeError::Dangling(NodeHandle::new(number)),
-            RangeError::Cycle(number) => TreeError::Cycle(NodeHandle::new(number)),
-            RangeError::OutOfMemory => TreeError::OutOfMemory,
-        }
     }
 }

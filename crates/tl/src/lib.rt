@@ -29,7 +29,6 @@ pub mod bytes {
 pub use errors::ParseError;
 pub use parser::base::{ClassVec, HTMLVersion, Parser, ParserOf, Tree};
 use parser::builder::source::Source;
-pub use parser::handle::{InnerNodeHandle, NodeHandle};
 pub use parser::tag::children::{Children, ChildrenOf};
 pub use parser::tag::children_mut::{ChildrenMut, ChildrenMutOf};
 pub use parser::tag::node::{Node, NodeOf};
@@ -45,6 +44,7 @@ pub use tl_bytes::byte_string::{Bytes, IntoOwnedBytes};
 pub use tl_bytes::simd;
 pub use tl_inline::inline;
 pub use tl_table::element::Element;
+pub use tl_table::handle::{InnerNodeHandle, NodeHandle};
 pub use tl_tracking::ParserOptions;
 pub use vdom::guard::{VDomGuard, VDomGuardOf};
 pub use vdom::lookup::ElementsByClassName;

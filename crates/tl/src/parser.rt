@@ -3,6 +3,5 @@ pub(crate) mod base;
 pub(crate) mod boundaries;
 pub(crate) mod builder;
 mod element;
-pub(crate) mod handle;
 pub(crate) mod tag;
 mod tracking;

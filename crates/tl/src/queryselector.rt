@@ -2,7 +2,6 @@
 pub mod iterable;
 mod iterator;
 mod query;
-mod table;
 
 /// The nodes that a query gives.
 pub mod iter {

@@ -1,14 +1,14 @@
 //! Documents.
 ghost use Rattle.std.specs.Prelude.{◌≡◌, ◌<◌, ◌^◌, ℕ, [], length, Err, IfOk, string_bytes};
 ghost use Rattle.std.specs.Borrow.{sem};
+ghost use Rattle.tl_table.specs.Answer.{Answers};
+ghost use Rattle.tl_table.specs.TreeFault.{FirstDangles};
 ghost use Rattle.tl_spec.specs.Clean.{IsCleanTable};
 ghost use Rattle.tl_spec.specs.Normal.{ReadsAs};
 ghost use Rattle.tl_spec.specs.Print.{document_print};
 ghost use Rattle.tl_spec.specs.Text.{document_text};
 ghost use Rattle.tl_spec.specs.Walk.{every, trees, walk};
-ghost use Rattle.tl.specs.Answer.{Answers};
 ghost use Rattle.tl.specs.Shown.{document_of};
-ghost use Rattle.tl.specs.TreeFault.{FirstDangles};
 ghost use Rattle.tl.specs.TableLends.{LendsParser, LendsNodes, LendsTop};
 
 pub(crate) mod guard;
@@ -16,7 +16,6 @@ pub(crate) mod lookup;
 
 use crate::errors::TreeError;
 use crate::parser::base::{HTMLVersion, ParserOf, Tracking};
-use crate::parser::handle::NodeHandle;
 use crate::parser::tag::node::NodeOf;
 use crate::walk::print::write_row;
 use crate::walk::text::write_row_texts;
@@ -25,6 +24,7 @@ use std::marker::Model;
 use tl_attributes::attributes::Attributes;
 use tl_attributes::outline::{Outline, OutlineOf};
 use tl_bytes::byte_string::Bytes;
+use tl_table::handle::NodeHandle;
 
 /// A document: the table of its nodes, and which of them stand at its top.
 #[derive(Debug, Drop)]
@@ -114,7 +114,7 @@ impl<A, B, O: OutlineOf<A>, M> VDomOf<A, B, O, M> {
 impl<'a> VDom<'a> {
     /// The document as markup: its top nodes in order, without a doctype. What is printed of a clean table is read as that table.
     pub fn outer_html(&self, alloc: Global) -> Result<String, TreeError>
-        ensures answers { Answers (document_print (document_of self.now)) result }
+        ensures answers { Answers string_bytes (document_print (document_of self.now)) result }
         ensures identity { let d = document_of self.now in
             IsCleanTable d.nodes d.top →
             IfOk result (λ s. ReadsAs (string_bytes s) (trees (walk every d.nodes [] d.top))) }
@@ -130,7 +130,7 @@ impl<'a> VDom<'a> {
 
     /// The texts at or below the top nodes, in the order of the walk. Comments give none.
     pub fn inner_text(&self, alloc: Global) -> Result<String, TreeError>
-        ensures { Answers (document_text (document_of self.now)) result }
+        ensures { Answers string_bytes (document_text (document_of self.now)) result }
     {
         let mut out = String::new(alloc);
         write_row_texts(alloc, self.nodes(), self.children(), &mut out)?;

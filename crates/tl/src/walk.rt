@@ -2,10 +2,10 @@
 ghost use Rattle.std.specs.Prelude.{◌≡◌, ◌≢◌, ◌<◌, ℕ, true, false, [], ◌∷◌, length, map, None, Err, OnOk, IfOk, IfErr, IfSome};
 ghost use Rattle.std.specs.Option.{option_copied};
 ghost use Rattle.std.specs.List.{slice_get};
+ghost use Rattle.tl_table.specs.TreeFault.{FirstDangles};
 ghost use Rattle.tl_spec.specs.Walk.{stands_on, walk, events};
 ghost use Rattle.tl.specs.Shown.{shown, shown_tag};
 ghost use Rattle.tl.specs.Marks.{MayFollow};
-ghost use Rattle.tl.specs.TreeFault.{FirstDangles};
 ghost use Rattle.tl.specs.Walker.{enters, path_of, left, left_at, left_in, Takes, Steps, IsMarked, IsMetIn};
 
 pub(crate) mod find;
@@ -14,12 +14,12 @@ pub(crate) mod print;
 pub(crate) mod text;
 
 use crate::errors::TreeError;
-use crate::parser::handle::NodeHandle;
 use crate::parser::tag::HTMLTag;
 use crate::parser::tag::node::Node;
 use path::{put_mark, stands_on_path};
 use std::alloc::Global;
 use tl_lexer::names::is_printed_alone;
+use tl_table::handle::NodeHandle;
 
 // Which tags a walk enters: all, or those that are printed with their children.
 #[derive(Clone, Copy)]

@@ -2,8 +2,8 @@
 use Rattle.std.specs.Prelude.{Bool, true, false, Result, Ok, Err, ⊤}
 use Rattle.tl.specs.declared.errors.ParseError.{ParseError}
 use Rattle.tl.specs.declared.errors.ParseError.TheVariants.{InvalidLength, OutOfMemory as ParseMemory}
-use Rattle.tl.specs.declared.errors.TreeError.{TreeError}
-use Rattle.tl.specs.declared.errors.TreeError.TheVariants.{Dangling, Cycle, OutOfMemory as TreeMemory}
+use Rattle.tl_table.specs.declared.errors.TreeError.{TreeError}
+use Rattle.tl_table.specs.declared.errors.TreeError.TheVariants.{Dangling, Cycle, OutOfMemory as TreeMemory}
 use Rattle.tl_program.specs.declared.script.step.StepError.{StepError}
 use Rattle.tl_program.specs.declared.script.step.StepError.TheVariants.{NoNode, NotTag, NoPlace, OutOfMemory as StepMemory}
 use Rattle.tl_program.specs.declared.program.failure.Failure.{Failure}

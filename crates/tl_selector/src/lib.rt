@@ -6,5 +6,5 @@ mod marks;
 pub mod matches;
 mod matching;
 pub mod selector;
-pub mod table;
+mod table;
 pub mod text;

@@ -1,42 +1,37 @@
-//! Why a range has no end.
+//! Errors.
 ghost use Rattle.std.specs.Prelude.{◌≡◌};
-ghost use Rattle.tl_table.specs.declared.errors.RangeError.TheVariants.{OutOfMemory as RangeMemory};
-ghost use Rattle.tl_table.specs.Fault.{range_error};
+ghost use Rattle.tl_table.specs.declared.errors.TreeError.TheVariants.{OutOfMemory};
 
-use std::alloc::AllocError;
+use crate::handle::NodeHandle;
+use std::alloc::{AllocError, AllocFailed};
+use thiserror::Error;
 
-/// Why the way along last children ended before its end.
-#[derive(Clone, Copy, PartialEq, Eq, Debug)]
-pub enum RangeError {
+/// Why a walk over a table ended before its end.
+#[derive(Clone, Copy, PartialEq, Eq, PartialOrd, Ord, Debug, Error)]
+pub enum TreeError {
     /// The table has no node of this number.
-    Dangling(u32),
-    /// The way came back to this number.
-    Cycle(u32),
+    #[error("a dangling node handle")]
+    Dangling(NodeHandle),
+    /// The node of this number stands above itself.
+    #[error("a cyclic node handle")]
+    Cycle(NodeHandle),
     /// Memory ran out.
+    #[error("out of memory")]
     OutOfMemory,
 }
 
-impl From<AllocError> for RangeError {
-    ghost from_gives = { λ _ e. e ≡ RangeMemory };
+impl From<AllocError> for TreeError {
+    ghost from_gives = { λ _ e. e ≡ OutOfMemory };
 
     fn from(_: AllocError) -> Self {
-        RangeError::OutOfMemory
+        TreeError::OutOfMemory
     }
 }
 
-// Why the way has no end over marks that are there already: want of memory is no reason.
-pub(crate) enum Fault {
-    Dangling(u32),
-    Cycle(u32),
-}
+impl<T: Drop> From<AllocFailed<T>> for TreeError {
+    ghost from_gives = { λ _ e. e ≡ OutOfMemory };
 
-impl From<Fault> for RangeError {
-    ghost from_gives = { λ fault e. e ≡ range_error fault };
-
-    fn from(fault: Fault) -> Self {
-        match fault {
-            Fault::Dangling(handle) => RangeError::Dangling(handle),
-            Fault::Cycle(handle) => RangeError::Cycle(handle),
-        }
+    fn from(_: AllocFailed<T>) -> Self {
+        TreeError::OutOfMemory
     }
 }

@@ -1,10 +1,13 @@
-//! What is seen of a table of nodes, whatever their type: lookups by a scan, and where the nodes that hang below a tag begin and end.
+//! What is seen of a table of nodes, whatever their type: its nodes by their handles, lookups by a scan, and where the nodes that
+//! hang below a tag begin and end. What fails answers a [`TreeError`](errors::TreeError).
 #![tactic(auto)]
 
 mod climb;
 pub mod element;
 pub mod errors;
+pub mod handle;
 pub mod laws;
 pub mod lookup;
 mod marked;
 pub mod range;
+pub mod table;

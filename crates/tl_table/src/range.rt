@@ -3,13 +3,14 @@
 //! Memory is taken only where the way along last children doesn't rise: where some node on it has a last child whose number
 //! is not above its own.
 ghost use Rattle.std.specs.Prelude.{◌≤◌, IfOk, length, map};
-ghost use Rattle.tl_table.specs.RangeError.{Answers, WantsNoMemory};
-ghost use Rattle.tl_table.specs.Way.{Rises};
 ghost use Rattle.tl_spec.specs.Range.{last_below, boundaries_from, range_from};
+ghost use Rattle.tl_table.specs.Answer.{Answers, WantsNoMemory};
+ghost use Rattle.tl_table.specs.Way.{Rises};
 
 use crate::climb::{Stop, climb};
 use crate::element::Element;
-use crate::errors::RangeError;
+use crate::errors::TreeError;
+use crate::handle::NodeHandle;
 use crate::marked::marked_end;
 use std::alloc::Global;
 use std::ops::Range;
@@ -19,7 +20,7 @@ pub fn end<N: Element>(
     alloc: Global,
     nodes: &[N],
     last: Option<u32>,
-) -> Result<Option<u32>, RangeError>
+) -> Result<Option<u32>, TreeError>
     ensures end { Answers (λ end. end) (last_below (map N.node nodes.now) last) result }
     ensures memory { Rises (map N.node nodes.now) last → WantsNoMemory result }
 {
@@ -28,7 +29,7 @@ pub fn end<N: Element>(
     };
     match climb(nodes, first) {
         Stop::End(handle) => Ok(Some(handle)),
-        Stop::Dangling(handle) => Err(RangeError::Dangling(handle)),
+        Stop::Dangling(handle) => Err(TreeError::Dangling(NodeHandle::new(handle))),
         Stop::Fall => marked_end(nodes, vec![in alloc; false; nodes.len()], first),
     }
 }
@@ -39,7 +40,7 @@ pub fn boundaries<N: Element>(
     nodes: &[N],
     first: Option<u32>,
     last: Option<u32>,
-) -> Result<Option<(u32, u32)>, RangeError>
+) -> Result<Option<(u32, u32)>, TreeError>
     ensures boundaries { Answers (λ both. both)
         (boundaries_from (map N.node nodes.now) first last) result }
     ensures memory { Rises (map N.node nodes.now) last → WantsNoMemory result }
@@ -59,7 +60,7 @@ pub fn range<N: Element>(
     nodes: &[N],
     first: Option<u32>,
     last: Option<u32>,
-) -> Result<Range<usize>, RangeError>
+) -> Result<Range<usize>, TreeError>
     ensures range { Answers (λ r. (r.start, r.end))
         (range_from (map N.node nodes.now) first last) result }
 

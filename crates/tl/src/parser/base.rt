@@ -2,9 +2,8 @@
 ghost use Rattle.std.specs.Prelude.{◌≡◌, ◌<◌, ◌^◌, length, slice_get, Option};
 ghost use Rattle.std.specs.Borrow.{sem};
 ghost use Rattle.std.specs.Option.{option_copied, option_copied_mut};
-ghost use Rattle.tl.specs.TableLends.{LendsNode, LendsTableNodes, LendsTableTop};
+ghost use Rattle.tl.specs.TableLends.{LendsNode, LendsTableNodes, LendsTableTop, with_node};
 
-use crate::parser::handle::{InnerNodeHandle, NodeHandle};
 use crate::parser::tag::node::{Node, NodeOf};
 use std::alloc::Global;
 use std::marker::Model;
@@ -12,6 +11,8 @@ use tl_attributes::attributes::Attributes;
 use tl_attributes::outline::{Outline, OutlineOf};
 use tl_bytes::byte_string::Bytes;
 use tl_inline::inline::vec::InlineVec;
+use tl_table::handle::{InnerNodeHandle, NodeHandle};
+use tl_table::table::Table;
 use tl_tracking::TrackingOf;
 
 /// The nodes of a document, in the order of their first byte.
@@ -141,16 +142,6 @@ impl<A, B, O: OutlineOf<A>, M> ParserOf<A, B, O, M> {
         self.nodes.get_mut(id as usize)
     }
 
-    // The node of a handle for writing, or None past the table.
-    fn resolve_handle_mut(&mut self, handle: NodeHandle) -> Option<&mut NodeOf<A, B, O>>
-        ensures* writes_back { sem 𝓛
-            (LendsNode A.row B.row O.row M.row O.OutlineOf self.entry handle result) }
-        ensures value { option_copied_mut result ≡ slice_get self.old.nodes handle }
-    {
-        let number = handle.get_inner();
-        self.resolve_node_id_mut(number)
-    }
-
     // All nodes for writing.
     pub(crate) fn nodes_mut(&mut self) -> &mut [NodeOf<A, B, O>]
         ensures* writes_back { sem 𝓛
@@ -179,27 +170,22 @@ impl<A: Drop, B: Drop, O: OutlineOf<A>, M: Drop> ParserOf<A, B, O, M> {
     }
 }
 
-impl NodeHandle {
-    /// The node of this number in a table, or None past the table.
-    pub fn get<A, B, O: OutlineOf<A>, M>(
-        self,
-        parser: &ParserOf<A, B, O, M>,
-    ) -> Option<&NodeOf<A, B, O>>
-        ensures { option_copied result ≡ slice_get parser.now.nodes self }
-    {
-        parser.resolve_node_id(self.get_inner())
+impl<A, B, O: OutlineOf<A>, M> Table for ParserOf<A, B, O, M> {
+    type Node = NodeOf<A, B, O>;
+
+    ghost nodes = { λ p. p.nodes };
+
+    ghost with_node = { with_node };
+
+    fn nodes(&self) -> &[NodeOf<A, B, O>] {
+        ParserOf::nodes(self)
     }
 
-    /// The node of this number in a table for writing, or None past the table. A proof that needs what a write leaves takes
-    /// `resolve_node_id_mut` of the table.
-    pub fn get_mut<A, B, O: OutlineOf<A>, M>(
-        self,
-        parser: &mut ParserOf<A, B, O, M>,
-    ) -> Option<&mut NodeOf<A, B, O>>
-        ensures* writes_back { sem 𝓛
-            (LendsNode A.row B.row O.row M.row O.OutlineOf parser.entry self result) }
-        ensures value { option_copied_mut result ≡ slice_get parser.old.nodes self }
-    {
-        parser.resolve_handle_mut(self)
+    fn node_mut(&mut self, number: u32) -> Option<&mut NodeOf<A, B, O>> {
+        self.resolve_node_id_mut(number)
+    }
+
+    fn allocator(&self) -> Global {
+        self.alloc()
     }
 }

@@ -21,7 +21,6 @@ use crate::errors::ParseError;
 use crate::parser::base::{HTMLVersion, Parser, Tracking};
 use crate::parser::builder::source::Source;
 use crate::parser::builder::start_tag::read_start_tag;
-use crate::parser::handle::NodeHandle;
 use crate::parser::tag::HTMLTag;
 use crate::parser::tag::node::Node;
 use std::alloc::{AllocError, Global};
@@ -30,6 +29,7 @@ use tl_lexer::names::is_void;
 use tl_lexer::span::Span;
 use tl_lexer::tag::TagEnd;
 use tl_lexer::token::{Token, next_token};
+use tl_table::handle::NodeHandle;
 use tl_tracking::ParserOptions;
 
 // How many bytes at the front of a text are looked at to guess how many nodes it has.

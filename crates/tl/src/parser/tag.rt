@@ -6,13 +6,13 @@ pub(crate) mod children_mut;
 pub(crate) mod node;
 mod range;
 
-use crate::parser::handle::NodeHandle;
 use std::alloc::{AllocError, Global};
 use std::marker::Model;
 use tl_attributes::attributes::Attributes;
 use tl_attributes::outline::{Outline, OutlineOf};
 use tl_bytes::byte_string::Bytes;
 use tl_inline::inline::vec::InlineVec;
+use tl_table::handle::NodeHandle;
 
 /// The handles of a tag's children, the first two inline.
 pub type RawChildren = InlineVec<NodeHandle, 2>;

@@ -1,20 +1,20 @@
 //! What a selector is asked of: a document, or what hangs below a tag.
 ghost use Rattle.std.specs.Prelude.{◌≡◌, ◌≤◌, ◌^◌, ℕ, ⊤, IfOk, List, Ok, Option, Result, Some, length, map, slice_get};
 ghost use Rattle.std.specs.Option.{option_map};
+ghost use Rattle.tl_table.specs.Answer.{Answers, WantsNoMemory};
 ghost use Rattle.tl_table.specs.Way.{RisesBelow};
 ghost use Rattle.tl_spec.specs.Document.{Node};
 ghost use Rattle.tl_spec.specs.Range.{range_of};
 ghost use Rattle.tl_spec.specs.Walk.{TreeFault};
 ghost use Rattle.tl.specs.Query.{item_at, item_of, count_in};
-ghost use Rattle.tl.specs.Ranges.{Reads, WantsNoMemory};
 ghost use Rattle.tl.specs.Shown.{shown};
 
 use crate::errors::TreeError;
 use crate::parser::base::Parser;
-use crate::parser::handle::{InnerNodeHandle, NodeHandle};
 use crate::parser::tag::HTMLTag;
 use crate::parser::tag::node::Node as HTMLNode;
 use crate::vdom::VDom;
+use tl_table::handle::{InnerNodeHandle, NodeHandle};
 
 mod private {
     /// Only documents and tags are asked.
@@ -42,7 +42,7 @@ pub trait QueryIterable<'a>: private::Sealed {
 
     /// How many numbers there are.
     fn len(&self, parser: &Parser<'_>) -> Result<usize, TreeError>
-        ensures len { Reads (λ n. n) (count self.now (map shown parser.now.nodes)) result }
+        ensures len { Answers (λ n. n) (count self.now (map shown parser.now.nodes)) result }
         ensures fits { IfOk result (λ n. n ≤ 2 ^ 32) }
         ensures memory { counts_freely self.now (map shown parser.now.nodes)
             → WantsNoMemory result };

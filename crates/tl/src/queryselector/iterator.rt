@@ -3,16 +3,15 @@ ghost use Rattle.std.specs.Prelude.{◌≡◌, ◌+◌, [], IfOk, IfErr, IsOk, O
 ghost use Rattle.std.specs.Iterator.{at_most};
 ghost use Rattle.std.specs.Map.Iter.{TakesFirst};
 ghost use Rattle.std.specs.Result.{result_err};
+ghost use Rattle.tl_table.specs.Answer.{WantsNoMemory};
+ghost use Rattle.tl_table.specs.TreeFault.{IsRefusal};
 ghost use Rattle.tl_selector.specs.View.{selector as selector_of};
 ghost use Rattle.tl_spec.specs.SelectorMeaning.{AreMatches, has_joint};
 ghost use Rattle.tl.specs.Query.{AreAmong};
-ghost use Rattle.tl.specs.Ranges.{WantsNoMemory};
 ghost use Rattle.tl.specs.Shown.{shown};
-ghost use Rattle.tl.specs.TreeFault.{IsRefusal};
 
 use crate::errors::TreeError;
 use crate::parser::base::Parser;
-use crate::parser::handle::NodeHandle;
 use crate::parser::tag::node::Node;
 use crate::queryselector::iterable::QueryIterable;
 use std::alloc::AllocError;
@@ -20,6 +19,7 @@ use std::iter::FusedIterator;
 use std::marker::Model;
 use tl_selector::matches::{Matches, matches_between};
 use tl_selector::selector::Selector;
+use tl_table::handle::NodeHandle;
 
 /// The handles of the nodes that a query gives, rising, seen as the list of those that are left. A step takes no memory.
 #[derive(Debug, Drop)]

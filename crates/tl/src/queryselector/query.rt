@@ -1,17 +1,17 @@
 //! Queries by a selector text, of a document and below a tag.
 ghost use Rattle.std.specs.Prelude.{◌≡◌, IfOk, IfErr, IsOk, Ok, None, length, map};
 ghost use Rattle.std.specs.Result.{result_err};
+ghost use Rattle.tl_table.specs.Answer.{WantsNoMemory};
+ghost use Rattle.tl_table.specs.TreeFault.{IsRefusal};
 ghost use Rattle.tl_table.specs.Way.{RisesBelow};
+ghost use Rattle.tl_table.specs.declared.errors.TreeError.TheVariants.{OutOfMemory};
 ghost use Rattle.tl_selector.specs.Lacks.{LacksFirst, LacksSecond};
 ghost use Rattle.tl_spec.specs.Range.{range_of};
 ghost use Rattle.tl_spec.specs.SelectorMeaning.{AreMatches};
 ghost use Rattle.tl_spec.specs.Selector.{Selector as SelectorOf};
 ghost use Rattle.tl_spec.specs.SelectorText.{IsSelectorText, StandsAlone};
 ghost use Rattle.tl.specs.Query.{AreIn, FindsMatches};
-ghost use Rattle.tl.specs.Ranges.{WantsNoMemory};
 ghost use Rattle.tl.specs.Shown.{shown};
-ghost use Rattle.tl.specs.TreeFault.{IsRefusal};
-ghost use Rattle.tl.specs.declared.errors.TreeError.TheVariants.{OutOfMemory};
 
 use crate::errors::TreeError;
 use crate::parser::base::Parser;

@@ -13,13 +13,13 @@ ghost use Rattle.tl.specs.Shown.{shown, document_of};
 ghost use Rattle.tl.specs.Tracked.{AnswerIds, AnswerClasses};
 
 use crate::parser::base::Tracking;
-use crate::parser::handle::NodeHandle;
 use crate::parser::tag::node::Node;
 use crate::vdom::VDom;
 use std::alloc::AllocError;
 use std::iter::FusedIterator;
 use std::marker::Model;
 use tl_bytes::byte_string::Bytes;
+use tl_table::handle::NodeHandle;
 use tl_table::lookup::{InClass, first_with_id, in_class};
 
 // Handles that are numbers of a map, or places that a scan finds.

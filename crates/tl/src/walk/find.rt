@@ -1,18 +1,18 @@
 //! Searches.
 ghost use Rattle.std.specs.Prelude.{◌≡◌, ℕ, map, Ok, Err, None};
+ghost use Rattle.tl_table.specs.TreeFault.{FirstDangles};
 ghost use Rattle.tl_spec.specs.Element.{children_of};
 ghost use Rattle.tl.specs.Find.{FindsNode, FindsNodeOrStops, sight, sights, sights_below};
 ghost use Rattle.tl.specs.Node.{tag_of};
 ghost use Rattle.tl.specs.Shown.{shown};
-ghost use Rattle.tl.specs.TreeFault.{FirstDangles};
 ghost use Rattle.tl.specs.Walker.{IsMarked, left};
 
 use crate::errors::TreeError;
 use crate::parser::base::Parser;
-use crate::parser::handle::NodeHandle;
 use crate::parser::tag::HTMLTag;
 use crate::parser::tag::node::Node;
 use crate::walk::{Entered, Event, Walker};
+use tl_table::handle::NodeHandle;
 
 // The first node of what is left of a walk at which `f` answers true.
 fn find_in_walk<'s, 'a, F: FnMut(&Node<'a>) -> bool>(

@@ -7,9 +7,9 @@ ghost use Rattle.tl.specs.Marks.{marks_of, IsAbove, IsKept, MayFollow};
 ghost use Rattle.tl.specs.Walker.{path_from};
 
 use crate::errors::TreeError;
-use crate::parser::handle::NodeHandle;
 use crate::walk::Frame;
 use std::alloc::Global;
+use tl_table::handle::NodeHandle;
 
 // Sets the mark of a handle, where there are marks.
 #[inline(always)]

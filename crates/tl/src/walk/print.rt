@@ -3,6 +3,8 @@ ghost use Rattle.std.specs.Prelude.{◌≡◌, ◌++◌, ℕ, [], map, flat_map,
 ghost use Rattle.std.specs.List.{AllByRecursion};
 ghost use Rattle.std.specs.Option.{option_copied};
 ghost use Rattle.std.specs.Str.Lossy.{utf8_lossy};
+ghost use Rattle.tl_table.specs.Answer.{Answers};
+ghost use Rattle.tl_table.specs.TreeFault.{FirstDangles};
 ghost use Rattle.tl_spec.specs.AttributeList.{printed_pairs, HasOwnKeys};
 ghost use Rattle.tl_spec.specs.Clean.{HaveOwnKeys, IsCleanNode, MeetsOwnKeys, NodeHasOwnKeys};
 ghost use Rattle.tl_spec.specs.Document.{Tag};
@@ -11,14 +13,11 @@ ghost use Rattle.tl_spec.specs.Print.{outer_html, inner_html, print, print_value
 ghost use Rattle.tl_spec.specs.Walk.{every, fault_among, first_fault, plain_node, prints_children, trees, walk, walk_of};
 ghost use Rattle.tl.specs.Shown.{shown, shown_tag};
 ghost use Rattle.tl_attributes.specs.ShownAttributes.{plain, shown_value};
-ghost use Rattle.tl.specs.Answer.{Answers};
-ghost use Rattle.tl.specs.TreeFault.{FirstDangles};
 ghost use Rattle.tl.specs.Walker.{IsMarked, left, shown_event};
 ghost use Rattle.tl.specs.Writing.{Writes};
 
 use crate::errors::TreeError;
 use crate::parser::base::Parser;
-use crate::parser::handle::NodeHandle;
 use crate::parser::tag::HTMLTag;
 use crate::parser::tag::node::Node;
 use crate::walk::{Entered, Event, Walker};
@@ -27,6 +26,7 @@ use std::alloc::Global;
 use tl_attributes::attributes::Attributes;
 use tl_bytes::byte_string::Bytes;
 use tl_lexer::names::is_printed_alone;
+use tl_table::handle::NodeHandle;
 
 // Up to how many bytes are pushed one by one, which costs less than a search for a byte above ASCII and a copy.
 const FEW: usize = 8;
@@ -204,7 +204,7 @@ fn write_tag<'s, 'a>(
 
 // Bytes as a text of their own.
 pub(crate) fn lossy_text(alloc: Global, bytes: &[u8]) -> Result<String, TreeError>
-    ensures { Answers (Ok (utf8_lossy bytes.now)) result }
+    ensures { Answers string_bytes (Ok (utf8_lossy bytes.now)) result }
 {
     let mut out = String::new(alloc);
     write_lossy(bytes, &mut out)?;
@@ -215,7 +215,7 @@ impl<'a> HTMLTag<'a> {
     /// The tag as markup, with all that it holds by the table of `parser`. An end tag is written whether or not the text had one.
     /// What is printed of a clean tag is read as that one tree.
     pub fn outer_html(&self, alloc: Global, parser: &Parser<'a>) -> Result<String, TreeError>
-        ensures answers { Answers (outer_html (map shown parser.now.nodes)
+        ensures answers { Answers string_bytes (outer_html (map shown parser.now.nodes)
             (Tag (shown_tag self.now))) result }
         ensures identity { let nodes = map shown parser.now.nodes in
             let own = Tag (shown_tag self.now) in
@@ -229,7 +229,7 @@ impl<'a> HTMLTag<'a> {
 
     /// The children as markup, with all that they hold by the table of `parser`: those of a void tag too.
     pub fn inner_html(&self, alloc: Global, parser: &Parser<'a>) -> Result<String, TreeError>
-        ensures answers { Answers (inner_html (map shown parser.now.nodes)
+        ensures answers { Answers string_bytes (inner_html (map shown parser.now.nodes)
             (Tag (shown_tag self.now))) result }
 
         // A first child that dangles is answered before any memory is taken.
@@ -250,7 +250,7 @@ impl<'a> HTMLTag<'a> {
 impl<'a> Node<'a> {
     /// The node as markup, with all that it holds by the table of `parser`. What is printed of a clean node is read as that one tree.
     pub fn outer_html(&self, alloc: Global, parser: &Parser<'a>) -> Result<String, TreeError>
-        ensures answers { Answers (outer_html (map shown parser.now.nodes)
+        ensures answers { Answers string_bytes (outer_html (map shown parser.now.nodes)
             (shown self.now)) result }
         ensures identity { let nodes = map shown parser.now.nodes in let own = shown self.now in
             IsCleanNode nodes own →
@@ -265,7 +265,8 @@ impl<'a> Node<'a> {
 
     /// The children of a tag as markup, by the table of `parser`. A text or a comment answers its own text.
     pub fn inner_html(&self, alloc: Global, parser: &Parser<'a>) -> Result<String, TreeError>
-        ensures { Answers (inner_html (map shown parser.now.nodes) (shown self.now)) result }
+        ensures { Answers string_bytes (inner_html (map shown parser.now.nodes)
+            (shown self.now)) result }
     {
         match self {
             Node::Tag(tag) => tag.inner_html(alloc, parser),

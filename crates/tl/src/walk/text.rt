@@ -1,23 +1,23 @@
 //! Texts.
 ghost use Rattle.std.specs.Prelude.{◌≡◌, ◌++◌, ℕ, [], map, flat_map, Err, OnOk, IfErr, IsOk, IsSome, string_bytes};
+ghost use Rattle.tl_table.specs.Answer.{Answers};
+ghost use Rattle.tl_table.specs.TreeFault.{FirstDangles};
 ghost use Rattle.tl_spec.specs.Document.{Tag};
 ghost use Rattle.tl_spec.specs.Text.{inner_text, text_of, event_text};
 ghost use Rattle.tl_spec.specs.Walk.{every, fault_among, first_fault, trees, walk, walk_of};
 ghost use Rattle.tl.specs.Shown.{shown, shown_tag};
-ghost use Rattle.tl.specs.Answer.{Answers};
 ghost use Rattle.tl.specs.Node.{comment_of};
-ghost use Rattle.tl.specs.TreeFault.{FirstDangles};
 ghost use Rattle.tl.specs.Walker.{IsMarked, left, shown_event};
 ghost use Rattle.tl.specs.Writing.{Writes};
 
 use crate::errors::TreeError;
 use crate::parser::base::Parser;
-use crate::parser::handle::NodeHandle;
 use crate::parser::tag::HTMLTag;
 use crate::parser::tag::node::Node;
 use crate::walk::print::{lossy_text, write_lossy};
 use crate::walk::{Entered, Event, Walker};
 use std::alloc::Global;
+use tl_table::handle::NodeHandle;
 
 // Writes the text of a node that is met: that of a text alone.
 #[inline(always)]
@@ -86,7 +86,7 @@ fn write_text_of<'s, 'a>(
 impl<'a> HTMLTag<'a> {
     /// The texts below the tag by the table of `parser`, in the order of the walk. Comments give none.
     pub fn inner_text(&self, alloc: Global, parser: &Parser<'a>) -> Result<String, TreeError>
-        ensures { Answers (inner_text (map shown parser.now.nodes)
+        ensures { Answers string_bytes (inner_text (map shown parser.now.nodes)
             (Tag (shown_tag self.now))) result }
     {
         let mut out = String::new(alloc);
@@ -98,7 +98,7 @@ impl<'a> HTMLTag<'a> {
 impl<'a> Node<'a> {
     /// The texts at or below the node by the table of `parser`, in the order of the walk. Comments give none.
     pub fn inner_text(&self, alloc: Global, parser: &Parser<'a>) -> Result<String, TreeError>
-        ensures answers { Answers (inner_text (map shown parser.now.nodes)
+        ensures answers { Answers string_bytes (inner_text (map shown parser.now.nodes)
             (shown self.now)) result }
 
         // A comment has no text, which takes no memory.

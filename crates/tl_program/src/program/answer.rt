@@ -1,9 +1,9 @@
 //! What a command writes of a text.
-ghost use Rattle.std.specs.Prelude.{◌≡◌, ◌<◌, length, IsSome, Ok, Some, Err};
+ghost use Rattle.std.specs.Prelude.{◌≡◌, ◌<◌, length, string_bytes, IsSome, Ok, Some, Err};
 ghost use Rattle.tl_spec.specs.Document.{document};
 ghost use Rattle.tl_spec.specs.Edit.{edited_all};
 ghost use Rattle.tl_spec.specs.Print.{document_print};
-ghost use Rattle.tl.specs.Answer.{Answers};
+ghost use Rattle.tl_table.specs.Answer.{Answers};
 ghost use Rattle.tl.specs.Shown.{document_of};
 ghost use Rattle.tl.specs.Tracked.{AnswerIds, AnswerClasses};
 ghost use Rattle.tl_program.specs.Asked.{asked_of};
@@ -24,7 +24,7 @@ use tl::{ParserOptions, VDom};
 // The texts of the top nodes of a document just read, joined in order. One walk has them all, since it meets no fault.
 fn texts(alloc: Global, document: &VDom<'_>) -> Result<String, TreeError>
     requires { IsJustRead (document_of document.now) }
-    ensures { Answers (texts_of (document_of document.now)) result }
+    ensures { Answers string_bytes (texts_of (document_of document.now)) result }
 {
     document.inner_text(alloc)
 }

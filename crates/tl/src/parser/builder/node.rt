@@ -7,10 +7,10 @@ ghost use Rattle.tl.specs.Shown.{shown};
 ghost use Rattle.tl.specs.HeldAlike.{IsHeldNode};
 
 use crate::parser::builder::source::Source;
-use crate::parser::handle::NodeHandle;
 use crate::parser::tag::node::Node;
 use std::alloc::{AllocError, Global};
 use tl_lexer::span::Span;
+use tl_table::handle::NodeHandle;
 
 impl<'a> Node<'a> {
     // Whether it is a tag of this name.

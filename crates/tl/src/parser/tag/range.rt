@@ -1,18 +1,19 @@
 //! The range of a tag: the nodes from its first child to the last of what hangs below it.
 ghost use Rattle.std.specs.Prelude.{◌≡◌, ◌<◌, ◌≤◌, ◌^◌, IfOk, None, length, map, slice_get};
 ghost use Rattle.std.specs.List.{last_or};
+ghost use Rattle.tl_table.specs.Answer.{Answers, WantsNoMemory};
 ghost use Rattle.tl_table.specs.Way.{RisesBelow};
 ghost use Rattle.tl_spec.specs.Range.{last_below, boundaries_of, range_of};
 ghost use Rattle.tl.specs.Shown.{shown};
-ghost use Rattle.tl.specs.Ranges.{Reads, ReadsNodes, WantsNoMemory};
+ghost use Rattle.tl.specs.Ranges.{ReadsNodes};
 
 use crate::errors::TreeError;
 use crate::parser::base::Parser;
-use crate::parser::handle::{InnerNodeHandle, NodeHandle};
 use crate::parser::tag::children::{Children, ChildrenOf};
 use crate::parser::tag::node::Node;
 use std::ops::Range;
 use tl_attributes::outline::OutlineOf;
+use tl_table::handle::{InnerNodeHandle, NodeHandle};
 use tl_table::range;
 
 impl<'b, A, B, O: OutlineOf<A>> ChildrenOf<'b, A, B, O> {
@@ -46,12 +47,12 @@ impl<'a, 'b> Children<'a, 'b> {
     /// The number of the last of what hangs below the tag: its last child, that one's last child, and so on; None where
     /// there is no child.
     pub fn end(&self, parser: &Parser<'_>) -> Result<Option<InnerNodeHandle>, TreeError>
-        ensures end { Reads (λ end. end) (last_below (map shown parser.now.nodes)
+        ensures end { Answers (λ end. end) (last_below (map shown parser.now.nodes)
             (last_or None self.now.children.items)) result }
         ensures memory { RisesBelow (map shown parser.now.nodes) self.now.children.items
             → WantsNoMemory result }
     {
-        Ok(range::end(parser.alloc(), parser.nodes(), self.last())?)
+        range::end(parser.alloc(), parser.nodes(), self.last())
     }
 
     /// Start and end, also where the end is below the start; None where there is no child.
@@ -59,25 +60,24 @@ impl<'a, 'b> Children<'a, 'b> {
         &self,
         parser: &Parser<'_>,
     ) -> Result<Option<(InnerNodeHandle, InnerNodeHandle)>, TreeError>
-        ensures boundaries { Reads (λ both. both)
+        ensures boundaries { Answers (λ both. both)
             (boundaries_of (map shown parser.now.nodes) self.now.children.items) result }
         ensures memory { RisesBelow (map shown parser.now.nodes) self.now.children.items
             → WantsNoMemory result }
     {
-        let first = self.start();
-        Ok(range::boundaries(parser.alloc(), parser.nodes(), first, self.last())?)
+        range::boundaries(parser.alloc(), parser.nodes(), self.start(), self.last())
     }
 
     // The numbers from start to end.
     pub(crate) fn range(&self, parser: &Parser<'_>) -> Result<Range<usize>, TreeError>
-        ensures range { Reads (λ r. (r.start, r.end))
+        ensures range { Answers (λ r. (r.start, r.end))
             (range_of (map shown parser.now.nodes) self.now.children.items) result }
         ensures within { IfOk result (λ r. (r.start ≤ r.end) × (r.end ≤ length parser.now.nodes)) }
         ensures fits { IfOk result (λ r. r.end < 2 ^ 32) }
         ensures memory { RisesBelow (map shown parser.now.nodes) self.now.children.items
             → WantsNoMemory result }
     {
-        Ok(range::range(parser.alloc(), parser.nodes(), self.start(), self.last())?)
+        range::range(parser.alloc(), parser.nodes(), self.start(), self.last())
     }
 
     /// The nodes from start to end, both included: none where there is no child, or the end is below the start.

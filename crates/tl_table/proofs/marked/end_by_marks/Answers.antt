@@ -14,9 +14,9 @@ inside g c = ltb-true c.loop-node.handle (length c.args.nodes.now) (sym c.in-Som
 unmet : (g : Over) (c : After-last_child g) → stands_on c.loop-node.invariant.0 c.loop-node.handle ≡ false
 unmet g c = sym (c.loop-node.invariant.1.tell c.loop-node.handle _ (inside g c)) ∙ c.if-marks-handle.false
 
-pub returns-in_default-last_child : goal.returns-in_default-last_child
-returns-in_default-last_child g c =
-    let after = (goal.at.returns-in_default-last_child g c).After-last_child in
+pub returns-in_default-last_child-clause-end : goal.returns-in_default-last_child-clause-end
+returns-in_default-last_child-clause-end g c =
+    let after = (goal.at.returns-in_default-last_child-clause-end g c).After-last_child in
     let way = c.loop-node.invariant in
     sym way.2 ∙ here (map g.N.Element.node c.args.nodes.now) way.0 c.loop-node.handle (g.N.Element.node c.in-Some.node.now) (known g after)
     (unmet g after) (sym c.last_child.ensures ∙ c.in_default-last_child.is)

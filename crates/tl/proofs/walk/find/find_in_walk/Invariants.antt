@@ -1,7 +1,7 @@
 use Rattle.std.proofs.Common.{ℕ, length}
 use denote.Param.Always.{always_mut}
 use Rattle.tl.specs.Find.{FindsNodeOrStops, sights}
-use Rattle.tl.specs.TreeFault.{FirstDangles}
+use Rattle.tl_table.specs.TreeFault.{FirstDangles}
 use Rattle.tl.specs.Walker.{IsMarked, left}
 use Rattle.tl.proofs.walk.find.find_in_walk.Given as goal
 

@@ -3,7 +3,7 @@ use Rattle.std.specs.List.{AllByRecursion}
 use Rattle.tl_spec.specs.Clean.{MeetsOwnKeys}
 use Rattle.tl_spec.specs.Print.{print_of_event}
 use Rattle.tl_spec.specs.Walk.{fault_among}
-use Rattle.tl.specs.TreeFault.{FirstDangles}
+use Rattle.tl_table.specs.TreeFault.{FirstDangles}
 use Rattle.tl.specs.Walker.{left, IsMarked}
 use Rattle.tl.proofs.walk.print.write_walk.Given as goal
 

@@ -1,7 +1,7 @@
 use Rattle.std.proofs.Common.{◌≡◌, ℕ, ◌++◌, length, flat_map, string_bytes}
 use Rattle.tl_spec.specs.Text.{event_text}
 use Rattle.tl_spec.specs.Walk.{fault_among}
-use Rattle.tl.specs.TreeFault.{FirstDangles}
+use Rattle.tl_table.specs.TreeFault.{FirstDangles}
 use Rattle.tl.specs.Walker.{left, IsMarked}
 use Rattle.tl.proofs.walk.text.write_texts.Given as goal
 

@@ -1,8 +1,8 @@
 -- The faults of a walk as errors.
 use Rattle.std.specs.Prelude.{◌≡◌, ℕ, List, Option, Some, None, IfSome, slice_get}
 use Rattle.tl_spec.specs.Walk.{TreeFault, Dangling, Cycle}
-use Rattle.tl.specs.declared.errors.TreeError.{TreeError}
-use Rattle.tl.specs.declared.errors.TreeError.TheVariants.{Dangling as DanglingError, Cycle as CycleError, OutOfMemory}
+use Rattle.tl_table.specs.declared.errors.TreeError.{TreeError}
+use Rattle.tl_table.specs.declared.errors.TreeError.TheVariants.{Dangling as DanglingError, Cycle as CycleError, OutOfMemory}
 
 -- the error that says a fault
 abbrev pub error_of : TreeFault → TreeError
