@@ -2,9 +2,9 @@
 use Rattle.std.proofs.Common.{◌≡◌, ◌<◌, ℕ, List, [], ◌++◌, Result, Ok, Err, refl, ap, sym, ◌∙◌, subst, append_assoc, append-nil, lit<, arith}
 use Rattle.std.specs.Result.{result_err}
 use Rattle.tl_spec.specs.Walk.{TreeFault}
-use Rattle.tl.specs.TreeFault.{IsRefusal}
-use Rattle.tl.specs.declared.errors.TreeError.{TreeError}
-use Rattle.tl.specs.declared.errors.TreeError.TheVariants.{Dangling as DanglingError, Cycle as CycleError, OutOfMemory as TreeMemory}
+use Rattle.tl_table.specs.TreeFault.{IsRefusal}
+use Rattle.tl_table.specs.declared.errors.TreeError.{TreeError}
+use Rattle.tl_table.specs.declared.errors.TreeError.TheVariants.{Dangling as DanglingError, Cycle as CycleError, OutOfMemory as TreeMemory}
 use Rattle.tl_program.specs.Failure.{failure_of_tree}
 use Rattle.tl_program.specs.Output.{Fails, Outcome, followed_by, outcome_of_reading, success_of}
 use Rattle.tl_program.specs.declared.program.failure.Failure.{Failure}

@@ -4,7 +4,7 @@ ghost use Rattle.std.specs.Option.{option_flatten};
 ghost use Rattle.tl_spec.specs.Element.{attribute_of};
 ghost use Rattle.tl_spec.specs.SelectorReading.{selector_at};
 ghost use Rattle.tl_spec.specs.Walk.{TreeFault};
-ghost use Rattle.tl.specs.Answer.{Answers};
+ghost use Rattle.tl_table.specs.Answer.{Answers};
 ghost use Rattle.tl.specs.Shown.{document_of, shown};
 ghost use Rattle.tl_program.specs.Output.{Gives, outcome_of_reading};
 ghost use Rattle.tl_pick.specs.Page.{outcome_of_length};
