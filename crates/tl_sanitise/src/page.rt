@@ -13,8 +13,8 @@ use tl_safe::{Policy, sanitised};
 
 // What is printed of a page that is a text.
 fn safe_text(alloc: Global, policy: &Policy<'_>, page: &str) -> Result<String, Failure>
-    ensures long { 4294967295 < length page.now → result ≡ Err Failure.NotUnderstood }
-    ensures memory { length page.now ≤ 4294967295 → IsOkUnless result Failure.OutOfMemory }
+    ensures long { u32.MAX < length page.now → result ≡ Err Failure.NotUnderstood }
+    ensures memory { length page.now ≤ u32.MAX → IsOkUnless result Failure.OutOfMemory }
     ensures trees { IfOk result (λ safe.
         trees_of (string_bytes safe) ≡ norm (kept_of policy.now page.now)) }
     ensures form { IfOk result (λ safe. IsSafe (lists_of policy.now) (string_bytes safe)) }
@@ -28,8 +28,8 @@ fn safe_text(alloc: Global, policy: &Policy<'_>, page: &str) -> Result<String, F
 /// than 4294967295 bytes, is not understood.
 pub fn safe_page(alloc: Global, policy: &Policy<'_>, page: &[u8]) -> Result<String, Failure>
     ensures no_text { ¬ (IsUtf8 page.now) → result ≡ Err Failure.NotUnderstood }
-    ensures long { 4294967295 < length page.now → result ≡ Err Failure.NotUnderstood }
-    ensures memory { IsUtf8 page.now → length page.now ≤ 4294967295 →
+    ensures long { u32.MAX < length page.now → result ≡ Err Failure.NotUnderstood }
+    ensures memory { IsUtf8 page.now → length page.now ≤ u32.MAX →
         IsOkUnless result Failure.OutOfMemory }
     ensures trees { IfOk result (λ safe.
         trees_of (string_bytes safe) ≡ norm (kept_of policy.now page.now)) }
