@@ -1,6 +1,11 @@
 -- Texts one after the other.
 use Rattle.std.proofs.Common.{◌≡◌, ◌<◌, ℕ, List, [], ◌++◌, Result, Ok, Err, refl, ap, sym, ◌∙◌, subst, append_assoc, append-nil, lit<, arith}
+use Rattle.std.specs.Result.{result_err}
 use Rattle.tl_spec.specs.Walk.{TreeFault}
+use Rattle.tl.specs.TreeFault.{IsRefusal}
+use Rattle.tl.specs.declared.errors.TreeError.{TreeError}
+use Rattle.tl.specs.declared.errors.TreeError.TheVariants.{Dangling as DanglingError, Cycle as CycleError, OutOfMemory as TreeMemory}
+use Rattle.tl_program.specs.Failure.{failure_of_tree}
 use Rattle.tl_program.specs.Output.{Fails, Outcome, followed_by, outcome_of_reading, success_of}
 use Rattle.tl_program.specs.declared.program.failure.Failure.{Failure}
 use Rattle.tl_program.specs.declared.program.failure.Failure.TheVariants.{Refused, NotUnderstood, OutOfMemory, Fault}
@@ -48,19 +53,21 @@ fails_within old piece later whole failure e fails =
     subst (λ (r : Result (List ℕ) TreeFault). Fails (outcome_of_reading r) failure) e (fails_first old piece later failure fails)
 
 -- a reading that fails does so with what ends it
-pub fails_ended : (end : List ℕ) (reading : Result (List ℕ) TreeFault) (failure : Failure)
-    → Fails (outcome_of_reading reading) failure → Fails (outcome_of_reading (ended end reading)) failure
-fails_ended end (Err fault) failure fails = fails
-fails_ended end (Ok text) failure fails = fails_success text (success_of (text ++ end)) failure fails
+pub fails_ended : (end : List ℕ) (reading : Result (List ℕ) TreeFault) (error : TreeError)
+    → IsRefusal (result_err reading) error → Fails (outcome_of_reading (ended end reading)) (failure_of_tree error)
+fails_ended end (Ok text) (DanglingError h) refusal = absurd (cc)
+fails_ended end (Ok text) (CycleError h) refusal = absurd (cc)
+fails_ended end (Err fault) (DanglingError h) refusal = refl
+fails_ended end (Err fault) (CycleError h) refusal = refl
+fails_ended end (Ok text) TreeMemory refusal = tt
+fails_ended end (Err fault) TreeMemory refusal = tt
 
 -- a reading is written, and what ends it
-pub adds_ended : (old new text end : List ℕ) (reading : Result (List ℕ) TreeFault) → outcome_of_reading reading ≡ success_of text
+pub adds_ended : (old new text end : List ℕ) (reading : Result (List ℕ) TreeFault) → reading ≡ Ok text
     → new ≡ old ++ (text ++ end) → followed_by (Ok old) (ended end reading) ≡ Ok new
-adds_ended old new text end (Ok read) e f =
-    let same : read ≡ text = ap (λ (o : Outcome). o.bytes) e in
-    ap (λ (t : List ℕ). Ok (old ++ (t ++ end))) same ∙ ap Ok (sym f)
-adds_ended old new text end (Err fault) e f = absurd (other_status 0 1 (sym (ap (λ (o : Outcome). o.status) e)) (lit< tt))
+adds_ended old new text end reading e f =
+    ap (λ (r : Result (List ℕ) TreeFault). followed_by (Ok old) (ended end r)) e ∙ ap Ok (sym f)
 
 pub ruleset followed = (followed_by-nothing, followed_on, all_followed, fails_within)
 
-pub ruleset ended_pieces = (fails_ended, adds_ended)
+pub ruleset ended_readings = (fails_ended, adds_ended)

@@ -8,7 +8,8 @@ use Rattle.tl_program.specs.Output.{Outcome, success_of, refused}
 use Rattle.tl_pick.specs.Found.{found_in}
 use Rattle.tl_pick.specs.Page.{outcome_of_page}
 
--- how many nodes were found, in decimal, and what ends it; a text that stands for no selector finds none, and is refused
+-- how many nodes were found, in decimal, and what ends it; a text that stands for no selector finds
+-- none, and is refused
 abbrev pub outcome_of_number : List ℕ → Option (List ℕ) → Outcome
 outcome_of_number end None = refused
 outcome_of_number end (Some numbers) = success_of (decimal (length numbers) ++ end)

@@ -42,31 +42,26 @@ abbrev pub ended_value : List ℕ → Option (List ℕ) → List ℕ
 ended_value end None = []
 ended_value end (Some value) = utf8_lossy value ++ end
 
--- what is asked of a node of this number, if it is no value
-abbrev pub reading_of : Want → List Node → ℕ → Node → Result (List ℕ) TreeFault
-reading_of its_number nodes number node = Ok (decimal number)
-reading_of its_print nodes number node = outer_html nodes node
-reading_of its_inside nodes number node = inner_html nodes node
-reading_of its_text nodes number node = inner_text nodes node
-reading_of (its_value key) nodes number node = Ok []
-
 -- what is asked of a node of this number, and what ends it; nothing where it has no such value
 abbrev pub piece_of : Want → List ℕ → List Node → ℕ → Node → Result (List ℕ) TreeFault
-piece_of its_number end nodes number node = ended end (reading_of its_number nodes number node)
-piece_of its_print end nodes number node = ended end (reading_of its_print nodes number node)
-piece_of its_inside end nodes number node = ended end (reading_of its_inside nodes number node)
-piece_of its_text end nodes number node = ended end (reading_of its_text nodes number node)
-piece_of (its_value key) end nodes number node = Ok (ended_value end (option_flatten (attribute_of key node)))
+piece_of its_number end nodes number node = Ok (decimal number ++ end)
+piece_of its_print end nodes number node = ended end (outer_html nodes node)
+piece_of its_inside end nodes number node = ended end (inner_html nodes node)
+piece_of its_text end nodes number node = ended end (inner_text nodes node)
+piece_of (its_value key) end nodes number node =
+    Ok (ended_value end (option_flatten (attribute_of key node)))
 
 -- the same of the node of a number, which is a fault past the table
 abbrev pub piece_at : Want → List ℕ → List Node → ℕ → Result (List ℕ) TreeFault
-piece_at want end nodes number = option_map_or (piece_of want end nodes number) (slice_get nodes number) (Err (Dangling number))
+piece_at want end nodes number =
+    option_map_or (piece_of want end nodes number) (slice_get nodes number) (Err (Dangling number))
 
 -- the same of all these numbers, in order
 abbrev pub pieces : Want → List ℕ → List Node → List ℕ → Result (List ℕ) TreeFault
 pieces want end nodes numbers = joined (map (piece_at want end nodes) numbers)
 
--- what is picked of the nodes that were found; a text that stands for no selector finds none, and is refused
+-- what is picked of the nodes that were found; a text that stands for no selector finds none, and
+-- is refused
 abbrev pub outcome_of_found : Want → List ℕ → List Node → Option (List ℕ) → Outcome
 outcome_of_found want end nodes None = refused
 outcome_of_found want end nodes (Some numbers) = outcome_of_reading (pieces want end nodes numbers)
@@ -77,7 +72,8 @@ outcome_of_picks want end selector d = outcome_of_found want end d.nodes (found_
 
 -- what is picked of a text where the selector of a text holds
 abbrev pub picks_of_text : Want → List ℕ → List ℕ → List ℕ → Outcome
-picks_of_text want end selector text = outcome_of_picks want end (selector_at selector) (document text)
+picks_of_text want end selector text =
+    outcome_of_picks want end (selector_at selector) (document text)
 
 -- the same of a page
 abbrev pub picks : Want → List ℕ → List ℕ → List ℕ → Outcome

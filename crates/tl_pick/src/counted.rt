@@ -1,6 +1,7 @@
 //! How many nodes there are where a selector holds.
-ghost use Rattle.std.specs.Prelude.{◌≡◌, ◌++◌, IfOk, length, string_bytes};
+ghost use Rattle.std.specs.Prelude.{◌≡◌, ◌<◌, ◌^◌, ◌++◌, IfOk, length, string_bytes};
 ghost use Rattle.std.specs.Fmt.{decimal};
+ghost use Rattle.std.specs.Option.{ForSome};
 ghost use Rattle.tl_spec.specs.SelectorReading.{selector_at};
 ghost use Rattle.tl.specs.Shown.{document_of};
 ghost use Rattle.tl_program.specs.Output.{Gives};
@@ -13,14 +14,11 @@ use tl::{ParserOptions, VDom, parse};
 use tl_program::program::Failure;
 
 // How many nodes are left.
-fn number(alloc: Global, found: QuerySelectorIterator<'_, '_>) -> Result<usize, AllocError>
-    ensures { IfOk result (λ number. number ≡ length found.entry) }
+fn number(found: QuerySelectorIterator<'_, '_>) -> usize
+    requires { length found < 2 ^ 64 }
+    ensures { result ≡ length found.entry }
 {
-    let mut handles = Vec::new(alloc);
-    for handle in found {
-        handles.push(handle)?;
-    }
-    Ok(handles.len())
+    found.count()
 }
 
 // A number in decimal, and what ends it.
@@ -38,10 +36,11 @@ fn number_found(
     found: Option<QuerySelectorIterator<'_, '_>>,
     end: &str,
 ) -> Result<String, Failure>
+    requires { ForSome found (λ numbers. length numbers < 2 ^ 64) }
     ensures { Gives (outcome_of_number end.now found.entry) result }
 {
     match found {
-        Some(found) => Ok(number_line(alloc, number(alloc, found)?, end)?),
+        Some(found) => Ok(number_line(alloc, number(found), end)?),
         None => Err(Failure::Refused),
     }
 }
@@ -56,6 +55,8 @@ fn of_document(
     ensures { let counted = outcome_of_count end.now (selector_at selector.now) in
         Gives (counted (document_of document.now)) result }
 {
+    // There are fewer than 2 ^ 32 nodes, and no more are found.
+    let _nodes = document.nodes();
     let found = document.query_selector(alloc, selector)?;
     number_found(alloc, found, end)
 }
@@ -68,8 +69,8 @@ fn of_text(alloc: Global, text: &str, selector: &str, end: &str) -> Result<Strin
     of_document(alloc, &document, selector, end)
 }
 
-/// How many nodes of a page there are where the selector of a text holds, in decimal, and what ends it. A text that is no selector is
-/// refused.
+/// How many nodes of a page there are where the selector of a text holds, in decimal, and what ends
+/// it. A text that is no selector is refused.
 pub fn count(alloc: Global, page: &[u8], selector: &str, end: &str) -> Result<String, Failure>
     ensures { Gives (counts end.now selector.now page.now) result }
 {

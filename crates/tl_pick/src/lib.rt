@@ -1,4 +1,5 @@
-//! What people and other languages ask of a page: what is picked of it by a selector, its links, a safe page.
+//! What people and other languages ask of a page: what is picked of it by a selector, its links, a
+//! safe page.
 #![tactic(auto)]
 
 mod counted;

@@ -12,7 +12,8 @@ use tl_program::program::Failure;
 
 // Adds the links of a node.
 fn add_links(alloc: Global, out: &mut String, node: &Node<'_>, end: &str) -> Result<(), AllocError>
-    ensures { OnOk result (string_bytes out.new ≡ string_bytes out.old ++ links_of end.now (shown node.now)) }
+    ensures { let links = links_of end.now (shown node.now) in
+        OnOk result (string_bytes out.new ≡ string_bytes out.old ++ links) }
 {
     add_value(alloc, out, node, "href", end)?;
     add_value(alloc, out, node, "src", end)?;
@@ -41,8 +42,8 @@ fn of_text(alloc: Global, text: &str, end: &str) -> Result<String, Failure>
     Ok(of_document(alloc, &document, end)?)
 }
 
-/// The values at `href`, `src`, `action`, `poster` and `srcset`, in this order of each node, node after node; after each comes what
-/// ends it.
+/// The values at `href`, `src`, `action`, `poster` and `srcset`, in this order of each node, node
+/// after node, each with what ends it.
 pub fn links(alloc: Global, page: &[u8], end: &str) -> Result<String, Failure>
     ensures { Gives (links_of_page end.now page.now) result }
 {

@@ -11,7 +11,7 @@ fn lead<'n>(name: &'n str, begins: bool) -> &'n str
     if begins { name } else { "" }
 }
 
-/// A text with a name before each of its lines, which end at a byte; a text that is empty has no line.
+/// A text with a name before each of its lines, which end at a byte; an empty text has no line.
 pub fn with_name(alloc: Global, name: &str, end: u8, text: &str) -> Result<Vec<u8>, AllocError>
     ensures { IfOk result (λ lines. lines.items ≡ named name.now end text.now) }
 {

@@ -1,15 +1,18 @@
 //! What is picked of the nodes where a selector holds.
-ghost use Rattle.std.specs.Prelude.{◌≡◌, ◌++◌, OnOk, map, string_bytes};
+ghost use Rattle.std.specs.Prelude.{◌≡◌, ◌++◌, ℕ, List, OnOk, Result, map, string_bytes};
 ghost use Rattle.std.specs.Option.{option_flatten};
 ghost use Rattle.tl_spec.specs.Element.{attribute_of};
 ghost use Rattle.tl_spec.specs.SelectorReading.{selector_at};
+ghost use Rattle.tl_spec.specs.Walk.{TreeFault};
+ghost use Rattle.tl.specs.Answer.{Answers};
 ghost use Rattle.tl.specs.Shown.{document_of, shown};
 ghost use Rattle.tl_program.specs.Output.{Gives, outcome_of_reading};
 ghost use Rattle.tl_pick.specs.Page.{outcome_of_length};
-ghost use Rattle.tl_pick.specs.Picked.{Adds, ended, ended_value, outcome_of_found, outcome_of_picks, picks, picks_of_text, piece_at, piece_of, pieces, reading_of, want_of};
+ghost use Rattle.tl_pick.specs.Picked.{Adds, ended, ended_value, outcome_of_found, outcome_of_picks, picks, picks_of_text, piece_at, piece_of, pieces, want_of};
 
 use crate::wanted::Wanted;
 use std::alloc::{AllocError, Global};
+use tl::errors::TreeError;
 use tl::queryselector::QuerySelectorIterator;
 use tl::{Bytes, Element, Node, NodeHandle, Parser, ParserOptions, VDom, parse};
 use tl_program::program::Failure;
@@ -39,41 +42,17 @@ pub(crate) fn add_value(
     }
 }
 
-// What is asked of a node, if it is no value.
-fn reading<'a>(
-    alloc: Global,
-    parser: &Parser<'a>,
-    handle: NodeHandle,
-    node: &Node<'a>,
-    wanted: &Wanted<'_>,
-) -> Result<String, Failure>
-    ensures { let nodes = map shown parser.now.nodes in
-        Gives (outcome_of_reading (reading_of (want_of wanted.now) nodes handle (shown node.now))) result }
-{
-    match wanted {
-        Wanted::Number => Ok(handle.get_inner().to_string(alloc)?),
-        Wanted::Print => Ok(node.outer_html(alloc, parser)?),
-        Wanted::Inside => Ok(node.inner_html(alloc, parser)?),
-        Wanted::Text => Ok(node.inner_text(alloc, parser)?),
-        Wanted::Value(_) => Ok(String::new(alloc)),
-    }
-}
-
-// Adds what is asked of a node, if it is no value, and what ends it.
-#[tactic(auto, using(crate::proofs::Following::ended_pieces))]
-fn add_reading<'a>(
-    alloc: Global,
+// Adds what was read, and what ends it.
+#[tactic(auto, using(crate::proofs::Following::ended_readings))]
+fn add_reading(
     out: &mut String,
-    parser: &Parser<'a>,
-    handle: NodeHandle,
-    node: &Node<'a>,
-    wanted: &Wanted<'_>,
+    reading: Result<String, TreeError>,
     end: &str,
 ) -> Result<(), Failure>
-    ensures { let text = reading_of (want_of wanted.now) (map shown parser.now.nodes) handle (shown node.now) in
-        Adds (ended end.now text) (string_bytes out.old) (string_bytes out.new) result }
+    ensures { (of : Result (List ℕ) TreeFault) → Answers of reading
+        → Adds (ended end.now of) (string_bytes out.old) (string_bytes out.new) result }
 {
-    let text = reading(alloc, parser, handle, node, wanted)?;
+    let text = reading?;
     Ok(add(out, text.as_str(), end)?)
 }
 
@@ -87,14 +66,15 @@ fn add_piece<'a>(
     wanted: &Wanted<'_>,
     end: &str,
 ) -> Result<(), Failure>
-    ensures { let piece = piece_of (want_of wanted.now) end.now (map shown parser.now.nodes) handle (shown node.now) in
+    ensures { let nodes = map shown parser.now.nodes in
+        let piece = piece_of (want_of wanted.now) end.now nodes handle (shown node.now) in
         Adds piece (string_bytes out.old) (string_bytes out.new) result }
 {
     match wanted {
-        Wanted::Number => add_reading(alloc, out, parser, handle, node, wanted, end),
-        Wanted::Print => add_reading(alloc, out, parser, handle, node, wanted, end),
-        Wanted::Inside => add_reading(alloc, out, parser, handle, node, wanted, end),
-        Wanted::Text => add_reading(alloc, out, parser, handle, node, wanted, end),
+        Wanted::Number => Ok(add(out, handle.get_inner().to_string(alloc)?.as_str(), end)?),
+        Wanted::Print => add_reading(out, node.outer_html(alloc, parser), end),
+        Wanted::Inside => add_reading(out, node.inner_html(alloc, parser), end),
+        Wanted::Text => add_reading(out, node.inner_text(alloc, parser), end),
         Wanted::Value(key) => Ok(add_value(alloc, out, node, key, end)?),
     }
 }
@@ -108,7 +88,8 @@ pub(crate) fn add_piece_at(
     wanted: &Wanted<'_>,
     end: &str,
 ) -> Result<(), Failure>
-    ensures { let piece = piece_at (want_of wanted.now) end.now (map shown parser.now.nodes) handle in
+    ensures { let nodes = map shown parser.now.nodes in
+        let piece = piece_at (want_of wanted.now) end.now nodes handle in
         Adds piece (string_bytes out.old) (string_bytes out.new) result }
 {
     match handle.get(parser) {
@@ -126,7 +107,8 @@ fn pieces(
     wanted: &Wanted<'_>,
     end: &str,
 ) -> Result<String, Failure>
-    ensures { let all = pieces (want_of wanted.now) end.now (map shown parser.now.nodes) found.entry in
+    ensures { let nodes = map shown parser.now.nodes in
+        let all = pieces (want_of wanted.now) end.now nodes found.entry in
         Gives (outcome_of_reading all) result }
 {
     let mut out = String::new(alloc);
@@ -136,7 +118,8 @@ fn pieces(
     Ok(out)
 }
 
-// What is asked of the nodes that were found; a text that stands for no selector finds none, and is refused.
+// What is asked of the nodes that were found; a text that stands for no selector finds none, and is
+// refused.
 fn pieces_found(
     alloc: Global,
     found: Option<QuerySelectorIterator<'_, '_>>,
@@ -183,8 +166,9 @@ fn of_text(
     of_document(alloc, &document, selector, wanted, end)
 }
 
-/// What is asked of the nodes of a page where the selector of a text holds, in order, and after each what ends it. A node without
-/// the value that is asked for gives nothing. A text that is no selector is refused.
+/// What is asked of the nodes of a page where the selector of a text holds, in order, each with what
+/// ends it. A node without the value that is asked for gives nothing. A text that is no selector is
+/// refused.
 pub fn select(
     alloc: Global,
     page: &[u8],

@@ -1,5 +1,9 @@
 //! Pages made safe for a browser.
-ghost use Rattle.tl_safe.specs.Policies.{lists_of};
+ghost use Rattle.std.specs.Prelude.{◌≡◌, IfOk, string_bytes};
+ghost use Rattle.tl_spec.specs.Normal.{norm};
+ghost use Rattle.tl_safe.specs.HtmlTokenizer.{data_state, html_tokens};
+ghost use Rattle.tl_safe.specs.IsSafe.{IsSafe, tokens_of};
+ghost use Rattle.tl_safe.specs.Policies.{kept_of, lists_of};
 ghost use Rattle.tl_program.specs.Output.{Gives};
 ghost use Rattle.tl_pick.specs.Page.{outcome_of_length};
 ghost use Rattle.tl_pick.specs.Safe.{safe_page, safe_text};
@@ -10,14 +14,22 @@ use tl_safe::{Policy, sanitised};
 
 // What a policy keeps of a text.
 fn of_text(alloc: Global, policy: &Policy<'_>, text: &str) -> Result<String, Failure>
-    ensures { Gives (outcome_of_length (safe_text (lists_of policy.now)) text.now) result }
+    ensures outcome { Gives (outcome_of_length (safe_text (lists_of policy.now)) text.now) result }
+    ensures form { IfOk result (λ safe. IsSafe (lists_of policy.now) (string_bytes safe)) }
+    ensures standard { IfOk result (λ safe. html_tokens data_state (string_bytes safe)
+        ≡ tokens_of (norm (kept_of policy.now text.now))) }
 {
     Ok(sanitised(alloc, policy, text)?)
 }
 
 /// What a policy keeps of a page, printed: `tl_safe::sanitised` of the page's text.
 pub fn sanitise(alloc: Global, policy: &Policy<'_>, page: &[u8]) -> Result<String, Failure>
-    ensures { Gives (safe_page (lists_of policy.now) page.now) result }
+    ensures outcome { Gives (safe_page (lists_of policy.now) page.now) result }
+
+    // As `sanitised` says of a text.
+    ensures form { IfOk result (λ safe. IsSafe (lists_of policy.now) (string_bytes safe)) }
+    ensures standard { IfOk result (λ safe. html_tokens data_state (string_bytes safe)
+        ≡ tokens_of (norm (kept_of policy.now page.now))) }
 {
     match str::from_utf8(page) {
         Ok(text) => of_text(alloc, policy, text),

@@ -1,7 +1,7 @@
 use Rattle.std.proofs.Common.{ap, sym, subst}
 use Rattle.tl_program.specs.Output.{Gives}
 use Rattle.tl_pick.specs.Counted.{outcome_of_number}
-use Rattle.tl_pick.proofs.Selecting.{found_in-query}
+use Rattle.tl_pick.proofs.Selecting.{few-query, found_in-query}
 use Rattle.tl_pick.proofs.counted.of_document.Goals as goal
 
 pub returns : goal.returns
@@ -10,3 +10,7 @@ returns c =
     subst (λ outcome. Gives outcome c.number_found.result)
     (sym (ap (outcome_of_number c.args.end.now) is_found))
     c.number_found.ensures
+
+pub number_found-requires : goal.number_found-requires
+number_found-requires c =
+    few-query c.args.document.now c.args.selector.now _ c.in_ok-found.ensures.ok c.nodes-nodes.ensures.within
