@@ -1,0 +1,4 @@
+pub mod Made
+pub mod Named
+pub mod Objects
+pub mod Reports
