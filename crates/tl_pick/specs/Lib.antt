@@ -5,7 +5,6 @@ pub mod First
 pub mod Found
 pub mod Left
 pub mod Linked
-pub mod Named
 pub mod Outlined
 pub mod Page
 pub mod Picked

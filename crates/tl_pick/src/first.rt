@@ -35,7 +35,8 @@ fn first_piece(
     Ok(out)
 }
 
-// What is asked of the first of the nodes that were found; a text that stands for no selector finds none, and is refused.
+// What is asked of the first of the nodes that were found; a text that stands for no selector finds
+// none, and is refused.
 fn first_found(
     alloc: Global,
     found: Option<QuerySelectorIterator<'_, '_>>,
@@ -82,8 +83,8 @@ fn of_text(
     of_document(alloc, &document, selector, wanted, end)
 }
 
-/// What `select` gives of the first node where the selector holds, and of no other: nothing where that one is without the value that
-/// is asked for.
+/// What `select` gives of the first node where the selector holds, and of no other: nothing where
+/// that one is without the value that is asked for.
 pub fn select_first(
     alloc: Global,
     page: &[u8],

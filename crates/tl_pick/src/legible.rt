@@ -235,8 +235,8 @@ fn row<'s, 'a>(
     Ok(text)
 }
 
-/// The text of a page, line by line: blocks stand on lines of their own, white space is one space, and scripts, styles and comments
-/// are left out. No character reference is read.
+/// The text of a page, line by line: blocks stand on lines of their own, white space is one space,
+/// and scripts, styles and comments are left out. No character reference is read.
 pub fn readable(alloc: Global, page: &str) -> Result<Vec<u8>, ParseError>
     ensures length { IsErrOf result InvalidLength ↔ (4294967295 < length page.now) }
     ensures lines { IfOk result (λ lines.

@@ -1,5 +1,5 @@
-//! What people and other languages ask of a page: what is picked of it by a selector, its links, a
-//! safe page.
+//! What people and other languages ask of a page: what is picked of it by a selector, its links, its
+//! outline, its text line by line, a safe page.
 #![tactic(auto)]
 
 mod counted;
@@ -8,7 +8,6 @@ mod first;
 mod legible;
 mod lines;
 mod linked;
-mod named;
 mod outlined;
 mod picked;
 mod safe;
@@ -19,7 +18,6 @@ pub use cutting::cut;
 pub use first::select_first;
 pub use legible::{page_readable, readable};
 pub use linked::links;
-pub use named::with_name;
 pub use outlined::{outline, page_outline};
 pub use picked::select;
 pub use safe::sanitise;

@@ -55,8 +55,8 @@ fn add_node(alloc: Global, lines: &mut Vec<u8>, node: &Node<'_>) -> Result<(), A
     }
 }
 
-/// Each node on a line: its number, whether it is a tag, a text or a comment, the name or the first line of it, and for a tag
-/// the numbers of its children.
+/// Each node on a line: its number, whether it is a tag, a text or a comment, the name or the first
+/// line of it, and for a tag the numbers of its children.
 pub fn outline(alloc: Global, document: &VDom<'_>) -> Result<Vec<u8>, AllocError>
     ensures { IfOk result (λ lines. lines.items ≡ outline_of (document_of document.now)) }
 {

@@ -1,8 +1,8 @@
 -- Lines of several pages, each led by the name of its page.
 use Rattle.std.specs.Prelude.{ℕ, Bool, true, List, [], ◌∷◌, ◌++◌, ◌==◌, if◌then◌else◌}
 
--- what is left of a text, whose first byte begins a line or doesn't, with a name before each line. A line ends at this byte, and
--- the last one gets it where it lacks it
+-- what is left of a text, whose first byte begins a line or doesn't, with a name before each line.
+-- A line ends at this byte, and the last one gets it where it lacks it
 abbrev pub named_from : List ℕ → ℕ → Bool → List ℕ → List ℕ
 named_from name end begins [] = if begins then [] else end ∷ []
 named_from name end begins (byte ∷ text) = (if begins then name else []) ++ byte ∷ named_from name end (byte == end) text

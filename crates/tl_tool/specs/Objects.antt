@@ -74,7 +74,8 @@ abbrev pub outcome_of_list : List ℕ → Result (List Data) TreeFault → Outco
 outcome_of_list end (Ok list) = success_of (compact_text (array (items_of list)) ++ end)
 outcome_of_list end (Err fault) = refused
 
--- the array of the nodes that were found; a text that stands for no selector finds none, and is refused
+-- the array of the nodes that were found; a text that stands for no selector finds none, and is
+-- refused
 abbrev pub outcome_of_objects : List ℕ → List Node → Option (List ℕ) → Outcome
 outcome_of_objects end nodes None = refused
 outcome_of_objects end nodes (Some numbers) = outcome_of_list end (list_data nodes numbers)

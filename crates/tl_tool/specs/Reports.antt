@@ -27,7 +27,8 @@ with_answers tally (answer ∷ answers) = with_answers (with_answer tally answer
 abbrev pub no_page : Tally
 no_page = record { is_found = false; failed = 0 }
 
--- the greatest status of those that failed, and else 0 where something was found, and 1 where nothing was
+-- the greatest status of those that failed, and else 0 where something was found, and 1 where
+-- nothing was
 abbrev pub status_of_tally : Tally → ℕ
 status_of_tally tally = if tally.failed == 0 then (if tally.is_found then 0 else 1) else tally.failed
 

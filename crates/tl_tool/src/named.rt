@@ -11,7 +11,8 @@ fn lead<'n>(name: &'n str, begins: bool) -> &'n str
     if begins { name } else { "" }
 }
 
-/// A text with a name before each of its lines, which end with a byte, the last one too; a text that is empty has no line.
+/// A text with a name before each of its lines, which end with a byte, the last one too; a text
+/// that is empty has no line.
 pub fn with_name(alloc: Global, name: &str, end: u8, text: &[u8]) -> Result<Vec<u8>, AllocError>
     ensures { IfOk result (λ lines. lines.items ≡ named name.now end text.now) }
 {

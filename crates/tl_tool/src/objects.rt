@@ -165,7 +165,8 @@ fn array_line(alloc: Global, list: Vec<Value>, end: &str) -> Result<String, Allo
     Ok(line)
 }
 
-// The array of the nodes that were found; a text that stands for no selector finds none, and is refused.
+// The array of the nodes that were found; a text that stands for no selector finds none, and is
+// refused.
 fn array_found(
     alloc: Global,
     found: Option<QuerySelectorIterator<'_, '_>>,
@@ -203,8 +204,9 @@ fn of_text(alloc: Global, text: &str, selector: &str, end: &str) -> Result<Strin
     of_document(alloc, &document, selector, end)
 }
 
-/// An array of JSON with an object for each node of a page where the selector of a text holds, in order, and what ends it: its
-/// number, its name, its attributes and its text. A text that is no selector is refused.
+/// An array of JSON with an object for each node of a page where the selector of a text holds, in
+/// order, and what ends it: its number, its name, its attributes and its text. A text that is no
+/// selector is refused.
 pub fn array(alloc: Global, page: &[u8], selector: &str, end: &str) -> Result<String, Failure>
     ensures { Gives (objects_of_page end.now selector.now page.now) result }
 {

@@ -114,8 +114,8 @@ fn over_files<'f>(
     Ok(reports)
 }
 
-/// Does a task on each page in order, and answers the status of all. A page that can't be read or fails is said on standard error, and
-/// those after it are done.
+/// Does a task on each page in order, and answers the status of all. A page that can't be read or
+/// fails is said on standard error, and those after it are done.
 pub fn over_pages(rt: &HostRuntime, task: &Task<'_>, pages: &Pages<'_>) -> u8 {
     let files = if pages.files.is_empty() {
         STANDARD_INPUT.as_slice()

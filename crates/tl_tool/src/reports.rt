@@ -22,7 +22,8 @@ pub struct Report<'f> {
     pub answer: Answer,
 }
 
-/// Whether something was found in one of the pages so far, and the greatest status of those that failed.
+/// Whether something was found in one of the pages so far, and the greatest status of those that
+/// failed.
 #[derive(Clone, Copy)]
 pub struct Tally {
     pub is_found: bool,
@@ -57,7 +58,8 @@ impl Tally {
         }
     }
 
-    /// The status of all: the greatest of those that failed, and else 0 where something was found, and 1 where nothing was.
+    /// The status of all: the greatest of those that failed, and else 0 where something was found,
+    /// and 1 where nothing was.
     pub fn status(self) -> u8
         ensures { result ≡ status_of_tally self }
     {

@@ -62,7 +62,8 @@ pub fn made(alloc: Global, task: &Task<'_>, end: &str, page: &[u8]) -> Result<Ve
     }
 }
 
-/// Whether what a task made says that something was found. Tasks that look for nothing find all that they make.
+/// Whether what a task made says that something was found. Tasks that look for nothing find all
+/// that they make.
 pub fn is_found(task: &Task<'_>, text: &[u8]) -> bool
     ensures { result ≡ is_found task.now text.now }
 {

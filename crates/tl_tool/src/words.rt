@@ -132,7 +132,7 @@ static LISTS: [Flag; 5] = [
         name: "prefix",
         short: None,
         value: Some("WORD"),
-        help: "What the values of id, name and class begin with",
+        help: "What the values of id, name and class that stand begin with",
     },
 ];
 

@@ -29,4 +29,4 @@ returns-in-Run c =
 
 pub returns-in-Sanitise : goal.returns-in-Sanitise
 returns-in-Sanitise c =
-    subst (λ task. GivesBytes (made_of task c.args.end.now c.args.page.now) c.bytes_of-in-Sanitise.result) (sym c.in-Sanitise.is) (c.bytes_of-in-Sanitise.ensures _ c.sanitise.ensures)
+    subst (λ task. GivesBytes (made_of task c.args.end.now c.args.page.now) c.bytes_of-in-Sanitise.result) (sym c.in-Sanitise.is) (c.bytes_of-in-Sanitise.ensures _ c.sanitise.ensures.outcome)

@@ -1,0 +1,71 @@
+-- What is put into room.
+use denote.Enum.Declared.{tag_of}
+use Rattle.std.proofs.Common.{◌≡◌, ◌≢◌, ◌+◌, ◌++◌, ℕ, Bool, true, false, List, [], length, take, drop, refl, sym, ap₂, ◌∙◌, subst, if◌then◌else◌, arith}
+use Rattle.std.proofs.Math.Seq.{take-append_seam}
+use Rattle.std.proofs.lemmas.Bool.{le-ltb}
+use Rattle.std.specs.Global.{Global}
+use Rattle.std.specs.Prelude.{IfOk, IsOkAnd, Result, Ok, Err, string_bytes}
+use Rattle.std.specs.declared.string.String.{String}
+use Rattle.tl_program.specs.Output.{Fails, Outcome, not_understood, refused, success_of}
+use Rattle.tl_program.specs.contracts.program.failure.Failure.{the_type}
+use Rattle.tl_program.specs.declared.program.failure.Failure.{Failure}
+use Rattle.tl_program.specs.declared.program.failure.Failure.TheVariants.{Refused, NotUnderstood, OutOfMemory, Fault}
+use Rattle.tl_c.specs.Puts.{Puts, is_too_long}
+
+-- the number of a failure
+abbrev pub status_of : Failure → ℕ
+status_of failure = tag_of the_type failure + 1
+
+has_room : (out : List ℕ) → is_too_long [] out ≡ false
+has_room out = le-ltb (length out) 0 (omega arith)
+
+puts_refused : (out : List ℕ) → Puts refused out out 0 1
+puts_refused out = record {
+  answered = λ _. rw (has_room out) refl;
+  counted = λ _. refl;
+  filled = λ _. rw (has_room out) refl;
+  unneeded = λ _. refl;
+  untouched = λ _. refl;
+}
+
+puts_not_understood : (out : List ℕ) → Puts not_understood out out 0 2
+puts_not_understood out = record {
+  answered = λ _. rw (has_room out) refl;
+  counted = λ _. refl;
+  filled = λ _. rw (has_room out) refl;
+  unneeded = λ _. refl;
+  untouched = λ _. refl;
+}
+
+puts_nothing : (outcome : Outcome) (out : List ℕ) → Puts outcome out out 0 3
+puts_nothing outcome out = record {
+  answered = λ other. absurd (other refl);
+  counted = λ other. absurd (other refl);
+  filled = λ other. absurd (other refl);
+  unneeded = λ _. refl;
+  untouched = λ _. refl;
+}
+
+-- a failure is put
+pub puts_failure : (outcome : Outcome) (failure : Failure) (out : List ℕ) → Fails outcome failure → Puts outcome out out 0 (status_of failure)
+puts_failure outcome Refused out fails = subst (λ (o : Outcome). Puts o out out 0 1) (sym fails) (puts_refused out)
+puts_failure outcome NotUnderstood out fails = subst (λ (o : Outcome). Puts o out out 0 2) (sym fails) (puts_not_understood out)
+puts_failure outcome OutOfMemory out fails = puts_nothing outcome out
+puts_failure outcome Fault out fails = absurd fails
+
+front_by : (bytes old new : List ℕ) (needed : ℕ) (is_long : Bool) → ◌≡◌ {A = ℕ} 0 (if is_long then 4 else 0) → needed ≡ length bytes
+    → new ≡ (if is_long then old else bytes ++ drop (length bytes) old) → take needed new ≡ bytes
+front_by bytes old new needed true e f g = absurd (omega (arith, e))
+front_by bytes old new needed false e f g = ap₂ take f g ∙ take-append_seam bytes (drop (length bytes) old)
+
+-- what is put stands at the front
+pub put_front : (bytes old new : List ℕ) (needed status : ℕ) → Puts (success_of bytes) old new needed status → status ≡ 0 → take needed new ≡ bytes
+put_front bytes old new needed status puts e =
+    let other : status ≢ 3 = λ is_three. omega (arith, e, is_three) in
+    front_by bytes old new needed (is_too_long bytes old) (sym e ∙ puts.answered other) (puts.counted other) (puts.filled other)
+
+-- what holds of the text that is given holds of the bytes that were put
+pub of_given : (given : Result (String Global) Failure) (P : List ℕ → Type 0) (bytes : List ℕ) → IsOkAnd given (λ text. bytes ≡ string_bytes text)
+    → IfOk given (λ text. P (string_bytes text)) → P bytes
+of_given (Ok text) P bytes e holds = subst P (sym e) holds
+of_given (Err failure) P bytes e holds = absurd e
