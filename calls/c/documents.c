@@ -1,0 +1,186 @@
+/* Calls each function of tl_documents.h for each status. Where one answers otherwise it says so on standard error, and exits with 1. */
+#include "tl_documents.h"
+
+#include <stdio.h>
+#include <stdlib.h>
+#include <string.h>
+
+static uint8_t out[64];
+static uint32_t numbers[8];
+static size_t needed;
+
+/* How many requests for memory are met before one is refused; none is where this is negative. The linker puts these functions in the
+ * place of the heap's. */
+static long refused = -1;
+
+void *__real_malloc(size_t size);
+void *__real_realloc(void *block, size_t size);
+void *__wrap_malloc(size_t size);
+void *__wrap_realloc(void *block, size_t size);
+
+void *__wrap_malloc(size_t size) {
+    return refused >= 0 && refused-- == 0 ? NULL : __real_malloc(size);
+}
+
+void *__wrap_realloc(void *block, size_t size) {
+    return refused >= 0 && refused-- == 0 ? NULL : __real_realloc(block, size);
+}
+
+#define BYTES(text) (const uint8_t *)(text), sizeof(text) - 1
+#define OUT out, sizeof out, &needed
+#define NUMBERS numbers, sizeof numbers / sizeof *numbers, &needed
+#define NO_NUMBER 4294967295
+#define CHECK(fact) \
+    do { \
+        if (!(fact)) { \
+            fprintf(stderr, "documents.c, line %d: %s\n", __LINE__, #fact); \
+            exit(1); \
+        } \
+    } while (0)
+
+/* Whether all from `at` on is as it was before the calls; after that all is so again. */
+static int is_rest(size_t at) {
+    int is = 1;
+    for (; at < sizeof out; at++) is = is && out[at] == '.';
+    memset(out, '.', sizeof out);
+    return is;
+}
+
+/* Whether a call was done and put these bytes at the front of `out`, and wrote nothing after them. */
+static int put(tl_status status, const char *bytes, size_t len) {
+    return status == TL_DONE && needed == len && memcmp(out, bytes, len) == 0 && is_rest(len);
+}
+
+/* The same of numbers. */
+static int found(tl_status status, const uint32_t *wanted, size_t count) {
+    int is = status == TL_DONE && needed == count;
+    for (size_t at = 0; at < 8; at++) is = is && numbers[at] == (at < count ? wanted[at] : NO_NUMBER);
+    for (size_t at = 0; at < 8; at++) numbers[at] = NO_NUMBER;
+    return is;
+}
+
+/* Whether a call answered this status, wrote nothing and needs so many items. */
+static int left(tl_status status, tl_status wanted, size_t count) {
+    int is = status == wanted && needed == count && is_rest(0);
+    for (size_t at = 0; at < 8; at++) is = is && numbers[at] == NO_NUMBER;
+    return is;
+}
+
+#define PUTS(call, bytes) CHECK(put((call), bytes, sizeof(bytes) - 1))
+#define FINDS(call, ...) \
+    do { \
+        const uint32_t wanted[] = {__VA_ARGS__, 0}; \
+        CHECK(found((call), wanted, sizeof wanted / sizeof *wanted - 1)); \
+    } while (0)
+#define LEAVES(call, status, count) CHECK(left((call), (status), (count)))
+
+/* 0 is the nav, 1 and 3 are links, 2 and 4 their texts, 5 a paragraph with a text, a comment and a text in a tag: 6, 7, 9 in 8. */
+static const char page[] = "<nav><a href=\"/x\" hidden>y</a><a>z</a></nav><p>one<!-- no --><b>two</b></p>";
+
+static void asked(tl_document *document) {
+    FINDS(tl_find(document, BYTES("a"), NUMBERS), 1, 3);
+    FINDS(tl_find(document, BYTES("nav > a"), NUMBERS), 1, 3);
+    FINDS(tl_find(document, BYTES("a[href]"), NUMBERS), 1);
+    CHECK(found(tl_find(document, BYTES("i"), NUMBERS), NULL, 0));
+    LEAVES(tl_find(document, BYTES("a"), numbers, 1, &needed), TL_NO_ROOM, 2);
+    LEAVES(tl_find(document, BYTES("a"), numbers, 0, &needed), TL_NO_ROOM, 2);
+    LEAVES(tl_find(document, BYTES(",a"), NUMBERS), TL_REFUSED, 0);
+    LEAVES(tl_find(document, BYTES("\xff"), NUMBERS), TL_NOT_UNDERSTOOD, 0);
+
+    PUTS(tl_attribute(document, 1, BYTES("href"), OUT), "/x");
+    LEAVES(tl_attribute(document, 1, BYTES("href"), out, 1, &needed), TL_NO_ROOM, 2);
+    LEAVES(tl_attribute(document, 1, BYTES("hidden"), OUT), TL_REFUSED, 0);
+    LEAVES(tl_attribute(document, 3, BYTES("href"), OUT), TL_REFUSED, 0);
+    LEAVES(tl_attribute(document, 2, BYTES("href"), OUT), TL_REFUSED, 0);
+    LEAVES(tl_attribute(document, 1000, BYTES("href"), OUT), TL_REFUSED, 0);
+
+    PUTS(tl_node_text(document, 0, OUT), "yz");
+    PUTS(tl_node_text(document, 2, OUT), "y");
+    PUTS(tl_node_text(document, 5, OUT), "onetwo");
+    PUTS(tl_node_text(document, 7, OUT), "");
+    LEAVES(tl_node_text(document, 5, out, 5, &needed), TL_NO_ROOM, 6);
+    LEAVES(tl_node_text(document, 1000, OUT), TL_REFUSED, 0);
+}
+
+static void calls(void) {
+    tl_document document = TL_NO_DOCUMENT;
+    LEAVES(tl_find(&document, BYTES("a"), NUMBERS), TL_REFUSED, 0);
+    LEAVES(tl_attribute(&document, 0, BYTES("href"), OUT), TL_REFUSED, 0);
+    LEAVES(tl_node_text(&document, 0, OUT), TL_REFUSED, 0);
+    CHECK(tl_parse(BYTES("\xff"), &document) == TL_NOT_UNDERSTOOD && document.at == NULL);
+
+    /* The page is given back at once, so what is asked is asked of the copy. */
+    uint8_t *lent = malloc(sizeof page - 1);
+    CHECK(lent != NULL);
+    memcpy(lent, page, sizeof page - 1);
+    CHECK(tl_parse(lent, sizeof page - 1, &document) == TL_DONE && document.at != NULL);
+    memset(lent, '<', sizeof page - 1);
+    free(lent);
+    asked(&document);
+
+    /* A page that isn't understood leaves the document as it was; another page gives it back. */
+    CHECK(tl_parse(BYTES("\xff"), &document) == TL_NOT_UNDERSTOOD);
+    asked(&document);
+    CHECK(tl_parse(BYTES("<b>c"), &document) == TL_DONE);
+    PUTS(tl_node_text(&document, 0, OUT), "c");
+
+    /* Another document beside it. */
+    tl_document empty = TL_NO_DOCUMENT;
+    CHECK(tl_parse(BYTES(""), &empty) == TL_DONE && empty.at != NULL);
+    CHECK(found(tl_find(&empty, BYTES("b"), NUMBERS), NULL, 0));
+    FINDS(tl_find(&document, BYTES("b"), NUMBERS), 0);
+
+    tl_free(&document);
+    CHECK(document.at == NULL);
+    tl_free(&document);
+    CHECK(document.at == NULL);
+    LEAVES(tl_node_text(&document, 0, OUT), TL_REFUSED, 0);
+    tl_free(&empty);
+}
+
+/* Whether a call that is refused its request of this number answers so; it is done where it makes no more requests. */
+#define REFUSES(number, call, unchanged) \
+    refused = (number); \
+    tl_status status = (call); \
+    int is_done = refused >= 0; \
+    refused = -1; \
+    CHECK(status == (is_done ? TL_DONE : TL_OUT_OF_MEMORY)); \
+    if (is_done) break; \
+    unchanged
+
+static void refusals(void) {
+    tl_document document = TL_NO_DOCUMENT;
+    CHECK(tl_parse(BYTES("<b>c"), &document) == TL_DONE);
+    for (long number = 0;; number++) {
+        REFUSES(number, tl_parse(BYTES(page), &document), PUTS(tl_node_text(&document, 0, OUT), "c"));
+    }
+    asked(&document);
+    for (long number = 0;; number++) {
+        REFUSES(number, tl_find(&document, BYTES("nav > a"), NUMBERS), CHECK(left(status, TL_OUT_OF_MEMORY, 0)));
+    }
+    CHECK(found(TL_DONE, (const uint32_t[]){1, 3}, 2));
+    for (long number = 0;; number++) {
+        REFUSES(number, tl_node_text(&document, 0, OUT), CHECK(left(status, TL_OUT_OF_MEMORY, 0)));
+    }
+    CHECK(put(TL_DONE, "yz", 2));
+
+    /* What takes no memory is answered though the first request would be refused. */
+    refused = 0;
+    PUTS(tl_attribute(&document, 1, BYTES("href"), OUT), "/x");
+    LEAVES(tl_node_text(&document, 1000, OUT), TL_REFUSED, 0);
+    LEAVES(tl_find(&document, BYTES("\xff"), NUMBERS), TL_NOT_UNDERSTOOD, 0);
+    CHECK(tl_parse(BYTES("\xff"), &document) == TL_NOT_UNDERSTOOD);
+    tl_free(&document);
+    LEAVES(tl_find(&document, BYTES("a"), NUMBERS), TL_REFUSED, 0);
+    CHECK(refused == 0);
+    refused = -1;
+}
+
+int main(void) {
+    memset(out, '.', sizeof out);
+    for (size_t at = 0; at < 8; at++) numbers[at] = NO_NUMBER;
+    /* Many times, so that memory that isn't given back would be seen. */
+    for (int turn = 0; turn < 100; turn++) calls();
+    refusals();
+    return 0;
+}

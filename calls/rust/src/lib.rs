@@ -1,0 +1,202 @@
+//! Safe calls of libtl.a: pages are `&str`, answers are `String`, and what can go wrong is an enum.
+
+use std::fmt;
+
+mod c {
+    unsafe extern "C" {
+        pub fn tl_print(page: *const u8, page_len: usize, out: *mut u8, room: usize, needed: *mut usize) -> u8;
+        pub fn tl_text(page: *const u8, page_len: usize, out: *mut u8, room: usize, needed: *mut usize) -> u8;
+        pub fn tl_edit(
+            steps: *const u8,
+            steps_len: usize,
+            page: *const u8,
+            page_len: usize,
+            out: *mut u8,
+            room: usize,
+            needed: *mut usize,
+        ) -> u8;
+        pub fn tl_select(
+            selector: *const u8,
+            selector_len: usize,
+            asked: u8,
+            key: *const u8,
+            key_len: usize,
+            page: *const u8,
+            page_len: usize,
+            out: *mut u8,
+            room: usize,
+            needed: *mut usize,
+        ) -> u8;
+        pub fn tl_sanitise(page: *const u8, page_len: usize, out: *mut u8, room: usize, needed: *mut usize) -> u8;
+        pub fn tl_version(out: *mut u8, room: usize, needed: *mut usize) -> u8;
+    }
+}
+
+/// Why there is no answer.
+#[derive(Clone, Copy, Debug, PartialEq, Eq)]
+pub enum Error {
+    /// The tree has a fault, a step is refused, or the selector is none.
+    Refused,
+    /// The page is too long, or the lines say no steps.
+    NotUnderstood,
+    /// Memory ran out.
+    OutOfMemory,
+}
+
+impl fmt::Display for Error {
+    fn fmt(&self, f: &mut fmt::Formatter<'_>) -> fmt::Result {
+        f.write_str(match self {
+            Error::Refused => "refused",
+            Error::NotUnderstood => "not understood",
+            Error::OutOfMemory => "out of memory",
+        })
+    }
+}
+
+impl std::error::Error for Error {}
+
+/// What is asked of a node where a selector holds.
+#[derive(Clone, Copy, Debug, PartialEq, Eq)]
+pub enum Asked<'k> {
+    Number,
+    Print,
+    Inside,
+    Text,
+    Value(&'k str),
+}
+
+impl<'k> Asked<'k> {
+    // Its number in `tl.h`, and the key.
+    fn parts(self) -> (u8, &'k str) {
+        match self {
+            Asked::Number => (0, ""),
+            Asked::Print => (1, ""),
+            Asked::Inside => (2, ""),
+            Asked::Text => (3, ""),
+            Asked::Value(key) => (4, key),
+        }
+    }
+}
+
+// The answer of a call: first with this room, then with what it says that it needs.
+fn answer(room: usize, call: impl Fn(&mut [u8], &mut usize) -> u8) -> Result<String, Error> {
+    let mut out = vec![0; room];
+    loop {
+        let mut needed = 0;
+        match call(&mut out, &mut needed) {
+            0 => {
+                out.truncate(needed);
+                return Ok(String::from_utf8(out).expect("an answer is UTF-8"));
+            }
+            1 => return Err(Error::Refused),
+            2 => return Err(Error::NotUnderstood),
+            3 => return Err(Error::OutOfMemory),
+            _ => out.resize(needed, 0),
+        }
+    }
+}
+
+// SAFETY, of each call below: pointer and length are those of one slice, which is lent for the call; a slice that is empty has a
+// pointer that is not null; `out` and `needed` are lent for writing, so they lie apart from all else. No call asks for more.
+
+/// The page as it was read.
+pub fn print(page: &str) -> Result<String, Error> {
+    answer(page.len() + 64, |out, needed| unsafe {
+        c::tl_print(page.as_ptr(), page.len(), out.as_mut_ptr(), out.len(), needed)
+    })
+}
+
+/// The texts of the page in order.
+pub fn text(page: &str) -> Result<String, Error> {
+    answer(page.len() + 64, |out, needed| unsafe {
+        c::tl_text(page.as_ptr(), page.len(), out.as_mut_ptr(), out.len(), needed)
+    })
+}
+
+/// The page after the steps, one on each line.
+pub fn edit(steps: &str, page: &str) -> Result<String, Error> {
+    answer(page.len() + 64, |out, needed| unsafe {
+        c::tl_edit(
+            steps.as_ptr(),
+            steps.len(),
+            page.as_ptr(),
+            page.len(),
+            out.as_mut_ptr(),
+            out.len(),
+            needed,
+        )
+    })
+}
+
+/// What is asked of each node where the selector holds, in the order of the text, with a byte 0 after each.
+pub fn select(selector: &str, asked: Asked<'_>, page: &str) -> Result<String, Error> {
+    let (number, key) = asked.parts();
+    answer(page.len() + 64, |out, needed| unsafe {
+        c::tl_select(
+            selector.as_ptr(),
+            selector.len(),
+            number,
+            key.as_ptr(),
+            key.len(),
+            page.as_ptr(),
+            page.len(),
+            out.as_mut_ptr(),
+            out.len(),
+            needed,
+        )
+    })
+}
+
+/// What the policy for the text of a blog keeps of the page.
+pub fn sanitise(page: &str) -> Result<String, Error> {
+    answer(page.len() + 64, |out, needed| unsafe {
+        c::tl_sanitise(page.as_ptr(), page.len(), out.as_mut_ptr(), out.len(), needed)
+    })
+}
+
+/// The version of the library.
+pub fn version() -> Result<String, Error> {
+    answer(0, |out, needed| unsafe { c::tl_version(out.as_mut_ptr(), out.len(), needed) })
+}
+
+#[cfg(test)]
+mod tests {
+    use super::*;
+    use std::thread;
+
+    #[test]
+    fn each_call() {
+        assert_eq!(print("abc <p>test<span>a</p>").as_deref(), Ok("abc <p>test<span>a</span></p>"));
+        assert_eq!(print("").as_deref(), Ok(""));
+        assert_eq!(text("a<p>b<br>c</p>").as_deref(), Ok("abc"));
+        assert_eq!(edit("set 0 href /x", "<a>y</a>").as_deref(), Ok("<a href=\"/x\">y</a>"));
+        assert_eq!(edit("push 0 0", "<a></a>"), Err(Error::Refused));
+        assert_eq!(edit("push 0", "<a></a>"), Err(Error::NotUnderstood));
+        assert_eq!(select("p", Asked::Text, "<p>x<b>y</b></p><p>z").as_deref(), Ok("xy\0z\0"));
+        assert_eq!(select("a", Asked::Value("href"), "<a href=\"/x\"><a>").as_deref(), Ok("/x\0"));
+        assert_eq!(select(",", Asked::Number, ""), Err(Error::Refused));
+        assert_eq!(sanitise("<p onclick=f()>é<script>y</script>").as_deref(), Ok("<p>é</p>"));
+        assert_eq!(version().as_deref(), Ok(env!("TL_VERSION")));
+    }
+
+    #[test]
+    fn an_answer_longer_than_the_first_room() {
+        let step = format!("text 0 {}", "y".repeat(5000));
+        assert_eq!(edit(&step, "x").map(|page| page.len()), Ok(5000));
+    }
+
+    #[test]
+    fn eight_threads() {
+        thread::scope(|scope| {
+            for number in 0..8 {
+                scope.spawn(move || {
+                    for turn in 0..200 {
+                        let page = format!("<p id={number}>{turn}");
+                        assert_eq!(print(&page), Ok(format!("<p id=\"{number}\">{turn}</p>")));
+                        assert_eq!(sanitise(&page), Ok(format!("<p>{turn}</p>")));
+                    }
+                });
+            }
+        });
+    }
+}
