@@ -29,3 +29,13 @@ assert tl.version() == os.environ["TL_VERSION"]
 # Bytes 0 and an answer that is longer than the first room.
 page = "<p>é\0" + "x" * 100000
 assert tl.print_of(page) == page + "</p>"
+
+document = tl.Document("<a href=/x>y</a><a>z</a>")
+assert document.find("a") == [0, 2]
+assert document.find("i") == []
+assert fails(tl.Refused, document.find, ",")
+assert document.attribute(0, "href") == "/x"
+assert fails(tl.Refused, document.attribute, 2, "href")
+assert document.text(2) == "z"
+assert fails(tl.Refused, document.text, 4)
+assert tl.Document("<b></b>" * 5000).find("b") == list(range(5000))

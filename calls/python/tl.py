@@ -20,8 +20,22 @@ for name, arguments in {
     function.argtypes = arguments + OUT
 
 
+class Handle(ctypes.Structure):
+    """tl_document."""
+
+    _fields_ = [("at", ctypes.c_void_p)]
+
+
+HANDLE = ctypes.POINTER(Handle)
+library.tl_parse.restype, library.tl_parse.argtypes = ctypes.c_uint8, TEXT + [HANDLE]
+library.tl_free.restype, library.tl_free.argtypes = None, [HANDLE]
+library.tl_find.restype, library.tl_find.argtypes = ctypes.c_uint8, [HANDLE] + TEXT + OUT
+library.tl_attribute.restype, library.tl_attribute.argtypes = ctypes.c_uint8, [HANDLE, ctypes.c_uint32] + TEXT + OUT
+library.tl_node_text.restype, library.tl_node_text.argtypes = ctypes.c_uint8, [HANDLE, ctypes.c_uint32] + OUT
+
+
 class Refused(Exception):
-    """The tree has a fault, a step is refused, or the selector is none."""
+    """The tree has a fault, a step is refused, the selector is none, or there is no such node or value."""
 
 
 class NotUnderstood(Exception):
@@ -38,17 +52,22 @@ def lent(text):
     return [encoded, len(encoded)]
 
 
-def answer(function, *arguments):
-    """The answer of a call: first with some room, then with what it says that it needs."""
+def items(kind, function, *arguments):
+    """The items that a call answers: first with some room, then with what it says that it needs."""
     room = 4096
     while True:
-        out, needed = ctypes.create_string_buffer(room), ctypes.c_size_t()
+        out, needed = (kind * room)(), ctypes.c_size_t()
         status = function(*arguments, out, room, ctypes.byref(needed))
         if status == 0:
-            return out.raw[: needed.value].decode()
+            return out[: needed.value]
         if status in ERRORS:
             raise ERRORS[status]
         room = needed.value
+
+
+def answer(function, *arguments):
+    """The text that a call answers."""
+    return items(ctypes.c_char, function, *arguments).decode()
 
 
 def print_of(page):
@@ -75,3 +94,28 @@ def sanitise(page):
 
 def version():
     return answer(library.tl_version)
+
+
+class Document:
+    """A page that was read, for any number of questions. It keeps a copy of the page."""
+
+    def __init__(self, page):
+        self.handle = Handle()
+        status = library.tl_parse(*lent(page), self.handle)
+        if status != 0:
+            raise ERRORS[status]
+
+    def __del__(self):
+        library.tl_free(self.handle)
+
+    def find(self, selector):
+        """The numbers of the nodes where the selector holds, in the order of the text."""
+        return items(ctypes.c_uint32, library.tl_find, self.handle, *lent(selector))
+
+    def attribute(self, node, key):
+        """The value of a node at a key."""
+        return answer(library.tl_attribute, self.handle, node, *lent(key))
+
+    def text(self, node):
+        """The texts at or below a node, in order."""
+        return answer(library.tl_node_text, self.handle, node)

@@ -1,8 +1,17 @@
 //! Safe calls of libtl.a: pages are `&str`, answers are `String`, and what can go wrong is an enum.
 
 use std::fmt;
+use std::ptr;
 
 mod c {
+    use std::ffi::c_void;
+
+    /// `tl_document`.
+    #[repr(C)]
+    pub struct Document {
+        pub at: *mut c_void,
+    }
+
     unsafe extern "C" {
         pub fn tl_print(page: *const u8, page_len: usize, out: *mut u8, room: usize, needed: *mut usize) -> u8;
         pub fn tl_text(page: *const u8, page_len: usize, out: *mut u8, room: usize, needed: *mut usize) -> u8;
@@ -29,6 +38,26 @@ mod c {
         ) -> u8;
         pub fn tl_sanitise(page: *const u8, page_len: usize, out: *mut u8, room: usize, needed: *mut usize) -> u8;
         pub fn tl_version(out: *mut u8, room: usize, needed: *mut usize) -> u8;
+        pub fn tl_parse(page: *const u8, page_len: usize, document: *mut Document) -> u8;
+        pub fn tl_free(document: *mut Document);
+        pub fn tl_find(
+            document: *mut Document,
+            selector: *const u8,
+            selector_len: usize,
+            numbers: *mut u32,
+            room: usize,
+            needed: *mut usize,
+        ) -> u8;
+        pub fn tl_attribute(
+            document: *mut Document,
+            node: u32,
+            key: *const u8,
+            key_len: usize,
+            out: *mut u8,
+            room: usize,
+            needed: *mut usize,
+        ) -> u8;
+        pub fn tl_node_text(document: *mut Document, node: u32, out: *mut u8, room: usize, needed: *mut usize) -> u8;
     }
 }
 
@@ -78,22 +107,35 @@ impl<'k> Asked<'k> {
     }
 }
 
-// The answer of a call: first with this room, then with what it says that it needs.
-fn answer(room: usize, call: impl Fn(&mut [u8], &mut usize) -> u8) -> Result<String, Error> {
-    let mut out = vec![0; room];
+// The error of a status that is neither that of an answer nor of too little room.
+fn error_of(status: u8) -> Error {
+    match status {
+        1 => Error::Refused,
+        2 => Error::NotUnderstood,
+        _ => Error::OutOfMemory,
+    }
+}
+
+// The items that a call answers: first with this room, then with what it says that it needs.
+fn items<T: Copy + Default>(room: usize, mut call: impl FnMut(&mut [T], &mut usize) -> u8) -> Result<Vec<T>, Error> {
+    let mut out = vec![T::default(); room];
     loop {
         let mut needed = 0;
         match call(&mut out, &mut needed) {
             0 => {
                 out.truncate(needed);
-                return Ok(String::from_utf8(out).expect("an answer is UTF-8"));
+                return Ok(out);
             }
-            1 => return Err(Error::Refused),
-            2 => return Err(Error::NotUnderstood),
-            3 => return Err(Error::OutOfMemory),
-            _ => out.resize(needed, 0),
+            4 => out.resize(needed, T::default()),
+            status => return Err(error_of(status)),
         }
     }
+}
+
+// The text that a call answers.
+fn answer(room: usize, call: impl FnMut(&mut [u8], &mut usize) -> u8) -> Result<String, Error> {
+    let bytes = items(room, call)?;
+    Ok(String::from_utf8(bytes).expect("an answer is UTF-8"))
 }
 
 // SAFETY, of each call below: pointer and length are those of one slice, which is lent for the call; a slice that is empty has a
@@ -159,6 +201,62 @@ pub fn version() -> Result<String, Error> {
     answer(0, |out, needed| unsafe { c::tl_version(out.as_mut_ptr(), out.len(), needed) })
 }
 
+/// A page that was read, for any number of questions. It keeps a copy of the page, and stays on its thread.
+pub struct Document(c::Document);
+
+impl Document {
+    /// Reads a copy of the page.
+    pub fn parse(page: &str) -> Result<Document, Error> {
+        let mut document = Document(c::Document { at: ptr::null_mut() });
+        match unsafe { c::tl_parse(page.as_ptr(), page.len(), &mut document.0) } {
+            0 => Ok(document),
+            status => Err(error_of(status)),
+        }
+    }
+
+    /// The numbers of the nodes where the selector holds, in the order of the text.
+    pub fn find(&mut self, selector: &str) -> Result<Vec<u32>, Error> {
+        items(16, |numbers, needed| unsafe {
+            c::tl_find(
+                &mut self.0,
+                selector.as_ptr(),
+                selector.len(),
+                numbers.as_mut_ptr(),
+                numbers.len(),
+                needed,
+            )
+        })
+    }
+
+    /// The value of a node at a key. It is refused where there is none.
+    pub fn attribute(&mut self, node: u32, key: &str) -> Result<String, Error> {
+        answer(64, |out, needed| unsafe {
+            c::tl_attribute(
+                &mut self.0,
+                node,
+                key.as_ptr(),
+                key.len(),
+                out.as_mut_ptr(),
+                out.len(),
+                needed,
+            )
+        })
+    }
+
+    /// The texts at or below a node, in order.
+    pub fn text(&mut self, node: u32) -> Result<String, Error> {
+        answer(64, |out, needed| unsafe {
+            c::tl_node_text(&mut self.0, node, out.as_mut_ptr(), out.len(), needed)
+        })
+    }
+}
+
+impl Drop for Document {
+    fn drop(&mut self) {
+        unsafe { c::tl_free(&mut self.0) }
+    }
+}
+
 #[cfg(test)]
 mod tests {
     use super::*;
@@ -177,6 +275,21 @@ mod tests {
         assert_eq!(select(",", Asked::Number, ""), Err(Error::Refused));
         assert_eq!(sanitise("<p onclick=f()>é<script>y</script>").as_deref(), Ok("<p>é</p>"));
         assert_eq!(version().as_deref(), Ok(env!("TL_VERSION")));
+    }
+
+    #[test]
+    fn a_document() {
+        let long = "z".repeat(100);
+        let mut document = Document::parse(&format!("<a href=/x>y</a><a>{long}</a>")).unwrap();
+        assert_eq!(document.find("a"), Ok(vec![0, 2]));
+        assert_eq!(document.find("i"), Ok(vec![]));
+        assert_eq!(document.find(","), Err(Error::Refused));
+        assert_eq!(document.attribute(0, "href").as_deref(), Ok("/x"));
+        assert_eq!(document.attribute(2, "href"), Err(Error::Refused));
+        assert_eq!(document.text(2), Ok(long));
+        assert_eq!(document.text(4), Err(Error::Refused));
+        let mut many = Document::parse(&"<b></b>".repeat(100)).unwrap();
+        assert_eq!(many.find("b"), Ok((0..100).collect()));
     }
 
     #[test]

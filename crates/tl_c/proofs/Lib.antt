@@ -1,2 +1,4 @@
-mod Lines
+mod Finding
 pub mod Room
+mod Texts
+mod Values

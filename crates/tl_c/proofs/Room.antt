@@ -1,68 +1,77 @@
 -- What is put into room.
 use denote.Enum.Declared.{tag_of}
-use Rattle.std.proofs.Common.{◌≡◌, ◌≢◌, ◌+◌, ◌++◌, ℕ, Bool, true, false, List, [], length, take, drop, refl, sym, ap₂, ◌∙◌, subst, if◌then◌else◌, arith}
+use Rattle.std.proofs.Common.{◌≡◌, ◌≢◌, ◌+◌, ◌++◌, ℕ, Bool, true, false, List, [], length, take, drop, refl, ap, sym, ap₂, ◌∙◌, subst, if◌then◌else◌, arith}
 use Rattle.std.proofs.Math.Seq.{take-append_seam}
 use Rattle.std.proofs.lemmas.Bool.{le-ltb}
 use Rattle.std.specs.Global.{Global}
 use Rattle.std.specs.Prelude.{IfOk, IsOkAnd, Result, Ok, Err, string_bytes}
 use Rattle.std.specs.declared.string.String.{String}
-use Rattle.tl_program.specs.Output.{Fails, Outcome, not_understood, refused, success_of}
+use Rattle.tl_program.specs.Output.{Outcome, Fails as FailsText}
 use Rattle.tl_program.specs.contracts.program.failure.Failure.{the_type}
 use Rattle.tl_program.specs.declared.program.failure.Failure.{Failure}
 use Rattle.tl_program.specs.declared.program.failure.Failure.TheVariants.{Refused, NotUnderstood, OutOfMemory, Fault}
+use Rattle.tl_c.specs.Answer.{Answer, Fails, answer_of, answer_with, not_understood, refused}
 use Rattle.tl_c.specs.Puts.{Puts, is_too_long}
 
 -- the number of a failure
 abbrev pub status_of : Failure → ℕ
 status_of failure = tag_of the_type failure + 1
 
-has_room : (out : List ℕ) → is_too_long [] out ≡ false
-has_room out = le-ltb (length out) 0 (omega arith)
+module _ {X : Type 0} where
+  has_room : (out : List X) → is_too_long [] out ≡ false
+  has_room out = le-ltb (length out) 0 (omega arith)
 
-puts_refused : (out : List ℕ) → Puts refused out out 0 1
-puts_refused out = record {
-  answered = λ _. rw (has_room out) refl;
-  counted = λ _. refl;
-  filled = λ _. rw (has_room out) refl;
-  unneeded = λ _. refl;
-  untouched = λ _. refl;
-}
+  pub puts_refused : (out : List X) → Puts refused out out 0 1
+  puts_refused out = record {
+    answered = λ _. rw (has_room out) refl;
+    counted = λ _. refl;
+    filled = λ _. rw (has_room out) refl;
+    unneeded = λ _. refl;
+    untouched = λ _. refl;
+  }
 
-puts_not_understood : (out : List ℕ) → Puts not_understood out out 0 2
-puts_not_understood out = record {
-  answered = λ _. rw (has_room out) refl;
-  counted = λ _. refl;
-  filled = λ _. rw (has_room out) refl;
-  unneeded = λ _. refl;
-  untouched = λ _. refl;
-}
+  puts_not_understood : (out : List X) → Puts not_understood out out 0 2
+  puts_not_understood out = record {
+    answered = λ _. rw (has_room out) refl;
+    counted = λ _. refl;
+    filled = λ _. rw (has_room out) refl;
+    unneeded = λ _. refl;
+    untouched = λ _. refl;
+  }
 
-puts_nothing : (outcome : Outcome) (out : List ℕ) → Puts outcome out out 0 3
-puts_nothing outcome out = record {
-  answered = λ other. absurd (other refl);
-  counted = λ other. absurd (other refl);
-  filled = λ other. absurd (other refl);
-  unneeded = λ _. refl;
-  untouched = λ _. refl;
-}
+  puts_nothing : (answer : Answer X) (out : List X) → Puts answer out out 0 3
+  puts_nothing answer out = record {
+    answered = λ other. absurd (other refl);
+    counted = λ other. absurd (other refl);
+    filled = λ other. absurd (other refl);
+    unneeded = λ _. refl;
+    untouched = λ _. refl;
+  }
 
--- a failure is put
-pub puts_failure : (outcome : Outcome) (failure : Failure) (out : List ℕ) → Fails outcome failure → Puts outcome out out 0 (status_of failure)
-puts_failure outcome Refused out fails = subst (λ (o : Outcome). Puts o out out 0 1) (sym fails) (puts_refused out)
-puts_failure outcome NotUnderstood out fails = subst (λ (o : Outcome). Puts o out out 0 2) (sym fails) (puts_not_understood out)
-puts_failure outcome OutOfMemory out fails = puts_nothing outcome out
-puts_failure outcome Fault out fails = absurd fails
+  -- a failure is put
+  pub puts_failure : (answer : Answer X) (failure : Failure) (out : List X) → Fails answer failure → Puts answer out out 0 (status_of failure)
+  puts_failure answer Refused out fails = subst (λ (a : Answer X). Puts a out out 0 1) (sym fails) (puts_refused out)
+  puts_failure answer NotUnderstood out fails = subst (λ (a : Answer X). Puts a out out 0 2) (sym fails) (puts_not_understood out)
+  puts_failure answer OutOfMemory out fails = puts_nothing answer out
+  puts_failure answer Fault out fails = absurd fails
 
-front_by : (bytes old new : List ℕ) (needed : ℕ) (is_long : Bool) → ◌≡◌ {A = ℕ} 0 (if is_long then 4 else 0) → needed ≡ length bytes
-    → new ≡ (if is_long then old else bytes ++ drop (length bytes) old) → take needed new ≡ bytes
-front_by bytes old new needed true e f g = absurd (omega (arith, e))
-front_by bytes old new needed false e f g = ap₂ take f g ∙ take-append_seam bytes (drop (length bytes) old)
+  front_by : (items old new : List X) (needed : ℕ) (is_long : Bool) → ◌≡◌ {A = ℕ} 0 (if is_long then 4 else 0) → needed ≡ length items
+      → new ≡ (if is_long then old else items ++ drop (length items) old) → take needed new ≡ items
+  front_by items old new needed true e f g = absurd (omega (arith, e))
+  front_by items old new needed false e f g = ap₂ take f g ∙ take-append_seam items (drop (length items) old)
 
--- what is put stands at the front
-pub put_front : (bytes old new : List ℕ) (needed status : ℕ) → Puts (success_of bytes) old new needed status → status ≡ 0 → take needed new ≡ bytes
-put_front bytes old new needed status puts e =
-    let other : status ≢ 3 = λ is_three. omega (arith, e, is_three) in
-    front_by bytes old new needed (is_too_long bytes old) (sym e ∙ puts.answered other) (puts.counted other) (puts.filled other)
+  -- what is put stands at the front
+  pub put_front : (items old new : List X) (needed status : ℕ) → Puts (answer_with items) old new needed status → status ≡ 0 → take needed new ≡ items
+  put_front items old new needed status puts e =
+      let other : status ≢ 3 = λ is_three. omega (arith, e, is_three) in
+      front_by items old new needed (is_too_long items old) (sym e ∙ puts.answered other) (puts.counted other) (puts.filled other)
+
+-- what is made of a page fails as its answer does
+pub fails_alike : (outcome : Outcome) (failure : Failure) → FailsText outcome failure → Fails (answer_of outcome) failure
+fails_alike outcome Refused fails = ap answer_of fails
+fails_alike outcome NotUnderstood fails = ap answer_of fails
+fails_alike outcome OutOfMemory fails = fails
+fails_alike outcome Fault fails = fails
 
 -- what holds of the text that is given holds of the bytes that were put
 pub of_given : (given : Result (String Global) Failure) (P : List ℕ → Type 0) (bytes : List ℕ) → IsOkAnd given (λ text. bytes ≡ string_bytes text)

@@ -1,18 +1,19 @@
-//! The calls.
+//! The calls with a page.
 ghost use Rattle.std.specs.Prelude.{◌≡◌, ◌≢◌, take};
 ghost use Rattle.tl_spec.specs.Normal.{norm};
 ghost use Rattle.tl_program.specs.Asked.{Prints, Texts};
-ghost use Rattle.tl_program.specs.Output.{output_of, success_of};
+ghost use Rattle.tl_program.specs.Output.{output_of};
 ghost use Rattle.tl_safe.specs.HtmlTokenizer.{data_state, html_tokens};
 ghost use Rattle.tl_safe.specs.IsSafe.{IsSafe, tokens_of};
 ghost use Rattle.tl_safe.specs.Kept.{kept, trees_of};
 ghost use Rattle.tl_safe.specs.Lists.{page_lists};
 ghost use Rattle.tl_pick.specs.Safe.{safe_page};
+ghost use Rattle.tl_c.specs.Answer.{answer_of, answer_with};
 ghost use Rattle.tl_c.specs.Asked.{outcome_of_selection, outcome_of_steps};
 ghost use Rattle.tl_c.specs.Puts.{Puts};
 
 use crate::asked::{edited, selected};
-use crate::put::{put, put_bytes};
+use crate::put::{put_items, put_text};
 use std::alloc::Global;
 use tl_pick::{VERSION, sanitise};
 use tl_program::program::{Command, output};
@@ -21,17 +22,17 @@ use tl_safe::Policy;
 /// Prints a page as it was read, as `tlq print` does.
 #[unsafe(no_mangle)]
 pub extern "C" fn tl_print(alloc: Global, page: &[u8], out: &mut [u8], needed: &mut usize) -> u8
-    ensures { Puts (output_of Prints page.now) out.old out.new needed.new result }
+    ensures { Puts (answer_of (output_of Prints page.now)) out.old out.new needed.new result }
 {
-    put(output(alloc, &Command::Print, page), out, needed)
+    put_text(output(alloc, &Command::Print, page), out, needed)
 }
 
 /// Writes the texts of a page in order, as `tlq text` does.
 #[unsafe(no_mangle)]
 pub extern "C" fn tl_text(alloc: Global, page: &[u8], out: &mut [u8], needed: &mut usize) -> u8
-    ensures { Puts (output_of Texts page.now) out.old out.new needed.new result }
+    ensures { Puts (answer_of (output_of Texts page.now)) out.old out.new needed.new result }
 {
-    put(output(alloc, &Command::Text, page), out, needed)
+    put_text(output(alloc, &Command::Text, page), out, needed)
 }
 
 /// Prints a page after the steps that lines say, as `tlq edit` does. Lines that say no steps are not
@@ -44,9 +45,10 @@ pub extern "C" fn tl_edit(
     out: &mut [u8],
     needed: &mut usize,
 ) -> u8
-    ensures { Puts (outcome_of_steps steps.now page.now) out.old out.new needed.new result }
+    ensures { let outcome = outcome_of_steps steps.now page.now in
+        Puts (answer_of outcome) out.old out.new needed.new result }
 {
-    put(edited(alloc, steps, page), out, needed)
+    put_text(edited(alloc, steps, page), out, needed)
 }
 
 /// Writes what is asked of each node of a page where a selector holds, in order, with a byte 0 after
@@ -64,29 +66,29 @@ pub extern "C" fn tl_select(
     needed: &mut usize,
 ) -> u8
     ensures { let outcome = outcome_of_selection selector.now wanted key.now page.now in
-        Puts outcome out.old out.new needed.new result }
+        Puts (answer_of outcome) out.old out.new needed.new result }
 {
-    put(selected(alloc, selector, wanted, key, page), out, needed)
+    put_text(selected(alloc, selector, wanted, key, page), out, needed)
 }
 
 /// Prints what the policy for the text of a blog keeps of a page.
 #[unsafe(no_mangle)]
 pub extern "C" fn tl_sanitise(alloc: Global, page: &[u8], out: &mut [u8], needed: &mut usize) -> u8
-    ensures put { Puts (safe_page page_lists page.now) out.old out.new needed.new result }
+    ensures put { Puts (answer_of (safe_page page_lists page.now)) out.old out.new needed.new result }
 
     // As `sanitised` says of what it prints.
     ensures form { result ≡ 0 → IsSafe page_lists (take needed.new out.new) }
     ensures standard { result ≡ 0 → html_tokens data_state (take needed.new out.new)
         ≡ tokens_of (norm (kept page_lists (trees_of page.now))) }
 {
-    put(sanitise(alloc, &Policy::page(), page), out, needed)
+    put_text(sanitise(alloc, &Policy::page(), page), out, needed)
 }
 
 /// Writes the version. That takes no memory.
 #[unsafe(no_mangle)]
 pub extern "C" fn tl_version(out: &mut [u8], needed: &mut usize) -> u8
-    ensures put { Puts (success_of VERSION.now) out.old out.new needed.new result }
+    ensures put { Puts (answer_with VERSION.now) out.old out.new needed.new result }
     ensures memory { result ≢ 3 }
 {
-    put_bytes(VERSION.as_bytes(), out, needed)
+    put_items(VERSION.as_bytes(), out, needed)
 }

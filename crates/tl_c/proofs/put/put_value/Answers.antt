@@ -1,0 +1,6 @@
+use Rattle.tl_c.specs.Answer.{refused}
+use Rattle.std.proofs.Common.{refl}
+use Rattle.tl_c.proofs.put.put_value.Goals as goal
+
+pub returns-in-None-clause-put : goal.returns-in-None-clause-put
+returns-in-None-clause-put c = c.put_failure.ensures.put refused refl

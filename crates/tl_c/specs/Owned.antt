@@ -1,0 +1,22 @@
+-- What a document of C owns.
+use Rattle.std.specs.Prelude.{◌≡◌, Option, None, Some}
+use Rattle.std.specs.Coded.{Coded}
+use base.Fml.{Fml, ftrue, fex}
+use denote.RawPtr.{Ptr, null_ptr}
+use Rattle.std.specs.declared.alloc.Global.{Global}
+use Rattle.std.specs.contracts.impls.GlobalAllocator.TheImpl.{ghosts}
+use Rattle.std.specs.Box.Ownership.{box_owns}
+use Rattle.tl_c.specs.declared.parsed.Parsed.{Parsed}
+use Rattle.tl_c.specs.contracts.parsed.Parsed.{the_row}
+
+abbrev pub parsed_code : Coded Parsed
+parsed_code = the_row.coded
+
+-- a page that was read, on the heap at p, and the right to give its memory back
+abbrev pub boxed : Global → Ptr → Parsed → Fml
+boxed a = box_owns (ghosts.dealloc_token a) the_row
+
+-- such a page, or nothing at null
+abbrev pub owned_at : Global → Ptr → Option Parsed → Fml
+owned_at a p None = fex (p ≡ null_ptr) (λ _. ftrue)
+owned_at a p (Some x) = boxed a p x

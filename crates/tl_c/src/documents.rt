@@ -1,0 +1,105 @@
+//! The calls with a document.
+ghost use Rattle.std.specs.Prelude.{◌≡◌, ◌≢◌, IsSome, IsUtf8, None};
+ghost use Rattle.tl_c.specs.Queries.{answer_of_value, node_in, numbers_in, text_in, value_in};
+ghost use Rattle.tl_c.specs.PageDocument.{page_document};
+ghost use Rattle.tl_c.specs.Puts.{Puts, Reads};
+
+use crate::document::Document;
+use crate::page::of_page;
+use crate::put::{put, put_value};
+use crate::query::{attribute, find, node_text};
+use std::alloc::Global;
+
+/// Reads a copy of a page into a document. What it held before is given back.
+#[unsafe(no_mangle)]
+pub extern "C" fn tl_parse(alloc: Global, page: &[u8], document: &mut Document) -> u8
+    ensures reads { Reads (page_document page.now) document.old.held document.new.held result }
+
+    // A page that has no document is refused before any memory is taken.
+    ensures refused { page_document page.now ≡ None → result ≡ 2 }
+{
+    match of_page(alloc, page) {
+        Ok(read) => {
+            let _before = document.replace(alloc, Some(read));
+            0
+        }
+        Err(failure) => failure as u8,
+    }
+}
+
+/// Gives the memory of a document back. There is none from then on, so a second call does nothing.
+#[unsafe(no_mangle)]
+pub extern "C" fn tl_free(alloc: Global, document: &mut Document)
+    ensures { document.new.held ≡ None }
+{
+    let _before = document.replace(alloc, None);
+}
+
+/// Finds the nodes of a document where a selector holds: their numbers, in the order of the text. A text that is no selector is
+/// refused.
+#[unsafe(no_mangle)]
+pub extern "C" fn tl_find(
+    alloc: Global,
+    document: &mut Document,
+    selector: &[u8],
+    numbers: &mut [u32],
+    needed: &mut usize,
+) -> u8
+    ensures same { document.new.held ≡ document.old.held }
+    ensures put { let answer = numbers_in selector.now document.old.held in
+        Puts answer numbers.old numbers.new needed.new result }
+
+    // Without a document, or with a selector that is no text, it takes no memory.
+    ensures none { document.old.held ≡ None → result ≡ 1 }
+    ensures no_text { IsSome document.old.held → ¬ (IsUtf8 selector.now) → result ≡ 2 }
+{
+    let held = document.replace(alloc, None);
+    let found = find(alloc, &held, selector);
+    let _nothing = document.replace(alloc, held);
+    put(found, numbers, needed)
+}
+
+/// The value of a node at a key. It is refused where the node has none, and where there is no such node.
+#[unsafe(no_mangle)]
+pub extern "C" fn tl_attribute(
+    alloc: Global,
+    document: &mut Document,
+    node: u32,
+    key: &[u8],
+    out: &mut [u8],
+    needed: &mut usize,
+) -> u8
+    ensures same { document.new.held ≡ document.old.held }
+    ensures put { let answer = answer_of_value (value_in node key.now document.old.held) in
+        Puts answer out.old out.new needed.new result }
+
+    // It takes no memory.
+    ensures memory { result ≢ 3 }
+{
+    let held = document.replace(alloc, None);
+    let status = put_value(attribute(&held, node, key), out, needed);
+    let _nothing = document.replace(alloc, held);
+    status
+}
+
+/// The texts at or below a node, in order. It is refused where there is no such node.
+#[unsafe(no_mangle)]
+pub extern "C" fn tl_node_text(
+    alloc: Global,
+    document: &mut Document,
+    node: u32,
+    out: &mut [u8],
+    needed: &mut usize,
+) -> u8
+    ensures same { document.new.held ≡ document.old.held }
+    ensures put { let answer = text_in node document.old.held in
+        Puts answer out.old out.new needed.new result }
+
+    // Without a document, or such a node, it takes no memory.
+    ensures no_node { node_in node document.old.held ≡ None → result ≡ 1 }
+{
+    let held = document.replace(alloc, None);
+    let text = node_text(alloc, &held, node);
+    let _nothing = document.replace(alloc, held);
+    put(text, out, needed)
+}
