@@ -17,16 +17,16 @@
  *   TL_NO_ROOM         the answer has `*needed` items, and `out` has room for less: call again with so many
  *
  * With all but TL_DONE `out` is as it was, and with all but TL_DONE and TL_NO_ROOM `*needed` is 0. No call but `tl_parse` and
- * `tl_free` changes a document. Each call is proved to answer so, whatever bytes it is lent, and for each document that it is given.
+ * `tl_free` changes a document. Each call is proved to answer so, whatever bytes it is lent, for each document that it is given.
  *
  * What a caller owes, and nothing checks:
- *   - a `tl_document` is TL_NO_DOCUMENT before its first call, and after that only these calls write it. It isn't copied, unless the
- *     original is never used again: two copies that are freed are one block of memory that is freed twice;
+ *   - a `tl_document` is TL_NO_DOCUMENT before its first call, and after that only these calls write it. It may be moved, and isn't
+ *     copied: of two copies that are freed the second frees memory again that is no longer the document's;
  *   - one call at a time uses a document, and all calls with it come from one thread;
  *   - each pointer is not null, also where its length is 0, and leads to as many items as its length says;
  *   - no length is above PTRDIFF_MAX bytes;
- *   - `document`, `out` and `needed` lie apart from each other and from all that is read, and no other thread touches what the call is
- *     lent;
+ *   - `document`, `out` and `needed` lie apart from each other and from all that is read, and no other thread touches what the call
+ *     is lent;
  *   - no call comes from a signal handler, or from the forked child of a process with threads.
  * No program compares this header with the library: who changes one changes the other, and `./documents` calls each function.
  */
@@ -53,7 +53,7 @@ typedef struct {
 
 #define TL_NO_DOCUMENT {NULL}
 
-/* Reads a copy of the page into `document`, and gives back what it held before. With another status than TL_DONE it holds that still. */
+/* Reads a copy of the page into `document`, and gives back what it held before. With a status but TL_DONE it holds that still. */
 tl_status tl_parse(const uint8_t *page, size_t page_len, tl_document *document);
 
 /* Gives a document's memory back, and leaves TL_NO_DOCUMENT there. On TL_NO_DOCUMENT, so when called again, it does nothing. */

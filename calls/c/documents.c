@@ -1,4 +1,4 @@
-/* Calls each function of tl_documents.h for each status, and exits with 1 and a line on standard error where one answers otherwise. */
+/* Calls each function of tl_documents.h for each status. Where one answers otherwise it says so on standard error, and exits with 1. */
 #include "tl_documents.h"
 
 #include <stdio.h>
@@ -9,7 +9,8 @@ static uint8_t out[64];
 static uint32_t numbers[8];
 static size_t needed;
 
-/* Which request for memory is refused, counted down from this; negative where none is. The linker puts these in the place of the heap's. */
+/* How many requests for memory are met before one is refused; none is where this is negative. The linker puts these functions in the
+ * place of the heap's. */
 static long refused = -1;
 
 void *__real_malloc(size_t size);
