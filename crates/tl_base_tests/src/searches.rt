@@ -3,6 +3,7 @@ use tl_base::simd::{
     fallback, find, find_multi, find4, is_closing, matches_case_insensitive, search_non_ident,
     search_non_name,
 };
+use tl_bytes::words::is_among_in_any_case;
 use tl_lexer::runs::{bare_len, blank_len, ident_len, len_until, name_len};
 
 // A search, and what it looks for.
@@ -118,6 +119,27 @@ fn tells_words_and_closing_bytes(rt: HostRuntime) {
     }
     for (byte, wanted) in &CLOSING {
         assert!(rt; is_closing(*byte) == *wanted, "{byte}");
+    }
+}
+
+static NAMES: [&str; 2] = ["script", "sTyle"];
+
+static AMONG_NAMES: [(&str, bool); 6] = [
+    ("script", true),
+    ("StYLE", true),
+    ("scripts", false),
+    ("scrip", false),
+    ("scr\u{131}pt", false),
+    ("", false),
+];
+
+#[test]
+fn tells_names_in_any_case(rt: HostRuntime) {
+    for (name, wanted) in &AMONG_NAMES {
+        assert!(rt;
+            is_among_in_any_case(&NAMES, name.as_bytes()) == *wanted,
+            "{name}"
+        );
     }
 }
 
