@@ -49,7 +49,7 @@ fn add_reading(
     reading: Result<String, TreeError>,
     end: &str,
 ) -> Result<(), Failure>
-    ensures { (of : Result (List ℕ) TreeFault) → Answers of reading
+    ensures { (of : Result (List ℕ) TreeFault) → Answers string_bytes of reading
         → Adds (ended end.now of) (string_bytes out.old) (string_bytes out.new) result }
 {
     let text = reading?;
