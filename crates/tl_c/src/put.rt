@@ -27,6 +27,7 @@ pub(crate) fn put_items<T: Copy>(items: &[T], out: &mut [T], needed: &mut usize)
 fn put_failure<T: Copy>(failure: Failure, out: &mut [T], needed: &mut usize) -> u8
     ensures put { (answer : Answer T) → Gives answer (Err failure)
         → Puts answer out.old out.new needed.new result }
+    ensures failed { result ≢ 0 }
     ensures refused { failure ≡ Failure.Refused → result ≡ 1 }
     ensures not_understood { failure ≡ Failure.NotUnderstood → result ≡ 2 }
 {

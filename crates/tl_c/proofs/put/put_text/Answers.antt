@@ -1,4 +1,4 @@
-use Rattle.std.proofs.Common.{ap, subst, sym, ◌∙◌, arith}
+use Rattle.std.proofs.Common.{ap, subst, sym, ◌∙◌}
 use Rattle.tl_c.specs.Answer.{answer_of, answer_with}
 use Rattle.tl_c.specs.Puts.{Puts}
 use Rattle.tl_c.proofs.Room.{fails_alike, put_front}
@@ -22,4 +22,4 @@ returns-in-Err-clause-put c = λ outcome is.
     c.put_failure.ensures.put (answer_of outcome) (fails_alike outcome c.in-Err.failure fails)
 
 pub returns-in-Err-clause-text : goal.returns-in-Err-clause-text
-returns-in-Err-clause-text c = λ is_done. absurd (omega (arith, is_done))
+returns-in-Err-clause-text c = λ is_done. absurd (c.put_failure.ensures.failed is_done)

@@ -3,4 +3,4 @@ use Rattle.std.proofs.Common.{refl}
 use Rattle.tl_c.proofs.put.put_value.Goals as goal
 
 pub returns-in-None-clause-put : goal.returns-in-None-clause-put
-returns-in-None-clause-put c = c.put_failure.ensures.put refused refl
+returns-in-None-clause-put c = rw c.in-None.is (c.put_failure.ensures.put refused refl)
