@@ -74,7 +74,8 @@ pub extern "C" fn tl_select(
 /// Prints what the policy for the text of a blog keeps of a page.
 #[unsafe(no_mangle)]
 pub extern "C" fn tl_sanitise(alloc: Global, page: &[u8], out: &mut [u8], needed: &mut usize) -> u8
-    ensures put { Puts (answer_of (safe_page page_lists page.now)) out.old out.new needed.new result }
+    ensures put { let outcome = safe_page page_lists page.now in
+        Puts (answer_of outcome) out.old out.new needed.new result }
 
     // As `sanitised` says of what it prints.
     ensures form { result ≡ 0 → IsSafe page_lists (take needed.new out.new) }
