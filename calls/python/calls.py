@@ -30,7 +30,7 @@ assert tl.version() == os.environ["TL_VERSION"]
 page = "<p>é\0" + "x" * 100000
 assert tl.print_of(page) == page + "</p>"
 
-document = tl.Document("<a href=/x>y</a><a>z</a>")
+document = tl.Document('<a href="/x">y</a><a>z</a>')
 assert document.find("a") == [0, 2]
 assert document.find("i") == []
 assert fails(tl.Refused, document.find, ",")

@@ -280,7 +280,7 @@ mod tests {
     #[test]
     fn a_document() {
         let long = "z".repeat(100);
-        let mut document = Document::parse(&format!("<a href=/x>y</a><a>{long}</a>")).unwrap();
+        let mut document = Document::parse(&format!("<a href=\"/x\">y</a><a>{long}</a>")).unwrap();
         assert_eq!(document.find("a"), Ok(vec![0, 2]));
         assert_eq!(document.find("i"), Ok(vec![]));
         assert_eq!(document.find(","), Err(Error::Refused));
