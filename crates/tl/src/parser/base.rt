@@ -75,11 +75,11 @@ impl<A, B, O: OutlineOf<A>, M> ParserOf<A, B, O, M> {
     ) -> Self
         requires { length nodes.items < 2 ^ 32 }
         ensures { result ≡ record {
-            nodes = nodes.items;
-            top = top.items;
-            version = version;
-            tracking = tracking;
-          } }
+          nodes = nodes.items;
+          top = top.items;
+          version = version;
+          tracking = tracking;
+        } }
     {
         ParserOf {
             nodes,
