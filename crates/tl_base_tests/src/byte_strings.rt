@@ -15,6 +15,7 @@ fn sure(holds: Result<bool, AllocError>) -> bool {
 // A text that is set, whether its length is looked at, and the old bytes that come back.
 type Set = (&'static str, bool, Option<&'static [u8]>);
 
+#[rattlefmt::skip]
 static SETS: [Set; 3] = [
     ("world", true, None),
     ("x", true, Some(b"world")),
@@ -93,6 +94,7 @@ enum Kind {
     BoxedSlice,
 }
 
+#[rattlefmt::skip]
 static KINDS: [(Kind, &str); 5] = [
     (Kind::Text, "text"),
     (Kind::Slice, "slice"),
@@ -132,6 +134,7 @@ enum Held {
     Lent,
 }
 
+#[rattlefmt::skip]
 static HELD: [(Held, &str); 3] = [
     (Held::Shared, "world"),
     (Held::Owned, "world"),

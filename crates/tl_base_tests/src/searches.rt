@@ -27,65 +27,30 @@ fn answer(search: &Search, text: &[u8]) -> Option<usize> {
     }
 }
 
+#[rattlefmt::skip]
 static SEARCHES: [(Search, &str, Option<usize>); 24] = [
     (Search::Find(b' '), "abcdefghiabcdefghi .", Some(18)),
     (Search::Find(b' '), "", None),
     (Search::Find4(*b"abcd"), "ef ghijklmnopqrstua", Some(18)),
     (Search::Find4(*b"abcd"), "ef ghijklmnopqrstu", None),
-    (
-        Search::Find4(*b"abcd"),
-        "xxxxxxxxxxxxxxxxxxxxxxxxxxxxxxxxb",
-        Some(32),
-    ),
-    (
-        Search::Find4(*b"abcd"),
-        "xxxxxxxxxxxxxxxxxxxxxxxxxxxxxxxx",
-        None,
-    ),
+    (Search::Find4(*b"abcd"), "xxxxxxxxxxxxxxxxxxxxxxxxxxxxxxxxb", Some(32)),
+    (Search::Find4(*b"abcd"), "xxxxxxxxxxxxxxxxxxxxxxxxxxxxxxxx", None),
     (Search::Find4(*b"aaaa"), "xxxxxxxxxxxxxxxxa", Some(16)),
     (Search::FindOne(*b"a"), "ef ghijklmnopqrstua", Some(18)),
     (Search::FindNone([]), "ef ghijklmnopqrstua", None),
-    (
-        Search::NonIdent,
-        "this-is-a-very-long-identifier<",
-        Some(30),
-    ),
+    (Search::NonIdent, "this-is-a-very-long-identifier<", Some(30)),
     (Search::NonIdent, "0123456789Abcdef_-<", Some(18)),
     (Search::NonIdent, "short", None),
-    (
-        Search::NonIdent,
-        "0123456789abcdefghijklmnopqrstuvwxyzABCDEFGHIJKLMNOPQRSTUVWXYZ-_",
-        None,
-    ),
-    (
-        Search::NonIdent,
-        "0123456789abcdefghijklmnopqrstuvwxyzABCDEFGHIJKLMNOPQRSTUVWXYZ-_<",
-        Some(64),
-    ),
+    (Search::NonIdent, "0123456789abcdefghijklmnopqrstuvwxyzABCDEFGHIJKLMNOPQRSTUVWXYZ-_", None),
+    (Search::NonIdent, "0123456789abcdefghijklmnopqrstuvwxyzABCDEFGHIJKLMNOPQRSTUVWXYZ-_<", Some(64)),
     (Search::NonIdent, "0123456789ab<def", Some(12)),
     (Search::NonIdent, "a:b+c/d", None),
-    (
-        Search::NonIdent,
-        ":::::::::::::::::::::::::::::::\u{80}",
-        Some(31),
-    ),
-    (
-        Search::NonIdent,
-        "+/+/+/+/+/+/+/+/+/+/+/+/+/+/+/+/+/+/+/+/+/+/+/+/",
-        None,
-    ),
+    (Search::NonIdent, ":::::::::::::::::::::::::::::::\u{80}", Some(31)),
+    (Search::NonIdent, "+/+/+/+/+/+/+/+/+/+/+/+/+/+/+/+/+/+/+/+/+/+/+/+/", None),
     (Search::NonIdent, "br/", None),
     (Search::NonName, "br/", Some(2)),
-    (
-        Search::NonName,
-        "0123456789abcdefghijklmnopqrstuvwxyzABCDEFGHIJKLMNOPQRSTUVWXYZ-_",
-        None,
-    ),
-    (
-        Search::NonName,
-        "0123456789abcdefghijklmnopqrstuvwxyzABCDEFGHIJKLMNOPQRSTUVWXYZ-_/",
-        Some(64),
-    ),
+    (Search::NonName, "0123456789abcdefghijklmnopqrstuvwxyzABCDEFGHIJKLMNOPQRSTUVWXYZ-_", None),
+    (Search::NonName, "0123456789abcdefghijklmnopqrstuvwxyzABCDEFGHIJKLMNOPQRSTUVWXYZ-_/", Some(64)),
     (Search::NonName, "a:b+c/d", Some(5)),
     (Search::NonName, "/", Some(0)),
 ];
@@ -100,6 +65,7 @@ fn finds_the_first(rt: HostRuntime) {
     }
 }
 
+#[rattlefmt::skip]
 static IN_LOWER_CASE: [(&str, [u8; 4], bool); 4] = [
     ("hTmL", *b"html", true),
     ("hTmLs", *b"html", false),
@@ -107,6 +73,7 @@ static IN_LOWER_CASE: [(&str, [u8; 4], bool); 4] = [
     ("html", *b"HTML", false),
 ];
 
+#[rattlefmt::skip]
 static CLOSING: [(u8, bool); 3] = [(b'/', true), (b'>', true), (b'<', false)];
 
 #[test]
@@ -194,6 +161,7 @@ fn run_len(run: &Run, text: &[u8]) -> usize {
     }
 }
 
+#[rattlefmt::skip]
 static RUNS: [(Run, &str, usize); 12] = [
     (Run::Blank, " \n a", 3),
     (Run::Blank, "\ta", 0),

@@ -5,6 +5,7 @@ use tl_base::bytes::Bytes;
 use tl_tracking::{NameKey, ParserOptions, TrackingOf};
 
 // A number of options, and whether it asks for ids and for classes.
+#[rattlefmt::skip]
 static NUMBERS: [(u8, bool, bool); 4] = [
     (0, false, false),
     (1, true, false),
@@ -41,6 +42,7 @@ fn options(rt: HostRuntime) -> Result<(), Fail> {
 type Tracking = TrackingOf<Bytes<'static>>;
 
 // The notes of `<p id=x class="k k"></p><p id=x class="m"></p>a<p class="k m"></p>`, whose tags are 0, 1 and 3.
+#[rattlefmt::skip]
 static CLASSES: [(&str, u32); 5] = [("k", 0), ("k", 0), ("m", 1), ("k", 3), ("m", 3)];
 
 fn noted(alloc: Global, options: ParserOptions) -> Result<Tracking, AllocError> {

@@ -12,61 +12,22 @@ type Row = (
     &'static str,
 );
 
+#[rattlefmt::skip]
 static ROWS: [Row; 14] = [
     // Clean documents, read as themselves.
     ("<br>x", &[Step::Name(0, b"p")], "<p></p>x", 2, "<p></p>x"),
     ("<p></p>", &[Step::Name(0, b"br")], "<br>", 1, "<br>"),
-    (
-        "<a></a><b></b>",
-        &[Step::Push(1, 0)],
-        "<a></a><b><a></a></b>",
-        3,
-        "<a></a><b><a></a></b>",
-    ),
-    (
-        "<p>a<b></b>c</p>",
-        &[Step::Text(2, b"")],
-        "<p>ac</p>",
-        2,
-        "<p>ac</p>",
-    ),
+    ("<a></a><b></b>", &[Step::Push(1, 0)], "<a></a><b><a></a></b>", 3, "<a></a><b><a></a></b>"),
+    ("<p>a<b></b>c</p>", &[Step::Text(2, b"")], "<p>ac</p>", 2, "<p>ac</p>"),
     // The bytes of one letter, in two texts.
-    (
-        "<p>a<b></b>c</p>",
-        &[
-            Step::Text(2, b""),
-            Step::Text(1, b"\xc3"),
-            Step::Text(3, b"\xa9"),
-        ],
-        "<p>\u{fffd}\u{fffd}</p>",
-        2,
-        "<p>\u{fffd}\u{fffd}</p>",
-    ),
+    ("<p>a<b></b>c</p>", &[Step::Text(2, b""), Step::Text(1, b"\xc3"), Step::Text(3, b"\xa9"),], "<p>\u{fffd}\u{fffd}</p>", 2, "<p>\u{fffd}\u{fffd}</p>"),
     // Documents that are not clean, read as others.
     ("<p\ta>x</p>", &[], "<p  a>x</p>", 2, "<p a>x</p>"),
-    (
-        "<p a='x\"y'>z</p>",
-        &[],
-        "<p a=\"x\"y\">z</p>",
-        2,
-        "<p a=\"x\" y>z</p>",
-    ),
+    ("<p a='x\"y'>z</p>", &[], "<p a=\"x\"y\">z</p>", 2, "<p a=\"x\" y>z</p>"),
     ("<command>x</command>", &[], "<command>", 1, "<command>"),
-    (
-        "<p></p>",
-        &[Step::Comment(0, b"<!-- a --> b -->")],
-        "<!-- a --> b -->",
-        2,
-        "<!-- a --> b -->",
-    ),
+    ("<p></p>", &[Step::Comment(0, b"<!-- a --> b -->")], "<!-- a --> b -->", 2, "<!-- a --> b -->"),
     ("<br>x", &[Step::Push(0, 1)], "<br>x", 2, "<br>x"),
-    (
-        "<p>x</p>",
-        &[Step::Text(1, b"<b>")],
-        "<p><b></p>",
-        2,
-        "<p><b></b></p>",
-    ),
+    ("<p>x</p>", &[Step::Text(1, b"<b>")], "<p><b></p>", 2, "<p><b></b></p>"),
     ("<a x></a>", &[Step::Name(0, b"")], "< x></>", 1, "<x></x>"),
     ("<p></p>", &[Step::Name(0, b"/a")], "</a><//a>", 0, ""),
     ("<p></p>", &[Step::Name(0, b"a/b")], "<a/b></a/b>", 1, "b>"),
@@ -150,6 +111,7 @@ const SIXTEEN: &str =
     "<a></a><a></a><a></a><a></a><a></a><a></a><a></a><a></a><a></a><a></a><a></a><a></a><a></a><a></a><a></a><a></a>";
 
 // Each of the sixteen but the last gets the next one twice.
+#[rattlefmt::skip]
 static DOUBLING: [Step<'static>; 30] = [
     Step::Push(0, 1),
     Step::Push(0, 1),

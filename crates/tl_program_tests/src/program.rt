@@ -367,6 +367,7 @@ fn commands_of_words(rt: HostRuntime) {
 }
 
 // What a stream fails with. That memory ran out there is a fault like the others.
+#[rattlefmt::skip]
 static KINDS: [ErrorKind; 6] = [
     ErrorKind::Interrupted,
     ErrorKind::OutOfMemory,
@@ -379,6 +380,7 @@ static KINDS: [ErrorKind; 6] = [
 // Words, a page, and what is written where no stream fails.
 type Streamed = (&'static [&'static str], &'static [u8], &'static [u8]);
 
+#[rattlefmt::skip]
 static STREAMED: [Streamed; 12] = [
     (&["print"], b"<p>a</p>", b"<p>a</p>"),
     (&["text"], b"a<p>b<br>c</p>", b"abc"),

@@ -1,7 +1,7 @@
 //! Byte strings.
-use crate::Named;
 use crate::case::Case;
 use crate::stop::{Stop, refused, value};
+use crate::{Named, measured};
 use std::alloc::{AllocError, Global};
 use tl::bytes::{Bytes, IntoOwnedBytes};
 use tl::errors::SetBytesError;
@@ -25,9 +25,7 @@ pub fn call(number: usize, case: &mut Case) -> Option<Named> {
 }
 
 fn copies(case: &mut Case) -> Result<(), Stop> {
-    case.begin()?;
-    let answer = copied(case.alloc(), b"hello");
-    case.end();
+    let answer = measured!(case, copied(case.alloc(), b"hello"));
     value(answer?.eq_str("hello"))
 }
 
@@ -52,9 +50,7 @@ fn clone_shared(case: &mut Case) -> Result<(), Stop> {
 }
 
 fn clone(bytes: &Bytes<'static>, case: &mut Case) -> Result<(), Stop> {
-    case.begin()?;
-    let answer: Result<Bytes<'static>, AllocError> = bytes.clone();
-    case.end();
+    let answer = measured!(case, bytes.clone() => Result<Bytes<'static>, AllocError>);
     let twin = answer?;
     value(twin.eq_str("page") && is_borrowed(&twin) == is_borrowed(bytes))
 }
@@ -86,9 +82,7 @@ fn plain(case: &mut Case) -> Result<(), Stop> {
 }
 
 fn text(bytes: &Bytes<'_>, case: &mut Case, wanted: &str) -> Result<(), Stop> {
-    case.begin()?;
-    let answer = bytes.as_utf8_str(case.alloc());
-    case.end();
+    let answer = measured!(case, bytes.as_utf8_str(case.alloc()));
     value(answer?.as_str() == wanted)
 }
 
@@ -102,34 +96,26 @@ fn into(number: usize, case: &mut Case) -> Named {
 }
 
 fn into_of_text(case: &mut Case) -> Result<(), Stop> {
-    case.begin()?;
-    let answer = "page".into_bytes(case.alloc());
-    case.end();
+    let answer = measured!(case, "page".into_bytes(case.alloc()));
     is_page(answer)
 }
 
 fn into_of_slice(case: &mut Case) -> Result<(), Stop> {
     let slice: &[u8] = b"page";
-    case.begin()?;
-    let answer = slice.into_bytes(case.alloc());
-    case.end();
+    let answer = measured!(case, slice.into_bytes(case.alloc()));
     is_page(answer)
 }
 
 fn into_of_string(case: &mut Case) -> Result<(), Stop> {
     let text = String::from_str(case.alloc(), "page")?;
-    case.begin()?;
-    let answer = IntoOwnedBytes::into_bytes(text, case.alloc());
-    case.end();
+    let answer = measured!(case, IntoOwnedBytes::into_bytes(text, case.alloc()));
     is_page(answer)
 }
 
 fn into_of_vector(case: &mut Case) -> Result<(), Stop> {
     let page: &[u8] = b"page";
     let vector = page.to_vec(case.alloc())?;
-    case.begin()?;
-    let answer = IntoOwnedBytes::into_bytes(vector, case.alloc());
-    case.end();
+    let answer = measured!(case, IntoOwnedBytes::into_bytes(vector, case.alloc()));
     is_page(answer)
 }
 
@@ -162,27 +148,21 @@ fn set_shared(case: &mut Case) -> Result<(), Stop> {
 // The old bytes come back where they were owned.
 fn set(mut bytes: Bytes<'static>, case: &mut Case, old: Option<&str>) -> Result<(), Stop> {
     let was_borrowed = is_borrowed(&bytes);
-    case.begin()?;
-    let answer = bytes.set(case.alloc(), "new");
-    case.end();
+    let answer = measured!(case, bytes.set(case.alloc(), "new"));
     is_set(answer, &mut bytes, was_borrowed, old, case)
 }
 
 fn set_of_slice(case: &mut Case) -> Result<(), Stop> {
     let mut bytes = Bytes::from("page");
     let slice: &[u8] = b"new";
-    case.begin()?;
-    let answer = bytes.set(case.alloc(), slice);
-    case.end();
+    let answer = measured!(case, bytes.set(case.alloc(), slice));
     is_set(answer, &mut bytes, true, None, case)
 }
 
 fn set_of_string(case: &mut Case) -> Result<(), Stop> {
     let mut bytes = Bytes::from("page");
     let text = String::from_str(case.alloc(), "new")?;
-    case.begin()?;
-    let answer = bytes.set(case.alloc(), text);
-    case.end();
+    let answer = measured!(case, bytes.set(case.alloc(), text));
     is_set(answer, &mut bytes, true, None, case)
 }
 
@@ -244,18 +224,14 @@ fn reset_shared(case: &mut Case) -> Result<(), Stop> {
 
 fn reset(mut bytes: Bytes<'static>, case: &mut Case, old: Option<&str>) -> Result<(), Stop> {
     let was_borrowed = is_borrowed(&bytes);
-    case.begin()?;
-    let answer = bytes.set_unchecked(case.alloc(), "new");
-    case.end();
+    let answer = measured!(case, bytes.set_unchecked(case.alloc(), "new"));
     is_set(of_set(answer), &mut bytes, was_borrowed, old, case)
 }
 
 fn reset_of_slice(case: &mut Case) -> Result<(), Stop> {
     let mut bytes = Bytes::from("page");
     let slice: &[u8] = b"new";
-    case.begin()?;
-    let answer = bytes.set_unchecked(case.alloc(), slice);
-    case.end();
+    let answer = measured!(case, bytes.set_unchecked(case.alloc(), slice));
     is_set(of_set(answer), &mut bytes, true, None, case)
 }
 
@@ -265,9 +241,7 @@ fn reset_of_string(case: &mut Case) -> Result<(), Stop> {
     if text.len() > 3 {
         return Err(Stop::WrongValue);
     }
-    case.begin()?;
-    let answer = bytes.set_unchecked(case.alloc(), text);
-    case.end();
+    let answer = measured!(case, bytes.set_unchecked(case.alloc(), text));
     is_set(of_set(answer), &mut bytes, true, None, case)
 }
 
@@ -277,9 +251,7 @@ fn of_set(answer: Result<Option<Vec<u8>>, AllocError>) -> Result<Option<Vec<u8>>
 
 fn buffers(case: &mut Case) -> Result<(), Stop> {
     let text = String::from_str(case.alloc(), "a page")?;
-    case.begin()?;
-    let answer = Shared::new(case.alloc(), text);
-    case.end();
+    let answer = measured!(case, Shared::new(case.alloc(), text));
     value(answer?.as_str() == "a page")
 }
 
@@ -288,9 +260,7 @@ fn slices(case: &mut Case) -> Result<(), Stop> {
     if buffer.as_str().len() != 6 {
         return Err(Stop::WrongValue);
     }
-    case.begin()?;
-    let answer = buffer.slice(case.alloc(), 2, 6);
-    case.end();
+    let answer = measured!(case, buffer.slice(case.alloc(), 2, 6));
     value(answer?.eq_str("page"))
 }
 
@@ -305,26 +275,20 @@ fn moved(number: usize, case: &mut Case) -> Named {
 
 fn into_of_boxed(case: &mut Case) -> Result<(), Stop> {
     let boxed = b"page".to_vec(case.alloc())?.into_boxed_slice();
-    case.begin()?;
-    let answer = boxed.into_bytes(case.alloc());
-    case.end();
+    let answer = measured!(case, boxed.into_bytes(case.alloc()));
     is_page(answer)
 }
 
 fn set_of_vector(case: &mut Case) -> Result<(), Stop> {
     let mut bytes = Bytes::from("page");
     let vector = b"new".to_vec(case.alloc())?;
-    case.begin()?;
-    let answer = bytes.set(case.alloc(), vector);
-    case.end();
+    let answer = measured!(case, bytes.set(case.alloc(), vector));
     is_set(answer, &mut bytes, true, None, case)
 }
 
 fn set_of_boxed(case: &mut Case) -> Result<(), Stop> {
     let mut bytes = Bytes::from("page");
     let boxed = b"new".to_vec(case.alloc())?.into_boxed_slice();
-    case.begin()?;
-    let answer = bytes.set(case.alloc(), boxed);
-    case.end();
+    let answer = measured!(case, bytes.set(case.alloc(), boxed));
     is_set(answer, &mut bytes, true, None, case)
 }

@@ -68,3 +68,20 @@ impl Case {
 fn left(alloc: Global) -> Option<u32> {
     (0..MOST).find(|_| Box::new(alloc, 0u8).is_err())
 }
+
+/// Makes the call of a case, whose requests for memory are counted, and answers what it answers.
+#[macro_export]
+macro_rules! measured {
+    ($case:ident, $call:expr) => {{
+        $case.begin()?;
+        let answer = $call;
+        $case.end();
+        answer
+    }};
+    ($case:ident, $call:expr => $answer:ty) => {{
+        $case.begin()?;
+        let answer: $answer = $call;
+        $case.end();
+        answer
+    }};
+}

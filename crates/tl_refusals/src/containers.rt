@@ -1,7 +1,7 @@
 //! Lists and maps with room for no, one or two items inline.
-use crate::Named;
 use crate::case::Case;
 use crate::stop::{Stop, refused, value};
+use crate::{Named, measured};
 use std::alloc::{AllocError, Global};
 use std::collections::HashMap;
 use tl::inline::hashmap::InlineHashMap;
@@ -24,56 +24,17 @@ enum ListCall {
 // The name of a call, the room inline, the items that are held, and the call.
 type ListRow = (&'static str, Room, &'static [u8], ListCall);
 
+#[rattlefmt::skip]
 static LISTS: [ListRow; 9] = [
-    (
-        "push of a first item, with no room inline",
-        Room::None,
-        &[],
-        ListCall::Push,
-    ),
-    (
-        "push of a fifth item, with no room inline",
-        Room::None,
-        &[1, 2, 3, 4],
-        ListCall::Push,
-    ),
+    ("push of a first item, with no room inline", Room::None, &[], ListCall::Push),
+    ("push of a fifth item, with no room inline", Room::None, &[1, 2, 3, 4], ListCall::Push),
     ("push into inline room", Room::Two, &[1], ListCall::Push),
-    (
-        "push of a third item, with room for two inline",
-        Room::Two,
-        &[1, 2],
-        ListCall::Push,
-    ),
-    (
-        "push of a seventh item, with room for two inline",
-        Room::Two,
-        &[1, 2, 3, 4, 5, 6],
-        ListCall::Push,
-    ),
-    (
-        "clone of a list inline",
-        Room::Two,
-        &[1, 2],
-        ListCall::Clone,
-    ),
-    (
-        "clone of a list on the heap",
-        Room::Two,
-        &[1, 2, 3],
-        ListCall::Clone,
-    ),
-    (
-        "to_vec of a list inline",
-        Room::Two,
-        &[1, 2],
-        ListCall::ToVec,
-    ),
-    (
-        "to_vec of a list on the heap",
-        Room::Two,
-        &[1, 2, 3],
-        ListCall::ToVec,
-    ),
+    ("push of a third item, with room for two inline", Room::Two, &[1, 2], ListCall::Push),
+    ("push of a seventh item, with room for two inline", Room::Two, &[1, 2, 3, 4, 5, 6], ListCall::Push),
+    ("clone of a list inline", Room::Two, &[1, 2], ListCall::Clone),
+    ("clone of a list on the heap", Room::Two, &[1, 2, 3], ListCall::Clone),
+    ("to_vec of a list inline", Room::Two, &[1, 2], ListCall::ToVec),
+    ("to_vec of a list on the heap", Room::Two, &[1, 2, 3], ListCall::ToVec),
 ];
 
 // What is called of a map.
@@ -86,73 +47,19 @@ enum MapCall {
 // The name of a call, the room inline, the pairs that are held, and the call.
 type MapRow = (&'static str, Room, &'static [(u8, u8)], MapCall);
 
+#[rattlefmt::skip]
 static MAPS: [MapRow; 11] = [
-    (
-        "insert of a first pair, with no room inline",
-        Room::None,
-        &[],
-        MapCall::Insert(1),
-    ),
-    (
-        "insert of a fourth pair, with no room inline",
-        Room::None,
-        &[(1, 9), (2, 8), (3, 7)],
-        MapCall::Insert(4),
-    ),
-    (
-        "insert into inline room",
-        Room::Two,
-        &[(1, 9)],
-        MapCall::Insert(2),
-    ),
-    (
-        "insert of a third pair, with room for two inline",
-        Room::Two,
-        &[(1, 9), (2, 8)],
-        MapCall::Insert(3),
-    ),
-    (
-        "insert of a sixth pair, with room for two inline",
-        Room::Two,
-        &[(1, 9), (2, 8), (3, 7), (4, 6), (5, 5)],
-        MapCall::Insert(6),
-    ),
-    (
-        "insert of a key that is there, inline",
-        Room::Two,
-        &[(1, 9), (2, 8)],
-        MapCall::Insert(1),
-    ),
-    (
-        "insert of a key that is there, on the heap",
-        Room::Two,
-        &[(1, 9), (2, 8), (3, 7)],
-        MapCall::Insert(2),
-    ),
-    (
-        "clone of a map inline",
-        Room::Two,
-        &[(1, 9), (2, 8)],
-        MapCall::Clone,
-    ),
-    (
-        "clone of a map on the heap",
-        Room::Two,
-        &[(1, 9), (2, 8), (3, 7)],
-        MapCall::Clone,
-    ),
-    (
-        "to_map of a map inline",
-        Room::Two,
-        &[(1, 9), (2, 8)],
-        MapCall::ToMap,
-    ),
-    (
-        "to_map of a map on the heap",
-        Room::Two,
-        &[(1, 9), (2, 8), (3, 7)],
-        MapCall::ToMap,
-    ),
+    ("insert of a first pair, with no room inline", Room::None, &[], MapCall::Insert(1)),
+    ("insert of a fourth pair, with no room inline", Room::None, &[(1, 9), (2, 8), (3, 7)], MapCall::Insert(4)),
+    ("insert into inline room", Room::Two, &[(1, 9)], MapCall::Insert(2)),
+    ("insert of a third pair, with room for two inline", Room::Two, &[(1, 9), (2, 8)], MapCall::Insert(3)),
+    ("insert of a sixth pair, with room for two inline", Room::Two, &[(1, 9), (2, 8), (3, 7), (4, 6), (5, 5)], MapCall::Insert(6)),
+    ("insert of a key that is there, inline", Room::Two, &[(1, 9), (2, 8)], MapCall::Insert(1)),
+    ("insert of a key that is there, on the heap", Room::Two, &[(1, 9), (2, 8), (3, 7)], MapCall::Insert(2)),
+    ("clone of a map inline", Room::Two, &[(1, 9), (2, 8)], MapCall::Clone),
+    ("clone of a map on the heap", Room::Two, &[(1, 9), (2, 8), (3, 7)], MapCall::Clone),
+    ("to_map of a map inline", Room::Two, &[(1, 9), (2, 8)], MapCall::ToMap),
+    ("to_map of a map on the heap", Room::Two, &[(1, 9), (2, 8), (3, 7)], MapCall::ToMap),
 ];
 
 // The item and the value that are put.
@@ -198,9 +105,7 @@ fn push<const N: usize>(
     held: &[u8],
     case: &mut Case,
 ) -> Result<(), Stop> {
-    case.begin()?;
-    let answer = list.push(PUT);
-    case.end();
+    let answer = measured!(case, list.push(PUT));
     match answer {
         Ok(()) => value(list.as_slice().split_last() == Some((&PUT, held)) && lies(list)),
         Err(back) => refused(back == PUT && list.as_slice() == held && lies(list)),
@@ -217,9 +122,7 @@ fn list_clone<const N: usize>(
     held: &[u8],
     case: &mut Case,
 ) -> Result<(), Stop> {
-    case.begin()?;
-    let answer = list.clone();
-    case.end();
+    let answer = measured!(case, list.clone());
     let twin = answer?;
     value(twin.as_slice() == held && lies(&twin))
 }
@@ -229,9 +132,7 @@ fn to_vec<const N: usize>(
     held: &[u8],
     case: &mut Case,
 ) -> Result<(), Stop> {
-    case.begin()?;
-    let answer = list.to_vec(case.alloc());
-    case.end();
+    let answer = measured!(case, list.to_vec(case.alloc()));
     value(answer?.as_slice() == held)
 }
 
@@ -273,9 +174,7 @@ fn insert<const N: usize>(
     case: &mut Case,
 ) -> Result<(), Stop> {
     let len = map.len();
-    case.begin()?;
-    let answer = map.insert(key, PUT);
-    case.end();
+    let answer = measured!(case, map.insert(key, PUT));
     match answer {
         Ok(()) => value(is_with(map, held, key)),
         Err(back) => refused(back == (key, PUT) && map.len() == len && holds(map, held)),
@@ -325,9 +224,7 @@ fn map_clone<const N: usize>(
     held: &[(u8, u8)],
     case: &mut Case,
 ) -> Result<(), Stop> {
-    case.begin()?;
-    let answer = map.clone();
-    case.end();
+    let answer = measured!(case, map.clone());
     let twin = answer?;
     value(twin.len() == held.len() && holds(&twin, held))
 }
@@ -337,9 +234,7 @@ fn to_map<const N: usize>(
     held: &[(u8, u8)],
     case: &mut Case,
 ) -> Result<(), Stop> {
-    case.begin()?;
-    let answer = map.to_map(case.alloc());
-    case.end();
+    let answer = measured!(case, map.to_map(case.alloc()));
     let table = answer?;
     for pair in held {
         if table.get(&pair.0) != Some(&pair.1) {
@@ -373,9 +268,7 @@ fn of_pieces(number: usize, case: &mut Case) -> Option<Named> {
 fn second_handle(case: &mut Case) -> Result<(), Stop> {
     let mut handles = Handles::new(case.alloc());
     let pushed = handles.push(NodeHandle::new(7)).is_ok();
-    case.begin()?;
-    let answer = handles.push(NodeHandle::new(8));
-    case.end();
+    let answer = measured!(case, handles.push(NodeHandle::new(8)));
     let is_first = pushed && handles.get(0) == Some(&NodeHandle::new(7));
     match answer {
         Ok(()) => value(is_first && is_grown(&handles)),
@@ -405,9 +298,7 @@ fn one_name(alloc: Global) -> Result<Names, Stop> {
 fn second_name(case: &mut Case) -> Result<(), Stop> {
     let mut names = one_name(case.alloc())?;
     let second = owned(case.alloc(), "b")?;
-    case.begin()?;
-    let answer = names.insert(second, NodeHandle::new(8));
-    case.end();
+    let answer = measured!(case, names.insert(second, NodeHandle::new(8)));
     match answer {
         Ok(()) => value(are_names(&names, 2)),
         Err(back) => refused(are_names(&names, 1) && back.0.eq_str("b") && back.1.get_inner() == 8),
@@ -424,17 +315,13 @@ fn are_names(names: &Names, len: usize) -> bool {
 
 fn names_clone(case: &mut Case) -> Result<(), Stop> {
     let names = one_name(case.alloc())?;
-    case.begin()?;
-    let answer = names.clone();
-    case.end();
+    let answer = measured!(case, names.clone());
     value(are_names(&answer?, 1))
 }
 
 fn names_to_map(case: &mut Case) -> Result<(), Stop> {
     let names = one_name(case.alloc())?;
-    case.begin()?;
-    let answer = names.to_map(case.alloc());
-    case.end();
+    let answer = measured!(case, names.to_map(case.alloc()));
     value(is_table(&answer?))
 }
 

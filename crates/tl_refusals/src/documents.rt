@@ -1,7 +1,7 @@
 //! Documents that are read, and the attributes and children of a tag.
-use crate::Named;
 use crate::case::Case;
 use crate::stop::{Stop, refused, value};
+use crate::{Named, measured};
 use std::alloc::{AllocError, Global};
 use tl::{
     Attributes, Bytes, Children, ElementsByClassName, HTMLTag, Node, NodeHandle, OutlineOf,
@@ -57,18 +57,14 @@ fn options(number: u8) -> Result<ParserOptions, Stop> {
 
 fn read(number: u8, case: &mut Case) -> Result<(), Stop> {
     let options = options(number)?;
-    case.begin()?;
-    let answer = parse(case.alloc(), PAGE, options);
-    case.end();
+    let answer = measured!(case, parse(case.alloc(), PAGE, options));
     is_page(case.alloc(), &answer?)
 }
 
 fn keep(number: u8, case: &mut Case) -> Result<(), Stop> {
     let options = options(number)?;
     let text = String::from_str(case.alloc(), PAGE)?;
-    case.begin()?;
-    let answer = parse_owned(case.alloc(), text, options);
-    case.end();
+    let answer = measured!(case, parse_owned(case.alloc(), text, options));
     is_page(case.alloc(), answer?.get_ref())
 }
 
@@ -90,6 +86,7 @@ fn is_looked_up(document: &VDom<'_>) -> bool {
         && found.next() == None
 }
 
+#[rattlefmt::skip]
 static PAIRS: [(&'static str, &'static str); 6] = [
     ("a", "1"),
     ("b", "2"),
@@ -130,9 +127,10 @@ fn insert_seventh(case: &mut Case) -> Result<(), Stop> {
 // A refused key is not there, and the others are, where they were.
 fn insert(count: usize, key: &'static str, wanted: usize, case: &mut Case) -> Result<(), Stop> {
     let attributes = &mut with_pairs(case.alloc(), count)?;
-    case.begin()?;
-    let answer = attributes.insert(Bytes::from(key), Some(Bytes::from("9")));
-    case.end();
+    let answer = measured!(
+        case,
+        attributes.insert(Bytes::from(key), Some(Bytes::from("9")))
+    );
     match answer {
         Ok(()) => value(
             is_at(attributes, key, "9")
@@ -162,9 +160,7 @@ fn are_pairs(attributes: &Attributes<'static>, count: usize) -> bool {
 
 fn clone_attributes(case: &mut Case) -> Result<(), Stop> {
     let attributes = with_pairs(case.alloc(), 3)?;
-    case.begin()?;
-    let answer = attributes.clone();
-    case.end();
+    let answer = measured!(case, attributes.clone());
     value(are_pairs(&answer?, 3))
 }
 
@@ -193,9 +189,7 @@ fn push_to_tag<A, B, O: OutlineOf<A>>(
 
 // A refused handle comes back, and the others stay where they are.
 fn push_child(handles: &mut RawChildren, case: &mut Case) -> Result<(), Stop> {
-    case.begin()?;
-    let answer = handles.push(NodeHandle::new(5));
-    case.end();
+    let answer = measured!(case, handles.push(NodeHandle::new(5)));
     let are_there = handles.get(0) == Some(&NodeHandle::new(1))
         && handles.get(1) == Some(&NodeHandle::new(2));
     match answer {
@@ -217,9 +211,7 @@ fn clone_found<'s, 'a>(
     case: &mut Case,
 ) -> Result<(), Stop> {
     let first = found.next();
-    case.begin()?;
-    let answer: Result<ElementsByClassName<'s, 'a>, AllocError> = found.clone();
-    case.end();
+    let answer = measured!(case, found.clone() => Result<ElementsByClassName<'s, 'a>, AllocError>);
     let mut twin = answer?;
     value(
         first == Some(NodeHandle::new(0))
@@ -239,9 +231,7 @@ fn clone_children(case: &mut Case) -> Result<(), Stop> {
 
 fn clone_handles<'a, 'b>(tag: &'b HTMLTag<'a>, case: &mut Case) -> Result<(), Stop> {
     let children: Children<'a, 'b> = tag.children();
-    case.begin()?;
-    let answer: Result<Children<'a, 'b>, AllocError> = children.clone();
-    case.end();
+    let answer = measured!(case, children.clone() => Result<Children<'a, 'b>, AllocError>);
     let twin = answer?;
     value(twin.top().len() == 2 && twin.top().get(1) == Some(&NodeHandle::new(2)))
 }

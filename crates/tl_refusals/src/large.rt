@@ -1,7 +1,7 @@
 //! Maps of many pairs, and containers that something was taken out of.
-use crate::Named;
 use crate::case::Case;
 use crate::stop::{Stop, refused, value};
+use crate::{Named, measured};
 use std::alloc::Global;
 use tl::inline::hashmap::InlineHashMap;
 use tl::inline::vec::InlineVec;
@@ -32,120 +32,32 @@ enum MapCall {
 // The name of a call, with how many pairs the map was filled, what was done then, and the call.
 type MapRow = (&'static str, u8, Past, MapCall);
 
+#[rattlefmt::skip]
 static MAPS: [MapRow; 18] = [
-    (
-        "insert of a 17th pair",
-        16,
-        Past::Filled,
-        MapCall::Insert(16),
-    ),
-    (
-        "insert of a 21st pair",
-        20,
-        Past::Filled,
-        MapCall::Insert(20),
-    ),
-    (
-        "insert of a 29th pair",
-        28,
-        Past::Filled,
-        MapCall::Insert(28),
-    ),
-    (
-        "insert of a 65th pair",
-        64,
-        Past::Filled,
-        MapCall::Insert(64),
-    ),
-    (
-        "insert of a 71st pair",
-        70,
-        Past::Filled,
-        MapCall::Insert(70),
-    ),
-    (
-        "insert of a key that is there, of 20 pairs",
-        20,
-        Past::Filled,
-        MapCall::Insert(19),
-    ),
-    (
-        "insert of a key that is there, of 70 pairs",
-        70,
-        Past::Filled,
-        MapCall::Insert(69),
-    ),
-    (
-        "clone of a map of 20 pairs",
-        20,
-        Past::Filled,
-        MapCall::Clone,
-    ),
-    (
-        "clone of a map of 70 pairs",
-        70,
-        Past::Filled,
-        MapCall::Clone,
-    ),
-    (
-        "to_map of a map of 20 pairs",
-        20,
-        Past::Filled,
-        MapCall::ToMap,
-    ),
-    (
-        "to_map of a map of 70 pairs",
-        70,
-        Past::Filled,
-        MapCall::ToMap,
-    ),
-    (
-        "insert after a remove, inline",
-        2,
-        Past::Taken,
-        MapCall::Insert(9),
-    ),
-    (
-        "insert after a remove, on the heap",
-        3,
-        Past::Taken,
-        MapCall::Insert(9),
-    ),
-    (
-        "insert after a remove, of 70 pairs",
-        70,
-        Past::Taken,
-        MapCall::Insert(99),
-    ),
-    (
-        "second insert after a remove, inline",
-        2,
-        Past::Swapped,
-        MapCall::Insert(9),
-    ),
-    (
-        "second insert after a remove, on the heap",
-        5,
-        Past::Swapped,
-        MapCall::Insert(9),
-    ),
-    (
-        "second insert after a remove, of 28 pairs",
-        28,
-        Past::Swapped,
-        MapCall::Insert(99),
-    ),
-    (
-        "clone after a remove, of 70 pairs",
-        70,
-        Past::Swapped,
-        MapCall::Clone,
-    ),
+    ("insert of a 17th pair", 16, Past::Filled, MapCall::Insert(16)),
+    ("insert of a 21st pair", 20, Past::Filled, MapCall::Insert(20)),
+    ("insert of a 29th pair", 28, Past::Filled, MapCall::Insert(28)),
+    ("insert of a 65th pair", 64, Past::Filled, MapCall::Insert(64)),
+    ("insert of a 71st pair", 70, Past::Filled, MapCall::Insert(70)),
+    ("insert of a key that is there, of 20 pairs", 20, Past::Filled, MapCall::Insert(19)),
+    ("insert of a key that is there, of 70 pairs", 70, Past::Filled, MapCall::Insert(69)),
+    ("clone of a map of 20 pairs", 20, Past::Filled, MapCall::Clone),
+    ("clone of a map of 70 pairs", 70, Past::Filled, MapCall::Clone),
+    ("to_map of a map of 20 pairs", 20, Past::Filled, MapCall::ToMap),
+    ("to_map of a map of 70 pairs", 70, Past::Filled, MapCall::ToMap),
+    ("insert after a remove, inline", 2, Past::Taken, MapCall::Insert(9)),
+    ("insert after a remove, on the heap", 3, Past::Taken, MapCall::Insert(9)),
+    ("insert after a remove, of 70 pairs", 70, Past::Taken, MapCall::Insert(99)),
+    ("second insert after a remove, inline", 2, Past::Swapped, MapCall::Insert(9)),
+    ("second insert after a remove, on the heap", 5, Past::Swapped, MapCall::Insert(9)),
+    ("second insert after a remove, of 28 pairs", 28, Past::Swapped, MapCall::Insert(99)),
+    ("clone after a remove, of 70 pairs", 70, Past::Swapped, MapCall::Clone),
 ];
 
 // The name of a call, with how many items the list was filled, and what was done then: an item is pushed.
 type ListRow = (&'static str, u8, Past);
 
+#[rattlefmt::skip]
 static LISTS: [ListRow; 4] = [
     ("push after a remove, inline", 2, Past::Taken),
     ("push after a remove, on the heap", 3, Past::Taken),
@@ -254,9 +166,7 @@ fn is_as_made(map: &Map, row: &MapRow) -> bool {
 // A refused pair comes back, and the map holds what it held.
 fn insert(map: &mut Map, row: &MapRow, key: u8, case: &mut Case) -> Result<(), Stop> {
     let is_known = map.get(&key).is_some();
-    case.begin()?;
-    let answer = map.insert(key, PUT);
-    case.end();
+    let answer = measured!(case, map.insert(key, PUT));
     let grown = if is_known { 0 } else { 1 };
     match answer {
         Ok(()) => value(
@@ -269,16 +179,12 @@ fn insert(map: &mut Map, row: &MapRow, key: u8, case: &mut Case) -> Result<(), S
 }
 
 fn clone(map: &Map, row: &MapRow, case: &mut Case) -> Result<(), Stop> {
-    case.begin()?;
-    let answer = map.clone();
-    case.end();
+    let answer = measured!(case, map.clone());
     value(is_as_made(&answer?, row))
 }
 
 fn to_map(map: &Map, row: &MapRow, case: &mut Case) -> Result<(), Stop> {
-    case.begin()?;
-    let answer = map.to_map(case.alloc());
-    case.end();
+    let answer = measured!(case, map.to_map(case.alloc()));
     let table = answer?;
     for pair in map.iter() {
         if table.get(pair.0) != Some(pair.1) {
@@ -291,9 +197,7 @@ fn to_map(map: &Map, row: &MapRow, case: &mut Case) -> Result<(), Stop> {
 // A refused item comes back, and the list holds what it held.
 fn of_list(row: &ListRow, case: &mut Case) -> Result<(), Stop> {
     let mut list = made_list(row, case.alloc())?;
-    case.begin()?;
-    let answer = list.push(PUT);
-    case.end();
+    let answer = measured!(case, list.push(PUT));
     let len = len(row.1, row.2) as usize;
     match answer {
         Ok(()) => value(

@@ -1,8 +1,8 @@
 //! Searches, ranges and queries: what answers numbers of nodes.
-use crate::Named;
 use crate::case::Case;
 use crate::stop::{Stop, refused, value};
 use crate::texts::{Page, steps};
+use crate::{Named, measured};
 use std::alloc::AllocError;
 use tl::errors::TreeError;
 use tl::queryselector::{QueryIterable, QuerySelectorIterator, Selector};
@@ -44,167 +44,36 @@ pub const FALLS: Page = Page {
     steps: &[Step::Push(3, 0), Step::Push(3, 2), Step::Push(2, 1)],
 };
 
+#[rattlefmt::skip]
 static ROWS: [Row; 28] = [
-    (
-        "find_node of a node",
-        NumberCall::Find(b"bxcb"),
-        PLAIN,
-        0,
-        &[4],
-    ),
-    (
-        "find_node of a node with marks",
-        NumberCall::Find(b"acb"),
-        FALLS,
-        3,
-        &[1],
-    ),
-    (
-        "find_node of a tag",
-        NumberCall::FindChild(b"bb"),
-        PLAIN,
-        0,
-        &[4],
-    ),
+    ("find_node of a node", NumberCall::Find(b"bxcb"), PLAIN, 0, &[4]),
+    ("find_node of a node with marks", NumberCall::Find(b"acb"), FALLS, 3, &[1]),
+    ("find_node of a tag", NumberCall::FindChild(b"bb"), PLAIN, 0, &[4]),
     ("end", NumberCall::End, PLAIN, 0, &[4]),
     ("end with marks", NumberCall::End, FALLS, 3, &[1]),
     ("boundaries", NumberCall::Boundaries, PLAIN, 0, &[1, 4]),
-    (
-        "boundaries with marks",
-        NumberCall::Boundaries,
-        FALLS,
-        3,
-        &[0, 1],
-    ),
+    ("boundaries with marks", NumberCall::Boundaries, FALLS, 3, &[0, 1]),
     ("all", NumberCall::All, PLAIN, 0, &[4]),
     ("all with marks", NumberCall::All, FALLS, 3, &[2]),
-    (
-        "len of a document",
-        NumberCall::LenOfDocument,
-        PLAIN,
-        0,
-        &[5],
-    ),
+    ("len of a document", NumberCall::LenOfDocument, PLAIN, 0, &[5]),
     ("len of a tag", NumberCall::LenOfTag, PLAIN, 0, &[4]),
-    (
-        "len of a tag with marks",
-        NumberCall::LenOfTag,
-        FALLS,
-        3,
-        &[2],
-    ),
-    (
-        "query_selector of a document, one part",
-        NumberCall::Query("b"),
-        PLAIN,
-        0,
-        &[1, 4],
-    ),
-    (
-        "query_selector of a document, two parts",
-        NumberCall::Query("c, a"),
-        PLAIN,
-        0,
-        &[0, 3],
-    ),
-    (
-        "query_selector of a document, ancestors",
-        NumberCall::Query("a > b, b c"),
-        PLAIN,
-        0,
-        &[1, 3, 4],
-    ),
-    (
-        "query_selector of a tag, one part",
-        NumberCall::QueryBelow("c"),
-        PLAIN,
-        0,
-        &[3],
-    ),
-    (
-        "query_selector of a tag, ancestors",
-        NumberCall::QueryBelow("a > b"),
-        PLAIN,
-        0,
-        &[1, 4],
-    ),
-    (
-        "query_selector of a tag with marks",
-        NumberCall::QueryBelow("b"),
-        FALLS,
-        3,
-        &[1],
-    ),
-    (
-        "QuerySelectorIterator::new over a document",
-        NumberCall::New("a b"),
-        PLAIN,
-        0,
-        &[1, 4],
-    ),
-    (
-        "QuerySelectorIterator::new over a tag",
-        NumberCall::NewBelow("c"),
-        PLAIN,
-        0,
-        &[3],
-    ),
-    (
-        "QuerySelectorIterator::new over a tag, ancestors",
-        NumberCall::NewBelow("b c"),
-        PLAIN,
-        0,
-        &[3],
-    ),
-    (
-        "QuerySelectorIterator::new over a tag with marks",
-        NumberCall::NewBelow("b"),
-        FALLS,
-        3,
-        &[1],
-    ),
-    (
-        "clone of a query, one part",
-        NumberCall::Clone("b"),
-        PLAIN,
-        0,
-        &[1, 4],
-    ),
-    (
-        "clone of a query, ancestors",
-        NumberCall::Clone("a > b, b c"),
-        PLAIN,
-        0,
-        &[1, 3, 4],
-    ),
-    (
-        "clone of a query at its end, one part",
-        NumberCall::CloneAtEnd("b"),
-        PLAIN,
-        0,
-        &[1, 4],
-    ),
-    (
-        "clone of a query at its end, ancestors",
-        NumberCall::CloneAtEnd("a > b, b c"),
-        PLAIN,
-        0,
-        &[1, 3, 4],
-    ),
-    (
-        "matches_in, one part",
-        NumberCall::MatchesIn("b"),
-        PLAIN,
-        4,
-        &[1],
-    ),
-    (
-        "matches_in, ancestors",
-        NumberCall::MatchesIn("a > b, b c"),
-        PLAIN,
-        3,
-        &[1],
-    ),
+    ("len of a tag with marks", NumberCall::LenOfTag, FALLS, 3, &[2]),
+    ("query_selector of a document, one part", NumberCall::Query("b"), PLAIN, 0, &[1, 4]),
+    ("query_selector of a document, two parts", NumberCall::Query("c, a"), PLAIN, 0, &[0, 3]),
+    ("query_selector of a document, ancestors", NumberCall::Query("a > b, b c"), PLAIN, 0, &[1, 3, 4]),
+    ("query_selector of a tag, one part", NumberCall::QueryBelow("c"), PLAIN, 0, &[3]),
+    ("query_selector of a tag, ancestors", NumberCall::QueryBelow("a > b"), PLAIN, 0, &[1, 4]),
+    ("query_selector of a tag with marks", NumberCall::QueryBelow("b"), FALLS, 3, &[1]),
+    ("QuerySelectorIterator::new over a document", NumberCall::New("a b"), PLAIN, 0, &[1, 4]),
+    ("QuerySelectorIterator::new over a tag", NumberCall::NewBelow("c"), PLAIN, 0, &[3]),
+    ("QuerySelectorIterator::new over a tag, ancestors", NumberCall::NewBelow("b c"), PLAIN, 0, &[3]),
+    ("QuerySelectorIterator::new over a tag with marks", NumberCall::NewBelow("b"), FALLS, 3, &[1]),
+    ("clone of a query, one part", NumberCall::Clone("b"), PLAIN, 0, &[1, 4]),
+    ("clone of a query, ancestors", NumberCall::Clone("a > b, b c"), PLAIN, 0, &[1, 3, 4]),
+    ("clone of a query at its end, one part", NumberCall::CloneAtEnd("b"), PLAIN, 0, &[1, 4]),
+    ("clone of a query at its end, ancestors", NumberCall::CloneAtEnd("a > b, b c"), PLAIN, 0, &[1, 3, 4]),
+    ("matches_in, one part", NumberCall::MatchesIn("b"), PLAIN, 4, &[1]),
+    ("matches_in, ancestors", NumberCall::MatchesIn("a > b, b c"), PLAIN, 3, &[1]),
 ];
 
 /// A call that answers numbers, if there is one of this number.
@@ -223,9 +92,7 @@ fn of_page(row: &Row, case: &mut Case) -> Result<(), Stop> {
 pub fn of_document(document: &VDom<'_>, row: &Row, case: &mut Case) -> Result<(), Stop> {
     match row.1 {
         NumberCall::LenOfDocument => {
-            case.begin()?;
-            let answer = document.len(document.parser());
-            case.end();
+            let answer = measured!(case, document.len(document.parser()));
             value(are(&[answer?], row.4))
         }
         NumberCall::Query(text) => query(document, text, row.4, case),
@@ -273,9 +140,7 @@ fn of_query(
 }
 
 fn query(document: &VDom<'_>, text: &str, wanted: &[u32], case: &mut Case) -> Result<(), Stop> {
-    case.begin()?;
-    let answer = document.query_selector(case.alloc(), text);
-    case.end();
+    let answer = measured!(case, document.query_selector(case.alloc(), text));
     of_query(answer, wanted)
 }
 
@@ -294,9 +159,10 @@ fn new<'x, 'a, Q: QueryIterable<'a>>(
     case: &mut Case,
 ) -> Result<(), Stop> {
     let selector = read(text, case)?;
-    case.begin()?;
-    let answer = QuerySelectorIterator::new(selector, document.parser(), asked);
-    case.end();
+    let answer = measured!(
+        case,
+        QuerySelectorIterator::new(selector, document.parser(), asked)
+    );
     value(gives(answer?, wanted))
 }
 
@@ -322,18 +188,18 @@ fn clone_query<'x, 'a>(
     wanted: &[u32],
     case: &mut Case,
 ) -> Result<(), Stop> {
-    case.begin()?;
-    let answer: Result<QuerySelectorIterator<'a, 'x>, AllocError> = found.clone();
-    case.end();
+    let answer =
+        measured!(case, found.clone() => Result<QuerySelectorIterator<'a, 'x>, AllocError>);
     let twin = answer?;
     value(gives(twin, wanted) && gives(found, wanted))
 }
 
 fn matches_in(document: &VDom<'_>, text: &str, row: &Row, case: &mut Case) -> Result<(), Stop> {
     let selector = read(text, case)?;
-    case.begin()?;
-    let answer = selector.matches_in(document.parser(), NodeHandle::new(row.3));
-    case.end();
+    let answer = measured!(
+        case,
+        selector.matches_in(document.parser(), NodeHandle::new(row.3))
+    );
     value(answer? == (row.4 == [1].as_slice()))
 }
 
@@ -402,9 +268,7 @@ fn find<'a>(
     case: &mut Case,
 ) -> Result<(), Stop> {
     let mut seen = Seen::new(walk);
-    case.begin()?;
-    let answer = node.find_node(parser, &mut |shown| seen.see(shown));
-    case.end();
+    let answer = measured!(case, node.find_node(parser, &mut |shown| seen.see(shown)));
     is_found(answer, &seen, wanted)
 }
 
@@ -416,9 +280,7 @@ fn find_child<'a>(
     case: &mut Case,
 ) -> Result<(), Stop> {
     let mut seen = Seen::new(walk);
-    case.begin()?;
-    let answer = tag.find_node(parser, &mut |shown| seen.see(shown));
-    case.end();
+    let answer = measured!(case, tag.find_node(parser, &mut |shown| seen.see(shown)));
     is_found(answer, &seen, wanted)
 }
 
@@ -447,9 +309,7 @@ fn of_tag<'a>(
         NumberCall::QueryBelow(text) => query_below(document.parser(), tag, text, row.4, case),
         NumberCall::NewBelow(text) => new(document, tag, text, row.4, case),
         NumberCall::LenOfTag => {
-            case.begin()?;
-            let answer = tag.len(document.parser());
-            case.end();
+            let answer = measured!(case, tag.len(document.parser()));
             value(are(&[answer?], row.4))
         }
         _ => range(document.parser(), tag, row, case),
@@ -463,9 +323,7 @@ fn query_below<'x, 'a>(
     wanted: &[u32],
     case: &mut Case,
 ) -> Result<(), Stop> {
-    case.begin()?;
-    let answer = tag.query_selector(case.alloc(), parser, text);
-    case.end();
+    let answer = measured!(case, tag.query_selector(case.alloc(), parser, text));
     of_query(answer, wanted)
 }
 
@@ -489,9 +347,7 @@ fn end(
     case: &mut Case,
 ) -> Result<(), Stop> {
     let children = tag.children();
-    case.begin()?;
-    let answer = children.end(parser);
-    case.end();
+    let answer = measured!(case, children.end(parser));
     is_end(answer?, wanted)
 }
 
@@ -502,9 +358,7 @@ fn boundaries(
     case: &mut Case,
 ) -> Result<(), Stop> {
     let children = tag.children();
-    case.begin()?;
-    let answer = children.boundaries(parser);
-    case.end();
+    let answer = measured!(case, children.boundaries(parser));
     are_boundaries(answer?, wanted)
 }
 
@@ -515,9 +369,7 @@ fn all<'a>(
     case: &mut Case,
 ) -> Result<(), Stop> {
     let children = tag.children();
-    case.begin()?;
-    let answer = children.all(parser).map(|nodes| nodes.len());
-    case.end();
+    let answer = measured!(case, children.all(parser).map(|nodes| nodes.len()));
     value(are(&[answer?], wanted))
 }
 

@@ -1,7 +1,7 @@
 //! The commands of the program.
-use crate::Named;
 use crate::case::Case;
 use crate::stop::{Stop, refused, value};
+use crate::{Named, measured};
 use std::alloc::{AllocError, Global};
 use tl_program::program::{Command, Failure, Marked, command, output, run, run_words};
 use tl_program::script::Step;
@@ -21,6 +21,7 @@ type Row = (
 );
 
 // Those of the edit.
+#[rattlefmt::skip]
 static STEPS: [Step<'static>; 5] = [
     Step::Set(0, b"d", b"4"),
     Step::Unset(0, b"a"),
@@ -29,90 +30,16 @@ static STEPS: [Step<'static>; 5] = [
     Step::Push(0, 1),
 ];
 
+#[rattlefmt::skip]
 static ROWS: [Row; 8] = [
-    (
-        [
-            "command print",
-            "output of print",
-            "run of print",
-            "run_words of print",
-        ],
-        &["print"],
-        PAGE,
-        PRINT,
-    ),
-    (
-        [
-            "command text",
-            "output of text",
-            "run of text",
-            "run_words of text",
-        ],
-        &["text"],
-        PAGE,
-        b"xy\xc3\xa9",
-    ),
-    (
-        [
-            "command again",
-            "output of again",
-            "run of again",
-            "run_words of again",
-        ],
-        &["again"],
-        PAGE,
-        PRINT,
-    ),
-    (
-        [
-            "command edit",
-            "output of edit",
-            "run of edit",
-            "run_words of edit",
-        ],
-        &["edit", "set 0 d 4\nunset 0 a\nname 2 i\ntext 4 w\npush 0 1"],
-        PAGE,
-        b"<p d=\"4\" b=\"2\" c=\"3\">x<i>y</i>w<!-- z --><br>x</p>",
-    ),
-    (
-        ["command id", "output of id", "run of id", "run_words of id"],
-        &["id", "j"],
-        NAMED,
-        b"2\n",
-    ),
-    (
-        [
-            "command class",
-            "output of class",
-            "run of class",
-            "run_words of class",
-        ],
-        &["class", "k"],
-        NAMED,
-        b"0\n1\n2\n",
-    ),
-    (
-        [
-            "command select",
-            "output of select",
-            "run of select",
-            "run_words of select",
-        ],
-        &["select", "b"],
-        NAMED,
-        b"1\n",
-    ),
-    (
-        [
-            "command select, ancestors",
-            "output of select, ancestors",
-            "run of select, ancestors",
-            "run_words of select, ancestors",
-        ],
-        &["select", "p > .k, p i"],
-        NAMED,
-        b"1\n2\n",
-    ),
+    (["command print", "output of print", "run of print", "run_words of print",], &["print"], PAGE, PRINT),
+    (["command text", "output of text", "run of text", "run_words of text",], &["text"], PAGE, b"xy\xc3\xa9"),
+    (["command again", "output of again", "run of again", "run_words of again",], &["again"], PAGE, PRINT),
+    (["command edit", "output of edit", "run of edit", "run_words of edit",], &["edit", "set 0 d 4\nunset 0 a\nname 2 i\ntext 4 w\npush 0 1"], PAGE, b"<p d=\"4\" b=\"2\" c=\"3\">x<i>y</i>w<!-- z --><br>x</p>"),
+    (["command id", "output of id", "run of id", "run_words of id"], &["id", "j"], NAMED, b"2\n"),
+    (["command class", "output of class", "run of class", "run_words of class",], &["class", "k"], NAMED, b"0\n1\n2\n"),
+    (["command select", "output of select", "run of select", "run_words of select",], &["select", "b"], NAMED, b"1\n"),
+    (["command select, ancestors", "output of select, ancestors", "run of select, ancestors", "run_words of select, ancestors",], &["select", "p > .k, p i"], NAMED, b"1\n2\n"),
 ];
 
 /// A call of the program, if there is one of this number.
@@ -144,9 +71,7 @@ fn owned(alloc: Global, words: &[&str]) -> Result<Vec<String>, AllocError> {
 }
 
 fn of_command(words: &[String], row: &Row, case: &mut Case) -> Result<(), Stop> {
-    case.begin()?;
-    let answer = command(case.alloc(), words);
-    case.end();
+    let answer = measured!(case, command(case.alloc(), words));
     match answer? {
         Some(asked) => value(is_asked(&asked, row.1)),
         None => Err(Stop::WrongValue),
@@ -169,9 +94,7 @@ fn is_asked(asked: &Command<'_>, words: &[&str]) -> bool {
 }
 
 fn of_output(asked: &Command<'_>, row: &Row, case: &mut Case) -> Result<(), Stop> {
-    case.begin()?;
-    let answer = output(case.alloc(), asked, row.2);
-    case.end();
+    let answer = measured!(case, output(case.alloc(), asked, row.2));
     match answer {
         Ok(text) => value(text.as_bytes() == row.3),
         Err(Failure::OutOfMemory) => Err(Stop::NoMemory),

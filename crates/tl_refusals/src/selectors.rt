@@ -1,7 +1,7 @@
 //! Selector texts.
-use crate::Named;
 use crate::case::Case;
 use crate::stop::{Stop, refused, value};
+use crate::{Named, measured};
 use std::alloc::{AllocError, Global};
 use tl::parse_query_selector;
 use tl::queryselector::{Parser, Selector};
@@ -17,61 +17,17 @@ enum SelectorCall {
 // The name of a call, the call, the text, and what it stands for.
 type Row = (&'static str, SelectorCall, &'static str, &'static str);
 
+#[rattlefmt::skip]
 static ROWS: [Row; 9] = [
-    (
-        "parse_query_selector, one part",
-        SelectorCall::Parse,
-        "a",
-        "Tag([97])",
-    ),
-    (
-        "parse_query_selector, two parts",
-        SelectorCall::Parse,
-        "a.b",
-        "And { second: Class([98]), first: Tag([97]) }",
-    ),
-    (
-        "parse_query_selector, three parts",
-        SelectorCall::Parse,
-        "a b, c",
-        "Or { second: Tag([99]), first: Descendant { second: Tag([98]), first: Tag([97]) } }",
-    ),
-    (
-        "parse_query_selector, five parts",
-        SelectorCall::Parse,
-        "a > b, c, d#e",
-        "Or { second: And { second: Id([101]), first: Tag([100]) }, first: Or { second: Tag([99]), first: Parent { second: Tag([98]), first: Tag([97]) } } }",
-    ),
-    (
-        "selector of a reader, one part",
-        SelectorCall::Read,
-        "a",
-        "Tag([97])",
-    ),
-    (
-        "selector of a reader, three parts",
-        SelectorCall::Read,
-        "a b, c",
-        "Or { second: Tag([99]), first: Descendant { second: Tag([98]), first: Tag([97]) } }",
-    ),
-    (
-        "clone of a selector, one part",
-        SelectorCall::Clone,
-        "a",
-        "Tag([97])",
-    ),
-    (
-        "clone of a selector, three parts",
-        SelectorCall::Clone,
-        "a b, c",
-        "Or { second: Tag([99]), first: Descendant { second: Tag([98]), first: Tag([97]) } }",
-    ),
-    (
-        "clone of a selector, five parts",
-        SelectorCall::Clone,
-        "a > b, c, d#e",
-        "Or { second: And { second: Id([101]), first: Tag([100]) }, first: Or { second: Tag([99]), first: Parent { second: Tag([98]), first: Tag([97]) } } }",
-    ),
+    ("parse_query_selector, one part", SelectorCall::Parse, "a", "Tag([97])"),
+    ("parse_query_selector, two parts", SelectorCall::Parse, "a.b", "And { second: Class([98]), first: Tag([97]) }"),
+    ("parse_query_selector, three parts", SelectorCall::Parse, "a b, c", "Or { second: Tag([99]), first: Descendant { second: Tag([98]), first: Tag([97]) } }"),
+    ("parse_query_selector, five parts", SelectorCall::Parse, "a > b, c, d#e", "Or { second: And { second: Id([101]), first: Tag([100]) }, first: Or { second: Tag([99]), first: Parent { second: Tag([98]), first: Tag([97]) } } }"),
+    ("selector of a reader, one part", SelectorCall::Read, "a", "Tag([97])"),
+    ("selector of a reader, three parts", SelectorCall::Read, "a b, c", "Or { second: Tag([99]), first: Descendant { second: Tag([98]), first: Tag([97]) } }"),
+    ("clone of a selector, one part", SelectorCall::Clone, "a", "Tag([97])"),
+    ("clone of a selector, three parts", SelectorCall::Clone, "a b, c", "Or { second: Tag([99]), first: Descendant { second: Tag([98]), first: Tag([97]) } }"),
+    ("clone of a selector, five parts", SelectorCall::Clone, "a > b, c, d#e", "Or { second: And { second: Id([101]), first: Tag([100]) }, first: Or { second: Tag([99]), first: Parent { second: Tag([98]), first: Tag([97]) } } }"),
 ];
 
 /// A call of a selector or of its reader, if there is one of this number.
@@ -86,9 +42,7 @@ pub fn call(number: usize, case: &mut Case) -> Option<Named> {
 }
 
 fn parse(text: &str, wanted: &str, case: &mut Case) -> Result<(), Stop> {
-    case.begin()?;
-    let answer = parse_query_selector(case.alloc(), text);
-    case.end();
+    let answer = measured!(case, parse_query_selector(case.alloc(), text));
     match answer? {
         Some(selector) => is_shown(case.alloc(), &selector, wanted),
         None => Err(Stop::WrongValue),
@@ -103,9 +57,7 @@ fn is_shown(alloc: Global, selector: &Selector<'_>, wanted: &str) -> Result<(), 
 // A refused text is there again.
 fn read(text: &str, wanted: &str, case: &mut Case) -> Result<(), Stop> {
     let mut parser = Parser::new(text.as_bytes());
-    case.begin()?;
-    let answer = parser.selector(case.alloc());
-    case.end();
+    let answer = measured!(case, parser.selector(case.alloc()));
     match answer {
         Ok(Some(selector)) => is_shown(case.alloc(), &selector, wanted),
         Ok(None) => Err(Stop::WrongValue),
@@ -128,8 +80,6 @@ fn clone(text: &str, wanted: &str, case: &mut Case) -> Result<(), Stop> {
 }
 
 fn clone_selector<'t>(selector: &Selector<'t>, wanted: &str, case: &mut Case) -> Result<(), Stop> {
-    case.begin()?;
-    let answer: Result<Selector<'t>, AllocError> = selector.clone();
-    case.end();
+    let answer = measured!(case, selector.clone() => Result<Selector<'t>, AllocError>);
     is_shown(case.alloc(), &answer?, wanted)
 }

@@ -1,7 +1,7 @@
 //! Prints, texts and clones of what stands in a document.
-use crate::Named;
 use crate::case::Case;
 use crate::stop::{Stop, value};
+use crate::{Named, measured};
 use std::alloc::{AllocError, Global};
 use tl::errors::TreeError;
 use tl::{HTMLTag, Node, Parser, ParserOptions, VDom, parse};
@@ -56,143 +56,30 @@ pub const OWNED: Page = Page {
     ],
 };
 
+#[rattlefmt::skip]
 static ROWS: [Row; 22] = [
-    (
-        "outer_html of a document",
-        TextCall::DocumentHtml,
-        PLAIN,
-        0,
-        "<p a=\"1\" b=\"2\" c=\"3\" id=\"i\" class=\"k\">x<b>y<!-- z --></b><br>w</p>v",
-    ),
-    (
-        "outer_html of a document with marks",
-        TextCall::DocumentHtml,
-        FALLS,
-        0,
-        "<a>x</a><b>y<i></i><a>x</a></b>",
-    ),
-    (
-        "inner_text of a document",
-        TextCall::DocumentText,
-        PLAIN,
-        0,
-        "xywv",
-    ),
-    (
-        "inner_text of a document with marks",
-        TextCall::DocumentText,
-        FALLS,
-        0,
-        "xyx",
-    ),
-    (
-        "outer_html of a node",
-        TextCall::OuterHtml,
-        PLAIN,
-        0,
-        "<p a=\"1\" b=\"2\" c=\"3\" id=\"i\" class=\"k\">x<b>y<!-- z --></b><br>w</p>",
-    ),
-    (
-        "outer_html of a node with marks",
-        TextCall::OuterHtml,
-        FALLS,
-        2,
-        "<b>y<i></i><a>x</a></b>",
-    ),
+    ("outer_html of a document", TextCall::DocumentHtml, PLAIN, 0, "<p a=\"1\" b=\"2\" c=\"3\" id=\"i\" class=\"k\">x<b>y<!-- z --></b><br>w</p>v"),
+    ("outer_html of a document with marks", TextCall::DocumentHtml, FALLS, 0, "<a>x</a><b>y<i></i><a>x</a></b>"),
+    ("inner_text of a document", TextCall::DocumentText, PLAIN, 0, "xywv"),
+    ("inner_text of a document with marks", TextCall::DocumentText, FALLS, 0, "xyx"),
+    ("outer_html of a node", TextCall::OuterHtml, PLAIN, 0, "<p a=\"1\" b=\"2\" c=\"3\" id=\"i\" class=\"k\">x<b>y<!-- z --></b><br>w</p>"),
+    ("outer_html of a node with marks", TextCall::OuterHtml, FALLS, 2, "<b>y<i></i><a>x</a></b>"),
     ("outer_html of a text", TextCall::OuterHtml, PLAIN, 1, "x"),
-    (
-        "inner_html of a node",
-        TextCall::InnerHtml,
-        PLAIN,
-        0,
-        "x<b>y<!-- z --></b><br>w",
-    ),
-    (
-        "inner_html of a node with marks",
-        TextCall::InnerHtml,
-        FALLS,
-        2,
-        "y<i></i><a>x</a>",
-    ),
+    ("inner_html of a node", TextCall::InnerHtml, PLAIN, 0, "x<b>y<!-- z --></b><br>w"),
+    ("inner_html of a node with marks", TextCall::InnerHtml, FALLS, 2, "y<i></i><a>x</a>"),
     ("inner_text of a node", TextCall::InnerText, PLAIN, 0, "xyw"),
-    (
-        "inner_text of a node with marks",
-        TextCall::InnerText,
-        FALLS,
-        2,
-        "yx",
-    ),
-    (
-        "outer_html of a tag",
-        TextCall::TagHtml,
-        PLAIN,
-        0,
-        "<p a=\"1\" b=\"2\" c=\"3\" id=\"i\" class=\"k\">x<b>y<!-- z --></b><br>w</p>",
-    ),
-    (
-        "outer_html of a tag with marks",
-        TextCall::TagHtml,
-        FALLS,
-        2,
-        "<b>y<i></i><a>x</a></b>",
-    ),
-    (
-        "inner_html of a tag",
-        TextCall::TagInside,
-        PLAIN,
-        0,
-        "x<b>y<!-- z --></b><br>w",
-    ),
-    (
-        "inner_html of a tag with marks",
-        TextCall::TagInside,
-        FALLS,
-        2,
-        "y<i></i><a>x</a>",
-    ),
+    ("inner_text of a node with marks", TextCall::InnerText, FALLS, 2, "yx"),
+    ("outer_html of a tag", TextCall::TagHtml, PLAIN, 0, "<p a=\"1\" b=\"2\" c=\"3\" id=\"i\" class=\"k\">x<b>y<!-- z --></b><br>w</p>"),
+    ("outer_html of a tag with marks", TextCall::TagHtml, FALLS, 2, "<b>y<i></i><a>x</a></b>"),
+    ("inner_html of a tag", TextCall::TagInside, PLAIN, 0, "x<b>y<!-- z --></b><br>w"),
+    ("inner_html of a tag with marks", TextCall::TagInside, FALLS, 2, "y<i></i><a>x</a>"),
     ("inner_text of a tag", TextCall::TagText, PLAIN, 0, "xyw"),
-    (
-        "inner_text of a tag with marks",
-        TextCall::TagText,
-        FALLS,
-        2,
-        "yx",
-    ),
-    (
-        "clone of a node, a tag",
-        TextCall::CloneNode,
-        OWNED,
-        0,
-        "<q a=\"1\" b=\"2\" c=\"3\" id=\"i\">t<b><!----></b>t</q>",
-    ),
-    (
-        "clone of a node, a text",
-        TextCall::CloneNode,
-        OWNED,
-        1,
-        "t",
-    ),
-    (
-        "clone of a node, a comment",
-        TextCall::CloneNode,
-        OWNED,
-        3,
-        "<!---->",
-    ),
-    (
-        "clone of a tag",
-        TextCall::CloneTag,
-        OWNED,
-        0,
-        "<q a=\"1\" b=\"2\" c=\"3\" id=\"i\">t<b><!----></b>t</q>",
-    ),
-    (
-        "clone of a tag that borrows",
-        TextCall::CloneTag,
-        PLAIN,
-        2,
-        "<b>y<!-- z --></b>",
-    ),
+    ("inner_text of a tag with marks", TextCall::TagText, FALLS, 2, "yx"),
+    ("clone of a node, a tag", TextCall::CloneNode, OWNED, 0, "<q a=\"1\" b=\"2\" c=\"3\" id=\"i\">t<b><!----></b>t</q>"),
+    ("clone of a node, a text", TextCall::CloneNode, OWNED, 1, "t"),
+    ("clone of a node, a comment", TextCall::CloneNode, OWNED, 3, "<!---->"),
+    ("clone of a tag", TextCall::CloneTag, OWNED, 0, "<q a=\"1\" b=\"2\" c=\"3\" id=\"i\">t<b><!----></b>t</q>"),
+    ("clone of a tag that borrows", TextCall::CloneTag, PLAIN, 2, "<b>y<!-- z --></b>"),
 ];
 
 /// A call that answers a text or a clone, if there is one of this number.
@@ -219,15 +106,11 @@ pub fn steps(alloc: Global, document: &mut VDom<'_>, steps: &[Step<'_>]) -> Resu
 pub fn of_document(document: &VDom<'_>, row: &Row, case: &mut Case) -> Result<(), Stop> {
     match row.1 {
         TextCall::DocumentHtml => {
-            case.begin()?;
-            let answer = document.outer_html(case.alloc());
-            case.end();
+            let answer = measured!(case, document.outer_html(case.alloc()));
             is_text(answer, row.4)
         }
         TextCall::DocumentText => {
-            case.begin()?;
-            let answer = document.inner_text(case.alloc());
-            case.end();
+            let answer = measured!(case, document.inner_text(case.alloc()));
             is_text(answer, row.4)
         }
         _ => match document.parser().resolve_node_id(row.3) {
@@ -282,9 +165,7 @@ fn clone_node<'a>(
     row: &Row,
     case: &mut Case,
 ) -> Result<(), Stop> {
-    case.begin()?;
-    let answer: Result<Node<'a>, AllocError> = node.clone();
-    case.end();
+    let answer = measured!(case, node.clone() => Result<Node<'a>, AllocError>);
     let print = answer?.outer_html(case.alloc(), parser);
     is_text(print, row.4)
 }
@@ -324,9 +205,7 @@ fn clone_tag<'a>(
     row: &Row,
     case: &mut Case,
 ) -> Result<(), Stop> {
-    case.begin()?;
-    let answer: Result<HTMLTag<'a>, AllocError> = tag.clone();
-    case.end();
+    let answer = measured!(case, tag.clone() => Result<HTMLTag<'a>, AllocError>);
     let twin = answer?;
     let lies_alike = twin.children().top().is_heap_allocated()
         == tag.children().top().is_heap_allocated()

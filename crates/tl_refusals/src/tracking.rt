@@ -1,7 +1,7 @@
 //! The maps from ids and classes.
-use crate::Named;
 use crate::case::Case;
 use crate::stop::{Stop, refused, value};
+use crate::{Named, measured};
 use tl::{Bytes, ParserOptions};
 use tl_tracking::TrackingOf;
 
@@ -15,39 +15,21 @@ type IdRow = (&'static str, &'static [Note], Note, u32);
 
 type ClassRow = (&'static str, &'static [Note], Note, &'static [u32]);
 
+#[rattlefmt::skip]
 static IDS: [IdRow; 4] = [
     ("note_id of a first id", &[], ("a", 0), 0),
     ("note_id of a second id", &[("a", 0)], ("b", 1), 1),
-    (
-        "note_id of a fifth id",
-        &[("a", 0), ("b", 1), ("c", 2), ("d", 3)],
-        ("e", 4),
-        4,
-    ),
+    ("note_id of a fifth id", &[("a", 0), ("b", 1), ("c", 2), ("d", 3)], ("e", 4), 4),
     ("note_id of an id that is there", &[("a", 0)], ("a", 1), 0),
 ];
 
+#[rattlefmt::skip]
 static CLASSES: [ClassRow; 6] = [
     ("note_class of a first tag", &[], ("k", 0), &[0]),
     ("note_class of a second tag", &[("k", 0)], ("k", 1), &[0, 1]),
-    (
-        "note_class of a third tag",
-        &[("k", 0), ("k", 1)],
-        ("k", 2),
-        &[0, 1, 2],
-    ),
-    (
-        "note_class of a fourth tag",
-        &[("k", 0), ("k", 1), ("k", 2)],
-        ("k", 3),
-        &[0, 1, 2, 3],
-    ),
-    (
-        "note_class of the last tag again",
-        &[("k", 0), ("k", 1)],
-        ("k", 1),
-        &[0, 1],
-    ),
+    ("note_class of a third tag", &[("k", 0), ("k", 1)], ("k", 2), &[0, 1, 2]),
+    ("note_class of a fourth tag", &[("k", 0), ("k", 1), ("k", 2)], ("k", 3), &[0, 1, 2, 3]),
+    ("note_class of the last tag again", &[("k", 0), ("k", 1)], ("k", 1), &[0, 1]),
     ("note_class of a second member", &[("k", 0)], ("l", 0), &[0]),
 ];
 
@@ -90,9 +72,7 @@ fn note_last_id(
 ) -> Result<(), Stop> {
     let id = Bytes::from(name);
     let before = tracking.id(&id);
-    case.begin()?;
-    let answer = tracking.note_id(Bytes::from(name), number);
-    case.end();
+    let answer = measured!(case, tracking.note_id(Bytes::from(name), number));
     match answer {
         Ok(()) => value(tracking.id(&id) == Some(wanted)),
         Err(_) => refused(tracking.id(&id) == before),
@@ -115,9 +95,7 @@ fn note_last_class(
     case: &mut Case,
 ) -> Result<(), Stop> {
     let before = numbers(tracking, member).len();
-    case.begin()?;
-    let answer = tracking.note_class(Bytes::from(member), number);
-    case.end();
+    let answer = measured!(case, tracking.note_class(Bytes::from(member), number));
     let after = numbers(tracking, member);
     match answer {
         Ok(()) => value(after == wanted),
@@ -139,12 +117,14 @@ const NAMES: &str = "abcdefghijklmnopqrstuvwxyzABCDEFGHIJKLMNOPQRSTUVWXYZ0123456
 // The name of a call, and how many names were noted before the next one.
 type ManyRow = (&'static str, u32);
 
+#[rattlefmt::skip]
 static MANY_IDS: [ManyRow; 3] = [
     ("note_id of a 15th id", 14),
     ("note_id of a 29th id", 28),
     ("note_id of a 33rd id", 32),
 ];
 
+#[rattlefmt::skip]
 static MANY_CLASSES: [ManyRow; 3] = [
     ("note_class of a 15th member", 14),
     ("note_class of a 29th member", 28),

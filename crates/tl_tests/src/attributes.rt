@@ -14,6 +14,7 @@ const UPPER: &str = "<p ID=i CLASS=k>";
 
 const CLASS: &str = "<p class=\"a b\tb\">";
 
+#[rattlefmt::skip]
 static LOOKS: [Row; 40] = [
     (PAGE, &[], Look::Key("a"), "4, there"),
     (PAGE, &[], Look::Key("c"), "3, there"),
@@ -26,20 +27,10 @@ static LOOKS: [Row; 40] = [
     (BARE, &[], Look::Key("id"), "no key"),
     (UPPER, &[], Look::Key("id"), "no key"),
     (UPPER, &[], Look::Key("CLASS"), "k, there"),
-    (
-        "<p>",
-        &[],
-        Look::Measures,
-        "0 of 0: no value, no value, empty",
-    ),
+    ("<p>", &[], Look::Measures, "0 of 0: no value, no value, empty"),
     ("<p class=k>", &[], Look::Measures, "0 of 1: no value, k"),
     ("<p id='' a>", &[], Look::Measures, "1 of 2: , no value"),
-    (
-        "<p ID=i b=2>",
-        &[],
-        Look::Measures,
-        "2 of 2: no value, no value",
-    ),
+    ("<p ID=i b=2>", &[], Look::Measures, "2 of 2: no value, no value"),
     (PAGE, &[], Look::Measures, "3 of 5: i, k, on the heap"),
     (CLASS, &[], Look::Members, "|a|b|b"),
     ("<p id=a>", &[], Look::Members, "none"),
@@ -49,24 +40,9 @@ static LOOKS: [Row; 40] = [
     (CLASS, &[], Look::Member(b""), "false"),
     (CLASS, &[], Look::Member(b"a b"), "false"),
     // A class that is not UTF-8 has no members.
-    (
-        "<p class=k>",
-        &[Edit::Part(0, Part::Bytes("class", b"\xff"))],
-        Look::Members,
-        "none",
-    ),
-    (
-        "<p class=k>",
-        &[Edit::Part(0, Part::Bytes("class", b"\xff"))],
-        Look::Member(b"\xff"),
-        "false",
-    ),
-    (
-        "<p class=k>",
-        &[Edit::Part(0, Part::Bytes("class", b"\xff"))],
-        Look::Member(b"k"),
-        "false",
-    ),
+    ("<p class=k>", &[Edit::Part(0, Part::Bytes("class", b"\xff"))], Look::Members, "none"),
+    ("<p class=k>", &[Edit::Part(0, Part::Bytes("class", b"\xff"))], Look::Member(b"\xff"), "false"),
+    ("<p class=k>", &[Edit::Part(0, Part::Bytes("class", b"\xff"))], Look::Member(b"k"), "false"),
     // Of an id the length and its first and last byte. Of a member the number of a bit: what is left by 32 of the first byte,
     // three times the last and five times the length.
     (PAGE, &[], Look::Outline, "1 105 105; 17/unknown; all"),
@@ -79,40 +55,12 @@ static LOOKS: [Row; 40] = [
     ("<p class=' '>", &[], Look::Outline, "absent;/unknown; all"),
     (CLASS, &[], Look::Outline, "absent; 9 13/unknown; all"),
     // Two members with one bit.
-    (
-        "<p class='k ab'>",
-        &[],
-        Look::Outline,
-        "absent; 17/unknown; all",
-    ),
+    ("<p class='k ab'>", &[], Look::Outline, "absent; 17/unknown; all"),
     // Parts of a class that is not UTF-8, which has no members, and what was written over what was read.
-    (
-        "<p class=k>",
-        &[Edit::Part(0, Part::Bytes("class", b"k \xff"))],
-        Look::Outline,
-        "absent; 1 17/unknown; all",
-    ),
-    (
-        PAGE,
-        &[Edit::Part(0, Part::Value("id", "abc"))],
-        Look::Outline,
-        "3 97 99; 17/unknown; all",
-    ),
-    (
-        PAGE,
-        &[
-            Edit::Part(0, Part::Unset("id")),
-            Edit::Part(0, Part::Value("class", "b")),
-        ],
-        Look::Outline,
-        "absent; 13/unknown; all",
-    ),
-    (
-        PAGE,
-        &[Edit::Part(0, Part::Bare("class"))],
-        Look::Outline,
-        "1 105 105;/unknown; all",
-    ),
+    ("<p class=k>", &[Edit::Part(0, Part::Bytes("class", b"k \xff"))], Look::Outline, "absent; 1 17/unknown; all"),
+    (PAGE, &[Edit::Part(0, Part::Value("id", "abc"))], Look::Outline, "3 97 99; 17/unknown; all"),
+    (PAGE, &[Edit::Part(0, Part::Unset("id")), Edit::Part(0, Part::Value("class", "b")),], Look::Outline, "absent; 13/unknown; all"),
+    (PAGE, &[Edit::Part(0, Part::Bare("class"))], Look::Outline, "1 105 105;/unknown; all"),
 ];
 
 #[test]
@@ -131,32 +79,20 @@ enum Call {
 }
 
 // Calls in turn on a clone of the page's attributes; for each what it takes out, and the pairs that are left.
+#[rattlefmt::skip]
 static CALLS: [(&[Call], &str); 12] = [
     (&[Call::Remove("a")], "4 | c=3 b=2 id=i class=k\n"),
     (&[Call::Remove("class")], "k | a=4 b=2 c=3 id=i\n"),
     (&[Call::RemoveValue("b")], "2 | a=4 b c=3 id=i class=k\n"),
     (&[Call::RemoveValue("id")], "i | a=4 b=2 c=3 class=k\n"),
     (&[Call::Insert("b", "x")], " | a=4 b=x c=3 id=i class=k\n"),
-    (
-        &[Call::Insert("d", "y")],
-        " | a=4 b=2 c=3 d=y id=i class=k\n",
-    ),
+    (&[Call::Insert("d", "y")], " | a=4 b=2 c=3 d=y id=i class=k\n"),
     (&[Call::Write("a")], " | a=w b=2 c=3 id=i class=k\n"),
     (&[Call::Write("c")], " | a=4 b=2 c=w id=i class=k\n"),
     (&[Call::Write("id")], " | a=4 b=2 c=3 id=w class=k\n"),
     (&[Call::Write("class")], " | a=4 b=2 c=3 id=i class=w\n"),
     (&[Call::Write("ID")], " | a=4 b=2 c=3 id=i class=k\n"),
-    (
-        &[
-            Call::Remove("a"),
-            Call::RemoveValue("id"),
-            Call::InsertBare("class"),
-            Call::InsertBare("c"),
-            Call::RemoveValue("c"),
-            Call::Remove("a"),
-        ],
-        "4 | c=3 b=2 id=i class=k\ni | c=3 b=2 class=k\n | c=3 b=2\n | c b=2\nno value | c b=2\nno key | c b=2\n",
-    ),
+    (&[Call::Remove("a"), Call::RemoveValue("id"), Call::InsertBare("class"), Call::InsertBare("c"), Call::RemoveValue("c"), Call::Remove("a"),], "4 | c=3 b=2 id=i class=k\ni | c=3 b=2 class=k\n | c=3 b=2\n | c b=2\nno value | c b=2\nno key | c b=2\n"),
 ];
 
 fn remove(

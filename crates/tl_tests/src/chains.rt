@@ -16,6 +16,7 @@ const PAGE: Repeated = ("<p class=a></p><b></b>", 2);
 // Of these tags, each below the one before it, the last has 299 ancestors.
 const TOWER: Repeated = ("<a>", 300);
 
+#[rattlefmt::skip]
 static ROWS: [Row; 14] = [
     ((".a", 300), "", PAGE, "0 2 "),
     ((".a", 300), "b", PAGE, ""),

@@ -4,19 +4,15 @@ use std::fmt::Display;
 use tl::errors::{SetBytesError, TreeError};
 use tl::{NodeHandle, ParseError};
 
+#[rattlefmt::skip]
 static OF_PARSE: [(ParseError, &str); 2] = [
-    (
-        ParseError::InvalidLength,
-        "The input string length is too large to fit in a `u32`",
-    ),
+    (ParseError::InvalidLength, "The input string length is too large to fit in a `u32`"),
     (ParseError::OutOfMemory, "out of memory"),
 ];
 
+#[rattlefmt::skip]
 static OF_SET: [(SetBytesError, &str); 2] = [
-    (
-        SetBytesError::LengthOverflow,
-        "The string length is too large to fit in a `u32`",
-    ),
+    (SetBytesError::LengthOverflow, "The string length is too large to fit in a `u32`"),
     (SetBytesError::OutOfMemory, "out of memory"),
 ];
 

@@ -42,6 +42,7 @@ fn both() -> ParserOptions {
 }
 
 // A page, what is looked up, and what is found, whatever is tracked.
+#[rattlefmt::skip]
 static READ: [(&str, Sought, &[u32]); 56] = [
     ("<a id=u54423>Hello World</a>", Sought::Id(b"u54423"), &[0]),
     ("<p id=\"a\"></p><p id=\"b\"></p>", Sought::Id(b"a"), &[0]),
@@ -77,16 +78,8 @@ static READ: [(&str, Sought, &[u32]); 56] = [
     ("<p class=\"k k\"><br class=k>", Sought::Class(""), &[]),
     ("<p class=k>", Sought::Class("l"), &[]),
     ("<p class=\"k m k\">", Sought::Class("k"), &[0]),
-    (
-        "<div></div><p class=\"a b\">hey</p><p></p>",
-        Sought::Class("a"),
-        &[1],
-    ),
-    (
-        "<p class=k></p>a<b class=m><i class=\"m k\"></i></b><i class=k>",
-        Sought::Class("k"),
-        &[0, 3, 4],
-    ),
+    ("<div></div><p class=\"a b\">hey</p><p></p>", Sought::Class("a"), &[1]),
+    ("<p class=k></p>a<b class=m><i class=\"m k\"></i></b><i class=k>", Sought::Class("k"), &[0, 3, 4]),
     ("<p class=\"\">", Sought::Class(""), &[]),
     ("<p class=\" \">", Sought::Class(""), &[]),
     ("<p class=\"ab\">", Sought::Class("a"), &[]),
@@ -104,16 +97,8 @@ static READ: [(&str, Sought, &[u32]); 56] = [
     // Tags that are cut, or dropped as broken.
     ("<p id=x class=k", Sought::Id(b"x"), &[]),
     ("<p id=x class=k", Sought::Class("k"), &[]),
-    (
-        "<p id=x class=k /y><b id=x class=k>",
-        Sought::Id(b"x"),
-        &[1],
-    ),
-    (
-        "<p id=x class=k /y><b id=x class=k>",
-        Sought::Class("k"),
-        &[1],
-    ),
+    ("<p id=x class=k /y><b id=x class=k>", Sought::Id(b"x"), &[1]),
+    ("<p id=x class=k /y><b id=x class=k>", Sought::Class("k"), &[1]),
     // Void tags, tags that do not open, and tags that stay open.
     ("<br id=x class=k>", Sought::Id(b"x"), &[0]),
     ("<br id=x class=k>", Sought::Class("k"), &[0]),
@@ -205,11 +190,13 @@ type EditedRow = (
 
 const TWO: &str = "<p id=\"a\"></p><p id=\"b\"></p>";
 
+#[rattlefmt::skip]
 const MOVED: [Edit; 2] = [
     Edit::Part(0, Part::Value("id", "z")),
     Edit::Part(1, Part::Value("id", "a")),
 ];
 
+#[rattlefmt::skip]
 static EDITED: [EditedRow; 20] = [
     (TWO, &MOVED, Sought::Id(b"a"), &[0], &[1]),
     (TWO, &MOVED, Sought::Id(b"z"), &[], &[0]),
@@ -217,100 +204,22 @@ static EDITED: [EditedRow; 20] = [
     (TWO, &[Edit::SwapNodes], Sought::Id(b"a"), &[0], &[1]),
     (TWO, &[Edit::SwapTop], Sought::Id(b"a"), &[0], &[0]),
     (TWO, &[Edit::Put(0, b"t")], Sought::Id(b"a"), &[0], &[]),
-    (
-        TWO,
-        &[Edit::Part(0, Part::Unset("id"))],
-        Sought::Id(b"a"),
-        &[0],
-        &[],
-    ),
-    (
-        TWO,
-        &[Edit::Part(0, Part::Bare("id"))],
-        Sought::Id(b"a"),
-        &[0],
-        &[],
-    ),
+    (TWO, &[Edit::Part(0, Part::Unset("id"))], Sought::Id(b"a"), &[0], &[]),
+    (TWO, &[Edit::Part(0, Part::Bare("id"))], Sought::Id(b"a"), &[0], &[]),
     // An id that is not UTF-8 is one, and a class that is not has no members.
-    (
-        TWO,
-        &[Edit::Part(1, Part::Bytes("id", b"\xff"))],
-        Sought::Id(b"\xff"),
-        &[],
-        &[1],
-    ),
-    (
-        TWO,
-        &[Edit::Part(1, Part::Bytes("id", b"\xff"))],
-        Sought::Id(b"\xfe"),
-        &[],
-        &[],
-    ),
-    (
-        "<p class=k>",
-        &[Edit::Part(0, Part::Bytes("class", b"\xff"))],
-        Sought::Class("k"),
-        &[0],
-        &[],
-    ),
-    (
-        "<p class=k>",
-        &[Edit::Part(0, Part::Bytes("class", b"k \xff"))],
-        Sought::Class("k"),
-        &[0],
-        &[],
-    ),
-    (
-        "<p class=k>",
-        &[Edit::Part(0, Part::Value("class", "m n"))],
-        Sought::Class("n"),
-        &[],
-        &[0],
-    ),
-    (
-        "<p class=k><p class=k><p class=k>",
-        &[Edit::Part(1, Part::Unset("class"))],
-        Sought::Class("k"),
-        &[0, 1, 2],
-        &[0, 2],
-    ),
+    (TWO, &[Edit::Part(1, Part::Bytes("id", b"\xff"))], Sought::Id(b"\xff"), &[], &[1]),
+    (TWO, &[Edit::Part(1, Part::Bytes("id", b"\xff"))], Sought::Id(b"\xfe"), &[], &[]),
+    ("<p class=k>", &[Edit::Part(0, Part::Bytes("class", b"\xff"))], Sought::Class("k"), &[0], &[]),
+    ("<p class=k>", &[Edit::Part(0, Part::Bytes("class", b"k \xff"))], Sought::Class("k"), &[0], &[]),
+    ("<p class=k>", &[Edit::Part(0, Part::Value("class", "m n"))], Sought::Class("n"), &[], &[0]),
+    ("<p class=k><p class=k><p class=k>", &[Edit::Part(1, Part::Unset("class"))], Sought::Class("k"), &[0, 1, 2], &[0, 2]),
     // What had neither an id nor a class gets one.
-    (
-        "<p>",
-        &[Edit::Part(0, Part::Insert("id", "a"))],
-        Sought::Id(b"a"),
-        &[],
-        &[0],
-    ),
-    (
-        "<p>",
-        &[Edit::Part(0, Part::Insert("class", "k"))],
-        Sought::Class("k"),
-        &[],
-        &[0],
-    ),
-    (
-        "<p class=k>",
-        &[Edit::Part(0, Part::Value("class", "ab"))],
-        Sought::Class("k"),
-        &[0],
-        &[],
-    ),
-    (
-        "<p class=k>x<p class=m>",
-        &[Edit::Part(2, Part::Value("class", "k k"))],
-        Sought::Class("k"),
-        &[0],
-        &[0, 2],
-    ),
+    ("<p>", &[Edit::Part(0, Part::Insert("id", "a"))], Sought::Id(b"a"), &[], &[0]),
+    ("<p>", &[Edit::Part(0, Part::Insert("class", "k"))], Sought::Class("k"), &[], &[0]),
+    ("<p class=k>", &[Edit::Part(0, Part::Value("class", "ab"))], Sought::Class("k"), &[0], &[]),
+    ("<p class=k>x<p class=m>", &[Edit::Part(2, Part::Value("class", "k k"))], Sought::Class("k"), &[0], &[0, 2]),
     // A name and a child change neither.
-    (
-        TWO,
-        &[Edit::Part(1, Part::Name("br"))],
-        Sought::Id(b"b"),
-        &[1],
-        &[1],
-    ),
+    (TWO, &[Edit::Part(1, Part::Name("br"))], Sought::Id(b"b"), &[1], &[1]),
     (TWO, &[Edit::Push(0, 1)], Sought::Id(b"b"), &[1], &[1]),
 ];
 

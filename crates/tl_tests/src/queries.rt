@@ -81,101 +81,25 @@ fn page_gives(alloc: Global, row: &Row, keeps: bool) -> Result<bool, Fail> {
     gives(alloc, &mut document, row)
 }
 
+#[rattlefmt::skip]
 static ROWS: [Row; 61] = [
     // Ancestors that the top list doesn't reach count as others do.
-    (
-        "<a><b></b></a>x",
-        &[Edit::Root(0, 2)],
-        Place::Document,
-        "a > b",
-        "1 ",
-    ),
-    (
-        "<a><b></b></a>x",
-        &[Edit::Root(0, 2)],
-        Place::Document,
-        "a b",
-        "1 ",
-    ),
+    ("<a><b></b></a>x", &[Edit::Root(0, 2)], Place::Document, "a > b", "1 "),
+    ("<a><b></b></a>x", &[Edit::Root(0, 2)], Place::Document, "a b", "1 "),
     ("<div><a><a></a></a></div>", &[], Place::Tag(0), "a", "1 2 "),
-    (
-        "<a><b></b></a><c></c>",
-        &[
-            Edit::Push(0, 1),
-            Edit::Pull(0, 0),
-            Edit::Push(0, 1),
-            Edit::Pull(0, 0),
-        ],
-        Place::Tag(0),
-        "*",
-        "1 ",
-    ),
-    (
-        "<a><b></b></a><c></c>",
-        &[Edit::Pull(0, 0), Edit::Push(0, 2), Edit::Push(0, 1)],
-        Place::Tag(0),
-        "*",
-        "",
-    ),
-    (
-        "<a><b></b></a>",
-        &[Edit::Push(1, 0)],
-        Place::Tag(0),
-        "a",
-        "Cycle(NodeHandle(1))",
-    ),
-    (
-        "<a><b></b></a>",
-        &[Edit::Push(1, 0)],
-        Place::Tag(0),
-        "a,",
-        "none",
-    ),
-    (
-        "<a><b></b></a>",
-        &[Edit::Push(1, 0)],
-        Place::Document,
-        "a",
-        "0 ",
-    ),
-    (
-        "<a><b></b></a>",
-        &[Edit::Pull(0, 0), Edit::Push(0, 9), Edit::Push(0, 1)],
-        Place::Tag(0),
-        "*",
-        "",
-    ),
-    (
-        "<a><b></b></a>",
-        &[Edit::Push(0, 9)],
-        Place::Tag(0),
-        "*",
-        "Dangling(NodeHandle(9))",
-    ),
+    ("<a><b></b></a><c></c>", &[Edit::Push(0, 1), Edit::Pull(0, 0), Edit::Push(0, 1), Edit::Pull(0, 0),], Place::Tag(0), "*", "1 "),
+    ("<a><b></b></a><c></c>", &[Edit::Pull(0, 0), Edit::Push(0, 2), Edit::Push(0, 1)], Place::Tag(0), "*", ""),
+    ("<a><b></b></a>", &[Edit::Push(1, 0)], Place::Tag(0), "a", "Cycle(NodeHandle(1))"),
+    ("<a><b></b></a>", &[Edit::Push(1, 0)], Place::Tag(0), "a,", "none"),
+    ("<a><b></b></a>", &[Edit::Push(1, 0)], Place::Document, "a", "0 "),
+    ("<a><b></b></a>", &[Edit::Pull(0, 0), Edit::Push(0, 9), Edit::Push(0, 1)], Place::Tag(0), "*", ""),
+    ("<a><b></b></a>", &[Edit::Push(0, 9)], Place::Tag(0), "*", "Dangling(NodeHandle(9))"),
     ("<p>a</p><p>b</p>", &[], Place::Document, "p", "0 2 "),
     ("<p>a</p>", &[], Place::Document, "q", ""),
     ("<p>a</p>", &[], Place::Document, ",a", "none"),
-    (
-        "<div><meta property=\"og:title\" content=\"hello\" /></div>",
-        &[],
-        Place::Document,
-        "meta[property=\"og:title\"]",
-        "1 ",
-    ),
-    (
-        "<p><div class=\"z\"><div class=\"y\">PASS</div></div></p>",
-        &[],
-        Place::Tag(0),
-        "div.y",
-        "2 ",
-    ),
-    (
-        "<div><img src=\"cool-image.png\" /></div>",
-        &[],
-        Place::Document,
-        "img[src]",
-        "1 ",
-    ),
+    ("<div><meta property=\"og:title\" content=\"hello\" /></div>", &[], Place::Document, "meta[property=\"og:title\"]", "1 "),
+    ("<p><div class=\"z\"><div class=\"y\">PASS</div></div></p>", &[], Place::Tag(0), "div.y", "2 "),
+    ("<div><img src=\"cool-image.png\" /></div>", &[], Place::Document, "img[src]", "1 "),
     ("<p a=\"x y\">", &[], Place::Document, "[a~=y]", "0 "),
     ("<p a=\"x y\">", &[], Place::Document, "[a^=x]", "0 "),
     ("<p a=\"x y\">", &[], Place::Document, "[a$=y]", "0 "),
@@ -187,86 +111,20 @@ static ROWS: [Row; 61] = [
     ("<p a=\"\">", &[], Place::Document, "[a=]", "0 "),
     ("<p a=\"\">", &[], Place::Document, "[a^=]", "0 "),
     ("<p a=\"x\u{a0}y\">", &[], Place::Document, "[a~=x]", "0 "),
-    (
-        "<p a=\"y\u{85}x\u{2003}z\">",
-        &[],
-        Place::Document,
-        "[a~=x]",
-        "0 ",
-    ),
-    (
-        "<p a=\"y\u{1c}x\u{1c}z\">",
-        &[],
-        Place::Document,
-        "[a~=x]",
-        "",
-    ),
-    (
-        "<p id=i class=\"k l\">x</p>",
-        &[],
-        Place::Document,
-        "#i",
-        "0 ",
-    ),
-    (
-        "<p id=i class=\"k l\">x</p>",
-        &[],
-        Place::Document,
-        ".l",
-        "0 ",
-    ),
-    (
-        "<p id=i class=\"k l\">x</p>",
-        &[],
-        Place::Document,
-        "[id]",
-        "0 ",
-    ),
-    (
-        "<p id=i class=\"k l\">x</p>",
-        &[],
-        Place::Document,
-        "[class=k]",
-        "",
-    ),
-    (
-        "<p id=i class=\"k l\">x</p>",
-        &[],
-        Place::Document,
-        "[class~=k]",
-        "0 ",
-    ),
-    (
-        "<p id=i class=\"k l\">x</p>",
-        &[],
-        Place::Document,
-        "*",
-        "0 1 ",
-    ),
+    ("<p a=\"y\u{85}x\u{2003}z\">", &[], Place::Document, "[a~=x]", "0 "),
+    ("<p a=\"y\u{1c}x\u{1c}z\">", &[], Place::Document, "[a~=x]", ""),
+    ("<p id=i class=\"k l\">x</p>", &[], Place::Document, "#i", "0 "),
+    ("<p id=i class=\"k l\">x</p>", &[], Place::Document, ".l", "0 "),
+    ("<p id=i class=\"k l\">x</p>", &[], Place::Document, "[id]", "0 "),
+    ("<p id=i class=\"k l\">x</p>", &[], Place::Document, "[class=k]", ""),
+    ("<p id=i class=\"k l\">x</p>", &[], Place::Document, "[class~=k]", "0 "),
+    ("<p id=i class=\"k l\">x</p>", &[], Place::Document, "*", "0 1 "),
     ("<p id=i>", &[], Place::Document, "#I", ""),
     // The length and the ends of two ids are the same, and so is the bit of two members.
     ("<p id=axc><p id=abc>", &[], Place::Document, "p#abc", "1 "),
-    (
-        "<p class=\"k m\"><p class=ab>",
-        &[],
-        Place::Document,
-        "p.ab",
-        "1 ",
-    ),
-    (
-        "<p>",
-        &[Edit::Part(0, Part::Insert("id", "a"))],
-        Place::Document,
-        "#a",
-        "0 ",
-    ),
-    (
-        "<p>",
-        &[Edit::Part(0, Part::Insert("class", "k"))],
-        Place::Document,
-        "p.k",
-        "0 ",
-    ),
+    ("<p class=\"k m\"><p class=ab>", &[], Place::Document, "p.ab", "1 "),
+    ("<p>", &[Edit::Part(0, Part::Insert("id", "a"))], Place::Document, "#a", "0 "),
+    ("<p>", &[Edit::Part(0, Part::Insert("class", "k"))], Place::Document, "p.k", "0 "),
     ("<p id=\"\" class=\"\">", &[], Place::Document, "#", "0 "),
     ("<p id=\"\" class=\"\">", &[], Place::Document, ".", ""),
     ("<P>x</P><p>y</p>", &[], Place::Document, "p", "2 "),
@@ -276,57 +134,15 @@ static ROWS: [Row; 61] = [
     ("<div><p></p></div>", &[], Place::Tag(0), "div > p", "1 "),
     ("<a><b><c></c></b></a>", &[], Place::Document, "a c", "2 "),
     ("<a><b><c></c></b></a>", &[], Place::Document, "a > c", ""),
-    (
-        "<a><b><c></c></b></a>",
-        &[],
-        Place::Document,
-        "a > b > c",
-        "2 ",
-    ),
-    (
-        "<a><b><c></c></b></a>",
-        &[],
-        Place::Document,
-        "a b, c",
-        "1 2 ",
-    ),
+    ("<a><b><c></c></b></a>", &[], Place::Document, "a > b > c", "2 "),
+    ("<a><b><c></c></b></a>", &[], Place::Document, "a b, c", "1 2 "),
     ("<a>x<b></b></a>", &[], Place::Document, "a > *", "1 2 "),
-    (
-        "<a></a><b></b>",
-        &[Edit::Push(1, 0)],
-        Place::Document,
-        "b > a",
-        "0 ",
-    ),
-    (
-        "<a></a>",
-        &[Edit::Push(0, 0)],
-        Place::Document,
-        "a > a",
-        "0 ",
-    ),
+    ("<a></a><b></b>", &[Edit::Push(1, 0)], Place::Document, "b > a", "0 "),
+    ("<a></a>", &[Edit::Push(0, 0)], Place::Document, "a > a", "0 "),
     ("<a></a>", &[Edit::Push(0, 0)], Place::Document, "a a", "0 "),
-    (
-        "<a><b></b></a>",
-        &[Edit::Pull(0, 0)],
-        Place::Document,
-        "a b",
-        "",
-    ),
-    (
-        "<a><b></b></a>",
-        &[Edit::Pull(0, 0)],
-        Place::Document,
-        "a, b",
-        "0 1 ",
-    ),
-    (
-        "<a></a><b><c></c></b><d></d>",
-        &[Edit::Push(3, 0)],
-        Place::Document,
-        "d > a, b c",
-        "0 2 ",
-    ),
+    ("<a><b></b></a>", &[Edit::Pull(0, 0)], Place::Document, "a b", ""),
+    ("<a><b></b></a>", &[Edit::Pull(0, 0)], Place::Document, "a, b", "0 1 "),
+    ("<a></a><b><c></c></b><d></d>", &[Edit::Push(3, 0)], Place::Document, "d > a, b c", "0 2 "),
     ("<a></a>", &[Edit::Push(0, 7)], Place::Document, "a > *", ""),
     ("", &[], Place::Document, "*", ""),
     ("<a></a>", &[], Place::Document, "", "none"),
@@ -377,75 +193,21 @@ fn page_has_range(alloc: Global, row: &Range, keeps: bool) -> Result<bool, Fail>
     has_range(alloc, &mut document, row)
 }
 
+#[rattlefmt::skip]
 static RANGES: [Range; 12] = [
-    (
-        "<a><b></b></a><c></c>",
-        &[],
-        0,
-        "Some(1) Ok(Some(1)) Ok(Some((1, 1))) Ok(1)",
-    ),
+    ("<a><b></b></a><c></c>", &[], 0, "Some(1) Ok(Some(1)) Ok(Some((1, 1))) Ok(1)"),
     ("<a></a>", &[], 0, "None Ok(None) Ok(None) Ok(0)"),
-    (
-        "<div id=\"a\"><div id=\"b\"><span>Hello</span><span>World</span><span>!</span></div></div>",
-        &[],
-        0,
-        "Some(1) Ok(Some(7)) Ok(Some((1, 7))) Ok(7)",
-    ),
-    (
-        "<a><b></b></a><c></c>",
-        &[Edit::Pull(0, 0), Edit::Push(0, 2), Edit::Push(0, 1)],
-        0,
-        "Some(2) Ok(Some(1)) Ok(Some((2, 1))) Ok(0)",
-    ),
-    (
-        "<a><b></b></a><c></c><d></d>",
-        &[Edit::Pull(0, 0), Edit::Push(0, 3), Edit::Push(0, 1)],
-        0,
-        "Some(3) Ok(Some(1)) Ok(Some((3, 1))) Ok(0)",
-    ),
-    (
-        "<a><b></b></a>",
-        &[Edit::Pull(0, 0), Edit::Push(0, 9), Edit::Push(0, 1)],
-        0,
-        "Some(9) Ok(Some(1)) Ok(Some((9, 1))) Ok(0)",
-    ),
-    (
-        "<a><b></b></a>",
-        &[Edit::Push(1, 0)],
-        0,
-        "Some(1) Err(Cycle(NodeHandle(1))) Err(Cycle(NodeHandle(1))) Err(Cycle(NodeHandle(1)))",
-    ),
-    (
-        "<a><b></b></a>",
-        &[Edit::Push(1, 0)],
-        1,
-        "Some(0) Err(Cycle(NodeHandle(0))) Err(Cycle(NodeHandle(0))) Err(Cycle(NodeHandle(0)))",
-    ),
-    (
-        "<a></a>",
-        &[Edit::Push(0, 0)],
-        0,
-        "Some(0) Err(Cycle(NodeHandle(0))) Err(Cycle(NodeHandle(0))) Err(Cycle(NodeHandle(0)))",
-    ),
-    (
-        "<a></a>",
-        &[Edit::Push(0, 7)],
-        0,
-        "Some(7) Err(Dangling(NodeHandle(7))) Err(Dangling(NodeHandle(7))) Err(Dangling(NodeHandle(7)))",
-    ),
+    ("<div id=\"a\"><div id=\"b\"><span>Hello</span><span>World</span><span>!</span></div></div>", &[], 0, "Some(1) Ok(Some(7)) Ok(Some((1, 7))) Ok(7)"),
+    ("<a><b></b></a><c></c>", &[Edit::Pull(0, 0), Edit::Push(0, 2), Edit::Push(0, 1)], 0, "Some(2) Ok(Some(1)) Ok(Some((2, 1))) Ok(0)"),
+    ("<a><b></b></a><c></c><d></d>", &[Edit::Pull(0, 0), Edit::Push(0, 3), Edit::Push(0, 1)], 0, "Some(3) Ok(Some(1)) Ok(Some((3, 1))) Ok(0)"),
+    ("<a><b></b></a>", &[Edit::Pull(0, 0), Edit::Push(0, 9), Edit::Push(0, 1)], 0, "Some(9) Ok(Some(1)) Ok(Some((9, 1))) Ok(0)"),
+    ("<a><b></b></a>", &[Edit::Push(1, 0)], 0, "Some(1) Err(Cycle(NodeHandle(1))) Err(Cycle(NodeHandle(1))) Err(Cycle(NodeHandle(1)))"),
+    ("<a><b></b></a>", &[Edit::Push(1, 0)], 1, "Some(0) Err(Cycle(NodeHandle(0))) Err(Cycle(NodeHandle(0))) Err(Cycle(NodeHandle(0)))"),
+    ("<a></a>", &[Edit::Push(0, 0)], 0, "Some(0) Err(Cycle(NodeHandle(0))) Err(Cycle(NodeHandle(0))) Err(Cycle(NodeHandle(0)))"),
+    ("<a></a>", &[Edit::Push(0, 7)], 0, "Some(7) Err(Dangling(NodeHandle(7))) Err(Dangling(NodeHandle(7))) Err(Dangling(NodeHandle(7)))"),
     // The way falls, from the second tag to the first, and ends there or goes on to a handle that dangles.
-    (
-        "<a></a><b></b><c></c>",
-        &[Edit::Push(2, 1), Edit::Push(1, 0)],
-        2,
-        "Some(1) Ok(Some(0)) Ok(Some((1, 0))) Ok(0)",
-    ),
-    (
-        "<a></a><b></b><c></c>",
-        &[Edit::Push(2, 1), Edit::Push(1, 0), Edit::Push(0, 9)],
-        2,
-        "Some(1) Err(Dangling(NodeHandle(9))) Err(Dangling(NodeHandle(9))) Err(Dangling(NodeHandle(9)))",
-    ),
+    ("<a></a><b></b><c></c>", &[Edit::Push(2, 1), Edit::Push(1, 0)], 2, "Some(1) Ok(Some(0)) Ok(Some((1, 0))) Ok(0)"),
+    ("<a></a><b></b><c></c>", &[Edit::Push(2, 1), Edit::Push(1, 0), Edit::Push(0, 9)], 2, "Some(1) Err(Dangling(NodeHandle(9))) Err(Dangling(NodeHandle(9))) Err(Dangling(NodeHandle(9)))"),
 ];
 
 #[test]
@@ -526,100 +288,23 @@ fn page_is_asked(alloc: Global, row: &Collection, keeps: bool) -> Result<bool, F
     Ok(is_asked(alloc, &document, None, row))
 }
 
+#[rattlefmt::skip]
 static COLLECTIONS: [Collection; 14] = [
     ("", &[], Place::Document, 0, "Some(0) Ok(0) none"),
-    (
-        "<a><b>x</b></a><c></c>",
-        &[],
-        Place::Document,
-        0,
-        "Some(0) Ok(4) 0 Bytes(\"a\")",
-    ),
-    (
-        "<a><b>x</b></a><c></c>",
-        &[],
-        Place::Document,
-        3,
-        "Some(0) Ok(4) 3 Bytes(\"c\")",
-    ),
-    (
-        "<a><b>x</b></a><c></c>",
-        &[],
-        Place::Document,
-        4,
-        "Some(0) Ok(4) none",
-    ),
-    (
-        "<a><b>x</b></a><c></c>",
-        &[],
-        Place::Tag(0),
-        0,
-        "Some(1) Ok(2) 1 Bytes(\"b\")",
-    ),
-    (
-        "<a><b>x</b></a><c></c>",
-        &[],
-        Place::Tag(0),
-        1,
-        "Some(1) Ok(2) 2 Bytes(\"x\")",
-    ),
+    ("<a><b>x</b></a><c></c>", &[], Place::Document, 0, "Some(0) Ok(4) 0 Bytes(\"a\")"),
+    ("<a><b>x</b></a><c></c>", &[], Place::Document, 3, "Some(0) Ok(4) 3 Bytes(\"c\")"),
+    ("<a><b>x</b></a><c></c>", &[], Place::Document, 4, "Some(0) Ok(4) none"),
+    ("<a><b>x</b></a><c></c>", &[], Place::Tag(0), 0, "Some(1) Ok(2) 1 Bytes(\"b\")"),
+    ("<a><b>x</b></a><c></c>", &[], Place::Tag(0), 1, "Some(1) Ok(2) 2 Bytes(\"x\")"),
     // A place past the range is looked up in the table.
-    (
-        "<a><b>x</b></a><c></c>",
-        &[],
-        Place::Tag(0),
-        2,
-        "Some(1) Ok(2) 3 Bytes(\"c\")",
-    ),
-    (
-        "<a><b>x</b></a><c></c>",
-        &[],
-        Place::Tag(0),
-        3,
-        "Some(1) Ok(2) none",
-    ),
-    (
-        "<a><b>x</b></a><c></c>",
-        &[],
-        Place::Tag(3),
-        0,
-        "None Ok(0) none",
-    ),
-    (
-        "<a><b></b></a><c></c>",
-        &[Edit::Pull(0, 0), Edit::Push(0, 2), Edit::Push(0, 1)],
-        Place::Tag(0),
-        0,
-        "Some(2) Ok(0) 2 Bytes(\"c\")",
-    ),
-    (
-        "<a></a>",
-        &[Edit::Push(0, 9)],
-        Place::Tag(0),
-        0,
-        "Some(9) Err(Dangling(NodeHandle(9))) none",
-    ),
-    (
-        "<a><b></b></a>",
-        &[Edit::Push(1, 0)],
-        Place::Tag(0),
-        0,
-        "Some(1) Err(Cycle(NodeHandle(1))) 1 Bytes(\"b\")",
-    ),
-    (
-        "<a></a><b></b>",
-        &[Edit::Push(1, 0)],
-        Place::Tag(1),
-        0,
-        "Some(0) Ok(1) 0 Bytes(\"a\")",
-    ),
-    (
-        "<a></a><b></b><c></c>",
-        &[Edit::Push(2, 1), Edit::Push(1, 0), Edit::Push(0, 9)],
-        Place::Tag(2),
-        0,
-        "Some(1) Err(Dangling(NodeHandle(9))) 1 Bytes(\"b\")",
-    ),
+    ("<a><b>x</b></a><c></c>", &[], Place::Tag(0), 2, "Some(1) Ok(2) 3 Bytes(\"c\")"),
+    ("<a><b>x</b></a><c></c>", &[], Place::Tag(0), 3, "Some(1) Ok(2) none"),
+    ("<a><b>x</b></a><c></c>", &[], Place::Tag(3), 0, "None Ok(0) none"),
+    ("<a><b></b></a><c></c>", &[Edit::Pull(0, 0), Edit::Push(0, 2), Edit::Push(0, 1)], Place::Tag(0), 0, "Some(2) Ok(0) 2 Bytes(\"c\")"),
+    ("<a></a>", &[Edit::Push(0, 9)], Place::Tag(0), 0, "Some(9) Err(Dangling(NodeHandle(9))) none"),
+    ("<a><b></b></a>", &[Edit::Push(1, 0)], Place::Tag(0), 0, "Some(1) Err(Cycle(NodeHandle(1))) 1 Bytes(\"b\")"),
+    ("<a></a><b></b>", &[Edit::Push(1, 0)], Place::Tag(1), 0, "Some(0) Ok(1) 0 Bytes(\"a\")"),
+    ("<a></a><b></b><c></c>", &[Edit::Push(2, 1), Edit::Push(1, 0), Edit::Push(0, 9)], Place::Tag(2), 0, "Some(1) Err(Dangling(NodeHandle(9))) 1 Bytes(\"b\")"),
 ];
 
 #[test]
@@ -634,28 +319,11 @@ fn collections_are_asked(rt: HostRuntime) -> Result<(), Fail> {
 }
 
 // The same by the table of a page of one text: a document counts by its own table, a tag by the handed one.
+#[rattlefmt::skip]
 static HANDED: [Collection; 4] = [
-    (
-        "<a><b></b></a>",
-        &[],
-        Place::Document,
-        0,
-        "Some(0) Ok(2) 0 Bytes(\"y\")",
-    ),
-    (
-        "<a><b></b></a>",
-        &[],
-        Place::Document,
-        1,
-        "Some(0) Ok(2) none",
-    ),
-    (
-        "<a><b></b></a>",
-        &[],
-        Place::Tag(0),
-        0,
-        "Some(1) Err(Dangling(NodeHandle(1))) none",
-    ),
+    ("<a><b></b></a>", &[], Place::Document, 0, "Some(0) Ok(2) 0 Bytes(\"y\")"),
+    ("<a><b></b></a>", &[], Place::Document, 1, "Some(0) Ok(2) none"),
+    ("<a><b></b></a>", &[], Place::Tag(0), 0, "Some(1) Err(Dangling(NodeHandle(1))) none"),
     ("<a></a>", &[], Place::Tag(0), 0, "None Ok(0) none"),
 ];
 
@@ -727,35 +395,12 @@ fn page_reads(alloc: Global, row: &Found, keeps: bool) -> Result<bool, Fail> {
     }
 }
 
+#[rattlefmt::skip]
 static FOUND: [Found; 4] = [
-    (
-        "<div><meta property=\"og:title\" content=\"hello\" /></div>",
-        Place::Document,
-        "meta[property=\"og:title\"]",
-        Reading::Value(b"content"),
-        "hello",
-    ),
-    (
-        "<p><div class=\"z\"><div class=\"y\">PASS</div></div></p>",
-        Place::Tag(0),
-        "div.y",
-        Reading::Text,
-        "PASS",
-    ),
-    (
-        "<p id=i class=\"k l\">x</p>",
-        Place::Document,
-        "p",
-        Reading::Value(b"class"),
-        "k l",
-    ),
-    (
-        "<p id=i class=\"k l\">x</p>",
-        Place::Document,
-        "p",
-        Reading::Value(b"id"),
-        "i",
-    ),
+    ("<div><meta property=\"og:title\" content=\"hello\" /></div>", Place::Document, "meta[property=\"og:title\"]", Reading::Value(b"content"), "hello"),
+    ("<p><div class=\"z\"><div class=\"y\">PASS</div></div></p>", Place::Tag(0), "div.y", Reading::Text, "PASS"),
+    ("<p id=i class=\"k l\">x</p>", Place::Document, "p", Reading::Value(b"class"), "k l"),
+    ("<p id=i class=\"k l\">x</p>", Place::Document, "p", Reading::Value(b"id"), "i"),
 ];
 
 #[test]
@@ -801,6 +446,7 @@ fn page_answers(alloc: Global, row: &Match, keeps: bool) -> Result<bool, Fail> {
     answers_on(alloc, &document, row)
 }
 
+#[rattlefmt::skip]
 static MATCHES: [Match; 13] = [
     ("<a><b></b></a>", "* *", 0, "Some(false) Ok(false)"),
     ("<a><b></b></a>", "* *", 1, "Some(false) Ok(true)"),

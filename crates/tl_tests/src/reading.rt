@@ -8,28 +8,14 @@ use tl::errors::TreeError;
 use tl::queryselector::QuerySelectorIterator;
 use tl::{Bytes, HTMLTag, HTMLVersion, Node, NodeHandle, Parser, ParserOptions, VDom, parse};
 
+#[rattlefmt::skip]
 static TAGS: [(&str, &str); 23] = [
     ("", ""),
-    (
-        "abc <p>test<span>a</span></p> def",
-        "text abc |tag p [ 2 3 ] 4 28 <p>test<span>a</span></p>|text test|tag span [ 4 ] 11 24 <span>a</span>|text a|text  def| 0 1 5",
-    ),
-    (
-        "<a><b></a></b>",
-        "tag a [ 1 ] 0 2 <a>|tag b [ ] 3 13 <b></a></b>| 0",
-    ),
-    (
-        "<a>x</b>y</a>z",
-        "tag a [ 1 2 ] 0 12 <a>x</b>y</a>|text x|text y|text z| 0 3",
-    ),
-    (
-        "<div><p>haha</p></div>",
-        "tag div [ 1 ] 0 21 <div><p>haha</p></div>|tag p [ 2 ] 5 15 <p>haha</p>|text haha| 0",
-    ),
-    (
-        "<p><span>hello</span></p>",
-        "tag p [ 1 ] 0 24 <p><span>hello</span></p>|tag span [ 2 ] 3 20 <span>hello</span>|text hello| 0",
-    ),
+    ("abc <p>test<span>a</span></p> def", "text abc |tag p [ 2 3 ] 4 28 <p>test<span>a</span></p>|text test|tag span [ 4 ] 11 24 <span>a</span>|text a|text  def| 0 1 5"),
+    ("<a><b></a></b>", "tag a [ 1 ] 0 2 <a>|tag b [ ] 3 13 <b></a></b>| 0"),
+    ("<a>x</b>y</a>z", "tag a [ 1 2 ] 0 12 <a>x</b>y</a>|text x|text y|text z| 0 3"),
+    ("<div><p>haha</p></div>", "tag div [ 1 ] 0 21 <div><p>haha</p></div>|tag p [ 2 ] 5 15 <p>haha</p>|text haha| 0"),
+    ("<p><span>hello</span></p>", "tag p [ 1 ] 0 24 <p><span>hello</span></p>|tag span [ 2 ] 3 20 <span>hello</span>|text hello| 0"),
     ("<>x</>", "tag  [ 1 ] 0 5 <>x</>|text x| 0"),
     ("<BR>x</BR>", "tag BR [ 1 ] 0 9 <BR>x</BR>|text x| 0"),
     ("<=/Fy<=/", "text Fy| 0"),
@@ -39,30 +25,19 @@ static TAGS: [(&str, &str); 23] = [
     ("<a/b>", "text b>| 0"),
     ("<p/ >", "text  >| 0"),
     ("<a>x</a/>", "tag a [ 1 ] 0 2 <a>|text x| 0"),
-    (
-        "<br /><p>test</p>",
-        "tag br [ ] 0 5 <br />|tag p [ 2 ] 6 16 <p>test</p>|text test| 0 1",
-    ),
+    ("<br /><p>test</p>", "tag br [ ] 0 5 <br />|tag p [ 2 ] 6 16 <p>test</p>|text test| 0 1"),
     ("< p >x</p>", "tag p [ 1 ] 0 9 < p >x</p>|text x| 0"),
     ("<p>x</p >", "tag p [ 1 ] 0 2 <p>|text x| 0"),
     ("<p>abcd</p", "tag p [ 1 ] 0 9 <p>abcd</p|text abcd| 0"),
-    (
-        "<command>x</command>",
-        "tag command [ 1 ] 0 19 <command>x</command>|text x| 0",
-    ),
+    ("<command>x</command>", "tag command [ 1 ] 0 19 <command>x</command>|text x| 0"),
     ("<p a=\"b>x", ""),
-    (
-        "<p>test</p><div><span>test2</span></div>",
-        "tag p [ 1 ] 0 10 <p>test</p>|text test|tag div [ 3 ] 11 39 <div><span>test2</span></div>|tag span [ 4 ] 16 33 <span>test2</span>|text test2| 0 2",
-    ),
+    ("<p>test</p><div><span>test2</span></div>", "tag p [ 1 ] 0 10 <p>test</p>|text test|tag div [ 3 ] 11 39 <div><span>test2</span></div>|tag span [ 4 ] 16 33 <span>test2</span>|text test2| 0 2"),
     ("<p />x", "tag p [ ] 0 4 <p />|text x| 0 1"),
 ];
 
+#[rattlefmt::skip]
 static ATTRIBUTES_COMMENTS_DOCTYPES: [(&str, &str); 16] = [
-    (
-        "<p a=1 b=2 c=3 id=i class=k a=4>",
-        "tag p a=4 b=2 c=3 id=i class=k [ ] 0 31 <p a=1 b=2 c=3 id=i class=k a=4>| 0",
-    ),
+    ("<p a=1 b=2 c=3 id=i class=k a=4>", "tag p a=4 b=2 c=3 id=i class=k [ ] 0 31 <p a=1 b=2 c=3 id=i class=k a=4>| 0"),
     ("<p id=a id>", "tag p [ ] 0 10 <p id=a id>| 0"),
     ("<p\ta>", "tag p  a [ ] 0 4 <p\ta>| 0"),
     ("<p a/b>", "text b>| 0"),
@@ -75,15 +50,13 @@ static ATTRIBUTES_COMMENTS_DOCTYPES: [(&str, &str); 16] = [
     ("<!---->x", "comment <!---->|text x| 0 1"),
     ("< !-- a -->", "comment < !-- a -->| 0"),
     ("<!-- a --> b -->", "comment <!-- a -->|text  b -->| 0 1"),
-    (
-        "<!-- element 1 --><div><div>element 3</div></div>",
-        "comment <!-- element 1 -->|tag div [ 2 ] 18 48 <div><div>element 3</div></div>|tag div [ 3 ] 23 42 <div>element 3</div>|text element 3| 0 1",
-    ),
+    ("<!-- element 1 --><div><div>element 3</div></div>", "comment <!-- element 1 -->|tag div [ 2 ] 18 48 <div><div>element 3</div></div>|tag div [ 3 ] 23 42 <div>element 3</div>|text element 3| 0 1"),
     ("<!DOCTYPE html PUBLIC>", "text UBLIC>| 0"),
     ("<!foo bar>", "text bar>| 0"),
 ];
 
 // Pages that end too early.
+#[rattlefmt::skip]
 static CUT: [(&str, &str); 15] = [
     ("<", ""),
     ("<p", ""),
@@ -109,6 +82,7 @@ fn tables(rt: HostRuntime) -> Result<(), Fail> {
     all_look(&rt, rt.alloc(), &Look::Table, &CUT)
 }
 
+#[rattlefmt::skip]
 static VERSIONS: [(&str, Option<HTMLVersion>); 9] = [
     ("<!DOCTYPE html PUBLIC>", Some(HTMLVersion::HTML5)),
     ("<!DOCTYPE html> hello", Some(HTMLVersion::HTML5)),
@@ -143,13 +117,11 @@ fn versions(rt: HostRuntime) -> Result<(), Fail> {
 }
 
 // Each version, and one that comes later.
+#[rattlefmt::skip]
 static LATER: [(HTMLVersion, HTMLVersion); 3] = [
     (HTMLVersion::HTML5, HTMLVersion::StrictHTML401),
     (HTMLVersion::StrictHTML401, HTMLVersion::TransitionalHTML401),
-    (
-        HTMLVersion::TransitionalHTML401,
-        HTMLVersion::FramesetHTML401,
-    ),
+    (HTMLVersion::TransitionalHTML401, HTMLVersion::FramesetHTML401),
 ];
 
 #[test]
@@ -162,6 +134,7 @@ fn versions_have_an_order(rt: HostRuntime) {
 const NESTED: &str = "abc <p>test<span>a</span></p> def";
 
 // A page whose table is walked for node 1 of the page above, and the print, or the number of the handle that dangles.
+#[rattlefmt::skip]
 static OVER: [(&str, Result<&str, u32>); 2] = [
     (NESTED, Ok("<p>test<span>a</span></p>")),
     ("", Err(2)),
