@@ -9,6 +9,7 @@ pub mod StartTag
 pub mod Builder
 pub mod Marks
 pub mod Tracked
+pub mod Names
 pub mod Lookup
 pub mod HandlesLeft
 pub mod Walker

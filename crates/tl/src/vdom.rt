@@ -130,7 +130,11 @@ impl<'a> VDom<'a> {
 
     /// The texts at or below the top nodes, in the order of the walk. Comments give none.
     pub fn inner_text(&self, alloc: Global) -> Result<String, TreeError>
-        ensures { Answers string_bytes (document_text (document_of self.now)) result }
+        ensures answers { Answers string_bytes (document_text (document_of self.now)) result }
+
+        // A first top handle that dangles is answered before any memory is taken.
+        ensures dangling { (h : ℕ) → FirstDangles self.now.nodes self.now.top h
+            → result ≡ Err (TreeError.Dangling h) }
     {
         let mut out = String::new(alloc);
         write_row_texts(alloc, self.nodes(), self.children(), &mut out)?;

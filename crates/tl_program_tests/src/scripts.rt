@@ -108,3 +108,21 @@ fn steps_are_taken_or_refused(rt: HostRuntime) {
         );
     }
 }
+
+// The causes of a refusal, from the least to the greatest.
+static CAUSES: [StepError; 4] = [
+    StepError::NoNode,
+    StepError::NotTag,
+    StepError::NoPlace,
+    StepError::OutOfMemory,
+];
+
+#[test]
+fn causes_stand_in_order(rt: HostRuntime) {
+    for (first, lower) in CAUSES.iter().enumerate() {
+        for (second, upper) in CAUSES.iter().enumerate() {
+            let holds = lower.cmp(upper) == first.cmp(&second);
+            assert!(rt; holds, "{lower:?} {upper:?}");
+        }
+    }
+}

@@ -1,5 +1,6 @@
-//! The texts of errors.
+//! The texts of errors, and their order.
 use std::alloc::Global;
+use std::cmp::Ordering;
 use std::fmt::Display;
 use tl::errors::{SetBytesError, TreeError};
 use tl::{NodeHandle, ParseError};
@@ -42,4 +43,28 @@ fn errors_have_texts(rt: HostRuntime) {
         assert!(rt; says(rt.alloc(), error, text), "{text}");
     }
     assert!(rt; walks_say(rt.alloc()));
+}
+
+// Whether the one stands before the other.
+fn stands_before<E: Ord>(first: &E, second: &E) -> bool {
+    first < second && first.cmp(second) == Ordering::Less && second.cmp(first) == Ordering::Greater
+}
+
+// The cause comes before the handle.
+fn walks_stand_in_order() -> bool {
+    let low = NodeHandle::new(1);
+    let high = NodeHandle::new(2);
+    stands_before(&TreeError::Dangling(high), &TreeError::Cycle(low))
+        && stands_before(&TreeError::Cycle(high), &TreeError::OutOfMemory)
+        && stands_before(&TreeError::Dangling(low), &TreeError::Dangling(high))
+        && stands_before(&TreeError::Cycle(low), &TreeError::Cycle(high))
+}
+
+#[test]
+fn errors_stand_in_order(rt: HostRuntime) {
+    let of_parse = stands_before(&ParseError::InvalidLength, &ParseError::OutOfMemory);
+    assert!(rt; of_parse);
+    let of_set = stands_before(&SetBytesError::LengthOverflow, &SetBytesError::OutOfMemory);
+    assert!(rt; of_set);
+    assert!(rt; walks_stand_in_order());
 }

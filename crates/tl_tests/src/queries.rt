@@ -20,6 +20,34 @@ fn show_all(found: QuerySelectorIterator<'_, '_>, out: &mut String) -> bool {
     true
 }
 
+// Writes what is answered that a selector gives which was read before.
+fn show_new(answer: Result<QuerySelectorIterator<'_, '_>, TreeError>, out: &mut String) -> bool {
+    match answer {
+        Ok(found) => show_all(found, out),
+        Err(error) => write!(out, "{error:?}").is_ok(),
+    }
+}
+
+// Reads a selector, and then asks a document or a tag.
+fn ask<'a, Q: QueryIterable<'a>>(
+    alloc: Global,
+    parser: &Parser<'a>,
+    collection: &Q,
+    selector: &str,
+    out: &mut String,
+) -> bool {
+    match parse_query_selector(alloc, selector) {
+        Ok(Some(selector)) => {
+            show_new(
+                QuerySelectorIterator::new(selector, parser, collection),
+                out,
+            )
+        }
+        Ok(None) => out.push_str("none").is_ok(),
+        Err(_) => false,
+    }
+}
+
 // Writes what a query answers.
 fn show_found(
     answer: Result<Option<QuerySelectorIterator<'_, '_>>, TreeError>,
@@ -47,6 +75,21 @@ fn query_tag(
     }
 }
 
+// The same, by a selector that was read before.
+fn ask_tag(
+    alloc: Global,
+    document: &VDom<'_>,
+    number: u32,
+    selector: &str,
+    out: &mut String,
+) -> bool {
+    let parser = document.parser();
+    match NodeHandle::new(number).get(parser) {
+        Some(Node::Tag(tag)) => ask(alloc, parser, tag, selector, out),
+        _ => false,
+    }
+}
+
 // Where a query is made.
 enum Place {
     Document,
@@ -69,11 +112,24 @@ fn query(alloc: Global, document: &VDom<'_>, row: &Row, out: &mut String) -> boo
     }
 }
 
-// Whether a query gives what it must once the document was edited.
+fn query_by_new(alloc: Global, document: &VDom<'_>, row: &Row, out: &mut String) -> bool {
+    match &row.2 {
+        Place::Document => ask(alloc, document.parser(), document, row.3, out),
+        Place::Tag(number) => ask_tag(alloc, document, *number, row.3, out),
+    }
+}
+
+// Whether a query gives what it must once the document was edited, by the text and by the selector that was read before.
 fn gives(alloc: Global, document: &mut VDom<'static>, row: &Row) -> Result<bool, Fail> {
     edit_all(document, row.1)?;
-    let mut out = String::new(alloc);
-    Ok(query(alloc, document, row, &mut out) && out.as_str() == row.4)
+    let mut by_text = String::new(alloc);
+    let mut by_new = String::new(alloc);
+    Ok(
+        query(alloc, document, row, &mut by_text)
+            && by_text.as_str() == row.4
+            && query_by_new(alloc, document, row, &mut by_new)
+            && by_new.as_str() == row.4,
+    )
 }
 
 fn page_gives(alloc: Global, row: &Row, keeps: bool) -> Result<bool, Fail> {
@@ -82,7 +138,7 @@ fn page_gives(alloc: Global, row: &Row, keeps: bool) -> Result<bool, Fail> {
 }
 
 #[rattlefmt::skip]
-static ROWS: [Row; 61] = [
+static ROWS: [Row; 63] = [
     // Ancestors that the top list doesn't reach count as others do.
     ("<a><b></b></a>x", &[Edit::Root(0, 2)], Place::Document, "a > b", "1 "),
     ("<a><b></b></a>x", &[Edit::Root(0, 2)], Place::Document, "a b", "1 "),
@@ -90,6 +146,8 @@ static ROWS: [Row; 61] = [
     ("<a><b></b></a><c></c>", &[Edit::Push(0, 1), Edit::Pull(0, 0), Edit::Push(0, 1), Edit::Pull(0, 0),], Place::Tag(0), "*", "1 "),
     ("<a><b></b></a><c></c>", &[Edit::Pull(0, 0), Edit::Push(0, 2), Edit::Push(0, 1)], Place::Tag(0), "*", ""),
     ("<a><b></b></a>", &[Edit::Push(1, 0)], Place::Tag(0), "a", "Cycle(NodeHandle(1))"),
+    ("<a><b></b></a>", &[Edit::Push(1, 0)], Place::Tag(0), "a b", "Cycle(NodeHandle(1))"),
+    ("<a></a>", &[Edit::Push(0, 7)], Place::Tag(0), "a b", "Dangling(NodeHandle(7))"),
     ("<a><b></b></a>", &[Edit::Push(1, 0)], Place::Tag(0), "a,", "none"),
     ("<a><b></b></a>", &[Edit::Push(1, 0)], Place::Document, "a", "0 "),
     ("<a><b></b></a>", &[Edit::Pull(0, 0), Edit::Push(0, 9), Edit::Push(0, 1)], Place::Tag(0), "*", ""),

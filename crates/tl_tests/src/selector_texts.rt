@@ -219,11 +219,43 @@ fn clones_are_alike(rt: HostRuntime) -> Result<(), Fail> {
             assert!(rt; clones_alike(alloc, &selector), "{text:?}");
         }
     }
-    let selector = parse_query_selector(alloc, "a > b")?;
-    let debug = format!(in alloc; "{selector:?}")?;
-    assert_eq!(rt;
-        debug.as_str(),
-        "Some(Parent { second: Tag([98]), first: Tag([97]) })"
-    );
     Ok(())
+}
+
+// Whether the selector of a text has this debug text.
+fn has_debug_text(alloc: Global, text: &str, wanted: &str) -> bool {
+    let Ok(Some(selector)) = parse_query_selector(alloc, text) else {
+        return false;
+    };
+    match format!(in alloc; "{selector:?}") {
+        Ok(debug) => debug.as_str() == wanted,
+        Err(_) => false,
+    }
+}
+
+// Texts of each kind of selector, and its debug text.
+#[rattlefmt::skip]
+static DEBUG_TEXTS: [(&str, &str); 15] = [
+    ("a", "Tag([97])"),
+    ("#a", "Id([97])"),
+    (".a", "Class([97])"),
+    ("*", "All"),
+    ("a.b", "And { second: Class([98]), first: Tag([97]) }"),
+    ("a, b", "Or { second: Tag([98]), first: Tag([97]) }"),
+    ("a b", "Descendant { second: Tag([98]), first: Tag([97]) }"),
+    ("a > b", "Parent { second: Tag([98]), first: Tag([97]) }"),
+    ("a > b c", "Descendant { second: Tag([99]), first: Parent { second: Tag([98]), first: Tag([97]) } }"),
+    ("[a]", "Attribute([97])"),
+    ("[a=b]", "AttributeValue([97], [98])"),
+    ("[a~=b]", "AttributeValueWhitespacedContains([97], [98])"),
+    ("[a^=b]", "AttributeValueStartsWith([97], [98])"),
+    ("[a$=b]", "AttributeValueEndsWith([97], [98])"),
+    ("[a*=b]", "AttributeValueSubstring([97], [98])"),
+];
+
+#[test]
+fn selectors_have_debug_texts(rt: HostRuntime) {
+    for (text, wanted) in &DEBUG_TEXTS {
+        assert!(rt; has_debug_text(rt.alloc(), text, wanted), "{text:?}");
+    }
 }

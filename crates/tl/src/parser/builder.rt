@@ -1,5 +1,5 @@
 //! Reads a text into a table: takes the tokens of the lexer one by one and writes what each stands for.
-ghost use Rattle.std.specs.Prelude.{◌≡◌, ◌↔◌, ◌≤◌, ◌<◌, ◌+◌, ◌^◌, [], length, drop, slice_get, IfOk, OnOk, IsOk, IsErrOf, All};
+ghost use Rattle.std.specs.Prelude.{◌≡◌, ◌↔◌, ◌≤◌, ◌<◌, ◌+◌, ◌*◌, ◌^◌, [], length, drop, slice_get, IfOk, OnOk, IsOk, IsErrOf, All};
 ghost use Rattle.tl_bytes.specs.Held.{Held};
 ghost use Rattle.tl_spec.specs.ByteClass.{is_void as is_void_name};
 ghost use Rattle.tl_lexer.specs.Span.{bytes_at, IsIn};
@@ -41,7 +41,9 @@ const MOST_AT_ONCE: usize = 65536;
 // About how many nodes a text has, by how often `<` stands at its front: a tag and a text for each. With room for them few nodes
 // are moved as the table grows, and a text that only begins with many tags takes no memory that counts.
 fn guessed_nodes(text: &[u8]) -> usize
-    ensures { text.now ≡ [] → result ≡ 0 }
+    ensures empty { text.now ≡ [] → result ≡ 0 }
+    ensures few { result ≤ 4 * length text.now }
+    ensures most { result ≤ MOST_AT_ONCE }
 {
     let front = &text[..text.len().min(SAMPLE)];
     let mut tags = 0usize;

@@ -2,10 +2,13 @@
 ghost use Rattle.std.specs.Prelude.{◌≡◌, ◌<◌, ◌^◌, ◌++◌, ◌∷◌, [], List, ℕ, length, map, is_some, IfOk, OnOk, IsOk, Some, IfSome, option_map};
 ghost use Rattle.std.specs.Option.{option_copied};
 ghost use Rattle.tl_spec.specs.ClassMember.{members, parts};
-ghost use Rattle.tl_spec.specs.Document.{Node};
+ghost use Rattle.tl_bytes.specs.Held.{Kept};
+ghost use Rattle.tl_spec.specs.Document.{Node, Tag};
 ghost use Rattle.tl_spec.specs.Scan.{id_of, class_of};
+ghost use Rattle.tl_tracking.specs.NameKey.{HasNames, number_of_names};
 ghost use Rattle.tl_tracking.specs.Tracking.{nothing_noted};
-ghost use Rattle.tl.specs.Shown.{shown};
+ghost use Rattle.tl.specs.Names.{name_list, names_in, names_of};
+ghost use Rattle.tl.specs.Shown.{shown, shown_tag};
 ghost use Rattle.tl.specs.Tracked.{AreAsked, AnswerIds, AnswerClasses, AnswerMembers};
 
 use crate::parser::base::{Parser, Tracking};
@@ -132,22 +135,33 @@ fn note_class<'a>(
     note_class_of(alloc, tracking, node, number)
 }
 
+// Adds a name, if there is one.
+fn add_name(key: &mut NameKey, name: Option<&Bytes<'_>>)
+    ensures { (names : List (List ℕ)) → HasNames key.old names → HasNames key.new
+        (names ++ name_list (option_map (λ (b : Kept). b.list) (option_copied name.entry))) }
+{
+    if let Some(name) = name {
+        key.add(name.as_bytes());
+    }
+}
+
 // Adds the names of a tag that are tracked.
-fn add_names(key: &mut NameKey, tag: &HTMLTag<'_>, options: ParserOptions) {
+fn add_names(key: &mut NameKey, tag: &HTMLTag<'_>, options: ParserOptions)
+    ensures { (names : List (List ℕ)) → HasNames key.old names →
+        HasNames key.new (names ++ names_of options (Tag (shown_tag tag.now))) }
+{
     if options.is_tracking_ids() {
-        if let Some(id) = tag.attributes().id() {
-            key.add(id.as_bytes());
-        }
+        add_name(key, tag.attributes().id());
     }
     if options.is_tracking_classes() {
-        if let Some(class) = tag.attributes().class() {
-            key.add(class.as_bytes());
-        }
+        add_name(key, tag.attributes().class());
     }
 }
 
 // The number that names are hashed by.
-fn key_of_names(nodes: &[Node<'_>], options: ParserOptions) -> u64 {
+fn key_of_names(nodes: &[Node<'_>], options: ParserOptions) -> u64
+    ensures { result ≡ number_of_names (names_in options (map shown nodes.now)) }
+{
     let mut key = NameKey::new();
     for node in nodes {
         if let Node::Tag(tag) = node {

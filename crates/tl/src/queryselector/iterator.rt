@@ -1,10 +1,10 @@
 //! The nodes that a query gives.
-ghost use Rattle.std.specs.Prelude.{◌≡◌, ◌+◌, [], IfOk, IfErr, IsOk, Ok, false, length, map, unwrap_or};
+ghost use Rattle.std.specs.Prelude.{◌≡◌, ◌+◌, [], Err, IfOk, IfErr, IfSome, IsOk, Ok, false, length, map, unwrap_or};
 ghost use Rattle.std.specs.Iterator.{at_most};
 ghost use Rattle.std.specs.Map.Iter.{TakesFirst};
 ghost use Rattle.std.specs.Result.{result_err};
 ghost use Rattle.tl_table.specs.Answer.{WantsNoMemory};
-ghost use Rattle.tl_table.specs.TreeFault.{IsRefusal};
+ghost use Rattle.tl_table.specs.TreeFault.{IsRefusal, error_of};
 ghost use Rattle.tl_selector.specs.View.{selector as selector_of};
 ghost use Rattle.tl_spec.specs.SelectorMeaning.{AreMatches, has_joint};
 ghost use Rattle.tl.specs.Query.{AreAmong};
@@ -49,7 +49,13 @@ impl<'a, 'b> QuerySelectorIterator<'a, 'b> {
         ensures err { IfErr result (IsRefusal
             (result_err (Q.count collection.now (map shown parser.now.nodes)))) }
 
-        // A selector that asks for no ancestors takes no memory itself.
+        // Want of memory hides no fault that is found without memory,
+        ensures fault { let nodes = map shown parser.now.nodes in
+            Q.counts_freely collection.now nodes
+            → IfSome (result_err (Q.count collection.now nodes))
+            (λ fault. result ≡ Err (error_of fault)) }
+
+        // and a selector that asks for no ancestors takes no memory itself.
         ensures memory { has_joint (selector_of selector.entry) ≡ false
             → Q.counts_freely collection.now (map shown parser.now.nodes)
             → WantsNoMemory result }

@@ -1,13 +1,14 @@
 //! Queries by a selector text, of a document and below a tag.
-ghost use Rattle.std.specs.Prelude.{◌≡◌, IfOk, IfErr, IsOk, Ok, None, length, map};
+ghost use Rattle.std.specs.Prelude.{◌≡◌, Err, IfOk, IfErr, IfSome, IsOk, Ok, None, false, length, map};
 ghost use Rattle.std.specs.Result.{result_err};
 ghost use Rattle.tl_table.specs.Answer.{WantsNoMemory};
-ghost use Rattle.tl_table.specs.TreeFault.{IsRefusal};
+ghost use Rattle.tl_table.specs.TreeFault.{IsRefusal, error_of};
 ghost use Rattle.tl_table.specs.Way.{RisesBelow};
 ghost use Rattle.tl_table.specs.declared.errors.TreeError.TheVariants.{OutOfMemory};
 ghost use Rattle.tl_selector.specs.Lacks.{LacksFirst, LacksSecond};
+ghost use Rattle.tl_selector.specs.View.{selector as selector_of};
 ghost use Rattle.tl_spec.specs.Range.{range_of};
-ghost use Rattle.tl_spec.specs.SelectorMeaning.{AreMatches};
+ghost use Rattle.tl_spec.specs.SelectorMeaning.{AreMatches, has_joint};
 ghost use Rattle.tl_spec.specs.Selector.{Selector as SelectorOf};
 ghost use Rattle.tl_spec.specs.SelectorText.{IsSelectorText, StandsAlone};
 ghost use Rattle.tl.specs.Query.{AreIn, FindsMatches};
@@ -19,6 +20,7 @@ use crate::parser::tag::HTMLTag;
 use crate::queryselector::iterator::QuerySelectorIterator;
 use crate::vdom::VDom;
 use std::alloc::Global;
+use tl_selector::selector::Selector;
 use tl_selector::text::parse_query_selector;
 
 impl<'a> VDom<'a> {
@@ -50,6 +52,32 @@ impl<'a> VDom<'a> {
 }
 
 impl<'a> HTMLTag<'a> {
+    // The nodes in the range of the tag where a selector holds.
+    fn matches_in_range<'b>(
+        &self,
+        parser: &'b Parser<'a>,
+        selector: Selector<'b>,
+    ) -> Result<QuerySelectorIterator<'a, 'b>, TreeError>
+        ensures ok { IfOk result (AreIn (map shown parser.now.nodes)
+            (range_of (map shown parser.now.nodes) self.now.children.items)
+            (selector_of selector.entry)) }
+        ensures err { IfErr result (IsRefusal
+            (result_err (range_of (map shown parser.now.nodes) self.now.children.items))) }
+
+        // Want of memory hides no fault that is found without memory.
+        ensures fault { let nodes = map shown parser.now.nodes in
+            RisesBelow nodes self.now.children.items
+            → IfSome (result_err (range_of nodes self.now.children.items))
+            (λ fault. result ≡ Err (error_of fault)) }
+        ensures memory { has_joint (selector_of selector.entry) ≡ false
+            → RisesBelow (map shown parser.now.nodes) self.now.children.items
+            → WantsNoMemory result }
+    {
+        let range = self.children().range(parser)?;
+        let found = QuerySelectorIterator::between(selector, parser, range.start, range.end)?;
+        Ok(found)
+    }
+
     /// The nodes in the range of the tag where a selector holds, rising; None where the text stands for no selector, which
     /// is looked at before the range. All nodes of the table count as ancestors.
     #[tactic(auto, using(tl_spec::proofs::SelectorText::alone_without_joint))]
@@ -81,8 +109,7 @@ impl<'a> HTMLTag<'a> {
         let Some(parsed) = parse_query_selector(alloc, selector)? else {
             return Ok(None);
         };
-        let range = self.children().range(parser)?;
-        let found = QuerySelectorIterator::between(parsed, parser, range.start, range.end)?;
+        let found = self.matches_in_range(parser, parsed)?;
         Ok(Some(found))
     }
 }

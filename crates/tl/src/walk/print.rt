@@ -8,6 +8,7 @@ ghost use Rattle.tl_table.specs.TreeFault.{FirstDangles};
 ghost use Rattle.tl_spec.specs.AttributeList.{printed_pairs, HasOwnKeys};
 ghost use Rattle.tl_spec.specs.Clean.{HaveOwnKeys, IsCleanNode, MeetsOwnKeys, NodeHasOwnKeys};
 ghost use Rattle.tl_spec.specs.Document.{Tag};
+ghost use Rattle.tl_spec.specs.Element.{children_of};
 ghost use Rattle.tl_spec.specs.Normal.{ReadsAs};
 ghost use Rattle.tl_spec.specs.Print.{outer_html, inner_html, print, print_value, print_pairs, print_start, print_end, print_of_event};
 ghost use Rattle.tl_spec.specs.Walk.{every, fault_among, first_fault, plain_node, prints_children, trees, walk, walk_of};
@@ -265,8 +266,12 @@ impl<'a> Node<'a> {
 
     /// The children of a tag as markup, by the table of `parser`. A text or a comment answers its own text.
     pub fn inner_html(&self, alloc: Global, parser: &Parser<'a>) -> Result<String, TreeError>
-        ensures { Answers string_bytes (inner_html (map shown parser.now.nodes)
+        ensures answers { Answers string_bytes (inner_html (map shown parser.now.nodes)
             (shown self.now)) result }
+
+        // A first child that dangles is answered before any memory is taken.
+        ensures dangling { (h : ℕ) → FirstDangles parser.now.nodes (children_of (shown self.now)) h
+            → result ≡ Err (TreeError.Dangling h) }
     {
         match self {
             Node::Tag(tag) => tag.inner_html(alloc, parser),

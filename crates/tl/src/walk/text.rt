@@ -3,6 +3,7 @@ ghost use Rattle.std.specs.Prelude.{◌≡◌, ◌++◌, ℕ, [], map, flat_map,
 ghost use Rattle.tl_table.specs.Answer.{Answers};
 ghost use Rattle.tl_table.specs.TreeFault.{FirstDangles};
 ghost use Rattle.tl_spec.specs.Document.{Tag};
+ghost use Rattle.tl_spec.specs.Element.{children_of};
 ghost use Rattle.tl_spec.specs.Text.{inner_text, text_of, event_text};
 ghost use Rattle.tl_spec.specs.Walk.{every, fault_among, first_fault, trees, walk, walk_of};
 ghost use Rattle.tl.specs.Shown.{shown, shown_tag};
@@ -75,9 +76,11 @@ fn write_text_of<'s, 'a>(
     tag: &'s HTMLTag<'a>,
     out: &mut String,
 ) -> Result<(), TreeError>
-    ensures { let w = walk_of every (map shown nodes.now) (Tag (shown_tag tag.now)) in
+    ensures writes { let w = walk_of every (map shown nodes.now) (Tag (shown_tag tag.now)) in
         Writes (first_fault w) (text_of (trees w)) (string_bytes out.old) result
         (string_bytes out.new) }
+    ensures dangling { (h : ℕ) → FirstDangles nodes.now tag.now.children.items h
+        → result ≡ Err (TreeError.Dangling h) }
 {
     let below = tag.child_handles().as_slice();
     write_row_texts(alloc, nodes, below, out)
@@ -86,8 +89,12 @@ fn write_text_of<'s, 'a>(
 impl<'a> HTMLTag<'a> {
     /// The texts below the tag by the table of `parser`, in the order of the walk. Comments give none.
     pub fn inner_text(&self, alloc: Global, parser: &Parser<'a>) -> Result<String, TreeError>
-        ensures { Answers string_bytes (inner_text (map shown parser.now.nodes)
+        ensures answers { Answers string_bytes (inner_text (map shown parser.now.nodes)
             (Tag (shown_tag self.now))) result }
+
+        // A first child that dangles is answered before any memory is taken.
+        ensures dangling { (h : ℕ) → FirstDangles parser.now.nodes self.now.children.items h
+            → result ≡ Err (TreeError.Dangling h) }
     {
         let mut out = String::new(alloc);
         write_text_of(alloc, parser.nodes(), self, &mut out)?;
@@ -103,6 +110,10 @@ impl<'a> Node<'a> {
 
         // A comment has no text, which takes no memory.
         ensures comment { IsSome (comment_of self.now) → IsOk result }
+
+        // A first child that dangles is answered before any memory is taken.
+        ensures dangling { (h : ℕ) → FirstDangles parser.now.nodes (children_of (shown self.now)) h
+            → result ≡ Err (TreeError.Dangling h) }
     {
         match self {
             Node::Tag(tag) => tag.inner_text(alloc, parser),

@@ -1,7 +1,8 @@
 //! Nodes.
-ghost use Rattle.std.specs.Prelude.{◌≡◌, IfOk};
+ghost use Rattle.std.specs.Prelude.{◌≡◌, IfOk, IfSome, IsOk};
 ghost use Rattle.std.specs.Borrow.{sem};
 ghost use Rattle.std.specs.Option.{option_copied, option_copied_mut};
+ghost use Rattle.tl_bytes.specs.Held.{borrowed};
 ghost use Rattle.tl.specs.Node.{tag_of, raw_of, comment_of};
 ghost use Rattle.tl.specs.NodeLends.{LendsTag, LendsRaw, LendsComment};
 
@@ -107,7 +108,12 @@ impl<A, B, O: OutlineOf<A>> NodeOf<A, B, O> {
 impl<'a> Node<'a> {
     /// The same node, each of its parts held alike.
     pub fn clone(&self) -> Result<Node<'a>, AllocError>
-        ensures { IfOk result (λ n. n ≡ self.now) }
+        ensures value { IfOk result (λ n. n ≡ self.now) }
+
+        // A text and a comment whose bytes are borrowed take no memory.
+        ensures raw { IfSome (raw_of self.now) (λ bytes. bytes.held ≡ borrowed → IsOk result) }
+        ensures comment { IfSome (comment_of self.now)
+            (λ bytes. bytes.held ≡ borrowed → IsOk result) }
     {
         match self {
             Node::Tag(tag) => Ok(Node::Tag(tag.clone()?)),

@@ -1,5 +1,5 @@
 use Rattle.std.proofs.Common.{rules}
 use Rattle.tl.proofs.walk.text.HTMLTag.inner_text.Goals as goal
 
-pub returns : goal.returns
-returns c = search rules
+pub returns-clause-answers : goal.returns-clause-answers
+returns-clause-answers c = search rules
