@@ -6,5 +6,5 @@ pub mod Words
 pub mod Policies
 pub mod Left
 pub mod Writes
-pub mod Causes
+pub mod Refusals
 pub mod Said

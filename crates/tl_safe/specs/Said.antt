@@ -3,10 +3,10 @@ use Rattle.std.specs.Prelude.{ℕ, Bool, true, false, ◌==◌, List, [], ◌∷
 use Rattle.std.specs.Borrow.{Bor}
 use Rattle.std.specs.List.{filter, slice_split}
 use Rattle.std.specs.Option.{option_map}
-use Rattle.tl_safe.specs.Lists.{Lists}
-use Rattle.tl_safe.specs.Words.{lists, words_of}
-use Rattle.tl_safe.specs.declared.lists.Texts.{Texts}
-use Rattle.tl_safe.specs.declared.lists.WordLists.{WordLists}
+use Rattle.tl_safe.specs.Lists.{ListedWords}
+use Rattle.tl_safe.specs.Words.{words_of}
+use Rattle.tl_safe.specs.declared.texts.Texts.{Texts}
+use Rattle.tl_safe.specs.declared.texts.WordLists.{WordLists}
 
 abbrev pub is_comma : ℕ → Bool
 is_comma b = b == 44
@@ -60,11 +60,14 @@ prefix_said None own = own
 prefix_said (Some text) own = text
 
 -- the lists that are said, and those of a policy for the others
-abbrev pub lists_said : Said → Lists → Lists
-lists_said s own =
-    lists (words_said s.tags own.tags) (words_said s.keys own.keys)
-    (words_said s.link_keys own.link_keys) (words_said s.link_beginnings own.link_beginnings)
-    (prefix_said s.prefix own.prefix)
+abbrev pub lists_said : Said → ListedWords → ListedWords
+lists_said s own = record {
+  tags = words_said s.tags own.tags;
+  keys = words_said s.keys own.keys;
+  link_keys = words_said s.link_keys own.link_keys;
+  link_beginnings = words_said s.link_beginnings own.link_beginnings;
+  prefix = prefix_said s.prefix own.prefix;
+}
 
 -- texts with one more, for the list that an option names, if it names one
 abbrev pub said_with : Said → List ℕ → List ℕ → Option Said
@@ -77,7 +80,11 @@ said_with s option text =
     else None
 
 -- the lists of words
-abbrev pub lists_in : WordLists → Lists
-lists_in w =
-    lists (words_of w.tags.items) (words_of w.keys.items) (words_of w.link_keys.items)
-    (words_of w.link_beginnings.items) w.prefix.now
+abbrev pub lists_in : WordLists → ListedWords
+lists_in w = record {
+  tags = words_of w.tags.items;
+  keys = words_of w.keys.items;
+  link_keys = words_of w.link_keys.items;
+  link_beginnings = words_of w.link_beginnings.items;
+  prefix = w.prefix.now;
+}

@@ -88,8 +88,7 @@ fn said_of_slip(rt: &HostRuntime, slip: Slip<'_>) -> Failure {
 }
 
 fn said_of_list(rt: &HostRuntime, error: PolicyError<'_>) -> Failure {
-    let cause = error.cause();
-    let _ = eprintln!(rt; "tl_sanitise: {error}: {cause}");
+    let _ = eprintln!(rt; "tl_sanitise: {error}");
     Failure::NotUnderstood
 }
 
@@ -101,7 +100,7 @@ fn carried_out(rt: &HostRuntime, asked: &Asked<'_>) -> Result<(), Failure> {
         Ok(words) => words,
         Err(_) => return Err(said(rt, "", Failure::OutOfMemory)),
     };
-    match words.policy() {
+    match Policy::new(words.lists()) {
         Ok(policy) => match asked.task {
             Task::Policy => put_lists(rt, &policy),
             _ => put_pages(rt, &policy, &asked.files),
@@ -134,11 +133,12 @@ fn write_line(option: &str, words: &[&str], out: &mut String) -> Result<(), Allo
 // The lists of a policy as options that say them, one on each line.
 fn lines_of(alloc: Global, policy: &Policy<'_>) -> Result<String, AllocError> {
     let mut out = String::new(alloc);
-    write_line("--tags", policy.tags(), &mut out)?;
-    write_line("--keys", policy.keys(), &mut out)?;
-    write_line("--link-keys", policy.link_keys(), &mut out)?;
-    write_line("--links", policy.link_beginnings(), &mut out)?;
-    write_line("--prefix", &[policy.prefix()], &mut out)?;
+    let lists = policy.lists();
+    write_line("--tags", lists.tags, &mut out)?;
+    write_line("--keys", lists.keys, &mut out)?;
+    write_line("--link-keys", lists.link_keys, &mut out)?;
+    write_line("--links", lists.link_beginnings, &mut out)?;
+    write_line("--prefix", &[lists.prefix], &mut out)?;
     Ok(out)
 }
 

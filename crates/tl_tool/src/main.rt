@@ -17,7 +17,7 @@ use std::io::ErrorKind;
 use std::process::ExitCode;
 use task::Task;
 use tl_program::program::Failure;
-use tl_safe::{Texts, WordLists};
+use tl_safe::{Policy, Texts, WordLists};
 
 fn main(rt: HostRuntime) -> ExitCode {
     ExitCode::from(status_of(&rt))
@@ -78,11 +78,10 @@ fn sanitise(rt: &HostRuntime, texts: &Texts<'_>, pages: &Pages<'_>) -> u8 {
         Ok(lists) => lists,
         Err(_) => return status_of_slip(rt, &Slip::OutOfMemory),
     };
-    match lists.policy() {
+    match Policy::new(lists.lists()) {
         Ok(policy) => over_pages(rt, &Task::Sanitise(policy), pages),
         Err(error) => {
-            let cause = error.cause();
-            let _ = eprintln!(rt; "tl: {error}: {cause}");
+            let _ = eprintln!(rt; "tl: {error}");
             Failure::NotUnderstood as u8
         }
     }
