@@ -1,4 +1,3 @@
-pub mod Commas
 pub mod Listed
 pub mod Writes
 pub mod Whole

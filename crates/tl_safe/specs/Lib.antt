@@ -7,4 +7,3 @@ pub mod Policies
 pub mod Left
 pub mod Writes
 pub mod Refusals
-pub mod Said

@@ -14,7 +14,6 @@ mod keep;
 mod lists;
 mod policy;
 mod refusal;
-mod texts;
 mod walk;
 mod words;
 mod write;
@@ -23,7 +22,6 @@ pub use lists::Lists;
 pub use policy::Policy;
 pub use refusal::{PolicyError, Reason};
 use std::alloc::Global;
-pub use texts::{Texts, WordLists};
 use tl::{ParseError, ParserOptions, parse};
 use walk::write_row;
 

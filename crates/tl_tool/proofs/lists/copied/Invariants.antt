@@ -1,6 +1,6 @@
 use Rattle.std.proofs.Common.{◌≡◌, ◌++◌, drop}
 use Rattle.tl_safe.specs.Words.{words_of}
-use Rattle.tl_safe.proofs.texts.copied.Given as goal
+use Rattle.tl_tool.proofs.lists.copied.Given as goal
 
 -- the words so far, and then those that are left
 abbrev pub invariant-loop-word : goal.invariant-loop-word

@@ -1,13 +1,12 @@
-//! The lists of a policy, read from texts.
-ghost use Rattle.std.specs.Prelude.{◌≡◌, ◌∷◌, ◌<◌, length, IfOk, IfSome};
+//! The lists of a policy, as options say them.
+ghost use Rattle.std.specs.Prelude.{◌≡◌, ◌++◌, ◌∷◌, ◌<◌, [], length, IfOk, IfSome, OnOk, string_bytes};
 ghost use Rattle.std.specs.List.{slice_split};
-ghost use Rattle.std.specs.Option.{option_map};
 ghost use Rattle.tl_safe.specs.Lists.{page_lists};
 ghost use Rattle.tl_safe.specs.Words.{listed_words, words_of};
-ghost use Rattle.tl_safe.specs.Said.{is_comma, lists_in, lists_said, nothing_said, prefix_said, said, said_with, text_of, words_in, words_left, words_said};
+ghost use Rattle.tl_tool.specs.Said.{is_comma, lists_in, lists_said, option_line, policy_text, prefix_said, said, text_of, words_in, words_left, words_said};
 
-use crate::lists::Lists;
 use std::alloc::{AllocError, Global};
+use tl_safe::Lists;
 
 /// The texts of lists, where they are said: words with commas between them, and a prefix.
 #[derive(Clone, Copy)]
@@ -17,50 +16,6 @@ pub struct Texts<'c> {
     pub link_keys: Option<&'c str>,
     pub link_beginnings: Option<&'c str>,
     pub prefix: Option<&'c str>,
-}
-
-impl<'c> Texts<'c> {
-    /// Where none is said.
-    pub fn none() -> Texts<'c>
-        ensures { said result ≡ nothing_said }
-    {
-        Texts {
-            tags: None,
-            keys: None,
-            link_keys: None,
-            link_beginnings: None,
-            prefix: None,
-        }
-    }
-
-    /// These with a text for the list that an option names, or None where it names none.
-    pub fn with(self, option: &str, text: &'c str) -> Option<Texts<'c>>
-        ensures { option_map said result ≡ said_with (said self.entry) option.now text.entry.now }
-    {
-        let text = Some(text);
-        if option == "--tags" {
-            Some(Texts { tags: text, ..self })
-        } else if option == "--keys" {
-            Some(Texts { keys: text, ..self })
-        } else if option == "--link-keys" {
-            Some(Texts {
-                link_keys: text,
-                ..self
-            })
-        } else if option == "--links" {
-            Some(Texts {
-                link_beginnings: text,
-                ..self
-            })
-        } else if option == "--prefix" {
-            Some(Texts {
-                prefix: text,
-                ..self
-            })
-        } else {
-            None
-        }
-    }
 }
 
 // The word before the first comma, and what stands after it, if there is one.
@@ -74,8 +29,8 @@ fn cut<'c>(text: &'c str) -> (&'c str, Option<&'c str>)
     }
 }
 
-/// The words of a text with commas between them, in order and without empty ones.
-pub fn words<'c>(alloc: Global, text: &'c str) -> Result<Vec<&'c str>, AllocError>
+// The words of a text with commas between them, in order and without empty ones.
+fn words<'c>(alloc: Global, text: &'c str) -> Result<Vec<&'c str>, AllocError>
     ensures { IfOk result (λ found. words_of found.items ≡ words_in text.now) }
 {
     let mut found = Vec::new(alloc);
@@ -163,4 +118,34 @@ impl<'c> WordLists<'c> {
             prefix: self.prefix,
         }
     }
+}
+
+// Writes an option and the words of its list on a line.
+fn write_line(option: &str, words: &[&str], out: &mut String) -> Result<(), AllocError>
+    ensures { OnOk result (string_bytes out.new
+        ≡ string_bytes out.old ++ option_line option.now (words_of words.now)) }
+{
+    out.push_str(option)?;
+    if let [first, others @ ..] = words {
+        out.push(' ')?;
+        out.push_str(first)?;
+        for word in others {
+            out.push(',')?;
+            out.push_str(word)?;
+        }
+    }
+    out.push('\n')
+}
+
+/// The options that say these lists, one on each line.
+pub fn lines_of(alloc: Global, lists: &Lists<'_>) -> Result<String, AllocError>
+    ensures { IfOk result (λ text. string_bytes text ≡ policy_text (listed_words lists.now)) }
+{
+    let mut out = String::new(alloc);
+    write_line("--tags", lists.tags, &mut out)?;
+    write_line("--keys", lists.keys, &mut out)?;
+    write_line("--link-keys", lists.link_keys, &mut out)?;
+    write_line("--links", lists.link_beginnings, &mut out)?;
+    write_line("--prefix", &[lists.prefix], &mut out)?;
+    Ok(out)
 }

@@ -1,12 +1,12 @@
--- The lists that texts say.
-use Rattle.std.specs.Prelude.{ℕ, Bool, true, false, ◌==◌, List, [], ◌∷◌, Option, Some, None, codes, bytes_eq, if◌then◌else◌}
+-- The lists that options say.
+use Rattle.std.specs.Prelude.{ℕ, Bool, true, false, ◌==◌, List, [], ◌∷◌, ◌++◌, Option, Some, None, codes}
 use Rattle.std.specs.Borrow.{Bor}
 use Rattle.std.specs.List.{filter, slice_split}
 use Rattle.std.specs.Option.{option_map}
 use Rattle.tl_safe.specs.Lists.{ListedWords}
 use Rattle.tl_safe.specs.Words.{words_of}
-use Rattle.tl_safe.specs.declared.texts.Texts.{Texts}
-use Rattle.tl_safe.specs.declared.texts.WordLists.{WordLists}
+use Rattle.tl_tool.specs.declared.lists.Texts.{Texts}
+use Rattle.tl_tool.specs.declared.lists.WordLists.{WordLists}
 
 abbrev pub is_comma : ℕ → Bool
 is_comma b = b == 44
@@ -37,10 +37,6 @@ pub record Said : Type 0 where
   pub link_beginnings : Option (List ℕ)
   pub prefix : Option (List ℕ)
 
-abbrev pub nothing_said : Said
-nothing_said =
-    record { tags = None; keys = None; link_keys = None; link_beginnings = None; prefix = None }
-
 abbrev pub said : Texts → Said
 said texts = record {
   tags = text_of texts.tags;
@@ -69,16 +65,6 @@ lists_said s own = record {
   prefix = prefix_said s.prefix own.prefix;
 }
 
--- texts with one more, for the list that an option names, if it names one
-abbrev pub said_with : Said → List ℕ → List ℕ → Option Said
-said_with s option text =
-    if bytes_eq option (codes "--tags") then Some (record s { tags = Some text })
-    else if bytes_eq option (codes "--keys") then Some (record s { keys = Some text })
-    else if bytes_eq option (codes "--link-keys") then Some (record s { link_keys = Some text })
-    else if bytes_eq option (codes "--links") then Some (record s { link_beginnings = Some text })
-    else if bytes_eq option (codes "--prefix") then Some (record s { prefix = Some text })
-    else None
-
 -- the lists of words
 abbrev pub lists_in : WordLists → ListedWords
 lists_in w = record {
@@ -88,3 +74,26 @@ lists_in w = record {
   link_beginnings = words_of w.link_beginnings.items;
   prefix = w.prefix.now;
 }
+
+-- a comma before each of these words
+abbrev pub after_commas : List (List ℕ) → List ℕ
+after_commas [] = []
+after_commas (word ∷ words) = codes "," ++ word ++ after_commas words
+
+-- words with commas between them after a space, or nothing where there are none
+abbrev pub list_text : List (List ℕ) → List ℕ
+list_text [] = []
+list_text (word ∷ words) = codes " " ++ word ++ after_commas words
+
+-- an option and the words of its list on a line
+abbrev pub option_line : List ℕ → List (List ℕ) → List ℕ
+option_line option words = option ++ list_text words ++ codes "\n"
+
+-- the options that say these lists, one on each line
+abbrev pub policy_text : ListedWords → List ℕ
+policy_text p =
+    option_line (codes "--tags") p.tags
+    ++ option_line (codes "--keys") p.keys
+    ++ option_line (codes "--link-keys") p.link_keys
+    ++ option_line (codes "--links") p.link_beginnings
+    ++ option_line (codes "--prefix") (p.prefix ∷ [])

@@ -2,8 +2,8 @@ use Rattle.std.proofs.Common.{◌≡◌, ◌+◌, ◌++◌, length}
 use Rattle.std.specs.List.{filter}
 use Rattle.std.specs.Option.{option_map_or}
 use Rattle.tl_safe.specs.Words.{words_of}
-use Rattle.tl_safe.specs.Said.{is_word, words_in, words_left}
-use Rattle.tl_safe.proofs.texts.words.Given as goal
+use Rattle.tl_tool.specs.Said.{is_word, words_in, words_left}
+use Rattle.tl_tool.proofs.lists.words.Given as goal
 
 -- the words so far, and then those of what is left, are those of the text
 abbrev pub invariant-loop-rest : goal.invariant-loop-rest
