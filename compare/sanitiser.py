@@ -1,4 +1,4 @@
-"""A plain sanitiser by the rules of docs/SAFE.md, over the plain reader of reader.py: what `tl_sanitise` has to print of a page.
+"""A plain sanitiser by the rules of docs/SAFE.md, over the plain reader of reader.py: what `tl sanitise` has to print of a page.
 
 It is written from those two pages alone, and knows nothing of how the crates do it.
 """

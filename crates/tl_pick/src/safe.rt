@@ -3,6 +3,7 @@ ghost use Rattle.std.specs.Prelude.{◌≡◌, IfOk, string_bytes};
 ghost use Rattle.tl_spec.specs.Normal.{norm};
 ghost use Rattle.tl_safe.specs.HtmlTokenizer.{data_state, html_tokens};
 ghost use Rattle.tl_safe.specs.IsSafe.{IsSafe, tokens_of};
+ghost use Rattle.tl_safe.specs.Kept.{trees_of};
 ghost use Rattle.tl_safe.specs.Policies.{kept_of, lists_of};
 ghost use Rattle.tl_program.specs.Output.{Gives};
 ghost use Rattle.tl_pick.specs.Page.{outcome_of_length};
@@ -15,6 +16,8 @@ use tl_safe::{Policy, sanitised};
 // What a policy keeps of a text.
 fn of_text(alloc: Global, policy: &Policy<'_>, text: &str) -> Result<String, Failure>
     ensures outcome { Gives (outcome_of_length (safe_text (lists_of policy.now)) text.now) result }
+    ensures trees { IfOk result (λ safe.
+        trees_of (string_bytes safe) ≡ norm (kept_of policy.now text.now)) }
     ensures form { IfOk result (λ safe. IsSafe (lists_of policy.now) (string_bytes safe)) }
     ensures standard { IfOk result (λ safe. html_tokens data_state (string_bytes safe)
         ≡ tokens_of (norm (kept_of policy.now text.now))) }
@@ -27,6 +30,8 @@ pub fn sanitise(alloc: Global, policy: &Policy<'_>, page: &[u8]) -> Result<Strin
     ensures outcome { Gives (safe_page (lists_of policy.now) page.now) result }
 
     // As `sanitised` says of a text.
+    ensures trees { IfOk result (λ safe.
+        trees_of (string_bytes safe) ≡ norm (kept_of policy.now page.now)) }
     ensures form { IfOk result (λ safe. IsSafe (lists_of policy.now) (string_bytes safe)) }
     ensures standard { IfOk result (λ safe. html_tokens data_state (string_bytes safe)
         ≡ tokens_of (norm (kept_of policy.now page.now))) }

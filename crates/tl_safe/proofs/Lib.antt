@@ -1,6 +1,4 @@
-pub mod Commas
 pub mod Listed
-pub mod Lent
 pub mod Writes
 pub mod Whole
 pub mod Rows

@@ -15,7 +15,8 @@ use Rattle.tl_spec.specs.Print.{print, print_end, print_pairs, print_start}
 use Rattle.tl_spec.proofs.Identity.{identity, not_command}
 use Rattle.tl_spec.proofs.Ascii.{lossy-ascii}
 use Rattle.tl_spec.proofs.Images.{image-pairs_in_order}
-use Rattle.tl_safe.specs.Lists.{Lists, are_lawful, is_among}
+use Rattle.tl_safe.specs.Lists.{ListedWords, is_among}
+use Rattle.tl_safe.specs.Refusals.{are_lawful}
 use Rattle.tl_safe.specs.Kept.{kept, stays}
 use Rattle.tl_safe.specs.HtmlTokenizer.{Character, EndTag, HtmlToken, StartTag, data_state, html_tokens}
 use Rattle.tl_safe.specs.IsSafe.{IsSafe, a_text, a_void_element, an_element, end_of, html_attribute, nothing, safe_pairs, start_of, tokens_of}
@@ -50,7 +51,7 @@ pairs-lossy a =
     sym (image-pairs_in_order utf8_lossy utf8_lossy (λ key. key) a.others a.id a.class
     ∙ ap₂ (λ i c. map lossy_pair a.others ++ named i (option_map utf8_lossy a.id) ++ named c (option_map utf8_lossy a.class)) (lossy-ascii (codes "id") refl) (lossy-ascii (codes "class") refl))
 
-module _ (p : Lists) (lawful : are_lawful p ≡ true) where
+module _ (p : ListedWords) (lawful : are_lawful p ≡ true) where
   lossy-stay : (ps : List Pair) → list_all (stays p) ps ≡ true → list_all (stays p) (map lossy_pair ps) ≡ true
   lossy-stay [] h = refl
   lossy-stay (q ∷ ps) h =
@@ -153,7 +154,7 @@ NoComments (text bytes more) = NoComments more
 NoComments (comment bytes more) = ⊥
 NoComments (tag own children more) = NoComments children × NoComments more
 
-kept-NoComments : (p : Lists) (f : Forest PlainTag) → AreKept p f → NoComments (lossy f)
+kept-NoComments : (p : ListedWords) (f : Forest PlainTag) → AreKept p f → NoComments (lossy f)
 kept-NoComments p none h = tt
 kept-NoComments p (text bytes more) h = kept-NoComments p more h.1
 kept-NoComments p (comment bytes more) h = absurd h
@@ -178,10 +179,10 @@ tidy-tokens (tag own children more) h =
 
 -- the laws
 
-pub form : (p : Lists) → are_lawful p ≡ true → (f : Forest PlainTag) → IsSafe p (print (kept p f))
+pub form : (p : ListedWords) → are_lawful p ≡ true → (f : Forest PlainTag) → IsSafe p (print (kept p f))
 form p lawful f = kept-safe p lawful (kept p f) (kept-AreKept p f)
 
-pub standard : (p : Lists) → are_lawful p ≡ true → (f : Forest PlainTag) → html_tokens data_state (print (kept p f)) ≡ tokens_of (norm (kept p f))
+pub standard : (p : ListedWords) → are_lawful p ≡ true → (f : Forest PlainTag) → html_tokens data_state (print (kept p f)) ≡ tokens_of (norm (kept p f))
 standard p lawful f =
     let k = kept-AreKept p f in
     ap (html_tokens data_state) (sym (append-nil (print (kept p f))))
@@ -189,5 +190,5 @@ standard p lawful f =
     ∙ append-nil (tokens_of (lossy (kept p f)))
     ∙ sym (tidy-tokens (lossy (kept p f)) (kept-NoComments p (kept p f) k))
 
-pub reads : (p : Lists) → are_lawful p ≡ true → (f : Forest PlainTag) → HaveOwnKeys f → ReadsAs (print (kept p f)) (kept p f)
+pub reads : (p : ListedWords) → are_lawful p ≡ true → (f : Forest PlainTag) → HaveOwnKeys f → ReadsAs (print (kept p f)) (kept p f)
 reads p lawful f own = identity (kept p f) (kept-clean p lawful (kept p f) (kept-AreKept p f)) (kept-own p f own)

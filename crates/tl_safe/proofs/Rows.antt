@@ -13,14 +13,15 @@ use Rattle.tl_spec.proofs.Identity.{not_command}
 use Rattle.tl_spec.proofs.Rising.{walk-one, met-cons, drop-some, drop-none, child_found, child_missing, given}
 use Rattle.tl_spec.proofs.Walks.{walk-nil}
 use Rattle.tl.specs.Shown.{shown}
-use Rattle.tl_safe.specs.Lists.{Lists, are_lawful, is_among, opaque_names}
+use Rattle.tl_safe.specs.Lists.{ListedWords, is_among, opaque_names}
+use Rattle.tl_safe.specs.Refusals.{are_lawful}
 use Rattle.tl_safe.specs.Kept.{joined, kept, kept_tag}
 use Rattle.tl_safe.specs.Left.{end_print, frame_print, frame_steps, handle_print, node_print, owed, owed_from, row, steps}
 use Rattle.tl_safe.specs.declared.walk.Frame.{Frame}
 use Rattle.tl_safe.proofs.Listed.{listed_tag}
 
 module _ (nodes : List Node) (rising : AreChildrenAbove nodes) where
-  module _ (p : Lists) (lawful : are_lawful p ≡ true) where
+  module _ (p : ListedWords) (lawful : are_lawful p ≡ true) where
     print-joined : (f g : Forest PlainTag) → print (joined f g) ≡ print f ++ print g
     print-joined none g = refl
     print-joined (text bytes more) g = ap (λ s. utf8_lossy bytes ++ s) (print-joined more g) ∙ sym (append_assoc (utf8_lossy bytes) (print more) (print g))
@@ -53,12 +54,12 @@ module _ (nodes : List Node) (rising : AreChildrenAbove nodes) where
     pub row-cons : (h : ℕ) (hs : List ℕ) → row p nodes (h ∷ hs) ≡ handle_print p nodes (slice_get nodes h) ++ row p nodes hs
     row-cons h hs = ap (λ w. print (kept p (trees w))) (walk-one nodes rising h hs (slice_get nodes h) refl) ∙ row-by-node h (walk every nodes [] hs) (slice_get nodes h)
 
-pub row-nil : (p : Lists) (nodes : List Node) → row p nodes [] ≡ []
+pub row-nil : (p : ListedWords) (nodes : List Node) → row p nodes [] ≡ []
 row-nil p nodes = ap (λ w. print (kept p (trees w))) (walk-nil every nodes [])
 
 -- frames
 
-module _ (p : Lists) (nodes : List Node) where
+module _ (p : ListedWords) (nodes : List Node) where
   owed_from-push : (later : List ℕ) (fs : List Frame) (f : Frame) → owed_from p nodes later (fs ++ f ∷ []) ≡ frame_print p nodes f ++ owed_from p nodes later fs
   owed_from-push later [] f = refl
   owed_from-push later (g ∷ fs) f = owed_from-push (frame_print p nodes g ++ later) fs f
@@ -97,7 +98,7 @@ passed_shape false v false start inner stop out later h = absurd (true≢false h
 
 -- a visit of a tag that is entered
 
-module _ (p : Lists) (nodes : List Node) where
+module _ (p : ListedWords) (nodes : List Node) where
   pub visit_entered : (own : TagNode) (stands : Bool) (f : Frame) (frames new : List Frame) (out one : List ℕ)
       → stands ≡ is_among p.tags own.name → one ≡ out ++ (if stands then print_start (kept_tag p (plain_node own)) else [])
       → new ≡ frames ++ f ∷ [] → frame_print p nodes f ≡ row p nodes own.children.items ++ (if stands then print_end (plain_node own) else [])
@@ -134,7 +135,7 @@ steps_entered nodes own f frames new n e = let more : steps nodes new ≡ frame_
 -- one step in a frame
 
 module _ (nodes : List Node) where
-  pub closed_print : (p : Lists) (f : Frame) → None ≡ child_at (children_of (shown f.node.now)) f.next →
+  pub closed_print : (p : ListedWords) (f : Frame) → None ≡ child_at (children_of (shown f.node.now)) f.next →
       frame_print p nodes f ≡ end_print f.stands (shown f.node.now)
   closed_print p f e =
       let cs : List ℕ = children_of (shown f.node.now) in
@@ -149,7 +150,7 @@ module _ (nodes : List Node) where
         let is = child_found f.next child g.next (slice_get cs f.next) found in
         drop-some cs f.next child is.0 ∙ ap₂ (λ n b. child ∷ drop n (children_of (shown b.now))) (sym is.1) (sym same)
 
-    pub went_on : (p : Lists) → are_lawful p ≡ true → (frames one : List Frame) → one ≡ frames ++ g ∷ [] →
+    pub went_on : (p : ListedWords) → are_lawful p ≡ true → (frames one : List Frame) → one ≡ frames ++ g ∷ [] →
         handle_print p nodes (slice_get nodes child) ++ owed p nodes one ≡ frame_print p nodes f ++ owed p nodes frames
     went_on p lawful frames one n =
         let hp : List ℕ = handle_print p nodes (slice_get nodes child) in

@@ -11,7 +11,8 @@ use Rattle.tl_spec.specs.AttributeList.{AreOthers, HasOwnKeys, PlainAttributes, 
 use Rattle.tl_spec.specs.ByteClass.{is_among_in_any_case, is_void}
 use Rattle.tl_spec.specs.Clean.{AreCleanPairs, HaveOwnKeys, IsClean, IsCleanStart, IsName}
 use Rattle.tl_spec.specs.Forest.{Forest, none, text, comment, tag, PlainTag}
-use Rattle.tl_safe.specs.Lists.{Lists, are_lawful, is_among, opaque_names}
+use Rattle.tl_safe.specs.Lists.{ListedWords, is_among, opaque_names}
+use Rattle.tl_safe.specs.Refusals.{are_lawful}
 use Rattle.tl_safe.specs.Kept.{is_text_byte, is_value_byte, joined, kept, kept_attributes, kept_value, stays, value_stays}
 use Rattle.tl_safe.proofs.Listed.{listed_key, listed_tag}
 
@@ -20,7 +21,7 @@ choose : (P : Forest PlainTag → Type 0) (b : Bool) (x y : Forest PlainTag) →
 choose P true x y h k = h refl
 choose P false x y h k = k refl
 
-module _ (p : Lists) where
+module _ (p : ListedWords) where
   -- trees of what stays alone
   abbrev pub AreKept : Forest PlainTag → Type 0
   AreKept none = ⊤

@@ -7,7 +7,7 @@ use Rattle.tl_spec.specs.Attribute.{Pair}
 use Rattle.tl_spec.specs.AttributeList.{printed_pairs}
 use Rattle.tl_spec.specs.Forest.{PlainTag}
 use Rattle.tl_spec.specs.Print.{print_pairs, print_start, print_value}
-use Rattle.tl_safe.specs.Lists.{Lists}
+use Rattle.tl_safe.specs.Lists.{ListedWords}
 use Rattle.tl_safe.specs.Kept.{is_text_byte, kept_tag, stays}
 use Rattle.tl_safe.proofs.Trees.{kept-pairs}
 
@@ -22,7 +22,7 @@ pub filter_same : (s : List ℕ) → list_all is_text_byte s ≡ true → filter
 filter_same s h = filter_is is_text_byte s h
 
 -- what four calls wrote is the start tag
-pub kept_start : (p : Lists) (own : PlainTag) → print_start (kept_tag p own) ≡ codes "<" ++ utf8_lossy own.name ++ print_pairs (filter (stays p) (printed_pairs own.attributes)) ++ codes ">"
+pub kept_start : (p : ListedWords) (own : PlainTag) → print_start (kept_tag p own) ≡ codes "<" ++ utf8_lossy own.name ++ print_pairs (filter (stays p) (printed_pairs own.attributes)) ++ codes ">"
 kept_start p own = ap (λ ps. codes "<" ++ utf8_lossy own.name ++ print_pairs ps ++ codes ">") (kept-pairs p own.attributes)
 
 one_more : (q : Pair) (qs : List Pair) → print_pairs (q ∷ qs) ≡ print_pairs (q ∷ []) ++ print_pairs qs

@@ -9,7 +9,7 @@ use Rattle.tl_spec.specs.Met.{met}
 use Rattle.tl_spec.specs.Print.{print, print_end, print_start}
 use Rattle.tl_spec.specs.Walk.{every, plain_node, trees, walk}
 use Rattle.tl.specs.Shown.{shown}
-use Rattle.tl_safe.specs.Lists.{Lists, is_among, opaque_names}
+use Rattle.tl_safe.specs.Lists.{ListedWords, is_among, opaque_names}
 use Rattle.tl_safe.specs.Kept.{is_text_byte, kept, kept_tag}
 use Rattle.tl_safe.specs.declared.walk.Frame.{Frame}
 
@@ -18,7 +18,7 @@ abbrev pub end_print : Bool → Node → List ℕ
 end_print stands (Tag own) = if stands then print_end (plain_node own) else []
 end_print stands _ = []
 
-module _ (p : Lists) (nodes : List Node) where
+module _ (p : ListedWords) (nodes : List Node) where
   -- the print of what is kept of the nodes of these handles
   abbrev pub row : List ℕ → List ℕ
   row hs = print (kept p (trees (walk every nodes [] hs)))

@@ -6,5 +6,4 @@ pub mod Words
 pub mod Policies
 pub mod Left
 pub mod Writes
-pub mod Causes
-pub mod Said
+pub mod Refusals

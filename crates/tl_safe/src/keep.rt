@@ -12,14 +12,14 @@ use tl::Bytes;
 fn is_link(policy: &Policy<'_>, value: &[u8]) -> bool
     ensures { result ≡ is_link (lists_of policy.now) value.now }
 {
-    begins_with_any(policy.link_beginnings, value) && are_of(ByteClass::OfLink, value)
+    begins_with_any(policy.lists.link_beginnings, value) && are_of(ByteClass::OfLink, value)
 }
 
 // Whether a value is one word with the prefix.
 fn is_own_name(policy: &Policy<'_>, value: &[u8]) -> bool
     ensures { result ≡ is_own_name (lists_of policy.now) value.now }
 {
-    value.starts_with(policy.prefix.as_bytes()) && are_of(ByteClass::OfOwnName, value)
+    value.starts_with(policy.lists.prefix.as_bytes()) && are_of(ByteClass::OfOwnName, value)
 }
 
 // Whether a value stays at a key.
@@ -27,7 +27,7 @@ fn value_stays(policy: &Policy<'_>, key: &[u8], value: &[u8]) -> bool
     ensures { result ≡ value_stays (lists_of policy.now) key.now value.now }
 {
     is_whole_value(value)
-        && (!is_among(policy.link_keys, key) || is_link(policy, value))
+        && (!is_among(policy.lists.link_keys, key) || is_link(policy, value))
         && (!is_naming(key) || is_own_name(policy, value))
 }
 
@@ -35,7 +35,7 @@ fn value_stays(policy: &Policy<'_>, key: &[u8], value: &[u8]) -> bool
 pub(crate) fn stays(policy: &Policy<'_>, key: &[u8], value: Option<&Bytes<'_>>) -> bool
     ensures { result ≡ stays (lists_of policy.now) (pair_of key.now value.entry) }
 {
-    if !is_among(policy.keys, key) {
+    if !is_among(policy.lists.keys, key) {
         return false;
     }
     match value {

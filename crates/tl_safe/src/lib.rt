@@ -10,16 +10,17 @@ ghost use Rattle.tl_safe.specs.IsSafe.{IsSafe, tokens_of};
 ghost use Rattle.tl_safe.specs.Kept.{trees_of};
 ghost use Rattle.tl_safe.specs.Policies.{kept_of, lists_of};
 
-mod cause;
 mod keep;
 mod lists;
 mod policy;
+mod refusal;
 mod walk;
 mod words;
 mod write;
 
-pub use lists::{Texts, WordLists};
-pub use policy::{Policy, PolicyError};
+pub use lists::Lists;
+pub use policy::Policy;
+pub use refusal::{PolicyError, Reason};
 use std::alloc::Global;
 use tl::{ParseError, ParserOptions, parse};
 use walk::write_row;

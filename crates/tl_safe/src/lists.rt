@@ -1,168 +1,82 @@
-//! The lists of a policy, read from texts.
-ghost use Rattle.std.specs.Prelude.{◌≡◌, ◌∷◌, ◌<◌, length, IfOk, IfSome, MatchResult};
-ghost use Rattle.std.specs.List.{slice_split};
-ghost use Rattle.std.specs.Option.{option_map};
-ghost use Rattle.tl_safe.specs.Lists.{page_lists};
-ghost use Rattle.tl_safe.specs.Policies.{lists_of, Refuses};
-ghost use Rattle.tl_safe.specs.Words.{words_of};
-ghost use Rattle.tl_safe.specs.Said.{is_comma, lists_in, lists_said, nothing_said, prefix_said, said, said_with, text_of, words_in, words_left, words_said};
+//! The lists of a policy.
 
-use crate::policy::{Policy, PolicyError};
-use std::alloc::{AllocError, Global};
-
-/// The texts of lists, where they are said: words with commas between them, and a prefix.
-#[derive(Clone, Copy)]
-pub struct Texts<'c> {
-    pub tags: Option<&'c str>,
-    pub keys: Option<&'c str>,
-    pub link_keys: Option<&'c str>,
-    pub link_beginnings: Option<&'c str>,
-    pub prefix: Option<&'c str>,
+/// What is to stand of a page. Another policy than that of a blog begins best with its lists, as
+/// `Lists { tags: &["b", "p"], ..Lists::PAGE }`.
+#[derive(Clone, Copy, PartialEq, Eq, Debug)]
+pub struct Lists<'w> {
+    /// The names of tags that may stand.
+    pub tags: &'w [&'w str],
+    /// The keys of attributes that may stand.
+    pub keys: &'w [&'w str],
+    /// The keys whose values are links.
+    pub link_keys: &'w [&'w str],
+    /// What links begin with.
+    pub link_beginnings: &'w [&'w str],
+    /// What the values of `id`, `name` and `class` begin with.
+    pub prefix: &'w str,
 }
 
-impl<'c> Texts<'c> {
-    /// Where none is said.
-    pub fn none() -> Texts<'c>
-        ensures { said result ≡ nothing_said }
-    {
-        Texts {
-            tags: None,
-            keys: None,
-            link_keys: None,
-            link_beginnings: None,
-            prefix: None,
-        }
-    }
-
-    /// These with a text for the list that an option names, or None where it names none.
-    pub fn with(self, option: &str, text: &'c str) -> Option<Texts<'c>>
-        ensures { option_map said result ≡ said_with (said self.entry) option.now text.entry.now }
-    {
-        let text = Some(text);
-        if option == "--tags" {
-            Some(Texts { tags: text, ..self })
-        } else if option == "--keys" {
-            Some(Texts { keys: text, ..self })
-        } else if option == "--link-keys" {
-            Some(Texts {
-                link_keys: text,
-                ..self
-            })
-        } else if option == "--links" {
-            Some(Texts {
-                link_beginnings: text,
-                ..self
-            })
-        } else if option == "--prefix" {
-            Some(Texts {
-                prefix: text,
-                ..self
-            })
-        } else {
-            None
-        }
-    }
-}
-
-// The word before the first comma, and what stands after it, if there is one.
-fn cut<'c>(text: &'c str) -> (&'c str, Option<&'c str>)
-    ensures words { slice_split is_comma text.now ≡ result.0.now ∷ words_left result.1 }
-    ensures shorter { IfSome result.1 (λ more. length more.now < length text.now) }
-{
-    match text.split_once(',') {
-        Some((word, more)) => (word, Some(more)),
-        None => (text, None),
-    }
-}
-
-/// The words of a text with commas between them, in order and without empty ones.
-pub fn words<'c>(alloc: Global, text: &'c str) -> Result<Vec<&'c str>, AllocError>
-    ensures { IfOk result (λ found. words_of found.items ≡ words_in text.now) }
-{
-    let mut found = Vec::new(alloc);
-    let mut rest = Some(text);
-    while let Some(all) = rest {
-        let (word, more) = cut(all);
-        rest = more;
-        if !word.is_empty() {
-            found.push(word)?;
-        }
-    }
-    Ok(found)
-}
-
-// These words.
-fn copied<'c>(alloc: Global, own: &[&'c str]) -> Result<Vec<&'c str>, AllocError>
-    ensures { IfOk result (λ found. words_of found.items ≡ words_of own.now) }
-{
-    let mut found = Vec::new(alloc);
-    for word in own {
-        found.push(*word)?;
-    }
-    Ok(found)
-}
-
-// The words of a list that is said, or else the policy's own.
-fn list<'c>(
-    alloc: Global,
-    text: Option<&'c str>,
-    own: &[&'c str],
-) -> Result<Vec<&'c str>, AllocError>
-    ensures { IfOk result (λ found.
-        words_of found.items ≡ words_said (text_of text.entry) (words_of own.now)) }
-{
-    match text {
-        Some(text) => words(alloc, text),
-        None => copied(alloc, own),
-    }
-}
-
-// The prefix that is said, or else the policy's own.
-fn prefix<'c>(text: Option<&'c str>, own: &'c str) -> &'c str
-    ensures { result.now ≡ prefix_said (text_of text.entry) own.entry.now }
-{
-    match text {
-        Some(text) => text,
-        None => own,
-    }
-}
-
-/// The words of each list.
-#[derive(Drop)]
-pub struct WordLists<'c> {
-    tags: Vec<&'c str>,
-    keys: Vec<&'c str>,
-    link_keys: Vec<&'c str>,
-    link_beginnings: Vec<&'c str>,
-    prefix: &'c str,
-}
-
-impl<'c> WordLists<'c> {
-    /// Those of these texts, and where a list isn't said those of the policy for the text of a blog.
-    pub fn of(alloc: Global, texts: &Texts<'c>) -> Result<WordLists<'c>, AllocError>
-        ensures { IfOk result (λ words. lists_in words ≡ lists_said (said texts.now) page_lists) }
-    {
-        let own = Policy::page();
-        Ok(WordLists {
-            tags: list(alloc, texts.tags, own.tags())?,
-            keys: list(alloc, texts.keys, own.keys())?,
-            link_keys: list(alloc, texts.link_keys, own.link_keys())?,
-            link_beginnings: list(alloc, texts.link_beginnings, own.link_beginnings())?,
-            prefix: prefix(texts.prefix, own.prefix()),
-        })
-    }
-
-    /// The policy of these lists, or the first word that no policy may list.
-    pub fn policy(&self) -> Result<Policy<'_>, PolicyError<'_>>
-        ensures { MatchResult result (λ policy. lists_of policy ≡ lists_in self.now)
-            (λ error. Refuses (lists_in self.now) error) }
-    {
-        Policy::checked(
-            self.tags.as_slice(),
-            self.keys.as_slice(),
-            self.link_keys.as_slice(),
-            self.link_beginnings.as_slice(),
-            self.prefix,
-        )
-    }
+impl Lists<'static> {
+    /// For the text of a blog: no parts of tables, no forms, links to the web, to mail and within
+    /// the site, and names that begin with `user-`.
+    pub const PAGE: Lists<'static> = Lists {
+        tags: &[
+            "a",
+            "abbr",
+            "b",
+            "bdi",
+            "bdo",
+            "blockquote",
+            "br",
+            "cite",
+            "code",
+            "dd",
+            "del",
+            "details",
+            "dfn",
+            "div",
+            "dl",
+            "dt",
+            "em",
+            "figcaption",
+            "figure",
+            "h1",
+            "h2",
+            "h3",
+            "h4",
+            "h5",
+            "h6",
+            "hr",
+            "i",
+            "img",
+            "ins",
+            "kbd",
+            "li",
+            "mark",
+            "ol",
+            "p",
+            "pre",
+            "q",
+            "s",
+            "samp",
+            "small",
+            "span",
+            "strong",
+            "sub",
+            "summary",
+            "sup",
+            "time",
+            "u",
+            "ul",
+            "var",
+            "wbr",
+        ],
+        keys: &[
+            "alt", "cite", "class", "datetime", "dir", "height", "href", "id", "lang", "src",
+            "start", "title", "width",
+        ],
+        link_keys: &["cite", "href", "src"],
+        link_beginnings: &["https://", "http://", "mailto:", "/", "#"],
+        prefix: "user-",
+    };
 }

@@ -1,186 +1,52 @@
 //! Policies.
 ghost use Rattle.std.specs.Prelude.{IsTrue};
-ghost use Rattle.tl_safe.specs.Lists.{are_lawful, Lists};
-ghost use Rattle.tl_safe.specs.Words.{words_of, lists};
+ghost use Rattle.tl_safe.specs.Refusals.{are_lawful};
+ghost use Rattle.tl_safe.specs.Words.{listed_words};
 
-use crate::words::{ByteClass, Role, is_word_of, refused};
-use thiserror::Error;
+use crate::lists::Lists;
+use crate::refusal::{PolicyError, first_refusal};
 
-/// What is kept of a page: the names of tags and the keys that may stand, which keys hold links,
-/// what links begin with, and what the values of `id`, `name` and `class` begin with.
-#[derive(Clone, Copy)]
+/// What is kept of a page: lists of words none of which is refused.
+#[derive(Clone, Copy, PartialEq, Eq, Debug)]
 pub struct Policy<'w> {
-    pub(crate) tags: &'w [&'w str],
-    pub(crate) keys: &'w [&'w str],
-    pub(crate) link_keys: &'w [&'w str],
-    pub(crate) link_beginnings: &'w [&'w str],
-    pub(crate) prefix: &'w str,
-    ghost lawful: { IsTrue (are_lawful (lists (words_of tags.now) (words_of keys.now)
-        (words_of link_keys.now) (words_of link_beginnings.now) prefix.now)) },
+    pub(crate) lists: Lists<'w>,
+    ghost lawful: { IsTrue (are_lawful (listed_words lists)) },
 }
-
-/// The word for which lists are no policy, and where it is listed.
-#[derive(Clone, Copy, PartialEq, Eq, Debug, Error)]
-pub enum PolicyError<'w> {
-    /// A tag's name.
-    #[error("no policy may list the tag `{0}`")]
-    Tag(&'w str),
-    /// A key; one that HTML has links at may stand where it is a link key too.
-    #[error("no policy may list the key `{0}`")]
-    Key(&'w str),
-    /// What links begin with.
-    #[error("no policy may let links begin with `{0}`")]
-    LinkBeginning(&'w str),
-    /// The prefix of names.
-    #[error("no prefix of names: `{0}`")]
-    Prefix(&'w str),
-}
-
-static PAGE_TAGS: [&str; 49] = [
-    "a",
-    "abbr",
-    "b",
-    "bdi",
-    "bdo",
-    "blockquote",
-    "br",
-    "cite",
-    "code",
-    "dd",
-    "del",
-    "details",
-    "dfn",
-    "div",
-    "dl",
-    "dt",
-    "em",
-    "figcaption",
-    "figure",
-    "h1",
-    "h2",
-    "h3",
-    "h4",
-    "h5",
-    "h6",
-    "hr",
-    "i",
-    "img",
-    "ins",
-    "kbd",
-    "li",
-    "mark",
-    "ol",
-    "p",
-    "pre",
-    "q",
-    "s",
-    "samp",
-    "small",
-    "span",
-    "strong",
-    "sub",
-    "summary",
-    "sup",
-    "time",
-    "u",
-    "ul",
-    "var",
-    "wbr",
-];
-
-static PAGE_KEYS: [&str; 13] = [
-    "alt", "cite", "class", "datetime", "dir", "height", "href", "id", "lang", "src", "start",
-    "title", "width",
-];
-
-static PAGE_LINK_KEYS: [&str; 3] = ["cite", "href", "src"];
-
-static PAGE_LINK_BEGINNINGS: [&str; 5] = ["https://", "http://", "mailto:", "/", "#"];
 
 impl<'w> Policy<'w> {
-    ghost use Rattle.std.specs.Prelude.{◌≡◌, MatchResult};
+    ghost use Rattle.std.specs.Prelude.{◌≡◌, IfOk};
+    ghost use Rattle.std.specs.Option.{option_map};
+    ghost use Rattle.std.specs.Result.{result_err};
     ghost use Rattle.tl_safe.specs.Lists.{page_lists};
-    ghost use Rattle.tl_safe.specs.Policies.{lists_of, Refuses};
+    ghost use Rattle.tl_safe.specs.Policies.{lists_of};
+    ghost use Rattle.tl_safe.specs.Refusals.{first_refusal, refusal_of};
 
-    /// A policy of these lists, or the first word that no policy may list.
-    pub fn checked(
-        tags: &'w [&'w str],
-        keys: &'w [&'w str],
-        link_keys: &'w [&'w str],
-        link_beginnings: &'w [&'w str],
-        prefix: &'w str,
-    ) -> Result<Policy<'w>, PolicyError<'w>>
-        ensures { let asked = lists (words_of tags.now) (words_of keys.now)
-            (words_of link_keys.now) (words_of link_beginnings.now) prefix.now in
-            MatchResult result (λ policy. lists_of policy ≡ asked) (λ e. Refuses asked e) }
+    /// The policy of these lists, or the first word that no policy may list: by the order of tags,
+    /// keys, link beginnings and prefix, and of the words in each. Any word may be a link key.
+    pub fn new(lists: Lists<'w>) -> Result<Policy<'w>, PolicyError<'w>>
+        ensures lists { IfOk result (λ policy. lists_of policy ≡ listed_words lists.entry) }
+
+        // The word that is named is the first one, and there is a policy where there is none.
+        ensures refusal { option_map refusal_of (result_err result)
+            ≡ first_refusal (listed_words lists.entry) }
     {
-        if let Some(word) = refused(Role::Tag, link_keys, tags) {
-            return Err(PolicyError::Tag(word));
+        match first_refusal(&lists) {
+            Some(error) => Err(error),
+            None => Ok(Policy { lists }),
         }
-        if let Some(word) = refused(Role::Key, link_keys, keys) {
-            return Err(PolicyError::Key(word));
-        }
-        if let Some(word) = refused(Role::LinkBeginning, link_keys, link_beginnings) {
-            return Err(PolicyError::LinkBeginning(word));
-        }
-        if !is_word_of(ByteClass::OfKey, prefix.as_bytes()) {
-            return Err(PolicyError::Prefix(prefix));
-        }
-        Ok(Policy {
-            tags,
-            keys,
-            link_keys,
-            link_beginnings,
-            prefix,
-        })
     }
 
-    /// A policy for the text of a blog: no parts of tables, no forms, links to the web, to mail and
-    /// within the site, and names that begin with `user-`.
-    pub fn page() -> Policy<'w>
+    /// The policy for the text of a blog: that of `Lists::PAGE`.
+    pub fn page() -> Policy<'static>
         ensures { lists_of result ≡ page_lists }
     {
-        Policy {
-            tags: &PAGE_TAGS,
-            keys: &PAGE_KEYS,
-            link_keys: &PAGE_LINK_KEYS,
-            link_beginnings: &PAGE_LINK_BEGINNINGS,
-            prefix: "user-",
-        }
+        Policy { lists: Lists::PAGE }
     }
 
-    /// The names of tags that may stand.
-    pub fn tags(&self) -> &'w [&'w str]
-        ensures { words_of result.now ≡ (lists_of self.now).tags }
+    /// What it lists.
+    pub fn lists(&self) -> Lists<'w>
+        ensures { listed_words result ≡ lists_of self.now }
     {
-        self.tags
-    }
-
-    /// The keys that may stand.
-    pub fn keys(&self) -> &'w [&'w str]
-        ensures { words_of result.now ≡ (lists_of self.now).keys }
-    {
-        self.keys
-    }
-
-    /// The keys that hold links.
-    pub fn link_keys(&self) -> &'w [&'w str]
-        ensures { words_of result.now ≡ (lists_of self.now).link_keys }
-    {
-        self.link_keys
-    }
-
-    /// What links begin with.
-    pub fn link_beginnings(&self) -> &'w [&'w str]
-        ensures { words_of result.now ≡ (lists_of self.now).link_beginnings }
-    {
-        self.link_beginnings
-    }
-
-    /// What the values of `id`, `name` and `class` begin with.
-    pub fn prefix(&self) -> &'w str
-        ensures { result.now ≡ (lists_of self.now).prefix }
-    {
-        self.prefix
+        self.lists
     }
 }

@@ -49,7 +49,7 @@ fn write_opening(
     ensures ok { IfOk result (λ stands. Adds out.old out.new
         (if stands then kept_start policy.now (shown_tag tag.now) else [])) }
 {
-    let stands = is_among(policy.tags, tag.name().as_bytes());
+    let stands = is_among(policy.lists.tags, tag.name().as_bytes());
     if stands {
         write_start(policy, tag, out)?;
     }

@@ -1,10 +1,10 @@
 //! Words, and the classes of their bytes.
-ghost use Rattle.std.specs.Prelude.{◌≡◌, IsTrue, false, MatchOption};
+ghost use Rattle.std.specs.Prelude.{◌≡◌};
 ghost use Rattle.std.specs.List.{list_all};
 ghost use Rattle.tl_spec.specs.ByteClass.{is_among_in_any_case};
 ghost use Rattle.tl_safe.specs.Kept.{is_text_byte, is_value_byte, naming_keys};
-ghost use Rattle.tl_safe.specs.Lists.{active_keys, bending_names, begins_path, begins_with_any, has_colon, has_scheme, is_among, is_word_of, may_be_key, may_be_tag, may_begin_links, opaque_names};
-ghost use Rattle.tl_safe.specs.Words.{is_of, may_be, words_of};
+ghost use Rattle.tl_safe.specs.Lists.{active_keys, bending_names, begins_path, begins_with_any, has_colon, has_scheme, is_among, is_word_of, opaque_names};
+ghost use Rattle.tl_safe.specs.Words.{is_of, words_of};
 
 use memchr::memchr3;
 use tl_bytes::words::is_among_in_any_case;
@@ -16,14 +16,6 @@ pub(crate) enum ByteClass {
     OfKey,
     OfLink,
     OfOwnName,
-}
-
-// What a word is listed as.
-#[derive(Clone, Copy)]
-pub(crate) enum Role {
-    Tag,
-    Key,
-    LinkBeginning,
 }
 
 static OPAQUE_NAMES: [&str; 12] = [
@@ -83,7 +75,7 @@ static ACTIVE_KEYS: [&str; 7] = [
     "is",
 ];
 
-static KNOWN_LINK_KEYS: [&str; 17] = [
+pub(crate) static KNOWN_LINK_KEYS: [&str; 17] = [
     "href",
     "src",
     "cite",
@@ -103,7 +95,7 @@ static KNOWN_LINK_KEYS: [&str; 17] = [
     "icon",
 ];
 
-static ACTIVE_SCHEMES: [&str; 7] = [
+pub(crate) static ACTIVE_SCHEMES: [&str; 7] = [
     "javascript:",
     "vbscript:",
     "livescript:",
@@ -209,7 +201,7 @@ pub(crate) fn is_word_of(class: ByteClass, word: &[u8]) -> bool
 }
 
 // Whether a tag of this name changes what is around it.
-fn is_bending(name: &[u8]) -> bool
+pub(crate) fn is_bending(name: &[u8]) -> bool
     ensures { result ≡ is_among bending_names name.now }
 {
     is_among(&BENDING_NAMES, name)
@@ -229,25 +221,8 @@ pub(crate) fn is_active(key: &[u8]) -> bool
     is_among(&ACTIVE_KEYS, key)
 }
 
-// Whether a policy may list a tag's name.
-fn may_be_tag(name: &[u8]) -> bool
-    ensures { result ≡ may_be_tag name.now }
-{
-    is_word_of(ByteClass::OfTag, name) && !is_opaque_in_lowercase(name) && !is_bending(name)
-}
-
-// Whether a policy with these link keys may list a key.
-fn may_be_key(link_keys: &[&str], key: &[u8]) -> bool
-    ensures { result ≡ may_be_key (words_of link_keys.now) key.now }
-{
-    is_word_of(ByteClass::OfKey, key)
-        && !key.starts_with(b"on")
-        && !is_active(key)
-        && (!is_among(&KNOWN_LINK_KEYS, key) || is_among(link_keys, key))
-}
-
 // Whether a word begins a link within a site.
-fn begins_path(word: &[u8]) -> bool
+pub(crate) fn begins_path(word: &[u8]) -> bool
     ensures { result ≡ begins_path word.now }
 {
     match word {
@@ -279,38 +254,4 @@ pub(crate) fn has_scheme(word: &[u8]) -> bool
         [] => false,
         [first, rest @ ..] => first.is_ascii_lowercase() && has_colon(rest),
     }
-}
-
-// Whether a policy may let links begin with a word.
-fn may_begin_links(word: &[u8]) -> bool
-    ensures { result ≡ may_begin_links word.now }
-{
-    are_of(ByteClass::OfLink, word)
-        && (begins_path(word) || (has_scheme(word) && !begins_with_any(&ACTIVE_SCHEMES, word)))
-}
-
-// Whether a policy with these link keys may list a word in a role.
-fn may_be(role: Role, link_keys: &[&str], word: &[u8]) -> bool
-    ensures { result ≡ may_be role (words_of link_keys.now) word.now }
-{
-    match role {
-        Role::Tag => may_be_tag(word),
-        Role::Key => may_be_key(link_keys, word),
-        Role::LinkBeginning => may_begin_links(word),
-    }
-}
-
-// The first word that a policy may not list in a role.
-pub(crate) fn refused<'w>(role: Role, link_keys: &[&str], words: &'w [&'w str]) -> Option<&'w str>
-    ensures { MatchOption result
-        (IsTrue (list_all (may_be role (words_of link_keys.now)) (words_of words.now)))
-        (λ word. IsTrue (is_among (words_of words.now) word.now)
-        × (may_be role (words_of link_keys.now) word.now ≡ false)) }
-{
-    for word in words {
-        if !may_be(role, link_keys, word.as_bytes()) {
-            return Some(*word);
-        }
-    }
-    None
 }

@@ -1,2 +1,3 @@
+pub mod Commas
 mod Floats
 pub mod Listing

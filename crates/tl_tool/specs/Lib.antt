@@ -2,3 +2,4 @@ pub mod Made
 pub mod Named
 pub mod Objects
 pub mod Reports
+pub mod Said

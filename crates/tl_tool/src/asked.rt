@@ -1,4 +1,5 @@
 //! What the words of the program ask for.
+use crate::lists::Texts;
 use crate::task::Task;
 use crate::words::program;
 use clap::error::ErrorKind;
@@ -7,7 +8,6 @@ use std::alloc::{AllocError, AllocFailed, Global};
 use tl_pick::Wanted;
 use tl_program::program::Command;
 use tl_program::script::{Step, steps};
-use tl_safe::Texts;
 
 /// The pages, and how what is made of them is written.
 #[derive(Drop)]
@@ -27,6 +27,8 @@ pub enum Wish<'w> {
     Task(Task<'w>),
     /// Safe pages, by the lists of these texts.
     Safe(Texts<'w>),
+    /// The lists of these texts, and no page.
+    Policy(Texts<'w>),
 }
 
 /// What the words ask for.
@@ -148,6 +150,7 @@ fn wished<'w>(alloc: Global, name: &str, matches: &ArgMatches<'w>) -> Result<Wis
         "text" => Task::Run(Command::Text),
         "outline" => Task::Outline,
         "edit" => edit(alloc, &values(alloc, matches, "STEP")?)?,
+        "sanitise" if matches.get_flag("policy") => return Ok(Wish::Policy(lists(matches))),
         "sanitise" => return Ok(Wish::Safe(lists(matches))),
         _ => Task::Run(Command::Print),
     };

@@ -14,8 +14,8 @@ use tl_program::program::Failure;
 
 static STANDARD_INPUT: [&str; 1] = ["-"];
 
-// The failure of an error of a read or a write.
-fn failure_of(error: &io::Error) -> Failure {
+/// The failure of an error of a read or a write.
+pub fn failure_of(error: &io::Error) -> Failure {
     if error.kind() == ErrorKind::OutOfMemory {
         Failure::OutOfMemory
     } else {

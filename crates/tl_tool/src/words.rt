@@ -22,7 +22,8 @@ A step is one word of the shell, as 'set 0 href /x':
 N and M are numbers of nodes, from 0 in the order of the page; I is a place.";
 
 const SAFE: &str = "\
-WORDS have commas between them; a list that isn't said is that for the text of a blog.
+WORDS have commas between them; a list that isn't said is that for the text of a blog, as
+--policy writes it.
 The page is to be served as UTF-8, in the content of an ordinary element.
 docs/SAFE.md says what is proved of it.";
 
@@ -101,6 +102,13 @@ static WANTED: [Flag; 6] = [
         help: "An array of JSON for each page, with number, name, attributes and text of each node",
     },
 ];
+
+static POLICY: Flag = Flag {
+    name: "policy",
+    short: None,
+    value: None,
+    help: "Write these lists, one on each line, and read no page",
+};
 
 // The lists of a policy.
 static LISTS: [Flag; 5] = [
@@ -243,7 +251,7 @@ fn sanitise<'w>(alloc: Global) -> Result<Command<'w>, AllocError> {
     let about =
         "Prints what may be shown of the page: the tags and attributes that lists let stand";
     let command = plain(alloc, "sanitise", about)?.after_help(SAFE);
-    with_flags(alloc, command, &LISTS)
+    with_flags(alloc, command, &LISTS)?.arg(POLICY.argument(alloc))
 }
 
 /// The program.

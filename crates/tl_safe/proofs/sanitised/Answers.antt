@@ -4,25 +4,25 @@ use Rattle.tl_spec.specs.Token.{tokens}
 use Rattle.tl_spec.proofs.Fresh.{fresh_has_own_keys}
 use Rattle.tl_safe.specs.HtmlTokenizer.{data_state, html_tokens}
 use Rattle.tl_safe.specs.IsSafe.{IsSafe}
-use Rattle.tl_safe.specs.Lists.{Lists}
+use Rattle.tl_safe.specs.Lists.{ListedWords}
 use Rattle.tl_safe.specs.Policies.{lists_of}
 use Rattle.tl_safe.proofs.Printed.{form, reads, standard}
 use Rattle.tl_safe.proofs.sanitised.Goals as goal
 
 pub returns-clause-trees : goal.returns-clause-trees
 returns-clause-trees c =
-    let p : Lists = lists_of c.args.policy.now in
+    let p : ListedWords = lists_of c.args.policy.now in
     let f : Forest PlainTag = plain (forest (tokens c.args.page.now)) in
     ap (λ s. plain (forest (tokens s))) c.in_ok-safe.ensures.prints ∙ (reads p c.args.policy.now.lawful f (fresh_has_own_keys c.args.page.now)).trees
 
 pub returns-clause-form : goal.returns-clause-form
 returns-clause-form c =
-    let p : Lists = lists_of c.args.policy.now in
+    let p : ListedWords = lists_of c.args.policy.now in
     let f : Forest PlainTag = plain (forest (tokens c.args.page.now)) in
     subst (IsSafe p) (sym c.in_ok-safe.ensures.prints) (form p c.args.policy.now.lawful f)
 
 pub returns-clause-standard : goal.returns-clause-standard
 returns-clause-standard c =
-    let p : Lists = lists_of c.args.policy.now in
+    let p : ListedWords = lists_of c.args.policy.now in
     let f : Forest PlainTag = plain (forest (tokens c.args.page.now)) in
     ap (html_tokens data_state) c.in_ok-safe.ensures.prints ∙ standard p c.args.policy.now.lawful f

@@ -1,14 +1,14 @@
 use Rattle.std.proofs.Common.{◌++◌, map, ap, ap₂, ◌∙◌}
 use Rattle.tl.specs.Shown.{shown}
 use Rattle.tl_safe.specs.Left.{row}
-use Rattle.tl_safe.specs.Lists.{Lists}
+use Rattle.tl_safe.specs.Lists.{ListedWords}
 use Rattle.tl_safe.specs.Policies.{lists_of}
 use Rattle.tl_safe.proofs.Pages.{page_print}
 use Rattle.tl_safe.proofs.written.Goals as goal
 
 pub returns-clause-prints : goal.returns-clause-prints
 returns-clause-prints c =
-    let p : Lists = lists_of c.args.policy.now in
+    let p : ListedWords = lists_of c.args.policy.now in
     c.in_ok-write_row.ensures
     ∙ ap (λ s. s ++ row p (map shown c.nodes.result.now) c.children.result.now) c.new-out.ensures.bytes
     ∙ ap₂ (λ ns hs. row p (map shown ns) hs) c.nodes.ensures.value c.children.ensures

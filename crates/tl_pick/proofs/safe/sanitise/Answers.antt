@@ -2,6 +2,7 @@ use Rattle.std.proofs.Common.{◌≡◌, IfOk, string_bytes, subst}
 use Rattle.tl_spec.specs.Normal.{norm}
 use Rattle.tl_safe.specs.HtmlTokenizer.{data_state, html_tokens}
 use Rattle.tl_safe.specs.IsSafe.{tokens_of}
+use Rattle.tl_safe.specs.Kept.{trees_of}
 use Rattle.tl_safe.specs.Policies.{kept_of, lists_of}
 use Rattle.tl_program.specs.Output.{Gives}
 use Rattle.tl_pick.specs.Safe.{safe_text}
@@ -14,6 +15,11 @@ returns-in-Ok-clause-outcome c =
     subst (λ outcome. Gives outcome c.of_text.result)
     (of_text-of_page (safe_text (lists_of c.args.policy.now)) c.args.page.now _ text_is_page.0 text_is_page.1)
     c.of_text.ensures.outcome
+
+pub returns-in-Ok-clause-trees : goal.returns-in-Ok-clause-trees
+returns-in-Ok-clause-trees c =
+    subst (λ page. IfOk c.of_text.result (λ safe. trees_of (string_bytes safe) ≡ norm (kept_of c.args.policy.now page)))
+    c.in-Ok.ensures.cases.0 c.of_text.ensures.trees
 
 pub returns-in-Ok-clause-standard : goal.returns-in-Ok-clause-standard
 returns-in-Ok-clause-standard c =

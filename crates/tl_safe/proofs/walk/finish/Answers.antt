@@ -3,7 +3,7 @@ use Rattle.tl_spec.specs.Document.{Node}
 use Rattle.tl.specs.Shown.{shown}
 use Rattle.tl.proofs.Frames.{empty_of_length}
 use Rattle.tl_safe.specs.Left.{frame_steps, owed, steps}
-use Rattle.tl_safe.specs.Lists.{Lists}
+use Rattle.tl_safe.specs.Lists.{ListedWords}
 use Rattle.tl_safe.specs.Policies.{lists_of}
 use Rattle.tl_safe.proofs.Rows.{owed-none, owed-push, steps-push}
 use Rattle.tl_safe.proofs.walk.finish.Goals as goal
@@ -17,7 +17,7 @@ loop-frame-smaller c =
 
 pub loop-frame-preserved : goal.loop-frame-preserved
 loop-frame-preserved c =
-    let p : Lists = lists_of c.args.policy.now in
+    let p : ListedWords = lists_of c.args.policy.now in
     let ns : List Node = map shown c.args.nodes.now in
     let out : List ℕ = string_bytes c.loop-frame.out in
     c.loop-frame.invariant
@@ -26,7 +26,7 @@ loop-frame-preserved c =
 
 pub returns-clause-ok : goal.returns-clause-ok
 returns-clause-ok c =
-    let p : Lists = lists_of c.args.policy.now in
+    let p : ListedWords = lists_of c.args.policy.now in
     let ns : List Node = map shown c.args.nodes.now in
     let out : List ℕ = string_bytes c.loop-frame.out in
     let none = empty_of_length c.loop-frame.frames.items (omega (arith, c.in_default.ensures.cases.0, c.loop-frame.frames.ok.0)) in

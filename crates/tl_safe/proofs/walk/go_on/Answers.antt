@@ -3,7 +3,7 @@ use Rattle.std.proofs.lemmas.Result.{on_ok_weaker}
 use Rattle.tl_spec.specs.Document.{Node}
 use Rattle.tl.specs.Shown.{shown}
 use Rattle.tl_safe.specs.Left.{end_print, owed, steps}
-use Rattle.tl_safe.specs.Lists.{Lists}
+use Rattle.tl_safe.specs.Lists.{ListedWords}
 use Rattle.tl_safe.specs.Policies.{lists_of}
 use Rattle.tl_safe.specs.declared.walk.Frame.{Frame}
 use Rattle.tl_safe.proofs.Rows.{closed_print, steps_on, went_on}
@@ -11,7 +11,7 @@ use Rattle.tl_safe.proofs.walk.go_on.Goals as goal
 
 pub returns-in_default-clause-ok : goal.returns-in_default-clause-ok
 returns-in_default-clause-ok c =
-    let p : Lists = lists_of c.args.policy.now in
+    let p : ListedWords = lists_of c.args.policy.now in
     let ns : List Node = map shown c.args.nodes.now in
     let f : Frame = c.args.frame in
     let out : List ℕ = string_bytes c.args.out.now in
@@ -26,7 +26,7 @@ returns-in_default-clause-steps c = on_ok_weaker c.close.result (λ wrote. omega
 
 pub returns-clause-ok : goal.returns-clause-ok
 returns-clause-ok c =
-    let p : Lists = lists_of c.args.policy.now in
+    let p : ListedWords = lists_of c.args.policy.now in
     let ns : List Node = map shown c.args.nodes.now in
     let f : Frame = c.args.frame in
     let g : Frame = record { node = f.node; next = c.in-Some.next; stands = f.stands } in

@@ -12,7 +12,7 @@ use Rattle.tl.proofs.Frames.{shown_at}
 use Rattle.tl_safe.specs.Kept.{is_text_byte}
 use Rattle.tl_spec.specs.Met.{handle_met, met}
 use Rattle.tl_safe.specs.Left.{end_print, frame_print, frame_steps, handle_print, owed, row, steps}
-use Rattle.tl_safe.specs.Lists.{Lists, opaque_names}
+use Rattle.tl_safe.specs.Lists.{ListedWords, opaque_names}
 use Rattle.tl_safe.specs.Policies.{lists_of}
 use Rattle.tl_safe.specs.declared.walk.Frame.{Frame}
 use Rattle.tl_safe.proofs.Rows.{steps_entered, visit_entered, visit_passed}
@@ -20,7 +20,7 @@ use Rattle.tl_safe.proofs.walk.visit.Goals as goal
 
 pub returns-then-not-enters-clause-ok : goal.returns-then-not-enters-clause-ok
 returns-then-not-enters-clause-ok c =
-    let p : Lists = lists_of c.args.policy.now in
+    let p : ListedWords = lists_of c.args.policy.now in
     let ns : List Node = map shown c.args.nodes.now in
     let own : TagNode = shown_tag c.in-Tag.tag in
     let stands : Bool = c.in_ok-stands-in-Tag.stands in
@@ -34,7 +34,7 @@ returns-then-not-enters-clause-ok c =
 
 pub returns-in_ok-push-in-Tag-clause-ok : goal.returns-in_ok-push-in-Tag-clause-ok
 returns-in_ok-push-in-Tag-clause-ok c =
-    let p : Lists = lists_of c.args.policy.now in
+    let p : ListedWords = lists_of c.args.policy.now in
     let ns : List Node = map shown c.args.nodes.now in
     let own : TagNode = shown_tag c.in-Tag.tag in
     let stands : Bool = c.in_ok-stands-in-Tag.stands in
@@ -63,7 +63,7 @@ returns-in_ok-push-in-Tag-clause-steps c =
 
 pub returns-in-Raw-clause-ok : goal.returns-in-Raw-clause-ok
 returns-in-Raw-clause-ok c =
-    let p : Lists = lists_of c.args.policy.now in
+    let p : ListedWords = lists_of c.args.policy.now in
     let ns : List Node = map shown c.args.nodes.now in
     let later : List ℕ = owed p ns c.args.frames.now.items in
     let out : List ℕ = string_bytes c.args.out.now in
@@ -77,7 +77,7 @@ returns-in-Raw-clause-ok c =
 
 pub returns-in-Comment-clause-ok : goal.returns-in-Comment-clause-ok
 returns-in-Comment-clause-ok c =
-    let p : Lists = lists_of c.args.policy.now in
+    let p : ListedWords = lists_of c.args.policy.now in
     let ns : List Node = map shown c.args.nodes.now in
     let later : List ℕ = owed p ns c.args.frames.now.items in
     let out : List ℕ = string_bytes c.args.out.now in

@@ -3,7 +3,7 @@ use Rattle.std.proofs.lemmas.List.{drop_all}
 use Rattle.tl_spec.specs.Document.{Node}
 use Rattle.tl.specs.Shown.{shown}
 use Rattle.tl_safe.specs.Left.{handle_print, owed, row}
-use Rattle.tl_safe.specs.Lists.{Lists}
+use Rattle.tl_safe.specs.Lists.{ListedWords}
 use Rattle.tl_safe.specs.Policies.{lists_of}
 use Rattle.tl_safe.proofs.Rows.{owed-none, row-cons, row-nil}
 use Rattle.tl_safe.proofs.walk.write_row.Goals as goal
@@ -13,7 +13,7 @@ handle_next hs i h within is = rw (add-one, drop-cons hs i h) (ap (λ x. x ∷ d
 
 pub loop-handle-preserved : goal.loop-handle-preserved
 loop-handle-preserved c =
-    let p : Lists = lists_of c.args.policy.now in
+    let p : ListedWords = lists_of c.args.policy.now in
     let ns : List Node = map shown c.args.nodes.now in
     let hs : List ℕ = c.args.handles.now in
     let i : ℕ = c.loop-handle.handle-index in
@@ -36,7 +36,7 @@ loop-handle-preserved c =
 
 pub returns : goal.returns
 returns c =
-    let p : Lists = lists_of c.args.policy.now in
+    let p : ListedWords = lists_of c.args.policy.now in
     let ns : List Node = map shown c.args.nodes.now in
     let out : List ℕ = string_bytes c.loop-handle.out in
     sym (c.loop-handle.invariant.bytes

@@ -1,0 +1,10 @@
+use Rattle.std.proofs.Common.{◌≡◌, drop}
+use Rattle.tl_safe.specs.Refusals.{first_refused}
+use Rattle.tl_safe.specs.Words.{reason_in, words_of}
+use Rattle.tl_safe.proofs.refusal.first_refused.Given as goal
+
+-- no word so far is refused
+abbrev pub invariant-loop-word : goal.invariant-loop-word
+invariant-loop-word l =
+    first_refused (reason_in l.role (words_of l.link_keys)) (words_of l.words)
+    ≡ first_refused (reason_in l.role (words_of l.link_keys)) (words_of (drop l.word-index l.words))

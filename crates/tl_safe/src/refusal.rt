@@ -1,0 +1,214 @@
+//! Which words no policy may list, and why.
+ghost use Rattle.std.specs.Prelude.{◌≡◌, ◌∷◌, []};
+ghost use Rattle.std.specs.Option.{option_map};
+ghost use Rattle.tl_safe.specs.Refusals.{first_refusal, first_refused, key_reason, link_reason, prefix_reason, refusal_of, tag_reason};
+ghost use Rattle.tl_safe.specs.Words.{listed_words, reason_in, words_of};
+
+use crate::lists::Lists;
+use crate::words::{
+    ACTIVE_SCHEMES, ByteClass, KNOWN_LINK_KEYS, are_of, begins_path, begins_with_any, has_scheme,
+    is_active, is_among, is_bending, is_opaque_in_lowercase, is_word_of,
+};
+use std::error::Error;
+use std::fmt;
+
+/// Why no policy may list a word. Each says too where the word is listed.
+#[derive(Clone, Copy, PartialEq, Eq, Debug)]
+pub enum Reason {
+    /// The name of a tag is a letter of a-z, and then letters and digits.
+    MalformedTag,
+    /// What stands in this tag is no markup of HTML.
+    OpaqueTag,
+    /// This tag changes what is around it, or loads what is no page.
+    StructuralTag,
+    /// A key is a letter of a-z, and then letters and `-`.
+    MalformedKey,
+    /// The value of this key is a script.
+    ScriptKey,
+    /// The value of this key is no name, text or link.
+    ActiveKey,
+    /// HTML has links at this key, so it may stand only where it is a link key too.
+    LinkKey,
+    /// A link is printable ASCII without spaces and `"`.
+    MalformedLink,
+    /// Links of this scheme are programs or documents.
+    ActiveScheme,
+    /// Links begin with a scheme and its `:`, or with `/`, `#`, `?` or `.`.
+    NoScheme,
+    /// A prefix is a letter of a-z, and then letters and `-`.
+    MalformedPrefix,
+}
+
+impl Reason {
+    // What is said before the word that is refused.
+    fn subject(self) -> &'static str {
+        match self {
+            Reason::MalformedTag | Reason::OpaqueTag | Reason::StructuralTag => {
+                "no policy may list the tag"
+            }
+            Reason::MalformedKey | Reason::ScriptKey | Reason::ActiveKey | Reason::LinkKey => {
+                "no policy may list the key"
+            }
+            Reason::MalformedLink | Reason::ActiveScheme | Reason::NoScheme => {
+                "no policy may let links begin with"
+            }
+            Reason::MalformedPrefix => "no prefix of names:",
+        }
+    }
+}
+
+impl fmt::Display for Reason {
+    fn fmt<W: fmt::Write>(&self, f: &mut fmt::Formatter<W>) -> fmt::Result {
+        f.write_str(match self {
+            Reason::MalformedTag => "a name is a letter of a-z, and then letters and digits",
+            Reason::OpaqueTag => "what stands in it is no markup of HTML",
+            Reason::StructuralTag => "it changes what is around it, or loads what is no page",
+            Reason::MalformedKey => "a key is a letter of a-z, and then letters and `-`",
+            Reason::ScriptKey => "its value is a script",
+            Reason::ActiveKey => "its value is no name, text or link",
+            Reason::LinkKey => "it holds links, and is no link key",
+            Reason::MalformedLink => "a link is printable ASCII without spaces and `\"`",
+            Reason::ActiveScheme => "such links are programs or documents",
+            Reason::NoScheme => {
+                "it is no scheme with its `:`, and no `/`, `#`, `?` or `.` stands first"
+            }
+            Reason::MalformedPrefix => "a prefix is a letter of a-z, and then letters and `-`",
+        })
+    }
+}
+
+/// The word for which lists are no policy, and why.
+#[derive(Clone, Copy, PartialEq, Eq, Debug)]
+pub struct PolicyError<'w> {
+    pub word: &'w str,
+    pub reason: Reason,
+}
+
+impl fmt::Display for PolicyError<'_> {
+    fn fmt<W: fmt::Write>(&self, f: &mut fmt::Formatter<W>) -> fmt::Result {
+        let subject = self.reason.subject();
+        let word = self.word;
+        let reason = self.reason;
+        write!(f, "{subject} `{word}`: {reason}")
+    }
+}
+
+impl Error for PolicyError<'_> {}
+
+// Where a word is listed.
+#[derive(Clone, Copy)]
+pub(crate) enum Role {
+    Tag,
+    Key,
+    LinkBeginning,
+}
+
+// Why no policy may list a name of a tag, if none may.
+fn tag_reason(name: &[u8]) -> Option<Reason>
+    ensures { result ≡ tag_reason name.now }
+{
+    if !is_word_of(ByteClass::OfTag, name) {
+        Some(Reason::MalformedTag)
+    } else if is_opaque_in_lowercase(name) {
+        Some(Reason::OpaqueTag)
+    } else if is_bending(name) {
+        Some(Reason::StructuralTag)
+    } else {
+        None
+    }
+}
+
+// Why no policy with these link keys may list a key, if none may.
+fn key_reason(link_keys: &[&str], key: &[u8]) -> Option<Reason>
+    ensures { result ≡ key_reason (words_of link_keys.now) key.now }
+{
+    if !is_word_of(ByteClass::OfKey, key) {
+        Some(Reason::MalformedKey)
+    } else if key.starts_with(b"on") {
+        Some(Reason::ScriptKey)
+    } else if is_active(key) {
+        Some(Reason::ActiveKey)
+    } else if is_among(&KNOWN_LINK_KEYS, key) && !is_among(link_keys, key) {
+        Some(Reason::LinkKey)
+    } else {
+        None
+    }
+}
+
+// Why no policy may let links begin with a word, if none may.
+fn link_reason(word: &[u8]) -> Option<Reason>
+    ensures { result ≡ link_reason word.now }
+{
+    if !are_of(ByteClass::OfLink, word) {
+        Some(Reason::MalformedLink)
+    } else if begins_path(word) {
+        None
+    } else if !has_scheme(word) {
+        Some(Reason::NoScheme)
+    } else if begins_with_any(&ACTIVE_SCHEMES, word) {
+        Some(Reason::ActiveScheme)
+    } else {
+        None
+    }
+}
+
+// Why no policy may have a prefix, if none may.
+fn prefix_reason(prefix: &[u8]) -> Option<Reason>
+    ensures { result ≡ prefix_reason prefix.now }
+{
+    if is_word_of(ByteClass::OfKey, prefix) {
+        None
+    } else {
+        Some(Reason::MalformedPrefix)
+    }
+}
+
+// Why no policy with these link keys may list a word in a role, if none may.
+fn reason_in(role: Role, link_keys: &[&str], word: &[u8]) -> Option<Reason>
+    ensures { result ≡ reason_in role (words_of link_keys.now) word.now }
+{
+    match role {
+        Role::Tag => tag_reason(word),
+        Role::Key => key_reason(link_keys, word),
+        Role::LinkBeginning => link_reason(word),
+    }
+}
+
+// The first of these words that no policy may list in a role.
+fn first_refused<'w>(
+    role: Role,
+    link_keys: &[&str],
+    words: &'w [&'w str],
+) -> Option<PolicyError<'w>>
+    ensures { option_map refusal_of result
+        ≡ first_refused (reason_in role (words_of link_keys.now)) (words_of words.now) }
+{
+    for word in words {
+        if let Some(reason) = reason_in(role, link_keys, word.as_bytes()) {
+            return Some(PolicyError { word, reason });
+        }
+    }
+    None
+}
+
+// A prefix that no policy may have.
+fn refused_prefix(prefix: &str) -> Option<PolicyError<'_>>
+    ensures { option_map refusal_of result ≡ first_refused prefix_reason (prefix.now ∷ []) }
+{
+    let reason = prefix_reason(prefix.as_bytes())?;
+    Some(PolicyError {
+        word: prefix,
+        reason,
+    })
+}
+
+// The first word for which lists are no policy: by the order of the lists, and of the words in each.
+pub(crate) fn first_refusal<'w>(lists: &Lists<'w>) -> Option<PolicyError<'w>>
+    ensures { option_map refusal_of result ≡ first_refusal (listed_words lists.now) }
+{
+    let link_keys = lists.link_keys;
+    first_refused(Role::Tag, link_keys, lists.tags)
+        .or_else(|| first_refused(Role::Key, link_keys, lists.keys))
+        .or_else(|| first_refused(Role::LinkBeginning, link_keys, lists.link_beginnings))
+        .or_else(|| refused_prefix(lists.prefix))
+}
