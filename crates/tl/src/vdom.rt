@@ -133,7 +133,7 @@ impl<'a> VDom<'a> {
         ensures { Answers string_bytes (document_text (document_of self.now)) result }
     {
         let mut out = String::new(alloc);
-        write_row_texts(alloc, self.nodes(), self.children(), &mut out)?;
+        write_row_texts(alloc, self.parser(), self.children(), &mut out)?;
         Ok(out)
     }
 }
