@@ -12,3 +12,4 @@ pub mod Printing
 pub mod Nodes
 pub mod Searching
 pub mod Written
+pub mod Preorder

@@ -137,7 +137,7 @@ impl<'a> VDom<'a> {
             → result ≡ Err (TreeError.Dangling h) }
     {
         let mut out = String::new(alloc);
-        write_row_texts(alloc, self.nodes(), self.children(), &mut out)?;
+        write_row_texts(alloc, self.parser(), self.children(), &mut out)?;
         Ok(out)
     }
 }

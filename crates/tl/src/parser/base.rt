@@ -1,7 +1,8 @@
 //! The table of nodes.
-ghost use Rattle.std.specs.Prelude.{◌≡◌, ◌<◌, ◌^◌, length, slice_get, Option};
+ghost use Rattle.std.specs.Prelude.{◌≡◌, ◌<◌, ◌^◌, length, slice_get, IsTrue, Option};
 ghost use Rattle.std.specs.Borrow.{sem};
 ghost use Rattle.std.specs.Option.{option_copied, option_copied_mut};
+ghost use Rattle.tl.specs.Preorder.{IsInPreorder};
 ghost use Rattle.tl.specs.TableLends.{LendsNode, LendsTableNodes, LendsTableTop, with_node};
 
 use crate::parser::tag::node::{Node, NodeOf};
@@ -41,6 +42,8 @@ pub struct ParserOf<A, B, O: OutlineOf<A>, M> {
     top: Vec<NodeHandle>,
     version: Option<HTMLVersion>,
     tracking: M,
+    // Whether the nodes lie as they were read, in preorder: none was lent for writing since then.
+    in_preorder: bool,
 }
 
 /// Maps from the ids and classes of tags to their numbers, as far as they are tracked.
@@ -50,8 +53,9 @@ pub type Tracking<'a> = TrackingOf<Bytes<'a>>;
 pub type Parser<'a> = ParserOf<Attributes<'a>, Bytes<'a>, Outline, Tracking<'a>>;
 
 impl<A, B, O: OutlineOf<A>, M> Model for ParserOf<A, B, O, M> {
-    ghost use Rattle.std.specs.Prelude.{◌<◌, ◌^◌, length};
+    ghost use Rattle.std.specs.Prelude.{◌≡◌, ◌<◌, ◌^◌, length, true};
     ghost use Rattle.tl.specs.Table.{Table};
+    ghost use Rattle.tl.specs.Preorder.{IsInPreorder};
 
     ghost Value = { Table A B O M };
 
@@ -62,7 +66,8 @@ impl<A, B, O: OutlineOf<A>, M> Model for ParserOf<A, B, O, M> {
       tracking = p.tracking;
     } };
 
-    ghost invariant = { λ p. length p.nodes.items < 2 ^ 32 };
+    ghost invariant = { λ p. (length p.nodes.items < 2 ^ 32)
+        × (p.in_preorder ≡ true → IsInPreorder p.nodes.items) };
 }
 
 impl<A, B, O: OutlineOf<A>, M> ParserOf<A, B, O, M> {
@@ -86,7 +91,23 @@ impl<A, B, O: OutlineOf<A>, M> ParserOf<A, B, O, M> {
             top,
             version,
             tracking,
+            in_preorder: false,
         }
+    }
+
+    // Notes that the nodes lie in preorder, which holds until they are lent for writing.
+    pub(crate) fn note_preorder(&mut self)
+        requires { IsInPreorder self.old.nodes }
+        ensures { self.new ≡ self.old }
+    {
+        self.in_preorder = true;
+    }
+
+    // Whether the nodes are known to lie in preorder.
+    pub(crate) fn is_in_preorder(&self) -> bool
+        ensures { IsTrue result → IsInPreorder self.now.nodes }
+    {
+        self.in_preorder
     }
 
     /// The node of a number, or None past the table.
@@ -139,6 +160,7 @@ impl<A, B, O: OutlineOf<A>, M> ParserOf<A, B, O, M> {
             (LendsNode A.row B.row O.row M.row O.OutlineOf self.entry id result) }
         ensures value { option_copied_mut result ≡ slice_get self.old.nodes id }
     {
+        self.in_preorder = false;
         self.nodes.get_mut(id as usize)
     }
 
@@ -148,6 +170,7 @@ impl<A, B, O: OutlineOf<A>, M> ParserOf<A, B, O, M> {
             (LendsTableNodes A.row B.row O.row M.row O.OutlineOf self.entry result) }
         ensures value { result.now ≡ self.old.nodes }
     {
+        self.in_preorder = false;
         self.nodes.as_mut_slice()
     }
 

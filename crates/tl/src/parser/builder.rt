@@ -379,5 +379,7 @@ pub(crate) fn read<'a, S: Source<'a>>(alloc: Global, source: &S) -> Result<Parse
     while let Some((token, after)) = next_token(text, at) {
         at = table.take(alloc, source, at, token, after)?;
     }
-    Ok(table.finish(alloc))
+    let mut parser = table.finish(alloc);
+    parser.note_preorder();
+    Ok(parser)
 }

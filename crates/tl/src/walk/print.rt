@@ -53,7 +53,18 @@ fn push_ascii(bytes: &[u8], out: &mut String) -> Result<(), TreeError>
     Ok(())
 }
 
-// Writes bytes as text.
+// Writes bytes as text, however many they are.
+#[inline(never)]
+fn write_any(bytes: &[u8], out: &mut String) -> Result<(), TreeError>
+    ensures ok { OnOk result (string_bytes out.new ≡ string_bytes out.old ++ utf8_lossy bytes.now) }
+    ensures err { IfErr result (λ e. e ≡ TreeError.OutOfMemory) }
+{
+    bytes.to_str_lossy_into(out)?;
+    Ok(())
+}
+
+// Writes bytes as text. The most are few, so what they take stands where they are written.
+#[inline(always)]
 pub(crate) fn write_lossy(bytes: &[u8], out: &mut String) -> Result<(), TreeError>
     ensures ok { OnOk result (string_bytes out.new ≡ string_bytes out.old ++ utf8_lossy bytes.now) }
     ensures err { IfErr result (λ e. e ≡ TreeError.OutOfMemory) }
@@ -61,8 +72,7 @@ pub(crate) fn write_lossy(bytes: &[u8], out: &mut String) -> Result<(), TreeErro
     if are_few_ascii(bytes) {
         return push_ascii(bytes, out);
     }
-    bytes.to_str_lossy_into(out)?;
-    Ok(())
+    write_any(bytes, out)
 }
 
 // Writes a space, a key and its value.

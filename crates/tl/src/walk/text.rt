@@ -9,7 +9,8 @@ ghost use Rattle.tl_spec.specs.Walk.{every, fault_among, first_fault, trees, wal
 ghost use Rattle.tl.specs.Shown.{shown, shown_tag};
 ghost use Rattle.tl.specs.Node.{comment_of};
 ghost use Rattle.tl.specs.Walker.{IsMarked, left, shown_event};
-ghost use Rattle.tl.specs.Writing.{Writes};
+ghost use Rattle.tl.specs.Preorder.{IsInPreorder};
+ghost use Rattle.tl.specs.Writing.{Writes, own_text};
 
 use crate::errors::TreeError;
 use crate::parser::base::Parser;
@@ -19,6 +20,7 @@ use crate::walk::print::{lossy_text, write_lossy};
 use crate::walk::{Entered, Event, Walker};
 use std::alloc::Global;
 use tl_table::handle::NodeHandle;
+use tl_table::range;
 
 // Writes the text of a node that is met: that of a text alone.
 #[inline(always)]
@@ -53,37 +55,78 @@ fn write_texts<'s, 'a>(mut walker: Walker<'s, 'a>, out: &mut String) -> Result<(
     }
 }
 
-// Writes the texts of the nodes of these handles in order, and of what hangs below them.
-pub(crate) fn write_row_texts<'s, 'a>(
+// Writes the texts among these nodes.
+fn write_texts_among(nodes: &[Node<'_>], out: &mut String) -> Result<(), TreeError>
+    ensures ok { OnOk result (string_bytes out.new
+        ≡ string_bytes out.old ++ flat_map own_text (map shown nodes.now)) }
+    ensures err { IfErr result (λ e. e ≡ TreeError.OutOfMemory) }
+{
+    for node in nodes {
+        if let Node::Raw(bytes) = node {
+            write_lossy(bytes.as_bytes(), out)?;
+        }
+    }
+    Ok(())
+}
+
+// Writes the texts at and below these handles over nodes in preorder: of each those of its range.
+// Only the tags along last children are looked into.
+fn write_texts_in_preorder<'a>(
     alloc: Global,
-    nodes: &'s [Node<'a>],
-    handles: &'s [NodeHandle],
+    nodes: &[Node<'a>],
+    handles: &[NodeHandle],
     out: &mut String,
 ) -> Result<(), TreeError>
+    requires { IsInPreorder nodes.now }
     ensures writes { let w = walk every (map shown nodes.now) [] handles.now in
         Writes (first_fault w) (text_of (trees w)) (string_bytes out.old) result
         (string_bytes out.new) }
     ensures dangling { (h : ℕ) → FirstDangles nodes.now handles.now h
         → result ≡ Err (TreeError.Dangling h) }
 {
+    for handle in handles {
+        let number = Some(handle.get_inner());
+        let range = range::range(alloc, nodes, number, number)?;
+        write_texts_among(&nodes[range], out)?;
+    }
+    Ok(())
+}
+
+// Writes the texts of the nodes of these handles in order, and of what hangs below them.
+pub(crate) fn write_row_texts<'s, 'a>(
+    alloc: Global,
+    parser: &'s Parser<'a>,
+    handles: &'s [NodeHandle],
+    out: &mut String,
+) -> Result<(), TreeError>
+    ensures writes { let w = walk every (map shown parser.now.nodes) [] handles.now in
+        Writes (first_fault w) (text_of (trees w)) (string_bytes out.old) result
+        (string_bytes out.new) }
+    ensures dangling { (h : ℕ) → FirstDangles parser.now.nodes handles.now h
+        → result ≡ Err (TreeError.Dangling h) }
+{
+    let nodes = parser.nodes();
+    if parser.is_in_preorder() {
+        return write_texts_in_preorder(alloc, nodes, handles, out);
+    }
     write_texts(Walker::new(alloc, nodes, Entered::All, handles), out)
 }
 
 // Writes the texts below a tag.
 fn write_text_of<'s, 'a>(
     alloc: Global,
-    nodes: &'s [Node<'a>],
+    parser: &'s Parser<'a>,
     tag: &'s HTMLTag<'a>,
     out: &mut String,
 ) -> Result<(), TreeError>
-    ensures writes { let w = walk_of every (map shown nodes.now) (Tag (shown_tag tag.now)) in
+    ensures writes { let w = walk_of every (map shown parser.now.nodes) (Tag (shown_tag tag.now)) in
         Writes (first_fault w) (text_of (trees w)) (string_bytes out.old) result
         (string_bytes out.new) }
-    ensures dangling { (h : ℕ) → FirstDangles nodes.now tag.now.children.items h
+    ensures dangling { (h : ℕ) → FirstDangles parser.now.nodes tag.now.children.items h
         → result ≡ Err (TreeError.Dangling h) }
 {
     let below = tag.child_handles().as_slice();
-    write_row_texts(alloc, nodes, below, out)
+    write_row_texts(alloc, parser, below, out)
 }
 
 impl<'a> HTMLTag<'a> {
@@ -97,7 +140,7 @@ impl<'a> HTMLTag<'a> {
             → result ≡ Err (TreeError.Dangling h) }
     {
         let mut out = String::new(alloc);
-        write_text_of(alloc, parser.nodes(), self, &mut out)?;
+        write_text_of(alloc, parser, self, &mut out)?;
         Ok(out)
     }
 }

@@ -1,12 +1,17 @@
-use Rattle.std.proofs.Common.{◌≡◌, ℕ, List, Option, Some, None, refl, drop, subst, ap, ◌∙◌}
+use Rattle.std.proofs.Common.{◌≡◌, ℕ, List, Option, Some, None, refl, drop, subst, ap, sym, ◌∙◌}
 use Rattle.tl_spec.specs.Token.{Token, next_token}
-use Rattle.tl_spec.specs.Document.{Document}
+use Rattle.std.specs.List.{All}
+use Rattle.tl_spec.specs.Document.{Document, document}
 use Rattle.tl_spec.proofs.Reached.{IsReached-start}
 use Rattle.tl_lexer.specs.Lexed.{meant}
-use Rattle.tl.specs.Shown.{version_of}
+use Rattle.tl.specs.Shown.{HTMLTable, document_of, version_of}
+use Rattle.tl.specs.HeldAlike.{IsHeldNode}
 use Rattle.tl.specs.Builder.{state_of}
 use Rattle.tl.proofs.Following.{reached_next, reached_end}
+use Rattle.tl.proofs.Preorder.{read-preorder}
 use Rattle.tl.proofs.parser.builder.read.Goals as goal
+use Rattle.tl.proofs.parser.builder.read.Goals.{After-finish-parser}
+use Rattle.tl.proofs.parser.builder.read.Given.{Over}
 
 pub returns-then-text-clause-length : goal.returns-then-text-clause-length
 returns-then-text-clause-length g c = (λ _. rw (← c.as_bytes-text.ensures) c.if-text.true, λ _. refl)
@@ -31,19 +36,28 @@ loop-token-preserved g c =
       held = c.in_ok-at.ensures.held c.loop-token.invariant.held;
     }
 
-pub returns-clause-document : goal.returns-clause-document
-returns-clause-document g c =
+-- what was read once no token is left
+whole : (g : Over) (c : After-finish-parser g) → document_of c.finish-parser.result ≡ document (g.S.Source.text c.args.source.now)
+whole g c =
     let t = g.S.Source.text c.args.source.now in
     let stop : ◌≡◌ {A = Option (Token × List ℕ)} None (next_token (drop c.loop-token.at t)) =
     subst (λ (T : List ℕ). ◌≡◌ {A = Option (Token × List ℕ)} None (next_token (drop c.loop-token.at T))) c.as_bytes-text.ensures c.in_default.ensures.read in
-    c.finish.ensures.document ∙ reached_end t c.loop-token.at (state_of c.loop-token.table) stop c.loop-token.invariant.reached
+    c.finish-parser.ensures.document ∙ reached_end t c.loop-token.at (state_of c.loop-token.table) stop c.loop-token.invariant.reached
+
+pub note_preorder-requires : goal.note_preorder-requires
+note_preorder-requires g c =
+    read-preorder (g.S.Source.text c.args.source.now) c.finish-parser.result.nodes (ap (λ (d : Document). d.nodes) (whole g ((goal.at.note_preorder-requires g c).After-finish-parser)))
+
+pub returns-clause-document : goal.returns-clause-document
+returns-clause-document g c = ap document_of c.note_preorder.ensures ∙ whole g ((goal.at.returns-clause-document g c).After-finish-parser)
 
 pub returns-clause-version : goal.returns-clause-version
 returns-clause-version g c =
     let t = g.S.Source.text c.args.source.now in
     let stop : ◌≡◌ {A = Option (Token × List ℕ)} None (next_token (drop c.loop-token.at t)) =
     subst (λ (T : List ℕ). ◌≡◌ {A = Option (Token × List ℕ)} None (next_token (drop c.loop-token.at T))) c.as_bytes-text.ensures c.in_default.ensures.read in
-    c.finish.ensures.version ∙ ap (λ (d : Document). version_of d.is_html5) (reached_end t c.loop-token.at (state_of c.loop-token.table) stop c.loop-token.invariant.reached)
+    ap (λ (p : HTMLTable). p.version) c.note_preorder.ensures ∙ c.finish-parser.ensures.version ∙ ap (λ (d : Document). version_of d.is_html5) (reached_end t c.loop-token.at (state_of c.loop-token.table) stop c.loop-token.invariant.reached)
 
 pub returns-clause-held : goal.returns-clause-held
-returns-clause-held g c = c.finish.ensures.held g.S.Source.held c.loop-token.invariant.held
+returns-clause-held g c =
+    subst (λ (p : HTMLTable). All (IsHeldNode g.S.Source.held) p.nodes) (sym c.note_preorder.ensures) (c.finish-parser.ensures.held g.S.Source.held c.loop-token.invariant.held)
