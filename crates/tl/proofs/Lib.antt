@@ -7,8 +7,10 @@ pub mod Building
 pub mod Following
 pub mod Marks
 pub mod Frames
+pub mod Remaining
 pub mod OwnKeys
 pub mod Printing
 pub mod Nodes
 pub mod Searching
+pub mod Queries
 pub mod Written
