@@ -7,9 +7,11 @@ pub mod Building
 pub mod Following
 pub mod Marks
 pub mod Frames
+pub mod Remaining
 pub mod OwnKeys
 pub mod Printing
 pub mod Nodes
 pub mod Searching
+pub mod Queries
 pub mod Written
 pub mod Preorder

@@ -2,6 +2,7 @@ pub mod Tag
 pub mod Node
 pub mod Table
 pub mod Preorder
+pub mod Remaining
 pub mod Shown
 pub mod HeldAlike
 pub use Rattle.tl_table.specs.TreeFault

@@ -1,12 +1,14 @@
 -- What a query gives.
-use Rattle.std.specs.Prelude.{◌≡◌, ℕ, ◌+◌, ◌-◌, List, Option, Some, None, Result, Ok, Err, slice_get, unwrap_or}
+use Rattle.std.specs.Prelude.{◌≡◌, ℕ, ◌+◌, ◌-◌, List, length, map, Option, Some, None, Result, Ok, Err, slice_get, unwrap_or}
 use Rattle.std.specs.Borrow.{Bor}
 use Rattle.std.specs.Option.{option_map}
-use Rattle.tl_spec.specs.Document.{Node}
+use Rattle.tl_spec.specs.Document.{Document, Node}
 use Rattle.tl_spec.specs.Selector.{Selector}
 use Rattle.tl_spec.specs.SelectorMeaning.{AreMatches}
+use Rattle.tl_spec.specs.SelectorSearch.{matches_between}
 use Rattle.tl_spec.specs.SelectorText.{IsSelectorText}
 use Rattle.tl_spec.specs.Walk.{TreeFault}
+use Rattle.tl.specs.Shown.{HTMLTable, shown}
 
 -- a node and its handle
 abbrev pub item_of : {N : Type 0} → Bor N × ℕ → N × ℕ
@@ -34,3 +36,11 @@ AreIn nodes is e ns = (range : ℕ × ℕ) × (is ≡ Ok range) × AreMatches no
 abbrev pub FindsMatches : List ℕ → (Selector → List ℕ → Type 0) → Option (List ℕ) → Type 0
 FindsMatches text AreFound None = (e : Selector) → IsSelectorText text e → ⊥
 FindsMatches text AreFound (Some ns) = (e : Selector) × IsSelectorText text e × AreFound e ns
+
+-- what is found of a document by the text of a selector
+abbrev pub FindsIn : HTMLTable → List ℕ → Option (List ℕ) → Type 0
+FindsIn d text found = FindsMatches text (λ e. AreMatches (map shown d.nodes) e 0 (length d.nodes)) found
+
+-- the numbers of all nodes of a document where a selector holds
+abbrev pub matches_in : Document → Selector → List ℕ
+matches_in d e = matches_between d.nodes e 0 (length d.nodes)

@@ -9,9 +9,10 @@ use Rattle.tl.specs.declared.walk.Entered.{Entered}
 use Rattle.tl.specs.declared.walk.Entered.TheVariants.{All, Shown}
 use Rattle.tl.specs.declared.walk.Frame.{Frame}
 use Rattle.tl.specs.declared.walk.Walker.{Walker}
-use Rattle.tl.specs.declared.walk.Event.{Event}
-use Rattle.tl.specs.declared.walk.Event.TheVariants.{Meets, Leaves}
+use Rattle.tl.specs.declared.walk.WalkEvent.{WalkEvent}
+use Rattle.tl.specs.declared.walk.WalkEvent.TheVariants.{Meets, Leaves}
 use Rattle.tl.specs.Marks.{AreFresh, IsKept}
+use Rattle.tl.specs.Remaining.{Around, FailsAt, Place, Remaining, Within, nothing_left, remaining_of, step}
 use Rattle.tl.specs.Shown.{HTMLNode, shown, shown_tag}
 
 -- the names of the tags that are entered
@@ -55,12 +56,12 @@ abbrev pub left : Walker → List Happening
 left w = left_at w w.rest.now
 
 -- an event in the words of the definitions
-abbrev pub shown_event : Event → Happening
+abbrev pub shown_event : WalkEvent → Happening
 shown_event (Meets h n) = meets h (shown n.now)
 shown_event (Leaves t) = leaves (shown_tag t.now)
 
 -- the node that is met is that of its handle in this table
-abbrev pub IsMetIn : List HTMLNode → Event → Type 0
+abbrev pub IsMetIn : List HTMLNode → WalkEvent → Type 0
 IsMetIn nodes (Meets h n) = slice_get nodes h ≡ Some n.now
 IsMetIn nodes (Leaves t) = ⊤
 
@@ -73,12 +74,12 @@ abbrev pub Refuses : List Happening → TreeError → Type 0
 Refuses before error = IfSome (fault_of error) (λ fault. IsLedBy (faulty fault) before)
 
 -- one event is taken, or there is none left
-abbrev pub Takes : List Happening → Option Event → List Happening → Type 0
+abbrev pub Takes : List Happening → Option WalkEvent → List Happening → Type 0
 Takes before (Some e) after = before ≡ shown_event e ∷ after
 Takes before None after = before ≡ []
 
 -- one step of a walk: an event, its end, or its first fault
-abbrev pub Steps : List Happening → Result (Option Event) TreeError → List Happening → Type 0
+abbrev pub Steps : List Happening → Result (Option WalkEvent) TreeError → List Happening → Type 0
 Steps before (Ok e) after = Takes before e after
 Steps before (Err error) after = Refuses before error
 
@@ -86,3 +87,58 @@ Steps before (Err error) after = Refuses before error
 pub record IsMarked (w : Walker) : Type 0 where
   pub kept : IsKept (length w.nodes.now) (path_of w) w.marks.items
   pub fresh : AreFresh (length w.nodes.now) (path_of w)
+
+module _ (nodes : List Node) where
+  -- the tags of the frames, the last first, before those around them
+  abbrev pub around_from : List ℕ → List Around → List Frame → List Around
+  around_from path outer [] = outer
+  around_from path outer (f ∷ fs) = around_from (f.handle ∷ path) (record { own = shown_tag f.tag.now; more = walk every nodes path f.rest.now } ∷ outer) fs
+
+  unfoldable pub around : List Frame → List Around
+  around fs = around_from [] [] fs
+
+  -- what is left of a walk that enters every tag, where these handles come first
+  abbrev pub remaining_below : List Frame → List ℕ → Remaining
+  remaining_below fs hs = record { inside = walk every nodes (path_from [] fs) hs; around = around fs }
+
+-- the same of a walker
+abbrev pub remaining_at : Walker → List ℕ → Remaining
+remaining_at w hs = remaining_below (map shown w.nodes.now) w.frames.items hs
+
+abbrev pub remaining : Walker → Remaining
+remaining w = remaining_at w w.rest.now
+
+-- what is left once this tag is entered
+abbrev pub remaining_in : ℕ → TagNode → Walker → Remaining
+remaining_in h own w =
+    let nodes = map shown w.nodes.now in
+    let after = remaining w in
+    record { inside = walk every nodes (h ∷ path_of w) own.children.items; around = record { own = own; more = after.inside } ∷ after.around }
+
+-- the next event is taken, or there is none
+abbrev pub TakesNext : Remaining → Option WalkEvent → Remaining → Type 0
+TakesNext before (Some e) after = step before ≡ Some (shown_event e, after)
+TakesNext before None after = (step before ≡ None) × (after ≡ before)
+
+-- one step of a walk that enters every tag
+abbrev pub StepsOn : Remaining → Result (Option WalkEvent) TreeError → Remaining → Type 0
+StepsOn before (Ok e) after = TakesNext before e after
+StepsOn before (Err error) after = FailsAt (step before) error
+
+-- the tags of the frames, the last first, before those around them
+abbrev pub within_from : List Within → List Frame → List Within
+within_from outer [] = outer
+within_from outer (f ∷ fs) = within_from (record { handle = f.handle; own = shown_tag f.tag.now; rest = f.rest.now } ∷ outer) fs
+
+-- where a walker stands
+abbrev pub place_of : Walker → Place
+place_of w = record { nodes = map shown w.nodes.now; next = w.rest.now; within = within_from [] w.frames.items }
+
+-- what `next` of a walk gives, of what is left of it: nothing is left after an error
+abbrev pub Gives : Remaining → Option (Result WalkEvent TreeError) → Remaining → Type 0
+Gives before None after = (step before ≡ None) × (after ≡ before)
+Gives before (Some (Ok e)) after = step before ≡ Some (shown_event e, after)
+Gives before (Some (Err error)) after = FailsAt (step before) error × (after ≡ nothing_left)
+
+abbrev pub IsNext : Place → Option (Result WalkEvent TreeError) → Place → Type 0
+IsNext before result after = Gives (remaining_of before) result (remaining_of after)

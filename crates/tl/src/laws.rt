@@ -1,11 +1,16 @@
 //! Laws of what calls answer together, and of what a loan for writing leaves; and those of the definitions that a caller needs.
-ghost use Rattle.std.specs.Prelude.{◌≡◌, All, List, ℕ, length, map};
+ghost use Rattle.std.specs.Prelude.{◌≡◌, ◌<◌, ◌^◌, All, List, None, Option, Some, ℕ, length, map, option_map};
+ghost use Rattle.std.specs.Option.{ForSome};
 ghost use Rattle.tl_bytes.specs.Held.{Kept};
 ghost use Rattle.tl_tracking.specs.Options.{Options};
 ghost use Rattle.tl_spec.specs.Document.{Node, document};
 ghost use Rattle.tl_spec.specs.Each.{HoldOfNode, IsCleanAlone, Tests};
+ghost use Rattle.tl_spec.specs.Selector.{Selector};
+ghost use Rattle.tl_spec.specs.SelectorReading.{selector_at};
+ghost use Rattle.tl_spec.specs.SelectorText.{IsSelectorText};
 ghost use Rattle.tl_spec.specs.Scan.{has_id, is_in_class, IsFirstPlace, ArePlaces};
 ghost use Rattle.tl.specs.Lookup.{with_id, with_member};
+ghost use Rattle.tl.specs.Query.{FindsIn, matches_in};
 ghost use Rattle.tl.specs.Shown.{document_of, shown, HTMLNode, HTMLTable};
 ghost use Rattle.tl.specs.TableLends.{with_nodes};
 ghost use Rattle.tl.specs.Tracked.{AreAsked, AnswerIds, AnswerClasses};
@@ -59,4 +64,19 @@ pub fn written_nodes()
         → length nodes ≡ length d.nodes →
         All (λ n. HoldOfNode tests (shown n)) nodes →
         All (HoldOfNode tests) (document_of (with_nodes d nodes)).nodes }
+{}
+
+/// A query of a document finds all nodes where the selector of its text holds, and nothing where the text is no selector's. The
+/// premise is what `query_selector` ensures. No more nodes are found than there are.
+pub fn queries_find()
+    ensures some { (d : HTMLTable) (text : List ℕ) (found : Option (List ℕ)) (e : Selector)
+        → FindsIn d text found → IsSelectorText text e → found ≡ Some (matches_in (document_of d) e) }
+    ensures none { (d : HTMLTable) (text : List ℕ) (found : Option (List ℕ)) → FindsIn d text found
+        → ((e : Selector) → IsSelectorText text e → ⊥) → found ≡ None }
+
+    // The same by the plain reader of selector texts.
+    ensures reading { (d : HTMLTable) (text : List ℕ) (found : Option (List ℕ)) → FindsIn d text found
+        → found ≡ option_map (matches_in (document_of d)) (selector_at text) }
+    ensures few { (d : HTMLTable) (text : List ℕ) (found : Option (List ℕ)) → FindsIn d text found
+        → length d.nodes < 2 ^ 32 → ForSome found (λ numbers. length numbers < 2 ^ 32) }
 {}

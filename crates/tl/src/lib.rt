@@ -49,6 +49,8 @@ pub use tl_tracking::ParserOptions;
 pub use vdom::guard::{VDomGuard, VDomGuardOf};
 pub use vdom::lookup::ElementsByClassName;
 pub use vdom::{VDom, VDomOf};
+pub use walk::WalkEvent;
+pub use walk::preorder::Walk;
 
 // Reads the text of a source into a document, and tracks what the options ask for.
 fn read_document<'a, S: Source<'a>>(

@@ -6,10 +6,13 @@ ghost use Rattle.tl_table.specs.TreeFault.{FirstDangles};
 ghost use Rattle.tl_spec.specs.Walk.{stands_on, walk, events};
 ghost use Rattle.tl.specs.Shown.{shown, shown_tag};
 ghost use Rattle.tl.specs.Marks.{MayFollow};
-ghost use Rattle.tl.specs.Walker.{enters, path_of, left, left_at, left_in, Takes, Steps, IsMarked, IsMetIn};
+ghost use Rattle.tl.specs.Remaining.{nothing_left};
+ghost use Rattle.tl.specs.Walker.{enters, path_of, left, left_at, left_in, place_of, remaining, remaining_at, remaining_in, Takes, TakesNext, Steps, StepsOn, IsMarked, IsMetIn};
+ghost use Rattle.tl.specs.declared.walk.Entered.TheVariants.{All};
 
 pub(crate) mod find;
 mod path;
+pub(crate) mod preorder;
 pub(crate) mod print;
 pub(crate) mod text;
 
@@ -28,10 +31,12 @@ pub(crate) enum Entered {
     Shown,
 }
 
-// What a walk comes to. Only a tag that was entered is left.
-#[derive(Clone, Copy)]
-pub(crate) enum Event<'s, 'a> {
+/// What a walk comes to. Only a tag that was entered is left.
+#[derive(Clone, Copy, Debug)]
+pub enum WalkEvent<'s, 'a> {
+    /// A node is met: a text, a comment, or a tag, into which the walk goes then.
     Meets(NodeHandle, &'s Node<'a>),
+    /// A tag is left.
     Leaves(&'s HTMLTag<'a>),
 }
 
@@ -75,6 +80,12 @@ impl<'s, 'a> Walker<'s, 'a> {
             (map shown nodes.now) [] handles.now) }
         ensures table { result.nodes.now ≡ nodes.now }
         ensures rest { result.rest.now ≡ handles.now }
+        ensures entered { result.entered ≡ entered }
+        ensures place { place_of result ≡ record {
+          nodes = map shown nodes.now;
+          next = handles.now;
+          within = [];
+        } }
     {
         Walker {
             nodes,
@@ -99,13 +110,17 @@ impl<'s, 'a> Walker<'s, 'a> {
 
     // Goes to the node of a handle, and into it where it is a tag that is entered.
     #[inline(always)]
-    fn meet(&mut self, handle: NodeHandle) -> Result<Option<Event<'s, 'a>>, TreeError>
+    fn meet(&mut self, handle: NodeHandle) -> Result<Option<WalkEvent<'s, 'a>>, TreeError>
         requires { IsMarked self.old }
         ensures marked { OnOk result (IsMarked self.new) }
         ensures steps { Steps (left_at self.old (handle ∷ self.old.rest.now)) result
             (left self.new) }
         ensures met { IfOk result (λ event. IfSome event (IsMetIn self.old.nodes.now)) }
         ensures table { self.new.nodes.now ≡ self.old.nodes.now }
+        ensures entered { self.new.entered ≡ self.old.entered }
+        ensures steps_on { self.old.entered ≡ All
+            → StepsOn (remaining_at self.old (handle ∷ self.old.rest.now)) result
+            (remaining self.new) }
 
         // Neither fault is hidden as want of memory, which only the first marks and a deeper path take.
         ensures dangling { slice_get self.old.nodes.now handle ≡ None
@@ -131,10 +146,10 @@ impl<'s, 'a> Walker<'s, 'a> {
                 if self.enters(tag) {
                     self.enter(handle, tag)?;
                 }
-                Ok(Some(Event::Meets(handle, node)))
+                Ok(Some(WalkEvent::Meets(handle, node)))
             }
-            Node::Raw(_) => Ok(Some(Event::Meets(handle, node))),
-            Node::Comment(_) => Ok(Some(Event::Meets(handle, node))),
+            Node::Raw(_) => Ok(Some(WalkEvent::Meets(handle, node))),
+            Node::Comment(_) => Ok(Some(WalkEvent::Meets(handle, node))),
         }
     }
 
@@ -149,6 +164,9 @@ impl<'s, 'a> Walker<'s, 'a> {
         ensures left { OnOk result (left self.new ≡ left_in handle (shown_tag tag.now) self.old) }
         ensures err { IfErr result (λ e. e ≡ TreeError.OutOfMemory) }
         ensures table { self.new.nodes.now ≡ self.old.nodes.now }
+        ensures entered { self.new.entered ≡ self.old.entered }
+        ensures remaining { OnOk result (remaining self.new
+            ≡ remaining_in handle (shown_tag tag.now) self.old) }
     {
         let frame = Frame {
             handle,
@@ -165,30 +183,35 @@ impl<'s, 'a> Walker<'s, 'a> {
 
     // Goes back to what comes after the last tag that was entered, or ends.
     #[inline(always)]
-    fn leave(&mut self) -> Option<Event<'s, 'a>>
+    fn leave(&mut self) -> Option<WalkEvent<'s, 'a>>
         requires marked { IsMarked self.old }
         requires done { self.old.rest.now ≡ [] }
         ensures marked { IsMarked self.new }
         ensures takes { Takes (left self.old) result (left self.new) }
         ensures met { IfSome result (IsMetIn self.old.nodes.now) }
         ensures table { self.new.nodes.now ≡ self.old.nodes.now }
+        ensures entered { self.new.entered ≡ self.old.entered }
+        ensures takes_next { TakesNext (remaining self.old) result (remaining self.new) }
     {
         let Some(frame) = self.frames.pop() else {
             return None;
         };
         put_mark(&mut self.marks, frame.handle, false);
         self.rest = frame.rest;
-        Some(Event::Leaves(frame.tag))
+        Some(WalkEvent::Leaves(frame.tag))
     }
 
     // The next event, or None at the end; or the first fault.
     #[inline(always)]
-    pub(crate) fn next_event(&mut self) -> Result<Option<Event<'s, 'a>>, TreeError>
+    pub(crate) fn next_event(&mut self) -> Result<Option<WalkEvent<'s, 'a>>, TreeError>
         requires { IsMarked self.old }
         ensures marked { OnOk result (IsMarked self.new) }
         ensures steps { Steps (left self.old) result (left self.new) }
         ensures met { IfOk result (λ e. IfSome e (IsMetIn self.old.nodes.now)) }
         ensures table { self.new.nodes.now ≡ self.old.nodes.now }
+        ensures entered { self.new.entered ≡ self.old.entered }
+        ensures steps_on { self.old.entered ≡ All
+            → StepsOn (remaining self.old) result (remaining self.new) }
         ensures dangling { (h : ℕ) → FirstDangles self.old.nodes.now self.old.rest.now h
             → result ≡ Err (TreeError.Dangling h) }
     {
@@ -197,5 +220,26 @@ impl<'s, 'a> Walker<'s, 'a> {
         };
         self.rest = rest;
         self.meet(*handle)
+    }
+
+    // Passes over what is left inside the innermost tag.
+    pub(crate) fn skip(&mut self)
+        requires { IsMarked self.old }
+        ensures marked { IsMarked self.new }
+        ensures entered { self.new.entered ≡ self.old.entered }
+        ensures place { place_of self.new ≡ record (place_of self.old) { next = [] } }
+    {
+        self.rest = &[];
+    }
+
+    // Gives nothing from now on.
+    pub(crate) fn stop(&mut self)
+        ensures marked { IsMarked self.new }
+        ensures entered { self.new.entered ≡ self.old.entered }
+        ensures remaining { remaining self.new ≡ nothing_left }
+    {
+        self.rest = &[];
+        self.frames.clear();
+        self.marks.clear();
     }
 }

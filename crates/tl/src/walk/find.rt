@@ -11,7 +11,7 @@ use crate::errors::TreeError;
 use crate::parser::base::Parser;
 use crate::parser::tag::HTMLTag;
 use crate::parser::tag::node::Node;
-use crate::walk::{Entered, Event, Walker};
+use crate::walk::{Entered, WalkEvent, Walker};
 use tl_table::handle::NodeHandle;
 
 // The first node of what is left of a walk at which `f` answers true.
@@ -29,7 +29,7 @@ fn find_in_walk<'s, 'a, F: FnMut(&Node<'a>) -> bool>(
     loop {
         match walker.next_event() {
             Ok(Some(event)) => {
-                if let Event::Meets(handle, node) = event {
+                if let WalkEvent::Meets(handle, node) = event {
                     if f(node) {
                         return Ok(Some(handle));
                     }

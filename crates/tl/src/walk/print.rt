@@ -21,7 +21,7 @@ use crate::errors::TreeError;
 use crate::parser::base::Parser;
 use crate::parser::tag::HTMLTag;
 use crate::parser::tag::node::Node;
-use crate::walk::{Entered, Event, Walker};
+use crate::walk::{Entered, WalkEvent, Walker};
 use bstr::ByteSlice;
 use std::alloc::Global;
 use tl_attributes::attributes::Attributes;
@@ -139,17 +139,17 @@ fn write_end(tag: &HTMLTag<'_>, out: &mut String) -> Result<(), TreeError>
 
 // Writes what one event prints.
 #[inline(always)]
-fn write_event<'s, 'a>(event: Event<'s, 'a>, out: &mut String) -> Result<(), TreeError>
+fn write_event<'s, 'a>(event: WalkEvent<'s, 'a>, out: &mut String) -> Result<(), TreeError>
     ensures ok { OnOk result (string_bytes out.new
         ≡ string_bytes out.old ++ print_of_event (shown_event event.entry)) }
     ensures err { IfErr result (λ e. e ≡ TreeError.OutOfMemory) }
     ensures own { OnOk result (MeetsOwnKeys (shown_event event.entry)) }
 {
     match event {
-        Event::Meets(_, Node::Tag(tag)) => write_start(tag, out),
-        Event::Meets(_, Node::Raw(bytes)) => write_lossy(bytes.as_bytes(), out),
-        Event::Meets(_, Node::Comment(bytes)) => write_lossy(bytes.as_bytes(), out),
-        Event::Leaves(tag) => write_end(tag, out),
+        WalkEvent::Meets(_, Node::Tag(tag)) => write_start(tag, out),
+        WalkEvent::Meets(_, Node::Raw(bytes)) => write_lossy(bytes.as_bytes(), out),
+        WalkEvent::Meets(_, Node::Comment(bytes)) => write_lossy(bytes.as_bytes(), out),
+        WalkEvent::Leaves(tag) => write_end(tag, out),
     }
 }
 

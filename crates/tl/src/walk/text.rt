@@ -17,23 +17,23 @@ use crate::parser::base::Parser;
 use crate::parser::tag::HTMLTag;
 use crate::parser::tag::node::Node;
 use crate::walk::print::{lossy_text, write_lossy};
-use crate::walk::{Entered, Event, Walker};
+use crate::walk::{Entered, WalkEvent, Walker};
 use std::alloc::Global;
 use tl_table::handle::NodeHandle;
 use tl_table::range;
 
 // Writes the text of a node that is met: that of a text alone.
 #[inline(always)]
-fn write_event<'s, 'a>(event: Event<'s, 'a>, out: &mut String) -> Result<(), TreeError>
+fn write_event<'s, 'a>(event: WalkEvent<'s, 'a>, out: &mut String) -> Result<(), TreeError>
     ensures ok { OnOk result (string_bytes out.new
         ≡ string_bytes out.old ++ event_text (shown_event event.entry)) }
     ensures err { IfErr result (λ e. e ≡ TreeError.OutOfMemory) }
 {
     match event {
-        Event::Meets(_, Node::Raw(bytes)) => write_lossy(bytes.as_bytes(), out),
-        Event::Meets(_, Node::Tag(_)) => Ok(()),
-        Event::Meets(_, Node::Comment(_)) => Ok(()),
-        Event::Leaves(_) => Ok(()),
+        WalkEvent::Meets(_, Node::Raw(bytes)) => write_lossy(bytes.as_bytes(), out),
+        WalkEvent::Meets(_, Node::Tag(_)) => Ok(()),
+        WalkEvent::Meets(_, Node::Comment(_)) => Ok(()),
+        WalkEvent::Leaves(_) => Ok(()),
     }
 }
 

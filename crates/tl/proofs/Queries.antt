@@ -1,0 +1,53 @@
+-- What a query of a document finds.
+use Rattle.std.proofs.Common.{◌≡◌, ◌≤◌, ◌<◌, ◌^◌, ℕ, Bool, List, length, map, Option, Some, None, option_map, sym, ap, subst, ◌∙◌, arith}
+use Rattle.std.specs.List.{filter}
+use Rattle.std.specs.Option.{ForSome}
+use Rattle.std.proofs.lemmas.List.{length-map}
+use Rattle.std.proofs.lemmas.List.FromFn.{length-range_with_len}
+use Rattle.std.proofs.lemmas.List.Sums.{count_by-le-length, length-filter}
+use Rattle.tl_spec.specs.Selector.{Selector}
+use Rattle.tl_spec.specs.SelectorMeaning.{AreMatches}
+use Rattle.tl_spec.specs.SelectorReading.{selector_at}
+use Rattle.tl_spec.specs.SelectorSearch.{matches_between, node_numbers}
+use Rattle.tl_spec.specs.SelectorText.{IsSelectorText}
+use Rattle.tl_spec.proofs.SelectorSearch.{matches-only}
+use Rattle.tl_spec.proofs.SelectorText.{text-only, text-none}
+use Rattle.tl.specs.Query.{FindsIn, matches_in}
+use Rattle.tl.specs.Shown.{HTMLTable, shown, document_of}
+
+module _ (d : HTMLTable) (text : List ℕ) where
+  whole : (e : Selector) (ns : List ℕ) → AreMatches (map shown d.nodes) e 0 (length d.nodes) ns → ns ≡ matches_in (document_of d) e
+  whole e ns m =
+      matches-only (map shown d.nodes) e 0 (length (map shown d.nodes)) ns
+      (subst (λ (n : ℕ). AreMatches (map shown d.nodes) e 0 n ns) (sym (length-map d.nodes shown)) m)
+
+  -- by the plain reader of selector texts
+  pub query-reading : (found : Option (List ℕ)) → FindsIn d text found → found ≡ option_map (matches_in (document_of d)) (selector_at text)
+  query-reading None h = sym (ap (λ (s : Option Selector). option_map (matches_in (document_of d)) s) ((text-none text).0 h))
+  query-reading (Some ns) (e, t, m) =
+      ap Some (whole e ns m) ∙ sym (ap (λ (s : Option Selector). option_map (matches_in (document_of d)) s) ((text-only text e).0 t))
+
+  -- by the selector of the text
+  pub query-some : (found : Option (List ℕ)) (e : Selector) → FindsIn d text found → IsSelectorText text e → found ≡ Some (matches_in (document_of d) e)
+  query-some found e h t = query-reading found h ∙ ap (λ (s : Option Selector). option_map (matches_in (document_of d)) s) ((text-only text e).0 t)
+
+  pub query-none : (found : Option (List ℕ)) → FindsIn d text found → ((e : Selector) → IsSelectorText text e → ⊥) → found ≡ None
+  query-none found h lacks = query-reading found h ∙ ap (λ (s : Option Selector). option_map (matches_in (document_of d)) s) ((text-none text).0 lacks)
+
+  few_filtered : (p : ℕ → Bool) (xs : List ℕ) → length (filter p xs) ≤ length xs
+  few_filtered p xs = omega (arith, length-filter p xs, count_by-le-length p xs)
+
+  few_matches : (e : Selector) → length (matches_in (document_of d) e) ≤ length d.nodes
+  few_matches e =
+      let nodes = map shown d.nodes in
+      let fewer : length (matches_in (document_of d) e) ≤ length (node_numbers nodes) = few_filtered _ (node_numbers nodes) in
+      omega (arith, fewer, length-range_with_len 0 (length nodes), length-map d.nodes shown)
+
+  -- no more are found than there are nodes
+  pub query-few : (found : Option (List ℕ)) → FindsIn d text found → length d.nodes < 2 ^ 32 → ForSome found (λ ns. length ns < 2 ^ 32)
+  query-few None h small = λ ns is. absurd (cc)
+  query-few (Some ns) (e, t, m) small = λ ms is.
+      let few = few_matches e in
+      let all = whole e ns m in
+      let same : ms ≡ ns = cc in
+      omega (arith, ap length same, ap length all, few, small)
