@@ -108,3 +108,16 @@ fn steps_are_taken_or_refused(rt: HostRuntime) {
         );
     }
 }
+
+// The causes in the order in which they are looked at.
+static CAUSES: [StepError; 4] = [
+    StepError::NoNode,
+    StepError::NotTag,
+    StepError::NoPlace,
+    StepError::OutOfMemory,
+];
+
+#[test]
+fn causes_are_in_order(rt: HostRuntime) {
+    assert!(rt; CAUSES.is_sorted());
+}
