@@ -9,7 +9,7 @@ use Rattle.tl_pick.specs.Picked.{Want, its_number, its_print, its_inside, its_te
 
 -- what edits make of a page, where lines say some
 abbrev pub outcome_of_changes : Option (List Change) → List ℕ → Outcome
-outcome_of_changes (Some changes) page = output_of (Edits changes) page
+outcome_of_changes (Some changes) page = output_of (Edits changes) None page
 outcome_of_changes None page = not_understood
 
 -- what step lines make of a page

@@ -22,7 +22,7 @@ use tl_safe::Policy;
 /// Prints a page as it was read, as `tlq print` does.
 #[unsafe(no_mangle)]
 pub extern "C" fn tl_print(alloc: Global, page: &[u8], out: &mut [u8], needed: &mut usize) -> u8
-    ensures { Puts (answer_of (output_of Prints page.now)) out.old out.new needed.new result }
+    ensures { Puts (answer_of (output_of Prints None page.now)) out.old out.new needed.new result }
 {
     put_text(output(alloc, &Command::Print, page), out, needed)
 }
@@ -30,7 +30,7 @@ pub extern "C" fn tl_print(alloc: Global, page: &[u8], out: &mut [u8], needed: &
 /// Writes the texts of a page in order, as `tlq text` does.
 #[unsafe(no_mangle)]
 pub extern "C" fn tl_text(alloc: Global, page: &[u8], out: &mut [u8], needed: &mut usize) -> u8
-    ensures { Puts (answer_of (output_of Texts page.now)) out.old out.new needed.new result }
+    ensures { Puts (answer_of (output_of Texts None page.now)) out.old out.new needed.new result }
 {
     put_text(output(alloc, &Command::Text, page), out, needed)
 }

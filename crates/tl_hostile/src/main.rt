@@ -1,5 +1,5 @@
 //! Hostile use of the library, and whether it answers as it must: pages that are cut anywhere, tables that are very deep or very
-//! wide, handles that fall, and selectors of very many parts. Each thing that is asked ends in a line, with status 0; where an
+//! wide, handles that fall, selectors of very many parts and very many steps. Each thing that is asked ends in a line, with status 0; where an
 //! answer is wrong the line says which, with status 1. `hostile` at the top of the repository goes through all of them.
 //!
 //! | Words | What is done |
@@ -10,11 +10,13 @@
 //! | `wide N` | a page of so many tags, all but the first in that one |
 //! | `falling N` | a table of so many tags, each the child of the one after it |
 //! | `parts N` | selectors of so many parts |
+//! | `lines N` | so many lines that say steps |
 //! | none | `pages`, and the others with 2000 |
 #![tactic(auto)]
 
 mod cuts;
 mod deep;
+mod lines;
 mod pages;
 mod parts;
 mod wrong;
@@ -61,7 +63,8 @@ fn all(rt: &HostRuntime) -> Result<(), Wrong> {
     of_count(rt, "nested", 2000)?;
     of_count(rt, "wide", 2000)?;
     of_count(rt, "falling", 2000)?;
-    of_count(rt, "parts", 2000)
+    of_count(rt, "parts", 2000)?;
+    of_count(rt, "lines", 2000)
 }
 
 // What a word asks for that stands alone.
@@ -83,6 +86,7 @@ fn of_count(rt: &HostRuntime, word: &str, count: u32) -> Result<(), Wrong> {
         "wide" => deep::wide(rt.alloc(), count)?,
         "falling" => deep::falling(rt.alloc(), count)?,
         "parts" => parts::all(rt.alloc(), count)?,
+        "lines" => lines::all(rt.alloc(), count)?,
         _ => return Err(Wrong::NotUnderstood),
     }
     println!(rt; "{word} {count}: as it must be")?;

@@ -3,6 +3,9 @@ use Rattle.std.specs.Prelude.{◌≡◌, ℕ, List, [], ◌∷◌, Option, None,
 use Rattle.std.specs.Option.{option_map}
 use Rattle.std.specs.Str.{bytes_eq}
 use Rattle.tl_spec.specs.Edit.{Change}
+use Rattle.tl_spec.specs.Selector.{Selector}
+use Rattle.tl_spec.specs.SelectorReading.{selector_at}
+use Rattle.tl_spec.specs.SelectorText.{IsSelectorText}
 use Rattle.tl_spec.specs.StepLine.{changes_of}
 use Rattle.tl_program.specs.Steps.{changes_in}
 use Rattle.tl_program.specs.declared.program.asked.Command.{Command}
@@ -26,6 +29,31 @@ asked_of (Select text) = Selects text.now
 asked_of (Id id) = FindsId id.now
 asked_of (Class member) = FindsClass member.now
 asked_of (Edit steps) = Edits (changes_in steps.items)
+
+-- the selector that a text stands for, if it stands for one
+abbrev pub StandsFor : List ℕ → Option Selector → Type 0
+StandsFor text None = (e : Selector) → ¬ IsSelectorText text e
+StandsFor text (Some e) = IsSelectorText text e
+
+-- the selector of what is asked: that of a `select`, if its text stands for one, and else none
+abbrev pub IsSelectorOf : Asked → Option Selector → Type 0
+IsSelectorOf (Selects text) selector = StandsFor text selector
+IsSelectorOf Prints selector = selector ≡ None
+IsSelectorOf Texts selector = selector ≡ None
+IsSelectorOf PrintsAgain selector = selector ≡ None
+IsSelectorOf (FindsId id) selector = selector ≡ None
+IsSelectorOf (FindsClass member) selector = selector ≡ None
+IsSelectorOf (Edits changes) selector = selector ≡ None
+
+-- the same as a plain reader finds it
+abbrev pub selector_of : Asked → Option Selector
+selector_of (Selects text) = selector_at text
+selector_of Prints = None
+selector_of Texts = None
+selector_of PrintsAgain = None
+selector_of (FindsId id) = None
+selector_of (FindsClass member) = None
+selector_of (Edits changes) = None
 
 -- what one word asks for, if anything
 abbrev pub asked_by_one : List ℕ → Option Asked

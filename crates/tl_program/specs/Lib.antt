@@ -2,6 +2,7 @@ pub mod Asked
 pub mod Failure
 pub mod Marks
 pub mod Output
+pub mod Page
 pub mod Pieces
 pub mod Run
 pub mod Said

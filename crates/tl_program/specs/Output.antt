@@ -15,7 +15,6 @@ use Rattle.tl_spec.specs.Normal.{ReadsAs}
 use Rattle.tl_spec.specs.Print.{document_print}
 use Rattle.tl_spec.specs.Scan.{id_scan, class_scan}
 use Rattle.tl_spec.specs.Selector.{Selector}
-use Rattle.tl_spec.specs.SelectorReading.{selector_at}
 use Rattle.tl_spec.specs.SelectorSearch.{matches_between}
 use Rattle.tl_spec.specs.Text.{inner_text}
 use Rattle.tl_spec.specs.Walk.{TreeFault, Dangling, every, trees, walk}
@@ -97,25 +96,25 @@ abbrev pub outcome_of_query : Option Selector → Document → Outcome
 outcome_of_query None d = refused
 outcome_of_query (Some e) d = success_of (number_lines (matches_between d.nodes e 0 (length d.nodes)))
 
--- what a command makes of a document
-abbrev pub outcome_of_document : Asked → Document → Outcome
-outcome_of_document Prints d = outcome_of_reading (document_print d)
-outcome_of_document Texts d = outcome_of_reading (texts_of d)
-outcome_of_document PrintsAgain d = outcome_of_print (document_print d)
-outcome_of_document (Selects text) d = outcome_of_query (selector_at text) d
-outcome_of_document (FindsId id) d = success_of (number_lines (option_to_list (id_scan d.nodes id)))
-outcome_of_document (FindsClass member) d = success_of (number_lines (class_scan d.nodes member))
-outcome_of_document (Edits changes) d = outcome_of_edited (edited_all changes d)
+-- what a command makes of a document, by its selector
+abbrev pub outcome_of_document : Asked → Option Selector → Document → Outcome
+outcome_of_document Prints selector d = outcome_of_reading (document_print d)
+outcome_of_document Texts selector d = outcome_of_reading (texts_of d)
+outcome_of_document PrintsAgain selector d = outcome_of_print (document_print d)
+outcome_of_document (Selects text) selector d = outcome_of_query selector d
+outcome_of_document (FindsId id) selector d = success_of (number_lines (option_to_list (id_scan d.nodes id)))
+outcome_of_document (FindsClass member) selector d = success_of (number_lines (class_scan d.nodes member))
+outcome_of_document (Edits changes) selector d = outcome_of_edited (edited_all changes d)
 
 -- a text longer than 4294967295 bytes is not understood
-abbrev pub outcome_of_text : Asked → List ℕ → Outcome
-outcome_of_text asked text =
-    if nat_lt largest_u32 (length text) then not_understood else outcome_of_document asked (document text)
+abbrev pub outcome_of_text : Asked → Option Selector → List ℕ → Outcome
+outcome_of_text asked selector text =
+    if nat_lt largest_u32 (length text) then not_understood else outcome_of_document asked selector (document text)
 
 -- input that is no text is not understood
-abbrev pub output_of : Asked → List ℕ → Outcome
-output_of asked input =
-    if utf8_valid_len input == length input then outcome_of_text asked input else not_understood
+abbrev pub output_of : Asked → Option Selector → List ℕ → Outcome
+output_of asked selector input =
+    if utf8_valid_len input == length input then outcome_of_text asked selector input else not_understood
 
 -- the document that a print is read as
 abbrev pub document_again : Result (List ℕ) TreeFault → Option Document
@@ -136,9 +135,9 @@ printed_document (FindsId id) d = None
 printed_document (FindsClass member) d = None
 printed_document (Edits changes) d = document_edited (edited_all changes d)
 
--- what a command makes of an input
-abbrev pub command_output : Command → List ℕ → Outcome
-command_output command input = output_of (asked_of command) input
+-- what a command makes of an input, by its selector
+abbrev pub command_output : Command → Option Selector → List ℕ → Outcome
+command_output command selector input = output_of (asked_of command) selector input
 
 -- the document whose print a command makes of a document, if it makes one
 abbrev pub command_print : Command → Document → Option Document

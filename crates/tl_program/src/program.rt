@@ -7,6 +7,7 @@ mod fault;
 mod flushes;
 mod lookup;
 mod marked;
+mod page;
 mod running;
 mod status;
 mod words;

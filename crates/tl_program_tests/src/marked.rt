@@ -3,8 +3,8 @@ use std::io;
 use std::io::{ErrorKind, Read, Write};
 use tl_program::program::{Input, Marked, Output};
 
-// What is read from or written to by a plan: at `!` a call fails, at `.` it gives or takes nothing, and at a letter it
-// gives that letter, or takes a byte.
+// What is read from or written to by a plan: at `!` a call fails, at `.` it gives or takes nothing, at a small letter it
+// gives that letter, or takes a byte, and at a capital it gives as many of it as there is room for.
 #[derive(Drop)]
 struct Planned<'p> {
     plan: &'p [u8],
@@ -39,8 +39,13 @@ impl<'p> Read for Planned<'p> {
         if letter == b'.' || buffer.is_empty() {
             return Ok(0);
         }
-        buffer[0] = letter;
-        Ok(1)
+        let n = if letter.is_ascii_uppercase() {
+            buffer.len()
+        } else {
+            1
+        };
+        buffer[..n].fill(letter);
+        Ok(n)
     }
 }
 
@@ -59,12 +64,15 @@ impl<'p> Write for Planned<'p> {
     }
 }
 
-// What a read into as much room answers: the byte that it gives, `.` for none, `!` for a fault.
+// What a read into as much room, at most two bytes, answers: the last byte where it fills the room, `-` where it gives
+// fewer, `.` for none, `!` for a fault.
 fn read_answer(reader: &mut Marked<Planned<'_>>, room: usize) -> u8 {
-    let mut buffer = [0u8; 1];
-    match reader.read(&mut buffer[..room.min(1)]) {
+    let mut buffer = [0u8; 2];
+    let room = &mut buffer[..room.min(2)];
+    match reader.read(room) {
         Ok(0) => b'.',
-        Ok(_) => buffer[0],
+        Ok(n) if n < room.len() => b'-',
+        Ok(_) => *room.last().unwrap_or(&b'.'),
         Err(_) => b'!',
     }
 }
@@ -92,6 +100,8 @@ const READS: &[(&[u8], &[usize], &[u8])] = &[
     (b"a!bc", &[1, 1, 1, 1], b"a!bc"),
     (b"!!a", &[1, 1, 1], b"!!a"),
     (b"!.", &[1, 1], b"!."),
+    // All the room that there is is offered.
+    (b"ABa", &[2, 1, 2], b"AB-"),
     // So is a read without room.
     (b"ab", &[0, 1], b".b"),
     (b"!a", &[0, 1], b"!a"),

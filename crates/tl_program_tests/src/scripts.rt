@@ -109,7 +109,7 @@ fn steps_are_taken_or_refused(rt: HostRuntime) {
     }
 }
 
-// The causes of a refusal, from the least to the greatest.
+// The causes in the order in which they are looked at.
 static CAUSES: [StepError; 4] = [
     StepError::NoNode,
     StepError::NotTag,
@@ -118,11 +118,6 @@ static CAUSES: [StepError; 4] = [
 ];
 
 #[test]
-fn causes_stand_in_order(rt: HostRuntime) {
-    for (first, lower) in CAUSES.iter().enumerate() {
-        for (second, upper) in CAUSES.iter().enumerate() {
-            let holds = lower.cmp(upper) == first.cmp(&second);
-            assert!(rt; holds, "{lower:?} {upper:?}");
-        }
-    }
+fn causes_are_in_order(rt: HostRuntime) {
+    assert!(rt; CAUSES.is_sorted());
 }

@@ -1,5 +1,6 @@
 -- What is made of a page.
 use Rattle.std.specs.Prelude.{ℕ, Bool, true, false, List, [], ◌∷◌, ◌==◌, if◌then◌else◌}
+use Rattle.tl_program.specs.Asked.{asked_of, selector_of}
 use Rattle.tl_program.specs.Output.{Outcome, command_output}
 use Rattle.tl_safe.specs.Policies.{lists_of}
 use Rattle.tl_pick.specs.Counted.{counts}
@@ -22,7 +23,7 @@ made_of (Objects selector) end page = objects_of_page end selector.now page
 made_of Links end page = links_of_page end page
 made_of Readable end page = readable_of_page page
 made_of Outline end page = outline_of_page page
-made_of (Run command) end page = command_output command page
+made_of (Run command) end page = command_output command (selector_of (asked_of command)) page
 made_of (Sanitise policy) end page = safe_page (lists_of policy) page
 
 -- whether a text has bytes

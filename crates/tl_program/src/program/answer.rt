@@ -6,7 +6,7 @@ ghost use Rattle.tl_spec.specs.Print.{document_print};
 ghost use Rattle.tl_table.specs.Answer.{Answers};
 ghost use Rattle.tl.specs.Shown.{document_of};
 ghost use Rattle.tl.specs.Tracked.{AnswerIds, AnswerClasses};
-ghost use Rattle.tl_program.specs.Asked.{asked_of};
+ghost use Rattle.tl_program.specs.Asked.{asked_of, selector_of};
 ghost use Rattle.tl_program.specs.Output.{outcome_of_text, outcome_of_document, outcome_of_edited, outcome_of_print, texts_of, Gives, IsJustRead, document_again, document_edited, command_print, PrintsBack};
 ghost use Rattle.tl_program.specs.Steps.{changes_in};
 ghost use Rattle.tl_program.specs.TableEdit.{TakeNoMemory};
@@ -81,8 +81,8 @@ fn of_document(
     requires ids { AnswerIds document.old.tracking (document_of document.old).nodes }
     requires classes { AnswerClasses document.old.tracking (document_of document.old).nodes }
     requires read { IsJustRead (document_of document.old) }
-    ensures outcome { Gives (outcome_of_document (asked_of command.now)
-        (document_of document.old)) result }
+    ensures outcome { let asked = asked_of command.now in
+        Gives (outcome_of_document asked (selector_of asked) (document_of document.old)) result }
     ensures identity { PrintsBack (command_print command.now (document_of document.old)) result }
 {
     match command {
@@ -110,7 +110,8 @@ pub fn answer(
     text: &str,
     ends_soon: bool,
 ) -> Result<String, Failure>
-    ensures outcome { Gives (outcome_of_text (asked_of command.now) text.now) result }
+    ensures outcome { let asked = asked_of command.now in
+        Gives (outcome_of_text asked (selector_of asked) text.now) result }
     ensures identity { PrintsBack (command_print command.now (document text.now)) result }
     ensures long { u32.MAX < length text.now → result ≡ Err Failure.NotUnderstood }
 {

@@ -1,8 +1,9 @@
 //! The whole program, over its words, a reader and a writer.
-ghost use Rattle.std.specs.Prelude.{◌≡◌, ◌≢◌, IfNone, OnSome};
+ghost use Rattle.std.specs.Prelude.{◌≡◌, ◌≢◌, IfNone, OnSome, Option};
 ghost use Rattle.std.specs.Io.KnownBytes.{IsAtEnd};
+ghost use Rattle.tl_spec.specs.Selector.{Selector};
 ghost use Rattle.tl_program.specs.Run.{IsRun};
-ghost use Rattle.tl_program.specs.Said.{asked_in, output_by, printed_by};
+ghost use Rattle.tl_program.specs.Said.{asked_in, output_by, printed_by, IsSelectorIn};
 
 use super::failure::Failure;
 use super::fault::{Input, Output};
@@ -25,7 +26,8 @@ pub fn run_words<R: Input, W: Output>(
     ensures unasked_writer { IfNone (asked_in words.now) (writer.new ≡ writer.old) }
 
     // What is made of the input by the command that they say.
-    ensures run { IsRun (output_by words.now) (printed_by words.now) result
+    ensures run { (selector : Option Selector) × IsSelectorIn words.now selector
+        × IsRun (output_by words.now selector) (printed_by words.now) result
         (R.seen reader.old) (R.seen reader.new) W.seen writer.old writer.new }
     ensures end { result ≢ 3 → result ≢ 4 →
         OnSome (asked_in words.now) (IsAtEnd (R.seen reader.new).left) }

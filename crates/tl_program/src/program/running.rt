@@ -1,8 +1,9 @@
 //! A run of the program: it reads all, makes the output, and writes it.
-ghost use Rattle.std.specs.Prelude.{◌≡◌, ◌≢◌, ◌<◌, ◌+◌, ◌||◌, is_ok, is_err, if◌then◌else◌, length, IsUtf8, IsTrue, Err, IfOk, IfErr, IfSome, OnOk, OnErr};
+ghost use Rattle.std.specs.Prelude.{◌≡◌, ◌≢◌, ◌<◌, ◌+◌, ◌||◌, is_ok, is_err, if◌then◌else◌, length, IsUtf8, IsTrue, Option, Err, OnOk, OnErr};
 ghost use Rattle.std.specs.Io.KnownBytes.{Appends, IsAtEnd};
 ghost use Rattle.tl_spec.specs.Document.{document};
-ghost use Rattle.tl_program.specs.Failure.{is_fault, IsReadFailure};
+ghost use Rattle.tl_spec.specs.Selector.{Selector};
+ghost use Rattle.tl_program.specs.Asked.{asked_of, selector_of, IsSelectorOf};
 ghost use Rattle.tl_program.specs.Output.{command_output, command_print, Gives, PrintsBack, AppendsBeginning};
 ghost use Rattle.tl_program.specs.Run.{IsRun};
 
@@ -10,26 +11,8 @@ use super::answer::answer;
 use super::asked::Command;
 use super::failure::Failure;
 use super::fault::{Fault, Input, Output};
+use super::page::{Page, read_page};
 use std::alloc::Global;
-
-// All that the reader has left.
-fn read_all<R: Input>(alloc: Global, reader: &mut R) -> Result<Vec<u8>, Failure>
-    ensures bytes { IfOk result (λ v. IfSome (R.seen reader.old).left (λ xs. v.items ≡ xs)) }
-    ensures end { OnOk result (IsAtEnd (R.seen reader.new).left) }
-    ensures err { IfErr result IsReadFailure }
-    ensures marks { (R.seen reader.new).has_failed
-        ≡ ((R.seen reader.old).has_failed || is_fault result) }
-{
-    let mut all = Vec::new(alloc);
-    let mut buffer = [0u8; 65536];
-    loop {
-        let n = reader.read(&mut buffer)?;
-        if n == 0 {
-            return Ok(all);
-        }
-        all.extend_from_slice(&buffer[..n])?;
-    }
-}
 
 // Writes all the bytes.
 #[tactic(auto, using(crate::proofs::Writing::written))]
@@ -73,7 +56,8 @@ fn given(
     input: &[u8],
     ends_soon: bool,
 ) -> Result<String, Failure>
-    ensures outcome { Gives (command_output command.now input.now) result }
+    ensures outcome { let selector = selector_of (asked_of command.now) in
+        Gives (command_output command.now selector input.now) result }
     ensures identity { PrintsBack (command_print command.now (document input.now)) result }
     ensures no_text { ¬ (IsUtf8 input.now) → result ≡ Err Failure.NotUnderstood }
     ensures long { u32.MAX < length input.now → result ≡ Err Failure.NotUnderstood }
@@ -87,7 +71,9 @@ fn given(
 /// What a command gives of a page, as `run` writes it of the page that it reads; or why it gives nothing, where the number of the
 /// failure is the status.
 pub fn output(alloc: Global, command: &Command<'_>, input: &[u8]) -> Result<String, Failure>
-    ensures outcome { Gives (command_output command.now input.now) result }
+    // By the selector that the text of a `select` stands for, if it stands for one: there is one at most.
+    ensures outcome { (selector : Option Selector) × IsSelectorOf (asked_of command.now) selector
+        × Gives (command_output command.now selector input.now) result }
     ensures identity { PrintsBack (command_print command.now (document input.now)) result }
 
     // What is no text, or too long, is not understood before memory is asked for.
@@ -111,12 +97,15 @@ pub fn run<R: Input, W: Output>(
     reader: &mut R,
     writer: &mut W,
 ) -> u8
-    ensures run { IsRun (command_output command.now) (command_print command.now) result
+    // By the selector of the command, as `output` does.
+    ensures run { (selector : Option Selector) × IsSelectorOf (asked_of command.now) selector
+        × IsRun (command_output command.now selector) (command_print command.now) result
         (R.seen reader.old) (R.seen reader.new) W.seen writer.old writer.new }
     ensures end { result ≢ 3 → result ≢ 4 → IsAtEnd (R.seen reader.new).left }
 {
-    let input = match read_all(alloc, reader) {
-        Ok(input) => input,
+    let input = match read_page(alloc, reader) {
+        Ok(Page::Whole(input)) => input,
+        Ok(Page::TooLong) => return Failure::NotUnderstood as u8,
         Err(failure) => return failure as u8,
     };
     let output = match given(alloc, command, &input, true) {

@@ -11,14 +11,11 @@ use std::alloc::{AllocError, Global};
 fn of_one<'c>(word: &str) -> Option<Command<'c>>
     ensures { option_map asked_of result ≡ asked_by_one word.now }
 {
-    if word == "print" {
-        Some(Command::Print)
-    } else if word == "text" {
-        Some(Command::Text)
-    } else if word == "again" {
-        Some(Command::Again)
-    } else {
-        None
+    match word {
+        "print" => Some(Command::Print),
+        "text" => Some(Command::Text),
+        "again" => Some(Command::Again),
+        _ => None,
     }
 }
 
@@ -28,16 +25,12 @@ fn of_two<'c>(alloc: Global, word: &str, text: &'c str) -> Result<Option<Command
     ensures none { IfNone (asked_by_two word.now text.now) (result ≡ Ok None) }
     ensures memory { OnErr result (word.now ≡ codes "edit") }
 {
-    if word == "edit" {
-        Ok(steps(alloc, text)?.map(Command::Edit))
-    } else if word == "select" {
-        Ok(Some(Command::Select(text)))
-    } else if word == "id" {
-        Ok(Some(Command::Id(text)))
-    } else if word == "class" {
-        Ok(Some(Command::Class(text)))
-    } else {
-        Ok(None)
+    match word {
+        "edit" => Ok(steps(alloc, text)?.map(Command::Edit)),
+        "select" => Ok(Some(Command::Select(text))),
+        "id" => Ok(Some(Command::Id(text))),
+        "class" => Ok(Some(Command::Class(text))),
+        _ => Ok(None),
     }
 }
 

@@ -31,23 +31,18 @@ fn cut<'s>(text: &'s str) -> (&'s str, &'s str)
 fn of_text<'s>(word: &str, number: u32, text: &'s str) -> Option<Step<'s>>
     ensures { option_map change_of result ≡ change_of_text word.now number text.now }
 {
-    if word == "name" {
-        Some(Step::Name(number, text.as_bytes()))
-    } else if word == "text" {
-        Some(Step::Text(number, text.as_bytes()))
-    } else if word == "comment" {
-        Some(Step::Comment(number, text.as_bytes()))
-    } else if word == "set" {
-        let (key, value) = cut(text);
-        Some(Step::Set(number, key.as_bytes(), value.as_bytes()))
-    } else if word == "flag" {
-        Some(Step::Flag(number, text.as_bytes()))
-    } else if word == "unset" {
-        Some(Step::Unset(number, text.as_bytes()))
-    } else if word == "bare" {
-        Some(Step::Bare(number, text.as_bytes()))
-    } else {
-        None
+    match word {
+        "name" => Some(Step::Name(number, text.as_bytes())),
+        "text" => Some(Step::Text(number, text.as_bytes())),
+        "comment" => Some(Step::Comment(number, text.as_bytes())),
+        "set" => {
+            let (key, value) = cut(text);
+            Some(Step::Set(number, key.as_bytes(), value.as_bytes()))
+        }
+        "flag" => Some(Step::Flag(number, text.as_bytes())),
+        "unset" => Some(Step::Unset(number, text.as_bytes())),
+        "bare" => Some(Step::Bare(number, text.as_bytes())),
+        _ => None,
     }
 }
 
@@ -55,14 +50,11 @@ fn of_text<'s>(word: &str, number: u32, text: &'s str) -> Option<Step<'s>>
 fn of_numbers<'s>(word: &str, first: u32, second: u32) -> Option<Step<'s>>
     ensures { option_map change_of result ≡ change_of_numbers word.now first second }
 {
-    if word == "push" {
-        Some(Step::Push(first, second))
-    } else if word == "pull" {
-        Some(Step::Pull(first, second as usize))
-    } else if word == "root" {
-        Some(Step::Root(first as usize, second))
-    } else {
-        None
+    match word {
+        "push" => Some(Step::Push(first, second)),
+        "pull" => Some(Step::Pull(first, second as usize)),
+        "root" => Some(Step::Root(first as usize, second)),
+        _ => None,
     }
 }
 

@@ -1,4 +1,8 @@
-use Rattle.std.proofs.Common.{sym, subst}
+use Rattle.std.proofs.Common.{Option, sym, subst}
+use Rattle.tl_spec.specs.Selector.{Selector}
+use Rattle.tl_program.specs.Asked.{asked_of}
+use Rattle.tl_program.specs.Output.{Gives, command_output}
+use Rattle.tl_program.proofs.Meaning.{IsSelectorOf-only}
 use Rattle.tl_pick.specs.Bytes.{GivesBytes}
 use Rattle.tl_tool.specs.Made.{made_of}
 use Rattle.tl_tool.proofs.task.made.Goals as goal
@@ -25,7 +29,10 @@ returns-in-Links c =
 
 pub returns-in-Run : goal.returns-in-Run
 returns-in-Run c =
-    subst (λ task. GivesBytes (made_of task c.args.end.now c.args.page.now) c.bytes_of-in-Run.result) (sym c.in-Run.is) (c.bytes_of-in-Run.ensures _ c.output.ensures.outcome)
+    let command = c.in-Run.command.now in
+    let output = c.output.ensures.outcome in
+    let by_reader = subst (λ (s : Option Selector). Gives (command_output command s c.args.page.now) c.output.result) (IsSelectorOf-only (asked_of command) output.0 output.1) output.2 in
+    subst (λ task. GivesBytes (made_of task c.args.end.now c.args.page.now) c.bytes_of-in-Run.result) (sym c.in-Run.is) (c.bytes_of-in-Run.ensures _ by_reader)
 
 pub returns-in-Sanitise : goal.returns-in-Sanitise
 returns-in-Sanitise c =
