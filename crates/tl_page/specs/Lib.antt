@@ -1,0 +1,4 @@
+pub mod Failure
+pub mod Error
+pub mod Outcome
+pub mod Page

@@ -1,0 +1,10 @@
+//! Pages, which are bytes: their text, their document, and why there is nothing of what was asked.
+#![tactic(auto)]
+
+mod error;
+mod failure;
+mod page;
+
+pub use error::{Cause, PageError};
+pub use failure::Failure;
+pub use page::{read, text};
