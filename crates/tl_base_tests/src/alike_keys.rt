@@ -5,7 +5,7 @@ use std::hash::{Hash, Hasher};
 use tl_base::inline::hashmap::InlineHashMap;
 
 #[derive(Default, Clone, PartialEq, Eq, Drop)]
-struct Alike(u8);
+struct Alike(u16);
 
 impl Hash for Alike {
     ghost hash_input = { λ _. [] };
@@ -15,12 +15,12 @@ impl Hash for Alike {
     fn hash<H: Hasher>(&self, _state: &mut H) {}
 }
 
-type Map = InlineHashMap<Alike, u8, 2>;
+type Map = InlineHashMap<Alike, u16, 2>;
 
-// Whether each key from the first up to the second goes in, with 255 less the key as its value.
-fn insert_row(map: &mut Map, first: u8, end: u8) -> bool {
+// Whether each key from the first up to the second goes in, with 65535 less the key as its value.
+fn insert_row(map: &mut Map, first: u16, end: u16) -> bool {
     for key in first..end {
-        if map.insert(Alike(key), u8::MAX - key).is_err() {
+        if map.insert(Alike(key), u16::MAX - key).is_err() {
             return false;
         }
     }
@@ -28,7 +28,7 @@ fn insert_row(map: &mut Map, first: u8, end: u8) -> bool {
 }
 
 // Whether the map has these keys in order, and each is found.
-fn holds_keys(map: &Map, keys: &[u8]) -> bool {
+fn holds_keys(map: &Map, keys: &[u16]) -> bool {
     if map.len() != keys.len() {
         return false;
     }
@@ -40,12 +40,12 @@ fn holds_keys(map: &Map, keys: &[u8]) -> bool {
     true
 }
 
-fn finds(map: &Map, key: u8) -> bool {
-    map.get(&Alike(key)) == Some(&(u8::MAX - key))
+fn finds(map: &Map, key: u16) -> bool {
+    map.get(&Alike(key)) == Some(&(u16::MAX - key))
 }
 
 // Whether the map has the keys from 0 up to the end, and none beyond it.
-fn holds_row(map: &Map, end: u8) -> bool {
+fn holds_row(map: &Map, end: u16) -> bool {
     for key in 0..end {
         if !finds(map, key) {
             return false;
@@ -54,45 +54,45 @@ fn holds_row(map: &Map, end: u8) -> bool {
     map.len() == usize::from(end) && map.get(&Alike(end)).is_none()
 }
 
-fn clone_holds_row(map: &Map, end: u8) -> bool {
+fn clone_holds_row(map: &Map, end: u16) -> bool {
     match map.clone() {
         Ok(copy) => holds_row(&copy, end),
         Err(_) => false,
     }
 }
 
-fn removes(map: &mut Map, key: u8) -> bool {
-    map.remove(&Alike(key)) == Some(u8::MAX - key) && map.get(&Alike(key)).is_none()
+fn removes(map: &mut Map, key: u16) -> bool {
+    map.remove(&Alike(key)) == Some(u16::MAX - key) && map.get(&Alike(key)).is_none()
 }
 
 #[test]
 fn many_keys_are_told_apart(rt: HostRuntime) {
     let mut map = InlineHashMap::new(rt.alloc());
     assert!(rt;
-        insert_row(&mut map, 0, 65) && holds_row(&map, 65),
-        "65 keys"
+        insert_row(&mut map, 0, 1025) && holds_row(&map, 1025),
+        "1025 keys"
     );
     assert!(rt;
-        insert_row(&mut map, 0, 200) && holds_row(&map, 200),
-        "200 keys"
+        insert_row(&mut map, 0, 1100) && holds_row(&map, 1100),
+        "1100 keys"
     );
-    assert!(rt; clone_holds_row(&map, 200), "a clone of 200 keys");
+    assert!(rt; clone_holds_row(&map, 1100), "a clone of 1100 keys");
 }
 
 #[test]
 fn keys_leave_from_the_middle(rt: HostRuntime) {
     let mut map = InlineHashMap::new(rt.alloc());
-    assert!(rt; insert_row(&mut map, 0, 66), "66 keys");
+    assert!(rt; insert_row(&mut map, 0, 1026), "1026 keys");
     assert!(rt;
-        removes(&mut map, 5) && removes(&mut map, 64) && removes(&mut map, 0),
+        removes(&mut map, 5) && removes(&mut map, 1024) && removes(&mut map, 0),
         "three leave"
     );
     assert!(rt;
-        insert_row(&mut map, 0, 1) && finds(&map, 0) && finds(&map, 65),
+        insert_row(&mut map, 0, 1) && finds(&map, 0) && finds(&map, 1025),
         "one comes back"
     );
-    for key in 6..64 {
+    for key in 6..1024 {
         assert!(rt; removes(&mut map, key), "key {key} leaves");
     }
-    assert!(rt; holds_keys(&map, &[0, 1, 2, 3, 4, 65]), "what is left");
+    assert!(rt; holds_keys(&map, &[0, 1, 2, 3, 4, 1025]), "what is left");
 }

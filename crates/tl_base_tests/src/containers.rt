@@ -37,7 +37,8 @@ enum VecStep {
 type VecScript = (Room, &'static str, &'static [VecStep]);
 
 #[rattlefmt::skip]
-static VECTORS: [VecScript; 7] = [
+static VECTORS: [VecScript; 8] = [
+    (Room::None, "a copy of no items", &[VecStep::CopyHolds(&[]), VecStep::Push(7), VecStep::Remove(0, 7), VecStep::CopyHolds(&[]),]),
     (Room::None, "no item fits inline in a vector of none", &[VecStep::Holds(&[], false), VecStep::Push(7), VecStep::Holds(&[7], true), VecStep::Remove(0, 7), VecStep::Holds(&[], true),]),
     (Room::One, "a refused push leaves the vector", &[VecStep::Push(1), VecStep::PushOrKeep(2, &[1, 2], &[1])]),
     (Room::Two, "a vector on the heap gives its items in order", &[VecStep::Push(13), VecStep::Push(42), VecStep::Push(17), VecStep::Push(19), VecStep::Holds(&[13, 42, 17, 19], true),]),
@@ -175,6 +176,7 @@ enum MapStep {
     HoldsKeys(Items),
     // How many pairs the copy has, and one of them.
     CopyHas(usize, u8, u8),
+    CopyIsEmpty,
     Prints(&'static str),
 }
 
@@ -182,7 +184,8 @@ enum MapStep {
 type MapScript = (Room, &'static str, &'static [MapStep]);
 
 #[rattlefmt::skip]
-static MAPS: [MapScript; 14] = [
+static MAPS: [MapScript; 15] = [
+    (Room::None, "a copy of no pairs", &[MapStep::CopyIsEmpty, MapStep::Insert(1, 2), MapStep::Remove(1, 2), MapStep::CopyIsEmpty,]),
     (Room::None, "no pair fits inline in a map of none", &[MapStep::Holds(&[], false), MapStep::Insert(1, 2), MapStep::Holds(&[(1, 2)], true), MapStep::Remove(1, 2), MapStep::Holds(&[], true),]),
     (Room::One, "a pair inline", &[MapStep::Insert(3, 4), MapStep::CloneHolds(&[(3, 4)], false), MapStep::CopyHas(1, 3, 4), MapStep::Set(3, 7), MapStep::Get(3, 7), MapStep::Lacks(9),]),
     (Room::One, "two pairs on the heap", &[MapStep::Insert(1, 2), MapStep::Insert(3, 4), MapStep::CloneHolds(&[(1, 2), (3, 4)], true), MapStep::CopyHas(2, 3, 4), MapStep::Set(3, 7), MapStep::Get(3, 7), MapStep::Lacks(9),]),
@@ -193,9 +196,9 @@ static MAPS: [MapScript; 14] = [
     (Room::Two, "a key on the heap keeps its place, among few and among many", &[MapStep::InsertRow(0, 16), MapStep::Set(0, 1), MapStep::Insert(15, 2), MapStep::Get(0, 1), MapStep::Get(15, 2), MapStep::InsertRow(0, 16), MapStep::HoldsRow(0, 16), MapStep::InsertRow(16, 40), MapStep::Set(0, 1), MapStep::Insert(39, 2), MapStep::Get(0, 1), MapStep::Get(39, 2), MapStep::InsertRow(0, 40), MapStep::HoldsRow(0, 40),]),
     (Room::Two, "pairs leave a list", &[MapStep::InsertRow(0, 5), MapStep::Remove(0, 255), MapStep::HoldsKeys(&[4, 1, 2, 3]), MapStep::Lacks(0), MapStep::Remove(3, 252), MapStep::InsertRow(0, 1), MapStep::HoldsKeys(&[4, 1, 2, 0]), MapStep::Remove(2, 253), MapStep::Remove(4, 251), MapStep::HoldsKeys(&[0, 1]),]),
     (Room::Two, "the first keys of many leave", &[MapStep::InsertRow(0, 18), MapStep::Remove(0, 255), MapStep::HoldsKeys(&[17, 1, 2, 3, 4, 5, 6, 7, 8, 9, 10, 11, 12, 13, 14, 15, 16]), MapStep::Remove(1, 254), MapStep::HoldsKeys(&[17, 16, 2, 3, 4, 5, 6, 7, 8, 9, 10, 11, 12, 13, 14, 15]), MapStep::Remove(17, 238), MapStep::Lacks(0), MapStep::Lacks(1), MapStep::Lacks(17), MapStep::InsertRow(0, 2), MapStep::HoldsKeys(&[15, 16, 2, 3, 4, 5, 6, 7, 8, 9, 10, 11, 12, 13, 14, 0, 1]),]),
-    (Room::Two, "no pair is lost as keys become so many that their places are noted", &[MapStep::InsertRow(0, 64), MapStep::HoldsRow(0, 64), MapStep::InsertRow(64, 65), MapStep::HoldsRow(0, 65), MapStep::CloneHoldsRow(0, 65), MapStep::Lacks(65), MapStep::InsertRow(65, 200), MapStep::HoldsRow(0, 200), MapStep::CloneHoldsRow(0, 200), MapStep::CopyHas(200, 199, 56), MapStep::Lacks(200),]),
-    (Room::Two, "a noted key keeps its place", &[MapStep::InsertRow(0, 200), MapStep::Set(0, 1), MapStep::Insert(199, 2), MapStep::Get(0, 1), MapStep::Get(199, 2), MapStep::InsertRow(0, 200), MapStep::HoldsRow(0, 200),]),
-    (Room::Two, "noted keys leave from the middle, the front and the end", &[MapStep::InsertRow(0, 70), MapStep::Remove(5, 250), MapStep::HoldsKeys(&[0, 1, 2, 3, 4, 69, 6, 7, 8, 9, 10, 11, 12, 13, 14, 15, 16, 17, 18, 19, 20, 21, 22, 23, 24, 25, 26, 27, 28, 29, 30, 31, 32, 33, 34, 35, 36, 37, 38, 39, 40, 41, 42, 43, 44, 45, 46, 47, 48, 49, 50, 51, 52, 53, 54, 55, 56, 57, 58, 59, 60, 61, 62, 63, 64, 65, 66, 67, 68,]), MapStep::Lacks(5), MapStep::Remove(8, 247), MapStep::HoldsKeys(&[0, 1, 2, 3, 4, 69, 6, 7, 68, 9, 10, 11, 12, 13, 14, 15, 16, 17, 18, 19, 20, 21, 22, 23, 24, 25, 26, 27, 28, 29, 30, 31, 32, 33, 34, 35, 36, 37, 38, 39, 40, 41, 42, 43, 44, 45, 46, 47, 48, 49, 50, 51, 52, 53, 54, 55, 56, 57, 58, 59, 60, 61, 62, 63, 64, 65, 66, 67,]), MapStep::InsertRow(8, 9), MapStep::Remove(8, 247), MapStep::Lacks(8), MapStep::Remove(0, 255), MapStep::Get(67, 188), MapStep::InsertRow(0, 9), MapStep::Get(0, 255), MapStep::Get(5, 250), MapStep::Get(8, 247),]),
+    (Room::Two, "no pair is lost as many become more", &[MapStep::InsertRow(0, 64), MapStep::HoldsRow(0, 64), MapStep::InsertRow(64, 65), MapStep::HoldsRow(0, 65), MapStep::CloneHoldsRow(0, 65), MapStep::Lacks(65), MapStep::InsertRow(65, 200), MapStep::HoldsRow(0, 200), MapStep::CloneHoldsRow(0, 200), MapStep::CopyHas(200, 199, 56), MapStep::Lacks(200),]),
+    (Room::Two, "a key keeps its place among many", &[MapStep::InsertRow(0, 200), MapStep::Set(0, 1), MapStep::Insert(199, 2), MapStep::Get(0, 1), MapStep::Get(199, 2), MapStep::InsertRow(0, 200), MapStep::HoldsRow(0, 200),]),
+    (Room::Two, "many keys leave from the middle, the front and the end", &[MapStep::InsertRow(0, 70), MapStep::Remove(5, 250), MapStep::HoldsKeys(&[0, 1, 2, 3, 4, 69, 6, 7, 8, 9, 10, 11, 12, 13, 14, 15, 16, 17, 18, 19, 20, 21, 22, 23, 24, 25, 26, 27, 28, 29, 30, 31, 32, 33, 34, 35, 36, 37, 38, 39, 40, 41, 42, 43, 44, 45, 46, 47, 48, 49, 50, 51, 52, 53, 54, 55, 56, 57, 58, 59, 60, 61, 62, 63, 64, 65, 66, 67, 68,]), MapStep::Lacks(5), MapStep::Remove(8, 247), MapStep::HoldsKeys(&[0, 1, 2, 3, 4, 69, 6, 7, 68, 9, 10, 11, 12, 13, 14, 15, 16, 17, 18, 19, 20, 21, 22, 23, 24, 25, 26, 27, 28, 29, 30, 31, 32, 33, 34, 35, 36, 37, 38, 39, 40, 41, 42, 43, 44, 45, 46, 47, 48, 49, 50, 51, 52, 53, 54, 55, 56, 57, 58, 59, 60, 61, 62, 63, 64, 65, 66, 67,]), MapStep::InsertRow(8, 9), MapStep::Remove(8, 247), MapStep::Lacks(8), MapStep::Remove(0, 255), MapStep::Get(67, 188), MapStep::InsertRow(0, 9), MapStep::Get(0, 255), MapStep::Get(5, 250), MapStep::Get(8, 247),]),
     (Room::Four, "the last pair moves into the place", &[MapStep::Insert(0, 0), MapStep::Insert(1, 2), MapStep::Insert(2, 4), MapStep::Insert(3, 6), MapStep::Remove(2, 4), MapStep::Holds(&[(0, 0), (1, 2), (3, 6)], false), MapStep::Insert(1, 9), MapStep::Holds(&[(0, 0), (1, 9), (3, 6)], false),]),
 ];
 
@@ -293,6 +296,13 @@ fn map_copy_has<const N: usize>(
     }
 }
 
+fn map_copy_is_empty<const N: usize>(alloc: Global, map: &InlineHashMap<u8, u8, N>) -> bool {
+    match map.to_map(alloc) {
+        Ok(copy) => copy.is_empty(),
+        Err(_) => false,
+    }
+}
+
 fn map_prints<const N: usize>(alloc: Global, map: &InlineHashMap<u8, u8, N>, text: &str) -> bool {
     match format!(in alloc; "{map:?}") {
         Ok(made) => made.as_str() == text,
@@ -342,6 +352,7 @@ fn map_obeys<const N: usize>(
         MapStep::CloneHoldsRow(first, end) => clone_holds_row(map, *first, *end),
         MapStep::HoldsKeys(keys) => holds_keys(map, keys),
         MapStep::CopyHas(count, key, value) => map_copy_has(alloc, map, *count, *key, *value),
+        MapStep::CopyIsEmpty => map_copy_is_empty(alloc, map),
         MapStep::Prints(text) => map_prints(alloc, map, text),
     }
 }

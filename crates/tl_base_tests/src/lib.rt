@@ -10,6 +10,8 @@ mod containers;
 #[cfg(test)]
 mod lossy;
 #[cfg(test)]
+mod many_pairs;
+#[cfg(test)]
 mod searches;
 #[cfg(test)]
 mod tracking;

@@ -8,14 +8,14 @@ use Rattle.std.specs.Option.{IfSome, IfNone, option_map}
 use Rattle.std.specs.Map.{keys_of, values_of, lookup, set_value}
 use Rattle.std.proofs.lemmas.List.{get_or-map, length-map}
 use Rattle.std.proofs.lemmas.List.Elements.{Contains-get_or, Contains-append_right}
-use Rattle.std.proofs.lemmas.Option.{slice_get-get_or, slice_get-map, slice_get_past}
+use Rattle.std.proofs.lemmas.Option.{slice_get-get_or, slice_get-map, slice_get_past, get_or_from_slice_get}
 use Rattle.indexmap.specs.Layout.{length-set_value_at}
 use Rattle.indexmap.specs.IndexMap.{insert_entry, swap_remove_entry, set_value_at}
 use Rattle.indexmap.proofs.MapLemmas.{Found-position, Missing-position, swap_remove_entry-found, swap_remove_entry-missing, absent_before, some_index, lookup_permutation}
 use Rattle.indexmap.proofs.RemoveLemmas.{swap_out}
 use Rattle.tl_inline.specs.InlineVec.{ClonesAreEqual}
 use Rattle.tl_spec.specs.Inline.{InlineMap, with_entry}
-use Rattle.tl_spec.proofs.Pairs.{insert_present, distinct_insert, position-map}
+use Rattle.tl_spec.proofs.Pairs.{insert_new, insert_present, distinct_insert, position-map}
 use Rattle.arrayvec.proofs.ArrayVecLemmas.{items-with_items}
 
 -- an item of a list that has some
@@ -90,6 +90,13 @@ module _ {K V : Type 0} (eq : K → K → Bool) (o : IsEquivalence eq) where
   pub new_before : (items es ds rest : List (K × V)) (k : K) (v : V) → IsDistinct eq (keys_of items) → es ++ ds ≡ items → ds ≡ (k, v) ∷ rest → lookup (eq k) es ≡ None
   new_before items es ds rest k v s whole next =
       absent_before o es rest (k, v) (subst (λ l. IsDistinct eq (keys_of l)) (sym whole ∙ ap (λ l. es ++ l) next) s)
+
+  -- one turn of a move
+  pub moved_one : (items es fs ds rest : List (K × V)) (k : K) (v : V) → IsDistinct eq (keys_of items) → es ++ ds ≡ items → ds ≡ (k, v) ∷ rest
+      → fs ≡ insert_entry eq es k v → fs ++ rest ≡ items
+  moved_one items es fs ds rest k v s whole next put =
+      ap (λ l. l ++ rest) (put ∙ insert_new eq es k v (new_before items es ds rest k v s whole next)) ∙ append_assoc es ((k, v) ∷ []) rest
+      ∙ ap (λ l. es ++ l) (sym next) ∙ whole
 
 -- clones of the pairs are the pairs
 pub pairs_same : {K V : Type 0} (C : K → K → Type 0) (D : V → V → Type 0) (es fs : List (K × V)) → ClonesAreEqual C (keys_of es) → ClonesAreEqual D (values_of es)
@@ -174,6 +181,10 @@ module _ {K V : Type 0} (es : List (K × V)) (i : ℕ) where
 
   pub no_value_at : length es ≤ i → None ≡ slice_get (values_of es) i
   no_value_at le = sym (slice_get-map (λ p. p.1) es i ∙ ap (option_map (λ p. p.1)) (slice_get_past es i le))
+
+  -- a write of the second part of the pair that was found at i
+  pub set-found : (p : K × V) (w : V) → slice_get es i ≡ Some p → slice_set es i (p.0, w) ≡ set_value_at es i w
+  set-found p w found = set-part p w (sym (get_or_from_slice_get es i p p found))
 
 -- past the end there is nothing to write
 pub set-past : {K V : Type 0} (es : List (K × V)) (i : ℕ) (w : V) → slice_get es i ≡ None → set_value_at es i w ≡ es

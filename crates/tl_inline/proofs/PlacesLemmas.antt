@@ -14,11 +14,10 @@ use Rattle.std.proofs.lemmas.Option.{slice_get-get_or, slice_get-map, slice_get_
 use Rattle.std.specs.Ordering.{nat_cmp, ordering_then, is_eq}
 use Rattle.indexmap.proofs.MapLemmas.{Found-position, Missing-position}
 use Rattle.indexmap.specs.IndexMap.{insert_entry}
-use Rattle.std.specs.BTreeMap.{BTreeMap}
 use Rattle.tl_spec.proofs.Pairs.{insert_present, keys-set_value_at}
 use Rattle.tl_inline.proofs.Maps.{first_of_list, set-part}
 use Rattle.tl_inline.specs.Digest.{Digest, digest_of}
-use Rattle.tl_inline.specs.Places.{is_same, note_of, allows, with_key, without_alone, moved_to, Notes, AllowsAll, AllowsKeysIfAny, passes_at}
+use Rattle.tl_inline.specs.Places.{is_same, note_of, allows, with_key, without_alone, moved_to, Notes, AllowsAll, AllowsKey, passes_at}
 use Rattle.tl_inline.specs.declared.inline.hashmap.heap.places.Place.{Place}
 use Rattle.tl_inline.specs.declared.inline.hashmap.heap.places.Place.TheVariants.{Alone, Several}
 
@@ -58,36 +57,40 @@ module _ {K V : Type 0} (t : K → Bool) where
   absent_fails (e ∷ es) zero h = h.0
   absent_fails (e ∷ es) (suc i) h = absent_fails es i h.1
 
-  -- of keys that pass the test d is the digest
-  module _ (f : K → Digest) (d : Digest) (note : Digest → Option Place) (es : List (K × V)) (same : (k : K) → t k ≡ true → f k ≡ d) (a : AllowsAll f note (keys_of es)) where
-    found_allows : (i : ℕ) → position t (keys_of es) ≡ Some i → allows (note d) i ≡ true
+  module _ (note : Option Place) (es : List (K × V)) (a : AllowsKey t note (keys_of es)) where
+    found_allows : (i : ℕ) → position t (keys_of es) ≡ Some i → allows note i ≡ true
     found_allows i e =
         let k = first_key es i e in
-        subst (λ q. allows (note q) i ≡ true) (same k.0 k.2) (a i k.0 k.1)
+        a i k.0 k.1 k.2
 
-    pub found_nowhere : None ≡ note d → None ≡ position t (keys_of es)
+    pub found_nowhere : None ≡ note → None ≡ position t (keys_of es)
     found_nowhere none = by (position t (keys_of es)) refl
       where
         by : (r : Option ℕ) → position t (keys_of es) ≡ r → None ≡ r
         by None e = refl
         by (Some i) e = absurd (true≢false (sym (found_allows i e) ∙ ap (λ o. allows o i) (sym none)))
 
-    alone_at : (j i : ℕ) → Some (Alone j) ≡ note d → position t (keys_of es) ≡ Some i → j ≡ i
+    alone_at : (j i : ℕ) → Some (Alone j) ≡ note → position t (keys_of es) ≡ Some i → j ≡ i
     alone_at j i is e = eqb-true j i (ap (λ o. allows o i) is ∙ found_allows i e)
 
-    pub found_alone : (j : ℕ) → Some (Alone j) ≡ note d → passes_at t es j ≡ true → Some j ≡ position t (keys_of es)
+    pub found_alone : (j : ℕ) → Some (Alone j) ≡ note → passes_at t es j ≡ true → Some j ≡ position t (keys_of es)
     found_alone j is passes = by (position t (keys_of es)) refl
       where
         by : (r : Option ℕ) → position t (keys_of es) ≡ r → Some j ≡ r
         by None e = absurd (true≢false (sym passes ∙ absent_fails es j (Missing-position t es e).absent))
         by (Some i) e = ap Some (alone_at j i is e)
 
-    pub found_other : (j : ℕ) → Some (Alone j) ≡ note d → passes_at t es j ≡ false → None ≡ position t (keys_of es)
+    pub found_other : (j : ℕ) → Some (Alone j) ≡ note → passes_at t es j ≡ false → None ≡ position t (keys_of es)
     found_other j is fails = by (position t (keys_of es)) refl
       where
         by : (r : Option ℕ) → position t (keys_of es) ≡ r → None ≡ r
         by None e = refl
         by (Some i) e = absurd (true≢false (sym (first_passes es i e) ∙ ap (passes_at t es) (sym (alone_at j i is e)) ∙ fails))
+
+-- what is noted of a digest is noted of each key that has it
+pub allows_key : {K : Type 0} (f : K → Digest) (note : Digest → Option Place) (keys : List K) (t : K → Bool) (d : Digest)
+    → ((k : K) → t k ≡ true → f k ≡ d) → AllowsAll f note keys → AllowsKey t (note d) keys
+allows_key f note keys t d same a = λ i k at passes. subst (λ q. allows (note q) i ≡ true) (same k passes) (a i k at)
 
 -- ---- a note that is written
 
@@ -235,17 +238,6 @@ module _ {K V : Type 0} (eq : K → K → Bool) (es : List (K × V)) (i : ℕ) w
   pub keys_replaced : (fs : List (K × V)) (k : K) (v : V) → Some i ≡ position (eq k) (keys_of es) → fs ≡ insert_entry eq es k v → keys_of fs ≡ keys_of es
   keys_replaced fs k v index after = ap keys_of (after ∙ insert_present eq es k v i index) ∙ keys-set_value_at eq es i v
 
--- the same notes allow the same
-pub allows_copied : {K : Type 0} (input : K → List (List ℕ)) (p q : Option (BTreeMap Digest Place)) (keys : List K)
-    → option_map (λ (m : BTreeMap Digest Place). m.entries) q ≡ option_map (λ (m : BTreeMap Digest Place). m.entries) p → AllowsKeysIfAny input p keys → AllowsKeysIfAny input q keys
-allows_copied input None None keys e h = tt
-allows_copied input None (Some q) keys e h = absurd (none_is_some (sym e))
-allows_copied input (Some p) None keys e h = absurd (none_is_some e)
-allows_copied input (Some p) (Some q) keys e h = subst (λ es. AllowsAll (λ k. digest_of (input k)) (note_of es) keys) (sym (same_some e)) h
-
--- one key more of those of the pairs
-pub taken_one : {K V : Type 0} (es : List (K × V)) (i : ℕ) (x : K × V) → x ≡ get_or es i x → i < length es
-    → take (i + 1) (keys_of es) ≡ take i (keys_of es) ++ x.0 ∷ []
-taken_one es i x is within =
-    take_more (keys_of es) i x.0 (omega (arith, length-keys_of es))
-    ∙ ap (λ k. take i (keys_of es) ++ k ∷ []) (get_or-map (λ p. p.0) es i x x.0 within ∙ ap (λ p. p.0) (sym is))
+-- one key more of them
+pub taken_one : {K : Type 0} (keys : List K) (i : ℕ) (x : K) → x ≡ get_or keys i x → i < length keys → take (i + 1) keys ≡ take i keys ++ x ∷ []
+taken_one keys i x is within = take_more keys i x within ∙ ap (λ k. take i keys ++ k ∷ []) (sym is)

@@ -6,6 +6,10 @@ pub mod HeldItems
 pub mod HeldItemsLends
 pub mod Digest
 pub mod Places
+pub mod NotedPairsLends
+pub mod HeapForm
+pub mod HeapFormLends
 pub mod HeapPairsLends
 pub mod HeldPairs
 pub mod HeldPairsLends
+pub mod PairsLeft

@@ -1,6 +1,6 @@
 -- Where keys stand in a list, by their digests. No public clause cites this module.
 use Rattle.std.specs.Prelude.{◌≡◌, ℕ, Bool, true, false, ◌==◌, cond, List, slice_get, Option, Some, None}
-use Rattle.std.specs.Option.{option_map, option_map_or}
+use Rattle.std.specs.Option.{option_map_or}
 use Rattle.std.specs.Ordering.{nat_cmp, ordering_then, is_eq}
 use Rattle.std.specs.Map.{lookup}
 use Rattle.std.specs.BTreeMap.{BTreeMap}
@@ -47,15 +47,13 @@ Notes old new digest w = (d : Digest) → new d ≡ cond (is_same digest d) w (o
 abbrev pub AllowsAll : {K : Type 0} → (K → Digest) → (Digest → Option Place) → List K → Type 0
 AllowsAll {K} digest note keys = (i : ℕ) (k : K) → slice_get keys i ≡ Some k → allows (note (digest k)) i ≡ true
 
-module _ {K : Type 0} (input : K → List (List ℕ)) where
-  -- what is noted of the digest of each key lets it stand where it does
-  abbrev pub AllowsKeys : BTreeMap Digest Place → List K → Type 0
-  AllowsKeys places keys = AllowsAll (λ k. digest_of (input k)) (note_of places.entries) keys
+-- what is noted of the digest of each key lets it stand where it does
+abbrev pub AllowsKeys : {K : Type 0} → (K → List (List ℕ)) → BTreeMap Digest Place → List K → Type 0
+AllowsKeys input places keys = AllowsAll (λ k. digest_of (input k)) (note_of places.entries) keys
 
-  -- the same, where notes are there at all
-  abbrev pub AllowsKeysIfAny : Option (BTreeMap Digest Place) → List K → Type 0
-  AllowsKeysIfAny None keys = Unit {0}
-  AllowsKeysIfAny (Some places) keys = AllowsKeys places keys
+-- each key that passes the test may stand where it does, where this is noted of it
+abbrev pub AllowsKey : {K : Type 0} → (K → Bool) → Option Place → List K → Type 0
+AllowsKey {K} test note keys = (i : ℕ) (k : K) → slice_get keys i ≡ Some k → test k ≡ true → allows note i ≡ true
 
 -- whether the pair at i has a key that passes the test
 abbrev pub passes_at : {K V : Type 0} → (K → Bool) → List (K × V) → ℕ → Bool

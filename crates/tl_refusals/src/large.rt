@@ -8,9 +8,9 @@ use tl::inline::vec::InlineVec;
 
 const ROOM: usize = 2;
 
-type Map = InlineHashMap<u8, u8, ROOM>;
+type Map = InlineHashMap<u16, u16, ROOM>;
 
-type List = InlineVec<u8, ROOM>;
+type List = InlineVec<u16, ROOM>;
 
 // What was done with a container after it was filled with keys or items, which are 0, 1 and so on.
 #[derive(Clone, Copy)]
@@ -24,38 +24,44 @@ enum Past {
 
 // What is called of a map.
 enum MapCall {
-    Insert(u8),
+    Insert(u16),
     Clone,
     ToMap,
 }
 
 // The name of a call, with how many pairs the map was filled, what was done then, and the call.
-type MapRow = (&'static str, u8, Past, MapCall);
+type MapRow = (&'static str, u16, Past, MapCall);
 
 #[rattlefmt::skip]
-static MAPS: [MapRow; 18] = [
+static MAPS: [MapRow; 24] = [
     ("insert of a 17th pair", 16, Past::Filled, MapCall::Insert(16)),
-    ("insert of a 21st pair", 20, Past::Filled, MapCall::Insert(20)),
-    ("insert of a 29th pair", 28, Past::Filled, MapCall::Insert(28)),
-    ("insert of a 65th pair", 64, Past::Filled, MapCall::Insert(64)),
+    ("insert of a 19th pair", 18, Past::Filled, MapCall::Insert(18)),
+    ("insert of a 37th pair", 36, Past::Filled, MapCall::Insert(36)),
     ("insert of a 71st pair", 70, Past::Filled, MapCall::Insert(70)),
+    ("insert of a 1025th pair", 1024, Past::Filled, MapCall::Insert(1024)),
+    ("insert of a 1026th pair", 1025, Past::Filled, MapCall::Insert(1025)),
     ("insert of a key that is there, of 20 pairs", 20, Past::Filled, MapCall::Insert(19)),
     ("insert of a key that is there, of 70 pairs", 70, Past::Filled, MapCall::Insert(69)),
+    ("insert of a key that is there, of 1024 pairs", 1024, Past::Filled, MapCall::Insert(1023)),
+    ("insert of a key that is there, of 1025 pairs", 1025, Past::Filled, MapCall::Insert(1024)),
     ("clone of a map of 20 pairs", 20, Past::Filled, MapCall::Clone),
     ("clone of a map of 70 pairs", 70, Past::Filled, MapCall::Clone),
+    ("clone of a map of 1025 pairs", 1025, Past::Filled, MapCall::Clone),
     ("to_map of a map of 20 pairs", 20, Past::Filled, MapCall::ToMap),
     ("to_map of a map of 70 pairs", 70, Past::Filled, MapCall::ToMap),
+    ("to_map of a map of 1025 pairs", 1025, Past::Filled, MapCall::ToMap),
     ("insert after a remove, inline", 2, Past::Taken, MapCall::Insert(9)),
     ("insert after a remove, on the heap", 3, Past::Taken, MapCall::Insert(9)),
     ("insert after a remove, of 70 pairs", 70, Past::Taken, MapCall::Insert(99)),
+    ("insert after a remove, of 1025 pairs", 1025, Past::Taken, MapCall::Insert(1999)),
     ("second insert after a remove, inline", 2, Past::Swapped, MapCall::Insert(9)),
     ("second insert after a remove, on the heap", 5, Past::Swapped, MapCall::Insert(9)),
-    ("second insert after a remove, of 28 pairs", 28, Past::Swapped, MapCall::Insert(99)),
+    ("second insert after a remove, of 36 pairs", 36, Past::Swapped, MapCall::Insert(99)),
     ("clone after a remove, of 70 pairs", 70, Past::Swapped, MapCall::Clone),
 ];
 
 // The name of a call, with how many items the list was filled, and what was done then: an item is pushed.
-type ListRow = (&'static str, u8, Past);
+type ListRow = (&'static str, u16, Past);
 
 #[rattlefmt::skip]
 static LISTS: [ListRow; 4] = [
@@ -66,9 +72,9 @@ static LISTS: [ListRow; 4] = [
 ];
 
 // What is put in the place of what was taken out, and what is put by the call.
-const OTHER: u8 = 240;
+const OTHER: u16 = 2000;
 
-const PUT: u8 = 250;
+const PUT: u16 = 3000;
 
 /// A call on a container with a past, if there is one of this number.
 pub fn call(number: usize, case: &mut Case) -> Option<Named> {
@@ -80,7 +86,7 @@ pub fn call(number: usize, case: &mut Case) -> Option<Named> {
 }
 
 // How many pairs or items there are.
-fn len(filled: u8, past: Past) -> u8 {
+fn len(filled: u16, past: Past) -> u16 {
     match past {
         Past::Filled | Past::Swapped => filled,
         Past::Taken => filled.saturating_sub(1),
@@ -114,16 +120,16 @@ fn made_map(row: &MapRow, alloc: Global) -> Result<Map, Stop> {
     Ok(map)
 }
 
-fn put(map: &mut Map, key: u8) -> Result<(), Stop> {
+fn put(map: &mut Map, key: u16) -> Result<(), Stop> {
     map.insert(key, value_of(key)).map_err(|_| Stop::NoMemory)
 }
 
-fn value_of(key: u8) -> u8 {
-    255 - key
+fn value_of(key: u16) -> u16 {
+    65535 - key
 }
 
 // The key at a place: the last has the place of what was taken out.
-fn key_at(row: &MapRow, place: u8) -> u8 {
+fn key_at(row: &MapRow, place: u16) -> u16 {
     let last = row.1.saturating_sub(1);
     match row.2 {
         Past::Filled => place,
@@ -139,7 +145,7 @@ fn lies(map: &Map, row: &MapRow) -> bool {
 }
 
 // Whether a map holds the pairs of a row in order, and maybe more behind them; at one key, if it is there, what was put.
-fn holds(map: &Map, row: &MapRow, changed: Option<u8>) -> bool {
+fn holds(map: &Map, row: &MapRow, changed: Option<u16>) -> bool {
     let len = len(row.1, row.2);
     if map.len() < len as usize || !lies(map, row) {
         return false;
@@ -164,7 +170,7 @@ fn is_as_made(map: &Map, row: &MapRow) -> bool {
 }
 
 // A refused pair comes back, and the map holds what it held.
-fn insert(map: &mut Map, row: &MapRow, key: u8, case: &mut Case) -> Result<(), Stop> {
+fn insert(map: &mut Map, row: &MapRow, key: u16, case: &mut Case) -> Result<(), Stop> {
     let is_known = map.get(&key).is_some();
     let answer = measured!(case, map.insert(key, PUT));
     let grown = if is_known { 0 } else { 1 };

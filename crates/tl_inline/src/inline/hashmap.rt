@@ -19,6 +19,7 @@ use arrayvec::ArrayVec;
 use heap::HeapPairs;
 use held::{HeldPairs, push_inline, remove_inline, replace};
 pub use iter::InlineHashMapIterator;
+use iter::PairsLeft;
 use pairs::find;
 use std::alloc::{AllocError, Global};
 use std::collections::HashMap;
@@ -152,7 +153,7 @@ impl<K: Eq + Hash, V, const N: usize> InlineHashMap<K, V, N> {
     {
         match &self.held {
             HeldPairs::Inline(inline) => InlineHashMapIterator {
-                left: inline.as_slice().iter(),
+                left: PairsLeft::Slice(inline.as_slice().iter()),
             },
             HeldPairs::Heap(heap) => heap.iter(),
         }

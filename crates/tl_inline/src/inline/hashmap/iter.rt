@@ -6,10 +6,16 @@ ghost use Rattle.std.specs.Iterator.{at_most};
 use std::marker::Model;
 use std::slice;
 
+#[derive(Drop)]
+pub(super) enum PairsLeft<'a, K, V> {
+    Slice(slice::Iter<'a, (K, V)>),
+    Map(indexmap::map::Iter<'a, K, V>),
+}
+
 /// The pairs of an `InlineHashMap` in order. A clause sees it as the list of those that are left.
 #[derive(Drop)]
 pub struct InlineHashMapIterator<'a, K, V> {
-    pub(super) left: slice::Iter<'a, (K, V)>,
+    pub(super) left: PairsLeft<'a, K, V>,
 }
 
 impl<'a, K, V> Model for InlineHashMapIterator<'a, K, V> {
@@ -17,9 +23,9 @@ impl<'a, K, V> Model for InlineHashMapIterator<'a, K, V> {
 
     ghost Value = { List (K × V) };
 
-    ghost use Rattle.std.specs.Slice.Iter.{iter_rest};
+    ghost use Rattle.tl_inline.specs.PairsLeft.{pairs_left};
 
-    ghost view = { λ a. iter_rest a.left };
+    ghost view = { λ a. pairs_left a.left };
 }
 
 impl<'a, K, V> Iterator for InlineHashMapIterator<'a, K, V> {
@@ -30,9 +36,12 @@ impl<'a, K, V> Iterator for InlineHashMapIterator<'a, K, V> {
     ghost remaining = { λ pairs. at_most (length pairs) };
 
     fn next(&mut self) -> Option<(&'a K, &'a V)> {
-        match self.left.next() {
-            Some(pair) => Some((&pair.0, &pair.1)),
-            None => None,
+        match &mut self.left {
+            PairsLeft::Slice(pairs) => match pairs.next() {
+                Some(pair) => Some((&pair.0, &pair.1)),
+                None => None,
+            },
+            PairsLeft::Map(pairs) => pairs.next(),
         }
     }
 }

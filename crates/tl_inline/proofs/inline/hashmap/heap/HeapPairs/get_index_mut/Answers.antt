@@ -1,30 +1,18 @@
-use Rattle.std.proofs.Common.{◌<◌, refl, subst, sym}
-use Rattle.std.specs.List.{IsDistinct}
-use Rattle.tl_inline.specs.Places.{AllowsKeysIfAny}
-use Rattle.tl_inline.proofs.Maps.{lent_same, set-part, value_at, no_value_at}
-use Rattle.tl_inline.proofs.PlacesLemmas.{keys_written}
+use borrow.Follows.Closed.{read_of}
+use Rattle.std.specs.Option.{ghost_name_of}
+use Rattle.tl_inline.specs.HeapForm.{form_entries}
+use Rattle.tl_inline.proofs.HeapFormLemmas.{distinct_with_value, entries_with_value}
 use Rattle.tl_inline.proofs.inline.hashmap.heap.HeapPairs.get_index_mut.Goals as goal
 
 pub invariant_of-self-lent : goal.invariant_of-self-lent
 invariant_of-self-lent g c =
-    let kept = λ (w : g.row.V.Denot). sym (keys_written g.K.PartialEq.eq c.self.inside.pairs.items c.args.index c.in-Some.pair.now w c.in-Some.ensures.value) in
-    λ w. (
-      subst (λ l. IsDistinct g.K.PartialEq.eq l) (kept w) c.self.invariant.0,
-      subst (λ l. AllowsKeysIfAny g.K.Hash.hash_input c.self.inside.places l) (kept w) c.self.invariant.1,
-    )
+    λ _. (λ w. distinct_with_value g.K.PartialEq.eq c.self.inside.form c.args.index w c.self.invariant, c.self.invariant)
 
-pub returns-in-Some : goal.returns-in-Some
-returns-in-Some g c =
-    let v = c.self.inside.pairs in
+pub returns : goal.returns
+returns g c =
+    let f = c.self.inside.form in
     let i = c.args.index in
-    let x = c.in-Some.pair.now in
-    let e = c.in-Some.ensures in
-    let within = e.variant.0 refl in
     rw (← c.self.view_is) (
-      lent_same _ _ _ (λ w. set-part v.items i x w e.value),
-      record { writes_back = tt; value = value_at v.items i x e.value (subst (λ n. i < n) v.ok.0 within) },
+      λ t. read_of (ghost_name_of c.value_at_mut.result) (λ (w : g.row.V.Denot). entries_with_value f i w t) (form_entries f),
+      record { writes_back = tt; value = c.value_at_mut.ensures.value },
     )
-
-pub returns-in-None : goal.returns-in-None
-returns-in-None g c =
-    rw (← c.self.view_is) (refl, record { writes_back = tt; value = no_value_at c.self.inside.pairs.items c.args.index c.in-None.ensures.item.3 })

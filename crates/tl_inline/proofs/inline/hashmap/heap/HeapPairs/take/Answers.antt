@@ -9,7 +9,7 @@ invariant_of-result g c =
     let k = c.args.key in
     let v = c.args.value in
     let after = c.push_reserved.ensures.items ∙ ap (λ l. l ++ (k, v) ∷ []) c.in-Ok.ensures.items ∙ sym (insert_new g.K.PartialEq.eq es k v c.requires.new) in
-    (distinct_inserted g.K.PartialEq.eq g.met.K.Eq.laws es c.push_reserved.new.self.items k v after c.requires.distinct, tt)
+    distinct_inserted g.K.PartialEq.eq g.met.K.Eq.laws es c.push_reserved.new.self.items k v after c.requires.distinct
 
 pub returns-in-Ok-clause-ok : goal.returns-in-Ok-clause-ok
 returns-in-Ok-clause-ok g c =

@@ -17,7 +17,7 @@ returns g c =
     let of_gone : c.digest_of.result ≡ digest_of (g.K.Hash.hash_input gone.0) = c.digest_of.ensures ∙ ap digest (sym c.index-pairs-at.is) in
     let of_last : c.digest_of-2.result ≡ digest_of (g.K.Hash.hash_input last.0) = c.digest_of-2.ensures ∙ ap digest (sym c.index-pairs-pairs.is) in
     λ p i k found.
-    allows_swapped (λ q. digest_of (g.K.Hash.hash_input q)) (note_of c.in-Some.places.entries) (note_of c.forget.new.places.entries)
+    allows_swapped (λ q. digest_of (g.K.Hash.hash_input q)) (note_of c.args.places.now.entries) (note_of c.forget.new.places.entries)
     (note_of c.note_move.new.places.entries) (keys_of es) c.args.at gone.0 last.0 (key_at es c.args.at gone c.index-pairs-at.is c.requires.within)
-    at_last (rw c.in-Some.is at c.requires.allowed) (rw of_gone at c.forget.ensures) (rw of_last at c.note_move.ensures)
+    at_last c.requires.allowed (rw of_gone at c.forget.ensures) (rw of_last at c.note_move.ensures)
     p.0 i k (ap (λ l. slice_get l i) (sym (keys_swapped es c.args.at p c.requires.within)) ∙ found)

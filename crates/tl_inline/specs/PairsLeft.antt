@@ -1,0 +1,10 @@
+-- What an `InlineHashMapIterator` has left. No public clause cites this module.
+use Rattle.std.specs.Prelude.{List}
+use Rattle.std.specs.Slice.Iter.{iter_rest}
+use Rattle.tl_inline.specs.declared.inline.hashmap.iter.PairsLeft.{PairsLeft}
+use Rattle.tl_inline.specs.declared.inline.hashmap.iter.PairsLeft.TheVariants.{Slice, Map}
+
+-- the pairs in order
+abbrev pub pairs_left : {K V : Type 0} → PairsLeft K V → List (K × V)
+pairs_left (Slice it) = iter_rest it
+pairs_left (Map it) = it
