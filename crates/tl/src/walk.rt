@@ -20,7 +20,7 @@ use crate::errors::TreeError;
 use crate::parser::tag::HTMLTag;
 use crate::parser::tag::node::Node;
 use path::{put_mark, stands_on_path};
-use std::alloc::Global;
+use std::alloc::{AllocFailed, Global};
 use tl_lexer::names::is_printed_alone;
 use tl_table::handle::NodeHandle;
 
@@ -173,9 +173,10 @@ impl<'s, 'a> Walker<'s, 'a> {
             tag,
             rest: self.rest,
         };
-        let Ok(()) = self.frames.push(frame) else {
-            return Err(TreeError::OutOfMemory);
-        };
+        match self.frames.push(frame) {
+            Ok(()) => {}
+            Err(AllocFailed { value: _ }) => return Err(TreeError::OutOfMemory),
+        }
         put_mark(&mut self.marks, handle, true);
         self.rest = tag.child_handles().as_slice();
         Ok(())

@@ -2,7 +2,7 @@
 use std::alloc::{AllocError, Global};
 use std::cmp::Ordering;
 use std::collections::HashMap;
-use tl_base::bytes::{Bytes, IntoOwnedBytes, Shared, copied};
+use tl_base::bytes::{Bytes, IntoOwnedBytes, SetBytesError, Shared, copied};
 
 // Whether it could be found out, and holds.
 fn sure(holds: Result<bool, AllocError>) -> bool {
@@ -16,9 +16,10 @@ fn sure(holds: Result<bool, AllocError>) -> bool {
 type Set = (&'static str, bool, Option<&'static [u8]>);
 
 #[rattlefmt::skip]
-static SETS: [Set; 3] = [
+static SETS: [Set; 4] = [
     ("world", true, None),
-    ("x", true, Some(b"world")),
+    ("", true, Some(b"world")),
+    ("x", true, Some(b"")),
     ("y", false, Some(b"x")),
 ];
 
@@ -94,36 +95,40 @@ enum Kind {
     BoxedSlice,
 }
 
+// A kind of data, a text, and what they are.
 #[rattlefmt::skip]
-static KINDS: [(Kind, &str); 5] = [
-    (Kind::Text, "text"),
-    (Kind::Slice, "slice"),
-    (Kind::Vector, "vector"),
-    (Kind::String, "string"),
-    (Kind::BoxedSlice, "boxed slice"),
+static KINDS: [(Kind, &str, &str); 7] = [
+    (Kind::Text, "ab", "text"),
+    (Kind::Text, "", "empty text"),
+    (Kind::Slice, "ab", "slice"),
+    (Kind::Slice, "", "empty slice"),
+    (Kind::Vector, "ab", "vector"),
+    (Kind::String, "ab", "string"),
+    (Kind::BoxedSlice, "ab", "boxed slice"),
 ];
 
-// Whether the data is two bytes long, and the bytes `ab`.
-fn is_ab<B: IntoOwnedBytes>(alloc: Global, data: B) -> Result<bool, AllocError> {
+// Whether the data is as long as a text, and its bytes.
+fn is_text<B: IntoOwnedBytes>(alloc: Global, data: B, text: &str) -> Result<bool, AllocError> {
     let len = data.byte_len();
     let bytes = data.into_bytes(alloc)?;
-    Ok(len == 2 && bytes.as_slice() == b"ab".as_slice())
+    Ok(len == text.len() && bytes.as_slice() == text.as_bytes())
 }
 
-fn is_taken(alloc: Global, kind: &Kind) -> Result<bool, AllocError> {
+fn is_taken(alloc: Global, kind: &Kind, text: &str) -> Result<bool, AllocError> {
+    let bytes = text.as_bytes();
     match kind {
-        Kind::Text => is_ab(alloc, "ab"),
-        Kind::Slice => is_ab(alloc, b"ab".as_slice()),
-        Kind::Vector => is_ab(alloc, b"ab".to_vec(alloc)?),
-        Kind::String => is_ab(alloc, String::from_str(alloc, "ab")?),
-        Kind::BoxedSlice => is_ab(alloc, b"ab".to_vec(alloc)?.into_boxed_slice()),
+        Kind::Text => is_text(alloc, text, text),
+        Kind::Slice => is_text(alloc, bytes, text),
+        Kind::Vector => is_text(alloc, bytes.to_vec(alloc)?, text),
+        Kind::String => is_text(alloc, String::from_str(alloc, text)?, text),
+        Kind::BoxedSlice => is_text(alloc, bytes.to_vec(alloc)?.into_boxed_slice(), text),
     }
 }
 
 #[test]
 fn takes_each_kind_of_data(rt: HostRuntime) {
-    for (kind, name) in &KINDS {
-        assert!(rt; sure(is_taken(rt.alloc(), kind)), "{name}");
+    for (kind, text, name) in &KINDS {
+        assert!(rt; sure(is_taken(rt.alloc(), kind, text)), "{name}");
     }
 }
 
@@ -221,6 +226,11 @@ fn is_less(one: Bytes<'static>, other: &'static str) -> bool {
 }
 
 #[test]
+fn errors_are_in_order(rt: HostRuntime) {
+    assert!(rt; SetBytesError::LengthOverflow < SetBytesError::OutOfMemory);
+}
+
+#[test]
 fn compares_by_list(rt: HostRuntime) {
     assert!(rt; sure(owned_is_shared(rt.alloc())));
     assert!(rt; sure(finds_by_list(rt.alloc())));
@@ -233,15 +243,23 @@ fn is_lossy(alloc: Global, bytes: &Bytes<'_>, text: &str) -> Result<bool, AllocE
     Ok(lossy.as_str() == text)
 }
 
-// Whether bytes that are no text are read with a mark in the place of what is wrong.
+fn prints(alloc: Global, bytes: &Bytes<'_>, text: &str) -> Result<bool, AllocError> {
+    let print = format!(in alloc; "{bytes:?}")?;
+    Ok(print.as_str() == text)
+}
+
+// Whether bytes that are no text are read with a mark in the place of what is wrong, and print as numbers.
 fn reads_broken(alloc: Global) -> Result<bool, AllocError> {
     let broken = Bytes::from(b"a\xC3".as_slice());
-    Ok(broken.try_as_utf8_str().is_none() && is_lossy(alloc, &broken, "a\u{FFFD}")?)
+    Ok(
+        broken.try_as_utf8_str().is_none()
+            && is_lossy(alloc, &broken, "a\u{FFFD}")?
+            && prints(alloc, &broken, "Bytes([97, 195])")?,
+    )
 }
 
 fn is_hello(alloc: Global, bytes: &Bytes<'_>) -> Result<bool, AllocError> {
-    let print = format!(in alloc; "{bytes:?}")?;
-    Ok(bytes.try_as_utf8_str() == Some("hello") && print.as_str() == "Bytes(\"hello\")")
+    Ok(bytes.try_as_utf8_str() == Some("hello") && prints(alloc, bytes, "Bytes(\"hello\")")?)
 }
 
 // Whether bytes made of a string are read and print as text.

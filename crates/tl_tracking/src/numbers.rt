@@ -50,10 +50,7 @@ fn add_last(numbers: &mut InlineVec<u32, 2>, number: u32) -> Result<(), AllocErr
     if is_last(numbers.as_slice(), number) {
         return Ok(());
     }
-    match numbers.push(number) {
-        Ok(()) => Ok(()),
-        Err(_) => Err(AllocError),
-    }
+    numbers.push(number).map_err(|_| AllocError)
 }
 
 // Adds a number under a member, unless it is the last there.

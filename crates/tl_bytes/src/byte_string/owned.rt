@@ -160,7 +160,7 @@ impl<'a> Bytes<'a> {
             return Err(SetBytesError::LengthOverflow);
         }
         self.set_unchecked(alloc, value)
-            .map_err(|_| SetBytesError::OutOfMemory)
+            .map_err(|_: AllocError| SetBytesError::OutOfMemory)
     }
 
     /// Makes the data, whose length the caller has looked at, the bytes, owned. The old bytes
