@@ -1,11 +1,12 @@
-//! What is printed of pages that attack a browser, by the policy for the text of a blog and by another.
+//! What is printed of pages that attack a browser, by the policy for the text of a blog and by
+//! another one.
 
 use std::alloc::AllocError;
 use std::process::Abort;
 use tl_safe::{Lists, Policy, sanitised};
 
-// A page and its print; a table for each subject, of some fifteen rows at most: one test of a longer
-// one passes the prover's limit.
+// A page and its print; a table for each subject, of some fifteen rows at most: one test of a
+// longer one passes the prover's limit.
 
 // What stands in these is no markup, in any case of their names.
 #[rattlefmt::skip]

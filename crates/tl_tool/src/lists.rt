@@ -92,7 +92,7 @@ pub struct WordLists<'c> {
 }
 
 impl<'c> WordLists<'c> {
-    /// Those of these texts, and where a list isn't said those of the policy for the text of a blog.
+    /// Those of these texts, and where a list isn't said that for the text of a blog.
     pub fn of(alloc: Global, texts: &Texts<'c>) -> Result<WordLists<'c>, AllocError>
         ensures { IfOk result (λ words. lists_in words ≡ lists_said (said texts.now) page_lists) }
     {
