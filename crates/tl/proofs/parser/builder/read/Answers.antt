@@ -10,8 +10,6 @@ use Rattle.tl.specs.Builder.{state_of}
 use Rattle.tl.proofs.Following.{reached_next, reached_end}
 use Rattle.tl.proofs.Preorder.{read-preorder}
 use Rattle.tl.proofs.parser.builder.read.Goals as goal
-use Rattle.tl.proofs.parser.builder.read.Goals.{After-finish-parser}
-use Rattle.tl.proofs.parser.builder.read.Given.{Over}
 
 pub returns-then-text-clause-length : goal.returns-then-text-clause-length
 returns-then-text-clause-length g c = (λ _. rw (← c.as_bytes-text.ensures) c.if-text.true, λ _. refl)
@@ -36,20 +34,20 @@ loop-token-preserved g c =
       held = c.in_ok-at.ensures.held c.loop-token.invariant.held;
     }
 
--- what was read once no token is left
-whole : (g : Over) (c : After-finish-parser g) → document_of c.finish-parser.result ≡ document (g.S.Source.text c.args.source.now)
-whole g c =
+pub note_preorder-requires : goal.note_preorder-requires
+note_preorder-requires g c =
     let t = g.S.Source.text c.args.source.now in
     let stop : ◌≡◌ {A = Option (Token × List ℕ)} None (next_token (drop c.loop-token.at t)) =
     subst (λ (T : List ℕ). ◌≡◌ {A = Option (Token × List ℕ)} None (next_token (drop c.loop-token.at T))) c.as_bytes-text.ensures c.in_default.ensures.read in
-    c.finish-parser.ensures.document ∙ reached_end t c.loop-token.at (state_of c.loop-token.table) stop c.loop-token.invariant.reached
-
-pub note_preorder-requires : goal.note_preorder-requires
-note_preorder-requires g c =
-    read-preorder (g.S.Source.text c.args.source.now) c.finish-parser.result.nodes (ap (λ (d : Document). d.nodes) (whole g ((goal.at.note_preorder-requires g c).After-finish-parser)))
+    read-preorder t c.finish-parser.result.nodes
+    (ap (λ (d : Document). d.nodes) (c.finish-parser.ensures.document ∙ reached_end t c.loop-token.at (state_of c.loop-token.table) stop c.loop-token.invariant.reached))
 
 pub returns-clause-document : goal.returns-clause-document
-returns-clause-document g c = ap document_of c.note_preorder.ensures ∙ whole g ((goal.at.returns-clause-document g c).After-finish-parser)
+returns-clause-document g c =
+    let t = g.S.Source.text c.args.source.now in
+    let stop : ◌≡◌ {A = Option (Token × List ℕ)} None (next_token (drop c.loop-token.at t)) =
+    subst (λ (T : List ℕ). ◌≡◌ {A = Option (Token × List ℕ)} None (next_token (drop c.loop-token.at T))) c.as_bytes-text.ensures c.in_default.ensures.read in
+    ap document_of c.note_preorder.ensures ∙ c.finish-parser.ensures.document ∙ reached_end t c.loop-token.at (state_of c.loop-token.table) stop c.loop-token.invariant.reached
 
 pub returns-clause-version : goal.returns-clause-version
 returns-clause-version g c =
