@@ -64,8 +64,8 @@ members-of-none v not = by (is_utf8 v) refl
     by false e = rw e refl
 
 -- before the first tag there is what is asked for
-pub asked-first : (asked : Options) (t : Tracking Kept) → t ≡ nothing_noted asked → AreAsked asked t
-asked-first asked t is = record { ids = ap (λ (u : Tracking Kept). is_some u.ids) is ∙ some-if _ asked.ids; classes = ap (λ (u : Tracking Kept). is_some u.classes) is ∙ some-if _ asked.classes }
+pub asked-first : (asked : Options) (key : ℕ) (t : Tracking Kept) → t ≡ nothing_noted asked key → AreAsked asked t
+asked-first asked key t is = record { ids = ap (λ (u : Tracking Kept). is_some u.ids) is ∙ some-if _ asked.ids; classes = ap (λ (u : Tracking Kept). is_some u.classes) is ∙ some-if _ asked.classes }
   where
     some-if : (A : Type 0) (b : Bool) → is_some (empty_if {A = A} b) ≡ b
     some-if A true = refl

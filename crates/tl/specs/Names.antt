@@ -1,8 +1,9 @@
 -- Which names of a table are tracked.
-use Rattle.std.specs.Prelude.{ℕ, List, [], ◌∷◌, ◌++◌, Option, None, Some, if◌then◌else◌}
+use Rattle.std.specs.Prelude.{ℕ, List, [], ◌∷◌, ◌++◌, ◌||◌, Option, None, Some, if◌then◌else◌}
 use Rattle.std.specs.List.{flat_map}
 use Rattle.tl_spec.specs.Document.{Node}
 use Rattle.tl_spec.specs.Scan.{id_of, class_of}
+use Rattle.tl_tracking.specs.NameKey.{number_of_names}
 use Rattle.tl_tracking.specs.Options.{Options}
 
 -- a name, if there is one
@@ -18,3 +19,7 @@ names_of asked node =
 -- those of all nodes, in order
 abbrev pub names_in : Options → List Node → List (List ℕ)
 names_in asked nodes = flat_map (names_of asked) nodes
+
+-- the number that they are hashed by, where any are tracked
+abbrev pub key_of : Options → List Node → ℕ
+key_of asked nodes = if asked.ids || asked.classes then number_of_names (names_in asked nodes) else 0

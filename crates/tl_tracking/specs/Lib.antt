@@ -1,3 +1,4 @@
 pub mod NameKey
+pub mod Hashing
 pub mod Tracking
 pub mod Options

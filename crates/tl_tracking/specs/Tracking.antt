@@ -20,24 +20,25 @@ IdPairs B = Option (List (B × ℕ))
 abbrev pub ClassPairs : Type 0 → Type 0
 ClassPairs B = Option (List (B × InlineVec ℕ))
 
--- both
+-- both, and the number that their names are hashed by
 pub record Tracking (B : Type 0) : Type 0 where
   pub ids : IdPairs B
   pub classes : ClassPairs B
+  pub key : ℕ
 
 -- they are stored as their fields
 abbrev pub tracking_code : {B : Type 0} → Coded B → Coded (Tracking B)
 tracking_code {B} piece =
-    code_by (IdPairs B × ClassPairs B) (coded× (coded_option (coded_list (coded× piece coded_ℕ))) (coded_option (coded_list (coded× piece (inline_vec_code coded_ℕ)))))
-    (λ t. (t.ids, t.classes)) (λ p. record { ids = p.0; classes = p.1 }) (λ _. refl)
+    code_by (IdPairs B × (ClassPairs B × ℕ)) (coded× (coded_option (coded_list (coded× piece coded_ℕ))) (coded× (coded_option (coded_list (coded× piece (inline_vec_code coded_ℕ)))) coded_ℕ))
+    (λ t. (t.ids, (t.classes, t.key))) (λ p. record { ids = p.0; classes = p.1.0; key = p.1.1 }) (λ _. refl)
 
 -- a map without pairs, where it is asked for
 abbrev pub empty_if : {A : Type 0} → Bool → Option (List A)
 empty_if asked = if asked then Some [] else None
 
 -- what is asked for, before any tag
-abbrev pub nothing_noted : {B : Type 0} → Options → Tracking B
-nothing_noted asked = record { ids = empty_if asked.ids; classes = empty_if asked.classes }
+abbrev pub nothing_noted : {B : Type 0} → Options → ℕ → Tracking B
+nothing_noted asked key = record { ids = empty_if asked.ids; classes = empty_if asked.classes; key = key }
 
 -- n alone, if it is there
 abbrev pub only_if : Bool → ℕ → List ℕ

@@ -1,5 +1,6 @@
 //! How names are hashed.
 ghost use Rattle.std.specs.Prelude.{◌≡◌, ℕ, List, [], ◌∷◌, ◌++◌};
+ghost use Rattle.tl_tracking.specs.Hashing.{keyed_by};
 ghost use Rattle.tl_tracking.specs.NameKey.{number_of_names, HasNames};
 
 use md5::{Digest, Md5};
@@ -12,7 +13,9 @@ pub(crate) struct Keyed {
 }
 
 impl Keyed {
-    pub(crate) fn new(key: u64) -> Keyed {
+    pub(crate) fn new(key: u64) -> Keyed
+        ensures { result ≡ keyed_by key }
+    {
         let mut initial = FoldHasher::default();
         initial.write_u64(key);
         Keyed { initial }

@@ -1,5 +1,6 @@
 //! What is kept under one id, and under one member of classes.
 ghost use Rattle.std.specs.Prelude.{◌≡◌, true, OnOk, OnErr, IsOk, IsSome};
+ghost use Rattle.std.specs.HashMap.{hasher_of};
 ghost use Rattle.std.specs.Map.{lookup};
 ghost use Rattle.tl_tracking.specs.Tracking.{KeepsFirst, AddsMember, class_at, ends_with, with_number};
 
@@ -23,6 +24,7 @@ pub(crate) fn keep_first<B: Piece + Drop>(
 ) -> Result<(), AllocError>
     ensures ok { OnOk result (KeepsFirst B.eq id number ids.old.entries ids.new.entries) }
     ensures err { OnErr result (ids.new.entries ≡ ids.old.entries) }
+    ensures hasher { hasher_of ids.new ≡ hasher_of ids.old }
     ensures known { IsSome (lookup (B.eq id) ids.old.entries) → IsOk result }
 {
     if !ids.contains_key(&id) {
@@ -63,6 +65,7 @@ pub(crate) fn add_member<B: Piece + Drop>(
     ensures ok { OnOk result
         (AddsMember B.eq member number classes.old.entries classes.new.entries) }
     ensures err { OnErr result (classes.new.entries ≡ classes.old.entries) }
+    ensures hasher { hasher_of classes.new ≡ hasher_of classes.old }
     ensures repeated { ends_with number (class_at B.eq classes.old.entries member) ≡ true →
         IsOk result }
 {

@@ -16,12 +16,17 @@ use tl_attributes::piece::Piece;
 #[derive(Debug, Drop)]
 pub struct TrackingOf<B: Piece> {
     alloc: Global,
+    // What the maps hash by.
+    key: u64,
     ids: Option<Ids<B>>,
     classes: Option<Classes<B>>,
 }
 
 impl<B: Piece> Model for TrackingOf<B> {
-    ghost use Rattle.std.specs.Prelude.{option_map};
+    ghost use Rattle.std.specs.Prelude.{◌≡◌, option_map};
+    ghost use Rattle.std.specs.HashMap.{hasher_of};
+    ghost use Rattle.std.specs.Option.{ForSome};
+    ghost use Rattle.tl_tracking.specs.Hashing.{keyed_by};
     ghost use Rattle.tl_tracking.specs.Tracking.{Tracking, tracking_code};
 
     ghost Value = { Tracking B };
@@ -31,13 +36,17 @@ impl<B: Piece> Model for TrackingOf<B> {
     ghost view = { λ t. record {
       ids = option_map (λ m. m.entries) t.ids;
       classes = option_map (λ m. m.entries) t.classes;
+      key = t.key;
     } };
+
+    ghost invariant = { λ t. ForSome t.ids (λ m. hasher_of m ≡ keyed_by t.key)
+        × ForSome t.classes (λ m. hasher_of m ≡ keyed_by t.key) };
 }
 
 impl<B: Piece> TrackingOf<B> {
     /// Maps without tags, which answer as scans of no node do, as far as the options ask for them. They take no memory before the first tag.
     pub fn new(alloc: Global, options: ParserOptions) -> Self
-        ensures value { result ≡ nothing_noted options }
+        ensures value { result ≡ nothing_noted options 0 }
         ensures ids { TracksIds B.list B.eq result.ids [] }
         ensures classes { TracksClasses B.list B.eq result.classes [] }
     {
@@ -47,12 +56,13 @@ impl<B: Piece> TrackingOf<B> {
     /// The same, where names are hashed by a number. Whoever writes a text may not know the number before all names stand: with
     /// a number that they know they can choose names whose hashes meet, and each of these is looked for along all of them.
     pub fn keyed(alloc: Global, options: ParserOptions, key: u64) -> Self
-        ensures value { result ≡ nothing_noted options }
+        ensures value { result ≡ nothing_noted options key }
         ensures ids { TracksIds B.list B.eq result.ids [] }
         ensures classes { TracksClasses B.list B.eq result.classes [] }
     {
         TrackingOf {
             alloc,
+            key,
             ids: if options.is_tracking_ids() {
                 Some(HashMap::with_hasher(alloc, Keyed::new(key)))
             } else {
@@ -122,6 +132,7 @@ impl<B: Piece + Drop> TrackingOf<B> {
             TracksIds B.list B.eq self.new.ids (nodes ++ node ∷ [])) }
         ensures tracked { is_some self.new.ids ≡ is_some self.old.ids }
         ensures classes { self.new.classes ≡ self.old.classes }
+        ensures key { self.new.key ≡ self.old.key }
         ensures err { OnErr result (self.new ≡ self.old) }
 
         // Where ids are not tracked a note takes no memory.
@@ -148,6 +159,7 @@ impl<B: Piece + Drop> TrackingOf<B> {
             TracksMembers B.list B.eq self.new.classes nodes (noted ++ B.list member ∷ [])) }
         ensures tracked { is_some self.new.classes ≡ is_some self.old.classes }
         ensures ids { self.new.ids ≡ self.old.ids }
+        ensures key { self.new.key ≡ self.old.key }
         ensures err { OnErr result (self.new ≡ self.old) }
 
         // Where classes are not tracked a note takes no memory.

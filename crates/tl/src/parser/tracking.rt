@@ -7,7 +7,7 @@ ghost use Rattle.tl_spec.specs.Document.{Node, Tag};
 ghost use Rattle.tl_spec.specs.Scan.{id_of, class_of};
 ghost use Rattle.tl_tracking.specs.NameKey.{HasNames, number_of_names};
 ghost use Rattle.tl_tracking.specs.Tracking.{nothing_noted};
-ghost use Rattle.tl.specs.Names.{name_list, names_in, names_of};
+ghost use Rattle.tl.specs.Names.{key_of, name_list, names_in, names_of};
 ghost use Rattle.tl.specs.Shown.{shown, shown_tag};
 ghost use Rattle.tl.specs.Tracked.{AreAsked, AnswerIds, AnswerClasses, AnswerMembers};
 
@@ -32,6 +32,7 @@ fn note_parts<'a>(
         AnswerMembers tracking.new nodes (parts class.now.list)) }
     ensures ids { tracking.new.ids ≡ tracking.old.ids }
     ensures tracked { is_some tracking.new.classes ≡ is_some tracking.old.classes }
+    ensures key { tracking.new.key ≡ tracking.old.key }
 {
     let mut at = 0;
     while let Some((start, end)) = next_part(class.as_bytes(), at) {
@@ -54,6 +55,7 @@ fn note_members<'a>(
         AnswerMembers tracking.new nodes (members (Some class.now.list))) }
     ensures ids { tracking.new.ids ≡ tracking.old.ids }
     ensures tracked { is_some tracking.new.classes ≡ is_some tracking.old.classes }
+    ensures key { tracking.new.key ≡ tracking.old.key }
 {
     match str::from_utf8(class.as_bytes()) {
         Ok(_) => note_parts(alloc, tracking, class, number),
@@ -71,6 +73,7 @@ fn note_id_of<'a>(
         AnswerIds tracking.old nodes → AnswerIds tracking.new (nodes ++ shown node.now ∷ [])) }
     ensures classes { tracking.new.classes ≡ tracking.old.classes }
     ensures tracked { is_some tracking.new.ids ≡ is_some tracking.old.ids }
+    ensures key { tracking.new.key ≡ tracking.old.key }
 {
     let Node::Tag(tag) = node else {
         return Ok(());
@@ -87,6 +90,7 @@ fn note_id<'a>(tracking: &mut Tracking<'a>, node: &Node<'a>, number: u32) -> Res
         AnswerIds tracking.old nodes → AnswerIds tracking.new (nodes ++ shown node.now ∷ [])) }
     ensures classes { tracking.new.classes ≡ tracking.old.classes }
     ensures tracked { is_some tracking.new.ids ≡ is_some tracking.old.ids }
+    ensures key { tracking.new.key ≡ tracking.old.key }
 {
     if !tracking.is_tracking_ids() {
         return Ok(());
@@ -106,6 +110,7 @@ fn note_class_of<'a>(
         AnswerClasses tracking.new (nodes ++ shown node.now ∷ [])) }
     ensures ids { tracking.new.ids ≡ tracking.old.ids }
     ensures tracked { is_some tracking.new.classes ≡ is_some tracking.old.classes }
+    ensures key { tracking.new.key ≡ tracking.old.key }
 {
     let Node::Tag(tag) = node else {
         return Ok(());
@@ -128,6 +133,7 @@ fn note_class<'a>(
         AnswerClasses tracking.new (nodes ++ shown node.now ∷ [])) }
     ensures ids { tracking.new.ids ≡ tracking.old.ids }
     ensures tracked { is_some tracking.new.classes ≡ is_some tracking.old.classes }
+    ensures key { tracking.new.key ≡ tracking.old.key }
 {
     if !tracking.is_tracking_classes() {
         return Ok(());
@@ -173,7 +179,7 @@ fn key_of_names(nodes: &[Node<'_>], options: ParserOptions) -> u64
 
 // Maps without tags, whose names are hashed by a number that depends on all of them.
 fn nothing_tracked<'a>(alloc: Global, nodes: &[Node<'a>], options: ParserOptions) -> Tracking<'a>
-    ensures value { result ≡ nothing_noted options }
+    ensures value { result ≡ nothing_noted options (key_of options (map shown nodes.now)) }
     ensures ids { AnswerIds result [] }
     ensures classes { AnswerClasses result [] }
 {
@@ -193,6 +199,7 @@ fn tracked<'a>(
     ensures asked { IfOk result (AreAsked options) }
     ensures ids { IfOk result (λ t. AnswerIds t (map shown nodes.now)) }
     ensures classes { IfOk result (λ t. AnswerClasses t (map shown nodes.now)) }
+    ensures key { IfOk result (λ t. t.key ≡ key_of options (map shown nodes.now)) }
     ensures empty { nodes.now ≡ [] → IsOk result }
 {
     let mut tracking = nothing_tracked(alloc, nodes, options);
@@ -214,6 +221,8 @@ impl<'a> Parser<'a> {
         ensures asked { OnOk result (AreAsked options self.new.tracking) }
         ensures ids { OnOk result (AnswerIds self.new.tracking (map shown self.old.nodes)) }
         ensures classes { OnOk result (AnswerClasses self.new.tracking (map shown self.old.nodes)) }
+        ensures key { OnOk result (self.new.tracking.key
+            ≡ key_of options (map shown self.old.nodes)) }
         ensures empty { self.old.nodes ≡ [] → IsOk result }
     {
         let tracking = tracked(alloc, self.nodes(), options)?;

@@ -15,6 +15,9 @@ returns-in-Some-clause-err g c =
     on_err c.add_last.result c.add_last.ensures.err
     (λ e. (c.get_mut.follows.holds c.add_last.new.numbers).0 ∙ set_value_same (g.B.PartialEq.eq c.args.member) c.args.classes.now.entries c.add_last.new.numbers (sym c.in-Some.ensures.value ∙ ap Some (sym e)))
 
+pub returns-in-Some-clause-hasher : goal.returns-in-Some-clause-hasher
+returns-in-Some-clause-hasher g c = (c.get_mut.follows.holds c.add_last.new.numbers).5
+
 pub returns-in_ok-insert-in-None-clause-ok : goal.returns-in_ok-insert-in-None-clause-ok
 returns-in_ok-insert-in-None-clause-ok g c =
     let eq = g.B.PartialEq.eq in

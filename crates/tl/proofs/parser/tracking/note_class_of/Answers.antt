@@ -16,6 +16,7 @@ returns-in_default c =
       classes = λ nodes e h. classes-noted t t nodes (shown c.args.node.now) (λ m. subst (λ class. AnswerMembers t nodes (members class)) (sym (no-class c.args.node.now c.in_default.not-Tag)) m) h;
       ids = refl;
       tracked = refl;
+      key = refl;
     }
 
 pub returns-in_default-class-clause-classes : goal.returns-in_default-class-clause-classes

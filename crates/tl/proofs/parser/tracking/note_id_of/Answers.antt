@@ -11,6 +11,7 @@ returns-in_default c = record {
   ids = λ nodes e h. ids-without c.args.tracking.now nodes (shown c.args.node.now) (no-id c.args.node.now c.in_default.not-Tag) h;
   classes = refl;
   tracked = refl;
+  key = refl;
 }
 
 pub returns-in_default-id-clause-ids : goal.returns-in_default-id-clause-ids

@@ -24,4 +24,5 @@ loop-start-preserved c =
       );
       ids = c.note_class.ensures.ids ∙ old.ids;
       tracked = c.note_class.ensures.tracked ∙ old.tracked;
+      key = c.note_class.ensures.key ∙ old.key;
     }

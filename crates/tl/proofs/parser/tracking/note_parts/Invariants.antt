@@ -10,6 +10,7 @@ invariant-loop-start l = record {
   noted : (done : List (List ℕ)) × (done ++ parts (drop l.at l.fn.class.list) ≡ parts l.fn.class.list) × ((nodes : List Node) → l.number ≡ length nodes → AnswerMembers l.initial.tracking nodes [] → AnswerMembers l.tracking nodes done);
   ids : l.tracking.ids ≡ l.initial.tracking.ids;
   tracked : is_some l.tracking.classes ≡ is_some l.initial.tracking.classes;
+  key : l.tracking.key ≡ l.initial.tracking.key;
 }
 
 abbrev pub decreases-loop-start : goal.decreases-loop-start

@@ -2,14 +2,15 @@ use Rattle.std.proofs.Common.{◌≡◌, ◌+◌, [], ◌∷◌, ◌++◌, lengt
 use Rattle.std.proofs.lemmas.List.{map-append, length-map, length-take-le, take_more, take_all}
 use Rattle.tl_bytes.specs.Held.{Kept}
 use Rattle.tl_bytes.specs.Keys.{same_list}
-use Rattle.tl_tracking.specs.Tracking.{TracksIds, TracksClasses}
+use Rattle.tl_tracking.specs.Tracking.{Tracking, TracksIds, TracksClasses}
+use Rattle.tl.specs.Names.{key_of}
 use Rattle.tl.specs.Shown.{shown}
 use Rattle.tl.specs.Tracked.{AnswerIds, AnswerClasses}
 use Rattle.tl.proofs.Tracked.{asked-first}
 use Rattle.tl.proofs.parser.tracking.tracked.Goals as goal
 
 pub loop-number-init : goal.loop-number-init
-loop-number-init c = record { asked = asked-first c.args.options c.nothing_tracked-tracking.result c.nothing_tracked-tracking.ensures.value; ids = c.nothing_tracked-tracking.ensures.ids; classes = c.nothing_tracked-tracking.ensures.classes }
+loop-number-init c = record { asked = asked-first c.args.options (key_of c.args.options (map shown c.args.nodes.now)) c.nothing_tracked-tracking.result c.nothing_tracked-tracking.ensures.value; ids = c.nothing_tracked-tracking.ensures.ids; classes = c.nothing_tracked-tracking.ensures.classes; key = ap (λ (t : Tracking Kept). t.key) c.nothing_tracked-tracking.ensures.value }
 
 pub loop-number-preserved : goal.loop-number-preserved
 loop-number-preserved c =
@@ -28,6 +29,7 @@ loop-number-preserved c =
       asked = record { ids = ap is_some c.note_class.ensures.ids ∙ c.note_id.ensures.tracked ∙ old.asked.ids; classes = c.note_class.ensures.tracked ∙ ap is_some c.note_id.ensures.classes ∙ old.asked.classes };
       ids = subst (λ nodes. AnswerIds c.note_class.new.tracking nodes) (sym more) (subst (λ m. TracksIds (λ (b : Kept). b.list) same_list m (before ++ shown node ∷ [])) (sym c.note_class.ensures.ids) ids);
       classes = subst (λ nodes. AnswerClasses c.note_class.new.tracking nodes) (sym more) classes;
+      key = c.note_class.ensures.key ∙ c.note_id.ensures.key ∙ old.key;
     }
 
 pub returns-clause-asked : goal.returns-clause-asked

@@ -1,4 +1,5 @@
-use Rattle.std.proofs.Common.{map, take}
+use Rattle.std.proofs.Common.{◌≡◌, map, take}
+use Rattle.tl.specs.Names.{key_of}
 use Rattle.tl.specs.Shown.{shown}
 use Rattle.tl.specs.Tracked.{AreAsked, AnswerIds, AnswerClasses}
 use Rattle.tl.proofs.parser.tracking.tracked.Given as goal
@@ -8,4 +9,5 @@ invariant-loop-number l = record {
   asked : AreAsked l.fn.options l.tracking;
   ids : AnswerIds l.tracking (map shown (take l.number l.nodes));
   classes : AnswerClasses l.tracking (map shown (take l.number l.nodes));
+  key : l.tracking.key ≡ key_of l.fn.options (map shown l.nodes);
 }
