@@ -1,0 +1,6 @@
+pub mod Field
+pub mod Links
+pub mod Outline
+pub mod Split
+pub mod Readable
+pub mod Flow

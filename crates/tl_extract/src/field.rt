@@ -1,0 +1,104 @@
+//! What is asked of a node.
+ghost use Rattle.std.specs.Prelude.{◌≡◌, IfOk, ℕ, List, None, Ok, Option, Result, Some, map, option_map, string_bytes};
+ghost use Rattle.std.specs.Option.{option_flatten};
+ghost use Rattle.std.specs.Str.Lossy.{utf8_lossy};
+ghost use Rattle.tl_spec.specs.Element.{attribute_of};
+ghost use Rattle.tl_spec.specs.Walk.{TreeFault};
+ghost use Rattle.tl_table.specs.Answer.{Answers};
+ghost use Rattle.tl.specs.Shown.{shown};
+ghost use Rattle.tl_page.specs.Outcome.{Gives, outcome_map, outcome_of, success};
+ghost use Rattle.tl_extract.specs.Field.{field_at, field_of};
+
+use crate::lossy::add_lossy;
+use std::alloc::{AllocError, Global};
+use tl::errors::TreeError;
+use tl::{Element, Node, NodeHandle, Parser};
+use tl_page::Failure;
+
+/// What is asked of a node where a selector holds.
+#[derive(Clone, Copy, PartialEq, Eq, Debug)]
+pub enum Field<'k> {
+    /// Its number.
+    Number,
+    /// Its markup.
+    OuterHtml,
+    /// The markup of what is inside; of a text or a comment its own.
+    InnerHtml,
+    /// The texts at or below it.
+    InnerText,
+    /// Its value at a key, where it has one.
+    Attribute(&'k str),
+}
+
+// Bytes as text.
+fn text_of(alloc: Global, bytes: &[u8]) -> Result<String, AllocError>
+    ensures { IfOk result (λ text. string_bytes text ≡ utf8_lossy bytes.now) }
+{
+    let mut text = String::new(alloc);
+    add_lossy(&mut text, bytes)?;
+    Ok(text)
+}
+
+// The value of a node at a key as text.
+fn value(alloc: Global, node: &Node<'_>, key: &str) -> Result<Option<String>, AllocError>
+    ensures value { let value = option_flatten (attribute_of key.now (shown node.now)) in
+        IfOk result (λ text. option_map string_bytes text ≡ option_map utf8_lossy value) }
+    ensures none { option_flatten (attribute_of key.now (shown node.now)) ≡ None
+        → result ≡ Ok None }
+{
+    match node.attribute(key.as_bytes()) {
+        Some(Some(value)) => Ok(Some(text_of(alloc, value)?)),
+        _ => Ok(None),
+    }
+}
+
+// A text that was read.
+#[tactic(auto, using(tl_page::proofs::Outcomes::readings))]
+fn reading(reading: Result<String, TreeError>) -> Result<Option<String>, Failure>
+    ensures { (of : Result (List ℕ) TreeFault) → Answers string_bytes of reading
+        → Gives (option_map string_bytes) (outcome_map (λ text. Some text) (outcome_of of)) result }
+{
+    Ok(Some(reading?))
+}
+
+// The field of a node; none where it has no such value.
+fn field_of<'a>(
+    alloc: Global,
+    parser: &Parser<'a>,
+    handle: NodeHandle,
+    node: &Node<'a>,
+    field: &Field<'_>,
+) -> Result<Option<String>, Failure>
+    ensures gives { let nodes = map shown parser.now.nodes in
+        Gives (option_map string_bytes) (field_of field.now nodes handle (shown node.now)) result }
+    ensures none { field_of field.now (map shown parser.now.nodes) handle (shown node.now)
+        ≡ success None → result ≡ Ok None }
+{
+    match field {
+        Field::Number => Ok(Some(handle.get_inner().to_string(alloc)?)),
+        Field::OuterHtml => reading(node.outer_html(alloc, parser)),
+        Field::InnerHtml => reading(node.inner_html(alloc, parser)),
+        Field::InnerText => reading(node.inner_text(alloc, parser)),
+        Field::Attribute(key) => Ok(value(alloc, node, key)?),
+    }
+}
+
+/// The field of the node of a handle; none past the table.
+pub(crate) fn field_at(
+    alloc: Global,
+    parser: &Parser<'_>,
+    handle: NodeHandle,
+    field: &Field<'_>,
+) -> Result<Option<String>, Failure>
+    ensures gives { Gives (option_map string_bytes)
+        (field_at field.now (map shown parser.now.nodes) handle) result }
+
+    // Where there is none it takes no memory.
+    ensures none { field_at field.now (map shown parser.now.nodes) handle ≡ success None
+        → result ≡ Ok None }
+{
+    match handle.get(parser) {
+        Some(node) => field_of(alloc, parser, handle, node, field),
+        None => Ok(None),
+    }
+}

@@ -1,0 +1,20 @@
+//! What is asked of a document: how many nodes there are where a selector holds, their fields, the
+//! links, the outline, and the text line by line.
+#![tactic(auto)]
+
+mod field;
+mod lines;
+mod link;
+mod listing;
+mod lossy;
+mod number;
+mod selection;
+mod split;
+mod text;
+
+pub use field::Field;
+pub use link::links;
+pub use listing::outline;
+pub use number::count;
+pub use selection::{Selection, first, select};
+pub use text::readable;
