@@ -105,7 +105,7 @@ fn enter(walk: &mut Walk<'_, '_>, text: &mut Vec<u8>, name: &[u8]) -> Result<(),
         ≡ after_name name.now (remaining_of walk.old)) }
 {
     if is_hidden(name) {
-        walk.skip();
+        walk.skip_subtree();
         return Ok(());
     }
     add_edge(text, name)

@@ -50,7 +50,7 @@ impl<'s, 'a> Walk<'s, 'a> {
 
     /// Passes over what is left inside the tag that the walk is in, which it leaves next; outside of
     /// all tags it ends.
-    pub fn skip(&mut self)
+    pub fn skip_subtree(&mut self)
         ensures { self.new ≡ record self.old { next = [] } }
     {
         self.walker.skip();
