@@ -1,0 +1,111 @@
+//! Walks over documents, event by event.
+use std::alloc::{AllocError, Global};
+use tl::errors::TreeError;
+use tl::{Node, NodeHandle, ParserOptions, Walk, WalkEvent};
+use tl_page::{Failure, read};
+
+// The letters of events: `(` and `)` for a tag, its first letter between, and texts as they stand.
+fn write_event(out: &mut String, event: WalkEvent<'_, '_>) -> Result<(), AllocError> {
+    match event {
+        WalkEvent::Meets(_, Node::Tag(tag)) => {
+            out.push('(')?;
+            out.push_str(tag.name().try_as_utf8_str().unwrap_or("?"))
+        }
+        WalkEvent::Meets(_, Node::Raw(bytes)) => {
+            out.push_str(bytes.try_as_utf8_str().unwrap_or("?"))
+        }
+        WalkEvent::Meets(_, Node::Comment(_)) => out.push('!'),
+        WalkEvent::Leaves(_) => out.push(')'),
+    }
+}
+
+// Whether a tag of this name is met.
+fn meets(event: WalkEvent<'_, '_>, name: &[u8]) -> bool {
+    match event {
+        WalkEvent::Meets(_, Node::Tag(tag)) => tag.name().as_bytes() == name,
+        _ => false,
+    }
+}
+
+// The letters of a walk that passes over what is inside the tags of a name.
+fn letters(alloc: Global, mut walk: Walk<'_, '_>, skips: &[u8]) -> Result<String, TreeError> {
+    let mut out = String::new(alloc);
+    while let Some(event) = walk.next() {
+        let event = event?;
+        write_event(&mut out, event)?;
+        if meets(event, skips) {
+            Walk::skip(&mut walk);
+        }
+    }
+    Ok(out)
+}
+
+#[rattlefmt::skip]
+static WALKS: [(&str, &[u8], &str); 6] = [
+    ("", b"", ""),
+    ("a<!--x-->b", b"", "a!b"),
+    ("<p>a<b>c</b>d</p>e", b"", "(pa(bc)d)e"),
+    ("<p>a<b>c</b>d</p>e", b"b", "(pa(b)d)e"),
+    ("<p>a<b>c</b>d</p>e", b"p", "(p)e"),
+    ("<br><p></p>", b"br", "(br)(p)"),
+];
+
+// Whether a walk over a page has these letters.
+fn walks(alloc: Global, page: &str, skips: &[u8], expected: &str) -> Result<bool, Failure> {
+    let document = read(alloc, page.as_bytes(), ParserOptions::new())?;
+    let said = letters(alloc, document.walk(alloc), skips)?;
+    Ok(said.as_str() == expected)
+}
+
+#[test]
+fn walks_meet_and_leave(rt: HostRuntime) {
+    for row in &WALKS {
+        assert!(rt; walks(rt.alloc(), row.0, row.1, row.2) == Ok(true));
+    }
+}
+
+// Whether a walk below the first node of a page has these letters.
+fn walks_below(alloc: Global, page: &str, expected: &str) -> Result<bool, Failure> {
+    let document = read(alloc, page.as_bytes(), ParserOptions::new())?;
+    let Some(node) = document.nodes().first() else {
+        return Ok(false);
+    };
+    let said = letters(alloc, node.walk(alloc, document.parser()), b"")?;
+    Ok(said.as_str() == expected)
+}
+
+#[test]
+fn walks_below_a_node_meet_what_hangs_there(rt: HostRuntime) {
+    assert!(rt; walks_below(rt.alloc(), "<p>a<b>c</b></p>d", "a(bc)") == Ok(true));
+    assert!(rt; walks_below(rt.alloc(), "a<b>c</b>", "") == Ok(true));
+}
+
+// How a walk over a document ends whose first top handle is this one.
+fn fault(alloc: Global, handle: u32) -> Result<Option<TreeError>, Failure> {
+    let mut document = read(alloc, b"<p>a</p>", ParserOptions::new())?;
+    if let Some(top) = document.children_mut().first_mut() {
+        *top = NodeHandle::new(handle);
+    }
+    Ok(last_error(document.walk(alloc)))
+}
+
+// The error of a walk, if it has one with nothing after it.
+fn last_error(mut walk: Walk<'_, '_>) -> Option<TreeError> {
+    while let Some(event) = walk.next() {
+        if let Err(error) = event {
+            return if walk.next().is_none() {
+                Some(error)
+            } else {
+                None
+            };
+        }
+    }
+    None
+}
+
+#[test]
+fn nothing_comes_after_a_fault(rt: HostRuntime) {
+    let dangling = TreeError::Dangling(NodeHandle::new(7));
+    assert!(rt; fault(rt.alloc(), 7) == Ok(Some(dangling)));
+    assert!(rt; fault(rt.alloc(), 1) == Ok(None));
+}
