@@ -34,7 +34,7 @@ fn letters(alloc: Global, mut walk: Walk<'_, '_>, skips: &[u8]) -> Result<String
         let event = event?;
         write_event(&mut out, event)?;
         if meets(event, skips) {
-            Walk::skip(&mut walk);
+            Walk::skip_subtree(&mut walk);
         }
     }
     Ok(out)
