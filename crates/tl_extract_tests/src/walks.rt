@@ -4,6 +4,9 @@ use tl::errors::TreeError;
 use tl::{Node, NodeHandle, ParserOptions, Walk, WalkEvent};
 use tl_page::{Failure, read};
 
+// More events than any of these walks has.
+const MOST_EVENTS: usize = 100;
+
 // The letters of events: `(` and `)` for a tag, its first letter between, and texts as they stand.
 fn write_event(out: &mut String, event: WalkEvent<'_, '_>) -> Result<(), AllocError> {
     match event {
@@ -30,11 +33,14 @@ fn meets(event: WalkEvent<'_, '_>, name: &[u8]) -> bool {
 // The letters of a walk that passes over what is inside the tags of a name.
 fn letters(alloc: Global, mut walk: Walk<'_, '_>, skips: &[u8]) -> Result<String, TreeError> {
     let mut out = String::new(alloc);
-    while let Some(event) = walk.next() {
+    for _ in 0..MOST_EVENTS {
+        let Some(event) = walk.next() else {
+            break;
+        };
         let event = event?;
         write_event(&mut out, event)?;
         if meets(event, skips) {
-            Walk::skip_subtree(&mut walk);
+            walk.skip_subtree();
         }
     }
     Ok(out)
@@ -91,8 +97,8 @@ fn fault(alloc: Global, handle: u32) -> Result<Option<TreeError>, Failure> {
 
 // The error of a walk, if it has one with nothing after it.
 fn last_error(mut walk: Walk<'_, '_>) -> Option<TreeError> {
-    while let Some(event) = walk.next() {
-        if let Err(error) = event {
+    for _ in 0..MOST_EVENTS {
+        if let Err(error) = walk.next()? {
             return if walk.next().is_none() {
                 Some(error)
             } else {
