@@ -61,8 +61,7 @@ fn key_at(map: &Map, place: usize) -> Option<u16> {
 #[test]
 fn no_pair_is_lost_as_digests_come(rt: HostRuntime) {
     let mut map = InlineHashMap::new(rt.alloc());
-    for end in [1024, 1025, 3000] {
-        let first = map.len() as u16;
+    for (first, end) in [(0, 1024), (1024, 1025), (1025, 3000)] {
         assert!(rt;
             insert_row(&mut map, first, end) && holds_row(&map, end) && clone_holds_row(&map, end),
             "{end} pairs"
