@@ -10,45 +10,40 @@ static PAGE: &str =
 struct Selected {
     selector: &'static str,
     field: Field<'static>,
-    texts: &'static [&'static str],
+    // each with a line feed
+    texts: &'static str,
 }
 
 #[rattlefmt::skip]
 static SELECTED: [Selected; 12] = [
-    Selected { selector: "p", field: Field::Number, texts: &["0", "5"] },
-    Selected { selector: "b", field: Field::OuterHtml, texts: &["<b>y</b>"] },
-    Selected { selector: "p", field: Field::InnerHtml, texts: &["x<b>y</b>", "z<img src=\"i.png\" srcset=\"j.png 2x\"><a href=\"/q\"></a>"] },
-    Selected { selector: "p", field: Field::InnerText, texts: &["xy", "z"] },
-    Selected { selector: "p", field: Field::Attribute("id"), texts: &["a"] },
-    Selected { selector: "img", field: Field::Attribute("srcset"), texts: &["j.png 2x"] },
-    Selected { selector: "p", field: Field::Attribute("href"), texts: &[] },
-    Selected { selector: "i", field: Field::Number, texts: &[] },
-    Selected { selector: "i", field: Field::OuterHtml, texts: &[] },
-    Selected { selector: "#a > b", field: Field::InnerText, texts: &["y"] },
-    Selected { selector: "p, b", field: Field::Number, texts: &["0", "2", "5"] },
-    Selected { selector: "b", field: Field::InnerText, texts: &["y"] },
+    Selected { selector: "p", field: Field::Number, texts: "0\n5\n" },
+    Selected { selector: "b", field: Field::OuterHtml, texts: "<b>y</b>\n" },
+    Selected { selector: "p", field: Field::InnerHtml, texts: "x<b>y</b>\nz<img src=\"i.png\" srcset=\"j.png 2x\"><a href=\"/q\"></a>\n" },
+    Selected { selector: "p", field: Field::InnerText, texts: "xy\nz\n" },
+    Selected { selector: "p", field: Field::Attribute("id"), texts: "a\n" },
+    Selected { selector: "img", field: Field::Attribute("srcset"), texts: "j.png 2x\n" },
+    Selected { selector: "p", field: Field::Attribute("href"), texts: "" },
+    Selected { selector: "i", field: Field::Number, texts: "" },
+    Selected { selector: "i", field: Field::OuterHtml, texts: "" },
+    Selected { selector: "#a > b", field: Field::InnerText, texts: "y\n" },
+    Selected { selector: "p, b", field: Field::Number, texts: "0\n2\n5\n" },
+    Selected { selector: "b", field: Field::InnerText, texts: "y\n" },
 ];
 
 // Whether a selection is these texts.
-fn selects(alloc: Global, document: &VDom<'_>, row: &Selected) -> Result<bool, Failure> {
-    let mut left = row.texts;
+fn selects<'d>(alloc: Global, document: &'d VDom<'_>, row: &'d Selected) -> Result<bool, Failure> {
+    let mut found = String::new(alloc);
     for text in select(alloc, document, row.selector, row.field)? {
-        let text = text?;
-        let Some((next, later)) = left.split_first() else {
-            return Ok(false);
-        };
-        if text.as_str() != *next {
-            return Ok(false);
-        }
-        left = later;
+        found.push_str(text?.as_str())?;
+        found.push('\n')?;
     }
-    Ok(left.is_empty())
+    Ok(found.as_str() == row.texts)
 }
 
 // Whether the first node has the first of these texts.
 fn picks_first(alloc: Global, document: &VDom<'_>, row: &Selected) -> Result<bool, Failure> {
     match first(alloc, document, row.selector, &row.field)? {
-        Some(text) => Ok(row.texts.first() == Some(&text.as_str())),
+        Some(text) => Ok(row.texts.starts_with(text.as_str())),
         None => Ok(row.texts.is_empty()),
     }
 }
@@ -93,7 +88,7 @@ fn nodes_are_counted(rt: HostRuntime) {
 static NO_SELECTORS: [&str; 6] = ["", ",a", "a,", "a >", "[a=", "a b,"];
 
 // Whether a text is refused as a selector, whatever is asked.
-fn is_refused(alloc: Global, document: &VDom<'_>, selector: &str) -> bool {
+fn is_refused<'d>(alloc: Global, document: &'d VDom<'_>, selector: &'d str) -> bool {
     count(alloc, document, selector) == Err(Failure::Refused)
         && first(alloc, document, selector, &Field::Number) == Err(Failure::Refused)
         && select(alloc, document, selector, Field::Number).is_err()
@@ -117,32 +112,29 @@ fn texts_that_are_no_selector_are_refused(rt: HostRuntime) {
 
 struct Linked {
     page: &'static str,
-    links: &'static [&'static [u8]],
+    // each with a line feed
+    links: &'static [u8],
 }
 
 #[rattlefmt::skip]
 static LINKED: [Linked; 5] = [
-    Linked { page: "", links: &[] },
-    Linked { page: "<p>a</p>", links: &[] },
-    Linked { page: "<a href>x</a><a href=\"\">y</a>", links: &[b""] },
-    Linked { page: "<img srcset=\"c\" src=\"b\"><a href=\"d\"></a>", links: &[b"b", b"c", b"d"] },
-    Linked { page: "<video poster=\"p\"></video><form action=\"f\"></form>", links: &[b"p", b"f"] },
+    Linked { page: "", links: b"" },
+    Linked { page: "<p>a</p>", links: b"" },
+    Linked { page: "<a href>x</a><a href=\"\">y</a>", links: b"\n" },
+    Linked { page: "<img srcset=\"c\" src=\"b\"><a href=\"d\"></a>", links: b"b\nc\nd\n" },
+    Linked { page: "<video poster=\"p\"></video><form action=\"f\"></form>", links: b"p\nf\n" },
 ];
 
 // Whether a page has these links.
 fn has_links(alloc: Global, row: &Linked) -> Result<bool, Failure> {
     let document = read(alloc, row.page.as_bytes(), ParserOptions::new())?;
-    let mut left = row.links;
-    for link in &links(alloc, &document)? {
-        let Some((next, later)) = left.split_first() else {
-            return Ok(false);
-        };
-        if *link != *next {
-            return Ok(false);
-        }
-        left = later;
+    let list = links(alloc, &document)?;
+    let mut found: Vec<u8> = Vec::new(alloc);
+    for link in list.iter() {
+        found.extend_from_slice(link)?;
+        found.push(b'\n')?;
     }
-    Ok(left.is_empty())
+    Ok(found.as_slice() == row.links)
 }
 
 #[test]

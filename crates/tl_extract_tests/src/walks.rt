@@ -7,12 +7,22 @@ use tl_page::{Failure, read};
 // More events than any of these walks has.
 const MOST_EVENTS: usize = 100;
 
-// The letters of events: `(` and `)` for a tag, its first letter between, and texts as they stand.
-fn write_event(out: &mut String, event: WalkEvent<'_, '_>) -> Result<(), AllocError> {
+// Writes an event: `(` and the name for a tag that is met, `)` for one that is left, texts as they stand, and `!` for a
+// comment; and passes over what is inside the tags of a name.
+fn write_event(
+    walk: &mut Walk<'_, '_>,
+    out: &mut String,
+    event: WalkEvent<'_, '_>,
+    skips: &[u8],
+) -> Result<(), AllocError> {
     match event {
         WalkEvent::Meets(_, Node::Tag(tag)) => {
             out.push('(')?;
-            out.push_str(tag.name().try_as_utf8_str().unwrap_or("?"))
+            out.push_str(tag.name().try_as_utf8_str().unwrap_or("?"))?;
+            if tag.name().as_bytes() == skips {
+                walk.skip_subtree();
+            }
+            Ok(())
         }
         WalkEvent::Meets(_, Node::Raw(bytes)) => {
             out.push_str(bytes.try_as_utf8_str().unwrap_or("?"))
@@ -22,28 +32,16 @@ fn write_event(out: &mut String, event: WalkEvent<'_, '_>) -> Result<(), AllocEr
     }
 }
 
-// Whether a tag of this name is met.
-fn meets(event: WalkEvent<'_, '_>, name: &[u8]) -> bool {
-    match event {
-        WalkEvent::Meets(_, Node::Tag(tag)) => tag.name().as_bytes() == name,
-        _ => false,
-    }
-}
-
-// The letters of a walk that passes over what is inside the tags of a name.
-fn letters(alloc: Global, mut walk: Walk<'_, '_>, skips: &[u8]) -> Result<String, TreeError> {
-    let mut out = String::new(alloc);
+// Writes the events of a walk.
+fn write_events(walk: &mut Walk<'_, '_>, out: &mut String, skips: &[u8]) -> Result<(), TreeError> {
     for _ in 0..MOST_EVENTS {
-        let Some(event) = walk.next() else {
-            break;
-        };
-        let event = event?;
-        write_event(&mut out, event)?;
-        if meets(event, skips) {
-            walk.skip_subtree();
+        match walk.next() {
+            Some(Ok(event)) => write_event(walk, out, event, skips)?,
+            Some(Err(error)) => return Err(error),
+            None => return Ok(()),
         }
     }
-    Ok(out)
+    Ok(())
 }
 
 #[rattlefmt::skip]
@@ -59,8 +57,9 @@ static WALKS: [(&str, &[u8], &str); 6] = [
 // Whether a walk over a page has these letters.
 fn walks(alloc: Global, page: &str, skips: &[u8], expected: &str) -> Result<bool, Failure> {
     let document = read(alloc, page.as_bytes(), ParserOptions::new())?;
-    let said = letters(alloc, document.walk(alloc), skips)?;
-    Ok(said.as_str() == expected)
+    let mut out = String::new(alloc);
+    write_events(&mut document.walk(alloc), &mut out, skips)?;
+    Ok(out.as_str() == expected)
 }
 
 #[test]
@@ -76,8 +75,9 @@ fn walks_below(alloc: Global, page: &str, expected: &str) -> Result<bool, Failur
     let Some(node) = document.nodes().first() else {
         return Ok(false);
     };
-    let said = letters(alloc, node.walk(alloc, document.parser()), b"")?;
-    Ok(said.as_str() == expected)
+    let mut out = String::new(alloc);
+    write_events(&mut node.walk(alloc, document.parser()), &mut out, b"")?;
+    Ok(out.as_str() == expected)
 }
 
 #[test]
@@ -92,18 +92,20 @@ fn fault(alloc: Global, handle: u32) -> Result<Option<TreeError>, Failure> {
     if let Some(top) = document.children_mut().first_mut() {
         *top = NodeHandle::new(handle);
     }
-    Ok(last_error(document.walk(alloc)))
+    Ok(last_error(&mut document.walk(alloc)))
 }
 
 // The error of a walk, if it has one with nothing after it.
-fn last_error(mut walk: Walk<'_, '_>) -> Option<TreeError> {
+fn last_error(walk: &mut Walk<'_, '_>) -> Option<TreeError> {
     for _ in 0..MOST_EVENTS {
-        if let Err(error) = walk.next()? {
-            return if walk.next().is_none() {
+        match walk.next() {
+            Some(Ok(_)) => {}
+            Some(Err(error)) => return if walk.next().is_none() {
                 Some(error)
             } else {
                 None
-            };
+            },
+            None => return None,
         }
     }
     None
