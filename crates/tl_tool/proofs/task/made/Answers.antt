@@ -29,7 +29,7 @@ returns-in-Links c =
 
 pub returns-in-Run : goal.returns-in-Run
 returns-in-Run c =
-    let command = c.in-Run.command.now in
+    let command = c.in-Run.command in
     let output = c.output.ensures.outcome in
     let by_reader = subst (λ (s : Option Selector). Gives (command_output command s c.args.page.now) c.output.result) (IsSelectorOf-only (asked_of command) output.0 output.1) output.2 in
     subst (λ task. GivesBytes (made_of task c.args.end.now c.args.page.now) c.bytes_of-in-Run.result) (sym c.in-Run.is) (c.bytes_of-in-Run.ensures _ by_reader)
