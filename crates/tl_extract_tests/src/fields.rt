@@ -132,7 +132,7 @@ fn has_links(alloc: Global, row: &Linked) -> Result<bool, Failure> {
     let mut found: Vec<u8> = Vec::new(alloc);
     for link in list.iter() {
         found.extend_from_slice(link)?;
-        found.push(b'\n')?;
+        found.extend_from_slice(b"\n")?;
     }
     Ok(found.as_slice() == row.links)
 }
