@@ -29,11 +29,11 @@ fn show_new(answer: Result<QuerySelectorIterator<'_, '_>, TreeError>, out: &mut 
 }
 
 // Reads a selector, and then asks a document or a tag.
-fn ask<'a, Q: QueryIterable<'a>>(
+fn ask<'a, 'b, Q: QueryIterable<'a>>(
     alloc: Global,
-    parser: &Parser<'a>,
+    parser: &'b Parser<'a>,
     collection: &Q,
-    selector: &str,
+    selector: &'b str,
     out: &mut String,
 ) -> bool {
     match parse_query_selector(alloc, selector) {
@@ -76,11 +76,11 @@ fn query_tag(
 }
 
 // The same, by a selector that was read before.
-fn ask_tag(
+fn ask_tag<'d>(
     alloc: Global,
-    document: &VDom<'_>,
+    document: &'d VDom<'_>,
     number: u32,
-    selector: &str,
+    selector: &'d str,
     out: &mut String,
 ) -> bool {
     let parser = document.parser();
