@@ -29,7 +29,7 @@ impl<'t> Model for ClassIter<'t> {
 
 // How many bytes at the front are not white space.
 #[inline(always)]
-fn part_len(bytes: &[u8]) -> usize
+pub(crate) fn part_len(bytes: &[u8]) -> usize
     ensures place { result ≡ prefix_len (λ b. not (is_ascii_whitespace b)) bytes.now }
     ensures within { result ≤ length bytes.now }
 {
