@@ -1,6 +1,6 @@
 -- The parts of a class value, from the front.
-use Rattle.std.proofs.Common.{◌≡◌, ℕ, zero, suc, ◌+◌, ◌<◌, ◌≤◌, Bool, true, false, not, List, [], ◌∷◌, length, take, drop, slice_range, slice_index, nat_eq, nat_le, ◌&&◌, ◌||◌, ◌⊎◌, inl, inr, Option, Some, None, option_map, subst, refl, sym, ◌∙◌, ap, arith, cond, filter, unwrap_or}
-use Rattle.std.proofs.lemmas.Bool.{and_parts, or_cases, eqb-true, leb-true}
+use Rattle.std.proofs.Common.{◌≡◌, ℕ, zero, suc, ◌+◌, ◌<◌, ◌≤◌, Bool, true, false, not, List, [], ◌∷◌, length, take, drop, slice_range, slice_index, nat_le, ◌&&◌, ◌||◌, ◌⊎◌, inl, inr, Option, Some, None, option_map, subst, refl, sym, ◌∙◌, ap, arith, cond, filter, unwrap_or}
+use Rattle.std.proofs.lemmas.Bool.{and_parts, or_cases, leb-true}
 use Rattle.std.proofs.lemmas.List.{drop-drop}
 use Rattle.std.proofs.lemmas.Str.{is_utf8-from_IsUtf8, IsUtf8-from_is_utf8}
 use Rattle.std.specs.List.{list_any, prefix_len, slice_split, onto_first}
@@ -109,6 +109,26 @@ part_at bs at n e h g =
     ∙ ap (λ rest. take n (drop at bs) ∷ parts rest) (drop-drop n at bs)
     ∙ ap (λ m. take m (drop at bs) ∷ parts (drop (at + n) bs)) (omega arith)
 
+-- where no part begins at the front, none is lost with the first byte
+past_one : (bs : List ℕ) → prefix_len in_part bs ≡ 0 → parts bs ≡ parts (drop 1 bs)
+past_one [] h = refl
+past_one (b ∷ bs) h = sym (later_parts (b ∷ bs) h)
+
+-- the byte after a run from a place is in no part
+past_run : (bs : List ℕ) (at n : ℕ) → n ≡ prefix_len in_part (drop at bs) → parts (drop (at + n) bs) ≡ parts (drop (at + n + 1) bs)
+past_run bs at n e =
+    past_one (drop (at + n) bs) (ap (prefix_len in_part) (sym (drop-drop n at bs) ∙ ap (λ m. drop m (drop at bs)) e) ∙ no_more in_part (drop at bs))
+    ∙ ap parts (drop-drop 1 (at + n) bs)
+
+-- a run from a place is the first part from there on
+pub run_at : (bs : List ℕ) (at n : ℕ) → n ≡ prefix_len in_part (drop at bs) → n ≤ length (drop at bs) → 0 < n
+    → parts (drop at bs) ≡ slice_range bs at (at + n) ∷ parts (drop (at + n + 1) bs)
+run_at bs at n e h g = part_at bs at n e h g ∙ ap (λ rest. slice_range bs at (at + n) ∷ rest) (past_run bs at n e)
+
+-- and an empty one is no part
+pub no_run_at : (bs : List ℕ) (at n : ℕ) → n ≡ prefix_len in_part (drop at bs) → n ≡ 0 → parts (drop at bs) ≡ parts (drop (at + n + 1) bs)
+no_run_at bs at n e z = ap (λ m. parts (drop m bs)) (omega (arith, z)) ∙ past_run bs at n e
+
 in_low : (lo hi b : ℕ) → is_in_range lo hi b ≡ true → b ≤ hi
 in_low lo hi b e = leb-true b hi (and_parts (nat_le lo b) (nat_le b hi) e).1
 
@@ -155,15 +175,6 @@ module _ {B : Type 0} (list : B → List ℕ) (class : Option B) (x : B) (v : Li
   pub no_text : Some x ≡ class → v ≡ list x → (IsUtf8 v → ⊥) → None ≡ class_parts (option_map list class)
   no_text h e u = other_parts v (is_utf8 v) refl u ∙ same_class h e
 
--- a part that is no empty list stands among the parts between white space where it stands in the split
-pub any_kept : (part : List ℕ) (ws : List (List ℕ)) → list_any (bytes_eq part) (filter has_bytes ws) ≡ (has_bytes part && list_any (bytes_eq part) ws)
-any_kept [] [] = refl
-any_kept [] ([] ∷ ws) = any_kept [] ws
-any_kept [] ((b ∷ bs) ∷ ws) = any_kept [] ws
-any_kept (c ∷ cs) [] = refl
-any_kept (c ∷ cs) ([] ∷ ws) = any_kept (c ∷ cs) ws
-any_kept (c ∷ cs) ((b ∷ bs) ∷ ws) = ap (λ r. bytes_eq (c ∷ cs) (b ∷ bs) || r) (any_kept (c ∷ cs) ws)
-
 -- a member of a class is a part of it, and the class is a text
 pub member_is : (class name : List ℕ) → has_member (Some class) name ≡ (list_any (bytes_eq name) (parts class) && is_utf8 class)
 member_is class name = one (list_any (bytes_eq name) (parts class)) refl (is_utf8 class)
@@ -173,15 +184,6 @@ member_is class name = one (list_any (bytes_eq name) (parts class)) refl (is_utf
     one false e true = e
     one true e false = refl
     one false e false = refl
-
--- whether there is a byte, by the length
-pub has_some : (bs : List ℕ) → nat_eq (length bs) 0 ≡ false → has_bytes bs ≡ true
-has_some [] e = cc
-has_some (b ∷ bs) e = refl
-
-pub has_none : (bs : List ℕ) → nat_eq (length bs) 0 ≡ true → has_bytes bs ≡ false
-has_none [] e = refl
-has_none (b ∷ bs) e = absurd (omega (arith, eqb-true (length (b ∷ bs)) 0 e))
 
 pub is_text : (bs : List ℕ) → IsUtf8 bs → true ≡ is_utf8 bs
 is_text bs h = sym (is_utf8-from_IsUtf8 bs h)

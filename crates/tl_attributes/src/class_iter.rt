@@ -28,7 +28,8 @@ impl<'t> Model for ClassIter<'t> {
 }
 
 // How many bytes at the front are not white space.
-fn part_len(bytes: &[u8]) -> usize
+#[inline(always)]
+pub(crate) fn part_len(bytes: &[u8]) -> usize
     ensures place { result ≡ prefix_len (λ b. not (is_ascii_whitespace b)) bytes.now }
     ensures within { result ≤ length bytes.now }
 {
@@ -68,10 +69,15 @@ pub fn next_part(bytes: &[u8], at: usize) -> Option<(usize, usize)>
 fn has_part(bytes: &[u8], part: &[u8]) -> bool
     ensures { result ≡ list_any (bytes_eq part.now) (parts bytes.now) }
 {
-    !part.is_empty()
-        && bytes
-            .split(|b| b.is_ascii_whitespace())
-            .any(|own| part == own)
+    let mut at = 0;
+    while at < bytes.len() {
+        let end = at + part_len(&bytes[at..]);
+        if at < end && part == &bytes[at..end] {
+            return true;
+        }
+        at = end + 1;
+    }
+    false
 }
 
 // Whether the bytes are UTF-8. Most are ASCII, which is seen sooner.
@@ -90,6 +96,8 @@ fn is_text(bytes: &[u8]) -> bool
 /// Whether `name` is a member of this class, in exact case. It takes no memory.
 ///
 /// Most classes have no such part, and only those that do are gone through once more, for bytes that are no text.
+// Out of line: most tags are passed over by their outline, and the registers that this needs would be saved for them too.
+#[inline(never)]
 #[tactic(auto, using(crate::proofs::ClassParts::member_is))]
 pub fn has_member(class: &[u8], name: &[u8]) -> bool
     ensures { result ≡ has_member (Some class.now) name.now }

@@ -3,7 +3,7 @@ ghost use Rattle.std.specs.Prelude.{◌≡◌, ◌↔◌, ◌<◌, IsTrue, Some}
 ghost use Rattle.tl_attributes.specs.Outline.{mark_of, bit_of, MayBeId, MayBeMember, AreClassBits, IsOutline};
 
 use crate::attributes::Attributes;
-use crate::class_iter::next_part;
+use crate::class_iter::part_len;
 
 /// What attributes of the type `A` are known to be, for a reader of many tags that would have to fetch each one's attributes.
 pub trait OutlineOf<A>: Copy {
@@ -102,9 +102,12 @@ fn class_bits(class: &[u8]) -> u32
 {
     let mut bits = 0;
     let mut at = 0;
-    while let Some((start, end)) = next_part(class, at) {
-        bits |= 1 << Mark::of(&class[start..end]).bit();
-        at = end;
+    while at < class.len() {
+        let end = at + part_len(&class[at..]);
+        if at < end {
+            bits |= 1 << Mark::of(&class[at..end]).bit();
+        }
+        at = end + 1;
     }
     bits
 }

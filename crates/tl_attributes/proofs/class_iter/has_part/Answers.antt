@@ -1,25 +1,36 @@
-use Rattle.std.proofs.Common.{◌≡◌, ◌∙◌, true, false, refl, sym, rules, tests}
-use Rattle.std.specs.Char.{is_ascii_whitespace}
-use Rattle.std.specs.List.{list_any, slice_split}
+use Rattle.std.proofs.Common.{◌≡◌, ◌≤◌, ◌+◌, ◌||◌, length, drop, subst, sym, ap, ◌∙◌, arith}
+use Rattle.std.proofs.lemmas.List.{at_drop_all, take_rest}
+use Rattle.std.specs.List.{list_any, prefix_len}
 use Rattle.std.specs.Str.{bytes_eq}
-use Rattle.std.proofs.lemmas.Iterator.Search.{any_from_yields_List}
-use Rattle.std.proofs.lemmas.Iterator.Splits.{YieldsList-from_slice_split}
-use Rattle.tl_spec.specs.Runs.{has_bytes}
-use Rattle.tl_attributes.proofs.ClassParts.{any_kept, has_some, has_none}
+use Rattle.tl_spec.specs.ClassMember.{parts}
+use Rattle.tl_attributes.proofs.ClassParts.{in_part, run_at, no_run_at}
 use Rattle.tl_attributes.proofs.class_iter.has_part.Goals as goal
+use Rattle.tl_attributes.proofs.class_iter.has_part.Goals.{else-at-end-via-then-at-end+else-eq, else-at-end-via-else-at-end}
 
-pub returns-then-not-is_empty : goal.returns-then-not-is_empty
-returns-then-not-is_empty c =
-    let bytes = c.args.bytes.now in
-    let part = c.args.part.now in
-    let any : c.any.result ≡ list_any (bytes_eq part) (slice_split is_ascii_whitespace bytes) =
-    any_from_yields_List (bytes_eq part) _ _ _ c.any.ensures.ran (YieldsList-from_slice_split _ is_ascii_whitespace bytes c.split.ensures.rest c.split.ensures.done c.split.ensures.closure (λ x r q k. search (rules, tests)))
-    (λ x r q k. search (rules, tests)) in
-    let some : has_bytes part ≡ true = has_some part (sym c.is_empty.ensures ∙ c.if-not-is_empty.true) in
-    any ∙ rw (any_kept part (slice_split is_ascii_whitespace bytes), some) refl
+pub returns-then-eq : goal.returns-then-eq
+returns-then-eq c =
+    let bs = c.args.bytes.now in
+    let at = c.loop-at.at in
+    let n = c.part_len.result in
+    let any = list_any (bytes_eq c.args.part.now) in
+    let place : n ≡ prefix_len in_part (drop at bs) = c.part_len.ensures.place ∙ ap (prefix_len in_part) (take_rest bs at) in
+    let within : n ≤ length (drop at bs) = subst (λ r. n ≤ length r) (take_rest bs at) c.part_len.ensures.within in
+    sym (c.loop-at.invariant ∙ ap any (run_at bs at n place within (omega arith)) ∙ ap (λ b. b || any (parts (drop (at + n + 1) bs))) (sym c.eq.ensures ∙ c.if-eq.true))
 
-pub returns-else-not-is_empty : goal.returns-else-not-is_empty
-returns-else-not-is_empty c =
-    let part = c.args.part.now in
-    let none : has_bytes part ≡ false = has_none part (sym c.is_empty.ensures ∙ c.if-not-is_empty.false) in
-    rw (any_kept part (slice_split is_ascii_whitespace c.args.bytes.now), none, c.if-not-is_empty.false) refl
+pub loop-at-preserved : goal.loop-at-preserved
+loop-at-preserved c =
+    let bs = c.args.bytes.now in
+    let at = c.loop-at.at in
+    let n = c.part_len.result in
+    let any = list_any (bytes_eq c.args.part.now) in
+    let place : n ≡ prefix_len in_part (drop at bs) = c.part_len.ensures.place ∙ ap (prefix_len in_part) (take_rest bs at) in
+    let within : n ≤ length (drop at bs) = subst (λ r. n ≤ length r) (take_rest bs at) c.part_len.ensures.within in
+    elim c.else-at-end.branch [
+      | else-at-end-via-then-at-end+else-eq w ↦
+          c.loop-at.invariant ∙ ap any (run_at bs at n place within (omega arith)) ∙ ap (λ b. b || any (parts (drop (at + n + 1) bs))) (sym w.eq.ensures ∙ w.if-eq.false)
+      | else-at-end-via-else-at-end w ↦
+          c.loop-at.invariant ∙ ap any (no_run_at bs at n place (omega arith))
+    ]
+
+pub returns : goal.returns
+returns c = sym (c.loop-at.invariant ∙ ap (list_any (bytes_eq c.args.part.now)) (at_drop_all parts c.args.bytes.now c.loop-at.at c.loop-at-test.false))
