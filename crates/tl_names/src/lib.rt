@@ -2,7 +2,7 @@
 #![tactic(auto)]
 
 ghost use Rattle.std.specs.Prelude.{◌≡◌};
-ghost use Rattle.tl_names.specs.Elements.{is_among};
+ghost use Rattle.tl_names.specs.Elements.{is_among, words_of};
 ghost use Rattle.tl_names.specs.References.{table_of};
 
 pub mod elements;
@@ -10,7 +10,7 @@ mod references;
 
 /// Whether a name is one of these, in exact case.
 pub fn is_among(names: &[&str], name: &[u8]) -> bool
-    ensures { result ≡ is_among names.now name.now }
+    ensures { result ≡ is_among (words_of names.now) name.now }
 {
     for own in names {
         if name == own.as_bytes() {

@@ -1,0 +1,5 @@
+//! What the HTML standard's tokenizer reads of a page, and that written down for the grammar of
+//! `tl`: the definitions that contracts cite, and their laws.
+#![tactic(auto)]
+
+pub mod laws;
