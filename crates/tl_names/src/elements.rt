@@ -1,14 +1,14 @@
 //! Lists of names of elements.
 
 /// What holds characters and references up to its own end tag (13.2.5.2).
-pub static RCDATA: [&str; 2] = ["title", "textarea"];
+pub static RCDATA_NAMES: [&str; 2] = ["title", "textarea"];
 
 /// What holds characters alone up to its own end tag (13.2.5.3).
-pub static RAWTEXT: [&str; 5] = ["style", "xmp", "iframe", "noembed", "noframes"];
+pub static RAWTEXT_NAMES: [&str; 5] = ["style", "xmp", "iframe", "noembed", "noframes"];
 
 /// The special elements (13.2.4.2).
 #[rattlefmt::skip]
-pub static SPECIAL: [&str; 83] = [
+pub static SPECIAL_NAMES: [&str; 83] = [
     "address", "applet", "area", "article", "aside", "base", "basefont", "bgsound",
     "blockquote", "body", "br", "button", "caption", "center", "col", "colgroup", "dd",
     "details", "dir", "div", "dl", "dt", "embed", "fieldset", "figcaption", "figure", "footer",
@@ -79,5 +79,5 @@ pub static HEAD_PARTS: [&str; 11] = [
 /// After whose start tags a line feed is dropped (13.2.6.4.7).
 pub static FEED_DROPPERS: [&str; 3] = ["pre", "listing", "textarea"];
 
-/// What is closed at once, beside the void elements.
-pub static EMPTY: [&str; 3] = ["frame", "basefont", "bgsound"];
+/// What is put in and closed at once, beside the void elements (13.2.6.4.4, .7, .20).
+pub static CLOSED_AT_ONCE: [&str; 3] = ["frame", "basefont", "bgsound"];
