@@ -6,3 +6,4 @@ pub mod Resting
 pub mod Cutting
 pub mod Kept
 pub mod Form
+pub mod Uncoding

@@ -1,7 +1,8 @@
 -- Names written with the bytes that names of `tl` have, and read back. The tokenizer of the standard takes nearly any byte
 -- into a name; those that `tl` doesn't are coded.
-use Rattle.std.specs.Prelude.{ℕ, zero, suc, ◌+◌, ◌-◌, ◌*◌, ◌/◌, ◌%◌, ◌||◌, ◌==◌, Bool, true, false, Option, Some, List, [], ◌∷◌, ◌++◌, flat_map, map, codes, nat_lt, if◌then◌else◌}
+use Rattle.std.specs.Prelude.{ℕ, zero, suc, ◌+◌, ◌-◌, ◌*◌, ◌/◌, ◌%◌, ◌<◌, ◌||◌, ◌==◌, Bool, true, false, Option, Some, List, [], ◌∷◌, ◌++◌, flat_map, map, codes, nat_lt, if◌then◌else◌}
 use Rattle.std.specs.Char.{is_ascii_digit, is_ascii_lowercase}
+use Rattle.std.specs.List.{AllByRecursion}
 use Rattle.std.specs.Str.{bytes_eq}
 use Rattle.tl_spec.specs.Runs.{after}
 use Rattle.tl_html_spec.specs.HtmlTokenizer.{HtmlAttribute, HtmlToken, Character, StartTag, EndTag, CommentToken, DoctypeToken}
@@ -52,6 +53,10 @@ uncoded_after zero (b ∷ s) = if b == 43 then first_code s ++ uncoded_after 2 s
 
 abbrev pub uncoded : List ℕ → List ℕ
 uncoded name = uncoded_after 0 name
+
+-- what a name is made of
+abbrev pub AreBytes : List ℕ → Type 0
+AreBytes name = AllByRecursion (λ b. b < 256) name
 
 -- whether the first `-->` is at the end
 abbrev pub is_at_end : Option (List ℕ) → Bool

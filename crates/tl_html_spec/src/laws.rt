@@ -1,6 +1,7 @@
 //! Laws of the definitions.
 
 ghost use Rattle.std.specs.Prelude.{◌≡◌, ℕ, List, [], ◌∷◌, ◌++◌};
+ghost use Rattle.tl_html_spec.specs.Coded.{AreBytes, coded, coded_tag, uncoded};
 ghost use Rattle.tl_html_spec.specs.Escapes.{escaped_text, escaped_value, unescaped};
 ghost use Rattle.tl_html_spec.specs.HtmlForm.{doctype_in, form_tokens, html_form};
 ghost use Rattle.tl_html_spec.specs.HtmlTokenizer.{HtmlToken, State, data_state, html_tokens, without_mark};
@@ -15,6 +16,13 @@ pub fn escapes_are_read_back()
         unescaped (escaped_text text ++ rest) ≡ text ++ unescaped rest }
     ensures values { (value rest : List ℕ) →
         unescaped (escaped_value value ++ rest) ≡ value ++ unescaped rest }
+{}
+
+/// The name that was coded is read back.
+#[tactic(auto, using(crate::proofs::Uncoding::name_back, crate::proofs::Uncoding::tag_back))]
+pub fn names_are_read_back()
+    ensures keys { (name : List ℕ) → AreBytes name → uncoded (coded name) ≡ name }
+    ensures tags { (name : List ℕ) → AreBytes name → uncoded (coded_tag name) ≡ name }
 {}
 
 /// The grammar of `tl` reads of written tokens just these tokens.
