@@ -7,3 +7,4 @@ pub mod Escapes
 pub mod Coded
 pub mod Written
 pub mod HtmlForm
+pub mod Rows

@@ -2,4 +2,6 @@
 //! `tl`: the definitions that contracts cite, and their laws.
 #![tactic(auto)]
 
+mod form_rows;
 pub mod laws;
+mod rows;
