@@ -7,3 +7,7 @@ pub mod Cutting
 pub mod Kept
 pub mod Form
 pub mod Uncoding
+pub mod TokenKinds
+pub mod Tame
+pub mod Doctype
+pub mod Places

@@ -20,7 +20,7 @@ use Rattle.tl_html_spec.specs.Escapes.{escaped_value, text_escape, unescaped, va
 use Rattle.tl_html_spec.specs.Written.{AreKeys, AreWritable, attribute_shown, inside, shown, tokens_read, written, written_attribute, written_token}
 use Rattle.tl_html_spec.proofs.Escapes.{value_back}
 
-abbrev not_lt : ℕ → Bool
+abbrev pub not_lt : ℕ → Bool
 not_lt c = not (c == 0x3C)
 
 abbrev not_quote : ℕ → Bool
@@ -79,7 +79,7 @@ name_passes (b ∷ w) h = h
 
 -- attributes
 
-abbrev written_pair : HtmlAttribute → Pair
+abbrev pub written_pair : HtmlAttribute → Pair
 written_pair a = (a.0, Some (escaped_value a.1))
 
 pairs_written : (xs : List HtmlAttribute) → flat_map written_attribute xs ≡ shown_pairs (map written_pair xs)
@@ -92,7 +92,7 @@ no_quote_byte b = elim (cases_Bool (b == 38)) [
   | inr n ↦ rw n (elim (cases_Bool (b == 34)) [ inl y ↦ rw y refl | inr m ↦ rw m (rw m refl) ])
 ]
 
-no_quote_value : (v : List ℕ) → no_quote (escaped_value v) ≡ true
+pub no_quote_value : (v : List ℕ) → no_quote (escaped_value v) ≡ true
 no_quote_value [] = refl
 no_quote_value (b ∷ v) = all_append not_quote (value_escape b) (escaped_value v) (no_quote_byte b) (no_quote_value v)
 
@@ -114,34 +114,44 @@ tag_name_is (b ∷ w) ps h = word_is (b ∷ w) h
 start_shape : (name xs r : List ℕ) → (60 ∷ (name ++ (xs ++ codes ">"))) ++ r ≡ 60 ∷ (name ++ (xs ++ 62 ∷ r))
 start_shape name xs r = ap (λ s. 60 ∷ s) (append_assoc name (xs ++ codes ">") r ∙ ap (λ s. name ++ s) (append_assoc xs (codes ">") r))
 
-pub start_read : (name : List ℕ) (xs : List HtmlAttribute) (r : List ℕ) → IsName name → AreKeys xs →
+pub start_next : (name : List ℕ) (xs : List HtmlAttribute) (closes : Bool) (r : List ℕ) → IsName name → AreKeys xs →
+    next_token (written_token (StartTag name xs closes) ++ r) ≡ Some (Start name (map written_pair xs) false, r)
+start_next name xs closes r n h =
+    let ps : List Pair = map written_pair xs in
+    ap next_token (start_shape name (flat_map written_attribute xs) r ∙ ap (λ s. 60 ∷ (name ++ (s ++ 62 ∷ r))) (pairs_written xs))
+    ∙ start_again name ps r (tag_name_is name ps n) (pairs_are xs h)
+
+start_read : (name : List ℕ) (xs : List HtmlAttribute) (r : List ℕ) → IsName name → AreKeys xs →
     tokens_read (written_token (StartTag name xs false) ++ r) ≡ StartTag name xs false ∷ tokens_read r
 start_read name xs r n h =
-    let ps : List Pair = map written_pair xs in
-    ap tokens_read (start_shape name (flat_map written_attribute xs) r ∙ ap (λ s. 60 ∷ (name ++ (s ++ 62 ∷ r))) (pairs_written xs))
-    ∙ read_next (60 ∷ (name ++ (shown_pairs ps ++ 62 ∷ r))) (Start name ps false) r (start_again name ps r (tag_name_is name ps n) (pairs_are xs h))
+    read_next (written_token (StartTag name xs false) ++ r) (Start name (map written_pair xs) false) r (start_next name xs false r n h)
     ∙ ap (λ more. StartTag name more false ∷ tokens_read r) (pairs_shown xs)
 
-pub end_read : (name r : List ℕ) → IsName name → tokens_read (written_token (EndTag name) ++ r) ≡ EndTag name ∷ tokens_read r
-end_read name r n =
-    ap (λ s. tokens_read (60 ∷ 47 ∷ s)) (append_assoc name (codes ">") r)
-    ∙ read_next (60 ∷ 47 ∷ (name ++ 62 ∷ r)) (End name) r (end_again name r (name_no_gt name (name_passes name n)))
+pub end_next : (name r : List ℕ) → IsName name → next_token (written_token (EndTag name) ++ r) ≡ Some (End name, r)
+end_next name r n =
+    ap (λ s. next_token (60 ∷ 47 ∷ s)) (append_assoc name (codes ">") r) ∙ end_again name r (name_no_gt name (name_passes name n))
+
+end_read : (name r : List ℕ) → IsName name → tokens_read (written_token (EndTag name) ++ r) ≡ EndTag name ∷ tokens_read r
+end_read name r n = read_next (written_token (EndTag name) ++ r) (End name) r (end_next name r n)
 
 inside_is : (d : List ℕ) → inside (codes "<!--" ++ (d ++ codes "-->")) ≡ d
 inside_is d =
     let e : length (codes "<!--" ++ (d ++ codes "-->")) - 7 ≡ length d = let both = length-append d (codes "-->") in omega arith in
     ap (λ n. take n (d ++ codes "-->")) e ∙ take-append_seam d (codes "-->")
 
-pub comment_read : (d r : List ℕ) → after (codes "-->") (codes "--" ++ (d ++ codes "-->")) ≡ Some [] → tokens_read (written_token (CommentToken d) ++ r) ≡ CommentToken d ∷ tokens_read r
+pub comment_next : (d r : List ℕ) → after (codes "-->") (codes "--" ++ (d ++ codes "-->")) ≡ Some [] →
+    next_token (written_token (CommentToken d) ++ r) ≡ Some (Comment (codes "<!--" ++ (d ++ codes "-->")), r)
+comment_next d r h = comment_again [] (codes "--" ++ (d ++ codes "-->")) r refl refl h
+
+comment_read : (d r : List ℕ) → after (codes "-->") (codes "--" ++ (d ++ codes "-->")) ≡ Some [] → tokens_read (written_token (CommentToken d) ++ r) ≡ CommentToken d ∷ tokens_read r
 comment_read d r h =
-    let bytes : List ℕ = codes "<!--" ++ (d ++ codes "-->") in
-    read_next (bytes ++ r) (Comment bytes) r (comment_again [] (codes "--" ++ (d ++ codes "-->")) r refl refl h)
+    read_next (written_token (CommentToken d) ++ r) (Comment (codes "<!--" ++ (d ++ codes "-->"))) r (comment_next d r h)
     ∙ ap (λ s. CommentToken s ∷ tokens_read r) (inside_is d)
 
-doctype_next : (r : List ℕ) → next_token (codes "<!doctype html>" ++ r) ≡ Some (Doctype true, r)
+pub doctype_next : (r : List ℕ) → next_token (codes "<!doctype html>" ++ r) ≡ Some (Doctype true, r)
 doctype_next r = refl
 
-pub doctype_read : (r : List ℕ) → tokens_read (written_token DoctypeToken ++ r) ≡ DoctypeToken ∷ tokens_read r
+doctype_read : (r : List ℕ) → tokens_read (written_token DoctypeToken ++ r) ≡ DoctypeToken ∷ tokens_read r
 doctype_read r = read_next (codes "<!doctype html>" ++ r) (Doctype true) r (doctype_next r)
 
 -- all of them
