@@ -1,0 +1,83 @@
+-- Names that are coded are names of `tl`, and are read back.
+use Rattle.std.proofs.Common.{if◌then◌else◌, Option, Some, None, arith, ◌≡◌, ℕ, zero, suc, ◌/◌, ◌%◌, Bool, true, List, [], ◌∷◌, ◌++◌, map, codes, refl, ap, ◌∙◌, inl, inr}
+use Rattle.std.specs.Prelude.{flat_map, ⊤}
+use Rattle.std.specs.List.{list_all}
+use Rattle.std.specs.Str.{bytes_eq}
+use Rattle.std.proofs.lemmas.Bool.{and_parts, cases_Bool}
+use Rattle.tl_spec.specs.ByteClass.{is_name}
+use Rattle.tl_spec.specs.Clean.{IsName}
+use Rattle.tl_spec.specs.Runs.{after}
+use Rattle.tl_html_spec.specs.HtmlTokenizer.{HtmlAttribute, HtmlToken, Character, StartTag, EndTag, CommentToken, DoctypeToken}
+use Rattle.tl_html_spec.specs.Coded.{coded, coded_attribute, coded_byte, coded_tag, coded_token, digit_in, digits, is_at_end, is_kept, kept_comment}
+use Rattle.tl_html_spec.specs.Written.{AreKeys, AreWritable, IsWritable}
+use Rattle.tl_html_spec.proofs.Read.{all_append}
+
+-- a digit of the list has what they all have, and `0` has
+digit_has : (p : ℕ → Bool) (ds : List ℕ) (n : ℕ) → p 48 ≡ true → list_all p ds ≡ true → p (digit_in ds n) ≡ true
+digit_has p [] n z h = z
+digit_has p (d ∷ ds) zero z h = (and_parts (p d) (list_all p ds) h).0
+digit_has p (d ∷ ds) (suc n) z h = digit_has p ds n z (and_parts (p d) (list_all p ds) h).1
+
+digit_is_name : (n : ℕ) → is_name (digit_in digits n) ≡ true
+digit_is_name n = digit_has is_name digits n refl refl
+
+kept_is_name : (b : ℕ) → is_kept b ≡ true → is_name b ≡ true
+kept_is_name b h = grind arith
+
+coded_byte_is : (b : ℕ) → list_all is_name (coded_byte b) ≡ true
+coded_byte_is b = elim (cases_Bool (is_kept b)) [
+  | inl y ↦ rw y (rw (kept_is_name b y) refl)
+  | inr n ↦ rw n (rw (digit_is_name (b / 16)) (rw (digit_is_name (b % 16)) refl))
+]
+
+flat_all : (s : List ℕ) → list_all is_name (flat_map coded_byte s) ≡ true
+flat_all [] = refl
+flat_all (b ∷ s) = all_append is_name (coded_byte b) (flat_map coded_byte s) (coded_byte_is b) (flat_all s)
+
+abbrev IsSome : List ℕ → Type 0
+IsSome [] = ⊥
+IsSome (b ∷ s) = ⊤
+
+name_of_all : (s : List ℕ) → IsSome s → list_all is_name s ≡ true → IsName s
+name_of_all [] h e = absurd h
+name_of_all (b ∷ s) h e = e
+
+byte_some : (b : ℕ) (s : List ℕ) → IsSome (coded_byte b ++ s)
+byte_some b s = elim (cases_Bool (is_kept b)) [ inl y ↦ rw y tt | inr n ↦ rw n tt ]
+
+pub coded-IsName : (s : List ℕ) → IsName (coded s)
+coded-IsName [] = refl
+coded-IsName (b ∷ s) = name_of_all (coded (b ∷ s)) (byte_some b (flat_map coded_byte s)) (flat_all (b ∷ s))
+
+pub coded_tag-IsName : (s : List ℕ) → IsName (coded_tag s)
+coded_tag-IsName s = elim (cases_Bool (bytes_eq s (codes "command"))) [
+  | inl y ↦ rw y refl
+  | inr n ↦ rw n (coded-IsName s)
+]
+
+keys_are : (xs : List HtmlAttribute) → AreKeys (map coded_attribute xs)
+keys_are [] = tt
+keys_are (a ∷ xs) = (coded-IsName a.0, keys_are xs)
+
+ends_there : (r : Option (List ℕ)) → is_at_end r ≡ true → r ≡ Some []
+ends_there None h = cc
+ends_there (Some []) h = refl
+ends_there (Some (b ∷ s)) h = cc
+
+comment_kept : (bytes : List ℕ) → after (codes "-->") (codes "--" ++ (kept_comment bytes ++ codes "-->")) ≡ Some []
+comment_kept bytes = elim (cases_Bool (is_at_end (after (codes "-->") (codes "--" ++ (bytes ++ codes "-->"))))) [
+  | inl y ↦ ap (λ (v : Bool). after (codes "-->") (codes "--" ++ ((if v then bytes else []) ++ codes "-->"))) y
+      ∙ ends_there (after (codes "-->") (codes "--" ++ (bytes ++ codes "-->"))) y
+  | inr n ↦ ap (λ (v : Bool). after (codes "-->") (codes "--" ++ ((if v then bytes else []) ++ codes "-->"))) n
+]
+
+coded_writable : (t : HtmlToken) → IsWritable (coded_token t)
+coded_writable (Character b) = tt
+coded_writable (StartTag name xs closes) = (coded_tag-IsName name, keys_are xs, refl)
+coded_writable (EndTag name) = coded_tag-IsName name
+coded_writable (CommentToken bytes) = comment_kept bytes
+coded_writable DoctypeToken = tt
+
+pub all_coded_writable : (ts : List HtmlToken) → AreWritable (map coded_token ts)
+all_coded_writable [] = tt
+all_coded_writable (t ∷ ts) = (coded_writable t, all_coded_writable ts)

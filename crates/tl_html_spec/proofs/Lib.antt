@@ -1,0 +1,13 @@
+pub mod Escapes
+pub mod Read
+pub mod Coding
+pub mod Fold
+pub mod Resting
+pub mod Cutting
+pub mod Kept
+pub mod Form
+pub mod Uncoding
+pub mod TokenKinds
+pub mod Tame
+pub mod Doctype
+pub mod Places

@@ -1,0 +1,10 @@
+pub mod References
+pub mod HtmlTokenizer
+pub mod Reader
+pub mod Pieces
+pub mod Balanced
+pub mod Escapes
+pub mod Coded
+pub mod Written
+pub mod HtmlForm
+pub mod Rows

@@ -1,0 +1,109 @@
+//! Laws of the definitions.
+
+ghost use Rattle.std.specs.Prelude.{◌≡◌, ℕ, ◌+◌, List, [], ◌∷◌, ◌++◌, length};
+ghost use Rattle.tl_spec.specs.Clean.{IsClean, IsCleanTable};
+ghost use Rattle.tl_spec.specs.Document.{document};
+ghost use Rattle.tl_spec.specs.Forest.{forest, plain};
+ghost use Rattle.tl_spec.specs.Normal.{ReadsAs};
+ghost use Rattle.tl_spec.specs.Print.{print};
+ghost use Rattle.tl_spec.specs.Token.{tokens};
+ghost use Rattle.tl_html_spec.specs.Coded.{AreBytes, coded, coded_tag, uncoded};
+ghost use Rattle.tl_html_spec.specs.Escapes.{escaped_text, escaped_value, unescaped};
+ghost use Rattle.tl_html_spec.specs.HtmlForm.{doctype_in, form_tokens, has_doctype, html_form};
+ghost use Rattle.tl_html_spec.specs.HtmlTokenizer.{HtmlToken, State, data_state, html_tokens, without_mark};
+ghost use Rattle.tl_html_spec.specs.Pieces.{AreRead, Piece, bytes_of, first_byte, pieces, placed, read_before, runs, tokens_in};
+ghost use Rattle.tl_html_spec.specs.Reader.{Reader, after, at, emitted, page_tokens, tokens_of};
+ghost use Rattle.tl_html_spec.specs.Written.{AreWritable, tokens_read, written};
+
+/// What is escaped is read back, whatever follows it.
+#[tactic(auto, using(crate::proofs::Escapes::text_back, crate::proofs::Escapes::value_back))]
+pub fn escapes_are_read_back()
+    ensures texts { (text rest : List ℕ) →
+        unescaped (escaped_text text ++ rest) ≡ text ++ unescaped rest }
+    ensures values { (value rest : List ℕ) →
+        unescaped (escaped_value value ++ rest) ≡ value ++ unescaped rest }
+{}
+
+/// The name that was coded is read back.
+#[tactic(auto, using(crate::proofs::Uncoding::name_back, crate::proofs::Uncoding::tag_back))]
+pub fn names_are_read_back()
+    ensures keys { (name : List ℕ) → AreBytes name → uncoded (coded name) ≡ name }
+    ensures tags { (name : List ℕ) → AreBytes name → uncoded (coded_tag name) ≡ name }
+{}
+
+/// The grammar of `tl` reads of written tokens just these tokens.
+#[tactic(auto, using(crate::proofs::Read::written_read))]
+pub fn written_tokens_are_read_back()
+    ensures { (tokens : List HtmlToken) → AreWritable tokens →
+        tokens_read (written tokens) ≡ tokens }
+{}
+
+/// The grammar of `tl` reads of a page's form the tokens that the tokenizer of the HTML standard
+/// reads of the page, with the end tags that HTML leaves out, names coded, and its doctype in front.
+#[tactic(auto, using(crate::proofs::Form::form_read))]
+pub fn html_form_is_read_as_the_page()
+    ensures { (page : List ℕ) →
+        tokens_read (html_form page) ≡ doctype_in (html_tokens page) ++ form_tokens page }
+{}
+
+/// `tl` reads the version HTML5 of a page's form exactly where the page has a doctype.
+#[tactic(auto, using(crate::proofs::Doctype::version_is))]
+pub fn html_form_says_the_version()
+    ensures { (page : List ℕ) →
+        (document (html_form page)).is_html5 ≡ has_doctype (html_tokens page) }
+{}
+
+/// What `tl` reads of a page's form is clean, so its print is read as the same trees.
+#[tactic(auto, using(crate::proofs::Tame::form_clean, crate::proofs::Tame::table_clean, crate::proofs::Tame::form_prints))]
+pub fn html_form_is_clean()
+    ensures trees { (page : List ℕ) → IsClean (plain (forest (tokens (html_form page)))) }
+    ensures table { (page : List ℕ) →
+        IsCleanTable (document (html_form page)).nodes (document (html_form page)).top }
+    ensures prints { (page : List ℕ) → let trees = plain (forest (tokens (html_form page))) in
+        ReadsAs (print trees) trees }
+{}
+
+/// What a page is read as is what its front is read as, and then what the rest is read as from
+/// where the front ends.
+#[tactic(auto, using(crate::proofs::Fold::page_read, crate::proofs::Fold::tokens_append, crate::proofs::Fold::replaced))]
+pub fn tokens_are_a_fold()
+    ensures page { (page : List ℕ) → page_tokens page ≡ html_tokens page }
+    ensures append { (r : Reader) (front rest : List ℕ) →
+        tokens_of r (front ++ rest) ≡ emitted r front ++ tokens_of (after r front) rest }
+    // where two texts bring the reader to one state, what follows is read the same after both
+    ensures replaced { (r : Reader) (old new rest : List ℕ) → after r old ≡ after r new →
+        tokens_of r (new ++ rest) ≡ emitted r new ++ tokens_of (after r old) rest }
+{}
+
+/// Each byte of a page stands in one piece, the pieces' tokens are the page's, and each piece is
+/// read where it stands.
+#[tactic(auto, using(crate::proofs::Cutting::bytes_are, crate::proofs::Cutting::tokens_are, crate::proofs::Cutting::page_is_read, crate::proofs::Cutting::runs_bytes, crate::proofs::Cutting::runs_tokens, crate::proofs::Places::placed_after))]
+pub fn pieces_are_the_page()
+    ensures bytes { (page : List ℕ) → bytes_of (pieces page) ≡ without_mark page }
+    ensures tokens { (page : List ℕ) → tokens_in (pieces page) ≡ html_tokens page }
+    ensures read { (page : List ℕ) → AreRead data_state (pieces page) }
+    // runs of characters as one piece
+    ensures run_bytes { (ps : List Piece) → bytes_of (runs ps) ≡ bytes_of ps }
+    ensures run_tokens { (ps : List Piece) → tokens_in (runs ps) ≡ tokens_in ps }
+    // a piece begins where those before it end; a byte order mark of a page counts for nothing
+    ensures places { (n : ℕ) (front : List Piece) (p : Piece) (rest : List Piece) →
+        placed n (front ++ p ∷ rest)
+        ≡ placed n front ++ (n + length (bytes_of front), p)
+        ∷ placed (n + length (bytes_of front) + length p.bytes) rest }
+{}
+
+/// Pieces that are read one by one are read the same as one text, whatever page they came of.
+#[tactic(auto, using(crate::proofs::Kept::read_together, crate::proofs::Kept::pieces_made, crate::proofs::Kept::kept_before))]
+pub fn pieces_are_read_together()
+    ensures together { (state : State) (p : Piece) (ps : List Piece) → AreRead state (p ∷ ps) →
+        tokens_of (at state) (bytes_of (p ∷ ps)) ≡ tokens_in (p ∷ ps) }
+    ensures made { (page : List ℕ) (ps : List Piece) → AreRead data_state ps →
+        without_mark page ≡ bytes_of ps → html_tokens page ≡ tokens_in ps }
+    // what stands before a piece stays read when another one comes in its place, where the piece
+    // right before is read the same before both
+    ensures kept { (s : State) (front : List Piece) (k x y : Piece) (xs ys : List Piece) →
+        ((z : State) → read_before z k.bytes (first_byte x.bytes)
+        ≡ read_before z k.bytes (first_byte y.bytes)) →
+        ((z : State) → AreRead z (x ∷ xs) → AreRead z (y ∷ ys)) →
+        AreRead s (front ++ k ∷ x ∷ xs) → AreRead s (front ++ k ∷ y ∷ ys) }
+{}

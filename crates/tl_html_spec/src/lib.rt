@@ -1,0 +1,7 @@
+//! What the HTML standard's tokenizer reads of a page, and that written down for the grammar of
+//! `tl`: the definitions that contracts cite, and their laws.
+#![tactic(auto)]
+
+mod form_rows;
+pub mod laws;
+mod rows;
