@@ -89,17 +89,20 @@ distinct-printed a h = with_class a.class (keys_of-named a.id) (absent a.id)
   where
     id_key : List ℕ
     id_key = codes "id"
+
     keys_of-named : (i : Option (List ℕ)) → IsDistinct bytes_eq (keys_of (a.others ++ named (codes "id") i))
     keys_of-named None = subst (λ xs. IsDistinct bytes_eq (keys_of xs)) (sym (append-nil a.others)) h.distinct
     keys_of-named (Some v) =
         subst (IsDistinct bytes_eq) (sym (map-append (λ (q : Pair). q.0) a.others ((codes "id", Some v) ∷ [])))
         (IsDistinct-push nat_list_eq_equiv (keys_of a.others) (codes "id") h.distinct (no-key (codes "id") a.others (λ k o. o.0) h.others))
+
     absent : (i : Option (List ℕ)) → list_any (bytes_eq (codes "class")) (keys_of (a.others ++ named (codes "id") i)) ≡ false
     absent None = ap (λ xs. list_any (bytes_eq (codes "class")) (keys_of xs)) (append-nil a.others) ∙ no-key (codes "class") a.others (λ k o. o.1) h.others
     absent (Some v) =
         ap (list_any (bytes_eq (codes "class"))) (map-append (λ (q : Pair). q.0) a.others ((codes "id", Some v) ∷ []))
         ∙ list_any-append (bytes_eq (codes "class")) (keys_of a.others) (codes "id" ∷ [])
         ∙ ap (λ b. b || false) (no-key (codes "class") a.others (λ k o. o.1) h.others)
+
     with_class : (c : Option (List ℕ)) → IsDistinct bytes_eq (keys_of (a.others ++ named (codes "id") a.id)) →
         list_any (bytes_eq (codes "class")) (keys_of (a.others ++ named (codes "id") a.id)) ≡ false →
         IsDistinct bytes_eq (keys_of (a.others ++ named (codes "id") a.id ++ named (codes "class") c))
