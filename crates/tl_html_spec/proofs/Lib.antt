@@ -1,3 +1,9 @@
+pub mod NameForms
+pub mod Ahead
+pub mod Looked
+pub mod Resolved
+pub mod Texts
+pub mod Feeds
 pub mod Escapes
 pub mod Read
 pub mod Coding
