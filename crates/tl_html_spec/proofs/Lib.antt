@@ -1,4 +1,7 @@
 pub mod Escapes
+pub mod Arrows
+pub mod Emits
+pub mod Balancing
 pub mod Read
 pub mod Coding
 pub mod Fold

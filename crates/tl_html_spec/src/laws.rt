@@ -1,6 +1,6 @@
 //! Laws of the definitions.
 
-ghost use Rattle.std.specs.Prelude.{◌≡◌, ℕ, ◌+◌, List, [], ◌∷◌, ◌++◌, length};
+ghost use Rattle.std.specs.Prelude.{◌≡◌, ℕ, ◌+◌, false, List, [], ◌∷◌, ◌++◌, length};
 ghost use Rattle.tl_spec.specs.Clean.{IsClean, IsCleanTable};
 ghost use Rattle.tl_spec.specs.Document.{document};
 ghost use Rattle.tl_spec.specs.Forest.{forest, plain};
@@ -12,7 +12,8 @@ ghost use Rattle.tl_html_spec.specs.Escapes.{escaped_text, escaped_value, unesca
 ghost use Rattle.tl_html_spec.specs.HtmlForm.{doctype_in, form_tokens, has_doctype, html_form};
 ghost use Rattle.tl_html_spec.specs.HtmlTokenizer.{HtmlToken, State, data_state, html_tokens, without_mark};
 ghost use Rattle.tl_html_spec.specs.Pieces.{AreRead, Piece, bytes_of, first_byte, pieces, placed, read_before, runs, tokens_in};
-ghost use Rattle.tl_html_spec.specs.Reader.{Reader, after, at, emitted, page_tokens, tokens_of};
+ghost use Rattle.tl_html_spec.specs.Reader.{Reader, after, at, emitted, page_tokens, read, tokens_of};
+ghost use Rattle.tl_html_spec.specs.Sound.{AreSound};
 ghost use Rattle.tl_html_spec.specs.Written.{AreWritable, tokens_read, written};
 
 /// What is escaped is read back, whatever follows it.
@@ -36,6 +37,15 @@ pub fn names_are_read_back()
 pub fn written_tokens_are_read_back()
     ensures { (tokens : List HtmlToken) → AreWritable tokens →
         tokens_read (written tokens) ≡ tokens }
+{}
+
+/// No tag that the tokenizer emits has an empty name or key, no comment is cut by a `-->` before
+/// its end, and each byte is done with: of the reconsumes that the definition allows none is left.
+#[tactic(auto, using(crate::proofs::Emits::page_sound, crate::proofs::Emits::byte_is_read))]
+pub fn tokens_are_sound()
+    ensures tokens { (page : List ℕ) → AreSound (html_tokens page) }
+    ensures done { (text : List ℕ) (b : ℕ) →
+        (read (after (at data_state) text) b).again ≡ false }
 {}
 
 /// The grammar of `tl` reads of a page's form the tokens that the tokenizer of the HTML standard
