@@ -14,3 +14,5 @@ pub mod TokenKinds
 pub mod Tame
 pub mod Doctype
 pub mod Places
+pub mod Nesting
+pub mod Longest
