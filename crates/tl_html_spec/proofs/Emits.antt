@@ -605,7 +605,7 @@ flushed_sound : (s : State) (bytes : List ℕ) → Returns s → AreSound (T.flu
 flushed_sound s bytes h = (flushed zero 0 s bytes h).0
 
 end_sound : (s : State) → Holds s → AreSound (T.at_end s)
-end_sound T.tag_open h = sound_chars (codes "<")
+end_sound T.tag_open h = (tt, tt)
 end_sound T.end_tag_open h = sound_chars (codes "</")
 end_sound (T.raw_less_than_sign r) h = sound_chars (codes "<")
 end_sound (T.raw_end_tag_open r) h = sound_chars (codes "</")
