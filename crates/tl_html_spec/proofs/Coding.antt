@@ -1,15 +1,15 @@
 -- Names that are coded are names of `tl`, and are read back.
-use Rattle.std.proofs.Common.{if◌then◌else◌, Option, Some, None, arith, ◌≡◌, ℕ, zero, suc, ◌/◌, ◌%◌, Bool, true, List, [], ◌∷◌, ◌++◌, map, codes, refl, ap, ◌∙◌, inl, inr}
+use Rattle.std.proofs.Common.{arith, ◌≡◌, ℕ, zero, suc, ◌/◌, ◌%◌, Bool, true, List, [], ◌∷◌, ◌++◌, map, codes, refl, inl, inr}
 use Rattle.std.specs.Prelude.{flat_map, ⊤}
 use Rattle.std.specs.List.{list_all}
 use Rattle.std.specs.Str.{bytes_eq}
 use Rattle.std.proofs.lemmas.Bool.{and_parts, cases_Bool}
 use Rattle.tl_spec.specs.ByteClass.{is_name}
 use Rattle.tl_spec.specs.Clean.{IsName}
-use Rattle.tl_spec.specs.Runs.{after}
 use Rattle.tl_html_spec.specs.HtmlTokenizer.{HtmlAttribute, HtmlToken, Character, StartTag, EndTag, CommentToken, DoctypeToken}
-use Rattle.tl_html_spec.specs.Coded.{coded, coded_attribute, coded_byte, coded_tag, coded_token, digit_in, digits, is_at_end, is_kept, kept_comment}
+use Rattle.tl_html_spec.specs.Coded.{coded, coded_attribute, coded_byte, coded_tag, coded_token, digit_in, digits, is_kept}
 use Rattle.tl_html_spec.specs.Written.{AreKeys, AreWritable, IsWritable}
+use Rattle.tl_html_spec.proofs.Balancing.{AreKept, IsKept}
 use Rattle.tl_html_spec.proofs.Read.{all_append}
 
 -- a digit of the list has what they all have, and `0` has
@@ -59,25 +59,13 @@ keys_are : (xs : List HtmlAttribute) → AreKeys (map coded_attribute xs)
 keys_are [] = tt
 keys_are (a ∷ xs) = (coded-IsName a.0, keys_are xs)
 
-ends_there : (r : Option (List ℕ)) → is_at_end r ≡ true → r ≡ Some []
-ends_there None h = cc
-ends_there (Some []) h = refl
-ends_there (Some (b ∷ s)) h = cc
+coded_writable : (t : HtmlToken) → IsKept t → IsWritable (coded_token t)
+coded_writable (Character b) h = tt
+coded_writable (StartTag name xs closes) h = (coded_tag-IsName name, keys_are xs, refl)
+coded_writable (EndTag name) h = coded_tag-IsName name
+coded_writable (CommentToken bytes) h = h
+coded_writable DoctypeToken h = absurd h
 
-comment_kept : (bytes : List ℕ) → after (codes "-->") (codes "--" ++ (kept_comment bytes ++ codes "-->")) ≡ Some []
-comment_kept bytes = elim (cases_Bool (is_at_end (after (codes "-->") (codes "--" ++ (bytes ++ codes "-->"))))) [
-  | inl y ↦ ap (λ (v : Bool). after (codes "-->") (codes "--" ++ ((if v then bytes else []) ++ codes "-->"))) y
-      ∙ ends_there (after (codes "-->") (codes "--" ++ (bytes ++ codes "-->"))) y
-  | inr n ↦ ap (λ (v : Bool). after (codes "-->") (codes "--" ++ ((if v then bytes else []) ++ codes "-->"))) n
-]
-
-coded_writable : (t : HtmlToken) → IsWritable (coded_token t)
-coded_writable (Character b) = tt
-coded_writable (StartTag name xs closes) = (coded_tag-IsName name, keys_are xs, refl)
-coded_writable (EndTag name) = coded_tag-IsName name
-coded_writable (CommentToken bytes) = comment_kept bytes
-coded_writable DoctypeToken = tt
-
-pub all_coded_writable : (ts : List HtmlToken) → AreWritable (map coded_token ts)
-all_coded_writable [] = tt
-all_coded_writable (t ∷ ts) = (coded_writable t, all_coded_writable ts)
+pub all_coded_writable : (ts : List HtmlToken) → AreKept ts → AreWritable (map coded_token ts)
+all_coded_writable [] h = tt
+all_coded_writable (t ∷ ts) h = (coded_writable t h.0, all_coded_writable ts h.1)

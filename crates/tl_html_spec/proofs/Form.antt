@@ -6,6 +6,8 @@ use Rattle.tl_html_spec.specs.Balanced.{balanced}
 use Rattle.tl_html_spec.specs.HtmlForm.{doctype_in, form_tokens, has_doctype, html_form}
 use Rattle.tl_html_spec.specs.Written.{AreWritable, tokens_read, written, written_token}
 use Rattle.tl_html_spec.proofs.Read.{written_read}
+use Rattle.tl_html_spec.proofs.Balancing.{AreKept, balanced_kept}
+use Rattle.tl_html_spec.proofs.Emits.{page_sound}
 use Rattle.tl_html_spec.proofs.Coding.{all_coded_writable}
 
 pub written_append : (ts us : List HtmlToken) → written (ts ++ us) ≡ written ts ++ written us
@@ -26,10 +28,13 @@ all_tokens page = doctype_in (html_tokens page) ++ form_tokens page
 pub form_written : (page : List ℕ) → html_form page ≡ written (all_tokens page)
 form_written page = sym (written_append (doctype_in (html_tokens page)) (form_tokens page))
 
+pub page_kept : (page : List ℕ) → AreKept (balanced (html_tokens page))
+page_kept page = balanced_kept (html_tokens page) (page_sound page)
+
 pub all_writable : (page : List ℕ) → AreWritable (all_tokens page)
 all_writable page =
     writable_append (doctype_in (html_tokens page)) (form_tokens page) (doctype_writable (html_tokens page))
-    (all_coded_writable (balanced (html_tokens page)))
+    (all_coded_writable (balanced (html_tokens page)) (page_kept page))
 
 pub form_read : (page : List ℕ) → tokens_read (html_form page) ≡ all_tokens page
 form_read page = ap tokens_read (form_written page) ∙ written_read (all_tokens page) (all_writable page)

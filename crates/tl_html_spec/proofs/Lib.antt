@@ -5,6 +5,9 @@ pub mod Resolved
 pub mod Texts
 pub mod Feeds
 pub mod Escapes
+pub mod Arrows
+pub mod Emits
+pub mod Balancing
 pub mod Read
 pub mod Coding
 pub mod Fold
@@ -17,3 +20,5 @@ pub mod TokenKinds
 pub mod Tame
 pub mod Doctype
 pub mod Places
+pub mod Nesting
+pub mod Longest

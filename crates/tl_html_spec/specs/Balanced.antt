@@ -243,3 +243,21 @@ balanced_from s (token ∷ tokens) = (balance s token).emits ++ balanced_from (b
 
 abbrev pub balanced : List HtmlToken → List HtmlToken
 balanced tokens = balanced_from start tokens
+
+-- without the innermost name, if it is this one
+abbrev pub without_innermost : List ℕ → Names → Option Names
+without_innermost name [] = None
+without_innermost name (first ∷ tags) = if bytes_eq name first then Some tags else None
+
+-- the names that some tokens leave open, where each end tag closes the innermost one; none where one doesn't
+abbrev pub left_open : Names → List HtmlToken → Option Names
+left_open tags [] = Some tags
+left_open tags (Character b ∷ tokens) = left_open tags tokens
+left_open tags (StartTag n attributes closes ∷ tokens) = left_open (if is_void n then tags else n ∷ tags) tokens
+left_open tags (EndTag n ∷ tokens) =
+    elim (without_innermost n tags) as (λ _. Option Names) [
+      | None ↦ None
+      | Some left ↦ left_open left tokens
+    ]
+left_open tags (CommentToken bytes ∷ tokens) = left_open tags tokens
+left_open tags (DoctypeToken ∷ tokens) = left_open tags tokens

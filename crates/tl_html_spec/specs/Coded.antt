@@ -1,10 +1,9 @@
 -- Names written with the bytes that names of `tl` have, and read back. The tokenizer of the standard takes nearly any byte
 -- into a name; those that `tl` doesn't are coded.
-use Rattle.std.specs.Prelude.{ℕ, zero, suc, ◌+◌, ◌-◌, ◌*◌, ◌/◌, ◌%◌, ◌<◌, ◌||◌, ◌==◌, Bool, true, false, Option, Some, List, [], ◌∷◌, ◌++◌, flat_map, map, codes, nat_lt, if◌then◌else◌}
+use Rattle.std.specs.Prelude.{ℕ, zero, suc, ◌+◌, ◌-◌, ◌*◌, ◌/◌, ◌%◌, ◌<◌, ◌||◌, ◌==◌, Bool, false, List, [], ◌∷◌, ◌++◌, flat_map, map, codes, nat_lt, if◌then◌else◌}
 use Rattle.std.specs.Char.{is_ascii_digit, is_ascii_lowercase}
 use Rattle.std.specs.List.{AllByRecursion}
 use Rattle.std.specs.Str.{bytes_eq}
-use Rattle.tl_spec.specs.Runs.{after}
 use Rattle.tl_html_spec.specs.HtmlTokenizer.{HtmlAttribute, HtmlToken, Character, StartTag, EndTag, CommentToken, DoctypeToken}
 
 -- lower-case letters, digits and `-`, `_`, `:` stay
@@ -27,7 +26,7 @@ code_of b = 43 ∷ digit_in digits (b / 16) ∷ digit_in digits (b % 16) ∷ []
 abbrev pub coded_byte : ℕ → List ℕ
 coded_byte b = if is_kept b then b ∷ [] else code_of b
 
--- an empty name, of which the tokenizer emits none, is a `+`
+-- an empty name, of which the tokenizer emits none (`tokens_are_sound`), is a `+`
 abbrev pub coded : List ℕ → List ℕ
 coded [] = codes "+"
 coded (b ∷ name) = flat_map coded_byte (b ∷ name)
@@ -58,15 +57,6 @@ uncoded name = uncoded_after 0 name
 abbrev pub AreBytes : List ℕ → Type 0
 AreBytes name = AllByRecursion (λ b. b < 256) name
 
--- whether the first `-->` is at the end
-abbrev pub is_at_end : Option (List ℕ) → Bool
-is_at_end (Some []) = true
-is_at_end _ = false
-
--- a comment that its `-->` would not end is empty; the tokenizer emits none
-abbrev pub kept_comment : List ℕ → List ℕ
-kept_comment bytes = if is_at_end (after (codes "-->") (codes "--" ++ (bytes ++ codes "-->"))) then bytes else []
-
 abbrev pub coded_attribute : HtmlAttribute → HtmlAttribute
 coded_attribute a = (coded a.0, a.1)
 
@@ -75,5 +65,5 @@ abbrev pub coded_token : HtmlToken → HtmlToken
 coded_token (StartTag name attributes closes) = StartTag (coded_tag name) (map coded_attribute attributes) false
 coded_token (EndTag name) = EndTag (coded_tag name)
 coded_token (Character b) = Character b
-coded_token (CommentToken bytes) = CommentToken (kept_comment bytes)
+coded_token (CommentToken bytes) = CommentToken bytes
 coded_token DoctypeToken = DoctypeToken

@@ -6,6 +6,7 @@ pub mod Pieces
 pub mod Balanced
 pub mod Escapes
 pub mod Coded
+pub mod Sound
 pub mod Written
 pub mod HtmlForm
 pub mod Rows

@@ -1,7 +1,7 @@
 -- What character references give (13.2.5.73, .80).
-use Rattle.std.specs.Prelude.{ℕ, zero, suc, Bool, true, false, ◌||◌, ◌&&◌, not, ◌==◌, nat_lt, List, [], ◌∷◌, ◌++◌, length, drop, take_while, Option, Some, None, codes, encode_utf8, if◌then◌else◌}
+use Rattle.std.specs.Prelude.{◌≡◌, ◌≤◌, ℕ, zero, suc, Bool, true, false, ◌||◌, ◌&&◌, not, ◌==◌, nat_lt, List, [], ◌∷◌, ◌++◌, length, drop, take_while, Option, Some, None, codes, encode_utf8, if◌then◌else◌}
 use Rattle.std.specs.Char.{is_ascii_alphanumeric}
-use Rattle.std.specs.List.{prefix_len, starts_with}
+use Rattle.std.specs.List.{AllByRecursion, prefix_len, starts_with}
 use Rattle.tl_names.specs.References.{table_of}
 
 -- a row of a table: a name, and its characters
@@ -34,6 +34,10 @@ first_row (row ∷ rows) letters = if starts_with ◌==◌ letters row.0 then So
 abbrev pub named : List ℕ → Option Row
 named [] = None
 named (b ∷ letters) = first_row (rows (table_of b)) (b ∷ letters)
+
+-- no name of these rows that the letters begin with is longer than that of the row
+abbrev pub IsLongest : List Row → List ℕ → Row → Type 0
+IsLongest rows letters row = AllByRecursion (λ (other : Row). starts_with ◌==◌ letters other.0 ≡ true → length other.0 ≤ length row.0) rows
 
 abbrev pub ends_with_semicolon : List ℕ → Bool
 ends_with_semicolon [] = false

@@ -1,6 +1,6 @@
 //! Laws of the definitions.
 
-ghost use Rattle.std.specs.Prelude.{◌≡◌, ℕ, ◌+◌, true, List, [], ◌∷◌, ◌++◌, length, map};
+ghost use Rattle.std.specs.Prelude.{◌≡◌, ℕ, ◌+◌, Some, true, false, List, [], ◌∷◌, ◌++◌, length, map};
 ghost use Rattle.std.specs.List.{list_all};
 ghost use Rattle.tl_spec.specs.Clean.{IsClean, IsCleanTable};
 ghost use Rattle.tl_spec.specs.Document.{document};
@@ -8,12 +8,16 @@ ghost use Rattle.tl_spec.specs.Forest.{forest, plain};
 ghost use Rattle.tl_spec.specs.Normal.{ReadsAs};
 ghost use Rattle.tl_spec.specs.Print.{print};
 ghost use Rattle.tl_spec.specs.Token.{tokens};
+ghost use Rattle.tl_names.specs.References.{table_of};
+ghost use Rattle.tl_html_spec.specs.Balanced.{balanced, left_open};
 ghost use Rattle.tl_html_spec.specs.Coded.{AreBytes, coded, coded_tag, uncoded};
 ghost use Rattle.tl_html_spec.specs.Escapes.{escaped_text, escaped_value};
 ghost use Rattle.tl_html_spec.specs.HtmlForm.{doctype_in, form_tokens, has_doctype, html_form};
 ghost use Rattle.tl_html_spec.specs.HtmlTokenizer.{Character, HtmlToken, OpenTag, State, after_attribute_value, data_state, double_quoted, html_tokens, tokens_from, with_attribute, without_mark};
 ghost use Rattle.tl_html_spec.specs.Pieces.{AreRead, Piece, bytes_of, first_byte, pieces, placed, read_before, runs, tokens_in};
-ghost use Rattle.tl_html_spec.specs.Reader.{Reader, after, at, emitted, page_tokens, tokens_of};
+ghost use Rattle.tl_html_spec.specs.Reader.{Reader, after, at, emitted, page_tokens, read, tokens_of};
+ghost use Rattle.tl_html_spec.specs.References.{IsLongest, Row, named, rows};
+ghost use Rattle.tl_html_spec.specs.Sound.{AreSound};
 ghost use Rattle.tl_html_spec.specs.Unescaped.{is_in_text, is_in_value, unescaped_text, unescaped_value};
 ghost use Rattle.tl_html_spec.specs.Written.{AreWritable, tokens_read, written};
 
@@ -54,6 +58,28 @@ pub fn written_tokens_are_read_back()
         tokens_read (written tokens) ≡ tokens }
 {}
 
+/// The reference at the front of some letters is the one of the longest name.
+pub fn longest_name_is_taken()
+    ensures { (letter : ℕ) (letters : List ℕ) (row : Row) →
+        named (letter ∷ letters) ≡ Some row →
+        IsLongest (rows (table_of letter)) (letter ∷ letters) row }
+{}
+
+/// No tag that the tokenizer emits has an empty name or key, no comment is cut by a `-->` before
+/// its end, and each byte is done with: of the reconsumes that the definition allows none is left.
+#[tactic(auto, using(crate::proofs::Emits::page_sound, crate::proofs::Emits::byte_is_read))]
+pub fn tokens_are_sound()
+    ensures tokens { (page : List ℕ) → AreSound (html_tokens page) }
+    ensures done { (text : List ℕ) (b : ℕ) →
+        (read (after (at data_state) text) b).again ≡ false }
+{}
+
+/// Balanced tokens nest: each end tag closes the innermost tag that is open, and none stays open.
+#[tactic(auto, using(crate::proofs::Nesting::balanced_nest))]
+pub fn balanced_tokens_nest()
+    ensures { (tokens : List HtmlToken) → left_open [] (balanced tokens) ≡ Some [] }
+{}
+
 /// The grammar of `tl` reads of a page's form the tokens that the tokenizer of the HTML standard
 /// reads of the page, with the end tags that HTML leaves out, names coded, and its doctype in front.
 #[tactic(auto, using(crate::proofs::Form::form_read))]
@@ -70,7 +96,6 @@ pub fn html_form_says_the_version()
 {}
 
 /// What `tl` reads of a page's form is clean, so its print is read as the same trees.
-#[tactic(auto, using(crate::proofs::Tame::form_clean, crate::proofs::Tame::table_clean, crate::proofs::Tame::form_prints))]
 pub fn html_form_is_clean()
     ensures trees { (page : List ℕ) → IsClean (plain (forest (tokens (html_form page)))) }
     ensures table { (page : List ℕ) →
