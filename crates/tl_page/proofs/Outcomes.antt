@@ -68,14 +68,17 @@ module _ {X : Type 0} where
 
 -- readings of a tree
 
+pub fails-outcome : {X : Type 0} (reading : Result X TreeFault) (error : TreeError) → IsRefusal (result_err reading) error → Fails (outcome_of reading) (failure_of_tree error)
+fails-outcome (Ok value) (DanglingError h) refusal = absurd (cc)
+fails-outcome (Ok value) (CycleError h) refusal = absurd (cc)
+fails-outcome (Err fault) (DanglingError h) refusal = refl
+fails-outcome (Err fault) (CycleError h) refusal = refl
+fails-outcome (Ok value) TreeMemory refusal = tt
+fails-outcome (Err fault) TreeMemory refusal = tt
+
 module _ {X Y : Type 0} (make : X → Y) where
   pub fails-reading : (reading : Result X TreeFault) (error : TreeError) → IsRefusal (result_err reading) error → Fails (outcome_map make (outcome_of reading)) (failure_of_tree error)
-  fails-reading (Ok value) (DanglingError h) refusal = absurd (cc)
-  fails-reading (Ok value) (CycleError h) refusal = absurd (cc)
-  fails-reading (Err fault) (DanglingError h) refusal = refl
-  fails-reading (Err fault) (CycleError h) refusal = refl
-  fails-reading (Ok value) TreeMemory refusal = tt
-  fails-reading (Err fault) TreeMemory refusal = tt
+  fails-reading reading error refusal = fails_mapped make (outcome_of reading) (failure_of_tree error) (fails-outcome reading error refusal)
 
   pub gives-reading : (reading : Result X TreeFault) (value : X) → reading ≡ Ok value → outcome_map make (outcome_of reading) ≡ success (make value)
   gives-reading reading value e = ap (λ (r : Result X TreeFault). outcome_map make (outcome_of r)) e

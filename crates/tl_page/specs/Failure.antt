@@ -24,3 +24,10 @@ reason_of Refused = codes "refused"
 reason_of NotUnderstood = codes "not understood"
 reason_of OutOfMemory = codes "out of memory"
 reason_of Fault = codes "read or write failed"
+
+-- the status of a program that ends with it
+abbrev pub status_of_failure : Failure → ℕ
+status_of_failure Refused = 1
+status_of_failure NotUnderstood = 2
+status_of_failure OutOfMemory = 3
+status_of_failure Fault = 4

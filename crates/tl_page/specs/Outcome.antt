@@ -1,5 +1,5 @@
 -- What comes of what was asked.
-use Rattle.std.specs.Prelude.{◌≡◌, List, [], ◌∷◌, ◌++◌, Option, None, Some, Result, Ok, Err, ⊤}
+use Rattle.std.specs.Prelude.{◌≡◌, ℕ, List, [], ◌∷◌, ◌++◌, Option, None, Some, Result, Ok, Err, ⊤}
 use Rattle.tl_spec.specs.Walk.{TreeFault}
 use Rattle.tl_page.specs.declared.failure.Failure.{Failure}
 use Rattle.tl_page.specs.declared.failure.Failure.TheVariants.{Refused, NotUnderstood, OutOfMemory, Fault}
@@ -9,6 +9,18 @@ pub data Outcome (X : Type 0) : Type 0 where
   success : X → Outcome X
   refused : Outcome X
   not_understood : Outcome X
+
+-- the status of a program that ends with it
+abbrev pub status_of : {X : Type 0} → Outcome X → ℕ
+status_of (success value) = 0
+status_of refused = 1
+status_of not_understood = 2
+
+-- what is written of it: all of a value, and nothing of what is none
+abbrev pub written_of : {X : Type 0} → Outcome (List X) → List X
+written_of (success list) = list
+written_of refused = []
+written_of not_understood = []
 
 -- a failure says this outcome, or is want of memory
 abbrev pub Fails : {X : Type 0} → Outcome X → Failure → Type 0

@@ -8,3 +8,6 @@ mod page;
 pub use error::{Cause, PageError};
 pub use failure::Failure;
 pub use page::{read, text};
+
+/// The version of the programs, of the C library and of a release of both.
+pub const VERSION: &str = "0.1.0";

@@ -1,34 +1,22 @@
--- What is made of bytes that are text, of those that are too long, and by which selector.
-use Rattle.std.proofs.Common.{◌≡◌, ◌<◌, List, ℕ, length, Bool, true, false, if◌then◌else◌, Option, None, Some, refl, sym, ap, eq-eqb}
-use Rattle.std.specs.Prelude.{IsUtf8, ◌==◌, IfSome}
-use Rattle.std.proofs.lemmas.Bool.{lt-ltb}
-use Rattle.std.proofs.lemmas.Str.{utf8_valid_len-IsUtf8}
-use Rattle.std.specs.Str.Lossy.{utf8_valid_len}
+-- What is made of an input that is too long, and by which selector.
+use Rattle.std.proofs.Common.{◌≡◌, ◌<◌, List, ℕ, length, Option, None, Some, refl, sym, ap, arith}
+use Rattle.std.specs.Prelude.{IfSome}
 use Rattle.tl_spec.specs.ByteClass.{largest_u32}
-use Rattle.tl_spec.specs.Document.{document}
 use Rattle.tl_spec.specs.Selector.{Selector}
 use Rattle.tl_spec.specs.SelectorReading.{selector_at}
 use Rattle.tl_spec.proofs.SelectorText.{text-only, text-none}
+use Rattle.tl_page.specs.Outcome.{not_understood}
+use Rattle.tl_page.proofs.Pages.{outcome-no_page}
 use Rattle.tl_program.specs.Page.{IsPage}
 use Rattle.tl_program.specs.declared.program.page.Page.TheVariants.{TooLong}
-use Rattle.tl_program.specs.Output.{Outcome, output_of, outcome_of_text, outcome_of_document, not_understood}
+use Rattle.tl_program.specs.Output.{output_of, outcome_of_document}
 use Rattle.tl_program.specs.Asked.{Asked, Prints, Texts, PrintsAgain, Selects, FindsId, FindsClass, Edits, StandsFor, IsSelectorOf, selector_of}
 
--- of bytes that are text the program makes what it makes of the text
-pub outcome_of_text-output_of : (asked : Asked) (selector : Option Selector) (input text : List ℕ) → text ≡ input → IsUtf8 input
-    → outcome_of_text asked selector text ≡ output_of asked selector input
-outcome_of_text-output_of asked selector input text e u =
-    rw (eq-eqb (utf8_valid_len input) (length input) (utf8_valid_len-IsUtf8 input u)) (ap (outcome_of_text asked selector) e)
-
 -- what is too long is not understood, be it text or not
-pub output_of-long : (asked : Asked) (selector : Option Selector) (input : List ℕ) → largest_u32 < length input → output_of asked selector input ≡ not_understood
-output_of-long asked selector input long = by (utf8_valid_len input == length input)
-  where
-    by : (b : Bool) → (if b then outcome_of_text asked selector input else not_understood) ≡ not_understood
-    by true = ap (λ (b : Bool). if b then not_understood else outcome_of_document asked selector (document input)) (lt-ltb largest_u32 (length input) long)
-    by false = refl
+output_of-long : (asked : Asked) (selector : Option Selector) (input : List ℕ) → largest_u32 < length input → output_of asked selector input ≡ not_understood
+output_of-long asked selector input long = outcome-no_page input (outcome_of_document asked selector) (λ page. let short = page.1 in omega arith)
 
--- the same of a page that was too long to be kept
+-- so is a page that was too long to be kept
 pub IsPage-not_understood : (asked : Asked) (selector : Option Selector) (left : Option (List ℕ)) → IfSome left (IsPage TooLong)
     → IfSome left (λ input. output_of asked selector input ≡ not_understood)
 IsPage-not_understood asked selector None is = tt

@@ -8,7 +8,8 @@ use Rattle.tl_spec.specs.Text.{document_text, inner_text, text_of}
 use Rattle.tl_spec.specs.Walk.{TreeFault, Walk, Dangling, answer, end, every, first_fault, handle_walk, meets_comment, meets_tag, meets_text, or_else, row_walk, stands_on, trees, unless, walk, walk_within}
 use Rattle.tl_spec.proofs.Order.{document-faultless}
 use Rattle.tl_spec.proofs.Walks.{walk-step}
-use Rattle.tl_program.specs.Output.{followed_by, joined, text_at, texts_of}
+use Rattle.tl_page.specs.Outcome.{Outcome, followed_by, joined, outcome_of, success}
+use Rattle.tl_program.specs.Output.{text_at, texts_of}
 
 -- the first path holds no handle that the second doesn't
 abbrev IsWithin : List ℕ → List ℕ → Type 0
@@ -58,15 +59,15 @@ module _ (nodes : List Node) where
   within-same (suc n) = row-same (walk_within every nodes n) (within-same n)
 
   -- the text of one node, and what is joined after it
-  one-joined : (h : ℕ) (o : Option Node) (more : Walk) (later : List (Result (List ℕ) TreeFault))
-      → (first_fault more ≡ None → joined later ≡ Ok (text_of (trees more)))
+  one-joined : (h : ℕ) (o : Option Node) (more : Walk) (later : List (Outcome (List ℕ)))
+      → (first_fault more ≡ None → joined later ≡ success (text_of (trees more)))
       → first_fault (handle_walk every nodes (walk every nodes (h ∷ [])) h more false o) ≡ None
-      → joined (option_map_or (λ node. inner_text nodes node) o (Err (Dangling h)) ∷ later)
-      ≡ Ok (text_of (trees (handle_walk every nodes (walk every nodes (h ∷ [])) h more false o)))
+      → joined (outcome_of (option_map_or (λ node. inner_text nodes node) o (Err (Dangling h))) ∷ later)
+      ≡ success (text_of (trees (handle_walk every nodes (walk every nodes (h ∷ [])) h more false o)))
   one-joined h None more later after e = absurd (cc)
   one-joined h (Some (Raw u)) more later after e =
-      ap (followed_by (Ok (utf8_lossy u ++ []))) (after e) ∙ ap (λ (s : List ℕ). Ok (s ++ text_of (trees more))) (append-nil (utf8_lossy u))
-  one-joined h (Some (Comment u)) more later after e = ap (followed_by (Ok [])) (after e)
+      ap (followed_by (success (utf8_lossy u ++ []))) (after e) ∙ ap (λ (s : List ℕ). success (s ++ text_of (trees more))) (append-nil (utf8_lossy u))
+  one-joined h (Some (Comment u)) more later after e = ap (followed_by (success [])) (after e)
   one-joined h (Some (Tag own)) more later after e =
       let cs = own.children.items in
       let parts = faultless-below (first_fault (walk every nodes (h ∷ []) cs)) (first_fault more) e in
@@ -75,20 +76,20 @@ module _ (nodes : List Node) where
       = ap (λ (w : Walk). answer text_of (meets_tag 0 own w end)) same
       ∙ ap (λ (o : Option TreeFault). unless (or_else o None) (text_of (trees (walk every nodes (h ∷ []) cs)) ++ [])) parts.0
       ∙ ap (λ (s : List ℕ). Ok s) (append-nil (text_of (trees (walk every nodes (h ∷ []) cs)))) in
-      ap₂ followed_by read (after parts.1)
+      ap₂ followed_by (ap (λ (r : Result (List ℕ) TreeFault). outcome_of r) read) (after parts.1)
 
   -- the texts of top nodes, each by a walk of its own, are those of one walk that meets no fault
   texts-joined : (hs : List ℕ) → first_fault (row_walk every nodes (walk every nodes) [] hs) ≡ None
-      → joined (map (text_at nodes) hs) ≡ Ok (text_of (trees (row_walk every nodes (walk every nodes) [] hs)))
+      → joined (map (λ h. outcome_of (text_at nodes h)) hs) ≡ success (text_of (trees (row_walk every nodes (walk every nodes) [] hs)))
   texts-joined [] e = refl
   texts-joined (h ∷ hs) e =
-      one-joined h (slice_get nodes h) (row_walk every nodes (walk every nodes) [] hs) (map (text_at nodes) hs) (texts-joined hs) e
+      one-joined h (slice_get nodes h) (row_walk every nodes (walk every nodes) [] hs) (map (λ h. outcome_of (text_at nodes h)) hs) (texts-joined hs) e
 
-pub texts_of_one_walk : (t : List ℕ) → texts_of (document t) ≡ document_text (document t)
+pub texts_of_one_walk : (t : List ℕ) → texts_of (document t) ≡ outcome_of (document_text (document t))
 texts_of_one_walk t =
     let xs = (document t).nodes in
     let hs = (document t).top in
     let step : walk every xs [] hs ≡ row_walk every xs (walk every xs) [] hs = walk-step every xs [] hs in
     texts-joined xs hs (ap first_fault (sym step) ∙ document-faultless t)
-    ∙ ap (λ (w : Walk). Ok (text_of (trees w))) (sym step)
-    ∙ sym (ap (λ (o : Option TreeFault). unless o (text_of (trees (walk every xs [] hs)))) (document-faultless t))
+    ∙ ap (λ (w : Walk). success (text_of (trees w))) (sym step)
+    ∙ sym (ap (λ (o : Option TreeFault). outcome_of (unless o (text_of (trees (walk every xs [] hs))))) (document-faultless t))

@@ -5,8 +5,9 @@ use Rattle.std.specs.Option.{option_and_then}
 use Rattle.std.specs.declared.string.String.{String}
 use Rattle.tl_spec.specs.Document.{Document}
 use Rattle.tl_spec.specs.Selector.{Selector}
+use Rattle.tl_page.specs.Outcome.{Outcome, not_understood}
 use Rattle.tl_program.specs.Asked.{Asked, IsSelectorOf, asked_by}
-use Rattle.tl_program.specs.Output.{Outcome, not_understood, output_of, printed_document}
+use Rattle.tl_program.specs.Output.{output_of, printed_document}
 
 -- what the words ask for, if anything
 abbrev pub asked_in : List (String Global) → Option Asked
@@ -22,12 +23,12 @@ abbrev pub IsSelectorIn : List (String Global) → Option Selector → Type 0
 IsSelectorIn words selector = IsSelectorOfAny (asked_in words) selector
 
 -- what is made of an input, where asking for nothing is not understood
-abbrev pub output_of_any : Option Asked → Option Selector → List ℕ → Outcome
+abbrev pub output_of_any : Option Asked → Option Selector → List ℕ → Outcome (List ℕ)
 output_of_any None selector input = not_understood
 output_of_any (Some asked) selector input = output_of asked selector input
 
 -- what the words make of an input, by their selector
-abbrev pub output_by : List (String Global) → Option Selector → List ℕ → Outcome
+abbrev pub output_by : List (String Global) → Option Selector → List ℕ → Outcome (List ℕ)
 output_by words selector input = output_of_any (asked_in words) selector input
 
 -- the document whose print the words make of a document, if they make one

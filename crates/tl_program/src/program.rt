@@ -13,6 +13,7 @@ mod status;
 mod words;
 mod wrapped;
 
+pub use answer::edited;
 pub use asked::Command;
 pub use entry::run_words;
 pub use failure::Failure;

@@ -1,13 +1,13 @@
-//! What a command writes of a text.
+//! What a command writes of a document.
 ghost use Rattle.std.specs.Prelude.{◌≡◌, ◌<◌, length, string_bytes, IsSome, Ok, Some, Err};
 ghost use Rattle.tl_spec.specs.Document.{document};
 ghost use Rattle.tl_spec.specs.Edit.{edited_all};
 ghost use Rattle.tl_spec.specs.Print.{document_print};
-ghost use Rattle.tl_table.specs.Answer.{Answers};
 ghost use Rattle.tl.specs.Shown.{document_of};
 ghost use Rattle.tl.specs.Tracked.{AnswerIds, AnswerClasses};
+ghost use Rattle.tl_page.specs.Outcome.{Gives};
 ghost use Rattle.tl_program.specs.Asked.{asked_of, selector_of};
-ghost use Rattle.tl_program.specs.Output.{outcome_of_text, outcome_of_document, outcome_of_edited, outcome_of_print, texts_of, Gives, IsJustRead, document_again, document_edited, command_print, PrintsBack};
+ghost use Rattle.tl_program.specs.Output.{outcome_of_document, outcome_of_edited, outcome_of_print, texts_of, IsJustRead, document_again, document_edited, command_print, PrintsBack};
 ghost use Rattle.tl_program.specs.Steps.{changes_in};
 ghost use Rattle.tl_program.specs.TableEdit.{TakeNoMemory};
 
@@ -17,21 +17,19 @@ use super::lookup::{by_class, by_id, by_selector};
 use crate::script;
 use crate::script::Step;
 use std::alloc::Global;
-use std::mem;
-use tl::errors::TreeError;
 use tl::{ParserOptions, VDom};
 
 // The texts of the top nodes of a document just read, joined in order. One walk has them all, since it meets no fault.
-fn texts(alloc: Global, document: &VDom<'_>) -> Result<String, TreeError>
+fn texts(alloc: Global, document: &VDom<'_>) -> Result<String, Failure>
     requires { IsJustRead (document_of document.now) }
-    ensures { Answers string_bytes (texts_of (document_of document.now)) result }
+    ensures { Gives string_bytes (texts_of (document_of document.now)) result }
 {
-    document.inner_text(alloc)
+    Ok(document.inner_text(alloc)?)
 }
 
 // The print of the document that a print is read as.
 fn print_of_print(alloc: Global, print: &str) -> Result<String, Failure>
-    ensures outcome { Gives (outcome_of_print (Ok print.now)) result }
+    ensures outcome { Gives string_bytes (outcome_of_print (Ok print.now)) result }
     ensures identity { PrintsBack (Some (document print.now)) result }
     ensures long { u32.MAX < length print.now → result ≡ Err Failure.NotUnderstood }
 {
@@ -41,7 +39,7 @@ fn print_of_print(alloc: Global, print: &str) -> Result<String, Failure>
 
 // The print of the document that the print of a document is read as.
 fn again(alloc: Global, document: &VDom<'_>) -> Result<String, Failure>
-    ensures outcome { Gives (outcome_of_print (document_print (document_of document.now))) result }
+    ensures outcome { Gives string_bytes (outcome_of_print (document_print (document_of document.now))) result }
     ensures identity { PrintsBack (document_again
         (document_print (document_of document.now))) result }
 {
@@ -49,9 +47,9 @@ fn again(alloc: Global, document: &VDom<'_>) -> Result<String, Failure>
     print_of_print(alloc, print.as_str())
 }
 
-// The print after steps.
-fn edited(alloc: Global, document: &mut VDom<'_>, steps: &[Step<'_>]) -> Result<String, Failure>
-    ensures outcome { Gives (outcome_of_edited
+/// The print of a document after steps, which are done to it.
+pub fn edited(alloc: Global, document: &mut VDom<'_>, steps: &[Step<'_>]) -> Result<String, Failure>
+    ensures outcome { Gives string_bytes (outcome_of_edited
         (edited_all (changes_in steps.now) (document_of document.old))) result }
     ensures identity { PrintsBack (document_edited
         (edited_all (changes_in steps.now) (document_of document.old))) result }
@@ -63,8 +61,8 @@ fn edited(alloc: Global, document: &mut VDom<'_>, steps: &[Step<'_>]) -> Result<
     Ok(document.outer_html(alloc)?)
 }
 
-// What is tracked while the text is read of which a command writes something.
-fn options_of(command: &Command<'_>) -> ParserOptions {
+/// What is tracked while the page is read of which a command writes something.
+pub fn options_of(command: &Command<'_>) -> ParserOptions {
     match command {
         Command::Id(_) => ParserOptions::new().track_ids(),
         Command::Class(_) => ParserOptions::new().track_classes(),
@@ -72,8 +70,8 @@ fn options_of(command: &Command<'_>) -> ParserOptions {
     }
 }
 
-// What a command writes of a document that was just read, and which it may edit.
-fn of_document(
+/// What a command writes of a document that was just read, and which it may edit.
+pub fn answer(
     alloc: Global,
     command: &Command<'_>,
     document: &mut VDom<'_>,
@@ -82,41 +80,17 @@ fn of_document(
     requires classes { AnswerClasses document.old.tracking (document_of document.old).nodes }
     requires read { IsJustRead (document_of document.old) }
     ensures outcome { let asked = asked_of command.now in
-        Gives (outcome_of_document asked (selector_of asked) (document_of document.old)) result }
+        let made = outcome_of_document asked (selector_of asked) (document_of document.old) in
+        Gives string_bytes made result }
     ensures identity { PrintsBack (command_print command.now (document_of document.old)) result }
 {
     match command {
         Command::Print => Ok(document.outer_html(alloc)?),
-        Command::Text => Ok(texts(alloc, document)?),
+        Command::Text => texts(alloc, document),
         Command::Again => again(alloc, document),
         Command::Select(selector) => by_selector(alloc, document, selector),
         Command::Id(id) => Ok(by_id(alloc, document, id)?),
         Command::Class(member) => Ok(by_class(alloc, document, member)?),
         Command::Edit(steps) => edited(alloc, document, steps),
     }
-}
-
-// Gives up a document. Where the program ends soon, its memory is left to that.
-fn give_up(document: VDom<'_>, ends_soon: bool) {
-    if ends_soon {
-        mem::forget(document);
-    }
-}
-
-/// What a command writes of a text. Where the program ends soon, the document's memory is not taken back.
-pub fn answer(
-    alloc: Global,
-    command: &Command<'_>,
-    text: &str,
-    ends_soon: bool,
-) -> Result<String, Failure>
-    ensures outcome { let asked = asked_of command.now in
-        Gives (outcome_of_text asked (selector_of asked) text.now) result }
-    ensures identity { PrintsBack (command_print command.now (document text.now)) result }
-    ensures long { u32.MAX < length text.now → result ≡ Err Failure.NotUnderstood }
-{
-    let mut document = tl::parse(alloc, text, options_of(command))?;
-    let answer = of_document(alloc, command, &mut document);
-    give_up(document, ends_soon);
-    answer
 }

@@ -5,7 +5,8 @@ ghost use Rattle.tl_bytes.specs.Held.{borrowed};
 ghost use Rattle.tl_spec.specs.SelectorReading.{selector_at};
 ghost use Rattle.tl.specs.Lookup.{with_id, with_member};
 ghost use Rattle.tl.specs.Shown.{document_of};
-ghost use Rattle.tl_program.specs.Output.{number_line, number_lines, outcome_of_numbers, outcome_of_query, Gives};
+ghost use Rattle.tl_page.specs.Outcome.{Gives};
+ghost use Rattle.tl_program.specs.Output.{number_line, number_lines, outcome_of_numbers, outcome_of_query};
 
 use super::failure::Failure;
 use std::alloc::{AllocError, Global};
@@ -61,7 +62,7 @@ fn lines_found(
     alloc: Global,
     found: Option<QuerySelectorIterator<'_, '_>>,
 ) -> Result<String, Failure>
-    ensures outcome { Gives (outcome_of_numbers found.entry) result }
+    ensures outcome { Gives string_bytes (outcome_of_numbers found.entry) result }
     ensures none { IfNone found.entry (result ≡ Err Failure.Refused) }
 {
     match found {
@@ -72,8 +73,8 @@ fn lines_found(
 
 /// The lines of the nodes where a selector holds; a text that stands for no selector is refused.
 pub fn by_selector(alloc: Global, document: &VDom<'_>, selector: &str) -> Result<String, Failure>
-    ensures { Gives (outcome_of_query (selector_at selector.now)
-        (document_of document.now)) result }
+    ensures { let made = outcome_of_query (selector_at selector.now) (document_of document.now) in
+        Gives string_bytes made result }
 {
     let found = document.query_selector(alloc, selector)?;
     lines_found(alloc, found)

@@ -1,18 +1,21 @@
 //! A run of the program: it reads all, makes the output, and writes it.
-ghost use Rattle.std.specs.Prelude.{◌≡◌, ◌≢◌, ◌<◌, ◌+◌, ◌||◌, is_ok, is_err, if◌then◌else◌, length, IsUtf8, IsTrue, Option, Err, OnOk, OnErr};
+ghost use Rattle.std.specs.Prelude.{◌≡◌, ◌≢◌, ◌<◌, ◌+◌, ◌||◌, is_ok, is_err, if◌then◌else◌, length, string_bytes, IsUtf8, IsTrue, Option, Err, OnOk, OnErr};
 ghost use Rattle.std.specs.Io.KnownBytes.{Appends, IsAtEnd};
 ghost use Rattle.tl_spec.specs.Document.{document};
 ghost use Rattle.tl_spec.specs.Selector.{Selector};
 ghost use Rattle.tl_program.specs.Asked.{asked_of, selector_of, IsSelectorOf};
-ghost use Rattle.tl_program.specs.Output.{command_output, command_print, Gives, PrintsBack, AppendsBeginning};
+ghost use Rattle.tl_page.specs.Outcome.{Gives};
+ghost use Rattle.tl_program.specs.Output.{command_output, command_print, PrintsBack, AppendsBeginning};
 ghost use Rattle.tl_program.specs.Run.{IsRun};
 
-use super::answer::answer;
+use super::answer::{answer, options_of};
 use super::asked::Command;
 use super::failure::Failure;
 use super::fault::{Fault, Input, Output};
 use super::page::{Page, read_page};
 use std::alloc::Global;
+use std::mem;
+use tl_page::read;
 
 // Writes all the bytes.
 #[tactic(auto, using(crate::proofs::Writing::written))]
@@ -49,38 +52,36 @@ fn deliver<W: Output>(writer: &mut W, bytes: &[u8]) -> Result<(), Fault>
     writer.flush()
 }
 
-// What a command gives of a page. Where the program ends soon, the memory of the page's document is not taken back.
-fn given(
-    alloc: Global,
-    command: &Command<'_>,
-    input: &[u8],
-    ends_soon: bool,
-) -> Result<String, Failure>
-    ensures outcome { let selector = selector_of (asked_of command.now) in
-        Gives (command_output command.now selector input.now) result }
-    ensures identity { PrintsBack (command_print command.now (document input.now)) result }
-    ensures no_text { ¬ (IsUtf8 input.now) → result ≡ Err Failure.NotUnderstood }
-    ensures long { u32.MAX < length input.now → result ≡ Err Failure.NotUnderstood }
-{
-    match simdutf8::compat::from_utf8(input) {
-        Ok(text) => answer(alloc, command, text, ends_soon),
-        Err(_) => Err(Failure::NotUnderstood),
-    }
-}
-
 /// What a command gives of a page, as `run` writes it of the page that it reads; or why it gives nothing, where the number of the
 /// failure is the status.
+#[tactic(auto, using(tl_page::proofs::Pages::pages))]
 pub fn output(alloc: Global, command: &Command<'_>, input: &[u8]) -> Result<String, Failure>
     // By the selector that the text of a `select` stands for, if it stands for one: there is one at most.
     ensures outcome { (selector : Option Selector) × IsSelectorOf (asked_of command.now) selector
-        × Gives (command_output command.now selector input.now) result }
+        × Gives string_bytes (command_output command.now selector input.now) result }
     ensures identity { PrintsBack (command_print command.now (document input.now)) result }
 
     // What is no text, or too long, is not understood before memory is asked for.
     ensures no_text { ¬ (IsUtf8 input.now) → result ≡ Err Failure.NotUnderstood }
     ensures long { u32.MAX < length input.now → result ≡ Err Failure.NotUnderstood }
 {
-    given(alloc, command, input, false)
+    let mut document = read(alloc, input, options_of(command))?;
+    answer(alloc, command, &mut document)
+}
+
+// The same in a program that ends soon: the memory of the page's document is not taken back.
+#[tactic(auto, using(tl_page::proofs::Pages::pages))]
+fn last_output(alloc: Global, command: &Command<'_>, input: &[u8]) -> Result<String, Failure>
+    ensures outcome { let selector = selector_of (asked_of command.now) in
+        Gives string_bytes (command_output command.now selector input.now) result }
+    ensures identity { PrintsBack (command_print command.now (document input.now)) result }
+    ensures no_text { ¬ (IsUtf8 input.now) → result ≡ Err Failure.NotUnderstood }
+    ensures long { u32.MAX < length input.now → result ≡ Err Failure.NotUnderstood }
+{
+    let mut document = read(alloc, input, options_of(command))?;
+    let answer = answer(alloc, command, &mut document);
+    mem::forget(document);
+    answer
 }
 
 /// Runs a command on what the reader has left, writes what it gives, and answers the status.
@@ -108,7 +109,7 @@ pub fn run<R: Input, W: Output>(
         Ok(Page::TooLong) => return Failure::NotUnderstood as u8,
         Err(failure) => return failure as u8,
     };
-    let output = match given(alloc, command, &input, true) {
+    let output = match last_output(alloc, command, &input) {
         Ok(output) => output,
         Err(failure) => return failure as u8,
     };

@@ -1,10 +1,10 @@
-use Rattle.std.proofs.Common.{sym, subst}
-use Rattle.tl_program.specs.Output.{Gives}
-use Rattle.tl_program.proofs.Selecting.{numbers_found}
+use Rattle.std.proofs.Common.{string_bytes, subst, ap}
+use Rattle.tl.proofs.Queries.{query-reading}
+use Rattle.tl_page.specs.Outcome.{Gives}
+use Rattle.tl_program.specs.Output.{outcome_of_numbers}
 use Rattle.tl_program.proofs.program.lookup.by_selector.Goals as goal
 
 pub returns : goal.returns
 returns c =
-    subst (λ outcome. Gives outcome c.lines_found.result)
-    (sym (numbers_found c.args.document.now c.args.selector.now _ c.in_ok-found.ensures.ok))
-    c.lines_found.ensures.outcome
+    let is = query-reading c.args.document.now c.args.selector.now _ c.in_ok-found.ensures.ok in
+    subst (λ found. Gives string_bytes (outcome_of_numbers found) c.lines_found.result) is c.lines_found.ensures.outcome

@@ -16,8 +16,8 @@ returns-in-Err-clause-run g c =
     let asked = asked_of c.args.command.now in
     (selector_of asked, IsSelectorOf-selector_of asked, search rules)
 
-pub returns-in-Err-given-clause-run : goal.returns-in-Err-given-clause-run
-returns-in-Err-given-clause-run g c =
+pub returns-in-Err-last_output-clause-run : goal.returns-in-Err-last_output-clause-run
+returns-in-Err-last_output-clause-run g c =
     let asked = asked_of c.args.command.now in
     (selector_of asked, IsSelectorOf-selector_of asked, search rules)
 
