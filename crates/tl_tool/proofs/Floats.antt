@@ -1,5 +1,5 @@
 -- What is said of nodes has no float.
-use Rattle.std.proofs.Common.{◌≡◌, ℕ, Bool, true, false, ◌||◌, List, [], ◌∷◌, fold, Option, None, Some, Result, Ok, Err, Ordering, Less, Equal, Greater, refl, slice_get, nat_cmp}
+use Rattle.std.proofs.Common.{◌≡◌, ℕ, Bool, true, false, ◌||◌, List, [], ◌∷◌, fold, Option, None, Some, Ordering, Less, Equal, Greater, refl, slice_get, nat_cmp}
 use Rattle.std.specs.Cmp.Lexicographic.{slice_cmp}
 use Rattle.std.specs.Option.{option_map_or}
 use Rattle.std.specs.Ordering.{match_ordering}
@@ -11,8 +11,9 @@ use Rattle.tl_spec.specs.AttributeList.{printed_pairs}
 use Rattle.tl_spec.specs.Document.{Node, Tag, Raw, Comment}
 use Rattle.tl_spec.specs.Element.{name_of}
 use Rattle.tl_spec.specs.Text.{inner_text}
-use Rattle.tl_spec.specs.Walk.{TreeFault, Dangling, plain_attributes}
-use Rattle.tl_tool.specs.Objects.{attributes_data, data_at, followed, list_data, node_data, value_data, with_pair, with_text}
+use Rattle.tl_spec.specs.Walk.{plain_attributes}
+use Rattle.tl_page.specs.Outcome.{Outcome, followed_by, not_understood, outcome_map, outcome_of, refused, success}
+use Rattle.tl_tool.specs.Objects.{attributes_data, data_at, list_data, node_data, value_data, with_pair}
 
 in_order : (o : Ordering) (a b c : Members) → members_have_float a ≡ false → members_have_float b ≡ false → members_have_float c ≡ false
     → members_have_float (match_ordering o a b c) ≡ false
@@ -55,24 +56,27 @@ attributes_none (Comment bytes) = refl
 node_none : (n : ℕ) (node : Node) (text : List ℕ) → has_float (node_data n node text) ≡ false
 node_none n node text = neither _ _ (attributes_none node) (neither _ _ (value_none (name_of node)) refl)
 
-text_none : (n : ℕ) (node : Node) (text : Result (List ℕ) TreeFault) (d : Data) → with_text n node text ≡ Ok d → has_float d ≡ false
-text_none n node (Ok text) d e = let same : d ≡ node_data n node text = cc in rw same (node_none n node text)
-text_none n node (Err fault) d e = absurd (cc)
+mapped_none : (n : ℕ) (node : Node) (text : Outcome (List ℕ)) (d : Data) → outcome_map (node_data n node) text ≡ success d → has_float d ≡ false
+mapped_none n node (success text) d e = let same : d ≡ node_data n node text = cc in rw same (node_none n node text)
+mapped_none n node refused d e = absurd (cc)
+mapped_none n node not_understood d e = absurd (cc)
 
-at_none : (nodes : List Node) (n : ℕ) (found : Option Node) (d : Data) → option_map_or (λ node. with_text n node (inner_text nodes node)) found (Err (Dangling n)) ≡ Ok d
-    → has_float d ≡ false
+at_none : (nodes : List Node) (n : ℕ) (found : Option Node) (d : Data)
+    → option_map_or (λ node. outcome_map (node_data n node) (outcome_of (inner_text nodes node))) found refused ≡ success d → has_float d ≡ false
 at_none nodes n None d e = absurd (cc)
-at_none nodes n (Some node) d e = text_none n node (inner_text nodes node) d e
+at_none nodes n (Some node) d e = mapped_none n node (outcome_of (inner_text nodes node)) d e
 
-followed_none : (first : Result Data TreeFault) (later : Result (List Data) TreeFault) (ds : List Data)
-    → ((d : Data) → first ≡ Ok d → has_float d ≡ false) → ((es : List Data) → later ≡ Ok es → items_have_float (items_of es) ≡ false)
-    → followed first later ≡ Ok ds → items_have_float (items_of ds) ≡ false
-followed_none (Err fault) later ds one more e = absurd (cc)
-followed_none (Ok d) (Err fault) ds one more e = absurd (cc)
-followed_none (Ok d) (Ok es) ds one more e = let same : ds ≡ d ∷ es = cc in rw same (neither _ _ (one d refl) (more es refl))
+followed_none : (first : Outcome Data) (later : Outcome (List Data)) (ds : List Data)
+    → ((d : Data) → first ≡ success d → has_float d ≡ false) → ((es : List Data) → later ≡ success es → items_have_float (items_of es) ≡ false)
+    → followed_by (outcome_map (λ d. d ∷ []) first) later ≡ success ds → items_have_float (items_of ds) ≡ false
+followed_none refused later ds one more e = absurd (cc)
+followed_none not_understood later ds one more e = absurd (cc)
+followed_none (success d) refused ds one more e = absurd (cc)
+followed_none (success d) not_understood ds one more e = absurd (cc)
+followed_none (success d) (success es) ds one more e = let same : ds ≡ d ∷ es = cc in rw same (neither _ _ (one d refl) (more es refl))
 
 -- what is said of the nodes of numbers has no float
-pub list_none : (nodes : List Node) (numbers : List ℕ) (ds : List Data) → list_data nodes numbers ≡ Ok ds → items_have_float (items_of ds) ≡ false
+pub list_none : (nodes : List Node) (numbers : List ℕ) (ds : List Data) → list_data nodes numbers ≡ success ds → items_have_float (items_of ds) ≡ false
 list_none nodes [] ds e = let none : ds ≡ [] = cc in rw none refl
 list_none nodes (n ∷ numbers) ds e =
     followed_none (data_at nodes n) (list_data nodes numbers) ds (at_none nodes n (slice_get nodes n)) (list_none nodes numbers) e

@@ -1,3 +1,3 @@
 pub mod Commas
 mod Floats
-pub mod Listing
+pub mod Selecting

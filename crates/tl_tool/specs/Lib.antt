@@ -1,5 +1,8 @@
+pub mod Findings
+pub mod Lines
 pub mod Made
 pub mod Named
 pub mod Objects
 pub mod Reports
 pub mod Said
+pub mod Slips

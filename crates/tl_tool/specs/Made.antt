@@ -1,55 +1,78 @@
 -- What is made of a page.
-use Rattle.std.specs.Prelude.{ℕ, Bool, true, false, List, [], ◌∷◌, ◌==◌, if◌then◌else◌}
-use Rattle.tl_program.specs.Asked.{asked_of, selector_of}
-use Rattle.tl_program.specs.Output.{Outcome, command_output}
+use Rattle.std.specs.Prelude.{◌≡◌, ℕ, List, flat_map, length, map, Option, None, Some}
+use Rattle.tl_spec.specs.Document.{Document}
+use Rattle.tl_spec.specs.Edit.{Change, edited_all}
+use Rattle.tl_spec.specs.Print.{document_print, print}
+use Rattle.tl_spec.specs.Selector.{Selector}
+use Rattle.tl_spec.specs.Text.{document_text}
+use Rattle.tl.specs.Query.{matches_in}
+use Rattle.tl_page.specs.Outcome.{Outcome, joined, outcome_map, outcome_of, refused, success}
+use Rattle.tl_page.specs.Page.{outcome_in}
+use Rattle.tl_program.specs.Asked.{StandsFor}
+use Rattle.tl_program.specs.Output.{outcome_of_edited}
+use Rattle.tl_program.specs.Steps.{changes_in}
+use Rattle.tl_safe.specs.Kept.{kept, trees_of}
+use Rattle.tl_safe.specs.Lists.{ListedWords}
 use Rattle.tl_safe.specs.Policies.{lists_of}
-use Rattle.tl_pick.specs.Counted.{counts}
-use Rattle.tl_pick.specs.First.{first_pick}
-use Rattle.tl_pick.specs.Linked.{links_of_page}
-use Rattle.tl_pick.specs.Outlined.{outline_of_page}
-use Rattle.tl_pick.specs.Picked.{picks, want_of}
-use Rattle.tl_pick.specs.Readable.{readable_of_page}
-use Rattle.tl_pick.specs.Safe.{safe_page}
-use Rattle.tl_tool.specs.Objects.{objects_of_page}
+use Rattle.tl_extract.specs.Field.{fields, first_field}
+use Rattle.tl_extract.specs.Links.{links_of}
+use Rattle.tl_extract.specs.Outline.{outline_of}
+use Rattle.tl_extract.specs.Readable.{readable_of}
+use Rattle.tl_tool.specs.Findings.{Finding, first_line, listed, number_line, whole}
+use Rattle.tl_tool.specs.Lines.{ended, link_line}
+use Rattle.tl_tool.specs.Objects.{array_line, list_data}
+use Rattle.tl_tool.specs.declared.question.Question.{Question}
+use Rattle.tl_tool.specs.declared.question.Question.TheVariants.{Select, First, Count, Objects, Links, Text, Readable, Print, Outline}
 use Rattle.tl_tool.specs.declared.task.Task.{Task}
-use Rattle.tl_tool.specs.declared.task.Task.TheVariants.{Select, First, Count, Objects, Links, Readable, Outline, Run, Sanitise}
+use Rattle.tl_tool.specs.declared.task.Task.TheVariants.{Ask, Edit, Sanitise}
 
--- what a task makes of a page, where what is listed ends with these bytes
-abbrev pub made_of : Task → List ℕ → List ℕ → Outcome
-made_of (Select selector wanted) end page = picks (want_of wanted) end selector.now page
-made_of (First selector wanted) end page = first_pick (want_of wanted) end selector.now page
-made_of (Count selector) end page = counts end selector.now page
-made_of (Objects selector) end page = objects_of_page end selector.now page
-made_of Links end page = links_of_page end page
-made_of Readable end page = readable_of_page page
-made_of Outline end page = outline_of_page page
-made_of (Run command) end page = command_output command (selector_of (asked_of command)) page
-made_of (Sanitise policy) end page = safe_page (lists_of policy) page
+-- the selector of what is asked: that of a text, if it stands for one, and else none
+abbrev pub IsSelectorOf : Question → Option Selector → Type 0
+IsSelectorOf (Select text field) selector = StandsFor text.now selector
+IsSelectorOf (First text field) selector = StandsFor text.now selector
+IsSelectorOf (Count text) selector = StandsFor text.now selector
+IsSelectorOf (Objects text) selector = StandsFor text.now selector
+IsSelectorOf Links selector = selector ≡ None
+IsSelectorOf Text selector = selector ≡ None
+IsSelectorOf Readable selector = selector ≡ None
+IsSelectorOf Print selector = selector ≡ None
+IsSelectorOf Outline selector = selector ≡ None
 
--- whether a text has bytes
-abbrev pub is_some_text : List ℕ → Bool
-is_some_text [] = false
-is_some_text (byte ∷ text) = true
+-- what is made by a selector; a text that stands for none is refused
+abbrev pub by_selector : {X : Type 0} → (Selector → Outcome X) → Option Selector → Outcome X
+by_selector make None = refused
+by_selector make (Some e) = make e
 
--- whether a number in decimal is another one than 0
-abbrev pub is_some_number : List ℕ → Bool
-is_some_number [] = true
-is_some_number (digit ∷ text) = if digit == 48 then false else true
+-- what is answered of a document by the selector, where what is listed ends with these bytes
+abbrev pub answer_of : Question → Option Selector → List ℕ → Document → Outcome Finding
+answer_of (Select text field) selector end d =
+    by_selector (λ e. outcome_map listed (joined (map (ended end) (fields field d.nodes (matches_in d e))))) selector
+answer_of (First text field) selector end d =
+    by_selector (λ e. outcome_map (first_line end) (first_field field d.nodes (matches_in d e))) selector
+answer_of (Count text) selector end d = by_selector (λ e. success (number_line end (length (matches_in d e)))) selector
+answer_of (Objects text) selector end d = by_selector (λ e. outcome_map (array_line end) (list_data d.nodes (matches_in d e))) selector
+answer_of Links selector end d = success (whole (flat_map (link_line end) (links_of d.nodes)))
+answer_of Text selector end d = outcome_map whole (outcome_of (document_text d))
+answer_of Readable selector end d = outcome_map whole (outcome_of (readable_of d))
+answer_of Print selector end d = outcome_map whole (outcome_of (document_print d))
+answer_of Outline selector end d = success (whole (outline_of d))
 
--- whether an array of JSON has objects
-abbrev pub is_some_array : List ℕ → Bool
-is_some_array (bracket ∷ byte ∷ text) = if byte == 93 then false else true
-is_some_array (bracket ∷ []) = true
-is_some_array [] = true
+-- the print of a document after edits
+abbrev pub edit_of : List Change → Document → Outcome Finding
+edit_of changes d = outcome_map whole (outcome_of_edited (edited_all changes d))
 
--- whether what a task made says that something was found
-abbrev pub is_found : Task → List ℕ → Bool
-is_found (Select selector wanted) text = is_some_text text
-is_found (First selector wanted) text = is_some_text text
-is_found (Count selector) text = is_some_number text
-is_found (Objects selector) text = is_some_array text
-is_found Links text = true
-is_found Readable text = true
-is_found Outline text = true
-is_found (Run command) text = true
-is_found (Sanitise policy) text = true
+-- the print of what lists let stand of a page
+abbrev pub safe_of : ListedWords → List ℕ → Outcome Finding
+safe_of lists page = outcome_in (λ d. success (whole (print (kept lists (trees_of page))))) page
+
+-- the selector of a task
+abbrev pub IsSelectorIn : Task → Option Selector → Type 0
+IsSelectorIn (Ask question) selector = IsSelectorOf question selector
+IsSelectorIn (Edit steps) selector = selector ≡ None
+IsSelectorIn (Sanitise policy) selector = selector ≡ None
+
+-- what a task makes of a page; one that is no text, or too long, is not understood
+abbrev pub made_of : Task → Option Selector → List ℕ → List ℕ → Outcome Finding
+made_of (Ask question) selector end page = outcome_in (answer_of question selector end) page
+made_of (Edit steps) selector end page = outcome_in (edit_of (changes_in steps.items)) page
+made_of (Sanitise policy) selector end page = safe_of (lists_of policy) page

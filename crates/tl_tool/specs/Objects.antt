@@ -1,24 +1,18 @@
 -- Nodes as JSON.
-use Rattle.std.specs.Prelude.{◌≡◌, Vec, ℕ, List, [], ◌∷◌, ◌++◌, codes, fold, map, Option, None, Some, Result, Ok, Err, slice_get}
-use Rattle.std.specs.Global.{Global}
+use Rattle.std.specs.Prelude.{ℕ, Bool, true, false, List, [], ◌∷◌, ◌++◌, codes, fold, map, Option, None, Some, slice_get}
 use Rattle.std.specs.Option.{option_map_or}
 use Rattle.std.specs.Str.Lossy.{utf8_lossy}
 use Rattle.serde_json.specs.Data.{Data, null, string, number, unsigned, array, object, Members, no_members, member, put}
-use Rattle.serde_json.specs.View.{items_of, view}
+use Rattle.serde_json.specs.View.{items_of}
 use Rattle.serde_json.specs.Written.{compact_text}
-use Rattle.serde_json.specs.declared.value.Value.{Value}
 use Rattle.tl_spec.specs.Attribute.{Pair}
 use Rattle.tl_spec.specs.AttributeList.{printed_pairs}
-use Rattle.tl_spec.specs.Document.{Document, Node, Tag, Raw, Comment, document}
+use Rattle.tl_spec.specs.Document.{Node, Tag, Raw, Comment}
 use Rattle.tl_spec.specs.Element.{name_of}
-use Rattle.tl_spec.specs.Selector.{Selector}
-use Rattle.tl_spec.specs.SelectorReading.{selector_at}
 use Rattle.tl_spec.specs.Text.{inner_text}
-use Rattle.tl_spec.specs.Walk.{TreeFault, Dangling, plain_attributes}
-use Rattle.tl_program.specs.Output.{Outcome, Fails, refused, success_of}
-use Rattle.tl_program.specs.declared.program.failure.Failure.{Failure}
-use Rattle.tl_pick.specs.Found.{found_in}
-use Rattle.tl_pick.specs.Page.{outcome_of_page}
+use Rattle.tl_spec.specs.Walk.{plain_attributes}
+use Rattle.tl_page.specs.Outcome.{Outcome, joined, outcome_map, outcome_of, refused}
+use Rattle.tl_tool.specs.Findings.{Finding}
 
 -- bytes as a text; null where there are none
 abbrev pub value_data : Option (List ℕ) → Data
@@ -49,60 +43,23 @@ object_of attributes name n text = object (member (codes "attributes") attribute
 abbrev pub node_data : ℕ → Node → List ℕ → Data
 node_data n node text = object_of (attributes_data node) (value_data (name_of node)) n text
 
--- the same, or the fault of its text
-abbrev pub with_text : ℕ → Node → Result (List ℕ) TreeFault → Result Data TreeFault
-with_text n node (Ok text) = Ok (node_data n node text)
-with_text n node (Err fault) = Err fault
+-- what is said of the node of a number, which is refused past the table
+abbrev pub data_at : List Node → ℕ → Outcome Data
+data_at nodes n = option_map_or (λ node. outcome_map (node_data n node) (outcome_of (inner_text nodes node))) (slice_get nodes n) refused
 
--- what is said of the node of a number, which is a fault past the table
-abbrev pub data_at : List Node → ℕ → Result Data TreeFault
-data_at nodes n = option_map_or (λ node. with_text n node (inner_text nodes node)) (slice_get nodes n) (Err (Dangling n))
-
--- one more before others, or the first fault
-abbrev pub followed : Result Data TreeFault → Result (List Data) TreeFault → Result (List Data) TreeFault
-followed (Err fault) later = Err fault
-followed (Ok d) (Err fault) = Err fault
-followed (Ok d) (Ok later) = Ok (d ∷ later)
+-- the same as a list
+abbrev pub one_data : List Node → ℕ → Outcome (List Data)
+one_data nodes n = outcome_map (λ d. d ∷ []) (data_at nodes n)
 
 -- what is said of the nodes of these numbers, in order
-abbrev pub list_data : List Node → List ℕ → Result (List Data) TreeFault
-list_data nodes [] = Ok []
-list_data nodes (n ∷ numbers) = followed (data_at nodes n) (list_data nodes numbers)
+abbrev pub list_data : List Node → List ℕ → Outcome (List Data)
+list_data nodes numbers = joined (map (one_data nodes) numbers)
 
--- an array, and what ends it; a fault is refused
-abbrev pub outcome_of_list : List ℕ → Result (List Data) TreeFault → Outcome
-outcome_of_list end (Ok list) = success_of (compact_text (array (items_of list)) ++ end)
-outcome_of_list end (Err fault) = refused
+-- whether there is something
+abbrev pub has_items : {X : Type 0} → List X → Bool
+has_items [] = false
+has_items (x ∷ xs) = true
 
--- the array of the nodes that were found; a text that stands for no selector finds none, and is
--- refused
-abbrev pub outcome_of_objects : List ℕ → List Node → Option (List ℕ) → Outcome
-outcome_of_objects end nodes None = refused
-outcome_of_objects end nodes (Some numbers) = outcome_of_list end (list_data nodes numbers)
-
--- the array of the nodes of a document where a selector holds
-abbrev pub objects_of_document : List ℕ → Option Selector → Document → Outcome
-objects_of_document end selector d = outcome_of_objects end d.nodes (found_in selector d)
-
--- the same of a text
-abbrev pub objects_of_text : List ℕ → List ℕ → List ℕ → Outcome
-objects_of_text end selector text = objects_of_document end (selector_at selector) (document text)
-
--- the same of a page
-abbrev pub objects_of_page : List ℕ → List ℕ → List ℕ → Outcome
-objects_of_page end selector page = outcome_of_page (objects_of_text end selector) page
-
--- what a reading that fails says; one that has a value fails by want of memory alone
-abbrev pub failing_of : {A : Type 0} → Result A TreeFault → Outcome
-failing_of (Ok value) = success_of []
-failing_of (Err fault) = refused
-
--- the value or the failure are this reading, or memory ran out
-abbrev pub GivesData : Result Data TreeFault → Result Value Failure → Type 0
-GivesData reading (Ok value) = reading ≡ Ok (view value)
-GivesData reading (Err failure) = Fails (failing_of reading) failure
-
--- the same of values
-abbrev pub GivesList : Result (List Data) TreeFault → Result (Vec Value Global) Failure → Type 0
-GivesList reading (Ok values) = reading ≡ Ok (map view values.items)
-GivesList reading (Err failure) = Fails (failing_of reading) failure
+-- an array and what ends it
+abbrev pub array_line : List ℕ → List Data → Finding
+array_line end list = record { text = compact_text (array (items_of list)) ++ end; is_found = has_items list }

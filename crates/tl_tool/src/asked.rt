@@ -1,12 +1,17 @@
 //! What the words of the program ask for.
+ghost use Rattle.std.specs.Prelude.{◌≡◌};
+ghost use Rattle.clap.specs.Values.{kind_of};
+ghost use Rattle.clap.specs.declared.error.kind.ErrorKind.TheVariants.{OutOfMemory as NoMemory};
+ghost use Rattle.tl_tool.specs.declared.asked.Slip.TheVariants.{OutOfMemory};
+
 use crate::lists::Texts;
+use crate::question::Question;
 use crate::task::Task;
-use crate::words::program;
+use crate::words::{Verb, program};
 use clap::error::ErrorKind;
 use clap::{ArgMatches, Error};
 use std::alloc::{AllocError, AllocFailed, Global};
-use tl_pick::Wanted;
-use tl_program::program::Command;
+use tl_extract::Field;
 use tl_program::script::{Step, steps};
 
 /// The pages, and how what is made of them is written.
@@ -43,24 +48,36 @@ pub struct Asked<'w> {
 pub enum Slip<'w> {
     /// The words are not understood, or ask for help or the version.
     Words(Error),
-    /// This word is no step.
+    /// They name no command.
+    NoCommand,
+    /// A word of `edit` that is empty.
+    EmptyStep,
+    /// One of several lines.
+    LinesOfSteps(&'w str),
+    /// One that says no step.
     NoStep(&'w str),
     OutOfMemory,
 }
 
 impl From<AllocError> for Slip<'_> {
+    ghost from_gives = { λ _ slip. slip ≡ OutOfMemory };
+
     fn from(_: AllocError) -> Self {
         Slip::OutOfMemory
     }
 }
 
 impl<T: Drop> From<AllocFailed<T>> for Slip<'_> {
+    ghost from_gives = { λ _ slip. slip ≡ OutOfMemory };
+
     fn from(_: AllocFailed<T>) -> Self {
         Slip::OutOfMemory
     }
 }
 
 impl From<Error> for Slip<'_> {
+    ghost from_gives = { λ error slip. kind_of error ≡ NoMemory → slip ≡ OutOfMemory };
+
     fn from(error: Error) -> Self {
         match error.kind() {
             ErrorKind::OutOfMemory => Slip::OutOfMemory,
@@ -70,31 +87,31 @@ impl From<Error> for Slip<'_> {
 }
 
 // What is written of each node.
-fn wanted<'w>(matches: &ArgMatches<'w>) -> Wanted<'w> {
+fn field<'w>(matches: &ArgMatches<'w>) -> Field<'w> {
     if let Some(key) = matches.get_str("attribute") {
-        Wanted::Value(key)
+        Field::Attribute(key)
     } else if matches.get_flag("text") {
-        Wanted::Text
+        Field::InnerText
     } else if matches.get_flag("inside") {
-        Wanted::Inside
+        Field::InnerHtml
     } else if matches.get_flag("number") {
-        Wanted::Number
+        Field::Number
     } else {
-        Wanted::Print
+        Field::OuterHtml
     }
 }
 
-// What is made of the nodes where a selector holds.
-fn selection<'w>(matches: &ArgMatches<'w>) -> Task<'w> {
+// What is asked of the nodes where a selector holds.
+fn selection<'w>(matches: &ArgMatches<'w>) -> Question<'w> {
     let selector = matches.get_str("SELECTOR").unwrap_or("");
     if matches.get_flag("count") {
-        Task::Count(selector)
+        Question::Count(selector)
     } else if matches.get_flag("json") {
-        Task::Objects(selector)
+        Question::Objects(selector)
     } else if matches.get_flag("first") {
-        Task::First(selector, wanted(matches))
+        Question::First(selector, field(matches))
     } else {
-        Task::Select(selector, wanted(matches))
+        Question::Select(selector, field(matches))
     }
 }
 
@@ -110,8 +127,14 @@ fn values<'w>(
     }
 }
 
-// Adds the steps that a word says.
-fn add_steps<'w>(alloc: Global, all: &mut Vec<Step<'w>>, word: &'w str) -> Result<(), Slip<'w>> {
+// Adds the step that a word says.
+fn add_step<'w>(alloc: Global, all: &mut Vec<Step<'w>>, word: &'w str) -> Result<(), Slip<'w>> {
+    if word.is_empty() {
+        return Err(Slip::EmptyStep);
+    }
+    if word.contains('\n') {
+        return Err(Slip::LinesOfSteps(word));
+    }
     let Some(said) = steps(alloc, word)? else {
         return Err(Slip::NoStep(word));
     };
@@ -121,13 +144,13 @@ fn add_steps<'w>(alloc: Global, all: &mut Vec<Step<'w>>, word: &'w str) -> Resul
     Ok(())
 }
 
-// The print after the steps that words say.
+// The steps that words say, one each.
 fn edit<'w>(alloc: Global, words: &[&'w str]) -> Result<Task<'w>, Slip<'w>> {
     let mut all = Vec::new(alloc);
     for word in words {
-        add_steps(alloc, &mut all, word)?;
+        add_step(alloc, &mut all, word)?;
     }
-    Ok(Task::Run(Command::Edit(all)))
+    Ok(Task::Edit(all))
 }
 
 // The lists that are said.
@@ -142,19 +165,19 @@ fn lists<'w>(matches: &ArgMatches<'w>) -> Texts<'w> {
 }
 
 // What a command makes of pages.
-fn wished<'w>(alloc: Global, name: &str, matches: &ArgMatches<'w>) -> Result<Wish<'w>, Slip<'w>> {
-    let task = match name {
-        "select" => selection(matches),
-        "links" => Task::Links,
-        "text" if matches.get_flag("whitespace") => Task::Readable,
-        "text" => Task::Run(Command::Text),
-        "outline" => Task::Outline,
-        "edit" => edit(alloc, &values(alloc, matches, "STEP")?)?,
-        "sanitise" if matches.get_flag("policy") => return Ok(Wish::Policy(lists(matches))),
-        "sanitise" => return Ok(Wish::Safe(lists(matches))),
-        _ => Task::Run(Command::Print),
+fn wished<'w>(alloc: Global, verb: Verb, matches: &ArgMatches<'w>) -> Result<Wish<'w>, Slip<'w>> {
+    let question = match verb {
+        Verb::Select => selection(matches),
+        Verb::Links => Question::Links,
+        Verb::Text if matches.get_flag("whitespace") => Question::Readable,
+        Verb::Text => Question::Text,
+        Verb::Print => Question::Print,
+        Verb::Outline => Question::Outline,
+        Verb::Edit => return Ok(Wish::Task(edit(alloc, &values(alloc, matches, "STEP")?)?)),
+        Verb::Sanitise if matches.get_flag("policy") => return Ok(Wish::Policy(lists(matches))),
+        Verb::Sanitise => return Ok(Wish::Safe(lists(matches))),
     };
-    Ok(Wish::Task(task))
+    Ok(Wish::Task(Task::Ask(question)))
 }
 
 // The pages of a command.
@@ -169,9 +192,14 @@ fn pages_of<'w>(alloc: Global, matches: &ArgMatches<'w>) -> Result<Pages<'w>, Al
 /// What words ask for; the first is the name of the program.
 pub fn read<'w>(alloc: Global, words: &'w [String]) -> Result<Asked<'w>, Slip<'w>> {
     let matches = program(alloc)?.try_get_matches_from(words)?;
-    let (name, own) = matches.subcommand().unwrap_or(("", &matches));
+    let Some((word, own)) = matches.subcommand() else {
+        return Err(Slip::NoCommand);
+    };
+    let Some(verb) = Verb::of(word) else {
+        return Err(Slip::NoCommand);
+    };
     Ok(Asked {
-        wish: wished(alloc, name, own)?,
+        wish: wished(alloc, verb, own)?,
         pages: pages_of(alloc, own)?,
     })
 }

@@ -1,24 +1,32 @@
 //! `tl` for people: reads pages of HTML, however broken. `tl --help` says what it does.
 #![tactic(auto)]
 
+ghost use Rattle.std.specs.Prelude.{◌≡◌, Err, IfErr};
+ghost use Rattle.tl_page.specs.declared.failure.Failure.TheVariants.{NotUnderstood, OutOfMemory as NoMemory};
+ghost use Rattle.tl_tool.specs.declared.asked.Slip.TheVariants.{OutOfMemory};
+ghost use Rattle.tl_tool.specs.Slips.{IsNoStep};
+
 mod asked;
+mod lines;
 mod lists;
 mod named;
 mod objects;
+mod output;
 mod pages;
+mod question;
 mod reports;
 mod task;
 mod words;
 
 use asked::{Pages, Slip, Wish, read};
+use clap::Error;
 use lists::{Texts, WordLists, lines_of};
-use pages::{failure_of, over_pages, say, write};
-use std::alloc::AllocError;
+use pages::{STANDARD_OUTPUT, over_pages, say, write};
 use std::env;
 use std::io::ErrorKind;
 use std::process::ExitCode;
 use task::Task;
-use tl_program::program::Failure;
+use tl_page::{Cause, Failure};
 use tl_safe::{Lists, Policy};
 
 fn main(rt: HostRuntime) -> ExitCode {
@@ -28,29 +36,34 @@ fn main(rt: HostRuntime) -> ExitCode {
     }
 }
 
-// The words of the command line.
+// The words of the command line. What fails is said.
 fn arguments(rt: &HostRuntime) -> Result<Vec<String>, Failure> {
     let given = match env::args(rt) {
         Ok(given) => given,
-        Err(error) if error.kind() == ErrorKind::OutOfMemory => return Err(Failure::OutOfMemory),
-        Err(_) => return Err(Failure::NotUnderstood),
+        Err(error) if error.kind() == ErrorKind::OutOfMemory => {
+            return Err(said(rt, "words", Failure::OutOfMemory));
+        }
+        Err(_) => {
+            let cause = Cause::NoText;
+            let _ = eprintln!(rt; "tl: words: {cause}");
+            return Err(Failure::NotUnderstood);
+        }
     };
     let mut words = Vec::new(rt.alloc());
     for word in given {
-        words.push(word).map_err(AllocError::from)?;
+        if words.push(word).is_err() {
+            return Err(said(rt, "words", Failure::OutOfMemory));
+        }
     }
     Ok(words)
 }
 
 // Does what the words ask for, and answers the status. What fails was said then.
 fn run(rt: &HostRuntime) -> Result<u8, Failure> {
-    let words = match arguments(rt) {
-        Ok(words) => words,
-        Err(failure) => return Err(said(rt, "words", failure)),
-    };
+    let words = arguments(rt)?;
     match read(rt.alloc(), &words) {
         Ok(asked) => match &asked.wish {
-            Wish::Task(task) => Ok(over_pages(rt, task, &asked.pages)),
+            Wish::Task(task) => over_pages(rt, task, &asked.pages),
             Wish::Safe(texts) => sanitise(rt, texts, &asked.pages),
             Wish::Policy(texts) => write_policy(rt, texts),
         },
@@ -59,27 +72,49 @@ fn run(rt: &HostRuntime) -> Result<u8, Failure> {
 }
 
 // A failure, once it is said.
-fn said(rt: &HostRuntime, name: &str, failure: Failure) -> Failure {
+fn said(rt: &HostRuntime, name: &str, failure: Failure) -> Failure
+    ensures { result ≡ failure }
+{
     say(rt, name, failure);
     failure
 }
 
-// Says why nothing is made, or what was asked for in its place.
-fn status_of_slip(rt: &HostRuntime, slip: &Slip<'_>) -> Result<u8, Failure> {
-    match slip {
-        Slip::Words(error) if error.print(rt).is_err() => Err(Failure::Fault),
-        Slip::Words(error) if error.use_stderr() => Err(Failure::NotUnderstood),
-        Slip::Words(_) => Ok(0),
-        Slip::NoStep(word) => {
-            let _ = eprintln!(rt; "tl: no step: {word}");
-            Err(Failure::NotUnderstood)
-        }
-        Slip::OutOfMemory => Err(said(rt, "words", Failure::OutOfMemory)),
+// Says what `clap` does: what is wrong with the words, or what was asked for, as help.
+fn answered(rt: &HostRuntime, error: &Error) -> Result<u8, Failure> {
+    match error.print(rt) {
+        Ok(()) if error.use_stderr() => Err(Failure::NotUnderstood),
+        Ok(()) => Ok(0),
+        Err(_) if error.use_stderr() => Err(Failure::Fault),
+        Err(_) => Err(said(rt, STANDARD_OUTPUT, Failure::Fault)),
     }
 }
 
+// Says why nothing is made, or what was asked for in its place.
+fn status_of_slip(rt: &HostRuntime, slip: &Slip<'_>) -> Result<u8, Failure>
+    ensures memory { slip.now ≡ OutOfMemory → result ≡ Err NoMemory }
+    ensures step { IsNoStep slip.now → result ≡ Err NotUnderstood }
+{
+    match slip {
+        Slip::Words(error) => return answered(rt, error),
+        Slip::OutOfMemory => return Err(said(rt, "words", Failure::OutOfMemory)),
+        Slip::NoCommand => return Err(said(rt, "words", Failure::NotUnderstood)),
+        Slip::EmptyStep => {
+            let _ = eprintln!(rt; "tl: no step: an empty word");
+        }
+        Slip::LinesOfSteps(word) => {
+            let _ = eprintln!(rt; "tl: no step, but several lines: {word}");
+        }
+        Slip::NoStep(word) => {
+            let _ = eprintln!(rt; "tl: no step: {word}");
+        }
+    }
+    Err(Failure::NotUnderstood)
+}
+
 // The lists that texts say.
-fn lists_of<'w>(rt: &HostRuntime, texts: &Texts<'w>) -> Result<WordLists<'w>, Failure> {
+fn lists_of<'w>(rt: &HostRuntime, texts: &Texts<'w>) -> Result<WordLists<'w>, Failure>
+    ensures { IfErr result (λ failure. failure ≡ NoMemory) }
+{
     match WordLists::of(rt.alloc(), texts) {
         Ok(lists) => Ok(lists),
         Err(_) => Err(said(rt, "words", Failure::OutOfMemory)),
@@ -87,7 +122,9 @@ fn lists_of<'w>(rt: &HostRuntime, texts: &Texts<'w>) -> Result<WordLists<'w>, Fa
 }
 
 // The policy of lists. A word that no policy may list is said.
-fn policy_of<'w>(rt: &HostRuntime, lists: Lists<'w>) -> Result<Policy<'w>, Failure> {
+fn policy_of<'w>(rt: &HostRuntime, lists: Lists<'w>) -> Result<Policy<'w>, Failure>
+    ensures { IfErr result (λ failure. failure ≡ NotUnderstood) }
+{
     match Policy::new(lists) {
         Ok(policy) => Ok(policy),
         Err(error) => {
@@ -101,7 +138,7 @@ fn policy_of<'w>(rt: &HostRuntime, lists: Lists<'w>) -> Result<Policy<'w>, Failu
 fn sanitise(rt: &HostRuntime, texts: &Texts<'_>, pages: &Pages<'_>) -> Result<u8, Failure> {
     let lists = lists_of(rt, texts)?;
     let policy = policy_of(rt, lists.lists())?;
-    Ok(over_pages(rt, &Task::Sanitise(policy), pages))
+    over_pages(rt, &Task::Sanitise(policy), pages)
 }
 
 // Writes the lists of these texts as options that say them.
@@ -114,6 +151,6 @@ fn write_policy(rt: &HostRuntime, texts: &Texts<'_>) -> Result<u8, Failure> {
     };
     match write(rt, text.as_bytes()) {
         Ok(()) => Ok(0),
-        Err(error) => Err(said(rt, "policy", failure_of(&error))),
+        Err(failure) => Err(said(rt, STANDARD_OUTPUT, failure)),
     }
 }

@@ -1,25 +1,29 @@
 //! Nodes as JSON.
-ghost use Rattle.std.specs.Prelude.{◌≡◌, ◌++◌, IfOk, OnOk, false, map, string_bytes};
+ghost use Rattle.std.specs.Prelude.{◌≡◌, ◌∷◌, [], IfOk, OnOk, false, map};
 ghost use Rattle.std.specs.Option.{option_copied};
 ghost use Rattle.std.specs.Str.Lossy.{utf8_lossy};
-ghost use Rattle.serde_json.specs.Data.{array, string};
+ghost use Rattle.serde_json.specs.Data.{string};
 ghost use Rattle.serde_json.specs.View.{items_of, members_view, view};
-ghost use Rattle.serde_json.specs.Written.{compact_text, items_have_float};
+ghost use Rattle.serde_json.specs.Written.{items_have_float};
 ghost use Rattle.tl_spec.specs.AttributeList.{printed_pairs};
 ghost use Rattle.tl_spec.specs.Element.{name_of};
-ghost use Rattle.tl_spec.specs.SelectorReading.{selector_at};
+ghost use Rattle.tl_spec.specs.Selector.{Selector};
+ghost use Rattle.tl_spec.specs.SelectorText.{IsSelectorText};
 ghost use Rattle.tl_spec.specs.Text.{inner_text};
 ghost use Rattle.tl_attributes.specs.ShownAttributes.{plain, shown_value};
+ghost use Rattle.tl.specs.Query.{matches_in};
 ghost use Rattle.tl.specs.Shown.{document_of, shown};
-ghost use Rattle.tl_program.specs.Output.{Gives};
-ghost use Rattle.tl_pick.specs.Page.{outcome_of_length};
-ghost use Rattle.tl_tool.specs.Objects.{attributes_data, data_at, list_data, node_data, object_of, objects_of_document, objects_of_page, objects_of_text, outcome_of_objects, pairs_data, value_data, with_pair, with_text, GivesData, GivesList};
+ghost use Rattle.tl_page.specs.Outcome.{Gives, outcome_map, outcome_of, refused};
+ghost use Rattle.tl_extract.specs.Field.{IsNoSelector};
+ghost use Rattle.tl_tool.specs.Findings.{finding_of};
+ghost use Rattle.tl_tool.specs.Objects.{array_line, attributes_data, data_at, list_data, node_data, object_of, pairs_data, value_data, with_pair};
 
+use crate::output::Output;
 use serde_json::{Map, Value, json, put};
 use std::alloc::{AllocError, Global};
 use tl::queryselector::QuerySelectorIterator;
-use tl::{Attributes, Bytes, Element, Node, NodeHandle, Parser, ParserOptions, VDom, parse};
-use tl_program::program::Failure;
+use tl::{Attributes, Bytes, Element, Node, NodeHandle, Parser, VDom};
+use tl_page::Failure;
 
 // Bytes as a text.
 fn text_value(alloc: Global, bytes: &[u8]) -> Result<Value, AllocError>
@@ -114,14 +118,15 @@ fn node_value(
 }
 
 // What is said of a node.
+#[tactic(auto, using(tl_page::proofs::Outcomes::readings))]
 fn object<'a>(
     alloc: Global,
     parser: &Parser<'a>,
     handle: NodeHandle,
     node: &Node<'a>,
 ) -> Result<Value, Failure>
-    ensures { let nodes = map shown parser.now.nodes in
-        GivesData (with_text handle (shown node.now) (inner_text nodes (shown node.now))) result }
+    ensures { let text = outcome_of (inner_text (map shown parser.now.nodes) (shown node.now)) in
+        Gives view (outcome_map (node_data handle (shown node.now)) text) result }
 {
     let text = node.inner_text(alloc, parser)?;
     Ok(node_value(alloc, handle, node, text.as_str())?)
@@ -129,7 +134,7 @@ fn object<'a>(
 
 // What is said of the node of a handle, which is refused past the table.
 fn object_at(alloc: Global, parser: &Parser<'_>, handle: NodeHandle) -> Result<Value, Failure>
-    ensures { GivesData (data_at (map shown parser.now.nodes) handle) result }
+    ensures { Gives view (data_at (map shown parser.now.nodes) handle) result }
 {
     match handle.get(parser) {
         Some(node) => object(alloc, parser, handle, node),
@@ -138,13 +143,14 @@ fn object_at(alloc: Global, parser: &Parser<'_>, handle: NodeHandle) -> Result<V
 }
 
 // What is said of the nodes that are left.
-#[tactic(auto, using(crate::proofs::Listing::listed))]
+#[tactic(auto, using(tl_page::proofs::Outcomes::followed))]
 fn objects(
     alloc: Global,
     found: QuerySelectorIterator<'_, '_>,
     parser: &Parser<'_>,
 ) -> Result<Vec<Value>, Failure>
-    ensures { GivesList (list_data (map shown parser.now.nodes) found.entry) result }
+    ensures { let listed = list_data (map shown parser.now.nodes) found.entry in
+        Gives (λ values. map view values.items) listed result }
 {
     let mut list = Vec::new(alloc);
     for handle in found {
@@ -154,64 +160,36 @@ fn objects(
     Ok(list)
 }
 
-// The text of an array, and what ends it.
-fn array_line(alloc: Global, list: Vec<Value>, end: &str) -> Result<String, AllocError>
-    ensures { let all = items_of (map view list.items) in
-        IfOk result (λ line. items_have_float all ≡ false
-        → string_bytes line ≡ compact_text (array all) ++ end.now) }
+// The text of an array and what ends it, and whether it has objects.
+fn array_of(alloc: Global, list: Vec<Value>, end: &str) -> Result<Output, AllocError>
+    ensures { let all = map view list.items in
+        IfOk result (λ line. items_have_float (items_of all) ≡ false
+        → finding_of line ≡ array_line end.now all) }
 {
-    let mut line = Value::Array(list).to_string(alloc)?;
-    line.push_str(end)?;
-    Ok(line)
+    let is_found = !list.is_empty();
+    let mut text = Value::Array(list).to_string(alloc)?;
+    text.push_str(end)?;
+    Ok(Output { text, is_found })
 }
 
-// The array of the nodes that were found; a text that stands for no selector finds none, and is
-// refused.
-fn array_found(
-    alloc: Global,
-    found: Option<QuerySelectorIterator<'_, '_>>,
-    parser: &Parser<'_>,
-    end: &str,
-) -> Result<String, Failure>
-    ensures { let nodes = map shown parser.now.nodes in
-        Gives (outcome_of_objects end.now nodes found.entry) result }
-{
-    match found {
-        Some(found) => Ok(array_line(alloc, objects(alloc, found, parser)?, end)?),
-        None => Err(Failure::Refused),
-    }
-}
-
-// The array of the nodes of a document where a selector holds.
-fn of_document(
+/// An array of JSON with an object for each node where the selector of a text holds, in order: its
+/// number, its name, its attributes and its text. A text that is no selector is refused.
+pub fn array(
     alloc: Global,
     document: &VDom<'_>,
     selector: &str,
     end: &str,
-) -> Result<String, Failure>
-    ensures { let objects = objects_of_document end.now (selector_at selector.now) in
-        Gives (objects (document_of document.now)) result }
+) -> Result<Output, Failure>
+    ensures objects { (e : Selector) → IsSelectorText selector.now e →
+        let d = document_of document.now in
+        let listed = list_data d.nodes (matches_in d e) in
+        Gives finding_of (outcome_map (array_line end.now) listed) result }
+    ensures no_selector { IsNoSelector selector.now → Gives finding_of refused result }
 {
-    let found = document.query_selector(alloc, selector)?;
-    array_found(alloc, found, document.parser(), end)
-}
-
-// The array of the nodes of a text.
-fn of_text(alloc: Global, text: &str, selector: &str, end: &str) -> Result<String, Failure>
-    ensures { Gives (outcome_of_length (objects_of_text end.now selector.now) text.now) result }
-{
-    let document = parse(alloc, text, ParserOptions::new())?;
-    of_document(alloc, &document, selector, end)
-}
-
-/// An array of JSON with an object for each node of a page where the selector of a text holds, in
-/// order, and what ends it: its number, its name, its attributes and its text. A text that is no
-/// selector is refused.
-pub fn array(alloc: Global, page: &[u8], selector: &str, end: &str) -> Result<String, Failure>
-    ensures { Gives (objects_of_page end.now selector.now page.now) result }
-{
-    match str::from_utf8(page) {
-        Ok(text) => of_text(alloc, text, selector, end),
-        Err(_) => Err(Failure::NotUnderstood),
-    }
+    let query = document.query_selector(alloc, selector)?;
+    let Some(found) = query else {
+        return Err(Failure::Refused);
+    };
+    let list = objects(alloc, found, document.parser())?;
+    Ok(array_of(alloc, list, end)?)
 }

@@ -1,8 +1,8 @@
 //! What came of the pages, and the status of all.
 ghost use Rattle.std.specs.Prelude.{◌≡◌};
-ghost use Rattle.tl_tool.specs.Reports.{no_page, status_of_reports, status_of_tally, with_answer};
+ghost use Rattle.tl_tool.specs.Reports.{is_unwritten, no_page, status_of_reports, status_of_tally, with_answer};
 
-use tl_program::program::Failure;
+use tl_page::Failure;
 
 /// What came of a page.
 #[derive(Clone, Copy)]
@@ -11,8 +11,22 @@ pub enum Answer {
     Found,
     /// Nothing was found.
     Nothing,
-    /// It failed.
+    /// There is nothing of it.
     Failed(Failure),
+    /// What was made of it could not be written.
+    Unwritten(Failure),
+}
+
+impl Answer {
+    /// Whether nothing more can be written.
+    pub fn is_unwritten(&self) -> bool
+        ensures { result ≡ is_unwritten self.now }
+    {
+        match self {
+            Answer::Unwritten(_) => true,
+            Answer::Found | Answer::Nothing | Answer::Failed(_) => false,
+        }
+    }
 }
 
 /// What came of the page in a file.
@@ -51,7 +65,7 @@ impl Tally {
                 ..self
             },
             Answer::Nothing => self,
-            Answer::Failed(failure) => Tally {
+            Answer::Failed(failure) | Answer::Unwritten(failure) => Tally {
                 failed: self.failed.max(failure as u8),
                 ..self
             },

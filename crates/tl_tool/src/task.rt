@@ -1,77 +1,80 @@
 //! What is made of a page.
-ghost use Rattle.std.specs.Prelude.{◌≡◌};
-ghost use Rattle.tl_program.specs.Output.{Gives, Outcome};
-ghost use Rattle.tl_pick.specs.Bytes.{GivesBytes};
-ghost use Rattle.tl_tool.specs.Made.{is_found, made_of};
+ghost use Rattle.std.specs.Prelude.{◌≡◌, ◌<◌, Err, IsUtf8, Option, length};
+ghost use Rattle.tl_spec.specs.Selector.{Selector};
+ghost use Rattle.tl_page.specs.Outcome.{Gives};
+ghost use Rattle.tl_page.specs.Page.{outcome_in};
+ghost use Rattle.tl_page.specs.declared.failure.Failure.TheVariants.{NotUnderstood};
+ghost use Rattle.tl_program.specs.Steps.{changes_in};
+ghost use Rattle.tl_safe.specs.Policies.{lists_of};
+ghost use Rattle.tl_tool.specs.Findings.{finding_of};
+ghost use Rattle.tl_tool.specs.Made.{IsSelectorIn, IsSelectorOf, answer_of, edit_of, made_of, safe_of};
 
-use crate::objects::array;
+use crate::output::Output;
+use crate::question::{Question, answer};
 use std::alloc::Global;
-use tl_pick::{Wanted, count, links, page_outline, page_readable, sanitise, select, select_first};
-use tl_program::program::{Command, Failure, output};
-use tl_safe::Policy;
+use tl::ParserOptions;
+use tl_page::{Failure, read, text};
+use tl_program::program::edited;
+use tl_program::script::Step;
+use tl_safe::{Policy, sanitised};
 
 /// What is made of each page.
 #[derive(Drop)]
 pub enum Task<'w> {
-    /// Something of each node where a selector holds.
-    Select(&'w str, Wanted<'w>),
-    /// Something of the first node where a selector holds.
-    First(&'w str, Wanted<'w>),
-    /// How many nodes there are where a selector holds.
-    Count(&'w str),
-    /// An object of JSON for each node where a selector holds.
-    Objects(&'w str),
-    /// Its links.
-    Links,
-    /// Its text, line by line.
-    Readable,
-    /// What its nodes are, by number.
-    Outline,
-    /// What a command of `tlq` makes of it.
-    Run(Command<'w>),
+    /// What is answered of its document.
+    Ask(Question<'w>),
+    /// Its print after steps.
+    Edit(Vec<Step<'w>>),
     /// A safe page.
     Sanitise(Policy<'w>),
 }
 
-// A text as bytes.
-fn bytes_of(text: Result<String, Failure>) -> Result<Vec<u8>, Failure>
-    ensures { (outcome : Outcome) → Gives outcome text → GivesBytes outcome result }
+// What is answered of the document of a page.
+#[tactic(auto, using(tl_page::proofs::Pages::pages))]
+fn ask(alloc: Global, question: &Question<'_>, end: &str, page: &[u8]) -> Result<Output, Failure>
+    ensures made { (selector : Option Selector) → IsSelectorOf question.now selector →
+        Gives finding_of (outcome_in (answer_of question.now selector end.now) page.now) result }
+    ensures no_text { ¬ (IsUtf8 page.now) → result ≡ Err NotUnderstood }
+    ensures long { u32.MAX < length page.now → result ≡ Err NotUnderstood }
 {
-    match text {
-        Ok(text) => Ok(text.into_bytes()),
-        Err(failure) => Err(failure),
-    }
+    let document = read(alloc, page, ParserOptions::new())?;
+    answer(alloc, question, end, &document)
 }
 
-/// What a task makes of a page; what it lists ends with `end`.
-pub fn made(alloc: Global, task: &Task<'_>, end: &str, page: &[u8]) -> Result<Vec<u8>, Failure>
-    ensures { GivesBytes (made_of task.now end.now page.now) result }
+// The print of a page after steps.
+#[tactic(auto, using(tl_page::proofs::Pages::pages))]
+fn edit(alloc: Global, steps: &[Step<'_>], page: &[u8]) -> Result<Output, Failure>
+    ensures made { Gives finding_of (outcome_in (edit_of (changes_in steps.now)) page.now) result }
+    ensures no_text { ¬ (IsUtf8 page.now) → result ≡ Err NotUnderstood }
+    ensures long { u32.MAX < length page.now → result ≡ Err NotUnderstood }
 {
-    match task {
-        Task::Select(selector, wanted) => bytes_of(select(alloc, page, selector, wanted, end)),
-        Task::First(selector, wanted) => {
-            bytes_of(select_first(alloc, page, selector, wanted, end))
-        }
-        Task::Count(selector) => bytes_of(count(alloc, page, selector, end)),
-        Task::Objects(selector) => bytes_of(array(alloc, page, selector, end)),
-        Task::Links => bytes_of(links(alloc, page, end)),
-        Task::Readable => page_readable(alloc, page),
-        Task::Outline => page_outline(alloc, page),
-        Task::Run(command) => bytes_of(output(alloc, command, page)),
-        Task::Sanitise(policy) => bytes_of(sanitise(alloc, policy, page)),
-    }
+    let mut document = read(alloc, page, ParserOptions::new())?;
+    Ok(Output::whole(edited(alloc, &mut document, steps)?))
 }
 
-/// Whether what a task made says that something was found. Tasks that look for nothing find all
-/// that they make.
-pub fn is_found(task: &Task<'_>, text: &[u8]) -> bool
-    ensures { result ≡ is_found task.now text.now }
+// A page made safe.
+fn sanitise(alloc: Global, policy: &Policy<'_>, page: &[u8]) -> Result<Output, Failure>
+    ensures made { Gives finding_of (safe_of (lists_of policy.now) page.now) result }
+    ensures no_text { ¬ (IsUtf8 page.now) → result ≡ Err NotUnderstood }
+    ensures long { u32.MAX < length page.now → result ≡ Err NotUnderstood }
+{
+    let text = text(page)?;
+    Ok(Output::whole(sanitised(alloc, policy, text)?))
+}
+
+/// What a task makes of a page, where what is listed ends with `end`.
+pub fn made(alloc: Global, task: &Task<'_>, end: &str, page: &[u8]) -> Result<Output, Failure>
+    // By the selector that its text stands for, if it stands for one.
+    ensures made { (selector : Option Selector) → IsSelectorIn task.now selector →
+        Gives finding_of (made_of task.now selector end.now page.now) result }
+
+    // No want of memory hides that a page is no text, or too long.
+    ensures no_text { ¬ (IsUtf8 page.now) → result ≡ Err NotUnderstood }
+    ensures long { u32.MAX < length page.now → result ≡ Err NotUnderstood }
 {
     match task {
-        Task::Select(_, _) => !text.is_empty(),
-        Task::First(_, _) => !text.is_empty(),
-        Task::Count(_) => text.first() != Some(&b'0'),
-        Task::Objects(_) => text.get(1) != Some(&b']'),
-        _ => true,
+        Task::Ask(question) => ask(alloc, question, end, page),
+        Task::Edit(steps) => edit(alloc, steps, page),
+        Task::Sanitise(policy) => sanitise(alloc, policy, page),
     }
 }

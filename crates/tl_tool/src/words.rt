@@ -1,7 +1,7 @@
 //! The commands and their options, as `clap` reads them, with their help.
 use clap::{Arg, ArgAction, ArgGroup, Command};
 use std::alloc::{AllocError, Global};
-use tl_pick::VERSION;
+use tl_page::VERSION;
 
 const ABOUT: &str = "Reads pages of HTML, however broken";
 
@@ -192,31 +192,107 @@ fn one_of<'w>(
     Ok(group)
 }
 
-// A command over files, without options of its own.
-fn plain<'w>(
-    alloc: Global,
-    name: &'static str,
-    about: &'static str,
-) -> Result<Command<'w>, AllocError> {
-    Command::new(alloc, name)
-        .about(about)
-        .arg(NO_NAME.argument(alloc))?
-        .arg(files(alloc))
+/// A command.
+#[derive(Clone, Copy, PartialEq, Eq)]
+pub enum Verb {
+    Select,
+    Links,
+    Text,
+    Print,
+    Outline,
+    Edit,
+    Sanitise,
 }
 
-fn select<'w>(alloc: Global) -> Result<Command<'w>, AllocError> {
+// All commands, in the order of the help. No other one is read.
+static VERBS: [Verb; 7] = [
+    Verb::Select,
+    Verb::Links,
+    Verb::Text,
+    Verb::Print,
+    Verb::Outline,
+    Verb::Edit,
+    Verb::Sanitise,
+];
+
+impl Verb {
+    // Its word.
+    fn word<'w>(self) -> &'w str {
+        match self {
+            Verb::Select => "select",
+            Verb::Links => "links",
+            Verb::Text => "text",
+            Verb::Print => "print",
+            Verb::Outline => "outline",
+            Verb::Edit => "edit",
+            Verb::Sanitise => "sanitise",
+        }
+    }
+
+    // What it does.
+    fn about<'w>(self) -> &'w str {
+        match self {
+            Verb::Select => "Writes each node where a selector holds, in the order of the page",
+            Verb::Links => {
+                "Writes the values at href, src, action, poster and srcset, node after node"
+            }
+            Verb::Text => "Writes the texts of the page in order, without tags and comments",
+            Verb::Print => "Writes the page as it was read, with each tag closed",
+            Verb::Outline => {
+                "Writes what each node is, by number, with the numbers of its children"
+            }
+            Verb::Edit => "Prints the page after steps",
+            Verb::Sanitise => {
+                "Prints what may be shown of the page: the tags and attributes that lists let stand"
+            }
+        }
+    }
+
+    // It without words of its own.
+    fn bare<'w>(self, alloc: Global) -> Command<'w> {
+        Command::new(alloc, self.word()).about(self.about())
+    }
+
+    // It over files, without options of its own.
+    fn plain<'w>(self, alloc: Global) -> Result<Command<'w>, AllocError> {
+        self.bare(alloc)
+            .arg(NO_NAME.argument(alloc))?
+            .arg(files(alloc))
+    }
+
+    // It with all its words.
+    fn command<'w>(self, alloc: Global) -> Result<Command<'w>, AllocError> {
+        match self {
+            Verb::Select => select(alloc, self.bare(alloc)),
+            Verb::Links => self.plain(alloc)?.arg(NULL.argument(alloc)),
+            Verb::Text => self.plain(alloc)?.arg(WHITESPACE.argument(alloc)),
+            Verb::Print => self.plain(alloc),
+            Verb::Outline => self.plain(alloc),
+            Verb::Edit => edit(alloc, self.bare(alloc)),
+            Verb::Sanitise => sanitise(alloc, self.plain(alloc)?),
+        }
+    }
+
+    /// The command of a word.
+    pub fn of(word: &str) -> Option<Verb> {
+        for verb in &VERBS {
+            if verb.word() == word {
+                return Some(*verb);
+            }
+        }
+        None
+    }
+}
+
+fn select<'w>(alloc: Global, command: Command<'w>) -> Result<Command<'w>, AllocError> {
     let selector = Arg::new(alloc, "SELECTOR")
         .required(true)
         .help("What holds of the nodes");
-    let command = Command::new(alloc, "select")
-        .about("Writes each node where a selector holds, in the order of the page")
-        .after_help(SELECTORS)
-        .arg(selector)?;
     let first = FIRST
         .argument(alloc)
         .conflicts_with("count")?
         .conflicts_with("json")?;
-    with_flags(alloc, command, &WANTED)?
+    with_flags(alloc, command.after_help(SELECTORS).arg(selector)?, &WANTED)?
         .group(one_of(alloc, "wanted", &WANTED)?)?
         .arg(first)?
         .arg(NULL.argument(alloc))?
@@ -224,51 +300,32 @@ fn select<'w>(alloc: Global) -> Result<Command<'w>, AllocError> {
         .arg(files(alloc))
 }
 
-fn links<'w>(alloc: Global) -> Result<Command<'w>, AllocError> {
-    let about = "Writes the values at href, src, action, poster and srcset, node after node";
-    plain(alloc, "links", about)?.arg(NULL.argument(alloc))
-}
-
-fn text<'w>(alloc: Global) -> Result<Command<'w>, AllocError> {
-    let about = "Writes the texts of the page in order, without tags and comments";
-    plain(alloc, "text", about)?.arg(WHITESPACE.argument(alloc))
-}
-
-fn edit<'w>(alloc: Global) -> Result<Command<'w>, AllocError> {
+fn edit<'w>(alloc: Global, command: Command<'w>) -> Result<Command<'w>, AllocError> {
     let steps = Arg::new(alloc, "STEP")
         .required(true)
         .num_args(1..)
         .help("What is done with the page, one step after the other");
-    Command::new(alloc, "edit")
-        .about("Prints the page after steps")
+    command
         .after_help(STEPS)
         .arg(steps)?
         .arg(NO_NAME.argument(alloc))?
         .arg(files(alloc).last(true))
 }
 
-fn sanitise<'w>(alloc: Global) -> Result<Command<'w>, AllocError> {
-    let about =
-        "Prints what may be shown of the page: the tags and attributes that lists let stand";
-    let command = plain(alloc, "sanitise", about)?.after_help(SAFE);
-    with_flags(alloc, command, &LISTS)?.arg(POLICY.argument(alloc))
+fn sanitise<'w>(alloc: Global, command: Command<'w>) -> Result<Command<'w>, AllocError> {
+    with_flags(alloc, command.after_help(SAFE), &LISTS)?.arg(POLICY.argument(alloc))
 }
 
 /// The program.
 pub fn program<'w>(alloc: Global) -> Result<Command<'w>, AllocError> {
-    let print = "Writes the page as it was read, with each tag closed";
-    let outline = "Writes what each node is, by number, with the numbers of its children";
-    Command::new(alloc, "tl")
+    let mut program = Command::new(alloc, "tl")
         .bin_name("tl")?
         .about(ABOUT)
         .version(VERSION)
         .after_help(STATUSES)
-        .subcommand_required(true)
-        .subcommand(select(alloc)?)?
-        .subcommand(links(alloc)?)?
-        .subcommand(text(alloc)?)?
-        .subcommand(plain(alloc, "print", print)?)?
-        .subcommand(plain(alloc, "outline", outline)?)?
-        .subcommand(edit(alloc)?)?
-        .subcommand(sanitise(alloc)?)
+        .subcommand_required(true);
+    for verb in &VERBS {
+        program = program.subcommand(verb.command(alloc)?)?;
+    }
+    Ok(program)
 }

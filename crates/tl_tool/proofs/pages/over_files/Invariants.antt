@@ -1,8 +1,10 @@
-use Rattle.std.proofs.Common.{◌≡◌, ◌++◌, drop}
+use Rattle.std.proofs.Common.{List, ◌++◌, drop}
 use Rattle.tl_safe.specs.Words.{words_of}
-use Rattle.tl_tool.specs.Reports.{files_of}
+use Rattle.tl_tool.specs.Reports.{AreReports}
+use Rattle.tl_tool.specs.declared.reports.Report.{Report}
 use Rattle.tl_tool.proofs.pages.over_files.Given as goal
 
--- the files so far, and those that are left, are all
+-- with the reports of the files that are left, these are those of all
 abbrev pub invariant-loop-file : goal.invariant-loop-file
-invariant-loop-file l = words_of l.files ≡ files_of l.reports.items ++ words_of (drop l.file-index l.files)
+invariant-loop-file l =
+    (later : List Report) → AreReports (words_of (drop l.file-index l.files)) later → AreReports (words_of l.files) (l.reports.items ++ later)
