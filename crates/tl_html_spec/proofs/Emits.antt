@@ -471,8 +471,8 @@ named_letter n b s buffer h l = rw l (to n b (T.named_character_reference s (buf
 named : (n b : ℕ) (s : State) (buffer : List ℕ) → Returns s → Good (suc n) b (step (T.named_character_reference s buffer) b)
 named n b s buffer h =
     pick (suc n) b (is_ascii_alphanumeric b) _ _ (λ _. to (suc n) b (T.named_character_reference s (buffer ++ b ∷ [])) h)
-    (λ _. pick (suc n) b (b == 59) _ _ (λ _. flushed (suc n) b s (named_value (T.is_value s) (buffer ++ b ∷ []) None) h)
-    (λ _. flushed_again n b s (named_value (T.is_value s) buffer (Some b)) h))
+    (λ _. pick (suc n) b (b == 59) _ _ (λ _. flushed (suc n) b s (named_value (T.is_value s) (buffer ++ b ∷ []) []) h)
+    (λ _. flushed_again n b s (named_value (T.is_value s) buffer (b ∷ [])) h))
 
 reference : (n b : ℕ) (s : State) → Returns s → Good (suc n) b (step (T.character_reference s) b)
 reference n b s h =
@@ -624,7 +624,7 @@ end_sound (T.comment_end bytes) h = comment_sound bytes h
 end_sound (T.comment_end_bang bytes) h = comment_sound bytes h
 end_sound T.doctype h = (tt, tt)
 end_sound (T.character_reference s) h = flushed_sound s (codes "&") h
-end_sound (T.named_character_reference s buffer) h = flushed_sound s (named_value (T.is_value s) buffer None) h
+end_sound (T.named_character_reference s buffer) h = flushed_sound s (named_value (T.is_value s) buffer []) h
 end_sound (T.numeric_character_reference s) h = flushed_sound s (codes "&#") h
 end_sound (T.hexadecimal_start s x) h = flushed_sound s (codes "&#" ++ x ∷ []) h
 end_sound (T.decimal_start s) h = flushed_sound s (codes "&#") h

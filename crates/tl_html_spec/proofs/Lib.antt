@@ -1,3 +1,8 @@
+pub mod NameForms
+pub mod Ahead
+pub mod Looked
+pub mod Resolved
+pub mod Texts
 pub mod Escapes
 pub mod Arrows
 pub mod Emits

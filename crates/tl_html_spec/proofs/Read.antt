@@ -16,7 +16,9 @@ use Rattle.tl_spec.proofs.Grammar.{run-of}
 use Rattle.tl_spec.proofs.Names.{name-not, name-not-slash}
 use Rattle.tl_spec.proofs.Printed.{ArePairs, IsTagName, IsWord, end_again, no_quote, shown_pairs, start_again, text_again}
 use Rattle.tl_html_spec.specs.HtmlTokenizer.{HtmlAttribute, HtmlToken, Character, StartTag, EndTag, CommentToken, DoctypeToken}
-use Rattle.tl_html_spec.specs.Escapes.{escaped_value, text_escape, unescaped, value_escape}
+use Rattle.tl_html_spec.specs.Escapes.{escaped_value, text_escape, value_escape}
+use Rattle.tl_html_spec.specs.Unescaped.{unescaped_text, unescaped_value}
+use Rattle.tl_html_spec.proofs.Looked.{byte-plain}
 use Rattle.tl_html_spec.specs.Written.{AreKeys, AreWritable, attribute_shown, inside, shown, tokens_read, written, written_attribute, written_token}
 use Rattle.tl_html_spec.proofs.Escapes.{value_back}
 
@@ -34,12 +36,12 @@ read_next : (s : List ℕ) (k : Token) (rest : List ℕ) → next_token s ≡ So
 read_next s k rest e = ap (flat_map shown) (kinds_next s k rest e)
 
 -- a run without `<`, and what stands after it
-run_read : (y rest : List ℕ) → list_all not_lt y ≡ true → Stops not_lt rest → tokens_read (y ++ rest) ≡ map Character (unescaped y) ++ tokens_read rest
+run_read : (y rest : List ℕ) → list_all not_lt y ≡ true → Stops not_lt rest → tokens_read (y ++ rest) ≡ map Character (unescaped_text y) ++ tokens_read rest
 run_read [] rest all stops = refl
 run_read (d ∷ v) rest all stops = read_next ((d ∷ v) ++ rest) (Text (d ∷ v)) rest (text_again d v rest all stops)
 
 -- a character is tokens_read apart from what follows it
-character_read : (b c : ℕ) (w r : List ℕ) → list_all not_lt (c ∷ w) ≡ true → ((y : List ℕ) → unescaped ((c ∷ w) ++ y) ≡ b ∷ unescaped y) →
+character_read : (b c : ℕ) (w r : List ℕ) → list_all not_lt (c ∷ w) ≡ true → ((y : List ℕ) → unescaped_text ((c ∷ w) ++ y) ≡ b ∷ unescaped_text y) →
     tokens_read ((c ∷ w) ++ r) ≡ Character b ∷ tokens_read r
 character_read b c w r all back =
     let run = run-of not_lt r in
@@ -55,13 +57,13 @@ character_read b c w r all back =
 pub text_read : (b : ℕ) (r : List ℕ) → tokens_read (text_escape b ++ r) ≡ Character b ∷ tokens_read r
 text_read b r = elim (cases_Bool (b == 38)) [
   | inl y ↦ ap (λ (v : Bool). tokens_read ((if v then codes "&amp;" else if b == 60 then codes "&lt;" else b ∷ []) ++ r)) y
-      ∙ character_read b 38 (codes "amp;") r refl (λ s. ap (λ c. c ∷ unescaped s) (sym (eqb-true b 38 y)))
+      ∙ character_read b 38 (codes "amp;") r refl (λ s. ap (λ c. c ∷ unescaped_text s) (sym (eqb-true b 38 y)))
   | inr n ↦ ap (λ (v : Bool). tokens_read ((if v then codes "&amp;" else if b == 60 then codes "&lt;" else b ∷ []) ++ r)) n
       ∙ elim (cases_Bool (b == 60)) [
         | inl y ↦ ap (λ (v : Bool). tokens_read ((if v then codes "&lt;" else b ∷ []) ++ r)) y
-            ∙ character_read b 38 (codes "lt;") r refl (λ s. ap (λ c. c ∷ unescaped s) (sym (eqb-true b 60 y)))
+            ∙ character_read b 38 (codes "lt;") r refl (λ s. ap (λ c. c ∷ unescaped_text s) (sym (eqb-true b 60 y)))
         | inr m ↦ ap (λ (v : Bool). tokens_read ((if v then codes "&lt;" else b ∷ []) ++ r)) m
-            ∙ character_read b b [] r (rw m refl) (λ s. rw n refl)
+            ∙ character_read b b [] r (rw m refl) (λ s. byte-plain false b s n)
       ]
 ]
 
@@ -104,7 +106,7 @@ pairs_shown : (xs : List HtmlAttribute) → map attribute_shown (map written_pai
 pairs_shown [] = refl
 pairs_shown (a ∷ xs) =
     ap₂ (λ v more. (a.0, v) ∷ more)
-    (ap unescaped (sym (append-nil (escaped_value a.1))) ∙ value_back a.1 [] ∙ append-nil a.1)
+    (ap unescaped_value (sym (append-nil (escaped_value a.1))) ∙ value_back a.1 [] ∙ append-nil a.1)
     (pairs_shown xs)
 
 tag_name_is : (name : List ℕ) (ps : List Pair) → IsName name → IsTagName name ps

@@ -14,7 +14,7 @@
 -- - After some start tags it sets the state (`after_start`), by the name alone: as it does outside of `svg` and `math`, and
 --   with scripting off, so that `noscript` holds markup.
 -- - `<![CDATA[` begins a bogus comment, as it does outside of `svg` and `math`; so 13.2.5.69 to .71 are never come to.
-use Rattle.std.specs.Prelude.{ℕ, zero, suc, ◌+◌, ◌-◌, ◌*◌, Bool, true, false, ◌||◌, ◌&&◌, not, ◌==◌, List, [], ◌∷◌, ◌++◌, drop, map, Some, None, codes, if◌then◌else◌}
+use Rattle.std.specs.Prelude.{ℕ, zero, suc, ◌+◌, ◌-◌, ◌*◌, Bool, true, false, ◌||◌, ◌&&◌, not, ◌==◌, List, [], ◌∷◌, ◌++◌, drop, map, codes, if◌then◌else◌}
 use Rattle.std.specs.Char.{is_ascii_alphabetic, is_ascii_alphanumeric, is_ascii_digit, is_ascii_hexdigit, to_ascii_lowercase}
 use Rattle.std.specs.List.{list_any, starts_with}
 use Rattle.std.specs.Str.{bytes_eq}
@@ -490,8 +490,8 @@ step (character_reference state) b =
 -- 13.2.5.73, .74
 step (named_character_reference state buffer) b =
     if is_ascii_alphanumeric b then to (named_character_reference state (buffer ++ b ∷ []))
-    else if b == 59 then flushed state (named_value (is_value state) (buffer ++ b ∷ []) None) false
-    else flushed state (named_value (is_value state) buffer (Some b)) true
+    else if b == 59 then flushed state (named_value (is_value state) (buffer ++ b ∷ []) []) false
+    else flushed state (named_value (is_value state) buffer (b ∷ [])) true
 -- 13.2.5.75
 step (numeric_character_reference state) b =
     if to_ascii_lowercase b == 120 then to (hexadecimal_start state b) else again_in (decimal_start state)
@@ -548,7 +548,7 @@ at_end_of _ = []
 -- a reference that the end of the text cuts gives what it is; of a value nothing comes, as of its tag
 abbrev pub at_end : State → List HtmlToken
 at_end (character_reference state) = (flushed state (codes "&") false).emits
-at_end (named_character_reference state buffer) = (flushed state (named_value (is_value state) buffer None) false).emits
+at_end (named_character_reference state buffer) = (flushed state (named_value (is_value state) buffer []) false).emits
 at_end (numeric_character_reference state) = (flushed state (codes "&#") false).emits
 at_end (hexadecimal_start state x) = (flushed state (codes "&#" ++ x ∷ []) false).emits
 at_end (decimal_start state) = (flushed state (codes "&#") false).emits

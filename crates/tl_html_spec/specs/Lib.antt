@@ -1,5 +1,6 @@
 pub mod References
 pub mod HtmlTokenizer
+pub mod Unescaped
 pub mod Reader
 pub mod Pieces
 pub mod Balanced

@@ -1,5 +1,6 @@
 -- What character references give (13.2.5.73, .80).
 use Rattle.std.specs.Prelude.{◌≡◌, ◌≤◌, ℕ, zero, suc, Bool, true, false, ◌||◌, ◌&&◌, not, ◌==◌, nat_lt, List, [], ◌∷◌, ◌++◌, length, drop, take_while, Option, Some, None, codes, encode_utf8, if◌then◌else◌}
+use Rattle.std.specs.Char.{is_ascii_alphanumeric}
 use Rattle.std.specs.List.{AllByRecursion, prefix_len, starts_with}
 use Rattle.tl_names.specs.References.{table_of}
 
@@ -38,27 +39,46 @@ named (b ∷ letters) = first_row (rows (table_of b)) (b ∷ letters)
 abbrev pub IsLongest : List Row → List ℕ → Row → Type 0
 IsLongest rows letters row = AllByRecursion (λ (other : Row). starts_with ◌==◌ letters other.0 ≡ true → length other.0 ≤ length row.0) rows
 
--- whether a byte after a name without `;` makes it no reference in a value
-abbrev pub goes_on : List ℕ → Option ℕ → Bool
-goes_on (b ∷ letters) after = true
-goes_on [] (Some b) = b == 61
-goes_on [] None = false
-
 abbrev pub ends_with_semicolon : List ℕ → Bool
 ends_with_semicolon [] = false
 ends_with_semicolon (b ∷ []) = b == 59
 ends_with_semicolon (b ∷ c ∷ name) = ends_with_semicolon (c ∷ name)
 
--- what `&` and these letters and digits, which may end with `;`, give in a value or a text, where a byte stands after them
-abbrev pub named_value : Bool → List ℕ → Option ℕ → List ℕ
-named_value in_value letters after =
-    elim (named letters) as (λ _. List ℕ) [
-      | None ↦ codes "&" ++ letters
-      | Some row ↦ (
-          let left = drop (length row.0) letters in
-          if (in_value && not (ends_with_semicolon row.0)) && goes_on left after then codes "&" ++ letters
-          else row.1 ++ left)
+-- a reference: what it gives, and how many bytes it takes after its `&`
+pub record Reference : Type 0 where
+  pub gives : List ℕ
+  pub takes : ℕ
+
+abbrev pub begins_with : (ℕ → Bool) → List ℕ → Bool
+begins_with test [] = false
+begins_with test (b ∷ s) = test b
+
+-- `=`, a letter or a digit
+abbrev pub goes_on : ℕ → Bool
+goes_on b = (b == 61) || is_ascii_alphanumeric b
+
+-- whether a name is no reference in a value: no `;` ends it, and such a byte stands after it
+abbrev pub is_left : List ℕ → List ℕ → Bool
+is_left name after = not (ends_with_semicolon name) && begins_with goes_on after
+
+-- the reference of the longest name that stands after a `&`, in a value or a text
+abbrev pub named_reference : Bool → List ℕ → Option Reference
+named_reference in_value s =
+    elim (named s) as (λ _. Option Reference) [
+      | None ↦ None
+      | Some row ↦
+          if in_value && is_left row.0 (drop (length row.0) s) then None
+          else Some (record { gives = row.1; takes = length row.0 })
     ]
+
+-- what `&` and these bytes give: themselves, or what the reference gives and what it leaves of them
+abbrev pub resolved : Option Reference → List ℕ → List ℕ
+resolved None bytes = codes "&" ++ bytes
+resolved (Some r) bytes = r.gives ++ drop r.takes bytes
+
+-- what `&` and these letters and digits, which may end with `;`, give in a value or a text, where this stands after them
+abbrev pub named_value : Bool → List ℕ → List ℕ → List ℕ
+named_value in_value letters after = resolved (named_reference in_value (letters ++ after)) letters
 
 -- the numbers from 0x80 to 0x9F that stand for other characters
 abbrev pub windows_1252 : ℕ → ℕ

@@ -4,7 +4,8 @@ use Rattle.tl_spec.specs.Attribute.{Pair}
 use Rattle.tl_spec.specs.Clean.{IsName}
 use Rattle.tl_spec.specs.Runs.{after, many}
 use Rattle.tl_spec.specs.Token.{Token, Text, End, Comment, Doctype, Start, Nothing, next_token}
-use Rattle.tl_html_spec.specs.Escapes.{escaped_value, text_escape, unescaped}
+use Rattle.tl_html_spec.specs.Escapes.{escaped_value, text_escape}
+use Rattle.tl_html_spec.specs.Unescaped.{unescaped_text, unescaped_value}
 use Rattle.tl_html_spec.specs.HtmlTokenizer.{HtmlAttribute, HtmlToken, Character, StartTag, EndTag, CommentToken, DoctypeToken}
 
 abbrev pub written_attribute : HtmlAttribute → List ℕ
@@ -26,14 +27,14 @@ inside comment = take (length comment - 7) (drop 4 comment)
 
 abbrev pub value_shown : Option (List ℕ) → List ℕ
 value_shown None = []
-value_shown (Some v) = unescaped v
+value_shown (Some v) = unescaped_value v
 
 abbrev pub attribute_shown : Pair → HtmlAttribute
 attribute_shown p = (p.0, value_shown p.1)
 
 -- the tokens of HTML that a token of `tl` stands for
 abbrev pub shown : Token → List HtmlToken
-shown (Text bytes) = map Character (unescaped bytes)
+shown (Text bytes) = map Character (unescaped_text bytes)
 shown (Start name pairs alone) = StartTag name (map attribute_shown pairs) alone ∷ []
 shown (End name) = EndTag name ∷ []
 shown (Comment bytes) = CommentToken (inside bytes) ∷ []

@@ -1,6 +1,7 @@
 //! Laws of the definitions.
 
-ghost use Rattle.std.specs.Prelude.{◌≡◌, ℕ, ◌+◌, Some, false, List, [], ◌∷◌, ◌++◌, length};
+ghost use Rattle.std.specs.Prelude.{◌≡◌, ℕ, ◌+◌, Some, true, false, List, [], ◌∷◌, ◌++◌, length, map};
+ghost use Rattle.std.specs.List.{list_all};
 ghost use Rattle.tl_spec.specs.Clean.{IsClean, IsCleanTable};
 ghost use Rattle.tl_spec.specs.Document.{document};
 ghost use Rattle.tl_spec.specs.Forest.{forest, plain};
@@ -10,22 +11,37 @@ ghost use Rattle.tl_spec.specs.Token.{tokens};
 ghost use Rattle.tl_names.specs.References.{table_of};
 ghost use Rattle.tl_html_spec.specs.Balanced.{balanced, left_open};
 ghost use Rattle.tl_html_spec.specs.Coded.{AreBytes, coded, coded_tag, uncoded};
-ghost use Rattle.tl_html_spec.specs.Escapes.{escaped_text, escaped_value, unescaped};
+ghost use Rattle.tl_html_spec.specs.Escapes.{escaped_text, escaped_value};
 ghost use Rattle.tl_html_spec.specs.HtmlForm.{doctype_in, form_tokens, has_doctype, html_form};
-ghost use Rattle.tl_html_spec.specs.HtmlTokenizer.{HtmlToken, State, data_state, html_tokens, without_mark};
+ghost use Rattle.tl_html_spec.specs.HtmlTokenizer.{Character, HtmlToken, OpenTag, State, after_attribute_value, data_state, double_quoted, html_tokens, tokens_from, with_attribute, without_mark};
 ghost use Rattle.tl_html_spec.specs.Pieces.{AreRead, Piece, bytes_of, first_byte, pieces, placed, read_before, runs, tokens_in};
 ghost use Rattle.tl_html_spec.specs.Reader.{Reader, after, at, emitted, page_tokens, read, tokens_of};
 ghost use Rattle.tl_html_spec.specs.References.{IsLongest, Row, named, rows};
 ghost use Rattle.tl_html_spec.specs.Sound.{AreSound};
+ghost use Rattle.tl_html_spec.specs.Unescaped.{is_in_text, is_in_value, unescaped_text, unescaped_value};
 ghost use Rattle.tl_html_spec.specs.Written.{AreWritable, tokens_read, written};
 
 /// What is escaped is read back, whatever follows it.
 #[tactic(auto, using(crate::proofs::Escapes::text_back, crate::proofs::Escapes::value_back))]
 pub fn escapes_are_read_back()
     ensures texts { (text rest : List ℕ) →
-        unescaped (escaped_text text ++ rest) ≡ text ++ unescaped rest }
+        unescaped_text (escaped_text text ++ rest) ≡ text ++ unescaped_text rest }
     ensures values { (value rest : List ℕ) →
-        unescaped (escaped_value value ++ rest) ≡ value ++ unescaped rest }
+        unescaped_value (escaped_value value ++ rest) ≡ value ++ unescaped_value rest }
+{}
+
+/// A text up to a `<` or the end is read as the characters that it says, and a value up to its `"`
+/// as that value.
+#[tactic(auto, using(crate::proofs::Texts::text_end_read, crate::proofs::Texts::text_read, crate::proofs::Texts::value_read))]
+pub fn references_are_resolved()
+    ensures last_text { (text : List ℕ) → list_all is_in_text text ≡ true →
+        tokens_from data_state text ≡ map Character (unescaped_text text) }
+    ensures text { (text rest : List ℕ) → list_all is_in_text text ≡ true →
+        tokens_from data_state (text ++ 60 ∷ rest)
+        ≡ map Character (unescaped_text text) ++ tokens_from data_state (60 ∷ rest) }
+    ensures value { (tag : OpenTag) (key value rest : List ℕ) → list_all is_in_value value ≡ true →
+        tokens_from (double_quoted tag key []) (value ++ 34 ∷ rest)
+        ≡ tokens_from (after_attribute_value (with_attribute tag key (unescaped_value value))) rest }
 {}
 
 /// The name that was coded is read back.
