@@ -3,6 +3,7 @@ pub mod Ahead
 pub mod Looked
 pub mod Resolved
 pub mod Texts
+pub mod Feeds
 pub mod Escapes
 pub mod Arrows
 pub mod Emits

@@ -572,6 +572,10 @@ with_feeds (b ∷ c ∷ text) =
 abbrev pub without_mark : List ℕ → List ℕ
 without_mark text = if starts_with ◌==◌ text (0xEF ∷ 0xBB ∷ 0xBF ∷ []) then drop 3 text else text
 
+-- the tokens of a text that stands in a page, from its data state
+abbrev pub tokens_in_page : List ℕ → List HtmlToken
+tokens_in_page text = tokens_from data_state (with_feeds text)
+
 -- the tokens of a page
 abbrev pub html_tokens : List ℕ → List HtmlToken
-html_tokens page = tokens_from data_state (with_feeds (without_mark page))
+html_tokens page = tokens_in_page (without_mark page)
