@@ -3,7 +3,7 @@ ghost use Rattle.std.specs.Prelude.{◌≡◌, ◌≢◌, take};
 ghost use Rattle.tl_spec.specs.Normal.{norm};
 ghost use Rattle.tl_program.specs.Asked.{Prints, Texts};
 ghost use Rattle.tl_program.specs.Output.{output_of};
-ghost use Rattle.tl_safe.specs.HtmlTokenizer.{data_state, html_tokens};
+ghost use Rattle.tl_html_spec.specs.HtmlTokenizer.{tokens_in_page};
 ghost use Rattle.tl_safe.specs.IsSafe.{IsSafe, tokens_of};
 ghost use Rattle.tl_safe.specs.Kept.{kept, trees_of};
 ghost use Rattle.tl_safe.specs.Lists.{page_lists};
@@ -79,7 +79,7 @@ pub extern "C" fn tl_sanitise(alloc: Global, page: &[u8], out: &mut [u8], needed
 
     // As `sanitised` says of what it prints.
     ensures form { result ≡ 0 → IsSafe page_lists (take needed.new out.new) }
-    ensures standard { result ≡ 0 → html_tokens data_state (take needed.new out.new)
+    ensures standard { result ≡ 0 → tokens_in_page (take needed.new out.new)
         ≡ tokens_of (norm (kept page_lists (trees_of page.now))) }
 {
     put_text(sanitise(alloc, &Policy::page(), page), out, needed)

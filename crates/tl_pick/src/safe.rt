@@ -1,7 +1,7 @@
 //! Pages made safe for a browser.
 ghost use Rattle.std.specs.Prelude.{◌≡◌, IfOk, string_bytes};
 ghost use Rattle.tl_spec.specs.Normal.{norm};
-ghost use Rattle.tl_safe.specs.HtmlTokenizer.{data_state, html_tokens};
+ghost use Rattle.tl_html_spec.specs.HtmlTokenizer.{tokens_in_page};
 ghost use Rattle.tl_safe.specs.IsSafe.{IsSafe, tokens_of};
 ghost use Rattle.tl_safe.specs.Kept.{trees_of};
 ghost use Rattle.tl_safe.specs.Policies.{kept_of, lists_of};
@@ -19,7 +19,7 @@ fn of_text(alloc: Global, policy: &Policy<'_>, text: &str) -> Result<String, Fai
     ensures trees { IfOk result (λ safe.
         trees_of (string_bytes safe) ≡ norm (kept_of policy.now text.now)) }
     ensures form { IfOk result (λ safe. IsSafe (lists_of policy.now) (string_bytes safe)) }
-    ensures standard { IfOk result (λ safe. html_tokens data_state (string_bytes safe)
+    ensures standard { IfOk result (λ safe. tokens_in_page (string_bytes safe)
         ≡ tokens_of (norm (kept_of policy.now text.now))) }
 {
     Ok(sanitised(alloc, policy, text)?)
@@ -33,7 +33,7 @@ pub fn sanitise(alloc: Global, policy: &Policy<'_>, page: &[u8]) -> Result<Strin
     ensures trees { IfOk result (λ safe.
         trees_of (string_bytes safe) ≡ norm (kept_of policy.now page.now)) }
     ensures form { IfOk result (λ safe. IsSafe (lists_of policy.now) (string_bytes safe)) }
-    ensures standard { IfOk result (λ safe. html_tokens data_state (string_bytes safe)
+    ensures standard { IfOk result (λ safe. tokens_in_page (string_bytes safe)
         ≡ tokens_of (norm (kept_of policy.now page.now))) }
 {
     match str::from_utf8(page) {

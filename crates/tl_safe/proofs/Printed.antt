@@ -1,28 +1,33 @@
 -- The print of what is kept: its form, and its tokens.
-use Rattle.std.proofs.Common.{◌≡◌, ℕ, Bool, true, false, List, [], ◌∷◌, ◌++◌, map, Some, None, option_map, codes, refl, ap, ap₂, sym, ◌∙◌, subst, inl, inr, append_assoc, append-nil, if◌then◌else◌}
-use Rattle.std.specs.List.{list_all}
+use Rattle.std.proofs.Common.{◌≡◌, ℕ, Bool, true, false, ◌||◌, List, [], ◌∷◌, ◌++◌, map, Option, Some, None, option_map, codes, refl, ap, ap₂, sym, ◌∙◌, subst, inl, inr, append_assoc, append-nil, if◌then◌else◌}
+use Rattle.std.specs.List.{AllByRecursion, IsDistinct, list_all, list_any}
+use Rattle.std.specs.Map.{keys_of}
 use Rattle.std.specs.Prelude.{⊤}
+use Rattle.std.specs.Str.{bytes_eq}
 use Rattle.std.specs.Str.Lossy.{utf8_lossy}
 use Rattle.std.proofs.lemmas.Bool.{and_parts, and_from, cases_Bool}
+use Rattle.std.proofs.lemmas.Cmp.{nat_list_eq_equiv}
 use Rattle.std.proofs.lemmas.List.{map-append}
+use Rattle.std.proofs.lemmas.List.Folds.{list_all-append, list_any-append}
+use Rattle.std.proofs.lemmas.Map.Keys.{IsDistinct-push}
 use Rattle.tl_spec.specs.Attribute.{Pair}
-use Rattle.tl_spec.specs.AttributeList.{PlainAttributes, named, printed_pairs}
+use Rattle.tl_spec.specs.AttributeList.{AreOthers, HasOwnKeys, IsOther, PlainAttributes, named, printed_pairs}
 use Rattle.tl_spec.specs.ByteClass.{is_void, is_printed_alone}
 use Rattle.tl_spec.specs.Clean.{HaveOwnKeys}
 use Rattle.tl_spec.specs.Forest.{Forest, none, text, comment, tag, PlainTag}
-use Rattle.tl_spec.specs.Normal.{ReadsAs, join_text, lossy, lossy_attributes, lossy_pair, norm, tidy}
+use Rattle.tl_spec.specs.Normal.{ReadsAs, join_text, lossy_attributes, lossy_pair, lossy_tag, norm}
 use Rattle.tl_spec.specs.Print.{print, print_end, print_pairs, print_start}
 use Rattle.tl_spec.proofs.Identity.{identity, not_command}
 use Rattle.tl_spec.proofs.Ascii.{lossy-ascii}
 use Rattle.tl_spec.proofs.Images.{image-pairs_in_order}
+use Rattle.tl_html_spec.specs.HtmlTokenizer.{Character, EndTag, HtmlToken, StartTag, data_state, tokens_in_page}
 use Rattle.tl_safe.specs.Lists.{ListedWords, is_among}
 use Rattle.tl_safe.specs.Refusals.{are_lawful}
-use Rattle.tl_safe.specs.Kept.{kept, stays}
-use Rattle.tl_safe.specs.HtmlTokenizer.{Character, EndTag, HtmlToken, StartTag, data_state, html_tokens}
-use Rattle.tl_safe.specs.IsSafe.{IsSafe, a_text, a_void_element, an_element, end_of, html_attribute, nothing, safe_pairs, start_of, tokens_of}
-use Rattle.tl_safe.proofs.Tokenizer.{end-read, start-read, text-run}
+use Rattle.tl_safe.specs.Kept.{is_text_byte, kept, stays, value_stays}
+use Rattle.tl_safe.specs.IsSafe.{IsSafe, a_text, a_void_element, an_element, end_of, html_attribute, nothing, safe_pairs, start_of, text_characters, tokens_of}
+use Rattle.tl_safe.proofs.Tokenizer.{AreNew, end-read, read, start-read, text-last, text-run}
 use Rattle.tl_safe.proofs.Trees.{AreKept, kept-AreKept, kept-clean, kept-own}
-use Rattle.tl_safe.proofs.Listed.{listed_tag, stays-lossy, text-lossy}
+use Rattle.tl_safe.proofs.Listed.{listed_key, listed_tag, stays-lossy, text-lossy}
 
 pairs-print : (ps : List Pair) → print_pairs ps ≡ safe_pairs (map lossy_pair ps)
 pairs-print [] = refl
@@ -50,6 +55,91 @@ pairs-lossy : (a : PlainAttributes) → printed_pairs (lossy_attributes a) ≡ m
 pairs-lossy a =
     sym (image-pairs_in_order utf8_lossy utf8_lossy (λ key. key) a.others a.id a.class
     ∙ ap₂ (λ i c. map lossy_pair a.others ++ named i (option_map utf8_lossy a.id) ++ named c (option_map utf8_lossy a.class)) (lossy-ascii (codes "id") refl) (lossy-ascii (codes "class") refl))
+
+-- keys that are distinct
+
+html-key : (q : Pair) → (html_attribute q).0 ≡ q.0
+html-key (key, None) = refl
+html-key (key, Some value) = refl
+
+later : (key : List ℕ) (done ps : List Pair) (q : Pair) → AllByRecursion (λ k. bytes_eq key k ≡ false) (keys_of (done ++ q ∷ ps)) → bytes_eq key q.0 ≡ false
+later key [] ps q h = h.0
+later key (x ∷ done) ps q h = later key done ps q h.1
+
+not-found : (done ps : List Pair) (q : Pair) → IsDistinct bytes_eq (keys_of (done ++ q ∷ ps)) → list_any (λ a. bytes_eq a.0 q.0) (map html_attribute done) ≡ false
+unfolding IsDistinct
+not-found [] ps q h = refl
+not-found (x ∷ done) ps q h =
+    ap₂ (λ u w. u || w) (ap (λ k. bytes_eq k q.0) (html-key x) ∙ later x.0 done ps q h.0) (not-found done ps q h.1)
+
+new-from : (done ps : List Pair) → IsDistinct bytes_eq (keys_of (done ++ ps)) → AreNew (map html_attribute done) ps
+new-from done [] h = tt
+new-from done (q ∷ ps) h = (
+  not-found done ps q h,
+  subst (λ xs. AreNew xs ps) (map-append html_attribute done (q ∷ []))
+      (new-from (done ++ q ∷ []) ps (subst (λ xs. IsDistinct bytes_eq (keys_of xs)) (sym (append_assoc done (q ∷ []) ps)) h)),
+)
+
+no-key : (key : List ℕ) (ps : List Pair) → ((k : List ℕ) → IsOther k → bytes_eq k key ≡ false) → AreOthers (λ k. k) ps → list_any (bytes_eq key) (keys_of ps) ≡ false
+no-key key [] other h = refl
+no-key key (q ∷ ps) other h = ap₂ (λ x y. x || y) (nat_list_eq_equiv.symm key q.0 ∙ other q.0 h.0) (no-key key ps other h.1)
+
+distinct-printed : (a : PlainAttributes) → HasOwnKeys a → IsDistinct bytes_eq (keys_of (printed_pairs a))
+distinct-printed a h = with_class a.class (keys_of-named a.id) (absent a.id)
+  where
+    id_key : List ℕ
+    id_key = codes "id"
+
+    keys_of-named : (i : Option (List ℕ)) → IsDistinct bytes_eq (keys_of (a.others ++ named (codes "id") i))
+    keys_of-named None = subst (λ xs. IsDistinct bytes_eq (keys_of xs)) (sym (append-nil a.others)) h.distinct
+    keys_of-named (Some v) =
+        subst (IsDistinct bytes_eq) (sym (map-append (λ (q : Pair). q.0) a.others ((codes "id", Some v) ∷ [])))
+        (IsDistinct-push nat_list_eq_equiv (keys_of a.others) (codes "id") h.distinct (no-key (codes "id") a.others (λ k o. o.0) h.others))
+
+    absent : (i : Option (List ℕ)) → list_any (bytes_eq (codes "class")) (keys_of (a.others ++ named (codes "id") i)) ≡ false
+    absent None = ap (λ xs. list_any (bytes_eq (codes "class")) (keys_of xs)) (append-nil a.others) ∙ no-key (codes "class") a.others (λ k o. o.1) h.others
+    absent (Some v) =
+        ap (list_any (bytes_eq (codes "class"))) (map-append (λ (q : Pair). q.0) a.others ((codes "id", Some v) ∷ []))
+        ∙ list_any-append (bytes_eq (codes "class")) (keys_of a.others) (codes "id" ∷ [])
+        ∙ ap (λ b. b || false) (no-key (codes "class") a.others (λ k o. o.1) h.others)
+
+    with_class : (c : Option (List ℕ)) → IsDistinct bytes_eq (keys_of (a.others ++ named (codes "id") a.id)) →
+        list_any (bytes_eq (codes "class")) (keys_of (a.others ++ named (codes "id") a.id)) ≡ false →
+        IsDistinct bytes_eq (keys_of (a.others ++ named (codes "id") a.id ++ named (codes "class") c))
+    with_class None d n = subst (λ xs. IsDistinct bytes_eq (keys_of xs)) (sym (append-nil (a.others ++ named (codes "id") a.id))) d
+    with_class (Some v) d n =
+        subst (IsDistinct bytes_eq) (sym (map-append (λ (q : Pair). q.0) (a.others ++ named (codes "id") a.id) ((codes "class", Some v) ∷ [])))
+        (IsDistinct-push nat_list_eq_equiv (keys_of (a.others ++ named (codes "id") a.id)) (codes "class") d n)
+
+-- texts before trees
+
+join-none : (t : List ℕ) → tokens_of (join_text t none) ≡ map Character (text_characters t)
+join-none [] = refl
+join-none (b ∷ t) = append-nil (map Character (text_characters (b ∷ t)))
+
+join-tag : (t : List ℕ) (own : PlainTag) (children more : Forest PlainTag) →
+    tokens_of (join_text t (tag own children more)) ≡ map Character (text_characters t) ++ tokens_of (tag own children more)
+join-tag [] own children more = refl
+join-tag (b ∷ t) own children more = refl
+
+join-join : (s t : List ℕ) (f : Forest PlainTag) → join_text s (join_text t f) ≡ join_text (s ++ t) f
+join-join [] t f = refl
+join-join (a ∷ s) [] f = ap (λ x. join_text x f) (sym (append-nil (a ∷ s)))
+join-join (a ∷ s) (b ∷ t) none = refl
+join-join (a ∷ s) (b ∷ t) (text u f) = ap (λ x. text x f) (sym (append_assoc (a ∷ s) (b ∷ t) u))
+join-join (a ∷ s) (b ∷ t) (comment c f) = refl
+join-join (a ∷ s) (b ∷ t) (tag own children f) = refl
+
+-- what stands after a text: nothing, or a tag
+abbrev Follows : List ℕ → Type 0
+Follows [] = ⊤
+Follows (b ∷ r) = b ≡ 60
+
+text-read : (t r : List ℕ) → list_all is_text_byte t ≡ true → Follows r → read data_state (t ++ r) ≡ map Character (text_characters t) ++ read data_state r
+text-read t [] h follows =
+    ap (read data_state) (append-nil t) ∙ text-last t h ∙ sym (append-nil (map Character (text_characters t)))
+text-read t (b ∷ r) h follows =
+    subst (λ c. read data_state (t ++ c ∷ r) ≡ map Character (text_characters t) ++ read data_state (c ∷ r)) (sym follows) (text-run t r h)
 
 module _ (p : ListedWords) (lawful : are_lawful p ≡ true) where
   lossy-stay : (ps : List Pair) → list_all (stays p) ps ≡ true → list_all (stays p) (map lossy_pair ps) ≡ true
@@ -94,101 +184,100 @@ module _ (p : ListedWords) (lawful : are_lawful p ≡ true) where
         | inr v ↦ subst (IsSafe p) (sym (element-print own children more h.0 v)) (an_element own.name ps h.0 v stay below after)
       ]
 
+  -- keys
+
+  key-lossy : (q : Pair) → stays p q ≡ true → utf8_lossy q.0 ≡ q.0
+  key-lossy (key, None) h = (listed_key p lawful key h).lossy
+  key-lossy (key, Some value) h = (listed_key p lawful key (and_parts (is_among p.keys key) (value_stays p key value) h).0).lossy
+
+  keys-lossy : (ps : List Pair) → list_all (stays p) ps ≡ true → keys_of (map lossy_pair ps) ≡ keys_of ps
+  keys-lossy [] h = refl
+  keys-lossy (q ∷ ps) h =
+      let here = and_parts (stays p q) (list_all (stays p) ps) h in
+      ap₂ (λ k ks. k ∷ ks) (key-lossy q here.0) (keys-lossy ps here.1)
+
+  new-keys : (a : PlainAttributes) → HasOwnKeys a → list_all (stays p) (printed_pairs a) ≡ true → AreNew [] (map lossy_pair (printed_pairs a))
+  new-keys a own h =
+      new-from [] (map lossy_pair (printed_pairs a)) (subst (IsDistinct bytes_eq) (sym (keys-lossy (printed_pairs a) h)) (distinct-printed a own))
+
   -- the tokens
 
-  abbrev read : List ℕ → List HtmlToken
-  read s = html_tokens data_state s
+  abbrev page : List ℕ → List HtmlToken
+  page s = read data_state s
+
+  abbrev trees : Forest PlainTag → List HtmlToken
+  trees f = tokens_of (norm f)
 
   tag-tokens : (own : PlainTag) (children more : Forest PlainTag) (v : Bool) → is_among p.tags own.name ≡ true → is_void own.name ≡ v →
-      tokens_of (lossy (tag own children more)) ≡ StartTag own.name (map html_attribute (map lossy_pair (printed_pairs own.attributes)))
-      ∷ (if v then tokens_of (lossy more) else tokens_of (lossy children) ++ (EndTag own.name ∷ tokens_of (lossy more)))
+      trees (tag own children more) ≡ StartTag own.name (map html_attribute (map lossy_pair (printed_pairs own.attributes))) false
+      ∷ (if v then trees more else trees children ++ (EndTag own.name ∷ trees more))
   tag-tokens own children more v a e =
       let name = listed_tag p lawful own.name a in
-      ap₂ (λ n qs. StartTag n (map html_attribute qs) ∷ (if is_void n then tokens_of (lossy more) else tokens_of (lossy children) ++ (EndTag n ∷ tokens_of (lossy more))))
+      ap₂ (λ n qs. StartTag n (map html_attribute qs) false ∷ (if is_void n then trees more else trees children ++ (EndTag n ∷ trees more)))
       name.lossy (pairs-lossy own.attributes)
-      ∙ ap (λ b. StartTag own.name (map html_attribute (map lossy_pair (printed_pairs own.attributes)))
-      ∷ (if b then tokens_of (lossy more) else tokens_of (lossy children) ++ (EndTag own.name ∷ tokens_of (lossy more)))) e
+      ∙ ap (λ b. StartTag own.name (map html_attribute (map lossy_pair (printed_pairs own.attributes))) false
+      ∷ (if b then trees more else trees children ++ (EndTag own.name ∷ trees more))) e
 
   tokens_assoc : (xs ys zs : List HtmlToken) → (xs ++ ys) ++ zs ≡ xs ++ (ys ++ zs)
   tokens_assoc xs ys zs = append_assoc xs ys zs
 
-  read_before : (f : Forest PlainTag) (r : List ℕ) → AreKept p f → read (print f ++ r) ≡ tokens_of (lossy f) ++ read r
-  read_before none r h = refl
-  read_before (text bytes more) r h =
-      ap read (append_assoc (utf8_lossy bytes) (print more) r)
-      ∙ text-run (utf8_lossy bytes) (print more ++ r) (text-lossy bytes h.0)
-      ∙ ap (λ ks. map Character (utf8_lossy bytes) ++ ks) (read_before more r h.1)
-      ∙ sym (tokens_assoc (map Character (utf8_lossy bytes)) (tokens_of (lossy more)) (read r))
-  read_before (comment bytes more) r h = absurd h
-  read_before (tag own children more) r h =
+  -- after a text, the trees that are still to be read
+  read_before : (f : Forest PlainTag) (t r : List ℕ) → list_all is_text_byte t ≡ true → AreKept p f → HaveOwnKeys f → Follows r →
+      page (t ++ (print f ++ r)) ≡ tokens_of (join_text t (norm f)) ++ page r
+  read_before none t r plain h own follows = text-read t r plain follows ∙ ap (λ ks. ks ++ page r) (sym (join-none t))
+  read_before (text bytes more) t r plain h own follows =
+      let both : list_all is_text_byte (t ++ utf8_lossy bytes) ≡ true =
+      list_all-append is_text_byte t (utf8_lossy bytes) ∙ and_from (list_all is_text_byte t) (list_all is_text_byte (utf8_lossy bytes)) plain (text-lossy bytes h.0) in
+      ap (λ s. page (t ++ s)) (append_assoc (utf8_lossy bytes) (print more) r)
+      ∙ ap page (sym (append_assoc t (utf8_lossy bytes) (print more ++ r)))
+      ∙ read_before more (t ++ utf8_lossy bytes) r both h.1 own follows
+      ∙ ap (λ g. tokens_of g ++ page r) (sym (join-join t (utf8_lossy bytes) (norm more)))
+  read_before (comment bytes more) t r plain h own follows = absurd h
+  read_before (tag own children more) t r plain h keys follows =
       let ps = map lossy_pair (printed_pairs own.attributes) in
       let stay = lossy-stay (printed_pairs own.attributes) h.1 in
-      let word = (listed_tag p lawful own.name h.0).word in
-      let below = read_before children (end_of own.name ++ (print more ++ r)) h.3 in
-      let after = read_before more r h.4 in
-      let start : HtmlToken = StartTag own.name (map html_attribute ps) in
+      let name = listed_tag p lawful own.name h.0 in
+      let new = new-keys own.attributes keys.0 h.1 in
+      let below = read_before children [] (end_of own.name ++ (print more ++ r)) refl h.3 keys.1 refl in
+      let after = read_before more [] r refl h.4 keys.2 follows in
+      let start : HtmlToken = StartTag own.name (map html_attribute ps) false in
+      let front : List HtmlToken = map Character (text_characters t) in
       elim (cases_Bool (is_void own.name)) [
         | inl v ↦
-            ap (λ s. read (s ++ r)) (void-print own children more h.0 v)
-            ∙ ap read (append_assoc (start_of own.name ps) (print more) r)
-            ∙ start-read p lawful own.name ps (print more ++ r) word stay
+            ap (λ s. page (t ++ (s ++ r))) (void-print own children more h.0 v)
+            ∙ text-run t (((own.name ++ (safe_pairs ps ++ codes ">")) ++ print more) ++ r) plain
+            ∙ ap (λ ks. front ++ ks) (ap page (append_assoc (start_of own.name ps) (print more) r)
+            ∙ start-read p lawful own.name ps (print more ++ r) name.word name.state stay new
             ∙ ap (λ ks. start ∷ ks) after
-            ∙ ap (λ ks. ks ++ read r) (sym (tag-tokens own children more true h.0 v))
+            ∙ ap (λ ks. ks ++ page r) (sym (tag-tokens own children more true h.0 v)))
+            ∙ sym (tokens_assoc front (trees (tag own children more)) (page r))
+            ∙ ap (λ ks. ks ++ page r) (sym (join-tag t (lossy_tag own) (norm children) (norm more)))
         | inr v ↦
-            ap (λ s. read (s ++ r)) (element-print own children more h.0 v)
-            ∙ ap read (append_assoc (start_of own.name ps) (print children ++ (end_of own.name ++ print more)) r
+            ap (λ s. page (t ++ (s ++ r))) (element-print own children more h.0 v)
+            ∙ text-run t (((own.name ++ (safe_pairs ps ++ codes ">")) ++ (print children ++ (end_of own.name ++ print more))) ++ r) plain
+            ∙ ap (λ ks. front ++ ks) (ap page (append_assoc (start_of own.name ps) (print children ++ (end_of own.name ++ print more)) r
             ∙ ap (λ s. start_of own.name ps ++ s) (append_assoc (print children) (end_of own.name ++ print more) r
             ∙ ap (λ s. print children ++ s) (append_assoc (end_of own.name) (print more) r)))
-            ∙ start-read p lawful own.name ps (print children ++ (end_of own.name ++ (print more ++ r))) word stay
+            ∙ start-read p lawful own.name ps (print children ++ (end_of own.name ++ (print more ++ r))) name.word name.state stay new
             ∙ ap (λ ks. start ∷ ks) (below
-            ∙ ap (λ ks. tokens_of (lossy children) ++ ks) (end-read own.name (print more ++ r) word ∙ ap (λ ks. EndTag own.name ∷ ks) after)
-            ∙ sym (tokens_assoc (tokens_of (lossy children)) (EndTag own.name ∷ tokens_of (lossy more)) (read r)))
-            ∙ ap (λ ks. ks ++ read r) (sym (tag-tokens own children more false h.0 v))
+            ∙ ap (λ ks. trees children ++ ks) (end-read own.name (print more ++ r) name.word ∙ ap (λ ks. EndTag own.name ∷ ks) after)
+            ∙ sym (tokens_assoc (trees children) (EndTag own.name ∷ trees more) (page r)))
+            ∙ ap (λ ks. ks ++ page r) (sym (tag-tokens own children more false h.0 v)))
+            ∙ sym (tokens_assoc front (trees (tag own children more)) (page r))
+            ∙ ap (λ ks. ks ++ page r) (sym (join-tag t (lossy_tag own) (norm children) (norm more)))
       ]
-
--- joined texts give the same tokens
-
-abbrev NoComments : Forest PlainTag → Type 0
-NoComments none = ⊤
-NoComments (text bytes more) = NoComments more
-NoComments (comment bytes more) = ⊥
-NoComments (tag own children more) = NoComments children × NoComments more
-
-kept-NoComments : (p : ListedWords) (f : Forest PlainTag) → AreKept p f → NoComments (lossy f)
-kept-NoComments p none h = tt
-kept-NoComments p (text bytes more) h = kept-NoComments p more h.1
-kept-NoComments p (comment bytes more) h = absurd h
-kept-NoComments p (tag own children more) h = (kept-NoComments p children h.3, kept-NoComments p more h.4)
-
-join-tokens : (bytes : List ℕ) (f : Forest PlainTag) → tokens_of (join_text bytes f) ≡ map Character bytes ++ tokens_of f
-join-tokens [] f = refl
-join-tokens (b ∷ bytes) none = refl
-join-tokens (b ∷ bytes) (text later f) =
-    ap (λ ks. Character b ∷ (ks ++ tokens_of f)) (map-append Character bytes later)
-    ∙ ap (λ ks. Character b ∷ ks) (append_assoc (map Character bytes) (map Character later) (tokens_of f))
-join-tokens (b ∷ bytes) (comment later f) = refl
-join-tokens (b ∷ bytes) (tag own children f) = refl
-
-tidy-tokens : (f : Forest PlainTag) → NoComments f → tokens_of (tidy f) ≡ tokens_of f
-tidy-tokens none h = refl
-tidy-tokens (text bytes more) h = join-tokens bytes (tidy more) ∙ ap (λ ks. map Character bytes ++ ks) (tidy-tokens more h)
-tidy-tokens (comment bytes more) h = absurd h
-tidy-tokens (tag own children more) h =
-    ap₂ (λ x y. StartTag own.name (map html_attribute (printed_pairs own.attributes)) ∷ (if is_void own.name then y else x ++ (EndTag own.name ∷ y)))
-    (tidy-tokens children h.0) (tidy-tokens more h.1)
 
 -- the laws
 
 pub form : (p : ListedWords) → are_lawful p ≡ true → (f : Forest PlainTag) → IsSafe p (print (kept p f))
 form p lawful f = kept-safe p lawful (kept p f) (kept-AreKept p f)
 
-pub standard : (p : ListedWords) → are_lawful p ≡ true → (f : Forest PlainTag) → html_tokens data_state (print (kept p f)) ≡ tokens_of (norm (kept p f))
-standard p lawful f =
+pub standard : (p : ListedWords) → are_lawful p ≡ true → (f : Forest PlainTag) → HaveOwnKeys f → tokens_in_page (print (kept p f)) ≡ tokens_of (norm (kept p f))
+standard p lawful f own =
     let k = kept-AreKept p f in
-    ap (html_tokens data_state) (sym (append-nil (print (kept p f))))
-    ∙ read_before p lawful (kept p f) [] k
-    ∙ append-nil (tokens_of (lossy (kept p f)))
-    ∙ sym (tidy-tokens (lossy (kept p f)) (kept-NoComments p (kept p f) k))
+    ap tokens_in_page (sym (append-nil (print (kept p f))))
+    ∙ read_before p lawful (kept p f) [] [] refl k (kept-own p f own) tt
+    ∙ append-nil (tokens_of (norm (kept p f)))
 
 pub reads : (p : ListedWords) → are_lawful p ≡ true → (f : Forest PlainTag) → HaveOwnKeys f → ReadsAs (print (kept p f)) (kept p f)
 reads p lawful f own = identity (kept p f) (kept-clean p lawful (kept p f) (kept-AreKept p f)) (kept-own p f own)

@@ -1,6 +1,5 @@
 pub mod Lists
 pub mod Kept
-pub mod HtmlTokenizer
 pub mod IsSafe
 pub mod Words
 pub mod Policies

@@ -5,7 +5,7 @@ ghost use Rattle.std.specs.Prelude.{◌≡◌, ◌↔◌, ◌<◌, length, strin
 ghost use Rattle.tl_spec.specs.Normal.{norm};
 ghost use Rattle.tl_spec.specs.Print.{print};
 ghost use Rattle.tl.specs.declared.errors.ParseError.TheVariants.{InvalidLength};
-ghost use Rattle.tl_safe.specs.HtmlTokenizer.{data_state, html_tokens};
+ghost use Rattle.tl_html_spec.specs.HtmlTokenizer.{tokens_in_page};
 ghost use Rattle.tl_safe.specs.IsSafe.{IsSafe, tokens_of};
 ghost use Rattle.tl_safe.specs.Kept.{trees_of};
 ghost use Rattle.tl_safe.specs.Policies.{kept_of, lists_of};
@@ -62,9 +62,9 @@ pub fn sanitised(alloc: Global, policy: &Policy<'_>, page: &str) -> Result<Strin
     // Its bytes are texts and balanced elements of listed names, with values between double quotes.
     ensures form { IfOk result (λ safe. IsSafe (lists_of policy.now) (string_bytes safe)) }
 
-    // The tokenizer of the HTML standard emits the start tags, end tags and characters of the kept
-    // trees, in order, and nothing else.
-    ensures standard { IfOk result (λ safe. html_tokens data_state (string_bytes safe)
+    // Where it stands in a page, the tokenizer of the HTML standard emits the start tags, end tags
+    // and characters of the kept trees, in order, and nothing else.
+    ensures standard { IfOk result (λ safe. tokens_in_page (string_bytes safe)
         ≡ tokens_of (norm (kept_of policy.now page.now))) }
 {
     let safe = written(alloc, policy, page)?;

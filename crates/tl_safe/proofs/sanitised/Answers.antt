@@ -2,7 +2,7 @@ use Rattle.std.proofs.Common.{ap, sym, subst, ◌∙◌}
 use Rattle.tl_spec.specs.Forest.{Forest, PlainTag, forest, plain}
 use Rattle.tl_spec.specs.Token.{tokens}
 use Rattle.tl_spec.proofs.Fresh.{fresh_has_own_keys}
-use Rattle.tl_safe.specs.HtmlTokenizer.{data_state, html_tokens}
+use Rattle.tl_html_spec.specs.HtmlTokenizer.{tokens_in_page}
 use Rattle.tl_safe.specs.IsSafe.{IsSafe}
 use Rattle.tl_safe.specs.Lists.{ListedWords}
 use Rattle.tl_safe.specs.Policies.{lists_of}
@@ -25,4 +25,4 @@ pub returns-clause-standard : goal.returns-clause-standard
 returns-clause-standard c =
     let p : ListedWords = lists_of c.args.policy.now in
     let f : Forest PlainTag = plain (forest (tokens c.args.page.now)) in
-    ap (html_tokens data_state) c.in_ok-safe.ensures.prints ∙ standard p c.args.policy.now.lawful f
+    ap tokens_in_page c.in_ok-safe.ensures.prints ∙ standard p c.args.policy.now.lawful f (fresh_has_own_keys c.args.page.now)

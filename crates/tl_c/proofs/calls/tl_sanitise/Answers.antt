@@ -1,6 +1,6 @@
 use Rattle.std.proofs.Common.{◌≡◌, subst, take}
 use Rattle.tl_spec.specs.Normal.{norm}
-use Rattle.tl_safe.specs.HtmlTokenizer.{data_state, html_tokens}
+use Rattle.tl_html_spec.specs.HtmlTokenizer.{tokens_in_page}
 use Rattle.tl_safe.specs.IsSafe.{IsSafe, tokens_of}
 use Rattle.tl_safe.specs.Kept.{kept, trees_of}
 use Rattle.tl_safe.specs.Policies.{kept_of, lists_of}
@@ -22,6 +22,6 @@ returns-clause-form c = λ is_done.
 
 pub returns-clause-standard : goal.returns-clause-standard
 returns-clause-standard c = λ is_done.
-    subst (λ lists. html_tokens data_state (take c.put_text.new.needed c.put_text.new.out) ≡ tokens_of (norm (kept lists (trees_of c.args.page.now)))) c.page.ensures
-    (of_given c.sanitise.result (λ bytes. html_tokens data_state bytes ≡ tokens_of (norm (kept_of c.page.result c.args.page.now))) _
+    subst (λ lists. tokens_in_page (take c.put_text.new.needed c.put_text.new.out) ≡ tokens_of (norm (kept lists (trees_of c.args.page.now)))) c.page.ensures
+    (of_given c.sanitise.result (λ bytes. tokens_in_page bytes ≡ tokens_of (norm (kept_of c.page.result c.args.page.now))) _
     (c.put_text.ensures.text is_done) c.sanitise.ensures.standard)

@@ -1,6 +1,6 @@
 use Rattle.std.proofs.Common.{◌≡◌, IfOk, string_bytes, subst}
 use Rattle.tl_spec.specs.Normal.{norm}
-use Rattle.tl_safe.specs.HtmlTokenizer.{data_state, html_tokens}
+use Rattle.tl_html_spec.specs.HtmlTokenizer.{tokens_in_page}
 use Rattle.tl_safe.specs.IsSafe.{tokens_of}
 use Rattle.tl_safe.specs.Kept.{trees_of}
 use Rattle.tl_safe.specs.Policies.{kept_of, lists_of}
@@ -23,5 +23,5 @@ returns-in-Ok-clause-trees c =
 
 pub returns-in-Ok-clause-standard : goal.returns-in-Ok-clause-standard
 returns-in-Ok-clause-standard c =
-    subst (λ page. IfOk c.of_text.result (λ safe. html_tokens data_state (string_bytes safe) ≡ tokens_of (norm (kept_of c.args.policy.now page))))
+    subst (λ page. IfOk c.of_text.result (λ safe. tokens_in_page (string_bytes safe) ≡ tokens_of (norm (kept_of c.args.policy.now page))))
     c.in-Ok.ensures.cases.0 c.of_text.ensures.standard
