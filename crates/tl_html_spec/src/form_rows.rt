@@ -4,7 +4,6 @@
 ghost use Rattle.std.specs.Prelude.{◌≡◌, ◌++◌, ◌∷◌, [], codes};
 ghost use Rattle.tl_html_spec.specs.Balanced.{balanced};
 ghost use Rattle.tl_html_spec.specs.Coded.{coded, coded_tag, uncoded};
-ghost use Rattle.tl_html_spec.specs.Escapes.{unescaped};
 ghost use Rattle.tl_html_spec.specs.HtmlTokenizer.{html_tokens};
 ghost use Rattle.tl_html_spec.specs.Rows.{characters, cut, end, form, pair, places, read_balanced, start, text};
 
@@ -98,12 +97,6 @@ pub fn names()
     ensures command_key { coded (codes "command") ≡ codes "command" }
     ensures read_back { uncoded (codes "+40click.once") ≡ codes "@click.once" }
     ensures empty_back { uncoded (codes "+") ≡ [] }
-{}
-
-/// What escapes write is read back once, and any other `&` stands for itself.
-pub fn escapes()
-    ensures once { unescaped (codes "&amp;lt;&lt;&quot;") ≡ codes "&lt;<\"" }
-    ensures others { unescaped (codes "&gt;&amp &") ≡ codes "&gt;&amp &" }
 {}
 
 /// A page cut where the tokenizer is at rest, characters joined, and where the pieces stand.

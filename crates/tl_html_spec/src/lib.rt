@@ -4,4 +4,5 @@
 
 mod form_rows;
 pub mod laws;
+mod reference_rows;
 mod rows;
