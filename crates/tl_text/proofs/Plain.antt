@@ -1,0 +1,102 @@
+-- Runs of bytes that stand for themselves, up to the first one that doesn't.
+use Rattle.std.proofs.Common.{◌≡◌, ℕ, zero, suc, ◌+◌, ◌-◌, ◌<◌, ◌≤◌, Bool, true, false, not, eqb, ◌||◌, ◌==◌, List, [], ◌∷◌, ◌++◌, length, take, drop, take_all, Option, Some, None, get_or, refl, ap, ap₂, sym, ◌∙◌, arith, le_refl, append-nil, append_assoc, if◌then◌else◌}
+use Rattle.std.specs.Prelude.{flat_map}
+use Rattle.std.specs.List.{list_all}
+use Rattle.std.proofs.lemmas.Bool.{and_from, eqb-true}
+use Rattle.std.proofs.lemmas.List.{at_drop_more, drop_all, take-append-drop}
+use Rattle.memchr.specs.Find.{IsFirstByte, is_byte, is_byte2}
+use Rattle.tl_html_spec.specs.Escapes.{escaped_text, escaped_value, text_escape, value_escape}
+use Rattle.tl_html_spec.specs.Unescaped.{or_itself, reference, unescaped}
+use Rattle.tl_html_spec.proofs.Looked.{bytes-plain, is_plain, passes}
+
+fails_not : (t : Bool) → ¬ (t ≡ true) → t ≡ false
+fails_not true never = absurd (never refl)
+fails_not false never = refl
+
+-- a test that the bytes before a place fail
+abbrev FailsBefore : (ℕ → Bool) → List ℕ → ℕ → Type 0
+FailsBefore test s k = (j : ℕ) → j < k → test (get_or s j 0) ≡ false
+
+flat_plain : (test : ℕ → Bool) (e : ℕ → List ℕ) → ((b : ℕ) → test b ≡ false → e b ≡ b ∷ []) → (s : List ℕ) (k : ℕ) → k ≤ length s → FailsBefore test s k →
+    flat_map e s ≡ take k s ++ flat_map e (drop k s)
+flat_plain test e plain s zero h fails = refl
+flat_plain test e plain [] (suc k) h fails = absurd (omega arith)
+flat_plain test e plain (b ∷ s) (suc k) h fails =
+    ap₂ (λ x y. x ++ y) (plain b (fails 0 (omega arith))) (flat_plain test e plain s k (omega arith) (λ j l. fails (suc j) (omega arith)))
+
+all_before : (test : ℕ → Bool) (s : List ℕ) (k : ℕ) → k ≤ length s → FailsBefore test s k → list_all (λ b. not (test b)) (take k s) ≡ true
+all_before test s zero h fails = refl
+all_before test [] (suc k) h fails = absurd (omega arith)
+all_before test (b ∷ s) (suc k) h fails =
+    and_from (not (test b)) (list_all (λ c. not (test c)) (take k s)) (ap not (fails 0 (omega arith))) (all_before test s k (omega arith) (λ j l. fails (suc j) (omega arith)))
+
+-- escapes
+
+text_plain : (b : ℕ) → is_byte2 38 60 b ≡ false → text_escape b ≡ b ∷ []
+text_plain b e = here (b == 38) (b == 60) e
+  where
+    here : (x y : Bool) → (x || y) ≡ false → (if x then 38 ∷ 97 ∷ 109 ∷ 112 ∷ 59 ∷ [] else if y then 38 ∷ 108 ∷ 116 ∷ 59 ∷ [] else b ∷ []) ≡ b ∷ []
+    here true y h = cc
+    here false true h = cc
+    here false false h = refl
+
+value_plain : (b : ℕ) → is_byte2 38 34 b ≡ false → value_escape b ≡ b ∷ []
+value_plain b e = here (b == 38) (b == 34) e
+  where
+    here : (x y : Bool) → (x || y) ≡ false → (if x then 38 ∷ 97 ∷ 109 ∷ 112 ∷ 59 ∷ [] else if y then 38 ∷ 113 ∷ 117 ∷ 111 ∷ 116 ∷ 59 ∷ [] else b ∷ []) ≡ b ∷ []
+    here true y h = cc
+    here false true h = cc
+    here false false h = refl
+
+escape_found : (test : ℕ → Bool) (e : ℕ → List ℕ) → ((b : ℕ) → test b ≡ false → e b ≡ b ∷ []) → (o s : List ℕ) (k : ℕ) → IsFirstByte test s (Some k) →
+    o ++ flat_map e s ≡ ((o ++ take k s) ++ e (get_or s k 0)) ++ flat_map e (drop (k + 1) s)
+escape_found test e plain o s k found =
+    let inside = found.0.high in
+    ap (λ x. o ++ x) (flat_plain test e plain s k (omega arith) (λ j l. fails_not (test (get_or s j 0)) (found.0.before j (omega arith) l))
+    ∙ ap (λ x. take k s ++ x) (at_drop_more (flat_map e) s k 0 inside))
+    ∙ sym (append_assoc o (take k s) (e (get_or s k 0) ++ flat_map e (drop (k + 1) s)))
+    ∙ sym (append_assoc (o ++ take k s) (e (get_or s k 0)) (flat_map e (drop (k + 1) s)))
+
+escape_none : (test : ℕ → Bool) (e : ℕ → List ℕ) → ((b : ℕ) → test b ≡ false → e b ≡ b ∷ []) → (s : List ℕ) → IsFirstByte test s None → flat_map e s ≡ s
+escape_none test e plain s none =
+    flat_plain test e plain s (length s) (le_refl (length s)) (λ j l. fails_not (test (get_or s j 0)) (none j (omega arith) l))
+    ∙ ap₂ (λ x y. x ++ flat_map e y) (take_all (length s) s (le_refl (length s))) (drop_all (length s) s (le_refl (length s)))
+    ∙ append-nil s
+
+pub text_found : (o s : List ℕ) (k : ℕ) → IsFirstByte (is_byte2 38 60) s (Some k) → o ++ escaped_text s ≡ ((o ++ take k s) ++ text_escape (get_or s k 0)) ++ escaped_text (drop (k + 1) s)
+text_found = escape_found (is_byte2 38 60) text_escape text_plain
+
+pub text_none : (s : List ℕ) → IsFirstByte (is_byte2 38 60) s None → escaped_text s ≡ s
+text_none = escape_none (is_byte2 38 60) text_escape text_plain
+
+pub value_found : (o s : List ℕ) (k : ℕ) → IsFirstByte (is_byte2 38 34) s (Some k) → o ++ escaped_value s ≡ ((o ++ take k s) ++ value_escape (get_or s k 0)) ++ escaped_value (drop (k + 1) s)
+value_found = escape_found (is_byte2 38 34) value_escape value_plain
+
+pub value_none : (s : List ℕ) → IsFirstByte (is_byte2 38 34) s None → escaped_value s ≡ s
+value_none = escape_none (is_byte2 38 34) value_escape value_plain
+
+-- references
+
+amp_read : (v : Bool) (b : ℕ) (t : List ℕ) → (b == 38) ≡ true → unescaped v (b ∷ t) ≡ (or_itself (reference v t)).gives ++ unescaped v (drop (or_itself (reference v t)).takes t)
+amp_read v b t e =
+    ap (λ c. unescaped v (c ∷ t)) (eqb-true b 38 e)
+    ∙ ap (λ x. (or_itself (reference v t)).gives ++ x) (passes v (or_itself (reference v t)).takes t)
+
+pub reference_found : (v : Bool) (o s : List ℕ) (k : ℕ) → IsFirstByte (is_byte 38) s (Some k) →
+    o ++ unescaped v s ≡ ((o ++ take k s) ++ (or_itself (reference v (drop (k + 1) s))).gives) ++ unescaped v (drop (or_itself (reference v (drop (k + 1) s))).takes (drop (k + 1) s))
+reference_found v o s k found =
+    let inside = found.0.high in
+    let t : List ℕ = drop (k + 1) s in
+    let gives : List ℕ = (or_itself (reference v t)).gives in
+    let later : List ℕ = unescaped v (drop (or_itself (reference v t)).takes t) in
+    ap (λ x. o ++ x) (ap (unescaped v) (sym (take-append-drop k s))
+    ∙ bytes-plain v (take k s) (drop k s) (all_before (is_byte 38) s k (omega arith) (λ j l. fails_not (is_byte 38 (get_or s j 0)) (found.0.before j (omega arith) l)))
+    ∙ ap (λ x. take k s ++ x) (at_drop_more (unescaped v) s k 0 inside ∙ amp_read v (get_or s k 0) t found.1))
+    ∙ sym (append_assoc o (take k s) (gives ++ later))
+    ∙ sym (append_assoc (o ++ take k s) gives later)
+
+pub reference_none : (v : Bool) (s : List ℕ) → IsFirstByte (is_byte 38) s None → unescaped v s ≡ s
+reference_none v s none =
+    let all = all_before (is_byte 38) s (length s) (le_refl (length s)) (λ j l. fails_not (is_byte 38 (get_or s j 0)) (none j (omega arith) l)) in
+    let whole : list_all is_plain s ≡ true = sym (ap (list_all is_plain) (take_all (length s) s (le_refl (length s)))) ∙ all in
+    ap (unescaped v) (sym (append-nil s)) ∙ bytes-plain v s [] whole ∙ append-nil s

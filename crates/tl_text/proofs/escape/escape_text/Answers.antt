@@ -1,0 +1,19 @@
+use Rattle.std.proofs.Common.{◌≡◌, ◌++◌, ℕ, ◌+◌, List, drop, take, get_or, ap, ap₂, sym, ◌∙◌}
+use Rattle.tl_html_spec.specs.Escapes.{escaped_text, text_escape}
+use Rattle.tl_text.proofs.Plain.{text_found, text_none}
+use Rattle.tl_text.proofs.escape.escape_text.Goals as goal
+
+pub loop-at-preserved : goal.loop-at-preserved
+loop-at-preserved c =
+    let o : List ℕ = c.loop-at.out.items in
+    let s : List ℕ = c.loop-at.rest.now in
+    let k : ℕ = c.in-Some.at in
+    let b : c.write_bytes.new.out.items ≡ o ++ take k s = c.in_ok-write_bytes.ensures ∙ ap (λ x. o ++ x) c.front.ensures in
+    c.loop-at.invariant
+    ∙ text_found o s k c.in-Some.ensures
+    ∙ ap₂ (λ x y. x ++ escaped_text y) (sym (c.in_ok-write_of_text.ensures ∙ ap (λ x. x ++ text_escape (get_or s k 0)) b)) (sym c.past-rest.ensures)
+
+pub returns : goal.returns
+returns c =
+    let o : List ℕ = c.loop-at.out.items in
+    c.in_ok-write_bytes-2.ensures ∙ ap (λ x. o ++ x) (sym (text_none c.loop-at.rest.now c.in_default.ensures)) ∙ sym c.loop-at.invariant

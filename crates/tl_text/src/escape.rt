@@ -1,0 +1,65 @@
+//! Characters written as a text or a value.
+ghost use Rattle.std.specs.Prelude.{◌≡◌, ◌++◌, IfOk, OnOk};
+ghost use Rattle.tl_html_spec.specs.Escapes.{escaped_text, escaped_value, text_escape, value_escape};
+
+use crate::part::{front, past, write_bytes};
+use memchr::memchr2;
+use std::alloc::{AllocError, Global};
+
+// Writes a character of a text.
+fn write_of_text(byte: u8, out: &mut Vec<u8>) -> Result<(), AllocError>
+    ensures { OnOk result (out.new.items ≡ out.old.items ++ text_escape byte) }
+{
+    match byte {
+        b'&' => out.extend_from_slice(b"&amp;"),
+        b'<' => out.extend_from_slice(b"&lt;"),
+        _ => {
+            out.push(byte)?;
+            Ok(())
+        }
+    }
+}
+
+// Writes a character of a value.
+fn write_of_value(byte: u8, out: &mut Vec<u8>) -> Result<(), AllocError>
+    ensures { OnOk result (out.new.items ≡ out.old.items ++ value_escape byte) }
+{
+    match byte {
+        b'&' => out.extend_from_slice(b"&amp;"),
+        b'"' => out.extend_from_slice(b"&quot;"),
+        _ => {
+            out.push(byte)?;
+            Ok(())
+        }
+    }
+}
+
+/// Characters written as a text: read as one, it says them.
+pub fn escape_text(alloc: Global, characters: &[u8]) -> Result<Vec<u8>, AllocError>
+    ensures { IfOk result (λ text. text.items ≡ escaped_text characters.now) }
+{
+    let mut out = Vec::new(alloc);
+    let mut rest = characters;
+    while let Some(at) = memchr2(b'&', b'<', rest) {
+        write_bytes(front(rest, at), &mut out)?;
+        write_of_text(rest[at], &mut out)?;
+        rest = past(rest, at + 1);
+    }
+    write_bytes(rest, &mut out)?;
+    Ok(out)
+}
+
+/// Characters written as a value: read between double quotes, it says them.
+pub fn escape_value(alloc: Global, characters: &[u8]) -> Result<Vec<u8>, AllocError>
+    ensures { IfOk result (λ value. value.items ≡ escaped_value characters.now) }
+{
+    let mut out = Vec::new(alloc);
+    let mut rest = characters;
+    while let Some(at) = memchr2(b'&', b'"', rest) {
+        write_bytes(front(rest, at), &mut out)?;
+        write_of_value(rest[at], &mut out)?;
+        rest = past(rest, at + 1);
+    }
+    write_bytes(rest, &mut out)?;
+    Ok(out)
+}

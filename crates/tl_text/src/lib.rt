@@ -1,0 +1,14 @@
+//! Texts and values with their character references, as the HTML standard has them: what is
+//! written of characters, and the characters that are read.
+#![tactic(auto)]
+
+mod base;
+mod escape;
+mod names;
+mod numbers;
+mod part;
+mod reference;
+mod unescape;
+
+pub use escape::{escape_text, escape_value};
+pub use unescape::{unescape_text, unescape_value};

@@ -1,0 +1,5 @@
+//! Worked rows of references and escapes, over the public calls of `tl_text`.
+#![tactic(auto)]
+
+#[cfg(test)]
+mod rows;
