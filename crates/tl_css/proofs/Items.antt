@@ -1,13 +1,12 @@
 -- How a text is read item by item.
-use Rattle.std.proofs.Common.{◌≡◌, ℕ, zero, suc, ◌+◌, ◌-◌, ◌<◌, ◌==◌, nat_lt, not, List, [], ◌∷◌, ◌++◌, length, reverse, Result, Ok, Err, refl, ap, sym, ◌∙◌, subst, add-one, arith}
+use Rattle.std.proofs.Common.{◌≡◌, ℕ, ◌+◌, nat_lt, List, [], ◌∷◌, ◌++◌, length, reverse, Result, Ok, Err, refl, ap, sym, ◌∙◌, add-one}
 use Rattle.std.proofs.lemmas.List.{length-reverse, reverse-append}
 use Rattle.tl_css.specs.declared.error.Wrong.{Wrong}
 use Rattle.tl_css.specs.declared.error.Failure.{Failure}
 use Rattle.tl_css.specs.declared.error.Failure.TheVariants as f
-use Rattle.tl_css.specs.declared.error.Cause.TheVariants.{Unexpected}
 use Rattle.tl_css.specs.declared.text.role.Combinator.{Combinator}
 use Rattle.tl_css.specs.Selector.{Css}
-use Rattle.tl_css.specs.Read.{◌>>=◌, wrong}
+use Rattle.tl_css.specs.Read.{◌>>=◌}
 use Rattle.tl_css.specs.declared.text.role.Role.TheVariants.{Top}
 use Rattle.tl_css.specs.Item.{Item, begin_at}
 use Rattle.tl_css.specs.Reading.{State, Open, opened, Taken, Goes, Done, taken, go_on, item_at, read_within, read, start, related, seen}

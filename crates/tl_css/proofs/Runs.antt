@@ -1,19 +1,18 @@
 -- Runs of parts: each takes at least a byte, so how many are allowed makes no difference.
-use Rattle.std.proofs.Common.{◌≡◌, ℕ, zero, suc, ◌<◌, ◌≤◌, ◌&&◌, ◌||◌, ◌==◌, Bool, true, false, not, List, [], ◌∷◌, ◌++◌, length, drop, take, Option, Some, None, refl, ap, sym, ◌∙◌, subst, arith, if◌then◌else◌, IfSome, is_some, option_map, codes, map, nat_eq, cond, encode_utf8}
+use Rattle.std.proofs.Common.{◌≡◌, ℕ, zero, suc, ◌<◌, ◌≤◌, ◌&&◌, ◌||◌, ◌==◌, Bool, true, false, List, [], ◌∷◌, ◌++◌, length, drop, take, Option, Some, None, refl, ap, sym, ◌∙◌, subst, arith, if◌then◌else◌, IfSome, is_some, option_map, codes, nat_eq, cond, encode_utf8}
 use Rattle.std.proofs.lemmas.Bool.{true≢false}
 use Rattle.std.proofs.lemmas.List.Sums.{take_while-cons}
 use Rattle.std.specs.List.{take_while, list_any}
 use Rattle.std.specs.Str.{byte, bytes_eq, str_to_ascii_lowercase}
-use Rattle.std.proofs.lemmas.List.{length-drop}
 use Rattle.tl_spec.specs.Runs.{after, many}
 use Rattle.tl_spec.proofs.Bytes.{drop-le}
-use Rattle.tl_spec.proofs.Many.{Shrinks, many_more, many-none, many-some}
+use Rattle.tl_spec.proofs.Many.{Shrinks, many-none, many-some}
 use Rattle.tl_css.specs.Read.{Read}
 use Rattle.tl_css.specs.TextView.{without}
 use Rattle.std.specs.Char.{to_ascii_lowercase}
 use Rattle.tl_spec.proofs.Shrinks.{if_both, after-le, IsLe, IsLe-more, many-le}
 use Rattle.tl_css.specs.Bytes.{is_newline, is_white, backslash, is_hex, hex_number, char_of}
-use Rattle.tl_css.specs.Lexical.{past_white, begins, past_escape, escape_by, escape_at, is_plain, escaped_at, part_at, parts_at, joined, run_at, begins_comment, after_comment, gap_part_at, gap_result, gap_after, gap_at, is_word}
+use Rattle.tl_css.specs.Lexical.{past_white, begins, past_escape, escape_by, escape_at, is_plain, escaped_at, part_at, joined, run_at, after_comment, gap_part_at, gap_result, gap_after, gap_at, is_word}
 
 pub past_white_le : (s : List ℕ) → length (past_white s) ≤ length s
 past_white_le [] = omega arith

@@ -1,5 +1,5 @@
 -- How many selectors wait after a step.
-use Rattle.std.proofs.Common.{◌≡◌, ℕ, ◌+◌, ◌-◌, max, List, [], ◌∷◌, ◌++◌, length, suc, nat_lt, true, refl, ap, sym, ◌∙◌, arith}
+use Rattle.std.proofs.Common.{◌≡◌, ℕ, List, [], ◌∷◌, ◌++◌, length, suc, nat_lt, true, refl, sym, ◌∙◌, arith}
 use Rattle.tl_spec.proofs.Grammar.{if_yes}
 use Rattle.tl_css.specs.Selector.{Css}
 use Rattle.tl_css.specs.declared.selector.Step.{Step}

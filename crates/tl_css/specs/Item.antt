@@ -1,6 +1,6 @@
 -- What stands next in a selector text: a simple selector with the combinator before it, a comma, or the end of a list.
-use Rattle.std.specs.Prelude.{ℕ, Bool, true, false, not, ◌&&◌, ◌||◌, ◌==◌, if◌then◌else◌, List, [], ◌∷◌, length, Option, Some, None, codes, Ok, unwrap_or}
-use Rattle.std.specs.Str.{byte, str_to_ascii_lowercase}
+use Rattle.std.specs.Prelude.{ℕ, Bool, true, false, not, ◌&&◌, ◌==◌, if◌then◌else◌, List, [], ◌∷◌, length, Option, Some, None, codes, Ok, unwrap_or}
+use Rattle.std.specs.Str.{byte}
 use Rattle.std.specs.List.{list_any}
 use Rattle.tl_css.specs.declared.error.Cause.{Cause}
 use Rattle.tl_css.specs.declared.error.Cause.TheVariants.{Unclosed, NoSelector, Namespace, Unexpected}

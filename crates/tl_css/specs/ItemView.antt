@@ -1,5 +1,4 @@
 -- What the items and the open lists are that the reader holds.
-use Rattle.std.specs.Prelude.{List, [], ◌∷◌, reverse, map}
 use Rattle.tl_css.specs.declared.text.item.Item.{Item}
 use Rattle.tl_css.specs.declared.text.item.Item.TheVariants as i
 use Rattle.tl_css.specs.Item as s

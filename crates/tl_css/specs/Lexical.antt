@@ -1,11 +1,11 @@
 -- Names, strings and white space at the front of a text.
-use Rattle.std.specs.Prelude.{ℕ, Bool, true, false, ◌&&◌, ◌||◌, ◌==◌, if◌then◌else◌, List, [], ◌∷◌, ◌++◌, length, take, drop, Option, Some, None, is_some, is_none, option_map, encode_utf8, codes, Ok}
+use Rattle.std.specs.Prelude.{ℕ, Bool, true, false, ◌&&◌, ◌||◌, ◌==◌, if◌then◌else◌, List, [], ◌∷◌, ◌++◌, length, take, drop, Option, Some, None, is_some, option_map, encode_utf8, codes, Ok}
 use Rattle.std.specs.List.{take_while, list_any}
 use Rattle.std.specs.Str.{byte, bytes_eq, str_to_ascii_lowercase}
 use Rattle.tl_spec.specs.Runs.{after, many}
 use Rattle.tl_css.specs.declared.error.Cause.TheVariants.{Unclosed, NoName}
 use Rattle.tl_css.specs.Bytes.{is_newline, is_white, is_name_byte, is_string_byte, backslash, is_hex, hex_number, char_of}
-use Rattle.tl_css.specs.Read.{Read, wrong, after_byte}
+use Rattle.tl_css.specs.Read.{Read, wrong}
 
 -- what stands after a byte of white space; a line end of two bytes is one
 abbrev pub past_white : List ℕ → List ℕ

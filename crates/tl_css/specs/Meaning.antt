@@ -1,5 +1,5 @@
 -- Where a selector of CSS holds: at tags.
-use Rattle.std.specs.Prelude.{◌≡◌, ◌≢◌, ◌↔◌, ◌⊎◌, ◌<◌, ◌≤◌, ◌+ℤ◌, ◌*ℤ◌, ℕ, zero, suc, ℤ, pos, Bool, true, false, if◌then◌else◌, List, [], ◌∷◌, ◌++◌, length, Option, None, Some, slice_get, ⊤, nat_le}
+use Rattle.std.specs.Prelude.{◌≡◌, ◌≢◌, ◌↔◌, ◌⊎◌, ◌<◌, ◌≤◌, ◌+ℤ◌, ◌*ℤ◌, ℕ, zero, suc, pos, Bool, if◌then◌else◌, List, [], ◌∷◌, ◌++◌, length, Some, slice_get, ⊤}
 use Rattle.std.specs.List.{All, AllPairs, Contains, slice_split}
 use Rattle.std.specs.Option.{IsSome, IsSomeAnd, unwrap_or}
 use Rattle.std.specs.Str.{byte, str_to_ascii_lowercase}

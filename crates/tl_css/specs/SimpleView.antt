@@ -1,5 +1,5 @@
 -- What the items are that the reader holds, whose names are not decoded yet.
-use Rattle.std.specs.Prelude.{ℕ, List, [], ◌∷◌, Option, Some, None}
+use Rattle.std.specs.Prelude.{ℕ, List, None}
 use Rattle.tl_css.specs.declared.text.attribute.Run.{Run}
 use Rattle.tl_css.specs.declared.text.attribute.TestText.{TestText}
 use Rattle.tl_css.specs.declared.text.attribute.TestText.TheVariants as t

@@ -1,5 +1,5 @@
 -- What the reader has read.
-use Rattle.std.specs.Prelude.{List, [], ◌∷◌, reverse, map}
+use Rattle.std.specs.Prelude.{reverse, map}
 use Rattle.tl_css.specs.declared.text.state.Open.{Open}
 use Rattle.tl_css.specs.declared.text.state.State.{State}
 use Rattle.tl_css.specs.declared.text.state.Taken.{Taken}

@@ -1,11 +1,10 @@
 -- What the values are that the reader holds.
-use Rattle.std.specs.Prelude.{ℕ, List, [], ◌∷◌, encode_utf8, Option, Some, None, Result, Ok, Err, map, reverse, nat_eq, if◌then◌else◌}
+use Rattle.std.specs.Prelude.{ℕ, List, [], ◌∷◌, encode_utf8, Option, Some, None, Result, Ok, Err, nat_eq, if◌then◌else◌}
 use Rattle.std.specs.Char.{to_ascii_lowercase}
 use Rattle.tl_css.specs.declared.error.Wrong.{Wrong}
 use Rattle.tl_css.specs.declared.text.run.Part.{Part}
 use Rattle.tl_css.specs.declared.text.run.Part.TheVariants.{Nothing, Byte, Char}
 use Rattle.tl_css.specs.Read.{Read}
-use Rattle.tl_css.specs.Lexical.{run_at}
 use denote.Ref.{Bor}
 
 -- what a part stands for

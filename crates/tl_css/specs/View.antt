@@ -1,5 +1,4 @@
 -- What the code's values are.
-use Rattle.std.specs.Prelude.{List, [], ◌∷◌, reverse, map}
 use Rattle.tl_css.specs.Selector as s
 use Rattle.tl_css.specs.declared.selector.Test.{Test}
 use Rattle.tl_css.specs.declared.selector.Test.TheVariants.{Any, Name, Id, Class, Key, Value, Empty}

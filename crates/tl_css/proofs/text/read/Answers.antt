@@ -1,7 +1,5 @@
-use Rattle.std.proofs.Common.{◌≡◌, ◌+◌, ◌-◌, length, Ok, ap, sym, subst, ◌∙◌, arith, rules}
-use Rattle.tl_css.specs.declared.error.Wrong.{Wrong}
+use Rattle.std.proofs.Common.{◌≡◌, ◌+◌, ◌-◌, length, ap, sym, subst, ◌∙◌, arith, rules}
 use Rattle.tl_css.specs.declared.text.state.Taken.{Taken}
-use Rattle.tl_css.specs.Selector.{Css}
 use Rattle.tl_css.specs.ItemView.{item}
 use Rattle.tl_css.specs.Reading.{State, read_within}
 use Rattle.tl_css.specs.StateView as v

@@ -1,4 +1,4 @@
-use Rattle.std.proofs.Common.{◌+◌, ◌-◌, ◌*◌, ap, sym, ◌∙◌}
+use Rattle.std.proofs.Common.{◌+◌, ◌*◌, ap, sym, ◌∙◌}
 use Rattle.tl_css.specs.Bytes.{decimal_number}
 use Rattle.tl_css.proofs.Numbers.{decimal_large}
 use Rattle.tl_css.proofs.text.formula.decimal.Goals as goal

@@ -1,4 +1,4 @@
-use Rattle.std.proofs.Common.{◌≡◌, Bool, true, ◌||◌, subst, ap, sym, ◌∙◌}
+use Rattle.std.proofs.Common.{◌≡◌, true, ◌||◌, subst, ap, sym, ◌∙◌}
 use Rattle.tl_spec.proofs.Grammar.{if_yes, if_no}
 use Rattle.tl_css.specs.Lexical.{begins_comment}
 use Rattle.tl_css.specs.TextView.{read_as}

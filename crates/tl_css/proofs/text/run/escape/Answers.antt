@@ -1,4 +1,4 @@
-use Rattle.std.proofs.Common.{◌≡◌, ◌==◌, ℕ, false, length, ap, sym, ◌∙◌, encode_utf8, rules}
+use Rattle.std.proofs.Common.{◌≡◌, ◌==◌, false, length, ap, sym, ◌∙◌, encode_utf8, rules}
 use Rattle.tl_css.specs.Bytes.{char_of}
 use Rattle.tl_css.specs.Lexical.{past_escape}
 use Rattle.tl_css.proofs.Runs.{escape_number}

@@ -1,5 +1,5 @@
-use Rattle.std.proofs.Common.{◌≡◌, ◌+◌, ◌-◌, ◌*◌, length, ap, sym, ◌∙◌, arith}
-use Rattle.tl_css.specs.Bytes.{hex_number, hex_value}
+use Rattle.std.proofs.Common.{◌+◌, ◌-◌, ◌*◌, length, ap, sym, ◌∙◌, arith}
+use Rattle.tl_css.specs.Bytes.{hex_number}
 use Rattle.tl_css.proofs.Numbers.{hex_small, hex_more}
 use Rattle.tl_css.proofs.text.run.hex_number.Goals as goal
 
