@@ -362,7 +362,6 @@ class Reader:
         # n-1, n -1, n - 1, n
         if self.peek() >= 0 and (chr(self.peek()).isalnum() or self.peek() >= 128 or self.peek() in b"_\\"):
             raise CssError(self.i, "no formula")
-        touching = self.peek() == 0x2D
         self.white()
         if self.peek() in (0x2B, 0x2D):
             sign = -1 if self.peek() == 0x2D else 1
