@@ -1,0 +1,17 @@
+pub mod Selector
+pub mod View
+pub mod Program
+pub mod Marks
+pub mod Bytes
+pub mod Read
+pub mod Lexical
+pub mod Attribute
+pub mod Formula
+pub mod PseudoClass
+pub mod Item
+pub mod Reading
+pub mod Meaning
+pub mod TextView
+pub mod SimpleView
+pub mod ItemView
+pub mod StateView

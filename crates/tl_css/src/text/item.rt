@@ -1,0 +1,153 @@
+//! What stands next in a selector text.
+ghost use Rattle.std.specs.Prelude.{◌≡◌};
+ghost use Rattle.tl_css.specs.Item.{begin_at, combinator_at, combinator_of, first_at, leading_at, next_at, next_by, part_at, simple_at, unexpected};
+ghost use Rattle.tl_css.specs.ItemView.{item};
+ghost use Rattle.tl_css.specs.SimpleView.{simple};
+ghost use Rattle.tl_css.specs.TextView.{read_as};
+
+use crate::error::{Cause, Wrong};
+use crate::text::attribute::{TestText, attribute};
+use crate::text::gap::{gap, wrong};
+use crate::text::pseudo_class::{Simple, Whole, pseudo};
+use crate::text::role::{Before, Combinator, Role};
+use crate::text::run::{begins_name, name, past_run};
+
+/// A comma, the end of a list, or a simple selector with what stands before it and how many bytes are left from it on.
+#[derive(Clone, Copy)]
+pub enum Item<'a> {
+    End,
+    Comma,
+    Part(Before, usize, Simple<'a>),
+}
+
+// Why no simple selector begins with this byte.
+fn unexpected(byte: u8) -> Cause
+    ensures { result ≡ unexpected byte }
+{
+    match byte {
+        b'|' => Cause::Namespace,
+        b',' | b')' | b'>' | b'+' | b'~' => Cause::NoSelector,
+        _ => Cause::Unexpected,
+    }
+}
+
+// A simple selector that may stand after others.
+fn simple_after(s: &[u8]) -> Result<(Simple<'_>, &[u8]), Wrong>
+    ensures { read_as simple result ≡ simple_at s.now }
+{
+    let [first, rest @ ..] = s else {
+        return wrong(s, Cause::NoSelector);
+    };
+    if *first == b':' {
+        return pseudo(s, rest);
+    }
+    if *first == b'[' {
+        let (test, rest) = attribute(s.len(), rest)?;
+        return Ok((Simple::Whole(Whole::Test(test)), rest));
+    }
+    if *first == b'#' {
+        let (id, rest) = name(rest)?;
+        return Ok((Simple::Whole(Whole::Test(TestText::Id(id))), rest));
+    }
+    if *first == b'.' {
+        let (class, rest) = name(rest)?;
+        return Ok((Simple::Whole(Whole::Test(TestText::Class(class))), rest));
+    }
+    wrong(s, unexpected(*first))
+}
+
+// A simple selector that may stand first.
+fn simple_first(s: &[u8]) -> Result<(Simple<'_>, &[u8]), Wrong>
+    ensures { read_as simple result ≡ first_at s.now }
+{
+    match s {
+        [b'*', rest @ ..] => Ok((Simple::Whole(Whole::Test(TestText::Any)), rest)),
+        _ if begins_name(s) => Ok((
+            Simple::Whole(Whole::Test(TestText::Name(s))),
+            past_run(None, s),
+        )),
+        _ => simple_after(s),
+    }
+}
+
+fn combinator_of(byte: u8) -> Option<Combinator>
+    ensures { result ≡ combinator_of byte }
+{
+    match byte {
+        b'>' => Some(Combinator::Child),
+        b'+' => Some(Combinator::NextSibling),
+        b'~' => Some(Combinator::SubsequentSibling),
+        _ => None,
+    }
+}
+
+// A combinator that a byte says, or none, and the gap after it.
+fn combinator(s: &[u8]) -> Result<(Option<Combinator>, &[u8]), Wrong>
+    ensures { read_as (λ combinator. combinator) result ≡ combinator_at s.now }
+{
+    let [first, rest @ ..] = s else {
+        return Ok((None, s));
+    };
+    let Some(combinator) = combinator_of(*first) else {
+        return Ok((None, s));
+    };
+    let (_white, rest) = gap(rest)?;
+    Ok((Some(combinator), rest))
+}
+
+// The combinator that a relative selector may begin with.
+fn leading(role: Role, s: &[u8]) -> Result<(Combinator, &[u8]), Wrong>
+    ensures { read_as (λ combinator. combinator) result ≡ leading_at role s.now }
+{
+    if !role.is_relative() {
+        return Ok((Combinator::Descendant, s));
+    }
+    let (combinator, rest) = combinator(s)?;
+    Ok((combinator.unwrap_or(Combinator::Descendant), rest))
+}
+
+/// The first item of a complex selector.
+pub fn begin(role: Role, s: &[u8]) -> Result<(Item<'_>, &[u8]), Wrong>
+    ensures { read_as item result ≡ begin_at role s.now }
+{
+    let (_white, s) = gap(s)?;
+    let (combinator, s) = leading(role, s)?;
+    let (simple, rest) = simple_first(s)?;
+    Ok((Item::Part(Before::Begin(combinator), s.len(), simple), rest))
+}
+
+// A simple selector after this combinator, or after white space or nothing.
+fn part(spaced: bool, combinator: Option<Combinator>, s: &[u8]) -> Result<(Item<'_>, &[u8]), Wrong>
+    ensures { read_as item result ≡ part_at spaced combinator s.now }
+{
+    let combinator = match combinator {
+        Some(combinator) => combinator,
+        None if spaced => Combinator::Descendant,
+        None => {
+            let (simple, rest) = simple_after(s)?;
+            return Ok((Item::Part(Before::Touching, s.len(), simple), rest));
+        }
+    };
+    let (simple, rest) = simple_first(s)?;
+    Ok((Item::Part(Before::After(combinator), s.len(), simple), rest))
+}
+
+/// The next item after a simple selector, in a list whose bracket was opened where so many bytes were left.
+pub fn next(role: Role, opened: usize, s: &[u8]) -> Result<(Item<'_>, &[u8]), Wrong>
+    ensures { read_as item result ≡ next_at role opened s.now }
+{
+    let (spaced, s) = gap(s)?;
+    match s {
+        [] if role.is_top() => Ok((Item::End, s)),
+        [] => Err(Wrong {
+            left: opened,
+            cause: Cause::Unclosed,
+        }),
+        [b',', rest @ ..] => Ok((Item::Comma, rest)),
+        [b')', rest @ ..] if !role.is_top() => Ok((Item::End, rest)),
+        _ => {
+            let (combinator, rest) = combinator(s)?;
+            part(spaced, combinator, rest)
+        }
+    }
+}

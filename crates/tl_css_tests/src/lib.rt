@@ -1,0 +1,7 @@
+//! Worked rows of selector texts.
+#![tactic(auto)]
+
+#[cfg(test)]
+mod refused;
+#[cfg(test)]
+mod selectors;
