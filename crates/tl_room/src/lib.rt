@@ -1,0 +1,4 @@
+//! Room for many values, which is given back all at once.
+#![tactic(auto)]
+
+pub mod shared;
