@@ -2,3 +2,4 @@
 #![tactic(auto)]
 
 pub mod shared;
+pub mod slot;
