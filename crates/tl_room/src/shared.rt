@@ -8,6 +8,7 @@ use std::rc::Rc;
 /// A handle of an allocator, which goes with the last of its handles. A block may be freed by any of them.
 #[derive(Drop)]
 pub struct Shared<A> {
+    alloc: Global,
     inner: Rc<A>,
 }
 
@@ -24,12 +25,18 @@ impl<A: Drop> Shared<A> {
         ensures { IfOk result (λ it. it ≡ inner) }
     {
         Ok(Shared {
+            alloc,
             inner: Rc::new(alloc, inner)?,
         })
     }
 }
 
 impl<A> Shared<A> {
+    /// Where the allocator itself lies.
+    pub fn alloc(&self) -> Global {
+        self.alloc
+    }
+
     /// The allocator itself.
     #[inline(always)]
     pub fn as_ref(&self) -> &A
@@ -46,6 +53,7 @@ impl<A: Drop> Clone for Shared<A> {
     #[inline(always)]
     fn clone(&self) -> Result<Self, AllocError> {
         Ok(Shared {
+            alloc: self.alloc,
             inner: self.inner.clone()?,
         })
     }
