@@ -4,6 +4,8 @@
 #[cfg(test)]
 mod alike_keys;
 #[cfg(test)]
+mod arenas;
+#[cfg(test)]
 mod byte_strings;
 #[cfg(test)]
 mod containers;
