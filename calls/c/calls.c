@@ -113,6 +113,7 @@ static void of_edit(void) {
     LEAVES(TL_NOT_UNDERSTOOD, 0, tl_edit(TEXT("push 0"), TEXT("<a></a>"), OUT));
     LEAVES(TL_NOT_UNDERSTOOD, 0, tl_edit(TEXT("\xff"), TEXT("<a></a>"), OUT));
     LEAVES(TL_NOT_UNDERSTOOD, 0, tl_edit(TEXT(""), TEXT("\xff"), OUT));
+    PUTS("", tl_edit(TEXT("\n\n"), TEXT(""), OUT));
     RUNS_OUT("<a b=\"c\"></a>", tl_edit(TEXT("set 0 b c"), TEXT("<a>"), OUT));
 }
 
@@ -126,6 +127,9 @@ static void of_select(void) {
     PUTS("xy\0z\0", tl_select(TEXT("p"), TL_ITS_TEXT, NO_KEY, PAGE, OUT));
     PUTS("a\0", tl_select(TEXT("p"), TL_ITS_VALUE, TEXT("id"), PAGE, OUT));
     PUTS("", tl_select(TEXT("i"), TL_ITS_TEXT, NO_KEY, PAGE, OUT));
+    PUTS("", tl_select(TEXT("i"), TL_ITS_TEXT, NO_KEY, TEXT(""), OUT));
+    PUTS("\0\0", tl_select(TEXT("br"), TL_ITS_TEXT, NO_KEY, TEXT("<br><br>"), OUT));
+    PUTS("x\0", tl_select(TEXT("a"), TL_ITS_VALUE, TEXT("b"), TEXT("<a b><a><a b=x>"), OUT));
     LEAVES(TL_NO_ROOM, 2, tl_select(TEXT("b"), TL_ITS_TEXT, NO_KEY, PAGE, ROOM(1)));
     LEAVES(TL_REFUSED, 0, tl_select(TEXT(",p"), TL_ITS_TEXT, NO_KEY, PAGE, OUT));
     LEAVES(TL_NOT_UNDERSTOOD, 0, tl_select(TEXT("p"), 5, NO_KEY, PAGE, OUT));
@@ -139,6 +143,7 @@ static void of_sanitise(void) {
     PUTS("<p>x</p>", tl_sanitise(TEXT("<p onclick=f()>x<script>y</script></p>"), OUT));
     LEAVES(TL_NO_ROOM, 8, tl_sanitise(TEXT("<p>x"), ROOM(7)));
     LEAVES(TL_NOT_UNDERSTOOD, 0, tl_sanitise(TEXT("\xff"), OUT));
+    PUTS("", tl_sanitise(TEXT(""), OUT));
     RUNS_OUT("<p>x</p>", tl_sanitise(TEXT("<p>x"), OUT));
 }
 
@@ -150,16 +155,54 @@ static void of_version(void) {
     CHECK(requests == 0);
 }
 
-/* The print of a page in a block of its own: first with as much room as the page has bytes, then with what is needed. */
-static uint8_t *printed(const uint8_t *page, size_t len, size_t *count) {
+/* A call that makes something of a page alone. */
+typedef tl_status page_call(const uint8_t *page, size_t page_len, uint8_t *out, size_t room, size_t *needed);
+
+static tl_status texts_of_b(const uint8_t *page, size_t page_len, uint8_t *block, size_t room, size_t *count) {
+    return tl_select(TEXT("b"), TL_ITS_TEXT, NO_KEY, page, page_len, block, room, count);
+}
+
+static tl_status steps_on_page(const uint8_t *page, size_t page_len, uint8_t *block, size_t room, size_t *count) {
+    return tl_edit(page, page_len, TEXT("<a>"), block, room, count);
+}
+
+/* What a call makes of a page, in a block of its own: first with as much room as the page has bytes, then with what is needed. */
+static uint8_t *made(page_call *call, const uint8_t *page, size_t len, size_t *count) {
     for (size_t room = len + 1;; room = *count) {
         uint8_t *block = malloc(room);
         CHECK(block != NULL);
-        tl_status status = tl_print(page, len, block, room, count);
+        tl_status status = call(page, len, block, room, count);
         if (status == TL_DONE) return block;
         free(block);
         CHECK(status == TL_NO_ROOM);
     }
+}
+
+/* Whether a call makes so many times these bytes of a page of so many times a text. */
+static int makes(page_call *call, size_t times, const uint8_t *text, size_t len, size_t wanted_times, const uint8_t *wanted,
+                 size_t wanted_len) {
+    size_t count;
+    uint8_t *page = malloc(len * times);
+    CHECK(page != NULL);
+    for (size_t at = 0; at < times; at++) memcpy(page + at * len, text, len);
+    uint8_t *block = made(call, page, len * times, &count);
+    int is = count == wanted_len * wanted_times;
+    for (size_t at = 0; is && at < wanted_times; at++) is = memcmp(block + at * wanted_len, wanted, wanted_len) == 0;
+    free(block);
+    free(page);
+    return is && held == 0;
+}
+
+/* Pages and answers of 10 MB, tags deep in one another, many steps: none of them wants more memory than there is. */
+static void of_large(void) {
+    CHECK(makes(tl_print, 1000000, TEXT("<b>xyz</b>"), 1000000, TEXT("<b>xyz</b>")));
+    CHECK(makes(tl_sanitise, 1000000, TEXT("<b>xyz</b>"), 1000000, TEXT("<b>xyz</b>")));
+    CHECK(makes(tl_text, 1000000, TEXT("<b>xyz</b>"), 1000000, TEXT("xyz")));
+    CHECK(makes(texts_of_b, 2000000, TEXT("<b>xyz</b>"), 2000000, TEXT("xyz\0")));
+    CHECK(makes(texts_of_b, 1000000, TEXT("<br>"), 0, TEXT("")));
+    CHECK(makes(tl_text, 10000, TEXT("<b>x"), 10000, TEXT("x")));
+    CHECK(makes(tl_sanitise, 10000, TEXT("<x-y>z"), 10000, TEXT("z")));
+    CHECK(makes(steps_on_page, 100000, TEXT("flag 0 b\n"), 1, TEXT("<a b></a>")));
 }
 
 int main(void) {
@@ -170,8 +213,9 @@ int main(void) {
     of_select();
     of_sanitise();
     of_version();
+    of_large();
     size_t count;
-    uint8_t *block = printed(TEXT("<p>x"), &count);
+    uint8_t *block = made(tl_print, TEXT("<p>x"), &count);
     CHECK(count == 8 && memcmp(block, "<p>x</p>", 8) == 0);
     free(block);
     CHECK(held == 0);

@@ -169,6 +169,8 @@ static void refusals(void) {
     PUTS(tl_attribute(&document, 1, BYTES("href"), OUT), "/x");
     LEAVES(tl_node_text(&document, 1000, OUT), TL_REFUSED, 0);
     LEAVES(tl_find(&document, BYTES("\xff"), NUMBERS), TL_NOT_UNDERSTOOD, 0);
+    LEAVES(tl_find(&document, BYTES(",a"), NUMBERS), TL_REFUSED, 0);
+    CHECK(found(tl_find(&document, BYTES("i"), NUMBERS), NULL, 0));
     CHECK(tl_parse(BYTES("\xff"), &document) == TL_NOT_UNDERSTOOD);
     tl_free(&document);
     LEAVES(tl_find(&document, BYTES("a"), NUMBERS), TL_REFUSED, 0);

@@ -1,4 +1,4 @@
-mod Finding
+pub mod Queries
 pub mod Room
 mod Texts
 mod Values

@@ -1,21 +1,20 @@
 -- What is put into room.
 use denote.Enum.Declared.{tag_of}
-use Rattle.std.proofs.Common.{◌≡◌, ◌≢◌, ◌+◌, ◌++◌, ℕ, Bool, true, false, List, [], length, take, drop, refl, ap, sym, ap₂, ◌∙◌, subst, if◌then◌else◌, arith}
+use Rattle.std.proofs.Common.{◌≡◌, ◌≢◌, ◌+◌, ◌++◌, ℕ, Bool, true, false, List, [], length, take, drop, refl, sym, ap₂, ◌∙◌, subst, if◌then◌else◌, arith}
 use Rattle.std.proofs.Math.Seq.{take-append_seam}
 use Rattle.std.proofs.lemmas.Bool.{le-ltb}
 use Rattle.std.specs.Global.{Global}
 use Rattle.std.specs.Prelude.{IfOk, IsOkAnd, Result, Ok, Err, string_bytes}
 use Rattle.std.specs.declared.string.String.{String}
-use Rattle.tl_program.specs.Output.{Outcome, Fails as FailsText}
-use Rattle.tl_program.specs.contracts.program.failure.Failure.{the_type}
-use Rattle.tl_program.specs.declared.program.failure.Failure.{Failure}
-use Rattle.tl_program.specs.declared.program.failure.Failure.TheVariants.{Refused, NotUnderstood, OutOfMemory, Fault}
-use Rattle.tl_c.specs.Answer.{Answer, Fails, answer_of, answer_with, not_understood, refused}
+use Rattle.tl_page.specs.Outcome.{Fails, Outcome, not_understood, refused, success}
+use Rattle.tl_page.specs.contracts.failure.Failure.{the_type}
+use Rattle.tl_page.specs.declared.failure.Failure.{Failure}
+use Rattle.tl_page.specs.declared.failure.Failure.TheVariants.{Refused, NotUnderstood, OutOfMemory, Fault}
 use Rattle.tl_c.specs.Puts.{Puts, is_too_long}
 
 -- the number of a failure
-abbrev pub status_of : Failure → ℕ
-status_of failure = tag_of the_type failure + 1
+abbrev pub number_of : Failure → ℕ
+number_of failure = tag_of the_type failure + 1
 
 module _ {X : Type 0} where
   has_room : (out : List X) → is_too_long [] out ≡ false
@@ -39,8 +38,8 @@ module _ {X : Type 0} where
     untouched = λ _. refl;
   }
 
-  puts_nothing : (answer : Answer X) (out : List X) → Puts answer out out 0 3
-  puts_nothing answer out = record {
+  puts_nothing : (outcome : Outcome (List X)) (out : List X) → Puts outcome out out 0 3
+  puts_nothing outcome out = record {
     answered = λ other. absurd (other refl);
     counted = λ other. absurd (other refl);
     filled = λ other. absurd (other refl);
@@ -49,11 +48,11 @@ module _ {X : Type 0} where
   }
 
   -- a failure is put
-  pub puts_failure : (answer : Answer X) (failure : Failure) (out : List X) → Fails answer failure → Puts answer out out 0 (status_of failure)
-  puts_failure answer Refused out fails = subst (λ (a : Answer X). Puts a out out 0 1) (sym fails) (puts_refused out)
-  puts_failure answer NotUnderstood out fails = subst (λ (a : Answer X). Puts a out out 0 2) (sym fails) (puts_not_understood out)
-  puts_failure answer OutOfMemory out fails = puts_nothing answer out
-  puts_failure answer Fault out fails = absurd fails
+  pub puts_failure : (outcome : Outcome (List X)) (failure : Failure) (out : List X) → Fails outcome failure → Puts outcome out out 0 (number_of failure)
+  puts_failure outcome Refused out fails = subst (λ (o : Outcome (List X)). Puts o out out 0 1) (sym fails) (puts_refused out)
+  puts_failure outcome NotUnderstood out fails = subst (λ (o : Outcome (List X)). Puts o out out 0 2) (sym fails) (puts_not_understood out)
+  puts_failure outcome OutOfMemory out fails = puts_nothing outcome out
+  puts_failure outcome Fault out fails = absurd fails
 
   front_by : (items old new : List X) (needed : ℕ) (is_long : Bool) → ◌≡◌ {A = ℕ} 0 (if is_long then 4 else 0) → needed ≡ length items
       → new ≡ (if is_long then old else items ++ drop (length items) old) → take needed new ≡ items
@@ -61,17 +60,10 @@ module _ {X : Type 0} where
   front_by items old new needed false e f g = ap₂ take f g ∙ take-append_seam items (drop (length items) old)
 
   -- what is put stands at the front
-  pub put_front : (items old new : List X) (needed status : ℕ) → Puts (answer_with items) old new needed status → status ≡ 0 → take needed new ≡ items
+  pub put_front : (items old new : List X) (needed status : ℕ) → Puts (success items) old new needed status → status ≡ 0 → take needed new ≡ items
   put_front items old new needed status puts e =
       let other : status ≢ 3 = λ is_three. omega (arith, e, is_three) in
       front_by items old new needed (is_too_long items old) (sym e ∙ puts.answered other) (puts.counted other) (puts.filled other)
-
--- what is made of a page fails as its answer does
-pub fails_alike : (outcome : Outcome) (failure : Failure) → FailsText outcome failure → Fails (answer_of outcome) failure
-fails_alike outcome Refused fails = ap answer_of fails
-fails_alike outcome NotUnderstood fails = ap answer_of fails
-fails_alike outcome OutOfMemory fails = fails
-fails_alike outcome Fault fails = fails
 
 -- what holds of the text that is given holds of the bytes that were put
 pub of_given : (given : Result (String Global) Failure) (P : List ℕ → Type 0) (bytes : List ℕ) → IsOkAnd given (λ text. bytes ≡ string_bytes text)

@@ -1,6 +1,4 @@
-pub mod Answer
-pub mod Asked
 pub mod Owned
-pub mod PageDocument
+pub mod Pages
 pub mod Puts
 pub mod Queries

@@ -1,38 +1,39 @@
 -- What a caller in C finds after a call.
-use Rattle.std.specs.Prelude.{◌≡◌, ◌≢◌, ◌<◌, ◌⊎◌, ℕ, Bool, List, ◌++◌, Option, None, IsSome, option_map, length, drop, nat_lt, if◌then◌else◌}
+use Rattle.std.specs.Prelude.{◌≡◌, ◌≢◌, ◌<◌, ◌⊎◌, ℕ, Bool, List, ◌++◌, Option, IsSomeAnd, length, drop, nat_lt, if◌then◌else◌}
 use Rattle.tl_spec.specs.Document.{Document}
 use Rattle.tl.specs.Shown.{document_of}
-use Rattle.tl_c.specs.Answer.{Answer}
+use Rattle.tl_page.specs.Outcome.{Outcome, not_understood, status_of, success, written_of}
 use Rattle.tl_c.specs.declared.parsed.Parsed.{Parsed}
 
 -- more items than there is room for
 abbrev pub is_too_long : {X : Type 0} → List X → List X → Bool
 is_too_long items room = nat_lt (length room) (length items)
 
--- the status of an answer: 4 where its items are more than there is room for, else its own
-abbrev pub status_in : {X : Type 0} → List X → Answer X → ℕ
-status_in room answer = if is_too_long answer.items room then 4 else answer.status
+-- the status of an outcome: 4 where its items are more than there is room for, else its own
+abbrev pub status_in : {X : Type 0} → List X → Outcome (List X) → ℕ
+status_in room outcome = if is_too_long (written_of outcome) room then 4 else status_of outcome
 
 -- room with items at its front, whose rest is as it was; so is all of it where they are too many
 abbrev pub room_with : {X : Type 0} → List X → List X → List X
 room_with items room =
     if is_too_long items room then room else items ++ drop (length items) room
 
--- An answer is put into room (old, and new after the call), or memory ran out, which is 3. All else
+-- An outcome is put into room (old, and new after the call), or memory ran out, which is 3. All else
 -- is determined: what has no items leaves the room as it was.
-pub record Puts {X : Type 0} (answer : Answer X) (old new : List X) (needed status : ℕ) : Type 0 where
-  pub answered : status ≢ 3 → status ≡ status_in old answer
-  pub counted : status ≢ 3 → needed ≡ length answer.items
-  pub filled : status ≢ 3 → new ≡ room_with answer.items old
+pub record Puts {X : Type 0} (outcome : Outcome (List X)) (old new : List X) (needed status : ℕ) : Type 0 where
+  pub answered : status ≢ 3 → status ≡ status_in old outcome
+  pub counted : status ≢ 3 → needed ≡ length (written_of outcome)
+  pub filled : status ≢ 3 → new ≡ room_with (written_of outcome) old
   pub unneeded : status ≡ 3 → needed ≡ 0
   pub untouched : status ≡ 3 → new ≡ old
 
--- A page is read into a document (what it held, and what it holds after the call): the status, and the document.
-pub record Reads (read : Option Document) (old new : Option Parsed) (status : ℕ) : Type 0 where
+-- A page is read into a document (what it held, and what it holds after the call): the status, and
+-- the document.
+pub record Reads (read : Outcome Document) (old new : Option Parsed) (status : ℕ) : Type 0 where
   pub range : (status ≡ 0) ⊎ (status ≡ 2) ⊎ (status ≡ 3)
   -- 0: it holds the document of the page
-  pub is_read : status ≡ 0 → (option_map (λ p. document_of p.document) new ≡ read) × IsSome read
-  -- 2: the page has none
-  pub is_not_understood : status ≡ 2 → read ≡ None
+  pub is_read : status ≡ 0 → IsSomeAnd new (λ parsed. read ≡ success (document_of parsed.document))
+  -- 2: the page is none
+  pub is_not_understood : status ≡ 2 → read ≡ not_understood
   -- 2 and 3: it holds what it held; 3 is said where memory ran out
   pub untouched : 0 < status → new ≡ old

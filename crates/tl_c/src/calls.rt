@@ -1,28 +1,34 @@
 //! The calls with a page.
-ghost use Rattle.std.specs.Prelude.{◌≡◌, ◌≢◌, take};
+ghost use Rattle.std.specs.Prelude.{◌≡◌, ◌≢◌, ◌<◌, length, None, Some, IsUtf8, take};
 ghost use Rattle.tl_spec.specs.Normal.{norm};
-ghost use Rattle.tl_program.specs.Asked.{Prints, Texts};
-ghost use Rattle.tl_program.specs.Output.{output_of};
+ghost use Rattle.tl_spec.specs.Selector.{Selector};
+ghost use Rattle.tl_spec.specs.SelectorText.{IsSelectorText};
 ghost use Rattle.tl_safe.specs.HtmlTokenizer.{data_state, html_tokens};
 ghost use Rattle.tl_safe.specs.IsSafe.{IsSafe, tokens_of};
 ghost use Rattle.tl_safe.specs.Kept.{kept, trees_of};
 ghost use Rattle.tl_safe.specs.Lists.{page_lists};
-ghost use Rattle.tl_pick.specs.Safe.{safe_page};
-ghost use Rattle.tl_c.specs.Answer.{answer_of, answer_with};
-ghost use Rattle.tl_c.specs.Asked.{outcome_of_selection, outcome_of_steps};
+ghost use Rattle.tl_page.specs.Outcome.{success};
+ghost use Rattle.tl_extract.specs.Field.{IsNoSelector};
+ghost use Rattle.tl_program.specs.Asked.{Prints, Texts};
+ghost use Rattle.tl_program.specs.Output.{output_of};
+ghost use Rattle.tl_c.specs.Pages.{edited_page, safe_page, selection};
 ghost use Rattle.tl_c.specs.Puts.{Puts};
 
-use crate::asked::{edited, selected};
+use crate::page::{edit, safe};
 use crate::put::{put_items, put_text};
+use crate::selection::select;
 use std::alloc::Global;
-use tl_pick::{VERSION, sanitise};
+use tl_page::VERSION;
 use tl_program::program::{Command, output};
-use tl_safe::Policy;
 
 /// Prints a page as it was read, as `tlq print` does.
 #[unsafe(no_mangle)]
 pub extern "C" fn tl_print(alloc: Global, page: &[u8], out: &mut [u8], needed: &mut usize) -> u8
-    ensures { Puts (answer_of (output_of Prints None page.now)) out.old out.new needed.new result }
+    ensures put { Puts (output_of Prints None page.now) out.old out.new needed.new result }
+
+    // No want of memory hides that a page is no text, or too long.
+    ensures no_text { ¬ (IsUtf8 page.now) → result ≡ 2 }
+    ensures long { u32.MAX < length page.now → result ≡ 2 }
 {
     put_text(output(alloc, &Command::Print, page), out, needed)
 }
@@ -30,7 +36,11 @@ pub extern "C" fn tl_print(alloc: Global, page: &[u8], out: &mut [u8], needed: &
 /// Writes the texts of a page in order, as `tlq text` does.
 #[unsafe(no_mangle)]
 pub extern "C" fn tl_text(alloc: Global, page: &[u8], out: &mut [u8], needed: &mut usize) -> u8
-    ensures { Puts (answer_of (output_of Texts None page.now)) out.old out.new needed.new result }
+    ensures put { Puts (output_of Texts None page.now) out.old out.new needed.new result }
+
+    // No want of memory hides that a page is no text, or too long.
+    ensures no_text { ¬ (IsUtf8 page.now) → result ≡ 2 }
+    ensures long { u32.MAX < length page.now → result ≡ 2 }
 {
     put_text(output(alloc, &Command::Text, page), out, needed)
 }
@@ -45,10 +55,9 @@ pub extern "C" fn tl_edit(
     out: &mut [u8],
     needed: &mut usize,
 ) -> u8
-    ensures { let outcome = outcome_of_steps steps.now page.now in
-        Puts (answer_of outcome) out.old out.new needed.new result }
+    ensures { Puts (edited_page steps.now page.now) out.old out.new needed.new result }
 {
-    put_text(edited(alloc, steps, page), out, needed)
+    put_text(edit(alloc, steps, page), out, needed)
 }
 
 /// Writes what is asked of each node of a page where a selector holds, in order, with a byte 0 after
@@ -65,30 +74,37 @@ pub extern "C" fn tl_select(
     out: &mut [u8],
     needed: &mut usize,
 ) -> u8
-    ensures { let outcome = outcome_of_selection selector.now wanted key.now page.now in
-        Puts (answer_of outcome) out.old out.new needed.new result }
+    ensures selects { (e : Selector) → IsSelectorText selector.now e →
+        let outcome = selection selector.now (Some e) wanted key.entry page.now in
+        Puts outcome out.old out.new needed.new result }
+    ensures no_selector { IsNoSelector selector.now →
+        let outcome = selection selector.now None wanted key.entry page.now in
+        Puts outcome out.old out.new needed.new result }
 {
-    put_text(selected(alloc, selector, wanted, key, page), out, needed)
+    put_text(select(alloc, selector, wanted, key, page), out, needed)
 }
 
 /// Prints what the policy for the text of a blog keeps of a page.
 #[unsafe(no_mangle)]
 pub extern "C" fn tl_sanitise(alloc: Global, page: &[u8], out: &mut [u8], needed: &mut usize) -> u8
-    ensures put { let outcome = safe_page page_lists page.now in
-        Puts (answer_of outcome) out.old out.new needed.new result }
+    ensures put { Puts (safe_page page.now) out.old out.new needed.new result }
 
     // As `sanitised` says of what it prints.
     ensures form { result ≡ 0 → IsSafe page_lists (take needed.new out.new) }
     ensures standard { result ≡ 0 → html_tokens data_state (take needed.new out.new)
         ≡ tokens_of (norm (kept page_lists (trees_of page.now))) }
+
+    // No want of memory hides that a page is no text, or too long.
+    ensures no_text { ¬ (IsUtf8 page.now) → result ≡ 2 }
+    ensures long { u32.MAX < length page.now → result ≡ 2 }
 {
-    put_text(sanitise(alloc, &Policy::page(), page), out, needed)
+    put_text(safe(alloc, page), out, needed)
 }
 
 /// Writes the version. That takes no memory.
 #[unsafe(no_mangle)]
 pub extern "C" fn tl_version(out: &mut [u8], needed: &mut usize) -> u8
-    ensures put { Puts (answer_with VERSION.now) out.old out.new needed.new result }
+    ensures put { Puts (success VERSION.now) out.old out.new needed.new result }
     ensures memory { result ≢ 3 }
 {
     put_items(VERSION.as_bytes(), out, needed)

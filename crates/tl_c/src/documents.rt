@@ -1,24 +1,28 @@
 //! The calls with a document.
-ghost use Rattle.std.specs.Prelude.{◌≡◌, ◌≢◌, IsSome, IsUtf8, None};
-ghost use Rattle.tl_c.specs.Queries.{answer_of_value, node_in, numbers_in, text_in, value_in};
-ghost use Rattle.tl_c.specs.PageDocument.{page_document};
+ghost use Rattle.std.specs.Prelude.{◌≡◌, ◌≢◌, IsSome, IsUtf8, None, Some};
+ghost use Rattle.tl_spec.specs.Selector.{Selector};
+ghost use Rattle.tl_spec.specs.SelectorText.{IsSelectorText};
+ghost use Rattle.tl_page.specs.Outcome.{not_understood, success};
+ghost use Rattle.tl_page.specs.Page.{document_in};
+ghost use Rattle.tl_extract.specs.Field.{IsNoSelector};
 ghost use Rattle.tl_c.specs.Puts.{Puts, Reads};
+ghost use Rattle.tl_c.specs.Queries.{node_in, numbers_in, outcome_of_some, text_in, value_in};
 
 use crate::document::Document;
-use crate::page::of_page;
+use crate::page::parse;
 use crate::put::{put, put_value};
-use crate::query::{attribute, find, node_text};
+use crate::query::{find, text, value};
 use std::alloc::Global;
 
 /// Reads a copy of a page into a document. What it held before is given back.
 #[unsafe(no_mangle)]
 pub extern "C" fn tl_parse(alloc: Global, page: &[u8], document: &mut Document) -> u8
-    ensures reads { Reads (page_document page.now) document.old.held document.new.held result }
+    ensures reads { Reads (document_in page.now) document.old.held document.new.held result }
 
     // A page that has no document is refused before any memory is taken.
-    ensures refused { page_document page.now ≡ None → result ≡ 2 }
+    ensures refused { document_in page.now ≡ not_understood → result ≡ 2 }
 {
-    match of_page(alloc, page) {
+    match parse(alloc, page) {
         Ok(read) => {
             let _before = document.replace(alloc, Some(read));
             0
@@ -35,8 +39,8 @@ pub extern "C" fn tl_free(alloc: Global, document: &mut Document)
     let _before = document.replace(alloc, None);
 }
 
-/// Finds the nodes of a document where a selector holds: their numbers, in the order of the text. A text that is no selector is
-/// refused.
+/// Finds the nodes of a document where a selector holds: their numbers, in the order of the text. A
+/// text that is no selector is refused.
 #[unsafe(no_mangle)]
 pub extern "C" fn tl_find(
     alloc: Global,
@@ -46,8 +50,12 @@ pub extern "C" fn tl_find(
     needed: &mut usize,
 ) -> u8
     ensures same { document.new.held ≡ document.old.held }
-    ensures put { let answer = numbers_in selector.now document.old.held in
-        Puts answer numbers.old numbers.new needed.new result }
+    ensures finds { (e : Selector) → IsSelectorText selector.now e →
+        let outcome = numbers_in selector.now (Some e) document.old.held in
+        Puts outcome numbers.old numbers.new needed.new result }
+    ensures no_selector { IsNoSelector selector.now →
+        let outcome = numbers_in selector.now None document.old.held in
+        Puts outcome numbers.old numbers.new needed.new result }
 
     // Without a document, or with a selector that is no text, it takes no memory.
     ensures none { document.old.held ≡ None → result ≡ 1 }
@@ -59,7 +67,8 @@ pub extern "C" fn tl_find(
     put(found, numbers, needed)
 }
 
-/// The value of a node at a key. It is refused where the node has none, and where there is no such node.
+/// The value of a node at a key. It is refused where the node has none, and where there is no such
+/// node.
 #[unsafe(no_mangle)]
 pub extern "C" fn tl_attribute(
     alloc: Global,
@@ -70,14 +79,14 @@ pub extern "C" fn tl_attribute(
     needed: &mut usize,
 ) -> u8
     ensures same { document.new.held ≡ document.old.held }
-    ensures put { let answer = answer_of_value (value_in node key.now document.old.held) in
-        Puts answer out.old out.new needed.new result }
+    ensures put { let outcome = outcome_of_some success (value_in node key.now document.old.held) in
+        Puts outcome out.old out.new needed.new result }
 
     // It takes no memory.
     ensures memory { result ≢ 3 }
 {
     let held = document.replace(alloc, None);
-    let status = put_value(attribute(&held, node, key), out, needed);
+    let status = put_value(value(&held, node, key), out, needed);
     let _nothing = document.replace(alloc, held);
     status
 }
@@ -92,14 +101,14 @@ pub extern "C" fn tl_node_text(
     needed: &mut usize,
 ) -> u8
     ensures same { document.new.held ≡ document.old.held }
-    ensures put { let answer = text_in node document.old.held in
-        Puts answer out.old out.new needed.new result }
+    ensures put { let outcome = text_in node document.old.held in
+        Puts outcome out.old out.new needed.new result }
 
     // Without a document, or such a node, it takes no memory.
     ensures no_node { node_in node document.old.held ≡ None → result ≡ 1 }
 {
     let held = document.replace(alloc, None);
-    let text = node_text(alloc, &held, node);
+    let text = text(alloc, &held, node);
     let _nothing = document.replace(alloc, held);
     put(text, out, needed)
 }

@@ -1,7 +1,6 @@
 //! Calls for C over what the caller lends: `include/tl.h` says what each does, and what a caller owes.
 #![tactic(auto)]
 
-mod asked;
 mod calls;
 mod document;
 mod documents;
@@ -10,3 +9,5 @@ mod page;
 mod parsed;
 mod put;
 mod query;
+mod selection;
+mod text;

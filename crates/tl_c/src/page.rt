@@ -1,33 +1,58 @@
-//! Pages that become documents.
-ghost use Rattle.std.specs.Prelude.{◌≡◌, Err, None};
-ghost use Rattle.tl_c.specs.PageDocument.{Parses, page_document, text_document};
+//! What is made of a page.
+ghost use Rattle.std.specs.Prelude.{◌≡◌, ◌<◌, length, Err, IfOk, IsUtf8, string_bytes};
+ghost use Rattle.tl_spec.specs.Normal.{norm};
+ghost use Rattle.tl.specs.Shown.{document_of};
+ghost use Rattle.tl_safe.specs.HtmlTokenizer.{data_state, html_tokens};
+ghost use Rattle.tl_safe.specs.IsSafe.{IsSafe, tokens_of};
+ghost use Rattle.tl_safe.specs.Kept.{kept, trees_of};
+ghost use Rattle.tl_safe.specs.Lists.{page_lists};
+ghost use Rattle.tl_page.specs.Outcome.{Gives, not_understood};
+ghost use Rattle.tl_page.specs.Page.{document_in};
+ghost use Rattle.tl_page.specs.declared.failure.Failure.TheVariants.{NotUnderstood};
+ghost use Rattle.tl_c.specs.Pages.{edited_page, safe_page};
 
 use crate::parsed::Parsed;
+use crate::text::text_of;
 use std::alloc::{AllocError, Global};
 use tl::{ParserOptions, parse_owned};
-use tl_program::program::Failure;
+use tl_page::{Failure, text};
+use tl_program::program::{Command, output};
+use tl_program::script::steps;
+use tl_safe::{Policy, sanitised};
 
-// The document of a copy of a text.
-fn of_text(alloc: Global, text: &str) -> Result<Box<Parsed>, Failure>
-    ensures parses { Parses (text_document text.now) result }
-    ensures refused { text_document text.now ≡ None → result ≡ Err Failure.NotUnderstood }
+/// The print of a page after the steps that lines say. Lines that say none are not understood.
+pub(crate) fn edit(alloc: Global, lines: &[u8], page: &[u8]) -> Result<String, Failure>
+    ensures { Gives string_bytes (edited_page lines.now page.now) result }
 {
-    // Before the memory of the copy.
-    if text.len() > u32::MAX as usize {
+    let Some(steps) = steps(alloc, text_of(lines)?)? else {
         return Err(Failure::NotUnderstood);
-    }
-    let copy = String::from_str(alloc, text)?;
-    let document = parse_owned(alloc, copy, ParserOptions::new())?;
-    Ok(Box::new(alloc, Parsed { document }).map_err(AllocError::from)?)
+    };
+    output(alloc, &Command::Edit(steps), page)
 }
 
-// The document of a copy of a page. A page that is no UTF-8, or longer than 4294967295 bytes, is not understood.
-pub(crate) fn of_page(alloc: Global, page: &[u8]) -> Result<Box<Parsed>, Failure>
-    ensures parses { Parses (page_document page.now) result }
-    ensures refused { page_document page.now ≡ None → result ≡ Err Failure.NotUnderstood }
+/// What the policy for the text of a blog keeps of a page, printed.
+pub(crate) fn safe(alloc: Global, page: &[u8]) -> Result<String, Failure>
+    ensures gives { Gives string_bytes (safe_page page.now) result }
+    ensures no_text { ¬ (IsUtf8 page.now) → result ≡ Err NotUnderstood }
+    ensures long { u32.MAX < length page.now → result ≡ Err NotUnderstood }
+
+    // As `sanitised` says of a text.
+    ensures form { IfOk result (λ safe. IsSafe page_lists (string_bytes safe)) }
+    ensures standard { IfOk result (λ safe. html_tokens data_state (string_bytes safe)
+        ≡ tokens_of (norm (kept page_lists (trees_of page.now)))) }
 {
-    match str::from_utf8(page) {
-        Ok(text) => of_text(alloc, text),
-        Err(_) => Err(Failure::NotUnderstood),
-    }
+    let text = text(page)?;
+    Ok(sanitised(alloc, &Policy::page(), text)?)
+}
+
+/// The document of a copy of a page.
+pub(crate) fn parse(alloc: Global, page: &[u8]) -> Result<Box<Parsed>, Failure>
+    ensures gives { Gives (λ own. document_of own.value.document) (document_in page.now) result }
+
+    // What is no page is said to be none before the memory of the copy.
+    ensures no_page { document_in page.now ≡ not_understood → result ≡ Err NotUnderstood }
+{
+    let copy = String::from_str(alloc, text(page)?)?;
+    let document = parse_owned(alloc, copy, ParserOptions::new())?;
+    Ok(Box::new(alloc, Parsed { document }).map_err(AllocError::from)?)
 }

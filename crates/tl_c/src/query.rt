@@ -1,16 +1,19 @@
 //! What is asked of a document that is held, if one is.
-ghost use Rattle.std.specs.Prelude.{◌≡◌, Err, IfOk, IsSome, IsUtf8, None, option_copied, option_map, slice_get};
-ghost use Rattle.tl_spec.specs.SelectorReading.{selector_at};
+ghost use Rattle.std.specs.Prelude.{◌≡◌, Err, IfOk, IsSome, IsUtf8, None, Some, option_copied, option_map, slice_get};
+ghost use Rattle.tl_spec.specs.Selector.{Selector};
+ghost use Rattle.tl_spec.specs.SelectorText.{IsSelectorText};
 ghost use Rattle.tl.specs.Shown.{document_of};
-ghost use Rattle.tl_program.specs.Output.{text_at};
-ghost use Rattle.tl_c.specs.Answer.{Gives};
-ghost use Rattle.tl_c.specs.Queries.{answer_of_numbers, answer_of_query, answer_of_reading, answer_of_selector, node_in, numbers_in, text_in, value_in, value_of_node};
+ghost use Rattle.tl_page.specs.Outcome.{Gives};
+ghost use Rattle.tl_page.specs.declared.failure.Failure.TheVariants.{NotUnderstood, Refused};
+ghost use Rattle.tl_extract.specs.Field.{IsNoSelector};
+ghost use Rattle.tl_c.specs.Queries.{node_in, numbers_in, text_in, text_of_node, value_in};
 
 use crate::parsed::Parsed;
+use crate::text::text_of;
 use std::alloc::{AllocError, Global};
 use tl::queryselector::QuerySelectorIterator;
 use tl::{Element, NodeHandle, VDom};
-use tl_program::program::Failure;
+use tl_page::Failure;
 
 // The numbers of the nodes that are left.
 fn numbers(alloc: Global, found: QuerySelectorIterator<'_, '_>) -> Result<Vec<u32>, AllocError>
@@ -23,63 +26,46 @@ fn numbers(alloc: Global, found: QuerySelectorIterator<'_, '_>) -> Result<Vec<u3
     Ok(numbers)
 }
 
-// The numbers that were found; a text that stands for no selector finds none, and is refused.
-fn numbers_found(
-    alloc: Global,
-    found: Option<QuerySelectorIterator<'_, '_>>,
-) -> Result<Vec<u32>, Failure>
-    ensures { Gives (answer_of_numbers found.entry) result }
-{
-    match found {
-        Some(found) => Ok(numbers(alloc, found)?),
-        None => Err(Failure::Refused),
-    }
-}
-
-// The numbers of the nodes of a document where the selector of a text holds.
-fn numbers_by(alloc: Global, document: &VDom<'_>, selector: &str) -> Result<Vec<u32>, Failure>
-    ensures { Gives (answer_of_selector (selector_at selector.now)
-        (document_of document.now)) result }
-{
-    let found = document.query_selector(alloc, selector)?;
-    numbers_found(alloc, found)
-}
-
-// The same of bytes, which have to be text.
-fn numbers_of(alloc: Global, document: &VDom<'_>, selector: &[u8]) -> Result<Vec<u32>, Failure>
-    ensures gives { Gives (answer_of_query selector.now (document_of document.now)) result }
-    ensures no_text { ¬ (IsUtf8 selector.now) → result ≡ Err Failure.NotUnderstood }
-{
-    match str::from_utf8(selector) {
-        Ok(selector) => numbers_by(alloc, document, selector),
-        Err(_) => Err(Failure::NotUnderstood),
-    }
-}
-
-// The numbers of the nodes where a selector holds.
+/// The numbers of the nodes where a selector holds.
 pub(crate) fn find(
     alloc: Global,
     held: &Option<Box<Parsed>>,
     selector: &[u8],
 ) -> Result<Vec<u32>, Failure>
-    ensures gives { let parsed = option_map (λ own. own.value) held.now in
-        Gives (numbers_in selector.now parsed) result }
-    ensures none { option_map (λ own. own.value) held.now ≡ None → result ≡ Err Failure.Refused }
+    ensures finds { let parsed = option_map (λ own. own.value) held.now in
+        (e : Selector) → IsSelectorText selector.now e →
+        Gives (λ numbers. numbers.items) (numbers_in selector.now (Some e) parsed) result }
+    ensures no_selector { let parsed = option_map (λ own. own.value) held.now in
+        IsNoSelector selector.now →
+        Gives (λ numbers. numbers.items) (numbers_in selector.now None parsed) result }
+
+    // Without a document, or with a selector that is no text, it takes no memory.
+    ensures none { option_map (λ own. own.value) held.now ≡ None → result ≡ Err Refused }
     ensures no_text { IsSome (option_map (λ own. own.value) held.now) → ¬ (IsUtf8 selector.now)
-        → result ≡ Err Failure.NotUnderstood }
+        → result ≡ Err NotUnderstood }
 {
-    match held {
-        Some(own) => numbers_of(alloc, own.document.get_ref(), selector),
-        None => Err(Failure::Refused),
-    }
+    let Some(own) = held else {
+        return Err(Failure::Refused);
+    };
+    let query = own
+        .document
+        .get_ref()
+        .query_selector(alloc, text_of(selector)?)?;
+    let Some(found) = query else {
+        return Err(Failure::Refused);
+    };
+    Ok(numbers(alloc, found)?)
 }
 
-// The value at a key of a node of a document.
-fn value_of<'d>(document: &'d VDom<'_>, node: NodeHandle, key: &[u8]) -> Option<&'d [u8]>
-    ensures { let node = slice_get (document_of document.now).nodes node in
-        option_copied result ≡ value_of_node key.now node }
+/// The value at a key of a node.
+pub(crate) fn value<'h>(held: &'h Option<Box<Parsed>>, node: u32, key: &[u8]) -> Option<&'h [u8]>
+    ensures { let parsed = option_map (λ own. own.value) held.now in
+        option_copied result ≡ value_in node key.now parsed }
 {
-    let Some(node) = node.get(document.parser()) else {
+    let Some(own) = held else {
+        return None;
+    };
+    let Some(node) = NodeHandle::new(node).get(own.document.get_ref().parser()) else {
         return None;
     };
     match node.attribute(key) {
@@ -88,47 +74,29 @@ fn value_of<'d>(document: &'d VDom<'_>, node: NodeHandle, key: &[u8]) -> Option<
     }
 }
 
-// The value at a key of a node.
-pub(crate) fn attribute<'h>(
-    held: &'h Option<Box<Parsed>>,
-    node: u32,
-    key: &[u8],
-) -> Option<&'h [u8]>
-    ensures { let parsed = option_map (λ own. own.value) held.now in
-        option_copied result ≡ value_in node key.now parsed }
-{
-    match held {
-        Some(own) => value_of(own.document.get_ref(), NodeHandle::new(node), key),
-        None => None,
-    }
-}
-
 // The texts at or below a node of a document.
-fn text_of(alloc: Global, document: &VDom<'_>, node: NodeHandle) -> Result<Vec<u8>, Failure>
-    ensures gives { let reading = text_at (document_of document.now).nodes node in
-        Gives (answer_of_reading reading) result }
+#[tactic(auto, using(crate::proofs::Queries::texts))]
+fn text_of_node(alloc: Global, document: &VDom<'_>, node: NodeHandle) -> Result<Vec<u8>, Failure>
+    ensures gives { let outcome = text_of_node node (document_of document.now) in
+        Gives (λ text. text.items) outcome result }
     ensures no_node { slice_get (document_of document.now).nodes node ≡ None
-        → result ≡ Err Failure.Refused }
+        → result ≡ Err Refused }
 {
-    match node.get(document.parser()) {
-        Some(node) => Ok(node.inner_text(alloc, document.parser())?.into_bytes()),
-        None => Err(Failure::Refused),
-    }
+    let Some(node) = node.get(document.parser()) else {
+        return Err(Failure::Refused);
+    };
+    Ok(node.inner_text(alloc, document.parser())?.into_bytes())
 }
 
-// The texts at or below a node.
-pub(crate) fn node_text(
-    alloc: Global,
-    held: &Option<Box<Parsed>>,
-    node: u32,
-) -> Result<Vec<u8>, Failure>
+/// The texts at or below a node.
+pub(crate) fn text(alloc: Global, held: &Option<Box<Parsed>>, node: u32) -> Result<Vec<u8>, Failure>
     ensures gives { let parsed = option_map (λ own. own.value) held.now in
-        Gives (text_in node parsed) result }
+        Gives (λ text. text.items) (text_in node parsed) result }
     ensures no_node { node_in node (option_map (λ own. own.value) held.now) ≡ None
-        → result ≡ Err Failure.Refused }
+        → result ≡ Err Refused }
 {
-    match held {
-        Some(own) => text_of(alloc, own.document.get_ref(), NodeHandle::new(node)),
-        None => Err(Failure::Refused),
-    }
+    let Some(own) = held else {
+        return Err(Failure::Refused);
+    };
+    text_of_node(alloc, own.document.get_ref(), NodeHandle::new(node))
 }

@@ -8,7 +8,7 @@ use Rattle.tl_spec.specs.ByteClass.{less, quote}
 use Rattle.tl_spec.specs.Document.{Document, Node, Tag, Raw, Comment}
 use Rattle.tl_spec.specs.Forest.{Forest, none, text, comment, tag, PlainTag}
 use Rattle.tl_spec.specs.Inline.{pair_image, map_image}
-use Rattle.tl_pick.specs.Cut.{pieces}
+use Rattle.tl_extract.specs.Split.{pieces}
 use Rattle.uses.specs.declared.field.Field.{Field}
 
 -- names with their values

@@ -1,4 +1,3 @@
 pub mod Fields
 pub mod Filling
-pub mod Links
-pub mod Picked
+pub mod Values

@@ -1,11 +1,11 @@
 //! Texts with fields in the place of their names.
-ghost use Rattle.std.specs.Prelude.{◌≡◌, ◌++◌, IfOk, OnOk};
+ghost use Rattle.std.specs.Prelude.{◌≡◌, ◌<◌, ◌∷◌, ◌++◌, length, IfOk, IfSome, OnOk};
 ghost use Rattle.std.specs.Option.{option_copied};
-ghost use Rattle.uses.specs.Fields.{escape, escape_of, fields_of, part_with, text_with, value_of};
+ghost use Rattle.tl_extract.specs.Split.{pieces, pieces_left};
+ghost use Rattle.uses.specs.Fields.{escape, escape_of, fields_of, opening, part_with, text_with, value_of};
 
 use std::alloc::{AllocError, Global};
 use tl::simd::find;
-use tl_pick::cut;
 
 /// A name, and the text that stands in its place.
 #[derive(Clone, Copy)]
@@ -51,7 +51,8 @@ fn add_value(text: &mut Vec<u8>, value: &[u8]) -> Result<(), AllocError>
     Ok(())
 }
 
-// Adds what stands after a `{` and before the next one, with its field, if it begins with the name of one.
+// Adds what stands after a `{` and before the next one, with its field, if it begins with the name
+// of one.
 fn add_part(text: &mut Vec<u8>, fields: &[Field<'_>], part: &[u8]) -> Result<(), AllocError>
     ensures { OnOk result (text.new.items
         ≡ text.old.items ++ part_with (fields_of fields.now) part.now) }
@@ -66,15 +67,27 @@ fn add_part(text: &mut Vec<u8>, fields: &[Field<'_>], part: &[u8]) -> Result<(),
     text.extend_from_slice(part)
 }
 
-/// A text with the escaped value in the place of each `{name}` of a field. Braces around anything else stay as they are.
+// What stands before the first `{`, and what stands after it, if there is one.
+fn split_at_brace(text: &[u8]) -> (&[u8], Option<&[u8]>)
+    ensures pieces { pieces opening text.now ≡ result.0.now ∷ pieces_left opening result.1 }
+    ensures shorter { IfSome result.1 (λ rest. length rest.now < length text.now) }
+{
+    match find(text, b'{') {
+        Some(end) => (&text[..end], Some(&text[end + 1..])),
+        None => (text, None),
+    }
+}
+
+/// A text with the escaped value in the place of each `{name}` of a field. Braces around anything
+/// else stay as they are.
 pub fn text_with(alloc: Global, fields: &[Field<'_>], text: &[u8]) -> Result<Vec<u8>, AllocError>
     ensures { IfOk result (λ all. all.items ≡ text_with (fields_of fields.now) text.now) }
 {
     let mut all = Vec::new(alloc);
-    let (first, mut rest) = cut(text, b'{');
+    let (first, mut rest) = split_at_brace(text);
     all.extend_from_slice(first)?;
     while let Some(later) = rest {
-        let (part, more) = cut(later, b'{');
+        let (part, more) = split_at_brace(later);
         add_part(&mut all, fields, part)?;
         rest = more;
     }

@@ -1,27 +1,20 @@
-use Rattle.std.proofs.Common.{◌≡◌, subst, take}
+use Rattle.std.proofs.Common.{◌≡◌}
 use Rattle.tl_spec.specs.Normal.{norm}
 use Rattle.tl_safe.specs.HtmlTokenizer.{data_state, html_tokens}
 use Rattle.tl_safe.specs.IsSafe.{IsSafe, tokens_of}
 use Rattle.tl_safe.specs.Kept.{kept, trees_of}
-use Rattle.tl_safe.specs.Policies.{kept_of, lists_of}
-use Rattle.tl_pick.specs.Safe.{safe_page}
-use Rattle.tl_c.specs.Answer.{answer_of}
-use Rattle.tl_c.specs.Puts.{Puts}
+use Rattle.tl_safe.specs.Lists.{page_lists}
 use Rattle.tl_c.proofs.Room.{of_given}
 use Rattle.tl_c.proofs.calls.tl_sanitise.Goals as goal
 
 pub returns-clause-put : goal.returns-clause-put
-returns-clause-put c =
-    subst (λ lists. Puts (answer_of (safe_page lists c.args.page.now)) c.args.out.now c.put_text.new.out c.put_text.new.needed c.put_text.result) c.page.ensures
-    (c.put_text.ensures.put _ c.sanitise.ensures.outcome)
+returns-clause-put c = c.put_text.ensures.put _ c.safe.ensures.gives
 
 pub returns-clause-form : goal.returns-clause-form
 returns-clause-form c = λ is_done.
-    subst (λ lists. IsSafe lists (take c.put_text.new.needed c.put_text.new.out)) c.page.ensures
-    (of_given c.sanitise.result (λ bytes. IsSafe (lists_of c.page.result) bytes) _ (c.put_text.ensures.text is_done) c.sanitise.ensures.form)
+    of_given c.safe.result (IsSafe page_lists) _ (c.put_text.ensures.text is_done) c.safe.ensures.form
 
 pub returns-clause-standard : goal.returns-clause-standard
 returns-clause-standard c = λ is_done.
-    subst (λ lists. html_tokens data_state (take c.put_text.new.needed c.put_text.new.out) ≡ tokens_of (norm (kept lists (trees_of c.args.page.now)))) c.page.ensures
-    (of_given c.sanitise.result (λ bytes. html_tokens data_state bytes ≡ tokens_of (norm (kept_of c.page.result c.args.page.now))) _
-    (c.put_text.ensures.text is_done) c.sanitise.ensures.standard)
+    of_given c.safe.result (λ bytes. html_tokens data_state bytes ≡ tokens_of (norm (kept page_lists (trees_of c.args.page.now)))) _
+    (c.put_text.ensures.text is_done) c.safe.ensures.standard

@@ -1,9 +1,14 @@
-use Rattle.std.proofs.Common.{subst}
-use Rattle.tl_c.specs.Answer.{Gives}
+use Rattle.std.proofs.Common.{None, Some, subst}
+use Rattle.tl_page.specs.Outcome.{Gives}
 use Rattle.tl_c.specs.Queries.{numbers_in}
 use Rattle.tl_c.proofs.documents.tl_find.Goals as goal
 
-pub returns-clause-put : goal.returns-clause-put
-returns-clause-put c =
-    c.put.ensures.put (numbers_in c.args.selector.now c.args.document.now.held)
-    (subst (λ held. Gives (numbers_in c.args.selector.now held) c.find-found.result) c.replace-held.ensures.replaced c.find-found.ensures.gives)
+pub returns-clause-finds : goal.returns-clause-finds
+returns-clause-finds c = λ e stands.
+    c.put.ensures.put _
+    (subst (λ held. Gives (λ numbers. numbers.items) (numbers_in c.args.selector.now (Some e) held) c.find-found.result) c.replace-held.ensures.replaced (c.find-found.ensures.finds e stands))
+
+pub returns-clause-no_selector : goal.returns-clause-no_selector
+returns-clause-no_selector c = λ none.
+    c.put.ensures.put _
+    (subst (λ held. Gives (λ numbers. numbers.items) (numbers_in c.args.selector.now None held) c.find-found.result) c.replace-held.ensures.replaced (c.find-found.ensures.no_selector none))

@@ -2,4 +2,4 @@ use Rattle.tl_c.proofs.Room.{puts_failure}
 use Rattle.tl_c.proofs.put.put_failure.Goals as goal
 
 pub returns-clause-put : goal.returns-clause-put
-returns-clause-put g c = λ answer fails. puts_failure answer c.args.failure c.args.out.now fails
+returns-clause-put g c = λ outcome fails. puts_failure outcome c.args.failure c.args.out.now fails

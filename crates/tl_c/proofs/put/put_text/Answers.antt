@@ -1,14 +1,14 @@
 use Rattle.std.proofs.Common.{ap, subst, sym, ◌∙◌}
-use Rattle.tl_c.specs.Answer.{answer_of, answer_with}
+use Rattle.tl_page.specs.Outcome.{success}
 use Rattle.tl_c.specs.Puts.{Puts}
-use Rattle.tl_c.proofs.Room.{fails_alike, put_front}
+use Rattle.tl_c.proofs.Room.{put_front}
 use Rattle.tl_c.proofs.put.put_text.Goals as goal
 
 pub returns-in-Ok-clause-put : goal.returns-in-Ok-clause-put
 returns-in-Ok-clause-put c = λ outcome is.
-    let is_success = rw c.in-Ok.is at is in
-    subst (λ a. Puts a c.args.out.now c.put_items.new.out c.put_items.new.needed c.put_items.result)
-    (ap answer_with c.as_bytes.ensures.value ∙ sym (ap answer_of is_success))
+    let is_text = rw c.in-Ok.is at is in
+    subst (λ o. Puts o c.args.out.now c.put_items.new.out c.put_items.new.needed c.put_items.result)
+    (ap success c.as_bytes.ensures.value ∙ sym is_text)
     c.put_items.ensures.put
 
 pub returns-in-Ok-clause-text : goal.returns-in-Ok-clause-text
@@ -19,7 +19,7 @@ returns-in-Ok-clause-text c = λ is_done.
 pub returns-in-Err-clause-put : goal.returns-in-Err-clause-put
 returns-in-Err-clause-put c = λ outcome is.
     let fails = rw c.in-Err.is at is in
-    c.put_failure.ensures.put (answer_of outcome) (fails_alike outcome c.in-Err.failure fails)
+    c.put_failure.ensures.put outcome fails
 
 pub returns-in-Err-clause-text : goal.returns-in-Err-clause-text
 returns-in-Err-clause-text c = λ is_done. absurd (c.put_failure.ensures.failed is_done)

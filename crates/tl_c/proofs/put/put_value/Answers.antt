@@ -1,5 +1,5 @@
-use Rattle.tl_c.specs.Answer.{refused}
 use Rattle.std.proofs.Common.{refl}
+use Rattle.tl_page.specs.Outcome.{refused}
 use Rattle.tl_c.proofs.put.put_value.Goals as goal
 
 pub returns-in-None-clause-put : goal.returns-in-None-clause-put
