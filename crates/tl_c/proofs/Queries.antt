@@ -1,5 +1,5 @@
 -- What is asked of documents.
-use Rattle.std.proofs.Common.{◌≡◌, ℕ, Bool, true, false, List, [], ◌∷◌, Option, None, Some, refl, ap, ap₂, sym, ◌∙◌, if◌then◌else◌, slice_get, ◌==◌}
+use Rattle.std.proofs.Common.{◌≡◌, ℕ, Bool, true, false, List, [], ◌∷◌, Option, None, Some, refl, ap, ap₂, if◌then◌else◌, slice_get, ◌==◌}
 use Rattle.std.specs.Borrow.{Bor}
 use Rattle.std.specs.Option.{option_flatten, option_map, option_map_or}
 use Rattle.std.specs.Str.{is_utf8}
@@ -9,10 +9,9 @@ use Rattle.tl_spec.specs.Element.{attribute_of}
 use Rattle.tl_spec.specs.Selector.{Selector}
 use Rattle.tl.specs.Query.{matches_in}
 use Rattle.tl_page.specs.Outcome.{Outcome, not_understood, success}
-use Rattle.tl_page.specs.Page.{is_page, outcome_in}
+use Rattle.tl_page.specs.Page.{is_page}
 use Rattle.tl_page.proofs.Outcomes.{fails-outcome}
 use Rattle.tl_extract.specs.Field.{fields, with_field}
-use Rattle.tl_extract.specs.declared.field.Field.{Field}
 use Rattle.tl_extract.specs.declared.field.Field.TheVariants.{Number, OuterHtml, InnerHtml, InnerText, Attribute}
 use Rattle.tl_c.specs.Pages.{ended_texts, field_of_number, fields_by, fields_in, selection}
 

@@ -1,5 +1,5 @@
 -- What is asked of the document that is held, if one is.
-use Rattle.std.specs.Prelude.{ℕ, List, slice_get, Option, None, Some, option_map, if◌then◌else◌}
+use Rattle.std.specs.Prelude.{ℕ, List, slice_get, Option, None, Some, if◌then◌else◌}
 use Rattle.std.specs.Option.{option_map_or, option_flatten}
 use Rattle.std.specs.Str.{is_utf8}
 use Rattle.tl_spec.specs.Document.{Document, Node}

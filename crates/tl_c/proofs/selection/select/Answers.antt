@@ -1,4 +1,4 @@
-use Rattle.std.proofs.Common.{◌≡◌, Some, List, ap, sym, ◌∙◌, subst, string_bytes}
+use Rattle.std.proofs.Common.{◌≡◌, Some, ap, sym, ◌∙◌, subst, string_bytes}
 use Rattle.tl_spec.specs.SelectorText.{IsSelectorText}
 use Rattle.tl.specs.Query.{matches_in}
 use Rattle.tl.specs.Shown.{document_of}

@@ -1,7 +1,0 @@
-use Rattle.std.proofs.Common.{◌≡◌, ◌++◌, map, take}
-use Rattle.tl_pick.specs.Readable.{spaced}
-use Rattle.tl_pick.proofs.legible.add_text.Given as goal
-
--- what was added are the bytes so far
-abbrev pub invariant-loop-byte : goal.invariant-loop-byte
-invariant-loop-byte l = l.text.items ≡ l.initial.text.items ++ map spaced (take l.byte-index l.bytes)

@@ -1,8 +1,0 @@
-use Rattle.std.proofs.Common.{◌≡◌, ◌++◌, drop, map}
-use Rattle.tl.specs.Shown.{shown}
-use Rattle.tl_pick.specs.Outlined.{lines_from}
-use Rattle.tl_pick.proofs.outlined.outline.Given as goal
-
--- what is written, and then the lines of the nodes that are left, are all lines
-abbrev pub invariant-loop-number : goal.invariant-loop-number
-invariant-loop-number l = l.lines.items ++ lines_from l.number-counter (map shown (drop l.number-counter l.initial.document.nodes)) ≡ lines_from 0 (map shown l.node-items)
