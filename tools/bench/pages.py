@@ -1,27 +1,6 @@
-#!/usr/bin/env python3
-"""Times the library on made-up pages of six kinds, and on files, and prints a table of each: nanoseconds a byte, growth, memory, page
-faults.
-
-    ./bench [--sizes 100K,1M,10M] [--kinds news,table] [--files FILE..] [--works parse,text] [--rounds N] [--times N] [--seed N]
-            [--pages FOLDER] [--program FILE] [--against FILE]
-
-The pages come of the seed, the same bytes for the same seed and size, and stay in the folder. Where files are named and no kinds, the
-files alone are timed, without `edit` unless it is asked for: the first node of a file may be no tag. What is timed is the program
-`crates/tl_bench`, which is proved and built first unless --program names one. --against names another program of the same
-words, as that of `compare/`: both are run by turns, and its figures stand beside ours with the ratio of ours to its.
-
-Of each work there are two figures, the least of all rounds: what the program itself says that the work took (of `parse` the
-reading), and what the processor took for reading, work and drop together, which doesn't count what other programs do meanwhile.
-Growth is the nanoseconds a byte at a size over those at the size before it. Memory and page faults are of a run that reads once,
-and `time` counts them (Debian: time).
-"""
-import argparse
+"""Made-up pages of six kinds, which a seed determines: the same bytes for the same seed and size."""
 import os
-import subprocess
-import sys
-import tempfile
 
-ROOT = os.path.dirname(os.path.realpath(__file__))
 WORDS = (
     "the of and a to in is it you that he was for on are with as his they be at one have this from or had by hot word but what "
     "some we can out other were all there when up use your how said an each she which do their time if will way about many then "
@@ -30,17 +9,6 @@ WORDS = (
 NAMES = (
     "alloc buffer cmp decode entry fold get_mut hash iter join len map next_back parse read_exact split take zip"
 ).split(" ")
-WORKS = {
-    "parse": "-",
-    "parse_owned": "-",
-    "print": "-",
-    "text": "-",
-    "again": "-",
-    "edit": "set 0 class x",
-    "select": "a[href^=https]",
-    "id_scan": "nowhere",
-    "class_scan": "link",
-}
 
 
 class Numbers:
@@ -228,119 +196,3 @@ def page(folder, seed, kind, size):
             out.writelines(KINDS[kind](numbers, size_of(size)))
         os.rename(file + ".new", file)
     return file
-
-
-class Run:
-    """A run of a program: nanoseconds of the work alone, by its own clock, and seconds of the processor."""
-
-    def __init__(self, program, work, file, times):
-        words = [program, work, WORKS[work], file, str(times)]
-        process = subprocess.Popen(words, stdout=subprocess.PIPE)
-        said = process.stdout.read().decode()
-        _, status, used = os.wait4(process.pid, 0)
-        process.returncode = 0
-        if status != 0:
-            raise SystemExit(f"bench: {' '.join(words)}: status {os.waitstatus_to_exitcode(status)}")
-        told = dict(word.split("=") for word in said.split())
-        self.work = int(told["parse" if work in ("parse", "parse_owned") else "op"])
-        self.seconds = used.ru_utime + used.ru_stime
-
-
-def least(programs, work, file, times, rounds):
-    """Of each program the least nanoseconds of the work, and of the processor for reading, work and drop, by turns."""
-    best = [[float("inf")] * 2 for _ in programs]
-    for _ in range(rounds):
-        for place, program in enumerate(programs):
-            run = Run(program, work, file, times)
-            best[place] = [min(best[place][0], run.work), min(best[place][1], run.seconds * 1e9 / times)]
-    return best
-
-
-def beside(figures, form):
-    """Our figure, and beside it that of the other program and the ratio."""
-    if len(figures) == 1:
-        return form % figures[0]
-    return f"{form % figures[0]} to {form % figures[1]}, {figures[0] / max(figures[1], 1e-9):.2f}"
-
-
-def room(program, file):
-    """Megabytes at most, and page faults, of a run that reads once."""
-    # A process counts the memory of the one that made it too, so `time`, which is small, makes the one that is measured.
-    with tempfile.NamedTemporaryFile("r") as used:
-        words = ["time", "-f", "%M %R", "-o", used.name, program, "parse", "-", file, "1"]
-        subprocess.run(words, stdout=subprocess.DEVNULL, check=True)
-        kilobytes, faults = used.read().split()
-    return int(kilobytes) / 1024, int(faults)
-
-
-def times_of(bytes_, wanted):
-    """So many times as take some 20 megabytes, unless so many are wanted."""
-    return wanted or max(1, min(200, 20000000 // bytes_))
-
-
-def look(programs, name, file, works, given, before):
-    """Prints the figures of one page, and answers our nanoseconds a byte."""
-    bytes_ = os.path.getsize(file)
-    print(f"{name}: {bytes_} bytes", flush=True)
-    found = {}
-    for work in works:
-        best = least(programs, work, file, times_of(bytes_, given.times), given.rounds)
-        figures = [[it / bytes_ for it in one] for one in best]
-        found[work] = figures[0][0]
-        grown = f"; growth {found[work] / before[work]:.2f}" if before.get(work) else ""
-        alone = beside([one[0] for one in figures], "%.4f")
-        whole = beside([one[1] for one in figures], "%.3f")
-        print(f"  {work:<12}{alone} ns/byte; processor {whole} ns/byte{grown}", flush=True)
-    megabytes, faults = zip(*[room(program, file) for program in programs])
-    print("  memory      " + beside(megabytes, "%.1f") + " MB")
-    print("  page faults " + beside(faults, "%d"), flush=True)
-    return found
-
-
-def built():
-    """The program, proved and built. Without words it says so, with status 2."""
-    folder = f"{ROOT}/crates/tl_bench"
-    os.makedirs(f"{folder}/out", exist_ok=True)
-    with open(f"{folder}/out/build.log", "w", encoding="utf-8") as log:
-        subprocess.call(["rt", "run"], cwd=folder, stdin=subprocess.DEVNULL, stdout=log, stderr=log)
-    program = f"{folder}/out/tl_bench"
-    if not os.path.exists(program):
-        raise SystemExit(f"bench: not built; what the prover says is in {folder}/out/build.log")
-    return program
-
-
-def asked():
-    parser = argparse.ArgumentParser(description=__doc__, formatter_class=argparse.RawDescriptionHelpFormatter)
-    parser.add_argument("--sizes", default="100K,1M,10M,100M")
-    parser.add_argument("--kinds")
-    parser.add_argument("--files", nargs="+", default=[])
-    parser.add_argument("--works")
-    parser.add_argument("--rounds", type=int, default=5)
-    parser.add_argument("--times", type=int, default=0)
-    parser.add_argument("--seed", type=int, default=1)
-    parser.add_argument("--pages", default=f"{tempfile.gettempdir()}/tl-pages")
-    parser.add_argument("--program")
-    parser.add_argument("--against")
-    return parser.parse_args()
-
-
-def listed(word, otherwise):
-    """The parts of a word, or what stands for it where it isn't given."""
-    return word.split(",") if word is not None else list(otherwise)
-
-
-def main():
-    given = asked()
-    os.makedirs(given.pages, exist_ok=True)
-    programs = [given.program or built()] + ([given.against] if given.against else [])
-    for kind in listed(given.kinds, [] if given.files else KINDS):
-        before = {}
-        for size in given.sizes.split(","):
-            file = page(given.pages, given.seed, kind, size)
-            before = look(programs, f"{kind} {size}", file, listed(given.works, WORKS), given, before)
-    for file in given.files:
-        look(programs, file, file, listed(given.works, [it for it in WORKS if it != "edit"]), given, {})
-
-
-if __name__ == "__main__":
-    sys.exit(main())

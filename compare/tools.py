@@ -1,7 +1,6 @@
-#!/usr/bin/env python3
-"""Times `tl` beside the programs that people ask pages with: pup, xmllint and hxselect, on the made-up pages of ./bench.
+"""Times `tl` beside the programs that people ask pages with: pup, xmllint and hxselect, on the made-up pages of ./x bench.
 
-    compare/tools [--program FILE] [--sizes 1M,20M] [--kinds news,links] [--rounds N] [--seed N] [--pages FOLDER]
+    ./x compare tools [--program FILE] [--sizes 1M,20M] [--kinds news,links] [--rounds N] [--seed N] [--pages FOLDER]
 
 Each program gives the values at `href` of the tags named `a`, and the print of the tags named `p`. hxselect reads XML alone, so
 hxnormalize writes the page as XML for it, and both count. Of each the least of all rounds, by turns: seconds on the clock, seconds
@@ -11,25 +10,14 @@ grammar of its own.
 Status: 0, or 2 for words that aren't understood; a program that isn't installed is named and left out (Debian: pup, libxml2-utils,
 html-xml-utils; time measures memory).
 """
-import argparse
-import importlib.machinery
-import importlib.util
 import os
 import shutil
 import subprocess
-import sys
 import tempfile
 import time
 
-ROOT = os.path.dirname(os.path.dirname(os.path.realpath(__file__)))
-
-
-def loaded(name, file):
-    """A script as a module."""
-    loader = importlib.machinery.SourceFileLoader(name, file)
-    module = importlib.util.module_from_spec(importlib.util.spec_from_loader(name, loader))
-    loader.exec_module(module)
-    return module
+from tools.bench.pages import page as made_page
+from tools.programs import gate_build
 
 
 def commands(tl):
@@ -82,31 +70,23 @@ def look(question, words, page, rounds):
               f"{runs[0].lines} lines{failed}", flush=True)
 
 
-def asked():
-    parser = argparse.ArgumentParser(description=__doc__, formatter_class=argparse.RawDescriptionHelpFormatter)
-    parser.add_argument("--program", default=f"{ROOT}/crates/tl_tool/out/tl_tool")
+def main(parser, words):
+    parser.add_argument("--program", metavar="FILE")
     parser.add_argument("--sizes", default="1M,20M")
     parser.add_argument("--kinds", default="news,links")
-    parser.add_argument("--rounds", type=int, default=3)
-    parser.add_argument("--seed", type=int, default=1)
-    parser.add_argument("--pages", default=f"{tempfile.gettempdir()}/tl-pages")
-    return parser.parse_args()
-
-
-def main():
-    given = asked()
-    bench = loaded("bench", f"{ROOT}/bench")
+    parser.add_argument("--rounds", type=int, default=3, metavar="N")
+    parser.add_argument("--seed", type=int, default=1, metavar="N")
+    parser.add_argument("--pages", default=f"{tempfile.gettempdir()}/tl-pages", metavar="FOLDER")
+    given = parser.parse_args(words)
     os.makedirs(given.pages, exist_ok=True)
-    questions = commands(given.program)
+    questions = commands(given.program or gate_build("tl"))
     missing = [name for name in ("pup", "xmllint", "hxselect") if not shutil.which(name)]
     for name in missing:
         print(f"tools: {name} isn't installed, and is left out")
     for kind in given.kinds.split(","):
         for size in given.sizes.split(","):
-            page = bench.page(given.pages, given.seed, kind, size)
+            page = made_page(given.pages, given.seed, kind, size)
             print(f"{kind} {size}: {os.path.getsize(page)} bytes", flush=True)
-            for question, words in questions.items():
-                look(question, {name: words[name] for name in words if name not in missing}, page, given.rounds)
-
-
-main()
+            for question, all_words in questions.items():
+                look(question, {name: it for name, it in all_words.items() if name not in missing}, page, given.rounds)
+    return 0

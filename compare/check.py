@@ -1,23 +1,21 @@
-#!/usr/bin/env python3
 """Compares what `tlq` writes, and its status, with the plain reader of reader.py, on made-up pages.
 
-    compare/check [--program FILE] [--runs N] [--seed N] [--page FILE..]
+    ./x compare check [--program FILE] [--runs N] [--seed N] [--page FILE..]
 
 Each run is one page and one command; pages, selectors and lists of steps come of the seed, and most are broken in some way. With
---page the pages are those of files. The program is `./tlq` unless another build is named. Ends with 1 where one run differs, and
+--page the pages are those of files. The program is the `tlq` that the gate built unless another is named. Ends with 1 where one run differs, and
 says which.
 """
-import argparse
 import concurrent.futures
 import functools
 import os
 import random
 import subprocess
-import sys
 
-from reader import output
+from tools.programs import gate_build
 
-ROOT = os.path.dirname(os.path.dirname(os.path.realpath(__file__)))
+from .reader import output
+
 NAMES = ["a", "b", "p", "div", "br", "img", "command", "BR", "x-y", "a:b", "", "p ", "a/b", "1"]
 KEYS = ["id", "class", "href", "a", "b", "c", "d", "ID", "", "data-x", "k/", 'q"', "é"]
 VALUES = ["", "x", "x y", "  x\ty\n", "é", "a'b", 'a"b', "<b>", "/x", "k", "k l", "k\fl", "1>2", "x\u00a0y", "\u3000k"]
@@ -115,17 +113,16 @@ def compared(program, seed, pages):
     return f"seed {seed}: {words[1:]} on {text!r}\n  wrote {ran.stdout!r}, status {ran.returncode}\n  not   {wanted[0]!r}, status {wanted[1]}", ran.returncode
 
 
-def main():
-    wants = argparse.ArgumentParser()
-    wants.add_argument("--program", default=f"{ROOT}/tlq")
-    wants.add_argument("--runs", type=int, default=5000)
-    wants.add_argument("--seed", type=int, default=1)
-    wants.add_argument("--page", nargs="*", default=[])
-    wants = wants.parse_args()
-    pages = [open(name, "rb").read() for name in wants.page]
-    seeds = range(wants.seed * 10**9, wants.seed * 10**9 + wants.runs)
+def main(parser, words):
+    parser.add_argument("--program", metavar="FILE")
+    parser.add_argument("--runs", type=int, default=5000, metavar="N")
+    parser.add_argument("--seed", type=int, default=1, metavar="N")
+    parser.add_argument("--page", nargs="*", default=[], metavar="FILE")
+    given = parser.parse_args(words)
+    pages = [open(name, "rb").read() for name in given.page]
+    seeds = range(given.seed * 10**9, given.seed * 10**9 + given.runs)
     different, statuses = 0, {}
-    run = functools.partial(compared, os.path.abspath(wants.program), pages=pages)
+    run = functools.partial(compared, os.path.abspath(given.program or gate_build("tlq")), pages=pages)
     with concurrent.futures.ProcessPoolExecutor() as pool:
         for said, status in pool.map(run, seeds, chunksize=50):
             statuses[status] = statuses.get(status, 0) + 1
@@ -133,9 +130,5 @@ def main():
                 different += 1
                 if different <= 10:
                     print(said)
-    print(f"check: {wants.runs} runs, {different} differ; statuses {dict(sorted(statuses.items()))}")
+    print(f"check: {given.runs} runs, {different} differ; statuses {dict(sorted(statuses.items()))}")
     return 1 if different else 0
-
-
-if __name__ == "__main__":
-    sys.exit(main())

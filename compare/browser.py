@@ -1,7 +1,6 @@
-#!/usr/bin/python3
 """What browsers make of pages that `tl sanitise` made safe.
 
-    compare/browser [--program FILE] [--runs N] [--trees N] [--seed N]
+    ./x compare browser [--program FILE] [--runs N] [--trees N] [--seed N]
 
 The pages are those of `crates/tl_safe_tests/src/pages.rt`, which attack a browser, and N made up of pieces of such pages.
 Each is handed to Chromium as it stands and once it is sanitised: as a document in a frame, put into a live element, and put
@@ -15,7 +14,6 @@ written: of all names of the policy, and of those that the builder has no rule f
 Status: 0 where nothing is wrong, 1 where something is, 2 for words that aren't understood, 3 where Chromium or html5lib isn't
 installed (Debian: chromium, python3-html5lib).
 """
-import argparse
 import base64
 import html
 import json
@@ -24,61 +22,18 @@ import random
 import re
 import shutil
 import subprocess
-import sys
 import tempfile
 
-from sanitiser import Policy, safe_print
+from tools.programs import gate_build
+from tools.workspace import ROOT, Stop, text_of
 
-ROOT = os.path.dirname(os.path.dirname(os.path.realpath(__file__)))
+from .sanitiser import Policy, safe_print
+
 BATCH = 100
 CALL = "steal()"
 
 # A script of the page calls `parent.stolen(N)`; what is seen of each page is written into the document.
-HARNESS = r"""<!doctype html><meta charset=utf-8><body><pre id=out></pre><script>
-const pages = PAGES.map(text => new TextDecoder().decode(Uint8Array.from(atob(text), c => c.charCodeAt(0))));
-const ran = new Set();
-window.stolen = number => { ran.add(number); };
-const active = ['javascript:', 'data:', 'vbscript:', 'blob:'];
-function look(root, seen) {
-  for (const element of root.querySelectorAll('*')) {
-    const foreign = element.namespaceURI !== 'http://www.w3.org/1999/xhtml';
-    seen.elements.add(element.localName + (foreign ? ' (foreign)' : ''));
-    for (const attribute of element.attributes) seen.keys.add(attribute.name);
-    if (active.includes(element.protocol) || active.some(it => String(element.action || '').startsWith(it))) seen.link = true;
-  }
-  const walker = document.createTreeWalker(root, NodeFilter.SHOW_COMMENT);
-  while (walker.nextNode()) seen.comments += 1;
-}
-const pause = time => new Promise(done => setTimeout(done, time));
-async function judge(page) {
-  const seen = {elements: new Set(), keys: new Set(), comments: 0, link: false};
-  const frame = document.createElement('iframe');
-  const loaded = new Promise(done => { frame.onload = done; });
-  frame.srcdoc = '<!doctype html><html><body>' + page;
-  document.body.append(frame);
-  await Promise.race([loaded, pause(400)]);
-  if (frame.contentDocument && frame.contentDocument.body) look(frame.contentDocument.body, seen);
-  const first = document.createElement('div');
-  const second = document.createElement('div');
-  document.body.append(first, second);
-  first.innerHTML = page;
-  look(first, seen);
-  second.innerHTML = first.innerHTML;
-  look(second, seen);
-  await pause(40);
-  first.remove();
-  second.remove();
-  return {elements: [...seen.elements], keys: [...seen.keys], comments: seen.comments, link: seen.link};
-}
-async function run() {
-  const judged = [];
-  for (const page of pages) judged.push(await judge(page));
-  await pause(500);
-  judged.forEach((it, number) => { it.script = ran.has(number); });
-  document.getElementById('out').textContent = 'JUDGED' + JSON.stringify(judged) + 'END';
-}
-run();
-</script>"""
+HARNESS = text_of(f"{ROOT}/compare/harness.html")
 
 # Pieces of pages: tags that end and begin where they should not, names in any case, references, controls, raw texts, links.
 PIECES = [
@@ -135,7 +90,7 @@ def made_up(chance):
 def sanitised(program, page, words=()):
     done = subprocess.run([program, "sanitise", *words], input=page.encode(), stdout=subprocess.PIPE, stderr=subprocess.PIPE, check=False)
     if done.returncode != 0:
-        raise SystemExit(f"browser: {program} ended with {done.returncode}: {done.stderr.decode()}")
+        raise Stop(f"{program} ended with {done.returncode}: {done.stderr.decode()}")
     return done.stdout.decode()
 
 
@@ -165,7 +120,7 @@ def judged(browser, pages):
             dom = subprocess.run(words, stdout=subprocess.PIPE, stderr=subprocess.DEVNULL, check=False).stdout.decode("utf-8", "replace")
         found = re.search(r"JUDGED(.*?)END</pre>", dom, re.S)
         if not found:
-            raise SystemExit("browser: Chromium didn't end")
+            raise Stop("Chromium didn't end")
         out += json.loads(html.unescape(found.group(1)))
     return out
 
@@ -289,13 +244,12 @@ def look_at_pages(program, browser, pages):
     return wrong
 
 
-def main():
-    parser = argparse.ArgumentParser(description=__doc__, formatter_class=argparse.RawDescriptionHelpFormatter)
-    parser.add_argument("--program", default=f"{ROOT}/crates/tl_tool/out/tl_tool")
-    parser.add_argument("--runs", type=int, default=1000)
-    parser.add_argument("--trees", type=int, default=0)
-    parser.add_argument("--seed", type=int, default=1)
-    given = parser.parse_args()
+def main(parser, words):
+    parser.add_argument("--program", metavar="FILE")
+    for it, otherwise in (("runs", 1000), ("trees", 0), ("seed", 1)):
+        parser.add_argument(f"--{it}", type=int, default=otherwise, metavar="N")
+    given = parser.parse_args(words)
+    given.program = given.program or gate_build("tl")
     try:
         browser = chromium()
         try:
@@ -316,5 +270,3 @@ def main():
     print(f"browser: {wrong} pages wrong" if wrong else "browser: nothing wrong")
     return 1 if wrong else 0
 
-
-sys.exit(main())
