@@ -1,1 +1,1 @@
-"""Comparisons of the programs with others: a plain reader, browsers, programs that people ask pages with. `./x compare` runs them."""
+"""Comparisons of the programs with a plain reader, with browsers and with other programs: `./x compare`."""

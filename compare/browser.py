@@ -17,7 +17,6 @@ installed (Debian: chromium, python3-html5lib).
 import base64
 import html
 import json
-import os
 import random
 import re
 import shutil

@@ -9,7 +9,7 @@ from .workspace import ROOT, Stop
 
 
 class Ran:
-    """How a program ended: its status, the bytes of standard output and of standard error, seconds of the processor and on the clock."""
+    """How a program ended: its status, the bytes of both outputs, seconds of the processor and on the clock."""
 
     def __init__(self, words, status, out, err, seconds, clock, is_late):
         self.words, self.status, self.out, self.err = words, status, out, err

@@ -41,7 +41,9 @@ class Row:
         return lines[:at] == front and len(rest) >= len(end) and rest[len(rest) - len(end) :] == end
 
     def difference(self, lines):
-        return "\n".join([f"{self.place()}: $ {self.command}", *(f"  - {it}" for it in self.expected), *(f"  + {it}" for it in lines)])
+        """What is said of a row that wrote something else."""
+        both = [*(f"  - {it}" for it in self.expected), *(f"  + {it}" for it in lines)]
+        return "\n".join([f"{self.place()}: $ {self.command}", *both])
 
 
 def rows_of(file, text):

@@ -12,7 +12,8 @@
     oom          each request for memory refused in turn
     stress       hostile use
 
-It needs the toolchain and Python alone, and 8 GB of memory that is free. It runs `rt ci` with one check of one job on each core, four at most and one for each 4 GB, where less than 18 GB are free (RT_JOBS, unless that is set).
+It needs the toolchain and Python alone, and 8 GB of memory that is free. Where fewer than 18 GB are, `rt ci` runs one check of one
+job on each core, four at most and one for each 4 GB (RT_JOBS, which is kept where it is set).
 It says what each crate cost, in minutes of the processor, and which chain of crates was the longest; its last line after how
 many minutes each part had ended. CONTRIBUTING.md says how many there may be.
 """

@@ -9,7 +9,6 @@ what it needs. There is a run for each request, in which it alone is refused and
 each call that takes all it wants: so a call that makes one request more than the table says, or one less, is named. Then the
 requests for the words of the program `tlq` are refused too. What runs is built by `rt try`, and so not proved.
 """
-import os
 import re
 import tempfile
 from concurrent.futures import ThreadPoolExecutor

@@ -13,9 +13,9 @@ Five parts, each with a stack of 8 MB:
 - Growth: pages and selectors that aim at more than linear time, at two sizes, with several commands of `tlq` and of `tl`.
 - Meeting: names of attributes whose hashes are alike in the bits by which a map finds them, 1,024 or 2,048 in each of many tags.
 
-A run at the larger size, or at a million, may take at most 2.5 times as much for each byte or part as at the smaller, or at a quarter,
-by the processor's clock; one on names that meet at most 3 times as much as one on as many others of their length. --list prints the
-figures of all runs. At most N run side by side. It takes some four minutes of processor time and 3 GB.
+A run at the larger size, or at a million, may take at most 2.5 times as much for each byte or part as at the smaller, or at a
+quarter, by the processor's clock; one on names that meet at most 3 times as much as one on as many others of their length. --list
+prints the figures of all runs. At most N run side by side. It takes some four minutes of processor time and 3 GB.
 The programs are those that the gate builds, unless others are named; what isn't there yet is proved and built first.
 """
 import contextlib

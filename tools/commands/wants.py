@@ -16,7 +16,6 @@ Types, `use` lines, clauses and comments don't count. Another name for one, by `
 returns it, names it too. What no reading of names shows is a call that asks for more memory than it needs, and a number in the
 place of a status.
 """
-import os
 import re
 
 from ..wants.source import Source

@@ -1,4 +1,4 @@
-"""The trees of a source: its words, numbers, texts and signs, and what stands between two brackets. Clauses are no part of it yet."""
+"""The trees of a source: its words, numbers, texts and signs, and what stands between two brackets."""
 import re
 
 CLOSING = {"(": ")", "[": "]", "{": "}"}
