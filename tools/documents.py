@@ -7,6 +7,7 @@ from .transcripts import rows_of
 from .workspace import ROOT, text_of
 
 BY_HAND = "tests/by_hand.list"
+PLACES = ("*.md", "docs/*.md", "crates/*/*.md")
 # How a document calls a program that stands in a transcript by its name.
 CALLS = re.compile(r"\./x (?:try )?(?=(?:tlq|tl|uses)\b)")
 # A remark behind a command.
@@ -28,7 +29,7 @@ class Shown:
 def shown_in(file, text):
     """The commands of a document's sessions: blocks that are indented, or fenced, and begin with `$ `."""
     found, block, is_fenced, was_blank = [], None, False, True
-    for number, line in enumerate(text.splitlines(), 1):
+    for number, line in enumerate(text.split("\n"), 1):
         if line.startswith("```"):
             is_fenced, block = not is_fenced, None
             continue
@@ -71,7 +72,7 @@ def by_hand():
 def faults():
     """What documents show and nothing runs, and what is listed and nothing shows."""
     runs, listed, met = transcript_rows(), by_hand(), set()
-    for path in ["README.md", "CONTRIBUTING.md", *sorted(glob.glob("docs/*.md", root_dir=ROOT))]:
+    for path in sorted(os.path.relpath(it, ROOT) for part in PLACES for it in glob.glob(f"{ROOT}/{part}")):
         for it in shown_in(path, text_of(f"{ROOT}/{path}")):
             key = path, it.command
             met.add(key if key in listed else it.key())

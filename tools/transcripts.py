@@ -32,8 +32,8 @@ class Row:
         return not self.expected
 
     def fits(self, lines):
-        """Whether it wrote this. `...` stands for any lines."""
-        if "..." not in self.expected:
+        """Whether it wrote this. `...` stands for any lines, but for no status."""
+        if "..." not in self.expected or bool(_is_ended(lines)) != bool(_is_ended(self.expected)):
             return lines == self.expected
         at = self.expected.index("...")
         front, end = self.expected[:at], self.expected[at + 1 :]
@@ -49,15 +49,17 @@ class Row:
 def rows_of(file, text):
     """The rows of a transcript. A line that is none of a transcript's is named."""
     found, is_open = [], False
-    for number, line in enumerate(text.splitlines(), 1):
+    for number, line in enumerate(text.split("\n"), 1):
+        if line != line.rstrip():
+            raise Stop(f"{file}:{number}: no line of a transcript: it ends in a blank: {line!r}")
         if line.startswith("  $ "):
             found.append(Row(file, number, line[4:]))
             is_open = True
         elif line.startswith("  > ") and is_open and not found[-1].expected:
             found[-1].command += f"\n{line[4:]}"
-        elif line.startswith("  ") and is_open and not _is_ended(found[-1].expected) and line.strip():
+        elif line.startswith("  ") and is_open and not _is_ended(found[-1].expected):
             found[-1].expected.append(line[2:])
-        elif line.startswith(" ") or line != line.rstrip():
+        elif line.startswith(" "):
             raise Stop(f"{file}:{number}: no line of a transcript: {line!r}")
         else:
             is_open = False
@@ -105,7 +107,7 @@ def output_of(row, room, env):
 
 def rewrite(rows, text, found):
     """The text of a file with what its rows wrote in the place of what they expect, by their lines. `...` stays where it fits."""
-    lines, made, at = text.splitlines(), [], 0
+    lines, made, at = text.split("\n"), [], 0
     for row in rows:
         made += lines[at : row.line]
         at = row.line
@@ -115,4 +117,4 @@ def rewrite(rows, text, found):
         at += len(row.expected)
         now = found.get(row.line, row.expected)
         made += [f"  {it}" for it in (row.expected if row.fits(now) else now)]
-    return "\n".join([*made, *lines[at:]]) + "\n"
+    return "\n".join([*made, *lines[at:]])

@@ -6,7 +6,7 @@ A transcript has commands and what each writes (tools/transcripts.py has its for
 `tl`, `tlq` and `uses` are the programs that the gate built. Of a row alone those before it that write nothing, which make its
 files, are run first.
 
-With no words it also looks whether each command that README.md, CONTRIBUTING.md and docs/*.md show after a `$` stands in a
+With no words it also looks whether each command that README.md, docs/*.md and other documents show after a `$` stands in a
 transcript with the output that is shown (`./x tlq` for `tlq`, `./x try NAME` for NAME), or in tests/by_hand.list, with the reason
 why nothing runs it; and whether the README's first block of Rust is crates/uses/src/links.rt.
 """
