@@ -5,7 +5,7 @@ import subprocess
 import tempfile
 import time
 
-from .workspace import ROOT, Stop
+from .workspace import NO_RT, ROOT, Stop
 
 
 class Ran:
@@ -35,7 +35,7 @@ def run(words, given=b"", limit=None, cwd=None, env=None, merged=False):
         try:
             process = subprocess.Popen(words, stdin=page, cwd=cwd, env=env, **outputs)
         except FileNotFoundError as error:
-            raise Stop(f"{error.filename} is not there: {' '.join(words)}") from None
+            raise Stop(NO_RT if words[0] == "rt" else f"{error.filename} is not there: {' '.join(words)}") from None
         status, used, is_late = _ended(process, limit)
         clock = time.monotonic() - started
         out.seek(0)

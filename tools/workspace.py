@@ -7,6 +7,9 @@ import subprocess
 ROOT = os.path.dirname(os.path.dirname(os.path.realpath(__file__)))
 
 
+NO_RT = "the toolchain's command `rt` is not on the path: README.md names the kit that it comes with"
+
+
 class Stop(Exception):
     """Ends a command: what is wrong, where, and what to do about it."""
 
@@ -85,7 +88,7 @@ def rt(*words, **how):
     try:
         return subprocess.run(["rt", *words], **how).stdout
     except FileNotFoundError:
-        raise Stop("the toolchain's command `rt` is not on the path: README.md names the kit that it comes with") from None
+        raise Stop(NO_RT) from None
 
 
 def cores():

@@ -23,7 +23,7 @@ import sys
 import time
 
 from ..costs import Costs
-from ..workspace import ROOT, Stop, Workspace, cores, free_memory
+from ..workspace import NO_RT, ROOT, Stop, Workspace, cores, free_memory
 from . import bindings, mutants, oom, runs, stress, vendor, wants
 
 GIGABYTE = 1_000_000_000
@@ -63,7 +63,7 @@ class Gate:
         try:
             ran = subprocess.Popen(["rt", "ci"], cwd=ROOT, encoding="utf-8", **how)
         except FileNotFoundError:
-            raise Stop("the toolchain's command `rt` is not on the path") from None
+            raise Stop(NO_RT) from None
         end = costs.watch(ran.pid)
         for line in ran.stdout:
             sys.stdout.write(line)

@@ -14,7 +14,7 @@ import sys
 
 from .. import programs
 from ..running import shown_of
-from ..workspace import Stop, Workspace
+from ..workspace import NO_RT, Stop, Workspace
 
 CRATE = "tlq"
 
@@ -44,11 +44,12 @@ def build(workspace, crates, program):
     try:
         prover = subprocess.Popen(["rt", "run", "--", "print"], cwd=workspace.folder(CRATE), encoding="utf-8", **how)
     except FileNotFoundError:
-        raise Stop("not built: the toolchain's command `rt` is not on the path") from None
-    with open(f"{out}/build.log", "w", encoding="utf-8") as it:
+        raise Stop(f"not built: {NO_RT}") from None
+    with open(f"{out}/build.log", "w", encoding="utf-8", buffering=1) as it:
         for line in prover.stdout:
             it.write(line)
             show(crates, line)
+    show(crates, "")
     if prover.wait():
         raise Stop(f"not built: {log} says why")
     for old in os.listdir(out):
@@ -59,9 +60,9 @@ def build(workspace, crates, program):
 
 
 def show(crates, line):
-    """Shows on a terminal which crate is being proved, in the place of what was shown before."""
+    """Shows on a terminal which crate is being proved, in the place of what was shown before; nothing once the line is empty."""
     found = re.match(r"rt: chose --jobs .* for (\S+)$", line)
-    if sys.stderr.isatty() and (found or line.startswith("logic=proved")):
-        at = crates.index(found[1]) + 1 if found and found[1] in crates else 0
-        words = f"tlq: proving {found[1]}, {at} of {len(crates)}" if at else ""
+    if sys.stderr.isatty() and (found or not line):
+        number = crates.index(found[1]) + 1 if found and found[1] in crates else 0
+        words = f"tlq: proving {found[1]}, {number} of {len(crates)}" if number else ""
         print(f"\r\033[K{words}", end="", file=sys.stderr, flush=True)
