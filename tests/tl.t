@@ -358,7 +358,7 @@ Pages that can't be had are passed over, and the greatest status counts.
 
 Help names each command and each option, and words the lists.
 
-  $ tl --help | sed -n 's/^  \([a-z]*\)  .*/\1/p'
+  $ tl --help >help && sed -n 's/^  \([a-z]*\)  .*/\1/p' help
   select
   links
   text
@@ -367,7 +367,7 @@ Help names each command and each option, and words the lists.
   edit
   sanitise
   help
-  $ for command in select links text print outline edit sanitise; do tl $command --help | grep '^Usage: '; done
+  $ for command in select links text print outline edit sanitise; do tl $command --help >help && grep '^Usage: ' help; done
   Usage: tl select [OPTIONS] <SELECTOR> [FILE]...
   Usage: tl links [OPTIONS] [FILE]...
   Usage: tl text [OPTIONS] [FILE]...
@@ -375,7 +375,7 @@ Help names each command and each option, and words the lists.
   Usage: tl outline [OPTIONS] [FILE]...
   Usage: tl edit [OPTIONS] <STEP>... [-- [FILE]...]
   Usage: tl sanitise [OPTIONS] [FILE]...
-  $ tl select --help | grep -oE -e '--[a-z-]+' | sort -u
+  $ tl select --help >help && grep -oE -e '--[a-z-]+' help | sort -u
   --attribute
   --count
   --first
@@ -386,7 +386,7 @@ Help names each command and each option, and words the lists.
   --null
   --number
   --text
-  $ tl sanitise --help | grep -oE -e '--[a-z-]+' | sort -u
+  $ tl sanitise --help >help && grep -oE -e '--[a-z-]+' help | sort -u
   --help
   --keys
   --link-keys
@@ -395,7 +395,7 @@ Help names each command and each option, and words the lists.
   --policy
   --prefix
   --tags
-  $ tl sanitise --help | grep -o '^WORDS have commas between them'
+  $ grep -o '^WORDS have commas between them' help
   WORDS have commas between them
   $ test "$(tl --version)" = "tl $VERSION"
 
