@@ -15,7 +15,7 @@ REMARK = re.compile(r"  +# .*$")
 MARK = re.compile(r"( \(no-eol\))?( \(err\))?$")
 
 
-class Shown:
+class Example:
     """A command that a document shows, with its output."""
 
     def __init__(self, file, line, command):
@@ -26,7 +26,7 @@ class Shown:
         return self.command, tuple(self.output)
 
 
-def shown_in(file, text):
+def examples_in(file, text):
     """The commands of a document's sessions: blocks that are indented, or fenced, and begin with `$ `."""
     found, block, is_fenced, was_blank = [], None, False, True
     for number, line in enumerate(text.split("\n"), 1):
@@ -38,7 +38,7 @@ def shown_in(file, text):
             block, was_blank = None, True
             continue
         if inner.startswith("$ ") and (block or was_blank or is_fenced):
-            block = Shown(file, number, inner[2:])
+            block = Example(file, number, inner[2:])
             found.append(block)
         elif block:
             block.output.append(inner)
@@ -73,7 +73,7 @@ def faults():
     """What documents show and nothing runs, and what is listed and nothing shows."""
     runs, listed, met = transcript_rows(), by_hand(), set()
     for path in sorted(os.path.relpath(it, ROOT) for part in PLACES for it in glob.glob(f"{ROOT}/{part}")):
-        for it in shown_in(path, text_of(f"{ROOT}/{path}")):
+        for it in examples_in(path, text_of(f"{ROOT}/{path}")):
             key = path, it.command
             met.add(key if key in listed else it.key())
             if key not in listed and it.key() not in runs:

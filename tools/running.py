@@ -63,7 +63,7 @@ def must(words, why, **how):
     return ran
 
 
-def shown_of(file):
+def short_path(file):
     """The path of a file as a reader of what is said would write it."""
     path = os.path.relpath(file, ROOT)
     return file if path.startswith("..") else path

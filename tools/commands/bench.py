@@ -34,7 +34,7 @@ WORKS = {
 }
 
 
-def timed(program, work, file, times):
+def time_run(program, work, file, times):
     """A run of a program: nanoseconds of the work alone, by its own clock, and seconds of the processor."""
     ran = must([program, work, WORKS[work], file, str(times)], "it did not end well")
     told = dict(word.split("=") for word in ran.out.decode().split())
@@ -46,12 +46,12 @@ def least(programs, work, file, times, rounds):
     best = [[float("inf")] * 2 for _ in programs]
     for _ in range(rounds):
         for place, program in enumerate(programs):
-            alone, seconds = timed(program, work, file, times)
+            alone, seconds = time_run(program, work, file, times)
             best[place] = [min(best[place][0], alone), min(best[place][1], seconds * 1e9 / times)]
     return best
 
 
-def beside(figures, form):
+def side_by_side(figures, form):
     """Our figure, and beside it that of the other program and the ratio."""
     if len(figures) == 1:
         return form % figures[0]
@@ -83,12 +83,12 @@ def look(programs, name, file, works, given, before):
         figures = [[it / bytes_ for it in one] for one in best]
         found[work] = figures[0][0]
         grown = f"; growth {found[work] / before[work]:.2f}" if before.get(work) else ""
-        alone = beside([one[0] for one in figures], "%.4f")
-        whole = beside([one[1] for one in figures], "%.3f")
+        alone = side_by_side([one[0] for one in figures], "%.4f")
+        whole = side_by_side([one[1] for one in figures], "%.3f")
         print(f"  {work:<12}{alone} ns/byte; processor {whole} ns/byte{grown}", flush=True)
     megabytes, faults = zip(*[room(program, file) for program in programs])
-    print("  memory      " + beside(megabytes, "%.1f") + " MB")
-    print("  page faults " + beside(faults, "%d"), flush=True)
+    print("  memory      " + side_by_side(megabytes, "%.1f") + " MB")
+    print("  page faults " + side_by_side(faults, "%d"), flush=True)
     return found
 
 

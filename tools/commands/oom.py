@@ -71,7 +71,7 @@ def endings(cases, jobs):
         for place, (name, given) in enumerate(cases):
             put(f"{room}/{place % jobs}/{name}", given)
         parts = [f"{room}/{it}" for it in range(jobs)]
-        outputs = list(workers.map(lambda it: tried("tl_refusals", REFUSED, it), parts))
+        outputs = list(workers.map(lambda it: try_cases("tl_refusals", REFUSED, it), parts))
     found = {}
     for output in outputs:
         line = ""
@@ -84,7 +84,7 @@ def endings(cases, jobs):
     return found, outputs[0]
 
 
-def tried(crate, request, cases):
+def try_cases(crate, request, cases):
     """What `rt try` says of a program that runs on each case of a folder, where this request of the run is refused."""
     words = ["rt", "try", "--steps", "1", "--fail-alloc", str(request), "--cases", cases]
     return run(words, cwd=f"{ROOT}/crates/{crate}", merged=True).out.decode(errors="replace")
@@ -134,7 +134,7 @@ def check_words():
             put(f"{room}/{it}", "")
             put(f"{room}/{it}.args", f"{it}\n")
         for request in OF_WORDS:
-            said = tried("tlq", request, room)
+            said = try_cases("tlq", request, room)
             if len(re.findall(r"(?m)^case=[a-z]+ run=ended status=3 ", said)) != len(commands):
                 why = f"request {request} for the words was refused, and `tlq` did not answer that memory ran out"
                 raise Stop(f"{said}\n{why}")

@@ -14,7 +14,7 @@ import os
 import tempfile
 
 from .. import documents, programs
-from ..running import count, shown_of
+from ..running import count, short_path
 from ..transcripts import output_of, rewrite, rows_of
 from ..workspace import ROOT, Stop, Workspace, put, text_of
 
@@ -54,9 +54,9 @@ class Tally:
         self.env, self.made, self.wrong, self.left_out = env, 0, 0, 0
 
     def add(self, file, line, leaves_out=False, is_turned=False, writes=False):
-        rows, found = rows_of(shown_of(file), text_of(file)), {}
+        rows, found = rows_of(short_path(file), text_of(file)), {}
         with tempfile.TemporaryDirectory(prefix="x-runs-") as room:
-            for row in rows_to_run(rows, line, shown_of(file)):
+            for row in rows_to_run(rows, line, short_path(file)):
                 if leaves_out and LIMITED in row.command:
                     self.left_out += 1
                     continue

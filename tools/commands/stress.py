@@ -64,7 +64,7 @@ def check_cuts(program):
 def check_length(tlq):
     """Runs the program on a long page."""
     try:
-        written = complete([tlq, "id", "i"], pages.times("a", LONG).encode() + b"<p id=i>").out
+        written = complete([tlq, "id", "i"], pages.repeat("a", LONG).encode() + b"<p id=i>").out
     except Stop as wrong:
         raise Stop(f"a page of {LONG} bytes: {wrong}") from None
     if written != b"1\n":

@@ -13,7 +13,7 @@ import subprocess
 import sys
 
 from .. import programs
-from ..running import shown_of
+from ..running import short_path
 from ..workspace import NO_RT, Stop, Workspace
 
 CRATE = "tlq"
@@ -37,7 +37,7 @@ def build(workspace, crates, program):
     """Proves and builds the program, and puts it in the place of those of other sources."""
     out = os.path.dirname(program)
     os.makedirs(out, exist_ok=True)
-    log = f"{shown_of(out)}/build.log"
+    log = f"{short_path(out)}/build.log"
     print(f"tlq: proving and building, some 17 minutes on 4 idle cores, 35 on 2; what the prover says is in {log}", file=sys.stderr)
     # `rt run` proves, builds and runs: on an empty page the program writes nothing.
     how = {"stdin": subprocess.DEVNULL, "stdout": subprocess.PIPE, "stderr": subprocess.STDOUT, "errors": "replace"}

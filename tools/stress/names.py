@@ -13,24 +13,24 @@ LETTERS = "abcdefghijklmnopqrstuvwxyz0123456789"
 LENGTH = 7
 
 
-def folded(product):
+def fold(product):
     """A product of two words, with its halves joined."""
     return (product ^ product >> 64) % WORD
 
 
-def begun(length):
+def begin(length):
     """The state of the hasher once the length of a name is fed, as eight bytes."""
-    return folded((SEED ^ length) * (MULTIPLIER ^ 16))
+    return fold((SEED ^ length) * (MULTIPLIER ^ 16))
 
 
-def fed(state, letters):
+def feed(state, letters):
     """The state after letters, which are fed one by one."""
     for letter in letters:
-        state = folded((state ^ ord(letter) * 0x10101) * (MULTIPLIER ^ 2))
+        state = fold((state ^ ord(letter) * 0x10101) * (MULTIPLIER ^ 2))
     return state
 
 
-def joined(state):
+def join_halves(state):
     """What an index map keeps of a hash."""
     return (state ^ state >> 32) & 0xFFFFFFFF
 
@@ -41,16 +41,16 @@ def met_names(count):
     names, factor, wanted = [], MULTIPLIER ^ 2, None
     for front in itertools.product(LETTERS, repeat=LENGTH - 1):
         front = "".join(front)
-        state = fed(begun(LENGTH), front)
+        state = feed(begin(LENGTH), front)
         for letter, number in last:
-            bits = joined(folded((state ^ number) * factor)) & COMPARED
+            bits = join_halves(fold((state ^ number) * factor)) & COMPARED
             wanted = bits if wanted is None else wanted
             if bits == wanted:
                 names.append(front + letter)
         if len(names) >= count:
             break
     names = names[:count]
-    if len({joined(fed(begun(LENGTH), it)) & COMPARED for it in names}) != 1 or len(set(names)) != count:
+    if len({join_halves(feed(begin(LENGTH), it)) & COMPARED for it in names}) != 1 or len(set(names)) != count:
         raise Stop("the names that were made don't meet")
     return names
 
@@ -58,7 +58,7 @@ def met_names(count):
 def other_names(count):
     """As many other names of the same length."""
     names = [format(number * 7919 % 1000003 + 1000003, f"0{LENGTH}") for number in range(count)]
-    if max(collections.Counter(joined(fed(begun(LENGTH), it)) & COMPARED for it in names).values()) > count / 100 + 10:
+    if max(collections.Counter(join_halves(feed(begin(LENGTH), it)) & COMPARED for it in names).values()) > count / 100 + 10:
         raise Stop("the names that were made meet")
     return names
 

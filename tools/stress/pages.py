@@ -2,7 +2,7 @@
 import re
 
 
-def numbered(form, size):
+def number(form, size):
     """The form with each number from 0 on."""
     made, length = [], 0
     while length < size:
@@ -11,7 +11,7 @@ def numbered(form, size):
     return "".join(made)
 
 
-def times(piece, size):
+def repeat(piece, size):
     return piece * (size // len(piece))
 
 
@@ -40,71 +40,71 @@ NUMBERED = (
 )
 
 
-def shown(text):
+def show(text):
     return repr(text)[1:-1]
 
 
-def crossed(size):
+def cross(size):
     """Tags in one another, and their end tags from the outermost on."""
-    tags = numbered("<a%>", size // 2)
+    tags = number("<a%>", size // 2)
     return tags + tags.replace("<", "</")
 
 
-def closed(size):
+def close(size):
     """The same with end tags from the innermost on."""
-    tags = numbered("<a%>", size // 2)
+    tags = number("<a%>", size // 2)
     return tags + "".join(f"</{it[1:]}" for it in reversed(re.findall("<[^<]*", tags)))
 
 
 def halves(first, second):
-    return lambda size: times(first, size // 2) + times(second, size // 2)
+    return lambda size: repeat(first, size // 2) + repeat(second, size // 2)
 
 
-def framed(front, it, end):
-    return lambda size: front + times(it, size) + end
+def frame(front, it, end):
+    return lambda size: front + repeat(it, size) + end
 
 
-def numbered_between(front, it, end):
-    return lambda size: front + numbered(it, size) + end
+def number_between(front, it, end):
+    return lambda size: front + number(it, size) + end
 
 
 def pages():
     """What a page is, and how one of a size is made."""
     for it in REPEATED:
-        yield f"{shown(it)} again and again", framed("", it, "")
+        yield f"{show(it)} again and again", frame("", it, "")
     for front, it, end in FRAMED:
-        yield f"{shown(front)}, {shown(it)} again and again, {shown(end)}", framed(front, it, end)
+        yield f"{show(front)}, {show(it)} again and again, {show(end)}", frame(front, it, end)
     for front, it, end in NUMBERED:
-        yield f"{shown(front)}, {shown(it)} by numbers, {shown(end)}", numbered_between(front, it, end)
+        yield f"{show(front)}, {show(it)} by numbers, {show(end)}", number_between(front, it, end)
     yield "open tags, then end tags of another name", halves("<a>", "</b>")
     yield "open tags, then their end tags", halves("<a>", "</a>")
     yield "open tags, then texts", halves("<a>", "x<br>")
     yield "open tags, then ends of comments", halves("<a>", "-->")
     yield "open tags of two names by turns, then end tags of the outer", halves("<a><b>", "</a>")
-    yield "open tags by numbers, then end tags from the first on", crossed
-    yield "open tags by numbers, then end tags from the last on", closed
+    yield "open tags by numbers, then end tags from the first on", cross
+    yield "open tags by numbers, then end tags from the last on", close
 
 
 def searches():
     """Selectors that aim at a look at each place anew: what it is, the selector, and how a page is made."""
-    long, words = framed("<p a='", "a", "'>"), framed("<p a='", "a" * 30000 + "b ", "'>")
+    long, words = frame("<p a='", "a", "'>"), frame("<p a='", "a" * 30000 + "b ", "'>")
     for op in "=", "~=", "^=", "$=", "*=":
         yield f"[a{op}aa..b] in a value of a", f"[a{op}{'a' * 30000}b]", long
         yield f"[a{op}baa..] in a value of a", f"[a{op}b{'a' * 30000}]", long
         yield f"[a{op}aa..c] in words of aa..b", f"[a{op}{'a' * 30000}c]", words
-    yield ".aa.. in a class of a", f".{'a' * 30000}", framed("<p class='", "a", "'>")
-    yield "'* * .. *' in open tags", "* " * 30 + "*", framed("", "<a>", "")
-    yield "'*>*> .. *' in open tags", "*>" * 30 + "*", framed("", "<a>", "")
-    yield "'q,q, .. q' in open tags", "q," * 30 + "q", framed("", "<a>", "")
+    yield ".aa.. in a class of a", f".{'a' * 30000}", frame("<p class='", "a", "'>")
+    yield "'* * .. *' in open tags", "* " * 30 + "*", frame("", "<a>", "")
+    yield "'*>*> .. *' in open tags", "*>" * 30 + "*", frame("", "<a>", "")
+    yield "'q,q, .. q' in open tags", "q," * 30 + "q", frame("", "<a>", "")
 
 
 def walks():
     """Pages for commands that walk: what one is, and how it is made at a size."""
-    yield "tags in one another", framed("", "<b>", "<i>x</i>")
-    yield "tags in one another that no policy lists", framed("", "<q0>", "<i>x</i>")
-    yield "a tag with many children", framed("<b>", "<u></u>", "<i>x</i>")
+    yield "tags in one another", frame("", "<b>", "<i>x</i>")
+    yield "tags in one another that no policy lists", frame("", "<q0>", "<i>x</i>")
+    yield "a tag with many children", frame("<b>", "<u></u>", "<i>x</i>")
     paragraph = "<p>x y <b class=k>z</b><br><a href='/q'>w</a></p>\n"
-    yield "a page of paragraphs", framed("", paragraph, "<i>x</i>")
+    yield "a page of paragraphs", frame("", paragraph, "<i>x</i>")
 
 
 def size_of(word):

@@ -10,7 +10,7 @@ ESCAPE = re.compile(r"\\(?:u\{([0-9a-fA-F]+)\}|x(..)|\n\s*|(.))", re.S)
 PLAIN = {"n": "\n", "r": "\r", "t": "\t", "0": "\0"}
 
 
-def unescaped(literal):
+def unescape(literal):
     """The bytes of a literal."""
     made, at = b"", 0
     for it in ESCAPE.finditer(literal):
@@ -32,5 +32,5 @@ def texts():
             if literal[1] is not None:
                 # (bytes that are no text can be no page)
                 with contextlib.suppress(UnicodeDecodeError):
-                    found[unescaped(literal[1]).decode()] = file
+                    found[unescape(literal[1]).decode()] = file
     return [it for it in found if "\x1e" not in it]
