@@ -11,6 +11,7 @@ transcript with the output that is shown (`./x tlq` for `tlq`, `./x try NAME` fo
 why nothing runs it; and whether the README's first block of Rust is crates/uses/src/links.rt.
 """
 import os
+import re
 import tempfile
 
 from .. import documents, programs
@@ -23,17 +24,19 @@ PROGRAMS = ("tl", "tlq", "uses")
 LIMITED = "ulimit -v"
 
 
-def link_programs(folder, find):
-    """Puts the programs into a folder, under the names by which they are called."""
+def link_programs(folder, files, find):
+    """Puts the programs that these files call into a folder, under the names by which they are called."""
+    commands = [row.command for file, _ in files for row in rows_of(short_path(file), text_of(file))]
     for it in PROGRAMS:
-        os.symlink(find(it), f"{folder}/{it}")
+        if any(re.search(rf"\b{it}\b", command) for command in commands):
+            os.symlink(find(it), f"{folder}/{it}")
 
 
 def files_of(words):
     """The files that the words name, each with the line of the row that is wanted, or None."""
     for word in words or sorted(f"tests/{it}" for it in os.listdir(f"{ROOT}/tests") if it.endswith(".t")):
         file, _, line = word.partition(":")
-        path = file if os.path.exists(file) else f"{ROOT}/{file}"
+        path = os.path.abspath(file) if os.path.exists(file) else f"{ROOT}/{file}"
         if not os.path.isfile(path) or line and not line.isdigit():
             raise Stop(f"{word}: no file of commands, as tests/tl.t, or a line of it, as tests/tl.t:40")
         yield path, int(line) if line else None
@@ -54,6 +57,7 @@ class Tally:
         self.env, self.made, self.wrong, self.left_out = env, 0, 0, 0
 
     def add(self, file, line, leaves_out=False, is_turned=False, writes=False):
+        """Runs the rows of a file, or the one on a line, in a folder of their own."""
         rows, found = rows_of(short_path(file), text_of(file)), {}
         with tempfile.TemporaryDirectory(prefix="x-runs-") as room:
             for row in rows_to_run(rows, line, short_path(file)):
@@ -81,7 +85,7 @@ def check(words=(), find=None, folder=None, **how):
     with tempfile.TemporaryDirectory(prefix="x-programs-") as room:
         if not folder:
             hint = ", or take builds that prove nothing: ./x runs --unproved"
-            link_programs(room, find or (lambda it: programs.gate_build(it, hint)))
+            link_programs(room, files, find or (lambda it: programs.gate_build(it, hint)))
         tally = Tally(environment(folder or room))
         for file, line in files:
             tally.add(file, line, **how)
