@@ -63,11 +63,11 @@ class Costs:
         for it in descendants(pid):
             key = it.pid, it.began
             try:
-                work = self.works[key] if key in self.works else self.work_of(it)
+                # (what has no work yet may have been made, and not begun)
+                work = self.works.get(key) or self.work_of(it)
             except OSError:
                 continue  # (it ended)
             self.works[key] = work
-            # (a copy of a process has the time of its own alone)
             self.used[key] = it.seconds
 
     def work_of(self, process):
@@ -81,8 +81,8 @@ class Costs:
             return crate, "tests"
         if "--crate-checked" in words:
             return crate, "build"
-        is_own = process.folder() == os.path.realpath(self.workspace.folder(crate)) if crate in self.workspace.libraries else False
-        return crate, "proof" if is_own else "mutants"
+        # (a mutant stands in a copy of its crate)
+        return crate, "proof" if process.folder() == os.path.realpath(self.workspace.folder(crate)) else "mutants"
 
     def watch(self, pid):
         """Looks again and again, until what is returned is called."""
