@@ -4,7 +4,7 @@
 
 The pages are those of `crates/tl_safe_tests/src/pages.rt`, which attack a browser, and N made up of pieces of such pages.
 Each is handed to Chromium as it stands and once it is sanitised: as a document in a frame, put into a live element, and put
-there once more as the browser writes it. The script says of how many pages a script ran, and of how many a link would run one.
+there once more as the browser writes it. It says of how many pages a script ran, and of how many a link would run one.
 Of what is sanitised it says too which elements, keys and comments there are beyond the policy's lists, whether html5lib's
 tokenizer reads the tags and keys that were written, and whether sanitiser.py, written from docs/SAFE.md alone, prints the same.
 
@@ -26,13 +26,11 @@ import tempfile
 from tools.programs import gate_build
 from tools.workspace import ROOT, Stop, text_of
 
+from .markup import balanced, tags_read, tags_written, tree_read, tree_written
 from .sanitiser import Policy, safe_print
 
 BATCH = 100
 CALL = "steal()"
-
-# A script of the page calls `parent.stolen(N)`; what is seen of each page is written into the document.
-HARNESS = text_of(f"{ROOT}/compare/harness.html")
 
 # Pieces of pages: tags that end and begin where they should not, names in any case, references, controls, raw texts, links.
 PIECES = [
@@ -113,7 +111,8 @@ def judged(browser, pages):
         with tempfile.TemporaryDirectory() as folder:
             coded = json.dumps([base64.b64encode(page.encode()).decode() for page in batch])
             with open(f"{folder}/page.html", "w", encoding="utf-8") as file:
-                file.write(HARNESS.replace("PAGES", coded))
+                # A script of the page calls `parent.stolen(N)`; what is seen of each page is written into the document.
+                file.write(text_of(f"{ROOT}/compare/harness.html").replace("PAGES", coded))
             words = ["timeout", "300", browser, "--headless", "--no-sandbox", "--disable-gpu", f"--user-data-dir={folder}/user",
                      "--virtual-time-budget=300000", "--dump-dom", f"file://{folder}/page.html"]
             dom = subprocess.run(words, stdout=subprocess.PIPE, stderr=subprocess.DEVNULL, check=False).stdout.decode("utf-8", "replace")
@@ -122,80 +121,6 @@ def judged(browser, pages):
             raise Stop("Chromium didn't end")
         out += json.loads(html.unescape(found.group(1)))
     return out
-
-
-TAG = re.compile(r'<(/?)([a-z][a-z0-9]*)((?: [a-z-]+(?:="[^"\0\x1b]*")?)*)>')
-KEY = re.compile(r' ([a-z-]+)(?:="[^"]*")?')
-VOID = {"area", "base", "br", "col", "embed", "hr", "img", "input", "link", "meta", "param", "source", "track", "wbr"}
-
-
-def tags_written(page):
-    """The tags of a page of the safe form, as (whether it is an end, name, keys), or None for a page of another form."""
-    tags, at = [], 0
-    while at < len(page):
-        tag = TAG.match(page, at)
-        if tag:
-            tags.append((tag.group(1) == "/", tag.group(2), tuple(KEY.findall(tag.group(3)))))
-            at = tag.end()
-        elif page[at] in "<\0\x1b":
-            return None
-        else:
-            at += 1
-    return tags
-
-
-def tags_read(page):
-    """The tags that html5lib's tokenizer reads, and what else it reads but characters."""
-    from html5lib._tokenizer import HTMLTokenizer
-    from html5lib.constants import tokenTypes
-    names = {number: name for name, number in tokenTypes.items()}
-    tags = []
-    for token in HTMLTokenizer(page):
-        kind = names[token["type"]]
-        if kind in ("StartTag", "EmptyTag"):
-            tags.append((False, token["name"], tuple(token["data"])))
-        elif kind == "EndTag":
-            tags.append((True, token["name"], ()))
-        elif kind in ("Comment", "Doctype"):
-            tags.append(kind)
-    return tags
-
-
-def tree_written(tags):
-    root = ("", [])
-    path = [root]
-    for is_end, name, _ in tags:
-        if is_end:
-            path.pop()
-            continue
-        node = (name, [])
-        path[-1][1].append(node)
-        if name not in VOID:
-            path.append(node)
-    return root[1]
-
-
-def tree_read(page):
-    import html5lib
-
-    def node(element):
-        return (element.tag, [node(child) for child in element])
-    return [node(child) for child in html5lib.parseFragment(page, container="div", namespaceHTMLElements=False)]
-
-
-def balanced(chance, names, depth=0):
-    """A balanced page of such names."""
-    out = []
-    for _ in range(chance.randint(1, 4)):
-        name = chance.choice(names)
-        if chance.random() < 0.3:
-            out.append(chance.choice(["x", " ", "y "]))
-        if name in VOID:
-            out.append(f"<{name}>")
-        else:
-            inner = balanced(chance, names, depth + 1) if depth < 6 and chance.random() < 0.6 else chance.choice(["", "z"])
-            out.append(f"<{name}>{inner}</{name}>")
-    return "".join(out)
 
 
 # The tree builder's rules end one of these where another one begins, or open it again.
