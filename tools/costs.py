@@ -36,7 +36,7 @@ def descendants(pid):
     for it in filter(str.isdigit, os.listdir("/proc")):
         try:
             process = Process(int(it))
-        except OSError:
+        except (OSError, IndexError):
             continue  # (it ended)
         children.setdefault(process.parent, []).append(process)
     left = [*children.get(pid, [])]
