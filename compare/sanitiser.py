@@ -4,7 +4,7 @@ It is written from those two pages alone, and knows nothing of how the crates do
 """
 import re
 
-from reader import VOID, Document
+from .reader import VOID, Document
 
 OPAQUE = b"script style textarea title xmp iframe noembed noframes noscript plaintext svg math".split()
 

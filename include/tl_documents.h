@@ -28,7 +28,7 @@
  *   - `document`, `out` and `needed` lie apart from each other and from all that is read, and no other thread touches what the call
  *     is lent;
  *   - no call comes from a signal handler, or from the forked child of a process with threads.
- * `./library` compares the names of this header with those of the library, and `./callers` calls each function.
+ * `./x library` compares the names of this header with those of the library, and `./x bindings` calls each function.
  */
 #ifndef TL_DOCUMENTS_H
 #define TL_DOCUMENTS_H

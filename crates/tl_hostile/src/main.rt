@@ -1,6 +1,6 @@
 //! Hostile use of the library, and whether it answers as it must: pages that are cut anywhere, tables that are very deep or very
 //! wide, handles that fall, selectors of very many parts and very many steps. Each thing that is asked ends in a line, with status 0; where an
-//! answer is wrong the line says which, with status 1. `hostile` at the top of the repository goes through all of them.
+//! answer is wrong the line says which, with status 1. `./x stress` goes through all of them.
 //!
 //! | Words | What is done |
 //! |---|---|

@@ -2,7 +2,7 @@
 //!
 //! Standard input says which call, and how many requests are made right before it, so that the one that is refused is one of
 //! its own; without that number the case ends right before the call. One line is written: the name of the call, and before it
-//! how it ended. `refusals` at the top of the repository goes through all requests of all calls.
+//! how it ended. `./x oom` goes through all requests of all calls.
 //!
 //! | Line begins | Status | Says |
 //! |---|---|---|

@@ -1,0 +1,426 @@
+The program `tl`.
+
+Each command, and each option of `select`.
+
+  $ printf '<p id=a>x<b>y</b></p><p>z<img src=i.png srcset="j.png 2x"><a href="/q">' >page
+  $ tl select p <page
+  <p id="a">x<b>y</b></p>
+  <p>z<img src="i.png" srcset="j.png 2x"><a href="/q"></a></p>
+  $ tl select -a id p <page
+  a
+  $ tl select --attribute=id p <page
+  a
+  $ tl select -t p <page
+  xy
+  z
+  $ tl select -H p <page
+  x<b>y</b>
+  z<img src="i.png" srcset="j.png 2x"><a href="/q"></a>
+  $ tl select -n p <page
+  0
+  4
+  $ tl select -c p <page
+  2
+  $ tl select -n0 p <page
+  0\x004\x00 (esc) (no-eol)
+  $ tl select -t '#a' - <page
+  xy
+  $ tl select -1 p <page
+  <p id="a">x<b>y</b></p>
+  $ tl select --first -n p <page
+  0
+  $ tl select -1a href p <page
+  [1]
+  $ printf '<p id=x b a="y&" class=c>d<b>e\042</b></p>' | tl select --json 'p, b'
+  [{"attributes":{"a":"y&","b":null,"class":"c","id":"x"},"name":"p","node":0,"text":"de\""},{"attributes":{},"name":"b","node":2,"text":"e\""}]
+  $ printf a | tl select --json '*'
+  [{"attributes":{},"name":null,"node":0,"text":"a"}]
+  $ tl links <page
+  i.png
+  j.png 2x
+  /q
+  $ tl links --null <page
+  i.png\x00j.png 2x\x00/q\x00 (esc) (no-eol)
+  $ tl text <page
+  xyz (no-eol)
+  $ printf '<title>T</title><style>p{}</style><div>a\n b<b>c</b><p> d<br>e</p></div><script>f</script>' | tl text -w
+  T
+  a bc
+  d
+  e
+  $ tl print <page
+  <p id="a">x<b>y</b></p><p>z<img src="i.png" srcset="j.png 2x"><a href="/q"></a></p> (no-eol)
+  $ printf '<p>a<br></p>\n' | tl outline
+  0 tag p 1 2
+  1 text a
+  2 tag br
+  3 text\x20 (esc)
+  $ printf '<a>y</a>' | tl edit 'set 0 href /x y' 'name 0 b'
+  <b href="/x y">y</b> (no-eol)
+  $ printf '<p onclick=f()>x<script>y</script><a href="javascript:f()">z' | tl sanitise
+  <p>x<a>z</a></p> (no-eol)
+  $ printf '<p id=i title=t><i>a</i><b>c' | tl sanitise --tags p,i --keys title
+  <p title="t"><i>a</i>c</p> (no-eol)
+  $ printf '<p id=u-i><a href="ftp:x" id=i><a href="/y">' | tl sanitise --keys=id,href --link-keys=href --links=/ --prefix=u-
+  <p id="u-i"><a><a href="/y"></a></a></p> (no-eol)
+  $ tl print
+
+Nothing was found, or something is refused or not understood.
+
+  $ tl select i <page
+  [1]
+  $ tl select -a href p <page
+  [1]
+  $ tl select -c i <page
+  0
+  [1]
+  $ tl select --json i <page
+  []
+  [1]
+  $ tl select ,p <page
+  tl: -: refused (err)
+  [1]
+  $ printf '<a></a>' | tl edit 'push 5 0'
+  tl: -: refused (err)
+  [1]
+  $ printf '\377' | tl print
+  tl: -: not understood (err)
+  [2]
+  $ printf '\377' | tl select p
+  tl: -: not understood (err)
+  [2]
+  $ tl
+  error: 'tl' requires a subcommand but one was not provided (err)
+  ...
+  [2]
+  $ tl show
+  error: unrecognized subcommand 'show' (err)
+  ...
+  [2]
+  $ tl links -t
+  error: unexpected argument '-t' found (err)
+  ...
+  [2]
+  $ tl select -x p
+  error: unexpected argument '-x' found (err)
+  ...
+  [2]
+  $ tl select -a
+  error: a value is required for '--attribute <KEY>' but none was supplied (err)
+  ...
+  [2]
+  $ tl select -t
+  error: the following required arguments were not provided: (err)
+  ...
+  [2]
+  $ tl select -t -c p
+  error: the argument '--text' cannot be used with '--count' (err)
+  ...
+  [2]
+  $ tl select -1c p
+  error: the argument '--first' cannot be used with '--count' (err)
+  ...
+  [2]
+  $ tl edit
+  error: the following required arguments were not provided: (err)
+  ...
+  [2]
+  $ tl edit 'push 0'
+  tl: no step: push 0 (err)
+  [2]
+
+Pages in files.
+
+  $ printf '<p>one' >one
+  $ printf '<p>two\n<b>' >two
+  $ printf '<b>' >./-b
+  $ printf '<p>in' | tl select p one -
+  one:<p>one</p>
+  -:<p>in</p>
+  $ tl select p one two
+  one:<p>one</p>
+  two:<p>two
+  two:<b></b></p>
+  $ tl print one two
+  one:<p>one</p>
+  two:<p>two
+  two:<b></b></p>
+  $ tl select -t p one
+  one
+  $ tl select --no-name -t p one two
+  one
+  two
+  (empty)
+  $ tl select -c p one two
+  one:1
+  two:1
+  $ tl select --json b one two
+  one:[]
+  two:[{"attributes":{},"name":"b","node":2,"text":""}]
+  $ tl select -t0 p one two
+  one:one\x00two:two (esc)
+  \x00 (esc) (no-eol)
+  $ tl select b one two
+  two:<b></b>
+  $ tl edit 'name 0 b' -- one two
+  one:<b>one</b>
+  two:<b>two
+  two:<b></b></b>
+  $ tl print -- -b
+  <b></b> (no-eol)
+  $ tl select p one none two
+  one:<p>one</p>
+  two:<p>two
+  two:<b></b></p>
+  tl: none: read or write failed (err)
+  [4]
+  $ tl print none
+  tl: none: read or write failed (err)
+  [4]
+
+Pages made safe.
+
+  $ printf '<p onclick="x()">a</p>' >a.html
+  $ printf '<b>b<script>c</script>' >b.html
+  $ printf '\377' >bytes.html
+  $ printf '<i>d</i>' >./-d.html
+  $ printf '<i>e</i>' >./--
+  $ : >empty.html
+  $ printf '<p onclick="x()">a<script>b</script><b>c' | tl sanitise
+  <p>a<b>c</b></p> (no-eol)
+  $ tl sanitise
+  $ printf '<i>x</i>' | tl sanitise -
+  <i>x</i> (no-eol)
+  $ tl sanitise --no-name a.html b.html
+  <p>a</p><b>b</b> (no-eol)
+  $ tl sanitise a.html b.html
+  a.html:<p>a</p>
+  b.html:<b>b</b>
+  $ printf '<i>x</i>' | tl sanitise --no-name a.html - b.html
+  <p>a</p><i>x</i><b>b</b> (no-eol)
+  $ tl sanitise -- -d.html
+  <i>d</i> (no-eol)
+  $ tl sanitise --no-name a.html -- -d.html
+  <p>a</p><i>d</i> (no-eol)
+  $ tl sanitise -- --
+  <i>e</i> (no-eol)
+  $ tl sanitise empty.html
+  $ tl sanitise empty.html a.html
+  a.html:<p>a</p>
+
+Their lists.
+
+  $ printf '<p><b>a</b><i title=x class=user-y>c</i></p>' | tl sanitise --tags b,i --keys title
+  <b>a</b><i title="x">c</i> (no-eol)
+  $ printf '<p><b>a</b></p>' | tl sanitise --tags=b
+  <b>a</b> (no-eol)
+  $ printf '<p><b>a</b></p>' | tl sanitise --tags ''
+  a (no-eol)
+  $ printf '<p><b>a</b></p>' | tl sanitise --tags=
+  a (no-eol)
+  $ printf '<p><b>a</b></p>' | tl sanitise --tags ,p,,b,
+  <p><b>a</b></p> (no-eol)
+  $ printf '<a href="/x">a</a><a href="ftp://x">b</a>' | tl sanitise --links ftp:
+  <a>a</a><a href="ftp://x">b</a> (no-eol)
+  $ printf '<a href="/x=y">a</a><a href="/z">b</a>' | tl sanitise --links=/x=
+  <a href="/x=y">a</a><a>b</a> (no-eol)
+  $ printf '<a data-x="javascript:x">a</a><a data-x="/y">b</a>' | tl sanitise --keys data-x --link-keys data-x
+  <a>a</a><a data-x="/y">b</a> (no-eol)
+  $ printf '<p class=user-x>a</p><p class=site-x>b</p>' | tl sanitise --prefix site-
+  <p>a</p><p class="site-x">b</p> (no-eol)
+  $ tl sanitise a.html --tags b
+  a (no-eol)
+  $ printf '<p title=t>x' | tl sanitise --tags p
+  <p title="t">x</p> (no-eol)
+  $ tl sanitise --tags b,i --policy
+  --tags b,i
+  --keys alt,cite,class,datetime,dir,height,href,id,lang,src,start,title,width
+  --link-keys cite,href,src
+  --links https://,http://,mailto:,/,#
+  --prefix user-
+  $ tl sanitise --policy --tags b,i
+  --tags b,i
+  --keys alt,cite,class,datetime,dir,height,href,id,lang,src,start,title,width
+  --link-keys cite,href,src
+  --links https://,http://,mailto:,/,#
+  --prefix user-
+  $ tl sanitise --policy a.html --tags b,i none
+  --tags b,i
+  --keys alt,cite,class,datetime,dir,height,href,id,lang,src,start,title,width
+  --link-keys cite,href,src
+  --links https://,http://,mailto:,/,#
+  --prefix user-
+  $ tl sanitise --policy --tags ''
+  --tags
+  --keys alt,cite,class,datetime,dir,height,href,id,lang,src,start,title,width
+  --link-keys cite,href,src
+  --links https://,http://,mailto:,/,#
+  --prefix user-
+  $ tl sanitise --policy --tags script
+  tl: no policy may list the tag `script`: what stands in it is no markup of HTML (err)
+  [2]
+
+Words that no policy may list: the first one is named, and no page is made safe.
+
+  $ tl sanitise --tags b,script,form a.html
+  tl: no policy may list the tag `script`: what stands in it is no markup of HTML (err)
+  [2]
+  $ tl sanitise --tags B
+  tl: no policy may list the tag `B`: a name is a letter of a-z, and then letters and digits (err)
+  [2]
+  $ tl sanitise --tags form
+  tl: no policy may list the tag `form`: it changes what is around it, or loads what is no page (err)
+  [2]
+  $ tl sanitise --keys title,onclick
+  tl: no policy may list the key `onclick`: its value is a script (err)
+  [2]
+  $ tl sanitise --keys style
+  tl: no policy may list the key `style`: its value is no name, text or link (err)
+  [2]
+  $ tl sanitise --keys poster
+  tl: no policy may list the key `poster`: it holds links, and is no link key (err)
+  [2]
+  $ tl sanitise --links javascript:
+  tl: no policy may let links begin with `javascript:`: such links are programs or documents (err)
+  [2]
+  $ tl sanitise --links http
+  tl: no policy may let links begin with `http`: it is no scheme with its `:`, and no `/`, `#`, `?` or `.` stands first (err)
+  [2]
+  $ tl sanitise --prefix 1
+  tl: no prefix of names: `1`: a prefix is a letter of a-z, and then letters and `-` (err)
+  [2]
+  $ tl sanitise --prefix=
+  tl: no prefix of names: ``: a prefix is a letter of a-z, and then letters and `-` (err)
+  [2]
+  $ tl sanitise --prefix 1 --tags script
+  tl: no policy may list the tag `script`: what stands in it is no markup of HTML (err)
+  [2]
+  $ tl sanitise --colour
+  error: unexpected argument '--colour' found (err)
+  ...
+  [2]
+  $ tl sanitise -x
+  error: unexpected argument '-x' found (err)
+  ...
+  [2]
+  $ tl sanitise --tags
+  error: a value is required for '--tags <WORDS>' but none was supplied (err)
+  ...
+  [2]
+  $ tl sanitise --tags --keys
+  error: a value is required for '--tags <WORDS>' but none was supplied (err)
+  ...
+  [2]
+  $ tl sanitise --tags --
+  error: a value is required for '--tags <WORDS>' but none was supplied (err)
+  ...
+  [2]
+  $ tl sanitise --tags i --tags b
+  error: the argument '--tags <WORDS>' cannot be used multiple times (err)
+  ...
+  [2]
+  $ tl sanitise --tags=i --tags=b
+  error: the argument '--tags <WORDS>' cannot be used multiple times (err)
+  ...
+  [2]
+  $ tl sanitise "$(printf '\377')"
+  tl: words: not understood (err)
+  [2]
+
+Pages that can't be had are passed over, and the greatest status counts.
+
+  $ printf '\377' | tl sanitise
+  tl: -: not understood (err)
+  [2]
+  $ tl sanitise --no-name a.html bytes.html b.html
+  <p>a</p><b>b</b> (no-eol)
+  tl: bytes.html: not understood (err)
+  [2]
+  $ tl sanitise --no-name a.html none b.html
+  <p>a</p><b>b</b> (no-eol)
+  tl: none: read or write failed (err)
+  [4]
+  $ tl sanitise none bytes.html
+  tl: none: read or write failed (err)
+  tl: bytes.html: not understood (err)
+  [4]
+  $ tl sanitise bytes.html none
+  tl: bytes.html: not understood (err)
+  tl: none: read or write failed (err)
+  [4]
+  $ printf '<i>x</i>' | tl sanitise --no-name none -
+  <i>x</i> (no-eol)
+  tl: none: read or write failed (err)
+  [4]
+  $ tl sanitise .
+  tl: .: read or write failed (err)
+  [4]
+
+Help names each command and each option, and words the lists.
+
+  $ tl --help >help && sed -n 's/^  \([a-z]*\)  .*/\1/p' help
+  select
+  links
+  text
+  print
+  outline
+  edit
+  sanitise
+  help
+  $ for command in select links text print outline edit sanitise; do tl $command --help >help && grep '^Usage: ' help; done
+  Usage: tl select [OPTIONS] <SELECTOR> [FILE]...
+  Usage: tl links [OPTIONS] [FILE]...
+  Usage: tl text [OPTIONS] [FILE]...
+  Usage: tl print [OPTIONS] [FILE]...
+  Usage: tl outline [OPTIONS] [FILE]...
+  Usage: tl edit [OPTIONS] <STEP>... [-- [FILE]...]
+  Usage: tl sanitise [OPTIONS] [FILE]...
+  $ tl select --help >help && grep -oE -e '--[a-z-]+' help | sort -u
+  --attribute
+  --count
+  --first
+  --help
+  --inside
+  --json
+  --no-name
+  --null
+  --number
+  --text
+  $ tl sanitise --help >help && grep -oE -e '--[a-z-]+' help | sort -u
+  --help
+  --keys
+  --link-keys
+  --links
+  --no-name
+  --policy
+  --prefix
+  --tags
+  $ grep -o '^WORDS have commas between them' help
+  WORDS have commas between them
+  $ test "$(tl --version)" = "tl $VERSION"
+
+An output that is full.
+
+  $ printf '<p>' | tl print >/dev/full
+  tl: -: read or write failed (err)
+  [4]
+  $ tl --help >/dev/full
+  [4]
+  $ tl sanitise --policy >/dev/full
+  tl: policy: read or write failed (err)
+  [4]
+  $ tl sanitise a.html >/dev/full
+  tl: a.html: read or write failed (err)
+  [4]
+
+A page longer than the memory, and one that is long.
+
+  $ head -c 64000000 /dev/zero | tr '\0' a >long
+  $ (ulimit -v 40000 && exec tl print) <long
+  tl: -: out of memory (err)
+  [3]
+  $ (ulimit -v 40000 && exec tl sanitise long)
+  tl: long: out of memory (err)
+  [3]
+  $ head -c 2000000 long >large
+  $ tl sanitise large | cmp - large

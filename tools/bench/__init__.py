@@ -1,0 +1,1 @@
+"""What `./x bench` times the library on."""

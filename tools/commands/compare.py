@@ -1,0 +1,20 @@
+"""Compares the programs with others, on made-up pages.
+
+    ./x compare check ..        what `tlq` writes, and its status, with a plain reader written from docs/GRAMMAR.md alone
+    ./x compare browser ..      what Chromium runs of pages as they stand, and as `tl sanitise` prints them
+    ./x compare tools ..        the time that `tl` takes with that of pup, xmllint and hxselect
+
+./x compare NAME --help says more of each. The Rust crate is compared by ./x bench --against (compare/src).
+"""
+import importlib
+
+from ..main import parser_of
+
+NAMES = ("check", "browser", "tools")
+
+
+def main(parser, words):
+    parser.add_argument("name", choices=NAMES)
+    given = parser.parse_args(words[:1])
+    module = importlib.import_module(f"compare.{given.name}")
+    return module.main(parser_of(f"compare {given.name}", module), words[1:])

@@ -1,0 +1,137 @@
+"""The merge gate: everything that has to hold before a change lands. `.ci/run` calls it.
+
+    ./x gate              all parts, in this order; ends at the first that fails
+    ./x gate PART..       these alone, as ./x gate wants mutants
+
+    wants        want of memory is made up nowhere, and ./x wants reads its samples as what they are
+    mutants      all mutants still fit the texts that they change
+    proofs       `rt ci`, the test command of the README: each proof from nothing, the mutants of must-fail, the tests, the programs
+    runs         what the transcripts and the documents show is what the programs write
+    bindings     the library for C, called from other languages
+    vendor       what ./x vendor copies is enough for a program in another workspace
+    oom          each request for memory refused in turn
+    stress       hostile use
+
+It needs the toolchain and Python alone, and 8 GB of memory that is free. Where fewer than 18 GB are, `rt ci` runs one check of one
+job on each core, four at most and one for each 4 GB (RT_JOBS, which is kept where it is set).
+It says what each crate cost, in minutes of the processor, and which chain of crates was the longest; its last line after how
+many minutes each part had ended. CONTRIBUTING.md says how many there may be.
+"""
+import os
+import subprocess
+import sys
+import time
+
+from ..costs import Costs
+from ..workspace import NO_RT, ROOT, Stop, Workspace, cores, free_memory
+from . import bindings, mutants, oom, runs, stress, vendor, wants
+
+GIGABYTE = 1_000_000_000
+NEEDED = 8
+# Where `rt ci` chooses by itself, it gives a crate that others wait for up to four jobs, so with memory enough the chain of crates
+# is proved faster than by RT_JOBS. But it plans with some three times the memory that a check takes, and with less than this it
+# leaves cores idle, though one check takes 4 GB at most.
+ENOUGH, OF_A_CHECK = 18, 4
+
+
+def checks(number, free):
+    """How many checks of one job `rt ci` is to run side by side with so many cores and so many GB, or '' where it is to choose."""
+    return str(min(4, number, free // OF_A_CHECK)) if free < ENOUGH else ""
+
+
+class Gate:
+    """A run of the gate: when it began, and after how many minutes what it names had ended."""
+
+    def __init__(self):
+        self.began, self.ends = time.monotonic(), {}
+
+    def seconds(self):
+        return time.monotonic() - self.began
+
+    def note(self, name):
+        self.ends[name] = round(self.seconds() / 60)
+
+    def say(self):
+        names = ("proofs", "mutants of must-fail", "tests and programs", "requests refused", "hostile use")
+        parts = ", ".join(f"{it} {self.ends.get(it, 'none')}" for it in names)
+        print(f"gate: minutes from the start to the end of: {parts}", flush=True)
+
+    def prove(self):
+        """Runs `rt ci`, passes on what it says, and says what it cost. It tells of the mutants only once all of them were tried."""
+        costs = Costs(Workspace())
+        how = {"stdin": subprocess.DEVNULL, "stdout": subprocess.PIPE, "stderr": subprocess.STDOUT, "errors": "replace"}
+        try:
+            ran = subprocess.Popen(["rt", "ci"], cwd=ROOT, encoding="utf-8", **how)
+        except FileNotFoundError:
+            raise Stop(NO_RT) from None
+        end = costs.watch(ran.pid)
+        for line in ran.stdout:
+            sys.stdout.write(line)
+            sys.stdout.flush()
+            costs.hear(line, self.seconds())
+            if line.startswith("rt: ") and line.rstrip().endswith(" proved"):
+                self.note("proofs")
+            if line.startswith("rt: must-fail ") and "mutants of must-fail" not in self.ends:
+                self.note("mutants of must-fail")
+        status = ran.wait()
+        end()
+        self.note("tests and programs")
+        for it in costs.lines():
+            print(f"gate: {it}", flush=True)
+        return status == 0
+
+    def refuse(self):
+        is_well = oom.check()
+        self.note("requests refused")
+        return is_well
+
+    def use(self):
+        is_well = stress.check()
+        self.note("hostile use")
+        return is_well
+
+    def parts(self):
+        return {
+            "wants": lambda: wants.check_samples() and wants.check(),
+            "mutants": mutants.look,
+            "proofs": self.prove,
+            "runs": runs.check,
+            "bindings": lambda: bindings.check(over_ci=True),
+            "vendor": vendor.check,
+            "oom": self.refuse,
+            "stress": self.use,
+        }
+
+
+def prepare():
+    """Looks at the memory, and says how many checks are to run side by side."""
+    free = int(free_memory() / GIGABYTE)
+    if free < NEEDED:
+        raise Stop(f"{free} GB of memory are free, and it needs {NEEDED}")
+    os.environ.setdefault("RT_JOBS", checks(cores(), free))
+    chosen = os.environ["RT_JOBS"] or "as many as rt chooses"
+    print(f"gate: {cores()} cores, {free} GB free, checks side by side: {chosen}", flush=True)
+
+
+def main(parser, words):
+    gate = Gate()
+    parts = gate.parts()
+    parser.add_argument("parts", nargs="*", metavar="PART")
+    given = parser.parse_args(words)
+    for it in given.parts:
+        if it not in parts:
+            parser.error(f"no part is called {it}: there are {', '.join(parts)}")
+    prepare()
+    is_well = True
+    for name, check in parts.items():
+        if is_well and name in (given.parts or parts):
+            try:
+                is_well = check()
+            except Stop as stop:
+                print(f"{name}: {stop}", flush=True)
+                is_well = False
+            if not is_well:
+                print(f"gate: failed at {name}", flush=True)
+    if "proofs" in (given.parts or parts):
+        gate.say()
+    return 0 if is_well else 1

@@ -1,0 +1,115 @@
+"""Tries mutants, wrong bodies that the prover has to refuse.
+
+    ./x mutants [--all] [--jobs N] [NAME..]    tries those of crates/*/mutants, or of the named crates, on at most N crates side by
+                                               side; of NAME/WORD those whose file names begin with the word. The gate doesn't try
+                                               them. With --all those of crates/*/must-fail too, which the gate does try
+    ./x mutants --look                         says which of both folders don't fit the text that they change, and proves nothing
+    ./x mutants --test                         tries the samples of tools/mutants/samples.txt, whose readings are known
+
+A crate is proved first, over what `rt` kept. Many mutants are tried in one check, over a copy of that work: at most one of a
+function, since the prover says of each function whether what it has to show is shown. What it says of a mutant is one of these,
+and the first alone is well:
+
+    refused                      a goal of the changed function is left; of a mutant in no function, any goal
+    proved                       the contract lets it through
+    can't be read                it doesn't compile
+    refused by a name alone      a proof file names what the mutant took away, and nothing else is known
+    refused by an answer alone   an answer by hand doesn't fit, and without it the function is proved
+    not judged                   the prover asks for something else first, or could not tell
+
+Answers that don't fit are left out, and the mutant is tried again: what is left then counts as refused, and a line says so where
+those answers name what the mutant took away.
+What isn't refused is tried again, without those that are, before it is said. What the prover said stands in
+crates/NAME/out/mutants.log. CONTRIBUTING.md says what to do about each of them.
+"""
+import os
+import tempfile
+import time
+
+from ..mutants.crate import Crate
+from ..mutants.trial import Trials, minutes
+from ..mutants.verdict import REFUSED
+from ..workspace import ROOT, Workspace, put, text_of
+
+FOLDER, OF_THE_GATE = "mutants", "must-fail"
+
+
+def fitting(crate, folders, words, say):
+    """The mutants of a crate that begin with these words and fit its text, and how many don't."""
+    mutants = [it for it in crate.mutants(folders) if it.name.startswith(words)]
+    lost = [it for it in mutants if not it.pairs or it.put_into({}) is None]
+    for it in lost:
+        say(f"{crate.name}/{it.name}: IT DOESN'T FIT the text that it changes")
+    return [it for it in mutants if it not in lost], len(lost)
+
+
+def mutants_of(workspace, names, folders, say):
+    """The crates that are named, by NAME or NAME/WORD, each with those of its mutants that fit, and how many don't."""
+    work, lost, words = [], 0, {}
+    for name, _, word in [it.partition("/") for it in names]:
+        words[name] = (*words.get(name, ()), word)
+    for crate in [Crate(workspace, it) for it in words]:
+        mutants, number = fitting(crate, folders, words[crate.name], say)
+        work, lost = work + [(crate, mutants)] * bool(mutants), lost + number
+    return work, lost
+
+
+def try_mutants(workspace, names, folders, jobs):
+    """What each mutant of the named crates is, and how many don't fit."""
+    trials = Trials()
+    work, lost = mutants_of(workspace, names, folders, trials.say)
+    for crate, _ in work:
+        trials.prove(crate, jobs)
+    return trials.try_all(work, jobs), lost
+
+
+def look(names=()):
+    """Says which mutants don't fit the text that they change. Whether all do."""
+    workspace, say = Workspace(), Trials().say
+    work, lost = mutants_of(workspace, names or workspace.libraries, [FOLDER, OF_THE_GATE], say)
+    strays = [it for it in workspace.libraries if os.path.isdir(f"{workspace.folder(it)}/edits")]
+    for it in strays:
+        say(f"crates/{it}/edits: mutants stand in crates/{it}/{FOLDER}")
+    if not lost and not strays:
+        say(f"{sum(len(mutants) for _, mutants in work)} fit the texts that they change")
+    return not lost and not strays
+
+
+def check_samples():
+    """Tries the samples, and says which of them is read as something else than stands beside it. Whether none is."""
+    with tempfile.TemporaryDirectory(prefix="mutants-samples-") as room:
+        expected = {}
+        for part in text_of(f"{ROOT}/tools/mutants/samples.txt").split("\n== ")[1:]:
+            head, _, text = part.partition("\n")
+            path, _, kind = head.partition(": ")
+            put(f"{room}/{path}", text)
+            if kind:
+                expected[os.path.basename(path)] = kind
+        workspace = Workspace(room)
+        found, _ = try_mutants(workspace, workspace.libraries, [FOLDER], 1)
+        read = {it.name: kind + " without its answers" * (kind == REFUSED and bool(why)) for it, (kind, why) in found.items()}
+    wrong = [it for it in expected if read.get(it) != expected[it]]
+    for it in wrong:
+        print(f"mutants: {it} is read as '{read.get(it)}', and is '{expected[it]}'")
+    print(f"mutants: {len(expected) - len(wrong)} of {len(expected)} samples are read as what they are")
+    return bool(expected) and not wrong
+
+
+def main(parser, words):
+    for it in ("--all", "--look", "--test"):
+        parser.add_argument(it, action="store_true")
+    parser.add_argument("--jobs", type=int, default=len(os.sched_getaffinity(0)), metavar="N")
+    parser.add_argument("names", nargs="*", metavar="NAME")
+    given = parser.parse_args(words)
+    if given.test:
+        return 0 if check_samples() else 1
+    started, workspace = time.time(), Workspace()
+    if given.jobs < 1 or {it.partition("/")[0] for it in given.names} - set(workspace.libraries):
+        parser.error("a NAME is a crate of crates.txt, and N a number above 0")
+    if given.look:
+        return 0 if look(given.names) else 1
+    folders = [FOLDER, OF_THE_GATE] if given.all else [FOLDER]
+    found, lost = try_mutants(workspace, given.names or workspace.libraries, folders, given.jobs)
+    refused = sum(kind == REFUSED for kind, _ in found.values())
+    print(f"mutants: {refused} of {len(found) + lost} refused in {minutes(started)}")
+    return 1 if lost or refused < len(found) else 0

@@ -1,0 +1,48 @@
+"""Copies a library of this workspace, with those that it stands on, into another workspace, whose crates can list it then.
+
+    ./x vendor DIR [NAME]     the library NAME, `tl` where none is named
+    ./x vendor --test         has ./x new make a workspace over `tl`, copies it once more, and runs the program there, unproved
+
+The folders come to stand in DIR/crates, in the place of those that stand there, and their lines in DIR/crates.txt, as far as
+it lacks them. Mutants (`mutants`, `must-fail`) stay here, and so does what was proved: the first check of a crate that lists the
+library proves it again.
+"""
+import re
+import tempfile
+
+from ..programs import unproved_build
+from ..running import count, run
+from ..vendoring import vendor
+from ..workspace import Stop, Workspace, text_of
+from .new import PROGRAM, make_workspace
+
+PAGE = b"<p>a<br></p><!-- b -->"
+
+
+def check():
+    """Looks whether what is copied is enough for a program in another workspace."""
+    with tempfile.TemporaryDirectory(prefix="x-vendor-") as room:
+        make_workspace(f"{room}/other")
+        vendor(f"{room}/other")
+        other = Workspace(f"{room}/other")
+        if len(re.findall(r"(?m)^tl *:", text_of(f"{other.root}/crates.txt"))) != 1:
+            raise Stop("copied twice, it left another number of lines of tl than one")
+        ran = run([unproved_build(PROGRAM, other)], given=PAGE)
+        if ran.status or ran.out != PAGE:
+            raise Stop(f"the program did not print its page: {ran.ending()}: {ran.said()}")
+    print("vendor: a program in another workspace printed its page", flush=True)
+    return True
+
+
+def main(parser, words):
+    parser.add_argument("--test", action="store_true")
+    parser.add_argument("folder", nargs="?", metavar="DIR")
+    parser.add_argument("name", nargs="?", default="tl", metavar="NAME")
+    given = parser.parse_args(words)
+    if given.test:
+        return 0 if check() else 1
+    if not given.folder:
+        parser.error("which workspace? DIR is its folder")
+    number = vendor(given.folder, given.name)
+    print(f"vendor: {count(number, 'crate')} in {given.folder}/crates")
+    return 0

@@ -1,0 +1,112 @@
+"""Pages, and selectors with pages, that aim at more than linear time. Each is made at a size."""
+import re
+
+
+def number(form, size):
+    """The form with each number from 0 on."""
+    made, length = [], 0
+    while length < size:
+        made.append(form.replace("%", str(len(made))))
+        length += len(made[-1])
+    return "".join(made)
+
+
+def repeat(piece, size):
+    return piece * (size // len(piece))
+
+
+# What is repeated.
+REPEATED = (
+    "<", ">", "< ", "<>", "<a", "<a ", "<a>", "<a><b>", "<a b", "<a b=", "<a b='", "<a b=\"", "<a b=c", "<a ='",
+    "</", "</ ", "</a", "</a>", "</a ", "<a></a", "<a></b>", "<a></a>", "<br>", "<br></br>", "<a/>", "<a/", "<a /",
+    "<!", "<!-", "<!--", "<!-->", "<!--->", "<!-- -->", "<!-- --", "<!doctype", "<!doctype html>",
+    "<!doctype htmlé>", "<!a", "x<b>y</b>", "&lt;", "\t", "\n<p>", "\0", "é", "<é>", "<p class=k id=i>",
+    "<p id=i>x", "<p a=1 b=2 c=3 d=4>",
+)
+# What stands in front, what is repeated after it, and what comes at the end.
+FRAMED = (
+    ("<p", " ", ""), ("<p", " ", ">"), ("<", " ", "p>"), ("</", " ", "p>"), ("<p", "\t", ">"), ("<p", "\n", ">"),
+    ("<p a", " ", "=b>"), ("<p a=", " ", "'b'>"), ("<p ", "'", ">"), ("<p ", '"', ">"), ("<p ", "/", ">"),
+    ("<p ", "a ", ">"), ("<p ", "a=b ", ">"), ("<p ", "a= ", ">"), ("<p ", "= ", ">"), ("<p a='", "<b>", ""),
+    ("<p a='", '"', "'>"), ("<p ", "a='b'", ">"), ("<", "p", ">"), ("</", "p", ">"), ("<p ", "a", ">"),
+    ("<!", " ", "--a-->"), ("<!--", "-", ""), ("<!--", "->", ""), ("<!--", "--!>", ""), ("<!doctype", " ", "html>"),
+    ("<!", "a", ">"), ("<p class='", "k ", "'>"), ("<p class='", "k l ", "'>"), ("<p class='", " ", "k'>"),
+    ("<p class='", "k", "'>"), ("<p id='", "i", "'>"),
+)
+# What is numbered, between two texts.
+NUMBERED = (
+    ("", "<a%>", ""), ("", "<a%></a%>", ""), ("<p ", "a% ", ">"), ("<p ", "a%=b ", ">"), ("<p ", "a%='b'", ">"),
+    ("<p class='", "k% ", "'>"), ("", "<p class=k%>", ""), ("", "<br id=i%>", ""),
+)
+
+
+def show(text):
+    return repr(text)[1:-1]
+
+
+def cross(size):
+    """Tags in one another, and their end tags from the outermost on."""
+    tags = number("<a%>", size // 2)
+    return tags + tags.replace("<", "</")
+
+
+def close(size):
+    """The same with end tags from the innermost on."""
+    tags = number("<a%>", size // 2)
+    return tags + "".join(f"</{it[1:]}" for it in reversed(re.findall("<[^<]*", tags)))
+
+
+def halves(first, second):
+    return lambda size: repeat(first, size // 2) + repeat(second, size // 2)
+
+
+def frame(front, it, end):
+    return lambda size: front + repeat(it, size) + end
+
+
+def number_between(front, it, end):
+    return lambda size: front + number(it, size) + end
+
+
+def pages():
+    """What a page is, and how one of a size is made."""
+    for it in REPEATED:
+        yield f"{show(it)} again and again", frame("", it, "")
+    for front, it, end in FRAMED:
+        yield f"{show(front)}, {show(it)} again and again, {show(end)}", frame(front, it, end)
+    for front, it, end in NUMBERED:
+        yield f"{show(front)}, {show(it)} by numbers, {show(end)}", number_between(front, it, end)
+    yield "open tags, then end tags of another name", halves("<a>", "</b>")
+    yield "open tags, then their end tags", halves("<a>", "</a>")
+    yield "open tags, then texts", halves("<a>", "x<br>")
+    yield "open tags, then ends of comments", halves("<a>", "-->")
+    yield "open tags of two names by turns, then end tags of the outer", halves("<a><b>", "</a>")
+    yield "open tags by numbers, then end tags from the first on", cross
+    yield "open tags by numbers, then end tags from the last on", close
+
+
+def searches():
+    """Selectors that aim at a look at each place anew: what it is, the selector, and how a page is made."""
+    long, words = frame("<p a='", "a", "'>"), frame("<p a='", "a" * 30000 + "b ", "'>")
+    for op in "=", "~=", "^=", "$=", "*=":
+        yield f"[a{op}aa..b] in a value of a", f"[a{op}{'a' * 30000}b]", long
+        yield f"[a{op}baa..] in a value of a", f"[a{op}b{'a' * 30000}]", long
+        yield f"[a{op}aa..c] in words of aa..b", f"[a{op}{'a' * 30000}c]", words
+    yield ".aa.. in a class of a", f".{'a' * 30000}", frame("<p class='", "a", "'>")
+    yield "'* * .. *' in open tags", "* " * 30 + "*", frame("", "<a>", "")
+    yield "'*>*> .. *' in open tags", "*>" * 30 + "*", frame("", "<a>", "")
+    yield "'q,q, .. q' in open tags", "q," * 30 + "q", frame("", "<a>", "")
+
+
+def walks():
+    """Pages for commands that walk: what one is, and how it is made at a size."""
+    yield "tags in one another", frame("", "<b>", "<i>x</i>")
+    yield "tags in one another that no policy lists", frame("", "<q0>", "<i>x</i>")
+    yield "a tag with many children", frame("<b>", "<u></u>", "<i>x</i>")
+    paragraph = "<p>x y <b class=k>z</b><br><a href='/q'>w</a></p>\n"
+    yield "a page of paragraphs", frame("", paragraph, "<i>x</i>")
+
+
+def size_of(word):
+    """The bytes that a word as 100K or 4M says."""
+    return int(word[:-1]) * {"K": 1000, "M": 1000000}[word[-1]]

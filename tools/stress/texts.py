@@ -1,0 +1,36 @@
+"""The texts of the tests: any text is a page."""
+import contextlib
+import glob
+import re
+
+from ..workspace import ROOT, text_of
+
+LITERAL = re.compile(r"""//[^\n]*|b?'(?:[^'\\]|\\u\{[0-9a-fA-F]+\}|\\x..|\\.)'|b?"((?:[^"\\]|\\.)*)\"""", re.S)
+ESCAPE = re.compile(r"\\(?:u\{([0-9a-fA-F]+)\}|x(..)|\n\s*|(.))", re.S)
+PLAIN = {"n": "\n", "r": "\r", "t": "\t", "0": "\0"}
+
+
+def unescape(literal):
+    """The bytes of a literal."""
+    made, at = b"", 0
+    for it in ESCAPE.finditer(literal):
+        code, byte, letter = it.groups()
+        made += literal[at : it.start()].encode()
+        if byte:
+            made += bytes([int(byte, 16)])
+        elif code or letter:
+            made += (chr(int(code, 16)) if code else PLAIN.get(letter, letter)).encode()
+        at = it.end()
+    return made + literal[at:].encode()
+
+
+def texts():
+    """The texts of all literals in the tests and in the runs with memory refused, each once."""
+    found = {}
+    for file in sorted(glob.glob(f"{ROOT}/crates/tl_*tests/src/*.rt") + glob.glob(f"{ROOT}/crates/tl_refusals/src/*.rt")):
+        for literal in LITERAL.finditer(text_of(file)):
+            if literal[1] is not None:
+                # (bytes that are no text can be no page)
+                with contextlib.suppress(UnicodeDecodeError):
+                    found[unescape(literal[1]).decode()] = file
+    return [it for it in found if "\x1e" not in it]
