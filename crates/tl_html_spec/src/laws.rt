@@ -82,9 +82,11 @@ pub fn pieces_are_read_together()
 {}
 
 /// Balanced tokens nest: each end tag closes the innermost tag that is open, and none stays open.
-#[tactic(auto, using(crate::proofs::Nesting::balanced_nest))]
+/// So do the tokens of a page's form, whose names are coded.
+#[tactic(auto, using(crate::proofs::Nesting::balanced_nest, crate::proofs::FormNesting::form_nests))]
 pub fn balanced_tokens_nest()
-    ensures { (tokens : List HtmlToken) → left_open [] (balanced tokens) ≡ Some [] }
+    ensures balanced { (tokens : List HtmlToken) → left_open [] (balanced tokens) ≡ Some [] }
+    ensures form { (page : List ℕ) → left_open [] (form_tokens page) ≡ Some [] }
 {}
 
 /// What is escaped is read back, whatever follows it.
