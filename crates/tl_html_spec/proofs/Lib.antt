@@ -22,3 +22,4 @@ pub mod Doctype
 pub mod Places
 pub mod Nesting
 pub mod Longest
+pub mod FormNesting

@@ -11,7 +11,7 @@ use Rattle.tl_html_spec.specs.Balanced.{Balance, Balanced, Closing, Names, Rule,
 first_gone : (n : List ℕ) (ns : Names) → without_innermost n (n ∷ ns) ≡ Some ns
 first_gone n ns = rw ((bytes_eq-Decides n n).1 refl) refl
 
-end_closes : (n : List ℕ) (ns : Names) (us : List HtmlToken) → left_open (n ∷ ns) (EndTag n ∷ us) ≡ left_open ns us
+pub end_closes : (n : List ℕ) (ns : Names) (us : List HtmlToken) → left_open (n ∷ ns) (EndTag n ∷ us) ≡ left_open ns us
 end_closes n ns us = rw (first_gone n ns, left_open) refl
 
 ends_close : (k : ℕ) (ns : Names) (us : List HtmlToken) → left_open ns (map EndTag (take k ns) ++ us) ≡ left_open (drop k ns) us

@@ -4,7 +4,6 @@ use Rattle.std.specs.Prelude.{⊤, flat_map, fold}
 use Rattle.std.specs.List.{AllByRecursion, list_all}
 use Rattle.std.specs.Str.{bytes_eq}
 use Rattle.std.proofs.lemmas.Bool.{and_parts, cases_Bool}
-use Rattle.std.proofs.lemmas.Slice.Eq.{bytes_eq-Decides}
 use Rattle.tl_spec.specs.Attribute.{Pair}
 use Rattle.tl_spec.specs.AttributeList.{PlainAttributes, attributes_of, named, no_attributes, printed_pairs, with_pair}
 use Rattle.tl_spec.specs.ByteClass.{is_void}
@@ -41,11 +40,10 @@ IsTameToken _ = ⊤
 
 -- no coded name is `command`
 
-no_plus : ℕ → Bool
+abbrev pub no_plus : ℕ → Bool
 no_plus b = not (b == 43)
 
 plain_is : (s : List ℕ) → list_all no_plus (flat_map coded_byte s) ≡ true → flat_map coded_byte s ≡ s
-unfolding no_plus
 plain_is [] h = refl
 plain_is (b ∷ s) h = elim (cases_Bool (is_kept b)) [
   | inl y ↦ (
@@ -54,16 +52,21 @@ plain_is (b ∷ s) h = elim (cases_Bool (is_kept b)) [
   | inr n ↦ (let never : false ≡ true = rw n at h in absurd (true≢false (sym never)))
 ]
 
-coded_command : (s : List ℕ) → coded s ≡ codes "command" → s ≡ codes "command"
-unfolding no_plus
-coded_command [] e = absurd (true≢false (sym (ap (list_all no_plus) e)))
-coded_command (b ∷ s) e = sym (plain_is (b ∷ s) (ap (list_all no_plus) e)) ∙ e
+coded_is : (s : List ℕ) → list_all no_plus (coded s) ≡ true → coded s ≡ s
+coded_is [] h = absurd (true≢false (sym h))
+coded_is (b ∷ s) h = plain_is (b ∷ s) h
+
+-- a tag whose coded name has no `+` has that name
+pub plain_tag_is : (s : List ℕ) → list_all no_plus (coded_tag s) ≡ true → coded_tag s ≡ s
+plain_tag_is s h = elim (cases_Bool (bytes_eq s (codes "command"))) [
+  | inl y ↦ (let never : false ≡ true = rw y at h in absurd (true≢false (sym never)))
+  | inr n ↦ (let more : list_all no_plus (coded s) ≡ true = rw n at h in rw n (coded_is s more))
+]
 
 no_command : (s : List ℕ) → coded_tag s ≢ codes "command"
-no_command s = elim (cases_Bool (bytes_eq s (codes "command"))) [
-  | inl y ↦ rw y (λ e. true≢false (ap (bytes_eq (codes "+63ommand")) e))
-  | inr n ↦ rw n (λ e. true≢false (sym ((bytes_eq-Decides s (codes "command")).1 (coded_command s e)) ∙ n))
-]
+no_command s = λ e.
+    let is : s ≡ codes "command" = sym (plain_tag_is s (ap (list_all no_plus) e)) ∙ e in
+    true≢false (sym (ap (list_all no_plus) e) ∙ ap (λ t. list_all no_plus (coded_tag t)) is)
 
 name_some : (s : List ℕ) → IsName s → s ≢ []
 name_some [] h = absurd h

@@ -519,7 +519,7 @@ settled (suc n) s b =
       | true ↦ (let r = settled n (step s.next b) b in record r { emits = s.emits ++ r.emits })
     ]
 
--- a byte is reconsumed three times at most
+-- with at most three reconsumes, which are enough (law `tokens_are_sound`)
 abbrev pub whole_step : State → ℕ → Step
 whole_step state b = settled 3 (step state b) b
 

@@ -1,4 +1,5 @@
-//! Laws of the definitions.
+//! Laws of the definitions: of the tokenizer and its pieces, of balanced tokens, and of the form in
+//! which `tl` reads a page.
 
 ghost use Rattle.std.specs.Prelude.{◌≡◌, ℕ, ◌+◌, Some, true, false, List, [], ◌∷◌, ◌++◌, length, map};
 ghost use Rattle.std.specs.List.{list_all};
@@ -21,6 +22,7 @@ ghost use Rattle.tl_html_spec.specs.Sound.{AreSound};
 ghost use Rattle.tl_html_spec.specs.Unescaped.{is_in_text, is_in_value, unescaped_text, unescaped_value};
 ghost use Rattle.tl_html_spec.specs.Written.{AreWritable, tokens_read, written};
 
+<<<<<<< HEAD
 /// What is escaped is read back, whatever follows it.
 #[tactic(auto, using(crate::proofs::Escapes::text_back, crate::proofs::Escapes::value_back))]
 pub fn escapes_are_read_back()
@@ -65,6 +67,8 @@ pub fn longest_name_is_taken()
         IsLongest (rows (table_of letter)) (letter ∷ letters) row }
 {}
 
+=======
+>>>>>>> h/standard3
 /// No tag that the tokenizer emits has an empty name or key, no comment is cut by a `-->` before
 /// its end, and each byte is done with: of the reconsumes that the definition allows none is left.
 #[tactic(auto, using(crate::proofs::Emits::page_sound, crate::proofs::Emits::byte_is_read))]
@@ -74,34 +78,11 @@ pub fn tokens_are_sound()
         (read (after (at data_state) text) b).again ≡ false }
 {}
 
-/// Balanced tokens nest: each end tag closes the innermost tag that is open, and none stays open.
-#[tactic(auto, using(crate::proofs::Nesting::balanced_nest))]
-pub fn balanced_tokens_nest()
-    ensures { (tokens : List HtmlToken) → left_open [] (balanced tokens) ≡ Some [] }
-{}
-
-/// The grammar of `tl` reads of a page's form the tokens that the tokenizer of the HTML standard
-/// reads of the page, with the end tags that HTML leaves out, names coded, and its doctype in front.
-#[tactic(auto, using(crate::proofs::Form::form_read))]
-pub fn html_form_is_read_as_the_page()
-    ensures { (page : List ℕ) →
-        tokens_read (html_form page) ≡ doctype_in (html_tokens page) ++ form_tokens page }
-{}
-
-/// `tl` reads the version HTML5 of a page's form exactly where the page has a doctype.
-#[tactic(auto, using(crate::proofs::Doctype::version_is))]
-pub fn html_form_says_the_version()
-    ensures { (page : List ℕ) →
-        (document (html_form page)).is_html5 ≡ has_doctype (html_tokens page) }
-{}
-
-/// What `tl` reads of a page's form is clean, so its print is read as the same trees.
-pub fn html_form_is_clean()
-    ensures trees { (page : List ℕ) → IsClean (plain (forest (tokens (html_form page)))) }
-    ensures table { (page : List ℕ) →
-        IsCleanTable (document (html_form page)).nodes (document (html_form page)).top }
-    ensures prints { (page : List ℕ) → let trees = plain (forest (tokens (html_form page))) in
-        ReadsAs (print trees) trees }
+/// The reference at the front of some letters is the one of the longest name.
+pub fn longest_name_is_taken()
+    ensures { (letter : ℕ) (letters : List ℕ) (row : Row) →
+        named (letter ∷ letters) ≡ Some row →
+        IsLongest (rows (table_of letter)) (letter ∷ letters) row }
 {}
 
 /// What a page is read as is what its front is read as, and then what the rest is read as from
@@ -147,4 +128,59 @@ pub fn pieces_are_read_together()
         ≡ read_before z k.bytes (first_byte y.bytes)) →
         ((z : State) → AreRead z (x ∷ xs) → AreRead z (y ∷ ys)) →
         AreRead s (front ++ k ∷ x ∷ xs) → AreRead s (front ++ k ∷ y ∷ ys) }
+{}
+
+/// Balanced tokens nest: each end tag closes the innermost tag that is open, and none stays open.
+/// So do the tokens of a page's form, whose names are coded.
+#[tactic(auto, using(crate::proofs::Nesting::balanced_nest, crate::proofs::FormNesting::form_nests))]
+pub fn balanced_tokens_nest()
+    ensures balanced { (tokens : List HtmlToken) → left_open [] (balanced tokens) ≡ Some [] }
+    ensures form { (page : List ℕ) → left_open [] (form_tokens page) ≡ Some [] }
+{}
+
+/// What is escaped is read back, whatever follows it.
+#[tactic(auto, using(crate::proofs::Escapes::text_back, crate::proofs::Escapes::value_back))]
+pub fn escapes_are_read_back()
+    ensures texts { (text rest : List ℕ) →
+        unescaped (escaped_text text ++ rest) ≡ text ++ unescaped rest }
+    ensures values { (value rest : List ℕ) →
+        unescaped (escaped_value value ++ rest) ≡ value ++ unescaped rest }
+{}
+
+/// The name that was coded is read back.
+#[tactic(auto, using(crate::proofs::Uncoding::name_back, crate::proofs::Uncoding::tag_back))]
+pub fn names_are_read_back()
+    ensures keys { (name : List ℕ) → AreBytes name → uncoded (coded name) ≡ name }
+    ensures tags { (name : List ℕ) → AreBytes name → uncoded (coded_tag name) ≡ name }
+{}
+
+/// The grammar of `tl` reads of written tokens just these tokens.
+#[tactic(auto, using(crate::proofs::Read::written_read))]
+pub fn written_tokens_are_read_back()
+    ensures { (tokens : List HtmlToken) → AreWritable tokens →
+        tokens_read (written tokens) ≡ tokens }
+{}
+
+/// The grammar of `tl` reads of a page's form the tokens that the tokenizer of the HTML standard
+/// reads of the page, with the end tags that HTML leaves out, names coded, and its doctype in front.
+#[tactic(auto, using(crate::proofs::Form::form_read))]
+pub fn html_form_is_read_as_the_page()
+    ensures { (page : List ℕ) →
+        tokens_read (html_form page) ≡ doctype_in (html_tokens page) ++ form_tokens page }
+{}
+
+/// `tl` reads the version HTML5 of a page's form exactly where the page has a doctype.
+#[tactic(auto, using(crate::proofs::Doctype::version_is))]
+pub fn html_form_says_the_version()
+    ensures { (page : List ℕ) →
+        (document (html_form page)).is_html5 ≡ has_doctype (html_tokens page) }
+{}
+
+/// What `tl` reads of a page's form is clean, so its print is read as the same trees.
+pub fn html_form_is_clean()
+    ensures trees { (page : List ℕ) → IsClean (plain (forest (tokens (html_form page)))) }
+    ensures table { (page : List ℕ) →
+        IsCleanTable (document (html_form page)).nodes (document (html_form page)).top }
+    ensures prints { (page : List ℕ) → let trees = plain (forest (tokens (html_form page))) in
+        ReadsAs (print trees) trees }
 {}
