@@ -1,7 +1,7 @@
 //! Laws of the definitions: of the tokenizer and its pieces, of balanced tokens, and of the form in
 //! which `tl` reads a page.
 
-ghost use Rattle.std.specs.Prelude.{◌≡◌, ℕ, ◌+◌, Some, true, false, List, [], ◌∷◌, ◌++◌, length, map};
+ghost use Rattle.std.specs.Prelude.{◌≡◌, ℕ, ◌+◌, Some, false, List, [], ◌∷◌, ◌++◌, length, true, map};
 ghost use Rattle.std.specs.List.{list_all};
 ghost use Rattle.tl_spec.specs.Clean.{IsClean, IsCleanTable};
 ghost use Rattle.tl_spec.specs.Document.{document};
@@ -14,7 +14,7 @@ ghost use Rattle.tl_html_spec.specs.Balanced.{balanced, left_open};
 ghost use Rattle.tl_html_spec.specs.Coded.{AreBytes, coded, coded_tag, uncoded};
 ghost use Rattle.tl_html_spec.specs.Escapes.{escaped_text, escaped_value};
 ghost use Rattle.tl_html_spec.specs.HtmlForm.{doctype_in, form_tokens, has_doctype, html_form};
-ghost use Rattle.tl_html_spec.specs.HtmlTokenizer.{Character, HtmlToken, OpenTag, State, after_attribute_value, data_state, double_quoted, html_tokens, tokens_from, with_attribute, without_mark};
+ghost use Rattle.tl_html_spec.specs.HtmlTokenizer.{HtmlToken, State, data_state, html_tokens, without_mark, Character, OpenTag, after_attribute_value, double_quoted, tokens_from, with_attribute};
 ghost use Rattle.tl_html_spec.specs.Pieces.{AreRead, Piece, bytes_of, first_byte, pieces, placed, read_before, runs, tokens_in};
 ghost use Rattle.tl_html_spec.specs.Reader.{Reader, after, at, emitted, page_tokens, read, tokens_of};
 ghost use Rattle.tl_html_spec.specs.References.{IsLongest, Row, named, rows};
@@ -22,53 +22,6 @@ ghost use Rattle.tl_html_spec.specs.Sound.{AreSound};
 ghost use Rattle.tl_html_spec.specs.Unescaped.{is_in_text, is_in_value, unescaped_text, unescaped_value};
 ghost use Rattle.tl_html_spec.specs.Written.{AreWritable, tokens_read, written};
 
-<<<<<<< HEAD
-/// What is escaped is read back, whatever follows it.
-#[tactic(auto, using(crate::proofs::Escapes::text_back, crate::proofs::Escapes::value_back))]
-pub fn escapes_are_read_back()
-    ensures texts { (text rest : List ℕ) →
-        unescaped_text (escaped_text text ++ rest) ≡ text ++ unescaped_text rest }
-    ensures values { (value rest : List ℕ) →
-        unescaped_value (escaped_value value ++ rest) ≡ value ++ unescaped_value rest }
-{}
-
-/// A text up to a `<` or the end is read as the characters that it says, and a value up to its `"`
-/// as that value.
-#[tactic(auto, using(crate::proofs::Texts::text_end_read, crate::proofs::Texts::text_read, crate::proofs::Texts::value_read))]
-pub fn references_are_resolved()
-    ensures last_text { (text : List ℕ) → list_all is_in_text text ≡ true →
-        tokens_from data_state text ≡ map Character (unescaped_text text) }
-    ensures text { (text rest : List ℕ) → list_all is_in_text text ≡ true →
-        tokens_from data_state (text ++ 60 ∷ rest)
-        ≡ map Character (unescaped_text text) ++ tokens_from data_state (60 ∷ rest) }
-    ensures value { (tag : OpenTag) (key value rest : List ℕ) → list_all is_in_value value ≡ true →
-        tokens_from (double_quoted tag key []) (value ++ 34 ∷ rest)
-        ≡ tokens_from (after_attribute_value (with_attribute tag key (unescaped_value value))) rest }
-{}
-
-/// The name that was coded is read back.
-#[tactic(auto, using(crate::proofs::Uncoding::name_back, crate::proofs::Uncoding::tag_back))]
-pub fn names_are_read_back()
-    ensures keys { (name : List ℕ) → AreBytes name → uncoded (coded name) ≡ name }
-    ensures tags { (name : List ℕ) → AreBytes name → uncoded (coded_tag name) ≡ name }
-{}
-
-/// The grammar of `tl` reads of written tokens just these tokens.
-#[tactic(auto, using(crate::proofs::Read::written_read))]
-pub fn written_tokens_are_read_back()
-    ensures { (tokens : List HtmlToken) → AreWritable tokens →
-        tokens_read (written tokens) ≡ tokens }
-{}
-
-/// The reference at the front of some letters is the one of the longest name.
-pub fn longest_name_is_taken()
-    ensures { (letter : ℕ) (letters : List ℕ) (row : Row) →
-        named (letter ∷ letters) ≡ Some row →
-        IsLongest (rows (table_of letter)) (letter ∷ letters) row }
-{}
-
-=======
->>>>>>> h/standard3
 /// No tag that the tokenizer emits has an empty name or key, no comment is cut by a `-->` before
 /// its end, and each byte is done with: of the reconsumes that the definition allows none is left.
 #[tactic(auto, using(crate::proofs::Emits::page_sound, crate::proofs::Emits::byte_is_read))]
@@ -138,13 +91,27 @@ pub fn balanced_tokens_nest()
     ensures form { (page : List ℕ) → left_open [] (form_tokens page) ≡ Some [] }
 {}
 
+/// A text up to a `<` or the end is read as the characters that it says, and a value up to its `"`
+/// as that value.
+#[tactic(auto, using(crate::proofs::Texts::text_end_read, crate::proofs::Texts::text_read, crate::proofs::Texts::value_read))]
+pub fn references_are_resolved()
+    ensures last_text { (text : List ℕ) → list_all is_in_text text ≡ true →
+        tokens_from data_state text ≡ map Character (unescaped_text text) }
+    ensures text { (text rest : List ℕ) → list_all is_in_text text ≡ true →
+        tokens_from data_state (text ++ 60 ∷ rest)
+        ≡ map Character (unescaped_text text) ++ tokens_from data_state (60 ∷ rest) }
+    ensures value { (tag : OpenTag) (key value rest : List ℕ) → list_all is_in_value value ≡ true →
+        tokens_from (double_quoted tag key []) (value ++ 34 ∷ rest)
+        ≡ tokens_from (after_attribute_value (with_attribute tag key (unescaped_value value))) rest }
+{}
+
 /// What is escaped is read back, whatever follows it.
 #[tactic(auto, using(crate::proofs::Escapes::text_back, crate::proofs::Escapes::value_back))]
 pub fn escapes_are_read_back()
     ensures texts { (text rest : List ℕ) →
-        unescaped (escaped_text text ++ rest) ≡ text ++ unescaped rest }
+        unescaped_text (escaped_text text ++ rest) ≡ text ++ unescaped_text rest }
     ensures values { (value rest : List ℕ) →
-        unescaped (escaped_value value ++ rest) ≡ value ++ unescaped rest }
+        unescaped_value (escaped_value value ++ rest) ≡ value ++ unescaped_value rest }
 {}
 
 /// The name that was coded is read back.
