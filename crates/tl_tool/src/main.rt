@@ -22,6 +22,7 @@ use asked::{Pages, Slip, Wish, read};
 use clap::Error;
 use lists::{Texts, WordLists, lines_of};
 use pages::{STANDARD_OUTPUT, over_pages, say, write};
+use std::alloc::AllocError;
 use std::env;
 use std::io::ErrorKind;
 use std::process::ExitCode;
@@ -36,31 +37,38 @@ fn main(rt: HostRuntime) -> ExitCode {
     }
 }
 
-// The words of the command line. What fails is said.
+// The words of the command line. One that is no text is not understood.
 fn arguments(rt: &HostRuntime) -> Result<Vec<String>, Failure> {
     let given = match env::args(rt) {
         Ok(given) => given,
-        Err(error) if error.kind() == ErrorKind::OutOfMemory => {
-            return Err(said(rt, "words", Failure::OutOfMemory));
-        }
-        Err(_) => {
-            let cause = Cause::NoText;
-            let _ = eprintln!(rt; "tl: words: {cause}");
-            return Err(Failure::NotUnderstood);
-        }
+        Err(error) if error.kind() == ErrorKind::OutOfMemory => return Err(Failure::OutOfMemory),
+        Err(_) => return Err(Failure::NotUnderstood),
     };
     let mut words = Vec::new(rt.alloc());
     for word in given {
-        if words.push(word).is_err() {
-            return Err(said(rt, "words", Failure::OutOfMemory));
-        }
+        words.push(word).map_err(AllocError::from)?;
     }
     Ok(words)
 }
 
+// Why there are no words, once it is said.
+fn no_words(rt: &HostRuntime, failure: Failure) -> Failure
+    ensures { result ≡ failure }
+{
+    if failure != Failure::NotUnderstood {
+        return said(rt, "words", failure);
+    }
+    let cause = Cause::NoText;
+    let _ = eprintln!(rt; "tl: words: {cause}");
+    failure
+}
+
 // Does what the words ask for, and answers the status. What fails was said then.
 fn run(rt: &HostRuntime) -> Result<u8, Failure> {
-    let words = arguments(rt)?;
+    let words = match arguments(rt) {
+        Ok(words) => words,
+        Err(failure) => return Err(no_words(rt, failure)),
+    };
     match read(rt.alloc(), &words) {
         Ok(asked) => match &asked.wish {
             Wish::Task(task) => over_pages(rt, task, &asked.pages),
