@@ -12,8 +12,8 @@ use tl::VDom;
 use tl_extract::{Field, select};
 use tl_page::Failure;
 
-/// The values at a key of the nodes where a selector holds, in the order of the text, each on a line.
-/// A text that is no selector is refused.
+/// The values at a key of the nodes where a selector holds, in the order of the text, one a line. A
+/// text that is no selector is refused.
 #[tactic(auto, using(tl_page::proofs::Outcomes::followed))]
 pub fn values(
     alloc: Global,
