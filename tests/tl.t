@@ -64,10 +64,40 @@ Each command, and each option of `select`.
   $ printf '<p id=u-i><a href="ftp:x" id=i><a href="/y">' | tl sanitise --keys=id,href --link-keys=href --links=/ --prefix=u-
   <p id="u-i"><a><a href="/y"></a></a></p> (no-eol)
   $ tl print
+  $ tl select --json -0 b <page
+  [{"attributes":{},"name":"b","node":2,"text":"y"}]\x00 (esc) (no-eol)
+  $ printf '<p =1>' | tl select -a '' p
+  1
+  $ printf '<p>a<b> b' | tl text --no-name
+  a b (no-eol)
+  $ printf '<a>y</a>' | tl edit 'set 0 b 1' 'set 0 b 2'
+  <a b="2">y</a> (no-eol)
+  $ printf '<select><option>A</option><option>B' | tl text -w
+  A
+  B
+  $ printf "$(printf '<!doctype html\360\237\230\2000')" | tl text -w
+  ���0
+  $ printf "$(printf '<!doctype html\360\237\230\2000')" | tl outline
+  0 text ���0
+
+Where there is nothing, and no memory is wanted for it.
+
+  $ printf '<p>' | tl links
+  $ tl links
+  $ tl outline
+  $ tl text
+  $ printf '<!-- x -->' | tl text -w
+  $ printf '<a hidden>' | tl select -a hidden a
+  [1]
+  $ printf '<a hidden>' | tl select -1a hidden a
+  [1]
 
 Nothing was found, or something is refused or not understood.
 
   $ tl select i <page
+  [1]
+  $ tl select '' <page
+  tl: -: refused (err)
   [1]
   $ tl select -a href p <page
   [1]
@@ -121,12 +151,49 @@ Nothing was found, or something is refused or not understood.
   error: the argument '--first' cannot be used with '--count' (err)
   ...
   [2]
+  $ tl select -1 --json p
+  error: the argument '--first' cannot be used with '--json' (err)
+  ...
+  [2]
+  $ tl select -t --json p
+  error: the argument '--text' cannot be used with '--json' (err)
+  ...
+  [2]
+  $ tl links -w
+  error: unexpected argument '-w' found (err)
+  ...
+  [2]
   $ tl edit
   error: the following required arguments were not provided: (err)
   ...
   [2]
   $ tl edit 'push 0'
   tl: no step: push 0 (err)
+  [2]
+  $ tl edit 'set 0 b 1' 'push 0'
+  tl: no step: push 0 (err)
+  [2]
+  $ tl edit ''
+  tl: no step: an empty word (err)
+  [2]
+  $ tl edit 'set 0 b 1' ''
+  tl: no step: an empty word (err)
+  [2]
+  $ tl edit 'set 0 b 1
+  > set 0 b 2'
+  tl: no step, but several lines: set 0 b 1 (err)
+  set 0 b 2 (err)
+  [2]
+  $ tl edit 'set 0 b 1
+  > '
+  tl: no step, but several lines: set 0 b 1 (err)
+  (empty) (err)
+  [2]
+  $ tl print "$(printf '\377')"
+  tl: words: no UTF-8 (err)
+  [2]
+  $ tl print one "$(printf 'caf\351')"
+  tl: words: no UTF-8 (err)
   [2]
 
 Pages in files.
@@ -154,6 +221,40 @@ Pages in files.
   $ tl select -c p one two
   one:1
   two:1
+  $ tl select -c p one two one two
+  one:1
+  two:1
+  one:1
+  two:1
+  $ tl select --no-name -c p one one one one one one one one one one one one one one one one one
+  1
+  1
+  1
+  1
+  1
+  1
+  1
+  1
+  1
+  1
+  1
+  1
+  1
+  1
+  1
+  1
+  1
+  $ tl select i one two
+  [1]
+  $ tl select --json i one two
+  one:[]
+  two:[]
+  [1]
+  $ tl text -w one
+  one
+  $ tl select --no-name -t0 p one two
+  one\x00two (esc)
+  \x00 (esc) (no-eol)
   $ tl select --json b one two
   one:[]
   two:[{"attributes":{},"name":"b","node":2,"text":""}]
@@ -176,6 +277,9 @@ Pages in files.
   [4]
   $ tl print none
   tl: none: read or write failed (err)
+  [4]
+  $ tl print ''
+  tl: : read or write failed (err)
   [4]
 
 Pages made safe.
@@ -324,7 +428,7 @@ Words that no policy may list: the first one is named, and no page is made safe.
   ...
   [2]
   $ tl sanitise "$(printf '\377')"
-  tl: words: not understood (err)
+  tl: words: no UTF-8 (err)
   [2]
 
 Pages that can't be had are passed over, and the greatest status counts.
@@ -397,23 +501,39 @@ Help names each command and each option, and words the lists.
   --tags
   $ grep -o '^WORDS have commas between them' help
   WORDS have commas between them
+  $ tl --help | grep -o '^It ends with 0: all is done'
+  It ends with 0: all is done
+  $ tl edit --help | grep -o '^A step is one word of the shell'
+  A step is one word of the shell
+  $ tl select --help | grep -o '^SELECTOR is a name'
+  SELECTOR is a name
   $ test "$(tl --version)" = "tl $VERSION"
 
-An output that is full.
+Where nothing can be written, that is said once, and no more is read.
 
-  $ printf '<p>' | tl print >/dev/full
-  tl: -: read or write failed (err)
-  [4]
   $ tl --help >/dev/full
+  tl: standard output: read or write failed (err)
+  [4]
+  $ tl --version >/dev/full
+  tl: standard output: read or write failed (err)
   [4]
   $ tl sanitise --policy >/dev/full
-  tl: policy: read or write failed (err)
+  tl: standard output: read or write failed (err)
   [4]
-  $ tl sanitise a.html >/dev/full
-  tl: a.html: read or write failed (err)
+  $ printf '<p>' | tl print >/dev/full
+  tl: standard output: read or write failed (err)
+  [4]
+  $ printf '<p>' | { tl select p one - two >/dev/full; cat; }
+  <p> (no-eol)
+  tl: standard output: read or write failed (err)
+  $ tl sanitise a.html none >/dev/full
+  tl: standard output: read or write failed (err)
+  [4]
+  $ tl print one two >&-
+  tl: standard output: read or write failed (err)
   [4]
 
-A page longer than the memory, and one that is long.
+A page longer than the memory, and pages that are long or deep.
 
   $ head -c 64000000 /dev/zero | tr '\0' a >long
   $ (ulimit -v 40000 && exec tl print) <long
@@ -424,3 +544,16 @@ A page longer than the memory, and one that is long.
   [3]
   $ head -c 2000000 long >large
   $ tl sanitise large | cmp - large
+  $ (printf '<p>' && head -c 5000000 long && printf '</p>') >larger
+  $ (head -c 5000000 long && echo) >text
+  $ tl select -t p larger | cmp - text
+  $ tl text -w larger | cmp - text
+  $ (head -c 4000 /dev/zero | sed 's/\x00/<b>/g' && printf x) >deep
+  $ tl text deep
+  x (no-eol)
+  $ tl text -w deep
+  x
+  $ tl select -t1 b deep
+  x
+  $ tl select -c b deep
+  4000
