@@ -3,7 +3,7 @@
 The rules are those of 13.2.6.4.7 ('in body') and of tables, as one mode over the names of the open tags; what they leave out
 is said in crates/tl_html_spec. A character is a token of its own here, as ("text", character).
 """
-from html_tokenizer import RAWTEXT, RCDATA, WHITE_SPACE, html_tokens
+from .html_tokenizer import RAWTEXT, RCDATA, WHITE_SPACE, html_tokens
 
 VOID = set("area base br col embed hr img input keygen link meta param source track wbr".split())
 CLOSED_AT_ONCE = {"frame", "basefont", "bgsound"}

@@ -84,8 +84,8 @@ def faults():
         if not reason:
             yield f"{BY_HAND}: {key[0]}: $ {key[1]}: it has no reason"
     example = re.search(r"(?ms)^```rust\n(.*?)^```$", text_of(f"{ROOT}/README.md"))
-    if not example or example[1] != text_of(f"{ROOT}/crates/uses/src/links.rt"):
-        yield "README.md: its first block of Rust isn't crates/uses/src/links.rt"
+    if not example or example[1] != text_of(f"{ROOT}/crates/uses/src/values.rt"):
+        yield "README.md: its first block of Rust isn't crates/uses/src/values.rt"
 
 
 def check():

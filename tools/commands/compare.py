@@ -2,6 +2,7 @@
 
     ./x compare check ..        what `tlq` writes, and its status, with a plain reader written from docs/GRAMMAR.md alone
     ./x compare browser ..      what Chromium runs of pages as they stand, and as `tl sanitise` prints them
+    ./x compare html ..         a tokenizer written from the HTML standard alone with that of html5lib; tables of names with Python's
     ./x compare tools ..        the time that `tl` takes with that of pup, xmllint and hxselect
 
 ./x compare NAME --help says more of each. The Rust crate is compared by ./x bench --against (compare/src).
@@ -10,7 +11,7 @@ import importlib
 
 from ..main import parser_of
 
-NAMES = ("check", "browser", "tools")
+NAMES = ("check", "browser", "html", "tools")
 
 
 def main(parser, words):

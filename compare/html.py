@@ -1,8 +1,7 @@
-#!/usr/bin/python3
 """Compares html_tokenizer.py, a method for each state of the HTML standard's tokenizer, with the tokenizer of html5lib.
 
-    compare/html [--runs N] [--seed N] [--page FILE..]
-    compare/html --row TEXT
+    ./x compare html [--runs N] [--seed N] [--page FILE..]
+    ./x compare html --row TEXT
 
 The inputs come of the seed: pieces of markup that are hard to read, side by side, and with --page cuts of these files with such
 pieces put in. What differs is said. Where it is a known fault of html5lib (`FAULTS`), that is said too and doesn't count.
@@ -14,7 +13,6 @@ With --row it writes what it reads of a text, and the text's form, in the words 
 Status: 0 where nothing differs, 1 where something does, 2 for words that aren't understood, 3 where html5lib isn't installed
 (Debian: python3-html5lib).
 """
-import argparse
 import collections
 import os
 import random
@@ -22,8 +20,8 @@ import re
 import sys
 import warnings
 
-from html_form import balanced, html_form
-from html_tokenizer import NAMES, html_tokens
+from .html_form import balanced, html_form
+from .html_tokenizer import NAMES, html_tokens
 
 ROOT = os.path.dirname(os.path.dirname(os.path.realpath(__file__)))
 PIECES = (
@@ -153,13 +151,12 @@ def compared(words, tokenizer, kinds):
     return counts[None]
 
 
-def main():
-    wants = argparse.ArgumentParser()
-    wants.add_argument("--runs", type=int, default=20000)
-    wants.add_argument("--seed", type=int, default=1)
-    wants.add_argument("--page", nargs="+", default=[])
-    wants.add_argument("--row")
-    words = wants.parse_args()
+def main(parser, words):
+    parser.add_argument("--runs", type=int, default=20000, metavar="N")
+    parser.add_argument("--seed", type=int, default=1, metavar="N")
+    parser.add_argument("--page", nargs="+", default=[], metavar="FILE")
+    parser.add_argument("--row", metavar="TEXT")
+    words = parser.parse_args(words)
     if words.row is not None:
         print(f"tokens:   {listed(html_tokens(words.row))}")
         print(f"balanced: {listed(balanced(html_tokens(words.row)))}")
@@ -169,13 +166,9 @@ def main():
         from html5lib._tokenizer import HTMLTokenizer
         from html5lib.constants import tokenTypes
     except ImportError:
-        print("compare/html: html5lib isn't installed", file=sys.stderr)
+        print("compare html: html5lib isn't installed", file=sys.stderr)
         return 3
     warnings.simplefilter("ignore")
     wrong = wrong_names()
     print("\n".join(wrong) if wrong else f"{len(NAMES)} names of references, all as they are in the standard")
     return 1 if compared(words, HTMLTokenizer, tokenTypes) + len(wrong) else 0
-
-
-if __name__ == "__main__":
-    sys.exit(main())
