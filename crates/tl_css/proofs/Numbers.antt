@@ -1,15 +1,11 @@
 -- Numbers that digits say.
-use Rattle.std.proofs.Common.{◌≡◌, ℕ, suc, ◌+◌, ◌-◌, ◌*◌, ◌^◌, ◌<◌, ◌≤◌, nat_lt, true, false, List, [], ◌∷◌, Some, None, ap, sym, ◌∙◌, arith, if◌then◌else◌}
+use Rattle.std.proofs.Common.{◌≡◌, ℕ, suc, ◌+◌, ◌-◌, ◌*◌, ◌^◌, ◌<◌, ◌≤◌, nat_lt, true, List, [], ◌∷◌, Some, None, ap, sym, ◌∙◌, arith, if◌then◌else◌}
 use Rattle.std.proofs.Math.Nat.{pow-suc, pow-le-pow_right}
-use Rattle.tl_spec.proofs.Grammar.{if_yes, if_no}
+use Rattle.tl_spec.proofs.Grammar.{if_yes}
 use Rattle.tl_css.specs.Formula.{largest}
-use Rattle.tl_css.specs.Bytes.{hex_number, hex_value, decimal_number}
+use Rattle.tl_css.specs.Bytes.{decimal_number}
 
 -- a number is no less than what it begins with
-pub hex_ge : (n : ℕ) (s : List ℕ) → n ≤ hex_number n s
-hex_ge n [] = omega arith
-hex_ge n (b ∷ s) = let h = hex_ge (n * 16 + hex_value b) s in omega arith
-
 pub decimal_ge : (n : ℕ) (s : List ℕ) → n ≤ decimal_number n s
 decimal_ge n [] = omega arith
 decimal_ge n (b ∷ s) = let h = decimal_ge (n * 10 + (b - 48)) s in omega arith
@@ -28,9 +24,3 @@ decimal_large n s t e more =
     let ge = decimal_ge n s in
     let is : nat_lt largest (decimal_number 0 t) ≡ true = grind arith in
     sym (if_yes _ _ _ is)
-
-pub decimal_small : (n : ℕ) (t : List ℕ) → n ≡ decimal_number 0 t → n ≤ largest
-    → Some n ≡ (if nat_lt largest (decimal_number 0 t) then None else Some (decimal_number 0 t))
-decimal_small n t e less =
-    let is : nat_lt largest (decimal_number 0 t) ≡ false = grind arith in
-    ap Some e ∙ sym (if_no _ _ _ is)

@@ -10,7 +10,7 @@ use Rattle.tl_spec.proofs.Many.{Shrinks, many-none, many-some}
 use Rattle.tl_css.specs.Read.{Read}
 use Rattle.tl_css.specs.TextView.{without}
 use Rattle.std.specs.Char.{to_ascii_lowercase}
-use Rattle.tl_spec.proofs.Shrinks.{if_both, after-le, IsLe, IsLe-more, many-le}
+use Rattle.tl_spec.proofs.Shrinks.{if_both, after-le, IsLe, IsLe-more}
 use Rattle.tl_css.specs.Bytes.{is_newline, is_white, backslash, is_hex, hex_number, char_of}
 use Rattle.tl_css.specs.Lexical.{past_white, begins, past_escape, escape_by, escape_at, is_plain, escaped_at, part_at, joined, run_at, after_comment, gap_part_at, gap_result, gap_after, gap_at, is_word}
 
@@ -93,11 +93,6 @@ run_none quote s e = ap (λ (parts : List (List ℕ) × List ℕ). (joined parts
 
 pub part_lt : (quote : Option ℕ) (s : List ℕ) (found : List ℕ × List ℕ) → Some found ≡ part_at quote s → length found.1 < length s
 part_lt quote s found e = part_shrinks quote s found (sym e)
-
--- a run is no longer than its text
-pub run_le : (quote : Option ℕ) (s : List ℕ) → length (run_at quote s).1 ≤ length s
-unfolding run_at
-run_le quote s = many-le (part_at quote) (part_shrinks quote) (length s) s
 
 -- White space
 

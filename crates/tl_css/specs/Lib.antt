@@ -10,6 +10,7 @@ pub mod Formula
 pub mod PseudoClass
 pub mod Item
 pub mod Reading
+pub mod FirstWrong
 pub mod Meaning
 pub mod TextView
 pub mod SimpleView

@@ -1,5 +1,7 @@
 //! The reader of a selector text.
-ghost use Rattle.std.specs.Prelude.{◌≡◌, MatchResult, Ok, Err, IfErr, IfOk};
+ghost use Rattle.std.specs.Prelude.{◌≡◌, ℕ, MatchResult, Ok, Err, IfErr, IfOk};
+ghost use Rattle.tl_css.specs.FirstWrong.{IsFirstWrong};
+ghost use Rattle.tl_css.specs.Item.{begin_at};
 ghost use Rattle.tl_css.specs.ItemView.{item};
 ghost use Rattle.tl_css.specs.Reading.{css_at, item_at, read, read_within, start};
 ghost use Rattle.tl_css.specs.StateView.{IsCause, IsFailure, open_list, state};
@@ -20,6 +22,7 @@ mod state;
 use crate::error::{Cause, Failure, SelectorError, Wrong};
 use crate::selector::Selector;
 use crate::text::item::{Item, begin, next};
+use crate::text::role::Role;
 use crate::text::state::{Open, State, Taken};
 use std::alloc::Global;
 
@@ -36,9 +39,13 @@ fn next_item<'a>(list: &Open, s: &'a [u8]) -> Result<(Item<'a>, &'a [u8]), Wrong
 
 // The selector of a text, or what is wrong with it.
 fn read(alloc: Global, text: &[u8]) -> Result<Selector, Failure>
-    ensures { MatchResult result
+    ensures read { MatchResult result
         (λ e. read text.now ≡ Ok e)
         (λ failure. IsFailure failure (read text.now)) }
+
+    // Memory is taken only once the first item is read.
+    ensures first { (wrong : Wrong) → begin_at Role.Top text.now ≡ Err wrong
+        → result ≡ Err (Failure.Text wrong) }
 {
     let mut state = State::new(alloc);
     let mut left = text;
@@ -68,6 +75,10 @@ fn read(alloc: Global, text: &[u8]) -> Result<Selector, Failure>
 pub fn parse(alloc: Global, text: &str) -> Result<Selector, SelectorError>
     ensures found { IfOk result (λ e. css_at text.now ≡ Ok e) }
     ensures cause { IfErr result (IsCause (css_at text.now)) }
+
+    // Memory is taken only once the first simple selector is read.
+    ensures first { (at : ℕ) (cause : Cause) → IsFirstWrong text.now at cause
+        → result ≡ Err (SelectorError.Text at cause) }
 {
     let text = text.as_bytes();
     match read(alloc, text) {
