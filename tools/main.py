@@ -58,3 +58,7 @@ def main(words):
         return 127 if name in ("try", "tlq") else 1
     except KeyboardInterrupt:
         return 130
+    except BrokenPipeError:
+        # Who reads wants no more of it.
+        os.dup2(os.open(os.devnull, os.O_WRONLY), sys.stdout.fileno())
+        return 141

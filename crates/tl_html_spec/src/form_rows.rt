@@ -1,4 +1,4 @@
-//! Worked rows: tokens with their end tags, and pages written down. `compare/html --row` writes the
+//! Worked rows: tokens with their end tags, and pages written down. `./x compare html --row` writes the
 //! words of a row.
 
 ghost use Rattle.std.specs.Prelude.{◌≡◌, ◌++◌, ◌∷◌, [], codes};

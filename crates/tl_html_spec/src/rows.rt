@@ -1,4 +1,4 @@
-//! Worked rows: pages, and what the standard's tokenizer reads of them. `compare/html --row` writes
+//! Worked rows: pages, and what the standard's tokenizer reads of them. `./x compare html --row` writes
 //! the words of a row.
 
 ghost use Rattle.std.specs.Prelude.{◌≡◌, ◌++◌, ◌∷◌, [], codes, false};
