@@ -1,0 +1,6 @@
+pub mod HtmlForest
+pub mod Groups
+pub mod HtmlTreeBuilder
+pub mod Stays
+pub mod Places
+pub mod Rows
