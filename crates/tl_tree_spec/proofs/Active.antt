@@ -7,7 +7,7 @@ use Rattle.std.proofs.lemmas.Bool.{cases_Bool, or_from, or_left, or_parts, or_ri
 use Rattle.std.proofs.lemmas.Bool.Decides.{nat_tests}
 use Rattle.tl_tree_spec.specs.HtmlForest.{HtmlTag}
 use Rattle.tl_tree_spec.specs.Groups.{Group, a_format, a_nobr, an_anchor, group}
-use Rattle.tl_tree_spec.specs.HtmlTreeBuilder.{Builder, Element, Entry, alike_count, elements, formatting, has_number, is_alike, is_listed, is_open, listed, marker, rebuilt, reconstructed, reopened, with_room, within, without_earliest}
+use Rattle.tl_tree_spec.specs.Builder.{Builder, Element, Entry, alike_count, elements, formatting, has_number, is_alike, is_listed, is_open, listed, marker, rebuilt, reconstructed, reopened, with_room, within, without_earliest}
 use Rattle.tl_tree_spec.specs.Stays.{is_mark}
 
 -- the groups whose elements are listed as active

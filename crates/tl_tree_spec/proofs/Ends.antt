@@ -5,11 +5,12 @@ use Rattle.std.specs.Str.{bytes_eq}
 use Rattle.std.proofs.lemmas.Bool.{and_left, and_right, or_left}
 use Rattle.std.proofs.lemmas.Slice.Eq.{bytes_eq-Decides}
 use Rattle.tl_html_spec.specs.Balanced.{is_button_scope, is_list_scope, is_scope, is_special}
-use Rattle.tl_tree_spec.specs.Groups.{Group, a_block, a_break, a_button, a_caption, a_cell, a_column, a_column_group, a_description, a_detail, a_format, a_heading, a_mark, a_nobr, a_paragraph, a_preformatted, a_row, a_ruby_base, a_ruby_text, a_rule, a_table, a_table_body, a_void, an_anchor, an_image, an_item, an_option, any_other, elsewhere, group, is_body_context, is_caption, is_caption_group, is_column_group, is_column_group_group, is_heading, is_heading_group, is_implied, is_implied_group, is_item, is_item_group, is_paragraph, is_paragraph_group, is_row, is_row_context, is_row_group, is_table, is_table_body, is_table_body_group, is_table_group, is_table_scope, misplaced}
-use Rattle.tl_tree_spec.specs.HtmlTreeBuilder.{Builder, Element, Entry, Frame, Mode, Nodes, Stack, adopted, adoption, alone, body_end, caption_end, cell_end, cleared, closed_into, closed_through, current_popped, end_tag, formatting, has_furthest_block, has_in_table_scope, has_name, has_number, in_body, in_caption, in_cell, in_column_group, in_row, in_table, in_table_body, is_flow, is_listed, listed, mode_by, mode_of, names, no_name, popped, popped_through, table_closed, to_mode, unlisted, with_stack, within, without_last_marker}
+use Rattle.tl_tree_spec.specs.Groups.{Group, a_block, a_break, a_button, a_caption, a_cell, a_column, a_column_group, a_description, a_detail, a_format, a_heading, a_mark, a_nobr, a_paragraph, a_preformatted, a_row, a_ruby_base, a_ruby_text, a_rule, a_table, a_table_body, a_void, an_anchor, an_image, an_item, an_option, any_other, elsewhere, group, is_body_context, is_caption, is_caption_group, is_column_group, is_column_group_group, is_heading, is_heading_group, is_implied, is_implied_group, is_item, is_item_group, is_paragraph, is_paragraph_group, is_part, is_row, is_row_context, is_row_group, is_table, is_table_body, is_table_body_group, is_table_group, is_table_scope, misplaced}
+use Rattle.tl_tree_spec.specs.Builder.{Builder, Element, Entry, Frame, Mode, Nodes, Stack, alone, closed_into, closed_through, formatting, has_name, has_number, in_body, in_caption, in_cell, in_column_group, in_row, in_table, in_table_body, is_flow, is_listed, listed, mode_by, mode_of, names, no_name, popped, popped_through, unlisted, with_stack, within, without_last_marker}
+use Rattle.tl_tree_spec.specs.HtmlTreeBuilder.{adopted, adoption, body_end, caption_end, cell_end, cleared, current_popped, end_tag, has_furthest_block, has_in_table_scope, table_closed, to_mode}
 use Rattle.tl_tree_spec.specs.Stays.{is_alone, is_mark, stands, stands_in_flow}
 use Rattle.tl_tree_spec.proofs.Active.{Ordered, Sound, is_active, kept, marked, not_listed, over, same_number, skipped}
-use Rattle.tl_tree_spec.proofs.Starts.{cleared-none, implied_stays, is_part, mode-row, mode-table, mode-table_body}
+use Rattle.tl_tree_spec.proofs.Starts.{cleared-none, implied_stays, mode-row, mode-table, mode-table_body}
 
 pub same_name : (n : List ℕ) → bytes_eq n n ≡ true
 same_name n = (bytes_eq-Decides n n).1 refl

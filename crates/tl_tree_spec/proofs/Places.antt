@@ -3,7 +3,8 @@ use Rattle.std.proofs.Common.{◌≡◌, Bool, true, false, List, [], ◌∷◌,
 use Rattle.tl_spec.specs.Forest.{none}
 use Rattle.tl_tree_spec.specs.HtmlForest.{HtmlForest, HtmlTag, html_tokens_of, normal_form}
 use Rattle.tl_tree_spec.specs.Groups.{group}
-use Rattle.tl_tree_spec.specs.HtmlTreeBuilder.{Builder, Mode, Nodes, before, elements, mode_by, mode_of, names, new_element, no_nodes, run}
+use Rattle.tl_tree_spec.specs.Builder.{Builder, Mode, Nodes, elements, mode_by, mode_of, names, new_element, no_nodes}
+use Rattle.tl_tree_spec.specs.HtmlTreeBuilder.{before, run}
 use Rattle.tl_tree_spec.specs.Stays.{stay}
 use Rattle.tl_tree_spec.specs.Places.{Puts, placed}
 use Rattle.tl_tree_spec.proofs.Active.{Ordered, Sound, over}

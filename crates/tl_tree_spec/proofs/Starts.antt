@@ -4,8 +4,9 @@ use Rattle.std.specs.Str.{bytes_eq}
 use Rattle.std.proofs.lemmas.Bool.{and_left, and_parts, cases_Bool, not-true, or_from, or_left, or_parts}
 use Rattle.tl_html_spec.specs.Balanced.{is_item_bound, is_one_of, is_scope}
 use Rattle.tl_tree_spec.specs.HtmlForest.{HtmlTag}
-use Rattle.tl_tree_spec.specs.Groups.{Group, a_block, a_break, a_button, a_caption, a_cell, a_column, a_column_group, a_description, a_detail, a_format, a_heading, a_mark, a_nobr, a_paragraph, a_preformatted, a_row, a_ruby_base, a_ruby_text, a_rule, a_table, a_table_body, a_void, an_anchor, an_image, an_item, an_option, any_other, elsewhere, is_body_context, is_column_group_group, is_description, is_heading, is_implied, is_item, is_paragraph, is_row_context, is_row_group, is_table_body_group, is_table_context, is_table_group, misplaced}
-use Rattle.tl_tree_spec.specs.HtmlTreeBuilder.{Builder, Element, Frame, Mode, adoption, alone, anchor_ended, body_start, button_closed, caption_start, cell_start, cleared, closed_into, closed_through, description_closed, elements, formatted, found, heading_closed, implied_closed, in_body, in_caption, in_cell, in_column_group, in_row, in_table, in_table_body, inserted, is_flow, is_rtc, item_closed, mode_by, mode_of, names, new_element, no_name, p_closed, popped, popped_back, reconstructed, ruby_closed, start_tag, to_mode, with_marker, with_stack, within}
+use Rattle.tl_tree_spec.specs.Groups.{Group, a_block, a_break, a_button, a_caption, a_cell, a_column, a_column_group, a_description, a_detail, a_format, a_heading, a_mark, a_nobr, a_paragraph, a_preformatted, a_row, a_ruby_base, a_ruby_text, a_rule, a_table, a_table_body, a_void, an_anchor, an_image, an_item, an_option, any_other, elsewhere, is_body_context, is_column_group_group, is_description, is_heading, is_implied, is_item, is_paragraph, is_part, is_row_context, is_row_group, is_table_body_group, is_table_context, is_table_group, misplaced}
+use Rattle.tl_tree_spec.specs.Builder.{Builder, Element, Frame, Mode, alone, closed_into, closed_through, elements, formatted, implied_closed, in_body, in_caption, in_cell, in_column_group, in_row, in_table, in_table_body, inserted, is_flow, mode_by, mode_of, names, new_element, no_name, popped, reconstructed, with_stack, within}
+use Rattle.tl_tree_spec.specs.HtmlTreeBuilder.{adoption, anchor_ended, body_start, button_closed, caption_part_start, cell_closed, cleared, description_closed, found, heading_closed, is_rtc, item_closed, p_closed, popped_back, row_start, ruby_closed, start_tag, to_mode, with_marker}
 use Rattle.tl_tree_spec.specs.Stays.{directly_in, in_p, in_ruby, is_alone, is_preformatted, stands, stands_in_flow, surely_ends}
 use Rattle.tl_tree_spec.specs.Places.{entries_after}
 use Rattle.tl_tree_spec.proofs.Active.{Sound, none_listed, reconstructed_none}
@@ -146,37 +147,10 @@ body-alone b own _ s h a = absurd (true≢false (sym a))
 
 -- by the mode
 
-abbrev pub is_part : Group → Bool
-is_part a_caption = true
-is_part a_column_group = true
-is_part a_column = true
-is_part a_table_body = true
-is_part a_row = true
-is_part a_cell = true
-is_part _ = false
-
-cell-flow : (b : Builder) (own : HtmlTag) (g : Group) → is_part g ≡ false → cell_start b g own ≡ body_start b g own
-cell-flow b own a_caption h = absurd (true≢false h)
-cell-flow b own a_column_group h = absurd (true≢false h)
-cell-flow b own a_column h = absurd (true≢false h)
-cell-flow b own a_table_body h = absurd (true≢false h)
-cell-flow b own a_row h = absurd (true≢false h)
-cell-flow b own a_cell h = absurd (true≢false h)
-cell-flow b own _ h = refl
-
-caption-flow : (b : Builder) (own : HtmlTag) (g : Group) → is_part g ≡ false → caption_start b g own ≡ body_start b g own
-caption-flow b own a_caption h = absurd (true≢false h)
-caption-flow b own a_column_group h = absurd (true≢false h)
-caption-flow b own a_column h = absurd (true≢false h)
-caption-flow b own a_table_body h = absurd (true≢false h)
-caption-flow b own a_row h = absurd (true≢false h)
-caption-flow b own a_cell h = absurd (true≢false h)
-caption-flow b own _ h = refl
-
 start-flow : (m : Mode) (b : Builder) (own : HtmlTag) (g : Group) → is_flow m ≡ true → is_part g ≡ false → start_tag m b g own ≡ body_start b g own
 start-flow in_body b own g f h = refl
-start-flow in_cell b own g f h = cell-flow b own g h
-start-flow in_caption b own g f h = caption-flow b own g h
+start-flow in_cell b own g f h = ap (λ (x : Bool). if x then row_start (cell_closed b) g own else body_start b g own) h
+start-flow in_caption b own g f h = ap (λ (x : Bool). if x then caption_part_start b g own else body_start b g own) h
 start-flow in_table b own g f h = absurd (true≢false (sym f))
 start-flow in_column_group b own g f h = absurd (true≢false (sym f))
 start-flow in_table_body b own g f h = absurd (true≢false (sym f))

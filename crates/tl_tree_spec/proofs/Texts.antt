@@ -6,7 +6,8 @@ use Rattle.std.proofs.lemmas.Bool.{and_parts, not-true}
 use Rattle.tl_spec.specs.Forest.{comment, none, tag, text}
 use Rattle.tl_html_spec.specs.HtmlTokenizer.{Character, EndTag, HtmlToken}
 use Rattle.tl_tree_spec.specs.HtmlForest.{HtmlForest, begins_with_text, html_tokens_of, is_normal, join_text, normal_form}
-use Rattle.tl_tree_spec.specs.HtmlTreeBuilder.{Builder, Entry, Mode, Nodes, Stack, a_character, and_character, and_element, and_text, before, elements, is_flow, no_nodes, reconstructed, run, step, with_character}
+use Rattle.tl_tree_spec.specs.Builder.{Builder, Entry, Mode, Nodes, Stack, and_character, and_element, and_text, elements, is_flow, no_nodes, reconstructed, with_character}
+use Rattle.tl_tree_spec.specs.HtmlTreeBuilder.{a_character, before, run, step}
 use Rattle.tl_tree_spec.specs.Stays.{begins_line, may_be_read}
 use Rattle.tl_tree_spec.proofs.Active.{Sound, reconstructed_none}
 

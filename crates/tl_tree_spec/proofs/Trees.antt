@@ -7,7 +7,8 @@ use Rattle.tl_spec.specs.Forest.{comment, none, tag, text}
 use Rattle.tl_html_spec.specs.HtmlTokenizer.{Character, EndTag, HtmlToken}
 use Rattle.tl_tree_spec.specs.HtmlForest.{HtmlForest, HtmlTag, html_tokens_of, is_normal, normal_form}
 use Rattle.tl_tree_spec.specs.Groups.{Group, a_caption, a_cell, a_column, a_column_group, a_format, a_mark, a_nobr, a_row, a_table, a_table_body, an_anchor, group}
-use Rattle.tl_tree_spec.specs.HtmlTreeBuilder.{Builder, Element, Entry, Frame, Mode, Nodes, Stack, adoption, and_element, body_end, elements, end_tag, fragment, html_trees, is_flow, mode_of, names, no_nodes, run, start_tag, trees_of}
+use Rattle.tl_tree_spec.specs.Builder.{Builder, Element, Entry, Frame, Mode, Nodes, Stack, and_element, elements, is_flow, mode_of, names, no_nodes}
+use Rattle.tl_tree_spec.specs.HtmlTreeBuilder.{adoption, body_end, end_tag, fragment, html_trees, run, start_tag, trees_of}
 use Rattle.tl_tree_spec.specs.Stays.{begins_line, is_alone, is_mark, is_mark_group, is_none, is_preformatted, may_be_read, may_stand, stands, stands_in_flow, stay}
 use Rattle.tl_tree_spec.specs.Places.{entries_after}
 use Rattle.tl_tree_spec.proofs.Active.{Ordered, Ordered-up, Sound, is_active, kept, marked, over, skipped, with_room-Sound}

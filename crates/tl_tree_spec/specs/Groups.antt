@@ -189,6 +189,16 @@ is_cell_group _ = false
 abbrev pub is_cell : List ℕ → Bool
 is_cell n = is_cell_group (group n)
 
+-- caption, col, colgroup, tbody, td, tfoot, th, thead, tr
+abbrev pub is_part : Group → Bool
+is_part a_caption = true
+is_part a_column_group = true
+is_part a_column = true
+is_part a_table_body = true
+is_part a_row = true
+is_part a_cell = true
+is_part _ = false
+
 -- the scope of tables (13.2.4.2)
 abbrev pub is_table_scope : List ℕ → Bool
 is_table_scope n = is_among table_scope_bounds n

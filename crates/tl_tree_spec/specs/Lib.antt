@@ -1,5 +1,6 @@
 pub mod HtmlForest
 pub mod Groups
+pub mod Builder
 pub mod HtmlTreeBuilder
 pub mod Stays
 pub mod Places

@@ -4,7 +4,8 @@ use Rattle.tl_spec.specs.Forest.{none}
 use Rattle.tl_html_spec.specs.HtmlTokenizer.{HtmlToken}
 use Rattle.tl_tree_spec.specs.HtmlForest.{HtmlForest, HtmlTag}
 use Rattle.tl_tree_spec.specs.Groups.{Group, a_caption, a_cell, a_format, a_mark, a_nobr, an_anchor, group}
-use Rattle.tl_tree_spec.specs.HtmlTreeBuilder.{Builder, Element, Entry, before, formatting, fragment, inserted, marker, mode_by, new_element, run, with_room}
+use Rattle.tl_tree_spec.specs.Builder.{Builder, Element, Entry, formatting, inserted, marker, mode_by, new_element, with_room}
+use Rattle.tl_tree_spec.specs.HtmlTreeBuilder.{before, fragment, run}
 
 -- the entries after an element of a group was opened
 abbrev pub entries_after : Group → Element → List Entry → List Entry

@@ -1,14 +1,15 @@
 -- Which trees the tree builder gives back.
 use Rattle.std.specs.Prelude.{ℕ, Bool, true, false, not, ◌||◌, ◌&&◌, ◌==◌, List, [], ◌∷◌, codes, if◌then◌else◌}
+use Rattle.std.specs.Char.{is_ascii_whitespace}
 use Rattle.std.specs.List.{list_all}
 use Rattle.std.specs.Str.{bytes_eq}
 use Rattle.tl_spec.specs.ByteClass.{is_void}
 use Rattle.tl_spec.specs.Forest.{comment, none, tag, text}
-use Rattle.tl_html_spec.specs.HtmlTokenizer.{is_white_space}
 use Rattle.tl_html_spec.specs.Balanced.{is_button_scope, is_item_bound, is_one_of, is_scope}
 use Rattle.tl_tree_spec.specs.HtmlForest.{HtmlForest}
-use Rattle.tl_tree_spec.specs.Groups.{Group, a_block, a_break, a_button, a_caption, a_cell, a_column, a_column_group, a_description, a_detail, a_format, a_heading, a_mark, a_nobr, a_paragraph, a_preformatted, a_row, a_ruby_base, a_ruby_text, a_rule, a_table, a_table_body, a_void, an_anchor, an_image, an_item, an_option, any_other, elsewhere, group, is_column_group, is_description, is_heading, is_implied, is_item, is_paragraph, is_row, is_table, is_table_body, misplaced}
-use Rattle.tl_tree_spec.specs.HtmlTreeBuilder.{is_flow, is_rtc, mode_of, within}
+use Rattle.tl_tree_spec.specs.Groups.{Group, a_block, a_break, a_button, a_caption, a_cell, a_column, a_column_group, a_description, a_detail, a_format, a_heading, a_mark, a_nobr, a_paragraph, a_preformatted, a_row, a_ruby_base, a_ruby_text, a_rule, a_table, a_table_body, a_void, an_anchor, an_item, any_other, group, is_column_group, is_description, is_heading, is_implied, is_item, is_paragraph, is_row, is_table, is_table_body}
+use Rattle.tl_tree_spec.specs.Builder.{is_flow, mode_of, names, within}
+use Rattle.tl_tree_spec.specs.HtmlTreeBuilder.{is_rtc}
 
 -- a `p` is open that a block would close
 abbrev pub in_p : List (List ℕ) → Bool
@@ -58,18 +59,8 @@ stands_in_flow a_ruby_base names n = not (in_ruby names) || not (directly_in is_
 stands_in_flow a_ruby_text names n =
     not (in_ruby names) || not (directly_in (λ m. is_implied m && not (is_rtc m)) names)
 stands_in_flow any_other names n = true
-stands_in_flow a_mark names n = false
-stands_in_flow an_image names n = false
 stands_in_flow a_table names n = not (in_p names)
-stands_in_flow a_caption names n = false
-stands_in_flow a_column_group names n = false
-stands_in_flow a_column names n = false
-stands_in_flow a_table_body names n = false
-stands_in_flow a_row names n = false
-stands_in_flow a_cell names n = false
-stands_in_flow misplaced names n = false
-stands_in_flow an_option names n = false
-stands_in_flow elsewhere names n = false
+stands_in_flow _ names n = false
 
 -- parts of tables stand in one another alone
 abbrev pub stands : Group → List (List ℕ) → List ℕ → Bool
@@ -110,7 +101,7 @@ is_none _ = false
 -- a character that may stand: between the parts of a table white space alone
 abbrev pub may_be_read : Bool → ℕ → Bool
 may_be_read true c = not (c == 0)
-may_be_read false c = is_white_space c
+may_be_read false c = is_ascii_whitespace c
 
 -- trees that stay as they are where these elements are open, the innermost first
 abbrev pub stay : List (List ℕ) → HtmlForest → Bool

@@ -2,7 +2,8 @@
 
 ghost use Rattle.std.specs.Prelude.{◌≡◌, Some, true, List, [], ◌∷◌, ◌++◌, map, codes};
 ghost use Rattle.tl_tree_spec.specs.HtmlForest.{HtmlForest, HtmlTag, html_tokens_of, is_normal, normal_form};
-ghost use Rattle.tl_tree_spec.specs.HtmlTreeBuilder.{html_trees, names};
+ghost use Rattle.tl_tree_spec.specs.Builder.{names};
+ghost use Rattle.tl_tree_spec.specs.HtmlTreeBuilder.{html_trees};
 ghost use Rattle.tl_tree_spec.specs.Places.{Puts, placed};
 ghost use Rattle.tl_tree_spec.specs.Stays.{stay};
 

@@ -4,4 +4,5 @@
 
 pub mod laws;
 mod rows;
+mod stay_rows;
 mod table_rows;

@@ -9,6 +9,8 @@ pub fn paragraphs()
     ensures end_tag_left_out { inner_html "<p>a<p>b" ≡ Some (codes "<p>a</p><p>b</p>") }
     ensures block_in_p { inner_html "<p><div>x</div></p>"
         ≡ Some (codes "<p></p><div>x</div><p></p>") }
+    ensures article_in_p { inner_html "<p>x<article>y"
+        ≡ Some (codes "<p>x</p><article>y</article>") }
     ensures p_in_button_in_p { inner_html "<p><button><p>x</p></button></p>"
         ≡ Some (codes "<p><button><p>x</p></button></p>") }
     ensures heading_in_heading { inner_html "<h1><h2>x</h2></h1>"

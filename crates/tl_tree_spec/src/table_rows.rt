@@ -14,12 +14,16 @@ pub fn parts()
         ≡ Some (codes "<table><caption>x</caption><colgroup><col></colgroup><tbody><tr><td></td></tr></tbody></table>x") }
     ensures column { inner_html "<table><col><tr>"
         ≡ Some (codes "<table><colgroup><col></colgroup><tbody><tr></tr></tbody></table>") }
+    ensures carriage_return { inner_html "<table>&#13;<tr>"
+        ≡ Some (codes "<table>\r<tbody><tr></tr></tbody></table>") }
     ensures white_space { inner_html "<table> <tr> <td> x"
         ≡ Some (codes "<table> <tbody><tr> <td> x</td></tr></tbody></table>") }
 {}
 
 /// Tables in one another, and what a cell bounds.
 pub fn places()
+    ensures table_in_b_in_cell { inner_html "<table><td><b><table></table><td>x"
+        ≡ Some (codes "<table><tbody><tr><td><b><table></table></b></td><td>x</td></tr></tbody></table>") }
     ensures table_in_p { inner_html "<p>x<table></table>y"
         ≡ Some (codes "<p>x</p><table></table>y") }
     ensures table_in_table { inner_html "<table><table>"
