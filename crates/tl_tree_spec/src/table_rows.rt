@@ -34,6 +34,8 @@ pub fn places()
         ≡ Some (codes "<table><tbody><tr><td><p>x</p></td><td><p></p>y</td></tr></tbody></table>") }
     ensures formatting_in_cell { inner_html "<table><tr><td><b>x<td>y"
         ≡ Some (codes "<table><tbody><tr><td><b>x</b></td><td>y</td></tr></tbody></table>") }
+    ensures formatting_before_table { inner_html "<p><b></p><table><td>x</table>y"
+        ≡ Some (codes "<p><b></b></p><table><tbody><tr><td>x</td></tr></tbody></table><b>y</b>") }
     ensures cell_in_caption { inner_html "<table><caption>x<td>y"
         ≡ Some (codes "<table><caption>x</caption><tbody><tr><td>y</td></tr></tbody></table>") }
 {}
