@@ -1,0 +1,6 @@
+pub mod Active
+pub mod Starts
+pub mod Ends
+pub mod Texts
+pub mod Trees
+pub mod Places

@@ -1,0 +1,35 @@
+-- Words for worked rows. No contract cites them.
+use Prim.Native.String.{String}
+use Rattle.std.specs.Prelude.{ℕ, Bool, List, [], ◌∷◌, Option, option_map, codes}
+use Rattle.tl_spec.specs.Forest.{none, tag, text}
+use Rattle.tl_html_spec.specs.HtmlTokenizer.{tokens_in_page}
+use Rattle.tl_html_spec.specs.Written.{written}
+use Rattle.tl_tree_spec.specs.HtmlForest.{HtmlForest, html_tokens_of}
+use Rattle.tl_tree_spec.specs.HtmlTreeBuilder.{html_trees}
+use Rattle.tl_tree_spec.specs.Stays.{stay}
+
+-- the trees of a text as the children of a `div`
+abbrev pub trees : String → Option HtmlForest
+trees page = html_trees (tokens_in_page (codes page))
+
+-- the same written again: what `innerHTML` gives back
+abbrev pub written_trees : HtmlForest → List ℕ
+written_trees f = written (html_tokens_of f)
+
+abbrev pub inner_html : String → Option (List ℕ)
+inner_html page = option_map written_trees (trees page)
+
+-- whether trees stay as the children of a `div`
+abbrev pub stay_there : HtmlForest → Bool
+stay_there f = stay (codes "html" ∷ []) f
+
+-- whether the trees of a text do
+abbrev pub page_stays : String → Option Bool
+page_stays page = option_map stay_there (trees page)
+
+-- an element without attributes
+abbrev pub element : String → HtmlForest → HtmlForest
+element name children = tag (record { name = codes name; attributes = [] }) children none
+
+abbrev pub words : String → HtmlForest
+words bytes = text (codes bytes) none
