@@ -6,3 +6,4 @@ pub mod Pages
 pub mod Tokenizer
 pub mod Trees
 pub mod Printed
+pub mod HtmlTrees

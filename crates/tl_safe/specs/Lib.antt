@@ -1,6 +1,7 @@
 pub mod Lists
 pub mod Kept
 pub mod IsSafe
+pub mod HtmlTrees
 pub mod Words
 pub mod Policies
 pub mod Left

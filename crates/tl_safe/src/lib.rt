@@ -1,11 +1,14 @@
 //! Makes a page safe for a browser: what a policy lists is kept of it, and nothing else.
 #![tactic(auto)]
 
-ghost use Rattle.std.specs.Prelude.{◌≡◌, ◌↔◌, ◌<◌, length, string_bytes, IfOk, IsErrOf};
+ghost use Rattle.std.specs.Prelude.{◌≡◌, ◌↔◌, ◌<◌, length, string_bytes, IfOk, IsErrOf, Some, true};
 ghost use Rattle.tl_spec.specs.Normal.{norm};
 ghost use Rattle.tl_spec.specs.Print.{print};
 ghost use Rattle.tl.specs.declared.errors.ParseError.TheVariants.{InvalidLength};
 ghost use Rattle.tl_html_spec.specs.HtmlTokenizer.{tokens_in_page};
+ghost use Rattle.tl_tree_spec.specs.HtmlForest.{normal_form};
+ghost use Rattle.tl_tree_spec.specs.HtmlTreeBuilder.{html_trees};
+ghost use Rattle.tl_safe.specs.HtmlTrees.{as_html, stays};
 ghost use Rattle.tl_safe.specs.IsSafe.{IsSafe, tokens_of};
 ghost use Rattle.tl_safe.specs.Kept.{trees_of};
 ghost use Rattle.tl_safe.specs.Policies.{kept_of, lists_of};
@@ -66,6 +69,11 @@ pub fn sanitised(alloc: Global, policy: &Policy<'_>, page: &str) -> Result<Strin
     // and characters of the kept trees, in order, and nothing else.
     ensures standard { IfOk result (λ safe. tokens_in_page (string_bytes safe)
         ≡ tokens_of (norm (kept_of policy.now page.now))) }
+
+    // And where the kept trees stay, its tree builder makes of it just these.
+    ensures browser { IfOk result (λ safe. stays (as_html (norm (kept_of policy.now page.now))) ≡ true →
+        html_trees (tokens_in_page (string_bytes safe))
+        ≡ Some (normal_form (as_html (norm (kept_of policy.now page.now))))) }
 {
     let safe = written(alloc, policy, page)?;
     Ok(safe)

@@ -1,0 +1,28 @@
+-- The tokens of trees are those of the same trees as a browser has them.
+use Rattle.std.proofs.Common.{◌≡◌, ℕ, Bool, false, List, [], ◌∷◌, ◌++◌, map, Some, true, codes, refl, ap, ap₂, sym, ◌∙◌, if◌then◌else◌}
+use Rattle.tl_spec.specs.AttributeList.{printed_pairs}
+use Rattle.tl_spec.specs.ByteClass.{is_void}
+use Rattle.tl_spec.specs.Forest.{Forest, none, text, comment, tag, PlainTag}
+use Rattle.tl_html_spec.specs.HtmlTokenizer.{HtmlToken, Character, StartTag, EndTag, CommentToken}
+use Rattle.tl_html_spec.specs.Written.{inside}
+use Rattle.tl_tree_spec.specs.HtmlForest.{html_tokens_of, normal_form}
+use Rattle.tl_tree_spec.specs.HtmlTreeBuilder.{html_trees}
+use Rattle.tl_tree_spec.proofs.Trees.{stays as given_back}
+use Rattle.tl_safe.specs.HtmlTrees.{as_html, stays}
+use Rattle.tl_safe.specs.IsSafe.{html_attribute, text_characters, tokens_of}
+
+pub as_html-tokens : (f : Forest PlainTag) → tokens_of f ≡ html_tokens_of (as_html f)
+as_html-tokens none = refl
+as_html-tokens (text bytes more) =
+    ap (λ (ks : List HtmlToken). map Character (text_characters bytes) ++ ks) (as_html-tokens more)
+as_html-tokens (comment bytes more) =
+    ap (λ (ks : List HtmlToken). CommentToken (inside bytes) ∷ ks) (as_html-tokens more)
+as_html-tokens (tag own children more) =
+    ap₂ (λ (cs ms : List HtmlToken). StartTag own.name (map html_attribute (printed_pairs own.attributes)) false
+    ∷ (if is_void own.name then ms else cs ++ (EndTag own.name ∷ ms)))
+    (as_html-tokens children) (as_html-tokens more)
+
+-- so a browser builds those that stay
+pub as_html-stays : (f : Forest PlainTag) → stays (as_html f) ≡ true →
+    html_trees (tokens_of f) ≡ Some (normal_form (as_html f))
+as_html-stays f h = ap html_trees (as_html-tokens f) ∙ given_back (as_html f) h
