@@ -1,5 +1,5 @@
 -- The tokens of trees are those of the same trees as a browser has them.
-use Rattle.std.proofs.Common.{◌≡◌, ℕ, Bool, false, List, [], ◌∷◌, ◌++◌, map, Some, true, codes, refl, ap, ap₂, sym, ◌∙◌, if◌then◌else◌}
+use Rattle.std.proofs.Common.{◌≡◌, false, List, ◌∷◌, ◌++◌, map, Some, true, refl, ap, ap₂, ◌∙◌, if◌then◌else◌}
 use Rattle.tl_spec.specs.AttributeList.{printed_pairs}
 use Rattle.tl_spec.specs.ByteClass.{is_void}
 use Rattle.tl_spec.specs.Forest.{Forest, none, text, comment, tag, PlainTag}

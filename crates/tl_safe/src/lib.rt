@@ -71,7 +71,8 @@ pub fn sanitised(alloc: Global, policy: &Policy<'_>, page: &str) -> Result<Strin
         ≡ tokens_of (norm (kept_of policy.now page.now))) }
 
     // And where the kept trees stay, its tree builder makes of it just these.
-    ensures browser { IfOk result (λ safe. stays (as_html (norm (kept_of policy.now page.now))) ≡ true →
+    ensures browser { IfOk result (λ safe.
+        stays (as_html (norm (kept_of policy.now page.now))) ≡ true →
         html_trees (tokens_in_page (string_bytes safe))
         ≡ Some (normal_form (as_html (norm (kept_of policy.now page.now))))) }
 {
