@@ -1,12 +1,10 @@
 -- A name is looked for no further than the letters and digits after its `&`, and the `;` after them.
-use Rattle.std.proofs.Common.{◌≡◌, ℕ, zero, suc, ◌+◌, ◌≤◌, Bool, true, false, not, ◌||◌, ◌&&◌, ◌==◌, List, [], ◌∷◌, ◌++◌, length, drop, Option, Some, None, ◌⊎◌, inl, inr, refl, ap, ap₂, sym, ◌∙◌, subst, arith, append_assoc, true≢false, if◌then◌else◌}
+use Rattle.std.proofs.Common.{◌≡◌, ℕ, suc, ◌≤◌, Bool, true, false, ◌||◌, ◌&&◌, ◌==◌, List, [], ◌∷◌, ◌++◌, length, drop, Option, Some, None, ◌⊎◌, inl, inr, refl, ap, ap₂, sym, ◌∙◌, subst, arith, true≢false, if◌then◌else◌}
 use Rattle.std.specs.Char.{is_ascii_alphanumeric}
 use Rattle.std.specs.List.{list_all, starts_with}
-use Rattle.std.proofs.lemmas.Bool.{and_parts, and_from, cases_Bool, eqb-true, false_from_ne_true}
-use Rattle.std.proofs.lemmas.List.{drop-append-le}
+use Rattle.std.proofs.lemmas.Bool.{and_parts, cases_Bool, eqb-true, false_from_ne_true}
 use Rattle.tl_names.specs.References.{table_of}
-use Rattle.tl_html_spec.specs.References.{Reference, Row, begins_with, ends_with_semicolon, first_row, goes_on, is_left, named, named_reference, resolved, rows}
-use Rattle.tl_html_spec.specs.Unescaped.{or_itself, unescaped, unescaped_after}
+use Rattle.tl_html_spec.specs.References.{Reference, Row, begins_with, ends_with_semicolon, first_row, is_left, named, named_reference, rows}
 use Rattle.tl_html_spec.proofs.NameForms.{has_name, is_name, rows-named}
 
 -- what a name may hold

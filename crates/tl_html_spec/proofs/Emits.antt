@@ -1,5 +1,5 @@
 -- The tokenizer emits no empty name or key, and no comment that a `-->` cuts; and each byte is done with after two reconsumes.
-use Rattle.std.proofs.Common.{◌≡◌, ℕ, zero, suc, Bool, true, false, not, ◌==◌, ◌&&◌, ◌||◌, List, [], ◌∷◌, ◌++◌, map, Some, None, codes, refl, ap, sym, ◌∙◌, inl, inr, true≢false, arith, if◌then◌else◌}
+use Rattle.std.proofs.Common.{◌≡◌, ℕ, zero, suc, Bool, true, false, not, ◌==◌, ◌&&◌, ◌||◌, List, [], ◌∷◌, ◌++◌, map, Some, codes, refl, ap, sym, ◌∙◌, inl, inr, true≢false, arith, if◌then◌else◌}
 use Rattle.std.specs.Prelude.{⊤, ◌+◌, ◌*◌, nat_lt}
 use Rattle.std.specs.Char.{is_ascii_alphabetic, is_ascii_alphanumeric, is_ascii_digit, is_ascii_hexdigit, to_ascii_lowercase}
 use Rattle.std.specs.List.{list_all, list_any, starts_with}

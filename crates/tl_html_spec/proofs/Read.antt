@@ -3,6 +3,7 @@ use Rattle.std.proofs.Common.{◌≡◌, ℕ, ◌-◌, Bool, true, false, not, �
 use Rattle.std.specs.Prelude.{flat_map}
 use Rattle.std.specs.List.{list_all, take_while}
 use Rattle.std.proofs.lemmas.Bool.{and_from, and_parts, cases_Bool, eqb-true}
+use Rattle.std.proofs.lemmas.List.Folds.{list_all-append}
 use Rattle.std.proofs.Math.Seq.{take-append_seam}
 use Rattle.tl_spec.specs.Attribute.{Pair}
 use Rattle.tl_spec.specs.ByteClass.{is_name}
@@ -29,8 +30,7 @@ abbrev not_quote : ℕ → Bool
 not_quote c = not (c == 0x22)
 
 pub all_append : (p : ℕ → Bool) (xs ys : List ℕ) → list_all p xs ≡ true → list_all p ys ≡ true → list_all p (xs ++ ys) ≡ true
-all_append p [] ys h k = k
-all_append p (x ∷ xs) ys h k = let a = and_parts (p x) (list_all p xs) h in and_from _ _ a.0 (all_append p xs ys a.1 k)
+all_append p xs ys h k = list_all-append p xs ys ∙ and_from (list_all p xs) (list_all p ys) h k
 
 read_next : (s : List ℕ) (k : Token) (rest : List ℕ) → next_token s ≡ Some (k, rest) → tokens_read s ≡ shown k ++ tokens_read rest
 read_next s k rest e = ap (flat_map shown) (kinds_next s k rest e)

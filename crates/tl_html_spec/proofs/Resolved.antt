@@ -1,15 +1,15 @@
 -- The tokenizer resolves a reference where it ends, and the definition looks at it from its `&`: they say the same.
-use Rattle.std.proofs.Common.{◌≡◌, ℕ, zero, suc, ◌+◌, ◌*◌, Bool, true, false, not, ◌||◌, ◌&&◌, ◌==◌, List, [], ◌∷◌, ◌++◌, drop, map, Option, Some, None, codes, ◌⊎◌, inl, inr, refl, ap, ap₂, sym, ◌∙◌, subst, append_assoc, append-nil, option_map, true≢false, if◌then◌else◌}
+use Rattle.std.proofs.Common.{◌≡◌, ℕ, zero, suc, ◌+◌, ◌*◌, Bool, true, false, not, ◌||◌, ◌==◌, List, [], ◌∷◌, ◌++◌, drop, Option, Some, None, codes, inl, inr, refl, ap, ap₂, sym, ◌∙◌, subst, append_assoc, append-nil, option_map, true≢false, if◌then◌else◌}
 use Rattle.std.specs.Prelude.{⊤}
 use Rattle.std.specs.Char.{is_ascii_alphanumeric, is_ascii_digit, is_ascii_hexdigit, to_ascii_lowercase}
 use Rattle.std.specs.List.{list_all}
 use Rattle.std.proofs.lemmas.Bool.{and_from, and_parts, cases_Bool, eqb-true, not-true}
 use Rattle.std.proofs.lemmas.List.Folds.{list_all-append}
 use Rattle.tl_html_spec.specs.HtmlTokenizer.{HtmlToken, State, Step, again_in, at_end, character_reference, decimal, decimal_start, digit_value, flushed, hexadecimal, hexadecimal_start, is_value, named_character_reference, numeric_character_reference, settled, step, to, tokens_from, whole_step}
-use Rattle.tl_html_spec.specs.References.{Reference, begins_with, goes_on, named_reference, named_value, number_value}
-use Rattle.tl_html_spec.specs.Unescaped.{number, number_from, numeric_reference, one_before, reference, unescaped, unescaped_after}
+use Rattle.tl_html_spec.specs.References.{Reference, begins_with, named_reference, named_value, number_value}
+use Rattle.tl_html_spec.specs.Unescaped.{number, number_from, numeric_reference, one_before, unescaped}
 use Rattle.tl_html_spec.proofs.Ahead.{AreLetters, is_name_byte}
-use Rattle.tl_html_spec.proofs.Looked.{byte-plain, bytes-plain, letters-read, passes, read_as, semicolon-read}
+use Rattle.tl_html_spec.proofs.Looked.{byte-plain, letters-read, passes, read_as, semicolon-read}
 
 -- a text or a value that the tokenizer reads: its state, and what was emitted, where these characters were read of it
 pub record Reading (v : Bool) (stops : ℕ → Bool) : Type 0 where

@@ -1,11 +1,10 @@
 -- Texts, and values between double quotes, as the tokenizer reads them.
-use Rattle.std.proofs.Common.{◌≡◌, ℕ, Bool, true, false, not, ◌||◌, ◌==◌, List, [], ◌∷◌, ◌++◌, map, refl, ap, sym, ◌∙◌, append_assoc, append-nil, if◌then◌else◌}
+use Rattle.std.proofs.Common.{◌≡◌, ℕ, Bool, true, false, ◌||◌, ◌==◌, List, [], ◌∷◌, ◌++◌, map, refl, ap, sym, ◌∙◌, append-nil, if◌then◌else◌}
 use Rattle.std.specs.List.{list_all}
 use Rattle.std.proofs.lemmas.List.{map-append}
-use Rattle.std.proofs.lemmas.Bool.{cases_Bool}
-use Rattle.tl_html_spec.specs.HtmlTokenizer.{Character, HtmlToken, OpenTag, State, Step, after_attribute_value, character_reference, char_of, data_state, double_quoted, emitting, step, tag_open, to, tokens_from, with_attribute}
-use Rattle.tl_html_spec.specs.Unescaped.{is_in_text, is_in_value, unescaped, unescaped_text, unescaped_value}
-use Rattle.tl_html_spec.proofs.Resolved.{IsEnd, Reading, Rest, read}
+use Rattle.tl_html_spec.specs.HtmlTokenizer.{Character, OpenTag, after_attribute_value, character_reference, char_of, data_state, double_quoted, emitting, tag_open, to, tokens_from, with_attribute}
+use Rattle.tl_html_spec.specs.Unescaped.{is_in_text, is_in_value, unescaped_text, unescaped_value}
+use Rattle.tl_html_spec.proofs.Resolved.{IsEnd, Reading, read}
 
 abbrev less_than : ℕ → Bool
 less_than b = b == 60
