@@ -336,5 +336,5 @@ fn deep_nesting(rt: HostRuntime) -> Result<(), Fail> {
 #[test]
 fn sizes(rt: HostRuntime) {
     assert!(rt; size_of::<Bytes<'static>>() <= 32);
-    assert!(rt; size_of::<Node<'static>>() <= 56);
+    assert!(rt; size_of::<Node<'static>>() <= 64);
 }

@@ -6,12 +6,13 @@ pub(crate) mod children_mut;
 pub(crate) mod node;
 mod range;
 
-use std::alloc::{AllocError, Global};
+use std::alloc::AllocError;
 use std::marker::Model;
 use tl_attributes::attributes::Attributes;
 use tl_attributes::outline::{Outline, OutlineOf};
 use tl_bytes::byte_string::Bytes;
 use tl_inline::inline::vec::InlineVec;
+use tl_room::arena::{Arena, blocks};
 use tl_table::handle::NodeHandle;
 
 /// The handles of a tag's children, the first two inline.
@@ -26,14 +27,14 @@ struct Parts<A, B> {
     start: u32,
 }
 
-/// A tag of bytes of the type `B`, with attributes of the type `A`. What is asked of it most is at hand, and the rest lies on
-/// the heap, so that a table of nodes stays small.
+/// A tag of bytes of the type `B`, with attributes of the type `A`. What is asked of it most is at hand, and the rest lies in
+/// an arena, so that a table of nodes stays small.
 #[derive(Debug, Drop)]
 pub struct TagOf<A, B, O: OutlineOf<A>> {
     name: B,
     // What is known of the attributes without a look at them.
     outline: O,
-    parts: Box<Parts<A, B>>,
+    parts: Box<Parts<A, B>, Arena>,
 }
 
 /// A tag: its name, its attributes, the handles of its children, and where it stands in the text.
@@ -63,7 +64,7 @@ impl<A: Drop, B: Drop, O: OutlineOf<A>> TagOf<A, B, O> {
     // A tag without children, of whose attributes nothing is known but by a look at them.
     #[inline(always)]
     pub(crate) fn new(
-        alloc: Global,
+        arena: Arena,
         name: B,
         attributes: A,
         raw: B,
@@ -73,14 +74,14 @@ impl<A: Drop, B: Drop, O: OutlineOf<A>> TagOf<A, B, O> {
     {
         let parts = Parts {
             attributes,
-            children: InlineVec::new(alloc),
+            children: InlineVec::new(arena.alloc()),
             raw,
             start,
         };
         Ok(TagOf {
             name,
             outline: O::nothing(),
-            parts: Box::new(alloc, parts)?,
+            parts: Box::new(arena, parts)?,
         })
     }
 
@@ -207,12 +208,12 @@ fn copied_lists<'a>(
 }
 
 impl<'a> HTMLTag<'a> {
-    /// A tag with the same parts, each held alike.
+    /// A tag with the same parts, each held alike, in an arena of its own.
     pub fn clone(&self) -> Result<HTMLTag<'a>, AllocError>
         ensures { IfOk result (λ t. t ≡ self.now) }
     {
         let parts = &*self.parts;
-        let alloc = *Box::allocator(&self.parts);
+        let arena = blocks(Box::allocator(&self.parts).alloc())?;
         let (name, raw) = copied_texts(&self.name, &parts.raw)?;
         let (attributes, children) = copied_lists(&parts.attributes, &parts.children)?;
         let outline = Outline::of(&attributes);
@@ -225,7 +226,7 @@ impl<'a> HTMLTag<'a> {
         Ok(TagOf {
             name,
             outline,
-            parts: Box::new(alloc, copy)?,
+            parts: Box::new(arena, copy)?,
         })
     }
 }
