@@ -67,6 +67,8 @@ def verdict(mutant, said, is_alone):
     answers = [it for it in faults if it.file == "Answers.antt"]
     others = [it for it in faults if it.file != "Answers.antt"]
     goals = said.goals(names)
+    if not functions and goals_of_rows(mutant, said):
+        return REFUSED, ""
     if not is_alone and any("not admitted" in it.why for it in faults):
         return UNJUDGED, "a proof rests on what another mutant of the same check took away"
     named = next((it for it in others if it.is_of_names or it.file == "Invariants.antt"), None)
@@ -80,6 +82,12 @@ def verdict(mutant, said, is_alone):
         mutant.leave_out(answers)
         return None, ""
     return unrefused(mutant, said, names)
+
+
+def goals_of_rows(mutant, said):
+    """The goals that a wrong definition leaves where neither a lemma nor an answer by hand is in the way: of worked rows, most often."""
+    names = mutant.crate.without_lemmas(said.functions)
+    return said.goals([it for it in names if not said.faults_of([it], [])])
 
 
 def weakness(misfits, is_false, goals):
