@@ -67,7 +67,7 @@ def verdict(mutant, said, is_alone):
     answers = [it for it in faults if it.file == "Answers.antt"]
     others = [it for it in faults if it.file != "Answers.antt"]
     goals = said.goals(names)
-    if not functions and goals_of_rows(mutant, said):
+    if not functions and breaks_rows(mutant.crate, said):
         return REFUSED, ""
     if not is_alone and any("not admitted" in it.why for it in faults):
         return UNJUDGED, "a proof rests on what another mutant of the same check took away"
@@ -84,10 +84,11 @@ def verdict(mutant, said, is_alone):
     return unrefused(mutant, said, names)
 
 
-def goals_of_rows(mutant, said):
-    """The goals that a wrong definition leaves where neither a lemma nor an answer by hand is in the way: of worked rows, most often."""
-    names = mutant.crate.without_lemmas(said.functions)
-    return said.goals([it for it in names if not said.faults_of([it], [])])
+def breaks_rows(crate, said):
+    """Whether a wrong definition leaves a goal before which no lemma comes, or makes a row false that is answered by computing it."""
+    plain = [it for it in crate.without_lemmas(said.functions) if not said.faults_of([it], [])]
+    computed = [it for it in said.faults if it.file == "Answers.antt" and not it.is_of_names]
+    return bool(said.goals(plain)) or any(re.search(rf"(?m)^{re.escape(it.answer)} c = refl$", crate.text(it.path)) for it in computed)
 
 
 def weakness(misfits, is_false, goals):
