@@ -25,6 +25,9 @@ class Crate:
             self.texts[path] = text_of(f"{self.folder}/{path}")
         return self.texts[path]
 
+    def has_line(self, path, line):
+        return line in self.text(path).split("\n")
+
     def functions_in(self, path):
         if path not in self.laid_out:
             lines = self.text(path).split("\n")
