@@ -10,7 +10,8 @@ A crate is proved first, over what `rt` kept. Many mutants are tried in one chec
 function, since the prover says of each function whether what it has to show is shown. What it says of a mutant is one of these,
 and the first alone is well:
 
-    refused                      a goal of the changed function is left; of a mutant in no function, any goal
+    refused                      a goal of the changed function is left; of a mutant in no function, any goal. Of a wrong definition,
+                                 a row that is false, or, which a line says, a lemma that fails
     proved                       the contract lets it through
     can't be read                it doesn't compile
     refused by a name alone      a proof file names what the mutant took away, and nothing else is known

@@ -25,6 +25,9 @@ class Crate:
             self.texts[path] = text_of(f"{self.folder}/{path}")
         return self.texts[path]
 
+    def has_line(self, path, line):
+        return line in self.text(path).split("\n")
+
     def functions_in(self, path):
         if path not in self.laid_out:
             lines = self.text(path).split("\n")
@@ -33,6 +36,13 @@ class Crate:
 
     def function_at(self, path, line):
         return next((it for it in self.functions_in(path) if it.first <= line <= it.last), None)
+
+    def without_lemmas(self, names):
+        """Which of the prover's names mean functions whose proofs use no lemma by name: rows that compute, for one."""
+        paths = [f"{at[len(self.folder) + 1 :]}/{it}" for at, _, files in os.walk(f"{self.folder}/src") for it in files]
+        functions = [it for path in paths if path.endswith(".rt") for it in self.functions_in(path)]
+        found = [(it.has_lemmas, it.among(names)) for it in functions]
+        return set().union(*[its for lemmas, its in found if not lemmas]).difference(*[its for lemmas, its in found if lemmas])
 
     def mutants(self, folders):
         found = []

@@ -18,8 +18,11 @@ class Function:
         self.modules = [it for it in parts if it not in ("lib", "main", "mod")]
         above = [it for it in lines[:at] if it.strip() and indent(it) < depth and not it.strip().startswith(("{", ")", "where"))]
         self.owner, self.of_trait = self.owned_by(above[-1] if above else "")
-        attribute = re.search(r"#\[cycle\((\w+)\)\]", "\n".join(lines[max(at - 4, 0) : at]))
+        attributes = "\n".join(lines[max(at - 4, 0) : at])
+        attribute = re.search(r"#\[cycle\((\w+)\)\]", attributes)
         self.cycle = attribute[1] if attribute else None
+        # whether lemmas are used in its proof, by name
+        self.has_lemmas = "using(" in attributes or any(it.startswith("#![tactic") and "using(" in it for it in lines[:at])
         # (at most one mutant under a key goes into one check)
         self.key = (*self.modules, f"+{self.cycle}" if self.cycle else f"{self.owner}::{self.name}")
 

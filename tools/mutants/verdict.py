@@ -67,6 +67,8 @@ def verdict(mutant, said, is_alone):
     answers = [it for it in faults if it.file == "Answers.antt"]
     others = [it for it in faults if it.file != "Answers.antt"]
     goals = said.goals(names)
+    if not functions and (known := of_definition(mutant.crate, said)):
+        return known
     if not is_alone and any("not admitted" in it.why for it in faults):
         return UNJUDGED, "a proof rests on what another mutant of the same check took away"
     named = next((it for it in others if it.is_of_names or it.file == "Invariants.antt"), None)
@@ -80,6 +82,17 @@ def verdict(mutant, said, is_alone):
         mutant.leave_out(answers)
         return None, ""
     return unrefused(mutant, said, names)
+
+
+def of_definition(crate, said):
+    """What is known of a mutant in no function that makes a row false or a lemma fail; None where it does neither."""
+    plain = [it for it in crate.without_lemmas(said.functions) if not said.faults_of([it], [])]
+    faults = [it for it in said.faults if not it.is_of_names and it.file != "Invariants.antt"]
+    computed = [it for it in faults if it.file == "Answers.antt" and crate.has_line(it.path, f"{it.answer} c = refl")]
+    if said.goals(plain) or computed:
+        return REFUSED, ""
+    lemma = next((it for it in faults if it.file != "Answers.antt"), None)
+    return (REFUSED, f"no row is false, and a lemma fails: {lemma}") if lemma else None
 
 
 def weakness(misfits, is_false, goals):

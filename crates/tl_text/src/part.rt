@@ -3,19 +3,31 @@ ghost use Rattle.std.specs.Prelude.{◌≡◌, ◌≤◌, ◌++◌, suc, drop, l
 ghost use Rattle.std.specs.List.{prefix_len, take_while};
 ghost use Rattle.tl_text.specs.Shown.{is_not};
 
-use memchr::memchr;
 use std::alloc::AllocError;
 
+// The place of the first of these bytes, or the length where there is none. What is looked for stands a
+// few bytes ahead, where a search by lanes doesn't pay.
+fn first_place(bytes: &[u8], wanted: u8) -> usize
+    ensures place { result ≡ prefix_len (is_not wanted) bytes.now }
+    ensures within { result ≤ length bytes.now }
+{
+    let mut at = 0;
+    while at < bytes.len() && bytes[at] != wanted {
+        at += 1;
+    }
+    at
+}
+
 // The bytes before the first one of these, and those after it; all and none where there is none.
-#[tactic(auto, using(crate::proofs::Parts::before_found, crate::proofs::Parts::before_none, crate::proofs::Parts::after_none))]
 pub(crate) fn part(bytes: &[u8], end: u8) -> (&[u8], &[u8])
     ensures before { result.0.now ≡ take_while (is_not end) bytes.now }
     ensures after { result.1.now ≡ drop (suc (prefix_len (is_not end) bytes.now)) bytes.now }
 {
-    match memchr(end, bytes) {
-        Some(at) => (&bytes[..at], &bytes[at + 1..]),
-        None => (bytes, &[]),
+    let at = first_place(bytes, end);
+    if at == bytes.len() {
+        return (bytes, &[]);
     }
+    (&bytes[..at], &bytes[at + 1..])
 }
 
 // The first so many bytes.
