@@ -3,6 +3,7 @@
     ./x gate              all parts, in this order; ends at the first that fails
     ./x gate PART..       these alone, as ./x gate wants mutants
 
+    widths       no line of a definition, a clause or a comment is too wide
     wants        want of memory is made up nowhere, and ./x wants reads its samples as what they are
     mutants      all mutants still fit the texts that they change
     proofs       `rt ci`, the test command of the README: each proof from nothing, the mutants of must-fail, the tests, the programs
@@ -24,7 +25,7 @@ import time
 
 from ..costs import Costs
 from ..workspace import NO_RT, ROOT, Stop, Workspace, cores, free_memory
-from . import bindings, mutants, oom, runs, stress, vendor, wants
+from . import bindings, mutants, oom, runs, stress, vendor, wants, widths
 
 GIGABYTE = 1_000_000_000
 NEEDED = 8
@@ -92,6 +93,7 @@ class Gate:
 
     def parts(self):
         return {
+            "widths": widths.check,
             "wants": lambda: wants.check_samples() and wants.check(),
             "mutants": mutants.look,
             "proofs": self.prove,

@@ -138,7 +138,7 @@ fn vec_obeyed<const N: usize>(alloc: Global, mut v: InlineVec<u8, N>, steps: &[V
     steps.len()
 }
 
-// The same for a new vector with this room.
+// How many steps a new vector with this room obeys.
 fn new_vec_obeyed(alloc: Global, room: &Room, steps: &[VecStep]) -> usize {
     match room {
         Room::None => vec_obeyed::<0>(alloc, InlineVec::new(alloc), steps),
@@ -371,7 +371,7 @@ fn map_obeyed<const N: usize>(
     steps.len()
 }
 
-// The same for a new map with this room.
+// How many steps a new map with this room obeys.
 fn new_map_obeyed(alloc: Global, room: &Room, steps: &[MapStep]) -> usize {
     match room {
         Room::None => map_obeyed::<0>(alloc, InlineHashMap::new(alloc), steps),

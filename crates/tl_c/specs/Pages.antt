@@ -23,7 +23,8 @@ use Rattle.tl_safe.specs.Lists.{page_lists}
 abbrev pub edited_print : List ℕ → List Change → Outcome (List ℕ)
 edited_print page changes = output_of (Edits changes) None page
 
--- the same by the lines of steps; what is no text, or says no steps, is not understood
+-- the print of a page after the steps that lines say; what is no text, or says no steps, is not
+-- understood
 abbrev pub edited_page : List ℕ → List ℕ → Outcome (List ℕ)
 edited_page lines page =
     if is_utf8 lines
@@ -53,13 +54,13 @@ abbrev pub fields_by : Option Selector → Field → Document → Outcome (List 
 fields_by None field d = refused
 fields_by (Some e) field d = ended_texts (fields field d.nodes (matches_in d e))
 
--- the same of a page, if a field is asked for
+-- the fields of the nodes of a page where a selector holds, if a field is asked for
 abbrev pub fields_in : List ℕ → Option Selector → Option Field → Outcome (List ℕ)
 fields_in page selector field =
     option_map_or (λ field. outcome_in (fields_by selector field) page) field not_understood
 
--- the same by the text that stands for the selector, or for none, and a number and a key that ask for
--- the field; selector and key have to be texts
+-- these fields by the text that stands for the selector, or for none, and a number and a key that
+-- ask for the field; selector and key have to be texts
 abbrev pub selection : List ℕ → Option Selector → ℕ → Bor (List ℕ) → List ℕ → Outcome (List ℕ)
 selection text selector number key page =
     if is_utf8 text

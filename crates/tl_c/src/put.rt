@@ -64,7 +64,7 @@ pub(crate) fn put<T: Copy + Drop>(
     }
 }
 
-// The same of a text.
+// Puts a text that was given, or answers why none was.
 pub(crate) fn put_text(given: Result<String, Failure>, out: &mut [u8], needed: &mut usize) -> u8
     ensures put { (outcome : Outcome (List ℕ)) → Gives string_bytes outcome given
         → Puts outcome out.old out.new needed.new result }

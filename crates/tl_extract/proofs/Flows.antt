@@ -34,7 +34,7 @@ pub record Goes (before : Remaining) (e : Event) (after : Remaining) : Type 0 wh
   pub flow : flow_left before ≡ event_flow e ++ flow_left after
   pub fault : fault_left before ≡ fault_left after
 
--- the same but for a fault, which is the first
+-- nothing changes but for a fault, which is the first
 abbrev Adds : Remaining → Event → Remaining → Type 0
 Adds before (meets h node) after = Goes before (meets h node) (after_event (meets h node) after)
 Adds before (leaves own) after = Goes before (leaves own) (after_event (leaves own) after)

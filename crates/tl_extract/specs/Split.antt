@@ -7,7 +7,7 @@ use Rattle.std.specs.List.{slice_split}
 abbrev pub pieces : ℕ → List ℕ → List (List ℕ)
 pieces at bytes = slice_split (λ byte. byte == at) bytes
 
--- the same of what is left, if anything is
+-- these pieces of what is left, if anything is
 abbrev pub pieces_left : ℕ → Option (Bor (List ℕ)) → List (List ℕ)
 pieces_left at None = []
 pieces_left at (Some rest) = pieces at rest.now

@@ -67,7 +67,7 @@ fn add_edge(text: &mut Vec<u8>, name: &[u8]) -> Result<(), AllocError>
     Ok(())
 }
 
-// The same of a tag that may be hidden.
+// Adds what stands at either end of a tag that may be hidden: then nothing.
 fn add_shown_edge(text: &mut Vec<u8>, name: &[u8]) -> Result<(), AllocError>
     ensures { OnOk result (text.new.items ≡ text.old.items ++ shown_edge name.now) }
 {

@@ -111,7 +111,7 @@ fn cut(alloc: Global, page: &str) -> Result<usize, (usize, Wrong)> {
     Ok(places)
 }
 
-// The same, where what is wrong is said.
+// Reads each cut of a page, and says what is wrong.
 fn cut_or_said(rt: &HostRuntime, page: &str) -> Result<usize, Wrong> {
     match cut(rt.alloc(), page) {
         Ok(places) => Ok(places),

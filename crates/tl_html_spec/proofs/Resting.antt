@@ -73,7 +73,7 @@ settles (suc n) s b rest e = elim (cases_Bool (is_at_rest s)) [
   ]
 ]
 
--- the same of a reader
+-- a reader at rest goes on as that state does
 
 record RestsBefore (r : Reader) (b : ℕ) (rest : Rest) : Type 0 where
   tokens_are : (read r b).emits ≡ rest.emits ++ (read (at rest.state) b).emits

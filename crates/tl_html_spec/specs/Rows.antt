@@ -10,7 +10,7 @@ use Rattle.tl_html_spec.specs.Pieces.{Piece, pieces, placed, runs}
 abbrev pub read : String → List HtmlToken
 read page = html_tokens (codes page)
 
--- the same with their end tags
+-- these tokens with their end tags
 abbrev pub read_balanced : String → List HtmlToken
 read_balanced page = balanced (html_tokens (codes page))
 

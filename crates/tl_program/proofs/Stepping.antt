@@ -49,7 +49,7 @@ module _ (lent old : HTMLTable) (n : ℕ) (node : HTMLNode) (same : lent ≡ old
       let P : StepError → Type 0 = λ e. Changes {A = A} takes (at_node n edit) old (with_node lent n node) (Err e) in
       subst P (sym is) (kept A OutOfMemory (memory, made))
 
--- the same of a tag
+-- a change of a tag is that of the table
 module _ (lent old : HTMLTable) (n : ℕ) (tag : HTMLTag) (same : lent ≡ old) (there : slice_get lent.nodes n ≡ Some (Tag tag)) (takes : Bool) (edit : HTMLTag → Result HTMLTag Refusal) where
   pub tag-stepped : {A : Type 0} (new : HTMLTag) (r : Result A StepError) → Changes takes edit tag new r → Changes takes (at_node n (of_tag edit)) old (with_node lent n (Tag new)) r
   tag-stepped new (Ok x) h = node-stepped lent old n (Tag tag) same (sym there) takes (of_tag edit) (Tag new) (Ok x) (ap (on_ok Tag) h)

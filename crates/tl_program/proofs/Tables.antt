@@ -33,7 +33,7 @@ image-of_tag change made alike (Tag own) = ap (on_ok shown_node.Tag) (alike own)
 image-of_tag change made alike (Raw bytes) = refl
 image-of_tag change made alike (Comment bytes) = refl
 
--- the same of a node of a table
+-- an edit of a node of a table is one of its document
 module _ (t : HTMLTable) (n : ℕ) (change : Node → Result Node Refusal) (made : HTMLNode → Result HTMLNode Refusal) (alike : (node : HTMLNode) → change (shown node) ≡ on_ok shown (made node)) where
   abbrev with_shown : Node → Document
   with_shown m = record (document_of t) { nodes = slice_set (map shown t.nodes) n m }
@@ -49,21 +49,21 @@ module _ (t : HTMLTable) (n : ℕ) (change : Node → Result Node Refusal) (made
   image-at_node : shown_edit.at_node n change (document_of t) ≡ on_ok document_of (at_node n made t)
   image-at_node = ap (shown_edit.of_node (document_of t) n change) (slice_get-map shown t.nodes n) ∙ image-of_node (slice_get t.nodes n)
 
--- the same of a tag that an edit always makes another
+-- so is one of a tag, which is never refused
 image-at_tag : (t : HTMLTable) (n : ℕ) (change : TagNode → TagNode) (made : HTMLTag → HTMLTag) → ((own : HTMLTag) → change (shown_tag own) ≡ shown_tag (made own))
     → shown_edit.at_tag n change (document_of t) ≡ on_ok document_of (at_tag n made t)
 image-at_tag t n change made alike =
     let ok : TagNode → Result TagNode Refusal = λ own. Ok own in
     image-at_node t n _ _ (image-of_tag (λ own. Ok (change own)) (λ own. Ok (made own)) (λ own. ap ok (alike own)))
 
--- the same of its attributes
+-- one of the attributes of a tag
 image-at_attributes : (t : HTMLTable) (n : ℕ) (change : Attributes (List ℕ) → Attributes (List ℕ)) (made : Attributes Kept → Attributes Kept)
     → ((a : Attributes Kept) → shown_attributes (made a) ≡ change (shown_attributes a))
     → shown_edit.at_tag n (λ own. record own { attributes = change own.attributes }) (document_of t) ≡ on_ok document_of (at_tag n (λ own. record own { attributes = made own.attributes }) t)
 image-at_attributes t n change made alike =
     image-at_tag t n _ _ (λ own. ap (λ (a : Attributes (List ℕ)). record (shown_tag own) { attributes = a }) (sym (alike own.attributes)))
 
--- the same of its children
+-- and one of its children
 image-at_children : (t : HTMLTable) (n : ℕ) (change : Handles → Result Handles Refusal)
     → shown_edit.at_node n (shown_edit.of_tag (λ own. on_ok (λ handles. record own { children = handles }) (change own.children))) (document_of t)
     ≡ on_ok document_of (at_node n (of_tag (λ own. on_ok (λ handles. record own { children = handles }) (change own.children))) t)

@@ -20,7 +20,7 @@ Appends-kept (Some x) None c bs p q = elim p [ ]
 Appends-kept (Some x) (Some y) None bs p q = elim q [ ]
 Appends-kept (Some x) (Some y) (Some z) bs p q = (length bs, q ∙ (p ∙ ap (λ v. x ++ v) (sym (take-length bs))))
 
--- the same where a flush failed
+-- and where a flush failed
 pub Appends-kept_after : (a b c : Option (List ℕ)) (bs : List ℕ) {T E : Type 0} (r : Result T E) → Appends a b bs → Keeps b c → OnErr r (AppendsBeginning a c bs)
 Appends-kept_after a b c bs (Ok x) p q = tt
 Appends-kept_after a b c bs (Err e) p q = Appends-kept a b c bs p q

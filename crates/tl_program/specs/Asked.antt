@@ -45,7 +45,7 @@ IsSelectorOf (FindsId id) selector = selector ≡ None
 IsSelectorOf (FindsClass member) selector = selector ≡ None
 IsSelectorOf (Edits changes) selector = selector ≡ None
 
--- the same as a plain reader finds it
+-- the selector of what is asked, as a plain reader finds it
 abbrev pub selector_of : Asked → Option Selector
 selector_of (Selects text) = selector_at text
 selector_of Prints = None

@@ -82,7 +82,7 @@ fn kept_print(alloc: Global, page: &str, steps: &[Step<'_>], out: &mut String) -
     }
 }
 
-// The same of a page that is borrowed or kept.
+// Whether a page, borrowed or kept, prints that.
 fn print_page(
     alloc: Global,
     page: &str,

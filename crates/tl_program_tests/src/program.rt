@@ -285,7 +285,7 @@ fn run_words(
     }
 }
 
-// The same of words as rows give them.
+// Runs the command of words, as rows give them.
 fn answered(
     alloc: Global,
     words: &[&str],
@@ -445,7 +445,7 @@ fn streams(
     )
 }
 
-// The same where each write takes a byte and the one of this number fails: there is one for each byte.
+// Where each write takes a byte and one of them fails, the bytes before it are written.
 fn writes_fail(alloc: Global, row: &Streamed, kind: ErrorKind) -> Result<bool, AllocError> {
     let len = row.2.len();
     for bad in 0..=len {

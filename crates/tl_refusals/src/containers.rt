@@ -248,7 +248,7 @@ type Handles = InlineVec<NodeHandle, 1>;
 
 type Names = InlineHashMap<Bytes<'static>, NodeHandle, 1>;
 
-// The same of handles, and of byte strings as keys.
+// Calls of lists of handles, and of maps with byte strings as keys.
 fn of_pieces(number: usize, case: &mut Case) -> Option<Named> {
     match number {
         0 => Some((

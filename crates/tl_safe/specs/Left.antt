@@ -23,7 +23,7 @@ module _ (p : ListedWords) (nodes : List Node) where
   abbrev pub row : List ℕ → List ℕ
   row hs = print (kept p (trees (walk every nodes [] hs)))
 
-  -- the same of one node
+  -- the print of what is kept of one node
   abbrev pub node_print : Node → List ℕ
   node_print (Raw bytes) = utf8_lossy (filter is_text_byte bytes)
   node_print (Comment bytes) = []

@@ -22,7 +22,7 @@ pub enum Edit {
     Root(usize, u32),
     // Writes a text over that of the node of a number.
     Text(u32, &'static str),
-    // The same for a comment.
+    // Writes a comment over that of the node of a number.
     Comment(u32, &'static str),
     // Writes a part of the tag of a number.
     Part(u32, Part),

@@ -327,7 +327,7 @@ fn looks_up_thirds(document: &VDom<'_>, tags: u32) -> bool {
     handles.next().is_none() && handles.next().is_none()
 }
 
-// The same by a selector.
+// Whether every third tag is found by a selector, and no other.
 fn selects_thirds(alloc: Global, document: &VDom<'_>, tags: u32) -> bool {
     let Ok(Some(mut handles)) = document.query_selector(alloc, ".k") else {
         return false;

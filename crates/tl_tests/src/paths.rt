@@ -65,7 +65,7 @@ fn first<'b>(document: &'b root::VDom<'_>, selector: parts::Selector<'b>) -> Opt
     }
 }
 
-// The same of a page and a text.
+// The number of the first node of a page that the selector of a text finds.
 fn first_in<'t>(alloc: Global, page: &'t str, text: &'t str) -> Option<u32> {
     let document = root::parse(alloc, page, root::ParserOptions::new()).ok()?;
     let selector = selector_of(alloc, text)?;

@@ -75,7 +75,7 @@ fn query_tag(
     }
 }
 
-// The same, by a selector that was read before.
+// Queries a tag by a selector that was read before.
 fn ask_tag<'d>(
     alloc: Global,
     document: &'d VDom<'_>,
@@ -376,7 +376,7 @@ fn collections_are_asked(rt: HostRuntime) -> Result<(), Fail> {
     Ok(())
 }
 
-// The same by the table of a page of one text: a document counts by its own table, a tag by the handed one.
+// Questions by the table of a page of one text: a document counts by its own table, a tag by the handed one.
 #[rattlefmt::skip]
 static HANDED: [Collection; 4] = [
     ("<a><b></b></a>", &[], Place::Document, 0, "Some(0) Ok(2) 0 Bytes(\"y\")"),

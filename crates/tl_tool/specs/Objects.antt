@@ -47,7 +47,7 @@ node_data n node text = object_of (attributes_data node) (value_data (name_of no
 abbrev pub data_at : List Node → ℕ → Outcome Data
 data_at nodes n = option_map_or (λ node. outcome_map (node_data n node) (outcome_of (inner_text nodes node))) (slice_get nodes n) refused
 
--- the same as a list
+-- a list of what is said of that node, and of nothing else
 abbrev pub one_data : List Node → ℕ → Outcome (List Data)
 one_data nodes n = outcome_map (λ d. d ∷ []) (data_at nodes n)
 

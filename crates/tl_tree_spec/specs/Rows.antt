@@ -12,7 +12,7 @@ use Rattle.tl_tree_spec.specs.Stays.{stay}
 abbrev pub trees : String → Option HtmlForest
 trees page = html_trees (tokens_in_page (codes page))
 
--- the same written again: what `innerHTML` gives back
+-- these trees written again: what `innerHTML` gives back
 abbrev pub written_trees : HtmlForest → List ℕ
 written_trees f = written (html_tokens_of f)
 

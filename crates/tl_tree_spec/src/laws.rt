@@ -16,8 +16,8 @@ pub fn trees_stay()
         html_trees (html_tokens_of f) ≡ Some f }
 {}
 
-/// The same wherever they are put: where any elements are open, they go into the innermost one, and
-/// nothing around it changes.
+/// Such trees stay wherever they are put: where any elements are open, they go into the innermost
+/// one, and nothing around it changes.
 #[tactic(auto, using(crate::proofs::Places::names_placed, crate::proofs::Places::stays_placed))]
 pub fn trees_stay_anywhere()
     ensures puts { (tags : List HtmlTag) (f : HtmlForest) →

@@ -49,7 +49,7 @@ abbrev pub part_from : List ℕ → ℕ → Option (List ℕ) → List ℕ
 part_from part end None = opening ∷ part
 part_from part end (Some value) = escape value ++ drop (end + 1) part
 
--- the same where its name has an end
+-- a part whose name has this end, or none
 abbrev pub part_to : Fields → List ℕ → Option ℕ → List ℕ
 part_to fields part None = opening ∷ part
 part_to fields part (Some end) = part_from part end (value_of fields (take end part))
@@ -81,7 +81,7 @@ trees_with fields (tag own children more) =
     tag (record own { attributes = plain_attributes_with fields own.attributes })
     (trees_with fields children) (trees_with fields more)
 
--- the same of the attributes in a table, of a node, and of a document
+-- with fields: the attributes in a table, a node, and a document
 abbrev pub attributes_with : Fields → Attributes (List ℕ) → Attributes (List ℕ)
 attributes_with fields a =
     attributes_image (text_with fields) (map_image (λ key. key) (option_map (text_with fields))) a

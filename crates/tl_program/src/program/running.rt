@@ -69,7 +69,8 @@ pub fn output(alloc: Global, command: &Command<'_>, input: &[u8]) -> Result<Stri
     answer(alloc, command, &mut document)
 }
 
-// The same in a program that ends soon: the memory of the page's document is not taken back.
+// What a command gives of a page in a program that ends soon: the memory of the page's document is
+// not taken back.
 #[tactic(auto, using(tl_page::proofs::Pages::pages))]
 fn last_output(alloc: Global, command: &Command<'_>, input: &[u8]) -> Result<String, Failure>
     ensures outcome { let selector = selector_of (asked_of command.now) in

@@ -128,7 +128,7 @@ fn push_handle<A, B, O: OutlineOf<A>>(
     list.push(child).map_err(|_| AllocError)
 }
 
-// The same of a child at a place.
+// A removal of the child at a place of a tag of any parts.
 fn pull_handle<A, B, O: OutlineOf<A>>(tag: &mut TagOf<A, B, O>, place: usize)
     requires { place < length tag.old.children.items }
     ensures { tag.new ≡ record tag.old { children = without_item tag.old.children place } }
