@@ -1,5 +1,5 @@
 -- Where a selector of CSS holds: at tags.
-use Rattle.std.specs.Prelude.{◌≡◌, ◌≢◌, ◌↔◌, ◌⊎◌, ◌<◌, ◌≤◌, ◌+ℤ◌, ◌*ℤ◌, ℕ, zero, suc, pos, Bool, if◌then◌else◌, List, [], ◌∷◌, ◌++◌, length, Some, slice_get, ⊤}
+use Rattle.std.specs.Prelude.{◌≡◌, ◌≢◌, ◌↔◌, ◌⊎◌, ◌<◌, ◌≤◌, ◌+ℤ◌, ◌*ℤ◌, ℕ, zero, suc, pos, Bool, true, if◌then◌else◌, List, [], ◌∷◌, ◌++◌, length, Some, slice_get, ⊤}
 use Rattle.std.specs.List.{All, AllPairs, Contains, slice_split}
 use Rattle.std.specs.Option.{IsSome, IsSomeAnd, unwrap_or}
 use Rattle.std.specs.Str.{byte, str_to_ascii_lowercase}
@@ -7,6 +7,7 @@ use Rattle.tl_spec.specs.Attribute.{Pair}
 use Rattle.tl_spec.specs.AttributeList.{pairs_in_order}
 use Rattle.tl_spec.specs.Document.{Node, Tag, Raw, Comment, TagNode}
 use Rattle.tl_spec.specs.Element.{name_of, children_of}
+use Rattle.tl_spec.specs.Scan.{has_id, is_in_class}
 use Rattle.tl_spec.specs.SelectorMeaning.{IsChild}
 use Rattle.tl_css.specs.declared.selector.Op.{Op}
 use Rattle.tl_css.specs.declared.selector.Op.TheVariants.{Equals, Word, Dashed, Starts, Ends, Inside}
@@ -63,12 +64,12 @@ module _ (nodes : List Node) where
   abbrev pub IsNothing : ℕ → Type 0
   IsNothing n = (slice_get nodes n ≡ Some (Raw [])) ⊎ ((bytes : List ℕ) × (slice_get nodes n ≡ Some (Comment bytes)))
 
-  -- a test passes at a tag
+  -- a test passes at a tag; the keys `id` and `class` are these in exact case
   abbrev pub IsMet : Test → Node → Type 0
   IsMet Any node = ⊤
   IsMet (Name name) node = IsSomeAnd (name_of node) (λ own. str_to_ascii_lowercase own ≡ name)
-  IsMet (Id id) node = HasKey (λ own. own ≡ id) (byte "i" ∷ byte "d" ∷ []) node
-  IsMet (Class class) node = HasKey (Passes Word class) (byte "c" ∷ byte "l" ∷ byte "a" ∷ byte "s" ∷ byte "s" ∷ []) node
+  IsMet (Id id) node = has_id id node ≡ true
+  IsMet (Class class) node = is_in_class class node ≡ true
   IsMet (Key key) node = HasKey (λ own. ⊤) key node
   IsMet (Value key op value folds) node = HasKey (λ own. Passes op (folded folds value) (folded folds own)) key node
   IsMet Empty node = All IsNothing (children_of node)

@@ -1,0 +1,15 @@
+pub mod Sources
+pub mod Targets
+pub mod Ahead
+pub mod Behind
+pub mod Previous
+pub mod Parents
+pub mod Siblings
+pub mod Marks
+pub mod Twins
+pub mod Nothings
+pub mod Formulas
+pub mod Relatives
+pub mod Stacks
+pub mod Pushes
+pub mod Shapes

@@ -1,0 +1,12 @@
+use Rattle.std.proofs.Common.{◌≡◌, length, map, arith}
+use Rattle.std.proofs.lemmas.List.{length-map}
+use Rattle.tl_css_select.proofs.Twins.{are_twins}
+use Rattle.tl_css_select.proofs.kin.twins.Goals as goal
+
+pub returns : goal.returns
+returns g c =
+    let nodes = map g.N.Element.node c.args.nodes.now in
+    let same = length-map c.args.nodes.now g.N.Element.node in
+    let all : c.loop-number.number ≡ length c.args.nodes.now = omega arith in
+    let len = c.loop-number.invariant.len in
+    are_twins nodes c.loop-number.links.items (omega (arith, all, same, len)) (λ n w. c.loop-number.invariant.each n (omega (arith, all, same, w)))

@@ -1,0 +1,7 @@
+use Rattle.std.proofs.Common.{◌≡◌, drop}
+use Rattle.tl_spec.specs.Element.{children_of}
+use Rattle.tl_css_select.specs.Shape.{are_orphans}
+use Rattle.tl_css_select.proofs.shape.are_orphans.Given as goal
+
+abbrev pub invariant-loop-place : goal.invariant-loop-place
+invariant-loop-place g l = are_orphans l.parents (drop l.place (children_of (g.N.Element.node l.node))) ≡ are_orphans l.parents (children_of (g.N.Element.node l.node))

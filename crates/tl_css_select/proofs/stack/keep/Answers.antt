@@ -1,0 +1,16 @@
+use Rattle.std.proofs.Common.{◌∷◌, List, Bool, ap, map, subst, sym}
+use Rattle.tl_css.specs.Selector.{Both, Css, Is}
+use Rattle.tl_css.specs.Program.{meet}
+use Rattle.tl_css.specs.View.{test}
+use Rattle.tl_css_select.specs.Columns.{AreMarks}
+use Rattle.tl_css_select.proofs.Stacks.{last_is, put_back}
+use Rattle.tl_css_select.proofs.stack.keep.Goals as goal
+
+pub returns : goal.returns
+returns g c es are =
+    let nodes = map g.N.Element.node c.args.nodes.now in
+    let t = Is (test c.args.test.now) in
+    let l = last_is nodes es c.args.columns.items c.pop.new.self.items c.in-Some.marks c.in-Some.ensures.items are in
+    let m = subst (λ (marks : List Bool). AreMarks nodes l.first marks) (sym c.deref.ensures.value) l.marked in
+    put_back nodes (meet (t ∷ es)) l.others (Both l.first t) _ _ _ (ap (λ (es : List Css). meet (t ∷ es)) l.are)
+    c.in_ok-after-2.ensures (c.in_ok-found-2.ensures l.first m) l.left

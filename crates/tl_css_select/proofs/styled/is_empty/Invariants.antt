@@ -1,0 +1,8 @@
+use Rattle.std.proofs.Common.{map, take}
+use Rattle.std.specs.List.{All}
+use Rattle.tl_spec.specs.Element.{children_of}
+use Rattle.tl_css.specs.Meaning.{IsNothing}
+use Rattle.tl_css_select.proofs.styled.is_empty.Given as goal
+
+abbrev pub invariant-loop-place : goal.invariant-loop-place
+invariant-loop-place g l = All (IsNothing (map g.N.Element.node l.nodes)) (take l.place (children_of (g.N.Element.node l.node)))

@@ -1,0 +1,5 @@
+pub mod Links
+pub mod Kin
+pub mod Columns
+pub mod Terms
+pub mod Shape

@@ -1,0 +1,192 @@
+//! Marks of the nodes where selectors hold.
+ghost use Rattle.std.specs.Prelude.{◌≡◌, ◌↔◌, ◌<◌, ◌^◌, ℕ, IfOk, true, length, map, not, ◌&&◌, ◌||◌};
+ghost use Rattle.tl_css.specs.Selector.{At, Both, Css, Is, Not, Nth};
+ghost use Rattle.tl_css.specs.View.{test as test_of};
+ghost use Rattle.tl_css.specs.Meaning.{IsCount, IsForest, IsTerm};
+ghost use Rattle.tl_css_select.specs.Columns.{AreMarks, IsCounted, IsPassed, is_often};
+ghost use Rattle.tl_css_select.specs.Kin.{AreLinksOf, is_tag_at};
+ghost use Rattle.tl_css_select.specs.Links.{AreLower, count_at, is_at};
+
+use crate::kin::is_tag_at;
+use crate::links::{counts_ahead, counts_behind, is_marked, sources, targets};
+use crate::styled::{Styled, is_met_at};
+use crate::term::is_term;
+use std::alloc::{AllocError, Global};
+use tl_css::selector::{Formula, Link, Reach, Test, Way};
+use tl_table::element::Element;
+
+/// The marks of a test.
+pub fn asked<N: Styled>(alloc: Global, nodes: &[N], test: &Test) -> Result<Vec<bool>, AllocError>
+    ensures { IfOk result (λ marks. AreMarks (map N.node nodes.now) (Is (test_of test.now)) marks.items) }
+{
+    let mut marks = Vec::with_capacity(alloc, nodes.len())?;
+    for number in 0..nodes.len() {
+        marks.push(is_met_at(nodes, number, test))?;
+    }
+    Ok(marks)
+}
+
+/// The marks of a test among those that are marked.
+pub fn asked_among<N: Styled>(
+    alloc: Global,
+    nodes: &[N],
+    among: &[bool],
+    test: &Test,
+) -> Result<Vec<bool>, AllocError>
+    ensures { (e : Css) → AreMarks (map N.node nodes.now) e among.now
+        → IfOk result (λ marks. AreMarks (map N.node nodes.now) (Both e (Is (test_of test.now))) marks.items) }
+{
+    let mut marks = Vec::with_capacity(alloc, nodes.len())?;
+    for number in 0..nodes.len() {
+        marks.push(is_marked(among, number) && is_met_at(nodes, number, test))?;
+    }
+    Ok(marks)
+}
+
+/// The marks of the tags that have none.
+pub fn unmarked_tags<N: Element>(
+    alloc: Global,
+    nodes: &[N],
+    marks: &[bool],
+) -> Result<Vec<bool>, AllocError>
+    ensures { (e : Css) → AreMarks (map N.node nodes.now) e marks.now
+        → IfOk result (λ found. AreMarks (map N.node nodes.now) (Not e) found.items) }
+{
+    let mut found = Vec::with_capacity(alloc, nodes.len())?;
+    for number in 0..nodes.len() {
+        found.push(is_tag_at(nodes, number) && !is_marked(marks, number))?;
+    }
+    Ok(found)
+}
+
+/// Takes the mark from each node that has none among the others.
+pub fn meet(marks: &mut Vec<bool>, others: &[bool])
+    ensures len { length marks.new.items ≡ length marks.old.items }
+    ensures both { (n : ℕ) → is_at marks.new.items n
+        ≡ (is_at marks.old.items n && is_at others.now n) }
+{
+    for (number, mark) in marks.iter_mut().enumerate() {
+        *mark = *mark && is_marked(others, number);
+    }
+}
+
+/// Adds the marks of the others, as far as there are marks.
+pub fn unite(marks: &mut Vec<bool>, others: &[bool])
+    ensures len { length marks.new.items ≡ length marks.old.items }
+    ensures either { (n : ℕ) → n < length marks.old.items → is_at marks.new.items n
+        ≡ (is_at marks.old.items n || is_at others.now n) }
+{
+    for (number, mark) in marks.iter_mut().enumerate() {
+        *mark = *mark || is_marked(others, number);
+    }
+}
+
+// Takes the mark from each node that is no tag.
+fn keep_tags<N: Element>(marks: &mut Vec<bool>, nodes: &[N])
+    ensures len { length marks.new.items ≡ length marks.old.items }
+    ensures kept { (n : ℕ) → is_at marks.new.items n
+        ≡ (is_at marks.old.items n && is_tag_at (map N.node nodes.now) n) }
+{
+    for (number, mark) in marks.iter_mut().enumerate() {
+        *mark = *mark && is_tag_at(nodes, number);
+    }
+}
+
+// The marks that links pass on, in this way.
+fn passed(
+    alloc: Global,
+    links: &[u32],
+    marks: &[bool],
+    way: Way,
+    often: bool,
+) -> Result<Vec<bool>, AllocError>
+    requires { AreLower links.now }
+    ensures len { IfOk result (λ found. length found.items ≡ length links.now) }
+    ensures each { IfOk result (λ found. (n : ℕ)
+        → (is_at found.items n ≡ true) ↔ IsPassed links.now marks.now way often n) }
+{
+    match way {
+        Way::From => sources(alloc, links, marks, often),
+        Way::To => targets(alloc, links, marks, often),
+    }
+}
+
+fn is_often(reach: Reach) -> bool
+    ensures { result ≡ is_often reach }
+{
+    matches!(reach, Reach::Often)
+}
+
+/// The marks of the tags that are related to a marked one.
+pub fn relatives<N: Element>(
+    alloc: Global,
+    nodes: &[N],
+    links: &[u32],
+    marks: &[bool],
+    relation: (Way, Link, Reach),
+) -> Result<Vec<bool>, AllocError>
+    requires forest { IsForest (map N.node nodes.now) }
+    requires links { AreLinksOf (map N.node nodes.now) relation.1 links.now }
+    ensures { (e : Css) → AreMarks (map N.node nodes.now) e marks.now → IfOk result (λ found.
+        AreMarks (map N.node nodes.now) (At relation.0 relation.1 relation.2 e) found.items) }
+{
+    let (way, _, reach) = relation;
+    let mut found = passed(alloc, links, marks, way, is_often(reach))?;
+    keep_tags(&mut found, nodes);
+    Ok(found)
+}
+
+// How many marks there are in this way from each number, with itself.
+fn counts(alloc: Global, links: &[u32], marks: &[bool], way: Way) -> Result<Vec<u32>, AllocError>
+    requires lower { AreLower links.now }
+    requires numbered { length links.now < 2 ^ 32 }
+    ensures len { IfOk result (λ counts. length counts.items ≡ length links.now) }
+    ensures each { IfOk result (λ counts. (n : ℕ) → n < length links.now
+        → IsCount (IsCounted links.now marks.now way n) (count_at counts.items n)) }
+{
+    match way {
+        Way::From => counts_ahead(alloc, links, marks),
+        Way::To => counts_behind(alloc, links, marks),
+    }
+}
+
+fn count_at(counts: &[u32], number: usize) -> u32
+    ensures { result ≡ count_at counts.now number }
+{
+    if number < counts.len() {
+        counts[number]
+    } else {
+        0
+    }
+}
+
+// Whether a number is marked, and its count is of a formula.
+fn is_marked_term(marks: &[bool], counts: &[u32], formula: Formula, number: usize) -> bool
+    ensures { (result ≡ true) ↔ ((is_at marks.now number ≡ true)
+        × IsTerm formula (count_at counts.now number)) }
+{
+    is_marked(marks, number) && is_term(formula, count_at(counts, number))
+}
+
+/// The marks of the tags whose counts are of a formula.
+pub fn terms<N: Element>(
+    alloc: Global,
+    nodes: &[N],
+    links: &[u32],
+    marks: &[bool],
+    sequence: (Way, Link, Formula),
+) -> Result<Vec<bool>, AllocError>
+    requires forest { IsForest (map N.node nodes.now) }
+    requires numbered { length nodes.now < 2 ^ 32 }
+    requires links { AreLinksOf (map N.node nodes.now) sequence.1 links.now }
+    ensures { (e : Css) → AreMarks (map N.node nodes.now) e marks.now → IfOk result (λ found.
+        AreMarks (map N.node nodes.now) (Nth sequence.0 sequence.1 sequence.2 e) found.items) }
+{
+    let (way, _, formula) = sequence;
+    let counts = counts(alloc, links, marks, way)?;
+    let mut found = Vec::with_capacity(alloc, nodes.len())?;
+    for number in 0..nodes.len() {
+        found.push(is_marked_term(marks, &counts, formula, number))?;
+    }
+    Ok(found)
+}

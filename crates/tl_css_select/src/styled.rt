@@ -1,0 +1,78 @@
+//! Tests of a node by itself.
+ghost use Rattle.std.specs.Prelude.{◌≡◌, ◌↔◌, ℕ, IfSome, List, true, false, map};
+ghost use Rattle.std.specs.List.{All};
+ghost use Rattle.tl_spec.specs.Document.{Node};
+ghost use Rattle.tl_spec.specs.Element.{children_of};
+ghost use Rattle.tl_css.specs.Meaning.{Holds, IsMet, IsNothing};
+ghost use Rattle.tl_css.specs.Selector.{Empty, Is};
+ghost use Rattle.tl_css.specs.View.{test as test_of};
+ghost use Rattle.tl_css_select.specs.Columns.{is_nothing};
+
+use crate::kin::is_tag;
+use tl_css::selector::Test;
+use tl_table::element::Element;
+
+/// What selectors of CSS see of a node.
+pub trait Styled: Element {
+    /// Whether a test other than `Empty` passes at it.
+    fn passes(&self, test: &Test) -> bool
+        ensures { (nodes : List Node) → (test_of test.now ≡ Empty → ⊥)
+            → (result ≡ true) ↔ IsMet nodes (test_of test.now) (Self.node self.now) };
+
+    /// Whether it is a text without a byte, or a comment.
+    fn is_nothing(&self) -> bool
+        ensures { result ≡ is_nothing (Self.node self.now) };
+}
+
+// Whether there is a node of this number that counts as nothing.
+fn is_nothing_at<N: Styled>(nodes: &[N], number: u32) -> bool
+    ensures { (result ≡ true) ↔ IsNothing (map N.node nodes.now) number }
+{
+    match nodes.get(number as usize) {
+        Some(node) => node.is_nothing(),
+        None => false,
+    }
+}
+
+// The same of a child, if there is one.
+fn is_nothing_child<N: Styled>(nodes: &[N], child: Option<u32>) -> bool
+    ensures { (result ≡ true) ↔ IfSome child (IsNothing (map N.node nodes.now)) }
+{
+    match child {
+        Some(number) => is_nothing_at(nodes, number),
+        None => true,
+    }
+}
+
+// Whether all children of a node count as nothing.
+fn is_empty<N: Styled>(nodes: &[N], node: &N) -> bool
+    ensures { (result ≡ true)
+        ↔ All (IsNothing (map N.node nodes.now)) (children_of (N.node node.now)) }
+{
+    for place in 0..node.child_count() {
+        if !is_nothing_child(nodes, node.child(place)) {
+            return false;
+        }
+    }
+    true
+}
+
+// Whether a test passes at a node.
+fn is_met<N: Styled>(nodes: &[N], node: &N, test: &Test) -> bool
+    ensures { (result ≡ true) ↔ IsMet (map N.node nodes.now) (test_of test.now) (N.node node.now) }
+{
+    match test {
+        Test::Empty => is_empty(nodes, node),
+        _ => node.passes(test),
+    }
+}
+
+/// Whether there is a tag of this number, and a test passes at it.
+pub fn is_met_at<N: Styled>(nodes: &[N], number: usize, test: &Test) -> bool
+    ensures { (result ≡ true) ↔ Holds (map N.node nodes.now) (Is (test_of test.now)) number }
+{
+    match nodes.get(number) {
+        Some(node) => is_tag(node) && is_met(nodes, node, test),
+        None => false,
+    }
+}
