@@ -1,4 +1,6 @@
 pub mod Listed
+pub mod Values
+pub mod Says
 pub mod Writes
 pub mod Whole
 pub mod Rows

@@ -14,6 +14,7 @@ ghost use Rattle.tl_safe.specs.Kept.{trees_of};
 ghost use Rattle.tl_safe.specs.Policies.{kept_of, lists_of};
 
 mod keep;
+pub mod laws;
 mod lists;
 mod policy;
 mod refusal;
