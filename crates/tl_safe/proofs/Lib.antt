@@ -9,3 +9,8 @@ pub mod Tokenizer
 pub mod Trees
 pub mod Printed
 pub mod HtmlTrees
+pub mod Characters
+pub mod HtmlNormal
+pub mod Fits
+pub mod FitsStay
+pub mod KeptFitted

@@ -268,17 +268,25 @@ module _ (p : ListedWords) (lawful : are_lawful p ≡ true) where
             ∙ ap (λ ks. ks ++ page r) (sym (join-tag t (lossy_tag own) (norm children) (norm more)))
       ]
 
--- the laws
+-- the laws, of trees that are kept
+
+pub form_of : (p : ListedWords) → are_lawful p ≡ true → (f : Forest PlainTag) → AreKept p f → IsSafe p (print f)
+form_of p lawful f kept = kept-safe p lawful f kept
+
+pub standard_of : (p : ListedWords) → are_lawful p ≡ true → (f : Forest PlainTag) → AreKept p f → HaveOwnKeys f → tokens_in_page (print f) ≡ tokens_of (norm f)
+standard_of p lawful f kept own =
+    ap tokens_in_page (sym (append-nil (print f)))
+    ∙ read_before p lawful f [] [] refl kept own tt
+    ∙ append-nil (tokens_of (norm f))
+
+pub reads_of : (p : ListedWords) → are_lawful p ≡ true → (f : Forest PlainTag) → AreKept p f → HaveOwnKeys f → ReadsAs (print f) f
+reads_of p lawful f kept own = identity f (kept-clean p lawful f kept) own
 
 pub form : (p : ListedWords) → are_lawful p ≡ true → (f : Forest PlainTag) → IsSafe p (print (kept p f))
-form p lawful f = kept-safe p lawful (kept p f) (kept-AreKept p lawful f)
+form p lawful f = form_of p lawful (kept p f) (kept-AreKept p lawful f)
 
 pub standard : (p : ListedWords) → are_lawful p ≡ true → (f : Forest PlainTag) → HaveOwnKeys f → tokens_in_page (print (kept p f)) ≡ tokens_of (norm (kept p f))
-standard p lawful f own =
-    let k = kept-AreKept p lawful f in
-    ap tokens_in_page (sym (append-nil (print (kept p f))))
-    ∙ read_before p lawful (kept p f) [] [] refl k (kept-own p f own) tt
-    ∙ append-nil (tokens_of (norm (kept p f)))
+standard p lawful f own = standard_of p lawful (kept p f) (kept-AreKept p lawful f) (kept-own p f own)
 
 pub reads : (p : ListedWords) → are_lawful p ≡ true → (f : Forest PlainTag) → HaveOwnKeys f → ReadsAs (print (kept p f)) (kept p f)
-reads p lawful f own = identity (kept p f) (kept-clean p lawful (kept p f) (kept-AreKept p lawful f)) (kept-own p f own)
+reads p lawful f own = reads_of p lawful (kept p f) (kept-AreKept p lawful f) (kept-own p f own)

@@ -1,8 +1,18 @@
 //! Laws of the definitions.
 
-ghost use Rattle.std.specs.Prelude.{◌≡◌, ℕ, List};
-ghost use Rattle.tl_safe.specs.IsSafe.{value_characters};
+ghost use Rattle.std.specs.Prelude.{◌≡◌, ℕ, List, Some, true};
+ghost use Rattle.tl_spec.specs.Clean.{HaveOwnKeys};
+ghost use Rattle.tl_spec.specs.Forest.{Forest, PlainTag};
+ghost use Rattle.tl_spec.specs.Normal.{ReadsAs, norm};
+ghost use Rattle.tl_spec.specs.Print.{print};
+ghost use Rattle.tl_html_spec.specs.HtmlTokenizer.{tokens_in_page};
+ghost use Rattle.tl_tree_spec.specs.HtmlTreeBuilder.{html_trees};
+ghost use Rattle.tl_safe.specs.HtmlTrees.{as_html};
+ghost use Rattle.tl_safe.specs.IsSafe.{IsSafe, tokens_of, value_characters};
 ghost use Rattle.tl_safe.specs.Kept.{written_value};
+ghost use Rattle.tl_safe.specs.KeptFitted.{kept_fitted};
+ghost use Rattle.tl_safe.specs.Lists.{ListedWords};
+ghost use Rattle.tl_safe.specs.Refusals.{are_lawful};
 
 /// A value says the same as it is written: with references for its `<` and `>`, and with those that
 /// it had.
@@ -10,4 +20,20 @@ ghost use Rattle.tl_safe.specs.Kept.{written_value};
 pub fn written_values_say_the_same()
     ensures { (value : List ℕ) →
         value_characters (written_value value) ≡ value_characters value }
+{}
+
+/// The print of what a lawful policy keeps of trees, made to stay: it is safe, `tl` reads it as these
+/// trees, and so do the tokenizer and the tree builder of the HTML standard.
+#[tactic(auto, using(crate::proofs::KeptFitted::form, crate::proofs::KeptFitted::reads, crate::proofs::KeptFitted::standard, crate::proofs::KeptFitted::browser))]
+pub fn kept_trees_that_are_fitted_stay()
+    ensures form { (p : ListedWords) → are_lawful p ≡ true → (f : Forest PlainTag) →
+        HaveOwnKeys f → IsSafe p (print (kept_fitted p f)) }
+    ensures reads { (p : ListedWords) → are_lawful p ≡ true → (f : Forest PlainTag) →
+        HaveOwnKeys f → ReadsAs (print (kept_fitted p f)) (kept_fitted p f) }
+    ensures standard { (p : ListedWords) → are_lawful p ≡ true → (f : Forest PlainTag) →
+        HaveOwnKeys f → tokens_in_page (print (kept_fitted p f))
+        ≡ tokens_of (norm (kept_fitted p f)) }
+    ensures browser { (p : ListedWords) → are_lawful p ≡ true → (f : Forest PlainTag) →
+        HaveOwnKeys f → html_trees (tokens_in_page (print (kept_fitted p f)))
+        ≡ Some (as_html (norm (kept_fitted p f))) }
 {}
