@@ -18,7 +18,7 @@ use Rattle.tl_tree_spec.specs.Stays.{is_preformatted}
 use Rattle.tl_safe.specs.IsSafe.{is_written, text_characters}
 use Rattle.tl_safe.specs.Kept.{is_text_byte}
 use Rattle.tl_safe.specs.Lists.{ListedWords, is_among}
-use Rattle.tl_safe.specs.Fitted.{Built, Piece, Place, Run, alone, as_texts, at_top, built, built_on, element, enclosed, ended_to, ends, first_texts, fit, fitted, followed, is_closable, is_empty, is_read, is_written_anew, may_begin_line, names_of, past_lines, placed, room_for, says, starts, texts_there}
+use Rattle.tl_safe.specs.Fitted.{Levels, Piece, Place, Run, alone, as_texts, at_top, levels_of, with_piece, element_run, with_element, end_tags_to, ends, first_texts, fit, fitted, sequence, is_closable, is_empty, is_read, is_written_anew, may_begin_line, names_of, past_lines, tag_run, room_for, says, starts, texts_there}
 use Rattle.tl_spec.proofs.Ascii.{are_ascii}
 use Rattle.tl_safe.proofs.Trees.{AreKept}
 
@@ -204,44 +204,44 @@ module _ (p : ListedWords) where
       IsOwn own × (is_read names own.name ≡ true) × (is_void own.name ≡ true → children ≡ none)
       × Fits (own.name ∷ names) (is_preformatted (group own.name)) children × Fits names false more
 
-  abbrev FitAround : List PlainTag → List (Forest PlainTag) → Type 0
+  abbrev pub FitAround : List PlainTag → List (Forest PlainTag) → Type 0
   FitAround [] outer = ⊤
   FitAround (own ∷ around) [] = ⊥
   FitAround (own ∷ around) (more ∷ outer) = Fits (names_of around) false more × FitAround around outer
 
-  -- what was built fits where it is written
-  record AllFit (place : Place) (b : Built) : Type 0 where
-    here : Fits (names_of place.around) place.fresh b.here
-    outer : FitAround place.around b.outer
+  -- the levels fit where it is written
+  pub record AllFit (place : Place) (b : Levels) : Type 0 where
+    pub here : Fits (names_of place.around) place.fresh b.here
+    pub outer : FitAround place.around b.outer
 
-  abbrev at : List PlainTag → Place
+  abbrev pub at : List PlainTag → Place
   at around = record { around = around; fresh = false }
 
-  abbrev AnyFit : List PlainTag → Built → Type 0
+  abbrev pub AnyFit : List PlainTag → Levels → Type 0
   AnyFit around b = (fresh : Bool) → AllFit (record { around = around; fresh = fresh }) b
 
   -- an end
-  ended : (own : PlainTag) (around : List PlainTag) (b : Built) → AllFit (at around) b → AnyFit (own ∷ around) (built_on (ends own) b)
+  ended : (own : PlainTag) (around : List PlainTag) (b : Levels) → AllFit (at around) b → AnyFit (own ∷ around) (with_piece (ends own) b)
   ended own around b h fresh = record { here = tt; outer = (h.here, h.outer) }
 
   -- an element
-  started : (own : PlainTag) (around : List PlainTag) (b : Built) → IsOwn own → is_read (names_of around) own.name ≡ true → is_void own.name ≡ false →
-      AllFit (record { around = own ∷ around; fresh = is_preformatted (group own.name) }) b → AnyFit around (built_on (starts own) b)
+  started : (own : PlainTag) (around : List PlainTag) (b : Levels) → IsOwn own → is_read (names_of around) own.name ≡ true → is_void own.name ≡ false →
+      AllFit (record { around = own ∷ around; fresh = is_preformatted (group own.name) }) b → AnyFit around (with_piece (starts own) b)
   started own around b o r v h fresh = by b.outer h.outer
     where
-      by : (outer : List (Forest PlainTag)) → FitAround (own ∷ around) outer → AllFit (record { around = around; fresh = fresh }) (enclosed own b.here outer)
+      by : (outer : List (Forest PlainTag)) → FitAround (own ∷ around) outer → AllFit (record { around = around; fresh = fresh }) (with_element own b.here outer)
       by [] k = absurd k
       by (more ∷ outer) k = record { here = (o, r, (λ e. absurd (true≢false (sym e ∙ v))), h.here, k.0); outer = k.1 }
 
   -- a void element
-  stood : (own : PlainTag) (around : List PlainTag) (b : Built) → IsOwn own → is_read (names_of around) own.name ≡ true →
-      AllFit (at around) b → AnyFit around (built_on (alone own) b)
+  stood : (own : PlainTag) (around : List PlainTag) (b : Levels) → IsOwn own → is_read (names_of around) own.name ≡ true →
+      AllFit (at around) b → AnyFit around (with_piece (alone own) b)
   stood own around b o r h fresh = record { here = (o, r, (λ _. refl), tt, h.here); outer = h.outer }
 
   -- texts
-  said : (texts : List (List ℕ)) (place : Place) (b : Built) (rest : List Piece) → b ≡ built rest →
+  pub said : (texts : List (List ℕ)) (place : Place) (b : Levels) (rest : List Piece) → b ≡ levels_of rest →
       AreTexts (is_flow (mode_of (names_of place.around))) place.fresh texts →
-      AllFit (record place { fresh = list_all is_empty texts && place.fresh }) b → AllFit place (built (map says texts ++ rest))
+      AllFit (record place { fresh = list_all is_empty texts && place.fresh }) b → AllFit place (levels_of (map says texts ++ rest))
   said [] place b rest is h k = subst (AllFit place) is k
   said (t ∷ ts) place b rest is h k =
       let later = said ts (record place { fresh = is_empty t && place.fresh }) b rest is h.1 (subst (λ z. AllFit (record place { fresh = z }) b) (shuffle (is_empty t) (list_all is_empty ts) place.fresh) k) in
@@ -253,42 +253,42 @@ module _ (p : ListedWords) where
       shuffle false false z = refl
 
   -- what a run writes fits where it begins, where what comes later fits where it ends
-  abbrev RunFits : Place → Run → Type 0
-  RunFits place r = (rest : List Piece) → AllFit r.after (built rest) → AllFit place (built (r.pieces ++ rest))
+  abbrev pub RunFits : Place → Run → Type 0
+  RunFits place r = (rest : List Piece) → AllFit r.after (levels_of rest) → AllFit place (levels_of (r.pieces ++ rest))
 
-  abbrev AnyRun : List PlainTag → Run → Type 0
-  AnyRun around r = (rest : List Piece) → AllFit r.after (built rest) → AnyFit around (built (r.pieces ++ rest))
+  abbrev pub AnyRun : List PlainTag → Run → Type 0
+  AnyRun around r = (rest : List Piece) → AllFit r.after (levels_of rest) → AnyFit around (levels_of (r.pieces ++ rest))
 
   -- the ends of several
-  last-fits : (n : ℕ) (around : List PlainTag) → RunFits (at around) (ended_to n around)
+  pub last-fits : (n : ℕ) (around : List PlainTag) → RunFits (at around) (end_tags_to n around)
   last-fits n [] rest h = h
   last-fits n (own ∷ around) rest h = by (nat_lt n (suc (length around))) (last-fits n around rest) h
     where
       r : Run
-      r = ended_to n around
+      r = end_tags_to n around
 
-      by : (x : Bool) → (AllFit (ended_to n around).after (built rest) → AllFit (at around) (built ((ended_to n around).pieces ++ rest))) →
-          AllFit (if x then (let r = ended_to n around in record r { pieces = ends own ∷ r.pieces }) else record { pieces = []; after = record { around = own ∷ around; fresh = false } }).after (built rest) →
-          AllFit (at (own ∷ around)) (built ((if x then (let r = ended_to n around in record r { pieces = ends own ∷ r.pieces }) else record { pieces = []; after = record { around = own ∷ around; fresh = false } }).pieces ++ rest))
-      by true more k = ended own around (built ((ended_to n around).pieces ++ rest)) (more k) false
+      by : (x : Bool) → (AllFit (end_tags_to n around).after (levels_of rest) → AllFit (at around) (levels_of ((end_tags_to n around).pieces ++ rest))) →
+          AllFit (if x then (let r = end_tags_to n around in record r { pieces = ends own ∷ r.pieces }) else record { pieces = []; after = record { around = own ∷ around; fresh = false } }).after (levels_of rest) →
+          AllFit (at (own ∷ around)) (levels_of ((if x then (let r = end_tags_to n around in record r { pieces = ends own ∷ r.pieces }) else record { pieces = []; after = record { around = own ∷ around; fresh = false } }).pieces ++ rest))
+      by true more k = ended own around (levels_of ((end_tags_to n around).pieces ++ rest)) (more k) false
       by false more k = k
 
-  some-last-fit : (n : ℕ) (around : List PlainTag) → nat_lt n (length around) ≡ true → AnyRun around (ended_to n around)
+  pub some-last-fit : (n : ℕ) (around : List PlainTag) → nat_lt n (length around) ≡ true → AnyRun around (end_tags_to n around)
   some-last-fit n [] l rest h fresh = absurd (true≢false (sym l ∙ none_below n))
     where
       none_below : (n : ℕ) → nat_lt n 0 ≡ false
       none_below n = grind (arith, nat_tests)
   some-last-fit n (own ∷ around) l rest h fresh =
-      let one : Bool → Run = λ x. if x then (let r = ended_to n around in record r { pieces = ends own ∷ r.pieces }) else record { pieces = []; after = record { around = own ∷ around; fresh = false } } in
-      subst (λ x. AllFit (record { around = own ∷ around; fresh = fresh }) (built ((one x).pieces ++ rest))) (sym l)
-      (ended own around (built ((ended_to n around).pieces ++ rest)) (last-fits n around rest (subst (λ x. AllFit (one x).after (built rest)) l h)) fresh)
+      let one : Bool → Run = λ x. if x then (let r = end_tags_to n around in record r { pieces = ends own ∷ r.pieces }) else record { pieces = []; after = record { around = own ∷ around; fresh = false } } in
+      subst (λ x. AllFit (record { around = own ∷ around; fresh = fresh }) (levels_of ((one x).pieces ++ rest))) (sym l)
+      (ended own around (levels_of ((end_tags_to n around).pieces ++ rest)) (last-fits n around rest (subst (λ x. AllFit (one x).after (levels_of rest)) l h)) fresh)
 
   -- room
-  record Roomy (n : List ℕ) (around : List PlainTag) (room : Run) : Type 0 where
-    reads : is_read (names_of room.after.around) n ≡ true
-    opens : (rest : List Piece) → AnyFit room.after.around (built rest) → AnyFit around (built (room.pieces ++ rest))
+  pub record Roomy (n : List ℕ) (around : List PlainTag) (room : Run) : Type 0 where
+    pub reads : is_read (names_of room.after.around) n ≡ true
+    pub opens : (rest : List Piece) → AnyFit room.after.around (levels_of rest) → AnyFit around (levels_of (room.pieces ++ rest))
 
-  abbrev IsRoomy : List ℕ → List PlainTag → Option Run → Type 0
+  abbrev pub IsRoomy : List ℕ → List PlainTag → Option Run → Type 0
   IsRoomy n around None = ⊤
   IsRoomy n around (Some room) = Roomy n around room
 
@@ -305,93 +305,90 @@ module _ (p : ListedWords) where
   after-end n own around None h = tt
   after-end n own around (Some room) h = record {
     reads = h.reads;
-    opens = λ rest k. ended own around (built (room.pieces ++ rest)) (h.opens rest k false);
+    opens = λ rest k. ended own around (levels_of (room.pieces ++ rest)) (h.opens rest k false);
   }
 
   if-roomy : (n : List ℕ) (around : List PlainTag) (x : Bool) (o : Option Run) → IsRoomy n around o → IsRoomy n around (if x then o else None)
   if-roomy n around true o h = h
   if-roomy n around false o h = tt
 
-  roomy : (n : List ℕ) (around : List PlainTag) → IsRoomy n around (room_for n around)
+  pub roomy : (n : List ℕ) (around : List PlainTag) → IsRoomy n around (room_for n around)
   roomy n [] = choose-roomy n [] (is_read (names_of []) n) None refl tt
   roomy n (own ∷ around) =
       choose-roomy n (own ∷ around) (is_read (names_of (own ∷ around)) n) _ refl
       (if-roomy n (own ∷ around) (is_closable own.name) _ (after-end n own around (room_for n around) (roomy n around)))
 
   -- a tag where there is room
-  abbrev inner_place : PlainTag → List PlainTag → Place
+  abbrev pub inner_place : PlainTag → List PlainTag → Place
   inner_place own around = record { around = own ∷ around; fresh = is_preformatted (group own.name) }
 
-  element-fits : (own : PlainTag) (around : List PlainTag) (inner : Run) → IsOwn own → is_read (names_of around) own.name ≡ true → is_void own.name ≡ false →
-      RunFits (inner_place own around) inner → AnyRun around (element own around inner)
+  pub element-fits : (own : PlainTag) (around : List PlainTag) (inner : Run) → IsOwn own → is_read (names_of around) own.name ≡ true → is_void own.name ≡ false →
+      RunFits (inner_place own around) inner → AnyRun around (element_run own around inner)
   element-fits own around inner o r v h = by (nat_lt (length around) (length inner.after.around)) refl
     where
       last : Run
-      last = ended_to (length around) inner.after.around
+      last = end_tags_to (length around) inner.after.around
 
       by : (x : Bool) → nat_lt (length around) (length inner.after.around) ≡ x →
-          AnyRun around (if x then (let last = ended_to (length around) inner.after.around in record { pieces = starts own ∷ (inner.pieces ++ last.pieces); after = last.after }) else record inner { pieces = starts own ∷ inner.pieces })
+          AnyRun around (if x then (let last = end_tags_to (length around) inner.after.around in record { pieces = starts own ∷ (inner.pieces ++ last.pieces); after = last.after }) else record inner { pieces = starts own ∷ inner.pieces })
       by true e rest k =
-          let ends_first : AllFit inner.after (built ((ended_to (length around) inner.after.around).pieces ++ rest)) =
+          let ends_first : AllFit inner.after (levels_of ((end_tags_to (length around) inner.after.around).pieces ++ rest)) =
           some-last-fit (length around) inner.after.around e rest k inner.after.fresh in
-          subst (λ (ps : List Piece). AnyFit around (built (starts own ∷ ps))) (sym (append_assoc inner.pieces (ended_to (length around) inner.after.around).pieces rest))
-          (started own around (built (inner.pieces ++ ((ended_to (length around) inner.after.around).pieces ++ rest))) o r v
-          (h ((ended_to (length around) inner.after.around).pieces ++ rest) ends_first))
-      by false e rest k = started own around (built (inner.pieces ++ rest)) o r v (h rest k)
+          subst (λ (ps : List Piece). AnyFit around (levels_of (starts own ∷ ps))) (sym (append_assoc inner.pieces (end_tags_to (length around) inner.after.around).pieces rest))
+          (started own around (levels_of (inner.pieces ++ ((end_tags_to (length around) inner.after.around).pieces ++ rest))) o r v
+          (h ((end_tags_to (length around) inner.after.around).pieces ++ rest) ends_first))
+      by false e rest k = started own around (levels_of (inner.pieces ++ rest)) o r v (h rest k)
 
-  Inside : (Place → Run) → Type 0
-  Inside inside = (q : Place) → RunFits q (inside q)
-
-  abbrev here_of : PlainTag → List PlainTag → (Place → Run) → Bool → Run
+  abbrev pub here_of : PlainTag → List PlainTag → (Place → Run) → Bool → Run
   here_of own around inside v =
       if v then record { pieces = alone own ∷ []; after = record { around = around; fresh = false } }
-      else element own around (inside (inner_place own around))
+      else element_run own around (inside (inner_place own around))
 
-  here-fits : (own : PlainTag) (around : List PlainTag) (inside : Place → Run) → IsOwn own → is_read (names_of around) own.name ≡ true →
+  pub here-fits : (own : PlainTag) (around : List PlainTag) (inside : Place → Run) → IsOwn own → is_read (names_of around) own.name ≡ true →
       ((q : Place) → RunFits q (inside q)) → (v : Bool) → is_void own.name ≡ v → AnyRun around (here_of own around inside v)
-  here-fits own around inside o r h true e rest k = stood own around (built rest) o r k
+  here-fits own around inside o r h true e rest k = stood own around (levels_of rest) o r k
   here-fits own around inside o r h false e rest k = element-fits own around (inside (inner_place own around)) o r e (h (inner_place own around)) rest k
 
-  placed-fits : (own : PlainTag) (inside : Place → Run) (place : Place) (o : Option Run) → IsOwn own → IsRoomy own.name place.around o →
-      ((q : Place) → RunFits q (inside q)) → RunFits place (placed own inside place o)
-  placed-fits own inside place None is space h rest k = h place rest k
-  placed-fits own inside place (Some room) is space h rest k =
+  pub tag_run-fits : (own : PlainTag) (inside : Place → Run) (place : Place) (o : Option Run) → IsOwn own → IsRoomy own.name place.around o →
+      ((q : Place) → RunFits q (inside q)) → RunFits place (tag_run own inside place o)
+  tag_run-fits own inside place None is space h rest k = h place rest k
+  tag_run-fits own inside place (Some room) is space h rest k =
       let around : List PlainTag = room.after.around in
       let here : Run = here_of own around inside (is_void own.name) in
-      subst (λ (ps : List Piece). AllFit place (built ps)) (sym (append_assoc room.pieces here.pieces rest))
+      subst (λ (ps : List Piece). AllFit place (levels_of ps)) (sym (append_assoc room.pieces here.pieces rest))
       (space.opens (here.pieces ++ rest) (here-fits own around inside is space.reads h (is_void own.name) refl rest k) place.fresh)
 
-  followed-fits : (place : Place) (r : Run) (more : Place → Run) → RunFits place r → RunFits r.after (more r.after) → RunFits place (followed r more)
-  followed-fits place r more h k rest l =
-      subst (λ (ps : List Piece). AllFit place (built ps)) (sym (append_assoc r.pieces (more r.after).pieces rest))
+  pub sequence-fits : (place : Place) (r : Run) (more : Place → Run) → RunFits place r → RunFits r.after (more r.after) → RunFits place (sequence r more)
+  sequence-fits place r more h k rest l =
+      subst (λ (ps : List Piece). AllFit place (levels_of ps)) (sym (append_assoc r.pieces (more r.after).pieces rest))
       (h ((more r.after).pieces ++ rest) (k rest l))
 
-  fit-fits : (f : Forest PlainTag) (place : Place) → AreKept p f → HaveOwnKeys f → RunFits place (fit place f)
+  pub fit-fits : (f : Forest PlainTag) (place : Place) → AreKept p f → HaveOwnKeys f → RunFits place (fit place f)
   fit-fits none place h own rest k = k
   fit-fits (text bytes more) place h own rest k =
       let texts : List (List ℕ) = texts_there place bytes in
       let next : Place = record place { fresh = list_all is_empty texts && place.fresh } in
-      subst (λ (ps : List Piece). AllFit place (built ps)) (sym (append_assoc (map says texts) (fit next more).pieces rest))
-      (said texts place (built ((fit next more).pieces ++ rest)) ((fit next more).pieces ++ rest) refl (texts-fit place bytes h.0)
+      subst (λ (ps : List Piece). AllFit place (levels_of ps)) (sym (append_assoc (map says texts) (fit next more).pieces rest))
+      (said texts place (levels_of ((fit next more).pieces ++ rest)) ((fit next more).pieces ++ rest) refl (texts-fit place bytes h.0)
       (fit-fits more next h.1 own rest k))
   fit-fits (comment bytes more) place h own rest k = absurd h
   fit-fits (tag own children more) place h keys rest k =
-      let r : Run = placed own (λ (q : Place). fit q children) place (room_for own.name place.around) in
+      let r : Run = tag_run own (λ (q : Place). fit q children) place (room_for own.name place.around) in
       let is : IsOwn own = record { listed = h.0; pairs = h.1; keys = keys.0 } in
-      followed-fits place r (λ (q : Place). fit q more)
-      (placed-fits own (λ (q : Place). fit q children) place (room_for own.name place.around) is (roomy own.name place.around) (λ q. fit-fits children q h.3 keys.1))
+      sequence-fits place r (λ (q : Place). fit q more)
+      (tag_run-fits own (λ (q : Place). fit q children) place (room_for own.name place.around) is (roomy own.name place.around) (λ q. fit-fits children q h.3 keys.1))
       (fit-fits more r.after h.4 keys.2) rest k
 
-  none-left : (around : List PlainTag) → AllFit (ended_to 0 around).after (built [])
+  none-left : (around : List PlainTag) → AllFit (end_tags_to 0 around).after (levels_of [])
   none-left [] = record { here = tt; outer = tt }
   none-left (own ∷ around) =
-      let one : Bool → Run = λ x. if x then (let r = ended_to 0 around in record r { pieces = ends own ∷ r.pieces }) else record { pieces = []; after = record { around = own ∷ around; fresh = false } } in
-      subst (λ x. AllFit (one x).after (built [])) (sym (above (length around))) (none-left around)
+      let one : Bool → Run = λ x. if x then (let r = end_tags_to 0 around in record r { pieces = ends own ∷ r.pieces }) else record { pieces = []; after = record { around = own ∷ around; fresh = false } } in
+      subst (λ x. AllFit (one x).after (levels_of [])) (sym (above (length around))) (none-left around)
     where
       above : (n : ℕ) → nat_lt 0 (suc n) ≡ true
       above n = grind (arith, nat_tests)
 
-  all-close : (around : List PlainTag) (fresh : Bool) → AllFit (record { around = around; fresh = fresh }) (built ((ended_to 0 around).pieces ++ []))
+  pub all-close : (around : List PlainTag) (fresh : Bool) → AllFit (record { around = around; fresh = fresh }) (levels_of ((end_tags_to 0 around).pieces ++ []))
   all-close [] fresh = record { here = tt; outer = tt }
   all-close (own ∷ around) fresh = some-last-fit 0 (own ∷ around) (above (length around)) [] (none-left (own ∷ around)) fresh
     where
@@ -401,9 +398,9 @@ module _ (p : ListedWords) where
   pub fitted-Fits : (f : Forest PlainTag) → AreKept p f → HaveOwnKeys f → Fits (names_of []) false (fitted f)
   fitted-Fits f h own =
       let r : Run = fit at_top f in
-      let last : Run = ended_to 0 r.after.around in
-      let all : AllFit at_top (built (r.pieces ++ (last.pieces ++ []))) = fit-fits f at_top h own (last.pieces ++ []) (all-close r.after.around r.after.fresh) in
-      subst (λ (ps : List Piece). Fits (names_of []) false (built (r.pieces ++ ps)).here) (append-nil last.pieces) all.here
+      let last : Run = end_tags_to 0 r.after.around in
+      let all : AllFit at_top (levels_of (r.pieces ++ (last.pieces ++ []))) = fit-fits f at_top h own (last.pieces ++ []) (all-close r.after.around r.after.fresh) in
+      subst (λ (ps : List Piece). Fits (names_of []) false (levels_of (r.pieces ++ ps)).here) (append-nil last.pieces) all.here
 
   -- what it keeps, it keeps
 

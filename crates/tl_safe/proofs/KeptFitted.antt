@@ -6,6 +6,7 @@ use Rattle.tl_spec.specs.Normal.{ReadsAs, norm}
 use Rattle.tl_spec.specs.Print.{print}
 use Rattle.tl_html_spec.specs.HtmlTokenizer.{tokens_in_page}
 use Rattle.tl_tree_spec.specs.HtmlTreeBuilder.{html_trees}
+use Rattle.tl_safe.specs.Fitted.{pieces_of, print_pieces}
 use Rattle.tl_safe.specs.HtmlTrees.{as_html, stays}
 use Rattle.tl_safe.specs.IsSafe.{IsSafe, tokens_of}
 use Rattle.tl_safe.specs.Kept.{kept}
@@ -15,6 +16,7 @@ use Rattle.tl_safe.specs.Refusals.{are_lawful}
 use Rattle.tl_safe.proofs.Fits.{fitted-AreKept, fitted-Fits, fitted-own}
 use Rattle.tl_safe.proofs.FitsStay.{fits-stay}
 use Rattle.tl_safe.proofs.HtmlTrees.{norm-stays}
+use Rattle.tl_safe.proofs.PiecesPrint.{fitted-print}
 use Rattle.tl_safe.proofs.Printed.{form_of, reads_of, standard_of}
 use Rattle.tl_safe.proofs.Trees.{AreKept, kept-AreKept, kept-own}
 
@@ -30,6 +32,9 @@ module _ (p : ListedWords) (lawful : are_lawful p ≡ true) (f : Forest PlainTag
 
   pub form : IsSafe p (print (kept_fitted p f))
   form = form_of p lawful (kept_fitted p f) fitted-kept
+
+  pub pieces : print (kept_fitted p f) ≡ print_pieces (pieces_of (kept p f))
+  pieces = fitted-print p lawful (kept p f) (kept-AreKept p lawful f) (kept-own p f own)
 
   pub reads : ReadsAs (print (kept_fitted p f)) (kept_fitted p f)
   reads = reads_of p lawful (kept_fitted p f) fitted-kept fitted-keys

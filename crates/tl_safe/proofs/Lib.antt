@@ -14,3 +14,4 @@ pub mod HtmlNormal
 pub mod Fits
 pub mod FitsStay
 pub mod KeptFitted
+pub mod PiecesPrint

@@ -4,11 +4,13 @@
 -- ended, they end before it. Where it may not even so, or where too many elements are open, it is
 -- taken out, and its children stand in its place. Between the parts of a table white space alone
 -- stays. What stands first in `pre` does not begin with a line feed, which a browser would drop.
-use Rattle.std.specs.Prelude.{ℕ, suc, Bool, true, false, not, ◌||◌, ◌&&◌, ◌==◌, nat_lt, nat_le, List, [], ◌∷◌, ◌++◌, length, map, Option, Some, None, option_map, codes, if◌then◌else◌}
+use Rattle.std.specs.Prelude.{ℕ, suc, Bool, true, false, not, ◌||◌, ◌&&◌, ◌==◌, nat_lt, nat_le, List, [], ◌∷◌, ◌++◌, length, map, flat_map, Option, Some, None, option_map, codes, if◌then◌else◌}
 use Rattle.std.specs.Char.{is_ascii_whitespace}
 use Rattle.std.specs.List.{filter, list_all}
+use Rattle.std.specs.Str.Lossy.{utf8_lossy}
 use Rattle.tl_spec.specs.ByteClass.{is_void}
 use Rattle.tl_spec.specs.Forest.{Forest, none, text, comment, tag, PlainTag}
+use Rattle.tl_spec.specs.Print.{print_end, print_start}
 use Rattle.tl_html_spec.specs.Escapes.{escaped_text, text_escape}
 use Rattle.tl_tree_spec.specs.Builder.{is_flow, mode_of}
 use Rattle.tl_tree_spec.specs.Groups.{group, is_caption, is_cell, is_column_group, is_implied, is_row, is_table_body}
@@ -112,35 +114,35 @@ is_empty (b ∷ bytes) = false
 -- Trees
 
 -- pieces, and then what is written after them
-abbrev pub followed : Run → (Place → Run) → Run
-followed r more =
+abbrev pub sequence : Run → (Place → Run) → Run
+sequence r more =
     let later = more r.after in record { pieces = r.pieces ++ later.pieces; after = later.after }
 
 -- the elements end that are open beyond so many
-abbrev pub ended_to : ℕ → List PlainTag → Run
-ended_to n [] = record { pieces = []; after = record { around = []; fresh = false } }
-ended_to n (own ∷ around) =
+abbrev pub end_tags_to : ℕ → List PlainTag → Run
+end_tags_to n [] = record { pieces = []; after = record { around = []; fresh = false } }
+end_tags_to n (own ∷ around) =
     if nat_lt n (suc (length around))
-    then (let r = ended_to n around in record r { pieces = ends own ∷ r.pieces })
+    then (let r = end_tags_to n around in record r { pieces = ends own ∷ r.pieces })
     else record { pieces = []; after = record { around = own ∷ around; fresh = false } }
 
 -- an element, once what stands in it was written: it ends here where it is still open
-abbrev pub element : PlainTag → List PlainTag → Run → Run
-element own around inner =
+abbrev pub element_run : PlainTag → List PlainTag → Run → Run
+element_run own around inner =
     if nat_lt (length around) (length inner.after.around)
-    then (let last = ended_to (length around) inner.after.around in
+    then (let last = end_tags_to (length around) inner.after.around in
     record { pieces = starts own ∷ (inner.pieces ++ last.pieces); after = last.after })
     else record inner { pieces = starts own ∷ inner.pieces }
 
 -- a tag where there is room for it, with what is written inside; else that alone
-abbrev pub placed : PlainTag → (Place → Run) → Place → Option Run → Run
-placed own inside place None = inside place
-placed own inside place (Some room) =
+abbrev pub tag_run : PlainTag → (Place → Run) → Place → Option Run → Run
+tag_run own inside place None = inside place
+tag_run own inside place (Some room) =
     let around = room.after.around in
     let here =
     if is_void own.name
     then record { pieces = alone own ∷ []; after = record { around = around; fresh = false } }
-    else element own around
+    else element_run own around
     (inside (record { around = own ∷ around; fresh = is_preformatted (group own.name) })) in
     record here { pieces = room.pieces ++ here.pieces }
 
@@ -152,34 +154,45 @@ fit place (text bytes more) =
     record later { pieces = map says texts ++ later.pieces }
 fit place (comment bytes more) = fit place more
 fit place (tag own children more) =
-    followed (placed own (λ (p : Place). fit p children) place (room_for own.name place.around))
+    sequence (tag_run own (λ (p : Place). fit p children) place (room_for own.name place.around))
     (λ (p : Place). fit p more)
 
 -- trees of pieces: what stands in the innermost open element, and after it in those around it
-pub record Built : Type 0 where
+pub record Levels : Type 0 where
   pub here : Forest PlainTag
   pub outer : List (Forest PlainTag)
 
-abbrev pub enclosed : PlainTag → Forest PlainTag → List (Forest PlainTag) → Built
-enclosed own children [] = record { here = tag own children none; outer = [] }
-enclosed own children (more ∷ outer) = record { here = tag own children more; outer = outer }
+abbrev pub with_element : PlainTag → Forest PlainTag → List (Forest PlainTag) → Levels
+with_element own children [] = record { here = tag own children none; outer = [] }
+with_element own children (more ∷ outer) = record { here = tag own children more; outer = outer }
 
--- a piece, and then what was built of those after it
-abbrev pub built_on : Piece → Built → Built
-built_on (starts own) b = enclosed own b.here b.outer
-built_on (ends own) b = record { here = none; outer = b.here ∷ b.outer }
-built_on (alone own) b = record b { here = tag own none b.here }
-built_on (says bytes) b = record b { here = text bytes b.here }
+-- a piece, and then the trees of those after it
+abbrev pub with_piece : Piece → Levels → Levels
+with_piece (starts own) b = with_element own b.here b.outer
+with_piece (ends own) b = record { here = none; outer = b.here ∷ b.outer }
+with_piece (alone own) b = record b { here = tag own none b.here }
+with_piece (says bytes) b = record b { here = text bytes b.here }
 
-abbrev pub built : List Piece → Built
-built [] = record { here = none; outer = [] }
-built (p ∷ ps) = built_on p (built ps)
+abbrev pub levels_of : List Piece → Levels
+levels_of [] = record { here = none; outer = [] }
+levels_of (p ∷ ps) = with_piece p (levels_of ps)
 
 abbrev pub at_top : Place
 at_top = record { around = []; fresh = false }
 
--- the trees, made to stay
+-- what is written of trees that are made to stay, and the trees that it stands for
+abbrev pub pieces_of : Forest PlainTag → List Piece
+pieces_of f = let run = fit at_top f in run.pieces ++ (end_tags_to 0 run.after.around).pieces
+
 abbrev pub fitted : Forest PlainTag → Forest PlainTag
-fitted f =
-    let run = fit at_top f in
-    (built (run.pieces ++ (ended_to 0 run.after.around).pieces)).here
+fitted f = (levels_of (pieces_of f)).here
+
+-- the print of pieces: each by itself
+abbrev pub print_piece : Piece → List ℕ
+print_piece (starts own) = print_start own
+print_piece (ends own) = print_end own
+print_piece (alone own) = print_start own
+print_piece (says bytes) = utf8_lossy bytes
+
+abbrev pub print_pieces : List Piece → List ℕ
+print_pieces ps = flat_map print_piece ps

@@ -7,9 +7,10 @@ ghost use Rattle.tl_spec.specs.Normal.{ReadsAs, norm};
 ghost use Rattle.tl_spec.specs.Print.{print};
 ghost use Rattle.tl_html_spec.specs.HtmlTokenizer.{tokens_in_page};
 ghost use Rattle.tl_tree_spec.specs.HtmlTreeBuilder.{html_trees};
+ghost use Rattle.tl_safe.specs.Fitted.{pieces_of, print_pieces};
 ghost use Rattle.tl_safe.specs.HtmlTrees.{as_html};
 ghost use Rattle.tl_safe.specs.IsSafe.{IsSafe, tokens_of, value_characters};
-ghost use Rattle.tl_safe.specs.Kept.{written_value};
+ghost use Rattle.tl_safe.specs.Kept.{kept, written_value};
 ghost use Rattle.tl_safe.specs.KeptFitted.{kept_fitted};
 ghost use Rattle.tl_safe.specs.Lists.{ListedWords};
 ghost use Rattle.tl_safe.specs.Refusals.{are_lawful};
@@ -24,10 +25,13 @@ pub fn written_values_say_the_same()
 
 /// The print of what a lawful policy keeps of trees, made to stay: it is safe, `tl` reads it as these
 /// trees, and so do the tokenizer and the tree builder of the HTML standard.
-#[tactic(auto, using(crate::proofs::KeptFitted::form, crate::proofs::KeptFitted::reads, crate::proofs::KeptFitted::standard, crate::proofs::KeptFitted::browser))]
+#[tactic(auto, using(crate::proofs::KeptFitted::form, crate::proofs::KeptFitted::pieces, crate::proofs::KeptFitted::reads, crate::proofs::KeptFitted::standard, crate::proofs::KeptFitted::browser))]
 pub fn kept_trees_that_are_fitted_stay()
     ensures form { (p : ListedWords) → are_lawful p ≡ true → (f : Forest PlainTag) →
         HaveOwnKeys f → IsSafe p (print (kept_fitted p f)) }
+    // its print is that of the pieces that one pass over the kept trees gives
+    ensures pieces { (p : ListedWords) → are_lawful p ≡ true → (f : Forest PlainTag) →
+        HaveOwnKeys f → print (kept_fitted p f) ≡ print_pieces (pieces_of (kept p f)) }
     ensures reads { (p : ListedWords) → are_lawful p ≡ true → (f : Forest PlainTag) →
         HaveOwnKeys f → ReadsAs (print (kept_fitted p f)) (kept_fitted p f) }
     ensures standard { (p : ListedWords) → are_lawful p ≡ true → (f : Forest PlainTag) →
