@@ -2,8 +2,9 @@
 use Rattle.std.proofs.Common.{◌≡◌, ℕ, zero, suc, ◌+◌, ◌<◌, Bool, true, false, not, ◌||◌, ◌&&◌, ◌==◌, nat_lt, List, [], ◌∷◌, ◌++◌, length, map, Option, Some, None, option_map, codes, refl, ap, ap₂, sym, subst, ◌∙◌, inl, inr, true≢false, arith, append_assoc, append-nil, cond, if◌then◌else◌}
 use Rattle.std.specs.Prelude.{⊤}
 use Rattle.std.specs.Char.{is_ascii_whitespace}
-use Rattle.std.specs.List.{filter, list_all, starts_with}
-use Rattle.std.proofs.lemmas.Bool.{and_from, and_parts}
+use Rattle.std.specs.List.{IsDistinct, filter, list_all, starts_with}
+use Rattle.std.specs.Option.{option_or}
+use Rattle.std.proofs.lemmas.Bool.{and_from, and_parts, not-true}
 use Rattle.std.proofs.lemmas.Bool.Decides.{nat_tests}
 use Rattle.tl_html_spec.proofs.Ahead.{or_both}
 use Rattle.std.proofs.lemmas.List.Folds.{list_all-append}
@@ -18,8 +19,9 @@ use Rattle.tl_tree_spec.specs.Stays.{is_preformatted}
 use Rattle.tl_safe.specs.IsSafe.{is_written, text_characters}
 use Rattle.tl_safe.specs.Kept.{is_text_byte}
 use Rattle.tl_safe.specs.Lists.{ListedWords, is_among}
-use Rattle.tl_safe.specs.Fitted.{Levels, Piece, Place, Run, alone, as_texts, at_top, levels_of, with_piece, element_run, with_element, end_tags_to, ends, first_texts, fit, fitted, sequence, is_closable, is_empty, is_read, is_written_anew, may_begin_line, names_of, past_lines, tag_run, room_for, says, starts, texts_there}
+use Rattle.tl_safe.specs.Fitted.{Levels, Piece, Place, Run, alone, as_texts, at_top, element_run, end_tags_to, ends, first_texts, fit, fitted, is_closable, is_empty, is_read, is_written_anew, levels_of, may_begin_line, names_of, part_tag, parts_added, parts_around, past_lines, room_for, room_here, says, sequence, starts, still, tag_run, texts_there, with_element, with_piece}
 use Rattle.tl_spec.proofs.Ascii.{are_ascii}
+use Rattle.tl_safe.specs.KeptFitted.{adds_of}
 use Rattle.tl_safe.proofs.Trees.{AreKept}
 
 -- Texts
@@ -292,13 +294,13 @@ module _ (p : ListedWords) where
   IsRoomy n around None = ⊤
   IsRoomy n around (Some room) = Roomy n around room
 
-  abbrev no_ends : List PlainTag → Run
-  no_ends around = record { pieces = []; after = record { around = around; fresh = false } }
+  choose-roomy : (n : List ℕ) (around : List PlainTag) (x : Bool) (o : Option Run) → (x ≡ true → IsRoomy n around o) → IsRoomy n around (if x then o else None)
+  choose-roomy n around true o h = h refl
+  choose-roomy n around false o h = tt
 
-  choose-roomy : (n : List ℕ) (around : List PlainTag) (x : Bool) (later : Option Run) → is_read (names_of around) n ≡ x → IsRoomy n around later →
-      IsRoomy n around (if x then Some (no_ends around) else later)
-  choose-roomy n around true later e h = record { reads = e; opens = λ rest k. k }
-  choose-roomy n around false later e h = h
+  either-roomy : (n : List ℕ) (around : List PlainTag) (o q : Option Run) → IsRoomy n around o → IsRoomy n around q → IsRoomy n around (option_or o q)
+  either-roomy n around None q h k = k
+  either-roomy n around (Some room) q h k = h
 
   after-end : (n : List ℕ) (own : PlainTag) (around : List PlainTag) (o : Option Run) → IsRoomy n around o →
       IsRoomy n (own ∷ around) (option_map (λ (r : Run). record r { pieces = ends own ∷ r.pieces }) o)
@@ -308,15 +310,45 @@ module _ (p : ListedWords) where
     opens = λ rest k. ended own around (levels_of (room.pieces ++ rest)) (h.opens rest k false);
   }
 
-  if-roomy : (n : List ℕ) (around : List PlainTag) (x : Bool) (o : Option Run) → IsRoomy n around o → IsRoomy n around (if x then o else None)
-  if-roomy n around true o h = h
-  if-roomy n around false o h = tt
+  -- a part that is added
+  no_keys : HasOwnKeys (record { others = []; id = None; class = None })
+  unfolding IsDistinct
+  no_keys = record { distinct = tt; others = tt }
 
-  pub roomy : (n : List ℕ) (around : List PlainTag) → IsRoomy n around (room_for n around)
-  roomy n [] = choose-roomy n [] (is_read (names_of []) n) None refl tt
+  pub part-own : (w : List ℕ) → is_among p.tags w ≡ true → IsOwn (part_tag w)
+  part-own w h = record { listed = h; pairs = refl; keys = no_keys }
+
+  pub record Adds (w : List ℕ) (around : List PlainTag) : Type 0 where
+    pub own : IsOwn (part_tag w)
+    pub reads : is_read (names_of around) w ≡ true
+    pub opens : is_void w ≡ false
+
+  pub adds-part : (w : List ℕ) (around : List PlainTag) → (adds_of p w && not (is_void w) && is_read (names_of around) w) ≡ true → Adds w around
+  adds-part w around h =
+      let two = and_parts (adds_of p w && not (is_void w)) (is_read (names_of around) w) h in
+      let one = and_parts (adds_of p w) (not (is_void w)) two.0 in
+      record { own = part-own w one.0; reads = two.1; opens = not-true (is_void w) one.1 }
+
+  after-start : (n w : List ℕ) (around : List PlainTag) (o : Option Run) → Adds w around → IsRoomy n (part_tag w ∷ around) o →
+      IsRoomy n around (option_map (λ (r : Run). record r { pieces = starts (part_tag w) ∷ r.pieces }) o)
+  after-start n w around None a h = tt
+  after-start n w around (Some room) a h = record {
+    reads = h.reads;
+    opens = λ rest k. started (part_tag w) around (levels_of (room.pieces ++ rest)) a.own a.reads a.opens (h.opens rest k (is_preformatted (group w)));
+  }
+
+  pub added-roomy : (n : List ℕ) (parts : List (List ℕ)) (around : List PlainTag) → IsRoomy n around (parts_added (adds_of p) n parts around)
+  added-roomy n [] around = choose-roomy n around (is_read (names_of around) n) (Some (still around)) (λ e. record { reads = e; opens = λ rest k. k })
+  added-roomy n (w ∷ parts) around =
+      choose-roomy n around (adds_of p w && not (is_void w) && is_read (names_of around) w) _
+      (λ e. after-start n w around (parts_added (adds_of p) n parts (part_tag w ∷ around)) (adds-part w around e) (added-roomy n parts (part_tag w ∷ around)))
+
+  pub roomy : (n : List ℕ) (around : List PlainTag) → IsRoomy n around (room_for (adds_of p) n around)
+  roomy n [] = added-roomy n (parts_around (group n) (names_of [])) []
   roomy n (own ∷ around) =
-      choose-roomy n (own ∷ around) (is_read (names_of (own ∷ around)) n) _ refl
-      (if-roomy n (own ∷ around) (is_closable own.name) _ (after-end n own around (room_for n around) (roomy n around)))
+      either-roomy n (own ∷ around) (room_here (adds_of p) n (own ∷ around)) _
+      (added-roomy n (parts_around (group n) (names_of (own ∷ around))) (own ∷ around))
+      (choose-roomy n (own ∷ around) (is_closable own.name) _ (λ _. after-end n own around (room_for (adds_of p) n around) (roomy n around)))
 
   -- a tag where there is room
   abbrev pub inner_place : PlainTag → List PlainTag → Place
@@ -363,20 +395,20 @@ module _ (p : ListedWords) where
       subst (λ (ps : List Piece). AllFit place (levels_of ps)) (sym (append_assoc r.pieces (more r.after).pieces rest))
       (h ((more r.after).pieces ++ rest) (k rest l))
 
-  pub fit-fits : (f : Forest PlainTag) (place : Place) → AreKept p f → HaveOwnKeys f → RunFits place (fit place f)
+  pub fit-fits : (f : Forest PlainTag) (place : Place) → AreKept p f → HaveOwnKeys f → RunFits place (fit (adds_of p) place f)
   fit-fits none place h own rest k = k
   fit-fits (text bytes more) place h own rest k =
       let texts : List (List ℕ) = texts_there place bytes in
       let next : Place = record place { fresh = list_all is_empty texts && place.fresh } in
-      subst (λ (ps : List Piece). AllFit place (levels_of ps)) (sym (append_assoc (map says texts) (fit next more).pieces rest))
-      (said texts place (levels_of ((fit next more).pieces ++ rest)) ((fit next more).pieces ++ rest) refl (texts-fit place bytes h.0)
+      subst (λ (ps : List Piece). AllFit place (levels_of ps)) (sym (append_assoc (map says texts) (fit (adds_of p) next more).pieces rest))
+      (said texts place (levels_of ((fit (adds_of p) next more).pieces ++ rest)) ((fit (adds_of p) next more).pieces ++ rest) refl (texts-fit place bytes h.0)
       (fit-fits more next h.1 own rest k))
   fit-fits (comment bytes more) place h own rest k = absurd h
   fit-fits (tag own children more) place h keys rest k =
-      let r : Run = tag_run own (λ (q : Place). fit q children) place (room_for own.name place.around) in
+      let r : Run = tag_run own (λ (q : Place). fit (adds_of p) q children) place (room_for (adds_of p) own.name place.around) in
       let is : IsOwn own = record { listed = h.0; pairs = h.1; keys = keys.0 } in
-      sequence-fits place r (λ (q : Place). fit q more)
-      (tag_run-fits own (λ (q : Place). fit q children) place (room_for own.name place.around) is (roomy own.name place.around) (λ q. fit-fits children q h.3 keys.1))
+      sequence-fits place r (λ (q : Place). fit (adds_of p) q more)
+      (tag_run-fits own (λ (q : Place). fit (adds_of p) q children) place (room_for (adds_of p) own.name place.around) is (roomy own.name place.around) (λ q. fit-fits children q h.3 keys.1))
       (fit-fits more r.after h.4 keys.2) rest k
 
   none-left : (around : List PlainTag) → AllFit (end_tags_to 0 around).after (levels_of [])
@@ -395,9 +427,9 @@ module _ (p : ListedWords) where
       above : (n : ℕ) → nat_lt 0 (suc n) ≡ true
       above n = grind (arith, nat_tests)
 
-  pub fitted-Fits : (f : Forest PlainTag) → AreKept p f → HaveOwnKeys f → Fits (names_of []) false (fitted f)
+  pub fitted-Fits : (f : Forest PlainTag) → AreKept p f → HaveOwnKeys f → Fits (names_of []) false (fitted (adds_of p) f)
   fitted-Fits f h own =
-      let r : Run = fit at_top f in
+      let r : Run = fit (adds_of p) at_top f in
       let last : Run = end_tags_to 0 r.after.around in
       let all : AllFit at_top (levels_of (r.pieces ++ (last.pieces ++ []))) = fit-fits f at_top h own (last.pieces ++ []) (all-close r.after.around r.after.fresh) in
       subst (λ (ps : List Piece). Fits (names_of []) false (levels_of (r.pieces ++ ps)).here) (append-nil last.pieces) all.here
@@ -418,8 +450,8 @@ module _ (p : ListedWords) where
   fits-own names fresh (tag own children more) h =
       (h.0.keys, fits-own (own.name ∷ names) (is_preformatted (group own.name)) children h.3, fits-own names false more h.4)
 
-  pub fitted-AreKept : (f : Forest PlainTag) → AreKept p f → HaveOwnKeys f → AreKept p (fitted f)
-  fitted-AreKept f h own = fits-AreKept (names_of []) false (fitted f) (fitted-Fits f h own)
+  pub fitted-AreKept : (f : Forest PlainTag) → AreKept p f → HaveOwnKeys f → AreKept p (fitted (adds_of p) f)
+  fitted-AreKept f h own = fits-AreKept (names_of []) false (fitted (adds_of p) f) (fitted-Fits f h own)
 
-  pub fitted-own : (f : Forest PlainTag) → AreKept p f → HaveOwnKeys f → HaveOwnKeys (fitted f)
-  fitted-own f h own = fits-own (names_of []) false (fitted f) (fitted-Fits f h own)
+  pub fitted-own : (f : Forest PlainTag) → AreKept p f → HaveOwnKeys f → HaveOwnKeys (fitted (adds_of p) f)
+  fitted-own f h own = fits-own (names_of []) false (fitted (adds_of p) f) (fitted-Fits f h own)

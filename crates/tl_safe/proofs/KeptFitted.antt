@@ -10,7 +10,7 @@ use Rattle.tl_safe.specs.Fitted.{pieces_of, print_pieces}
 use Rattle.tl_safe.specs.HtmlTrees.{as_html, stays}
 use Rattle.tl_safe.specs.IsSafe.{IsSafe, tokens_of}
 use Rattle.tl_safe.specs.Kept.{kept}
-use Rattle.tl_safe.specs.KeptFitted.{kept_fitted}
+use Rattle.tl_safe.specs.KeptFitted.{adds_of, kept_fitted}
 use Rattle.tl_safe.specs.Lists.{ListedWords}
 use Rattle.tl_safe.specs.Refusals.{are_lawful}
 use Rattle.tl_safe.proofs.Fits.{fitted-AreKept, fitted-Fits, fitted-own}
@@ -33,7 +33,7 @@ module _ (p : ListedWords) (lawful : are_lawful p ≡ true) (f : Forest PlainTag
   pub form : IsSafe p (print (kept_fitted p f))
   form = form_of p lawful (kept_fitted p f) fitted-kept
 
-  pub pieces : print (kept_fitted p f) ≡ print_pieces (pieces_of (kept p f))
+  pub pieces : print (kept_fitted p f) ≡ print_pieces (pieces_of (adds_of p) (kept p f))
   pieces = fitted-print p lawful (kept p f) (kept-AreKept p lawful f) (kept-own p f own)
 
   pub reads : ReadsAs (print (kept_fitted p f)) (kept_fitted p f)

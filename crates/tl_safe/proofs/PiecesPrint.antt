@@ -1,5 +1,5 @@
 -- The print of trees that are made to stay is that of their pieces.
-use Rattle.std.proofs.Common.{◌≡◌, ℕ, suc, Bool, true, false, ◌&&◌, nat_lt, List, [], ◌∷◌, ◌++◌, length, map, Option, Some, None, option_map, refl, ap, ap₂, sym, subst, ◌∙◌, arith, append_assoc, append-nil, if◌then◌else◌}
+use Rattle.std.proofs.Common.{◌≡◌, ℕ, suc, Bool, true, false, not, ◌&&◌, nat_lt, List, [], ◌∷◌, ◌++◌, length, map, Option, Some, None, option_map, refl, ap, ap₂, sym, subst, ◌∙◌, arith, append_assoc, append-nil, if◌then◌else◌}
 use Rattle.std.specs.List.{list_all}
 use Rattle.std.specs.Prelude.{⊤}
 use Rattle.std.specs.Str.Lossy.{utf8_lossy}
@@ -9,10 +9,13 @@ use Rattle.tl_spec.specs.Clean.{HaveOwnKeys}
 use Rattle.tl_spec.specs.Forest.{Forest, none, text, comment, tag, PlainTag}
 use Rattle.tl_spec.specs.Print.{print, print_end, print_start}
 use Rattle.tl_spec.proofs.Identity.{not_command}
+use Rattle.std.specs.Option.{option_or}
+use Rattle.tl_tree_spec.specs.Groups.{group}
+use Rattle.tl_safe.specs.KeptFitted.{adds_of}
 use Rattle.tl_safe.specs.Lists.{ListedWords}
 use Rattle.tl_safe.specs.Refusals.{are_lawful}
-use Rattle.tl_safe.specs.Fitted.{Levels, Piece, Place, Run, alone, at_top, element_run, end_tags_to, ends, fit, fitted, is_closable, is_empty, is_read, levels_of, names_of, pieces_of, print_piece, print_pieces, room_for, says, sequence, starts, tag_run, texts_there, with_element, with_piece}
-use Rattle.tl_safe.proofs.Fits.{AllFit, FitAround, IsOwn, IsRoomy, RunFits, all-close, fit-fits, here_of, inner_place, roomy, some-last-fit}
+use Rattle.tl_safe.specs.Fitted.{Levels, Piece, Place, Run, alone, at_top, element_run, end_tags_to, ends, fit, fitted, is_closable, is_empty, is_read, levels_of, names_of, part_tag, parts_added, parts_around, pieces_of, print_piece, print_pieces, room_for, room_here, says, sequence, starts, still, tag_run, texts_there, with_element, with_piece}
+use Rattle.tl_safe.proofs.Fits.{Adds, AllFit, AnyFit, FitAround, IsOwn, IsRoomy, RunFits, added-roomy, adds-part, all-close, fit-fits, here-fits, here_of, inner_place, roomy, some-last-fit}
 use Rattle.tl_safe.proofs.Listed.{listed_tag}
 use Rattle.tl_safe.proofs.Trees.{AreKept}
 
@@ -64,32 +67,6 @@ said-print (t ∷ ts) around rest =
     ∙ ap (λ s. utf8_lossy t ++ s) (said-print ts around rest)
     ∙ sym (append_assoc (utf8_lossy t) (print_pieces (map says ts)) (levels_print around (levels_of rest)))
 
--- room
-
-abbrev RoomWrites : List PlainTag → Option Run → Type 0
-RoomWrites around None = ⊤
-RoomWrites around (Some room) = (rest : List Piece) → Writes around room rest
-
-choose-writes : (around : List PlainTag) (x : Bool) (later : Option Run) → RoomWrites around later →
-    RoomWrites around (if x then Some (record { pieces = []; after = record { around = around; fresh = false } }) else later)
-choose-writes around true later h = λ rest. refl
-choose-writes around false later h = h
-
-if-writes : (around : List PlainTag) (x : Bool) (o : Option Run) → RoomWrites around o → RoomWrites around (if x then o else None)
-if-writes around true o h = h
-if-writes around false o h = tt
-
-after-end-writes : (own : PlainTag) (around : List PlainTag) (o : Option Run) → RoomWrites around o →
-    RoomWrites (own ∷ around) (option_map (λ (r : Run). record r { pieces = ends own ∷ r.pieces }) o)
-after-end-writes own around None h = tt
-after-end-writes own around (Some room) h = λ rest. ended-print own around room rest (h rest)
-
-room-print : (n : List ℕ) (around : List PlainTag) → RoomWrites around (room_for n around)
-room-print n [] = choose-writes [] (is_read (names_of []) n) None tt
-room-print n (own ∷ around) =
-    choose-writes (own ∷ around) (is_read (names_of (own ∷ around)) n) _
-    (if-writes (own ∷ around) (is_closable own.name) _ (after-end-writes own around (room_for n around) (room-print n around)))
-
 module _ (p : ListedWords) (lawful : are_lawful p ≡ true) where
   printed_alone : (own : PlainTag) → IsOwn p own → is_printed_alone own.name ≡ is_void own.name
   printed_alone own is = not_command own.name (listed_tag p lawful own.name is.listed).no_command
@@ -113,6 +90,47 @@ module _ (p : ListedWords) (lawful : are_lawful p ≡ true) where
       (chosen-print (is_printed_alone own.name) true [] (print none ++ print_end own) (printed_alone own is ∙ v))
       ∙ ap (λ s. (s ++ print b.here) ++ outer_print around b.outer) (append-nil (print_start own))
       ∙ append_assoc (print_start own) (print b.here) (outer_print around b.outer)
+
+  -- room
+
+  abbrev RoomWrites : List PlainTag → Option Run → Type 0
+  RoomWrites around None = ⊤
+  RoomWrites around (Some room) = (rest : List Piece) → AnyFit p room.after.around (levels_of rest) → Writes around room rest
+
+  choose-writes : (around : List PlainTag) (x : Bool) (o : Option Run) → (x ≡ true → RoomWrites around o) → RoomWrites around (if x then o else None)
+  choose-writes around true o h = h refl
+  choose-writes around false o h = tt
+
+  either-writes : (around : List PlainTag) (o q : Option Run) → RoomWrites around o → RoomWrites around q → RoomWrites around (option_or o q)
+  either-writes around None q h k = k
+  either-writes around (Some room) q h k = h
+
+  after-end-writes : (own : PlainTag) (around : List PlainTag) (o : Option Run) → RoomWrites around o →
+      RoomWrites (own ∷ around) (option_map (λ (r : Run). record r { pieces = ends own ∷ r.pieces }) o)
+  after-end-writes own around None h = tt
+  after-end-writes own around (Some room) h = λ rest k. ended-print own around room rest (h rest k)
+
+  after-start-writes : (n w : List ℕ) (around : List PlainTag) (o : Option Run) → Adds p w around → IsRoomy p n (part_tag w ∷ around) o → RoomWrites (part_tag w ∷ around) o →
+      RoomWrites around (option_map (λ (r : Run). record r { pieces = starts (part_tag w) ∷ r.pieces }) o)
+  after-start-writes n w around None a space h = tt
+  after-start-writes n w around (Some room) a space h = λ rest k.
+      started-print (part_tag w) around (levels_of (room.pieces ++ rest)) a.own a.opens (space.opens rest k false).outer
+      ∙ ap (λ s. print_start (part_tag w) ++ s) (h rest k)
+      ∙ sym (append_assoc (print_start (part_tag w)) (print_pieces room.pieces) (levels_print room.after.around (levels_of rest)))
+
+  added-writes : (n : List ℕ) (parts : List (List ℕ)) (around : List PlainTag) → RoomWrites around (parts_added (adds_of p) n parts around)
+  added-writes n [] around = choose-writes around (is_read (names_of around) n) (Some (still around)) (λ _ rest k. refl)
+  added-writes n (w ∷ parts) around =
+      choose-writes around (adds_of p w && not (is_void w) && is_read (names_of around) w) _
+      (λ e. after-start-writes n w around (parts_added (adds_of p) n parts (part_tag w ∷ around)) (adds-part p w around e)
+      (added-roomy p n parts (part_tag w ∷ around)) (added-writes n parts (part_tag w ∷ around)))
+
+  room-print : (n : List ℕ) (around : List PlainTag) → RoomWrites around (room_for (adds_of p) n around)
+  room-print n [] = added-writes n (parts_around (group n) (names_of [])) []
+  room-print n (own ∷ around) =
+      either-writes (own ∷ around) (room_here (adds_of p) n (own ∷ around)) _
+      (added-writes n (parts_around (group n) (names_of (own ∷ around))) (own ∷ around))
+      (choose-writes (own ∷ around) (is_closable own.name) _ (λ _. after-end-writes own around (room_for (adds_of p) n around) (room-print n around)))
 
   abbrev RunWrites : Place → Run → Type 0
   RunWrites place r = (rest : List Piece) → AllFit p r.after (levels_of rest) → Writes place.around r rest
@@ -158,7 +176,7 @@ module _ (p : ListedWords) (lawful : are_lawful p ≡ true) where
       let here : Run = here_of p own around inside (is_void own.name) in
       let out : List ℕ = levels_print here.after.around (levels_of rest) in
       ap (λ (ps : List Piece). levels_print place.around (levels_of ps)) (append_assoc room.pieces here.pieces rest)
-      ∙ opens (here.pieces ++ rest)
+      ∙ opens (here.pieces ++ rest) (here-fits p own around inside is space.reads fits (is_void own.name) refl rest k)
       ∙ ap (λ s. print_pieces room.pieces ++ s) (here-print own around inside is fits writes (is_void own.name) refl rest k)
       ∙ sym (append_assoc (print_pieces room.pieces) (print_pieces here.pieces) out)
       ∙ ap (λ s. s ++ out) (sym (print-append room.pieces here.pieces))
@@ -173,12 +191,12 @@ module _ (p : ListedWords) (lawful : are_lawful p ≡ true) where
       ∙ sym (append_assoc (print_pieces r.pieces) (print_pieces m.pieces) out)
       ∙ ap (λ s. s ++ out) (sym (print-append r.pieces m.pieces))
 
-  fit-print : (f : Forest PlainTag) (place : Place) → AreKept p f → HaveOwnKeys f → RunWrites place (fit place f)
+  fit-print : (f : Forest PlainTag) (place : Place) → AreKept p f → HaveOwnKeys f → RunWrites place (fit (adds_of p) place f)
   fit-print none place h own rest k = refl
   fit-print (text bytes more) place h own rest k =
       let texts : List (List ℕ) = texts_there place bytes in
       let next : Place = record place { fresh = list_all is_empty texts && place.fresh } in
-      let m : Run = fit next more in
+      let m : Run = fit (adds_of p) next more in
       let out : List ℕ = levels_print m.after.around (levels_of rest) in
       ap (λ (ps : List Piece). levels_print place.around (levels_of ps)) (append_assoc (map says texts) m.pieces rest)
       ∙ said-print texts place.around (m.pieces ++ rest)
@@ -187,10 +205,10 @@ module _ (p : ListedWords) (lawful : are_lawful p ≡ true) where
       ∙ ap (λ s. s ++ out) (sym (print-append (map says texts) m.pieces))
   fit-print (comment bytes more) place h own rest k = absurd h
   fit-print (tag own children more) place h keys rest k =
-      let r : Run = tag_run own (λ (q : Place). fit q children) place (room_for own.name place.around) in
+      let r : Run = tag_run own (λ (q : Place). fit (adds_of p) q children) place (room_for (adds_of p) own.name place.around) in
       let is : IsOwn p own = record { listed = h.0; pairs = h.1; keys = keys.0 } in
-      sequence-print place r (λ (q : Place). fit q more)
-      (tag_run-print own (λ (q : Place). fit q children) place (room_for own.name place.around) is (roomy p own.name place.around) (room-print own.name place.around)
+      sequence-print place r (λ (q : Place). fit (adds_of p) q more)
+      (tag_run-print own (λ (q : Place). fit (adds_of p) q children) place (room_for (adds_of p) own.name place.around) is (roomy p own.name place.around) (room-print own.name place.around)
       (λ q. fit-fits p children q h.3 keys.1) (λ q. fit-print children q h.3 keys.1))
       (fit-fits p more r.after h.4 keys.2) (fit-print more r.after h.4 keys.2) rest k
 
@@ -203,14 +221,14 @@ module _ (p : ListedWords) (lawful : are_lawful p ≡ true) where
       above : (n : ℕ) → nat_lt 0 (suc n) ≡ true
       above n = grind (arith, nat_tests)
 
-  pub fitted-print : (f : Forest PlainTag) → AreKept p f → HaveOwnKeys f → print (fitted f) ≡ print_pieces (pieces_of f)
+  pub fitted-print : (f : Forest PlainTag) → AreKept p f → HaveOwnKeys f → print (fitted (adds_of p) f) ≡ print_pieces (pieces_of (adds_of p) f)
   fitted-print f h own =
-      let r : Run = fit at_top f in
+      let r : Run = fit (adds_of p) at_top f in
       let last : Run = end_tags_to 0 r.after.around in
       let whole = fit-print f at_top h own (last.pieces ++ []) (all-close p r.after.around r.after.fresh) in
       let closes = last-print 0 r.after.around [] in
       let nothing : levels_print last.after.around (levels_of []) ≡ [] = ap (λ around. outer_print around []) (none_around r.after.around) in
-      sym (append-nil (print (fitted f)))
+      sym (append-nil (print (fitted (adds_of p) f)))
       ∙ ap (λ (ps : List Piece). levels_print [] (levels_of (r.pieces ++ ps))) (sym (append-nil last.pieces))
       ∙ whole
       ∙ ap (λ s. print_pieces r.pieces ++ s) (closes ∙ ap (λ s. print_pieces last.pieces ++ s) nothing ∙ append-nil (print_pieces last.pieces))

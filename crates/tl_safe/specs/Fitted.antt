@@ -1,20 +1,22 @@
 -- Trees that are made to stay, as a browser would make them, in one pass over their tags.
 --
 -- Where a tag may not stand, but may once elements around it whose end tags may be left out are
--- ended, they end before it. Where it may not even so, or where too many elements are open, it is
+-- ended, they end before it; and a part of a table that is missing around it is added. Where it may
+-- not even so, or where too many elements are open, it is
 -- taken out, and its children stand in its place. Between the parts of a table white space alone
 -- stays. What stands first in `pre` does not begin with a line feed, which a browser would drop.
 use Rattle.std.specs.Prelude.{ℕ, suc, Bool, true, false, not, ◌||◌, ◌&&◌, ◌==◌, nat_lt, nat_le, List, [], ◌∷◌, ◌++◌, length, map, flat_map, Option, Some, None, option_map, codes, if◌then◌else◌}
 use Rattle.std.specs.Char.{is_ascii_whitespace}
 use Rattle.std.specs.List.{filter, list_all}
+use Rattle.std.specs.Option.{option_or}
 use Rattle.std.specs.Str.Lossy.{utf8_lossy}
 use Rattle.tl_spec.specs.ByteClass.{is_void}
 use Rattle.tl_spec.specs.Forest.{Forest, none, text, comment, tag, PlainTag}
 use Rattle.tl_spec.specs.Print.{print_end, print_start}
 use Rattle.tl_html_spec.specs.Escapes.{escaped_text, text_escape}
 use Rattle.tl_tree_spec.specs.Builder.{is_flow, mode_of}
-use Rattle.tl_tree_spec.specs.Groups.{group, is_caption, is_cell, is_column_group, is_implied, is_row, is_table_body}
-use Rattle.tl_tree_spec.specs.Stays.{is_alone, is_preformatted, may_stand}
+use Rattle.tl_tree_spec.specs.Groups.{Group, a_cell, a_column, a_row, group, is_caption, is_cell, is_column_group, is_implied, is_row, is_table, is_table_body}
+use Rattle.tl_tree_spec.specs.Stays.{directly_in, is_alone, is_preformatted, may_stand}
 use Rattle.tl_safe.specs.IsSafe.{text_characters}
 
 -- what is written of trees, in order
@@ -59,18 +61,46 @@ abbrev pub is_closable : List ℕ → Bool
 is_closable n =
     is_implied n || is_caption n || is_column_group n || is_table_body n || is_row n || is_cell n
 
--- what is open once a tag may stand, and the ends before it; None if it may not
-abbrev pub room_for : List ℕ → List PlainTag → Option Run
-room_for n [] =
-    if is_read (names_of []) n
-    then Some (record { pieces = []; after = record { around = []; fresh = false } })
-    else None
-room_for n (own ∷ around) =
-    if is_read (names_of (own ∷ around)) n
-    then Some (record { pieces = []; after = record { around = own ∷ around; fresh = false } })
-    else if is_closable own.name
-    then option_map (λ (r : Run). record r { pieces = ends own ∷ r.pieces }) (room_for n around)
-    else None
+-- the parts of tables that are missing around a part, the outermost first
+abbrev pub parts_around : Group → List (List ℕ) → List (List ℕ)
+parts_around a_row names = if directly_in is_table names then codes "tbody" ∷ [] else []
+parts_around a_cell names =
+    if directly_in is_table names then codes "tbody" ∷ codes "tr" ∷ []
+    else if directly_in is_table_body names then codes "tr" ∷ []
+    else []
+parts_around a_column names = if directly_in is_table names then codes "colgroup" ∷ [] else []
+parts_around _ names = []
+
+-- a part that is added
+abbrev pub part_tag : List ℕ → PlainTag
+part_tag w = record { name = w; attributes = record { others = []; id = None; class = None } }
+
+-- nothing is written
+abbrev pub still : List PlainTag → Run
+still around = record { pieces = []; after = record { around = around; fresh = false } }
+
+module _ (adds : List ℕ → Bool) where
+  -- what is open once these parts were added and a tag may stand; None if it may not
+  abbrev pub parts_added : List ℕ → List (List ℕ) → List PlainTag → Option Run
+  parts_added n [] around = if is_read (names_of around) n then Some (still around) else None
+  parts_added n (w ∷ parts) around =
+      if adds w && not (is_void w) && is_read (names_of around) w
+      then option_map (λ (r : Run). record r { pieces = starts (part_tag w) ∷ r.pieces })
+      (parts_added n parts (part_tag w ∷ around))
+      else None
+
+  -- the same here, with the parts that are missing
+  abbrev pub room_here : List ℕ → List PlainTag → Option Run
+  room_here n around = parts_added n (parts_around (group n) (names_of around)) around
+
+  -- what is open once a tag may stand, with the ends before it; None if it may not
+  abbrev pub room_for : List ℕ → List PlainTag → Option Run
+  room_for n [] = room_here n []
+  room_for n (own ∷ around) =
+      option_or (room_here n (own ∷ around))
+      (if is_closable own.name
+      then option_map (λ (r : Run). record r { pieces = ends own ∷ r.pieces }) (room_for n around)
+      else None)
 
 -- Texts
 
@@ -146,16 +176,17 @@ tag_run own inside place (Some room) =
     (inside (record { around = own ∷ around; fresh = is_preformatted (group own.name) })) in
     record here { pieces = room.pieces ++ here.pieces }
 
-abbrev pub fit : Place → Forest PlainTag → Run
-fit place none = record { pieces = []; after = place }
-fit place (text bytes more) =
-    let texts = texts_there place bytes in
-    let later = fit (record place { fresh = list_all is_empty texts && place.fresh }) more in
-    record later { pieces = map says texts ++ later.pieces }
-fit place (comment bytes more) = fit place more
-fit place (tag own children more) =
-    sequence (tag_run own (λ (p : Place). fit p children) place (room_for own.name place.around))
-    (λ (p : Place). fit p more)
+module _ (adds : List ℕ → Bool) where
+  abbrev pub fit : Place → Forest PlainTag → Run
+  fit place none = record { pieces = []; after = place }
+  fit place (text bytes more) =
+      let texts = texts_there place bytes in
+      let later = fit (record place { fresh = list_all is_empty texts && place.fresh }) more in
+      record later { pieces = map says texts ++ later.pieces }
+  fit place (comment bytes more) = fit place more
+  fit place (tag own children more) =
+      sequence (tag_run own (λ (p : Place). fit p children) place (room_for adds own.name place.around))
+      (λ (p : Place). fit p more)
 
 -- trees of pieces: what stands in the innermost open element, and after it in those around it
 pub record Levels : Type 0 where
@@ -180,12 +211,13 @@ levels_of (p ∷ ps) = with_piece p (levels_of ps)
 abbrev pub at_top : Place
 at_top = record { around = []; fresh = false }
 
--- what is written of trees that are made to stay, and the trees that it stands for
-abbrev pub pieces_of : Forest PlainTag → List Piece
-pieces_of f = let run = fit at_top f in run.pieces ++ (end_tags_to 0 run.after.around).pieces
+module _ (adds : List ℕ → Bool) where
+  -- what is written of trees that are made to stay, and the trees that it stands for
+  abbrev pub pieces_of : Forest PlainTag → List Piece
+  pieces_of f = let run = fit adds at_top f in run.pieces ++ (end_tags_to 0 run.after.around).pieces
 
-abbrev pub fitted : Forest PlainTag → Forest PlainTag
-fitted f = (levels_of (pieces_of f)).here
+  abbrev pub fitted : Forest PlainTag → Forest PlainTag
+  fitted f = (levels_of (pieces_of f)).here
 
 -- the print of pieces: each by itself
 abbrev pub print_piece : Piece → List ℕ

@@ -22,6 +22,19 @@ pub fn tags_taken_out()
     ensures row { fitted_with (codes "table" ∷ codes "tr" ∷ []) "<table> <tr>x" ≡ codes "<table> </table>" }
 {}
 
+/// Parts of tables that are missing are added where they are listed.
+pub fn parts_of_tables()
+    ensures whole { fitted_with (codes "table" ∷ codes "tbody" ∷ codes "tr" ∷ codes "td" ∷ [])
+        "<table><tr><td>a<td>b<tr><td>c"
+        ≡ codes "<table><tbody><tr><td>a</td><td>b</td></tr><tr><td>c</td></tr></tbody></table>" }
+    ensures caption { fitted_with
+        (codes "table" ∷ codes "caption" ∷ codes "tbody" ∷ codes "tr" ∷ codes "td" ∷ [])
+        "<table><caption>x<td>y"
+        ≡ codes "<table><caption>x</caption><tbody><tr><td>y</td></tr></tbody></table>" }
+    ensures unlisted { fitted_with (codes "table" ∷ codes "tr" ∷ codes "td" ∷ [])
+        "<table><tr><td>a" ≡ codes "<table></table>" }
+{}
+
 /// A line feed at the front of `pre` goes, by a reference too.
 pub fn lines()
     ensures feeds { fitted_with (codes "pre" ∷ []) "<pre>\n\nx</pre>" ≡ codes "<pre>x</pre>" }

@@ -11,7 +11,7 @@ ghost use Rattle.tl_safe.specs.Fitted.{pieces_of, print_pieces};
 ghost use Rattle.tl_safe.specs.HtmlTrees.{as_html};
 ghost use Rattle.tl_safe.specs.IsSafe.{IsSafe, tokens_of, value_characters};
 ghost use Rattle.tl_safe.specs.Kept.{kept, written_value};
-ghost use Rattle.tl_safe.specs.KeptFitted.{kept_fitted};
+ghost use Rattle.tl_safe.specs.KeptFitted.{adds_of, kept_fitted};
 ghost use Rattle.tl_safe.specs.Lists.{ListedWords};
 ghost use Rattle.tl_safe.specs.Refusals.{are_lawful};
 
@@ -31,7 +31,8 @@ pub fn kept_trees_that_are_fitted_stay()
         HaveOwnKeys f → IsSafe p (print (kept_fitted p f)) }
     // its print is that of the pieces that one pass over the kept trees gives
     ensures pieces { (p : ListedWords) → are_lawful p ≡ true → (f : Forest PlainTag) →
-        HaveOwnKeys f → print (kept_fitted p f) ≡ print_pieces (pieces_of (kept p f)) }
+        HaveOwnKeys f → print (kept_fitted p f)
+        ≡ print_pieces (pieces_of (adds_of p) (kept p f)) }
     ensures reads { (p : ListedWords) → are_lawful p ≡ true → (f : Forest PlainTag) →
         HaveOwnKeys f → ReadsAs (print (kept_fitted p f)) (kept_fitted p f) }
     ensures standard { (p : ListedWords) → are_lawful p ≡ true → (f : Forest PlainTag) →
