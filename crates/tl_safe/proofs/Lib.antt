@@ -1,6 +1,7 @@
 pub mod Listed
 pub mod Values
 pub mod Says
+pub mod Links
 pub mod Writes
 pub mod Whole
 pub mod Rows

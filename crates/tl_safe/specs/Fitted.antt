@@ -2,9 +2,9 @@
 --
 -- Where a tag may not stand, but may once elements around it whose end tags may be left out are
 -- ended, they end before it; and a part of a table that is missing around it is added. Where it may
--- not even so, or where too many elements are open, it is
--- taken out, and its children stand in its place. Between the parts of a table white space alone
--- stays. What stands first in `pre` does not begin with a line feed, which a browser would drop.
+-- not even so, or where too many elements are open, it is taken out, and its children stand in its
+-- place. Between the parts of a table white space alone stays. What stands first in `pre` does not
+-- begin with a line feed, which a browser would drop.
 use Rattle.std.specs.Prelude.{ℕ, suc, Bool, true, false, not, ◌||◌, ◌&&◌, ◌==◌, nat_lt, nat_le, List, [], ◌∷◌, ◌++◌, length, map, flat_map, Option, Some, None, option_map, codes, if◌then◌else◌}
 use Rattle.std.specs.Char.{is_ascii_whitespace}
 use Rattle.std.specs.List.{filter, list_all}
