@@ -17,17 +17,26 @@ class Policy:
         self.tags, self.keys, self.link_keys = words["--tags"], words["--keys"], words["--link-keys"]
         self.links, self.prefix = words["--links"], words["--prefix"][0]
 
+    def begins_link(self, value):
+        """Whether a link begins as it may: where it leaves the site, what it begins with does so too."""
+        leaves = re.compile(rb"/[/\\&<>]")
+        return any(value.startswith(front) and (leaves.match(front) or not leaves.match(value)) for front in self.links)
+
     def keeps(self, key, value):
         """Whether a key stays with its value, which may be None."""
         if key not in self.keys:
             return False
-        if value is None:
-            return True
+        value = value or b""
         if any(byte in value for byte in b'"\0\x1b'):
             return False
-        if key in self.link_keys and not (value.startswith(tuple(self.links)) and all(32 < byte < 127 for byte in value)):
+        if key in self.link_keys and not (self.begins_link(value) and all(32 < byte < 127 for byte in value)):
             return False
         return key not in (b"id", b"name", b"class") or bool(value.startswith(self.prefix) and re.fullmatch(rb"[A-Za-z0-9_-]*", value))
+
+
+def written(value):
+    """A value with references for `<` and `>`."""
+    return value.replace(b"<", b"&lt;").replace(b">", b"&gt;")
 
 
 def safe_print(page, policy):
@@ -48,7 +57,7 @@ def safe_print(page, policy):
                 out.append(b"<" + name)
                 for key, value in node[2].pairs():
                     if policy.keeps(key, value):
-                        out.append(b" " + key + (b"" if value is None else b'="' + value + b'"'))
+                        out.append(b" " + key + (b"" if value is None else b'="' + written(value) + b'"'))
                 out.append(b">")
                 if name in VOID:
                     continue

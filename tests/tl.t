@@ -328,6 +328,10 @@ Their lists.
   <a>a</a><a href="ftp://x">b</a> (no-eol)
   $ printf '<a href="/x=y">a</a><a href="/z">b</a>' | tl sanitise --links=/x=
   <a href="/x=y">a</a><a>b</a> (no-eol)
+  $ printf '<a href="//e">a</a><a href="/x">b</a><a href>c</a>' | tl sanitise --links //,/x
+  <a href="//e">a</a><a href="/x">b</a><a>c</a> (no-eol)
+  $ printf '<a href="//e">a</a><a href="/x" title="<b>">b</a>' | tl sanitise
+  <a>a</a><a href="/x" title="&lt;b&gt;">b</a> (no-eol)
   $ printf '<a data-x="javascript:x">a</a><a data-x="/y">b</a>' | tl sanitise --keys data-x --link-keys data-x
   <a>a</a><a data-x="/y">b</a> (no-eol)
   $ printf '<p class=user-x>a</p><p class=site-x>b</p>' | tl sanitise --prefix site-
@@ -380,6 +384,9 @@ Words that no policy may list: the first one is named, and no page is made safe.
   [2]
   $ tl sanitise --keys style
   tl: no policy may list the key `style`: its value is no name, text or link (err)
+  [2]
+  $ tl sanitise --keys attributionsrc
+  tl: no policy may list the key `attributionsrc`: its value is no name, text or link (err)
   [2]
   $ tl sanitise --keys poster
   tl: no policy may list the key `poster`: it holds links, and is no link key (err)

@@ -5,11 +5,13 @@ use Rattle.tl_spec.specs.ByteClass.{is_void}
 use Rattle.tl_spec.specs.Forest.{Forest, none, text, comment, tag, PlainTag}
 use Rattle.tl_html_spec.specs.HtmlTokenizer.{HtmlToken, Character, StartTag, EndTag, CommentToken}
 use Rattle.tl_html_spec.specs.Written.{inside}
-use Rattle.tl_tree_spec.specs.HtmlForest.{html_tokens_of, normal_form}
+use Rattle.tl_spec.specs.Normal.{norm}
+use Rattle.tl_tree_spec.specs.HtmlForest.{html_tokens_of}
 use Rattle.tl_tree_spec.specs.HtmlTreeBuilder.{html_trees}
-use Rattle.tl_tree_spec.proofs.Trees.{stays as given_back}
+use Rattle.tl_tree_spec.proofs.Trees.{stays_exactly}
 use Rattle.tl_safe.specs.HtmlTrees.{as_html, stays}
 use Rattle.tl_safe.specs.IsSafe.{html_attribute, text_characters, tokens_of}
+use Rattle.tl_safe.proofs.HtmlNormal.{norm-normal}
 
 pub as_html-tokens : (f : Forest PlainTag) → tokens_of f ≡ html_tokens_of (as_html f)
 as_html-tokens none = refl
@@ -23,6 +25,6 @@ as_html-tokens (tag own children more) =
     (as_html-tokens children) (as_html-tokens more)
 
 -- so a browser builds those that stay
-pub as_html-stays : (f : Forest PlainTag) → stays (as_html f) ≡ true →
-    html_trees (tokens_of f) ≡ Some (normal_form (as_html f))
-as_html-stays f h = ap html_trees (as_html-tokens f) ∙ given_back (as_html f) h
+pub norm-stays : (f : Forest PlainTag) → stays (as_html (norm f)) ≡ true →
+    html_trees (tokens_of (norm f)) ≡ Some (as_html (norm f))
+norm-stays f h = ap html_trees (as_html-tokens (norm f)) ∙ stays_exactly (as_html (norm f)) h (norm-normal f)

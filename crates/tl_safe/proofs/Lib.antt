@@ -1,4 +1,7 @@
 pub mod Listed
+pub mod Values
+pub mod Says
+pub mod Links
 pub mod Writes
 pub mod Whole
 pub mod Rows
@@ -7,3 +10,9 @@ pub mod Tokenizer
 pub mod Trees
 pub mod Printed
 pub mod HtmlTrees
+pub mod Characters
+pub mod HtmlNormal
+pub mod Fits
+pub mod FitsStay
+pub mod KeptFitted
+pub mod PiecesPrint

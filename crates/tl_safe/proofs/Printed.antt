@@ -24,10 +24,11 @@ use Rattle.tl_html_spec.specs.HtmlTokenizer.{Character, EndTag, HtmlToken, Start
 use Rattle.tl_safe.specs.Lists.{ListedWords, is_among}
 use Rattle.tl_safe.specs.Refusals.{are_lawful}
 use Rattle.tl_safe.specs.Kept.{is_text_byte, kept, stays, value_stays}
-use Rattle.tl_safe.specs.IsSafe.{IsSafe, a_text, a_void_element, an_element, end_of, html_attribute, nothing, safe_pairs, start_of, text_characters, tokens_of}
+use Rattle.tl_safe.specs.IsSafe.{IsSafe, a_text, a_void_element, an_element, end_of, html_attribute, is_written, nothing, safe_pairs, start_of, text_characters, tokens_of}
 use Rattle.tl_safe.proofs.Tokenizer.{AreNew, end-read, read, start-read, text-last, text-run}
 use Rattle.tl_safe.proofs.Trees.{AreKept, kept-AreKept, kept-clean, kept-own}
-use Rattle.tl_safe.proofs.Listed.{listed_key, listed_tag, stays-lossy, text-lossy}
+use Rattle.tl_safe.proofs.Listed.{listed_key, listed_tag, text-lossy}
+use Rattle.tl_safe.proofs.Values.{all-stay, written-lossy}
 
 pairs-print : (ps : List Pair) → print_pairs ps ≡ safe_pairs (map lossy_pair ps)
 pairs-print [] = refl
@@ -142,11 +143,11 @@ text-read t (b ∷ r) h follows =
     subst (λ c. read data_state (t ++ c ∷ r) ≡ map Character (text_characters t) ++ read data_state (c ∷ r)) (sym follows) (text-run t r h)
 
 module _ (p : ListedWords) (lawful : are_lawful p ≡ true) where
-  lossy-stay : (ps : List Pair) → list_all (stays p) ps ≡ true → list_all (stays p) (map lossy_pair ps) ≡ true
+  lossy-stay : (ps : List Pair) → list_all (is_written p) ps ≡ true → list_all (is_written p) (map lossy_pair ps) ≡ true
   lossy-stay [] h = refl
   lossy-stay (q ∷ ps) h =
-      let here = and_parts (stays p q) (list_all (stays p) ps) h in
-      and_from _ _ (stays-lossy p lawful q here.0) (lossy-stay ps here.1)
+      let here = and_parts (is_written p q) (list_all (is_written p) ps) h in
+      and_from _ _ (written-lossy p lawful q here.0) (lossy-stay ps here.1)
 
   -- the print of a void element, and of another one, before what comes after
   void-print : (own : PlainTag) (children more : Forest PlainTag) → is_among p.tags own.name ≡ true → is_void own.name ≡ true →
@@ -187,7 +188,7 @@ module _ (p : ListedWords) (lawful : are_lawful p ≡ true) where
   -- keys
 
   key-lossy : (q : Pair) → stays p q ≡ true → utf8_lossy q.0 ≡ q.0
-  key-lossy (key, None) h = (listed_key p lawful key h).lossy
+  key-lossy (key, None) h = (listed_key p lawful key (and_parts (is_among p.keys key) (value_stays p key []) h).0).lossy
   key-lossy (key, Some value) h = (listed_key p lawful key (and_parts (is_among p.keys key) (value_stays p key value) h).0).lossy
 
   keys-lossy : (ps : List Pair) → list_all (stays p) ps ≡ true → keys_of (map lossy_pair ps) ≡ keys_of ps
@@ -235,9 +236,9 @@ module _ (p : ListedWords) (lawful : are_lawful p ≡ true) where
   read_before (comment bytes more) t r plain h own follows = absurd h
   read_before (tag own children more) t r plain h keys follows =
       let ps = map lossy_pair (printed_pairs own.attributes) in
-      let stay = lossy-stay (printed_pairs own.attributes) h.1 in
+      let stay = all-stay p ps (lossy-stay (printed_pairs own.attributes) h.1) in
       let name = listed_tag p lawful own.name h.0 in
-      let new = new-keys own.attributes keys.0 h.1 in
+      let new = new-keys own.attributes keys.0 (all-stay p (printed_pairs own.attributes) h.1) in
       let below = read_before children [] (end_of own.name ++ (print more ++ r)) refl h.3 keys.1 refl in
       let after = read_before more [] r refl h.4 keys.2 follows in
       let start : HtmlToken = StartTag own.name (map html_attribute ps) false in
@@ -267,17 +268,25 @@ module _ (p : ListedWords) (lawful : are_lawful p ≡ true) where
             ∙ ap (λ ks. ks ++ page r) (sym (join-tag t (lossy_tag own) (norm children) (norm more)))
       ]
 
--- the laws
+-- the laws, of trees that are kept
+
+pub form_of : (p : ListedWords) → are_lawful p ≡ true → (f : Forest PlainTag) → AreKept p f → IsSafe p (print f)
+form_of p lawful f kept = kept-safe p lawful f kept
+
+pub standard_of : (p : ListedWords) → are_lawful p ≡ true → (f : Forest PlainTag) → AreKept p f → HaveOwnKeys f → tokens_in_page (print f) ≡ tokens_of (norm f)
+standard_of p lawful f kept own =
+    ap tokens_in_page (sym (append-nil (print f)))
+    ∙ read_before p lawful f [] [] refl kept own tt
+    ∙ append-nil (tokens_of (norm f))
+
+pub reads_of : (p : ListedWords) → are_lawful p ≡ true → (f : Forest PlainTag) → AreKept p f → HaveOwnKeys f → ReadsAs (print f) f
+reads_of p lawful f kept own = identity f (kept-clean p lawful f kept) own
 
 pub form : (p : ListedWords) → are_lawful p ≡ true → (f : Forest PlainTag) → IsSafe p (print (kept p f))
-form p lawful f = kept-safe p lawful (kept p f) (kept-AreKept p f)
+form p lawful f = form_of p lawful (kept p f) (kept-AreKept p lawful f)
 
 pub standard : (p : ListedWords) → are_lawful p ≡ true → (f : Forest PlainTag) → HaveOwnKeys f → tokens_in_page (print (kept p f)) ≡ tokens_of (norm (kept p f))
-standard p lawful f own =
-    let k = kept-AreKept p f in
-    ap tokens_in_page (sym (append-nil (print (kept p f))))
-    ∙ read_before p lawful (kept p f) [] [] refl k (kept-own p f own) tt
-    ∙ append-nil (tokens_of (norm (kept p f)))
+standard p lawful f own = standard_of p lawful (kept p f) (kept-AreKept p lawful f) (kept-own p f own)
 
 pub reads : (p : ListedWords) → are_lawful p ≡ true → (f : Forest PlainTag) → HaveOwnKeys f → ReadsAs (print (kept p f)) (kept p f)
-reads p lawful f own = identity (kept p f) (kept-clean p lawful (kept p f) (kept-AreKept p f)) (kept-own p f own)
+reads p lawful f own = reads_of p lawful (kept p f) (kept-AreKept p lawful f) (kept-own p f own)

@@ -1,20 +1,24 @@
 -- What is kept of trees: by its form, clean, and with keys of its own.
-use Rattle.std.proofs.Common.{◌≡◌, ℕ, Bool, true, false, cond, not, ◌&&◌, ◌==◌, List, [], ◌∷◌, ◌++◌, Option, Some, None, codes, refl, ap, ap₂, sym, ◌∙◌, true≢false, if◌then◌else◌}
+use Rattle.std.proofs.Common.{◌≡◌, ℕ, Bool, true, false, cond, not, ◌&&◌, ◌==◌, List, [], ◌∷◌, ◌++◌, map, Option, Some, None, codes, refl, ap, ap₂, sym, subst, ◌∙◌, true≢false, if◌then◌else◌}
 use Rattle.std.specs.Prelude.{⊤}
-use Rattle.std.specs.List.{filter, list_all}
+use Rattle.std.specs.List.{IsDistinct, filter, list_all}
+use Rattle.std.specs.Map.{keys_of}
 use Rattle.std.specs.Str.{bytes_eq}
 use Rattle.std.proofs.lemmas.Bool.{and_parts, and_from}
+use Rattle.std.proofs.lemmas.List.{map-append}
 use Rattle.std.proofs.lemmas.List.Elements.{filter-append}
 use Rattle.std.proofs.lemmas.Map.Made.{IsDistinct-keys_filter}
 use Rattle.tl_spec.specs.Attribute.{Pair}
-use Rattle.tl_spec.specs.AttributeList.{AreOthers, HasOwnKeys, PlainAttributes, named, printed_pairs}
+use Rattle.tl_spec.specs.AttributeList.{AreOthers, HasOwnKeys, IsOther, PlainAttributes, named, printed_pairs}
 use Rattle.tl_spec.specs.ByteClass.{is_among_in_any_case, is_void}
 use Rattle.tl_spec.specs.Clean.{AreCleanPairs, HaveOwnKeys, IsClean, IsCleanStart, IsName}
 use Rattle.tl_spec.specs.Forest.{Forest, none, text, comment, tag, PlainTag}
 use Rattle.tl_safe.specs.Lists.{ListedWords, is_among, opaque_names}
 use Rattle.tl_safe.specs.Refusals.{are_lawful}
-use Rattle.tl_safe.specs.Kept.{is_text_byte, is_value_byte, joined, kept, kept_attributes, kept_value, stays, value_stays}
+use Rattle.tl_safe.specs.Kept.{is_text_byte, is_value_byte, joined, kept, kept_attributes, kept_value, stays, value_stays, written_pair, written_pairs, written_value}
+use Rattle.tl_safe.specs.IsSafe.{is_written}
 use Rattle.tl_safe.proofs.Listed.{listed_key, listed_tag}
+use Rattle.tl_safe.proofs.Values.{all-stay, pairs-written}
 
 -- what holds of both of two trees holds of the chosen one
 choose : (P : Forest PlainTag → Type 0) (b : Bool) (x y : Forest PlainTag) → (b ≡ true → P x) → (b ≡ false → P y) → P (if b then x else y)
@@ -28,7 +32,7 @@ module _ (p : ListedWords) where
   AreKept (text bytes more) = (list_all is_text_byte bytes ≡ true) × AreKept more
   AreKept (comment bytes more) = ⊥
   AreKept (tag own children more) =
-      (is_among p.tags own.name ≡ true) × (list_all (stays p) (printed_pairs own.attributes) ≡ true) × (is_void own.name ≡ true → children ≡ none)
+      (is_among p.tags own.name ≡ true) × (list_all (is_written p) (printed_pairs own.attributes) ≡ true) × (is_void own.name ≡ true → children ≡ none)
       × AreKept children × AreKept more
 
   joined-AreKept : (f g : Forest PlainTag) → AreKept f → AreKept g → AreKept (joined f g)
@@ -45,38 +49,42 @@ module _ (p : ListedWords) where
       here true e rest = and_from _ _ e rest
       here false e rest = rest
 
-  kept-named : (key : List ℕ) (v : Option (List ℕ)) → named key (kept_value p key v) ≡ filter (stays p) (named key v)
+  kept-named : (key : List ℕ) (v : Option (List ℕ)) → named key (kept_value p key v) ≡ written_pairs p (named key v)
   kept-named key None = refl
   kept-named key (Some v) = here (stays p (key, Some v))
     where
-      here : (b : Bool) → named key (if b then Some v else None) ≡ cond b ((key, Some v) ∷ []) []
+      here : (b : Bool) → named key (if b then Some (written_value v) else None) ≡ map written_pair (cond b ((key, Some v) ∷ []) [])
       here true = refl
       here false = refl
 
-  kept-printed : (a : PlainAttributes) → printed_pairs (kept_attributes p a) ≡ filter (stays p) (printed_pairs a)
-  kept-printed a =
-      ap₂ (λ x y. (filter (stays p) a.others ++ x) ++ y) (kept-named (codes "id") a.id) (kept-named (codes "class") a.class)
-      ∙ ap (λ x. x ++ filter (stays p) (named (codes "class") a.class)) (sym (filter-append (stays p) a.others (named (codes "id") a.id)))
-      ∙ sym (filter-append (stays p) (a.others ++ named (codes "id") a.id) (named (codes "class") a.class))
+  pub written_pairs-append : (ps qs : List Pair) → written_pairs p (ps ++ qs) ≡ written_pairs p ps ++ written_pairs p qs
+  written_pairs-append ps qs =
+      ap (map written_pair) (filter-append (stays p) ps qs) ∙ map-append written_pair (filter (stays p) ps) (filter (stays p) qs)
 
-  pub kept-pairs : (a : PlainAttributes) → printed_pairs (kept_attributes p a) ≡ filter (stays p) (printed_pairs a)
+  kept-printed : (a : PlainAttributes) → printed_pairs (kept_attributes p a) ≡ written_pairs p (printed_pairs a)
+  kept-printed a =
+      ap₂ (λ x y. (written_pairs p a.others ++ x) ++ y) (kept-named (codes "id") a.id) (kept-named (codes "class") a.class)
+      ∙ ap (λ x. x ++ written_pairs p (named (codes "class") a.class)) (sym (written_pairs-append a.others (named (codes "id") a.id)))
+      ∙ sym (written_pairs-append (a.others ++ named (codes "id") a.id) (named (codes "class") a.class))
+
+  pub kept-pairs : (a : PlainAttributes) → printed_pairs (kept_attributes p a) ≡ written_pairs p (printed_pairs a)
   kept-pairs a = kept-printed a
 
   void_children : (b : Bool) (f : Forest PlainTag) → b ≡ true → (if b then none else f) ≡ none
   void_children true f e = refl
   void_children false f e = absurd (true≢false (sym e))
 
-  pub kept-AreKept : (f : Forest PlainTag) → AreKept (kept p f)
-  kept-AreKept none = tt
-  kept-AreKept (text bytes more) = (filter_all is_text_byte bytes, kept-AreKept more)
-  kept-AreKept (comment bytes more) = kept-AreKept more
-  kept-AreKept (tag own children more) =
-      let below = kept-AreKept children in
-      let after = kept-AreKept more in
+  pub kept-AreKept : are_lawful p ≡ true → (f : Forest PlainTag) → AreKept (kept p f)
+  kept-AreKept lawful none = tt
+  kept-AreKept lawful (text bytes more) = (filter_all is_text_byte bytes, kept-AreKept lawful more)
+  kept-AreKept lawful (comment bytes more) = kept-AreKept lawful more
+  kept-AreKept lawful (tag own children more) =
+      let below = kept-AreKept lawful children in
+      let after = kept-AreKept lawful more in
       choose AreKept (is_among p.tags own.name) _ _
       (λ listed. (
         listed,
-        ap (list_all (stays p)) (kept-printed own.attributes) ∙ filter_all (stays p) (printed_pairs own.attributes),
+        ap (list_all (is_written p)) (kept-printed own.attributes) ∙ pairs-written p lawful (printed_pairs own.attributes),
         void_children (is_void own.name) (kept p children),
         choose AreKept (is_void own.name) none (kept p children) (λ _. tt) (λ _. below),
         after,
@@ -94,8 +102,23 @@ module _ (p : ListedWords) where
       here true rest = (h.0, rest)
       here false rest = rest
 
+  written-key : (q : Pair) → (written_pair q).0 ≡ q.0
+  written-key (key, None) = refl
+  written-key (key, Some value) = refl
+
+  keys-written : (ps : List Pair) → keys_of (map written_pair ps) ≡ keys_of ps
+  keys-written [] = refl
+  keys-written (q ∷ ps) = ap₂ (λ k ks. k ∷ ks) (written-key q) (keys-written ps)
+
+  others-written : (ps : List Pair) → AreOthers (λ key. key) ps → AreOthers (λ key. key) (map written_pair ps)
+  others-written [] h = tt
+  others-written (q ∷ ps) h = (subst IsOther (sym (written-key q)) h.0, others-written ps h.1)
+
   own-kept : (a : PlainAttributes) → HasOwnKeys a → HasOwnKeys (kept_attributes p a)
-  own-kept a h = record { distinct = IsDistinct-keys_filter bytes_eq (stays p) a.others h.distinct; others = others-filter a.others h.others }
+  own-kept a h = record {
+    distinct = subst (IsDistinct bytes_eq) (sym (keys-written (filter (stays p) a.others))) (IsDistinct-keys_filter bytes_eq (stays p) a.others h.distinct);
+    others = others-written (filter (stays p) a.others) (others-filter a.others h.others);
+  }
 
   joined-own : (f g : Forest PlainTag) → HaveOwnKeys f → HaveOwnKeys g → HaveOwnKeys (joined f g)
   joined-own none g h k = k
@@ -134,7 +157,7 @@ module _ (p : ListedWords) where
     clean-pairs [] h = tt
     clean-pairs ((key, None) ∷ ps) h =
         let here = and_parts (stays p (key, None)) (list_all (stays p) ps) h in
-        ((listed_key p lawful key here.0).name, tt, clean-pairs ps here.1)
+        ((listed_key p lawful key (and_parts (is_among p.keys key) (value_stays p key []) here.0).0).name, tt, clean-pairs ps here.1)
     clean-pairs ((key, Some value) ∷ ps) h =
         let here = and_parts (stays p (key, Some value)) (list_all (stays p) ps) h in
         let parts = and_parts (is_among p.keys key) (value_stays p key value) here.0 in
@@ -151,7 +174,7 @@ module _ (p : ListedWords) where
     kept-clean (tag own children more) h =
         let name = listed_tag p lawful own.name h.0 in
         let ps = printed_pairs own.attributes in (
-          record { start = clean_start own.name name.name ps (clean-pairs ps h.1); no_command = name.no_command },
+          record { start = clean_start own.name name.name ps (clean-pairs ps (all-stay p ps h.1)); no_command = name.no_command },
           h.2,
           kept-clean children h.3,
           kept-clean more h.4,

@@ -1,5 +1,5 @@
 -- What is written of a text and of a start tag.
-use Rattle.std.proofs.Common.{◌≡◌, ℕ, Bool, true, cond, List, [], ◌∷◌, ◌++◌, codes, refl, ap, sym, ◌∙◌, append-nil}
+use Rattle.std.proofs.Common.{◌≡◌, ℕ, Bool, true, false, cond, map, List, [], ◌∷◌, ◌++◌, codes, refl, ap, sym, ◌∙◌, append-nil}
 use Rattle.std.specs.List.{filter, list_all}
 use Rattle.std.specs.Str.Lossy.{utf8_lossy}
 use Rattle.std.proofs.lemmas.Bool.{and_parts}
@@ -8,8 +8,10 @@ use Rattle.tl_spec.specs.AttributeList.{printed_pairs}
 use Rattle.tl_spec.specs.Forest.{PlainTag}
 use Rattle.tl_spec.specs.Print.{print_pairs, print_start, print_value}
 use Rattle.tl_safe.specs.Lists.{ListedWords}
-use Rattle.tl_safe.specs.Kept.{is_text_byte, kept_tag, stays}
+use Rattle.tl_safe.specs.Kept.{is_text_byte, kept_tag, stays, written_pair, written_pairs, written_value}
+use Rattle.tl_safe.specs.IsSafe.{is_written_byte}
 use Rattle.tl_safe.proofs.Trees.{kept-pairs}
+use Rattle.tl_safe.proofs.Values.{written-same}
 
 filter_is : (test : ℕ → Bool) (s : List ℕ) → list_all test s ≡ true → filter test s ≡ s
 filter_is test [] h = refl
@@ -21,9 +23,22 @@ filter_is test (b ∷ s) h =
 pub filter_same : (s : List ℕ) → list_all is_text_byte s ≡ true → filter is_text_byte s ≡ s
 filter_same s h = filter_is is_text_byte s h
 
+-- a value that is written as it is
+pub value_same : (s : List ℕ) → list_all is_written_byte s ≡ true → written_value s ≡ s
+value_same s h = written-same s h
+
 -- what four calls wrote is the start tag
-pub kept_start : (p : ListedWords) (own : PlainTag) → print_start (kept_tag p own) ≡ codes "<" ++ utf8_lossy own.name ++ print_pairs (filter (stays p) (printed_pairs own.attributes)) ++ codes ">"
+pub kept_start : (p : ListedWords) (own : PlainTag) → print_start (kept_tag p own) ≡ codes "<" ++ utf8_lossy own.name ++ print_pairs (written_pairs p (printed_pairs own.attributes)) ++ codes ">"
 kept_start p own = ap (λ ps. codes "<" ++ utf8_lossy own.name ++ print_pairs ps ++ codes ">") (kept-pairs p own.attributes)
 
 one_more : (q : Pair) (qs : List Pair) → print_pairs (q ∷ qs) ≡ print_pairs (q ∷ []) ++ print_pairs qs
 one_more q qs = ap (λ x. x ++ print_pairs qs) (sym (append-nil (codes " " ++ utf8_lossy q.0 ++ print_value q.1)))
+
+-- a pair, and those after it
+pub pairs_more : (p : ListedWords) (q : Pair) (qs : List Pair) → print_pairs (written_pairs p (q ∷ qs)) ≡ print_pairs (written_pairs p (q ∷ [])) ++ print_pairs (written_pairs p qs)
+pairs_more p q qs = here (stays p q)
+  where
+    here : (b : Bool) → print_pairs (map written_pair (cond b (q ∷ filter (stays p) qs) (filter (stays p) qs)))
+        ≡ print_pairs (map written_pair (cond b (q ∷ []) [])) ++ print_pairs (written_pairs p qs)
+    here true = one_more (written_pair q) (written_pairs p qs)
+    here false = refl

@@ -1,6 +1,9 @@
 pub mod Lists
 pub mod Kept
 pub mod IsSafe
+pub mod Fitted
+pub mod KeptFitted
+pub mod Rows
 pub mod HtmlTrees
 pub mod Words
 pub mod Policies

@@ -2,7 +2,7 @@
 use Rattle.std.specs.Prelude.{ℕ, Bool, not, ◌&&◌, ◌==◌, List, [], ◌∷◌, Option, Some, None, is_none, codes, if◌then◌else◌}
 use Rattle.std.specs.List.{list_all, starts_with}
 use Rattle.std.specs.Option.{option_map, option_or}
-use Rattle.tl_safe.specs.Lists.{ListedWords, active_keys, active_schemes, begins_path, begins_with_any, bending_names, has_scheme, is_among, is_key_byte, is_link_byte, is_tag_byte, is_word_of, known_link_keys, opaque_names}
+use Rattle.tl_safe.specs.Lists.{ListedWords, active_keys, active_schemes, begins_path, begins_with_any, bending_names, has_scheme, is_among, is_beginning_byte, is_key_byte, is_tag_byte, is_word_of, known_link_keys, opaque_names}
 use Rattle.tl_safe.specs.declared.refusal.PolicyError.{PolicyError}
 use Rattle.tl_safe.specs.declared.refusal.Reason.{Reason}
 use Rattle.tl_safe.specs.declared.refusal.Reason.TheVariants.{MalformedTag, OpaqueTag, StructuralTag, MalformedKey, ScriptKey, ActiveKey, LinkKey, MalformedLink, ActiveScheme, NoScheme, MalformedPrefix}
@@ -27,7 +27,7 @@ key_reason link_keys key =
 -- why no policy may let links begin with a word, if none may
 abbrev pub link_reason : List ℕ → Option Reason
 link_reason word =
-    if not (list_all is_link_byte word) then Some MalformedLink
+    if not (list_all is_beginning_byte word) then Some MalformedLink
     else if begins_path word then None
     else if not (has_scheme word) then Some NoScheme
     else if begins_with_any active_schemes word then Some ActiveScheme

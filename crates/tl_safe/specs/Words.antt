@@ -1,7 +1,7 @@
 -- Words as values, and what is asked of them.
 use Rattle.std.specs.Prelude.{ℕ, Bool, List, map, Option}
 use Rattle.std.specs.Borrow.{Bor}
-use Rattle.tl_safe.specs.Lists.{ListedWords, is_key_byte, is_link_byte, is_tag_byte}
+use Rattle.tl_safe.specs.Lists.{ListedWords, is_beginning_byte, is_key_byte, is_link_byte, is_tag_byte}
 use Rattle.tl_safe.specs.Kept.{is_own_byte}
 use Rattle.tl_safe.specs.Refusals.{key_reason, link_reason, tag_reason}
 use Rattle.tl_safe.specs.declared.lists.Lists.{Lists}
@@ -9,7 +9,7 @@ use Rattle.tl_safe.specs.declared.refusal.Reason.{Reason}
 use Rattle.tl_safe.specs.declared.refusal.Role.{Role}
 use Rattle.tl_safe.specs.declared.refusal.Role.TheVariants.{Tag, Key, LinkBeginning}
 use Rattle.tl_safe.specs.declared.words.ByteClass.{ByteClass}
-use Rattle.tl_safe.specs.declared.words.ByteClass.TheVariants.{OfTag, OfKey, OfLink, OfOwnName}
+use Rattle.tl_safe.specs.declared.words.ByteClass.TheVariants.{OfTag, OfKey, OfLink, OfBeginning, OfOwnName}
 
 -- lent words as lists of bytes
 abbrev pub words_of : List (Bor (List ℕ)) → List (List ℕ)
@@ -30,6 +30,7 @@ abbrev pub is_of : ByteClass → ℕ → Bool
 is_of OfTag = is_tag_byte
 is_of OfKey = is_key_byte
 is_of OfLink = is_link_byte
+is_of OfBeginning = is_beginning_byte
 is_of OfOwnName = is_own_byte
 
 -- why no policy with these link keys may list a word in a role, if none may

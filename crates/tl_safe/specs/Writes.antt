@@ -2,7 +2,6 @@
 use Rattle.std.specs.Prelude.{◌≡◌, ℕ, List, ◌++◌, Option, codes, string_bytes}
 use Rattle.std.specs.Borrow.{Bor}
 use Rattle.std.specs.Global.{Global}
-use Rattle.std.specs.List.{filter}
 use Rattle.std.specs.Option.{option_copied}
 use Rattle.std.specs.Str.Lossy.{utf8_lossy}
 use Rattle.std.specs.declared.string.String.{String}
@@ -12,7 +11,7 @@ use Rattle.tl_spec.specs.Print.{print_pairs, print_start, print_value}
 use Rattle.tl_spec.specs.Walk.{plain_node}
 use Rattle.tl_attributes.specs.ShownAttributes.{shown_value}
 use Rattle.tl_bytes.specs.Held.{Kept}
-use Rattle.tl_safe.specs.Kept.{kept_tag, stays}
+use Rattle.tl_safe.specs.Kept.{kept_tag, written_pairs}
 use Rattle.tl_safe.specs.Policies.{lists_of}
 use Rattle.tl_safe.specs.declared.policy.Policy.{Policy}
 
@@ -30,7 +29,7 @@ print_pair pair = codes " " ++ utf8_lossy pair.0 ++ print_value pair.1
 
 -- the print of the pairs that stay
 abbrev pub kept_pairs : Policy → List Pair → List ℕ
-kept_pairs policy ps = print_pairs (filter (stays (lists_of policy)) ps)
+kept_pairs policy ps = print_pairs (written_pairs (lists_of policy) ps)
 
 -- the print of what is kept of a start tag
 abbrev pub kept_start : Policy → TagNode → List ℕ

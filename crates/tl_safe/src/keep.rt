@@ -5,14 +5,14 @@ ghost use Rattle.tl_safe.specs.Policies.{lists_of};
 ghost use Rattle.tl_safe.specs.Writes.{pair_of};
 
 use crate::policy::Policy;
-use crate::words::{ByteClass, are_of, begins_with_any, is_among, is_naming, is_whole_value};
+use crate::words::{ByteClass, are_of, begins_link, is_among, is_naming, is_whole_value};
 use tl::Bytes;
 
 // Whether a value is a link that may stand.
 fn is_link(policy: &Policy<'_>, value: &[u8]) -> bool
     ensures { result ≡ is_link (lists_of policy.now) value.now }
 {
-    begins_with_any(policy.lists.link_beginnings, value) && are_of(ByteClass::OfLink, value)
+    begins_link(policy.lists.link_beginnings, value) && are_of(ByteClass::OfLink, value)
 }
 
 // Whether a value is one word with the prefix.
@@ -31,7 +31,7 @@ fn value_stays(policy: &Policy<'_>, key: &[u8], value: &[u8]) -> bool
         && (!is_naming(key) || is_own_name(policy, value))
 }
 
-// Whether a key stays, with its value if it has one.
+// Whether a key stays, with its value, which is empty where there is none.
 pub(crate) fn stays(policy: &Policy<'_>, key: &[u8], value: Option<&Bytes<'_>>) -> bool
     ensures { result ≡ stays (lists_of policy.now) (pair_of key.now value.entry) }
 {
@@ -40,6 +40,6 @@ pub(crate) fn stays(policy: &Policy<'_>, key: &[u8], value: Option<&Bytes<'_>>) 
     }
     match value {
         Some(value) => value_stays(policy, key, value.as_bytes()),
-        None => true,
+        None => value_stays(policy, key, b"".as_slice()),
     }
 }

@@ -6,14 +6,15 @@ ghost use Rattle.tl_spec.specs.Normal.{norm};
 ghost use Rattle.tl_spec.specs.Print.{print};
 ghost use Rattle.tl.specs.declared.errors.ParseError.TheVariants.{InvalidLength};
 ghost use Rattle.tl_html_spec.specs.HtmlTokenizer.{tokens_in_page};
-ghost use Rattle.tl_tree_spec.specs.HtmlForest.{normal_form};
 ghost use Rattle.tl_tree_spec.specs.HtmlTreeBuilder.{html_trees};
 ghost use Rattle.tl_safe.specs.HtmlTrees.{as_html, stays};
 ghost use Rattle.tl_safe.specs.IsSafe.{IsSafe, tokens_of};
 ghost use Rattle.tl_safe.specs.Kept.{trees_of};
 ghost use Rattle.tl_safe.specs.Policies.{kept_of, lists_of};
 
+mod fitted_rows;
 mod keep;
+pub mod laws;
 mod lists;
 mod policy;
 mod refusal;
@@ -74,7 +75,7 @@ pub fn sanitised(alloc: Global, policy: &Policy<'_>, page: &str) -> Result<Strin
     ensures browser { IfOk result (λ safe.
         stays (as_html (norm (kept_of policy.now page.now))) ≡ true →
         html_trees (tokens_in_page (string_bytes safe))
-        ≡ Some (normal_form (as_html (norm (kept_of policy.now page.now))))) }
+        ≡ Some (as_html (norm (kept_of policy.now page.now)))) }
 {
     let safe = written(alloc, policy, page)?;
     Ok(safe)

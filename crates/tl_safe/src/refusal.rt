@@ -29,7 +29,7 @@ pub enum Reason {
     ActiveKey,
     /// HTML has links at this key, so it may stand only where it is a link key too.
     LinkKey,
-    /// A link is printable ASCII without spaces and `"`.
+    /// A link begins with printable ASCII, without spaces, `"`, `<` and `>`.
     MalformedLink,
     /// Links of this scheme are programs or documents.
     ActiveScheme,
@@ -67,7 +67,9 @@ impl fmt::Display for Reason {
             Reason::ScriptKey => "its value is a script",
             Reason::ActiveKey => "its value is no name, text or link",
             Reason::LinkKey => "it holds links, and is no link key",
-            Reason::MalformedLink => "a link is printable ASCII without spaces and `\"`",
+            Reason::MalformedLink => {
+                "a link begins with printable ASCII without spaces, `\"`, `<` and `>`"
+            },
             Reason::ActiveScheme => "such links are programs or documents",
             Reason::NoScheme => {
                 "it is no scheme with its `:`, and no `/`, `#`, `?` or `.` stands first"
@@ -139,7 +141,7 @@ fn key_reason(link_keys: &[&str], key: &[u8]) -> Option<Reason>
 fn link_reason(word: &[u8]) -> Option<Reason>
     ensures { result ≡ link_reason word.now }
 {
-    if !are_of(ByteClass::OfLink, word) {
+    if !are_of(ByteClass::OfBeginning, word) {
         Some(Reason::MalformedLink)
     } else if begins_path(word) {
         None

@@ -40,6 +40,7 @@ fn enters(stands: bool, name: &[u8]) -> bool
 
 // Writes the start tag of a tag that stands, and says whether it does.
 fn write_opening(
+    alloc: Global,
     policy: &Policy<'_>,
     tag: &HTMLTag<'_>,
     out: &mut String,
@@ -51,7 +52,7 @@ fn write_opening(
 {
     let stands = is_among(policy.lists.tags, tag.name().as_bytes());
     if stands {
-        write_start(policy, tag, out)?;
+        write_start(alloc, policy, tag, out)?;
     }
     Ok(stands)
 }
@@ -85,7 +86,7 @@ fn visit<'s, 'a>(
     };
     match node {
         Node::Tag(tag) => {
-            let stands = write_opening(policy, tag, out)?;
+            let stands = write_opening(alloc, policy, tag, out)?;
             if !enters(stands, tag.name().as_bytes()) {
                 return Ok(());
             }

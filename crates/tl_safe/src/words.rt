@@ -1,12 +1,13 @@
 //! Words, and the classes of their bytes.
 ghost use Rattle.std.specs.Prelude.{◌≡◌};
-ghost use Rattle.std.specs.List.{list_all};
+ghost use Rattle.std.specs.List.{list_all, list_any};
 ghost use Rattle.tl_spec.specs.ByteClass.{is_among_in_any_case};
 ghost use Rattle.tl_safe.specs.Kept.{is_text_byte, is_value_byte, naming_keys};
-ghost use Rattle.tl_safe.specs.Lists.{active_keys, bending_names, begins_path, begins_with_any, has_colon, has_scheme, is_among, is_word_of, opaque_names};
+ghost use Rattle.tl_safe.specs.IsSafe.{is_written_byte};
+ghost use Rattle.tl_safe.specs.Lists.{active_keys, bending_names, begins_link, begins_path, begins_with_any, has_colon, has_scheme, is_among, is_link_byte, is_word_of, leads_out, leaves_site, opaque_names};
 ghost use Rattle.tl_safe.specs.Words.{is_of, words_of};
 
-use memchr::memchr3;
+use memchr::{memchr2, memchr3};
 use tl_bytes::words::is_among_in_any_case;
 
 // Classes of bytes.
@@ -15,6 +16,7 @@ pub(crate) enum ByteClass {
     OfTag,
     OfKey,
     OfLink,
+    OfBeginning,
     OfOwnName,
 }
 
@@ -65,7 +67,7 @@ static BENDING_NAMES: [&str; 29] = [
     "command",
 ];
 
-static ACTIVE_KEYS: [&str; 7] = [
+static ACTIVE_KEYS: [&str; 8] = [
     "style",
     "srcdoc",
     "srcset",
@@ -73,6 +75,7 @@ static ACTIVE_KEYS: [&str; 7] = [
     "ping",
     "archive",
     "is",
+    "attributionsrc",
 ];
 
 pub(crate) static KNOWN_LINK_KEYS: [&str; 17] = [
@@ -105,6 +108,13 @@ pub(crate) static ACTIVE_SCHEMES: [&str; 7] = [
     "about:",
 ];
 
+// Whether a byte is printable ASCII but `"` and the space.
+fn is_link_byte(byte: u8) -> bool
+    ensures { result ≡ is_link_byte byte }
+{
+    byte > 32 && byte < 127 && byte != b'"'
+}
+
 // Whether a byte is of a class.
 #[inline(always)]
 fn is_of(class: ByteClass, byte: u8) -> bool
@@ -113,7 +123,8 @@ fn is_of(class: ByteClass, byte: u8) -> bool
     match class {
         ByteClass::OfTag => byte.is_ascii_lowercase() || byte.is_ascii_digit(),
         ByteClass::OfKey => byte.is_ascii_lowercase() || byte == b'-',
-        ByteClass::OfLink => byte > 32 && byte < 127 && byte != b'"',
+        ByteClass::OfLink => is_link_byte(byte),
+        ByteClass::OfBeginning => is_link_byte(byte) && byte != b'<' && byte != b'>',
         ByteClass::OfOwnName => byte.is_ascii_alphanumeric() || byte == b'-' || byte == b'_',
     }
 }
@@ -137,6 +148,13 @@ pub(crate) fn is_whole_value(bytes: &[u8]) -> bool
     ensures { result ≡ list_all is_value_byte bytes.now }
 {
     memchr3(b'"', 0, 27, bytes).is_none()
+}
+
+// Whether a value is written as it is.
+pub(crate) fn is_written_value(bytes: &[u8]) -> bool
+    ensures { result ≡ list_all is_written_byte bytes.now }
+{
+    memchr2(b'<', b'>', bytes).is_none()
 }
 
 // Whether all bytes are of a class.
@@ -177,6 +195,42 @@ pub(crate) fn begins_with_any(fronts: &[&str], word: &[u8]) -> bool
 {
     for front in fronts {
         if word.starts_with(front.as_bytes()) {
+            return true;
+        }
+    }
+    false
+}
+
+// Whether a byte makes another host of a `/` before it.
+fn leads_out(byte: u8) -> bool
+    ensures { result ≡ leads_out byte }
+{
+    byte == b'/' || byte == b'\\' || byte == b'&' || byte == b'<' || byte == b'>'
+}
+
+// Whether a path names another host.
+fn leaves_site(path: &[u8]) -> bool
+    ensures { result ≡ leaves_site path.now }
+{
+    match path {
+        [first, second, ..] => *first == b'/' && leads_out(*second),
+        _ => false,
+    }
+}
+
+// Whether this stands at the front of a link, and does not lead further than it says.
+fn begins_link_by(front: &[u8], link: &[u8]) -> bool
+    ensures { result ≡ begins_link link.now front.now }
+{
+    link.starts_with(front) && (leaves_site(front) || !leaves_site(link))
+}
+
+// Whether one of these begins a link.
+pub(crate) fn begins_link(fronts: &[&str], link: &[u8]) -> bool
+    ensures { result ≡ list_any (begins_link link.now) (words_of fronts.now) }
+{
+    for front in fronts {
+        if begins_link_by(front.as_bytes(), link) {
             return true;
         }
     }

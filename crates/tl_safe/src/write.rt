@@ -1,5 +1,5 @@
 //! Writes of what is kept of a node.
-ghost use Rattle.std.specs.Prelude.{◌≡◌, ◌∷◌, [], OnOk, IfOk};
+ghost use Rattle.std.specs.Prelude.{◌≡◌, ◌∷◌, ◌++◌, [], OnOk, IfOk};
 ghost use Rattle.std.specs.List.{filter};
 ghost use Rattle.std.specs.Str.Lossy.{utf8_lossy};
 ghost use Rattle.tl_spec.specs.AttributeList.{printed_pairs};
@@ -7,12 +7,12 @@ ghost use Rattle.tl_spec.specs.Print.{print_end};
 ghost use Rattle.tl_spec.specs.Walk.{plain_node};
 ghost use Rattle.tl_attributes.specs.ShownAttributes.{plain};
 ghost use Rattle.tl.specs.Shown.{shown_tag};
-ghost use Rattle.tl_safe.specs.Kept.{is_text_byte};
+ghost use Rattle.tl_safe.specs.Kept.{is_text_byte, written_byte, written_pair, written_value};
 ghost use Rattle.tl_safe.specs.Writes.{Adds, kept_pairs, kept_start, pair_of, print_pair};
 
 use crate::keep::stays;
 use crate::policy::Policy;
-use crate::words::{is_text_byte, is_whole_text};
+use crate::words::{is_text_byte, is_whole_text, is_written_value};
 use bstr::ByteSlice;
 use std::alloc::{AllocError, Global};
 use tl::{Attributes, Bytes, HTMLTag};
@@ -50,16 +50,59 @@ pub(crate) fn write_text(alloc: Global, bytes: &[u8], out: &mut String) -> Resul
     write_lossy(kept.as_slice(), out)
 }
 
+// Adds a byte of a value as it is written.
+fn push_written(byte: u8, kept: &mut Vec<u8>) -> Result<(), AllocError>
+    ensures { OnOk result (kept.new.items ≡ kept.old.items ++ written_byte byte) }
+{
+    match byte {
+        b'<' => kept.extend_from_slice(b"&lt;"),
+        b'>' => kept.extend_from_slice(b"&gt;"),
+        _ => {
+            kept.push(byte)?;
+            Ok(())
+        }
+    }
+}
+
+// The bytes of a value as it is written.
+fn value_bytes(alloc: Global, bytes: &[u8]) -> Result<Vec<u8>, AllocError>
+    ensures { IfOk result (λ v. v.items ≡ written_value bytes.now) }
+{
+    let mut kept = Vec::new(alloc);
+    for byte in bytes {
+        push_written(*byte, &mut kept)?;
+    }
+    Ok(kept)
+}
+
+// Writes a value. Where it has no `<` and `>`, it is not copied.
+#[tactic(auto, using(crate::proofs::Writes::value_same))]
+fn write_value(alloc: Global, bytes: &[u8], out: &mut String) -> Result<(), AllocError>
+    ensures { OnOk result (Adds out.old out.new (utf8_lossy (written_value bytes.now))) }
+{
+    if is_written_value(bytes) {
+        return write_lossy(bytes, out);
+    }
+    let kept = value_bytes(alloc, bytes)?;
+    write_lossy(kept.as_slice(), out)
+}
+
 // Writes a space, a key and its value.
-fn write_pair(key: &[u8], value: Option<&Bytes<'_>>, out: &mut String) -> Result<(), AllocError>
-    ensures { OnOk result (Adds out.old out.new (print_pair (pair_of key.now value.entry))) }
+fn write_pair(
+    alloc: Global,
+    key: &[u8],
+    value: Option<&Bytes<'_>>,
+    out: &mut String,
+) -> Result<(), AllocError>
+    ensures { OnOk result (Adds out.old out.new
+        (print_pair (written_pair (pair_of key.now value.entry)))) }
 {
     out.push(' ')?;
     write_lossy(key, out)?;
     match value {
         Some(value) => {
             out.push_str("=\"")?;
-            write_lossy(value.as_bytes(), out)?;
+            write_value(alloc, value.as_bytes(), out)?;
             out.push('"')?;
             Ok(())
         }
@@ -69,6 +112,7 @@ fn write_pair(key: &[u8], value: Option<&Bytes<'_>>, out: &mut String) -> Result
 
 // Writes a pair where it stays.
 fn write_kept_pair(
+    alloc: Global,
     policy: &Policy<'_>,
     key: &[u8],
     value: Option<&Bytes<'_>>,
@@ -78,13 +122,14 @@ fn write_kept_pair(
         (kept_pairs policy.now (pair_of key.now value.entry ∷ []))) }
 {
     if stays(policy, key, value) {
-        write_pair(key, value, out)?;
+        write_pair(alloc, key, value, out)?;
     }
     Ok(())
 }
 
 // Writes the pairs that stay, in order.
 fn write_pairs(
+    alloc: Global,
     policy: &Policy<'_>,
     attributes: &Attributes<'_>,
     out: &mut String,
@@ -93,7 +138,7 @@ fn write_pairs(
         (kept_pairs policy.now (printed_pairs (plain attributes.now)))) }
 {
     for pair in attributes.iter() {
-        write_kept_pair(policy, pair.0.as_bytes(), pair.1, out)?;
+        write_kept_pair(alloc, policy, pair.0.as_bytes(), pair.1, out)?;
     }
     Ok(())
 }
@@ -101,6 +146,7 @@ fn write_pairs(
 // Writes a start tag.
 #[tactic(auto, using(crate::proofs::Writes::kept_start))]
 pub(crate) fn write_start(
+    alloc: Global,
     policy: &Policy<'_>,
     tag: &HTMLTag<'_>,
     out: &mut String,
@@ -109,7 +155,7 @@ pub(crate) fn write_start(
 {
     out.push('<')?;
     write_lossy(tag.name().as_bytes(), out)?;
-    write_pairs(policy, tag.attributes(), out)?;
+    write_pairs(alloc, policy, tag.attributes(), out)?;
     out.push('>')?;
     Ok(())
 }

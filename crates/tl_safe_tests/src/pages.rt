@@ -102,14 +102,50 @@ static LINK_ROWS: [(&str, &str); 15] = [
     ("<a href=\"HTTPS://e/\">c</a>", "<a>c</a>"),
     ("<a href=\"https://e/\té\">c</a>", "<a>c</a>"),
     ("<a href=\"https://e/é\">c</a>", "<a>c</a>"),
-    ("<a href=\"//e/x\">c</a>", "<a href=\"//e/x\">c</a>"),
+    ("<a href=\"#<b>\">c</a>", "<a href=\"#&lt;b&gt;\">c</a>"),
     ("<a href=\"#javascript:steal()\">c</a>", "<a href=\"#javascript:steal()\">c</a>"),
     ("<img src=\"javascript:steal()\" alt=\"x\">", "<img alt=\"x\">"),
     ("<q cite=\"javascript:steal()\">c</q>", "<q>c</q>"),
     ("<a href=javascript:steal()>c</a>", "<a>c</a>"),
     ("<a href='javascript:steal()'>c</a>", "<a>c</a>"),
-    ("<a href>c</a>", "<a href>c</a>"),
+    ("<a href>c</a>", "<a>c</a>"),
     ("<a href=\"\">c</a>", "<a>c</a>"),
+];
+
+// Links within the site, and those that look like it and lead to another host.
+#[rattlefmt::skip]
+static SITE_ROWS: [(&str, &str); 11] = [
+    ("<a href=\"/\">c</a>", "<a href=\"/\">c</a>"),
+    ("<a href=\"/x//e\">c</a>", "<a href=\"/x//e\">c</a>"),
+    ("<a href=\"//e/x\">c</a>", "<a>c</a>"),
+    ("<a href=\"/\\e/x\">c</a>", "<a>c</a>"),
+    ("<a href=\"/&#47;e/x\">c</a>", "<a>c</a>"),
+    ("<a href=\"/&sol;e/x\">c</a>", "<a>c</a>"),
+    ("<a href=\"/&Tab;/e/x\">c</a>", "<a>c</a>"),
+    ("<a href=\"/<e\">c</a>", "<a>c</a>"),
+    ("<a href=\"/e<\">c</a>", "<a href=\"/e&lt;\">c</a>"),
+    ("<img src alt=\"x\">", "<img alt=\"x\">"),
+    ("<q cite>x</q>", "<q>x</q>"),
+];
+
+// By a policy with links to any host, by the scheme of the page.
+#[rattlefmt::skip]
+static HOST_ROWS: [(&str, &str); 4] = [
+    ("<a href=\"//e/x\">c</a>", "<a href=\"//e/x\">c</a>"),
+    ("<a href=\"///e/x\">c</a>", "<a href=\"///e/x\">c</a>"),
+    ("<a href=\"/\\e/x\">c</a>", "<a>c</a>"),
+    ("<a href=\"/x\">c</a>", "<a>c</a>"),
+];
+
+// What may end what is no markup stands in a value.
+#[rattlefmt::skip]
+static VALUE_ROWS: [(&str, &str); 6] = [
+    ("<p title=\"</noscript><img src=x onerror=steal()>\">y</p>", "<p title=\"&lt;/noscript&gt;&lt;img src=x onerror=steal()&gt;\">y</p>"),
+    ("<p title='--><b>'>y</p>", "<p title=\"--&gt;&lt;b&gt;\">y</p>"),
+    ("<p title=\"&lt;&amp;lt;&gt\">y</p>", "<p title=\"&lt;&amp;lt;&gt\">y</p>"),
+    ("<p title=\"&lt<&#60<&<\">y</p>", "<p title=\"&lt&lt;&#60&lt;&&lt;\">y</p>"),
+    ("<p title=\"é<東\">y</p>", "<p title=\"é&lt;東\">y</p>"),
+    ("<p title>y</p>", "<p title>y</p>"),
 ];
 
 // Comments and doctypes, what a browser takes for their end, and what looks like them.
@@ -120,7 +156,7 @@ static COMMENT_ROWS: [(&str, &str); 14] = [
     ("<!--><img src=x onerror=\"steal()\">-->x", "<img>-->x"),
     ("<!---><img src=x onerror=\"steal()\">-->x", "<img>-->x"),
     ("<\n!-- <img src=x onerror=\"steal()\"> -->", ""),
-    ("<p title=\"<!--\">a</p><p title=\"--!><img src=x onerror='steal()'>\">b</p>", "<p title=\"<!--\">a</p><p title=\"--!><img src=x onerror='steal()'>\">b</p>"),
+    ("<p title=\"<!--\">a</p><p title=\"--!><img src=x onerror='steal()'>\">b</p>", "<p title=\"&lt;!--\">a</p><p title=\"--!&gt;&lt;img src=x onerror='steal()'&gt;\">b</p>"),
     ("<!x><p title=\"x\">a</p><! <img src=x onerror=\"steal()\">", "><p title=\"x\">a</p><img>"),
     ("<?x <p>y?><img src=x onerror=\"steal()\">", "y?><img>"),
     ("<!DOCTYPE html><p>x</p>", "<p>x</p>"),
@@ -142,7 +178,7 @@ static QUOTE_ROWS: [(&str, &str); 9] = [
     ("<p title=\"a'b\">x</p>", "<p title=\"a'b\">x</p>"),
     ("<p title=a\"b>x</p>", "<p>x</p>"),
     ("<img src=/ onerror=\"steal()\" a=\"<p title='\">z", " onerror=\"steal()\" a=\""),
-    ("<a href=\"/1\"><a href=\"/2\" title=\"</a><img src=x onerror='steal()'>\">x</a></a>", "<a href=\"/1\"><a href=\"/2\" title=\"</a><img src=x onerror='steal()'>\">x</a></a>"),
+    ("<a href=\"/1\"><a href=\"/2\" title=\"</a><img src=x onerror='steal()'>\">x</a></a>", "<a href=\"/1\"><a href=\"/2\" title=\"&lt;/a&gt;&lt;img src=x onerror='steal()'&gt;\">x</a></a>"),
 ];
 
 // How tags begin and end, and stand in one another.
@@ -232,6 +268,11 @@ static OTHER_ROWS: [(&str, &str); 9] = [
     ("<table><script>steal()</script><TR><td>x", "<table><td>x</td></table>"),
 ];
 
+static ANY_HOST: Lists<'static> = Lists {
+    link_beginnings: &["//"],
+    ..Lists::PAGE
+};
+
 static TABLES_AND_VIDEOS: Lists<'static> = Lists {
     tags: &["table", "tr", "td", "video"],
     keys: &["data-x", "src", "id"],
@@ -278,6 +319,24 @@ fn schemes(rt: HostRuntime) {
 #[test]
 fn links(rt: HostRuntime) {
     run(&rt, &Policy::page(), &LINK_ROWS);
+}
+
+#[test]
+fn links_within_the_site(rt: HostRuntime) {
+    run(&rt, &Policy::page(), &SITE_ROWS);
+}
+
+#[test]
+fn links_to_any_host(rt: HostRuntime) {
+    match Policy::new(ANY_HOST) {
+        Ok(policy) => run(&rt, &policy, &HOST_ROWS),
+        Err(error) => assert!(rt; false, "{error}"),
+    }
+}
+
+#[test]
+fn values(rt: HostRuntime) {
+    run(&rt, &Policy::page(), &VALUE_ROWS);
 }
 
 #[test]

@@ -13,7 +13,7 @@ struct Row {
 
 // One word is refused.
 #[rattlefmt::skip]
-static REFUSED_ROWS: [Row; 13] = [
+static REFUSED_ROWS: [Row; 15] = [
     Row { lists: Lists { tags: &["p", "P"], ..Lists::PAGE }, word: "P", reason: Reason::MalformedTag },
     Row { lists: Lists { tags: &[""], ..Lists::PAGE }, word: "", reason: Reason::MalformedTag },
     Row { lists: Lists { tags: &["p", "style"], ..Lists::PAGE }, word: "style", reason: Reason::OpaqueTag },
@@ -21,8 +21,10 @@ static REFUSED_ROWS: [Row; 13] = [
     Row { lists: Lists { keys: &["data_x"], ..Lists::PAGE }, word: "data_x", reason: Reason::MalformedKey },
     Row { lists: Lists { keys: &["title", "onclick"], ..Lists::PAGE }, word: "onclick", reason: Reason::ScriptKey },
     Row { lists: Lists { keys: &["style"], ..Lists::PAGE }, word: "style", reason: Reason::ActiveKey },
+    Row { lists: Lists { keys: &["attributionsrc"], ..Lists::PAGE }, word: "attributionsrc", reason: Reason::ActiveKey },
     Row { lists: Lists { keys: &["poster"], ..Lists::PAGE }, word: "poster", reason: Reason::LinkKey },
     Row { lists: Lists { link_beginnings: &["/", "/a b"], ..Lists::PAGE }, word: "/a b", reason: Reason::MalformedLink },
+    Row { lists: Lists { link_beginnings: &["#", "#<"], ..Lists::PAGE }, word: "#<", reason: Reason::MalformedLink },
     Row { lists: Lists { link_beginnings: &["data:"], ..Lists::PAGE }, word: "data:", reason: Reason::ActiveScheme },
     Row { lists: Lists { link_beginnings: &["java"], ..Lists::PAGE }, word: "java", reason: Reason::NoScheme },
     Row { lists: Lists { prefix: "1", ..Lists::PAGE }, word: "1", reason: Reason::MalformedPrefix },
@@ -49,7 +51,7 @@ static TEXT_ROWS: [(Reason, &str, &str); 11] = [
     (Reason::ScriptKey, "onclick", "no policy may list the key `onclick`: its value is a script"),
     (Reason::ActiveKey, "style", "no policy may list the key `style`: its value is no name, text or link"),
     (Reason::LinkKey, "poster", "no policy may list the key `poster`: it holds links, and is no link key"),
-    (Reason::MalformedLink, "a b", "no policy may let links begin with `a b`: a link is printable ASCII without spaces and `\"`"),
+    (Reason::MalformedLink, "a b", "no policy may let links begin with `a b`: a link begins with printable ASCII without spaces, `\"`, `<` and `>`"),
     (Reason::ActiveScheme, "data:", "no policy may let links begin with `data:`: such links are programs or documents"),
     (Reason::NoScheme, "http", "no policy may let links begin with `http`: it is no scheme with its `:`, and no `/`, `#`, `?` or `.` stands first"),
     (Reason::MalformedPrefix, "1", "no prefix of names: `1`: a prefix is a letter of a-z, and then letters and `-`"),

@@ -8,7 +8,7 @@ use Rattle.tl_tree_spec.specs.HtmlTreeBuilder.{html_trees}
 use Rattle.tl_safe.specs.IsSafe.{IsSafe}
 use Rattle.tl_safe.specs.Lists.{ListedWords}
 use Rattle.tl_safe.specs.Policies.{kept_of, lists_of}
-use Rattle.tl_safe.proofs.HtmlTrees.{as_html-stays}
+use Rattle.tl_safe.proofs.HtmlTrees.{norm-stays}
 use Rattle.tl_safe.proofs.Printed.{form, reads, standard}
 use Rattle.tl_safe.proofs.sanitised.Goals as goal
 
@@ -35,4 +35,4 @@ returns-clause-browser c h =
     let p : ListedWords = lists_of c.args.policy.now in
     let f : Forest PlainTag = plain (forest (tokens c.args.page.now)) in
     ap html_trees (ap tokens_in_page c.in_ok-safe.ensures.prints ∙ standard p c.args.policy.now.lawful f (fresh_has_own_keys c.args.page.now))
-    ∙ as_html-stays (norm (kept_of c.args.policy.now c.args.page.now)) h
+    ∙ norm-stays (kept_of c.args.policy.now c.args.page.now) h

@@ -1,0 +1,13 @@
+-- What a policy keeps of trees, made to stay as it is once a browser reads it.
+use Rattle.std.specs.Prelude.{ℕ, Bool, List}
+use Rattle.tl_spec.specs.Forest.{Forest, PlainTag}
+use Rattle.tl_safe.specs.Fitted.{fitted}
+use Rattle.tl_safe.specs.Kept.{kept}
+use Rattle.tl_safe.specs.Lists.{ListedWords, is_among}
+
+-- a part of a table that is missing is added where the policy lists it
+abbrev pub adds_of : ListedWords → List ℕ → Bool
+adds_of p w = is_among p.tags w
+
+abbrev pub kept_fitted : ListedWords → Forest PlainTag → Forest PlainTag
+kept_fitted p f = fitted (adds_of p) (kept p f)
