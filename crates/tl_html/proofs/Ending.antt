@@ -26,7 +26,7 @@ use Rattle.tl_html.proofs.Places.{between}
 use Rattle.tl_html.proofs.Reading.{IsScan, reader}
 use Rattle.tl_html.proofs.Steps.{IsPlace, IsStage, IsValue, chars, flushed_text}
 
-mode_ends : (m : Mode) → at_end (state_of m) ≡ []
+pub mode_ends : (m : Mode) → at_end (state_of m) ≡ []
 mode_ends mode.Data = refl
 mode_ends mode.Title = refl
 mode_ends mode.Textarea = refl

@@ -7,3 +7,4 @@ pub mod Places
 pub mod Reading
 pub mod Ending
 pub mod Joining
+pub mod Plain

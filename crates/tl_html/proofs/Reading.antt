@@ -146,7 +146,7 @@ rest_plain : (s : State) (v : Bool) (b : ℕ) → (v && (b == 10)) ≡ false →
 unfolding rest_before
 rest_plain s v b h = ap (λ p. rest_if p s b) h
 
-read_plain : (s : State) (v : Bool) (b : ℕ) → (v && (b == 10)) ≡ false → read (reader s v) b ≡ whole_step s (feed b)
+pub read_plain : (s : State) (v : Bool) (b : ℕ) → (v && (b == 10)) ≡ false → read (reader s v) b ≡ whole_step s (feed b)
 unfolding read
 read_plain s v b h = ap (λ p. byte_step p s b) h
 

@@ -5,3 +5,4 @@ pub mod Machine
 pub mod Scans
 pub mod Fronts
 pub mod Tokens
+pub mod Runs

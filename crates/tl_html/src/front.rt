@@ -4,6 +4,7 @@ ghost use Rattle.std.specs.Prelude.{◌≡◌, ◌<◌, ◌≤◌, length};
 use crate::byte_class::feed;
 use crate::first::first;
 use crate::mode::Mode;
+use crate::run::run_len;
 use crate::stage::{Stage, TokenKind, Turn};
 use crate::turn::turn;
 
@@ -74,7 +75,7 @@ fn next_scan(scan: Scan, page: &[u8], at: usize) -> Scanned
 ghost use Rattle.tl_html.specs.Fronts.{IsFront};
 
 // The piece at a place, where reading is at rest.
-pub(crate) fn read_front(page: &[u8], start: usize, mode: Mode) -> Front
+fn read_front(page: &[u8], start: usize, mode: Mode) -> Front
     requires { start < length page.now }
     ensures { IsFront page.now start mode result }
 {
@@ -92,6 +93,22 @@ pub(crate) fn read_front(page: &[u8], start: usize, mode: Mode) -> Front
     Front {
         kind: scan.stage.kind_at_end(),
         end: page.len(),
+        mode,
+    }
+}
+
+// The same, or a run of characters.
+pub(crate) fn next_front(page: &[u8], start: usize, mode: Mode) -> Front
+    requires { start < length page.now }
+    ensures { IsFront page.now start mode result }
+{
+    let len = run_len(mode, &page[start..]);
+    if len == 0 {
+        return read_front(page, start, mode);
+    }
+    Front {
+        kind: TokenKind::Text,
+        end: start + len,
         mode,
     }
 }

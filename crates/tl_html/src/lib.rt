@@ -9,6 +9,7 @@ mod mode;
 mod page;
 mod raw;
 mod reference;
+mod run;
 mod stage;
 mod tag;
 mod token;

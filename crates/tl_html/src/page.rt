@@ -2,7 +2,7 @@
 ghost use Rattle.std.specs.Prelude.{◌≡◌, ◌≤◌, length, IfOk};
 ghost use Rattle.tl_html.specs.Tokens.{AreTokensOf, mark_len};
 
-use crate::front::read_front;
+use crate::front::next_front;
 use crate::mode::Mode;
 use crate::token::{Token, join};
 use std::alloc::{AllocError, Global};
@@ -28,7 +28,7 @@ pub fn tokens(alloc: Global, page: &[u8]) -> Result<Vec<Token>, AllocError>
     if start == page.len() {
         return Ok(tokens);
     }
-    let first = read_front(page, start, Mode::Data);
+    let first = next_front(page, start, Mode::Data);
     let mut last = Token {
         start,
         end: first.end,
@@ -37,7 +37,7 @@ pub fn tokens(alloc: Global, page: &[u8]) -> Result<Vec<Token>, AllocError>
     };
     let mut mode = first.mode;
     while last.end < page.len() {
-        let front = read_front(page, last.end, mode);
+        let front = next_front(page, last.end, mode);
         let token = Token {
             start: last.end,
             end: front.end,

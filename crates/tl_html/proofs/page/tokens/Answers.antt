@@ -14,24 +14,24 @@ pub loop-last-init : goal.loop-last-init
 loop-last-init c =
     let page : List ℕ = c.args.page.now in
     let from : ℕ = c.mark_len-start.result in
-    let front = c.read_front-first.result in
+    let front = c.next_front-first.result in
     let last : Token = token_of from mode.Data front in
     subst (λ ts. IsRead page (mark_len page) ts last front.mode) (sym c.new-tokens.ensures.items)
-    (subst (λ n. IsRead page n [] last front.mode) c.mark_len-start.ensures.bytes (read_first page from front c.read_front-first.ensures))
+    (subst (λ n. IsRead page n [] last front.mode) c.mark_len-start.ensures.bytes (read_first page from front c.next_front-first.ensures))
 
 pub loop-last-preserved : goal.loop-last-preserved
 loop-last-preserved c =
     let page : List ℕ = c.args.page.now in
-    let front = c.read_front-front.result in
+    let front = c.next_front-front.result in
     subst₂ (λ ts t. IsRead page (mark_len page) ts t front.mode) (sym c.in_ok-last.ensures.pushed) (sym c.in_ok-last.ensures.last)
-    (read_next page (mark_len page) c.loop-last.tokens.items c.loop-last.last c.loop-last.mode c.loop-last.invariant front c.read_front-front.ensures)
+    (read_next page (mark_len page) c.loop-last.tokens.items c.loop-last.last c.loop-last.mode c.loop-last.invariant front c.next_front-front.ensures)
 
 pub loop-last-smaller : goal.loop-last-smaller
 loop-last-smaller c =
-    let front = c.read_front-front.result in
+    let front = c.next_front-front.result in
     let next : Token = token_of c.loop-last.last.end c.loop-last.mode front in
     let e : c.in_ok-last.last.end ≡ front.end = ap (λ (t : Token). t.end) c.in_ok-last.ensures.last ∙ last_end c.loop-last.last next in
-    let o = c.read_front-front.ensures.order in
+    let o = c.next_front-front.ensures.order in
     let t = c.loop-last-test.true in
     omega arith
 
