@@ -11,7 +11,8 @@ use Rattle.tl_html.specs.declared.front.Front.{Front}
 -- the pieces of a text from a state of rest
 abbrev pub pieces_at : State → List ℕ → List Piece
 pieces_at state [] = []
-pieces_at state (b ∷ text) = pieces_from state (next (at state) b) (b ∷ []) (emitted (at state) (b ∷ [])) text
+pieces_at state (b ∷ text) =
+    pieces_from state (next (at state) b) (b ∷ []) (emitted (at state) (b ∷ [])) text
 
 -- what stands in front of a page from a place on is one piece, where characters are joined
 pub record IsFront (page : List ℕ) (start : ℕ) (mode : Mode) (front : Front) : Type 0 where

@@ -1,5 +1,5 @@
--- What a byte does at a stage: the steps of the standard's states with what they reconsume, by the names of its sections, without
--- what they collect. A word is the bytes of a name so far.
+-- What a byte does at a stage: the steps of the standard's states with what they reconsume, by the
+-- names of its sections, without what they collect. A word is the bytes of a name so far.
 use Rattle.std.specs.Prelude.{ℕ, Bool, true, false, ◌||◌, ◌&&◌, ◌==◌, List, [], ◌∷◌, ◌++◌, drop, map, codes, if◌then◌else◌}
 use Rattle.std.specs.Char.{is_ascii_alphabetic, is_ascii_alphanumeric, is_ascii_digit, is_ascii_hexdigit, to_ascii_lowercase}
 use Rattle.std.specs.Str.{bytes_eq}
@@ -33,7 +33,8 @@ end_tag = record { is_end = true; mode = mode.Data }
 
 -- a tag of this name
 abbrev pub named_tag : Bool → List ℕ → Tag
-named_tag is_end word = if is_end then end_tag else record { is_end = false; mode = mode_after word }
+named_tag is_end word =
+    if is_end then end_tag else record { is_end = false; mode = mode_after word }
 
 -- what ends a name or begins an attribute
 abbrev pub tag_name : Bool → List ℕ → ℕ → Turn
@@ -232,7 +233,8 @@ abbrev pub after_less_than : Mode → ℕ → Turn
 after_less_than mode.Script b =
     if b == 33 then Goes stage.EscapeStart else Ends kind.Text mode.Script
 after_less_than mode.ScriptEscaped b =
-    if is_ascii_alphabetic b then Goes stage.DoubleEscapeStart else Ends kind.Text mode.ScriptEscaped
+    if is_ascii_alphabetic b then Goes stage.DoubleEscapeStart
+    else Ends kind.Text mode.ScriptEscaped
 after_less_than m b = Ends kind.Text m
 
 abbrev pub raw_less_than : Mode → ℕ → Turn
@@ -255,7 +257,8 @@ escape_start b = if b == 45 then Goes stage.EscapeStartDash else Ends kind.Text 
 
 abbrev pub escape_start_dash : ℕ → Turn
 escape_start_dash b =
-    if b == 45 then Goes (stage.Whole kind.Text mode.ScriptEscapedDashDash) else Ends kind.Text mode.Script
+    if b == 45 then Goes (stage.Whole kind.Text mode.ScriptEscapedDashDash)
+    else Ends kind.Text mode.Script
 
 abbrev pub is_script : List ℕ → Bool
 is_script word = bytes_eq (map to_ascii_lowercase word) (codes "script")
@@ -263,7 +266,8 @@ is_script word = bytes_eq (map to_ascii_lowercase word) (codes "script")
 abbrev pub double_escape_start : List ℕ → ℕ → Turn
 double_escape_start word b =
     if ends_name b then
-    (if is_script word then Goes stage.DoubleEscaped else Goes (stage.Whole kind.Text mode.ScriptEscaped))
+    (if is_script word then Goes stage.DoubleEscaped
+    else Goes (stage.Whole kind.Text mode.ScriptEscaped))
     else if is_ascii_alphabetic b then Goes stage.DoubleEscapeStart
     else Ends kind.Text mode.ScriptEscaped
 
@@ -292,7 +296,8 @@ double_escaped_less_than b = if b == 47 then Goes stage.DoubleEscapeEnd else dou
 abbrev pub double_escape_end : List ℕ → ℕ → Turn
 double_escape_end word b =
     if ends_name b then
-    (if is_script word then Goes (stage.Whole kind.Text mode.ScriptEscaped) else Goes stage.DoubleEscaped)
+    (if is_script word then Goes (stage.Whole kind.Text mode.ScriptEscaped)
+    else Goes stage.DoubleEscaped)
     else if is_ascii_alphabetic b then Goes stage.DoubleEscapeEnd
     else double_escaped b
 

@@ -19,13 +19,22 @@ first_scan page start mode = record {
 
 abbrev pub after_turn : Turn → Bool → ℕ → ℕ → Scanned
 after_turn (Goes stage) after_return word place =
-    On (record { stage = stage; after_return = after_return; word = if has_word stage then word else place + 1 })
+    On (record {
+      stage = stage;
+      after_return = after_return;
+      word = if has_word stage then word else place + 1;
+    })
 after_turn (Ends kind mode) after_return word place = Before kind mode
 
 -- a line feed after a carriage return is passed over
 abbrev pub next_scan : Scan → List ℕ → ℕ → Scanned
 next_scan scan page place =
     if scan.after_return && (slice_index page place == 10) then
-    On (record { stage = scan.stage; after_return = slice_index page place == 13; word = place + 1 })
-    else after_turn (turn scan.stage (take (place - scan.word) (drop scan.word page)) (feed (slice_index page place)))
-    (slice_index page place == 13) scan.word place
+    On (record {
+      stage = scan.stage;
+      after_return = slice_index page place == 13;
+      word = place + 1;
+    })
+    else (let word = take (place - scan.word) (drop scan.word page) in
+    let now = turn scan.stage word (feed (slice_index page place)) in
+    after_turn now (slice_index page place == 13) scan.word place)

@@ -22,7 +22,13 @@ pushed_of first second = if are_texts first second then [] else first ∷ []
 -- and the last one
 abbrev pub last_of : Token → Token → Token
 last_of first second =
-    if are_texts first second then record { start = first.start; end = second.end; kind = first.kind; mode = first.mode } else second
+    if are_texts first second then record {
+      start = first.start;
+      end = second.end;
+      kind = first.kind;
+      mode = first.mode;
+    }
+    else second
 
 -- a token is a piece of the page: its place, its bytes, the state of rest before it, and what it is
 pub record IsToken (page : List ℕ) (token : Token) (place : ℕ) (p : Piece) : Type 0 where

@@ -1,7 +1,7 @@
 //! How a text is read: the states of rest.
 
-/// How reading goes on at a place where nothing is begun or withheld. Texts of some elements end with
-/// their own end tag alone.
+/// How reading goes on at a place where nothing is begun or withheld. Texts of some elements end
+/// with their own end tag alone.
 #[derive(Clone, Copy)]
 pub enum Mode {
     /// Markup and references are read (13.2.5.1).
