@@ -5,11 +5,12 @@ use Rattle.std.proofs.lemmas.Bool.{cases_Bool, cond_both}
 use Rattle.std.proofs.lemmas.List.{drop_all}
 use Rattle.tl_html_spec.specs.HtmlTokenizer.{HtmlToken, Character, StartTag, EndTag, CommentToken, DoctypeToken, data_state, without_mark}
 use Rattle.tl_html_spec.specs.Pieces.{Piece, are_characters, bytes_of, piece, pieces, pieces_of, placed, runs, with_piece}
+use Rattle.tl_html_spec.proofs.Cutting.{bytes_are, runs_bytes}
 use Rattle.tl_html_spec.proofs.Places.{placed_after}
 use Rattle.tl_html.specs.Fronts.{IsFront, pieces_at}
 use Rattle.tl_html.specs.Kinds.{IsKind}
 use Rattle.tl_html.specs.Modes.{state_of}
-use Rattle.tl_html.specs.Tokens.{AreTokens, AreTokensOf, IsToken, are_texts, is_text, last_of, mark_len, pushed_of}
+use Rattle.tl_html.specs.Tokens.{AreSideBySide, AreTokens, AreTokensOf, IsToken, are_texts, is_text, last_of, mark_len, pushed_of}
 use Rattle.tl_html.specs.declared.front.Front.{Front}
 use Rattle.tl_html.specs.declared.mode.Mode.{Mode}
 use Rattle.tl_html.specs.declared.mode.Mode.TheVariants as mode
@@ -318,3 +319,41 @@ read_none page e =
 
 pub last_end : (first second : Token) → (last_of first second).end ≡ second.end
 last_end first second = cond_both (are_texts first second) _ _ (λ (t : Token). t.end ≡ second.end) (λ _. refl) (λ _. refl)
+
+-- side by side
+
+sides : (page : List ℕ) (n : ℕ) (ts : List Token) (ps : List Piece) → AreTokens page ts (placed n ps) → n + length (bytes_of ps) ≡ length page → AreSideBySide n ts (length page)
+sides page n [] [] h e = let z : n ≡ n + 0 = omega arith in z ∙ e
+sides page n [] (p ∷ ps) h e = absurd h
+sides page n (t ∷ ts) [] h e = absurd h
+sides page n (t ∷ ts) (p ∷ ps) h e =
+    let o = h.0.order in
+    let s = h.0.start in
+    let len : length p.bytes ≡ t.end - t.start = ap length h.0.bytes ∙ between_length page t.start t.end h.0.order h.0.within in
+    let next : n + length p.bytes ≡ t.end = omega arith in
+    let whole = length-append p.bytes (bytes_of ps) in
+    let total : n + length p.bytes + length (bytes_of ps) ≡ length page = omega arith in
+    (s, subst (λ k. AreSideBySide k ts (length page)) next (sides page (n + length p.bytes) ts ps h.1 total))
+
+ends_false : (a c : Bool) → c ≡ false → (a && c) ≡ false
+ends_false true c h = h
+ends_false false c h = refl
+
+three_within : (s : List ℕ) → starts_with ◌==◌ s (0xEF ∷ 0xBB ∷ 0xBF ∷ []) ≡ true → 3 ≤ length s
+three_within [] h = absurd (true≢false (sym h))
+three_within (a ∷ []) h = absurd (true≢false (sym h ∙ ends_false (0xEF == a) _ refl))
+three_within (a ∷ b ∷ []) h = absurd (true≢false (sym h ∙ ends_false (0xEF == a) _ (ends_false (0xBB == b) _ refl)))
+three_within (a ∷ b ∷ c ∷ s) h = omega arith
+
+mark_within : (page : List ℕ) → mark_len page ≤ length page
+mark_within page =
+    cond_both (starts_with ◌==◌ page (0xEF ∷ 0xBB ∷ 0xBF ∷ [])) 3 0 (λ (n : ℕ). n ≤ length page) (three_within page) (λ _. omega arith)
+
+pub sides_of : (page : List ℕ) (ts : List Token) → AreTokensOf page ts → AreSideBySide (mark_len page) ts (length page)
+sides_of page ts h =
+    let ps : List Piece = runs (pieces page) in
+    let m = mark_within page in
+    let all : bytes_of ps ≡ drop (mark_len page) page = runs_bytes (pieces page) ∙ bytes_are page ∙ mark_is page in
+    let whole = length-drop (mark_len page) page in
+    let len = ap length all in
+    sides page (mark_len page) ts ps h (omega arith)

@@ -52,3 +52,8 @@ mark_len page = if starts_with ◌==◌ page (0xEF ∷ 0xBB ∷ 0xBF ∷ []) the
 -- the tokens of a page are its pieces, where characters side by side are one
 abbrev pub AreTokensOf : List ℕ → List Token → Type 0
 AreTokensOf page tokens = AreTokens page tokens (placed (mark_len page) (runs (pieces page)))
+
+-- tokens side by side, from one place to another
+abbrev pub AreSideBySide : ℕ → List Token → ℕ → Type 0
+AreSideBySide start [] end = start ≡ end
+AreSideBySide start (token ∷ tokens) end = (token.start ≡ start) × AreSideBySide token.end tokens end

@@ -1,6 +1,6 @@
 //! The tokens of a page.
 ghost use Rattle.std.specs.Prelude.{◌≡◌, ◌≤◌, length, IfOk};
-ghost use Rattle.tl_html.specs.Tokens.{AreTokensOf, mark_len};
+ghost use Rattle.tl_html.specs.Tokens.{AreSideBySide, AreTokensOf, mark_len};
 
 use crate::front::next_front;
 use crate::mode::Mode;
@@ -21,7 +21,9 @@ fn mark_len(page: &[u8]) -> usize
 
 /// The tokens of a page, in its order: each byte after a byte order mark stands in one.
 pub fn tokens(alloc: Global, page: &[u8]) -> Result<Vec<Token>, AllocError>
-    ensures { IfOk result (λ tokens. AreTokensOf page.now tokens.items) }
+    ensures pieces { IfOk result (λ tokens. AreTokensOf page.now tokens.items) }
+    ensures side_by_side { IfOk result (λ tokens.
+        AreSideBySide (mark_len page.now) tokens.items (length page.now)) }
 {
     let mut tokens = Vec::new(alloc);
     let start = mark_len(page);

@@ -2,13 +2,15 @@ use Rattle.std.proofs.Common.{ℕ, ◌≡◌, List, [], ap, sym, subst, subst₂
 use Rattle.tl_html.specs.Tokens.{AreTokensOf, mark_len}
 use Rattle.tl_html.specs.declared.mode.Mode.TheVariants as mode
 use Rattle.tl_html.specs.declared.token.Token.{Token}
-use Rattle.tl_html.proofs.Joining.{IsRead, last_end, read_all, read_first, read_next, read_none, token_of}
+use Rattle.tl_html.proofs.Joining.{IsRead, last_end, read_all, read_first, read_next, read_none, sides_of, token_of}
 use Rattle.tl_html.proofs.page.tokens.Goals as goal
 
 pub returns-then-start-page : goal.returns-then-start-page
 returns-then-start-page c =
     let page : List ℕ = c.args.page.now in
-    subst (AreTokensOf page) (sym c.new-tokens.ensures.items) (read_none page (sym c.mark_len-start.ensures.bytes ∙ c.if-start-page.true))
+    let all : AreTokensOf page c.new-tokens.result.items =
+    subst (AreTokensOf page) (sym c.new-tokens.ensures.items) (read_none page (sym c.mark_len-start.ensures.bytes ∙ c.if-start-page.true)) in
+    record { pieces = all; side_by_side = sides_of page c.new-tokens.result.items all }
 
 pub loop-last-init : goal.loop-last-init
 loop-last-init c =
@@ -38,5 +40,7 @@ loop-last-smaller c =
 pub returns : goal.returns
 returns c =
     let page : List ℕ = c.args.page.now in
+    let all : AreTokensOf page c.push.new.self.items =
     subst (AreTokensOf page) (sym c.in_ok-push.ensures.items)
-    (read_all page c.loop-last.tokens.items c.loop-last.last c.loop-last.mode c.loop-last.invariant (omega arith))
+    (read_all page c.loop-last.tokens.items c.loop-last.last c.loop-last.mode c.loop-last.invariant (omega arith)) in
+    record { pieces = all; side_by_side = sides_of page c.push.new.self.items all }
