@@ -8,3 +8,4 @@ pub mod Reading
 pub mod Ending
 pub mod Joining
 pub mod Plain
+pub mod Passing

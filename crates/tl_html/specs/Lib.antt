@@ -6,3 +6,4 @@ pub mod Scans
 pub mod Fronts
 pub mod Tokens
 pub mod Runs
+pub mod Quiet

@@ -1,9 +1,10 @@
 //! The piece of a page that stands at a place.
-ghost use Rattle.std.specs.Prelude.{◌≡◌, ◌<◌, ◌≤◌, length};
+ghost use Rattle.std.specs.Prelude.{◌≡◌, ◌<◌, ◌≤◌, ◌^◌, length};
 
 use crate::byte_class::feed;
 use crate::first::first;
 use crate::mode::Mode;
+use crate::quiet::quiet_len;
 use crate::run::run_len;
 use crate::stage::{Stage, TokenKind, Turn};
 use crate::turn::turn;
@@ -72,6 +73,24 @@ fn next_scan(scan: Scan, page: &[u8], at: usize) -> Scanned
     }
 }
 
+ghost use Rattle.std.specs.Prelude.{◌+◌};
+ghost use Rattle.tl_html.specs.Quiet.{passed};
+
+// The same after bytes that leave the stage as it is.
+fn passed(scan: Scan, at: usize, len: usize) -> Scan
+    requires { at + len < 2 ^ 63 }
+    ensures { result ≡ passed scan at len }
+{
+    if len == 0 {
+        return scan;
+    }
+    Scan {
+        stage: scan.stage,
+        after_return: false,
+        word: at + len,
+    }
+}
+
 ghost use Rattle.tl_html.specs.Fronts.{IsFront};
 
 // The piece at a place, where reading is at rest.
@@ -80,9 +99,14 @@ fn read_front(page: &[u8], start: usize, mode: Mode) -> Front
     ensures { IsFront page.now start mode result }
 {
     let mut scan = first_scan(page, start, mode);
-    for at in start + 1..page.len() {
+    let mut at = start + 1;
+    while at < page.len() {
         match next_scan(scan, page, at) {
-            Scanned::On(next) => scan = next,
+            Scanned::On(next) => {
+                let len = quiet_len(next.stage, &page[at + 1..]);
+                scan = passed(next, at + 1, len);
+                at = at + 1 + len;
+            }
             Scanned::Before(kind, mode) => return Front {
                 kind,
                 end: at,

@@ -7,6 +7,7 @@ mod first;
 mod front;
 mod mode;
 mod page;
+mod quiet;
 mod raw;
 mod reference;
 mod run;
