@@ -1,0 +1,11 @@
+pub mod Words
+pub mod Nonempty
+pub mod Steps
+pub mod Turns
+pub mod Defaults
+pub mod Places
+pub mod Reading
+pub mod Ending
+pub mod Joining
+pub mod Plain
+pub mod Passing
