@@ -31,31 +31,34 @@ fn came_back(old: &Option<Vec<u8>>, wanted: &Option<&'static [u8]>) -> bool {
     }
 }
 
-fn set(alloc: Global, bytes: &mut Bytes<'_>, set: &Set) -> bool {
-    match bytes.set(alloc, set.0) {
-        Ok(old) => came_back(&old, &set.2),
+fn set(alloc: Global, bytes: &mut Bytes<'_>, row: &Set) -> bool {
+    let (text, _, wanted) = row;
+    match bytes.set(alloc, *text) {
+        Ok(old) => came_back(&old, wanted),
         Err(_) => false,
     }
 }
 
-fn set_unchecked(alloc: Global, bytes: &mut Bytes<'_>, set: &Set) -> bool {
-    if set.0.len() > u32::MAX as usize {
+fn set_unchecked(alloc: Global, bytes: &mut Bytes<'_>, row: &Set) -> bool {
+    let (text, _, wanted) = row;
+    if text.len() > u32::MAX as usize {
         return false;
     }
-    match bytes.set_unchecked(alloc, set.0) {
-        Ok(old) => came_back(&old, &set.2),
+    match bytes.set_unchecked(alloc, *text) {
+        Ok(old) => came_back(&old, wanted),
         Err(_) => false,
     }
 }
 
 // Whether the set gives back what it must, and the bytes are then its text.
 fn sets(alloc: Global, bytes: &mut Bytes<'_>, row: &Set) -> bool {
-    let gave_back = if row.1 {
+    let (text, is_checked, _) = *row;
+    let gave_back = if is_checked {
         set(alloc, bytes, row)
     } else {
         set_unchecked(alloc, bytes, row)
     };
-    gave_back && bytes.as_bytes() == row.0.as_bytes()
+    gave_back && bytes.as_bytes() == text.as_bytes()
 }
 
 // How many sets do what they must.

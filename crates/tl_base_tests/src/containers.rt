@@ -316,7 +316,8 @@ fn insert_or_keep<const N: usize>(
     inserted: &[(u8, u8)],
     kept: &[(u8, u8)],
 ) -> bool {
-    match map.insert(pair.0, pair.1) {
+    let (key, value) = pair;
+    match map.insert(key, value) {
         Ok(()) => map_holds(map, inserted, true),
         Err(back) => back == pair && map_holds(map, kept, false),
     }

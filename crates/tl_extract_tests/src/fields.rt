@@ -72,8 +72,8 @@ static COUNTED: [(&str, usize); 5] = [
 // Whether all selectors hold at so many nodes of the page.
 fn all_counted(alloc: Global) -> Result<bool, Failure> {
     let document = read(alloc, PAGE.as_bytes(), ParserOptions::new())?;
-    for row in &COUNTED {
-        if count(alloc, &document, row.0)? != row.1 {
+    for (selector, wanted) in &COUNTED {
+        if count(alloc, &document, selector)? != *wanted {
             return Ok(false);
         }
     }

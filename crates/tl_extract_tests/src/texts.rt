@@ -38,8 +38,8 @@ fn has_text(alloc: Global, page: &str, lines: &str) -> Result<bool, Failure> {
 
 #[test]
 fn text_of_a_page_stands_line_by_line(rt: HostRuntime) {
-    for row in &READABLE {
-        assert!(rt; has_text(rt.alloc(), row.0, row.1) == Ok(true));
+    for (page, lines) in &READABLE {
+        assert!(rt; has_text(rt.alloc(), page, lines) == Ok(true));
     }
 }
 
@@ -60,7 +60,7 @@ fn has_outline(alloc: Global, page: &str, lines: &str) -> Result<bool, Failure> 
 
 #[test]
 fn outline_has_a_line_for_each_node(rt: HostRuntime) {
-    for row in &OUTLINES {
-        assert!(rt; has_outline(rt.alloc(), row.0, row.1) == Ok(true));
+    for (page, lines) in &OUTLINES {
+        assert!(rt; has_outline(rt.alloc(), page, lines) == Ok(true));
     }
 }

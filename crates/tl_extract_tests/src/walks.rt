@@ -64,8 +64,8 @@ fn walks(alloc: Global, page: &str, skips: &[u8], expected: &str) -> Result<bool
 
 #[test]
 fn walks_meet_and_leave(rt: HostRuntime) {
-    for row in &WALKS {
-        assert!(rt; walks(rt.alloc(), row.0, row.1, row.2) == Ok(true));
+    for (page, skips, letters) in &WALKS {
+        assert!(rt; walks(rt.alloc(), page, skips, letters) == Ok(true));
     }
 }
 

@@ -1,7 +1,7 @@
 //! Pages that are cut at each character boundary.
 use crate::wrong::{Wrong, expect};
 use std::alloc::Global;
-use tl::{Attributes, Node, ParserOptions, VDom, parse, parse_owned};
+use tl::{Attributes, Bytes, Node, ParserOptions, VDom, parse, parse_owned};
 
 // Nodes and attributes together.
 fn size(document: &VDom<'_>) -> usize {
@@ -14,16 +14,19 @@ fn size(document: &VDom<'_>) -> usize {
     size
 }
 
-// Whether no key is empty and no value has a `"` in it.
+// Whether a key isn't empty and its value has no `"` in it.
+fn is_tame(key: &Bytes<'_>, value: Option<&Bytes<'_>>) -> bool {
+    let is_quoted = match value {
+        Some(value) => value.as_bytes().contains(&b'"'),
+        None => false,
+    };
+    !key.as_bytes().is_empty() && !is_quoted
+}
+
 fn are_tame(attributes: &Attributes<'_>) -> bool {
     for pair in attributes.iter() {
-        if pair.0.as_bytes().is_empty() {
+        if !is_tame(&pair.0, pair.1) {
             return false;
-        }
-        if let Some(value) = pair.1 {
-            if value.as_bytes().contains(&b'"') {
-                return false;
-            }
         }
     }
     true

@@ -44,8 +44,9 @@ pub fn all(alloc: Global, count: u32) -> Result<(), Wrong> {
 }
 
 fn of_row(alloc: Global, document: &VDom<'_>, row: &Row, count: u32) -> Result<(), Wrong> {
-    let text = repeated(alloc, row.0, count, row.1)?;
-    match (parse_query_selector(alloc, text.as_str())?, row.2) {
+    let (part, end, wanted) = *row;
+    let text = repeated(alloc, part, count, end)?;
+    match (parse_query_selector(alloc, text.as_str())?, wanted) {
         (Some(selector), Some(wanted)) => of_selector(alloc, document, selector, wanted),
         (None, None) => Ok(()),
         _ => Err(Wrong::Answer("a text says a selector, or none")),

@@ -99,12 +99,13 @@ fn print_page(
 
 // Whether the print of a page after the steps, and that of what this is read as, are those of the row.
 fn is_read_as(alloc: Global, row: &Row, keeps: bool) -> bool {
+    let (page, steps, first_print, count, second_print) = *row;
     let mut first = String::new(alloc);
     let mut second = String::new(alloc);
-    print_page(alloc, row.0, keeps, row.1, &mut first).is_some()
-        && first.as_str() == row.2
-        && print_page(alloc, first.as_str(), keeps, &[], &mut second) == Some(row.3)
-        && second.as_str() == row.4
+    print_page(alloc, page, keeps, steps, &mut first).is_some()
+        && first.as_str() == first_print
+        && print_page(alloc, first.as_str(), keeps, &[], &mut second) == Some(count)
+        && second.as_str() == second_print
 }
 
 const SIXTEEN: &str =
@@ -158,11 +159,11 @@ fn doubled_is_read(alloc: Global, keeps: bool) -> bool {
 #[test]
 fn prints_are_read_again(rt: HostRuntime) {
     for (at, row) in ROWS.iter().enumerate() {
-        assert!(rt; is_read_as(rt.alloc(), row, false), "row {at}: {}", row.2);
+        let (_, _, print, _, _) = row;
+        assert!(rt; is_read_as(rt.alloc(), row, false), "row {at}: {print}");
         assert!(rt;
             is_read_as(rt.alloc(), row, true),
-            "row {at}, kept: {}",
-            row.2
+            "row {at}, kept: {print}"
         );
     }
 }

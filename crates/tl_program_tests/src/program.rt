@@ -426,10 +426,11 @@ fn streams(
     wanted: u8,
     len: usize,
 ) -> Result<bool, AllocError> {
-    let words = owned(alloc, row.0)?;
+    let (words, page, written) = *row;
+    let words = owned(alloc, words)?;
     let mut taken = Vec::new(alloc);
     let reader = Pieces {
-        left: row.1,
+        left: page,
         calls: 0,
         bad: bad_read,
         kind: manner.kind,
@@ -441,13 +442,14 @@ fn streams(
         status == wanted
             && read_failed == (wanted == 4 && bad_read != NEVER)
             && write_failed == (wanted == 4 && bad_read == NEVER)
-            && row.2.get(..len) == Some(taken.as_slice()),
+            && written.get(..len) == Some(taken.as_slice()),
     )
 }
 
 // Where each write takes a byte and one of them fails, the bytes before it are written.
 fn writes_fail(alloc: Global, row: &Streamed, kind: ErrorKind) -> Result<bool, AllocError> {
-    let len = row.2.len();
+    let (_, _, written) = row;
+    let len = written.len();
     for bad in 0..=len {
         let manner = Manner {
             most: 1,
@@ -465,8 +467,9 @@ fn writes_fail(alloc: Global, row: &Streamed, kind: ErrorKind) -> Result<bool, A
 
 // Where a read fails, be it the one that would say that the page ends, nothing is written.
 fn reads_fail(alloc: Global, row: &Streamed, kind: ErrorKind) -> Result<bool, AllocError> {
+    let (_, page, _) = row;
     let manner = Manner { kind, ..WHOLE };
-    for bad in 0..=row.1.len().div_ceil(3) {
+    for bad in 0..=page.len().div_ceil(3) {
         if !streams(alloc, row, bad, &manner, 4, 0)? {
             return Ok(false);
         }
@@ -476,7 +479,8 @@ fn reads_fail(alloc: Global, row: &Streamed, kind: ErrorKind) -> Result<bool, Al
 
 // Where the flush fails, or a write takes nothing of something.
 fn ends_fail(alloc: Global, row: &Streamed, kind: ErrorKind) -> Result<bool, AllocError> {
-    let len = row.2.len();
+    let (_, _, written) = row;
+    let len = written.len();
     let flush = Manner {
         kind,
         ..FLUSH_FAILS
@@ -495,8 +499,9 @@ fn all_fail(alloc: Global, row: &Streamed, kind: ErrorKind) -> bool {
 #[test]
 fn streams_that_fail(rt: HostRuntime) {
     for row in &STREAMED {
+        let (words, _, _) = row;
         for kind in &KINDS {
-            assert!(rt; all_fail(rt.alloc(), row, *kind), "{:?} {kind:?}", row.0);
+            assert!(rt; all_fail(rt.alloc(), row, *kind), "{words:?} {kind:?}");
         }
     }
 }

@@ -68,17 +68,22 @@ const PUT: u8 = 200;
 /// A call of a container, if there is one of this number.
 pub fn call(number: usize, case: &mut Case) -> Option<Named> {
     if let Some(row) = LISTS.get(number) {
-        return Some((row.0, list(row, case)));
+        let (name, _, _, _) = *row;
+        return Some((name, list(row, case)));
     }
     let number = number - LISTS.len();
     match MAPS.get(number) {
-        Some(row) => Some((row.0, map(row, case))),
+        Some(row) => {
+            let (name, _, _, _) = *row;
+            Some((name, map(row, case)))
+        }
         None => of_pieces(number - MAPS.len(), case),
     }
 }
 
 fn list(row: &ListRow, case: &mut Case) -> Result<(), Stop> {
-    match row.1 {
+    let (_, room, _, _) = row;
+    match room {
         Room::None => of_list(&mut InlineVec::<u8, 0>::new(case.alloc()), row, case),
         Room::Two => of_list(&mut InlineVec::<u8, 2>::new(case.alloc()), row, case),
     }
@@ -89,13 +94,14 @@ fn of_list<const N: usize>(
     row: &ListRow,
     case: &mut Case,
 ) -> Result<(), Stop> {
-    for item in row.2 {
+    let (_, _, held, call) = row;
+    for item in *held {
         list.push(*item).map_err(|_| Stop::NoMemory)?;
     }
-    match row.3 {
-        ListCall::Push => push(list, row.2, case),
-        ListCall::Clone => list_clone(list, row.2, case),
-        ListCall::ToVec => to_vec(list, row.2, case),
+    match call {
+        ListCall::Push => push(list, held, case),
+        ListCall::Clone => list_clone(list, held, case),
+        ListCall::ToVec => to_vec(list, held, case),
     }
 }
 
@@ -137,7 +143,8 @@ fn to_vec<const N: usize>(
 }
 
 fn map(row: &MapRow, case: &mut Case) -> Result<(), Stop> {
-    match row.1 {
+    let (_, room, _, _) = row;
+    match room {
         Room::None => of_map(
             &mut InlineHashMap::<u8, u8, 0>::new(case.alloc()),
             row,
@@ -156,13 +163,14 @@ fn of_map<const N: usize>(
     row: &MapRow,
     case: &mut Case,
 ) -> Result<(), Stop> {
-    for pair in row.2 {
-        map.insert(pair.0, pair.1).map_err(|_| Stop::NoMemory)?;
+    let (_, _, held, call) = row;
+    for (key, value) in *held {
+        map.insert(*key, *value).map_err(|_| Stop::NoMemory)?;
     }
-    match row.3 {
-        MapCall::Insert(key) => insert(map, row.2, key, case),
-        MapCall::Clone => map_clone(map, row.2, case),
-        MapCall::ToMap => to_map(map, row.2, case),
+    match call {
+        MapCall::Insert(key) => insert(map, held, *key, case),
+        MapCall::Clone => map_clone(map, held, case),
+        MapCall::ToMap => to_map(map, held, case),
     }
 }
 
@@ -186,8 +194,8 @@ fn holds<const N: usize>(map: &InlineHashMap<u8, u8, N>, pairs: &[(u8, u8)]) -> 
     if map.len() < pairs.len() || map.is_heap_allocated() != (map.len() > N) {
         return false;
     }
-    for (pair, wanted) in map.iter().zip(pairs) {
-        if (*pair.0, *pair.1) != *wanted {
+    for ((key, value), wanted) in map.iter().zip(pairs) {
+        if (*key, *value) != *wanted {
             return false;
         }
     }
@@ -197,14 +205,14 @@ fn holds<const N: usize>(map: &InlineHashMap<u8, u8, N>, pairs: &[(u8, u8)]) -> 
 // Whether a map holds these pairs with the value that was put at a key: in its place, or behind the others.
 fn is_with<const N: usize>(map: &InlineHashMap<u8, u8, N>, pairs: &[(u8, u8)], key: u8) -> bool {
     let mut place = pairs.len();
-    for (i, pair) in pairs.iter().enumerate() {
-        if pair.0 == key {
+    for (i, (known, _)) in pairs.iter().enumerate() {
+        if *known == key {
             place = i;
         }
     }
-    for (i, pair) in map.iter().enumerate() {
+    for (i, (known, value)) in map.iter().enumerate() {
         let wanted = if i == place { (key, PUT) } else { at(pairs, i) };
-        if (*pair.0, *pair.1) != wanted {
+        if (*known, *value) != wanted {
             return false;
         }
     }
@@ -236,8 +244,8 @@ fn to_map<const N: usize>(
 ) -> Result<(), Stop> {
     let answer = measured!(case, map.to_map(case.alloc()));
     let table = answer?;
-    for pair in held {
-        if table.get(&pair.0) != Some(&pair.1) {
+    for (key, value) in held {
+        if table.get(key) != Some(value) {
             return Err(Stop::WrongValue);
         }
     }
@@ -301,7 +309,9 @@ fn second_name(case: &mut Case) -> Result<(), Stop> {
     let answer = measured!(case, names.insert(second, NodeHandle::new(8)));
     match answer {
         Ok(()) => value(are_names(&names, 2)),
-        Err(back) => refused(are_names(&names, 1) && back.0.eq_str("b") && back.1.get_inner() == 8),
+        Err((name, handle)) => {
+            refused(are_names(&names, 1) && name.eq_str("b") && handle.get_inner() == 8)
+        }
     }
 }
 

@@ -102,8 +102,8 @@ const TWO: usize = 2;
 // Attributes with so many of the pairs.
 fn with_pairs(alloc: Global, count: usize) -> Result<Attributes<'static>, Stop> {
     let mut attributes = Attributes::new(alloc);
-    for pair in PAIRS.iter().take(count) {
-        attributes.insert(Bytes::from(pair.0), Some(Bytes::from(pair.1)))?;
+    for (key, value) in PAIRS.iter().take(count) {
+        attributes.insert(Bytes::from(*key), Some(Bytes::from(*value)))?;
     }
     Ok(attributes)
 }
@@ -150,8 +150,8 @@ fn is_at(attributes: &Attributes<'static>, key: &'static str, wanted: &str) -> b
 
 // Whether they are so many of the pairs, and lie where their number says.
 fn are_pairs(attributes: &Attributes<'static>, count: usize) -> bool {
-    for pair in PAIRS.iter().take(count) {
-        if !is_at(attributes, pair.0, pair.1) {
+    for (key, value) in PAIRS.iter().take(count) {
+        if !is_at(attributes, *key, value) {
             return false;
         }
     }

@@ -37,19 +37,23 @@ static NUMBERS: [numbers::Row; 9] = [
 /// A call on a document that keeps its text, if there is one of this number.
 pub fn call(number: usize, case: &mut Case) -> Option<Named> {
     if let Some(row) = TEXTS.get(number) {
-        return Some((row.0, text(row, case)));
+        let (name, _, _, _, _) = *row;
+        return Some((name, text(row, case)));
     }
     let row = NUMBERS.get(number - TEXTS.len())?;
-    Some((row.0, answer(row, case)))
+    let (name, _, _, _, _) = *row;
+    Some((name, answer(row, case)))
 }
 
 fn text(row: &texts::Row, case: &mut Case) -> Result<(), Stop> {
-    let document = read(&row.2, case)?;
+    let (_, _, page, _, _) = row;
+    let document = read(page, case)?;
     texts::of_document(document.get_ref(), row, case)
 }
 
 fn answer(row: &numbers::Row, case: &mut Case) -> Result<(), Stop> {
-    let document = read(&row.2, case)?;
+    let (_, _, page, _, _) = row;
+    let document = read(page, case)?;
     numbers::of_document(document.get_ref(), row, case)
 }
 

@@ -79,10 +79,12 @@ const PUT: u16 = 3000;
 /// A call on a container with a past, if there is one of this number.
 pub fn call(number: usize, case: &mut Case) -> Option<Named> {
     if let Some(row) = MAPS.get(number) {
-        return Some((row.0, of_map(row, case)));
+        let (name, _, _, _) = *row;
+        return Some((name, of_map(row, case)));
     }
     let row = LISTS.get(number - MAPS.len())?;
-    Some((row.0, of_list(row, case)))
+    let (name, _, _) = *row;
+    Some((name, of_list(row, case)))
 }
 
 // How many pairs or items there are.
@@ -94,20 +96,22 @@ fn len(filled: u16, past: Past) -> u16 {
 }
 
 fn of_map(row: &MapRow, case: &mut Case) -> Result<(), Stop> {
+    let (_, _, _, call) = row;
     let map = &mut made_map(row, case.alloc())?;
-    match row.3 {
-        MapCall::Insert(key) => insert(map, row, key, case),
+    match call {
+        MapCall::Insert(key) => insert(map, row, *key, case),
         MapCall::Clone => clone(map, row, case),
         MapCall::ToMap => to_map(map, row, case),
     }
 }
 
 fn made_map(row: &MapRow, alloc: Global) -> Result<Map, Stop> {
+    let (_, filled, past, _) = *row;
     let mut map = Map::new(alloc);
-    for key in 0..row.1 {
+    for key in 0..filled {
         put(&mut map, key)?;
     }
-    match row.2 {
+    match past {
         Past::Filled => {}
         Past::Taken => {
             map.remove(&0);
@@ -130,8 +134,9 @@ fn value_of(key: u16) -> u16 {
 
 // The key at a place: the last has the place of what was taken out.
 fn key_at(row: &MapRow, place: u16) -> u16 {
-    let last = row.1.saturating_sub(1);
-    match row.2 {
+    let (_, filled, past, _) = *row;
+    let last = filled.saturating_sub(1);
+    match past {
         Past::Filled => place,
         Past::Taken | Past::Swapped if place == 0 => last,
         Past::Swapped if place == last => OTHER,
@@ -141,23 +146,25 @@ fn key_at(row: &MapRow, place: u16) -> u16 {
 
 // Whether a map lies on the heap if more pairs than there is room inline were ever in it.
 fn lies(map: &Map, row: &MapRow) -> bool {
-    map.is_heap_allocated() == (row.1 as usize > ROOM || map.len() > ROOM)
+    let (_, filled, _, _) = *row;
+    map.is_heap_allocated() == (filled as usize > ROOM || map.len() > ROOM)
 }
 
 // Whether a map holds the pairs of a row in order, and maybe more behind them; at one key, if it is there, what was put.
 fn holds(map: &Map, row: &MapRow, changed: Option<u16>) -> bool {
-    let len = len(row.1, row.2);
+    let (_, filled, past, _) = *row;
+    let len = len(filled, past);
     if map.len() < len as usize || !lies(map, row) {
         return false;
     }
-    for (pair, place) in map.iter().zip(0..len) {
-        let key = key_at(row, place);
-        let wanted = if changed == Some(key) {
+    for ((key, value), place) in map.iter().zip(0..len) {
+        let wanted_key = key_at(row, place);
+        let wanted = if changed == Some(wanted_key) {
             PUT
         } else {
-            value_of(key)
+            value_of(wanted_key)
         };
-        if (*pair.0, *pair.1) != (key, wanted) {
+        if (*key, *value) != (wanted_key, wanted) {
             return false;
         }
     }
@@ -166,17 +173,19 @@ fn holds(map: &Map, row: &MapRow, changed: Option<u16>) -> bool {
 
 // Whether a map holds the pairs of a row and no others.
 fn is_as_made(map: &Map, row: &MapRow) -> bool {
-    map.len() == len(row.1, row.2) as usize && holds(map, row, None)
+    let (_, filled, past, _) = *row;
+    map.len() == len(filled, past) as usize && holds(map, row, None)
 }
 
 // A refused pair comes back, and the map holds what it held.
 fn insert(map: &mut Map, row: &MapRow, key: u16, case: &mut Case) -> Result<(), Stop> {
+    let (_, filled, past, _) = *row;
     let is_known = map.get(&key).is_some();
     let answer = measured!(case, map.insert(key, PUT));
     let grown = if is_known { 0 } else { 1 };
     match answer {
         Ok(()) => value(
-            map.len() == len(row.1, row.2) as usize + grown
+            map.len() == len(filled, past) as usize + grown
                 && holds(map, row, Some(key))
                 && map.get(&key) == Some(&PUT),
         ),
@@ -192,8 +201,8 @@ fn clone(map: &Map, row: &MapRow, case: &mut Case) -> Result<(), Stop> {
 fn to_map(map: &Map, row: &MapRow, case: &mut Case) -> Result<(), Stop> {
     let answer = measured!(case, map.to_map(case.alloc()));
     let table = answer?;
-    for pair in map.iter() {
-        if table.get(pair.0) != Some(pair.1) {
+    for (key, value) in map.iter() {
+        if table.get(key) != Some(value) {
             return Err(Stop::WrongValue);
         }
     }
@@ -202,9 +211,10 @@ fn to_map(map: &Map, row: &MapRow, case: &mut Case) -> Result<(), Stop> {
 
 // A refused item comes back, and the list holds what it held.
 fn of_list(row: &ListRow, case: &mut Case) -> Result<(), Stop> {
+    let (_, filled, past) = *row;
     let mut list = made_list(row, case.alloc())?;
     let answer = measured!(case, list.push(PUT));
-    let len = len(row.1, row.2) as usize;
+    let len = len(filled, past) as usize;
     match answer {
         Ok(()) => value(
             list.len() == len + 1 && are_left(&list, row) && list.as_slice().last() == Some(&PUT),
@@ -214,14 +224,15 @@ fn of_list(row: &ListRow, case: &mut Case) -> Result<(), Stop> {
 }
 
 fn made_list(row: &ListRow, alloc: Global) -> Result<List, Stop> {
+    let (_, filled, past) = *row;
     let mut list = List::new(alloc);
-    for item in 0..row.1 {
+    for item in 0..filled {
         list.push(item).map_err(|_| Stop::NoMemory)?;
     }
     if !list.is_empty() {
         list.remove(0);
     }
-    if let Past::Swapped = row.2 {
+    if let Past::Swapped = past {
         list.push(OTHER).map_err(|_| Stop::NoMemory)?;
     }
     Ok(list)
@@ -229,15 +240,16 @@ fn made_list(row: &ListRow, alloc: Global) -> Result<List, Stop> {
 
 // Whether a list begins as it was made, and lies on the heap if more items than there is room inline were ever in it.
 fn are_left(list: &List, row: &ListRow) -> bool {
-    for (item, wanted) in list.iter().zip(1..row.1) {
+    let (_, filled, past) = *row;
+    for (item, wanted) in list.iter().zip(1..filled) {
         if *item != wanted {
             return false;
         }
     }
-    let other = match row.2 {
+    let other = match past {
         Past::Swapped => Some(&OTHER),
         Past::Filled | Past::Taken => None,
     };
-    let is_other = other.is_none() || list.get(row.1.saturating_sub(1) as usize) == other;
-    is_other && list.is_heap_allocated() == (row.1 as usize > ROOM || list.len() > ROOM)
+    let is_other = other.is_none() || list.get(filled.saturating_sub(1) as usize) == other;
+    is_other && list.is_heap_allocated() == (filled as usize > ROOM || list.len() > ROOM)
 }

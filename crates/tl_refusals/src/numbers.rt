@@ -79,28 +79,31 @@ static ROWS: [Row; 28] = [
 /// A call that answers numbers, if there is one of this number.
 pub fn call(number: usize, case: &mut Case) -> Option<Named> {
     let row = ROWS.get(number)?;
-    Some((row.0, of_page(row, case)))
+    let (name, _, _, _, _) = *row;
+    Some((name, of_page(row, case)))
 }
 
 fn of_page(row: &Row, case: &mut Case) -> Result<(), Stop> {
-    let mut document = parse(case.alloc(), row.2.text, ParserOptions::new())?;
-    steps(case.alloc(), &mut document, row.2.steps)?;
+    let (_, _, page, _, _) = row;
+    let mut document = parse(case.alloc(), page.text, ParserOptions::new())?;
+    steps(case.alloc(), &mut document, page.steps)?;
     of_document(&document, row, case)
 }
 
 /// The call of a row on a document that was made as it says.
 pub fn of_document(document: &VDom<'_>, row: &Row, case: &mut Case) -> Result<(), Stop> {
-    match row.1 {
+    let (_, call, _, number, wanted) = *row;
+    match call {
         NumberCall::LenOfDocument => {
             let answer = measured!(case, document.len(document.parser()));
-            value(are(&[answer?], row.4))
+            value(are(&[answer?], wanted))
         }
-        NumberCall::Query(text) => query(document, text, row.4, case),
-        NumberCall::New(text) => new(document, document, text, row.4, case),
-        NumberCall::Clone(text) => clone(document, text, row.4, 0, case),
-        NumberCall::CloneAtEnd(text) => clone(document, text, row.4, row.4.len(), case),
+        NumberCall::Query(text) => query(document, text, wanted, case),
+        NumberCall::New(text) => new(document, document, text, wanted, case),
+        NumberCall::Clone(text) => clone(document, text, wanted, 0, case),
+        NumberCall::CloneAtEnd(text) => clone(document, text, wanted, wanted.len(), case),
         NumberCall::MatchesIn(text) => matches_in(document, text, row, case),
-        _ => match document.parser().resolve_node_id(row.3) {
+        _ => match document.parser().resolve_node_id(number) {
             Some(node) => of_node(document, node, row, case),
             None => Err(Stop::WrongValue),
         },
@@ -195,12 +198,13 @@ fn clone_query<'x, 'a>(
 }
 
 fn matches_in(document: &VDom<'_>, text: &str, row: &Row, case: &mut Case) -> Result<(), Stop> {
+    let (_, _, _, number, wanted) = *row;
     let selector = read(text, case)?;
     let answer = measured!(
         case,
-        selector.matches_in(document.parser(), NodeHandle::new(row.3))
+        selector.matches_in(document.parser(), NodeHandle::new(number))
     );
-    value(answer? == (row.4 == [1].as_slice()))
+    value(answer? == (wanted == [1].as_slice()))
 }
 
 fn of_node<'a>(
@@ -209,8 +213,9 @@ fn of_node<'a>(
     row: &Row,
     case: &mut Case,
 ) -> Result<(), Stop> {
-    match row.1 {
-        NumberCall::Find(walk) => find(document.parser(), node, walk, row.4, case),
+    let (_, call, _, _, wanted) = *row;
+    match call {
+        NumberCall::Find(walk) => find(document.parser(), node, walk, wanted, case),
         _ => match node.as_tag() {
             Some(tag) => of_tag(document, tag, row, case),
             None => Err(Stop::WrongValue),
@@ -304,13 +309,14 @@ fn of_tag<'a>(
     row: &Row,
     case: &mut Case,
 ) -> Result<(), Stop> {
-    match row.1 {
-        NumberCall::FindChild(walk) => find_child(document.parser(), tag, walk, row.4, case),
-        NumberCall::QueryBelow(text) => query_below(document.parser(), tag, text, row.4, case),
-        NumberCall::NewBelow(text) => new(document, tag, text, row.4, case),
+    let (_, call, _, _, wanted) = *row;
+    match call {
+        NumberCall::FindChild(walk) => find_child(document.parser(), tag, walk, wanted, case),
+        NumberCall::QueryBelow(text) => query_below(document.parser(), tag, text, wanted, case),
+        NumberCall::NewBelow(text) => new(document, tag, text, wanted, case),
         NumberCall::LenOfTag => {
             let answer = measured!(case, tag.len(document.parser()));
-            value(are(&[answer?], row.4))
+            value(are(&[answer?], wanted))
         }
         _ => range(document.parser(), tag, row, case),
     }
@@ -333,10 +339,11 @@ fn range<'a>(
     row: &Row,
     case: &mut Case,
 ) -> Result<(), Stop> {
-    match row.1 {
-        NumberCall::End => end(parser, tag, row.4, case),
-        NumberCall::Boundaries => boundaries(parser, tag, row.4, case),
-        _ => all(parser, tag, row.4, case),
+    let (_, call, _, _, wanted) = *row;
+    match call {
+        NumberCall::End => end(parser, tag, wanted, case),
+        NumberCall::Boundaries => boundaries(parser, tag, wanted, case),
+        _ => all(parser, tag, wanted, case),
     }
 }
 

@@ -45,12 +45,14 @@ static ROWS: [Row; 8] = [
 /// A call of the program, if there is one of this number.
 pub fn call(number: usize, case: &mut Case) -> Option<Named> {
     let row = ROWS.get(number / 4)?;
-    let name = row.0.get(number % 4)?;
+    let (names, _, _, _) = row;
+    let name = names.get(number % 4)?;
     Some((name, of_words(number % 4, row, case)))
 }
 
 fn of_words(call: usize, row: &Row, case: &mut Case) -> Result<(), Stop> {
-    let words = owned(case.alloc(), row.1)?;
+    let (_, words, _, _) = *row;
+    let words = owned(case.alloc(), words)?;
     match call {
         0 => of_command(&words, row, case),
         3 => of_run_words(&words, row, case),
@@ -71,9 +73,10 @@ fn owned(alloc: Global, words: &[&str]) -> Result<Vec<String>, AllocError> {
 }
 
 fn of_command(words: &[String], row: &Row, case: &mut Case) -> Result<(), Stop> {
+    let (_, wanted, _, _) = *row;
     let answer = measured!(case, command(case.alloc(), words));
     match answer? {
-        Some(asked) => value(is_asked(&asked, row.1)),
+        Some(asked) => value(is_asked(&asked, wanted)),
         None => Err(Stop::WrongValue),
     }
 }
@@ -94,9 +97,10 @@ fn is_asked(asked: &Command<'_>, words: &[&str]) -> bool {
 }
 
 fn of_output(asked: &Command<'_>, row: &Row, case: &mut Case) -> Result<(), Stop> {
-    let answer = measured!(case, output(case.alloc(), asked, row.2));
+    let (_, _, page, wanted) = *row;
+    let answer = measured!(case, output(case.alloc(), asked, page));
     match answer {
-        Ok(text) => value(text.as_bytes() == row.3),
+        Ok(text) => value(text.as_bytes() == wanted),
         Err(Failure::OutOfMemory) => Err(Stop::NoMemory),
         Err(_) => Err(Stop::WrongError),
     }
@@ -104,27 +108,29 @@ fn of_output(asked: &Command<'_>, row: &Row, case: &mut Case) -> Result<(), Stop
 
 // The writer has room for the page, so that it makes no request of its own. Without memory nothing is written.
 fn of_run(asked: &Command<'_>, row: &Row, case: &mut Case) -> Result<(), Stop> {
-    let mut written = Vec::with_capacity(case.alloc(), row.3.len())?;
-    let mut reader = Marked::new(row.2);
+    let (_, _, page, wanted) = *row;
+    let mut written = Vec::with_capacity(case.alloc(), wanted.len())?;
+    let mut reader = Marked::new(page);
     case.begin()?;
     let status = {
         let mut writer = Marked::new(&mut written);
         run(case.alloc(), asked, &mut reader, &mut writer)
     };
     case.end();
-    is_written(status, &written, row.3)
+    is_written(status, &written, wanted)
 }
 
 fn of_run_words(words: &[String], row: &Row, case: &mut Case) -> Result<(), Stop> {
-    let mut written = Vec::with_capacity(case.alloc(), row.3.len())?;
-    let mut reader = Marked::new(row.2);
+    let (_, _, page, wanted) = *row;
+    let mut written = Vec::with_capacity(case.alloc(), wanted.len())?;
+    let mut reader = Marked::new(page);
     case.begin()?;
     let status = {
         let mut writer = Marked::new(&mut written);
         run_words(case.alloc(), words, &mut reader, &mut writer)
     };
     case.end();
-    is_written(status, &written, row.3)
+    is_written(status, &written, wanted)
 }
 
 fn is_written(status: u8, written: &Vec<u8>, wanted: &[u8]) -> Result<(), Stop> {

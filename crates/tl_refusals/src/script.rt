@@ -45,25 +45,29 @@ static TEXTS: [TextRow; 3] = [
 /// A call on steps, if there is one of this number.
 pub fn call(number: usize, case: &mut Case) -> Option<Named> {
     match RUNS.get(number) {
-        Some(row) => Some((row.0, of_page(row, case))),
+        Some(row) => {
+            let (name, _, _, _) = *row;
+            Some((name, of_page(row, case)))
+        }
         None => {
-            let row = TEXTS.get(number - RUNS.len())?;
-            Some((row.0, of_text(row.1, row.2, case)))
+            let (name, text, wanted) = *TEXTS.get(number - RUNS.len())?;
+            Some((name, of_text(text, wanted, case)))
         }
     }
 }
 
 fn of_page(row: &RunRow, case: &mut Case) -> Result<(), Stop> {
-    let mut document = parse(case.alloc(), row.1, ParserOptions::new())?;
+    let (_, page, script, wanted) = *row;
+    let mut document = parse(case.alloc(), page, ParserOptions::new())?;
     let lay = lies(&document);
-    let answer = measured!(case, run(case.alloc(), &mut document, row.2));
+    let answer = measured!(case, run(case.alloc(), &mut document, script));
     let lies_alike = lies(&document) == lay;
     match answer {
-        Ok(()) => value(prints(case.alloc(), &document, row.3, row.2.len())),
+        Ok(()) => value(prints(case.alloc(), &document, wanted, script.len())),
         Err((place, StepError::OutOfMemory)) => refused(
             (place != 0 || lies_alike)
-                && place < row.2.len()
-                && prints(case.alloc(), &document, row.3, place),
+                && place < script.len()
+                && prints(case.alloc(), &document, wanted, place),
         ),
         Err(_) => Err(Stop::WrongError),
     }

@@ -32,13 +32,13 @@ static ROWS: [Row; 9] = [
 
 /// A call of a selector or of its reader, if there is one of this number.
 pub fn call(number: usize, case: &mut Case) -> Option<Named> {
-    let row = ROWS.get(number)?;
-    let answer = match row.1 {
-        SelectorCall::Parse => parse(row.2, row.3, case),
-        SelectorCall::Read => read(row.2, row.3, case),
-        SelectorCall::Clone => clone(row.2, row.3, case),
+    let (name, call, text, wanted) = *ROWS.get(number)?;
+    let answer = match call {
+        SelectorCall::Parse => parse(text, wanted, case),
+        SelectorCall::Read => read(text, wanted, case),
+        SelectorCall::Clone => clone(text, wanted, case),
     };
-    Some((row.0, answer))
+    Some((name, answer))
 }
 
 fn parse(text: &str, wanted: &str, case: &mut Case) -> Result<(), Stop> {

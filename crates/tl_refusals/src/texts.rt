@@ -85,12 +85,14 @@ static ROWS: [Row; 22] = [
 /// A call that answers a text or a clone, if there is one of this number.
 pub fn call(number: usize, case: &mut Case) -> Option<Named> {
     let row = ROWS.get(number)?;
-    Some((row.0, of_page(row, case)))
+    let (name, _, _, _, _) = *row;
+    Some((name, of_page(row, case)))
 }
 
 fn of_page(row: &Row, case: &mut Case) -> Result<(), Stop> {
-    let mut document = parse(case.alloc(), row.2.text, ParserOptions::new())?;
-    steps(case.alloc(), &mut document, row.2.steps)?;
+    let (_, _, page, _, _) = row;
+    let mut document = parse(case.alloc(), page.text, ParserOptions::new())?;
+    steps(case.alloc(), &mut document, page.steps)?;
     of_document(&document, row, case)
 }
 
@@ -104,16 +106,17 @@ pub fn steps(alloc: Global, document: &mut VDom<'_>, steps: &[Step<'_>]) -> Resu
 
 /// The call of a row on a document that was made as it says.
 pub fn of_document(document: &VDom<'_>, row: &Row, case: &mut Case) -> Result<(), Stop> {
-    match row.1 {
+    let (_, call, _, number, wanted) = *row;
+    match call {
         TextCall::DocumentHtml => {
             let answer = measured!(case, document.outer_html(case.alloc()));
-            is_text(answer, row.4)
+            is_text(answer, wanted)
         }
         TextCall::DocumentText => {
             let answer = measured!(case, document.inner_text(case.alloc()));
-            is_text(answer, row.4)
+            is_text(answer, wanted)
         }
-        _ => match document.parser().resolve_node_id(row.3) {
+        _ => match document.parser().resolve_node_id(number) {
             Some(node) => of_node(document.parser(), node, row, case),
             None => Err(Stop::WrongValue),
         },
@@ -130,7 +133,8 @@ fn of_node<'a>(
     row: &Row,
     case: &mut Case,
 ) -> Result<(), Stop> {
-    match row.1 {
+    let (_, call, _, _, _) = *row;
+    match call {
         TextCall::OuterHtml | TextCall::InnerHtml | TextCall::InnerText => {
             text_of_node(parser, node, row, case)
         }
@@ -148,15 +152,16 @@ fn text_of_node<'a>(
     row: &Row,
     case: &mut Case,
 ) -> Result<(), Stop> {
+    let (_, call, _, _, wanted) = *row;
     case.begin()?;
     let alloc = case.alloc();
-    let answer = match row.1 {
+    let answer = match call {
         TextCall::OuterHtml => node.outer_html(alloc, parser),
         TextCall::InnerHtml => node.inner_html(alloc, parser),
         _ => node.inner_text(alloc, parser),
     };
     case.end();
-    is_text(answer, row.4)
+    is_text(answer, wanted)
 }
 
 fn clone_node<'a>(
@@ -165,9 +170,10 @@ fn clone_node<'a>(
     row: &Row,
     case: &mut Case,
 ) -> Result<(), Stop> {
+    let (_, _, _, _, wanted) = *row;
     let answer = measured!(case, node.clone() => Result<Node<'a>, AllocError>);
     let print = answer?.outer_html(case.alloc(), parser);
-    is_text(print, row.4)
+    is_text(print, wanted)
 }
 
 fn of_tag<'a>(
@@ -176,7 +182,8 @@ fn of_tag<'a>(
     row: &Row,
     case: &mut Case,
 ) -> Result<(), Stop> {
-    match row.1 {
+    let (_, call, _, _, _) = *row;
+    match call {
         TextCall::CloneTag => clone_tag(parser, tag, row, case),
         _ => text_of_tag(parser, tag, row, case),
     }
@@ -188,15 +195,16 @@ fn text_of_tag<'a>(
     row: &Row,
     case: &mut Case,
 ) -> Result<(), Stop> {
+    let (_, call, _, _, wanted) = *row;
     case.begin()?;
     let alloc = case.alloc();
-    let answer = match row.1 {
+    let answer = match call {
         TextCall::TagHtml => tag.outer_html(alloc, parser),
         TextCall::TagInside => tag.inner_html(alloc, parser),
         _ => tag.inner_text(alloc, parser),
     };
     case.end();
-    is_text(answer, row.4)
+    is_text(answer, wanted)
 }
 
 fn clone_tag<'a>(
@@ -205,6 +213,7 @@ fn clone_tag<'a>(
     row: &Row,
     case: &mut Case,
 ) -> Result<(), Stop> {
+    let (_, _, _, _, wanted) = *row;
     let answer = measured!(case, tag.clone() => Result<HTMLTag<'a>, AllocError>);
     let twin = answer?;
     let lies_alike = twin.children().top().is_heap_allocated()
@@ -212,5 +221,5 @@ fn clone_tag<'a>(
         && twin.attributes().unstable_raw().is_heap_allocated()
             == tag.attributes().unstable_raw().is_heap_allocated();
     let print = twin.outer_html(case.alloc(), parser)?;
-    value(lies_alike && print.as_str() == row.4)
+    value(lies_alike && print.as_str() == wanted)
 }

@@ -36,14 +36,21 @@ static CLASSES: [ClassRow; 6] = [
 /// A note, if there is one of this number.
 pub fn call(number: usize, case: &mut Case) -> Option<Named> {
     match IDS.get(number) {
-        Some(row) => Some((row.0, note_id(row, case))),
-        None => {
-            let number = number - IDS.len();
-            match CLASSES.get(number) {
-                Some(row) => Some((row.0, note_class(row, case))),
-                None => many(number - CLASSES.len(), case),
-            }
+        Some(row) => {
+            let (name, _, _, _) = *row;
+            Some((name, note_id(row, case)))
         }
+        None => of_class(number - IDS.len(), case),
+    }
+}
+
+fn of_class(number: usize, case: &mut Case) -> Option<Named> {
+    match CLASSES.get(number) {
+        Some(row) => {
+            let (name, _, _, _) = *row;
+            Some((name, note_class(row, case)))
+        }
+        None => many(number - CLASSES.len(), case),
     }
 }
 
@@ -55,11 +62,12 @@ fn both(case: &Case) -> Tracking {
 }
 
 fn note_id(row: &IdRow, case: &mut Case) -> Result<(), Stop> {
+    let (_, notes, (last_name, last_tag), wanted) = *row;
     let mut tracking = both(case);
-    for note in row.1 {
-        tracking.note_id(Bytes::from(note.0), note.1)?;
+    for (id, tag) in notes {
+        tracking.note_id(Bytes::from(*id), *tag)?;
     }
-    note_last_id(&mut tracking, (row.2).0, (row.2).1, row.3, case)
+    note_last_id(&mut tracking, last_name, last_tag, wanted, case)
 }
 
 // A refused note leaves the maps as they were.
@@ -80,11 +88,12 @@ fn note_last_id(
 }
 
 fn note_class(row: &ClassRow, case: &mut Case) -> Result<(), Stop> {
+    let (_, notes, (last_name, last_tag), wanted) = *row;
     let mut tracking = both(case);
-    for note in row.1 {
-        tracking.note_class(Bytes::from(note.0), note.1)?;
+    for (member, tag) in notes {
+        tracking.note_class(Bytes::from(*member), *tag)?;
     }
-    note_last_class(&mut tracking, (row.2).0, (row.2).1, row.3, case)
+    note_last_class(&mut tracking, last_name, last_tag, wanted, case)
 }
 
 fn note_last_class(
@@ -133,10 +142,11 @@ static MANY_CLASSES: [ManyRow; 3] = [
 
 fn many(number: usize, case: &mut Case) -> Option<Named> {
     if let Some(row) = MANY_IDS.get(number) {
-        return Some((row.0, note_many_ids(row.1, case)));
+        let (name, count) = *row;
+        return Some((name, note_many_ids(count, case)));
     }
-    let row = MANY_CLASSES.get(number - MANY_IDS.len())?;
-    Some((row.0, note_many_members(row.1, case)))
+    let (name, count) = *MANY_CLASSES.get(number - MANY_IDS.len())?;
+    Some((name, note_many_members(count, case)))
 }
 
 fn name(place: u32) -> &'static str {

@@ -90,8 +90,8 @@ fn is_said(alloc: Global, reason: Reason, word: &str, expected: &str) -> bool {
 
 #[test]
 fn texts_of_errors(rt: HostRuntime) {
-    for row in &TEXT_ROWS {
-        assert!(rt; is_said(rt.alloc(), row.0, row.1, row.2), "{}", row.1);
+    for (reason, word, said) in &TEXT_ROWS {
+        assert!(rt; is_said(rt.alloc(), *reason, word, said), "{word}");
     }
 }
 

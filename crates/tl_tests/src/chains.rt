@@ -35,9 +35,10 @@ static ROWS: [Row; 14] = [
 ];
 
 fn repeated(alloc: Global, repeated: &Repeated, end: &str) -> Result<String, Fail> {
+    let (part, times) = *repeated;
     let mut text = String::new(alloc);
-    for _ in 0..repeated.1 {
-        text.push_str(repeated.0)?;
+    for _ in 0..times {
+        text.push_str(part)?;
     }
     text.push_str(end)?;
     Ok(text)
@@ -80,20 +81,22 @@ fn are_found<'b>(
 }
 
 fn row_is_found(alloc: Global, row: &Row) -> Result<bool, Fail> {
-    let text = repeated(alloc, &row.0, row.1)?;
-    let page = repeated(alloc, &row.2, "")?;
+    let (parts, end, page, wanted) = row;
+    let text = repeated(alloc, parts, end)?;
+    let page = repeated(alloc, page, "")?;
     let document = parse(alloc, page.as_str(), ParserOptions::new())?;
     match parse_query_selector(alloc, text.as_str())? {
-        Some(selector) => are_found(alloc, &document, selector, row.3),
-        None => Ok(row.3 == "none"),
+        Some(selector) => are_found(alloc, &document, selector, wanted),
+        None => Ok(*wanted == "none"),
     }
 }
 
 #[test]
 fn chains_are_found(rt: HostRuntime) -> Result<(), Fail> {
     for row in &ROWS {
+        let (parts, end, _, _) = row;
         let is_found = row_is_found(rt.alloc(), row)?;
-        assert!(rt; is_found, "{:?} {:?}", row.0, row.1);
+        assert!(rt; is_found, "{parts:?} {end:?}");
     }
     Ok(())
 }

@@ -225,8 +225,9 @@ static EDITED: [EditedRow; 20] = [
 
 // Whether a document is answered so once it was edited.
 fn finds_then(document: &mut VDom<'static>, row: &EditedRow, wanted: &[u32]) -> Result<bool, Fail> {
-    edit_all(document, row.1)?;
-    Ok(finds(document, &row.2, wanted))
+    let (_, edits, sought, _, _) = row;
+    edit_all(document, edits)?;
+    Ok(finds(document, sought, wanted))
 }
 
 // Whether an edited page is answered so, whether its document borrows its text or keeps it.
@@ -236,20 +237,22 @@ fn finds_edited(
     options: ParserOptions,
     wanted: &[u32],
 ) -> Result<bool, Fail> {
-    let mut document = parse(alloc, row.0, options)?;
+    let (page, _, _, _, _) = *row;
+    let mut document = parse(alloc, page, options)?;
     if !finds_then(&mut document, row, wanted)? {
         return Ok(false);
     }
-    let mut guard = owned(alloc, row.0, options)?;
+    let mut guard = owned(alloc, page, options)?;
     finds_then(guard.get_mut_ref(), row, wanted)
 }
 
 #[test]
 fn what_was_edited(rt: HostRuntime) -> Result<(), Fail> {
     for (at, row) in EDITED.iter().enumerate() {
-        let tracked = finds_edited(rt.alloc(), row, both(), row.3)?;
+        let (_, _, _, by_maps, by_scans) = row;
+        let tracked = finds_edited(rt.alloc(), row, both(), by_maps)?;
         assert!(rt; tracked, "row {at} with maps");
-        let untracked = finds_edited(rt.alloc(), row, ParserOptions::new(), row.4)?;
+        let untracked = finds_edited(rt.alloc(), row, ParserOptions::new(), by_scans)?;
         assert!(rt; untracked, "row {at} without");
     }
     Ok(())

@@ -106,34 +106,38 @@ type Row = (
 );
 
 fn query(alloc: Global, document: &VDom<'_>, row: &Row, out: &mut String) -> bool {
-    match &row.2 {
-        Place::Document => show_found(document.query_selector(alloc, row.3), out),
-        Place::Tag(number) => query_tag(alloc, document, *number, row.3, out),
+    let (_, _, place, selector, _) = row;
+    match place {
+        Place::Document => show_found(document.query_selector(alloc, *selector), out),
+        Place::Tag(number) => query_tag(alloc, document, *number, *selector, out),
     }
 }
 
 fn query_by_new(alloc: Global, document: &VDom<'_>, row: &Row, out: &mut String) -> bool {
-    match &row.2 {
-        Place::Document => ask(alloc, document.parser(), document, row.3, out),
-        Place::Tag(number) => ask_tag(alloc, document, *number, row.3, out),
+    let (_, _, place, selector, _) = row;
+    match place {
+        Place::Document => ask(alloc, document.parser(), document, *selector, out),
+        Place::Tag(number) => ask_tag(alloc, document, *number, *selector, out),
     }
 }
 
 // Whether a query gives what it must once the document was edited, by the text and by the selector that was read before.
 fn gives(alloc: Global, document: &mut VDom<'static>, row: &Row) -> Result<bool, Fail> {
-    edit_all(document, row.1)?;
+    let (_, edits, _, _, wanted) = *row;
+    edit_all(document, edits)?;
     let mut by_text = String::new(alloc);
     let mut by_new = String::new(alloc);
     Ok(
         query(alloc, document, row, &mut by_text)
-            && by_text.as_str() == row.4
+            && by_text.as_str() == wanted
             && query_by_new(alloc, document, row, &mut by_new)
-            && by_new.as_str() == row.4,
+            && by_new.as_str() == wanted,
     )
 }
 
 fn page_gives(alloc: Global, row: &Row, keeps: bool) -> Result<bool, Fail> {
-    let mut document = read(alloc, row.0, ParserOptions::new(), keeps)?;
+    let (page, _, _, _, _) = *row;
+    let mut document = read(alloc, page, ParserOptions::new(), keeps)?;
     gives(alloc, &mut document, row)
 }
 
@@ -209,10 +213,11 @@ static ROWS: [Row; 63] = [
 #[test]
 fn queries_give_what_selectors_hold_at(rt: HostRuntime) -> Result<(), Fail> {
     for row in &ROWS {
+        let (page, _, _, selector, _) = row;
         let borrowed = page_gives(rt.alloc(), row, false)?;
-        assert!(rt; borrowed, "{} {:?}", row.0, row.3);
+        assert!(rt; borrowed, "{page} {selector:?}");
         let kept = page_gives(rt.alloc(), row, true)?;
-        assert!(rt; kept, "{} {:?}, kept", row.0, row.3);
+        assert!(rt; kept, "{page} {selector:?}, kept");
     }
     Ok(())
 }
@@ -241,13 +246,15 @@ fn show_range(document: &VDom<'_>, number: u32, out: &mut String) -> bool {
 type Range = (&'static str, &'static [Edit], u32, &'static str);
 
 fn has_range(alloc: Global, document: &mut VDom<'static>, row: &Range) -> Result<bool, Fail> {
-    edit_all(document, row.1)?;
+    let (_, edits, number, wanted) = *row;
+    edit_all(document, edits)?;
     let mut out = String::new(alloc);
-    Ok(show_range(document, row.2, &mut out) && out.as_str() == row.3)
+    Ok(show_range(document, number, &mut out) && out.as_str() == wanted)
 }
 
 fn page_has_range(alloc: Global, row: &Range, keeps: bool) -> Result<bool, Fail> {
-    let mut document = read(alloc, row.0, ParserOptions::new(), keeps)?;
+    let (page, _, _, _) = *row;
+    let mut document = read(alloc, page, ParserOptions::new(), keeps)?;
     has_range(alloc, &mut document, row)
 }
 
@@ -271,10 +278,11 @@ static RANGES: [Range; 12] = [
 #[test]
 fn ranges_end_at_the_last_on_the_way(rt: HostRuntime) -> Result<(), Fail> {
     for row in &RANGES {
+        let (page, _, _, wanted) = row;
         let borrowed = page_has_range(rt.alloc(), row, false)?;
-        assert!(rt; borrowed, "{} {:?}", row.0, row.3);
+        assert!(rt; borrowed, "{page} {wanted:?}");
         let kept = page_has_range(rt.alloc(), row, true)?;
-        assert!(rt; kept, "{} {:?}, kept", row.0, row.3);
+        assert!(rt; kept, "{page} {wanted:?}, kept");
     }
     Ok(())
 }
@@ -302,7 +310,7 @@ fn show_collection<'p, 'a, Q: QueryIterable<'a>>(
         return false;
     }
     match collection.get(parser, place) {
-        Some(item) => show_item(item.0, item.1.get_inner(), out),
+        Some((node, handle)) => show_item(node, handle.get_inner(), out),
         None => out.push_str("none").is_ok(),
     }
 }
@@ -316,10 +324,11 @@ fn show_asked<'p, 'a>(
     row: &Collection,
     out: &mut String,
 ) -> bool {
-    match &row.2 {
-        Place::Document => show_collection(document, parser, row.3, out),
+    let (_, _, asked, place, _) = row;
+    match asked {
+        Place::Document => show_collection(document, parser, *place, out),
         Place::Tag(number) => match NodeHandle::new(*number).get(document.parser()) {
-            Some(Node::Tag(tag)) => show_collection(tag, parser, row.3, out),
+            Some(Node::Tag(tag)) => show_collection(tag, parser, *place, out),
             _ => false,
         },
     }
@@ -332,17 +341,19 @@ fn is_asked<'p, 'a>(
     handed: Option<&'p VDom<'a>>,
     row: &Collection,
 ) -> bool {
+    let (_, _, _, _, wanted) = *row;
     let mut out = String::new(alloc);
     let parser = match handed {
         Some(other) => other.parser(),
         None => document.parser(),
     };
-    show_asked(document, parser, row, &mut out) && out.as_str() == row.4
+    show_asked(document, parser, row, &mut out) && out.as_str() == wanted
 }
 
 fn page_is_asked(alloc: Global, row: &Collection, keeps: bool) -> Result<bool, Fail> {
-    let mut document = read(alloc, row.0, ParserOptions::new(), keeps)?;
-    edit_all(&mut document, row.1)?;
+    let (page, edits, _, _, _) = *row;
+    let mut document = read(alloc, page, ParserOptions::new(), keeps)?;
+    edit_all(&mut document, edits)?;
     Ok(is_asked(alloc, &document, None, row))
 }
 
@@ -368,10 +379,11 @@ static COLLECTIONS: [Collection; 14] = [
 #[test]
 fn collections_are_asked(rt: HostRuntime) -> Result<(), Fail> {
     for row in &COLLECTIONS {
+        let (page, _, _, _, wanted) = row;
         let borrowed = page_is_asked(rt.alloc(), row, false)?;
-        assert!(rt; borrowed, "{} {:?}", row.0, row.4);
+        assert!(rt; borrowed, "{page} {wanted:?}");
         let kept = page_is_asked(rt.alloc(), row, true)?;
-        assert!(rt; kept, "{} {:?}, kept", row.0, row.4);
+        assert!(rt; kept, "{page} {wanted:?}, kept");
     }
     Ok(())
 }
@@ -386,7 +398,8 @@ static HANDED: [Collection; 4] = [
 ];
 
 fn other_is_asked(alloc: Global, row: &Collection) -> Result<bool, Fail> {
-    let document = read(alloc, row.0, ParserOptions::new(), false)?;
+    let (page, _, _, _, _) = *row;
+    let document = read(alloc, page, ParserOptions::new(), false)?;
     let other = read(alloc, "y", ParserOptions::new(), false)?;
     Ok(is_asked(alloc, &document, Some(&other), row))
 }
@@ -394,8 +407,9 @@ fn other_is_asked(alloc: Global, row: &Collection) -> Result<bool, Fail> {
 #[test]
 fn collections_are_asked_by_another_table(rt: HostRuntime) -> Result<(), Fail> {
     for row in &HANDED {
+        let (page, _, _, _, wanted) = row;
         let holds = other_is_asked(rt.alloc(), row)?;
-        assert!(rt; holds, "{} {:?}", row.0, row.4);
+        assert!(rt; holds, "{page} {wanted:?}");
     }
     Ok(())
 }
@@ -429,22 +443,24 @@ fn first_found(
 
 // Whether this is read of a node.
 fn reads<'a>(alloc: Global, node: &Node<'a>, parser: &Parser<'a>, row: &Found) -> bool {
-    match row.3 {
+    let (_, _, _, reading, wanted) = row;
+    match reading {
         Reading::Value(key) => match node.attribute(key) {
-            Some(Some(value)) => value == row.4.as_bytes(),
+            Some(Some(value)) => value == wanted.as_bytes(),
             _ => false,
         },
         Reading::Text => match node.inner_text(alloc, parser) {
-            Ok(text) => text.as_str() == row.4,
+            Ok(text) => text.as_str() == *wanted,
             Err(_) => false,
         },
     }
 }
 
 fn page_reads(alloc: Global, row: &Found, keeps: bool) -> Result<bool, Fail> {
-    let document = read(alloc, row.0, ParserOptions::new(), keeps)?;
+    let (page, place, selector, _, _) = row;
+    let document = read(alloc, *page, ParserOptions::new(), keeps)?;
     let parser = document.parser();
-    let Some(handle) = first_found(alloc, &document, &row.1, row.2) else {
+    let Some(handle) = first_found(alloc, &document, place, selector) else {
         return Ok(false);
     };
     match handle.get(parser) {
@@ -464,10 +480,11 @@ static FOUND: [Found; 4] = [
 #[test]
 fn nodes_that_are_found_are_read(rt: HostRuntime) -> Result<(), Fail> {
     for row in &FOUND {
+        let (page, _, selector, _, _) = row;
         let borrowed = page_reads(rt.alloc(), row, false)?;
-        assert!(rt; borrowed, "{} {}", row.0, row.2);
+        assert!(rt; borrowed, "{page} {selector}");
         let kept = page_reads(rt.alloc(), row, true)?;
-        assert!(rt; kept, "{} {}, kept", row.0, row.2);
+        assert!(rt; kept, "{page} {selector}, kept");
     }
     Ok(())
 }
@@ -492,15 +509,17 @@ fn answers(
 type Match = (&'static str, &'static str, u32, &'static str);
 
 fn answers_on(alloc: Global, document: &VDom<'_>, row: &Match) -> Result<bool, Fail> {
-    let Some(selector) = parse_query_selector(alloc, row.1)? else {
+    let (_, text, number, wanted) = *row;
+    let Some(selector) = parse_query_selector(alloc, text)? else {
         return Ok(false);
     };
     let mut out = String::new(alloc);
-    Ok(answers(alloc, document.parser(), &selector, row.2, &mut out) && out.as_str() == row.3)
+    Ok(answers(alloc, document.parser(), &selector, number, &mut out) && out.as_str() == wanted)
 }
 
 fn page_answers(alloc: Global, row: &Match, keeps: bool) -> Result<bool, Fail> {
-    let document = read(alloc, row.0, ParserOptions::new(), keeps)?;
+    let (page, _, _, _) = *row;
+    let document = read(alloc, page, ParserOptions::new(), keeps)?;
     answers_on(alloc, &document, row)
 }
 
@@ -525,10 +544,11 @@ static MATCHES: [Match; 13] = [
 #[test]
 fn selectors_match_alone_and_by_the_table(rt: HostRuntime) -> Result<(), Fail> {
     for row in &MATCHES {
+        let (page, selector, _, _) = row;
         let borrowed = page_answers(rt.alloc(), row, false)?;
-        assert!(rt; borrowed, "{} {}", row.0, row.1);
+        assert!(rt; borrowed, "{page} {selector}");
         let kept = page_answers(rt.alloc(), row, true)?;
-        assert!(rt; kept, "{} {}, kept", row.0, row.1);
+        assert!(rt; kept, "{page} {selector}, kept");
     }
     Ok(())
 }

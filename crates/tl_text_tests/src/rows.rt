@@ -59,16 +59,16 @@ fn is_written(written: Result<Vec<u8>, AllocError>, bytes: &[u8]) -> bool {
 
 #[test]
 fn references_are_read(rt: HostRuntime) {
-    for row in &SAID_ROWS {
-        assert!(rt; is_written(unescape_text(rt.alloc(), row.0), row.1));
-        assert!(rt; is_written(unescape_value(rt.alloc(), row.0), row.2));
+    for (source, text, value) in &SAID_ROWS {
+        assert!(rt; is_written(unescape_text(rt.alloc(), source), text));
+        assert!(rt; is_written(unescape_value(rt.alloc(), source), value));
     }
 }
 
 #[test]
 fn characters_are_escaped(rt: HostRuntime) {
-    for row in &ESCAPED_ROWS {
-        assert!(rt; is_written(escape_text(rt.alloc(), row.0), row.1));
-        assert!(rt; is_written(escape_value(rt.alloc(), row.0), row.2));
+    for (characters, text, value) in &ESCAPED_ROWS {
+        assert!(rt; is_written(escape_text(rt.alloc(), characters), text));
+        assert!(rt; is_written(escape_value(rt.alloc(), characters), value));
     }
 }
