@@ -5,16 +5,16 @@ use Rattle.std.specs.List.{find, last_or}
 use Rattle.std.specs.Map.{lookup}
 use Rattle.std.specs.Str.{bytes_eq}
 use Rattle.tl_bytes.specs.Held.{Kept}
-use Rattle.tl_attributes.specs.ShownAttributes.{shown_bytes, shown_value, shown_pair}
+use Rattle.tl_attributes.specs.ShownAttributes.{bytes_view, value_view, pair_view}
 
 -- the value of the pair that is found
 pub lookup-shown : (key : List ℕ) (es : List (Kept × Option Kept))
-    → option_map (λ (e : Kept × Option Kept). shown_value e.1) (find (λ (e : Kept × Option Kept). bytes_eq key (shown_bytes e.0)) es) ≡ lookup (bytes_eq key) (map shown_pair es)
+    → option_map (λ (e : Kept × Option Kept). value_view e.1) (find (λ (e : Kept × Option Kept). bytes_eq key (bytes_view e.0)) es) ≡ lookup (bytes_eq key) (map pair_view es)
 lookup-shown key [] = refl
-lookup-shown key (e ∷ es) = by (bytes_eq key (shown_bytes e.0)) (lookup-shown key es)
+lookup-shown key (e ∷ es) = by (bytes_eq key (bytes_view e.0)) (lookup-shown key es)
   where
-    by : (b : Bool) → option_map (λ (x : Kept × Option Kept). shown_value x.1) (find (λ (x : Kept × Option Kept). bytes_eq key (shown_bytes x.0)) es) ≡ lookup (bytes_eq key) (map shown_pair es)
-        → option_map (λ (x : Kept × Option Kept). shown_value x.1) (cond b (Some e) (find (λ (x : Kept × Option Kept). bytes_eq key (shown_bytes x.0)) es)) ≡ cond b (Some (shown_value e.1)) (lookup (bytes_eq key) (map shown_pair es))
+    by : (b : Bool) → option_map (λ (x : Kept × Option Kept). value_view x.1) (find (λ (x : Kept × Option Kept). bytes_eq key (bytes_view x.0)) es) ≡ lookup (bytes_eq key) (map pair_view es)
+        → option_map (λ (x : Kept × Option Kept). value_view x.1) (cond b (Some e) (find (λ (x : Kept × Option Kept). bytes_eq key (bytes_view x.0)) es)) ≡ cond b (Some (value_view e.1)) (lookup (bytes_eq key) (map pair_view es))
     by true later = refl
     by false later = later
 

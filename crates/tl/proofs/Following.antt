@@ -7,11 +7,11 @@ use Rattle.tl_spec.proofs.Reached.{IsTokenAt-found, IsReached-next, IsReached-en
 use Rattle.tl_spec.proofs.Stand.{none-end, place}
 use Rattle.tl_lexer.specs.Lexed.{meant}
 use Rattle.tl_lexer.specs.declared.token.Token.{Token}
-use Rattle.tl.specs.Builder.{placed, written}
+use Rattle.tl.specs.Builder.{placed_token, document_of_state}
 
 -- after the next token
 pub reached_next : (t : List ℕ) (at to after : ℕ) (token : Token) (s new : State) → Some (meant t token after) ≡ next_token (drop at t) → IsReached t at s
-    → drop to t ≡ (meant t token after).1 → to ≤ length t → new ≡ step t s (placed t token after at to) → IsReached t to new
+    → drop to t ≡ (meant t token after).1 → to ≤ length t → new ≡ step t s (placed_token t token after at to) → IsReached t to new
 reached_next t at to after token s new first h rest within steps =
     let found = meant t token after in
     let j : ℕ = length t - length found.1 in
@@ -21,7 +21,7 @@ reached_next t at to after token s new first h rest within steps =
     (IsReached-next t at s found.0 j new h there.0 (steps ∙ ap (λ (j : ℕ). step t s (record { token = found.0; from = at; to = j })) (sym is)))
 
 -- with no next token the text is over, and all is written
-pub reached_end : (t : List ℕ) (at : ℕ) (s : State) → None ≡ next_token (drop at t) → IsReached t at s → written s ≡ document t
+pub reached_end : (t : List ℕ) (at : ℕ) (s : State) → None ≡ next_token (drop at t) → IsReached t at s → document_of_state s ≡ document t
 reached_end t at s stop h =
     let none = ap length (none-end (drop at t) (sym stop)) in
     let left = length-drop at t in

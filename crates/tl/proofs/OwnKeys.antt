@@ -7,11 +7,11 @@ use Rattle.std.specs.Str.{bytes_eq}
 use Rattle.tl_spec.specs.AttributeList.{AreOthers, Attributes, HasOwnKeys}
 use Rattle.tl_spec.proofs.Images.{distinct-image, others-image}
 use Rattle.tl_bytes.specs.Held.{Kept}
-use Rattle.tl_attributes.specs.ShownAttributes.{plain, shown_bytes, shown_value}
+use Rattle.tl_attributes.specs.ShownAttributes.{plain, bytes_view, value_view}
 
 pub own_keys : (a : Attributes Kept) → IsDistinct (λ (x y : Kept). pointwise nat_eq x.list y.list) (keys_of a.others.entries) → AreOthers (λ b. b.list) a.others.entries
     → HasOwnKeys (plain a)
 own_keys a d o = record {
-  distinct = distinct-image shown_bytes shown_value bytes_eq a.others.entries d;
-  others = others-image shown_bytes shown_value (λ key. key) a.others.entries o;
+  distinct = distinct-image bytes_view value_view bytes_eq a.others.entries d;
+  others = others-image bytes_view value_view (λ key. key) a.others.entries o;
 }

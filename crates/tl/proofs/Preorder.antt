@@ -8,11 +8,11 @@ use Rattle.std.specs.Str.Lossy.{utf8_lossy}
 use Rattle.tl_spec.specs.Document.{Node, Tag, Raw, Comment, document, nodes, numbers, size}
 use Rattle.tl_spec.specs.Element.{children_of, last_child_of}
 use Rattle.tl_spec.specs.Forest.{Forest, SourceTag, comment, forest, none, tag, text}
-use Rattle.tl_spec.specs.Order.{AreChildrenAbove}
+use Rattle.tl_spec.specs.Order.{ChildrenFollowParents}
 use Rattle.tl_spec.specs.Range.{end_below, range_between, range_from, with_end}
 use Rattle.tl_spec.specs.Text.{text_of}
 use Rattle.tl_spec.specs.Token.{tokens}
-use Rattle.tl_spec.specs.Walk.{TreeFault, Cycle, Dangling, every, first_fault, handle_walk, or_else, trees, walk}
+use Rattle.tl_spec.specs.Walk.{TreeFault, Cycle, Dangling, all_tags, first_fault, handle_walk, earlier_fault, trees, walk}
 use Rattle.tl_spec.proofs.Rising.{walk-one}
 use Rattle.tl_spec.proofs.Walks.{walk-nil}
 use Rattle.tl_table.specs.TreeFault.{IsRefusal}
@@ -21,7 +21,7 @@ use Rattle.tl_table.specs.declared.errors.TreeError.{TreeError}
 use Rattle.tl_table.specs.declared.errors.TreeError.TheVariants.{Dangling as DanglingError, Cycle as CycleError, OutOfMemory}
 use Rattle.tl_table.proofs.Way.{AreBelow, all_rise, below-above, below-off, further, here, past}
 use Rattle.tl.specs.Preorder.{ArePreorder, IsInPreorder, children_in}
-use Rattle.tl.specs.Shown.{HTMLNode, shown}
+use Rattle.tl.specs.Shown.{HTMLNode, node_view}
 use Rattle.tl.specs.declared.parser.tag.node.NodeOf.TheVariants.{Tag as ATag, Raw as ARaw, Comment as AComment}
 use Rattle.tl.proofs.Frames.{shown_past}
 use Rattle.tl.specs.Writing.{own_text}
@@ -86,7 +86,7 @@ all-above : (n m : ℕ) (hs : List ℕ) → AreWithin (0 + n + 1) m hs → All (
 all-above n m [] w = All-nil (λ c. n < c)
 all-above n m (h ∷ hs) w = All-cons (λ c. n < c) h hs (omega (arith, w.0.0)) (all-above n m hs w.1)
 
-pub preorder-above : (table : List Node) (roots : List ℕ) → ArePreorder 0 roots (map children_of table) → AreChildrenAbove table
+pub preorder-above : (table : List Node) (roots : List ℕ) → ArePreorder 0 roots (map children_of table) → ChildrenFollowParents table
 preorder-above table roots p n own is =
     let c = comes table 0 n (Tag own) roots p is in
     let m : ℕ = 0 + n + 1 + length (map children_of c.rest) in
@@ -94,9 +94,9 @@ preorder-above table roots p n own is =
 
 -- texts and faults of handles in a row
 
-or_else-assoc : (a b c : Option TreeFault) → or_else a (or_else b c) ≡ or_else (or_else a b) c
-or_else-assoc None b c = refl
-or_else-assoc (Some e) b c = refl
+earlier_fault-assoc : (a b c : Option TreeFault) → earlier_fault a (earlier_fault b c) ≡ earlier_fault (earlier_fault a b) c
+earlier_fault-assoc None b c = refl
+earlier_fault-assoc (Some e) b c = refl
 
 last-some : (v : ℕ) (us : List ℕ) → (k : ℕ) × (last_or (Some v) us ≡ Some k)
 last-some v [] = (v, refl)
@@ -106,12 +106,12 @@ last-append : (o : Option ℕ) (cs : List ℕ) (u : ℕ) (us : List ℕ) → las
 last-append o [] u us = refl
 last-append o (c ∷ cs) u us = last-append (Some c) cs u us
 
-module _ (table : List Node) (above : AreChildrenAbove table) where
+module _ (table : List Node) (above : ChildrenFollowParents table) where
   abbrev texts : List ℕ → List ℕ
-  texts hs = text_of (trees (walk every table [] hs))
+  texts hs = text_of (trees (walk all_tags table [] hs))
 
   abbrev fault : List ℕ → Option TreeFault
-  fault hs = first_fault (walk every table [] hs)
+  fault hs = first_fault (walk all_tags table [] hs)
 
   abbrev text_at : Option Node → List ℕ
   text_at None = []
@@ -125,29 +125,29 @@ module _ (table : List Node) (above : AreChildrenAbove table) where
   fault_at h (Some (Comment bytes)) = None
   fault_at h (Some (Tag own)) = fault own.children.items
 
-  texts-of_node : (h : ℕ) (hs : List ℕ) (o : Option Node) → text_of (trees (handle_walk every table (walk every table []) h (walk every table [] hs) false o)) ≡ text_at o ++ texts hs
-  texts-of_node h hs None = refl
-  texts-of_node h hs (Some (Raw bytes)) = refl
-  texts-of_node h hs (Some (Comment bytes)) = refl
-  texts-of_node h hs (Some (Tag own)) = refl
+  texts-edit_if_found : (h : ℕ) (hs : List ℕ) (o : Option Node) → text_of (trees (handle_walk all_tags table (walk all_tags table []) h (walk all_tags table [] hs) false o)) ≡ text_at o ++ texts hs
+  texts-edit_if_found h hs None = refl
+  texts-edit_if_found h hs (Some (Raw bytes)) = refl
+  texts-edit_if_found h hs (Some (Comment bytes)) = refl
+  texts-edit_if_found h hs (Some (Tag own)) = refl
 
-  fault-of_node : (h : ℕ) (hs : List ℕ) (o : Option Node) → first_fault (handle_walk every table (walk every table []) h (walk every table [] hs) false o) ≡ or_else (fault_at h o) (fault hs)
-  fault-of_node h hs None = refl
-  fault-of_node h hs (Some (Raw bytes)) = refl
-  fault-of_node h hs (Some (Comment bytes)) = refl
-  fault-of_node h hs (Some (Tag own)) = refl
+  fault-edit_if_found : (h : ℕ) (hs : List ℕ) (o : Option Node) → first_fault (handle_walk all_tags table (walk all_tags table []) h (walk all_tags table [] hs) false o) ≡ earlier_fault (fault_at h o) (fault hs)
+  fault-edit_if_found h hs None = refl
+  fault-edit_if_found h hs (Some (Raw bytes)) = refl
+  fault-edit_if_found h hs (Some (Comment bytes)) = refl
+  fault-edit_if_found h hs (Some (Tag own)) = refl
 
   texts-cons : (h : ℕ) (hs : List ℕ) (o : Option Node) → slice_get table h ≡ o → texts (h ∷ hs) ≡ text_at o ++ texts hs
-  texts-cons h hs o is = ap (λ w. text_of (trees w)) (walk-one table above h hs o is) ∙ texts-of_node h hs o
+  texts-cons h hs o is = ap (λ w. text_of (trees w)) (walk-one table above h hs o is) ∙ texts-edit_if_found h hs o
 
-  fault-cons : (h : ℕ) (hs : List ℕ) (o : Option Node) → slice_get table h ≡ o → fault (h ∷ hs) ≡ or_else (fault_at h o) (fault hs)
-  fault-cons h hs o is = ap first_fault (walk-one table above h hs o is) ∙ fault-of_node h hs o
+  fault-cons : (h : ℕ) (hs : List ℕ) (o : Option Node) → slice_get table h ≡ o → fault (h ∷ hs) ≡ earlier_fault (fault_at h o) (fault hs)
+  fault-cons h hs o is = ap first_fault (walk-one table above h hs o is) ∙ fault-edit_if_found h hs o
 
   texts-nil : texts [] ≡ []
-  texts-nil = ap (λ w. text_of (trees w)) (walk-nil every table [])
+  texts-nil = ap (λ w. text_of (trees w)) (walk-nil all_tags table [])
 
   fault-nil : fault [] ≡ None
-  fault-nil = ap first_fault (walk-nil every table [])
+  fault-nil = ap first_fault (walk-nil all_tags table [])
 
   texts-append : (hs later : List ℕ) → texts (hs ++ later) ≡ texts hs ++ texts later
   texts-append [] later = ap (λ s. s ++ texts later) (sym texts-nil)
@@ -158,14 +158,14 @@ module _ (table : List Node) (above : AreChildrenAbove table) where
       ∙ sym (append_assoc own (texts hs) (texts later))
       ∙ ap (λ s. s ++ texts later) (sym (texts-cons h hs (slice_get table h) refl))
 
-  fault-append : (hs later : List ℕ) → fault (hs ++ later) ≡ or_else (fault hs) (fault later)
-  fault-append [] later = ap (λ e. or_else e (fault later)) (sym fault-nil)
+  fault-append : (hs later : List ℕ) → fault (hs ++ later) ≡ earlier_fault (fault hs) (fault later)
+  fault-append [] later = ap (λ e. earlier_fault e (fault later)) (sym fault-nil)
   fault-append (h ∷ hs) later =
       let own : Option TreeFault = fault_at h (slice_get table h) in
       fault-cons h (hs ++ later) (slice_get table h) refl
-      ∙ ap (or_else own) (fault-append hs later)
-      ∙ or_else-assoc own (fault hs) (fault later)
-      ∙ ap (λ e. or_else e (fault later)) (sym (fault-cons h hs (slice_get table h) refl))
+      ∙ ap (earlier_fault own) (fault-append hs later)
+      ∙ earlier_fault-assoc own (fault hs) (fault later)
+      ∙ ap (λ e. earlier_fault e (fault later)) (sym (fault-cons h hs (slice_get table h) refl))
 
   -- a node, and then its children before what comes after it
   texts-step : (h : ℕ) (hs : List ℕ) (x : Node) → slice_get table h ≡ Some x → texts (h ∷ hs) ≡ own_text x ++ texts (children_of x ++ hs)
@@ -251,7 +251,7 @@ at-drop [] (suc h) k = refl
 at-drop (x ∷ xs) (suc h) k = let place : suc (h + k) ≡ suc h + k = omega arith in at-drop xs h k ∙ ap (slice_get (x ∷ xs)) place
 
 module _ (table : List Node) (roots : List ℕ) (order : ArePreorder 0 roots (map children_of table)) where
-  abbrev above : AreChildrenAbove table
+  abbrev above : ChildrenFollowParents table
   above = preorder-above table roots order
 
   -- what hangs at one handle of the table
@@ -270,8 +270,8 @@ module _ (table : List Node) (roots : List ℕ) (order : ArePreorder 0 roots (ma
     row-past is = ap (λ r. range_between (with_end (Some h) r)) (past table [] h is)
 
     record Row (r : ℕ × ℕ) : Type 0 where
-      text_is : text_of (trees (walk every table [] (h ∷ hs))) ≡ flat_map own_text (between r.0 r.1 table) ++ text_of (trees (walk every table [] hs))
-      fault_is : first_fault (walk every table [] (h ∷ hs)) ≡ first_fault (walk every table [] hs)
+      text_is : text_of (trees (walk all_tags table [] (h ∷ hs))) ≡ flat_map own_text (between r.0 r.1 table) ++ text_of (trees (walk all_tags table [] hs))
+      fault_is : first_fault (walk all_tags table [] (h ∷ hs)) ≡ first_fault (walk all_tags table [] hs)
 
     row-found : (x : Node) → slice_get table h ≡ Some x → (last : ℕ) × (range_at ≡ Ok (h, last + 1)) × Row (h, last + 1)
     row-found x is =
@@ -281,20 +281,20 @@ module _ (table : List Node) (roots : List ℕ) (order : ArePreorder 0 roots (ma
           s.last,
           ap (λ r. range_between (with_end (Some h) r)) (s.climbs [] tt) ∙ ap (λ b. Ok (if b then (0, 0) else (h, s.last + 1))) forward,
           record {
-            text_is = texts-append table above (h ∷ []) hs ∙ ap (λ y. y ++ text_of (trees (walk every table [] hs))) (s.text_is ∙ ap (λ k. flat_map own_text (take k (drop h table))) long);
-            fault_is = fault-append table above (h ∷ []) hs ∙ ap (λ e. or_else e (first_fault (walk every table [] hs))) s.faultless;
+            text_is = texts-append table above (h ∷ []) hs ∙ ap (λ y. y ++ text_of (trees (walk all_tags table [] hs))) (s.text_is ∙ ap (λ k. flat_map own_text (take k (drop h table))) long);
+            fault_is = fault-append table above (h ∷ []) hs ∙ ap (λ e. earlier_fault e (first_fault (walk all_tags table [] hs))) s.faultless;
           },
         )
 
     -- the nodes of a handle's range are what the walk meets of it
     pub row_ok : (r : ℕ × ℕ) → range_from table (Some h) (Some h) ≡ Ok r
-        → (text_of (trees (walk every table [] (h ∷ hs))) ≡ flat_map own_text (between r.0 r.1 table) ++ text_of (trees (walk every table [] hs)))
-        × (first_fault (walk every table [] (h ∷ hs)) ≡ first_fault (walk every table [] hs))
+        → (text_of (trees (walk all_tags table [] (h ∷ hs))) ≡ flat_map own_text (between r.0 r.1 table) ++ text_of (trees (walk all_tags table [] hs)))
+        × (first_fault (walk all_tags table [] (h ∷ hs)) ≡ first_fault (walk all_tags table [] hs))
     row_ok r e = by (slice_get table h) refl
       where
         by : (o : Option Node) → slice_get table h ≡ o
-            → (text_of (trees (walk every table [] (h ∷ hs))) ≡ flat_map own_text (between r.0 r.1 table) ++ text_of (trees (walk every table [] hs)))
-            × (first_fault (walk every table [] (h ∷ hs)) ≡ first_fault (walk every table [] hs))
+            → (text_of (trees (walk all_tags table [] (h ∷ hs))) ≡ flat_map own_text (between r.0 r.1 table) ++ text_of (trees (walk all_tags table [] hs)))
+            × (first_fault (walk all_tags table [] (h ∷ hs)) ≡ first_fault (walk all_tags table [] hs))
         by None is = absurd (let no : Err (Dangling h) ≡ Ok r = sym (row-past is) ∙ e in cc)
         by (Some x) is =
             let f = row-found x is in
@@ -304,10 +304,10 @@ module _ (table : List Node) (roots : List ℕ) (order : ArePreorder 0 roots (ma
             (row.text_is, row.fault_is)
 
     -- a handle without a range is past the table
-    pub row_err : (e : TreeFault) → range_from table (Some h) (Some h) ≡ Err e → (e ≡ Dangling h) × (first_fault (walk every table [] (h ∷ hs)) ≡ Some e)
+    pub row_err : (e : TreeFault) → range_from table (Some h) (Some h) ≡ Err e → (e ≡ Dangling h) × (first_fault (walk all_tags table [] (h ∷ hs)) ≡ Some e)
     row_err e is = by (slice_get table h) refl
       where
-        by : (o : Option Node) → slice_get table h ≡ o → (e ≡ Dangling h) × (first_fault (walk every table [] (h ∷ hs)) ≡ Some e)
+        by : (o : Option Node) → slice_get table h ≡ o → (e ≡ Dangling h) × (first_fault (walk all_tags table [] (h ∷ hs)) ≡ Some e)
         by None past =
             let both : Err (Dangling h) ≡ Err e = sym (row-past past) ∙ is in
             let same : Dangling h ≡ e = cc in
@@ -347,64 +347,64 @@ module _ (t : List ℕ) where
 -- SCRATCH-END
 -- tables as they are kept
 
-children-shown : (nodes : List HTMLNode) → map children_in nodes ≡ map children_of (map shown nodes)
+children-shown : (nodes : List HTMLNode) → map children_in nodes ≡ map children_of (map node_view nodes)
 children-shown [] = refl
 children-shown (ATag own ∷ nodes) = ap (λ lists. own.children.items ∷ lists) (children-shown nodes)
 children-shown (ARaw bytes ∷ nodes) = ap (λ lists. [] ∷ lists) (children-shown nodes)
 children-shown (AComment bytes ∷ nodes) = ap (λ lists. [] ∷ lists) (children-shown nodes)
 
 -- the nodes of a document just read are in preorder
-pub read-preorder : (t : List ℕ) (kept : List HTMLNode) → map shown kept ≡ (document t).nodes → IsInPreorder kept
+pub read-preorder : (t : List ℕ) (kept : List HTMLNode) → map node_view kept ≡ (document t).nodes → IsInPreorder kept
 read-preorder t kept is = ((document t).top, subst (ArePreorder 0 (document t).top) (ap (map children_of) (sym is) ∙ sym (children-shown kept)) (document-preorder t))
 
 module _ (kept : List HTMLNode) (preorder : IsInPreorder kept) where
-  abbrev shown_order : ArePreorder 0 preorder.0 (map children_of (map shown kept))
+  abbrev shown_order : ArePreorder 0 preorder.0 (map children_of (map node_view kept))
   shown_order = subst (ArePreorder 0 preorder.0) (children-shown kept) preorder.1
 
   module _ (h : ℕ) (hs : List ℕ) where
     -- the texts of a handle's range are written, and those of later handles are left
-    pub texts-next : (start end : ℕ) (before out new : List ℕ) → range_from (map shown kept) (Some h) (Some h) ≡ Ok (start, end)
-        → before ≡ out ++ text_of (trees (walk every (map shown kept) [] (h ∷ hs)))
-        → new ≡ out ++ flat_map own_text (map shown (between start end kept))
-        → before ≡ new ++ text_of (trees (walk every (map shown kept) [] hs))
+    pub texts-next : (start end : ℕ) (before out new : List ℕ) → range_from (map node_view kept) (Some h) (Some h) ≡ Ok (start, end)
+        → before ≡ out ++ text_of (trees (walk all_tags (map node_view kept) [] (h ∷ hs)))
+        → new ≡ out ++ flat_map own_text (map node_view (between start end kept))
+        → before ≡ new ++ text_of (trees (walk all_tags (map node_view kept) [] hs))
     texts-next start end before out new range is wrote =
-        let later : List ℕ = text_of (trees (walk every (map shown kept) [] hs)) in
-        let cut : between start end (map shown kept) ≡ map shown (between start end kept) = ap (take (end - start)) (drop-map shown start kept) ∙ take-map shown (end - start) (drop start kept) in
+        let later : List ℕ = text_of (trees (walk all_tags (map node_view kept) [] hs)) in
+        let cut : between start end (map node_view kept) ≡ map node_view (between start end kept) = ap (take (end - start)) (drop-map node_view start kept) ∙ take-map node_view (end - start) (drop start kept) in
         is
-        ∙ ap (λ s. out ++ s) ((row_ok (map shown kept) preorder.0 shown_order h hs (start, end) range).0 ∙ ap (λ ns. flat_map own_text ns ++ later) cut)
-        ∙ sym (append_assoc out (flat_map own_text (map shown (between start end kept))) later)
+        ∙ ap (λ s. out ++ s) ((row_ok (map node_view kept) preorder.0 shown_order h hs (start, end) range).0 ∙ ap (λ ns. flat_map own_text ns ++ later) cut)
+        ∙ sym (append_assoc out (flat_map own_text (map node_view (between start end kept))) later)
         ∙ ap (λ s. s ++ later) (sym wrote)
 
-    pub fault-next : (r : ℕ × ℕ) → range_from (map shown kept) (Some h) (Some h) ≡ Ok r → first_fault (walk every (map shown kept) [] (h ∷ hs)) ≡ first_fault (walk every (map shown kept) [] hs)
-    fault-next r range = (row_ok (map shown kept) preorder.0 shown_order h hs r range).1
+    pub fault-next : (r : ℕ × ℕ) → range_from (map node_view kept) (Some h) (Some h) ≡ Ok r → first_fault (walk all_tags (map node_view kept) [] (h ∷ hs)) ≡ first_fault (walk all_tags (map node_view kept) [] hs)
+    fault-next r range = (row_ok (map node_view kept) preorder.0 shown_order h hs r range).1
 
     -- a handle without a range is refused, and that hides behind no want of memory
-    pub refused : (e : TreeError) → IsRefusal (result_err (range_from (map shown kept) (Some h) (Some h))) e → IsRefusal (first_fault (walk every (map shown kept) [] (h ∷ hs))) e
+    pub refused : (e : TreeError) → IsRefusal (result_err (range_from (map node_view kept) (Some h) (Some h))) e → IsRefusal (first_fault (walk all_tags (map node_view kept) [] (h ∷ hs))) e
     refused OutOfMemory r = tt
-    refused (DanglingError k) r = by (range_from (map shown kept) (Some h) (Some h)) refl r
+    refused (DanglingError k) r = by (range_from (map node_view kept) (Some h) (Some h)) refl r
       where
-        by : (a : Result (ℕ × ℕ) TreeFault) → range_from (map shown kept) (Some h) (Some h) ≡ a → result_err a ≡ Some (Dangling k) → first_fault (walk every (map shown kept) [] (h ∷ hs)) ≡ Some (Dangling k)
+        by : (a : Result (ℕ × ℕ) TreeFault) → range_from (map node_view kept) (Some h) (Some h) ≡ a → result_err a ≡ Some (Dangling k) → first_fault (walk all_tags (map node_view kept) [] (h ∷ hs)) ≡ Some (Dangling k)
         by (Ok range) is r = absurd (cc)
-        by (Err fault) is r = (row_err (map shown kept) preorder.0 shown_order h hs fault is).1 ∙ r
-    refused (CycleError k) r = by (range_from (map shown kept) (Some h) (Some h)) refl r
+        by (Err fault) is r = (row_err (map node_view kept) preorder.0 shown_order h hs fault is).1 ∙ r
+    refused (CycleError k) r = by (range_from (map node_view kept) (Some h) (Some h)) refl r
       where
-        by : (a : Result (ℕ × ℕ) TreeFault) → range_from (map shown kept) (Some h) (Some h) ≡ a → result_err a ≡ Some (Cycle k) → first_fault (walk every (map shown kept) [] (h ∷ hs)) ≡ Some (Cycle k)
+        by : (a : Result (ℕ × ℕ) TreeFault) → range_from (map node_view kept) (Some h) (Some h) ≡ a → result_err a ≡ Some (Cycle k) → first_fault (walk all_tags (map node_view kept) [] (h ∷ hs)) ≡ Some (Cycle k)
         by (Ok range) is r = absurd (cc)
-        by (Err fault) is r = (row_err (map shown kept) preorder.0 shown_order h hs fault is).1 ∙ r
+        by (Err fault) is r = (row_err (map node_view kept) preorder.0 shown_order h hs fault is).1 ∙ r
 
   -- a handle past the table has no range
-  pub no_range : (h : ℕ) (r : ℕ × ℕ) → slice_get kept h ≡ None → range_from (map shown kept) (Some h) (Some h) ≡ Ok r → ⊥
-  no_range h r past range = let no : Err (Dangling h) ≡ Ok r = sym (row-past (map shown kept) preorder.0 shown_order h [] (shown_past kept h (sym past))) ∙ range in cc
+  pub no_range : (h : ℕ) (r : ℕ × ℕ) → slice_get kept h ≡ None → range_from (map node_view kept) (Some h) (Some h) ≡ Ok r → ⊥
+  no_range h r past range = let no : Err (Dangling h) ≡ Ok r = sym (row-past (map node_view kept) preorder.0 shown_order h [] (shown_past kept h (sym past))) ∙ range in cc
 
-  pub dangles : (h : ℕ) (e : TreeError) → slice_get kept h ≡ None → IsRefusal (result_err (range_from (map shown kept) (Some h) (Some h))) e
-      → (Rises (map shown kept) (Some h) → e ≢ OutOfMemory) → e ≡ DanglingError h
-  dangles h OutOfMemory past r memory = absurd (memory (all_rise (map shown kept) (preorder-above (map shown kept) preorder.0 shown_order) (Some h)) refl)
+  pub dangles : (h : ℕ) (e : TreeError) → slice_get kept h ≡ None → IsRefusal (result_err (range_from (map node_view kept) (Some h) (Some h))) e
+      → (Rises (map node_view kept) (Some h) → e ≢ OutOfMemory) → e ≡ DanglingError h
+  dangles h OutOfMemory past r memory = absurd (memory (all_rise (map node_view kept) (preorder-above (map node_view kept) preorder.0 shown_order) (Some h)) refl)
   dangles h (DanglingError k) past r memory =
-      let is : Some (Dangling h) ≡ Some (Dangling k) = ap result_err (sym (row-past (map shown kept) preorder.0 shown_order h [] (shown_past kept h (sym past)))) ∙ r in
+      let is : Some (Dangling h) ≡ Some (Dangling k) = ap result_err (sym (row-past (map node_view kept) preorder.0 shown_order h [] (shown_past kept h (sym past)))) ∙ r in
       let same : h ≡ k = cc in
       ap DanglingError (sym same)
   dangles h (CycleError k) past r memory =
-      let is : Some (Dangling h) ≡ Some (Cycle k) = ap result_err (sym (row-past (map shown kept) preorder.0 shown_order h [] (shown_past kept h (sym past)))) ∙ r in
+      let is : Some (Dangling h) ≡ Some (Cycle k) = ap result_err (sym (row-past (map node_view kept) preorder.0 shown_order h [] (shown_past kept h (sym past)))) ∙ r in
       absurd (cc)
 
 -- the next handle of a loop over handles

@@ -13,13 +13,13 @@ use Rattle.tl_spec.specs.SelectorText.{IsSelectorText}
 use Rattle.tl_spec.proofs.SelectorSearch.{matches-only}
 use Rattle.tl_spec.proofs.SelectorText.{text-only, text-none}
 use Rattle.tl.specs.Query.{FindsIn, matches_in}
-use Rattle.tl.specs.Shown.{HTMLTable, shown, document_of}
+use Rattle.tl.specs.Shown.{HTMLTable, node_view, document_of}
 
 module _ (d : HTMLTable) (text : List ℕ) where
-  whole : (e : Selector) (ns : List ℕ) → AreMatches (map shown d.nodes) e 0 (length d.nodes) ns → ns ≡ matches_in (document_of d) e
+  whole : (e : Selector) (ns : List ℕ) → AreMatches (map node_view d.nodes) e 0 (length d.nodes) ns → ns ≡ matches_in (document_of d) e
   whole e ns m =
-      matches-only (map shown d.nodes) e 0 (length (map shown d.nodes)) ns
-      (subst (λ (n : ℕ). AreMatches (map shown d.nodes) e 0 n ns) (sym (length-map d.nodes shown)) m)
+      matches-only (map node_view d.nodes) e 0 (length (map node_view d.nodes)) ns
+      (subst (λ (n : ℕ). AreMatches (map node_view d.nodes) e 0 n ns) (sym (length-map d.nodes node_view)) m)
 
   -- by the plain reader of selector texts
   pub query-reading : (found : Option (List ℕ)) → FindsIn d text found → found ≡ option_map (matches_in (document_of d)) (selector_at text)
@@ -39,9 +39,9 @@ module _ (d : HTMLTable) (text : List ℕ) where
 
   few_matches : (e : Selector) → length (matches_in (document_of d) e) ≤ length d.nodes
   few_matches e =
-      let nodes = map shown d.nodes in
+      let nodes = map node_view d.nodes in
       let fewer : length (matches_in (document_of d) e) ≤ length (node_numbers nodes) = few_filtered _ (node_numbers nodes) in
-      omega (arith, fewer, length-range_with_len 0 (length nodes), length-map d.nodes shown)
+      omega (arith, fewer, length-range_with_len 0 (length nodes), length-map d.nodes node_view)
 
   -- no more are found than there are nodes
   pub query-few : (found : Option (List ℕ)) → FindsIn d text found → length d.nodes < 2 ^ 32 → ForSome found (λ ns. length ns < 2 ^ 32)

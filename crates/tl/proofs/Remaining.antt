@@ -2,14 +2,14 @@
 use Rattle.std.proofs.Common.{◌≡◌, ℕ, ◌+◌, ◌<◌, ◌≤◌, Bool, true, false, ◌⊎◌, inl, inr, List, [], ◌∷◌, ◌++◌, length, map, Option, Some, None, Ok, Err, refl, ap, sym, ◌∙◌, subst, arith, append_assoc}
 use Rattle.std.specs.List.{slice_get, AllByRecursion}
 use Rattle.tl_spec.specs.Document.{Node, Tag, Raw, Comment, TagNode}
-use Rattle.tl_spec.specs.Walk.{Cycle, Dangling, Event, Walk, end, events, every, faulty, handle_walk, leaves, meets, meets_comment, meets_fault, meets_tag, meets_text, passes_tag, stands_on, walk}
+use Rattle.tl_spec.specs.Walk.{Cycle, Dangling, Event, Walk, end, events, all_tags, faulty, handle_walk, leaves, meets, meets_comment, meets_fault, meets_tag, meets_text, passes_tag, stands_on, walk}
 use Rattle.tl_spec.proofs.Events.{Enters, Enters-walk}
 use Rattle.tl_spec.proofs.Walks.{walk-cons, walk-nil}
 use Rattle.tl_table.specs.declared.errors.TreeError.TheVariants.{Dangling as DanglingError, Cycle as CycleError, OutOfMemory}
 use Rattle.tl.specs.declared.walk.Frame.{Frame}
 use Rattle.tl.specs.Remaining.{Around, FailsAt, Place, Remaining, Within, around_within, events_around, events_left, nothing_left, path_within, remaining_of, step, step_in, step_out}
-use Rattle.tl.specs.Shown.{shown, shown_tag}
-use Rattle.tl.specs.Walker.{IsLedBy, IsNext, around, around_from, path_from, place_of, remaining, remaining_below, shown_event, within_from}
+use Rattle.tl.specs.Shown.{node_view, tag_view}
+use Rattle.tl.specs.Walker.{IsLedBy, IsNext, around, around_from, path_from, place_of, remaining, remaining_below, event_view, within_from}
 use Rattle.tl.specs.declared.walk.Walker.{Walker}
 use Rattle.tl.specs.declared.walk.WalkEvent.{WalkEvent}
 use Rattle.tl_table.specs.declared.errors.TreeError.{TreeError}
@@ -21,12 +21,12 @@ next_at e left = Some (e, left)
 
 module _ (nodes : List Node) where
   around_from-push : (path : List ℕ) (outer : List Around) (fs : List Frame) (f : Frame) →
-      around_from nodes path outer (fs ++ f ∷ []) ≡ record { own = shown_tag f.tag.now; more = walk every nodes (path_from path fs) f.rest.now } ∷ around_from nodes path outer fs
+      around_from nodes path outer (fs ++ f ∷ []) ≡ record { own = tag_view f.tag.now; more = walk all_tags nodes (path_from path fs) f.rest.now } ∷ around_from nodes path outer fs
   around_from-push path outer [] f = refl
-  around_from-push path outer (g ∷ fs) f = around_from-push (g.handle ∷ path) (record { own = shown_tag g.tag.now; more = walk every nodes path g.rest.now } ∷ outer) fs f
+  around_from-push path outer (g ∷ fs) f = around_from-push (g.handle ∷ path) (record { own = tag_view g.tag.now; more = walk all_tags nodes path g.rest.now } ∷ outer) fs f
 
   pub around-push : (fs : List Frame) (f : Frame) →
-      around nodes (fs ++ f ∷ []) ≡ record { own = shown_tag f.tag.now; more = walk every nodes (path_from [] fs) f.rest.now } ∷ around nodes fs
+      around nodes (fs ++ f ∷ []) ≡ record { own = tag_view f.tag.now; more = walk all_tags nodes (path_from [] fs) f.rest.now } ∷ around nodes fs
   unfolding around
   around-push fs f = around_from-push [] [] fs f
 
@@ -36,16 +36,16 @@ module _ (nodes : List Node) where
 
   -- a walk that has ended
   pub remaining-over : (frames : List Frame) (hs : List ℕ) → frames ≡ [] → hs ≡ [] → remaining_below nodes frames hs ≡ nothing_left
-  remaining-over frames hs e r = rw (e, r, around-none, walk-nil every nodes []) refl
+  remaining-over frames hs e r = rw (e, r, around-none, walk-nil all_tags nodes []) refl
 
   -- nothing is left inside
   pub remaining-skipped : (frames : List Frame) (hs : List ℕ) → hs ≡ [] → remaining_below nodes frames hs ≡ record { inside = end; around = around nodes frames }
-  remaining-skipped frames hs r = rw (r, walk-nil every nodes (path_from [] frames)) refl
+  remaining-skipped frames hs r = rw (r, walk-nil all_tags nodes (path_from [] frames)) refl
 
   module _ (rest : List ℕ) (frames : List Frame) where
     -- the last frame is taken where nothing is left inside
     pub step-popped : (fs : List Frame) (f : Frame) → rest ≡ [] → frames ≡ fs ++ f ∷ [] →
-        step (remaining_below nodes frames rest) ≡ Some (leaves (shown_tag f.tag.now), remaining_below nodes fs f.rest.now)
+        step (remaining_below nodes frames rest) ≡ Some (leaves (tag_view f.tag.now), remaining_below nodes fs f.rest.now)
     step-popped fs f r e =
         ap step (remaining-skipped frames rest r)
         ∙ ap step_out (ap (around nodes) e ∙ around-push fs f)
@@ -57,18 +57,18 @@ module _ (nodes : List Node) where
     -- a frame more
     pub remaining-pushed : (new : List Frame) (h : ℕ) (f : Frame) (hs : List ℕ) → new ≡ frames ++ f ∷ [] → f.handle ≡ h → f.rest.now ≡ rest →
         remaining_below nodes new hs
-        ≡ record { inside = walk every nodes (h ∷ path_from [] frames) hs; around = record { own = shown_tag f.tag.now; more = walk every nodes (path_from [] frames) rest } ∷ around nodes frames }
+        ≡ record { inside = walk all_tags nodes (h ∷ path_from [] frames) hs; around = record { own = tag_view f.tag.now; more = walk all_tags nodes (path_from [] frames) rest } ∷ around nodes frames }
     remaining-pushed new h f hs n fh fr =
         let longer : path_from [] new ≡ h ∷ path_from [] frames = ap (path_from []) n ∙ path-push [] frames f ∙ ap (λ x. x ∷ path_from [] frames) fh in
-        let outer : around nodes new ≡ record { own = shown_tag f.tag.now; more = walk every nodes (path_from [] frames) rest } ∷ around nodes frames
-        = ap (around nodes) n ∙ around-push frames f ∙ ap (λ r. record { own = shown_tag f.tag.now; more = walk every nodes (path_from [] frames) r } ∷ around nodes frames) fr in
-        (λ i. record { inside = walk every nodes (longer i) hs; around = outer i })
+        let outer : around nodes new ≡ record { own = tag_view f.tag.now; more = walk all_tags nodes (path_from [] frames) rest } ∷ around nodes frames
+        = ap (around nodes) n ∙ around-push frames f ∙ ap (λ r. record { own = tag_view f.tag.now; more = walk all_tags nodes (path_from [] frames) r } ∷ around nodes frames) fr in
+        (λ i. record { inside = walk all_tags nodes (longer i) hs; around = outer i })
 
     module _ (h : ℕ) where
       step-handle : (b : Bool) (o : Option Node) → stands_on (path_from [] frames) h ≡ b → slice_get nodes h ≡ o →
           step (remaining_below nodes frames (h ∷ rest))
-          ≡ step_in (around nodes frames) (handle_walk every nodes (walk every nodes (h ∷ path_from [] frames)) h (walk every nodes (path_from [] frames) rest) b o)
-      step-handle b o stands is = ap (step_in (around nodes frames)) (walk-cons every nodes (path_from [] frames) h rest b o stands is)
+          ≡ step_in (around nodes frames) (handle_walk all_tags nodes (walk all_tags nodes (h ∷ path_from [] frames)) h (walk all_tags nodes (path_from [] frames) rest) b o)
+      step-handle b o stands is = ap (step_in (around nodes frames)) (walk-cons all_tags nodes (path_from [] frames) h rest b o stands is)
 
       step-dangling : slice_get nodes h ≡ None → step (remaining_below nodes frames (h ∷ rest)) ≡ Some (faulty (Dangling h), nothing_left)
       step-dangling is = step-handle (stands_on (path_from [] frames) h) None refl is
@@ -86,10 +86,10 @@ module _ (nodes : List Node) where
 
       pub step-tag : (own : TagNode) → slice_get nodes h ≡ Some (Tag own) → stands_on (path_from [] frames) h ≡ false →
           step (remaining_below nodes frames (h ∷ rest))
-          ≡ Some (meets h (Tag own), record { inside = walk every nodes (h ∷ path_from [] frames) own.children.items; around = record { own = own; more = walk every nodes (path_from [] frames) rest } ∷ around nodes frames })
+          ≡ Some (meets h (Tag own), record { inside = walk all_tags nodes (h ∷ path_from [] frames) own.children.items; around = record { own = own; more = walk all_tags nodes (path_from [] frames) rest } ∷ around nodes frames })
       step-tag own is new = step-handle false (Some (Tag own)) new is
 
-      memory-by : (below : List ℕ → Walk) (m : Walk) (b : Bool) (o : Option Node) → FailsAt (step_in (around nodes frames) (handle_walk every nodes below h m b o)) OutOfMemory
+      memory-by : (below : List ℕ → Walk) (m : Walk) (b : Bool) (o : Option Node) → FailsAt (step_in (around nodes frames) (handle_walk all_tags nodes below h m b o)) OutOfMemory
       memory-by below m b None = tt
       memory-by below m true (Some node) = tt
       memory-by below m false (Some (Raw bytes)) = tt
@@ -106,7 +106,7 @@ module _ (nodes : List Node) where
       pub fails-memory : FailsAt (step (remaining_below nodes frames (h ∷ rest))) OutOfMemory
       fails-memory =
           subst (λ s. FailsAt s OutOfMemory) (sym (step-handle (stands_on (path_from [] frames) h) (slice_get nodes h) refl refl))
-          (memory-by (walk every nodes (h ∷ path_from [] frames)) (walk every nodes (path_from [] frames) rest) (stands_on (path_from [] frames) h) (slice_get nodes h))
+          (memory-by (walk all_tags nodes (h ∷ path_from [] frames)) (walk all_tags nodes (path_from [] frames) rest) (stands_on (path_from [] frames) h) (slice_get nodes h))
 
 abbrev step_pair : Event → Remaining → Event × Remaining
 step_pair e left = (e, left)
@@ -165,20 +165,20 @@ fewer-error r q error fails over = fewer-at r q error (step r) refl fails over
 -- every tag is entered
 
 abbrev pub IsEntered : Remaining → Type 0
-IsEntered r = Enters every r.inside × AllByRecursion (λ tag. Enters every tag.more) r.around
+IsEntered r = Enters all_tags r.inside × AllByRecursion (λ tag. Enters all_tags tag.more) r.around
 
-pub entered-begun : (nodes : List Node) (hs : List ℕ) → IsEntered (record { inside = walk every nodes [] hs; around = [] })
-entered-begun nodes hs = (Enters-walk every nodes [] hs, tt)
+pub entered-begun : (nodes : List Node) (hs : List ℕ) → IsEntered (record { inside = walk all_tags nodes [] hs; around = [] })
+entered-begun nodes hs = (Enters-walk all_tags nodes [] hs, tt)
 
 module _ (e : Event) (after : Remaining) where
   entered-at : (f : Event) (left : Remaining) → next_at f left ≡ next_at e after → IsEntered left → IsEntered after
   entered-at f left s enters = subst IsEntered (next_same f e left after s).1 enters
 
-  entered-out : (outer : List Around) → step_out outer ≡ Some (e, after) → AllByRecursion (λ tag. Enters every tag.more) outer → IsEntered after
+  entered-out : (outer : List Around) → step_out outer ≡ Some (e, after) → AllByRecursion (λ tag. Enters all_tags tag.more) outer → IsEntered after
   entered-out [] s all = absurd (cc)
   entered-out (tag ∷ outer) s all = entered-at (leaves tag.own) (record { inside = tag.more; around = outer }) s all
 
-  entered-in : (outer : List Around) (w : Walk) → step_in outer w ≡ Some (e, after) → Enters every w → AllByRecursion (λ tag. Enters every tag.more) outer → IsEntered after
+  entered-in : (outer : List Around) (w : Walk) → step_in outer w ≡ Some (e, after) → Enters all_tags w → AllByRecursion (λ tag. Enters all_tags tag.more) outer → IsEntered after
   entered-in outer end s here all = entered-out outer s all
   entered-in outer (meets_text h bytes more) s here all = entered-at (meets h (Raw bytes)) (record { inside = more; around = outer }) s (here, all)
   entered-in outer (meets_comment h bytes more) s here all = entered-at (meets h (Comment bytes)) (record { inside = more; around = outer }) s (here, all)
@@ -198,28 +198,28 @@ fresh_place nodes next frames = record { nodes = nodes; next = next; within = wi
 
 place-around : (nodes : List Node) (outer : List Within) (fs : List Frame) → around_within nodes (within_from outer fs) ≡ around_from nodes (path_within outer) (around_within nodes outer) fs
 place-around nodes outer [] = refl
-place-around nodes outer (f ∷ fs) = place-around nodes (record { handle = f.handle; own = shown_tag f.tag.now; rest = f.rest.now } ∷ outer) fs
+place-around nodes outer (f ∷ fs) = place-around nodes (record { handle = f.handle; own = tag_view f.tag.now; rest = f.rest.now } ∷ outer) fs
 
 place-path : (outer : List Within) (fs : List Frame) → path_within (within_from outer fs) ≡ path_from (path_within outer) fs
 place-path outer [] = refl
-place-path outer (f ∷ fs) = place-path (record { handle = f.handle; own = shown_tag f.tag.now; rest = f.rest.now } ∷ outer) fs
+place-path outer (f ∷ fs) = place-path (record { handle = f.handle; own = tag_view f.tag.now; rest = f.rest.now } ∷ outer) fs
 
 pub place-remaining : (w : Walker) → remaining_of (place_of w) ≡ remaining w
 unfolding around
 place-remaining w =
-    let nodes = map shown w.nodes.now in
+    let nodes = map node_view w.nodes.now in
     let path = place-path [] w.frames.items in
     let outer = place-around nodes [] w.frames.items in
-    (λ i. record { inside = walk every nodes (path i) w.rest.now; around = outer i })
+    (λ i. record { inside = walk all_tags nodes (path i) w.rest.now; around = outer i })
 
 pub place-skipped : (p : Place) → remaining_of (record p { next = [] }) ≡ record (remaining_of p) { inside = end }
-place-skipped p = (λ i. record { inside = walk-nil every p.nodes (path_within p.within) i; around = around_within p.nodes p.within })
+place-skipped p = (λ i. record { inside = walk-nil all_tags p.nodes (path_within p.within) i; around = around_within p.nodes p.within })
 
 -- one step of a walker that enters every tag is one of the walk
 
 module _ (w v : Walker) where
-  pub given-event : (e : WalkEvent) → step (remaining w) ≡ Some (shown_event e, remaining v) → IsNext (place_of w) (Some (Ok e)) (place_of v)
-  given-event e s = ap step (place-remaining w) ∙ s ∙ ap (next_at (shown_event e)) (sym (place-remaining v))
+  pub given-event : (e : WalkEvent) → step (remaining w) ≡ Some (event_view e, remaining v) → IsNext (place_of w) (Some (Ok e)) (place_of v)
+  given-event e s = ap step (place-remaining w) ∙ s ∙ ap (next_at (event_view e)) (sym (place-remaining v))
 
   pub given-end : (step (remaining w) ≡ None) × (remaining v ≡ remaining w) → IsNext (place_of w) None (place_of v)
   given-end s = (ap step (place-remaining w) ∙ s.0, place-remaining v ∙ s.1 ∙ sym (place-remaining w))

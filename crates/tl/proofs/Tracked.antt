@@ -10,9 +10,9 @@ use Rattle.tl_spec.specs.Document.{Node}
 use Rattle.tl_spec.specs.Scan.{id_of, class_of}
 use Rattle.tl_spec.specs.Inline.{InlineVec}
 use Rattle.tl_tracking.specs.Options.{Options}
-use Rattle.tl_tracking.specs.Tracking.{Tracking, TracksIds, TracksClasses, nothing_noted, empty_if}
+use Rattle.tl_tracking.specs.Tracking.{Tracking, TracksIds, TracksClasses, no_maps, empty_when}
 use Rattle.tl_tracking.proofs.Noted.{members_begin, members_end, id_missing}
-use Rattle.tl.specs.Shown.{HTMLTag, HTMLNode, shown}
+use Rattle.tl.specs.Shown.{HTMLTag, HTMLNode, node_view}
 use Rattle.tl.specs.Tracked.{AreAsked, AnswerIds, AnswerClasses, AnswerMembers}
 use Rattle.tl.specs.declared.parser.tag.node.NodeOf.TheVariants.{Tag, Raw, Comment}
 
@@ -42,12 +42,12 @@ classes-untracked t nodes e = one t.classes e
     one (Some pairs) e = absurd (true≢false e)
 
 -- what is no tag has neither
-pub no-id : (node : HTMLNode) → ((x : HTMLTag) → node ≡ Tag x → ⊥) → id_of (shown node) ≡ None
+pub no-id : (node : HTMLNode) → ((x : HTMLTag) → node ≡ Tag x → ⊥) → id_of (node_view node) ≡ None
 no-id (Tag t) not = absurd (not t refl)
 no-id (Raw b) not = refl
 no-id (Comment b) not = refl
 
-pub no-class : (node : HTMLNode) → ((x : HTMLTag) → node ≡ Tag x → ⊥) → class_of (shown node) ≡ None
+pub no-class : (node : HTMLNode) → ((x : HTMLTag) → node ≡ Tag x → ⊥) → class_of (node_view node) ≡ None
 no-class (Tag t) not = absurd (not t refl)
 no-class (Raw b) not = refl
 no-class (Comment b) not = refl
@@ -64,9 +64,9 @@ members-of-none v not = by (is_utf8 v) refl
     by false e = rw e refl
 
 -- before the first tag there is what is asked for
-pub asked-first : (asked : Options) (key : ℕ) (t : Tracking Kept) → t ≡ nothing_noted asked key → AreAsked asked t
+pub asked-first : (asked : Options) (key : ℕ) (t : Tracking Kept) → t ≡ no_maps asked key → AreAsked asked t
 asked-first asked key t is = record { ids = ap (λ (u : Tracking Kept). is_some u.ids) is ∙ some-if _ asked.ids; classes = ap (λ (u : Tracking Kept). is_some u.classes) is ∙ some-if _ asked.classes }
   where
-    some-if : (A : Type 0) (b : Bool) → is_some (empty_if {A = A} b) ≡ b
+    some-if : (A : Type 0) (b : Bool) → is_some (empty_when {A = A} b) ≡ b
     some-if A true = refl
     some-if A false = refl

@@ -12,13 +12,13 @@ use Rattle.tl_lexer.specs.declared.tag.TagEnd.{TagEnd}
 use Rattle.tl_lexer.specs.declared.tag.TagEnd.TheVariants.{Opens, Alone, Broken}
 use Rattle.tl_lexer.specs.declared.token.Token.{Token}
 use Rattle.tl_lexer.specs.declared.token.Token.TheVariants.{Text as TextToken, End as EndToken, Comment as CommentToken, Doctype as DoctypeToken, Start as StartToken, Nothing as NothingToken}
-use Rattle.tl.specs.Shown.{shown}
+use Rattle.tl.specs.Shown.{node_view}
 use Rattle.tl.specs.HeldAlike.{IsHeldNode}
 use Rattle.tl.specs.declared.parser.builder.TableBuilder.{TableBuilder}
 
 -- what has been written, the innermost open tag first
 abbrev pub state_of : TableBuilder → State
-state_of b = record { nodes = map shown b.nodes.items; open_tags = reverse b.open_tags.items; top = b.top.items; is_html5 = b.is_html5 }
+state_of b = record { nodes = map node_view b.nodes.items; open_tags = reverse b.open_tags.items; top = b.top.items; is_html5 = b.is_html5 }
 
 -- the tag of a start tag written: nothing where that is broken, else opened unless it stands alone
 abbrev pub with_tag : Node → Bool → State → TagEnd → State
@@ -36,8 +36,8 @@ with_whole t (StartToken name) to s = s
 with_whole t NothingToken to s = s
 
 -- what a token of the lexer stands for, from one place to another
-abbrev pub placed : List ℕ → Token → ℕ → ℕ → ℕ → PlacedToken
-placed t token after from to = record { token = (meant t token after).0; from = from; to = to }
+abbrev pub placed_token : List ℕ → Token → ℕ → ℕ → ℕ → PlacedToken
+placed_token t token after from to = record { token = (meant t token after).0; from = from; to = to }
 
 -- the bytes at a span of a text, held so
 abbrev pub piece_at : Held → List ℕ → Span → Kept
@@ -52,5 +52,5 @@ abbrev pub AreHeld : Held → TableBuilder → Type 0
 AreHeld held b = All (IsHeldNode held) b.nodes.items
 
 -- what has been written, as a document
-abbrev pub written : State → Document
-written s = record { nodes = s.nodes; top = s.top; is_html5 = s.is_html5 }
+abbrev pub document_of_state : State → Document
+document_of_state s = record { nodes = s.nodes; top = s.top; is_html5 = s.is_html5 }

@@ -3,12 +3,12 @@ use Rattle.std.specs.Prelude.{◌≡◌, ℕ, Bool, true, false, List, [], ◌�
 use Rattle.std.specs.Borrow.{Bor}
 use Rattle.std.specs.Fn.{CalledAt, Mut}
 use Rattle.std.specs.List.{slice_get}
-use Rattle.tl_spec.specs.Walk.{Event, meets, leaves, faulty, every, walk, events}
+use Rattle.tl_spec.specs.Walk.{Event, meets, leaves, faulty, all_tags, walk, events}
 use Rattle.tl_table.specs.declared.errors.TreeError.{TreeError}
 use Rattle.tl_table.specs.declared.errors.TreeError.TheVariants.{Dangling as DanglingError, OutOfMemory}
 use Rattle.tl_table.specs.TreeFault.{error_of}
 use Rattle.tl.specs.declared.parser.tag.node.NodeOf.TheVariants.{Tag as ATag, Raw as ARaw, Comment as AComment}
-use Rattle.tl.specs.Shown.{HTMLNode, shown}
+use Rattle.tl.specs.Shown.{HTMLNode, node_view}
 
 -- what a search comes to: a handle with its node, or a fault
 abbrev pub Sight : Type 0
@@ -31,7 +31,7 @@ sights nodes (faulty fault ∷ later) = Err (error_of fault) ∷ sights nodes la
 
 -- all that hangs below a node, in the order of the walk that enters every tag
 abbrev pub sights_below : List HTMLNode → HTMLNode → List Sight
-sights_below nodes (ATag tag) = sights nodes (events (walk every (map shown nodes) [] tag.children.items))
+sights_below nodes (ATag tag) = sights nodes (events (walk all_tags (map node_view nodes) [] tag.children.items))
 sights_below nodes (ARaw bytes) = []
 sights_below nodes (AComment bytes) = []
 

@@ -5,11 +5,11 @@ use Rattle.tl.specs.declared.vdom.lookup.HandlesLeft.{HandlesLeft}
 use Rattle.tl.specs.declared.vdom.lookup.HandlesLeft.TheVariants.{Tracked, Scanned}
 
 -- the handles in order
-abbrev pub handles_left : HandlesLeft → List ℕ
-handles_left (Tracked numbers) = numbers.now
-handles_left (Scanned places) = places
+abbrev pub remaining_handles : HandlesLeft → List ℕ
+remaining_handles (Tracked numbers) = numbers.now
+remaining_handles (Scanned places) = places
 
 -- the places of a scan are handles
-abbrev pub AreHandlesLeft : HandlesLeft → Type 0
-AreHandlesLeft (Tracked numbers) = ⊤
-AreHandlesLeft (Scanned places) = AllByRecursion (λ n. n < 2 ^ 32) places
+abbrev pub AreRemainingHandles : HandlesLeft → Type 0
+AreRemainingHandles (Tracked numbers) = ⊤
+AreRemainingHandles (Scanned places) = AllByRecursion (λ n. n < 2 ^ 32) places

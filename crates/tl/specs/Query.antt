@@ -8,7 +8,7 @@ use Rattle.tl_spec.specs.SelectorMeaning.{AreMatches}
 use Rattle.tl_spec.specs.SelectorSearch.{matches_between}
 use Rattle.tl_spec.specs.SelectorText.{IsSelectorText}
 use Rattle.tl_spec.specs.Walk.{TreeFault}
-use Rattle.tl.specs.Shown.{HTMLTable, shown}
+use Rattle.tl.specs.Shown.{HTMLTable, node_view}
 
 -- a node and its handle
 abbrev pub item_of : {N : Type 0} → Bor N × ℕ → N × ℕ
@@ -39,7 +39,7 @@ FindsMatches text AreFound (Some ns) = (e : Selector) × IsSelectorText text e �
 
 -- what is found of a document by the text of a selector
 abbrev pub FindsIn : HTMLTable → List ℕ → Option (List ℕ) → Type 0
-FindsIn d text found = FindsMatches text (λ e. AreMatches (map shown d.nodes) e 0 (length d.nodes)) found
+FindsIn d text found = FindsMatches text (λ e. AreMatches (map node_view d.nodes) e 0 (length d.nodes)) found
 
 -- the numbers of all nodes of a document where a selector holds
 abbrev pub matches_in : Document → Selector → List ℕ

@@ -1,7 +1,7 @@
 -- What a walk has still to give.
 use Rattle.std.specs.Prelude.{◌≡◌, ℕ, List, [], ◌∷◌, ◌++◌, map, Option, Some, None, IfSome}
 use Rattle.tl_spec.specs.Document.{Node, Tag, Raw, Comment, TagNode}
-use Rattle.tl_spec.specs.Walk.{Event, Walk, end, events, every, faulty, leaves, meets, meets_comment, meets_fault, meets_tag, meets_text, passes_tag, walk}
+use Rattle.tl_spec.specs.Walk.{Event, Walk, end, events, all_tags, faulty, leaves, meets, meets_comment, meets_fault, meets_tag, meets_text, passes_tag, walk}
 use Rattle.tl_table.specs.declared.errors.TreeError.{TreeError}
 use Rattle.tl_table.specs.TreeFault.{fault_of}
 
@@ -70,11 +70,11 @@ module _ (nodes : List Node) where
   -- what is met after these tags
   abbrev pub around_within : List Within → List Around
   around_within [] = []
-  around_within (tag ∷ outer) = record { own = tag.own; more = walk every nodes (path_within outer) tag.rest } ∷ around_within outer
+  around_within (tag ∷ outer) = record { own = tag.own; more = walk all_tags nodes (path_within outer) tag.rest } ∷ around_within outer
 
 -- what is left of a walk that stands there
 abbrev pub remaining_of : Place → Remaining
-remaining_of p = record { inside = walk every p.nodes (path_within p.within) p.next; around = around_within p.nodes p.within }
+remaining_of p = record { inside = walk all_tags p.nodes (path_within p.within) p.next; around = around_within p.nodes p.within }
 
 -- its events, if nothing is skipped
 abbrev pub events_of : Place → List Event

@@ -3,7 +3,7 @@ use Rattle.std.specs.Prelude.{Bool, true, false, map, Option, Some, None}
 use Rattle.tl_spec.specs.Document.{TagNode, Node, Tag, Raw, Comment, Document}
 use Rattle.tl_bytes.specs.Held.{Kept}
 use Rattle.tl_spec.specs.AttributeList.{Attributes}
-use Rattle.tl_attributes.specs.ShownAttributes.{shown_bytes, shown_attributes}
+use Rattle.tl_attributes.specs.ShownAttributes.{bytes_view, attributes_view}
 use Rattle.tl_tracking.specs.Tracking.{Tracking}
 use Rattle.tl.specs.Tag.{Tag as KeptTag}
 use Rattle.tl.specs.Table.{Table}
@@ -17,12 +17,12 @@ use Rattle.tl.specs.declared.parser.base.HTMLVersion.TheVariants.{HTML5, StrictH
 abbrev pub HTMLTag : Type 0
 HTMLTag = KeptTag (Attributes Kept) Kept
 
-abbrev pub shown_tag : HTMLTag → TagNode
-shown_tag t = record {
-  name = shown_bytes t.name;
-  attributes = shown_attributes t.attributes;
+abbrev pub tag_view : HTMLTag → TagNode
+tag_view t = record {
+  name = bytes_view t.name;
+  attributes = attributes_view t.attributes;
   children = t.children;
-  raw = shown_bytes t.raw;
+  raw = bytes_view t.raw;
   start = t.start;
 }
 
@@ -30,10 +30,10 @@ shown_tag t = record {
 abbrev pub HTMLNode : Type 0
 HTMLNode = NodeOf (Attributes Kept) Kept Outline
 
-abbrev pub shown : HTMLNode → Node
-shown (ATag t) = Tag (shown_tag t)
-shown (ARaw b) = Raw (shown_bytes b)
-shown (AComment b) = Comment (shown_bytes b)
+abbrev pub node_view : HTMLNode → Node
+node_view (ATag t) = Tag (tag_view t)
+node_view (ARaw b) = Raw (bytes_view b)
+node_view (AComment b) = Comment (bytes_view b)
 
 abbrev pub is_html5 : Option HTMLVersion → Bool
 is_html5 (Some HTML5) = true
@@ -53,4 +53,4 @@ HTMLTable = Table (Attributes Kept) Kept Outline (Tracking Kept)
 
 -- a table as a document
 abbrev pub document_of : HTMLTable → Document
-document_of t = record { nodes = map shown t.nodes; top = t.top; is_html5 = is_html5 t.version }
+document_of t = record { nodes = map node_view t.nodes; top = t.top; is_html5 = is_html5 t.version }

@@ -2,23 +2,23 @@
 use Rattle.std.specs.Prelude.{◌≡◌, ℕ, Bool, List, [], ◌∷◌, ◌++◌, length, map, Option, Some, None, Result, Ok, Err, IfSome, ⊤}
 use Rattle.std.specs.List.{slice_get}
 use Rattle.tl_spec.specs.Document.{Node, TagNode}
-use Rattle.tl_spec.specs.Walk.{Event as Happening, meets, leaves, faulty, every, prints_children, walk, events}
+use Rattle.tl_spec.specs.Walk.{Event as Happening, meets, leaves, faulty, all_tags, prints_children, walk, events}
 use Rattle.tl_table.specs.declared.errors.TreeError.{TreeError}
 use Rattle.tl_table.specs.TreeFault.{fault_of}
 use Rattle.tl.specs.declared.walk.Entered.{Entered}
-use Rattle.tl.specs.declared.walk.Entered.TheVariants.{All, Shown}
+use Rattle.tl.specs.declared.walk.Entered.TheVariants.{All, Printed}
 use Rattle.tl.specs.declared.walk.Frame.{Frame}
 use Rattle.tl.specs.declared.walk.Walker.{Walker}
 use Rattle.tl.specs.declared.walk.WalkEvent.{WalkEvent}
 use Rattle.tl.specs.declared.walk.WalkEvent.TheVariants.{Meets, Leaves}
 use Rattle.tl.specs.Marks.{AreFresh, IsKept}
 use Rattle.tl.specs.Remaining.{Around, FailsAt, Place, Remaining, Within, nothing_left, remaining_of, step}
-use Rattle.tl.specs.Shown.{HTMLNode, shown, shown_tag}
+use Rattle.tl.specs.Shown.{HTMLNode, node_view, tag_view}
 
 -- the names of the tags that are entered
 abbrev pub enters : Entered → List ℕ → Bool
-enters All = every
-enters Shown = prints_children
+enters All = all_tags
+enters Printed = prints_children
 
 -- the handles of the frames, the last first, before a path
 abbrev pub path_from : List ℕ → List Frame → List ℕ
@@ -27,38 +27,38 @@ path_from path (f ∷ fs) = path_from (f.handle ∷ path) fs
 
 module _ (entered : List ℕ → Bool) (nodes : List Node) where
   -- what comes once the frames are taken one by one, the last first, and `later` after them
-  abbrev pub owed_from : List ℕ → List Happening → List Frame → List Happening
-  owed_from path later [] = later
-  owed_from path later (f ∷ fs) = owed_from (f.handle ∷ path) (leaves (shown_tag f.tag.now) ∷ (events (walk entered nodes path f.rest.now) ++ later)) fs
+  abbrev pub after_frames_from : List ℕ → List Happening → List Frame → List Happening
+  after_frames_from path later [] = later
+  after_frames_from path later (f ∷ fs) = after_frames_from (f.handle ∷ path) (leaves (tag_view f.tag.now) ∷ (events (walk entered nodes path f.rest.now) ++ later)) fs
 
   -- what comes once nothing is left below the frames
-  unfoldable pub owed : List Frame → List Happening
-  owed fs = owed_from [] [] fs
+  unfoldable pub after_frames : List Frame → List Happening
+  after_frames fs = after_frames_from [] [] fs
 
   -- what comes of handles below the frames, and then of the frames
-  abbrev pub left_below : List Frame → List ℕ → List Happening
-  left_below fs hs = events (walk entered nodes (path_from [] fs) hs) ++ owed fs
+  abbrev pub events_to_come_below : List Frame → List ℕ → List Happening
+  events_to_come_below fs hs = events (walk entered nodes (path_from [] fs) hs) ++ after_frames fs
 
 -- the path of a walker
 abbrev pub path_of : Walker → List ℕ
 path_of w = path_from [] w.frames.items
 
 -- what is left, where these handles come first
-abbrev pub left_at : Walker → List ℕ → List Happening
-left_at w hs = left_below (enters w.entered) (map shown w.nodes.now) w.frames.items hs
+abbrev pub events_to_come_at : Walker → List ℕ → List Happening
+events_to_come_at w hs = events_to_come_below (enters w.entered) (map node_view w.nodes.now) w.frames.items hs
 
 -- what is left once this tag is entered
-abbrev pub left_in : ℕ → TagNode → Walker → List Happening
-left_in h own w = events (walk (enters w.entered) (map shown w.nodes.now) (h ∷ path_of w) own.children.items) ++ (leaves own ∷ left_at w w.rest.now)
+abbrev pub events_to_come_in : ℕ → TagNode → Walker → List Happening
+events_to_come_in h own w = events (walk (enters w.entered) (map node_view w.nodes.now) (h ∷ path_of w) own.children.items) ++ (leaves own ∷ events_to_come_at w w.rest.now)
 
 -- what is left
-abbrev pub left : Walker → List Happening
-left w = left_at w w.rest.now
+abbrev pub events_to_come : Walker → List Happening
+events_to_come w = events_to_come_at w w.rest.now
 
 -- an event in the words of the definitions
-abbrev pub shown_event : WalkEvent → Happening
-shown_event (Meets h n) = meets h (shown n.now)
-shown_event (Leaves t) = leaves (shown_tag t.now)
+abbrev pub event_view : WalkEvent → Happening
+event_view (Meets h n) = meets h (node_view n.now)
+event_view (Leaves t) = leaves (tag_view t.now)
 
 -- the node that is met is that of its handle in this table
 abbrev pub IsMetIn : List HTMLNode → WalkEvent → Type 0
@@ -75,7 +75,7 @@ Refuses before error = IfSome (fault_of error) (λ fault. IsLedBy (faulty fault)
 
 -- one event is taken, or there is none left
 abbrev pub Takes : List Happening → Option WalkEvent → List Happening → Type 0
-Takes before (Some e) after = before ≡ shown_event e ∷ after
+Takes before (Some e) after = before ≡ event_view e ∷ after
 Takes before None after = before ≡ []
 
 -- one step of a walk: an event, its end, or its first fault
@@ -92,18 +92,18 @@ module _ (nodes : List Node) where
   -- the tags of the frames, the last first, before those around them
   abbrev pub around_from : List ℕ → List Around → List Frame → List Around
   around_from path outer [] = outer
-  around_from path outer (f ∷ fs) = around_from (f.handle ∷ path) (record { own = shown_tag f.tag.now; more = walk every nodes path f.rest.now } ∷ outer) fs
+  around_from path outer (f ∷ fs) = around_from (f.handle ∷ path) (record { own = tag_view f.tag.now; more = walk all_tags nodes path f.rest.now } ∷ outer) fs
 
   unfoldable pub around : List Frame → List Around
   around fs = around_from [] [] fs
 
   -- what is left of a walk that enters every tag, where these handles come first
   abbrev pub remaining_below : List Frame → List ℕ → Remaining
-  remaining_below fs hs = record { inside = walk every nodes (path_from [] fs) hs; around = around fs }
+  remaining_below fs hs = record { inside = walk all_tags nodes (path_from [] fs) hs; around = around fs }
 
 -- the same of a walker
 abbrev pub remaining_at : Walker → List ℕ → Remaining
-remaining_at w hs = remaining_below (map shown w.nodes.now) w.frames.items hs
+remaining_at w hs = remaining_below (map node_view w.nodes.now) w.frames.items hs
 
 abbrev pub remaining : Walker → Remaining
 remaining w = remaining_at w w.rest.now
@@ -111,13 +111,13 @@ remaining w = remaining_at w w.rest.now
 -- what is left once this tag is entered
 abbrev pub remaining_in : ℕ → TagNode → Walker → Remaining
 remaining_in h own w =
-    let nodes = map shown w.nodes.now in
+    let nodes = map node_view w.nodes.now in
     let after = remaining w in
-    record { inside = walk every nodes (h ∷ path_of w) own.children.items; around = record { own = own; more = after.inside } ∷ after.around }
+    record { inside = walk all_tags nodes (h ∷ path_of w) own.children.items; around = record { own = own; more = after.inside } ∷ after.around }
 
 -- the next event is taken, or there is none
 abbrev pub TakesNext : Remaining → Option WalkEvent → Remaining → Type 0
-TakesNext before (Some e) after = step before ≡ Some (shown_event e, after)
+TakesNext before (Some e) after = step before ≡ Some (event_view e, after)
 TakesNext before None after = (step before ≡ None) × (after ≡ before)
 
 -- one step of a walk that enters every tag
@@ -128,16 +128,16 @@ StepsOn before (Err error) after = FailsAt (step before) error
 -- the tags of the frames, the last first, before those around them
 abbrev pub within_from : List Within → List Frame → List Within
 within_from outer [] = outer
-within_from outer (f ∷ fs) = within_from (record { handle = f.handle; own = shown_tag f.tag.now; rest = f.rest.now } ∷ outer) fs
+within_from outer (f ∷ fs) = within_from (record { handle = f.handle; own = tag_view f.tag.now; rest = f.rest.now } ∷ outer) fs
 
 -- where a walker stands
 abbrev pub place_of : Walker → Place
-place_of w = record { nodes = map shown w.nodes.now; next = w.rest.now; within = within_from [] w.frames.items }
+place_of w = record { nodes = map node_view w.nodes.now; next = w.rest.now; within = within_from [] w.frames.items }
 
 -- what `next` of a walk gives, of what is left of it: nothing is left after an error
 abbrev pub Gives : Remaining → Option (Result WalkEvent TreeError) → Remaining → Type 0
 Gives before None after = (step before ≡ None) × (after ≡ before)
-Gives before (Some (Ok e)) after = step before ≡ Some (shown_event e, after)
+Gives before (Some (Ok e)) after = step before ≡ Some (event_view e, after)
 Gives before (Some (Err error)) after = FailsAt (step before) error × (after ≡ nothing_left)
 
 abbrev pub IsNext : Place → Option (Result WalkEvent TreeError) → Place → Type 0

@@ -11,7 +11,7 @@ ghost use Rattle.tl_spec.specs.SelectorText.{IsSelectorText};
 ghost use Rattle.tl_spec.specs.Scan.{has_id, is_in_class, IsFirstPlace, ArePlaces};
 ghost use Rattle.tl.specs.Lookup.{with_id, with_member};
 ghost use Rattle.tl.specs.Query.{FindsIn, matches_in};
-ghost use Rattle.tl.specs.Shown.{document_of, shown, HTMLNode, HTMLTable};
+ghost use Rattle.tl.specs.Shown.{document_of, node_view, HTMLNode, HTMLTable};
 ghost use Rattle.tl.specs.TableLends.{with_nodes};
 ghost use Rattle.tl.specs.Tracked.{AreAsked, AnswerIds, AnswerClasses};
 
@@ -56,13 +56,13 @@ pub fn lookups_answer_alike()
 /// as it was. So what holds of each node that was written holds of the document's.
 pub fn written_nodes()
     ensures document { (d : HTMLTable) (nodes : List HTMLNode) → length nodes ≡ length d.nodes →
-        document_of (with_nodes d nodes) ≡ record (document_of d) { nodes = map shown nodes } }
+        document_of (with_nodes d nodes) ≡ record (document_of d) { nodes = map node_view nodes } }
     ensures clean { (d : HTMLTable) (nodes : List HTMLNode) → length nodes ≡ length d.nodes →
-        All (λ n. IsCleanAlone (shown n)) nodes →
+        All (λ n. IsCleanAlone (node_view n)) nodes →
         All IsCleanAlone (document_of (with_nodes d nodes)).nodes }
     ensures hold { (d : HTMLTable) (nodes : List HTMLNode) (tests : Tests)
         → length nodes ≡ length d.nodes →
-        All (λ n. HoldOfNode tests (shown n)) nodes →
+        All (λ n. HoldOfNode tests (node_view n)) nodes →
         All (HoldOfNode tests) (document_of (with_nodes d nodes)).nodes }
 {}
 

@@ -3,9 +3,9 @@
 
 ghost use Rattle.std.specs.Prelude.{◌≡◌, ◌↔◌, ◌<◌, ◌≤◌, [], length, sum_by, string_bytes, IfOk, IsOk, IsErrOf, All};
 ghost use Rattle.tl_spec.specs.Clean.{IsTame, IsCleanTable};
-ghost use Rattle.tl_spec.specs.Document.{document, weight};
+ghost use Rattle.tl_spec.specs.Document.{document, node_and_attribute_count};
 ghost use Rattle.tl_spec.specs.Forest.{forest, plain};
-ghost use Rattle.tl_spec.specs.Order.{AreChildrenAbove, AreDescendantsNext};
+ghost use Rattle.tl_spec.specs.Order.{ChildrenFollowParents, DescendantsAreContiguous};
 ghost use Rattle.tl_spec.specs.Range.{AreRangesOfDescendants};
 ghost use Rattle.tl_spec.specs.Token.{tokens};
 ghost use Rattle.tl_bytes.specs.Held.{borrowed, shared};
@@ -64,10 +64,10 @@ fn read_document<'a, S: Source<'a>>(
     ensures version { IfOk result (λ d. d.version
         ≡ version_of (document (S.text source.now)).is_html5) }
     ensures held { IfOk result (λ d. All (IsHeldNode S.held) d.nodes) }
-    ensures above { IfOk result (λ d. AreChildrenAbove (document_of d).nodes) }
-    ensures interval { IfOk result (λ d. AreDescendantsNext (document_of d).nodes) }
+    ensures above { IfOk result (λ d. ChildrenFollowParents (document_of d).nodes) }
+    ensures interval { IfOk result (λ d. DescendantsAreContiguous (document_of d).nodes) }
     ensures ranges { IfOk result (λ d. AreRangesOfDescendants (document_of d).nodes) }
-    ensures size { IfOk result (λ d. sum_by weight (document_of d).nodes
+    ensures size { IfOk result (λ d. sum_by node_and_attribute_count (document_of d).nodes
         ≤ length (S.text source.now)) }
     ensures asked { IfOk result (λ d. AreAsked options d.tracking) }
     ensures ids { IfOk result (λ d. AnswerIds d.tracking (document (S.text source.now)).nodes) }
@@ -100,10 +100,10 @@ pub fn parse<'a>(
     ensures borrowed { IfOk result (λ d. All (IsHeldNode borrowed) d.nodes) }
 
     // What callers go by who count nodes: their order, the ranges of tags, and that they and their attributes are no more than the bytes.
-    ensures above { IfOk result (λ d. AreChildrenAbove (document_of d).nodes) }
-    ensures interval { IfOk result (λ d. AreDescendantsNext (document_of d).nodes) }
+    ensures above { IfOk result (λ d. ChildrenFollowParents (document_of d).nodes) }
+    ensures interval { IfOk result (λ d. DescendantsAreContiguous (document_of d).nodes) }
     ensures ranges { IfOk result (λ d. AreRangesOfDescendants (document_of d).nodes) }
-    ensures size { IfOk result (λ d. sum_by weight (document_of d).nodes ≤ length text.now) }
+    ensures size { IfOk result (λ d. sum_by node_and_attribute_count (document_of d).nodes ≤ length text.now) }
 
     // What is tracked answers as a scan of the table that was read.
     ensures asked { IfOk result (λ d. AreAsked options d.tracking) }
@@ -132,10 +132,10 @@ pub fn parse_owned(
     ensures shared { IfOk result (λ d. All (IsHeldNode shared) d.nodes) }
 
     // What callers go by who count nodes: their order, the ranges of tags, and that they and their attributes are no more than the bytes.
-    ensures above { IfOk result (λ d. AreChildrenAbove (document_of d).nodes) }
-    ensures interval { IfOk result (λ d. AreDescendantsNext (document_of d).nodes) }
+    ensures above { IfOk result (λ d. ChildrenFollowParents (document_of d).nodes) }
+    ensures interval { IfOk result (λ d. DescendantsAreContiguous (document_of d).nodes) }
     ensures ranges { IfOk result (λ d. AreRangesOfDescendants (document_of d).nodes) }
-    ensures size { IfOk result (λ d. sum_by weight (document_of d).nodes
+    ensures size { IfOk result (λ d. sum_by node_and_attribute_count (document_of d).nodes
         ≤ length (string_bytes text)) }
 
     // What is tracked answers as a scan of the table that was read.

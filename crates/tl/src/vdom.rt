@@ -7,7 +7,7 @@ ghost use Rattle.tl_spec.specs.Clean.{IsCleanTable};
 ghost use Rattle.tl_spec.specs.Normal.{ReadsAs};
 ghost use Rattle.tl_spec.specs.Print.{document_print};
 ghost use Rattle.tl_spec.specs.Text.{document_text};
-ghost use Rattle.tl_spec.specs.Walk.{every, trees, walk};
+ghost use Rattle.tl_spec.specs.Walk.{all_tags, trees, walk};
 ghost use Rattle.tl.specs.Shown.{document_of};
 ghost use Rattle.tl.specs.TableLends.{LendsParser, LendsNodes, LendsTop};
 
@@ -117,7 +117,7 @@ impl<'a> VDom<'a> {
         ensures answers { Answers string_bytes (document_print (document_of self.now)) result }
         ensures identity { let d = document_of self.now in
             IsCleanTable d.nodes d.top →
-            IfOk result (λ s. ReadsAs (string_bytes s) (trees (walk every d.nodes [] d.top))) }
+            IfOk result (λ s. ReadsAs (string_bytes s) (trees (walk all_tags d.nodes [] d.top))) }
 
         // A first top handle that dangles is answered before any memory is taken.
         ensures dangling { (h : ℕ) → FirstDangles self.now.nodes self.now.top h

@@ -4,10 +4,10 @@ ghost use Rattle.std.specs.Option.{option_copied};
 ghost use Rattle.std.specs.List.{slice_get};
 ghost use Rattle.tl_table.specs.TreeFault.{FirstDangles};
 ghost use Rattle.tl_spec.specs.Walk.{stands_on, walk, events};
-ghost use Rattle.tl.specs.Shown.{shown, shown_tag};
+ghost use Rattle.tl.specs.Shown.{node_view, tag_view};
 ghost use Rattle.tl.specs.Marks.{MayFollow};
 ghost use Rattle.tl.specs.Remaining.{nothing_left};
-ghost use Rattle.tl.specs.Walker.{enters, path_of, left, left_at, left_in, place_of, remaining, remaining_at, remaining_in, Takes, TakesNext, Steps, StepsOn, IsMarked, IsMetIn};
+ghost use Rattle.tl.specs.Walker.{enters, path_of, events_to_come, events_to_come_at, events_to_come_in, place_of, remaining, remaining_at, remaining_in, Takes, TakesNext, Steps, StepsOn, IsMarked, IsMetIn};
 ghost use Rattle.tl.specs.declared.walk.Entered.TheVariants.{All};
 
 pub(crate) mod find;
@@ -76,13 +76,13 @@ impl<'s, 'a> Walker<'s, 'a> {
         handles: &'s [NodeHandle],
     ) -> Self
         ensures marked { IsMarked result }
-        ensures left { left result ≡ events (walk (enters entered)
-            (map shown nodes.now) [] handles.now) }
+        ensures left { events_to_come result ≡ events (walk (enters entered)
+            (map node_view nodes.now) [] handles.now) }
         ensures table { result.nodes.now ≡ nodes.now }
         ensures rest { result.rest.now ≡ handles.now }
         ensures entered { result.entered ≡ entered }
         ensures place { place_of result ≡ record {
-          nodes = map shown nodes.now;
+          nodes = map node_view nodes.now;
           next = handles.now;
           within = [];
         } }
@@ -113,8 +113,8 @@ impl<'s, 'a> Walker<'s, 'a> {
     fn meet(&mut self, handle: NodeHandle) -> Result<Option<WalkEvent<'s, 'a>>, TreeError>
         requires { IsMarked self.old }
         ensures marked { OnOk result (IsMarked self.new) }
-        ensures steps { Steps (left_at self.old (handle ∷ self.old.rest.now)) result
-            (left self.new) }
+        ensures steps { Steps (events_to_come_at self.old (handle ∷ self.old.rest.now)) result
+            (events_to_come self.new) }
         ensures met { IfOk result (λ event. IfSome event (IsMetIn self.old.nodes.now)) }
         ensures table { self.new.nodes.now ≡ self.old.nodes.now }
         ensures entered { self.new.entered ≡ self.old.entered }
@@ -161,12 +161,12 @@ impl<'s, 'a> Walker<'s, 'a> {
         requires off { stands_on (path_of self.old) handle ≡ false }
         requires may { MayFollow handle (path_of self.old) self.old.marks.items }
         ensures marked { OnOk result (IsMarked self.new) }
-        ensures left { OnOk result (left self.new ≡ left_in handle (shown_tag tag.now) self.old) }
+        ensures left { OnOk result (events_to_come self.new ≡ events_to_come_in handle (tag_view tag.now) self.old) }
         ensures err { IfErr result (λ e. e ≡ TreeError.OutOfMemory) }
         ensures table { self.new.nodes.now ≡ self.old.nodes.now }
         ensures entered { self.new.entered ≡ self.old.entered }
         ensures remaining { OnOk result (remaining self.new
-            ≡ remaining_in handle (shown_tag tag.now) self.old) }
+            ≡ remaining_in handle (tag_view tag.now) self.old) }
     {
         let frame = Frame {
             handle,
@@ -188,7 +188,7 @@ impl<'s, 'a> Walker<'s, 'a> {
         requires marked { IsMarked self.old }
         requires done { self.old.rest.now ≡ [] }
         ensures marked { IsMarked self.new }
-        ensures takes { Takes (left self.old) result (left self.new) }
+        ensures takes { Takes (events_to_come self.old) result (events_to_come self.new) }
         ensures met { IfSome result (IsMetIn self.old.nodes.now) }
         ensures table { self.new.nodes.now ≡ self.old.nodes.now }
         ensures entered { self.new.entered ≡ self.old.entered }
@@ -207,7 +207,7 @@ impl<'s, 'a> Walker<'s, 'a> {
     pub(crate) fn next_event(&mut self) -> Result<Option<WalkEvent<'s, 'a>>, TreeError>
         requires { IsMarked self.old }
         ensures marked { OnOk result (IsMarked self.new) }
-        ensures steps { Steps (left self.old) result (left self.new) }
+        ensures steps { Steps (events_to_come self.old) result (events_to_come self.new) }
         ensures met { IfOk result (λ e. IfSome e (IsMetIn self.old.nodes.now)) }
         ensures table { self.new.nodes.now ≡ self.old.nodes.now }
         ensures entered { self.new.entered ≡ self.old.entered }

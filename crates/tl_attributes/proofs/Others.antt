@@ -7,7 +7,7 @@ use Rattle.std.proofs.lemmas.Map.Steps.{set_value_same}
 use Rattle.tl_spec.specs.Inline.{InlineMap, with_entry, with_value}
 use Rattle.tl_spec.specs.AttributeList.{Attributes, is_id, is_class}
 use Rattle.tl_spec.specs.AttributeEdit.{value_at, with_value_at}
-use Rattle.tl_spec.proofs.ByKey.{by_key-id, by_key-class}
+use Rattle.tl_spec.proofs.ByKey.{choose_by_key-id, choose_by_key-class}
 use Rattle.tl_spec.proofs.Pairs.{all-insert_entry}
 use Rattle.tl_inline.proofs.Maps.{set_value-absent}
 
@@ -34,16 +34,16 @@ flat (Some x) = refl
 -- what a write at `id` and at `class` leaves
 module _ {B : Type 0} (list : B → List ℕ) (eq : B → B → Bool) (a : Attributes B) (k : B) where
   pub at_id : is_id (list k) ≡ true → (w : B) → record a { id = Some w } ≡ with_value_at list eq a k w
-  at_id here w = sym (by_key-id (list k) _ _ _ here)
+  at_id here w = sym (choose_by_key-id (list k) _ _ _ here)
 
   pub at_class : is_id (list k) ≡ false → is_class (list k) ≡ true → (w : B) → record a { class = Some w } ≡ with_value_at list eq a k w
-  at_class other here w = sym (by_key-class (list k) _ _ _ other here)
+  at_class other here w = sym (choose_by_key-class (list k) _ _ _ other here)
 
   pub value_at_id : is_id (list k) ≡ true → a.id ≡ option_flatten (value_at list eq a k)
-  value_at_id here = flat a.id ∙ ap option_flatten (sym (by_key-id (list k) _ _ _ here))
+  value_at_id here = flat a.id ∙ ap option_flatten (sym (choose_by_key-id (list k) _ _ _ here))
 
   pub value_at_class : is_id (list k) ≡ false → is_class (list k) ≡ true → a.class ≡ option_flatten (value_at list eq a k)
-  value_at_class other here = flat a.class ∙ ap option_flatten (sym (by_key-class (list k) _ _ _ other here))
+  value_at_class other here = flat a.class ∙ ap option_flatten (sym (choose_by_key-class (list k) _ _ _ other here))
 
 -- a value that is found is that of a key which has one
 pub lent_found : {B : Type 0} (o : Option (Option B)) (x : B) → Some x ≡ option_flatten o → Some (Some x) ≡ o

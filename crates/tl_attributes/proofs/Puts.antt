@@ -9,19 +9,19 @@ use Rattle.std.proofs.lemmas.List.Elements.{All-from_recursion, recursion_from_A
 use Rattle.indexmap.specs.IndexMap.{insert_entry}
 use Rattle.tl_spec.specs.Inline.{InlineMap, room, with_entry}
 use Rattle.tl_spec.specs.Attribute.{Pair}
-use Rattle.tl_spec.specs.AttributeList.{Attributes, with_at, with_pair}
+use Rattle.tl_spec.specs.AttributeList.{Attributes, set_at, with_pair}
 use Rattle.tl_spec.specs.AttributeEdit.{with_attribute}
-use Rattle.tl_spec.proofs.ByKey.{by_key-all}
-use Rattle.tl_spec.proofs.Images.{image-insert_entry, image-with_at}
+use Rattle.tl_spec.proofs.ByKey.{choose_by_key-all}
+use Rattle.tl_spec.proofs.Images.{image-insert_entry, image-set_at}
 use Rattle.tl_spec.proofs.Pairs.{all-insert_entry, length-insert_entry}
 use Rattle.tl_bytes.specs.Held.{Held, Kept}
 use Rattle.tl_bytes.specs.Keys.{same_list}
 use Rattle.tl_attributes.specs.HeldAttributes.{AreRead, IsHeld, IsHeldPair}
-use Rattle.tl_attributes.specs.ShownAttributes.{plain, shown_bytes, shown_entries, shown_value}
+use Rattle.tl_attributes.specs.ShownAttributes.{plain, bytes_view, entries_view, value_view}
 
 -- an insert, by the bytes of the key
 abbrev pub put_piece : Attributes Kept → Kept → Option Kept → Attributes Kept
-put_piece a k v = with_attribute shown_bytes same_list a k v
+put_piece a k v = with_attribute bytes_view same_list a k v
 
 -- the pairs are held alike after an insert of such a pair
 all_inserted : (held : Held) (es : List (Kept × Option Kept)) (k : Kept) (v : Option Kept) → IsHeld held k → IfSome v (IsHeld held) → All (IsHeldPair held) es
@@ -43,14 +43,14 @@ flag k v m same =
 
 module _ (a : Attributes Kept) (k : Kept) (v : Option Kept) where
   -- what is shown after an insert is the definition's insert
-  pub plain-put : plain (put_piece a k v) ≡ with_pair (plain a) (k.list, shown_value v)
+  pub plain-put : plain (put_piece a k v) ≡ with_pair (plain a) (k.list, value_view v)
   plain-put =
-      image-with_at shown_bytes (λ (m : InlineMap Kept (Option Kept)). (shown_entries m).entries) k.list v (with_entry same_list room a.others k v) a
-      ∙ ap (λ (ps : List Pair). with_at k.list (shown_value v) ps (plain a)) (image-insert_entry shown_bytes shown_value bytes_eq a.others.entries k v)
+      image-set_at bytes_view (λ (m : InlineMap Kept (Option Kept)). (entries_view m).entries) k.list v (with_entry same_list room a.others k v) a
+      ∙ ap (λ (ps : List Pair). set_at k.list (value_view v) ps (plain a)) (image-insert_entry bytes_view value_view bytes_eq a.others.entries k v)
 
   pub read-put : (held : Held) → IsHeld held k → IfSome v (IsHeld held) → AreRead held a → AreRead held (put_piece a k v)
   read-put held key value h =
-      by_key-all (AreRead held) k.list _ _ _
+      choose_by_key-all (AreRead held) k.list _ _ _
       (λ _. record { heap = h.heap; pieces = record { others = h.pieces.others; id = value; class = h.pieces.class } })
       (λ _ _. record { heap = h.heap; pieces = record { others = h.pieces.others; id = h.pieces.id; class = value } })
       (λ _. record {
@@ -60,7 +60,7 @@ module _ (a : Attributes Kept) (k : Kept) (v : Option Kept) where
 
 -- the same of an insert that may be refused
 module _ {U E : Type 0} (old new : Attributes Kept) (k : Kept) (v : Option Kept) (p : Pair) where
-  pub after-put : (r : Result U E) → OnOk r (new ≡ put_piece old k v) → k.list ≡ p.0 → shown_value v ≡ p.1 → OnOk r (plain new ≡ with_pair (plain old) p)
+  pub after-put : (r : Result U E) → OnOk r (new ≡ put_piece old k v) → k.list ≡ p.0 → value_view v ≡ p.1 → OnOk r (plain new ≡ with_pair (plain old) p)
   after-put (Ok x) is key value =
       ap plain is ∙ plain-put old k v ∙ (λ i. with_pair (plain old) (key i, value i))
   after-put (Err e) is key value = is

@@ -16,6 +16,6 @@ abbrev pub no_attributes : {B : Type 0} → Attributes B
 no_attributes = record { others = record { entries = []; on_heap = false }; id = None; class = None }
 
 -- a value with its key, and, where there is none, whether there is the key
-abbrev pub nested : {V : Type 0} → Result V Bool → Option (Option V)
-nested (Ok v) = Some (Some v)
-nested (Err is_there) = cond is_there (Some None) None
+abbrev pub nest : {V : Type 0} → Result V Bool → Option (Option V)
+nest (Ok v) = Some (Some v)
+nest (Err is_there) = cond is_there (Some None) None

@@ -8,21 +8,21 @@ use Rattle.tl_spec.specs.Walk.{plain_attributes}
 use Rattle.tl_bytes.specs.Held.{Kept}
 
 -- the bytes, however they are held
-abbrev pub shown_bytes : Kept → List ℕ
-shown_bytes b = b.list
+abbrev pub bytes_view : Kept → List ℕ
+bytes_view b = b.list
 
-abbrev pub shown_value : Option Kept → Option (List ℕ)
-shown_value v = option_map shown_bytes v
+abbrev pub value_view : Option Kept → Option (List ℕ)
+value_view v = option_map bytes_view v
 
-abbrev pub shown_pair : Kept × Option Kept → Pair
-shown_pair p = pair_image shown_bytes shown_value p
+abbrev pub pair_view : Kept × Option Kept → Pair
+pair_view p = pair_image bytes_view value_view p
 
-abbrev pub shown_entries : InlineMap Kept (Option Kept) → Entries
-shown_entries m = map_image shown_bytes shown_value m
+abbrev pub entries_view : InlineMap Kept (Option Kept) → Entries
+entries_view m = map_image bytes_view value_view m
 
-abbrev pub shown_attributes : Attributes Kept → Attributes (List ℕ)
-shown_attributes a = attributes_image shown_bytes shown_entries a
+abbrev pub attributes_view : Attributes Kept → Attributes (List ℕ)
+attributes_view a = attributes_image bytes_view entries_view a
 
 -- the pairs alone
 abbrev pub plain : Attributes Kept → PlainAttributes
-plain a = plain_attributes (shown_attributes a)
+plain a = plain_attributes (attributes_view a)

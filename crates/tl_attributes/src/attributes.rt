@@ -7,7 +7,7 @@ ghost use Rattle.tl_spec.specs.Inline.{room, with_entry, with_value, without_key
 ghost use Rattle.tl_spec.specs.AttributeList.{AreOthers, IsOther, count_of, is_class, is_id};
 ghost use Rattle.tl_spec.specs.AttributeEdit.{value_at, with_attribute, without_attribute, without_value};
 ghost use Rattle.tl_bytes.specs.Held.{borrowed};
-ghost use Rattle.tl_attributes.specs.Attributes.{no_attributes, nested};
+ghost use Rattle.tl_attributes.specs.Attributes.{no_attributes, nest};
 ghost use Rattle.tl_attributes.specs.HeldAttributes.{AreHeldAttributes};
 
 use crate::piece::Piece;
@@ -60,7 +60,7 @@ fn is_class(key: &[u8]) -> bool
 
 // `Ok` becomes a key with its value, `Err(true)` a key without one, and `Err(false)` no key.
 fn nested<B>(value: Result<&mut B, bool>) -> Option<Option<&mut B>>
-    ensures { result ≡ nested value.entry }
+    ensures { result ≡ nest value.entry }
 {
     match value {
         Ok(value) => Some(Some(value)),
@@ -293,7 +293,7 @@ impl<B: Piece> AttributesOf<B> {
     where
         B: Drop,
         ensures* writes_back { sem 𝓛 (LendsValueAtOk B.row B.Piece self.entry key result) }
-        ensures value { option_map option_copied_mut (nested result)
+        ensures value { option_map option_copied_mut (nest result)
             ≡ value_at B.list B.eq self.old key }
     {
         // Asked first, since nothing can be asked while the value is lent.

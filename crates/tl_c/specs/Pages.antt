@@ -7,7 +7,7 @@ use Rattle.tl_spec.specs.Document.{Document}
 use Rattle.tl_spec.specs.Edit.{Change}
 use Rattle.tl_spec.specs.Print.{print}
 use Rattle.tl_spec.specs.Selector.{Selector}
-use Rattle.tl_spec.specs.StepLine.{changes_of}
+use Rattle.tl_spec.specs.StepLine.{parse_changes}
 use Rattle.tl.specs.Query.{matches_in}
 use Rattle.tl_page.specs.Outcome.{Outcome, joined, not_understood, outcome_map, refused, success}
 use Rattle.tl_page.specs.Page.{is_page, outcome_in}
@@ -28,7 +28,7 @@ edited_print page changes = output_of (Edits changes) None page
 abbrev pub edited_page : List ℕ → List ℕ → Outcome (List ℕ)
 edited_page lines page =
     if is_utf8 lines
-    then option_map_or (edited_print page) (changes_of lines) not_understood
+    then option_map_or (edited_print page) (parse_changes lines) not_understood
     else not_understood
 
 -- the field that a number asks for, and a key with 4

@@ -4,7 +4,7 @@ use Rattle.std.proofs.lemmas.Bool.{true≢false}
 use Rattle.std.proofs.lemmas.List.Sums.{take_while-cons}
 use Rattle.std.specs.List.{take_while, list_any}
 use Rattle.std.specs.Str.{byte, bytes_eq, str_to_ascii_lowercase}
-use Rattle.tl_spec.specs.Runs.{after, many}
+use Rattle.tl_spec.specs.Runs.{after_needle, read_many}
 use Rattle.tl_spec.proofs.Bytes.{drop-le}
 use Rattle.tl_spec.proofs.Many.{Shrinks, many-none, many-some}
 use Rattle.tl_css.specs.Read.{Read}
@@ -50,8 +50,8 @@ pub escape_number : (s digits : List ℕ) (n : ℕ) → n ≡ length (take_while
 escape_number s digits n e are some =
     let is : digits ≡ take_while is_hex (take 6 s) = are ∙ (ap (λ n. take n s) e ∙ front_is is_hex 6 s) in
     let digits_are : escape_at s ≡ escape_by digits s = ap (λ (ds : List ℕ). escape_by ds s) (sym is) in
-    let many : length digits ≡ n = ap (λ (ds : List ℕ). length ds) is ∙ sym e in
-    digits_are ∙ (escape_digits digits s some ∙ ap (λ k. (encode_utf8 (char_of (hex_number 0 digits)), past_escape (drop k s))) many)
+    let read_many : length digits ≡ n = ap (λ (ds : List ℕ). length ds) is ∙ sym e in
+    digits_are ∙ (escape_digits digits s some ∙ ap (λ k. (encode_utf8 (char_of (hex_number 0 digits)), past_escape (drop k s))) read_many)
 
 -- what stands after it is no longer than n
 abbrev pub Within : {A : Type 0} → ℕ → Option (A × List ℕ) → Type 0
@@ -99,7 +99,7 @@ part_lt quote s found e = part_shrinks quote s found (sym e)
 pub after_comment_le : (b : ℕ) (s : List ℕ) → IsLe (length s) (after_comment (b ∷ s))
 after_comment_le b [] = tt
 after_comment_le b (c ∷ s) = if_both (λ (o : Option (List ℕ)). IsLe (length (c ∷ s)) o) ((b == byte "/") && (c == byte "*")) _ _
-    (λ _. IsLe-more (length s) (after (codes "*/") s) (after-le (codes "*/") s)) (λ _. tt)
+    (λ _. IsLe-more (length s) (after_needle (codes "*/") s) (after-le (codes "*/") s)) (λ _. tt)
 
 below_comment : (b : ℕ) (s : List ℕ) (o : Option (List ℕ)) → IsLe (length s) o → Below (b ∷ s) (option_map (λ rest. (false, rest)) o)
 below_comment b s None h = tt
@@ -118,7 +118,7 @@ gap_lt s found e = gap_shrinks s found (sym e)
 
 -- a gap, where there was white space before it or not
 unfoldable pub gap_from : Bool → List ℕ → Read Bool
-gap_from white s = gap_after white (many gap_part_at (length s) s)
+gap_from white s = gap_after white (read_many gap_part_at (length s) s)
 
 or_assoc : (a b c : Bool) → ((a || b) || c) ≡ (a || (b || c))
 or_assoc true b c = refl
@@ -127,7 +127,7 @@ or_assoc false b c = refl
 pub gap_some : (white : Bool) (s : List ℕ) (found : Bool × List ℕ) → Some found ≡ gap_part_at s → gap_from (white || found.0) found.1 ≡ gap_from white s
 unfolding gap_from
 gap_some white s found e =
-    let more = many gap_part_at (length found.1) found.1 in
+    let more = read_many gap_part_at (length found.1) found.1 in
     ap (λ w. gap_result w more.1) (or_assoc white found.0 (list_any (λ w. w) more.0))
     ∙ sym (ap (gap_after white) (many-some gap_part_at gap_shrinks s found (sym e) (length s) (length found.1) (omega arith) (omega arith)))
 

@@ -3,7 +3,7 @@ use Rattle.std.specs.Prelude.{ℕ, ℤ, pos, neg_ℤ, Bool, not, ◌&&◌, ◌||
 use Rattle.std.specs.Char.{is_ascii_digit}
 use Rattle.std.specs.List.{take_while}
 use Rattle.std.specs.Str.{byte, str_eq_ignore_ascii_case}
-use Rattle.tl_spec.specs.Runs.{past}
+use Rattle.tl_spec.specs.Runs.{drop_while}
 use Rattle.tl_css.specs.declared.error.Cause.TheVariants.{NoFormula, LargeNumber}
 use Rattle.tl_css.specs.declared.selector.Formula.{Formula}
 use Rattle.tl_css.specs.Bytes.{decimal_number}
@@ -16,7 +16,7 @@ largest = 2147483647
 
 abbrev pub digits_by : List ℕ → List ℕ → Read ℕ
 digits_by s [] = wrong s NoFormula
-digits_by s (d ∷ ds) = if nat_lt largest (decimal_number 0 (d ∷ ds)) then wrong s LargeNumber else Ok (decimal_number 0 (d ∷ ds), past is_ascii_digit s)
+digits_by s (d ∷ ds) = if nat_lt largest (decimal_number 0 (d ∷ ds)) then wrong s LargeNumber else Ok (decimal_number 0 (d ∷ ds), drop_while is_ascii_digit s)
 
 -- a number of digits
 abbrev pub digits_at : List ℕ → Read ℕ

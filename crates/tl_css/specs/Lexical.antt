@@ -2,7 +2,7 @@
 use Rattle.std.specs.Prelude.{ℕ, Bool, true, false, ◌&&◌, ◌||◌, ◌==◌, if◌then◌else◌, List, [], ◌∷◌, ◌++◌, length, take, drop, Option, Some, None, is_some, option_map, encode_utf8, codes, Ok}
 use Rattle.std.specs.List.{take_while, list_any}
 use Rattle.std.specs.Str.{byte, bytes_eq, str_to_ascii_lowercase}
-use Rattle.tl_spec.specs.Runs.{after, many}
+use Rattle.tl_spec.specs.Runs.{after_needle, read_many}
 use Rattle.tl_css.specs.declared.error.Cause.TheVariants.{Unclosed, NoName}
 use Rattle.tl_css.specs.Bytes.{is_newline, is_white, is_name_byte, is_string_byte, backslash, is_hex, hex_number, char_of}
 use Rattle.tl_css.specs.Read.{Read, wrong}
@@ -52,7 +52,7 @@ part_at quote (b ∷ s) =
 
 -- all its parts
 abbrev pub parts_at : Option ℕ → List ℕ → List (List ℕ) × List ℕ
-parts_at quote s = many (part_at quote) (length s) s
+parts_at quote s = read_many (part_at quote) (length s) s
 
 abbrev pub joined : List (List ℕ) → List ℕ
 joined [] = []
@@ -86,7 +86,7 @@ begins_comment (b ∷ c ∷ s) = (b == byte "/") && (c == byte "*")
 
 -- what stands after a comment, if it is closed
 abbrev pub after_comment : List ℕ → Option (List ℕ)
-after_comment s = if begins_comment s then after (codes "*/") (drop 2 s) else None
+after_comment s = if begins_comment s then after_needle (codes "*/") (drop 2 s) else None
 
 -- a byte of white space, which is `true`, or a comment
 abbrev pub gap_part_at : List ℕ → Option (Bool × List ℕ)
@@ -101,4 +101,4 @@ gap_after white parts = gap_result (white || list_any (λ white. white) parts.0)
 
 -- all white space and comments: whether there is white space
 unfoldable pub gap_at : List ℕ → Read Bool
-gap_at s = gap_after false (many gap_part_at (length s) s)
+gap_at s = gap_after false (read_many gap_part_at (length s) s)

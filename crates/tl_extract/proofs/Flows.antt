@@ -4,22 +4,22 @@ use Rattle.std.specs.Result.{result_err}
 use Rattle.tl_spec.specs.Document.{Document, document, Tag, Raw, Comment, TagNode}
 use Rattle.tl_spec.specs.Forest.{forest, plain}
 use Rattle.tl_spec.specs.Token.{tokens}
-use Rattle.tl_spec.specs.Walk.{Cycle, Dangling, Event, TreeFault, Walk, end, events, every, faulty, leaves, meets, meets_comment, meets_fault, meets_tag, meets_text, or_else, passes_tag, trees, unless, walk}
+use Rattle.tl_spec.specs.Walk.{Cycle, Dangling, Event, TreeFault, Walk, end, events, all_tags, faulty, leaves, meets, meets_comment, meets_fault, meets_tag, meets_text, earlier_fault, passes_tag, trees, fault_or, walk}
 use Rattle.tl_spec.proofs.Events.{Enters}
 use Rattle.tl_spec.proofs.Order.{document-whole}
 use Rattle.tl_table.specs.TreeFault.{IsRefusal, error_of}
 use Rattle.tl_table.specs.declared.errors.TreeError.{TreeError}
 use Rattle.tl_table.specs.declared.errors.TreeError.TheVariants.{Dangling as DanglingError, Cycle as CycleError, OutOfMemory}
 use Rattle.tl.specs.Remaining.{Around, FailsAt, Place, Remaining, events_around, events_left, nothing_left, remaining_of, step, step_in, step_out}
-use Rattle.tl.specs.Shown.{shown, shown_tag}
-use Rattle.tl.specs.Walker.{shown_event}
+use Rattle.tl.specs.Shown.{node_view, tag_view}
+use Rattle.tl.specs.Walker.{event_view}
 use Rattle.tl.specs.declared.walk.WalkEvent.{WalkEvent}
 use Rattle.tl.specs.declared.walk.WalkEvent.TheVariants.{Meets, Leaves}
 use Rattle.tl.proofs.Remaining.{IsEntered, entered-step, fewer-step, next_at, next_same, place-skipped}
 use Rattle.tl_extract.specs.Flow.{after_event, after_name, event_flow, fault_around, fault_left, flow_around, flow_left, meets_hidden}
 use Rattle.tl_extract.specs.Readable.{edge, flow, is_hidden, readable, readable_of, shown_fault, spaced}
 
-or_else_assoc : (a b c : Option TreeFault) → or_else (or_else a b) c ≡ or_else a (or_else b c)
+or_else_assoc : (a b c : Option TreeFault) → earlier_fault (earlier_fault a b) c ≡ earlier_fault a (earlier_fault b c)
 or_else_assoc None b c = refl
 or_else_assoc (Some fault) b c = refl
 
@@ -56,10 +56,10 @@ tag_case : (b : Bool) (ends inside more later : List ℕ) (left : Remaining) →
 tag_case true ends inside more later left e f = sym f
 tag_case false ends inside more later left e f = tag_flow ends inside more later ∙ (λ i. ends ++ (sym e i ++ sym f i))
 
-fault_case : (b : Bool) (inside more later : Option TreeFault) (left : Remaining) → shown_fault left.inside ≡ inside → fault_around left.around ≡ or_else more later
-    → or_else (or_else (if b then None else inside) more) later ≡ fault_left (if b then record left { inside = end } else left)
+fault_case : (b : Bool) (inside more later : Option TreeFault) (left : Remaining) → shown_fault left.inside ≡ inside → fault_around left.around ≡ earlier_fault more later
+    → earlier_fault (earlier_fault (if b then None else inside) more) later ≡ fault_left (if b then record left { inside = end } else left)
 fault_case true inside more later left e f = sym f
-fault_case false inside more later left e f = or_else_assoc inside more later ∙ (λ i. or_else (sym e i) (sym f i))
+fault_case false inside more later left e f = or_else_assoc inside more later ∙ (λ i. earlier_fault (sym e i) (sym f i))
 
 adds-tag : (h : ℕ) (own : TagNode) (children more : Walk) (outer : List Around) →
     Adds (record { inside = meets_tag h own children more; around = outer }) (meets h (Tag own)) (record { inside = children; around = record { own = own; more = more } ∷ outer })
@@ -70,7 +70,7 @@ adds-tag h own children more outer =
       fault = fault_case (is_hidden own.name) (shown_fault children) (shown_fault more) (fault_around outer) left refl refl;
     }
 
-adds-in : (outer : List Around) (w : Walk) (e : Event) (after : Remaining) → Enters every w → step_in outer w ≡ Some (e, after) → Adds (record { inside = w; around = outer }) e after
+adds-in : (outer : List Around) (w : Walk) (e : Event) (after : Remaining) → Enters all_tags w → step_in outer w ≡ Some (e, after) → Adds (record { inside = w; around = outer }) e after
 adds-in outer end e after enters s = adds-out outer e after s
 adds-in outer (meets_text h bytes more) e after enters s =
     adds_at (record { inside = meets_text h bytes more; around = outer }) (meets h (Raw bytes)) e (record { inside = more; around = outer }) after s
@@ -89,10 +89,10 @@ adds-step : (r : Remaining) (e : Event) (after : Remaining) → IsEntered r → 
 adds-step r e after enters s = adds-in r.around r.inside e after enters.0 s
 
 -- one event of a walk
-pub goes-step : (r : Remaining) (e : WalkEvent) (after : Remaining) → IsEntered r → step r ≡ Some (shown_event e, after)
-    → Goes r (shown_event e) (after_event (shown_event e) after)
-goes-step r (Meets h node) after enters s = adds-step r (meets h (shown node.now)) after enters s
-goes-step r (Leaves tag) after enters s = adds-step r (leaves (shown_tag tag.now)) after enters s
+pub goes-step : (r : Remaining) (e : WalkEvent) (after : Remaining) → IsEntered r → step r ≡ Some (event_view e, after)
+    → Goes r (event_view e) (after_event (event_view e) after)
+goes-step r (Meets h node) after enters s = adds-step r (meets h (node_view node.now)) after enters s
+goes-step r (Leaves tag) after enters s = adds-step r (leaves (tag_view tag.now)) after enters s
 
 -- where a hidden tag is met what is inside is passed over
 pub passed_hidden : (name : List ℕ) (p q : Place) → is_hidden name ≡ true → q ≡ record p { next = [] } → remaining_of q ≡ after_name name (remaining_of p)
@@ -106,18 +106,18 @@ entered-skipped : (b : Bool) (r : Remaining) → IsEntered r → IsEntered (if b
 entered-skipped true r enters = (tt, enters.1)
 entered-skipped false r enters = enters
 
-pub entered-after : (r : Remaining) (e : WalkEvent) (after : Remaining) → IsEntered r → step r ≡ Some (shown_event e, after) → IsEntered (after_event (shown_event e) after)
-entered-after r e after enters s = entered-skipped (meets_hidden (shown_event e)) after (entered-step r (shown_event e) after s enters)
+pub entered-after : (r : Remaining) (e : WalkEvent) (after : Remaining) → IsEntered r → step r ≡ Some (event_view e, after) → IsEntered (after_event (event_view e) after)
+entered-after r e after enters s = entered-skipped (meets_hidden (event_view e)) after (entered-step r (event_view e) after s enters)
 
 -- no more events are left where a tag is passed over
 fewer-skipped : (b : Bool) (r : Remaining) → length (events_left (if b then record r { inside = end } else r)) ≤ length (events_left r)
 fewer-skipped true r = omega (arith, length-append (events r.inside) (events_around r.around))
 fewer-skipped false r = omega arith
 
-pub fewer-after : (r : Remaining) (e : WalkEvent) (after : Remaining) → step r ≡ Some (shown_event e, after) → length (events_left (after_event (shown_event e) after)) < length (events_left r)
+pub fewer-after : (r : Remaining) (e : WalkEvent) (after : Remaining) → step r ≡ Some (event_view e, after) → length (events_left (after_event (event_view e) after)) < length (events_left r)
 fewer-after r e after s =
-    let less = fewer-step r (shown_event e) after s in
-    let most = fewer-skipped (meets_hidden (shown_event e)) after in
+    let less = fewer-step r (event_view e) after s in
+    let most = fewer-skipped (meets_hidden (event_view e)) after in
     omega arith
 
 -- at the end nothing is left
@@ -135,29 +135,29 @@ over-step r s = over r.inside r.around s
 
 -- an error says the first fault
 module _ {A : Type 0} (x : A) (r : Remaining) (enters : IsEntered r) where
-  refused-at : (fault : TreeFault) (o : Option (Event × Remaining)) → step r ≡ o → FailsAt o (error_of fault) → result_err (unless (fault_left r) x) ≡ Some fault
+  refused-at : (fault : TreeFault) (o : Option (Event × Remaining)) → step r ≡ o → FailsAt o (error_of fault) → result_err (fault_or (fault_left r) x) ≡ Some fault
   refused-at fault None s fails = absurd fails
-  refused-at (Dangling h) (Some next) s fails = ap (λ f. result_err (unless f x)) (subst (λ e. Adds r e next.1) fails (adds-step r next.0 next.1 enters s))
-  refused-at (Cycle h) (Some next) s fails = ap (λ f. result_err (unless f x)) (subst (λ e. Adds r e next.1) fails (adds-step r next.0 next.1 enters s))
+  refused-at (Dangling h) (Some next) s fails = ap (λ f. result_err (fault_or f x)) (subst (λ e. Adds r e next.1) fails (adds-step r next.0 next.1 enters s))
+  refused-at (Cycle h) (Some next) s fails = ap (λ f. result_err (fault_or f x)) (subst (λ e. Adds r e next.1) fails (adds-step r next.0 next.1 enters s))
 
-  pub refused-step : (error : TreeError) → FailsAt (step r) error → IsRefusal (result_err (unless (fault_left r) x)) error
+  pub refused-step : (error : TreeError) → FailsAt (step r) error → IsRefusal (result_err (fault_or (fault_left r) x)) error
   refused-step (DanglingError h) fails = refused-at (Dangling h) (step r) refl fails
   refused-step (CycleError h) fails = refused-at (Cycle h) (step r) refl fails
   refused-step OutOfMemory fails = tt
 
 -- where all is written
-pub all_written : (fault now : Option TreeFault) (all text left : List ℕ) → fault ≡ now → all ≡ text ++ left → left ≡ [] → now ≡ None → unless fault all ≡ Ok text
+pub all_written : (fault now : Option TreeFault) (all text left : List ℕ) → fault ≡ now → all ≡ text ++ left → left ≡ [] → now ≡ None → fault_or fault all ≡ Ok text
 all_written fault now all text left f a l n = rw (f, n, a, l) (ap (λ s. Ok s) (append-nil text))
 
 -- the text of a document that was just read
 
-read-value : (fault : Option TreeFault) (all text : List ℕ) → unless fault all ≡ Ok text → text ≡ all
+read-value : (fault : Option TreeFault) (all text : List ℕ) → fault_or fault all ≡ Ok text → text ≡ all
 read-value None all text e = cc
 read-value (Some f) all text e = absurd (cc)
 
 pub readable-read : (d : Document) (page lines : List ℕ) → d ≡ document page → readable_of d ≡ Ok lines → lines ≡ readable (plain (forest (tokens page)))
 readable-read d page lines e r =
-    let w = walk every d.nodes [] d.top in
+    let w = walk all_tags d.nodes [] d.top in
     read-value (shown_fault w) (readable (trees w)) lines r
-    ∙ ap (λ (x : Document). readable (trees (walk every x.nodes [] x.top))) e
+    ∙ ap (λ (x : Document). readable (trees (walk all_tags x.nodes [] x.top))) e
     ∙ ap readable (document-whole page)

@@ -1,7 +1,7 @@
 -- What is still to be written of a walk.
 use Rattle.std.specs.Prelude.{ℕ, Bool, false, List, [], ◌∷◌, ◌++◌, map, Option, None, if◌then◌else◌}
 use Rattle.tl_spec.specs.Document.{Tag, Raw, Comment}
-use Rattle.tl_spec.specs.Walk.{Event, TreeFault, end, faulty, leaves, meets, or_else, trees}
+use Rattle.tl_spec.specs.Walk.{Event, TreeFault, end, faulty, leaves, meets, earlier_fault, trees}
 use Rattle.tl.specs.Remaining.{Around, Remaining}
 use Rattle.tl_extract.specs.Readable.{edge, flow, is_hidden, shown_fault, spaced}
 
@@ -45,8 +45,8 @@ flow_left left = flow (trees left.inside) ++ flow_around left.around
 -- the first fault after the tags around
 abbrev pub fault_around : List Around → Option TreeFault
 fault_around [] = None
-fault_around (tag ∷ outer) = or_else (shown_fault tag.more) (fault_around outer)
+fault_around (tag ∷ outer) = earlier_fault (shown_fault tag.more) (fault_around outer)
 
 -- the first fault that is still to come
 abbrev pub fault_left : Remaining → Option TreeFault
-fault_left left = or_else (shown_fault left.inside) (fault_around left.around)
+fault_left left = earlier_fault (shown_fault left.inside) (fault_around left.around)

@@ -6,7 +6,7 @@ use Rattle.tl_spec.specs.ByteClass.{is_among_in_any_case}
 use Rattle.tl_spec.specs.ClassMember.{parts}
 use Rattle.tl_spec.specs.Document.{Document}
 use Rattle.tl_spec.specs.Forest.{Forest, PlainTag, none, text, comment, tag}
-use Rattle.tl_spec.specs.Walk.{TreeFault, Walk, end, every, meets_comment, meets_fault, meets_tag, meets_text, or_else, passes_tag, trees, unless, walk}
+use Rattle.tl_spec.specs.Walk.{TreeFault, Walk, end, all_tags, meets_comment, meets_fault, meets_tag, meets_text, earlier_fault, passes_tag, trees, fault_or, walk}
 use Rattle.std.specs.Prelude.{Result}
 use Rattle.tl_extract.specs.Split.{pieces}
 
@@ -72,10 +72,10 @@ abbrev pub shown_fault : Walk → Option TreeFault
 shown_fault end = None
 shown_fault (meets_text h bytes more) = shown_fault more
 shown_fault (meets_comment h bytes more) = shown_fault more
-shown_fault (meets_tag h own children more) = or_else (if is_hidden own.name then None else shown_fault children) (shown_fault more)
+shown_fault (meets_tag h own children more) = earlier_fault (if is_hidden own.name then None else shown_fault children) (shown_fault more)
 shown_fault (passes_tag h own more) = shown_fault more
 shown_fault (meets_fault e more) = Some e
 
 -- the text of a document, or the first fault outside of hidden tags
 abbrev pub readable_of : Document → Result (List ℕ) TreeFault
-readable_of d = let w = walk every d.nodes [] d.top in unless (shown_fault w) (readable (trees w))
+readable_of d = let w = walk all_tags d.nodes [] d.top in fault_or (shown_fault w) (readable (trees w))

@@ -5,7 +5,7 @@ ghost use Rattle.std.specs.Str.Lossy.{utf8_lossy};
 ghost use Rattle.tl_spec.specs.Element.{attribute_of};
 ghost use Rattle.tl_spec.specs.Walk.{TreeFault};
 ghost use Rattle.tl_table.specs.Answer.{Answers};
-ghost use Rattle.tl.specs.Shown.{shown};
+ghost use Rattle.tl.specs.Shown.{node_view};
 ghost use Rattle.tl_page.specs.Outcome.{Gives, outcome_map, outcome_of, success};
 ghost use Rattle.tl_extract.specs.Field.{field_at, field_of};
 
@@ -41,9 +41,9 @@ fn text_of(alloc: Global, bytes: &[u8]) -> Result<String, AllocError>
 
 // The value of a node at a key as text.
 fn value(alloc: Global, node: &Node<'_>, key: &str) -> Result<Option<String>, AllocError>
-    ensures value { let value = option_flatten (attribute_of key.now (shown node.now)) in
+    ensures value { let value = option_flatten (attribute_of key.now (node_view node.now)) in
         IfOk result (λ text. option_map string_bytes text ≡ option_map utf8_lossy value) }
-    ensures none { option_flatten (attribute_of key.now (shown node.now)) ≡ None
+    ensures none { option_flatten (attribute_of key.now (node_view node.now)) ≡ None
         → result ≡ Ok None }
 {
     match node.attribute(key.as_bytes()) {
@@ -69,9 +69,9 @@ fn field_of<'a>(
     node: &Node<'a>,
     field: &Field<'_>,
 ) -> Result<Option<String>, Failure>
-    ensures gives { let nodes = map shown parser.now.nodes in
-        Gives (option_map string_bytes) (field_of field.now nodes handle (shown node.now)) result }
-    ensures none { field_of field.now (map shown parser.now.nodes) handle (shown node.now)
+    ensures gives { let nodes = map node_view parser.now.nodes in
+        Gives (option_map string_bytes) (field_of field.now nodes handle (node_view node.now)) result }
+    ensures none { field_of field.now (map node_view parser.now.nodes) handle (node_view node.now)
         ≡ success None → result ≡ Ok None }
 {
     match field {
@@ -91,10 +91,10 @@ pub(crate) fn field_at(
     field: &Field<'_>,
 ) -> Result<Option<String>, Failure>
     ensures gives { Gives (option_map string_bytes)
-        (field_at field.now (map shown parser.now.nodes) handle) result }
+        (field_at field.now (map node_view parser.now.nodes) handle) result }
 
     // Where there is none it takes no memory.
-    ensures none { field_at field.now (map shown parser.now.nodes) handle ≡ success None
+    ensures none { field_at field.now (map node_view parser.now.nodes) handle ≡ success None
         → result ≡ Ok None }
 {
     match handle.get(parser) {

@@ -2,7 +2,7 @@
 ghost use Rattle.std.specs.Prelude.{◌≡◌, ◌++◌, IfOk, OnOk};
 ghost use Rattle.std.specs.Option.{option_flatten, option_to_list};
 ghost use Rattle.tl_spec.specs.Element.{attribute_of};
-ghost use Rattle.tl.specs.Shown.{document_of, shown};
+ghost use Rattle.tl.specs.Shown.{document_of, node_view};
 ghost use Rattle.tl_extract.specs.Links.{link_keys, links_of, lists_of, values_at};
 
 use std::alloc::{AllocError, Global};
@@ -10,7 +10,7 @@ use tl::{Element, Node, VDom};
 
 // Adds the value of a node at a key, if it has one.
 fn add_value<'d>(links: &mut Vec<&'d [u8]>, node: &'d Node<'_>, key: &str) -> Result<(), AllocError>
-    ensures { let value = option_flatten (attribute_of key.now (shown node.now)) in
+    ensures { let value = option_flatten (attribute_of key.now (node_view node.now)) in
         OnOk result (lists_of links.new.items ≡ lists_of links.old.items ++ option_to_list value) }
 {
     if let Some(Some(value)) = node.attribute(key.as_bytes()) {
@@ -22,7 +22,7 @@ fn add_value<'d>(links: &mut Vec<&'d [u8]>, node: &'d Node<'_>, key: &str) -> Re
 // Adds the links of a node.
 fn add_links<'d>(links: &mut Vec<&'d [u8]>, node: &'d Node<'_>) -> Result<(), AllocError>
     ensures { OnOk result (lists_of links.new.items
-        ≡ lists_of links.old.items ++ values_at link_keys (shown node.now)) }
+        ≡ lists_of links.old.items ++ values_at link_keys (node_view node.now)) }
 {
     add_value(links, node, "href")?;
     add_value(links, node, "src")?;

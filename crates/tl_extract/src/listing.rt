@@ -1,6 +1,6 @@
 //! What the nodes of a document are, by number: what one needs to write a step.
 ghost use Rattle.std.specs.Prelude.{◌≡◌, ◌++◌, [], IfOk, IsOk, OnOk, string_bytes};
-ghost use Rattle.tl.specs.Shown.{document_of, shown};
+ghost use Rattle.tl.specs.Shown.{document_of, node_view};
 ghost use Rattle.tl_extract.specs.Outline.{child_words, first_line, node_words, outline_of};
 
 use crate::lossy::add_lossy;
@@ -37,7 +37,7 @@ fn add_children(
 // Adds what a node is.
 fn add_node(alloc: Global, lines: &mut String, node: &Node<'_>) -> Result<(), AllocError>
     ensures { OnOk result (string_bytes lines.new
-        ≡ string_bytes lines.old ++ node_words (shown node.now)) }
+        ≡ string_bytes lines.old ++ node_words (node_view node.now)) }
 {
     match node {
         Node::Tag(tag) => {

@@ -5,7 +5,7 @@ ghost use Rattle.tl_spec.specs.Selector.{Selector};
 ghost use Rattle.tl_spec.specs.SelectorText.{IsSelectorText, StandsAlone};
 ghost use Rattle.tl_selector.specs.Lacks.{LacksFirst, LacksSecond};
 ghost use Rattle.tl.specs.Query.{matches_in};
-ghost use Rattle.tl.specs.Shown.{document_of, shown};
+ghost use Rattle.tl.specs.Shown.{document_of, node_view};
 ghost use Rattle.tl_page.specs.Outcome.{Gives, YieldsOutcome, refused, success};
 ghost use Rattle.tl_page.specs.declared.failure.Failure.TheVariants.{Refused};
 ghost use Rattle.tl_extract.specs.Field.{IsNoSelector, fields, first_field};
@@ -30,13 +30,13 @@ pub struct Selection<'a, 'd> {
 
 impl<'a, 'd> Model for Selection<'a, 'd> {
     ghost use Rattle.std.specs.Prelude.{List, ℕ, map};
-    ghost use Rattle.tl.specs.Shown.{shown};
+    ghost use Rattle.tl.specs.Shown.{node_view};
     ghost use Rattle.tl_page.specs.Outcome.{Outcome};
     ghost use Rattle.tl_extract.specs.Field.{fields};
 
     ghost Value = { List (Outcome (List ℕ)) };
 
-    ghost view = { λ s. fields s.field (map shown s.parser.now.nodes) s.found };
+    ghost view = { λ s. fields s.field (map node_view s.parser.now.nodes) s.found };
 }
 
 // The field of the first of the nodes that are left and have it.
@@ -46,7 +46,7 @@ fn next_field(
     found: &mut QuerySelectorIterator<'_, '_>,
     field: &Field<'_>,
 ) -> Option<Result<String, Failure>>
-    ensures { let left = fields field.now (map shown parser.now.nodes) in
+    ensures { let left = fields field.now (map node_view parser.now.nodes) in
         YieldsOutcome string_bytes (left found.old) result (left found.new) }
 {
     while let Some(handle) = found.next() {
@@ -111,8 +111,8 @@ fn first_of(
     field: &Field<'_>,
 ) -> Result<Option<String>, Failure>
     ensures gives { Gives (option_map string_bytes)
-        (first_field field.now (map shown parser.now.nodes) found.entry) result }
-    ensures none { first_field field.now (map shown parser.now.nodes) found.entry ≡ success None
+        (first_field field.now (map node_view parser.now.nodes) found.entry) result }
+    ensures none { first_field field.now (map node_view parser.now.nodes) found.entry ≡ success None
         → result ≡ Ok None }
 {
     match found.next() {

@@ -7,7 +7,7 @@ ghost use Rattle.tl_spec.specs.Token.{tokens};
 ghost use Rattle.tl_table.specs.Answer.{Answers};
 ghost use Rattle.tl.specs.Remaining.{remaining_of};
 ghost use Rattle.tl.specs.Shown.{document_of};
-ghost use Rattle.tl.specs.Walker.{shown_event};
+ghost use Rattle.tl.specs.Walker.{event_view};
 ghost use Rattle.tl.specs.Writing.{Writes};
 ghost use Rattle.tl.proofs.Remaining.{IsEntered};
 ghost use Rattle.tl_extract.specs.Flow.{after_event, after_name, event_flow, fault_left, flow_left, shown_edge};
@@ -118,9 +118,9 @@ fn take(
     event: WalkEvent<'_, '_>,
 ) -> Result<(), AllocError>
     ensures text { OnOk result (text.new.items
-        ≡ text.old.items ++ event_flow (shown_event event.entry)) }
+        ≡ text.old.items ++ event_flow (event_view event.entry)) }
     ensures walk { OnOk result (remaining_of walk.new
-        ≡ after_event (shown_event event.entry) (remaining_of walk.old)) }
+        ≡ after_event (event_view event.entry) (remaining_of walk.old)) }
 {
     match event {
         WalkEvent::Meets(_, Node::Tag(tag)) => enter(walk, text, tag.name().as_bytes()),

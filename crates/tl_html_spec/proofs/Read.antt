@@ -9,7 +9,7 @@ use Rattle.tl_spec.specs.Attribute.{Pair}
 use Rattle.tl_spec.specs.ByteClass.{is_name}
 use Rattle.tl_spec.specs.Clean.{IsName}
 use Rattle.tl_spec.specs.Grammar.{Stops}
-use Rattle.tl_spec.specs.Runs.{after, past}
+use Rattle.tl_spec.specs.Runs.{after_needle, drop_while}
 use Rattle.tl_spec.specs.Token.{Token, Text, End, Comment, Doctype, Start, next_token}
 use Rattle.tl_spec.proofs.Again.{kinds_next, name_no_gt}
 use Rattle.tl_spec.proofs.Comments.{comment_again}
@@ -46,7 +46,7 @@ character_read : (b c : ℕ) (w r : List ℕ) → list_all not_lt (c ∷ w) ≡ 
 character_read b c w r all back =
     let run = run-of not_lt r in
     let y : List ℕ = take_while not_lt r in
-    let rest : List ℕ = past not_lt r in
+    let rest : List ℕ = drop_while not_lt r in
     ap (λ s. tokens_read ((c ∷ w) ++ s)) run.parts
     ∙ ap tokens_read (sym (append_assoc (c ∷ w) y rest))
     ∙ run_read ((c ∷ w) ++ y) rest (all_append not_lt (c ∷ w) y all run.inside) run.stops
@@ -141,11 +141,11 @@ inside_is d =
     let e : length (codes "<!--" ++ (d ++ codes "-->")) - 7 ≡ length d = let both = length-append d (codes "-->") in omega arith in
     ap (λ n. take n (d ++ codes "-->")) e ∙ take-append_seam d (codes "-->")
 
-pub comment_next : (d r : List ℕ) → after (codes "-->") (codes "--" ++ (d ++ codes "-->")) ≡ Some [] →
+pub comment_next : (d r : List ℕ) → after_needle (codes "-->") (codes "--" ++ (d ++ codes "-->")) ≡ Some [] →
     next_token (written_token (CommentToken d) ++ r) ≡ Some (Comment (codes "<!--" ++ (d ++ codes "-->")), r)
 comment_next d r h = comment_again [] (codes "--" ++ (d ++ codes "-->")) r refl refl h
 
-comment_read : (d r : List ℕ) → after (codes "-->") (codes "--" ++ (d ++ codes "-->")) ≡ Some [] → tokens_read (written_token (CommentToken d) ++ r) ≡ CommentToken d ∷ tokens_read r
+comment_read : (d r : List ℕ) → after_needle (codes "-->") (codes "--" ++ (d ++ codes "-->")) ≡ Some [] → tokens_read (written_token (CommentToken d) ++ r) ≡ CommentToken d ∷ tokens_read r
 comment_read d r h =
     read_next (written_token (CommentToken d) ++ r) (Comment (codes "<!--" ++ (d ++ codes "-->"))) r (comment_next d r h)
     ∙ ap (λ s. CommentToken s ∷ tokens_read r) (inside_is d)

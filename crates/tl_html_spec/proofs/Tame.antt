@@ -5,7 +5,7 @@ use Rattle.std.specs.List.{AllByRecursion, list_all}
 use Rattle.std.specs.Str.{bytes_eq}
 use Rattle.std.proofs.lemmas.Bool.{and_parts, cases_Bool}
 use Rattle.tl_spec.specs.Attribute.{Pair}
-use Rattle.tl_spec.specs.AttributeList.{PlainAttributes, attributes_of, named, no_attributes, printed_pairs, with_pair}
+use Rattle.tl_spec.specs.AttributeList.{PlainAttributes, attributes_of, pair_if_some, no_attributes, printed_pairs, with_pair}
 use Rattle.tl_spec.specs.ByteClass.{is_void}
 use Rattle.tl_spec.specs.Clean.{AreTamePairs, IsClean, IsCleanTable, IsCleanValue, IsName, IsTame}
 use Rattle.tl_spec.specs.Document.{document}
@@ -14,7 +14,7 @@ use Rattle.tl_spec.specs.Normal.{ReadsAs}
 use Rattle.tl_spec.specs.Print.{print}
 use Rattle.tl_spec.specs.Token.{Comment, Doctype, End, Nothing, PlacedToken, Start, Text, Token, tokens}
 use Rattle.tl_spec.proofs.Again.{kinds-tokens}
-use Rattle.tl_spec.proofs.ByKey.{by_key-all}
+use Rattle.tl_spec.proofs.ByKey.{choose_by_key-all}
 use Rattle.tl_spec.proofs.Fresh.{fresh_has_own_keys, fresh_is_clean}
 use Rattle.tl_spec.proofs.Identity.{identity}
 use Rattle.tl_spec.proofs.Order.{fresh_table}
@@ -115,7 +115,7 @@ record Tame (a : PlainAttributes) : Type 0 where
 
 tame_pair : (a : PlainAttributes) (p : Pair) → Tame a → IsTamePair p → Tame (with_pair a p)
 tame_pair a p h t =
-    by_key-all Tame p.0 _ _ _
+    choose_by_key-all Tame p.0 _ _ _
     (λ _. record { others = h.others; id = t.1; class = h.class })
     (λ _ _. record { others = h.others; id = h.id; class = t.1 })
     (λ _. record {
@@ -132,7 +132,7 @@ append_tame : (ps qs : List Pair) → AllByRecursion IsTamePair ps → AllByRecu
 append_tame [] qs h k = k
 append_tame (p ∷ ps) qs h k = (h.0, append_tame ps qs h.1 k)
 
-named_tame : (key : List ℕ) (v : Option (List ℕ)) → key ≢ [] → IsCleanValue v → AllByRecursion IsTamePair (named key v)
+named_tame : (key : List ℕ) (v : Option (List ℕ)) → key ≢ [] → IsCleanValue v → AllByRecursion IsTamePair (pair_if_some key v)
 named_tame key None n h = tt
 named_tame key (Some v) n h = ((n, h), tt)
 
@@ -145,8 +145,8 @@ printed_tame ps h =
     let a : PlainAttributes = attributes_of ps in
     let t = tame_fold no_attributes ps (record { others = tt; id = tt; class = tt }) h in
     pairs_are_tame (printed_pairs a)
-    (append_tame (a.others ++ named (codes "id") a.id) (named (codes "class") a.class)
-    (append_tame a.others (named (codes "id") a.id) t.others (named_tame (codes "id") a.id (λ e. cc) t.id))
+    (append_tame (a.others ++ pair_if_some (codes "id") a.id) (pair_if_some (codes "class") a.class)
+    (append_tame a.others (pair_if_some (codes "id") a.id) t.others (named_tame (codes "id") a.id (λ e. cc) t.id))
     (named_tame (codes "class") a.class (λ e. cc) t.class))
 
 -- trees

@@ -3,7 +3,7 @@ use Rattle.std.proofs.Common.{◌≡◌, ℕ, true, false, ◌==◌, List, [], �
 use Rattle.std.specs.List.{AllByRecursion, list_all, take_while}
 use Rattle.std.proofs.lemmas.Bool.{cases_Bool}
 use Rattle.tl_spec.specs.Grammar.{Stops}
-use Rattle.tl_spec.specs.Runs.{past}
+use Rattle.tl_spec.specs.Runs.{drop_while}
 use Rattle.tl_spec.specs.Token.{Token, Text, End, Comment, Doctype, Start, next_token}
 use Rattle.tl_spec.proofs.Again.{kinds_next}
 use Rattle.tl_spec.proofs.Grammar.{run-of}
@@ -30,7 +30,7 @@ module _ (P : Token → Type 0) where
   character_all c w r p all h =
       let run = run-of not_lt r in
       let y : List ℕ = take_while not_lt r in
-      let rest : List ℕ = past not_lt r in
+      let rest : List ℕ = drop_while not_lt r in
       let more = past_text y rest run.inside run.stops (subst AreAll run.parts h) in
       let whole : ((c ∷ w) ++ y) ++ rest ≡ (c ∷ w) ++ r = append_assoc (c ∷ w) y rest ∙ ap (λ s. (c ∷ w) ++ s) (sym run.parts) in
       subst AreAll whole

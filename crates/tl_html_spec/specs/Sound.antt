@@ -1,6 +1,6 @@
 -- What holds of each token that the tokenizer emits.
 use Rattle.std.specs.Prelude.{◌≡◌, ℕ, List, [], ◌∷◌, ◌++◌, Some, codes, ⊤}
-use Rattle.tl_spec.specs.Runs.{after}
+use Rattle.tl_spec.specs.Runs.{after_needle}
 use Rattle.tl_html_spec.specs.HtmlTokenizer.{HtmlAttribute, HtmlToken, Character, StartTag, EndTag, CommentToken, DoctypeToken}
 
 abbrev pub IsSome : List ℕ → Type 0
@@ -16,7 +16,7 @@ abbrev pub IsSound : HtmlToken → Type 0
 IsSound (Character b) = ⊤
 IsSound (StartTag name attributes closes) = IsSome name × HaveKeys attributes
 IsSound (EndTag name) = IsSome name
-IsSound (CommentToken bytes) = after (codes "-->") (codes "--" ++ (bytes ++ codes "-->")) ≡ Some []
+IsSound (CommentToken bytes) = after_needle (codes "-->") (codes "--" ++ (bytes ++ codes "-->")) ≡ Some []
 IsSound DoctypeToken = ⊤
 
 abbrev pub AreSound : List HtmlToken → Type 0

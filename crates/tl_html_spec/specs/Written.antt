@@ -2,7 +2,7 @@
 use Rattle.std.specs.Prelude.{◌≡◌, ℕ, ◌-◌, false, List, [], ◌∷◌, ◌++◌, flat_map, map, length, take, drop, Option, Some, None, codes, ⊤}
 use Rattle.tl_spec.specs.Attribute.{Pair}
 use Rattle.tl_spec.specs.Clean.{IsName}
-use Rattle.tl_spec.specs.Runs.{after, many}
+use Rattle.tl_spec.specs.Runs.{after_needle, read_many}
 use Rattle.tl_spec.specs.Token.{Token, Text, End, Comment, Doctype, Start, Nothing, next_token}
 use Rattle.tl_html_spec.specs.Escapes.{escaped_value, text_escape}
 use Rattle.tl_html_spec.specs.Unescaped.{unescaped_text, unescaped_value}
@@ -43,7 +43,7 @@ shown Nothing = []
 
 -- the tokens that the grammar of `tl` reads of a text, without their places
 abbrev pub kinds : List ℕ → List Token
-kinds s = (many next_token (length s) s).0
+kinds s = (read_many next_token (length s) s).0
 
 -- what they stand for
 abbrev pub tokens_read : List ℕ → List HtmlToken
@@ -59,7 +59,7 @@ abbrev pub IsWritable : HtmlToken → Type 0
 IsWritable (Character b) = ⊤
 IsWritable (StartTag name attributes closes) = IsName name × AreKeys attributes × (closes ≡ false)
 IsWritable (EndTag name) = IsName name
-IsWritable (CommentToken bytes) = after (codes "-->") (codes "--" ++ (bytes ++ codes "-->")) ≡ Some []
+IsWritable (CommentToken bytes) = after_needle (codes "-->") (codes "--" ++ (bytes ++ codes "-->")) ≡ Some []
 IsWritable DoctypeToken = ⊤
 
 abbrev pub AreWritable : List HtmlToken → Type 0

@@ -8,16 +8,16 @@ use Rattle.tl_inline.specs.declared.inline.vec.held.HeldItems.TheVariants.{Inlin
 
 module _ {T : Type 0} {N : ℕ} where
   -- what a contract sees
-  abbrev pub held_view : HeldItems T N → InlineVec T
-  held_view (Inline v) = record { items = v.items; on_heap = false }
-  held_view (Heap v) = record { items = v.items; on_heap = true }
+  abbrev pub storage_view : HeldItems T N → InlineVec T
+  storage_view (Inline v) = record { items = v.items; on_heap = false }
+  storage_view (Heap v) = record { items = v.items; on_heap = true }
 
   -- h with x as the item at the index
-  abbrev pub held_with_item : HeldItems T N → ℕ → T → HeldItems T N
-  held_with_item (Inline v) i x = Inline (inline.with_item v i x)
-  held_with_item (Heap v) i x = Heap (vec.with_item v i x)
+  abbrev pub storage_with_item : HeldItems T N → ℕ → T → HeldItems T N
+  storage_with_item (Inline v) i x = Inline (inline.with_item v i x)
+  storage_with_item (Heap v) i x = Heap (vec.with_item v i x)
 
   -- h after a write of its items as a slice
-  abbrev pub held_with_items : HeldItems T N → List T → HeldItems T N
-  held_with_items (Inline v) xs = Inline (inline.with_items v xs)
-  held_with_items (Heap v) xs = Heap (vec.with_items v xs)
+  abbrev pub storage_with_items : HeldItems T N → List T → HeldItems T N
+  storage_with_items (Inline v) xs = Inline (inline.with_items v xs)
+  storage_with_items (Heap v) xs = Heap (vec.with_items v xs)

@@ -2,7 +2,7 @@
 use Rattle.std.specs.Prelude.{ℕ, Option}
 use Rattle.std.specs.Borrow.{LendsIf, Fml, RattleType, MutBor}
 use Rattle.std.specs.HashMap.Lent.{HashMembers}
-use Rattle.tl_inline.specs.HeldPairs.{held_with_value_at}
+use Rattle.tl_inline.specs.HeldPairs.{storage_with_value_at}
 use Rattle.tl_inline.specs.contracts.inline.hashmap.held.HeldPairs.{the_row}
 
 module _ (K V N : RattleType) (key : HashMembers K.Denot) where
@@ -12,4 +12,4 @@ module _ (K V N : RattleType) (key : HashMembers K.Denot) where
 
   -- once the borrow r ends, the index has the last value written through r
   abbrev pub lends_value_at : MutBor held_row.Denot → ℕ → Option (MutBor V.Denot) → Fml
-  lends_value_at h i r = LendsIf held_row V h r (held_with_value_at h.now i) h.now
+  lends_value_at h i r = LendsIf held_row V h r (storage_with_value_at h.now i) h.now

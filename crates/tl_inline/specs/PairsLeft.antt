@@ -5,6 +5,6 @@ use Rattle.tl_inline.specs.declared.inline.hashmap.iter.PairsLeft.{PairsLeft}
 use Rattle.tl_inline.specs.declared.inline.hashmap.iter.PairsLeft.TheVariants.{Slice, Map}
 
 -- the pairs in order
-abbrev pub pairs_left : {K V : Type 0} → PairsLeft K V → List (K × V)
-pairs_left (Slice it) = iter_rest it
-pairs_left (Map it) = it
+abbrev pub remaining_pairs : {K V : Type 0} → PairsLeft K V → List (K × V)
+remaining_pairs (Slice it) = iter_rest it
+remaining_pairs (Map it) = it

@@ -1,8 +1,8 @@
 //! Attributes of a start tag.
 ghost use Rattle.std.specs.Prelude.{◌≡◌, ◌≤◌, ◌<◌, ◌+◌, length, drop, take_while, option_map, IfSome};
 ghost use Rattle.tl_spec.specs.ByteClass.{is_name};
-ghost use Rattle.tl_spec.specs.Runs.{past};
-ghost use Rattle.tl_spec.specs.Attribute.{value, optional_value, past_end, past_blanks, attribute, next_attribute};
+ghost use Rattle.tl_spec.specs.Runs.{drop_while};
+ghost use Rattle.tl_spec.specs.Attribute.{value, optional_value, skip_end, skip_blanks, attribute, next_attribute};
 ghost use Rattle.tl_lexer.specs.Span.{bytes_at, optional_bytes_at, pair_at, IsIn, ArePairIn};
 
 use crate::place::{byte_at, past_blanks, split};
@@ -15,7 +15,7 @@ use tl_bytes::simd::is_closing;
 pub fn name(text: &[u8], at: usize) -> (Span, usize)
     requires { at ≤ length text.now }
     ensures bytes { bytes_at text.now result.0 ≡ take_while is_name (drop at text.now) }
-    ensures rest { drop result.1 text.now ≡ past_blanks (past is_name (drop at text.now)) }
+    ensures rest { drop result.1 text.now ≡ skip_blanks (drop_while is_name (drop at text.now)) }
     ensures span { IsIn text.now result.0 }
     ensures order { at ≤ result.1 }
     ensures within { result.1 ≤ length text.now }
@@ -61,7 +61,7 @@ fn optional_value(text: &[u8], at: usize) -> (Option<Span>, usize)
 // The place after the end of an attribute: one byte is passed over, unless it is `>` or of a name.
 fn past_end(text: &[u8], at: usize) -> usize
     requires { at ≤ length text.now }
-    ensures rest { drop result text.now ≡ past_end (drop at text.now) }
+    ensures rest { drop result text.now ≡ skip_end (drop at text.now) }
     ensures order { at ≤ result }
     ensures within { result ≤ length text.now }
 {

@@ -1,6 +1,6 @@
 //! Places of a text: what stands at one, and where reading goes on.
 ghost use Rattle.std.specs.Prelude.{◌≡◌, ◌≤◌, ◌+◌, length, drop, take};
-ghost use Rattle.tl_spec.specs.Attribute.{past_blanks};
+ghost use Rattle.tl_spec.specs.Attribute.{skip_blanks};
 ghost use Rattle.tl_lexer.specs.Span.{in_front, bytes_at, IsIn};
 
 use crate::runs::blank_len;
@@ -37,7 +37,7 @@ pub fn past_one(text: &[u8], at: usize) -> usize
 /// The place after blanks.
 pub fn past_blanks(text: &[u8], at: usize) -> usize
     requires { at ≤ length text.now }
-    ensures rest { drop result text.now ≡ past_blanks (drop at text.now) }
+    ensures rest { drop result text.now ≡ skip_blanks (drop at text.now) }
     ensures order { at ≤ result }
     ensures within { result ≤ length text.now }
 {

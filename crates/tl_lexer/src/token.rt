@@ -2,8 +2,8 @@
 ghost use Rattle.std.specs.Prelude.{◌≡◌, ◌≤◌, ◌<◌, ◌+◌, length, drop, take_while, codes, IfSome, option_map};
 ghost use Rattle.tl_spec.specs.ByteClass.{is_ident};
 ghost use Rattle.tl_lexer.specs.Span.{bytes_at, IsIn};
-ghost use Rattle.tl_spec.specs.Runs.{after, past};
-ghost use Rattle.tl_spec.specs.Attribute.{past_blanks};
+ghost use Rattle.tl_spec.specs.Runs.{after_needle, drop_while};
+ghost use Rattle.tl_spec.specs.Attribute.{skip_blanks};
 ghost use Rattle.tl_spec.specs.Token.{end_tag, comment_token, doctype, word, declaration, markup, next_token};
 
 use crate::attribute::name;
@@ -35,7 +35,7 @@ ghost use Rattle.tl_lexer.specs.Lexed.{meant, IsTokenIn};
 fn past_arrow(text: &[u8], at: usize) -> Option<usize>
     requires { at ≤ length text.now }
     ensures rest { option_map (λ end. drop end text.now) result
-        ≡ after (codes "-->") (drop at text.now) }
+        ≡ after_needle (codes "-->") (drop at text.now) }
     ensures order { IfSome result (λ end. at ≤ end) }
     ensures within { IfSome result (λ end. end ≤ length text.now) }
 {
@@ -59,7 +59,7 @@ fn end_tag(text: &[u8], at: usize) -> (Token, usize)
 fn ident(text: &[u8], at: usize) -> (Span, usize)
     requires { at ≤ length text.now }
     ensures bytes { bytes_at text.now result.0 ≡ take_while is_ident (drop at text.now) }
-    ensures rest { drop result.1 text.now ≡ past_blanks (past is_ident (drop at text.now)) }
+    ensures rest { drop result.1 text.now ≡ skip_blanks (drop_while is_ident (drop at text.now)) }
     ensures span { IsIn text.now result.0 }
     ensures order { at ≤ result.1 }
     ensures within { result.1 ≤ length text.now }
@@ -102,7 +102,7 @@ fn comment(text: &[u8], start: usize, at: usize) -> (Token, usize)
     requires order { start ≤ at }
     requires within { at ≤ length text.now }
     ensures read { meant text.now result.0 result.1
-        ≡ comment_token (drop start text.now) (after (codes "-->") (drop at text.now)) }
+        ≡ comment_token (drop start text.now) (after_needle (codes "-->") (drop at text.now)) }
     ensures spans { IsTokenIn text.now result.0 }
     ensures order { at ≤ result.1 }
     ensures within { result.1 ≤ length text.now }

@@ -3,9 +3,9 @@ ghost use Rattle.std.specs.Prelude.{◌≡◌, ◌<◌, ◌≤◌, [], length, s
 ghost use Rattle.std.specs.Str.Lossy.{utf8_valid_len};
 ghost use Rattle.tl_bytes.specs.Held.{borrowed};
 ghost use Rattle.tl_spec.specs.Clean.{IsCleanTable, IsTame};
-ghost use Rattle.tl_spec.specs.Document.{document, weight};
+ghost use Rattle.tl_spec.specs.Document.{document, node_and_attribute_count};
 ghost use Rattle.tl_spec.specs.Forest.{forest, plain};
-ghost use Rattle.tl_spec.specs.Order.{AreChildrenAbove, AreDescendantsNext};
+ghost use Rattle.tl_spec.specs.Order.{ChildrenFollowParents, DescendantsAreContiguous};
 ghost use Rattle.tl_spec.specs.Range.{AreRangesOfDescendants};
 ghost use Rattle.tl_spec.specs.Token.{tokens};
 ghost use Rattle.tl.specs.HeldAlike.{IsHeldNode};
@@ -56,10 +56,10 @@ pub fn read<'p>(alloc: Global, page: &'p [u8], options: ParserOptions) -> Result
     ensures document { IfOk result (λ d. document_of d ≡ document page.now) }
     ensures version { IfOk result (λ d. d.version ≡ version_of (document page.now).is_html5) }
     ensures borrowed { IfOk result (λ d. All (IsHeldNode borrowed) d.nodes) }
-    ensures above { IfOk result (λ d. AreChildrenAbove (document_of d).nodes) }
-    ensures interval { IfOk result (λ d. AreDescendantsNext (document_of d).nodes) }
+    ensures above { IfOk result (λ d. ChildrenFollowParents (document_of d).nodes) }
+    ensures interval { IfOk result (λ d. DescendantsAreContiguous (document_of d).nodes) }
     ensures ranges { IfOk result (λ d. AreRangesOfDescendants (document_of d).nodes) }
-    ensures size { IfOk result (λ d. sum_by weight (document_of d).nodes ≤ length page.now) }
+    ensures size { IfOk result (λ d. sum_by node_and_attribute_count (document_of d).nodes ≤ length page.now) }
     ensures asked { IfOk result (λ d. AreAsked options d.tracking) }
     ensures ids { IfOk result (λ d. AnswerIds d.tracking (document page.now).nodes) }
     ensures classes { IfOk result (λ d. AnswerClasses d.tracking (document page.now).nodes) }

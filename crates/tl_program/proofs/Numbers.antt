@@ -5,15 +5,15 @@ use Rattle.std.proofs.lemmas.Str.Parse.{IsNumeralModel, numerals_by_fold, parse_
 use Rattle.std.specs.Result.{result_ok}
 use Rattle.std.specs.Str.{all_ascii_digits}
 use Rattle.std.specs.Str.Parse.{ParsesUnsigned}
-use Rattle.tl_spec.specs.StepLine.{read_on, is_number, number_of}
+use Rattle.tl_spec.specs.StepLine.{continue_number, is_number, number_of}
 
-own : IsNumeralModel (λ ds. all_ascii_digits ds ≡ true) (read_on 0)
-own = numerals_by_fold _ (search rules) read_on (search rules)
+own : IsNumeralModel (λ ds. all_ascii_digits ds ≡ true) (continue_number 0)
+own = numerals_by_fold _ (search rules) continue_number (search rules)
 
-is_number_true : (digits : List ℕ) → all_ascii_digits digits ≡ true → 0 < length digits → read_on 0 digits < 2 ^ 32 → is_number digits ≡ true
+is_number_true : (digits : List ℕ) → all_ascii_digits digits ≡ true → 0 < length digits → continue_number 0 digits < 2 ^ 32 → is_number digits ≡ true
 is_number_true digits d l v = grind (arith, nat_tests)
 
-is_number_parts : (digits : List ℕ) → is_number digits ≡ true → (all_ascii_digits digits ≡ true) × (0 < length digits) × (read_on 0 digits < 2 ^ 32)
+is_number_parts : (digits : List ℕ) → is_number digits ≡ true → (all_ascii_digits digits ≡ true) × (0 < length digits) × (continue_number 0 digits < 2 ^ 32)
 is_number_parts digits h = (grind (arith, nat_tests), grind (arith, nat_tests), grind (arith, nat_tests))
 
 -- what is parsed is the number
@@ -30,7 +30,7 @@ none_if false n not_so = refl
 number_none : (E : Type 0) (digits : List ℕ) (x : E) → ParsesUnsigned {E = E} 32 10 digits (Err x) → get_or digits 0 0 ≢ 43 → None ≡ number_of digits
 number_none E digits x h p =
     let k = parse_plain own {E = E} 32 digits (Err x) h p in
-    none_if (is_number digits) (read_on 0 digits) (λ t. k (is_number_parts digits t))
+    none_if (is_number digits) (continue_number 0 digits) (λ t. k (is_number_parts digits t))
 
 pub number_read : {E : Type 0} (digits : List ℕ) (r : Result ℕ E) → ParsesUnsigned 32 10 digits r → get_or digits 0 0 ≢ 43 → result_ok r ≡ number_of digits
 number_read digits (Ok n) h p = number_some digits n h p

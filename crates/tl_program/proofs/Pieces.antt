@@ -7,9 +7,9 @@ use Rattle.std.specs.Map.{keys_of}
 use Rattle.tl_bytes.specs.Held.{Kept, as_owned}
 use Rattle.tl_bytes.specs.Keys.{same_list}
 use Rattle.tl_spec.specs.Inline.{InlineMap, room, with_entry, with_value, without_key, with_last}
-use Rattle.tl_spec.specs.AttributeList.{Attributes, is_id, is_class, with_at}
+use Rattle.tl_spec.specs.AttributeList.{Attributes, is_id, is_class, set_at}
 use Rattle.tl_spec.specs.Document.{Handles}
-use Rattle.tl_spec.specs.Edit.{Change, Names, Texts, Comments, Sets, Flags, Unsets, Bares, Pushes, Pulls, Roots, Refusal, no_node, not_tag, no_place, on_ok, without_handle}
+use Rattle.tl_spec.specs.Edit.{Change, Names, Texts, Comments, Sets, Flags, Unsets, Bares, Pushes, Pulls, Roots, Refusal, no_node, not_tag, no_place, map_ok, without_handle}
 use Rattle.tl.specs.TableLends.{with_node}
 use Rattle.tl.specs.Shown.{HTMLTag, HTMLNode, HTMLTable}
 use Rattle.tl.specs.declared.parser.tag.node.NodeOf.TheVariants.{Tag, Raw, Comment}
@@ -72,7 +72,7 @@ module _ (test : Kept → Bool) where
       by (Some i) = All-swap_remove (PairPasses test) (e ∷ es) i e h.0 h
 
   with_at-passes : (key : List ℕ) (v : Option Kept) (others : InlineMap Kept (Option Kept)) (a : Attributes Kept) → IfSome v (Passes test) → Each others.entries → AttributesPass test a
-      → AttributesPass test (with_at key v others a)
+      → AttributesPass test (set_at key v others a)
   with_at-passes key v others a value pairs h = by (is_id key) (is_class key)
     where
       by : (b c : Bool) → AttributesPass test (if b then record a { id = v } else if c then record a { class = v } else record a { others = others })
@@ -87,7 +87,7 @@ module _ (t u : HTMLTable) (n : ℕ) (change : HTMLNode → Result HTMLNode Refu
   of_node-ok None there h = absurd (apart no_node h)
   of_node-ok (Some x) there h = by (change x) refl h
     where
-      by : (r : Result HTMLNode Refusal) → change x ≡ r → on_ok (with_node t n) r ≡ Ok u → (x y : HTMLNode) × (slice_get t.nodes n ≡ Some x) × (change x ≡ Ok y) × (with_node t n y ≡ u)
+      by : (r : Result HTMLNode Refusal) → change x ≡ r → map_ok (with_node t n) r ≡ Ok u → (x y : HTMLNode) × (slice_get t.nodes n ≡ Some x) × (change x ≡ Ok y) × (with_node t n y ≡ u)
       by (Ok y) made is = let same : with_node t n y ≡ u = cc in (x, y, there, made, same)
       by (Err refusal) made is = absurd (apart refusal is)
 
@@ -156,10 +156,10 @@ module _ (test : Kept → Bool) (owned_passes : (bytes : List ℕ) → IsTrue (t
   tag-keeps change passes (Raw bytes) y is h = absurd (apart not_tag is)
   tag-keeps change passes (Comment bytes) y is h = absurd (apart not_tag is)
 
-  children-keep : (i : ℕ) → Keeps (of_tag (λ own. on_ok (λ handles. record own { children = handles }) (without_handle own.children i)))
+  children-keep : (i : ℕ) → Keeps (of_tag (λ own. map_ok (λ handles. record own { children = handles }) (without_handle own.children i)))
   children-keep i (Tag own) y is h = by (without_handle own.children i) is
     where
-      by : (r : Result Handles Refusal) → on_ok Tag (on_ok (λ handles. record own { children = handles }) r) ≡ Ok y → NodePasses test y
+      by : (r : Result Handles Refusal) → map_ok Tag (map_ok (λ handles. record own { children = handles }) r) ≡ Ok y → NodePasses test y
       by (Ok handles) same = let made : Tag (record own { children = handles }) ≡ y = cc in subst (NodePasses test) made h
       by (Err refusal) same = absurd (apart refusal same)
   children-keep i (Raw bytes) y is h = absurd (apart not_tag is)

@@ -5,8 +5,8 @@ use Rattle.std.specs.Prelude.{IsTrue, IsSomeAnd, IsErrAnd}
 use Rattle.std.proofs.lemmas.Option.{slice_get-map, slice_get-get_or}
 use Rattle.std.proofs.lemmas.List.{length-map, take_all}
 use Rattle.tl_spec.specs.Document.{Document}
-use Rattle.tl_spec.specs.Edit.{Change, Refusal, no_node, not_tag, no_place, on_ok, edited, edited_all, all_made, refusal_at}
-use Rattle.tl_spec.proofs.Edits.{edited_all-refused}
+use Rattle.tl_spec.specs.Edit.{Change, Refusal, no_node, not_tag, no_place, map_ok, apply_change, apply_changes, none_refused, refusal_at}
+use Rattle.tl_spec.proofs.Edits.{apply_changes-refused}
 use Rattle.tl.specs.Shown.{HTMLTag, HTMLNode, document_of, HTMLTable}
 use Rattle.tl.specs.TableLends.{with_node}
 use Rattle.tl.specs.declared.parser.tag.node.NodeOf.TheVariants.{Tag}
@@ -20,16 +20,16 @@ use Rattle.tl_program.specs.Script.{IsRefused, Changes, StopsAt}
 use Rattle.tl_program.proofs.Tables.{image-edited_table, image-table_after, table_after-more}
 
 -- an edit within another is refused alike
-IsRefused-on_ok : {A B : Type 0} (takes : Bool) (f : A → B) (r : Result A Refusal) (e : StepError) → IsRefused takes r e → IsRefused takes (on_ok f r) e
-IsRefused-on_ok takes f r NoNode h = ap (on_ok f) h
-IsRefused-on_ok takes f r NotTag h = ap (on_ok f) h
-IsRefused-on_ok takes f r NoPlace h = ap (on_ok f) h
+IsRefused-on_ok : {A B : Type 0} (takes : Bool) (f : A → B) (r : Result A Refusal) (e : StepError) → IsRefused takes r e → IsRefused takes (map_ok f r) e
+IsRefused-on_ok takes f r NoNode h = ap (map_ok f) h
+IsRefused-on_ok takes f r NotTag h = ap (map_ok f) h
+IsRefused-on_ok takes f r NoPlace h = ap (map_ok f) h
 IsRefused-on_ok takes f (Ok x) OutOfMemory h = h
 IsRefused-on_ok takes f (Err refusal) OutOfMemory h = h
 
 -- an edit of the node at a number, where the table that is lent is the old one
 module _ (lent old : HTMLTable) (n : ℕ) (node : HTMLNode) (same : lent ≡ old) (there : Some node ≡ slice_get lent.nodes n) (takes : Bool) (edit : HTMLNode → Result HTMLNode Refusal) where
-  found : at_node n edit old ≡ on_ok (with_node lent n) (edit node)
+  found : at_node n edit old ≡ map_ok (with_node lent n) (edit node)
   found = ap (at_node n edit) (sym same) ∙ ap (of_node lent n edit) (sym there)
 
   kept : (A : Type 0) (e : StepError) → IsRefused takes (edit node) e → Changes {A = A} takes (at_node n edit) old (with_node lent n node) (Err e)
@@ -38,7 +38,7 @@ module _ (lent old : HTMLTable) (n : ℕ) (node : HTMLNode) (same : lent ≡ old
       (ap (λ nodes. record lent { nodes = nodes }) (set_same lent.nodes n node there) ∙ same, subst P (sym found) (IsRefused-on_ok takes (with_node lent n) (edit node) e refused))
 
   pub node-stepped : {A : Type 0} (new : HTMLNode) (r : Result A StepError) → Changes takes edit node new r → Changes takes (at_node n edit) old (with_node lent n new) r
-  node-stepped new (Ok x) h = found ∙ ap (on_ok (with_node lent n)) h
+  node-stepped new (Ok x) h = found ∙ ap (map_ok (with_node lent n)) h
   node-stepped {A} new (Err e) h =
       let P : HTMLNode → Type 0 = λ m. Changes {A = A} takes (at_node n edit) old (with_node lent n m) (Err e) in
       subst P (sym h.0) (kept A e h.1)
@@ -52,7 +52,7 @@ module _ (lent old : HTMLTable) (n : ℕ) (node : HTMLNode) (same : lent ≡ old
 -- a change of a tag is that of the table
 module _ (lent old : HTMLTable) (n : ℕ) (tag : HTMLTag) (same : lent ≡ old) (there : slice_get lent.nodes n ≡ Some (Tag tag)) (takes : Bool) (edit : HTMLTag → Result HTMLTag Refusal) where
   pub tag-stepped : {A : Type 0} (new : HTMLTag) (r : Result A StepError) → Changes takes edit tag new r → Changes takes (at_node n (of_tag edit)) old (with_node lent n (Tag new)) r
-  tag-stepped new (Ok x) h = node-stepped lent old n (Tag tag) same (sym there) takes (of_tag edit) (Tag new) (Ok x) (ap (on_ok Tag) h)
+  tag-stepped new (Ok x) h = node-stepped lent old n (Tag tag) same (sym there) takes (of_tag edit) (Tag new) (Ok x) (ap (map_ok Tag) h)
   tag-stepped {A} new (Err e) h = node-stepped lent old n (Tag tag) same (sym there) takes (of_tag edit) {A = A} (Tag new) (Err e) (ap Tag h.0, IsRefused-on_ok takes Tag (edit tag) e h.1)
 
 -- steps in order, where those before a place are done
@@ -72,17 +72,17 @@ module _ (steps : List Step) (old now new : HTMLTable) (i : ℕ) (x : Step) (wit
       let Q : Result Document Refusal → Type 0 = λ r. IsRefused takes r error in
       subst P (sym same) (by error (subst Q (sym (image-edited_table change now)) (IsRefused-on_ok takes document_of (edited_table change now) error h)))
     where
-      shown : edited_all (take i (map change_of steps)) (document_of old) ≡ all_made (document_of now)
+      shown : apply_changes (take i (map change_of steps)) (document_of old) ≡ none_refused (document_of now)
       shown = image-table_after (take i (map change_of steps)) old now before
 
-      refused : (refusal : Refusal) → edited change (document_of now) ≡ Err refusal → edited_all (map change_of steps) (document_of old) ≡ refusal_at i refusal (document_of now)
-      refused refusal is = edited_all-refused change (document_of now) (map change_of steps) (document_of old) i refusal shown here is
+      refused : (refusal : Refusal) → apply_change change (document_of now) ≡ Err refusal → apply_changes (map change_of steps) (document_of old) ≡ refusal_at i refusal (document_of now)
+      refused refusal is = apply_changes-refused change (document_of now) (map change_of steps) (document_of old) i refusal shown here is
 
-      by : (e : StepError) → IsRefused takes (edited change (document_of now)) e → StopsAt (map change_of steps) (document_of old) (document_of now) i e
+      by : (e : StepError) → IsRefused takes (apply_change change (document_of now)) e → StopsAt (map change_of steps) (document_of old) (document_of now) i e
       by NoNode is = refused no_node is
       by NotTag is = refused not_tag is
       by NoPlace is = refused no_place is
-      by OutOfMemory is = let P : Option Change → Type 0 = λ o. IsSomeAnd o (λ c. IsOk (edited c (document_of now))) in (shown, subst P (sym here) is.1)
+      by OutOfMemory is = let P : Option Change → Type 0 = λ o. IsSomeAnd o (λ c. IsOk (apply_change c (document_of now))) in (shown, subst P (sym here) is.1)
 
   -- memory is wanted only of an edit that takes it
   pub steps-want : (error : StepError) → IsRefused (takes_memory change) (edited_table change now) error → error ≡ OutOfMemory → IsSomeAnd (slice_get (map change_of steps) i) (λ c. IsTrue (takes_memory c))
@@ -94,6 +94,6 @@ module _ (steps : List Step) (old now new : HTMLTable) (i : ℕ) (x : Step) (wit
 
 -- steps of which none is left
 pub steps-all : (steps : List Step) (old now : HTMLTable) (i : ℕ) → length steps ≤ i → table_after (take i (map change_of steps)) old ≡ Ok now → table_after (map change_of steps) old ≡ Ok now
-steps-all steps old now i past all_made =
+steps-all steps old now i past none_refused =
     let all : take i (map change_of steps) ≡ map change_of steps = take_all i (map change_of steps) (omega (arith, length-map steps change_of)) in
-    ap (λ (cs : List Change). table_after cs old) (sym all) ∙ all_made
+    ap (λ (cs : List Change). table_after cs old) (sym all) ∙ none_refused

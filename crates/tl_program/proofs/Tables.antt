@@ -10,11 +10,11 @@ use Rattle.tl_spec.specs.Document as shown_node
 use Rattle.tl_spec.specs.Inline.{room, with_last}
 use Rattle.tl_spec.specs.AttributeList.{Attributes}
 use Rattle.tl_spec.specs.Edit as shown_edit
-use Rattle.tl_spec.specs.Edit.{Change, Names, Texts, Comments, Sets, Flags, Unsets, Bares, Pushes, Pulls, Roots, Refusal, no_place, on_ok, without_handle, edited, edited_all, all_made, one_later}
+use Rattle.tl_spec.specs.Edit.{Change, Names, Texts, Comments, Sets, Flags, Unsets, Bares, Pushes, Pulls, Roots, Refusal, no_place, map_ok, without_handle, apply_change, apply_changes, none_refused, shift_place}
 use Rattle.tl_spec.proofs.Images.{image-with_attribute, image-without_attribute, image-without_value}
-use Rattle.tl_attributes.specs.ShownAttributes.{shown_bytes, shown_attributes}
+use Rattle.tl_attributes.specs.ShownAttributes.{bytes_view, attributes_view}
 use Rattle.tl.specs.TableLends.{with_node}
-use Rattle.tl.specs.Shown.{HTMLTag, HTMLNode, shown_tag, shown, document_of, HTMLTable}
+use Rattle.tl.specs.Shown.{HTMLTag, HTMLNode, tag_view, node_view, document_of, HTMLTable}
 use Rattle.tl.specs.declared.parser.tag.node.NodeOf.TheVariants.{Tag, Raw, Comment}
 use Rattle.tl_program.specs.TableEdit.{with_attribute, without_attribute, without_value, of_tag, of_node, at_node, at_tag, edited_table, next, table_after}
 
@@ -23,75 +23,75 @@ pub apart : {A : Type 0} {x : A} (refusal : Refusal) → Err refusal ≡ Ok x �
 apart refusal is = cc
 
 -- an edit of a tag is that edit of what is shown of it
-image-of_tag : (change : TagNode → Result TagNode Refusal) (made : HTMLTag → Result HTMLTag Refusal) → ((own : HTMLTag) → change (shown_tag own) ≡ on_ok shown_tag (made own))
-    → (node : HTMLNode) → shown_edit.of_tag change (shown node) ≡ on_ok shown (of_tag made node)
-image-of_tag change made alike (Tag own) = ap (on_ok shown_node.Tag) (alike own) ∙ by (made own)
+image-of_tag : (change : TagNode → Result TagNode Refusal) (made : HTMLTag → Result HTMLTag Refusal) → ((own : HTMLTag) → change (tag_view own) ≡ map_ok tag_view (made own))
+    → (node : HTMLNode) → shown_edit.edit_if_tag change (node_view node) ≡ map_ok node_view (of_tag made node)
+image-of_tag change made alike (Tag own) = ap (map_ok shown_node.Tag) (alike own) ∙ by (made own)
   where
-    by : (r : Result HTMLTag Refusal) → on_ok shown_node.Tag (on_ok shown_tag r) ≡ on_ok shown (on_ok Tag r)
+    by : (r : Result HTMLTag Refusal) → map_ok shown_node.Tag (map_ok tag_view r) ≡ map_ok node_view (map_ok Tag r)
     by (Ok new) = refl
     by (Err refusal) = refl
 image-of_tag change made alike (Raw bytes) = refl
 image-of_tag change made alike (Comment bytes) = refl
 
 -- an edit of a node of a table is one of its document
-module _ (t : HTMLTable) (n : ℕ) (change : Node → Result Node Refusal) (made : HTMLNode → Result HTMLNode Refusal) (alike : (node : HTMLNode) → change (shown node) ≡ on_ok shown (made node)) where
+module _ (t : HTMLTable) (n : ℕ) (change : Node → Result Node Refusal) (made : HTMLNode → Result HTMLNode Refusal) (alike : (node : HTMLNode) → change (node_view node) ≡ map_ok node_view (made node)) where
   abbrev with_shown : Node → Document
-  with_shown m = record (document_of t) { nodes = slice_set (map shown t.nodes) n m }
+  with_shown m = record (document_of t) { nodes = slice_set (map node_view t.nodes) n m }
 
-  put : (r : Result HTMLNode Refusal) → on_ok with_shown (on_ok shown r) ≡ on_ok document_of (on_ok (with_node t n) r)
-  put (Ok m) = ap (λ (ns : List Node). Ok (record (document_of t) { nodes = ns })) (sym (map-set shown t.nodes n m))
+  put : (r : Result HTMLNode Refusal) → map_ok with_shown (map_ok node_view r) ≡ map_ok document_of (map_ok (with_node t n) r)
+  put (Ok m) = ap (λ (ns : List Node). Ok (record (document_of t) { nodes = ns })) (sym (map-set node_view t.nodes n m))
   put (Err refusal) = refl
 
-  image-of_node : (o : Option HTMLNode) → shown_edit.of_node (document_of t) n change (option_map shown o) ≡ on_ok document_of (of_node t n made o)
+  image-of_node : (o : Option HTMLNode) → shown_edit.edit_if_found (document_of t) n change (option_map node_view o) ≡ map_ok document_of (of_node t n made o)
   image-of_node None = refl
-  image-of_node (Some node) = ap (on_ok with_shown) (alike node) ∙ put (made node)
+  image-of_node (Some node) = ap (map_ok with_shown) (alike node) ∙ put (made node)
 
-  image-at_node : shown_edit.at_node n change (document_of t) ≡ on_ok document_of (at_node n made t)
-  image-at_node = ap (shown_edit.of_node (document_of t) n change) (slice_get-map shown t.nodes n) ∙ image-of_node (slice_get t.nodes n)
+  image-at_node : shown_edit.edit_node n change (document_of t) ≡ map_ok document_of (at_node n made t)
+  image-at_node = ap (shown_edit.edit_if_found (document_of t) n change) (slice_get-map node_view t.nodes n) ∙ image-of_node (slice_get t.nodes n)
 
 -- so is one of a tag, which is never refused
-image-at_tag : (t : HTMLTable) (n : ℕ) (change : TagNode → TagNode) (made : HTMLTag → HTMLTag) → ((own : HTMLTag) → change (shown_tag own) ≡ shown_tag (made own))
-    → shown_edit.at_tag n change (document_of t) ≡ on_ok document_of (at_tag n made t)
+image-at_tag : (t : HTMLTable) (n : ℕ) (change : TagNode → TagNode) (made : HTMLTag → HTMLTag) → ((own : HTMLTag) → change (tag_view own) ≡ tag_view (made own))
+    → shown_edit.edit_tag n change (document_of t) ≡ map_ok document_of (at_tag n made t)
 image-at_tag t n change made alike =
     let ok : TagNode → Result TagNode Refusal = λ own. Ok own in
     image-at_node t n _ _ (image-of_tag (λ own. Ok (change own)) (λ own. Ok (made own)) (λ own. ap ok (alike own)))
 
 -- one of the attributes of a tag
 image-at_attributes : (t : HTMLTable) (n : ℕ) (change : Attributes (List ℕ) → Attributes (List ℕ)) (made : Attributes Kept → Attributes Kept)
-    → ((a : Attributes Kept) → shown_attributes (made a) ≡ change (shown_attributes a))
-    → shown_edit.at_tag n (λ own. record own { attributes = change own.attributes }) (document_of t) ≡ on_ok document_of (at_tag n (λ own. record own { attributes = made own.attributes }) t)
+    → ((a : Attributes Kept) → attributes_view (made a) ≡ change (attributes_view a))
+    → shown_edit.edit_tag n (λ own. record own { attributes = change own.attributes }) (document_of t) ≡ map_ok document_of (at_tag n (λ own. record own { attributes = made own.attributes }) t)
 image-at_attributes t n change made alike =
-    image-at_tag t n _ _ (λ own. ap (λ (a : Attributes (List ℕ)). record (shown_tag own) { attributes = a }) (sym (alike own.attributes)))
+    image-at_tag t n _ _ (λ own. ap (λ (a : Attributes (List ℕ)). record (tag_view own) { attributes = a }) (sym (alike own.attributes)))
 
 -- and one of its children
 image-at_children : (t : HTMLTable) (n : ℕ) (change : Handles → Result Handles Refusal)
-    → shown_edit.at_node n (shown_edit.of_tag (λ own. on_ok (λ handles. record own { children = handles }) (change own.children))) (document_of t)
-    ≡ on_ok document_of (at_node n (of_tag (λ own. on_ok (λ handles. record own { children = handles }) (change own.children))) t)
-image-at_children t n change = image-at_node t n _ _ (image-of_tag _ (λ own. on_ok (λ handles. record own { children = handles }) (change own.children)) (λ own. by own (change own.children)))
+    → shown_edit.edit_node n (shown_edit.edit_if_tag (λ own. map_ok (λ handles. record own { children = handles }) (change own.children))) (document_of t)
+    ≡ map_ok document_of (at_node n (of_tag (λ own. map_ok (λ handles. record own { children = handles }) (change own.children))) t)
+image-at_children t n change = image-at_node t n _ _ (image-of_tag _ (λ own. map_ok (λ handles. record own { children = handles }) (change own.children)) (λ own. by own (change own.children)))
   where
-    by : (own : HTMLTag) (r : Result Handles Refusal) → on_ok (λ handles. record (shown_tag own) { children = handles }) r ≡ on_ok shown_tag (on_ok (λ handles. record own { children = handles }) r)
+    by : (own : HTMLTag) (r : Result Handles Refusal) → map_ok (λ handles. record (tag_view own) { children = handles }) r ≡ map_ok tag_view (map_ok (λ handles. record own { children = handles }) r)
     by own (Ok handles) = refl
     by own (Err refusal) = refl
 
 -- an edit of a table is that edit of its document
-pub image-edited_table : (c : Change) (t : HTMLTable) → edited c (document_of t) ≡ on_ok document_of (edited_table c t)
+pub image-edited_table : (c : Change) (t : HTMLTable) → apply_change c (document_of t) ≡ map_ok document_of (edited_table c t)
 image-edited_table (Names n name) t = image-at_tag t n (λ own. record own { name = name }) (λ own. record own { name = as_owned name }) (λ own. refl)
 image-edited_table (Texts n text) t = image-at_node t n (λ _. Ok (shown_node.Raw text)) (λ _. Ok (Raw (as_owned text))) (λ node. refl)
 image-edited_table (Comments n text) t = image-at_node t n (λ _. Ok (shown_node.Comment text)) (λ _. Ok (Comment (as_owned text))) (λ node. refl)
 image-edited_table (Sets n key value) t =
     image-at_attributes t n (λ a. shown_edit.with_attribute a key (Some value)) (λ a. with_attribute a key (Some (as_owned value)))
-    (λ a. image-with_attribute shown_bytes (λ k. k) bytes_eq a (as_owned key) (Some (as_owned value)))
+    (λ a. image-with_attribute bytes_view (λ k. k) bytes_eq a (as_owned key) (Some (as_owned value)))
 image-edited_table (Flags n key) t =
-    image-at_attributes t n (λ a. shown_edit.with_attribute a key None) (λ a. with_attribute a key None) (λ a. image-with_attribute shown_bytes (λ k. k) bytes_eq a (as_owned key) None)
+    image-at_attributes t n (λ a. shown_edit.with_attribute a key None) (λ a. with_attribute a key None) (λ a. image-with_attribute bytes_view (λ k. k) bytes_eq a (as_owned key) None)
 image-edited_table (Unsets n key) t =
-    image-at_attributes t n (λ a. shown_edit.without_attribute a key) (λ a. without_attribute a key) (λ a. image-without_attribute shown_bytes (λ k. k) bytes_eq a (as_owned key))
+    image-at_attributes t n (λ a. shown_edit.without_attribute a key) (λ a. without_attribute a key) (λ a. image-without_attribute bytes_view (λ k. k) bytes_eq a (as_owned key))
 image-edited_table (Bares n key) t =
-    image-at_attributes t n (λ a. shown_edit.without_value a key) (λ a. without_value a key) (λ a. image-without_value shown_bytes (λ k. k) bytes_eq a (as_owned key))
+    image-at_attributes t n (λ a. shown_edit.without_value a key) (λ a. without_value a key) (λ a. image-without_value bytes_view (λ k. k) bytes_eq a (as_owned key))
 image-edited_table (Pushes n h) t = image-at_tag t n (λ own. record own { children = with_last room own.children h }) (λ own. record own { children = with_last room own.children h }) (λ own. refl)
 image-edited_table (Pulls n i) t = image-at_children t n (λ handles. without_handle handles i)
 image-edited_table (Roots i h) t = by (nat_lt i (length t.top))
   where
-    by : (b : Bool) → (if b then Ok (record (document_of t) { top = slice_set t.top i h }) else Err no_place) ≡ on_ok document_of (if b then Ok (record t { top = slice_set t.top i h }) else Err no_place)
+    by : (b : Bool) → (if b then Ok (record (document_of t) { top = slice_set t.top i h }) else Err no_place) ≡ map_ok document_of (if b then Ok (record t { top = slice_set t.top i h }) else Err no_place)
     by true = refl
     by false = refl
 
@@ -101,11 +101,11 @@ next-ok later (Ok t) u h = (t, refl, h)
 next-ok later (Err refusal) u h = absurd (apart refusal h)
 
 -- edits of a table are those edits of its document
-pub image-table_after : (cs : List Change) (t u : HTMLTable) → table_after cs t ≡ Ok u → edited_all cs (document_of t) ≡ all_made (document_of u)
-image-table_after [] t u h = let same : t ≡ u = cc in ap (λ v. all_made (document_of v)) same
+pub image-table_after : (cs : List Change) (t u : HTMLTable) → table_after cs t ≡ Ok u → apply_changes cs (document_of t) ≡ none_refused (document_of u)
+image-table_after [] t u h = let same : t ≡ u = cc in ap (λ v. none_refused (document_of v)) same
 image-table_after (c ∷ cs) t u h =
     let first = next-ok (table_after cs) (edited_table c t) u h in
-    ap (shown_edit.next (edited_all cs) (document_of t)) (image-edited_table c t ∙ ap (on_ok document_of) first.1) ∙ ap one_later (image-table_after cs first.0 u first.2)
+    ap (shown_edit.next (apply_changes cs) (document_of t)) (image-edited_table c t ∙ ap (map_ok document_of) first.1) ∙ ap shift_place (image-table_after cs first.0 u first.2)
 
 -- one more edit
 pub table_after-more : (c : Change) (cs : List Change) (old now new : HTMLTable) (i : ℕ) → table_after (take i cs) old ≡ Ok now → slice_get cs i ≡ Some c → edited_table c now ≡ Ok new
@@ -124,7 +124,7 @@ of_node-version : (t u : HTMLTable) (n : ℕ) (change : HTMLNode → Result HTML
 of_node-version t u n change None h = absurd (apart _ h)
 of_node-version t u n change (Some node) h = by (change node) h
   where
-    by : (r : Result HTMLNode Refusal) → on_ok (with_node t n) r ≡ Ok u → u.version ≡ t.version
+    by : (r : Result HTMLNode Refusal) → map_ok (with_node t n) r ≡ Ok u → u.version ≡ t.version
     by (Ok m) is = let same : u ≡ with_node t n m = cc in ap (λ (v : HTMLTable). v.version) same
     by (Err refusal) is = absurd (apart refusal is)
 

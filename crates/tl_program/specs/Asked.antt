@@ -6,7 +6,7 @@ use Rattle.tl_spec.specs.Edit.{Change}
 use Rattle.tl_spec.specs.Selector.{Selector}
 use Rattle.tl_spec.specs.SelectorReading.{selector_at}
 use Rattle.tl_spec.specs.SelectorText.{IsSelectorText}
-use Rattle.tl_spec.specs.StepLine.{changes_of}
+use Rattle.tl_spec.specs.StepLine.{parse_changes}
 use Rattle.tl_program.specs.Steps.{changes_in}
 use Rattle.tl_program.specs.declared.program.asked.Command.{Command}
 use Rattle.tl_program.specs.declared.program.asked.Command.TheVariants.{Print, Text, Again, Select, Id, Class, Edit}
@@ -66,7 +66,7 @@ asked_by_one word =
 -- what a word and a text after it ask for, if anything
 abbrev pub asked_by_two : List ℕ → List ℕ → Option Asked
 asked_by_two word text =
-    if bytes_eq word (codes "edit") then option_map Edits (changes_of text)
+    if bytes_eq word (codes "edit") then option_map Edits (parse_changes text)
     else if bytes_eq word (codes "select") then Some (Selects text)
     else if bytes_eq word (codes "id") then Some (FindsId text)
     else if bytes_eq word (codes "class") then Some (FindsClass text)

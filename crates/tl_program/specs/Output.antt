@@ -9,13 +9,13 @@ use Rattle.std.specs.declared.string.String.{String}
 use Rattle.tl_spec.specs.ByteClass.{largest_u32, line_feed}
 use Rattle.tl_spec.specs.Clean.{IsCleanTable}
 use Rattle.tl_spec.specs.Document.{Document, Node, document}
-use Rattle.tl_spec.specs.Edit.{Edited, Refusal, edited_all}
+use Rattle.tl_spec.specs.Edit.{Edited, Refusal, apply_changes}
 use Rattle.tl_spec.specs.Normal.{ReadsAs}
 use Rattle.tl_spec.specs.Print.{document_print}
 use Rattle.tl_spec.specs.Scan.{id_scan, class_scan}
 use Rattle.tl_spec.specs.Selector.{Selector}
 use Rattle.tl_spec.specs.Text.{inner_text}
-use Rattle.tl_spec.specs.Walk.{TreeFault, Dangling, every, trees, walk}
+use Rattle.tl_spec.specs.Walk.{TreeFault, Dangling, all_tags, trees, walk}
 use Rattle.tl.specs.Query.{matches_in}
 use Rattle.tl_page.specs.Outcome.{Outcome, joined, not_understood, outcome_of, refused, success}
 use Rattle.tl_page.specs.Page.{outcome_in}
@@ -74,7 +74,7 @@ outcome_of_document PrintsAgain selector d = outcome_of_print (document_print d)
 outcome_of_document (Selects text) selector d = outcome_of_query selector d
 outcome_of_document (FindsId id) selector d = success (number_lines (option_to_list (id_scan d.nodes id)))
 outcome_of_document (FindsClass member) selector d = success (number_lines (class_scan d.nodes member))
-outcome_of_document (Edits changes) selector d = outcome_of_edited (edited_all changes d)
+outcome_of_document (Edits changes) selector d = outcome_of_edited (apply_changes changes d)
 
 -- what is made of an input; one that is no text, or longer than 4294967295 bytes, is not understood
 abbrev pub output_of : Asked → Option Selector → List ℕ → Outcome (List ℕ)
@@ -97,7 +97,7 @@ printed_document PrintsAgain d = document_again (document_print d)
 printed_document (Selects text) d = None
 printed_document (FindsId id) d = None
 printed_document (FindsClass member) d = None
-printed_document (Edits changes) d = document_edited (edited_all changes d)
+printed_document (Edits changes) d = document_edited (apply_changes changes d)
 
 -- what a command makes of an input, by its selector
 abbrev pub command_output : Command → Option Selector → List ℕ → Outcome (List ℕ)
@@ -110,7 +110,7 @@ command_print command d = printed_document (asked_of command) d
 -- where there is a document and it is clean, the text is read as its trees
 abbrev pub ReadsBack : Option Document → List ℕ → Type 0
 ReadsBack None text = ⊤
-ReadsBack (Some d) text = IsCleanTable d.nodes d.top → ReadsAs text (trees (walk every d.nodes [] d.top))
+ReadsBack (Some d) text = IsCleanTable d.nodes d.top → ReadsAs text (trees (walk all_tags d.nodes [] d.top))
 
 -- what is given is read as the trees of this document, where there is one and it is clean
 abbrev pub PrintsBack : Option Document → Result (String Global) Failure → Type 0

@@ -3,7 +3,7 @@ use Rattle.std.specs.Prelude.{◌≡◌, ℕ, Bool, true, List, take, slice_get,
 use Rattle.std.specs.Borrow.{MutBor}
 use Rattle.tl_bytes.specs.Held.{Kept, as_owned}
 use Rattle.tl_spec.specs.Document.{Document}
-use Rattle.tl_spec.specs.Edit.{Change, Refusal, no_node, not_tag, no_place, edited, edited_all, all_made, refusal_at}
+use Rattle.tl_spec.specs.Edit.{Change, Refusal, no_node, not_tag, no_place, apply_change, apply_changes, none_refused, refusal_at}
 use Rattle.tl.specs.Node.{tag_of}
 use Rattle.tl.specs.Tag.{Tag}
 use Rattle.tl.specs.Table.{Table}
@@ -46,7 +46,7 @@ PutsNode number text Makes old new r =
 
 -- the edits of d at the places before i make e, and the edit at i is refused for this cause
 abbrev pub StopsAt : List Change → Document → Document → ℕ → StepError → Type 0
-StopsAt cs d e i NoNode = edited_all cs d ≡ refusal_at i no_node e
-StopsAt cs d e i NotTag = edited_all cs d ≡ refusal_at i not_tag e
-StopsAt cs d e i NoPlace = edited_all cs d ≡ refusal_at i no_place e
-StopsAt cs d e i OutOfMemory = (edited_all (take i cs) d ≡ all_made e) × IsSomeAnd (slice_get cs i) (λ c. IsOk (edited c e))
+StopsAt cs d e i NoNode = apply_changes cs d ≡ refusal_at i no_node e
+StopsAt cs d e i NotTag = apply_changes cs d ≡ refusal_at i not_tag e
+StopsAt cs d e i NoPlace = apply_changes cs d ≡ refusal_at i no_place e
+StopsAt cs d e i OutOfMemory = (apply_changes (take i cs) d ≡ none_refused e) × IsSomeAnd (slice_get cs i) (λ c. IsOk (apply_change c e))

@@ -6,34 +6,34 @@ use Rattle.tl_bytes.specs.Keys.{same_list}
 use Rattle.tl_spec.specs.Inline.{room, with_last}
 use Rattle.tl_spec.specs.AttributeList.{Attributes}
 use Rattle.tl_spec.specs.AttributeEdit as any
-use Rattle.tl_spec.specs.Edit.{Change, Names, Texts, Comments, Sets, Flags, Unsets, Bares, Pushes, Pulls, Roots, Refusal, no_node, not_tag, no_place, on_ok, without_handle}
-use Rattle.tl_attributes.specs.ShownAttributes.{shown_bytes}
+use Rattle.tl_spec.specs.Edit.{Change, Names, Texts, Comments, Sets, Flags, Unsets, Bares, Pushes, Pulls, Roots, Refusal, no_node, not_tag, no_place, map_ok, without_handle}
+use Rattle.tl_attributes.specs.ShownAttributes.{bytes_view}
 use Rattle.tl.specs.TableLends.{with_node}
 use Rattle.tl.specs.Shown.{HTMLTag, HTMLNode, HTMLTable}
 use Rattle.tl.specs.declared.parser.tag.node.NodeOf.TheVariants.{Tag, Raw, Comment}
 
 -- attributes with v at a key; a key that is there stays, held as it was
 abbrev pub with_attribute : Attributes Kept → List ℕ → Option Kept → Attributes Kept
-with_attribute a key v = any.with_attribute shown_bytes same_list a (as_owned key) v
+with_attribute a key v = any.with_attribute bytes_view same_list a (as_owned key) v
 
 -- attributes without a key
 abbrev pub without_attribute : Attributes Kept → List ℕ → Attributes Kept
-without_attribute a key = any.without_attribute shown_bytes same_list a (as_owned key)
+without_attribute a key = any.without_attribute bytes_view same_list a (as_owned key)
 
 -- attributes without the value at a key
 abbrev pub without_value : Attributes Kept → List ℕ → Attributes Kept
-without_value a key = any.without_value shown_bytes same_list a (as_owned key)
+without_value a key = any.without_value bytes_view same_list a (as_owned key)
 
 -- an edit of a node, if it is a tag
 abbrev pub of_tag : (HTMLTag → Result HTMLTag Refusal) → HTMLNode → Result HTMLNode Refusal
-of_tag change (Tag own) = on_ok Tag (change own)
+of_tag change (Tag own) = map_ok Tag (change own)
 of_tag change (Raw bytes) = Err not_tag
 of_tag change (Comment bytes) = Err not_tag
 
 -- an edit of a node that is there
 abbrev pub of_node : HTMLTable → ℕ → (HTMLNode → Result HTMLNode Refusal) → Option HTMLNode → Result HTMLTable Refusal
 of_node t n change None = Err no_node
-of_node t n change (Some node) = on_ok (with_node t n) (change node)
+of_node t n change (Some node) = map_ok (with_node t n) (change node)
 
 -- an edit of the node of a number
 abbrev pub at_node : ℕ → (HTMLNode → Result HTMLNode Refusal) → HTMLTable → Result HTMLTable Refusal
@@ -53,7 +53,7 @@ edited_table (Flags n key) t = at_tag n (λ own. record own { attributes = with_
 edited_table (Unsets n key) t = at_tag n (λ own. record own { attributes = without_attribute own.attributes key }) t
 edited_table (Bares n key) t = at_tag n (λ own. record own { attributes = without_value own.attributes key }) t
 edited_table (Pushes n h) t = at_tag n (λ own. record own { children = with_last room own.children h }) t
-edited_table (Pulls n i) t = at_node n (of_tag (λ own. on_ok (λ handles. record own { children = handles }) (without_handle own.children i))) t
+edited_table (Pulls n i) t = at_node n (of_tag (λ own. map_ok (λ handles. record own { children = handles }) (without_handle own.children i))) t
 edited_table (Roots i h) t = if nat_lt i (length t.top) then Ok (record t { top = slice_set t.top i h }) else Err no_place
 
 -- what later edits make of the table after an edit, unless it is refused

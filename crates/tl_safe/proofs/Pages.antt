@@ -4,14 +4,14 @@ use Rattle.tl_spec.specs.Document.{Document, document}
 use Rattle.tl_spec.specs.Forest.{forest, plain}
 use Rattle.tl_spec.specs.Print.{print}
 use Rattle.tl_spec.specs.Token.{tokens}
-use Rattle.tl_spec.specs.Walk.{every, trees, walk}
+use Rattle.tl_spec.specs.Walk.{all_tags, trees, walk}
 use Rattle.tl_spec.proofs.Order.{document-whole}
-use Rattle.tl.specs.Shown.{HTMLTable, document_of, shown}
+use Rattle.tl.specs.Shown.{HTMLTable, document_of, node_view}
 use Rattle.tl_safe.specs.Kept.{kept}
 use Rattle.tl_safe.specs.Left.{row}
 use Rattle.tl_safe.specs.Lists.{ListedWords}
 
 -- the rows of a document just read are what is kept of the trees of its text
-pub page_print : (p : ListedWords) (d : HTMLTable) (t : List ℕ) → document_of d ≡ document t → row p (map shown d.nodes) d.top ≡ print (kept p (plain (forest (tokens t))))
+pub page_print : (p : ListedWords) (d : HTMLTable) (t : List ℕ) → document_of d ≡ document t → row p (map node_view d.nodes) d.top ≡ print (kept p (plain (forest (tokens t))))
 page_print p d t e =
-    ap (λ (x : Document). print (kept p (trees (walk every x.nodes [] x.top)))) e ∙ ap (λ f. print (kept p f)) (document-whole t)
+    ap (λ (x : Document). print (kept p (trees (walk all_tags x.nodes [] x.top)))) e ∙ ap (λ f. print (kept p f)) (document-whole t)

@@ -11,7 +11,7 @@ use Rattle.std.proofs.lemmas.List.{map-append}
 use Rattle.std.proofs.lemmas.List.Folds.{list_all-append, list_any-append}
 use Rattle.std.proofs.lemmas.Map.Keys.{IsDistinct-push}
 use Rattle.tl_spec.specs.Attribute.{Pair}
-use Rattle.tl_spec.specs.AttributeList.{AreOthers, HasOwnKeys, IsOther, PlainAttributes, named, printed_pairs}
+use Rattle.tl_spec.specs.AttributeList.{AreOthers, HasOwnKeys, IsOther, PlainAttributes, pair_if_some, printed_pairs}
 use Rattle.tl_spec.specs.ByteClass.{is_void, is_printed_alone}
 use Rattle.tl_spec.specs.Clean.{HaveOwnKeys}
 use Rattle.tl_spec.specs.Forest.{Forest, none, text, comment, tag, PlainTag}
@@ -55,7 +55,7 @@ chosen b v s t e = ap (λ x. if x then s else t) e
 pairs-lossy : (a : PlainAttributes) → printed_pairs (lossy_attributes a) ≡ map lossy_pair (printed_pairs a)
 pairs-lossy a =
     sym (image-pairs_in_order utf8_lossy utf8_lossy (λ key. key) a.others a.id a.class
-    ∙ ap₂ (λ i c. map lossy_pair a.others ++ named i (option_map utf8_lossy a.id) ++ named c (option_map utf8_lossy a.class)) (lossy-ascii (codes "id") refl) (lossy-ascii (codes "class") refl))
+    ∙ ap₂ (λ i c. map lossy_pair a.others ++ pair_if_some i (option_map utf8_lossy a.id) ++ pair_if_some c (option_map utf8_lossy a.class)) (lossy-ascii (codes "id") refl) (lossy-ascii (codes "class") refl))
 
 -- keys that are distinct
 
@@ -91,26 +91,26 @@ distinct-printed a h = with_class a.class (keys_of-named a.id) (absent a.id)
     id_key : List ℕ
     id_key = codes "id"
 
-    keys_of-named : (i : Option (List ℕ)) → IsDistinct bytes_eq (keys_of (a.others ++ named (codes "id") i))
+    keys_of-named : (i : Option (List ℕ)) → IsDistinct bytes_eq (keys_of (a.others ++ pair_if_some (codes "id") i))
     keys_of-named None = subst (λ xs. IsDistinct bytes_eq (keys_of xs)) (sym (append-nil a.others)) h.distinct
     keys_of-named (Some v) =
         subst (IsDistinct bytes_eq) (sym (map-append (λ (q : Pair). q.0) a.others ((codes "id", Some v) ∷ [])))
         (IsDistinct-push nat_list_eq_equiv (keys_of a.others) (codes "id") h.distinct (no-key (codes "id") a.others (λ k o. o.0) h.others))
 
-    absent : (i : Option (List ℕ)) → list_any (bytes_eq (codes "class")) (keys_of (a.others ++ named (codes "id") i)) ≡ false
+    absent : (i : Option (List ℕ)) → list_any (bytes_eq (codes "class")) (keys_of (a.others ++ pair_if_some (codes "id") i)) ≡ false
     absent None = ap (λ xs. list_any (bytes_eq (codes "class")) (keys_of xs)) (append-nil a.others) ∙ no-key (codes "class") a.others (λ k o. o.1) h.others
     absent (Some v) =
         ap (list_any (bytes_eq (codes "class"))) (map-append (λ (q : Pair). q.0) a.others ((codes "id", Some v) ∷ []))
         ∙ list_any-append (bytes_eq (codes "class")) (keys_of a.others) (codes "id" ∷ [])
         ∙ ap (λ b. b || false) (no-key (codes "class") a.others (λ k o. o.1) h.others)
 
-    with_class : (c : Option (List ℕ)) → IsDistinct bytes_eq (keys_of (a.others ++ named (codes "id") a.id)) →
-        list_any (bytes_eq (codes "class")) (keys_of (a.others ++ named (codes "id") a.id)) ≡ false →
-        IsDistinct bytes_eq (keys_of (a.others ++ named (codes "id") a.id ++ named (codes "class") c))
-    with_class None d n = subst (λ xs. IsDistinct bytes_eq (keys_of xs)) (sym (append-nil (a.others ++ named (codes "id") a.id))) d
+    with_class : (c : Option (List ℕ)) → IsDistinct bytes_eq (keys_of (a.others ++ pair_if_some (codes "id") a.id)) →
+        list_any (bytes_eq (codes "class")) (keys_of (a.others ++ pair_if_some (codes "id") a.id)) ≡ false →
+        IsDistinct bytes_eq (keys_of (a.others ++ pair_if_some (codes "id") a.id ++ pair_if_some (codes "class") c))
+    with_class None d n = subst (λ xs. IsDistinct bytes_eq (keys_of xs)) (sym (append-nil (a.others ++ pair_if_some (codes "id") a.id))) d
     with_class (Some v) d n =
-        subst (IsDistinct bytes_eq) (sym (map-append (λ (q : Pair). q.0) (a.others ++ named (codes "id") a.id) ((codes "class", Some v) ∷ [])))
-        (IsDistinct-push nat_list_eq_equiv (keys_of (a.others ++ named (codes "id") a.id)) (codes "class") d n)
+        subst (IsDistinct bytes_eq) (sym (map-append (λ (q : Pair). q.0) (a.others ++ pair_if_some (codes "id") a.id) ((codes "class", Some v) ∷ [])))
+        (IsDistinct-push nat_list_eq_equiv (keys_of (a.others ++ pair_if_some (codes "id") a.id)) (codes "class") d n)
 
 -- texts before trees
 

@@ -6,13 +6,13 @@ use Rattle.tl_spec.specs.Document.{Node, Tag, Raw, Comment, TagNode}
 use Rattle.tl_spec.specs.Element.{children_of}
 use Rattle.tl_spec.specs.Forest.{Forest, none, text, comment, tag, PlainTag}
 use Rattle.tl_spec.specs.Met.{child_at, handle_met, met}
-use Rattle.tl_spec.specs.Order.{AreChildrenAbove}
+use Rattle.tl_spec.specs.Order.{ChildrenFollowParents}
 use Rattle.tl_spec.specs.Print.{print, print_end, print_start}
-use Rattle.tl_spec.specs.Walk.{Walk, every, handle_walk, plain_node, trees, walk}
+use Rattle.tl_spec.specs.Walk.{Walk, all_tags, handle_walk, plain_node, trees, walk}
 use Rattle.tl_spec.proofs.Identity.{not_command}
 use Rattle.tl_spec.proofs.Rising.{walk-one, met-cons, drop-some, drop-none, child_found, child_missing, given}
 use Rattle.tl_spec.proofs.Walks.{walk-nil}
-use Rattle.tl.specs.Shown.{shown}
+use Rattle.tl.specs.Shown.{node_view}
 use Rattle.tl_safe.specs.Lists.{ListedWords, is_among, opaque_names}
 use Rattle.tl_safe.specs.Refusals.{are_lawful}
 use Rattle.tl_safe.specs.Kept.{joined, kept, kept_tag}
@@ -20,7 +20,7 @@ use Rattle.tl_safe.specs.Left.{end_print, frame_print, frame_steps, handle_print
 use Rattle.tl_safe.specs.declared.walk.Frame.{Frame}
 use Rattle.tl_safe.proofs.Listed.{listed_tag}
 
-module _ (nodes : List Node) (rising : AreChildrenAbove nodes) where
+module _ (nodes : List Node) (rising : ChildrenFollowParents nodes) where
   module _ (p : ListedWords) (lawful : are_lawful p ≡ true) where
     print-joined : (f g : Forest PlainTag) → print (joined f g) ≡ print f ++ print g
     print-joined none g = refl
@@ -43,19 +43,19 @@ module _ (nodes : List Node) (rising : AreChildrenAbove nodes) where
     tag-print own inner later false false e = print-joined inner later
 
     row-by-node : (h : ℕ) (m : Walk) (o : Option Node) →
-        print (kept p (trees (handle_walk every nodes (walk every nodes []) h m false o))) ≡ handle_print p nodes o ++ print (kept p (trees m))
+        print (kept p (trees (handle_walk all_tags nodes (walk all_tags nodes []) h m false o))) ≡ handle_print p nodes o ++ print (kept p (trees m))
     row-by-node h m None = refl
     row-by-node h m (Some (Raw bytes)) = refl
     row-by-node h m (Some (Comment bytes)) = refl
     row-by-node h m (Some (Tag own)) =
-        tag-print (plain_node own) (kept p (trees (walk every nodes [] own.children.items))) (kept p (trees m))
+        tag-print (plain_node own) (kept p (trees (walk all_tags nodes [] own.children.items))) (kept p (trees m))
         (is_among p.tags own.name) (is_among_in_any_case opaque_names own.name) refl
 
     pub row-cons : (h : ℕ) (hs : List ℕ) → row p nodes (h ∷ hs) ≡ handle_print p nodes (slice_get nodes h) ++ row p nodes hs
-    row-cons h hs = ap (λ w. print (kept p (trees w))) (walk-one nodes rising h hs (slice_get nodes h) refl) ∙ row-by-node h (walk every nodes [] hs) (slice_get nodes h)
+    row-cons h hs = ap (λ w. print (kept p (trees w))) (walk-one nodes rising h hs (slice_get nodes h) refl) ∙ row-by-node h (walk all_tags nodes [] hs) (slice_get nodes h)
 
 pub row-nil : (p : ListedWords) (nodes : List Node) → row p nodes [] ≡ []
-row-nil p nodes = ap (λ w. print (kept p (trees w))) (walk-nil every nodes [])
+row-nil p nodes = ap (λ w. print (kept p (trees w))) (walk-nil all_tags nodes [])
 
 -- frames
 
@@ -135,30 +135,30 @@ steps_entered nodes own f frames new n e = let more : steps nodes new ≡ frame_
 -- one step in a frame
 
 module _ (nodes : List Node) where
-  pub closed_print : (p : ListedWords) (f : Frame) → None ≡ child_at (children_of (shown f.node.now)) f.next →
-      frame_print p nodes f ≡ end_print f.stands (shown f.node.now)
+  pub closed_print : (p : ListedWords) (f : Frame) → None ≡ child_at (children_of (node_view f.node.now)) f.next →
+      frame_print p nodes f ≡ end_print f.stands (node_view f.node.now)
   closed_print p f e =
-      let cs : List ℕ = children_of (shown f.node.now) in
-      ap (λ hs. row p nodes hs ++ end_print f.stands (shown f.node.now)) (drop-none cs f.next (child_missing f.next (slice_get cs f.next) e))
-      ∙ ap (λ s. s ++ end_print f.stands (shown f.node.now)) (row-nil p nodes)
+      let cs : List ℕ = children_of (node_view f.node.now) in
+      ap (λ hs. row p nodes hs ++ end_print f.stands (node_view f.node.now)) (drop-none cs f.next (child_missing f.next (slice_get cs f.next) e))
+      ∙ ap (λ s. s ++ end_print f.stands (node_view f.node.now)) (row-nil p nodes)
 
-  module _ (rising : AreChildrenAbove nodes) (f g : Frame) (child : ℕ) (same : g.node ≡ f.node) (alike : g.stands ≡ f.stands)
-      (found : given child g.next ≡ child_at (children_of (shown f.node.now)) f.next) where
-    later : drop f.next (children_of (shown f.node.now)) ≡ child ∷ drop g.next (children_of (shown g.node.now))
+  module _ (rising : ChildrenFollowParents nodes) (f g : Frame) (child : ℕ) (same : g.node ≡ f.node) (alike : g.stands ≡ f.stands)
+      (found : given child g.next ≡ child_at (children_of (node_view f.node.now)) f.next) where
+    later : drop f.next (children_of (node_view f.node.now)) ≡ child ∷ drop g.next (children_of (node_view g.node.now))
     later =
-        let cs : List ℕ = children_of (shown f.node.now) in
+        let cs : List ℕ = children_of (node_view f.node.now) in
         let is = child_found f.next child g.next (slice_get cs f.next) found in
-        drop-some cs f.next child is.0 ∙ ap₂ (λ n b. child ∷ drop n (children_of (shown b.now))) (sym is.1) (sym same)
+        drop-some cs f.next child is.0 ∙ ap₂ (λ n b. child ∷ drop n (children_of (node_view b.now))) (sym is.1) (sym same)
 
     pub went_on : (p : ListedWords) → are_lawful p ≡ true → (frames one : List Frame) → one ≡ frames ++ g ∷ [] →
         handle_print p nodes (slice_get nodes child) ++ owed p nodes one ≡ frame_print p nodes f ++ owed p nodes frames
     went_on p lawful frames one n =
         let hp : List ℕ = handle_print p nodes (slice_get nodes child) in
-        let rest : List ℕ = row p nodes (drop g.next (children_of (shown g.node.now))) in
-        let stop : List ℕ = end_print f.stands (shown f.node.now) in
+        let rest : List ℕ = row p nodes (drop g.next (children_of (node_view g.node.now))) in
+        let stop : List ℕ = end_print f.stands (node_view f.node.now) in
         let first : frame_print p nodes f ≡ (hp ++ rest) ++ stop =
-        ap (λ hs. row p nodes hs ++ stop) later ∙ ap (λ s. s ++ stop) (row-cons nodes rising p lawful child (drop g.next (children_of (shown g.node.now)))) in
-        let second : frame_print p nodes g ≡ rest ++ stop = ap₂ (λ s b. rest ++ end_print s (shown b.now)) alike same in
+        ap (λ hs. row p nodes hs ++ stop) later ∙ ap (λ s. s ++ stop) (row-cons nodes rising p lawful child (drop g.next (children_of (node_view g.node.now)))) in
+        let second : frame_print p nodes g ≡ rest ++ stop = ap₂ (λ s b. rest ++ end_print s (node_view b.now)) alike same in
         ap (λ s. hp ++ s) (ap (owed p nodes) n ∙ owed-push p nodes frames g ∙ ap (λ s. s ++ owed p nodes frames) second)
         ∙ sym (append_assoc hp (rest ++ stop) (owed p nodes frames))
         ∙ ap (λ s. s ++ owed p nodes frames) (sym (append_assoc hp rest stop) ∙ sym first)
@@ -167,6 +167,6 @@ module _ (nodes : List Node) where
         2 * handle_met nodes (slice_get nodes child) + steps nodes one ≡ frame_steps nodes f + steps nodes frames
     steps_on frames one n =
         let all : steps nodes one ≡ frame_steps nodes g + steps nodes frames = ap (steps nodes) n ∙ steps-push nodes frames g in
-        let before : met nodes (drop f.next (children_of (shown f.node.now))) ≡ handle_met nodes (slice_get nodes child) + met nodes (drop g.next (children_of (shown g.node.now))) =
-        ap (met nodes) later ∙ met-cons nodes rising child (drop g.next (children_of (shown g.node.now))) in
+        let before : met nodes (drop f.next (children_of (node_view f.node.now))) ≡ handle_met nodes (slice_get nodes child) + met nodes (drop g.next (children_of (node_view g.node.now))) =
+        ap (met nodes) later ∙ met-cons nodes rising child (drop g.next (children_of (node_view g.node.now))) in
         omega arith

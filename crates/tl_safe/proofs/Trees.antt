@@ -9,7 +9,7 @@ use Rattle.std.proofs.lemmas.List.{map-append}
 use Rattle.std.proofs.lemmas.List.Elements.{filter-append}
 use Rattle.std.proofs.lemmas.Map.Made.{IsDistinct-keys_filter}
 use Rattle.tl_spec.specs.Attribute.{Pair}
-use Rattle.tl_spec.specs.AttributeList.{AreOthers, HasOwnKeys, IsOther, PlainAttributes, named, printed_pairs}
+use Rattle.tl_spec.specs.AttributeList.{AreOthers, HasOwnKeys, IsOther, PlainAttributes, pair_if_some, printed_pairs}
 use Rattle.tl_spec.specs.ByteClass.{is_among_in_any_case, is_void}
 use Rattle.tl_spec.specs.Clean.{AreCleanPairs, HaveOwnKeys, IsClean, IsCleanStart, IsName}
 use Rattle.tl_spec.specs.Forest.{Forest, none, text, comment, tag, PlainTag}
@@ -49,11 +49,11 @@ module _ (p : ListedWords) where
       here true e rest = and_from _ _ e rest
       here false e rest = rest
 
-  kept-named : (key : List ℕ) (v : Option (List ℕ)) → named key (kept_value p key v) ≡ written_pairs p (named key v)
+  kept-named : (key : List ℕ) (v : Option (List ℕ)) → pair_if_some key (kept_value p key v) ≡ written_pairs p (pair_if_some key v)
   kept-named key None = refl
   kept-named key (Some v) = here (stays p (key, Some v))
     where
-      here : (b : Bool) → named key (if b then Some (written_value v) else None) ≡ map written_pair (cond b ((key, Some v) ∷ []) [])
+      here : (b : Bool) → pair_if_some key (if b then Some (written_value v) else None) ≡ map written_pair (cond b ((key, Some v) ∷ []) [])
       here true = refl
       here false = refl
 
@@ -64,8 +64,8 @@ module _ (p : ListedWords) where
   kept-printed : (a : PlainAttributes) → printed_pairs (kept_attributes p a) ≡ written_pairs p (printed_pairs a)
   kept-printed a =
       ap₂ (λ x y. (written_pairs p a.others ++ x) ++ y) (kept-named (codes "id") a.id) (kept-named (codes "class") a.class)
-      ∙ ap (λ x. x ++ written_pairs p (named (codes "class") a.class)) (sym (written_pairs-append a.others (named (codes "id") a.id)))
-      ∙ sym (written_pairs-append (a.others ++ named (codes "id") a.id) (named (codes "class") a.class))
+      ∙ ap (λ x. x ++ written_pairs p (pair_if_some (codes "class") a.class)) (sym (written_pairs-append a.others (pair_if_some (codes "id") a.id)))
+      ∙ sym (written_pairs-append (a.others ++ pair_if_some (codes "id") a.id) (pair_if_some (codes "class") a.class))
 
   pub kept-pairs : (a : PlainAttributes) → printed_pairs (kept_attributes p a) ≡ written_pairs p (printed_pairs a)
   kept-pairs a = kept-printed a

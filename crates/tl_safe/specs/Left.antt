@@ -7,8 +7,8 @@ use Rattle.tl_spec.specs.Document.{Node, Tag, Raw, Comment}
 use Rattle.tl_spec.specs.Element.{children_of}
 use Rattle.tl_spec.specs.Met.{met}
 use Rattle.tl_spec.specs.Print.{print, print_end, print_start}
-use Rattle.tl_spec.specs.Walk.{every, plain_node, trees, walk}
-use Rattle.tl.specs.Shown.{shown}
+use Rattle.tl_spec.specs.Walk.{all_tags, plain_node, trees, walk}
+use Rattle.tl.specs.Shown.{node_view}
 use Rattle.tl_safe.specs.Lists.{ListedWords, is_among, opaque_names}
 use Rattle.tl_safe.specs.Kept.{is_text_byte, kept, kept_tag}
 use Rattle.tl_safe.specs.declared.walk.Frame.{Frame}
@@ -21,7 +21,7 @@ end_print stands _ = []
 module _ (p : ListedWords) (nodes : List Node) where
   -- the print of what is kept of the nodes of these handles
   abbrev pub row : List ℕ → List ℕ
-  row hs = print (kept p (trees (walk every nodes [] hs)))
+  row hs = print (kept p (trees (walk all_tags nodes [] hs)))
 
   -- the print of what is kept of one node
   abbrev pub node_print : Node → List ℕ
@@ -41,7 +41,7 @@ module _ (p : ListedWords) (nodes : List Node) where
   -- what a frame owes
   abbrev pub frame_print : Frame → List ℕ
   frame_print f =
-      row (drop f.next (children_of (shown f.node.now))) ++ end_print f.stands (shown f.node.now)
+      row (drop f.next (children_of (node_view f.node.now))) ++ end_print f.stands (node_view f.node.now)
 
   -- what frames owe, the last first, before what comes later
   abbrev pub owed_from : List ℕ → List Frame → List ℕ
@@ -54,7 +54,7 @@ module _ (p : ListedWords) (nodes : List Node) where
 module _ (nodes : List Node) where
   -- steps that a frame takes
   abbrev pub frame_steps : Frame → ℕ
-  frame_steps f = 2 * met nodes (drop f.next (children_of (shown f.node.now))) + 1
+  frame_steps f = 2 * met nodes (drop f.next (children_of (node_view f.node.now))) + 1
 
   -- steps that frames take
   unfoldable pub steps : List Frame → ℕ

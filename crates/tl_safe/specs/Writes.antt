@@ -9,7 +9,7 @@ use Rattle.tl_spec.specs.Attribute.{Pair}
 use Rattle.tl_spec.specs.Document.{TagNode}
 use Rattle.tl_spec.specs.Print.{print_pairs, print_start, print_value}
 use Rattle.tl_spec.specs.Walk.{plain_node}
-use Rattle.tl_attributes.specs.ShownAttributes.{shown_value}
+use Rattle.tl_attributes.specs.ShownAttributes.{value_view}
 use Rattle.tl_bytes.specs.Held.{Kept}
 use Rattle.tl_safe.specs.Kept.{kept_tag, written_pairs}
 use Rattle.tl_safe.specs.Policies.{lists_of}
@@ -21,7 +21,7 @@ Adds earlier later bytes = string_bytes later ≡ string_bytes earlier ++ bytes
 
 -- a key and a value, as they are lent
 abbrev pub pair_of : List ℕ → Option (Bor Kept) → Pair
-pair_of key value = (key, shown_value (option_copied value))
+pair_of key value = (key, value_view (option_copied value))
 
 -- a space, a key and its value
 abbrev pub print_pair : Pair → List ℕ

@@ -3,8 +3,8 @@ ghost use Rattle.std.specs.Prelude.{◌≡◌, ◌++◌, ◌∷◌, ◌+◌, ◌
 ghost use Rattle.std.specs.Option.{option_copied};
 ghost use Rattle.tl_spec.specs.ByteClass.{is_among_in_any_case, is_void};
 ghost use Rattle.tl_spec.specs.Element.{children_of};
-ghost use Rattle.tl_spec.specs.Order.{AreChildrenAbove};
-ghost use Rattle.tl.specs.Shown.{shown, shown_tag};
+ghost use Rattle.tl_spec.specs.Order.{ChildrenFollowParents};
+ghost use Rattle.tl.specs.Shown.{node_view, tag_view};
 ghost use Rattle.tl_spec.specs.Met.{child_at, handle_met};
 ghost use Rattle.tl_safe.specs.Left.{end_print, frame_print, frame_steps, handle_print, owed, row, steps};
 ghost use Rattle.tl_safe.specs.Lists.{is_among, opaque_names};
@@ -48,7 +48,7 @@ fn write_opening(
     ensures stands { IfOk result (λ stands.
         stands ≡ is_among (lists_of policy.now).tags tag.now.name.list) }
     ensures ok { IfOk result (λ stands. Adds out.old out.new
-        (if stands then kept_start policy.now (shown_tag tag.now) else [])) }
+        (if stands then kept_start policy.now (tag_view tag.now) else [])) }
 {
     let stands = is_among(policy.lists.tags, tag.name().as_bytes());
     if stands {
@@ -73,11 +73,11 @@ fn visit<'s, 'a>(
     frames: &mut Vec<Frame<'s, 'a>>,
     out: &mut String,
 ) -> Result<(), AllocError>
-    ensures ok { let p = lists_of policy.now in let ns = map shown nodes.now in
+    ensures ok { let p = lists_of policy.now in let ns = map node_view nodes.now in
         OnOk result (string_bytes out.new ++ owed p ns frames.new.items
         ≡ string_bytes out.old
         ++ (handle_print p ns (slice_get ns number) ++ owed p ns frames.old.items)) }
-    ensures steps { let ns = map shown nodes.now in
+    ensures steps { let ns = map node_view nodes.now in
         OnOk result (steps ns frames.new.items
         < 2 * handle_met ns (slice_get ns number) + steps ns frames.old.items) }
 {
@@ -104,7 +104,7 @@ fn visit<'s, 'a>(
 
 // The child at a place, and the place after it.
 fn child_at(node: &Node<'_>, place: usize) -> Option<(u32, usize)>
-    ensures { result ≡ child_at (children_of (shown node.now)) place }
+    ensures { result ≡ child_at (children_of (node_view node.now)) place }
 {
     if place >= node.child_count() {
         return None;
@@ -116,7 +116,7 @@ fn child_at(node: &Node<'_>, place: usize) -> Option<(u32, usize)>
 // Writes the end tag of a tag that stands.
 fn close(frame: &Frame<'_, '_>, out: &mut String) -> Result<(), AllocError>
     ensures { OnOk result (Adds out.old out.new
-        (end_print frame.now.stands (shown frame.now.node.now))) }
+        (end_print frame.now.stands (node_view frame.now.node.now))) }
 {
     if frame.stands {
         if let Node::Tag(tag) = frame.node {
@@ -135,12 +135,12 @@ fn go_on<'s, 'a>(
     frames: &mut Vec<Frame<'s, 'a>>,
     out: &mut String,
 ) -> Result<(), AllocError>
-    requires { AreChildrenAbove (map shown nodes.now) }
-    ensures ok { let p = lists_of policy.now in let ns = map shown nodes.now in
+    requires { ChildrenFollowParents (map node_view nodes.now) }
+    ensures ok { let p = lists_of policy.now in let ns = map node_view nodes.now in
         OnOk result (string_bytes out.new ++ owed p ns frames.new.items
         ≡ string_bytes out.old
         ++ (frame_print p ns frame.entry ++ owed p ns frames.old.items)) }
-    ensures steps { let ns = map shown nodes.now in
+    ensures steps { let ns = map node_view nodes.now in
         OnOk result (steps ns frames.new.items
         < frame_steps ns frame.entry + steps ns frames.old.items) }
 {
@@ -163,9 +163,9 @@ fn finish<'s, 'a>(
     frames: &mut Vec<Frame<'s, 'a>>,
     out: &mut String,
 ) -> Result<(), AllocError>
-    requires { AreChildrenAbove (map shown nodes.now) }
+    requires { ChildrenFollowParents (map node_view nodes.now) }
     ensures ok { OnOk result (Adds out.old out.new
-        (owed (lists_of policy.now) (map shown nodes.now) frames.old.items)) }
+        (owed (lists_of policy.now) (map node_view nodes.now) frames.old.items)) }
     ensures empty { OnOk result (frames.new.items ≡ []) }
 {
     while let Some(frame) = frames.pop() {
@@ -182,9 +182,9 @@ pub(crate) fn write_row<'s, 'a>(
     handles: &[NodeHandle],
     out: &mut String,
 ) -> Result<(), AllocError>
-    requires { AreChildrenAbove (map shown nodes.now) }
+    requires { ChildrenFollowParents (map node_view nodes.now) }
     ensures { OnOk result (Adds out.old out.new
-        (row (lists_of policy.now) (map shown nodes.now) handles.now)) }
+        (row (lists_of policy.now) (map node_view nodes.now) handles.now)) }
 {
     let mut frames = Vec::new(alloc);
     for handle in handles {

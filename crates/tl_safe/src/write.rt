@@ -6,7 +6,7 @@ ghost use Rattle.tl_spec.specs.AttributeList.{printed_pairs};
 ghost use Rattle.tl_spec.specs.Print.{print_end};
 ghost use Rattle.tl_spec.specs.Walk.{plain_node};
 ghost use Rattle.tl_attributes.specs.ShownAttributes.{plain};
-ghost use Rattle.tl.specs.Shown.{shown_tag};
+ghost use Rattle.tl.specs.Shown.{tag_view};
 ghost use Rattle.tl_safe.specs.Kept.{is_text_byte, written_byte, written_pair, written_value};
 ghost use Rattle.tl_safe.specs.Writes.{Adds, kept_pairs, kept_start, pair_of, print_pair};
 
@@ -151,7 +151,7 @@ pub(crate) fn write_start(
     tag: &HTMLTag<'_>,
     out: &mut String,
 ) -> Result<(), AllocError>
-    ensures { OnOk result (Adds out.old out.new (kept_start policy.now (shown_tag tag.now))) }
+    ensures { OnOk result (Adds out.old out.new (kept_start policy.now (tag_view tag.now))) }
 {
     out.push('<')?;
     write_lossy(tag.name().as_bytes(), out)?;
@@ -162,7 +162,7 @@ pub(crate) fn write_start(
 
 // Writes an end tag.
 pub(crate) fn write_end(tag: &HTMLTag<'_>, out: &mut String) -> Result<(), AllocError>
-    ensures { OnOk result (Adds out.old out.new (print_end (plain_node (shown_tag tag.now)))) }
+    ensures { OnOk result (Adds out.old out.new (print_end (plain_node (tag_view tag.now)))) }
 {
     out.push_str("</")?;
     write_lossy(tag.name().as_bytes(), out)?;

@@ -8,7 +8,7 @@ use Rattle.tl_spec.specs.Scan.{IsFirstPlace}
 use Rattle.tl_spec.specs.Document.{Node}
 use Rattle.tl_spec.specs.Selector.{Selector, Tag, Id, Class, All, And, Or, Descendant, Parent, Attribute, AttributeValue, AttributeValueWhitespacedContains, AttributeValueStartsWith, AttributeValueEndsWith, AttributeValueSubstring}
 use Rattle.tl_spec.specs.SelectorSearch.{holds_alone}
-use Rattle.tl_selector.specs.Sides.{with_first, nested_in, selectors, first_part, others_hold}
+use Rattle.tl_selector.specs.Sides.{with_first, nested_in, selectors, first_simple, others_hold}
 use Rattle.tl_selector.specs.View.{selector}
 use Rattle.tl_selector.specs.declared.selector.Selector.{size-Selector}
 use Rattle.tl_selector.specs.declared.selector.Selector as declared
@@ -29,8 +29,8 @@ and-assoc true b c = refl
 and-assoc false b c = refl
 
 -- a selector holds alone where its first part does, and all the others do
-pub parts_hold : (e : Selector) (node : Node) → holds_alone e node ≡ (holds_alone (first_part e) node && others_hold e node)
-parts_hold (And a b) node = ap (λ h. h && holds_alone b node) (parts_hold a node) ∙ and-assoc (holds_alone (first_part a) node) (others_hold a node) (holds_alone b node)
+pub parts_hold : (e : Selector) (node : Node) → holds_alone e node ≡ (holds_alone (first_simple e) node && others_hold e node)
+parts_hold (And a b) node = ap (λ h. h && holds_alone b node) (parts_hold a node) ∙ and-assoc (holds_alone (first_simple a) node) (others_hold a node) (holds_alone b node)
 parts_hold (Or a b) node = and-true (holds_alone (Or a b) node)
 parts_hold (Descendant a b) node = refl
 parts_hold (Parent a b) node = refl
@@ -46,9 +46,9 @@ parts_hold (AttributeValueEndsWith key value) node = and-true (holds_alone (Attr
 parts_hold (AttributeValueSubstring key value) node = and-true (holds_alone (AttributeValueSubstring key value) node)
 
 -- what is first where both hold is first where the selector does
-pub first_by_parts : (e part : Selector) (xs : List Node) (first : Option ℕ) → part ≡ first_part e → IsFirstPlace (λ x. holds_alone part x && others_hold e x) xs first → IsFirstPlace (holds_alone e) xs first
+pub first_by_parts : (e part : Selector) (xs : List Node) (first : Option ℕ) → part ≡ first_simple e → IsFirstPlace (λ x. holds_alone part x && others_hold e x) xs first → IsFirstPlace (holds_alone e) xs first
 first_by_parts e part xs first h f =
-    let tests : (λ (x : Node). holds_alone (first_part e) x && others_hold e x) ≡ holds_alone e = λ i x. sym (parts_hold e x) i in
+    let tests : (λ (x : Node). holds_alone (first_simple e) x && others_hold e x) ≡ holds_alone e = λ i x. sym (parts_hold e x) i in
     subst (λ t. IsFirstPlace t xs first) tests (subst (λ p. IsFirstPlace (λ x. holds_alone p x && others_hold e x) xs first) h f)
 
 -- one more whole, of which the next is the first side

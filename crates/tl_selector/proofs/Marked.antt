@@ -7,7 +7,7 @@ use Rattle.std.proofs.lemmas.List.{get_or_past}
 use Rattle.std.proofs.lemmas.Option.{slice_get_past}
 use Rattle.tl_spec.specs.Document.{Node}
 use Rattle.tl_spec.specs.Selector.{Selector, Tag, Id, Class, All, And, Or, Descendant, Parent, Attribute, AttributeValue, AttributeValueWhitespacedContains, AttributeValueStartsWith, AttributeValueEndsWith, AttributeValueSubstring}
-use Rattle.tl_spec.specs.SelectorMeaning.{Holds, HoldsAlone, has_joint}
+use Rattle.tl_spec.specs.SelectorMeaning.{Holds, HoldsAlone, has_combinator}
 use Rattle.tl_spec.specs.Scan.{IsFirstPlace}
 use Rattle.tl_spec.specs.SelectorSearch.{holds_alone}
 use Rattle.tl_selector.specs.Marks.{is_among, is_at, AreMarks}
@@ -38,15 +38,15 @@ either None P Q h = absurd h
 either (Some d) P Q h = h
 
 -- where it asks for no ancestors, a selector holds where it holds at the node alone
-pub holds_without : (e : Selector) → has_joint e ≡ false → (g : List Node) (n : ℕ) → (Holds g e n → IsSomeAnd (slice_get g n) (HoldsAlone e)) × (IsSomeAnd (slice_get g n) (HoldsAlone e) → Holds g e n)
+pub holds_without : (e : Selector) → has_combinator e ≡ false → (g : List Node) (n : ℕ) → (Holds g e n → IsSomeAnd (slice_get g n) (HoldsAlone e)) × (IsSomeAnd (slice_get g n) (HoldsAlone e) → Holds g e n)
 holds_without (And a b) h g n =
-    let p = or_parts (has_joint a) (has_joint b) h in
+    let p = or_parts (has_combinator a) (has_combinator b) h in
     let s = holds_without a p.0 g n in
     let t = holds_without b p.1 g n in
     let o = slice_get g n in
     (λ k. both o (HoldsAlone a) (HoldsAlone b) (s.0 k.0) (t.0 k.1), λ k. (s.1 (first o (HoldsAlone a) (HoldsAlone b) k), t.1 (second o (HoldsAlone a) (HoldsAlone b) k)))
 holds_without (Or a b) h g n =
-    let p = or_parts (has_joint a) (has_joint b) h in
+    let p = or_parts (has_combinator a) (has_combinator b) h in
     let s = holds_without a p.0 g n in
     let t = holds_without b p.1 g n in
     let o = slice_get g n in (
@@ -67,14 +67,14 @@ holds_without (AttributeValueEndsWith key value) h g n = (λ k. k, λ k. k)
 holds_without (AttributeValueSubstring key value) h g n = (λ k. k, λ k. k)
 
 -- a selector that asks for no ancestors holds where its test at the node passes
-pub without_tells : (e : Selector) → has_joint e ≡ false → (g : List Node) (n : ℕ) → Decides (option_map_or (holds_alone e) (slice_get g n) false) (Holds g e n)
+pub without_tells : (e : Selector) → has_combinator e ≡ false → (g : List Node) (n : ℕ) → Decides (option_map_or (holds_alone e) (slice_get g n) false) (Holds g e n)
 without_tells e h g n =
     let s = some-passes (holds_alone e) (HoldsAlone e) (holds_alone-is e) (slice_get g n) in
     let t = holds_without e h g n in
     (λ k. t.1 (s.0 k), λ k. s.1 (t.0 k))
 
 -- marks that tell at each node whether it is in question and the selector's test passes there
-pub marks_without : (among : Option (List Bool)) (e : Selector) → has_joint e ≡ false → (g : List Node) (z : List Bool) → length z ≡ length g
+pub marks_without : (among : Option (List Bool)) (e : Selector) → has_combinator e ≡ false → (g : List Node) (z : List Bool) → length z ≡ length g
     → ((n : ℕ) → n < length g → is_at z n ≡ (is_among among n && option_map_or (holds_alone e) (slice_get g n) false)) → AreMarks among e g z
 marks_without among e h g z l f = record {
   len = l;
@@ -115,5 +115,5 @@ passes-read p None h = cc
 passes-read p (Some x) h = ap Some h
 
 -- a selector without joints that no node passes
-pub none_without : (e : Selector) → has_joint e ≡ false → (g : List Node) → IsFirstPlace (holds_alone e) g None → (n : ℕ) → Holds g e n → ⊥
+pub none_without : (e : Selector) → has_combinator e ≡ false → (g : List Node) → IsFirstPlace (holds_alone e) g None → (n : ℕ) → Holds g e n → ⊥
 none_without e h g none n k = none n (passes-read (holds_alone e) (slice_get g n) ((without_tells e h g n).1 k))

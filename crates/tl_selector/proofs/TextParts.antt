@@ -1,21 +1,21 @@
 -- How parts are nested, one after the other, and what a reader answers.
 use Rattle.std.proofs.Common.{◌≡◌, ◌≢◌, ℕ, List, refl, sym, ap, ◌∙◌, Option, Some, None, option_map, IfSome, IfNone}
-use Rattle.tl_spec.specs.Runs.{past}
+use Rattle.tl_spec.specs.Runs.{drop_while}
 use Rattle.tl_spec.specs.Selector as spec
 use Rattle.tl_spec.specs.SelectorText.{IsSelectorText, StandsAlone}
 use Rattle.tl_spec.specs.ByteClass.{is_space}
-use Rattle.tl_spec.specs.SelectorReading.{simple_at, End, Bad, next_at, joined, before_after, chain_after, selector_at}
+use Rattle.tl_spec.specs.SelectorReading.{simple_at, End, Bad, next_at, combine, list_after, complex_after, selector_at}
 use Rattle.tl_spec.proofs.SelectorText.{alone-read, text-only, text-none}
 pub use Rattle.tl_spec.proofs.SelectorText.{rest_part, rest_end, rest_bad, next_lt}
 use Rattle.tl_selector.specs.View.{selector}
 use Rattle.tl_selector.specs.declared.selector.Selector.{Selector}
 use Rattle.tl_selector.specs.Lacks.{LacksSecond}
-use Rattle.tl_selector.specs.TextViews.{link}
+use Rattle.tl_selector.specs.TextViews.{separator}
 use Rattle.tl_selector.specs.declared.text.chain.Link.{Link}
 use Rattle.tl_selector.specs.declared.text.chain.Link.TheVariants.{Comma, Step, Spaces, Touch}
 
 -- a link that is no `,` makes the chain longer
-pub kept_chain : (l : Link) (b : Option spec.Selector) (c e : spec.Selector) → (l ≡ Comma → ⊥) → (before_after (link l) b c ≡ b) × (chain_after (link l) c e ≡ joined (link l) c e)
+pub kept_chain : (l : Link) (b : Option spec.Selector) (c e : spec.Selector) → (l ≡ Comma → ⊥) → (list_after (separator l) b c ≡ b) × (complex_after (separator l) c e ≡ combine (separator l) c e)
 kept_chain Comma b c e n = absurd (n refl)
 kept_chain Step b c e n = (refl, refl)
 kept_chain Spaces b c e n = (refl, refl)
@@ -23,10 +23,10 @@ kept_chain Touch b c e n = (refl, refl)
 
 -- a part that stands alone is read, and then comes the end
 
-pub alone_some : (s : List ℕ) → StandsAlone s → simple_at (past is_space s) ≢ None
+pub alone_some : (s : List ℕ) → StandsAlone s → simple_at (drop_while is_space s) ≢ None
 alone_some s h e = let k : Some (alone-read s h).0 ≡ None = sym (alone-read s h).1 ∙ e in cc
 
-pub alone_end : (s : List ℕ) (p : spec.Selector × List ℕ) → StandsAlone s → simple_at (past is_space s) ≡ Some p → next_at p.1 ≡ End
+pub alone_end : (s : List ℕ) (p : spec.Selector × List ℕ) → StandsAlone s → simple_at (drop_while is_space s) ≡ Some p → next_at p.1 ≡ End
 alone_end s p h e =
     let a = alone-read s h in
     let k : Some a.0 ≡ Some p = sym a.1 ∙ e in
@@ -34,7 +34,7 @@ alone_end s p h e =
     ap (λ (p : spec.Selector × List ℕ). next_at p.1) (sym w) ∙ a.2
 
 -- what comes after the first part, where the second is lacking
-pub second_bad : (s : List ℕ) (p : spec.Selector × List ℕ) → LacksSecond s → simple_at (past is_space s) ≡ Some p → next_at p.1 ≡ Bad
+pub second_bad : (s : List ℕ) (p : spec.Selector × List ℕ) → LacksSecond s → simple_at (drop_while is_space s) ≡ Some p → next_at p.1 ≡ Bad
 second_bad s p h e =
     let k : Some (next_at p.1) ≡ Some Bad = sym (ap (option_map (λ first. next_at first.1)) e) ∙ h in
     cc

@@ -33,9 +33,9 @@ abbrev pub selectors : List (Bor declared.Selector) → List Selector
 selectors refs = map (λ r. selector r.now) refs
 
 -- the first of the parts that all have to hold
-abbrev pub first_part : Selector → Selector
-first_part (And a b) = first_part a
-first_part e = e
+abbrev pub first_simple : Selector → Selector
+first_simple (And a b) = first_simple a
+first_simple e = e
 
 -- whether all the others hold at a node alone
 abbrev pub others_hold : Selector → Node → Bool

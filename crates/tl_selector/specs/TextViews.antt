@@ -9,20 +9,20 @@ use Rattle.tl_selector.specs.declared.text.chain.Link.TheVariants.{Comma, Step, 
 use Rattle.tl_selector.specs.declared.text.chain.Next.{Next}
 use Rattle.tl_selector.specs.declared.text.chain.Next.TheVariants.{End, Bad, Part}
 
-abbrev pub op : Op → r.Op
-op Equals = r.Equals
-op HasPart = r.HasPart
-op StartsWith = r.StartsWith
-op EndsWith = r.EndsWith
-op Contains = r.Contains
+abbrev pub operator : Op → r.AttrOperator
+operator Equals = r.Equals
+operator HasPart = r.HasPart
+operator StartsWith = r.StartsWith
+operator EndsWith = r.EndsWith
+operator Contains = r.Contains
 
-abbrev pub link : Link → r.Link
-link Comma = r.Comma
-link Step = r.Step
-link Spaces = r.Spaces
-link Touch = r.Touch
+abbrev pub separator : Link → r.Separator
+separator Comma = r.Comma
+separator Step = r.Step
+separator Spaces = r.Spaces
+separator Touch = r.Touch
 
 abbrev pub next : Next → r.Next
 next End = r.End
 next Bad = r.Bad
-next (Part l part rest) = r.Part (link l) (selector part) rest.now
+next (Part l part rest) = r.Part (separator l) (selector part) rest.now

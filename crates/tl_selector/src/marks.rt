@@ -4,7 +4,7 @@ ghost use Rattle.std.specs.Prelude.{◌≡◌, ◌≤◌, ℕ, IsOk, IfOk, IfSom
 ghost use Rattle.std.specs.List.{All};
 ghost use Rattle.std.specs.Option.{option_copied};
 ghost use Rattle.tl_spec.specs.Element.{children_of};
-ghost use Rattle.tl_spec.specs.SelectorMeaning.{Holds, has_joint};
+ghost use Rattle.tl_spec.specs.SelectorMeaning.{Holds, has_combinator};
 ghost use Rattle.tl_selector.specs.Marks.{is_among, is_at, is_done, is_in, mark_one, spread, child_at, children_at, IsUnderMark, IsBelowMark, AreMarks};
 ghost use Rattle.tl_selector.specs.Sides.{has_sides, nested_in, selectors, with_first};
 ghost use Rattle.tl_selector.specs.View.{selector};
@@ -186,7 +186,7 @@ fn marks_alone<N: Element>(
     among: Option<&[bool]>,
     e: &Selector<'_>,
 ) -> Result<Vec<bool>, AllocError>
-    ensures { has_joint (selector e.now) ≡ false
+    ensures { has_combinator (selector e.now) ≡ false
         → IfOk result (λ marks. AreMarks (option_copied among.entry) (selector e.now)
         (map N.node nodes.now) marks.items) }
 {

@@ -2,7 +2,7 @@
 ghost use Rattle.std.specs.Prelude.{◌≡◌, ◌<◌, ◌^◌, [], length, map, false, IsOk, IfOk};
 ghost use Rattle.std.specs.Iterator.{at_most};
 ghost use Rattle.std.specs.Map.Iter.{TakesFirst};
-ghost use Rattle.tl_spec.specs.SelectorMeaning.{AreMatches, has_joint};
+ghost use Rattle.tl_spec.specs.SelectorMeaning.{AreMatches, has_combinator};
 ghost use Rattle.tl_selector.specs.View.{selector as selector_of};
 
 mod node_test;
@@ -51,7 +51,7 @@ pub fn matches_between<'s, 'n, N: Element>(
         (selector_of selector.entry) from to numbers) }
 
     // Where it asks for no ancestors it takes no memory.
-    ensures alone { has_joint (selector_of selector.entry) ≡ false → IsOk result }
+    ensures alone { has_combinator (selector_of selector.entry) ≡ false → IsOk result }
 {
     let test = test_of(alloc, selector, nodes)?;
     Ok(Matches {

@@ -1,6 +1,6 @@
 //! Whether a selector holds at a node of a table.
 ghost use Rattle.std.specs.Prelude.{IsTrue, ◌↔◌, ◌≡◌, ◌<◌, ◌≤◌, length, map, false, IsOk, IfOk, IfErr, Err};
-ghost use Rattle.tl_spec.specs.SelectorMeaning.{Holds, has_joint};
+ghost use Rattle.tl_spec.specs.SelectorMeaning.{Holds, has_combinator};
 ghost use Rattle.tl_selector.specs.View.{selector};
 
 use crate::marks::{is_marked, marks};
@@ -22,7 +22,7 @@ fn holds_at<N: Element>(
 ) -> Result<bool, AllocError>
     ensures held { IfOk result (λ held. IsTrue held
         ↔ Holds (map N.node nodes.now) (selector e.now) number) }
-    ensures alone { has_joint (selector e.now) ≡ false → IsOk result }
+    ensures alone { has_combinator (selector e.now) ≡ false → IsOk result }
 {
     if has_joint(e) {
         let marked = marks(alloc, nodes, None, e)?;
@@ -46,7 +46,7 @@ impl<'a> Selector<'a> {
             → IfErr result (λ error. error ≡ TreeError.OutOfMemory) }
 
         // Without ancestors to look for it takes no memory.
-        ensures alone { has_joint (selector self.now) ≡ false
+        ensures alone { has_combinator (selector self.now) ≡ false
             → handle < length (T.nodes table.now) → IsOk result }
     {
         let number = handle.get_inner() as usize;

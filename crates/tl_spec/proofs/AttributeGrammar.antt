@@ -14,7 +14,7 @@ use Rattle.indexmap.specs.IndexSet.{insert_key}
 use Rattle.tl_spec.specs.Attribute.{Pair}
 use Rattle.tl_spec.specs.AttributeList.{PlainAttributes, IsOther, attributes_of, is_id, is_class, no_attributes, with_pair}
 use Rattle.tl_spec.specs.AttributeGrammar.{AreAttributesOf, distinct_keys, last_value, other_keys}
-use Rattle.tl_spec.proofs.ByKey.{by_key-all}
+use Rattle.tl_spec.proofs.ByKey.{choose_by_key-all}
 
 same_key : (k l : List ℕ) → bytes_eq k l ≡ true → k ≡ l
 same_key k l e = (bytes_eq-Decides k l).0 e
@@ -53,8 +53,8 @@ filter-push test ks k =
     by false h true = refl
     by false h false = filter-append test ks (k ∷ []) ∙ ap (λ l. filter test ks ++ l) (cond-false (test k) _ _ h) ∙ append-nil (filter test ks)
 
-insert-past : (l k : List ℕ) (ks : List (List ℕ)) → bytes_eq k l ≡ false → insert_key bytes_eq (l ∷ ks) k ≡ l ∷ insert_key bytes_eq ks k
-insert-past l k ks h = ap (λ first. if (first || list_any (bytes_eq k) ks) then l ∷ ks else (l ∷ ks) ++ k ∷ []) h ∙ tail (list_any (bytes_eq k) ks)
+insert-drop_while : (l k : List ℕ) (ks : List (List ℕ)) → bytes_eq k l ≡ false → insert_key bytes_eq (l ∷ ks) k ≡ l ∷ insert_key bytes_eq ks k
+insert-drop_while l k ks h = ap (λ first. if (first || list_any (bytes_eq k) ks) then l ∷ ks else (l ∷ ks) ++ k ∷ []) h ∙ tail (list_any (bytes_eq k) ks)
   where
     tail : (there : Bool) → (if there then l ∷ ks else (l ∷ ks) ++ k ∷ []) ≡ l ∷ (if there then ks else ks ++ k ∷ [])
     tail true = refl
@@ -76,7 +76,7 @@ keys-push (d ∷ done) p =
         → d.0 ∷ (if not (bytes_eq d.0 p.0) then insert_key bytes_eq (filter (λ key. not (bytes_eq d.0 key)) (distinct_keys done)) p.0 else filter (λ key. not (bytes_eq d.0 key)) (distinct_keys done))
         ≡ insert_key bytes_eq (distinct_keys (d ∷ done)) p.0
     by true h = ap (λ l. d.0 ∷ l) (cond-false (not (bytes_eq d.0 p.0)) _ _ (ap not h)) ∙ sym (insert-here d.0 p.0 _ (nat_list_eq_equiv.symm p.0 d.0 ∙ h))
-    by false h = ap (λ l. d.0 ∷ l) (cond-true (not (bytes_eq d.0 p.0)) _ _ (ap not h)) ∙ sym (insert-past d.0 p.0 _ (nat_list_eq_equiv.symm p.0 d.0 ∙ h))
+    by false h = ap (λ l. d.0 ∷ l) (cond-true (not (bytes_eq d.0 p.0)) _ _ (ap not h)) ∙ sym (insert-drop_while d.0 p.0 _ (nat_list_eq_equiv.symm p.0 d.0 ∙ h))
 
 abbrev is_other : List ℕ → Bool
 is_other key = not (is_id key || is_class key)
@@ -111,7 +111,7 @@ module _ (k : List ℕ) (v : Option (List ℕ)) (old new : List ℕ → Option (
       by false e later =
           cond-false (bytes_eq k l) _ _ e
           ∙ ap₂ (λ w es. (l, w) ∷ es) (sym (elsewhere l (nat_list_eq_equiv.symm l k ∙ e))) later
-          ∙ sym (ap (valued new) (insert-past l k ks e))
+          ∙ sym (ap (valued new) (insert-drop_while l k ks e))
 
 -- a filter keeps keys distinct
 
@@ -176,7 +176,7 @@ module _ (done : List Pair) (p : Pair) (a : PlainAttributes) (h : AreAttributesO
 
   attributes-push : AreAttributesOf (done ++ p ∷ []) (with_pair a p)
   attributes-push =
-      by_key-all (AreAttributesOf (done ++ p ∷ [])) p.0 _ _ _
+      choose_by_key-all (AreAttributesOf (done ++ p ∷ [])) p.0 _ _ _
       (λ i. record {
         others = others-stay (ap (λ x. not (x || is_class p.0)) i);
         id = like (codes "id") i;

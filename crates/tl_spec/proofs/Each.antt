@@ -9,7 +9,7 @@ use Rattle.tl_spec.specs.Forest.{Forest, none, text, comment, tag, PlainTag, for
 use Rattle.tl_spec.specs.Normal.{lossy, join_text, join_comment, tidy, norm, ReadsAs}
 use Rattle.tl_spec.specs.Print.{document_print, print}
 use Rattle.tl_spec.specs.Token.{tokens}
-use Rattle.tl_spec.specs.Walk.{TreeFault, Walk, end, meets_text, meets_comment, meets_tag, passes_tag, meets_fault, every, prints_children, walk, walk_of, walk_within, row_walk, handle_walk, node_walk, tag_walk, stands_on, trees, first_fault, or_else, unless}
+use Rattle.tl_spec.specs.Walk.{TreeFault, Walk, end, meets_text, meets_comment, meets_tag, passes_tag, meets_fault, all_tags, prints_children, walk, walk_of, walk_within, row_walk, handle_walk, node_walk, tag_walk, stands_on, trees, first_fault, earlier_fault, fault_or}
 
 -- walks
 
@@ -52,11 +52,11 @@ each-walk_of P enters nodes node all p = each-node P enters nodes (at P nodes al
 
 -- cleanness
 
-none_first : (a b : Option TreeFault) → or_else a b ≡ None → a ≡ None
+none_first : (a b : Option TreeFault) → earlier_fault a b ≡ None → a ≡ None
 none_first None b h = refl
 none_first (Some e) b h = h
 
-none_second : (a b : Option TreeFault) → or_else a b ≡ None → b ≡ None
+none_second : (a b : Option TreeFault) → earlier_fault a b ≡ None → b ≡ None
 none_second None b h = h
 none_second (Some e) b h = absurd (cc)
 
@@ -73,7 +73,7 @@ clean-walk (meets_fault e more) h n = absurd (cc)
 pub clean-table : (d : Document) → All IsCleanAlone d.nodes → first_fault (walk prints_children d.nodes [] d.top) ≡ None → IsCleanTable d.nodes d.top
 clean-table d all n = clean-walk (walk prints_children d.nodes [] d.top) (each-walk IsCleanAlone prints_children d.nodes [] d.top all) n
 
-no_fault : (o : Option TreeFault) (t s : List ℕ) → unless o t ≡ Ok s → o ≡ None
+no_fault : (o : Option TreeFault) (t s : List ℕ) → fault_or o t ≡ Ok s → o ≡ None
 no_fault None t s h = refl
 no_fault (Some e) t s h = absurd (cc)
 
@@ -122,8 +122,8 @@ pub norm-hold : (t : Tests) (f : Forest PlainTag) → HoldOfJoined t → HoldOfT
 norm-hold t f joins h = tidy-hold t joins (lossy f) (lossy-hold t f h)
 
 -- so what holds of all nodes, made text, holds of what is read of a text that is read as their trees
-pub read-hold : (t : Tests) (d : Document) (s : List ℕ) → HoldOfJoined t → All (HoldOfNode (of_lossy t)) d.nodes → ReadsAs s (trees (walk every d.nodes [] d.top)) →
+pub read-hold : (t : Tests) (d : Document) (s : List ℕ) → HoldOfJoined t → All (HoldOfNode (of_lossy t)) d.nodes → ReadsAs s (trees (walk all_tags d.nodes [] d.top)) →
     HoldOfTrees t (plain (forest (tokens s)))
 read-hold t d s joins all reads =
-    let w : Walk = walk every d.nodes [] d.top in
-    subst (HoldOfTrees t) (sym reads.trees) (norm-hold t (trees w) joins (trees-hold (of_lossy t) w (each-walk (HoldOfNode (of_lossy t)) every d.nodes [] d.top all)))
+    let w : Walk = walk all_tags d.nodes [] d.top in
+    subst (HoldOfTrees t) (sym reads.trees) (norm-hold t (trees w) joins (trees-hold (of_lossy t) w (each-walk (HoldOfNode (of_lossy t)) all_tags d.nodes [] d.top all)))

@@ -4,48 +4,48 @@ use Rattle.std.proofs.Math.Nat.{suc-add}
 use Rattle.std.proofs.Math.ListN.{length-set}
 use Rattle.std.specs.List.{slice_get}
 use Rattle.tl_spec.specs.Document.{Handles, TagNode, Node, Tag, Raw, Comment, Document}
-use Rattle.tl_spec.specs.Edit.{Change, Refusal, no_node, not_tag, without_handle, of_tag, at_tag, edited, Edited, edited_all, all_made, refusal_at, one_later, next, Names, Texts, Comments, Sets, Flags, Unsets, Bares, Pushes, Pulls, Roots, on_ok, of_node, no_place}
-use Rattle.tl_spec.specs.Edits.{later, KeepsSource, KeepsShape}
+use Rattle.tl_spec.specs.Edit.{Change, Refusal, no_node, not_tag, without_handle, edit_if_tag, edit_tag, apply_change, Edited, apply_changes, none_refused, refusal_at, shift_place, next, Names, Texts, Comments, Sets, Flags, Unsets, Bares, Pushes, Pulls, Roots, map_ok, edit_if_found, no_place}
+use Rattle.tl_spec.specs.Edits.{shift_place_by, KeepsSource, KeepsShape}
 
 -- where the later edits are done, they were done at the earlier place too
-done-one_later : (w : Edited) (e : Document) → one_later w ≡ all_made e → w ≡ all_made e
-done-one_later w e h = λ t. record { document = ap (λ (x : Edited). x.document) h t; refused = none w.refused (ap (λ (x : Edited). x.refused) h) t }
+done-shift_place : (w : Edited) (e : Document) → shift_place w ≡ none_refused e → w ≡ none_refused e
+done-shift_place w e h = λ t. record { document = ap (λ (x : Edited). x.document) h t; refused = none w.refused (ap (λ (x : Edited). x.refused) h) t }
   where
     none : (o : Option (ℕ × Refusal)) → option_map {U = ℕ × Refusal} (λ r. (suc r.0, r.1)) o ≡ None → o ≡ None
     none None is = refl
     none (Some r) is = cc
 
 -- edits are done where the first is, and then the others
-done-next : (later : Document → Edited) (d e : Document) (r : Result Document Refusal) → next later d r ≡ all_made e → (f : Document) × (r ≡ Ok f) × (later f ≡ all_made e)
-done-next later d e (Ok f) h = (f, refl, done-one_later (later f) e h)
-done-next later d e (Err x) h = absurd (apart (0, x) (ap (λ (w : Edited). w.refused) h))
+done-next : (shift_place_by : Document → Edited) (d e : Document) (r : Result Document Refusal) → next shift_place_by d r ≡ none_refused e → (f : Document) × (r ≡ Ok f) × (shift_place_by f ≡ none_refused e)
+done-next shift_place_by d e (Ok f) h = (f, refl, done-shift_place (shift_place_by f) e h)
+done-next shift_place_by d e (Err x) h = absurd (apart (0, x) (ap (λ (w : Edited). w.refused) h))
   where
     apart : (r : ℕ × Refusal) → Some r ≡ None → ⊥
     apart r same = cc
 
 module _ (c : Change) (e : Document) where
   -- an edit that is refused
-  pub edited_all-refused : (cs : List Change) (d : Document) (i : ℕ) (refusal : Refusal) → edited_all (take i cs) d ≡ all_made e → slice_get cs i ≡ Some c → edited c e ≡ Err refusal → edited_all cs d ≡ refusal_at i refusal e
-  edited_all-refused [] d i refusal before here refuses = cc
-  edited_all-refused (b ∷ cs) d zero refusal before here refuses =
+  pub apply_changes-refused : (cs : List Change) (d : Document) (i : ℕ) (refusal : Refusal) → apply_changes (take i cs) d ≡ none_refused e → slice_get cs i ≡ Some c → apply_change c e ≡ Err refusal → apply_changes cs d ≡ refusal_at i refusal e
+  apply_changes-refused [] d i refusal before here refuses = cc
+  apply_changes-refused (b ∷ cs) d zero refusal before here refuses =
       let first : b ≡ c = cc in
       let start : d ≡ e = ap (λ (w : Edited). w.document) before in
-      (λ t. next (edited_all cs) (start t) (edited (first t) (start t))) ∙ ap (next (edited_all cs) e) refuses
-  edited_all-refused (b ∷ cs) d (suc i) refusal before here refuses =
-      let first = done-next (edited_all (take i cs)) d e (edited b d) before in
-      ap (next (edited_all cs) d) first.1 ∙ ap one_later (edited_all-refused cs first.0 i refusal first.2 here refuses)
+      (λ t. next (apply_changes cs) (start t) (apply_change (first t) (start t))) ∙ ap (next (apply_changes cs) e) refuses
+  apply_changes-refused (b ∷ cs) d (suc i) refusal before here refuses =
+      let first = done-next (apply_changes (take i cs)) d e (apply_change b d) before in
+      ap (next (apply_changes cs) d) first.1 ∙ ap shift_place (apply_changes-refused cs first.0 i refusal first.2 here refuses)
 
 apart : {A : Type 0} {x : A} (refusal : Refusal) → Err refusal ≡ Ok x → ⊥
 apart refusal is = cc
 
-later-zero : (w : Edited) → later 0 w ≡ w
+later-zero : (w : Edited) → shift_place_by 0 w ≡ w
 later-zero w = λ t. record { document = w.document; refused = same w.refused t }
   where
     same : (o : Option (ℕ × Refusal)) → option_map {U = ℕ × Refusal} (λ r. (0 + r.0, r.1)) o ≡ o
     same None = refl
     same (Some r) = ap (λ (n : ℕ). Some (n, r.1)) (zero-add r.0)
 
-later-suc : (n : ℕ) (w : Edited) → one_later (later n w) ≡ later (suc n) w
+later-suc : (n : ℕ) (w : Edited) → shift_place (shift_place_by n w) ≡ shift_place_by (suc n) w
 later-suc n w = λ t. record { document = w.document; refused = same w.refused t }
   where
     same : (o : Option (ℕ × Refusal)) → option_map {U = ℕ × Refusal} (λ r. (suc r.0, r.1)) (option_map {U = ℕ × Refusal} (λ r. (n + r.0, r.1)) o) ≡ option_map {U = ℕ × Refusal} (λ r. (suc n + r.0, r.1)) o
@@ -53,25 +53,25 @@ later-suc n w = λ t. record { document = w.document; refused = same w.refused t
     same (Some r) = ap (λ (m : ℕ). Some (m, r.1)) (sym (suc-add n r.0))
 
 -- what later edits make after edits that were done
-pub edited_all-append : (cs ds : List Change) (d e : Document) → edited_all cs d ≡ all_made e → edited_all (cs ++ ds) d ≡ later (length cs) (edited_all ds e)
-edited_all-append [] ds d e before = ap (edited_all ds) (ap (λ (w : Edited). w.document) before) ∙ sym (later-zero (edited_all ds e))
-edited_all-append (c ∷ cs) ds d e before =
-    let first = done-next (edited_all cs) d e (edited c d) before in
-    ap (next (edited_all (cs ++ ds)) d) first.1 ∙ ap one_later (edited_all-append cs ds first.0 e first.2) ∙ later-suc (length cs) (edited_all ds e)
+pub apply_changes-append : (cs ds : List Change) (d e : Document) → apply_changes cs d ≡ none_refused e → apply_changes (cs ++ ds) d ≡ shift_place_by (length cs) (apply_changes ds e)
+apply_changes-append [] ds d e before = ap (apply_changes ds) (ap (λ (w : Edited). w.document) before) ∙ sym (later-zero (apply_changes ds e))
+apply_changes-append (c ∷ cs) ds d e before =
+    let first = done-next (apply_changes cs) d e (apply_change c d) before in
+    ap (next (apply_changes (cs ++ ds)) d) first.1 ∙ ap shift_place (apply_changes-append cs ds first.0 e first.2) ∙ later-suc (length cs) (apply_changes ds e)
 
 -- what comes after a refused edit is left out
-pub edited_all-left_out : (cs ds : List Change) (d : Document) (r : ℕ × Refusal) → (edited_all cs d).refused ≡ Some r → edited_all (cs ++ ds) d ≡ edited_all cs d
-edited_all-left_out [] ds d r refuses = cc
-edited_all-left_out (c ∷ cs) ds d r refuses = by (edited_all-left_out cs ds) (edited c d) refuses
+pub apply_changes-left_out : (cs ds : List Change) (d : Document) (r : ℕ × Refusal) → (apply_changes cs d).refused ≡ Some r → apply_changes (cs ++ ds) d ≡ apply_changes cs d
+apply_changes-left_out [] ds d r refuses = cc
+apply_changes-left_out (c ∷ cs) ds d r refuses = by (apply_changes-left_out cs ds) (apply_change c d) refuses
   where
     earlier : (o : Option (ℕ × Refusal)) → option_map {U = ℕ × Refusal} (λ r. (suc r.0, r.1)) o ≡ Some r → (q : ℕ × Refusal) × (o ≡ Some q)
     earlier None is = cc
     earlier (Some q) is = (q, refl)
 
-    by : ((f : Document) (q : ℕ × Refusal) → (edited_all cs f).refused ≡ Some q → edited_all (cs ++ ds) f ≡ edited_all cs f) →
-        (o : Result Document Refusal) → (next (edited_all cs) d o).refused ≡ Some r → next (edited_all (cs ++ ds)) d o ≡ next (edited_all cs) d o
-    by later (Ok f) is = let q = earlier (edited_all cs f).refused is in ap one_later (later f q.0 q.1)
-    by later (Err refusal) is = refl
+    by : ((f : Document) (q : ℕ × Refusal) → (apply_changes cs f).refused ≡ Some q → apply_changes (cs ++ ds) f ≡ apply_changes cs f) →
+        (o : Result Document Refusal) → (next (apply_changes cs) d o).refused ≡ Some r → next (apply_changes (cs ++ ds)) d o ≡ next (apply_changes cs) d o
+    by shift_place_by (Ok f) is = let q = earlier (apply_changes cs f).refused is in ap shift_place (shift_place_by f q.0 q.1)
+    by shift_place_by (Err refusal) is = refl
 
 -- an edit of a node that is not refused
 source-same : (x : Node) → KeepsSource x x
@@ -102,15 +102,15 @@ sources-set (z ∷ nodes) (suc n) node m there kept (suc i) x y old new = source
 abbrev IsKept : (Node → Result Node Refusal) → Type 0
 IsKept change = (x m : Node) → change x ≡ Ok m → KeepsSource x m
 
-of_tag-kept : (change : TagNode → TagNode) → ((own : TagNode) → ((change own).raw ≡ own.raw) × ((change own).start ≡ own.start)) → IsKept (of_tag (λ own. Ok (change own)))
-of_tag-kept change same (Tag own) m is = let made : Tag (change own) ≡ m = cc in subst (KeepsSource (Tag own)) made (same own)
-of_tag-kept change same (Raw bytes) m is = absurd (apart not_tag is)
-of_tag-kept change same (Comment bytes) m is = absurd (apart not_tag is)
+edit_if_tag-kept : (change : TagNode → TagNode) → ((own : TagNode) → ((change own).raw ≡ own.raw) × ((change own).start ≡ own.start)) → IsKept (edit_if_tag (λ own. Ok (change own)))
+edit_if_tag-kept change same (Tag own) m is = let made : Tag (change own) ≡ m = cc in subst (KeepsSource (Tag own)) made (same own)
+edit_if_tag-kept change same (Raw bytes) m is = absurd (apart not_tag is)
+edit_if_tag-kept change same (Comment bytes) m is = absurd (apart not_tag is)
 
-without_handle-kept : (i : ℕ) → IsKept (of_tag (λ own. on_ok (λ handles. record own { children = handles }) (without_handle own.children i)))
+without_handle-kept : (i : ℕ) → IsKept (edit_if_tag (λ own. map_ok (λ handles. record own { children = handles }) (without_handle own.children i)))
 without_handle-kept i (Tag own) m is = by (without_handle own.children i) is
   where
-    by : (r : Result Handles Refusal) → on_ok Tag (on_ok (λ handles. record own { children = handles }) r) ≡ Ok m → KeepsSource (Tag own) m
+    by : (r : Result Handles Refusal) → map_ok Tag (map_ok (λ handles. record own { children = handles }) r) ≡ Ok m → KeepsSource (Tag own) m
     by (Ok handles) same = let made : Tag (record own { children = handles }) ≡ m = cc in subst (KeepsSource (Tag own)) made (refl, refl)
     by (Err refusal) same = absurd (apart refusal same)
 without_handle-kept i (Raw bytes) m is = absurd (apart not_tag is)
@@ -132,28 +132,28 @@ comment-kept text x m is = let made : Comment text ≡ m = cc in subst (KeepsSou
     by (Raw bytes) = tt
     by (Comment bytes) = tt
 
-of_node-keeps : (d e : Document) (n : ℕ) (change : Node → Result Node Refusal) → IsKept change → (o : Option Node) → slice_get d.nodes n ≡ o → of_node d n change o ≡ Ok e → KeepsShape d e
-of_node-keeps d e n change kept None there is = absurd (apart no_node is)
-of_node-keeps d e n change kept (Some node) there is = by (change node) refl is
+edit_if_found-keeps : (d e : Document) (n : ℕ) (change : Node → Result Node Refusal) → IsKept change → (o : Option Node) → slice_get d.nodes n ≡ o → edit_if_found d n change o ≡ Ok e → KeepsShape d e
+edit_if_found-keeps d e n change kept None there is = absurd (apart no_node is)
+edit_if_found-keeps d e n change kept (Some node) there is = by (change node) refl is
   where
-    by : (r : Result Node Refusal) → change node ≡ r → on_ok (λ m. record d { nodes = slice_set d.nodes n m }) r ≡ Ok e → KeepsShape d e
+    by : (r : Result Node Refusal) → change node ≡ r → map_ok (λ m. record d { nodes = slice_set d.nodes n m }) r ≡ Ok e → KeepsShape d e
     by (Err refusal) made same = absurd (apart refusal same)
     by (Ok m) made same = let is_e : record d { nodes = slice_set d.nodes n m } ≡ e = cc in
         subst (KeepsShape d) is_e (record { nodes = length-set d.nodes n m; top = refl; sources = sources-set d.nodes n node m there (kept node m made); version = refl })
 
-of_tag-keeps : (d e : Document) (n : ℕ) (change : TagNode → TagNode) → ((own : TagNode) → ((change own).raw ≡ own.raw) × ((change own).start ≡ own.start)) → at_tag n change d ≡ Ok e → KeepsShape d e
-of_tag-keeps d e n change same is = of_node-keeps d e n (of_tag (λ own. Ok (change own))) (of_tag-kept change same) (slice_get d.nodes n) refl is
+edit_if_tag-keeps : (d e : Document) (n : ℕ) (change : TagNode → TagNode) → ((own : TagNode) → ((change own).raw ≡ own.raw) × ((change own).start ≡ own.start)) → edit_tag n change d ≡ Ok e → KeepsShape d e
+edit_if_tag-keeps d e n change same is = edit_if_found-keeps d e n (edit_if_tag (λ own. Ok (change own))) (edit_if_tag-kept change same) (slice_get d.nodes n) refl is
 
-pub edited-keeps : (c : Change) (d e : Document) → edited c d ≡ Ok e → KeepsShape d e
-edited-keeps (Names n name) d e is = of_tag-keeps d e n _ (λ own. (refl, refl)) is
-edited-keeps (Texts n text) d e is = of_node-keeps d e n (λ _. Ok (Raw text)) (text-kept text) (slice_get d.nodes n) refl is
-edited-keeps (Comments n text) d e is = of_node-keeps d e n (λ _. Ok (Comment text)) (comment-kept text) (slice_get d.nodes n) refl is
-edited-keeps (Sets n key value) d e is = of_tag-keeps d e n _ (λ own. (refl, refl)) is
-edited-keeps (Flags n key) d e is = of_tag-keeps d e n _ (λ own. (refl, refl)) is
-edited-keeps (Unsets n key) d e is = of_tag-keeps d e n _ (λ own. (refl, refl)) is
-edited-keeps (Bares n key) d e is = of_tag-keeps d e n _ (λ own. (refl, refl)) is
-edited-keeps (Pushes n h) d e is = of_tag-keeps d e n _ (λ own. (refl, refl)) is
-edited-keeps (Pulls n i) d e is = of_node-keeps d e n _ (without_handle-kept i) (slice_get d.nodes n) refl is
+pub edited-keeps : (c : Change) (d e : Document) → apply_change c d ≡ Ok e → KeepsShape d e
+edited-keeps (Names n name) d e is = edit_if_tag-keeps d e n _ (λ own. (refl, refl)) is
+edited-keeps (Texts n text) d e is = edit_if_found-keeps d e n (λ _. Ok (Raw text)) (text-kept text) (slice_get d.nodes n) refl is
+edited-keeps (Comments n text) d e is = edit_if_found-keeps d e n (λ _. Ok (Comment text)) (comment-kept text) (slice_get d.nodes n) refl is
+edited-keeps (Sets n key value) d e is = edit_if_tag-keeps d e n _ (λ own. (refl, refl)) is
+edited-keeps (Flags n key) d e is = edit_if_tag-keeps d e n _ (λ own. (refl, refl)) is
+edited-keeps (Unsets n key) d e is = edit_if_tag-keeps d e n _ (λ own. (refl, refl)) is
+edited-keeps (Bares n key) d e is = edit_if_tag-keeps d e n _ (λ own. (refl, refl)) is
+edited-keeps (Pushes n h) d e is = edit_if_tag-keeps d e n _ (λ own. (refl, refl)) is
+edited-keeps (Pulls n i) d e is = edit_if_found-keeps d e n _ (without_handle-kept i) (slice_get d.nodes n) refl is
 edited-keeps (Roots i h) d e is = by (nat_lt i (length d.top)) is
   where
     by : (b : Bool) → (if b then Ok (record d { top = slice_set d.top i h }) else Err no_place) ≡ Ok e → KeepsShape d e

@@ -9,12 +9,12 @@ use Rattle.tl_spec.specs.Clean.{HaveOwnKeys, MeetsOwnKeys}
 use Rattle.tl_spec.specs.Document.{Comment, Node, Raw, Tag, TagNode}
 use Rattle.tl_spec.specs.Print.{print, print_end, print_start, print_of_event}
 use Rattle.tl_spec.specs.Text.{text_of, event_text}
-use Rattle.tl_spec.specs.Walk.{Cycle, Dangling, Event, TreeFault, Walk, end, events, fault_among, faulty, first_fault, handle_walk, leaves, meets, meets_comment, meets_fault, meets_tag, meets_text, node_walk, or_else, passes_tag, plain_node, row_walk, prints_children, stands_on, tag_walk, trees, walk, walk_of, walk_within}
+use Rattle.tl_spec.specs.Walk.{Cycle, Dangling, Event, TreeFault, Walk, end, events, fault_among, faulty, first_fault, handle_walk, leaves, meets, meets_comment, meets_fault, meets_tag, meets_text, node_walk, earlier_fault, passes_tag, plain_node, row_walk, prints_children, stands_on, tag_walk, trees, walk, walk_of, walk_within}
 use Rattle.tl_spec.proofs.Walks.{walk-cons, walk-nil}
 
 -- faults
 
-fault_among-append : (es later : List Event) → fault_among (es ++ later) ≡ or_else (fault_among es) (fault_among later)
+fault_among-append : (es later : List Event) → fault_among (es ++ later) ≡ earlier_fault (fault_among es) (fault_among later)
 fault_among-append [] later = refl
 fault_among-append (meets h node ∷ es) later = fault_among-append es later
 fault_among-append (leaves own ∷ es) later = fault_among-append es later
@@ -26,7 +26,7 @@ first_fault-events end = refl
 first_fault-events (meets_text h bytes more) = first_fault-events more
 first_fault-events (meets_comment h bytes more) = first_fault-events more
 first_fault-events (meets_tag h own children more) =
-    ap₂ or_else (first_fault-events children) (first_fault-events more) ∙ sym (fault_among-append (events children) (leaves own ∷ events more))
+    ap₂ earlier_fault (first_fault-events children) (first_fault-events more) ∙ sym (fault_among-append (events children) (leaves own ∷ events more))
 first_fault-events (passes_tag h own more) = first_fault-events more
 first_fault-events (meets_fault e more) = refl
 
@@ -185,8 +185,8 @@ print-walk nodes path hs = print-events (walk prints_children nodes path hs) (En
 
 -- calls on a node, by the events below it
 
-or_else-none : (o : Option TreeFault) → or_else o None ≡ o
-or_else-none None = refl
-or_else-none (Some e) = refl
+earlier_fault-none : (o : Option TreeFault) → earlier_fault o None ≡ o
+earlier_fault-none None = refl
+earlier_fault-none (Some e) = refl
 
 -- texts and comments

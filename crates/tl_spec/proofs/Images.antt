@@ -8,7 +8,7 @@ use Rattle.std.proofs.Math.ListN.{get_or-map}
 use Rattle.indexmap.specs.IndexMap.{insert_entry, swap_remove_entry}
 use Rattle.indexmap.proofs.MapLemmas.{some_index}
 use Rattle.tl_spec.specs.Inline.{InlineMap, room, with_entry, with_value, without_key, pair_image, map_image}
-use Rattle.tl_spec.specs.AttributeList.{AreOthers, Attributes, AttributesOf, is_id, is_class, by_key, with_at, named, pairs_in_order, attributes_image}
+use Rattle.tl_spec.specs.AttributeList.{AreOthers, Attributes, AttributesOf, is_id, is_class, choose_by_key, set_at, pair_if_some, pairs_in_order, attributes_image}
 use Rattle.tl_spec.specs.AttributeEdit.{with_attribute, without_attribute, without_value}
 use Rattle.tl_spec.proofs.Pairs.{position-map}
 
@@ -90,17 +90,17 @@ module _ {K L V W : Type 0} (f : K → L) (g : V → W) (eq : L → L → Bool) 
   image-without_key m k = λ t. record { entries = image-swap_remove_entry m.entries k t; on_heap = m.on_heap }
 
 -- what a function makes of a choice by a key
-pub by_key-image : {A C : Type 0} (f : A → C) (key : List ℕ) (x y z : A) → f (by_key key x y z) ≡ by_key key (f x) (f y) (f z)
-by_key-image f key x y z = by (is_id key) (is_class key)
+pub choose_by_key-image : {A C : Type 0} (f : A → C) (key : List ℕ) (x y z : A) → f (choose_by_key key x y z) ≡ choose_by_key key (f x) (f y) (f z)
+choose_by_key-image f key x y z = by (is_id key) (is_class key)
   where
     by : (b c : Bool) → f (if b then x else if c then y else z) ≡ (if b then f x else if c then f y else f z)
     by true c = refl
     by false true = refl
     by false false = refl
 
-pub image-with_at : {B C L M : Type 0} (f : B → C) (g : L → M) (key : List ℕ) (v : Option B) (others : L) (a : AttributesOf B L)
-    → attributes_image f g (with_at key v others a) ≡ with_at key (option_map f v) (g others) (attributes_image f g a)
-image-with_at f g key v others a = by_key-image (attributes_image f g) key _ _ _
+pub image-set_at : {B C L M : Type 0} (f : B → C) (g : L → M) (key : List ℕ) (v : Option B) (others : L) (a : AttributesOf B L)
+    → attributes_image f g (set_at key v others a) ≡ set_at key (option_map f v) (g others) (attributes_image f g a)
+image-set_at f g key v others a = choose_by_key-image (attributes_image f g) key _ _ _
 
 -- keys that are neither `id` nor `class` have such images
 pub others-image : {K L V W : Type 0} (f : K → L) (g : V → W) (list : L → List ℕ) (es : List (K × V)) → AreOthers (λ k. list (f k)) es → AreOthers list (map (pair_image f g) es)
@@ -112,16 +112,16 @@ module _ {K L V W : Type 0} (f : K → L) (g : V → W) where
   abbrev images : List (K × Option V) → List (L × Option W)
   images es = map (pair_image f (option_map g)) es
 
-  image-named : (key : K) (v : Option V) → images (named key v) ≡ named (f key) (option_map g v)
+  image-named : (key : K) (v : Option V) → images (pair_if_some key v) ≡ pair_if_some (f key) (option_map g v)
   image-named key None = refl
   image-named key (Some v) = refl
 
   pub image-pairs_in_order : (key : List ℕ → K) (others : List (K × Option V)) (id class : Option V)
       → images (pairs_in_order key others id class) ≡ pairs_in_order (λ bytes. f (key bytes)) (images others) (option_map g id) (option_map g class)
   image-pairs_in_order key others id class =
-      map-append (pair_image f (option_map g)) (others ++ named (key (codes "id")) id) (named (key (codes "class")) class)
+      map-append (pair_image f (option_map g)) (others ++ pair_if_some (key (codes "id")) id) (pair_if_some (key (codes "class")) class)
       ∙ ap₂ (λ s t. s ++ t)
-      (map-append (pair_image f (option_map g)) others (named (key (codes "id")) id) ∙ ap (λ s. images others ++ s) (image-named (key (codes "id")) id))
+      (map-append (pair_image f (option_map g)) others (pair_if_some (key (codes "id")) id) ∙ ap (λ s. images others ++ s) (image-named (key (codes "id")) id))
       (image-named (key (codes "class")) class)
 
 -- the same of attributes
@@ -137,15 +137,15 @@ module _ {B C : Type 0} (f : B → C) (list : C → List ℕ) (eq : C → C → 
 
   pub image-with_attribute : (a : Attributes B) (k : B) (v : Option B) → shown (with_attribute listed alike a k v) ≡ with_attribute list eq (shown a) (f k) (option_map f v)
   image-with_attribute a k v =
-      image-with_at f (map_image f (option_map f)) (listed k) v (with_entry alike room a.others k v) a
-      ∙ ap (λ m. with_at (listed k) (option_map f v) m (shown a)) (image-with_entry f (option_map f) eq room a.others k v)
+      image-set_at f (map_image f (option_map f)) (listed k) v (with_entry alike room a.others k v) a
+      ∙ ap (λ m. set_at (listed k) (option_map f v) m (shown a)) (image-with_entry f (option_map f) eq room a.others k v)
 
   pub image-without_attribute : (a : Attributes B) (k : B) → shown (without_attribute listed alike a k) ≡ without_attribute list eq (shown a) (f k)
   image-without_attribute a k =
-      image-with_at f (map_image f (option_map f)) (listed k) None (without_key alike a.others k) a
-      ∙ ap (λ m. with_at (listed k) None m (shown a)) (image-without_key f (option_map f) eq a.others k)
+      image-set_at f (map_image f (option_map f)) (listed k) None (without_key alike a.others k) a
+      ∙ ap (λ m. set_at (listed k) None m (shown a)) (image-without_key f (option_map f) eq a.others k)
 
   pub image-without_value : (a : Attributes B) (k : B) → shown (without_value listed alike a k) ≡ without_value list eq (shown a) (f k)
   image-without_value a k =
-      image-with_at f (map_image f (option_map f)) (listed k) None (with_value alike a.others k None) a
-      ∙ ap (λ m. with_at (listed k) None m (shown a)) (image-with_value f (option_map f) eq a.others k None)
+      image-set_at f (map_image f (option_map f)) (listed k) None (with_value alike a.others k None) a
+      ∙ ap (λ m. set_at (listed k) None m (shown a)) (image-with_value f (option_map f) eq a.others k None)

@@ -8,18 +8,18 @@ use Rattle.tl_spec.specs.ByteClass.{is_void}
 use Rattle.tl_spec.specs.Token.{Token, PlacedToken, Text, End, Comment, Doctype, Start, Nothing}
 use Rattle.tl_spec.specs.Forest.{closes}
 use Rattle.tl_spec.specs.Document.{Node, TagNode, Tag, Raw, Comment as Remark, is_html5_doctype}
-use Rattle.tl_spec.specs.Machine.{State, start, change_at, with_child, with_raw_to, enclosing_name, with_child_of_first, with_child_of_innermost, with_next_node, with_open_tag, with_first_closed, with_innermost_closed, start_node, after_start, after_end, after_token, step, run, IsOpen, AreOpen}
+use Rattle.tl_spec.specs.Machine.{State, start, map_at, with_child, with_raw_to, enclosing_name, with_child_of_first, with_child_of_innermost, with_next_node, with_open_tag, with_first_closed, with_innermost_closed, start_node, after_start, after_end, after_token, step, run, IsOpen, AreOpen}
 
 -- a list with one item changed
 
-pub length-change_at : {A : Type 0} (f : A → A) (i : ℕ) (xs : List A) → length (change_at f i xs) ≡ length xs
-length-change_at f i [] = refl
-length-change_at f zero (x ∷ xs) = refl
-length-change_at f (suc i) (x ∷ xs) = ap suc (length-change_at f i xs)
+pub length-map_at : {A : Type 0} (f : A → A) (i : ℕ) (xs : List A) → length (map_at f i xs) ≡ length xs
+length-map_at f i [] = refl
+length-map_at f zero (x ∷ xs) = refl
+length-map_at f (suc i) (x ∷ xs) = ap suc (length-map_at f i xs)
 
-pub change_at-middle : {A : Type 0} (f : A → A) (before : List A) (x : A) (after : List A) → change_at f (length before) (before ++ x ∷ after) ≡ before ++ f x ∷ after
-change_at-middle f [] x after = refl
-change_at-middle f (y ∷ before) x after = ap (λ xs. y ∷ xs) (change_at-middle f before x after)
+pub map_at-middle : {A : Type 0} (f : A → A) (before : List A) (x : A) (after : List A) → map_at f (length before) (before ++ x ∷ after) ≡ before ++ f x ∷ after
+map_at-middle f [] x after = refl
+map_at-middle f (y ∷ before) x after = ap (λ xs. y ∷ xs) (map_at-middle f before x after)
 
 pub slice_get-middle : {A : Type 0} (before : List A) (x : A) (after : List A) → slice_get (before ++ x ∷ after) (length before) ≡ Some x
 slice_get-middle [] x after = refl
@@ -32,7 +32,7 @@ slice_get-append (y ∷ xs) ys (suc i) x e = slice_get-append xs ys i x e
 
 -- an item is changed or not
 slice_get-change_at_either : {A : Type 0} (f : A → A) (i j : ℕ) (xs : List A) (x : A) → slice_get xs j ≡ Some x →
-    (slice_get (change_at f i xs) j ≡ Some x) ⊎ (slice_get (change_at f i xs) j ≡ Some (f x))
+    (slice_get (map_at f i xs) j ≡ Some x) ⊎ (slice_get (map_at f i xs) j ≡ Some (f x))
 slice_get-change_at_either f i j [] x e = inl e
 slice_get-change_at_either f zero zero (y ∷ xs) x e = let same : y ≡ x = cc in inr (ap (λ z. Some (f z)) same)
 slice_get-change_at_either f zero (suc j) (y ∷ xs) x e = inl e
@@ -52,7 +52,7 @@ added-open_tags x s = adopted_by-open_tags (length s.nodes) s s.open_tags
 
 length-adopted_by : (n : ℕ) (s : State) (ps : List ℕ) → length (with_child_of_first n s ps).nodes ≡ length s.nodes
 length-adopted_by n s [] = refl
-length-adopted_by n s (p ∷ ps) = length-change_at (with_child n) p s.nodes
+length-adopted_by n s (p ∷ ps) = length-map_at (with_child n) p s.nodes
 
 pub length-added : (x : Node) (s : State) → length (with_next_node x s).nodes ≡ length s.nodes + 1
 length-added x s =
@@ -60,7 +60,7 @@ length-added x s =
 
 length-closed_by : (t : List ℕ) (to : ℕ) (s : State) (ps : List ℕ) → length (with_first_closed t to s ps).nodes ≡ length s.nodes
 length-closed_by t to s [] = refl
-length-closed_by t to s (p ∷ ps) = length-change_at (with_raw_to t to) p s.nodes
+length-closed_by t to s (p ∷ ps) = length-map_at (with_raw_to t to) p s.nodes
 
 pub length-closed : (t : List ℕ) (to : ℕ) (s : State) → length (with_innermost_closed t to s).nodes ≡ length s.nodes
 length-closed t to s = length-closed_by t to s s.open_tags
@@ -143,8 +143,8 @@ IsOpen-append i xs ys p h = record { own = h.own; found = slice_get-append xs ys
 abbrev KeepsStart : (Node → Node) → Type 0
 KeepsStart f = (own : TagNode) → (new : TagNode) × (f (Tag own) ≡ Tag new) × (new.start ≡ own.start)
 
-IsOpen-change_at : (f : Node → Node) → KeepsStart f → (i q : ℕ) (xs : List Node) (p : ℕ) → IsOpen i xs p → IsOpen i (change_at f q xs) p
-IsOpen-change_at f keeps i q xs p h =
+IsOpen-map_at : (f : Node → Node) → KeepsStart f → (i q : ℕ) (xs : List Node) (p : ℕ) → IsOpen i xs p → IsOpen i (map_at f q xs) p
+IsOpen-map_at f keeps i q xs p h =
     elim (slice_get-change_at_either f q p xs (Tag h.own) h.found) [
       | inl e ↦ record { own = h.own; found = e; begun = h.begun }
       | inr e ↦ (let k = keeps h.own in record { own = k.0; found = e ∙ ap (λ (x : Node). Some x) k.1; begun = omega (arith, k.2, h.begun) })
@@ -158,7 +158,7 @@ raw-keeps t to own = (_, refl, refl)
 
 adopted_by-IsOpen : (i n : ℕ) (s : State) (ps : List ℕ) (p : ℕ) → IsOpen i s.nodes p → IsOpen i (with_child_of_first n s ps).nodes p
 adopted_by-IsOpen i n s [] p h = h
-adopted_by-IsOpen i n s (q ∷ ps) p h = IsOpen-change_at (with_child n) (child-keeps n) i q s.nodes p h
+adopted_by-IsOpen i n s (q ∷ ps) p h = IsOpen-map_at (with_child n) (child-keeps n) i q s.nodes p h
 
 added-IsOpen : (i : ℕ) (x : Node) (s : State) (p : ℕ) → IsOpen i s.nodes p → IsOpen i (with_next_node x s).nodes p
 added-IsOpen i x s p h =
@@ -188,7 +188,7 @@ closed_by-AreOpen : (t : List ℕ) (i to : ℕ) (s : State) (ps : List ℕ) → 
 closed_by-AreOpen t i to s [] e h = h
 closed_by-AreOpen t i to s (p ∷ ps) e h =
     let rest = All-tail (IsOpen i s.nodes) p ps (All-same (IsOpen i s.nodes) (p ∷ ps) s.open_tags (sym e) h) in
-    All-weaker (IsOpen i s.nodes) (IsOpen i (change_at (with_raw_to t to) p s.nodes)) (IsOpen-change_at (with_raw_to t to) (raw-keeps t to) i p s.nodes) ps rest
+    All-weaker (IsOpen i s.nodes) (IsOpen i (map_at (with_raw_to t to) p s.nodes)) (IsOpen-map_at (with_raw_to t to) (raw-keeps t to) i p s.nodes) ps rest
 
 pub AreOpen-closed : (t : List ℕ) (i to : ℕ) (s : State) → AreOpen i s → AreOpen i (with_innermost_closed t to s)
 AreOpen-closed t i to s h = closed_by-AreOpen t i to s s.open_tags refl h

@@ -5,11 +5,11 @@ use Rattle.std.proofs.lemmas.Bool.Decides.{nat_tests}
 use Rattle.std.proofs.lemmas.Slice.Eq.{bytes_eq-Decides}
 use Rattle.tl_spec.specs.Inline.{room, with_last}
 use Rattle.tl_spec.specs.Token.{PlacedToken, Start}
-use Rattle.tl_spec.specs.Forest.{Forest, none, text, comment, tag, SourceTag, Siblings, with_tree, source_tag, closes, siblings, forest, Makes, over, a_text, a_comment, alone, opened, ended, stray, a_doctype, dropped}
+use Rattle.tl_spec.specs.Forest.{Forest, none, text, comment, tag, SourceTag, Siblings, with_tree, source_tag, closes, siblings, forest, ParsesTo, over, a_text, a_comment, alone, opened, ended, stray, a_doctype, dropped}
 use Rattle.tl_spec.specs.Document.{Node, Tag, Raw, Comment as Remark, held_items, size, numbers, tag_node, nodes}
-use Rattle.tl_spec.specs.Machine.{State, start, change_at, with_child, with_raw_to, name_if_tag, enclosing_name, with_next_node, with_open_tag as entered, with_innermost_closed, after_start, after_end, run}
-use Rattle.tl_spec.proofs.Machine.{change_at-middle, slice_get-middle}
-use Rattle.tl_spec.proofs.Siblings.{closes-stray, siblings-Makes}
+use Rattle.tl_spec.specs.Machine.{State, start, map_at, with_child, with_raw_to, name_if_tag, enclosing_name, with_next_node, with_open_tag as entered, with_innermost_closed, after_start, after_end, run}
+use Rattle.tl_spec.proofs.Machine.{map_at-middle, slice_get-middle}
+use Rattle.tl_spec.proofs.Siblings.{closes-stray, siblings-ParsesTo}
 
 -- one more item
 pub with_last-held : (xs : List ℕ) (x : ℕ) → with_last room (held_items xs) x ≡ held_items (xs ++ x ∷ [])
@@ -94,9 +94,9 @@ module _ (t : List ℕ) where
   enclosing_name-is (inside before own children outer top) bs = ap name_if_tag (slice_get-middle before (Tag (tag_node t own children)) bs)
 
   child-is : (own : SourceTag) (children : List ℕ) (n : ℕ) (before bs : List Node) →
-      change_at (with_child n) (length before) (before ++ Tag (tag_node t own children) ∷ bs) ≡ before ++ Tag (tag_node t own (children ++ n ∷ [])) ∷ bs
+      map_at (with_child n) (length before) (before ++ Tag (tag_node t own children) ∷ bs) ≡ before ++ Tag (tag_node t own (children ++ n ∷ [])) ∷ bs
   child-is own children n before bs =
-      change_at-middle (with_child n) before (Tag (tag_node t own children)) bs
+      map_at-middle (with_child n) before (Tag (tag_node t own children)) bs
       ∙ ap (λ held. before ++ Tag (record (tag_node t own []) { children = held }) ∷ bs) (with_last-held children n)
 
   added-is : (p : Frame) (bs : List Node) (v : Bool) (x : Node) → with_next_node x (state p bs v) ≡ state (adopting p (count_at p bs ∷ [])) (bs ++ x ∷ []) v
@@ -164,7 +164,7 @@ module _ (t : List ℕ) where
   closed-is p bs own to ns xs v =
       let q : Frame = adopting p (count_at p bs ∷ []) in
       let with_nodes : List Node → State = λ ys. record (state q [] v) { nodes = ys } in
-      ap with_nodes (change_at-middle (with_raw_to t to) (nodes_at q bs) (Tag (tag_node t own ns)) xs
+      ap with_nodes (map_at-middle (with_raw_to t to) (nodes_at q bs) (Tag (tag_node t own ns)) xs
       ∙ nodes_at-append q bs (Tag (tag_node t (record own { to = to }) ns) ∷ xs))
 
   -- the rest of the tokens after a tag's children and its end
@@ -186,7 +186,7 @@ module _ (t : List ℕ) where
       ∙ ap (λ ks. written (run t last ks)) (sym (rests refl))
 
 -- trees that no end tag ended leave no token
-left-none : {o : Option (List ℕ)} {ks : List PlacedToken} {s : Siblings} → Makes o ks s → s.closed_at ≡ None → s.left ≡ []
+left-none : {o : Option (List ℕ)} {ks : List PlacedToken} {s : Siblings} → ParsesTo o ks s → s.closed_at ≡ None → s.left ≡ []
 left-none over e = refl
 left-none (a_text m) e = left-none m e
 left-none (a_comment m) e = left-none m e
@@ -198,7 +198,7 @@ left-none (a_doctype m) e = left-none m e
 left-none (dropped m) e = left-none m e
 
 -- at the top no end tag ends the trees
-closed_at-top : {o : Option (List ℕ)} {ks : List PlacedToken} {s : Siblings} → Makes o ks s → o ≡ None → s.closed_at ≡ None
+closed_at-top : {o : Option (List ℕ)} {ks : List PlacedToken} {s : Siblings} → ParsesTo o ks s → o ≡ None → s.closed_at ≡ None
 closed_at-top over e = refl
 closed_at-top (a_text m) e = closed_at-top m e
 closed_at-top (a_comment m) e = closed_at-top m e
@@ -228,7 +228,7 @@ module _ (t : List ℕ) where
   one-more tree p bs xs grows s found more e h =
       (h.0, e ∙ h.1 ∙ ap (λ g. written (run t (shut t s.closed_at g) s.left)) (grows h.0 s.trees))
 
-  writes : {o : Option (List ℕ)} {ks : List PlacedToken} {s : Siblings} → Makes o ks s → (p : Frame) → name_at p ≡ o → (bs : List Node) (v : Bool) →
+  writes : {o : Option (List ℕ)} {ks : List PlacedToken} {s : Siblings} → ParsesTo o ks s → (p : Frame) → name_at p ≡ o → (bs : List Node) (v : Bool) →
       Leads (written (run t (state t p bs v) ks)) s p bs
   writes over p e bs v = (v, ap written (sym (grown-none t p bs v)))
   writes (a_text {bytes = bytes} {ks = ks} {s = s} m) p e bs v =
@@ -280,7 +280,7 @@ module _ (t : List ℕ) where
   -- the whole run
   pub run-writes : (ks : List PlacedToken) → written (run t start ks) ≡ (nodes t 0 (forest ks), numbers 0 (forest ks))
   run-writes ks =
-      let made = siblings-Makes None ks in
+      let made = siblings-ParsesTo None ks in
       let s : Siblings = siblings None ks in
       let found = writes made (at_top []) refl [] false in
       let open_end = closed_at-top made refl in

@@ -5,7 +5,7 @@ use Rattle.std.proofs.lemmas.Bool.{false_from_ne_true}
 use Rattle.std.proofs.lemmas.Bool.Decides.{Decides-eqb}
 use Rattle.std.proofs.lemmas.Slice.Eq.{starts_is}
 use Rattle.tl_spec.specs.Grammar.{Begins, EndsWithFirst, IsNowhere}
-use Rattle.tl_spec.specs.Runs.{after}
+use Rattle.tl_spec.specs.Runs.{after_needle}
 use Rattle.tl_spec.proofs.Comments.{after_append, from_here}
 
 module _ (w : List ℕ) where
@@ -34,13 +34,13 @@ module _ (w : List ℕ) where
 
   -- nowhere, and not found
 
-  pub nowhere-none : (s : List ℕ) → IsNowhere w s → after w s ≡ None
+  pub nowhere-none : (s : List ℕ) → IsNowhere w s → after_needle w s ≡ None
   nowhere-none [] h = refl
   nowhere-none (b ∷ s) h =
       let fails = begins-no (b ∷ s) (λ f. h [] f.0 f.1) in
       ap (from_here w (b ∷ s) s) fails ∙ nowhere-none s (λ xs ys e. h (b ∷ xs) ys (ap (λ s. b ∷ s) e))
 
-  pub none-nowhere : 0 < length w → (s : List ℕ) → after w s ≡ None → IsNowhere w s
+  pub none-nowhere : 0 < length w → (s : List ℕ) → after_needle w s ≡ None → IsNowhere w s
   none-nowhere pos [] h xs ys e = not_in_nothing pos xs ys e
   none-nowhere pos (b ∷ s) h xs ys e =
       let step : (v : Bool) → starts_with ◌==◌ (b ∷ s) w ≡ v → from_here w (b ∷ s) s v ≡ None → ⊥ = elim [
@@ -51,7 +51,7 @@ module _ (w : List ℕ) where
 
   -- the first, and what is found
 
-  first-found : 0 < length w → (s xs : List ℕ) → s ≡ xs ++ w → ((xs ys : List ℕ) → s ≡ xs ++ w ++ ys → ys ≡ []) → after w s ≡ Some []
+  first-found : 0 < length w → (s xs : List ℕ) → s ≡ xs ++ w → ((xs ys : List ℕ) → s ≡ xs ++ w ++ ys → ys ≡ []) → after_needle w s ≡ Some []
   first-found pos [] xs e h = absurd (omega (arith, ap length e, length-append xs w))
   first-found pos (b ∷ s) xs e h =
       let step : (v : Bool) → starts_with ◌==◌ (b ∷ s) w ≡ v → from_here w (b ∷ s) s v ≡ Some [] = elim [
@@ -62,7 +62,7 @@ module _ (w : List ℕ) where
       ] in
       step (starts_with ◌==◌ (b ∷ s) w) refl
 
-  pub first-after : 0 < length w → (body rest : List ℕ) → EndsWithFirst w body → after w (body ++ rest) ≡ Some rest
+  pub first-after : 0 < length w → (body rest : List ℕ) → EndsWithFirst w body → after_needle w (body ++ rest) ≡ Some rest
   first-after pos body rest h = after_append w body rest [] (first-found pos body h.ends.0 h.ends.1 h.first)
 
   -- s is a body that ends with the first, and rest
@@ -92,7 +92,7 @@ module _ (w : List ℕ) where
         },
       )
 
-  pub after-first : (s rest : List ℕ) → after w s ≡ Some rest → FirstEnds s rest
+  pub after-first : (s rest : List ℕ) → after_needle w s ≡ Some rest → FirstEnds s rest
   after-first [] rest e = cc
   after-first (b ∷ s) rest e =
       let step : (v : Bool) → starts_with ◌==◌ (b ∷ s) w ≡ v → from_here w (b ∷ s) s v ≡ Some rest → FirstEnds (b ∷ s) rest = elim [

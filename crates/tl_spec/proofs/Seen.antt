@@ -6,7 +6,7 @@ use Rattle.tl_spec.specs.ByteClass.{is_void}
 use Rattle.tl_spec.specs.Token.{Token, PlacedToken, Text, End, Comment, Doctype, Start, Nothing}
 use Rattle.tl_spec.specs.Forest.{closes}
 use Rattle.tl_spec.specs.Document.{Node, Tag, Raw, Comment as Remark}
-use Rattle.tl_spec.specs.Machine.{State, change_at, with_child, with_raw_to, enclosing_name, with_child_of_first, with_next_node, with_first_closed, start_node, after_start, after_end, after_token, step}
+use Rattle.tl_spec.specs.Machine.{State, map_at, with_child, with_raw_to, enclosing_name, with_child_of_first, with_next_node, with_first_closed, start_node, after_start, after_end, after_token, step}
 use Rattle.tl_spec.specs.Scan.{has_id, is_in_class, places_from, id_scan, class_scan, tags_of}
 
 abbrev itself : Bool → Bool
@@ -39,7 +39,7 @@ record SeesTags (p : Node → Bool) : Type 0 where
   pub remark : (bytes : List ℕ) → p (Remark bytes) ≡ false
 
 module _ (p : Node → Bool) (sees : SeesTags p) (t : List ℕ) where
-  changed : (f : Node → Node) → ((x : Node) → p (f x) ≡ p x) → (i : ℕ) (xs : List Node) → map p (change_at f i xs) ≡ map p xs
+  changed : (f : Node → Node) → ((x : Node) → p (f x) ≡ p x) → (i : ℕ) (xs : List Node) → map p (map_at f i xs) ≡ map p xs
   changed f same i [] = refl
   changed f same zero (x ∷ xs) = ap (λ b. b ∷ map p xs) (same x)
   changed f same (suc i) (x ∷ xs) = ap (λ bs. p x ∷ bs) (changed f same i xs)

@@ -5,13 +5,13 @@ use Rattle.std.specs.List.{list_all, take_while}
 use Rattle.std.proofs.lemmas.Bool.{and_parts, eqb-true, eq-eqb}
 use Rattle.std.proofs.lemmas.List.{length-append}
 use Rattle.tl_spec.specs.ByteClass.{is_ident, is_quote}
-use Rattle.tl_spec.specs.Runs.{past}
+use Rattle.tl_spec.specs.Runs.{drop_while}
 use Rattle.tl_spec.specs.Grammar.{IsRun}
 use Rattle.tl_spec.specs.Selector.{Selector, Tag, Id, Class}
 use Rattle.tl_spec.specs.SelectorText.{OpGives, equal, has_part, starts, ends, contains, ValueStands, bare, quoted, SimpleStands, id_part, class_part, all_part, tag_part, key_part, value_part}
-use Rattle.tl_spec.specs.SelectorReading.{after_byte, run_before, quote_at, value_by, value_at, Op, Equals, HasPart, StartsWith, EndsWith, Contains, with_op, op_of, op_by, op_at, bracket_by, bracket_at, simple_at}
-use Rattle.tl_spec.proofs.Bytes.{not_this, past-le, take_while-yes}
-use Rattle.tl_spec.proofs.Grammar.{if_yes, if_no, run-take, run-past, run-of}
+use Rattle.tl_spec.specs.SelectorReading.{skip_byte, run_before, quote_at, value_by, value_at, AttrOperator, Equals, HasPart, StartsWith, EndsWith, Contains, with_operator, operator_of, operator_by, operator_at, bracket_by, bracket_at, simple_at}
+use Rattle.tl_spec.proofs.Bytes.{not_this, drop_while-le, take_while-yes}
+use Rattle.tl_spec.proofs.Grammar.{if_yes, if_no, run-take, run-drop_while, run-of}
 
 -- options and tests
 
@@ -36,25 +36,25 @@ of_pair {A} P {a} {r} {p} h x = let w : (a, r) ≡ p = cc in subst (λ (q : A ×
 
 -- runs before a byte
 
-after_byte-some : (b : ℕ) (s : List ℕ) {rest : List ℕ} → after_byte b s ≡ Some rest → s ≡ b ∷ rest
-after_byte-some b [] h = cc
-after_byte-some b (c ∷ s) {rest} h =
+skip_byte-some : (b : ℕ) (s : List ℕ) {rest : List ℕ} → skip_byte b s ≡ Some rest → s ≡ b ∷ rest
+skip_byte-some b [] h = cc
+skip_byte-some b (c ∷ s) {rest} h =
     elim (if_is (c == b) h) [
       | inl w ↦ (let e = eqb-true c b w.0 in let f = w.1 in cc)
       | inr w ↦ none_some (c ∷ s ≡ b ∷ rest) w.1
     ]
 
-after_byte-is : (b : ℕ) (rest : List ℕ) → after_byte b (b ∷ rest) ≡ Some rest
-after_byte-is b rest = if_yes _ _ _ (eq-eqb b b refl)
+skip_byte-is : (b : ℕ) (rest : List ℕ) → skip_byte b (b ∷ rest) ≡ Some rest
+skip_byte-is b rest = if_yes _ _ _ (eq-eqb b b refl)
 
 run_before-some : (b : ℕ) (s : List ℕ) {p : List ℕ × List ℕ} → run_before b s ≡ Some p → IsRun is_ident s p.0 (b ∷ p.1)
 run_before-some b s h =
-    let m = map-some (λ (rest : List ℕ). (take_while is_ident s, rest)) (after_byte b (past is_ident s)) h in
-    let stands = subst (IsRun is_ident s (take_while is_ident s)) (after_byte-some b (past is_ident s) m.1) (run-of is_ident s) in
+    let m = map-some (λ (rest : List ℕ). (take_while is_ident s, rest)) (skip_byte b (drop_while is_ident s)) h in
+    let stands = subst (IsRun is_ident s (take_while is_ident s)) (skip_byte-some b (drop_while is_ident s) m.1) (run-of is_ident s) in
     subst (λ (p : List ℕ × List ℕ). IsRun is_ident s p.0 (b ∷ p.1)) m.2 stands
 
 run_before-is : {b : ℕ} {s i rest : List ℕ} → IsRun is_ident s i (b ∷ rest) → run_before b s ≡ Some (i, rest)
-run_before-is {b} {s} {i} {rest} r = rw (run-past r, after_byte-is b rest) (rw (run-take r) refl)
+run_before-is {b} {s} {i} {rest} r = rw (run-drop_while r, skip_byte-is b rest) (rw (run-take r) refl)
 
 -- values
 
@@ -69,10 +69,10 @@ quote-some (c ∷ s) {q} h =
 value_by-some : (s : List ℕ) (o : Option (ℕ × List ℕ)) {v : List ℕ × List ℕ} → quote_at s ≡ o → value_by o s ≡ Some v → ValueStands s v.0 (93 ∷ v.1)
 value_by-some s None e h = bare (run_before-some 93 s h)
 value_by-some s (Some q) {v} e h =
-    let b = bind-some (λ (p : List ℕ × List ℕ). option_map (λ (r : List ℕ). (p.0, r)) (after_byte 93 p.1)) (run_before q.0 q.1) h in
-    let m = map-some (λ (r : List ℕ). (b.0.0, r)) (after_byte 93 b.0.1) b.2 in
+    let b = bind-some (λ (p : List ℕ × List ℕ). option_map (λ (r : List ℕ). (p.0, r)) (skip_byte 93 p.1)) (run_before q.0 q.1) h in
+    let m = map-some (λ (r : List ℕ). (b.0.0, r)) (skip_byte 93 b.0.1) b.2 in
     let t = quote-some s e in
-    let inside : IsRun is_ident q.1 b.0.0 (q.0 ∷ 93 ∷ m.0) = subst (λ (x : List ℕ). IsRun is_ident q.1 b.0.0 (q.0 ∷ x)) (after_byte-some 93 b.0.1 m.1) (run_before-some q.0 q.1 b.1) in
+    let inside : IsRun is_ident q.1 b.0.0 (q.0 ∷ 93 ∷ m.0) = subst (λ (x : List ℕ). IsRun is_ident q.1 b.0.0 (q.0 ∷ x)) (skip_byte-some 93 b.0.1 m.1) (run_before-some q.0 q.1 b.1) in
     subst (λ (p : List ℕ × List ℕ). ValueStands s p.0 (93 ∷ p.1)) m.2
     (subst (λ (x : List ℕ). ValueStands x b.0.0 (93 ∷ m.0)) (sym t.0) (quoted t.1 inside))
 
@@ -97,20 +97,20 @@ value-is {rest = rest} (bare {s = s} {v = v} r) =
     ap (λ (o : Option (ℕ × List ℕ)). value_by o s) (ap quote_at r.parts ∙ no_quote v rest r.inside) ∙ run_before-is r
 value-is {rest = rest} (quoted {s = s} {v = v} {q = q} y r) =
     ap (λ (o : Option (ℕ × List ℕ)). value_by o (q ∷ s)) (if_yes _ _ _ y)
-    ∙ (ap (option_and_then (λ (p : List ℕ × List ℕ). option_map (λ (r : List ℕ). (p.0, r)) (after_byte 93 p.1))) (run_before-is r) ∙ refl)
+    ∙ (ap (option_and_then (λ (p : List ℕ × List ℕ). option_map (λ (r : List ℕ). (p.0, r)) (skip_byte 93 p.1))) (run_before-is r) ∙ refl)
 
 -- ops
 
 -- its bytes
-abbrev pub spelled : Op → List ℕ
+abbrev pub spelled : AttrOperator → List ℕ
 spelled Equals = 61 ∷ []
 spelled HasPart = 126 ∷ 61 ∷ []
 spelled StartsWith = 94 ∷ 61 ∷ []
 spelled EndsWith = 36 ∷ 61 ∷ []
 spelled Contains = 42 ∷ 61 ∷ []
 
-op_of-some : (b : ℕ) {op : Op} → op_of b ≡ Some op → spelled op ≡ b ∷ 61 ∷ []
-op_of-some b {op} h =
+operator_of-some : (b : ℕ) {op : AttrOperator} → operator_of b ≡ Some op → spelled op ≡ b ∷ 61 ∷ []
+operator_of-some b {op} h =
     let G : Type 0 = spelled op ≡ b ∷ 61 ∷ [] in
     elim (if_is (b == 126) h) [
       | inl w ↦ (let e = eqb-true b 126 w.0 in let o : HasPart ≡ op = cc in cc (ap spelled o))
@@ -126,21 +126,21 @@ op_of-some b {op} h =
       ]
     ]
 
-op_by-some : (b : ℕ) (o : Option Op) (s : List ℕ) {p : Op × List ℕ} → op_of b ≡ o → op_by o s ≡ Some p → b ∷ s ≡ spelled p.0 ++ p.1
-op_by-some b None s e h = cc
-op_by-some b (Some op) s {p} e h =
-    let m = map-some (λ (rest : List ℕ). (op, rest)) (after_byte 61 s) h in
-    subst (λ (p : Op × List ℕ). b ∷ s ≡ spelled p.0 ++ p.1) m.2 (ap (λ s. b ∷ s) (after_byte-some 61 s m.1) ∙ sym (ap (λ (x : List ℕ). x ++ m.0) (op_of-some b e)))
+operator_by-some : (b : ℕ) (o : Option AttrOperator) (s : List ℕ) {p : AttrOperator × List ℕ} → operator_of b ≡ o → operator_by o s ≡ Some p → b ∷ s ≡ spelled p.0 ++ p.1
+operator_by-some b None s e h = cc
+operator_by-some b (Some op) s {p} e h =
+    let m = map-some (λ (rest : List ℕ). (op, rest)) (skip_byte 61 s) h in
+    subst (λ (p : AttrOperator × List ℕ). b ∷ s ≡ spelled p.0 ++ p.1) m.2 (ap (λ s. b ∷ s) (skip_byte-some 61 s m.1) ∙ sym (ap (λ (x : List ℕ). x ++ m.0) (operator_of-some b e)))
 
-op_at-some : (s : List ℕ) {p : Op × List ℕ} → op_at s ≡ Some p → s ≡ spelled p.0 ++ p.1
-op_at-some [] h = cc
-op_at-some (b ∷ s) {p} h =
+operator_at-some : (s : List ℕ) {p : AttrOperator × List ℕ} → operator_at s ≡ Some p → s ≡ spelled p.0 ++ p.1
+operator_at-some [] h = cc
+operator_at-some (b ∷ s) {p} h =
     elim (if_is (b == 61) h) [
-      | inl w ↦ of_pair (λ (op : Op) (rest : List ℕ). b ∷ s ≡ spelled op ++ rest) w.1 (ap (λ b. b ∷ s) (eqb-true b 61 w.0))
-      | inr w ↦ op_by-some b (op_of b) s refl w.1
+      | inl w ↦ of_pair (λ (op : AttrOperator) (rest : List ℕ). b ∷ s ≡ spelled op ++ rest) w.1 (ap (λ b. b ∷ s) (eqb-true b 61 w.0))
+      | inr w ↦ operator_by-some b (operator_of b) s refl w.1
     ]
 
-spelled-gives : (op : Op) → OpGives (spelled op) (with_op op)
+spelled-gives : (op : AttrOperator) → OpGives (spelled op) (with_operator op)
 spelled-gives Equals = equal
 spelled-gives HasPart = has_part
 spelled-gives StartsWith = starts
@@ -149,45 +149,45 @@ spelled-gives Contains = contains
 
 -- brackets
 
-key-is : {s k m : List ℕ} → IsRun is_ident s k m → bracket_at s ≡ bracket_by (after_byte 93 m) k m
-key-is r = λ i. bracket_by (after_byte 93 (run-past r i)) (run-take r i) (run-past r i)
+key-is : {s k m : List ℕ} → IsRun is_ident s k m → bracket_at s ≡ bracket_by (skip_byte 93 m) k m
+key-is r = λ i. bracket_by (skip_byte 93 (run-drop_while r i)) (run-take r i) (run-drop_while r i)
 
-op_at-is : {op : List ℕ} {gives : List ℕ → List ℕ → Selector} (u : List ℕ) → OpGives op gives →
-    (o : Op) × (with_op o ≡ gives) × (op_at (op ++ u) ≡ Some (o, u)) × (after_byte 93 (op ++ u) ≡ None)
-op_at-is u equal = (Equals, refl, refl, refl)
-op_at-is u has_part = (HasPart, refl, refl, refl)
-op_at-is u starts = (StartsWith, refl, refl, refl)
-op_at-is u ends = (EndsWith, refl, refl, refl)
-op_at-is u contains = (Contains, refl, refl, refl)
+operator_at-is : {op : List ℕ} {gives : List ℕ → List ℕ → Selector} (u : List ℕ) → OpGives op gives →
+    (o : AttrOperator) × (with_operator o ≡ gives) × (operator_at (op ++ u) ≡ Some (o, u)) × (skip_byte 93 (op ++ u) ≡ None)
+operator_at-is u equal = (Equals, refl, refl, refl)
+operator_at-is u has_part = (HasPart, refl, refl, refl)
+operator_at-is u starts = (StartsWith, refl, refl, refl)
+operator_at-is u ends = (EndsWith, refl, refl, refl)
+operator_at-is u contains = (Contains, refl, refl, refl)
 
-pair_is : {u v rest : List ℕ} (k m : List ℕ) (o : Op) → op_at m ≡ Some (o, u) → ValueStands u v (93 ∷ rest) →
-    bracket_by None k m ≡ Some (with_op o k v, rest)
+pair_is : {u v rest : List ℕ} (k m : List ℕ) (o : AttrOperator) → operator_at m ≡ Some (o, u) → ValueStands u v (93 ∷ rest) →
+    bracket_by None k m ≡ Some (with_operator o k v, rest)
 pair_is k m o e w = rw e (rw (value-is w) refl)
 
 value-bracket : {s k op u v rest : List ℕ} {gives : List ℕ → List ℕ → Selector} →
     IsRun is_ident s k (op ++ u) → OpGives op gives → ValueStands u v (93 ∷ rest) → bracket_at s ≡ Some (gives k v, rest)
 value-bracket {k = k} {op = op} {u = u} {v = v} {rest = rest} r g w =
-    let o = op_at-is u g in
+    let o = operator_at-is u g in
     key-is r ∙ (ap (λ (x : Option (List ℕ)). bracket_by x k (op ++ u)) o.3 ∙ (pair_is k (op ++ u) o.0 o.2 w ∙ ap (λ (f : List ℕ → List ℕ → Selector). Some (f k v, rest)) o.1))
 
-bracket_by-some : (s : List ℕ) (o : Option (List ℕ)) {p : Selector × List ℕ} → after_byte 93 (past is_ident s) ≡ o →
-    bracket_by o (take_while is_ident s) (past is_ident s) ≡ Some p → SimpleStands (91 ∷ s) p.0 p.1
+bracket_by-some : (s : List ℕ) (o : Option (List ℕ)) {p : Selector × List ℕ} → skip_byte 93 (drop_while is_ident s) ≡ o →
+    bracket_by o (take_while is_ident s) (drop_while is_ident s) ≡ Some p → SimpleStands (91 ∷ s) p.0 p.1
 bracket_by-some s (Some r) e h =
-    of_pair (SimpleStands (91 ∷ s)) h (key_part (subst (IsRun is_ident s (take_while is_ident s)) (after_byte-some 93 (past is_ident s) e) (run-of is_ident s)))
+    of_pair (SimpleStands (91 ∷ s)) h (key_part (subst (IsRun is_ident s (take_while is_ident s)) (skip_byte-some 93 (drop_while is_ident s) e) (run-of is_ident s)))
 bracket_by-some s None {p} e h =
-    let m = past is_ident s in
+    let m = drop_while is_ident s in
     let k = take_while is_ident s in
-    let b = bind-some (λ (op : Op × List ℕ). option_map (λ (v : List ℕ × List ℕ). (with_op op.0 k v.0, v.1)) (value_at op.1)) (op_at m) h in
-    let v = map-some (λ (v : List ℕ × List ℕ). (with_op b.0.0 k v.0, v.1)) (value_at b.0.1) b.2 in
-    let r = subst (IsRun is_ident s k) (op_at-some m b.1) (run-of is_ident s) in
+    let b = bind-some (λ (op : AttrOperator × List ℕ). option_map (λ (v : List ℕ × List ℕ). (with_operator op.0 k v.0, v.1)) (value_at op.1)) (operator_at m) h in
+    let v = map-some (λ (v : List ℕ × List ℕ). (with_operator b.0.0 k v.0, v.1)) (value_at b.0.1) b.2 in
+    let r = subst (IsRun is_ident s k) (operator_at-some m b.1) (run-of is_ident s) in
     subst (λ (p : Selector × List ℕ). SimpleStands (91 ∷ s) p.0 p.1) v.2 (value_part r (spelled-gives b.0.0) (value-some b.0.1 v.1))
 
 bracket-some : (s : List ℕ) {p : Selector × List ℕ} → bracket_at s ≡ Some p → SimpleStands (91 ∷ s) p.0 p.1
-bracket-some s h = bracket_by-some s (after_byte 93 (past is_ident s)) refl h
+bracket-some s h = bracket_by-some s (skip_byte 93 (drop_while is_ident s)) refl h
 
 -- simple parts
 
-tag-some : (b : ℕ) (s : List ℕ) → is_ident b ≡ true → SimpleStands (b ∷ s) (Tag (take_while is_ident (b ∷ s))) (past is_ident (b ∷ s))
+tag-some : (b : ℕ) (s : List ℕ) → is_ident b ≡ true → SimpleStands (b ∷ s) (Tag (take_while is_ident (b ∷ s))) (drop_while is_ident (b ∷ s))
 tag-some b s y =
     let some : take_while is_ident (b ∷ s) ≢ [] = λ e. let q : b ∷ take_while is_ident s ≡ [] = sym (take_while-yes is_ident b s y) ∙ e in cc in
     tag_part some (run-of is_ident (b ∷ s))
@@ -214,7 +214,7 @@ simple-some (b ∷ s) {p} h =
       ]
     ]
 
-tag-is : (b : ℕ) (s : List ℕ) → is_ident b ≡ true → simple_at (b ∷ s) ≡ Some (Tag (take_while is_ident (b ∷ s)), past is_ident (b ∷ s))
+tag-is : (b : ℕ) (s : List ℕ) → is_ident b ≡ true → simple_at (b ∷ s) ≡ Some (Tag (take_while is_ident (b ∷ s)), drop_while is_ident (b ∷ s))
 tag-is b s y =
     if_no _ _ _ (ident-not b 35 y refl) ∙ (if_no _ _ _ (ident-not b 46 y refl) ∙ (if_no _ _ _ (ident-not b 42 y refl) ∙ (if_no _ _ _ (ident-not b 91 y refl) ∙ if_yes _ _ _ y)))
 
@@ -226,22 +226,22 @@ run-first {i = b ∷ i} {rest = rest} n r = (b, i ++ rest, r.parts, (and_parts (
 tag-run : {s i rest : List ℕ} → i ≢ [] → IsRun is_ident s i rest → simple_at s ≡ Some (Tag i, rest)
 tag-run {s} n r =
     let f = run-first n r in
-    let here : simple_at s ≡ Some (Tag (take_while is_ident s), past is_ident s) =
-    subst (λ (s : List ℕ). simple_at s ≡ Some (Tag (take_while is_ident s), past is_ident s)) (sym f.2) (tag-is f.0 f.1 f.3) in
-    here ∙ (λ j. Some (Tag (run-take r j), run-past r j))
+    let here : simple_at s ≡ Some (Tag (take_while is_ident s), drop_while is_ident s) =
+    subst (λ (s : List ℕ). simple_at s ≡ Some (Tag (take_while is_ident s), drop_while is_ident s)) (sym f.2) (tag-is f.0 f.1 f.3) in
+    here ∙ (λ j. Some (Tag (run-take r j), run-drop_while r j))
 
 pub simple-is : {s rest : List ℕ} {e : Selector} → SimpleStands s e rest → simple_at s ≡ Some (e, rest)
-simple-is (id_part r) = λ j. Some (Id (run-take r j), run-past r j)
-simple-is (class_part r) = λ j. Some (Class (run-take r j), run-past r j)
+simple-is (id_part r) = λ j. Some (Id (run-take r j), run-drop_while r j)
+simple-is (class_part r) = λ j. Some (Class (run-take r j), run-drop_while r j)
 simple-is all_part = refl
 simple-is (tag_part n r) = tag-run n r
-simple-is (key_part {k = k} {rest = rest} r) = key-is r ∙ ap (λ (x : Option (List ℕ)). bracket_by x k (93 ∷ rest)) (after_byte-is 93 rest)
+simple-is (key_part {k = k} {rest = rest} r) = key-is r ∙ ap (λ (x : Option (List ℕ)). bracket_by x k (93 ∷ rest)) (skip_byte-is 93 rest)
 simple-is (value_part r g w) = value-bracket r g w
 
 -- what is left is shorter
 
 run-le : {s i rest : List ℕ} → IsRun is_ident s i rest → length rest ≤ length s
-run-le {s} r = omega (arith, ap length (run-past r), past-le is_ident s)
+run-le {s} r = omega (arith, ap length (run-drop_while r), drop_while-le is_ident s)
 
 value-le : {s v rest : List ℕ} → ValueStands s v rest → length rest ≤ length s
 value-le (bare r) = run-le r

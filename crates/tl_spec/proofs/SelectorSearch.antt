@@ -163,8 +163,8 @@ filter-places p a (suc n) = ap (λ ns. cond (p a) (a ∷ ns) ns) (filter-places 
 answer-at : (p : ℕ → Bool) (n i : ℕ) → i < n → option_map p (slice_get (range_with_len 0 n) i) ≡ Some (p i)
 answer-at p n i h = let same : 0 + i ≡ i = omega arith in ap (option_map p) (number-at 0 n i h) ∙ ap (λ j. Some (p j)) same
 
-answer-past : (p : ℕ → Bool) (n i : ℕ) → n ≤ i → option_map p (slice_get (range_with_len 0 n) i) ≡ None
-answer-past p n i h = ap (option_map p) (slice_get_past (range_with_len 0 n) i (omega (arith, h, length-range_with_len 0 n)))
+answer-drop_while : (p : ℕ → Bool) (n i : ℕ) → n ≤ i → option_map p (slice_get (range_with_len 0 n) i) ≡ None
+answer-drop_while p n i h = ap (option_map p) (slice_get_past (range_with_len 0 n) i (omega (arith, h, length-range_with_len 0 n)))
 
 passes-is : (p : ℕ → Bool) (n i : ℕ) → PassesAt p (range_with_len 0 n) i ↔ ((i < n) × (p i ≡ true))
 passes-is p n i = (forth, λ h. answer-at p n i h.0 ∙ ap Some h.1)
@@ -172,7 +172,7 @@ passes-is p n i = (forth, λ h. answer-at p n i h.0 ∙ ap Some h.1)
     forth : PassesAt p (range_with_len 0 n) i → (i < n) × (p i ≡ true)
     forth h = elim (leb_tells (suc i) n) [
       | inl w ↦ (w.1, same_Some (p i) true (sym (answer-at p n i w.1) ∙ h))
-      | inr w ↦ absurd (none-some true (sym (answer-past p n i (omega (arith, w.1))) ∙ h))
+      | inr w ↦ absurd (none-some true (sym (answer-drop_while p n i (omega (arith, w.1))) ∙ h))
     ]
 
 module _ (nodes : List Node) (e : Selector) (from to : ℕ) where

@@ -15,7 +15,7 @@ use Rattle.std.specs.Str.{all_ascii_digits}
 use Rattle.tl_spec.specs.Edit.{Change, Names, Texts, Comments, Sets, Flags, Unsets, Bares, Pushes, Pulls, Roots}
 use Rattle.tl_spec.specs.ByteClass.{is_space}
 use Rattle.tl_spec.specs.Runs.{has_bytes}
-use Rattle.tl_spec.specs.StepLine.{is_line_feed, changes_of, changes_of_lines, lines_of, IsLine, number_of, is_number, read_on, first_word, after_word, of_number, change_of_text, change_of_numbers, change_of_word, change_by_word, change_of_line, word_and_rest, line_of, ReadBack, IsSpellable}
+use Rattle.tl_spec.specs.StepLine.{is_line_feed, parse_changes, changes_of_lines, lines_of, IsLine, number_of, is_number, continue_number, first_word, after_word, change_with_number, change_of_text, change_of_numbers, change_of_word, change_by_word, change_of_line, word_and_rest, line_of, ReadBack, IsSpellable}
 
 -- a word without a space ends where the first space stands
 word_length : (word rest : List ℕ) → All (λ b. b ≢ 32) word → position_or_len is_space (word_and_rest word rest) ≡ length word
@@ -43,7 +43,7 @@ digits-spaceless : (digits : List ℕ) → all_ascii_digits digits ≡ true → 
 digits-spaceless [] h = All-nil (λ b. b ≢ 32)
 digits-spaceless (b ∷ bytes) h = All-cons (λ b. b ≢ 32) b bytes (grind (arith, nat_tests)) (digits-spaceless bytes (grind (arith, nat_tests)))
 
-digits_if : (t : Bool) (digits : List ℕ) (n : ℕ) → t ≡ is_number digits → (if t then Some (read_on 0 digits) else None) ≡ Some n → all_ascii_digits digits ≡ true
+digits_if : (t : Bool) (digits : List ℕ) (n : ℕ) → t ≡ is_number digits → (if t then Some (continue_number 0 digits) else None) ≡ Some n → all_ascii_digits digits ≡ true
 digits_if true digits n e h = grind (arith, nat_tests)
 digits_if false digits n e h = cc
 
@@ -51,7 +51,7 @@ pub number-spaceless : (digits : List ℕ) (n : ℕ) → number_of digits ≡ So
 number-spaceless digits n h = digits-spaceless digits (digits_if (is_number digits) digits n refl h)
 
 -- a number and what stands after its space are read as that
-pub number_read : (digits rest : List ℕ) (n : ℕ) (made : ℕ → List ℕ → Option Change) → number_of digits ≡ Some n → of_number made (word_and_rest digits rest) ≡ made n rest
+pub number_read : (digits rest : List ℕ) (n : ℕ) (made : ℕ → List ℕ → Option Change) → number_of digits ≡ Some n → change_with_number made (word_and_rest digits rest) ≡ made n rest
 number_read digits rest n made h =
     let s = number-spaceless digits n h in
     rw (first_word-spaced digits rest s, after_word-spaced digits rest s, h) refl
@@ -110,7 +110,7 @@ not_feed b h = grind (arith, nat_tests)
 pub changes_of_lines-cons : (line : List ℕ) (lines : List (List ℕ)) (c : Change) (cs : List Change) → has_bytes line ≡ true → change_of_line line ≡ Some c → changes_of_lines lines ≡ Some cs → changes_of_lines (line ∷ lines) ≡ Some (c ∷ cs)
 changes_of_lines-cons line lines c cs e h k = rw (e, h, k) refl
 
-pub spelled_all_read : (digits : ℕ → List ℕ) → ReadBack digits → (cs : List Change) → All (IsLine digits) cs → changes_of (lines_of digits cs) ≡ Some cs
+pub spelled_all_read : (digits : ℕ → List ℕ) → ReadBack digits → (cs : List Change) → All (IsLine digits) cs → parse_changes (lines_of digits cs) ≡ Some cs
 spelled_all_read digits r [] h = refl
 spelled_all_read digits r (c ∷ cs) h =
     let is_line = All-head (IsLine digits) c cs h in
@@ -119,20 +119,20 @@ spelled_all_read digits r (c ∷ cs) h =
     ap changes_of_lines (slice_split_at is_line_feed (line_of digits c) 10 (lines_of digits cs) no_feed refl)
     ∙ changes_of_lines-cons (line_of digits c) (slice_split is_line_feed (lines_of digits cs)) c cs (line_of-not_empty digits c) (spelled_read digits r c is_line.0) later
 
-pub number-if : (digits : List ℕ) → is_number digits ≡ true → number_of digits ≡ Some (read_on 0 digits)
+pub number-if : (digits : List ℕ) → is_number digits ≡ true → number_of digits ≡ Some (continue_number 0 digits)
 number-if digits h = rw h refl
 
 -- decimal digits
 
-folds : FoldsDigits read_on
-folds = record { empty = λ n. refl; more = λ n c cs h. ap (λ m. read_on m cs) (omega arith) }
+folds : FoldsDigits continue_number
+folds = record { empty = λ n. refl; more = λ n c cs h. ap (λ m. continue_number m cs) (omega arith) }
 
 pub decimal-reads_back : ReadBack decimal
 decimal-reads_back n h =
     let P = λ (ds : List ℕ). all_ascii_digits ds ≡ true in
     let wide : n < 2 ^ 64 = omega arith in
-    let all : all_ascii_digits (decimal n) ≡ true = digits_decimal (numerals_by_fold P tells_all_ascii_digits read_on folds) n wide in
-    let value : read_on 0 (decimal n) ≡ n = digits_value-decimal (numerals_by_fold P tells_all_ascii_digits read_on folds) n wide in
+    let all : all_ascii_digits (decimal n) ≡ true = digits_decimal (numerals_by_fold P tells_all_ascii_digits continue_number folds) n wide in
+    let value : continue_number 0 (decimal n) ≡ n = digits_value-decimal (numerals_by_fold P tells_all_ascii_digits continue_number folds) n wide in
     let some : 0 < length (decimal n) = decimal_nonempty n wide in
     number-if (decimal n) (grind (arith, nat_tests)) ∙ ap Some value
 

@@ -16,7 +16,7 @@ use Rattle.std.proofs.lemmas.Slice.Eq.{bytes_eq-Decides}
 use Rattle.tl_spec.specs.Edit.{Change, Sets}
 use Rattle.tl_spec.specs.ByteClass.{is_space}
 use Rattle.tl_spec.specs.Runs.{has_bytes}
-use Rattle.tl_spec.specs.StepLine.{number_of, is_number, read_on, first_word, after_word, of_number, change_of_text, change_of_numbers, change_of_word, change_by_word, change_of_line, word_and_rest, is_line_feed, all_some, changes_of_lines, changes_of}
+use Rattle.tl_spec.specs.StepLine.{number_of, is_number, continue_number, first_word, after_word, change_with_number, change_of_text, change_of_numbers, change_of_word, change_by_word, change_of_line, word_and_rest, is_line_feed, all_some, changes_of_lines, parse_changes}
 use Rattle.tl_spec.specs.StepGrammar.{DigitsSay, one_digit, one_more, IsNumber, NumberThenText, number_alone, number_and_text, TwoNumbers, two_numbers, KeyThenValue, key_alone, key_and_value, LineSays, name_line, text_line, comment_line, set_line, flag_line, unset_line, bare_line, push_line, pull_line, root_line, TextSays, no_line, last_line, empty_line, next_line}
 use Rattle.tl_spec.proofs.Shrinks.{if_both}
 use Rattle.tl_spec.proofs.Spelling.{number-if, not_feed, changes_of_lines-cons, number_read, numbers_read, line_read, first_word-spaced, after_word-spaced, spaceless, number-spaceless}
@@ -26,9 +26,9 @@ none-some is = cc
 
 -- digits from the right and from the left
 
-read_on-append : (n : ℕ) (xs ys : List ℕ) → read_on n (xs ++ ys) ≡ read_on (read_on n xs) ys
-read_on-append n [] ys = refl
-read_on-append n (x ∷ xs) ys = read_on-append (10 * n + (x - 48)) xs ys
+continue_number-append : (n : ℕ) (xs ys : List ℕ) → continue_number n (xs ++ ys) ≡ continue_number (continue_number n xs) ys
+continue_number-append n [] ys = refl
+continue_number-append n (x ∷ xs) ys = continue_number-append (10 * n + (x - 48)) xs ys
 
 all_ascii_digits-append : (xs ys : List ℕ) → all_ascii_digits xs ≡ true → all_ascii_digits ys ≡ true → all_ascii_digits (xs ++ ys) ≡ true
 all_ascii_digits-append [] ys h k = k
@@ -45,9 +45,9 @@ say-some : {digits : List ℕ} {n : ℕ} → DigitsSay digits n → 0 < length d
 say-some (one_digit h) = omega arith
 say-some (one_more {digits = digits} {d = d} r h) = simp length-append (omega arith)
 
-say-value : {digits : List ℕ} {n : ℕ} → DigitsSay digits n → read_on 0 digits ≡ n
+say-value : {digits : List ℕ} {n : ℕ} → DigitsSay digits n → continue_number 0 digits ≡ n
 say-value (one_digit h) = omega arith
-say-value (one_more {digits = digits} {d = d} r h) = read_on-append 0 digits ((48 + d) ∷ []) ∙ omega (arith, say-value r)
+say-value (one_more {digits = digits} {d = d} r h) = continue_number-append 0 digits ((48 + d) ∷ []) ∙ omega (arith, say-value r)
 
 pub number-is : {digits : List ℕ} {n : ℕ} → IsNumber digits n → number_of digits ≡ Some n
 number-is {digits} {n} r =
@@ -63,13 +63,13 @@ one_byte_more {xs} {n} y r h =
     let same : 48 + (y - 48) ≡ y = omega arith in
     subst (λ b. DigitsSay (xs ++ b ∷ []) (10 * n + (y - 48))) same (one_more r small)
 
-say-on : (ys : List ℕ) {xs : List ℕ} {n : ℕ} → DigitsSay xs n → all_ascii_digits ys ≡ true → DigitsSay (xs ++ ys) (read_on n ys)
+say-on : (ys : List ℕ) {xs : List ℕ} {n : ℕ} → DigitsSay xs n → all_ascii_digits ys ≡ true → DigitsSay (xs ++ ys) (continue_number n ys)
 say-on [] {xs} {n} r h = subst (λ s. DigitsSay s n) (sym (append-nil xs)) r
 say-on (y ∷ ys) {xs} {n} r h =
     let all = and_parts (is_ascii_digit y) (all_ascii_digits ys) h in
-    subst (λ s. DigitsSay s (read_on (10 * n + (y - 48)) ys)) (append_assoc xs (y ∷ []) ys) (say-on ys (one_byte_more y r all.0) all.1)
+    subst (λ s. DigitsSay s (continue_number (10 * n + (y - 48)) ys)) (append_assoc xs (y ∷ []) ys) (say-on ys (one_byte_more y r all.0) all.1)
 
-digits-say : (digits : List ℕ) → 0 < length digits → all_ascii_digits digits ≡ true → DigitsSay digits (read_on 0 digits)
+digits-say : (digits : List ℕ) → 0 < length digits → all_ascii_digits digits ≡ true → DigitsSay digits (continue_number 0 digits)
 digits-say [] some h = absurd (omega arith)
 digits-say (y ∷ ys) some h =
     let all = and_parts (is_ascii_digit y) (all_ascii_digits ys) h in
@@ -82,13 +82,13 @@ digits-say (y ∷ ys) some h =
 number-there : (digits : List ℕ) (n : ℕ) → number_of digits ≡ Some n → IsNumber digits n
 number-there digits n h = by (is_number digits) refl h
   where
-    by : (t : Bool) → is_number digits ≡ t → (if t then Some (read_on 0 digits) else None) ≡ Some n → IsNumber digits n
+    by : (t : Bool) → is_number digits ≡ t → (if t then Some (continue_number 0 digits) else None) ≡ Some n → IsNumber digits n
     by false e is = absurd (none-some is)
     by true e is =
-        let value : read_on 0 digits ≡ n = cc in
+        let value : continue_number 0 digits ≡ n = cc in
         let some : 0 < length digits = grind (arith, nat_tests) in
         let all : all_ascii_digits digits ≡ true = grind (arith, nat_tests) in
-        let small : read_on 0 digits ≤ 4294967295 = grind (arith, nat_tests) in
+        let small : continue_number 0 digits ≤ 4294967295 = grind (arith, nat_tests) in
         subst (IsNumber digits) value (digits-say digits some all, small)
 
 -- a key and what stands after its space
@@ -144,7 +144,7 @@ after-is (key_and_value {key = key} {value = value} h) = after_word-spaced key v
 
 -- a number and what stands after its space
 
-text-is : {rest text : List ℕ} {n : ℕ} (made : ℕ → List ℕ → Option Change) → NumberThenText rest n text → of_number made rest ≡ made n text
+text-is : {rest text : List ℕ} {n : ℕ} (made : ℕ → List ℕ → Option Change) → NumberThenText rest n text → change_with_number made rest ≡ made n text
 text-is made (number_alone {digits = digits} {n = n} k) =
     let is = number-is k in
     let s = number-spaceless digits n is in
@@ -155,7 +155,7 @@ number-parts : {rest digits text : List ℕ} {n : ℕ} → KeyThenValue rest dig
 number-parts (key_alone h) k = number_alone k
 number-parts (key_and_value h) k = number_and_text k
 
-text-there : (made : ℕ → List ℕ → Option Change) (rest : List ℕ) (c : Change) → of_number made rest ≡ Some c →
+text-there : (made : ℕ → List ℕ → Option Change) (rest : List ℕ) (c : Change) → change_with_number made rest ≡ Some c →
     (n : ℕ) × (text : List ℕ) × NumberThenText rest n text × (made n text ≡ Some c)
 text-there made rest c h = by (number_of (first_word rest)) refl h
   where
@@ -258,7 +258,7 @@ not_empty (b ∷ line) c h = refl
 no_feeds : (line : List ℕ) → All (λ b. b ≢ 10) line → All (λ b. is_line_feed b ≡ false) line
 no_feeds line h = All-weaker (λ b. b ≢ 10) (λ b. is_line_feed b ≡ false) not_feed line h
 
-text-says-is : {text : List ℕ} {cs : List Change} → TextSays text cs → changes_of text ≡ Some cs
+text-says-is : {text : List ℕ} {cs : List Change} → TextSays text cs → parse_changes text ≡ Some cs
 text-says-is no_line = refl
 text-says-is (last_line {line = line} {c = c} h r) =
     let is = says-is r in
@@ -308,13 +308,13 @@ lines-say (more {line = b ∷ line} {text = text} {lines = lines} h r) cs is =
     let first = first-says (change_of_line (b ∷ line)) (map change_of_line (filter has_bytes lines)) cs is in
     subst (TextSays (b ∷ line ++ 10 ∷ text)) first.4 (next_line h ((line-only (b ∷ line) first.0).1 first.2) (lines-say r first.1 first.3))
 
-pub text-only : (text : List ℕ) (cs : List Change) → TextSays text cs ↔ (changes_of text ≡ Some cs)
+pub text-only : (text : List ℕ) (cs : List Change) → TextSays text cs ↔ (parse_changes text ≡ Some cs)
 text-only text cs = (text-says-is, lines-say (lines-of text) cs)
 
-pub text-none : (text : List ℕ) → ((cs : List Change) → TextSays text cs → ⊥) ↔ (changes_of text ≡ None)
-text-none text = (λ h. by h (changes_of text) refl, λ e cs r. none-some (sym e ∙ text-says-is r))
+pub text-none : (text : List ℕ) → ((cs : List Change) → TextSays text cs → ⊥) ↔ (parse_changes text ≡ None)
+text-none text = (λ h. by h (parse_changes text) refl, λ e cs r. none-some (sym e ∙ text-says-is r))
   where
-    by : ((cs : List Change) → TextSays text cs → ⊥) → (o : Option (List Change)) → changes_of text ≡ o → o ≡ None
+    by : ((cs : List Change) → TextSays text cs → ⊥) → (o : Option (List Change)) → parse_changes text ≡ o → o ≡ None
     by h None e = refl
     by h (Some cs) e = absurd (h cs (lines-say (lines-of text) cs e))
 

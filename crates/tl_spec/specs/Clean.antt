@@ -2,7 +2,7 @@
 use Rattle.std.specs.Prelude.{◌≡◌, ◌≢◌, ℕ, IsTrue, not, ◌==◌, List, [], ◌∷◌, ◌++◌, Option, Some, None, codes, ⊤}
 use Rattle.std.specs.List.{list_all, starts_with}
 use Rattle.tl_spec.specs.ByteClass.{is_blank, is_name, is_void, less, bang, quote}
-use Rattle.tl_spec.specs.Runs.{after}
+use Rattle.tl_spec.specs.Runs.{after_needle}
 use Rattle.tl_spec.specs.Attribute.{Pair}
 use Rattle.tl_spec.specs.AttributeList.{printed_pairs, HasOwnKeys}
 use Rattle.tl_spec.specs.Forest.{Forest, none, text, comment, tag, PlainTag}
@@ -40,7 +40,7 @@ pub record HasCommentForm (bytes : List ℕ) : Type 0 where
   pub whole : bytes ≡ less ∷ blanks ++ bang ∷ inside
   pub all_blank : IsTrue (list_all is_blank blanks)
   pub opens : IsTrue (starts_with ◌==◌ inside (codes "--"))
-  pub ends : after (codes "-->") inside ≡ Some []
+  pub ends : after_needle (codes "-->") inside ≡ Some []
 
 -- empty, or of that form
 abbrev pub IsCleanComment : List ℕ → Type 0

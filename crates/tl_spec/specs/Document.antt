@@ -90,7 +90,7 @@ document t = let trees = forest (tokens t) in
     record { nodes = nodes t 0 trees; top = numbers 0 trees; is_html5 = list_any (λ k. is_html5_doctype k.token) (tokens t) }
 
 -- a node and its attributes
-abbrev pub weight : Node → ℕ
-weight (Tag own) = 1 + count_of own.attributes
-weight (Raw bytes) = 1
-weight (Comment bytes) = 1
+abbrev pub node_and_attribute_count : Node → ℕ
+node_and_attribute_count (Tag own) = 1 + count_of own.attributes
+node_and_attribute_count (Raw bytes) = 1
+node_and_attribute_count (Comment bytes) = 1

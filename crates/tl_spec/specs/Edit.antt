@@ -39,45 +39,45 @@ abbrev pub without_value : Attributes (List ℕ) → List ℕ → Attributes (Li
 without_value = any.without_value (λ key. key) bytes_eq
 
 -- what an edit makes, unless it is refused
-abbrev pub on_ok : {A B : Type 0} → (A → B) → Result A Refusal → Result B Refusal
-on_ok f (Ok x) = Ok (f x)
-on_ok f (Err refusal) = Err refusal
+abbrev pub map_ok : {A B : Type 0} → (A → B) → Result A Refusal → Result B Refusal
+map_ok f (Ok x) = Ok (f x)
+map_ok f (Err refusal) = Err refusal
 
 -- handles without the one at a place
 abbrev pub without_handle : Handles → ℕ → Result Handles Refusal
 without_handle handles i = if nat_lt i (length handles.items) then Ok (without_item handles i) else Err no_place
 
 -- an edit of a node, if it is a tag
-abbrev pub of_tag : (TagNode → Result TagNode Refusal) → Node → Result Node Refusal
-of_tag change (Tag own) = on_ok Tag (change own)
-of_tag change (Raw bytes) = Err not_tag
-of_tag change (Comment bytes) = Err not_tag
+abbrev pub edit_if_tag : (TagNode → Result TagNode Refusal) → Node → Result Node Refusal
+edit_if_tag change (Tag own) = map_ok Tag (change own)
+edit_if_tag change (Raw bytes) = Err not_tag
+edit_if_tag change (Comment bytes) = Err not_tag
 
 -- an edit of a node that is there
-abbrev pub of_node : Document → ℕ → (Node → Result Node Refusal) → Option Node → Result Document Refusal
-of_node d n change None = Err no_node
-of_node d n change (Some node) = on_ok (λ m. record d { nodes = slice_set d.nodes n m }) (change node)
+abbrev pub edit_if_found : Document → ℕ → (Node → Result Node Refusal) → Option Node → Result Document Refusal
+edit_if_found d n change None = Err no_node
+edit_if_found d n change (Some node) = map_ok (λ m. record d { nodes = slice_set d.nodes n m }) (change node)
 
 -- an edit of the node of a number
-abbrev pub at_node : ℕ → (Node → Result Node Refusal) → Document → Result Document Refusal
-at_node n change d = of_node d n change (slice_get d.nodes n)
+abbrev pub edit_node : ℕ → (Node → Result Node Refusal) → Document → Result Document Refusal
+edit_node n change d = edit_if_found d n change (slice_get d.nodes n)
 
 -- an edit of the tag of a number
-abbrev pub at_tag : ℕ → (TagNode → TagNode) → Document → Result Document Refusal
-at_tag n change d = at_node n (of_tag (λ own. Ok (change own))) d
+abbrev pub edit_tag : ℕ → (TagNode → TagNode) → Document → Result Document Refusal
+edit_tag n change d = edit_node n (edit_if_tag (λ own. Ok (change own))) d
 
 -- the document after an edit, or why it is refused
-abbrev pub edited : Change → Document → Result Document Refusal
-edited (Names n name) d = at_tag n (λ own. record own { name = name }) d
-edited (Texts n text) d = at_node n (λ _. Ok (Raw text)) d
-edited (Comments n text) d = at_node n (λ _. Ok (Comment text)) d
-edited (Sets n key value) d = at_tag n (λ own. record own { attributes = with_attribute own.attributes key (Some value) }) d
-edited (Flags n key) d = at_tag n (λ own. record own { attributes = with_attribute own.attributes key None }) d
-edited (Unsets n key) d = at_tag n (λ own. record own { attributes = without_attribute own.attributes key }) d
-edited (Bares n key) d = at_tag n (λ own. record own { attributes = without_value own.attributes key }) d
-edited (Pushes n h) d = at_tag n (λ own. record own { children = with_last room own.children h }) d
-edited (Pulls n i) d = at_node n (of_tag (λ own. on_ok (λ handles. record own { children = handles }) (without_handle own.children i))) d
-edited (Roots i h) d = if nat_lt i (length d.top) then Ok (record d { top = slice_set d.top i h }) else Err no_place
+abbrev pub apply_change : Change → Document → Result Document Refusal
+apply_change (Names n name) d = edit_tag n (λ own. record own { name = name }) d
+apply_change (Texts n text) d = edit_node n (λ _. Ok (Raw text)) d
+apply_change (Comments n text) d = edit_node n (λ _. Ok (Comment text)) d
+apply_change (Sets n key value) d = edit_tag n (λ own. record own { attributes = with_attribute own.attributes key (Some value) }) d
+apply_change (Flags n key) d = edit_tag n (λ own. record own { attributes = with_attribute own.attributes key None }) d
+apply_change (Unsets n key) d = edit_tag n (λ own. record own { attributes = without_attribute own.attributes key }) d
+apply_change (Bares n key) d = edit_tag n (λ own. record own { attributes = without_value own.attributes key }) d
+apply_change (Pushes n h) d = edit_tag n (λ own. record own { children = with_last room own.children h }) d
+apply_change (Pulls n i) d = edit_node n (edit_if_tag (λ own. map_ok (λ handles. record own { children = handles }) (without_handle own.children i))) d
+apply_change (Roots i h) d = if nat_lt i (length d.top) then Ok (record d { top = slice_set d.top i h }) else Err no_place
 
 -- a document after edits, and which of them was refused, if any, and why: those after it are left out
 pub record Edited : Type 0 where
@@ -85,23 +85,23 @@ pub record Edited : Type 0 where
   pub refused : Option (ℕ × Refusal)
 
 -- no edit was refused
-abbrev pub all_made : Document → Edited
-all_made d = record { document = d; refused = None }
+abbrev pub none_refused : Document → Edited
+none_refused d = record { document = d; refused = None }
 
 -- the edit at a place was refused
 abbrev pub refusal_at : ℕ → Refusal → Document → Edited
 refusal_at i refusal d = record { document = d; refused = Some (i, refusal) }
 
 -- the place counted from one edit earlier
-abbrev pub one_later : Edited → Edited
-one_later e = record e { refused = option_map (λ r. (suc r.0, r.1)) e.refused }
+abbrev pub shift_place : Edited → Edited
+shift_place e = record e { refused = option_map (λ r. (suc r.0, r.1)) e.refused }
 
 -- what the later edits make of the document after an edit, if it is not refused
 abbrev pub next : (Document → Edited) → Document → Result Document Refusal → Edited
-next later d (Ok new) = one_later (later new)
+next later d (Ok new) = shift_place (later new)
 next later d (Err refusal) = refusal_at 0 refusal d
 
 -- edits one after the other, up to the first that is refused
-abbrev pub edited_all : List Change → Document → Edited
-edited_all [] d = all_made d
-edited_all (c ∷ cs) d = next (edited_all cs) d (edited c d)
+abbrev pub apply_changes : List Change → Document → Edited
+apply_changes [] d = none_refused d
+apply_changes (c ∷ cs) d = next (apply_changes cs) d (apply_change c d)

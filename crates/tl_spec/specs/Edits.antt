@@ -5,8 +5,8 @@ use Rattle.tl_spec.specs.Document.{Node, Tag, Raw, Comment, Document}
 use Rattle.tl_spec.specs.Edit.{Edited}
 
 -- the place of a refusal counted from n edits earlier
-abbrev pub later : ℕ → Edited → Edited
-later n e = record e { refused = option_map (λ r. (n + r.0, r.1)) e.refused }
+abbrev pub shift_place_by : ℕ → Edited → Edited
+shift_place_by n e = record e { refused = option_map (λ r. (n + r.0, r.1)) e.refused }
 
 -- a tag that stays one keeps its raw and its start, and what was no tag becomes none
 abbrev pub KeepsSource : Node → Node → Type 0

@@ -21,10 +21,10 @@ abbrev pub start : State
 start = record { nodes = []; open_tags = []; top = []; is_html5 = false }
 
 -- the list with the item at a place changed
-abbrev pub change_at : {A : Type 0} → (A → A) → ℕ → List A → List A
-change_at f i [] = []
-change_at f zero (x ∷ xs) = f x ∷ xs
-change_at f (suc i) (x ∷ xs) = x ∷ change_at f i xs
+abbrev pub map_at : {A : Type 0} → (A → A) → ℕ → List A → List A
+map_at f i [] = []
+map_at f zero (x ∷ xs) = f x ∷ xs
+map_at f (suc i) (x ∷ xs) = x ∷ map_at f i xs
 
 -- a node with one more child
 abbrev pub with_child : ℕ → Node → Node
@@ -53,7 +53,7 @@ enclosing_name nodes (p ∷ ps) = name_if_tag (slice_get nodes p)
 -- a number becomes the last child of the first of these tags, or the last of the top list where there is none
 abbrev pub with_child_of_first : ℕ → State → List ℕ → State
 with_child_of_first n s [] = record s { top = s.top ++ n ∷ [] }
-with_child_of_first n s (p ∷ ps) = record s { nodes = change_at (with_child n) p s.nodes }
+with_child_of_first n s (p ∷ ps) = record s { nodes = map_at (with_child n) p s.nodes }
 
 -- the same by the tags that are open
 abbrev pub with_child_of_innermost : ℕ → State → State
@@ -70,7 +70,7 @@ with_open_tag node s = let adding = with_next_node node s in record adding { ope
 -- the first of these tags closed, its raw up to a place of the text
 abbrev pub with_first_closed : List ℕ → ℕ → State → List ℕ → State
 with_first_closed t to s [] = s
-with_first_closed t to s (p ∷ ps) = record s { nodes = change_at (with_raw_to t to) p s.nodes; open_tags = ps }
+with_first_closed t to s (p ∷ ps) = record s { nodes = map_at (with_raw_to t to) p s.nodes; open_tags = ps }
 
 -- the innermost open tag closed
 abbrev pub with_innermost_closed : List ℕ → ℕ → State → State

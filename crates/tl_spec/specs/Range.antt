@@ -3,7 +3,7 @@ use Rattle.std.specs.Prelude.{◌≡◌, ℕ, zero, suc, ◌+◌, ◌<◌, Bool,
 use Rattle.std.specs.List.{between, last_or}
 use Rattle.tl_spec.specs.Document.{Node, Tag, TagNode}
 use Rattle.tl_spec.specs.Element.{last_child_of}
-use Rattle.tl_spec.specs.Walk.{TreeFault, Dangling, Cycle, Walk, end, meets_text, meets_comment, meets_tag, passes_tag, meets_fault, every, stands_on, visits, visits_from, walk}
+use Rattle.tl_spec.specs.Walk.{TreeFault, Dangling, Cycle, Walk, end, meets_text, meets_comment, meets_tag, passes_tag, meets_fault, all_tags, stands_on, visits, visits_from, walk}
 
 module _ (nodes : List Node) where
   -- one handle on the way along last children: whether it stands on the way already, and its node, or none past the table
@@ -46,13 +46,13 @@ abbrev pub boundaries_of : List Node → List ℕ → Result (Option (ℕ × ℕ
 boundaries_of nodes children = boundaries_from nodes (slice_get children 0) (last_or None children)
 
 -- the numbers from one to another, as a first one and the one after the last: none where they are reversed
-abbrev pub both_included : Option (ℕ × ℕ) → ℕ × ℕ
-both_included None = (0, 0)
-both_included (Some b) = if nat_lt b.1 b.0 then (0, 0) else (b.0, b.1 + 1)
+abbrev pub half_open : Option (ℕ × ℕ) → ℕ × ℕ
+half_open None = (0, 0)
+half_open (Some b) = if nat_lt b.1 b.0 then (0, 0) else (b.0, b.1 + 1)
 
 -- the range between boundaries
 abbrev pub range_between : Result (Option (ℕ × ℕ)) TreeFault → Result (ℕ × ℕ) TreeFault
-range_between (Ok boundaries) = Ok (both_included boundaries)
+range_between (Ok boundaries) = Ok (half_open boundaries)
 range_between (Err fault) = Err fault
 
 -- the range of what hangs below a node with this first and this last child
@@ -64,26 +64,26 @@ abbrev pub range_of : List Node → List ℕ → Result (ℕ × ℕ) TreeFault
 range_of nodes children = range_between (boundaries_of nodes children)
 
 -- the answer of what is met later, where something is
-abbrev pub later_or : Walk → Result (Option ℕ) TreeFault → Result (Option ℕ) TreeFault → Result (Option ℕ) TreeFault
-later_or end here later = here
-later_or (meets_text h bytes more) here later = later
-later_or (meets_comment h bytes more) here later = later
-later_or (meets_tag h own children more) here later = later
-later_or (passes_tag h own more) here later = later
-later_or (meets_fault fault more) here later = later
+abbrev pub end_or_later : Walk → Result (Option ℕ) TreeFault → Result (Option ℕ) TreeFault → Result (Option ℕ) TreeFault
+end_or_later end here later = here
+end_or_later (meets_text h bytes more) here later = later
+end_or_later (meets_comment h bytes more) here later = later
+end_or_later (meets_tag h own children more) here later = later
+end_or_later (passes_tag h own more) here later = later
+end_or_later (meets_fault fault more) here later = later
 
 -- where a walk ends: at the last of the handles in a row, and below it at the last again; or the fault there
 abbrev pub walk_end : Option ℕ → Walk → Result (Option ℕ) TreeFault
 walk_end before end = Ok before
-walk_end before (meets_text h bytes more) = later_or more (Ok (Some h)) (walk_end before more)
-walk_end before (meets_comment h bytes more) = later_or more (Ok (Some h)) (walk_end before more)
-walk_end before (meets_tag h own children more) = later_or more (walk_end (Some h) children) (walk_end before more)
-walk_end before (passes_tag h own more) = later_or more (Ok (Some h)) (walk_end before more)
-walk_end before (meets_fault fault more) = later_or more (Err fault) (walk_end before more)
+walk_end before (meets_text h bytes more) = end_or_later more (Ok (Some h)) (walk_end before more)
+walk_end before (meets_comment h bytes more) = end_or_later more (Ok (Some h)) (walk_end before more)
+walk_end before (meets_tag h own children more) = end_or_later more (walk_end (Some h) children) (walk_end before more)
+walk_end before (passes_tag h own more) = end_or_later more (Ok (Some h)) (walk_end before more)
+walk_end before (meets_fault fault more) = end_or_later more (Err fault) (walk_end before more)
 
 -- the range of each tag's children holds what hangs below the tag, in order, and nothing else; it begins right after the tag
 abbrev pub AreRangesOfDescendants : List Node → Type 0
 AreRangesOfDescendants nodes = (n : ℕ) (own : TagNode) → slice_get nodes n ≡ Some (Tag own) →
     (range : ℕ × ℕ) × (range_of nodes own.children.items ≡ Ok range)
-    × (visits (walk every nodes [] own.children.items) ≡ visits_from range.0 (between range.0 range.1 nodes))
+    × (visits (walk all_tags nodes [] own.children.items) ≡ visits_from range.0 (between range.0 range.1 nodes))
     × (range.0 < range.1 → range.0 ≡ n + 1)

@@ -3,7 +3,7 @@ use Prim.Native.String.{String}
 use Rattle.std.specs.Prelude.{ℕ, true, false, List, Some, None, codes}
 use Rattle.tl_spec.specs.Attribute.{Pair}
 use Rattle.tl_spec.specs.Document.{Node, Tag, Raw, Comment, Document, document}
-use Rattle.tl_spec.specs.Edit.{Change, edited_all}
+use Rattle.tl_spec.specs.Edit.{Change, apply_changes}
 use Rattle.tl_spec.specs.Forest as forest
 use Rattle.tl_spec.specs.Selector as selector
 
@@ -48,7 +48,7 @@ nodes_of page = (document (codes page)).nodes
 
 -- a page after edits
 abbrev pub document_after : List Change → String → Document
-document_after changes page = (edited_all changes (document (codes page))).document
+document_after changes page = (apply_changes changes (document (codes page))).document
 
 -- the nodes of a page after edits
 abbrev pub nodes_after : List Change → String → List Node

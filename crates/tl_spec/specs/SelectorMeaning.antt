@@ -31,12 +31,12 @@ HoldsAlone (AttributeValueEndsWith key value) node = HasValue (λ own. EndsWith 
 HoldsAlone (AttributeValueSubstring key value) node = HasValue (λ own. HasPart own value) (attribute_of key node)
 
 -- whether a selector asks for ancestors
-abbrev pub has_joint : Selector → Bool
-has_joint (And a b) = has_joint a || has_joint b
-has_joint (Or a b) = has_joint a || has_joint b
-has_joint (Descendant a b) = true
-has_joint (Parent a b) = true
-has_joint _ = false
+abbrev pub has_combinator : Selector → Bool
+has_combinator (And a b) = has_combinator a || has_combinator b
+has_combinator (Or a b) = has_combinator a || has_combinator b
+has_combinator (Descendant a b) = true
+has_combinator (Parent a b) = true
+has_combinator _ = false
 
 module _ (nodes : List Node) where
   -- the node n of the table stands among the children of m

@@ -11,16 +11,16 @@ abbrev pub is_line_feed : ℕ → Bool
 is_line_feed b = b == line_feed
 
 -- the number that digits write after those of n
-abbrev pub read_on : ℕ → List ℕ → ℕ
-read_on n [] = n
-read_on n (digit ∷ digits) = read_on (10 * n + (digit - byte "0")) digits
+abbrev pub continue_number : ℕ → List ℕ → ℕ
+continue_number n [] = n
+continue_number n (digit ∷ digits) = continue_number (10 * n + (digit - byte "0")) digits
 
 -- one or more decimal digits of a value of at most 4294967295, the largest `u32`
 abbrev pub is_number : List ℕ → Bool
-is_number digits = nat_lt 0 (length digits) && (all_ascii_digits digits && nat_le (read_on 0 digits) largest_u32)
+is_number digits = nat_lt 0 (length digits) && (all_ascii_digits digits && nat_le (continue_number 0 digits) largest_u32)
 
 abbrev pub number_of : List ℕ → Option ℕ
-number_of digits = if is_number digits then Some (read_on 0 digits) else None
+number_of digits = if is_number digits then Some (continue_number 0 digits) else None
 
 -- the word up to the first space, or to the end
 abbrev pub first_word : List ℕ → List ℕ
@@ -56,12 +56,12 @@ change_of_word word n text =
     option_or (change_of_text word n text) (option_and_then (λ m. change_of_numbers word n m) (number_of text))
 
 -- what is made of a number and of all that stands after its space
-abbrev pub of_number : (ℕ → List ℕ → Option Change) → List ℕ → Option Change
-of_number made bytes = option_and_then (λ n. made n (after_word bytes)) (number_of (first_word bytes))
+abbrev pub change_with_number : (ℕ → List ℕ → Option Change) → List ℕ → Option Change
+change_with_number made bytes = option_and_then (λ n. made n (after_word bytes)) (number_of (first_word bytes))
 
 -- the edit that a line says: its first word tells the form, and the rest is read by it
 abbrev pub change_by_word : List ℕ → List ℕ → Option Change
-change_by_word word rest = of_number (change_of_word word) rest
+change_by_word word rest = change_with_number (change_of_word word) rest
 
 -- what one line says, if anything
 abbrev pub change_of_line : List ℕ → Option Change
@@ -78,8 +78,8 @@ abbrev pub changes_of_lines : List (List ℕ) → Option (List Change)
 changes_of_lines lines = all_some (map change_of_line (filter has_bytes lines))
 
 -- what a text of step lines says, if each of its lines says an edit
-abbrev pub changes_of : List ℕ → Option (List Change)
-changes_of text = changes_of_lines (slice_split is_line_feed text)
+abbrev pub parse_changes : List ℕ → Option (List Change)
+parse_changes text = changes_of_lines (slice_split is_line_feed text)
 
 -- a word, a space, and what stands after it
 abbrev pub word_and_rest : List ℕ → List ℕ → List ℕ

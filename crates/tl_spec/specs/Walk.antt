@@ -61,24 +61,24 @@ module _ (enters : List ℕ → Bool) (nodes : List Node) where
   walk_of node = node_walk (walk []) 0 end node
 
 -- the full walk enters every tag
-abbrev pub every : List ℕ → Bool
-every name = true
+abbrev pub all_tags : List ℕ → Bool
+all_tags name = true
 
 -- the print's walk enters no tag that is printed alone
 abbrev pub prints_children : List ℕ → Bool
 prints_children name = not (is_printed_alone name)
 
 -- the first of two
-abbrev pub or_else : Option TreeFault → Option TreeFault → Option TreeFault
-or_else None later = later
-or_else (Some e) later = Some e
+abbrev pub earlier_fault : Option TreeFault → Option TreeFault → Option TreeFault
+earlier_fault None later = later
+earlier_fault (Some e) later = Some e
 
 -- the first fault, a node before its children and these before what stands after it
 abbrev pub first_fault : Walk → Option TreeFault
 first_fault end = None
 first_fault (meets_text h bytes more) = first_fault more
 first_fault (meets_comment h bytes more) = first_fault more
-first_fault (meets_tag h own children more) = or_else (first_fault children) (first_fault more)
+first_fault (meets_tag h own children more) = earlier_fault (first_fault children) (first_fault more)
 first_fault (passes_tag h own more) = first_fault more
 first_fault (meets_fault e more) = Some e
 
@@ -100,13 +100,13 @@ trees (passes_tag h own more) = tag (plain_node own) none (trees more)
 trees (meets_fault e more) = trees more
 
 -- a fault if there is one, and else the value
-abbrev pub unless : {A : Type 0} → Option TreeFault → A → Result A TreeFault
-unless None x = Ok x
-unless (Some e) x = Err e
+abbrev pub fault_or : {A : Type 0} → Option TreeFault → A → Result A TreeFault
+fault_or None x = Ok x
+fault_or (Some e) x = Err e
 
 -- what f makes of the trees of a walk, or its first fault
-abbrev pub answer : {A : Type 0} → (Forest PlainTag → A) → Walk → Result A TreeFault
-answer f w = unless (first_fault w) (f (trees w))
+abbrev pub walk_result : {A : Type 0} → (Forest PlainTag → A) → Walk → Result A TreeFault
+walk_result f w = fault_or (first_fault w) (f (trees w))
 
 -- what is met in order, each tag before its children: handles with their nodes, and faults
 abbrev pub visits : Walk → List (Result (ℕ × Node) TreeFault)

@@ -7,20 +7,20 @@ ghost use Rattle.tl_spec.specs.Token.{Token, PlacedToken, next_token, tokens};
 ghost use Rattle.tl_spec.specs.Grammar.{AttributeStands, AttributesStand, TokenStands, StandFrom};
 ghost use Rattle.tl_spec.specs.AttributeList.{PlainAttributes, attributes_of};
 ghost use Rattle.tl_spec.specs.AttributeGrammar.{AreAttributesOf};
-ghost use Rattle.tl_spec.specs.Forest.{Forest, PlainTag, Siblings, Makes, no_siblings, siblings, with_token, forest, plain};
-ghost use Rattle.tl_spec.specs.Document.{Document, Node, document, weight};
-ghost use Rattle.tl_spec.specs.Edit.{Change, Refusal, edited, edited_all, all_made};
-ghost use Rattle.tl_spec.specs.Edits.{later, KeepsShape};
+ghost use Rattle.tl_spec.specs.Forest.{Forest, PlainTag, Siblings, ParsesTo, no_siblings, siblings, with_token, forest, plain};
+ghost use Rattle.tl_spec.specs.Document.{Document, Node, document, node_and_attribute_count};
+ghost use Rattle.tl_spec.specs.Edit.{Change, Refusal, apply_change, apply_changes, none_refused};
+ghost use Rattle.tl_spec.specs.Edits.{shift_place_by, KeepsShape};
 ghost use Rattle.tl_spec.specs.Machine.{State, run, start, step};
 ghost use Rattle.tl_spec.specs.Scan.{has_id, is_in_class, IsFirstPlace, ArePlaces, id_scan, class_scan, tags_of};
-ghost use Rattle.tl_spec.specs.Walk.{every, prints_children, row_walk, walk, walk_of, trees, first_fault, visits, visits_from};
-ghost use Rattle.tl_spec.specs.Order.{AreChildrenAbove, AreDescendantsNext};
+ghost use Rattle.tl_spec.specs.Walk.{all_tags, prints_children, row_walk, walk, walk_of, trees, first_fault, visits, visits_from};
+ghost use Rattle.tl_spec.specs.Order.{ChildrenFollowParents, DescendantsAreContiguous};
 ghost use Rattle.tl_spec.specs.Print.{print, document_print, outer_html};
 ghost use Rattle.tl_spec.specs.Clean.{IsClean, IsCleanNode, IsCleanTable, HaveOwnKeys, IsTame};
 ghost use Rattle.tl_spec.specs.Normal.{ReadsAs};
 ghost use Rattle.tl_spec.specs.Edit.{Change};
 ghost use Rattle.tl_spec.specs.StepGrammar.{LineSays, TextSays};
-ghost use Rattle.tl_spec.specs.StepLine.{change_of_line, changes_of, line_of, lines_of, ReadBack, IsSpellable, IsLine};
+ghost use Rattle.tl_spec.specs.StepLine.{change_of_line, parse_changes, line_of, lines_of, ReadBack, IsSpellable, IsLine};
 
 /// An attribute stands by cases exactly where the function reads it, alone and in a row.
 #[tactic(auto, using(crate::proofs::All::laws))]
@@ -63,7 +63,7 @@ pub fn siblings_by_token()
 #[tactic(auto, using(crate::proofs::All::laws))]
 pub fn siblings_by_rules()
     ensures { (enclosing : Option (List ℕ)) (ks : List PlacedToken) (s : Siblings) →
-        Makes enclosing ks s ↔ (s ≡ siblings enclosing ks) }
+        ParsesTo enclosing ks s ↔ (s ≡ siblings enclosing ks) }
 {}
 
 /// A walk goes along its handles, and below each new one on.
@@ -85,10 +85,10 @@ pub fn trees_print_then_parse()
 pub fn table_print_then_parse()
     ensures prints { (d : Document) →
         IsCleanTable d.nodes d.top →
-        document_print d ≡ Ok (print (trees (walk every d.nodes [] d.top))) }
+        document_print d ≡ Ok (print (trees (walk all_tags d.nodes [] d.top))) }
     ensures reads { (d : Document) →
         IsCleanTable d.nodes d.top → HaveOwnKeys (trees (walk prints_children d.nodes [] d.top)) →
-        (s : List ℕ) → document_print d ≡ Ok s → ReadsAs s (trees (walk every d.nodes [] d.top)) }
+        (s : List ℕ) → document_print d ≡ Ok s → ReadsAs s (trees (walk all_tags d.nodes [] d.top)) }
 {}
 
 /// The same of a node over a table: a clean one has a print, which is read as the normal form of
@@ -97,11 +97,11 @@ pub fn table_print_then_parse()
 pub fn node_print_then_parse()
     ensures prints { (nodes : List Node) (node : Node) →
         IsCleanNode nodes node →
-        outer_html nodes node ≡ Ok (print (trees (walk_of every nodes node))) }
+        outer_html nodes node ≡ Ok (print (trees (walk_of all_tags nodes node))) }
     ensures reads { (nodes : List Node) (node : Node) →
         IsCleanNode nodes node → HaveOwnKeys (trees (walk_of prints_children nodes node)) →
         (s : List ℕ) →
-        outer_html nodes node ≡ Ok s → ReadsAs s (trees (walk_of every nodes node)) }
+        outer_html nodes node ≡ Ok s → ReadsAs s (trees (walk_of all_tags nodes node)) }
 {}
 
 /// The full walk of a document just read meets no fault, all its nodes in the order of the table,
@@ -109,12 +109,12 @@ pub fn node_print_then_parse()
 #[tactic(auto, using(crate::proofs::All::laws))]
 pub fn document_walk()
     ensures faultless { (t : List ℕ) →
-        first_fault (walk every (document t).nodes [] (document t).top) ≡ None }
+        first_fault (walk all_tags (document t).nodes [] (document t).top) ≡ None }
     ensures ordered { (t : List ℕ) →
-        visits (walk every (document t).nodes [] (document t).top)
+        visits (walk all_tags (document t).nodes [] (document t).top)
         ≡ visits_from 0 (document t).nodes }
     ensures whole { (t : List ℕ) →
-        trees (walk every (document t).nodes [] (document t).top) ≡ plain (forest (tokens t)) }
+        trees (walk all_tags (document t).nodes [] (document t).top) ≡ plain (forest (tokens t)) }
 {}
 
 /// What was just read is clean, but for empty keys, a `"` inside a value and the tag `command`;
@@ -132,14 +132,14 @@ pub fn fresh_is_clean()
 /// nodes right after it.
 #[tactic(auto, using(crate::proofs::All::laws))]
 pub fn document_order()
-    ensures above { (t : List ℕ) → AreChildrenAbove (document t).nodes }
-    ensures interval { (t : List ℕ) → AreDescendantsNext (document t).nodes }
+    ensures above { (t : List ℕ) → ChildrenFollowParents (document t).nodes }
+    ensures interval { (t : List ℕ) → DescendantsAreContiguous (document t).nodes }
 {}
 
 /// A document just read has no more nodes and attributes than its text has bytes.
 #[tactic(auto, using(crate::proofs::All::laws))]
 pub fn document_size()
-    ensures { (t : List ℕ) → sum_by weight (document t).nodes ≤ length t }
+    ensures { (t : List ℕ) → sum_by node_and_attribute_count (document t).nodes ≤ length t }
 {}
 
 /// The tokens of a text, written one after the other with the open tags at hand, make its document.
@@ -173,16 +173,16 @@ pub fn scans_grow()
 #[tactic(auto, using(crate::proofs::All::laws))]
 pub fn edits_compose()
     ensures after_done { (cs ds : List Change) (d e : Document) →
-        edited_all cs d ≡ all_made e →
-        edited_all (cs ++ ds) d ≡ later (length cs) (edited_all ds e) }
+        apply_changes cs d ≡ none_refused e →
+        apply_changes (cs ++ ds) d ≡ shift_place_by (length cs) (apply_changes ds e) }
     ensures after_refused { (cs ds : List Change) (d : Document) (i : ℕ) (refusal : Refusal) →
-        (edited_all cs d).refused ≡ Some (i, refusal) → edited_all (cs ++ ds) d ≡ edited_all cs d }
+        (apply_changes cs d).refused ≡ Some (i, refusal) → apply_changes (cs ++ ds) d ≡ apply_changes cs d }
 {}
 
 /// No edit adds a node or takes one away, nor a place of the top list; none moves a tag in its
 /// source, makes one of what is none, or changes the version.
 pub fn edits_keep_the_shape()
-    ensures { (c : Change) (d e : Document) → edited c d ≡ Ok e → KeepsShape d e }
+    ensures { (c : Change) (d e : Document) → apply_change c d ≡ Ok e → KeepsShape d e }
 {}
 
 /// A line says an edit by cases exactly where the function reads it; so it says none exactly where
@@ -198,9 +198,9 @@ pub fn line_says()
 #[tactic(auto, using(crate::proofs::StepForms::laws))]
 pub fn text_says()
     ensures all { (text : List ℕ) (cs : List Change) →
-        TextSays text cs ↔ (changes_of text ≡ Some cs) }
+        TextSays text cs ↔ (parse_changes text ≡ Some cs) }
     ensures none { (text : List ℕ) →
-        ((cs : List Change) → TextSays text cs → ⊥) ↔ (changes_of text ≡ None) }
+        ((cs : List Change) → TextSays text cs → ⊥) ↔ (parse_changes text ≡ None) }
 {}
 
 /// The decimal digits of a number are read as that number.
@@ -217,5 +217,5 @@ pub fn spelled_lines()
         change_of_line (line_of digits c) ≡ Some c }
     ensures text { (digits : ℕ → List ℕ) →
         ReadBack digits → (cs : List Change) → All (IsLine digits) cs →
-        changes_of (lines_of digits cs) ≡ Some cs }
+        parse_changes (lines_of digits cs) ≡ Some cs }
 {}

@@ -8,7 +8,7 @@ ghost use Rattle.tl_spec.specs.Forest.{Forest, PlainTag, forest, plain};
 ghost use Rattle.tl_spec.specs.Normal.{ReadsAs, norm};
 ghost use Rattle.tl_spec.specs.Print.{document_print};
 ghost use Rattle.tl_spec.specs.Token.{tokens};
-ghost use Rattle.tl_spec.specs.Walk.{every, first_fault, prints_children, trees, walk, walk_of};
+ghost use Rattle.tl_spec.specs.Walk.{all_tags, first_fault, prints_children, trees, walk, walk_of};
 
 /// Nodes that are clean by themselves make a clean table where the print's walk meets no fault, so
 /// where there is a print.
@@ -43,6 +43,6 @@ pub fn trees_of_the_normal_form()
         HoldOfJoined t → HoldOfTrees (of_lossy t) f → HoldOfTrees t (norm f) }
     ensures read { (t : Tests) (d : Document) (s : List ℕ) →
         HoldOfJoined t → All (HoldOfNode (of_lossy t)) d.nodes →
-        ReadsAs s (trees (walk every d.nodes [] d.top)) →
+        ReadsAs s (trees (walk all_tags d.nodes [] d.top)) →
         HoldOfTrees t (plain (forest (tokens s))) }
 {}

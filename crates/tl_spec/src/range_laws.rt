@@ -7,7 +7,7 @@ ghost use Rattle.tl_spec.specs.Edit.{Pulls, Pushes};
 ghost use Rattle.tl_spec.specs.Element.{children_of, last_child_of};
 ghost use Rattle.tl_spec.specs.Range.{end_below, step_end, last_below, boundaries_of, range_of, walk_end, AreRangesOfDescendants};
 ghost use Rattle.tl_spec.specs.Rows.{nodes_after, nodes_of};
-ghost use Rattle.tl_spec.specs.Walk.{Dangling, Cycle, every, walk};
+ghost use Rattle.tl_spec.specs.Walk.{Dangling, Cycle, all_tags, walk};
 
 /// The way along last children goes step by step.
 #[tactic(auto, using(crate::proofs::Ranges::laws))]
@@ -20,7 +20,7 @@ pub fn end_by_step()
 #[tactic(auto, using(crate::proofs::Ranges::laws))]
 pub fn end_of_the_walk()
     ensures { (nodes : List Node) (children : List ℕ) →
-        last_below nodes (last_or None children) ≡ walk_end None (walk every nodes [] children) }
+        last_below nodes (last_or None children) ≡ walk_end None (walk all_tags nodes [] children) }
 {}
 
 /// In a document just read the range of a tag's children is the interval of its descendants.

@@ -2,7 +2,7 @@
 
 ghost use Rattle.std.specs.Prelude.{◌↔◌, ◌≡◌, ℕ, List, Some, None, false};
 ghost use Rattle.tl_spec.specs.Selector.{Selector};
-ghost use Rattle.tl_spec.specs.SelectorMeaning.{has_joint};
+ghost use Rattle.tl_spec.specs.SelectorMeaning.{has_combinator};
 ghost use Rattle.tl_spec.specs.SelectorText.{IsSelectorText, StandsAlone};
 ghost use Rattle.tl_spec.specs.SelectorReading.{selector_at};
 
@@ -19,5 +19,5 @@ pub fn selector_text()
 pub fn alone_is_a_selector()
     ensures selector { (s : List ℕ) → StandsAlone s → (e : Selector) × IsSelectorText s e }
     ensures alone { (s : List ℕ) (e : Selector) →
-        StandsAlone s → IsSelectorText s e → has_joint e ≡ false }
+        StandsAlone s → IsSelectorText s e → has_combinator e ≡ false }
 {}

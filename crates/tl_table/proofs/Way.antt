@@ -10,7 +10,7 @@ use Rattle.std.proofs.lemmas.List.Sums.{sum_by-set}
 use Rattle.std.proofs.lemmas.Option.{option_and_then_some, slice_get-map, slice_get-get_or, slice_get_within}
 use Rattle.tl_spec.specs.Document.{Node, Raw, Comment, Tag}
 use Rattle.tl_spec.specs.Element.{last_child_of}
-use Rattle.tl_spec.specs.Order.{AreChildrenAbove}
+use Rattle.tl_spec.specs.Order.{ChildrenFollowParents}
 use Rattle.tl_spec.specs.Range.{handle_end, step_end, end_within, end_below, last_below, with_end, boundaries_from}
 use Rattle.tl_spec.specs.Walk.{TreeFault, Dangling, Cycle, stands_on}
 use Rattle.tl_table.specs.Way.{last_child_at, after_steps, Rises}
@@ -104,17 +104,17 @@ last-child P k [] all e = absurd (cc)
 last-child P k (x ∷ xs) all e = last-passes P x k xs all.0 all.1 e
 
 -- so a last child is above its parent where all children are
-pub child-above : (nodes : List Node) → AreChildrenAbove nodes → (h k : ℕ) (x : Node) → slice_get nodes h ≡ Some x → last_child_of x ≡ Some k → h < k
+pub child-above : (nodes : List Node) → ChildrenFollowParents nodes → (h k : ℕ) (x : Node) → slice_get nodes h ≡ Some x → last_child_of x ≡ Some k → h < k
 child-above nodes above h k (Tag own) is e = last-child (λ c. h < c) k own.children.items (recursion_from_All (λ c. h < c) own.children.items (above h own is)) e
 child-above nodes above h k (Raw bytes) is e = absurd (cc)
 child-above nodes above h k (Comment bytes) is e = absurd (cc)
 
 -- the handle of a node with a last child is below that one where all children are above
-child-at-above : (nodes : List Node) → AreChildrenAbove nodes → (h k : ℕ) → last_child_at nodes h ≡ Some k → h < k
+child-at-above : (nodes : List Node) → ChildrenFollowParents nodes → (h k : ℕ) → last_child_at nodes h ≡ Some k → h < k
 child-at-above nodes above h k e = option_and_then_some last_child_of (slice_get nodes h) k e (λ x is last. child-above nodes above h k x is last)
 
 -- so each way rises then
-pub all_rise : (nodes : List Node) → AreChildrenAbove nodes → (last : Option ℕ) → Rises nodes last
+pub all_rise : (nodes : List Node) → ChildrenFollowParents nodes → (last : Option ℕ) → Rises nodes last
 all_rise nodes above last n h k here next =
     child-at-above nodes above h k (sym (ap (option_and_then (last_child_at nodes)) here) ∙ next)
 

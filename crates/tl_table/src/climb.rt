@@ -1,6 +1,6 @@
 //! The way along last children, as long as it rises.
 ghost use Rattle.std.specs.Prelude.{map};
-ghost use Rattle.tl_table.specs.Climb.{Climbs};
+ghost use Rattle.tl_table.specs.Climb.{StopsAt};
 
 use crate::element::Element;
 
@@ -16,7 +16,7 @@ pub enum Stop {
 
 /// Climbs along last children, from this one on. It takes no memory.
 pub fn climb<N: Element>(nodes: &[N], first: u32) -> Stop
-    ensures { Climbs (map N.node nodes.now) first result }
+    ensures { StopsAt (map N.node nodes.now) first result }
 {
     let mut handle = first;
     loop {

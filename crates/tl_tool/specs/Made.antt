@@ -1,7 +1,7 @@
 -- What is made of a page.
 use Rattle.std.specs.Prelude.{◌≡◌, ℕ, List, flat_map, length, map, Option, None, Some}
 use Rattle.tl_spec.specs.Document.{Document}
-use Rattle.tl_spec.specs.Edit.{Change, edited_all}
+use Rattle.tl_spec.specs.Edit.{Change, apply_changes}
 use Rattle.tl_spec.specs.Print.{document_print, print}
 use Rattle.tl_spec.specs.Selector.{Selector}
 use Rattle.tl_spec.specs.Text.{document_text}
@@ -59,7 +59,7 @@ answer_of Outline selector end d = success (whole (outline_of d))
 
 -- the print of a document after edits
 abbrev pub edit_of : List Change → Document → Outcome Finding
-edit_of changes d = outcome_map whole (outcome_of_edited (edited_all changes d))
+edit_of changes d = outcome_map whole (outcome_of_edited (apply_changes changes d))
 
 -- the print of what lists let stand of a page
 abbrev pub safe_of : ListedWords → List ℕ → Outcome Finding

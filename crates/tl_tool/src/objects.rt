@@ -10,9 +10,9 @@ ghost use Rattle.tl_spec.specs.Element.{name_of};
 ghost use Rattle.tl_spec.specs.Selector.{Selector};
 ghost use Rattle.tl_spec.specs.SelectorText.{IsSelectorText};
 ghost use Rattle.tl_spec.specs.Text.{inner_text};
-ghost use Rattle.tl_attributes.specs.ShownAttributes.{plain, shown_value};
+ghost use Rattle.tl_attributes.specs.ShownAttributes.{plain, value_view};
 ghost use Rattle.tl.specs.Query.{matches_in};
-ghost use Rattle.tl.specs.Shown.{document_of, shown};
+ghost use Rattle.tl.specs.Shown.{document_of, node_view};
 ghost use Rattle.tl_page.specs.Outcome.{Gives, outcome_map, outcome_of, refused};
 ghost use Rattle.tl_extract.specs.Field.{IsNoSelector};
 ghost use Rattle.tl_tool.specs.Findings.{finding_of};
@@ -34,7 +34,7 @@ fn text_value(alloc: Global, bytes: &[u8]) -> Result<Value, AllocError>
 
 // The value of an attribute; null where it has none.
 fn attribute_value(alloc: Global, value: Option<&Bytes<'_>>) -> Result<Value, AllocError>
-    ensures { IfOk result (λ v. view v ≡ value_data (shown_value (option_copied value.entry))) }
+    ensures { IfOk result (λ v. view v ≡ value_data (value_view (option_copied value.entry))) }
 {
     match value {
         Some(bytes) => text_value(alloc, bytes.as_bytes()),
@@ -51,7 +51,7 @@ fn put_pair(
 ) -> Result<(), AllocError>
     ensures { OnOk result (members_view members.new.entries
         ≡ with_pair (members_view members.old.entries)
-        (key.now.list, shown_value (option_copied value.entry))) }
+        (key.now.list, value_view (option_copied value.entry))) }
 {
     let value = attribute_value(alloc, value)?;
     put(members, alloc, key.as_utf8_str(alloc)?.as_str(), value)
@@ -71,7 +71,7 @@ fn pairs_value(alloc: Global, attributes: &Attributes<'_>) -> Result<Map<String,
 
 // The attributes of a node.
 fn attributes_value(alloc: Global, node: &Node<'_>) -> Result<Value, AllocError>
-    ensures { IfOk result (λ v. view v ≡ attributes_data (shown node.now)) }
+    ensures { IfOk result (λ v. view v ≡ attributes_data (node_view node.now)) }
 {
     match node {
         Node::Tag(tag) => Ok(Value::Object(pairs_value(alloc, tag.attributes())?)),
@@ -81,7 +81,7 @@ fn attributes_value(alloc: Global, node: &Node<'_>) -> Result<Value, AllocError>
 
 // The name of a node; null of what is no tag.
 fn name_value(alloc: Global, node: &Node<'_>) -> Result<Value, AllocError>
-    ensures { IfOk result (λ v. view v ≡ value_data (name_of (shown node.now))) }
+    ensures { IfOk result (λ v. view v ≡ value_data (name_of (node_view node.now))) }
 {
     match node.name() {
         Some(name) => text_value(alloc, name),
@@ -110,7 +110,7 @@ fn node_value(
     node: &Node<'_>,
     text: &str,
 ) -> Result<Value, AllocError>
-    ensures { IfOk result (λ v. view v ≡ node_data handle (shown node.now) text.now) }
+    ensures { IfOk result (λ v. view v ≡ node_data handle (node_view node.now) text.now) }
 {
     let attributes = attributes_value(alloc, node)?;
     let name = name_value(alloc, node)?;
@@ -125,8 +125,8 @@ fn object<'a>(
     handle: NodeHandle,
     node: &Node<'a>,
 ) -> Result<Value, Failure>
-    ensures { let text = outcome_of (inner_text (map shown parser.now.nodes) (shown node.now)) in
-        Gives view (outcome_map (node_data handle (shown node.now)) text) result }
+    ensures { let text = outcome_of (inner_text (map node_view parser.now.nodes) (node_view node.now)) in
+        Gives view (outcome_map (node_data handle (node_view node.now)) text) result }
 {
     let text = node.inner_text(alloc, parser)?;
     Ok(node_value(alloc, handle, node, text.as_str())?)
@@ -134,7 +134,7 @@ fn object<'a>(
 
 // What is said of the node of a handle, which is refused past the table.
 fn object_at(alloc: Global, parser: &Parser<'_>, handle: NodeHandle) -> Result<Value, Failure>
-    ensures { Gives view (data_at (map shown parser.now.nodes) handle) result }
+    ensures { Gives view (data_at (map node_view parser.now.nodes) handle) result }
 {
     match handle.get(parser) {
         Some(node) => object(alloc, parser, handle, node),
@@ -149,7 +149,7 @@ fn objects(
     found: QuerySelectorIterator<'_, '_>,
     parser: &Parser<'_>,
 ) -> Result<Vec<Value>, Failure>
-    ensures { let listed = list_data (map shown parser.now.nodes) found.entry in
+    ensures { let listed = list_data (map node_view parser.now.nodes) found.entry in
         Gives (λ values. map view values.items) listed result }
 {
     let mut list = Vec::new(alloc);

@@ -8,7 +8,7 @@ use Rattle.tl_spec.specs.ClassMember.{members}
 use Rattle.tl_spec.specs.Document.{Node}
 use Rattle.tl_spec.specs.Inline.{InlineVec}
 use Rattle.tl_spec.specs.Scan.{id_of, class_of, is_value, has_id, is_in_class, id_scan, class_scan}
-use Rattle.tl_tracking.specs.Tracking.{IdPairs, ClassPairs, KeepsFirst, AddsMember, with_number, only_if, TracksIds, TracksClasses, TracksMembers}
+use Rattle.tl_tracking.specs.Tracking.{IdPairs, ClassPairs, KeepsFirst, AddsMember, with_number, singleton_when, TracksIds, TracksClasses, TracksMembers}
 use Rattle.tl_tracking.proofs.Places.{position-more, places-more, places-below, number-noted}
 
 module _ {B : Type 0} (list : B → List ℕ) (eq : B → B → Bool) (same : (x y : B) → eq x y ≡ bytes_eq (list x) (list y)) where
@@ -27,13 +27,13 @@ module _ {B : Type 0} (list : B → List ℕ) (eq : B → B → Bool) (same : (x
   member-noted old new member number u nodes noted e h key =
       let before = list_any (bytes_eq (list key)) noted in
       let now = bytes_eq (list key) (list member) in
-      let found = class_scan nodes (list key) ++ only_if before (length nodes) in
+      let found = class_scan nodes (list key) ++ singleton_when before (length nodes) in
       u key
       ∙ ap (λ ns. cond (eq key member) (with_number number ns) ns) (h key)
       ∙ ap (λ b. cond b (with_number number found) found) (same key member)
       ∙ ap (λ n. cond now (with_number n found) found) e
       ∙ number-noted (length nodes) (class_scan nodes (list key)) (places-below (is_in_class (list key)) 0 (length nodes) nodes (omega arith)) before now
-      ∙ ap (λ b. class_scan nodes (list key) ++ only_if b (length nodes)) (sym (list_any-append (bytes_eq (list key)) noted (list member ∷ [])))
+      ∙ ap (λ b. class_scan nodes (list key) ++ singleton_when b (length nodes)) (sym (list_any-append (bytes_eq (list key)) noted (list member ∷ [])))
 
 or-none : {X : Type 0} (o : Option X) → o ≡ option_or o None
 or-none None = refl

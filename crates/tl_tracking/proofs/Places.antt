@@ -6,7 +6,7 @@ use Rattle.std.proofs.lemmas.Bool.{eq-eqb}
 use Rattle.std.proofs.lemmas.Bool.Decides.{nat_tests}
 use Rattle.std.proofs.lemmas.List.{length-append}
 use Rattle.tl_spec.specs.Scan.{places_from}
-use Rattle.tl_tracking.specs.Tracking.{is_number, with_number, only_if}
+use Rattle.tl_tracking.specs.Tracking.{is_number, with_number, singleton_when}
 
 module _ {A : Type 0} (p : A → Bool) where
   pub position-more : (n m : ℕ) (xs : List A) (x : A) → m ≡ n + length xs → position_from p n (xs ++ x ∷ []) ≡ option_or (position_from p n xs) (cond (p x) (Some m) None)
@@ -18,12 +18,12 @@ module _ {A : Type 0} (p : A → Bool) where
       one h true = refl
       one h false = h
 
-  pub places-more : (n m : ℕ) (xs : List A) (x : A) → m ≡ n + length xs → places_from p n (xs ++ x ∷ []) ≡ places_from p n xs ++ only_if (p x) m
-  places-more n m [] x e = ap (only_if (p x)) (omega (arith, e))
+  pub places-more : (n m : ℕ) (xs : List A) (x : A) → m ≡ n + length xs → places_from p n (xs ++ x ∷ []) ≡ places_from p n xs ++ singleton_when (p x) m
+  places-more n m [] x e = ap (singleton_when (p x)) (omega (arith, e))
   places-more n m (y ∷ xs) x e = one (places-more (n + 1) m xs x (omega (arith, e))) (p y)
     where
-      one : places_from p (n + 1) (xs ++ x ∷ []) ≡ places_from p (n + 1) xs ++ only_if (p x) m
-          → (b : Bool) → cond b (n ∷ places_from p (n + 1) (xs ++ x ∷ [])) (places_from p (n + 1) (xs ++ x ∷ [])) ≡ cond b (n ∷ places_from p (n + 1) xs) (places_from p (n + 1) xs) ++ only_if (p x) m
+      one : places_from p (n + 1) (xs ++ x ∷ []) ≡ places_from p (n + 1) xs ++ singleton_when (p x) m
+          → (b : Bool) → cond b (n ∷ places_from p (n + 1) (xs ++ x ∷ [])) (places_from p (n + 1) (xs ++ x ∷ [])) ≡ cond b (n ∷ places_from p (n + 1) xs) (places_from p (n + 1) xs) ++ singleton_when (p x) m
       one h true = ap (λ ns. n ∷ ns) h
       one h false = h
 
@@ -63,7 +63,7 @@ pub number-there : (m : ℕ) (ns : List ℕ) → with_number m (ns ++ m ∷ []) 
 number-there m ns = ap (λ b. cond b (ns ++ m ∷ []) ((ns ++ m ∷ []) ++ m ∷ [])) (ap (is_number m) (last-of ns m) ∙ eq-eqb m m refl)
 
 -- the number of a tag under a member, after some of its members and one more
-pub number-noted : (m : ℕ) (ns : List ℕ) → AllBelow m ns → (before now : Bool) → cond now (with_number m (ns ++ only_if before m)) (ns ++ only_if before m) ≡ ns ++ only_if (before || (now || false)) m
+pub number-noted : (m : ℕ) (ns : List ℕ) → AllBelow m ns → (before now : Bool) → cond now (with_number m (ns ++ singleton_when before m)) (ns ++ singleton_when before m) ≡ ns ++ singleton_when (before || (now || false)) m
 number-noted m ns h true true = number-there m ns
 number-noted m ns h true false = refl
 number-noted m ns h false true = ap (with_number m) (append-nil ns) ∙ number-added m ns h

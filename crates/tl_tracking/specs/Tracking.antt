@@ -33,16 +33,16 @@ tracking_code {B} piece =
     (λ t. (t.ids, (t.classes, t.key))) (λ p. record { ids = p.0; classes = p.1.0; key = p.1.1 }) (λ _. refl)
 
 -- a map without pairs, where it is asked for
-abbrev pub empty_if : {A : Type 0} → Bool → Option (List A)
-empty_if asked = if asked then Some [] else None
+abbrev pub empty_when : {A : Type 0} → Bool → Option (List A)
+empty_when asked = if asked then Some [] else None
 
 -- what is asked for, before any tag
-abbrev pub nothing_noted : {B : Type 0} → Options → ℕ → Tracking B
-nothing_noted asked key = record { ids = empty_if asked.ids; classes = empty_if asked.classes; key = key }
+abbrev pub no_maps : {B : Type 0} → Options → ℕ → Tracking B
+no_maps asked key = record { ids = empty_when asked.ids; classes = empty_when asked.classes; key = key }
 
 -- n alone, if it is there
-abbrev pub only_if : Bool → ℕ → List ℕ
-only_if is_there n = if is_there then n ∷ [] else []
+abbrev pub singleton_when : Bool → ℕ → List ℕ
+singleton_when is_there n = if is_there then n ∷ [] else []
 
 -- whether there is a number, and it is n
 abbrev pub is_number : ℕ → Option ℕ → Bool
@@ -105,4 +105,4 @@ module _ {B : Type 0} (list : B → List ℕ) (eq : B → B → Bool) where
   -- the same, and the tag after these nodes stands under these of its members
   abbrev pub TracksMembers : ClassPairs B → List Node → List (List ℕ) → Type 0
   TracksMembers None nodes noted = ⊤
-  TracksMembers (Some pairs) nodes noted = (member : B) → class_at eq pairs member ≡ class_scan nodes (list member) ++ only_if (list_any (bytes_eq (list member)) noted) (length nodes)
+  TracksMembers (Some pairs) nodes noted = (member : B) → class_at eq pairs member ≡ class_scan nodes (list member) ++ singleton_when (list_any (bytes_eq (list member)) noted) (length nodes)

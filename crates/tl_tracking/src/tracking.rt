@@ -2,7 +2,7 @@
 ghost use Rattle.std.specs.Prelude.{◌≡◌, ◌≢◌, List, ℕ, true, ◌∷◌, [], ◌++◌, length, is_some, OnOk, OnErr, Some, None, IsOk, IsSome, IfSome};
 ghost use Rattle.tl_spec.specs.Document.{Node};
 ghost use Rattle.tl_spec.specs.Scan.{id_of, id_scan, class_scan};
-ghost use Rattle.tl_tracking.specs.Tracking.{TracksIds, TracksMembers, TracksClasses, nothing_noted, ends_with, id_in, class_in, numbers_lent};
+ghost use Rattle.tl_tracking.specs.Tracking.{TracksIds, TracksMembers, TracksClasses, no_maps, ends_with, id_in, class_in, numbers_lent};
 
 use crate::keyed::Keyed;
 use crate::numbers::{Classes, Ids, add_member, keep_first};
@@ -46,7 +46,7 @@ impl<B: Piece> Model for TrackingOf<B> {
 impl<B: Piece> TrackingOf<B> {
     /// Maps without tags, which answer as scans of no node do, as far as the options ask for them. They take no memory before the first tag.
     pub fn new(alloc: Global, options: ParserOptions) -> Self
-        ensures value { result ≡ nothing_noted options 0 }
+        ensures value { result ≡ no_maps options 0 }
         ensures ids { TracksIds B.list B.eq result.ids [] }
         ensures classes { TracksClasses B.list B.eq result.classes [] }
     {
@@ -56,7 +56,7 @@ impl<B: Piece> TrackingOf<B> {
     /// The same, where names are hashed by a number. Whoever writes a text may not know the number before all names stand: with
     /// a number that they know they can choose names whose hashes meet, and each of these is looked for along all of them.
     pub fn keyed(alloc: Global, options: ParserOptions, key: u64) -> Self
-        ensures value { result ≡ nothing_noted options key }
+        ensures value { result ≡ no_maps options key }
         ensures ids { TracksIds B.list B.eq result.ids [] }
         ensures classes { TracksClasses B.list B.eq result.classes [] }
     {

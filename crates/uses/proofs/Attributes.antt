@@ -6,12 +6,12 @@ use Rattle.std.specs.Map.{keys_of, lookup}
 use Rattle.std.proofs.lemmas.Cmp.{nat_list_eq_equiv}
 use Rattle.tl_bytes.specs.Held.{Kept, as_owned}
 use Rattle.tl_bytes.specs.Keys.{same_list}
-use Rattle.tl_spec.specs.AttributeList.{AreOthers, Attributes, named}
+use Rattle.tl_spec.specs.AttributeList.{AreOthers, Attributes, pair_if_some}
 use Rattle.tl_spec.specs.Inline.{pair_image, room, with_entry}
-use Rattle.tl_spec.proofs.ByKey.{by_key-other}
+use Rattle.tl_spec.proofs.ByKey.{choose_by_key-other}
 use Rattle.tl_spec.proofs.Images.{image-pairs_in_order}
 use Rattle.tl_attributes.specs.Listed.{as_borrowed, listed}
-use Rattle.tl_attributes.specs.ShownAttributes.{shown_attributes, shown_bytes, shown_value}
+use Rattle.tl_attributes.specs.ShownAttributes.{attributes_view, bytes_view, value_view}
 use Rattle.uses.specs.Fields.{Fields, attributes_with, text_with}
 use Rattle.uses.specs.Filling.{pair_with, put}
 
@@ -73,14 +73,14 @@ module _ (fields : Fields) where
   again e = (as_owned e.0.list, option_map held_with e.1)
 
   put-one : (heap : Bool) (id class : Option Kept) (done : List Entry) (e : Entry) (rest : List Entry) → IsDistinct same_list (keys_of (done ++ e ∷ rest)) →
-      AreOthers shown_bytes (e ∷ rest) → put (holding heap id class (done ++ e ∷ rest)) (again e) ≡ holding heap id class (done ++ entry_with e ∷ rest)
+      AreOthers bytes_view (e ∷ rest) → put (holding heap id class (done ++ e ∷ rest)) (again e) ≡ holding heap id class (done ++ entry_with e ∷ rest)
   put-one heap id class done e rest d o =
-      by_key-other e.0.list _ _ _ o.0
+      choose_by_key-other e.0.list _ _ _ o.0
       ∙ ap₂ (λ b es. holding b id class es)
       (stays_on heap (is_some (lookup (same_list (as_owned e.0.list)) (done ++ e ∷ rest))) (length (done ++ e ∷ rest) == room) (there done e rest d))
       (in_place done e rest (option_map held_with e.1) d)
 
-  put-others : (heap : Bool) (id class : Option Kept) (done rest later : List Entry) → IsDistinct same_list (keys_of (done ++ rest)) → AreOthers shown_bytes rest →
+  put-others : (heap : Bool) (id class : Option Kept) (done rest later : List Entry) → IsDistinct same_list (keys_of (done ++ rest)) → AreOthers bytes_view rest →
       fold put (holding heap id class (done ++ rest)) (map again rest ++ later) ≡ fold put (holding heap id class (done ++ map entry_with rest)) later
   put-others heap id class done [] later d o = refl
   put-others heap id class done (e ∷ rest) later d o =
@@ -91,7 +91,7 @@ module _ (fields : Fields) where
       ∙ ap (λ es. fold put (holding heap id class es) later) (append_assoc done (entry_with e ∷ []) (map entry_with rest))
 
   put-named : (heap : Bool) (es : List Entry) (id class : Option Kept) →
-      fold put (holding heap id class es) (named (as_owned (codes "id")) (option_map held_with id) ++ named (as_owned (codes "class")) (option_map held_with class))
+      fold put (holding heap id class es) (pair_if_some (as_owned (codes "id")) (option_map held_with id) ++ pair_if_some (as_owned (codes "class")) (option_map held_with class))
       ≡ holding heap (option_map held_with id) (option_map held_with class) es
   put-named heap es None None = refl
   put-named heap es None (Some c) = refl
@@ -103,18 +103,18 @@ module _ (fields : Fields) where
   read-again [] = refl
   read-again (e ∷ es) = ap (λ l. again e ∷ l) (read-again es)
 
-  shown-entries : (es : List Entry) → map (pair_image shown_bytes shown_value) (map entry_with es)
-      ≡ map (pair_image (λ key. key) (option_map (text_with fields))) (map (pair_image shown_bytes shown_value) es)
+  shown-entries : (es : List Entry) → map (pair_image bytes_view value_view) (map entry_with es)
+      ≡ map (pair_image (λ key. key) (option_map (text_with fields))) (map (pair_image bytes_view value_view) es)
   shown-entries [] = refl
   shown-entries ((k, None) ∷ es) = ap (λ l. (k.list, None) ∷ l) (shown-entries es)
   shown-entries ((k, Some v) ∷ es) = ap (λ l. (k.list, Some (text_with fields v.list)) ∷ l) (shown-entries es)
 
-  shown-one : (v : Option Kept) → shown_value (option_map held_with v) ≡ option_map (text_with fields) (shown_value v)
+  shown-one : (v : Option Kept) → value_view (option_map held_with v) ≡ option_map (text_with fields) (value_view v)
   shown-one None = refl
   shown-one (Some v) = refl
 
   shown-all : (heap : Bool) (id class : Option Kept) (es : List Entry) →
-      shown_attributes (holding heap (option_map held_with id) (option_map held_with class) (map entry_with es)) ≡ attributes_with fields (shown_attributes (holding heap id class es))
+      attributes_view (holding heap (option_map held_with id) (option_map held_with class) (map entry_with es)) ≡ attributes_with fields (attributes_view (holding heap id class es))
   shown-all heap id class es =
       λ i. record {
         others = record { entries = shown-entries es i; on_heap = heap };
@@ -123,17 +123,17 @@ module _ (fields : Fields) where
       }
 
   -- all pairs of a tag put again, with fields in their values
-  pub put-all : (a : Attributes Kept) → IsDistinct same_list (keys_of a.others.entries) → AreOthers shown_bytes a.others.entries →
-      shown_attributes (fold put a (map (pair_with fields) (listed shown_bytes a))) ≡ attributes_with fields (shown_attributes a)
+  pub put-all : (a : Attributes Kept) → IsDistinct same_list (keys_of a.others.entries) → AreOthers bytes_view a.others.entries →
+      attributes_view (fold put a (map (pair_with fields) (listed bytes_view a))) ≡ attributes_with fields (attributes_view a)
   put-all a d o =
       let es = a.others.entries in
-      let ids = named (as_owned (codes "id")) (option_map held_with a.id) in
-      let classes = named (as_owned (codes "class")) (option_map held_with a.class) in
-      let listed_again : map (pair_with fields) (listed shown_bytes a) ≡ map again es ++ (ids ++ classes) =
+      let ids = pair_if_some (as_owned (codes "id")) (option_map held_with a.id) in
+      let classes = pair_if_some (as_owned (codes "class")) (option_map held_with a.class) in
+      let listed_again : map (pair_with fields) (listed bytes_view a) ≡ map again es ++ (ids ++ classes) =
       image-pairs_in_order owned_key held_with as_borrowed (map (λ e. (as_borrowed e.0.list, e.1)) es) a.id a.class
       ∙ ap (λ l. (l ++ ids) ++ classes) (read-again es)
       ∙ append_assoc (map again es) ids classes in
-      ap shown_attributes (ap (fold put a) listed_again
+      ap attributes_view (ap (fold put a) listed_again
       ∙ put-others a.others.on_heap a.id a.class [] es (ids ++ classes) d o
       ∙ put-named a.others.on_heap (map entry_with es) a.id a.class)
       ∙ shown-all a.others.on_heap a.id a.class es

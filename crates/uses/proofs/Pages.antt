@@ -7,20 +7,20 @@ use Rattle.tl_spec.specs.Forest.{forest, plain}
 use Rattle.tl_spec.specs.Normal.{ReadsAs}
 use Rattle.tl_spec.specs.Print.{document_print}
 use Rattle.tl_spec.specs.Token.{tokens}
-use Rattle.tl_spec.specs.Walk.{every, trees, walk}
+use Rattle.tl_spec.specs.Walk.{all_tags, trees, walk}
 use Rattle.tl_spec.proofs.Order.{document-whole}
-use Rattle.tl.specs.Shown.{HTMLNode, HTMLTable, document_of, shown}
+use Rattle.tl.specs.Shown.{HTMLNode, HTMLTable, document_of, node_view}
 use Rattle.tl.specs.TableLends.{with_nodes}
 use Rattle.tl.proofs.Written.{written-document}
 use Rattle.uses.specs.Fields.{Fields, document_with, node_with, trees_with}
 use Rattle.uses.proofs.Trees.{clean-document, trees-of-document}
 
 -- a document whose nodes were written, each with fields
-pub written_with : (fields : Fields) (d : HTMLTable) (nodes : List HTMLNode) → map shown nodes ≡ map (node_with fields) (map shown d.nodes) →
+pub written_with : (fields : Fields) (d : HTMLTable) (nodes : List HTMLNode) → map node_view nodes ≡ map (node_with fields) (map node_view d.nodes) →
     document_of (with_nodes d nodes) ≡ document_with fields (document_of d)
 written_with fields d nodes e =
     let long : length nodes ≡ length d.nodes =
-    sym (length-map nodes shown) ∙ ap length e ∙ length-map (map shown d.nodes) (node_with fields) ∙ length-map d.nodes shown in
+    sym (length-map nodes node_view) ∙ ap length e ∙ length-map (map node_view d.nodes) (node_with fields) ∙ length-map d.nodes node_view in
     written-document d nodes long ∙ ap (λ ns. record (document_of d) { nodes = ns }) e
 
 -- the document of a text, and that with fields
@@ -31,10 +31,10 @@ module _ (fields : Fields) (t : List ℕ) (read filled : Document) (first : read
   pub clean_read : IsCleanTable read.nodes read.top → IsCleanTable filled.nodes filled.top
   clean_read h = subst (λ (x : Document). IsCleanTable x.nodes x.top) (sym then_) (clean-document fields read h)
 
-  trees_read : trees (walk every filled.nodes [] filled.top) ≡ trees_with fields (plain (forest (tokens t)))
+  trees_read : trees (walk all_tags filled.nodes [] filled.top) ≡ trees_with fields (plain (forest (tokens t)))
   trees_read =
-      ap (λ (x : Document). trees (walk every x.nodes [] x.top)) then_ ∙ trees-of-document fields read
-      ∙ ap (λ (x : Document). trees_with fields (trees (walk every x.nodes [] x.top))) first ∙ ap (trees_with fields) (document-whole t)
+      ap (λ (x : Document). trees (walk all_tags x.nodes [] x.top)) then_ ∙ trees-of-document fields read
+      ∙ ap (λ (x : Document). trees_with fields (trees (walk all_tags x.nodes [] x.top))) first ∙ ap (trees_with fields) (document-whole t)
 
-  pub reads_read : (s : List ℕ) → ReadsAs s (trees (walk every filled.nodes [] filled.top)) → ReadsAs s (trees_with fields (plain (forest (tokens t))))
+  pub reads_read : (s : List ℕ) → ReadsAs s (trees (walk all_tags filled.nodes [] filled.top)) → ReadsAs s (trees_with fields (plain (forest (tokens t))))
   reads_read s h = subst (ReadsAs s) trees_read h

@@ -10,7 +10,7 @@ use Rattle.tl_spec.specs.Clean.{AreCleanPairs, IsCleanStart, IsCleanTable, IsCle
 use Rattle.tl_spec.specs.Document.{Document, Node, TagNode, Tag, Raw, Comment}
 use Rattle.tl_spec.specs.Forest.{none, text, comment, tag}
 use Rattle.tl_spec.specs.Inline.{pair_image}
-use Rattle.tl_spec.specs.Walk.{Walk, end, meets_text, meets_comment, meets_tag, passes_tag, meets_fault, Dangling, Cycle, every, prints_children, handle_walk, node_walk, plain_attributes, plain_node, row_walk, stands_on, tag_walk, trees, walk, walk_within}
+use Rattle.tl_spec.specs.Walk.{Walk, end, meets_text, meets_comment, meets_tag, passes_tag, meets_fault, Dangling, Cycle, all_tags, prints_children, handle_walk, node_walk, plain_attributes, plain_node, row_walk, stands_on, tag_walk, trees, walk, walk_within}
 use Rattle.tl_spec.proofs.Images.{image-pairs_in_order}
 use Rattle.uses.specs.Fields.{Fields, attributes_with, document_with, node_with, plain_attributes_with, text_with, trees_with}
 use Rattle.uses.proofs.Texts.{no_less, no_quote, of-text}
@@ -74,8 +74,8 @@ module _ (fields : Fields) where
   of-trees (passes_tag h own more) = ap (λ g. tag (plain_node (tag_with own)) none g) (of-trees more)
   of-trees (meets_fault e more) = of-trees more
 
-  pub trees-of-document : (d : Document) → trees (walk every (document_with fields d).nodes [] d.top) ≡ trees_with fields (trees (walk every d.nodes [] d.top))
-  trees-of-document d = ap trees (of-walk every d.nodes [] d.top) ∙ of-trees (walk every d.nodes [] d.top)
+  pub trees-of-document : (d : Document) → trees (walk all_tags (document_with fields d).nodes [] d.top) ≡ trees_with fields (trees (walk all_tags d.nodes [] d.top))
+  trees-of-document d = ap trees (of-walk all_tags d.nodes [] d.top) ∙ of-trees (walk all_tags d.nodes [] d.top)
 
   -- cleanness
 

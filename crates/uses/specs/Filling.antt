@@ -4,7 +4,7 @@ use Rattle.tl_bytes.specs.Held.{Kept, as_owned}
 use Rattle.tl_bytes.specs.Keys.{same_list}
 use Rattle.tl_spec.specs.AttributeEdit.{with_attribute}
 use Rattle.tl_spec.specs.AttributeList.{Attributes}
-use Rattle.tl_attributes.specs.ShownAttributes.{shown_bytes}
+use Rattle.tl_attributes.specs.ShownAttributes.{bytes_view}
 use Rattle.uses.specs.Fields.{Fields, text_with}
 
 -- a copy of a pair, with fields in its value
@@ -13,4 +13,4 @@ pair_with fields p = (as_owned p.0.list, option_map (λ value. as_owned (text_wi
 
 -- attributes with one more pair
 abbrev pub put : Attributes Kept → Kept × Option Kept → Attributes Kept
-put a p = with_attribute shown_bytes same_list a p.0 p.1
+put a p = with_attribute bytes_view same_list a p.0 p.1

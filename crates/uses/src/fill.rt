@@ -13,8 +13,8 @@ ghost use Rattle.tl_spec.specs.Normal.{ReadsAs};
 ghost use Rattle.tl_spec.specs.Print.{document_print};
 ghost use Rattle.tl_spec.specs.Token.{tokens};
 ghost use Rattle.tl_attributes.specs.Listed.{listed};
-ghost use Rattle.tl_attributes.specs.ShownAttributes.{shown_attributes, shown_bytes};
-ghost use Rattle.tl.specs.Shown.{document_of, shown};
+ghost use Rattle.tl_attributes.specs.ShownAttributes.{attributes_view, bytes_view};
+ghost use Rattle.tl.specs.Shown.{document_of, node_view};
 ghost use Rattle.uses.specs.Fields.{attributes_with, document_with, fields_of, node_with, text_with, trees_with};
 ghost use Rattle.uses.specs.Filling.{pair_with, put};
 
@@ -60,11 +60,11 @@ fn pairs_with(
     attributes: &Attributes<'_>,
 ) -> Result<Vec<(Bytes<'static>, Option<Bytes<'static>>)>, AllocError>
     ensures pairs { IfOk result (λ pairs. pairs.items
-        ≡ map (pair_with (fields_of fields.now)) (listed shown_bytes attributes.now)) }
+        ≡ map (pair_with (fields_of fields.now)) (listed bytes_view attributes.now)) }
 
     // The rest holds of all attributes.
     ensures distinct { IsDistinct same_list (keys_of attributes.now.others.entries) }
-    ensures others { AreOthers shown_bytes attributes.now.others.entries }
+    ensures others { AreOthers bytes_view attributes.now.others.entries }
 {
     let mut pairs = Vec::new(alloc);
     for pair in attributes.iter() {
@@ -92,8 +92,8 @@ fn fill_attributes<'a>(
     fields: &[Field<'_>],
     attributes: &mut Attributes<'a>,
 ) -> Result<(), AllocError>
-    ensures { OnOk result (shown_attributes attributes.new
-        ≡ attributes_with (fields_of fields.now) (shown_attributes attributes.old)) }
+    ensures { OnOk result (attributes_view attributes.new
+        ≡ attributes_with (fields_of fields.now) (attributes_view attributes.old)) }
 {
     let pairs = pairs_with(alloc, fields, attributes)?;
     put_pairs(attributes, pairs)
@@ -101,7 +101,7 @@ fn fill_attributes<'a>(
 
 // Puts fields into a node.
 fn fill_node<'a>(alloc: Global, fields: &[Field<'_>], node: &mut Node<'a>) -> Result<(), AllocError>
-    ensures { OnOk result (shown node.new ≡ node_with (fields_of fields.now) (shown node.old)) }
+    ensures { OnOk result (node_view node.new ≡ node_with (fields_of fields.now) (node_view node.old)) }
 {
     match node {
         Node::Tag(tag) => fill_attributes(alloc, fields, tag.attributes_mut()),
@@ -120,7 +120,7 @@ fn fill_nodes<'a>(
     nodes: &mut [Node<'a>],
 ) -> Result<(), AllocError>
     ensures { let all = fields_of fields.now in
-        OnOk result (map shown nodes.new ≡ map (node_with all) (map shown nodes.old)) }
+        OnOk result (map node_view nodes.new ≡ map (node_with all) (map node_view nodes.old)) }
 {
     for node in nodes.iter_mut() {
         fill_node(alloc, fields, node)?;

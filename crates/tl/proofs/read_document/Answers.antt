@@ -1,8 +1,8 @@
 use Rattle.std.proofs.Common.{◌≡◌, ◌≤◌, length, sym, ap, ◌∙◌, subst}
 use Rattle.std.specs.Prelude.{sum_by}
 use Rattle.tl_spec.specs.Clean.{IsCleanTable}
-use Rattle.tl_spec.specs.Document.{Document, document, weight}
-use Rattle.tl_spec.specs.Order.{AreChildrenAbove, AreDescendantsNext}
+use Rattle.tl_spec.specs.Document.{Document, document, node_and_attribute_count}
+use Rattle.tl_spec.specs.Order.{ChildrenFollowParents, DescendantsAreContiguous}
 use Rattle.tl_spec.specs.Range.{AreRangesOfDescendants}
 use Rattle.tl_spec.proofs.Count.{document-weight}
 use Rattle.tl_spec.proofs.Order.{children-above, descendants-interval, fresh_table}
@@ -20,13 +20,13 @@ pub returns-clause-above : goal.returns-clause-above
 returns-clause-above g c =
     let t = g.S.Source.text c.args.source.now in
     let read : document_of c.from.result ≡ document t = ap document_of (c.from.ensures ∙ c.in_ok-track.ensures.table) ∙ c.in_ok-parser.ensures.document in
-    subst (λ (d : Document). AreChildrenAbove d.nodes) (sym read) (children-above t)
+    subst (λ (d : Document). ChildrenFollowParents d.nodes) (sym read) (children-above t)
 
 pub returns-clause-interval : goal.returns-clause-interval
 returns-clause-interval g c =
     let t = g.S.Source.text c.args.source.now in
     let read : document_of c.from.result ≡ document t = ap document_of (c.from.ensures ∙ c.in_ok-track.ensures.table) ∙ c.in_ok-parser.ensures.document in
-    subst (λ (d : Document). AreDescendantsNext d.nodes) (sym read) (descendants-interval t)
+    subst (λ (d : Document). DescendantsAreContiguous d.nodes) (sym read) (descendants-interval t)
 
 pub returns-clause-ranges : goal.returns-clause-ranges
 returns-clause-ranges g c =
@@ -38,4 +38,4 @@ pub returns-clause-size : goal.returns-clause-size
 returns-clause-size g c =
     let t = g.S.Source.text c.args.source.now in
     let read : document_of c.from.result ≡ document t = ap document_of (c.from.ensures ∙ c.in_ok-track.ensures.table) ∙ c.in_ok-parser.ensures.document in
-    subst (λ (d : Document). sum_by weight d.nodes ≤ length t) (sym read) (document-weight t)
+    subst (λ (d : Document). sum_by node_and_attribute_count d.nodes ≤ length t) (sym read) (document-weight t)

@@ -7,7 +7,7 @@ ghost use Rattle.tl_lexer.specs.Lexed.{meant, start_tag_of, IsTokenIn};
 ghost use Rattle.tl_spec.specs.Forest.{closes};
 ghost use Rattle.tl_spec.specs.Document.{Raw, Comment, document};
 ghost use Rattle.tl_spec.specs.Machine.{start, with_child_of_innermost, with_next_node, with_open_tag, with_innermost_closed, after_end, step, enclosing_name};
-ghost use Rattle.tl.specs.Shown.{shown, document_of, version_of};
+ghost use Rattle.tl.specs.Shown.{node_view, document_of, version_of};
 ghost use Rattle.tl.specs.HeldAlike.{IsHeldNode, IsHeldTag};
 ghost use Rattle.tl.specs.declared.errors.ParseError.TheVariants.{InvalidLength};
 ghost use Rattle.tl.specs.declared.parser.tag.node.NodeOf.TheVariants.{Tag};
@@ -70,7 +70,7 @@ pub(crate) struct TableBuilder<'a> {
 }
 
 impl<'a> TableBuilder<'a> {
-    ghost use Rattle.tl.specs.Builder.{state_of, with_tag, with_whole, placed, piece_at, written, HasRoom, AreHeld};
+    ghost use Rattle.tl.specs.Builder.{state_of, with_tag, with_whole, placed_token, piece_at, document_of_state, HasRoom, AreHeld};
 
     // An empty table with room for so many nodes.
     fn new(alloc: Global, room: usize) -> Result<Self, AllocError>
@@ -130,7 +130,7 @@ impl<'a> TableBuilder<'a> {
     fn add(&mut self, node: Node<'a>) -> Result<(), AllocError>
         requires { HasRoom self.old }
         ensures ok { OnOk result (state_of self.new
-            ≡ with_next_node (shown node.entry) (state_of self.old)) }
+            ≡ with_next_node (node_view node.entry) (state_of self.old)) }
         ensures held { OnOk result ((held : Held) → AreHeld held self.old
             → IsHeldNode held node.entry → AreHeld held self.new) }
         ensures len { OnOk result (length self.new.nodes.items ≡ length self.old.nodes.items + 1) }
@@ -146,7 +146,7 @@ impl<'a> TableBuilder<'a> {
     fn open(&mut self, tag: HTMLTag<'a>) -> Result<(), AllocError>
         requires { HasRoom self.old }
         ensures ok { OnOk result (state_of self.new
-            ≡ with_open_tag (shown (Tag tag.entry)) (state_of self.old)) }
+            ≡ with_open_tag (node_view (Tag tag.entry)) (state_of self.old)) }
         ensures held { OnOk result ((held : Held) → AreHeld held self.old
             → IsHeldTag held tag.entry → AreHeld held self.new) }
     {
@@ -192,7 +192,7 @@ impl<'a> TableBuilder<'a> {
     fn add_tag(&mut self, tag: HTMLTag<'a>, end: TagEnd) -> Result<(), AllocError>
         requires { HasRoom self.old }
         ensures ok { OnOk result (state_of self.new
-            ≡ with_tag (shown (Tag tag.entry)) (is_void_name tag.entry.name.list)
+            ≡ with_tag (node_view (Tag tag.entry)) (is_void_name tag.entry.name.list)
             (state_of self.old) end) }
         ensures held { OnOk result ((held : Held) → AreHeld held self.old
             → IsHeldTag held tag.entry → AreHeld held self.new) }
@@ -228,7 +228,7 @@ impl<'a> TableBuilder<'a> {
         requires room { HasRoom self.old }
         ensures ok { IfOk result (λ to. state_of self.new
             ≡ step (S.text source.now) (state_of self.old)
-            (placed (S.text source.now) (Token.Start name) at start to)) }
+            (placed_token (S.text source.now) (Token.Start name) at start to)) }
         ensures rest { IfOk result (λ to. drop to (S.text source.now)
             ≡ (start_tag_of (bytes_at (S.text source.now) name) (drop at (S.text source.now))).1) }
         ensures held { OnOk result (AreHeld S.held self.old → AreHeld S.held self.new) }
@@ -255,7 +255,7 @@ impl<'a> TableBuilder<'a> {
         requires room { HasRoom self.old }
         ensures ok { OnOk result ((node : _) × F.post leaf
             (piece_at S.held (S.text source.now) span) node
-            × (state_of self.new ≡ with_next_node (shown node) (state_of self.old))) }
+            × (state_of self.new ≡ with_next_node (node_view node) (state_of self.old))) }
         ensures held { OnOk result (((node : _)
             → F.post leaf (piece_at S.held (S.text source.now) span) node → IsHeldNode S.held node)
             → AreHeld S.held self.old → AreHeld S.held self.new) }
@@ -339,7 +339,7 @@ impl<'a> TableBuilder<'a> {
         requires room { HasRoom self.old }
         ensures ok { IfOk result (λ to. state_of self.new
             ≡ step (S.text source.now) (state_of self.old)
-            (placed (S.text source.now) token after start to)) }
+            (placed_token (S.text source.now) token after start to)) }
         ensures rest { IfOk result (λ to. drop to (S.text source.now)
             ≡ (meant (S.text source.now) token after).1) }
         ensures held { OnOk result (AreHeld S.held self.old → AreHeld S.held self.new) }
@@ -358,7 +358,7 @@ impl<'a> TableBuilder<'a> {
     // The table, whose tags that are still open stay as they are, and of which nothing is tracked.
     fn finish(self, alloc: Global) -> Parser<'a>
         requires { length self.nodes.items < 2 ^ 32 }
-        ensures document { document_of result ≡ written (state_of self.entry) }
+        ensures document { document_of result ≡ document_of_state (state_of self.entry) }
         ensures version { result.version ≡ version_of (state_of self.entry).is_html5 }
         ensures held { (held : Held) → AreHeld held self.entry
             → All (IsHeldNode held) result.nodes }

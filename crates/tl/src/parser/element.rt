@@ -6,9 +6,9 @@ ghost use Rattle.std.specs.Str.{bytes_eq};
 ghost use Rattle.tl_spec.specs.AttributeEdit.{value_at};
 ghost use Rattle.tl_spec.specs.ClassMember.{has_member};
 ghost use Rattle.tl_spec.specs.Scan.{is_value};
-ghost use Rattle.tl_attributes.specs.ShownAttributes.{shown_entries, shown_attributes};
+ghost use Rattle.tl_attributes.specs.ShownAttributes.{entries_view, attributes_view};
 ghost use Rattle.tl_bytes.specs.Held.{Kept};
-ghost use Rattle.tl.specs.Shown.{shown};
+ghost use Rattle.tl.specs.Shown.{node_view};
 
 use crate::parser::tag::HTMLTag;
 use crate::parser::tag::node::Node;
@@ -20,7 +20,7 @@ use tl_table::element::Element;
 // the text, and this key may not.
 fn value_among<'s>(others: &'s RawAttributesMap<'_>, key: &[u8]) -> Option<Option<&'s [u8]>>
     ensures { option_map option_copied result
-        ≡ lookup (bytes_eq key.now) (shown_entries others.now).entries }
+        ≡ lookup (bytes_eq key.now) (entries_view others.now).entries }
 {
     let pair = others.iter().find(|pair| key == pair.0.as_bytes())?;
     Some(pair.1.as_ref().map(|value| value.as_bytes()))
@@ -29,7 +29,7 @@ fn value_among<'s>(others: &'s RawAttributesMap<'_>, key: &[u8]) -> Option<Optio
 // What stands at a key.
 fn value_of<'s>(attributes: &'s Attributes<'_>, key: &[u8]) -> Option<Option<&'s [u8]>>
     ensures { option_map option_copied result
-        ≡ value_at (λ bytes. bytes) bytes_eq (shown_attributes attributes.now) key.now }
+        ≡ value_at (λ bytes. bytes) bytes_eq (attributes_view attributes.now) key.now }
 {
     if key == b"id".as_slice() {
         return attributes.id().map(|id| Some(id.as_bytes()));
@@ -61,7 +61,7 @@ fn is_in_class(tag: &HTMLTag<'_>, class: &[u8]) -> bool
 }
 
 impl<'a> Element for Node<'a> {
-    ghost node = { shown };
+    ghost node = { node_view };
 
     fn name(&self) -> Option<&[u8]> {
         match self {

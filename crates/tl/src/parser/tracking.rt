@@ -6,9 +6,9 @@ ghost use Rattle.tl_bytes.specs.Held.{Kept};
 ghost use Rattle.tl_spec.specs.Document.{Node, Tag};
 ghost use Rattle.tl_spec.specs.Scan.{id_of, class_of};
 ghost use Rattle.tl_tracking.specs.NameKey.{HasNames, number_of_names};
-ghost use Rattle.tl_tracking.specs.Tracking.{nothing_noted};
+ghost use Rattle.tl_tracking.specs.Tracking.{no_maps};
 ghost use Rattle.tl.specs.Names.{key_of, name_list, names_in, names_of};
-ghost use Rattle.tl.specs.Shown.{shown, shown_tag};
+ghost use Rattle.tl.specs.Shown.{node_view, tag_view};
 ghost use Rattle.tl.specs.Tracked.{AreAsked, AnswerIds, AnswerClasses, AnswerMembers};
 
 use crate::parser::base::{Parser, Tracking};
@@ -70,7 +70,7 @@ fn note_id_of<'a>(
     number: u32,
 ) -> Result<(), AllocError>
     ensures ids { OnOk result ((nodes : List Node) → number ≡ length nodes →
-        AnswerIds tracking.old nodes → AnswerIds tracking.new (nodes ++ shown node.now ∷ [])) }
+        AnswerIds tracking.old nodes → AnswerIds tracking.new (nodes ++ node_view node.now ∷ [])) }
     ensures classes { tracking.new.classes ≡ tracking.old.classes }
     ensures tracked { is_some tracking.new.ids ≡ is_some tracking.old.ids }
     ensures key { tracking.new.key ≡ tracking.old.key }
@@ -87,7 +87,7 @@ fn note_id_of<'a>(
 // The same, where ids are tracked.
 fn note_id<'a>(tracking: &mut Tracking<'a>, node: &Node<'a>, number: u32) -> Result<(), AllocError>
     ensures ids { OnOk result ((nodes : List Node) → number ≡ length nodes →
-        AnswerIds tracking.old nodes → AnswerIds tracking.new (nodes ++ shown node.now ∷ [])) }
+        AnswerIds tracking.old nodes → AnswerIds tracking.new (nodes ++ node_view node.now ∷ [])) }
     ensures classes { tracking.new.classes ≡ tracking.old.classes }
     ensures tracked { is_some tracking.new.ids ≡ is_some tracking.old.ids }
     ensures key { tracking.new.key ≡ tracking.old.key }
@@ -107,7 +107,7 @@ fn note_class_of<'a>(
 ) -> Result<(), AllocError>
     ensures classes { OnOk result ((nodes : List Node) → number ≡ length nodes →
         AnswerClasses tracking.old nodes →
-        AnswerClasses tracking.new (nodes ++ shown node.now ∷ [])) }
+        AnswerClasses tracking.new (nodes ++ node_view node.now ∷ [])) }
     ensures ids { tracking.new.ids ≡ tracking.old.ids }
     ensures tracked { is_some tracking.new.classes ≡ is_some tracking.old.classes }
     ensures key { tracking.new.key ≡ tracking.old.key }
@@ -130,7 +130,7 @@ fn note_class<'a>(
 ) -> Result<(), AllocError>
     ensures classes { OnOk result ((nodes : List Node) → number ≡ length nodes →
         AnswerClasses tracking.old nodes →
-        AnswerClasses tracking.new (nodes ++ shown node.now ∷ [])) }
+        AnswerClasses tracking.new (nodes ++ node_view node.now ∷ [])) }
     ensures ids { tracking.new.ids ≡ tracking.old.ids }
     ensures tracked { is_some tracking.new.classes ≡ is_some tracking.old.classes }
     ensures key { tracking.new.key ≡ tracking.old.key }
@@ -154,7 +154,7 @@ fn add_name(key: &mut NameKey, name: Option<&Bytes<'_>>)
 // Adds the names of a tag that are tracked.
 fn add_names(key: &mut NameKey, tag: &HTMLTag<'_>, options: ParserOptions)
     ensures { (names : List (List ℕ)) → HasNames key.old names →
-        HasNames key.new (names ++ names_of options (Tag (shown_tag tag.now))) }
+        HasNames key.new (names ++ names_of options (Tag (tag_view tag.now))) }
 {
     if options.is_tracking_ids() {
         add_name(key, tag.attributes().id());
@@ -166,7 +166,7 @@ fn add_names(key: &mut NameKey, tag: &HTMLTag<'_>, options: ParserOptions)
 
 // The number that names are hashed by.
 fn key_of_names(nodes: &[Node<'_>], options: ParserOptions) -> u64
-    ensures { result ≡ number_of_names (names_in options (map shown nodes.now)) }
+    ensures { result ≡ number_of_names (names_in options (map node_view nodes.now)) }
 {
     let mut key = NameKey::new();
     for node in nodes {
@@ -179,7 +179,7 @@ fn key_of_names(nodes: &[Node<'_>], options: ParserOptions) -> u64
 
 // Maps without tags, whose names are hashed by a number that depends on all of them.
 fn nothing_tracked<'a>(alloc: Global, nodes: &[Node<'a>], options: ParserOptions) -> Tracking<'a>
-    ensures value { result ≡ nothing_noted options (key_of options (map shown nodes.now)) }
+    ensures value { result ≡ no_maps options (key_of options (map node_view nodes.now)) }
     ensures ids { AnswerIds result [] }
     ensures classes { AnswerClasses result [] }
 {
@@ -197,9 +197,9 @@ fn tracked<'a>(
 ) -> Result<Tracking<'a>, AllocError>
     requires { length nodes.now < 2 ^ 32 }
     ensures asked { IfOk result (AreAsked options) }
-    ensures ids { IfOk result (λ t. AnswerIds t (map shown nodes.now)) }
-    ensures classes { IfOk result (λ t. AnswerClasses t (map shown nodes.now)) }
-    ensures key { IfOk result (λ t. t.key ≡ key_of options (map shown nodes.now)) }
+    ensures ids { IfOk result (λ t. AnswerIds t (map node_view nodes.now)) }
+    ensures classes { IfOk result (λ t. AnswerClasses t (map node_view nodes.now)) }
+    ensures key { IfOk result (λ t. t.key ≡ key_of options (map node_view nodes.now)) }
     ensures empty { nodes.now ≡ [] → IsOk result }
 {
     let mut tracking = nothing_tracked(alloc, nodes, options);
@@ -219,10 +219,10 @@ impl<'a> Parser<'a> {
         requires { length self.old.nodes < 2 ^ 32 }
         ensures table { self.new ≡ record self.old { tracking = self.new.tracking } }
         ensures asked { OnOk result (AreAsked options self.new.tracking) }
-        ensures ids { OnOk result (AnswerIds self.new.tracking (map shown self.old.nodes)) }
-        ensures classes { OnOk result (AnswerClasses self.new.tracking (map shown self.old.nodes)) }
+        ensures ids { OnOk result (AnswerIds self.new.tracking (map node_view self.old.nodes)) }
+        ensures classes { OnOk result (AnswerClasses self.new.tracking (map node_view self.old.nodes)) }
         ensures key { OnOk result (self.new.tracking.key
-            ≡ key_of options (map shown self.old.nodes)) }
+            ≡ key_of options (map node_view self.old.nodes)) }
         ensures empty { self.old.nodes ≡ [] → IsOk result }
     {
         let tracking = tracked(alloc, self.nodes(), options)?;

@@ -7,7 +7,7 @@ ghost use Rattle.tl_spec.specs.Document.{Node};
 ghost use Rattle.tl_spec.specs.Range.{range_of};
 ghost use Rattle.tl_spec.specs.Walk.{TreeFault};
 ghost use Rattle.tl.specs.Query.{item_at, item_of, count_in};
-ghost use Rattle.tl.specs.Shown.{shown};
+ghost use Rattle.tl.specs.Shown.{node_view};
 
 use crate::errors::TreeError;
 use crate::parser::base::Parser;
@@ -42,9 +42,9 @@ pub trait QueryIterable<'a>: private::Sealed {
 
     /// How many numbers there are.
     fn len(&self, parser: &Parser<'_>) -> Result<usize, TreeError>
-        ensures len { Answers (λ n. n) (count self.now (map shown parser.now.nodes)) result }
+        ensures len { Answers (λ n. n) (count self.now (map node_view parser.now.nodes)) result }
         ensures fits { IfOk result (λ n. n ≤ 2 ^ 32) }
-        ensures memory { counts_freely self.now (map shown parser.now.nodes)
+        ensures memory { counts_freely self.now (map node_view parser.now.nodes)
             → WantsNoMemory result };
 
     /// The first number, if there is one.

@@ -6,9 +6,9 @@ ghost use Rattle.std.specs.Result.{result_err};
 ghost use Rattle.tl_table.specs.Answer.{WantsNoMemory};
 ghost use Rattle.tl_table.specs.TreeFault.{IsRefusal, error_of};
 ghost use Rattle.tl_selector.specs.View.{selector as selector_of};
-ghost use Rattle.tl_spec.specs.SelectorMeaning.{AreMatches, has_joint};
+ghost use Rattle.tl_spec.specs.SelectorMeaning.{AreMatches, has_combinator};
 ghost use Rattle.tl.specs.Query.{AreAmong};
-ghost use Rattle.tl.specs.Shown.{shown};
+ghost use Rattle.tl.specs.Shown.{node_view};
 
 use crate::errors::TreeError;
 use crate::parser::base::Parser;
@@ -43,21 +43,21 @@ impl<'a, 'b> QuerySelectorIterator<'a, 'b> {
         parser: &'b Parser<'a>,
         collection: &Q,
     ) -> Result<Self, TreeError>
-        ensures ok { IfOk result (AreAmong (map shown parser.now.nodes)
+        ensures ok { IfOk result (AreAmong (map node_view parser.now.nodes)
             (selector_of selector.entry) (Q.first collection.now)
-            (Q.count collection.now (map shown parser.now.nodes))) }
+            (Q.count collection.now (map node_view parser.now.nodes))) }
         ensures err { IfErr result (IsRefusal
-            (result_err (Q.count collection.now (map shown parser.now.nodes)))) }
+            (result_err (Q.count collection.now (map node_view parser.now.nodes)))) }
 
         // Want of memory hides no fault that is found without memory,
-        ensures fault { let nodes = map shown parser.now.nodes in
+        ensures fault { let nodes = map node_view parser.now.nodes in
             Q.counts_freely collection.now nodes
             → IfSome (result_err (Q.count collection.now nodes))
             (λ fault. result ≡ Err (error_of fault)) }
 
         // and a selector that asks for no ancestors takes no memory itself.
-        ensures memory { has_joint (selector_of selector.entry) ≡ false
-            → Q.counts_freely collection.now (map shown parser.now.nodes)
+        ensures memory { has_combinator (selector_of selector.entry) ≡ false
+            → Q.counts_freely collection.now (map node_view parser.now.nodes)
             → WantsNoMemory result }
     {
         let len = collection.len(parser)?;
@@ -72,9 +72,9 @@ impl<'a, 'b> QuerySelectorIterator<'a, 'b> {
         from: usize,
         to: usize,
     ) -> Result<Self, AllocError>
-        ensures ok { IfOk result (AreMatches (map shown parser.now.nodes)
+        ensures ok { IfOk result (AreMatches (map node_view parser.now.nodes)
             (selector_of selector.entry) from to) }
-        ensures alone { has_joint (selector_of selector.entry) ≡ false → IsOk result }
+        ensures alone { has_combinator (selector_of selector.entry) ≡ false → IsOk result }
     {
         let found = matches_between(parser.alloc(), selector, parser.nodes(), from, to)?;
         Ok(QuerySelectorIterator { found })

@@ -8,11 +8,11 @@ ghost use Rattle.tl_table.specs.declared.errors.TreeError.TheVariants.{OutOfMemo
 ghost use Rattle.tl_selector.specs.Lacks.{LacksFirst, LacksSecond};
 ghost use Rattle.tl_selector.specs.View.{selector as selector_of};
 ghost use Rattle.tl_spec.specs.Range.{range_of};
-ghost use Rattle.tl_spec.specs.SelectorMeaning.{AreMatches, has_joint};
+ghost use Rattle.tl_spec.specs.SelectorMeaning.{AreMatches, has_combinator};
 ghost use Rattle.tl_spec.specs.Selector.{Selector as SelectorOf};
 ghost use Rattle.tl_spec.specs.SelectorText.{IsSelectorText, StandsAlone};
 ghost use Rattle.tl.specs.Query.{AreIn, FindsMatches};
-ghost use Rattle.tl.specs.Shown.{shown};
+ghost use Rattle.tl.specs.Shown.{node_view};
 
 use crate::errors::TreeError;
 use crate::parser::base::Parser;
@@ -32,7 +32,7 @@ impl<'a> VDom<'a> {
         selector: &'b str,
     ) -> Result<Option<QuerySelectorIterator<'a, 'b>>, TreeError>
         ensures ok { IfOk result (FindsMatches selector.now
-            (λ e. AreMatches (map shown self.now.nodes) e 0 (length self.now.nodes))) }
+            (λ e. AreMatches (map node_view self.now.nodes) e 0 (length self.now.nodes))) }
         ensures err { IfErr result (λ error. error ≡ OutOfMemory) }
 
         // A selector of one simple part takes no memory.
@@ -58,19 +58,19 @@ impl<'a> HTMLTag<'a> {
         parser: &'b Parser<'a>,
         selector: Selector<'b>,
     ) -> Result<QuerySelectorIterator<'a, 'b>, TreeError>
-        ensures ok { IfOk result (AreIn (map shown parser.now.nodes)
-            (range_of (map shown parser.now.nodes) self.now.children.items)
+        ensures ok { IfOk result (AreIn (map node_view parser.now.nodes)
+            (range_of (map node_view parser.now.nodes) self.now.children.items)
             (selector_of selector.entry)) }
         ensures err { IfErr result (IsRefusal
-            (result_err (range_of (map shown parser.now.nodes) self.now.children.items))) }
+            (result_err (range_of (map node_view parser.now.nodes) self.now.children.items))) }
 
         // Want of memory hides no fault that is found without memory.
-        ensures fault { let nodes = map shown parser.now.nodes in
+        ensures fault { let nodes = map node_view parser.now.nodes in
             RisesBelow nodes self.now.children.items
             → IfSome (result_err (range_of nodes self.now.children.items))
             (λ fault. result ≡ Err (error_of fault)) }
-        ensures memory { has_joint (selector_of selector.entry) ≡ false
-            → RisesBelow (map shown parser.now.nodes) self.now.children.items
+        ensures memory { has_combinator (selector_of selector.entry) ≡ false
+            → RisesBelow (map node_view parser.now.nodes) self.now.children.items
             → WantsNoMemory result }
     {
         let range = self.children().range(parser)?;
@@ -88,10 +88,10 @@ impl<'a> HTMLTag<'a> {
         selector: &'b str,
     ) -> Result<Option<QuerySelectorIterator<'a, 'b>>, TreeError>
         ensures ok { IfOk result (FindsMatches selector.now
-            (AreIn (map shown parser.now.nodes)
-            (range_of (map shown parser.now.nodes) self.now.children.items))) }
+            (AreIn (map node_view parser.now.nodes)
+            (range_of (map node_view parser.now.nodes) self.now.children.items))) }
         ensures err { IfErr result (IsRefusal
-            (result_err (range_of (map shown parser.now.nodes) self.now.children.items))) }
+            (result_err (range_of (map node_view parser.now.nodes) self.now.children.items))) }
 
         // Where the text stands for no selector, no fault of the range is looked at.
         ensures outside { ((e : SelectorOf) → IsSelectorText selector.now e → ⊥)
@@ -99,7 +99,7 @@ impl<'a> HTMLTag<'a> {
 
         // A selector of one simple part takes no memory, nor does a way along last children that rises.
         ensures memory { StandsAlone selector.now
-            → RisesBelow (map shown parser.now.nodes) self.now.children.items
+            → RisesBelow (map node_view parser.now.nodes) self.now.children.items
             → WantsNoMemory result }
 
         // Nor does a text take any that lacks its first part, or the second: no want of memory hides that it is no selector.

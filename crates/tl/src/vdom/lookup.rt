@@ -7,9 +7,9 @@ ghost use Rattle.tl_bytes.specs.Keys.{same_list};
 ghost use Rattle.tl_spec.specs.Document.{Node as ShownNode};
 ghost use Rattle.tl_spec.specs.Scan.{id_scan, class_scan};
 ghost use Rattle.tl_tracking.specs.Tracking.{id_in, class_in};
-ghost use Rattle.tl.specs.HandlesLeft.{handles_left, AreHandlesLeft};
+ghost use Rattle.tl.specs.HandlesLeft.{remaining_handles, AreRemainingHandles};
 ghost use Rattle.tl.specs.Lookup.{with_id, with_member};
-ghost use Rattle.tl.specs.Shown.{shown, document_of};
+ghost use Rattle.tl.specs.Shown.{node_view, document_of};
 ghost use Rattle.tl.specs.Tracked.{AnswerIds, AnswerClasses};
 
 use crate::parser::base::Tracking;
@@ -40,11 +40,11 @@ impl<'s, 'a> Model for ElementsByClassName<'s, 'a> {
 
     ghost Value = { List ℕ };
 
-    ghost use Rattle.tl.specs.HandlesLeft.{handles_left, AreHandlesLeft};
+    ghost use Rattle.tl.specs.HandlesLeft.{remaining_handles, AreRemainingHandles};
 
-    ghost view = { λ e. handles_left e.left };
+    ghost view = { λ e. remaining_handles e.left };
 
-    ghost invariant = { λ e. AreHandlesLeft e.left };
+    ghost invariant = { λ e. AreRemainingHandles e.left };
 }
 
 impl<'s, 'a> Iterator for ElementsByClassName<'s, 'a> {
@@ -98,7 +98,7 @@ fn tracked_id(tracking: &Tracking<'_>, id: &Bytes<'_>) -> Option<NodeHandle>
 // The first tag with an id, by a scan.
 fn scanned_id(nodes: &[Node<'_>], id: &[u8]) -> Option<NodeHandle>
     requires { length nodes.now < 2 ^ 32 }
-    ensures { result ≡ id_scan (map shown nodes.now) id.now }
+    ensures { result ≡ id_scan (map node_view nodes.now) id.now }
 {
     let place = first_with_id(nodes, id)?;
     Some(NodeHandle::new(place as u32))
@@ -118,8 +118,8 @@ fn tracked_class<'s, 'a>(tracking: &'s Tracking<'a>, member: &'s str) -> &'s [u3
 // The places of the tags with a class member, by a scan.
 fn scanned_class<'s, 'a>(nodes: &'s [Node<'a>], member: &'s str) -> HandlesLeft<'s, 'a>
     requires { length nodes.now < 2 ^ 32 }
-    ensures left { handles_left result ≡ class_scan (map shown nodes.now) member.now }
-    ensures handles { AreHandlesLeft result }
+    ensures left { remaining_handles result ≡ class_scan (map node_view nodes.now) member.now }
+    ensures handles { AreRemainingHandles result }
 {
     HandlesLeft::Scanned(in_class(nodes, member.as_bytes()))
 }

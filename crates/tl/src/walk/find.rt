@@ -4,8 +4,8 @@ ghost use Rattle.tl_table.specs.TreeFault.{FirstDangles};
 ghost use Rattle.tl_spec.specs.Element.{children_of};
 ghost use Rattle.tl.specs.Find.{FindsNode, FindsNodeOrStops, sight, sights, sights_below};
 ghost use Rattle.tl.specs.Node.{tag_of};
-ghost use Rattle.tl.specs.Shown.{shown};
-ghost use Rattle.tl.specs.Walker.{IsMarked, left};
+ghost use Rattle.tl.specs.Shown.{node_view};
+ghost use Rattle.tl.specs.Walker.{IsMarked, events_to_come};
 
 use crate::errors::TreeError;
 use crate::parser::base::Parser;
@@ -22,7 +22,7 @@ fn find_in_walk<'s, 'a, F: FnMut(&Node<'a>) -> bool>(
     requires callable { F.IsAlwaysCallable f.old }
     requires marked { IsMarked walker }
     ensures search { FindsNodeOrStops F.FnMut f.old
-        (sights walker.entry.nodes.now (left walker.entry)) result f.new }
+        (sights walker.entry.nodes.now (events_to_come walker.entry)) result f.new }
     ensures dangling { (h : ℕ) → FirstDangles walker.entry.nodes.now walker.entry.rest.now h
         → result ≡ Err (TreeError.Dangling h) }
 {
@@ -77,7 +77,7 @@ impl<'a> Node<'a> {
         ensures leaf { tag_of self.now ≡ None → result ≡ Ok None }
 
         // A first child that dangles is answered before any memory is taken.
-        ensures dangling { (h : ℕ) → FirstDangles parser.now.nodes (children_of (shown self.now)) h
+        ensures dangling { (h : ℕ) → FirstDangles parser.now.nodes (children_of (node_view self.now)) h
             → result ≡ Err (TreeError.Dangling h) }
     {
         match self {

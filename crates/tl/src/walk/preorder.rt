@@ -2,7 +2,7 @@
 ghost use Rattle.std.specs.Prelude.{◌≡◌, [], length, map};
 ghost use Rattle.std.specs.Iterator.{at_most};
 ghost use Rattle.tl_spec.specs.Element.{children_of};
-ghost use Rattle.tl.specs.Shown.{document_of, shown};
+ghost use Rattle.tl.specs.Shown.{document_of, node_view};
 
 use crate::errors::TreeError;
 use crate::parser::base::Parser;
@@ -38,7 +38,7 @@ impl<'s, 'a> Walk<'s, 'a> {
     // The walk of these handles.
     fn new(alloc: Global, nodes: &'s [Node<'a>], handles: &'s [NodeHandle]) -> Self
         ensures { result ≡ record {
-          nodes = map shown nodes.now;
+          nodes = map node_view nodes.now;
           next = handles.now;
           within = [];
         } }
@@ -96,8 +96,8 @@ impl<'a> Node<'a> {
     /// nothing below.
     pub fn walk<'s>(&'s self, alloc: Global, parser: &'s Parser<'a>) -> Walk<'s, 'a>
         ensures { result ≡ record {
-          nodes = map shown parser.now.nodes;
-          next = children_of (shown self.now);
+          nodes = map node_view parser.now.nodes;
+          next = children_of (node_view self.now);
           within = [];
         } }
     {

@@ -11,10 +11,10 @@ ghost use Rattle.tl_spec.specs.Document.{Tag};
 ghost use Rattle.tl_spec.specs.Element.{children_of};
 ghost use Rattle.tl_spec.specs.Normal.{ReadsAs};
 ghost use Rattle.tl_spec.specs.Print.{outer_html, inner_html, print, print_value, print_pairs, print_start, print_end, print_of_event};
-ghost use Rattle.tl_spec.specs.Walk.{every, fault_among, first_fault, plain_node, prints_children, trees, walk, walk_of};
-ghost use Rattle.tl.specs.Shown.{shown, shown_tag};
-ghost use Rattle.tl_attributes.specs.ShownAttributes.{plain, shown_value};
-ghost use Rattle.tl.specs.Walker.{IsMarked, left, shown_event};
+ghost use Rattle.tl_spec.specs.Walk.{all_tags, fault_among, first_fault, plain_node, prints_children, trees, walk, walk_of};
+ghost use Rattle.tl.specs.Shown.{node_view, tag_view};
+ghost use Rattle.tl_attributes.specs.ShownAttributes.{plain, value_view};
+ghost use Rattle.tl.specs.Walker.{IsMarked, events_to_come, event_view};
 ghost use Rattle.tl.specs.Writing.{Writes};
 
 use crate::errors::TreeError;
@@ -79,7 +79,7 @@ pub(crate) fn write_lossy(bytes: &[u8], out: &mut String) -> Result<(), TreeErro
 fn write_pair(key: &[u8], value: Option<&Bytes<'_>>, out: &mut String) -> Result<(), TreeError>
     ensures ok { OnOk result (string_bytes out.new
         ≡ string_bytes out.old ++ codes " " ++ utf8_lossy key.now
-        ++ print_value (shown_value (option_copied value.entry))) }
+        ++ print_value (value_view (option_copied value.entry))) }
     ensures err { IfErr result (λ e. e ≡ TreeError.OutOfMemory) }
 {
     out.push(' ')?;
@@ -113,9 +113,9 @@ fn write_pairs(attributes: &Attributes<'_>, out: &mut String) -> Result<(), Tree
 #[inline(always)]
 fn write_start(tag: &HTMLTag<'_>, out: &mut String) -> Result<(), TreeError>
     ensures ok { OnOk result (string_bytes out.new
-        ≡ string_bytes out.old ++ print_start (plain_node (shown_tag tag.now))) }
+        ≡ string_bytes out.old ++ print_start (plain_node (tag_view tag.now))) }
     ensures err { IfErr result (λ e. e ≡ TreeError.OutOfMemory) }
-    ensures own { OnOk result (NodeHasOwnKeys (Tag (shown_tag tag.now))) }
+    ensures own { OnOk result (NodeHasOwnKeys (Tag (tag_view tag.now))) }
 {
     out.push('<')?;
     write_lossy(tag.name().as_bytes(), out)?;
@@ -128,7 +128,7 @@ fn write_start(tag: &HTMLTag<'_>, out: &mut String) -> Result<(), TreeError>
 #[inline(always)]
 fn write_end(tag: &HTMLTag<'_>, out: &mut String) -> Result<(), TreeError>
     ensures ok { OnOk result (string_bytes out.new
-        ≡ string_bytes out.old ++ print_end (plain_node (shown_tag tag.now))) }
+        ≡ string_bytes out.old ++ print_end (plain_node (tag_view tag.now))) }
     ensures err { IfErr result (λ e. e ≡ TreeError.OutOfMemory) }
 {
     out.push_str("</")?;
@@ -141,9 +141,9 @@ fn write_end(tag: &HTMLTag<'_>, out: &mut String) -> Result<(), TreeError>
 #[inline(always)]
 fn write_event<'s, 'a>(event: WalkEvent<'s, 'a>, out: &mut String) -> Result<(), TreeError>
     ensures ok { OnOk result (string_bytes out.new
-        ≡ string_bytes out.old ++ print_of_event (shown_event event.entry)) }
+        ≡ string_bytes out.old ++ print_of_event (event_view event.entry)) }
     ensures err { IfErr result (λ e. e ≡ TreeError.OutOfMemory) }
-    ensures own { OnOk result (MeetsOwnKeys (shown_event event.entry)) }
+    ensures own { OnOk result (MeetsOwnKeys (event_view event.entry)) }
 {
     match event {
         WalkEvent::Meets(_, Node::Tag(tag)) => write_start(tag, out),
@@ -156,10 +156,10 @@ fn write_event<'s, 'a>(event: WalkEvent<'s, 'a>, out: &mut String) -> Result<(),
 // Writes what is left of a walk.
 fn write_walk<'s, 'a>(mut walker: Walker<'s, 'a>, out: &mut String) -> Result<(), TreeError>
     requires { IsMarked walker }
-    ensures writes { let es = left walker.entry in
+    ensures writes { let es = events_to_come walker.entry in
         Writes (fault_among es) (flat_map print_of_event es) (string_bytes out.old) result
         (string_bytes out.new) }
-    ensures own { OnOk result (AllByRecursion MeetsOwnKeys (left walker.entry)) }
+    ensures own { OnOk result (AllByRecursion MeetsOwnKeys (events_to_come walker.entry)) }
     ensures dangling { (h : ℕ) → FirstDangles walker.entry.nodes.now walker.entry.rest.now h
         → result ≡ Err (TreeError.Dangling h) }
 {
@@ -179,11 +179,11 @@ pub(crate) fn write_row<'s, 'a>(
     handles: &'s [NodeHandle],
     out: &mut String,
 ) -> Result<(), TreeError>
-    ensures writes { let w = walk prints_children (map shown nodes.now) [] handles.now in
+    ensures writes { let w = walk prints_children (map node_view nodes.now) [] handles.now in
         Writes (first_fault w) (print (trees w)) (string_bytes out.old) result
         (string_bytes out.new) }
     ensures own { OnOk result (HaveOwnKeys (trees
-        (walk prints_children (map shown nodes.now) [] handles.now))) }
+        (walk prints_children (map node_view nodes.now) [] handles.now))) }
     ensures dangling { (h : ℕ) → FirstDangles nodes.now handles.now h
         → result ≡ Err (TreeError.Dangling h) }
 {
@@ -198,11 +198,11 @@ fn write_tag<'s, 'a>(
     out: &mut String,
 ) -> Result<(), TreeError>
     ensures writes { let w =
-        walk_of prints_children (map shown nodes.now) (Tag (shown_tag tag.now)) in
+        walk_of prints_children (map node_view nodes.now) (Tag (tag_view tag.now)) in
         Writes (first_fault w) (print (trees w)) (string_bytes out.old) result
         (string_bytes out.new) }
     ensures own { OnOk result (HaveOwnKeys (trees
-        (walk_of prints_children (map shown nodes.now) (Tag (shown_tag tag.now))))) }
+        (walk_of prints_children (map node_view nodes.now) (Tag (tag_view tag.now))))) }
 {
     write_start(tag, out)?;
     if is_printed_alone(tag.name().as_bytes()) {
@@ -226,12 +226,12 @@ impl<'a> HTMLTag<'a> {
     /// The tag as markup, with all that it holds by the table of `parser`. An end tag is written whether or not the text had one.
     /// What is printed of a clean tag is read as that one tree.
     pub fn outer_html(&self, alloc: Global, parser: &Parser<'a>) -> Result<String, TreeError>
-        ensures answers { Answers string_bytes (outer_html (map shown parser.now.nodes)
-            (Tag (shown_tag self.now))) result }
-        ensures identity { let nodes = map shown parser.now.nodes in
-            let own = Tag (shown_tag self.now) in
+        ensures answers { Answers string_bytes (outer_html (map node_view parser.now.nodes)
+            (Tag (tag_view self.now))) result }
+        ensures identity { let nodes = map node_view parser.now.nodes in
+            let own = Tag (tag_view self.now) in
             IsCleanNode nodes own →
-            IfOk result (λ s. ReadsAs (string_bytes s) (trees (walk_of every nodes own))) }
+            IfOk result (λ s. ReadsAs (string_bytes s) (trees (walk_of all_tags nodes own))) }
     {
         let mut out = String::new(alloc);
         write_tag(alloc, parser.nodes(), self, &mut out)?;
@@ -240,8 +240,8 @@ impl<'a> HTMLTag<'a> {
 
     /// The children as markup, with all that they hold by the table of `parser`: those of a void tag too.
     pub fn inner_html(&self, alloc: Global, parser: &Parser<'a>) -> Result<String, TreeError>
-        ensures answers { Answers string_bytes (inner_html (map shown parser.now.nodes)
-            (Tag (shown_tag self.now))) result }
+        ensures answers { Answers string_bytes (inner_html (map node_view parser.now.nodes)
+            (Tag (tag_view self.now))) result }
 
         // A first child that dangles is answered before any memory is taken.
         ensures dangling { (h : ℕ) → FirstDangles parser.now.nodes self.now.children.items h
@@ -261,11 +261,11 @@ impl<'a> HTMLTag<'a> {
 impl<'a> Node<'a> {
     /// The node as markup, with all that it holds by the table of `parser`. What is printed of a clean node is read as that one tree.
     pub fn outer_html(&self, alloc: Global, parser: &Parser<'a>) -> Result<String, TreeError>
-        ensures answers { Answers string_bytes (outer_html (map shown parser.now.nodes)
-            (shown self.now)) result }
-        ensures identity { let nodes = map shown parser.now.nodes in let own = shown self.now in
+        ensures answers { Answers string_bytes (outer_html (map node_view parser.now.nodes)
+            (node_view self.now)) result }
+        ensures identity { let nodes = map node_view parser.now.nodes in let own = node_view self.now in
             IsCleanNode nodes own →
-            IfOk result (λ s. ReadsAs (string_bytes s) (trees (walk_of every nodes own))) }
+            IfOk result (λ s. ReadsAs (string_bytes s) (trees (walk_of all_tags nodes own))) }
     {
         match self {
             Node::Tag(tag) => tag.outer_html(alloc, parser),
@@ -276,11 +276,11 @@ impl<'a> Node<'a> {
 
     /// The children of a tag as markup, by the table of `parser`. A text or a comment answers its own text.
     pub fn inner_html(&self, alloc: Global, parser: &Parser<'a>) -> Result<String, TreeError>
-        ensures answers { Answers string_bytes (inner_html (map shown parser.now.nodes)
-            (shown self.now)) result }
+        ensures answers { Answers string_bytes (inner_html (map node_view parser.now.nodes)
+            (node_view self.now)) result }
 
         // A first child that dangles is answered before any memory is taken.
-        ensures dangling { (h : ℕ) → FirstDangles parser.now.nodes (children_of (shown self.now)) h
+        ensures dangling { (h : ℕ) → FirstDangles parser.now.nodes (children_of (node_view self.now)) h
             → result ≡ Err (TreeError.Dangling h) }
     {
         match self {

@@ -5,10 +5,10 @@ ghost use Rattle.tl_table.specs.TreeFault.{FirstDangles};
 ghost use Rattle.tl_spec.specs.Document.{Tag};
 ghost use Rattle.tl_spec.specs.Element.{children_of};
 ghost use Rattle.tl_spec.specs.Text.{inner_text, text_of, event_text};
-ghost use Rattle.tl_spec.specs.Walk.{every, fault_among, first_fault, trees, walk, walk_of};
-ghost use Rattle.tl.specs.Shown.{shown, shown_tag};
+ghost use Rattle.tl_spec.specs.Walk.{all_tags, fault_among, first_fault, trees, walk, walk_of};
+ghost use Rattle.tl.specs.Shown.{node_view, tag_view};
 ghost use Rattle.tl.specs.Node.{comment_of};
-ghost use Rattle.tl.specs.Walker.{IsMarked, left, shown_event};
+ghost use Rattle.tl.specs.Walker.{IsMarked, events_to_come, event_view};
 ghost use Rattle.tl.specs.Preorder.{IsInPreorder};
 ghost use Rattle.tl.specs.Writing.{Writes, own_text};
 
@@ -26,7 +26,7 @@ use tl_table::range;
 #[inline(always)]
 fn write_event<'s, 'a>(event: WalkEvent<'s, 'a>, out: &mut String) -> Result<(), TreeError>
     ensures ok { OnOk result (string_bytes out.new
-        ≡ string_bytes out.old ++ event_text (shown_event event.entry)) }
+        ≡ string_bytes out.old ++ event_text (event_view event.entry)) }
     ensures err { IfErr result (λ e. e ≡ TreeError.OutOfMemory) }
 {
     match event {
@@ -40,7 +40,7 @@ fn write_event<'s, 'a>(event: WalkEvent<'s, 'a>, out: &mut String) -> Result<(),
 // Writes the texts of what is left of a walk.
 fn write_texts<'s, 'a>(mut walker: Walker<'s, 'a>, out: &mut String) -> Result<(), TreeError>
     requires { IsMarked walker }
-    ensures writes { let es = left walker.entry in
+    ensures writes { let es = events_to_come walker.entry in
         Writes (fault_among es) (flat_map event_text es) (string_bytes out.old) result
         (string_bytes out.new) }
     ensures dangling { (h : ℕ) → FirstDangles walker.entry.nodes.now walker.entry.rest.now h
@@ -58,7 +58,7 @@ fn write_texts<'s, 'a>(mut walker: Walker<'s, 'a>, out: &mut String) -> Result<(
 // Writes the texts among these nodes.
 fn write_texts_among(nodes: &[Node<'_>], out: &mut String) -> Result<(), TreeError>
     ensures ok { OnOk result (string_bytes out.new
-        ≡ string_bytes out.old ++ flat_map own_text (map shown nodes.now)) }
+        ≡ string_bytes out.old ++ flat_map own_text (map node_view nodes.now)) }
     ensures err { IfErr result (λ e. e ≡ TreeError.OutOfMemory) }
 {
     for node in nodes {
@@ -78,7 +78,7 @@ fn write_texts_in_preorder<'a>(
     out: &mut String,
 ) -> Result<(), TreeError>
     requires { IsInPreorder nodes.now }
-    ensures writes { let w = walk every (map shown nodes.now) [] handles.now in
+    ensures writes { let w = walk all_tags (map node_view nodes.now) [] handles.now in
         Writes (first_fault w) (text_of (trees w)) (string_bytes out.old) result
         (string_bytes out.new) }
     ensures dangling { (h : ℕ) → FirstDangles nodes.now handles.now h
@@ -99,7 +99,7 @@ pub(crate) fn write_row_texts<'s, 'a>(
     handles: &'s [NodeHandle],
     out: &mut String,
 ) -> Result<(), TreeError>
-    ensures writes { let w = walk every (map shown parser.now.nodes) [] handles.now in
+    ensures writes { let w = walk all_tags (map node_view parser.now.nodes) [] handles.now in
         Writes (first_fault w) (text_of (trees w)) (string_bytes out.old) result
         (string_bytes out.new) }
     ensures dangling { (h : ℕ) → FirstDangles parser.now.nodes handles.now h
@@ -119,7 +119,7 @@ fn write_text_of<'s, 'a>(
     tag: &'s HTMLTag<'a>,
     out: &mut String,
 ) -> Result<(), TreeError>
-    ensures writes { let w = walk_of every (map shown parser.now.nodes) (Tag (shown_tag tag.now)) in
+    ensures writes { let w = walk_of all_tags (map node_view parser.now.nodes) (Tag (tag_view tag.now)) in
         Writes (first_fault w) (text_of (trees w)) (string_bytes out.old) result
         (string_bytes out.new) }
     ensures dangling { (h : ℕ) → FirstDangles parser.now.nodes tag.now.children.items h
@@ -132,8 +132,8 @@ fn write_text_of<'s, 'a>(
 impl<'a> HTMLTag<'a> {
     /// The texts below the tag by the table of `parser`, in the order of the walk. Comments give none.
     pub fn inner_text(&self, alloc: Global, parser: &Parser<'a>) -> Result<String, TreeError>
-        ensures answers { Answers string_bytes (inner_text (map shown parser.now.nodes)
-            (Tag (shown_tag self.now))) result }
+        ensures answers { Answers string_bytes (inner_text (map node_view parser.now.nodes)
+            (Tag (tag_view self.now))) result }
 
         // A first child that dangles is answered before any memory is taken.
         ensures dangling { (h : ℕ) → FirstDangles parser.now.nodes self.now.children.items h
@@ -148,14 +148,14 @@ impl<'a> HTMLTag<'a> {
 impl<'a> Node<'a> {
     /// The texts at or below the node by the table of `parser`, in the order of the walk. Comments give none.
     pub fn inner_text(&self, alloc: Global, parser: &Parser<'a>) -> Result<String, TreeError>
-        ensures answers { Answers string_bytes (inner_text (map shown parser.now.nodes)
-            (shown self.now)) result }
+        ensures answers { Answers string_bytes (inner_text (map node_view parser.now.nodes)
+            (node_view self.now)) result }
 
         // A comment has no text, which takes no memory.
         ensures comment { IsSome (comment_of self.now) → IsOk result }
 
         // A first child that dangles is answered before any memory is taken.
-        ensures dangling { (h : ℕ) → FirstDangles parser.now.nodes (children_of (shown self.now)) h
+        ensures dangling { (h : ℕ) → FirstDangles parser.now.nodes (children_of (node_view self.now)) h
             → result ≡ Err (TreeError.Dangling h) }
     {
         match self {

@@ -2,7 +2,7 @@
 ghost use Rattle.std.specs.Prelude.{◌≡◌, length, option_map, codes};
 ghost use Rattle.tl_css.specs.Lexical.{after_comment, begins_comment, gap_at, gap_part_at};
 ghost use Rattle.tl_css.specs.TextView.{read_as};
-ghost use Rattle.tl_spec.specs.Runs.{after};
+ghost use Rattle.tl_spec.specs.Runs.{after_needle};
 
 use crate::error::{Cause, Wrong};
 use crate::text::byte_class::is_white;
@@ -25,7 +25,7 @@ pub fn begins_comment(s: &[u8]) -> bool
 
 // What stands after the first `*/`.
 fn after_end(s: &[u8]) -> Option<&[u8]>
-    ensures { option_map (λ rest. rest.now) result ≡ after (codes "*/") s.now }
+    ensures { option_map (λ rest. rest.now) result ≡ after_needle (codes "*/") s.now }
 {
     let mut left = s;
     'bytes: loop {

@@ -47,11 +47,11 @@ impl<K: Eq + Hash, V, const N: usize> Model for InlineHashMap<K, V, N> {
 
     ghost coded = { inline_map_code K.code V.code };
 
-    ghost use Rattle.tl_inline.specs.HeldPairs.{held_view};
+    ghost use Rattle.tl_inline.specs.HeldPairs.{storage_view};
 
-    ghost view = { λ m. held_view m.held };
+    ghost view = { λ m. storage_view m.held };
 
-    ghost invariant = { λ m. IsDistinct K.eq (keys_of (held_view m.held).entries) };
+    ghost invariant = { λ m. IsDistinct K.eq (keys_of (storage_view m.held).entries) };
 }
 
 impl<K: Eq + Hash, V, const N: usize> InlineHashMap<K, V, N> {

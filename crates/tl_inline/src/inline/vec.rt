@@ -40,9 +40,9 @@ impl<T, const N: usize> Model for InlineVec<T, N> {
 
     ghost coded = { inline_vec_code T.code };
 
-    ghost use Rattle.tl_inline.specs.HeldItems.{held_view};
+    ghost use Rattle.tl_inline.specs.HeldItems.{storage_view};
 
-    ghost view = { λ v. held_view v.held };
+    ghost view = { λ v. storage_view v.held };
 }
 
 impl<T, const N: usize> InlineVec<T, N> {

@@ -1,7 +1,7 @@
 //! What a command writes of a document.
 ghost use Rattle.std.specs.Prelude.{◌≡◌, ◌<◌, length, string_bytes, IsSome, Ok, Some, Err};
 ghost use Rattle.tl_spec.specs.Document.{document};
-ghost use Rattle.tl_spec.specs.Edit.{edited_all};
+ghost use Rattle.tl_spec.specs.Edit.{apply_changes};
 ghost use Rattle.tl_spec.specs.Print.{document_print};
 ghost use Rattle.tl.specs.Shown.{document_of};
 ghost use Rattle.tl.specs.Tracked.{AnswerIds, AnswerClasses};
@@ -50,11 +50,11 @@ fn again(alloc: Global, document: &VDom<'_>) -> Result<String, Failure>
 /// The print of a document after steps, which are done to it.
 pub fn edited(alloc: Global, document: &mut VDom<'_>, steps: &[Step<'_>]) -> Result<String, Failure>
     ensures outcome { Gives string_bytes (outcome_of_edited
-        (edited_all (changes_in steps.now) (document_of document.old))) result }
+        (apply_changes (changes_in steps.now) (document_of document.old))) result }
     ensures identity { PrintsBack (document_edited
-        (edited_all (changes_in steps.now) (document_of document.old))) result }
+        (apply_changes (changes_in steps.now) (document_of document.old))) result }
     ensures refused { TakeNoMemory (changes_in steps.now)
-        → IsSome (edited_all (changes_in steps.now) (document_of document.old)).refused
+        → IsSome (apply_changes (changes_in steps.now) (document_of document.old)).refused
         → result ≡ Err Failure.Refused }
 {
     script::run(alloc, document, steps).map_err(|(_, error)| error)?;

@@ -1,7 +1,7 @@
 //! Steps on a document.
 ghost use Rattle.std.specs.Prelude.{◌≡◌, OnOk, IfErr};
 ghost use Rattle.std.specs.Borrow.{sem};
-ghost use Rattle.tl_spec.specs.Edit.{Roots, edited_all, all_made};
+ghost use Rattle.tl_spec.specs.Edit.{Roots, apply_changes, none_refused};
 ghost use Rattle.tl.specs.Shown.{document_of};
 ghost use Rattle.tl_program.specs.Steps.{change_of, changes_in};
 ghost use Rattle.std.specs.Fn.{FnOnceReturnsAtMut};
@@ -25,8 +25,8 @@ pub fn run<'a>(
     steps: &[Step<'_>],
 ) -> Result<(), (usize, StepError)>
     ensures ok { OnOk result
-        (edited_all (changes_in steps.now) (document_of document.old)
-        ≡ all_made (document_of document.new)) }
+        (apply_changes (changes_in steps.now) (document_of document.old)
+        ≡ none_refused (document_of document.new)) }
     ensures err { IfErr result (λ e.
         StopsAt (changes_in steps.now) (document_of document.old)
         (document_of document.new) e.0 e.1) }

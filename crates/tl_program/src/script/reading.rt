@@ -2,7 +2,7 @@
 ghost use Rattle.std.specs.Prelude.{◌≡◌, ◌==◌, ◌∷◌, ◌<◌, length, is_some, IsSome, IfOk, IfSome, IfNone, Ok, None, Some};
 ghost use Rattle.std.specs.Option.{option_map};
 ghost use Rattle.std.specs.List.{slice_split};
-ghost use Rattle.tl_spec.specs.StepLine.{is_line_feed, number_of, first_word, after_word, change_of_text, change_of_numbers, change_by_word, change_of_line, changes_of};
+ghost use Rattle.tl_spec.specs.StepLine.{is_line_feed, number_of, first_word, after_word, change_of_text, change_of_numbers, change_by_word, change_of_line, parse_changes};
 ghost use Rattle.tl_program.specs.Steps.{change_of, changes_in, lines_left};
 
 use super::step::Step;
@@ -91,7 +91,7 @@ fn cut_line<'s>(text: &'s str) -> (&'s str, Option<&'s str>)
 
 // Whether each line of a text says a step, but for empty ones.
 fn are_steps(text: &str) -> bool
-    ensures { result ≡ is_some (changes_of text.now) }
+    ensures { result ≡ is_some (parse_changes text.now) }
 {
     let mut rest = Some(text);
     while let Some(all) = rest {
@@ -106,8 +106,8 @@ fn are_steps(text: &str) -> bool
 
 // The steps of a text whose lines say steps.
 fn listed<'s>(alloc: Global, text: &'s str) -> Result<Vec<Step<'s>>, AllocError>
-    requires { IsSome (changes_of text.now) }
-    ensures { IfOk result (λ steps. changes_of text.now ≡ Some (changes_in steps.items)) }
+    requires { IsSome (parse_changes text.now) }
+    ensures { IfOk result (λ steps. parse_changes text.now ≡ Some (changes_in steps.items)) }
 {
     let mut steps = Vec::new(alloc);
     let mut rest = Some(text);
@@ -142,8 +142,8 @@ fn listed<'s>(alloc: Global, text: &'s str) -> Result<Vec<Step<'s>>, AllocError>
 /// | `root I M` | `Root(I, M)` |
 pub fn steps<'s>(alloc: Global, text: &'s str) -> Result<Option<Vec<Step<'s>>>, AllocError>
     ensures ok { IfOk result (λ steps.
-        option_map (λ v. changes_in v.items) steps ≡ changes_of text.now) }
-    ensures none { IfNone (changes_of text.now) (result ≡ Ok None) }
+        option_map (λ v. changes_in v.items) steps ≡ parse_changes text.now) }
+    ensures none { IfNone (parse_changes text.now) (result ≡ Ok None) }
 {
     if !are_steps(text) {
         return Ok(None);

@@ -2,7 +2,7 @@
 ghost use Rattle.std.specs.Prelude.{◌≡◌, ◌<◌, true, false, length, OnOk, OnErr};
 ghost use Rattle.tl_bytes.specs.Held.{as_owned};
 ghost use Rattle.tl_spec.specs.Inline.{room, with_last, without_item};
-ghost use Rattle.tl_spec.specs.Edit.{without_handle, on_ok};
+ghost use Rattle.tl_spec.specs.Edit.{without_handle, map_ok};
 ghost use Rattle.tl_program.specs.TableEdit.{with_attribute, without_attribute, without_value};
 ghost use Rattle.tl_program.specs.Script.{Changes};
 
@@ -104,7 +104,7 @@ pub(super) fn push_child<'a>(tag: &mut HTMLTag<'a>, child: u32) -> Result<(), St
 
 // Takes the child at a place out.
 pub(super) fn pull_child<'a>(tag: &mut HTMLTag<'a>, place: usize) -> Result<(), StepError>
-    ensures { Changes false (λ own. on_ok (λ handles. record own { children = handles })
+    ensures { Changes false (λ own. map_ok (λ handles. record own { children = handles })
         (without_handle own.children place)) tag.old tag.new result }
 {
     if place >= tag.children().top().len() {

@@ -1,6 +1,6 @@
 //! How the nodes of a table are looked at one by one.
 ghost use Rattle.std.specs.Prelude.{◌≡◌, ◌↔◌, ◌≤◌, ℕ, false, length, map, IsTrue, IsOk, IfOk};
-ghost use Rattle.tl_spec.specs.SelectorMeaning.{Holds, has_joint};
+ghost use Rattle.tl_spec.specs.SelectorMeaning.{Holds, has_combinator};
 ghost use Rattle.tl_selector.specs.Found.{is_found, IsFirst, IsOfOnePart};
 ghost use Rattle.tl_selector.specs.View.{selector as selector_of};
 
@@ -29,7 +29,7 @@ pub fn test_of<'s, N: Element>(
     ensures tells { IfOk result (λ test. (n : ℕ)
         → IsTrue (is_found test (map N.node nodes.now) n)
         ↔ Holds (map N.node nodes.now) (selector_of selector.entry) n) }
-    ensures alone { has_joint (selector_of selector.entry) ≡ false → IsOk result }
+    ensures alone { has_combinator (selector_of selector.entry) ≡ false → IsOk result }
 {
     if has_joint(&selector) {
         Ok(Test::Marked(marks(alloc, nodes, None, &selector)?))

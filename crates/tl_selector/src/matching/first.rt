@@ -4,7 +4,7 @@ ghost use Rattle.std.specs.List.{position_from};
 ghost use Rattle.tl_spec.specs.Element.{name_of};
 ghost use Rattle.tl_spec.specs.Scan.{is_value, IsFirstPlace};
 ghost use Rattle.tl_spec.specs.SelectorSearch.{holds_alone};
-ghost use Rattle.tl_selector.specs.Sides.{first_part, others_hold};
+ghost use Rattle.tl_selector.specs.Sides.{first_simple, others_hold};
 ghost use Rattle.tl_selector.specs.View.{selector};
 
 use crate::matching::holds_alone;
@@ -45,7 +45,7 @@ fn first_of_part<N: Element>(part: &Selector<'_>, nodes: &[N]) -> Option<usize>
 
 // The first of the parts that all have to hold.
 fn first_part<'e, 'a>(e: &'e Selector<'a>) -> &'e Selector<'a>
-    ensures { selector result.now ≡ first_part (selector e.entry.now) }
+    ensures { selector result.now ≡ first_simple (selector e.entry.now) }
 {
     let mut part = e;
     'parts: while let Selector::And(a, _) = part {

@@ -1,7 +1,7 @@
 //! The way along the first sides of a selector. Chains are nested to the left, so this way may be as long as a text has parts.
 ghost use Rattle.std.specs.Prelude.{◌≡◌, ◌≤◌, false, IfOk};
 ghost use Rattle.std.specs.List.{All};
-ghost use Rattle.tl_spec.specs.SelectorMeaning.{has_joint};
+ghost use Rattle.tl_spec.specs.SelectorMeaning.{has_combinator};
 ghost use Rattle.tl_selector.specs.Sides.{has_sides, nested_in, selectors};
 ghost use Rattle.tl_selector.specs.View.{selector};
 ghost use Rattle.tl_selector.specs.declared.selector.Selector.{size-Selector};
@@ -60,7 +60,7 @@ pub fn first_sides<'e, 'a>(
 
 /// Whether it asks for ancestors.
 pub fn has_joint(e: &Selector<'_>) -> bool
-    ensures { result ≡ has_joint (selector e.now) }
+    ensures { result ≡ has_combinator (selector e.now) }
 {
     let mut whole = e;
     'sides: loop {

@@ -2,9 +2,9 @@
 ghost use Rattle.std.specs.Prelude.{◌≡◌, option_map, IfOk, IsOk, Ok, None, []};
 ghost use Rattle.tl_selector.specs.View.{selector};
 ghost use Rattle.tl_selector.specs.Lacks.{LacksFirst, LacksSecond};
-ghost use Rattle.tl_selector.specs.TextViews.{link, next};
+ghost use Rattle.tl_selector.specs.TextViews.{separator, next};
 ghost use Rattle.tl_spec.specs.SelectorReading as r;
-ghost use Rattle.tl_spec.specs.SelectorReading.{joined, with_chain, nested, starts_with_space, link_at, next_at, parts_at, selector_at};
+ghost use Rattle.tl_spec.specs.SelectorReading.{combine, push_complex, nest, starts_with_space, separator_at, next_at, parts_at, selector_at};
 ghost use Rattle.tl_spec.specs.SelectorText.{StandsAlone};
 
 use crate::selector::Selector;
@@ -29,7 +29,7 @@ impl Link {
         part: Selector<'a>,
     ) -> Result<Selector<'a>, AllocError>
         ensures { IfOk result (λ e. selector e
-            ≡ joined (link self) (selector before.entry) (selector part.entry)) }
+            ≡ combine (separator self) (selector before.entry) (selector part.entry)) }
     {
         let before = Box::new(alloc, before)?;
         let part = Box::new(alloc, part)?;
@@ -51,7 +51,7 @@ fn starts_with_space(s: &[u8]) -> bool
 // The link at the front, if the text doesn't end there.
 
 fn read_link(s: &[u8]) -> Option<(Link, &[u8])>
-    ensures { option_map (λ p. (link p.0, p.1.now)) result ≡ link_at s.now }
+    ensures { option_map (λ p. (separator p.0, p.1.now)) result ≡ separator_at s.now }
 {
     let spaced = starts_with_space(s);
     let text = past_spaces(s);
@@ -91,7 +91,7 @@ fn close<'a>(
     chain: Selector<'a>,
 ) -> Result<Selector<'a>, AllocError>
     ensures closed { IfOk result (λ e. selector e
-        ≡ with_chain (option_map selector before.entry) (selector chain.entry)) }
+        ≡ push_complex (option_map selector before.entry) (selector chain.entry)) }
     ensures alone { before.entry ≡ None → IsOk result }
 {
     match before {
@@ -108,7 +108,7 @@ fn chained<'a>(
     s: &'a [u8],
 ) -> Result<Option<Selector<'a>>, AllocError>
     ensures nests { IfOk result (λ o. option_map selector o
-        ≡ option_map (nested None (selector first.entry)) (parts_at s.now)) }
+        ≡ option_map (nest None (selector first.entry)) (parts_at s.now)) }
     ensures alone { next_at s.now ≡ r.End → IsOk result }
     ensures bad { next_at s.now ≡ r.Bad → result ≡ Ok None }
 {

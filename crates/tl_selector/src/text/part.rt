@@ -3,11 +3,11 @@
 ghost use Rattle.std.specs.Prelude.{◌≡◌, option_map, length};
 ghost use Rattle.std.specs.List.{take_while};
 ghost use Rattle.tl_selector.specs.View.{selector};
-ghost use Rattle.tl_selector.specs.TextViews.{op};
+ghost use Rattle.tl_selector.specs.TextViews.{operator};
 ghost use Rattle.tl_spec.specs.ByteClass.{is_ident};
-ghost use Rattle.tl_spec.specs.Runs.{past};
+ghost use Rattle.tl_spec.specs.Runs.{drop_while};
 ghost use Rattle.tl_spec.specs.ByteClass.{is_space};
-ghost use Rattle.tl_spec.specs.SelectorReading.{after_byte, run_before, quote_at, value_at, op_of, op_at, with_op, bracket_at, simple_at};
+ghost use Rattle.tl_spec.specs.SelectorReading.{skip_byte, run_before, quote_at, value_at, operator_of, operator_at, with_operator, bracket_at, simple_at};
 
 use crate::selector::Selector;
 use tl_bytes::byte_class;
@@ -24,7 +24,7 @@ fn ident_len(s: &[u8]) -> usize
 #[tactic(auto, using(crate::proofs::TextRuns::length_run, crate::proofs::TextRuns::prefix_len_le))]
 fn run(s: &[u8]) -> (&[u8], &[u8])
     ensures run { result.0.now ≡ take_while is_ident s.now }
-    ensures rest { result.1.now ≡ past is_ident s.now }
+    ensures rest { result.1.now ≡ drop_while is_ident s.now }
 {
     s.split_at(ident_len(s))
 }
@@ -38,14 +38,14 @@ fn space_len(s: &[u8]) -> usize
 // What stands after the spaces at the front.
 #[tactic(auto, using(crate::proofs::TextRuns::length_run, crate::proofs::TextRuns::prefix_len_le))]
 pub fn past_spaces(s: &[u8]) -> &[u8]
-    ensures { result.now ≡ past is_space s.now }
+    ensures { result.now ≡ drop_while is_space s.now }
 {
     s.split_at(space_len(s)).1
 }
 
 // What stands after this byte, where it stands first.
 fn after_byte(byte: u8, s: &[u8]) -> Option<&[u8]>
-    ensures { option_map (λ rest. rest.now) result ≡ after_byte byte s.now }
+    ensures { option_map (λ rest. rest.now) result ≡ skip_byte byte s.now }
 {
     match s {
         [first, rest @ ..] if *first == byte => Some(rest),
@@ -96,7 +96,7 @@ enum Op {
 impl Op {
     // The op whose first byte this is, where a `=` follows.
     fn of(byte: u8) -> Option<Op>
-        ensures { option_map op result ≡ op_of byte }
+        ensures { option_map operator result ≡ operator_of byte }
     {
         match byte {
             b'~' => Some(Op::HasPart),
@@ -108,7 +108,7 @@ impl Op {
     }
 
     fn with<'a>(self, key: &'a [u8], value: &'a [u8]) -> Selector<'a>
-        ensures { selector result ≡ with_op (op self) key.now value.now }
+        ensures { selector result ≡ with_operator (operator self) key.now value.now }
     {
         match self {
             Op::Equals => Selector::AttributeValue(key, value),
@@ -121,7 +121,7 @@ impl Op {
 }
 
 fn read_op(s: &[u8]) -> Option<(Op, &[u8])>
-    ensures { option_map (λ p. (op p.0, p.1.now)) result ≡ op_at s.now }
+    ensures { option_map (λ p. (operator p.0, p.1.now)) result ≡ operator_at s.now }
 {
     let (first, rest) = s.split_first()?;
     if *first == b'=' {

@@ -3,7 +3,7 @@ ghost use Rattle.std.specs.Prelude.{◌≡◌, ◌≤◌, length, drop, IfOk, On
 ghost use Rattle.tl_spec.specs.Attribute.{attributes as attributes_at};
 ghost use Rattle.tl_spec.specs.AttributeList.{no_attributes, with_pair};
 ghost use Rattle.tl_lexer.specs.Span.{optional_bytes_at, pair_at, IsIn, ArePairIn};
-ghost use Rattle.tl_attributes.specs.ShownAttributes.{shown_value, shown_attributes, plain};
+ghost use Rattle.tl_attributes.specs.ShownAttributes.{value_view, attributes_view, plain};
 ghost use Rattle.tl_attributes.specs.HeldAttributes.{IsHeld, AreHeldAttributes, AreRead};
 ghost use Rattle.tl.specs.StartTag.{read_of};
 
@@ -21,7 +21,7 @@ fn optional_piece<'a, S: Source<'a>>(
     span: Option<Span>,
 ) -> Result<Option<Bytes<'a>>, AllocError>
     requires { IfSome span (IsIn (S.text source.now)) }
-    ensures list { IfOk result (λ value. shown_value value
+    ensures list { IfOk result (λ value. value_view value
         ≡ optional_bytes_at (S.text source.now) span) }
     ensures held { IfOk result (λ value. IfSome value (IsHeld S.held)) }
 {
@@ -60,7 +60,7 @@ pub(crate) fn read_attributes<'a, S: Source<'a>>(
     requires empty { plain attributes.old ≡ no_attributes }
     requires read { AreRead S.held attributes.old }
     ensures read { IfOk result (λ end. (
-      shown_attributes attributes.new,
+      attributes_view attributes.new,
       drop end
           (S.text source.now),
     ) ≡ read_of (attributes_at (drop at (S.text source.now)))) }

@@ -3,7 +3,7 @@ ghost use Rattle.std.specs.Prelude.{◌≡◌, ◌≤◌, length, Some, OnOk};
 ghost use Rattle.tl_bytes.specs.Held.{Held};
 ghost use Rattle.tl_spec.specs.Forest.{closes};
 ghost use Rattle.tl_spec.specs.Machine.{with_child, with_raw_to, name_if_tag};
-ghost use Rattle.tl.specs.Shown.{shown};
+ghost use Rattle.tl.specs.Shown.{node_view};
 ghost use Rattle.tl.specs.HeldAlike.{IsHeldNode};
 
 use crate::parser::builder::source::Source;
@@ -16,7 +16,7 @@ impl<'a> Node<'a> {
     // Whether it is a tag of this name.
     #[inline(always)]
     pub(crate) fn is_named(&self, name: &[u8]) -> bool
-        ensures { result ≡ closes name.now (name_if_tag (Some (shown self.now))) }
+        ensures { result ≡ closes name.now (name_if_tag (Some (node_view self.now))) }
     {
         match self {
             Node::Tag(tag) => name == tag.name().as_bytes(),
@@ -27,7 +27,7 @@ impl<'a> Node<'a> {
     // Makes `child` the last child, if it is a tag.
     #[inline(always)]
     pub(crate) fn push_child(&mut self, child: NodeHandle) -> Result<(), AllocError>
-        ensures ok { OnOk result (shown self.new ≡ with_child child (shown self.old)) }
+        ensures ok { OnOk result (node_view self.new ≡ with_child child (node_view self.old)) }
         ensures held { OnOk result ((held : Held) → IsHeldNode held self.old
             → IsHeldNode held self.new) }
     {
@@ -46,8 +46,8 @@ impl<'a> Node<'a> {
         to: usize,
     ) -> Result<(), AllocError>
         requires { to ≤ length (S.text source.now) }
-        ensures ok { OnOk result (shown self.new
-            ≡ with_raw_to (S.text source.now) to (shown self.old)) }
+        ensures ok { OnOk result (node_view self.new
+            ≡ with_raw_to (S.text source.now) to (node_view self.old)) }
         ensures held { OnOk result (IsHeldNode S.held self.old → IsHeldNode S.held self.new) }
     {
         if let Node::Tag(tag) = self {

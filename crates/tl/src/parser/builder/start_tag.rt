@@ -5,10 +5,10 @@ ghost use Rattle.tl_spec.specs.AttributeList.{no_attributes};
 ghost use Rattle.tl_spec.specs.Document.{tag_node};
 ghost use Rattle.tl_lexer.specs.Span.{bytes_at, IsIn};
 ghost use Rattle.tl_lexer.specs.Lexed.{ended, start_tag_of};
-ghost use Rattle.tl_attributes.specs.ShownAttributes.{plain, shown_attributes};
+ghost use Rattle.tl_attributes.specs.ShownAttributes.{plain, attributes_view};
 ghost use Rattle.tl_attributes.specs.HeldAttributes.{AreRead, AreHeldAttributes};
 ghost use Rattle.tl.specs.StartTag.{read_of, source_tag};
-ghost use Rattle.tl.specs.Shown.{shown_tag};
+ghost use Rattle.tl.specs.Shown.{tag_view};
 ghost use Rattle.tl.specs.HeldAlike.{IsHeldTag};
 
 use crate::parser::builder::attribute::read_attributes;
@@ -33,7 +33,7 @@ fn read_into<'a, S: Source<'a>>(
     requires read { AreRead S.held tag.old.attributes }
     ensures kept { tag.new ≡ record tag.old { attributes = tag.new.attributes } }
     ensures read { IfOk result (λ end. (
-      shown_attributes tag.new.attributes,
+      attributes_view tag.new.attributes,
       drop end
           (S.text source.now),
     ) ≡ read_of (attributes (drop at (S.text source.now)))) }
@@ -60,7 +60,7 @@ pub(crate) fn read_start_tag<'a, S: Source<'a>>(
     requires small { length (S.text source.now) < 2 ^ 32 }
     requires within { at ≤ length (S.text source.now) }
     requires name { IsIn (S.text source.now) name }
-    ensures tag { IfOk result (λ found. shown_tag found.0
+    ensures tag { IfOk result (λ found. tag_view found.0
         ≡ tag_node (S.text source.now) (source_tag (S.text source.now) name at start found.2) []) }
     ensures end { IfOk result (λ found. (
       ended (bytes_at (S.text source.now) name)

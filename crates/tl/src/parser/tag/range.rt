@@ -4,7 +4,7 @@ ghost use Rattle.std.specs.List.{last_or};
 ghost use Rattle.tl_table.specs.Answer.{Answers, WantsNoMemory};
 ghost use Rattle.tl_table.specs.Way.{RisesBelow};
 ghost use Rattle.tl_spec.specs.Range.{last_below, boundaries_of, range_of};
-ghost use Rattle.tl.specs.Shown.{shown};
+ghost use Rattle.tl.specs.Shown.{node_view};
 ghost use Rattle.tl.specs.Ranges.{ReadsNodes};
 
 use crate::errors::TreeError;
@@ -47,9 +47,9 @@ impl<'a, 'b> Children<'a, 'b> {
     /// The number of the last of what hangs below the tag: its last child, that one's last child, and so on; None where
     /// there is no child.
     pub fn end(&self, parser: &Parser<'_>) -> Result<Option<InnerNodeHandle>, TreeError>
-        ensures end { Answers (λ end. end) (last_below (map shown parser.now.nodes)
+        ensures end { Answers (λ end. end) (last_below (map node_view parser.now.nodes)
             (last_or None self.now.children.items)) result }
-        ensures memory { RisesBelow (map shown parser.now.nodes) self.now.children.items
+        ensures memory { RisesBelow (map node_view parser.now.nodes) self.now.children.items
             → WantsNoMemory result }
     {
         range::end(parser.alloc(), parser.nodes(), self.last())
@@ -61,8 +61,8 @@ impl<'a, 'b> Children<'a, 'b> {
         parser: &Parser<'_>,
     ) -> Result<Option<(InnerNodeHandle, InnerNodeHandle)>, TreeError>
         ensures boundaries { Answers (λ both. both)
-            (boundaries_of (map shown parser.now.nodes) self.now.children.items) result }
-        ensures memory { RisesBelow (map shown parser.now.nodes) self.now.children.items
+            (boundaries_of (map node_view parser.now.nodes) self.now.children.items) result }
+        ensures memory { RisesBelow (map node_view parser.now.nodes) self.now.children.items
             → WantsNoMemory result }
     {
         range::boundaries(parser.alloc(), parser.nodes(), self.start(), self.last())
@@ -71,10 +71,10 @@ impl<'a, 'b> Children<'a, 'b> {
     // The numbers from start to end.
     pub(crate) fn range(&self, parser: &Parser<'_>) -> Result<Range<usize>, TreeError>
         ensures range { Answers (λ r. (r.start, r.end))
-            (range_of (map shown parser.now.nodes) self.now.children.items) result }
+            (range_of (map node_view parser.now.nodes) self.now.children.items) result }
         ensures within { IfOk result (λ r. (r.start ≤ r.end) × (r.end ≤ length parser.now.nodes)) }
         ensures fits { IfOk result (λ r. r.end < 2 ^ 32) }
-        ensures memory { RisesBelow (map shown parser.now.nodes) self.now.children.items
+        ensures memory { RisesBelow (map node_view parser.now.nodes) self.now.children.items
             → WantsNoMemory result }
     {
         range::range(parser.alloc(), parser.nodes(), self.start(), self.last())
@@ -84,8 +84,8 @@ impl<'a, 'b> Children<'a, 'b> {
     pub fn all<'p>(&self, parser: &'p Parser<'a>) -> Result<&'p [Node<'a>], TreeError>
         ensures all { ReadsNodes
             (range_of
-            (map shown parser.now.nodes) self.now.children.items) parser.now.nodes result }
-        ensures memory { RisesBelow (map shown parser.now.nodes) self.now.children.items
+            (map node_view parser.now.nodes) self.now.children.items) parser.now.nodes result }
+        ensures memory { RisesBelow (map node_view parser.now.nodes) self.now.children.items
             → WantsNoMemory result }
     {
         let range = self.range(parser)?;

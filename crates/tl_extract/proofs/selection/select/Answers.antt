@@ -1,7 +1,7 @@
 use Rattle.std.proofs.Common.{◌≡◌, map, ap, sym, ◌∙◌}
 use Rattle.tl_spec.proofs.SelectorText.{alone-text}
 use Rattle.tl.specs.Query.{matches_in}
-use Rattle.tl.specs.Shown.{HTMLTable, document_of, shown}
+use Rattle.tl.specs.Shown.{HTMLTable, document_of, node_view}
 use Rattle.tl.proofs.Queries.{query-some}
 use Rattle.tl_page.specs.Outcome.{success}
 use Rattle.tl_extract.specs.Field.{fields}
@@ -19,5 +19,5 @@ returns-clause-selects c = λ e stands.
     let some = query-some c.args.document.now c.args.selector.now c.in_ok-query.query e c.in_ok-query.ensures.ok stands in
     let is = c.in-Some.is in
     let same : c.in-Some.found ≡ matches_in (document_of c.args.document.now) e = cc in
-    ap (λ numbers. success (fields c.args.field (map shown c.args.document.now.nodes) numbers)) (sym same)
-    ∙ ap (λ (table : HTMLTable). success (fields c.args.field (map shown table.nodes) c.in-Some.found)) (sym c.parser.ensures)
+    ap (λ numbers. success (fields c.args.field (map node_view c.args.document.now.nodes) numbers)) (sym same)
+    ∙ ap (λ (table : HTMLTable). success (fields c.args.field (map node_view table.nodes) c.in-Some.found)) (sym c.parser.ensures)

@@ -1,6 +1,6 @@
 use Rattle.std.proofs.Common.{◌++◌, ap, ap₂, append_assoc, subst, sym, ◌∙◌}
 use Rattle.tl.specs.Remaining.{remaining_of}
-use Rattle.tl.specs.Walker.{shown_event}
+use Rattle.tl.specs.Walker.{event_view}
 use Rattle.tl.proofs.Remaining.{IsEntered}
 use Rattle.tl_extract.specs.Flow.{after_event, event_flow, fault_left, flow_left}
 use Rattle.tl_extract.proofs.Flows.{entered-after, goes-step}
@@ -18,7 +18,7 @@ loop-event-preserved c =
       entered = subst IsEntered (sym c.in_ok-take-in-Some-Ok.ensures.walk) (entered-after r e after c.loop-event.invariant.entered taken);
       flow = c.loop-event.invariant.flow
           ∙ ap (λ s. text ++ s) goes.flow
-          ∙ sym (append_assoc text (event_flow (shown_event e)) (flow_left (after_event (shown_event e) after)))
+          ∙ sym (append_assoc text (event_flow (event_view e)) (flow_left (after_event (event_view e) after)))
           ∙ ap₂ (λ x y. x ++ y) (sym c.in_ok-take-in-Some-Ok.ensures.text) (ap flow_left (sym c.in_ok-take-in-Some-Ok.ensures.walk));
       fault = c.loop-event.invariant.fault ∙ goes.fault ∙ ap fault_left (sym c.in_ok-take-in-Some-Ok.ensures.walk);
     }

@@ -1,7 +1,7 @@
 use Rattle.std.proofs.Common.{◌≡◌, Ok, arith, map, rules, string_bytes, subst, sym}
 use Rattle.std.proofs.lemmas.Grind.{common_steps}
 use Rattle.tl.specs.Remaining.{Place, remaining_of}
-use Rattle.tl.specs.Shown.{document_of, shown}
+use Rattle.tl.specs.Shown.{document_of, node_view}
 use Rattle.tl.proofs.Remaining.{IsEntered, entered-begun}
 use Rattle.tl_extract.specs.Readable.{readable_of}
 use Rattle.tl_extract.proofs.Flows.{readable-read}
@@ -9,7 +9,7 @@ use Rattle.tl_extract.proofs.text.readable.Goals as goal
 
 pub finish-requires : goal.finish-requires
 finish-requires c =
-    subst (λ (p : Place). IsEntered (remaining_of p)) (sym c.walk-walk.ensures) (entered-begun (map shown c.args.document.now.nodes) c.args.document.now.top)
+    subst (λ (p : Place). IsEntered (remaining_of p)) (sym c.walk-walk.ensures) (entered-begun (map node_view c.args.document.now.nodes) c.args.document.now.top)
 
 pub returns-clause-read : goal.returns-clause-read
 returns-clause-read c = λ page e.

@@ -18,14 +18,14 @@ pub(super) enum HeldPairs<K: Eq + Hash, V, const N: usize> {
 }
 
 impl<K: Eq + Hash, V, const N: usize> HeldPairs<K, V, N> {
-    ghost use Rattle.tl_inline.specs.HeldPairs.{held_view};
+    ghost use Rattle.tl_inline.specs.HeldPairs.{storage_view};
     ghost use Rattle.tl_inline.specs.HeldPairsLends.{lends_value_at};
 
     pub(super) fn value_at_mut(&mut self, index: usize) -> Option<&mut V>
         ensures* writes_back { sem 𝓛
             (lends_value_at K.row V.row N.row K.Hash self.entry index result) }
         ensures value { option_copied_mut result
-            ≡ slice_get (values_of (held_view self.old).entries) index }
+            ≡ slice_get (values_of (storage_view self.old).entries) index }
     {
         match self {
             HeldPairs::Inline(inline) => match inline.get_mut(index) {

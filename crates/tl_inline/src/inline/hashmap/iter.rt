@@ -23,9 +23,9 @@ impl<'a, K, V> Model for InlineHashMapIterator<'a, K, V> {
 
     ghost Value = { List (K × V) };
 
-    ghost use Rattle.tl_inline.specs.PairsLeft.{pairs_left};
+    ghost use Rattle.tl_inline.specs.PairsLeft.{remaining_pairs};
 
-    ghost view = { λ a. pairs_left a.left };
+    ghost view = { λ a. remaining_pairs a.left };
 }
 
 impl<'a, K, V> Iterator for InlineHashMapIterator<'a, K, V> {

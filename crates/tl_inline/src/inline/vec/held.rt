@@ -12,15 +12,15 @@ pub(super) enum HeldItems<T, const N: usize> {
 }
 
 impl<T, const N: usize> HeldItems<T, N> {
-    ghost use Rattle.tl_inline.specs.HeldItems.{held_view};
+    ghost use Rattle.tl_inline.specs.HeldItems.{storage_view};
     ghost use Rattle.tl_inline.specs.HeldItemsLends.{lends_item, lends_items};
 
     pub(super) fn get_mut(&mut self, index: usize) -> Option<&mut T>
         ensures* writes_back { sem 𝓛 (lends_item T.row N.row self.entry index result) }
-        ensures variant { IsSome result ↔ (index < length (held_view self.old).items) }
+        ensures variant { IsSome result ↔ (index < length (storage_view self.old).items) }
         ensures value { IfSome result (λ item.
-            item.now ≡ slice_index_or (held_view self.old).items index item.now) }
-        ensures item { IsItemAtMut (held_view self.old).items index result }
+            item.now ≡ slice_index_or (storage_view self.old).items index item.now) }
+        ensures item { IsItemAtMut (storage_view self.old).items index result }
     {
         match self {
             HeldItems::Inline(inline) => inline.get_mut(index),
@@ -31,8 +31,8 @@ impl<T, const N: usize> HeldItems<T, N> {
     // The items for writing, and whether they lie on the heap.
     pub(super) fn items_mut(&mut self) -> (&mut [T], bool)
         ensures* writes_back { sem 𝓛 (lends_items T.row N.row self.entry result) }
-        ensures items { result.0.now ≡ (held_view self.old).items }
-        ensures on_heap { result.1 ≡ (held_view self.old).on_heap }
+        ensures items { result.0.now ≡ (storage_view self.old).items }
+        ensures on_heap { result.1 ≡ (storage_view self.old).on_heap }
     {
         match self {
             HeldItems::Inline(inline) => (inline.as_mut_slice(), false),

@@ -1,7 +1,7 @@
 use Rattle.std.proofs.Common.{◌++◌, ◌<◌, List, ℕ, map, refl, ap, sym, subst, ◌∙◌, append_assoc, arith, string_bytes}
 use Rattle.std.proofs.lemmas.Result.{on_ok_weaker}
 use Rattle.tl_spec.specs.Document.{Node}
-use Rattle.tl.specs.Shown.{shown}
+use Rattle.tl.specs.Shown.{node_view}
 use Rattle.tl_safe.specs.Left.{end_print, owed, steps}
 use Rattle.tl_safe.specs.Lists.{ListedWords}
 use Rattle.tl_safe.specs.Policies.{lists_of}
@@ -12,11 +12,11 @@ use Rattle.tl_safe.proofs.walk.go_on.Goals as goal
 pub returns-in_default-clause-ok : goal.returns-in_default-clause-ok
 returns-in_default-clause-ok c =
     let p : ListedWords = lists_of c.args.policy.now in
-    let ns : List Node = map shown c.args.nodes.now in
+    let ns : List Node = map node_view c.args.nodes.now in
     let f : Frame = c.args.frame in
     let out : List ℕ = string_bytes c.args.out.now in
     let later : List ℕ = owed p ns c.args.frames.now.items in
-    let stop : List ℕ = end_print f.stands (shown f.node.now) in
+    let stop : List ℕ = end_print f.stands (node_view f.node.now) in
     on_ok_weaker c.close.result
     (λ wrote. ap (λ s. s ++ later) wrote ∙ append_assoc out stop later ∙ ap (λ s. out ++ (s ++ later)) (sym (closed_print ns p f (sym c.in_default.is ∙ c.child_at.ensures))))
     c.close.ensures
@@ -27,7 +27,7 @@ returns-in_default-clause-steps c = on_ok_weaker c.close.result (λ wrote. omega
 pub returns-clause-ok : goal.returns-clause-ok
 returns-clause-ok c =
     let p : ListedWords = lists_of c.args.policy.now in
-    let ns : List Node = map shown c.args.nodes.now in
+    let ns : List Node = map node_view c.args.nodes.now in
     let f : Frame = c.args.frame in
     let g : Frame = record { node = f.node; next = c.in-Some.next; stands = f.stands } in
     let out : List ℕ = string_bytes c.args.out.now in
@@ -38,7 +38,7 @@ returns-clause-ok c =
 
 pub returns-clause-steps : goal.returns-clause-steps
 returns-clause-steps c =
-    let ns : List Node = map shown c.args.nodes.now in
+    let ns : List Node = map node_view c.args.nodes.now in
     let f : Frame = c.args.frame in
     let g : Frame = record { node = f.node; next = c.in-Some.next; stands = f.stands } in
     on_ok_weaker c.visit.result

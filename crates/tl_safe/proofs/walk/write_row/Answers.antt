@@ -1,7 +1,7 @@
 use Rattle.std.proofs.Common.{◌≡◌, ◌++◌, ◌∷◌, ◌+◌, ◌<◌, suc, List, ℕ, drop, get_or, length, map, ap, sym, ◌∙◌, add-one, append_assoc, append-nil, drop-cons, slice_get, string_bytes}
 use Rattle.std.proofs.lemmas.List.{drop_all}
 use Rattle.tl_spec.specs.Document.{Node}
-use Rattle.tl.specs.Shown.{shown}
+use Rattle.tl.specs.Shown.{node_view}
 use Rattle.tl_safe.specs.Left.{handle_print, owed, row}
 use Rattle.tl_safe.specs.Lists.{ListedWords}
 use Rattle.tl_safe.specs.Policies.{lists_of}
@@ -14,7 +14,7 @@ handle_next hs i h within is = rw (add-one, drop-cons hs i h) (ap (λ x. x ∷ d
 pub loop-handle-preserved : goal.loop-handle-preserved
 loop-handle-preserved c =
     let p : ListedWords = lists_of c.args.policy.now in
-    let ns : List Node = map shown c.args.nodes.now in
+    let ns : List Node = map node_view c.args.nodes.now in
     let hs : List ℕ = c.args.handles.now in
     let i : ℕ = c.loop-handle.handle-index in
     let h : ℕ = c.handle-item.result in
@@ -37,7 +37,7 @@ loop-handle-preserved c =
 pub returns : goal.returns
 returns c =
     let p : ListedWords = lists_of c.args.policy.now in
-    let ns : List Node = map shown c.args.nodes.now in
+    let ns : List Node = map node_view c.args.nodes.now in
     let out : List ℕ = string_bytes c.loop-handle.out in
     sym (c.loop-handle.invariant.bytes
     ∙ ap (λ s. out ++ s) (ap (row p ns) (drop_all c.loop-handle.handle-index c.args.handles.now c.loop-handle-test.false) ∙ row-nil p ns)

@@ -5,7 +5,7 @@ use Rattle.tl_spec.specs.AttributeList.{printed_pairs}
 use Rattle.tl_spec.specs.Print.{print_pairs}
 use Rattle.tl_spec.specs.Walk.{plain_node}
 use Rattle.tl_attributes.specs.ShownAttributes.{plain}
-use Rattle.tl.specs.Shown.{shown_tag}
+use Rattle.tl.specs.Shown.{tag_view}
 use Rattle.tl_safe.specs.Kept.{written_pairs}
 use Rattle.tl_safe.specs.Policies.{lists_of}
 use Rattle.tl_safe.proofs.Writes.{kept_start}
@@ -16,4 +16,4 @@ returns c =
     let out : List ℕ = string_bytes c.args.out.now in
     let written : string_bytes c.push-2.new.self ≡ out ++ (codes "<" ++ utf8_lossy c.args.tag.now.name.list
     ++ print_pairs (written_pairs (lists_of c.args.policy.now) (printed_pairs (plain c.args.tag.now.attributes))) ++ codes ">") = grind (arith, common_steps) in
-    written ∙ ap (λ s. out ++ s) (sym (kept_start (lists_of c.args.policy.now) (plain_node (shown_tag c.args.tag.now))))
+    written ∙ ap (λ s. out ++ s) (sym (kept_start (lists_of c.args.policy.now) (plain_node (tag_view c.args.tag.now))))

@@ -3,7 +3,7 @@ use Rattle.serde_json.specs.Data.{Data}
 use Rattle.serde_json.specs.View.{view}
 use Rattle.tl_spec.specs.Document.{Document}
 use Rattle.tl.specs.Query.{matches_in}
-use Rattle.tl.specs.Shown.{HTMLTable, document_of, shown}
+use Rattle.tl.specs.Shown.{HTMLTable, document_of, node_view}
 use Rattle.tl.proofs.Queries.{query-some}
 use Rattle.tl_page.specs.Outcome.{Fails, Gives, Outcome, outcome_map, success}
 use Rattle.tl_page.proofs.Outcomes.{fails_mapped}
@@ -18,8 +18,8 @@ returns-in_err-list-clause-objects c = λ e stands.
     let found = c.in-Some.is in
     let same : c.in-Some.found ≡ matches_in (document_of c.args.document.now) e = cc in
     let d : Document = document_of c.args.document.now in
-    let all : list_data (map shown c.parser.result.now.nodes) c.in-Some.found ≡ list_data d.nodes (matches_in d e)
-    = ap (λ (table : HTMLTable). list_data (map shown table.nodes) c.in-Some.found) c.parser.ensures ∙ ap (list_data d.nodes) same in
+    let all : list_data (map node_view c.parser.result.now.nodes) c.in-Some.found ≡ list_data d.nodes (matches_in d e)
+    = ap (λ (table : HTMLTable). list_data (map node_view table.nodes) c.in-Some.found) c.parser.ensures ∙ ap (list_data d.nodes) same in
     let failure = c.in_err-list.field-0.0 in
     let is : c.from_residual-in_err-list.result ≡ Err failure = search rules in
     let fails : Fails (list_data d.nodes (matches_in d e)) failure = subst (λ (o : Outcome (List Data)). Fails o failure) all c.in_err-list.ensures in
@@ -32,8 +32,8 @@ returns-clause-objects c = λ e stands.
     let found = c.in-Some.is in
     let same : c.in-Some.found ≡ matches_in (document_of c.args.document.now) e = cc in
     let d : Document = document_of c.args.document.now in
-    let all : list_data (map shown c.parser.result.now.nodes) c.in-Some.found ≡ list_data d.nodes (matches_in d e)
-    = ap (λ (table : HTMLTable). list_data (map shown table.nodes) c.in-Some.found) c.parser.ensures ∙ ap (list_data d.nodes) same in
+    let all : list_data (map node_view c.parser.result.now.nodes) c.in-Some.found ≡ list_data d.nodes (matches_in d e)
+    = ap (λ (table : HTMLTable). list_data (map node_view table.nodes) c.in-Some.found) c.parser.ensures ∙ ap (list_data d.nodes) same in
     let listed : list_data d.nodes (matches_in d e) ≡ success (map view c.in_ok-list.list.items) = sym all ∙ c.in_ok-list.ensures in
     let no_float = list_none d.nodes (matches_in d e) (map view c.in_ok-list.list.items) listed in
     ap (outcome_map (array_line c.args.end.now)) listed ∙ ap success (sym (c.in_ok-array_of.ensures no_float))

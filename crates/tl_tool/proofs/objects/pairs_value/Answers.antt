@@ -1,11 +1,11 @@
 use Rattle.std.proofs.Common.{fold, map, ap, ◌∙◌}
 use Rattle.serde_json.specs.View.{members_view}
-use Rattle.tl_attributes.specs.ShownAttributes.{shown_pair}
+use Rattle.tl_attributes.specs.ShownAttributes.{pair_view}
 use Rattle.tl.proofs.Printing.{pairs-listed}
 use Rattle.tl_tool.specs.Objects.{pairs_data, with_pair}
 use Rattle.tl_tool.proofs.objects.pairs_value.Goals as goal
 
 pub loop-pair-init : goal.loop-pair-init
 loop-pair-init c =
-    ap (λ members. fold with_pair (members_view members) (map shown_pair c.into_iter-pair-iterator.result)) c.new-members.ensures.empty
-    ∙ ap pairs_data (ap (map shown_pair) c.into_iter-pair-iterator.ensures.into_iter_gives ∙ ap (map shown_pair) c.iter-pair-items.ensures.value ∙ pairs-listed c.args.attributes.now)
+    ap (λ members. fold with_pair (members_view members) (map pair_view c.into_iter-pair-iterator.result)) c.new-members.ensures.empty
+    ∙ ap pairs_data (ap (map pair_view) c.into_iter-pair-iterator.ensures.into_iter_gives ∙ ap (map pair_view) c.iter-pair-items.ensures.value ∙ pairs-listed c.args.attributes.now)

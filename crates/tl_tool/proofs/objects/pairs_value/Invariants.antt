@@ -1,11 +1,11 @@
 use Rattle.std.proofs.Common.{◌≡◌, fold, map}
 use Rattle.serde_json.specs.View.{members_view}
 use Rattle.tl_spec.specs.AttributeList.{printed_pairs}
-use Rattle.tl_attributes.specs.ShownAttributes.{plain, shown_pair}
+use Rattle.tl_attributes.specs.ShownAttributes.{plain, pair_view}
 use Rattle.tl_tool.specs.Objects.{pairs_data, with_pair}
 use Rattle.tl_tool.proofs.objects.pairs_value.Given as goal
 
 -- what was put, and then the pairs that are left, are all
 abbrev pub invariant-loop-pair : goal.invariant-loop-pair
 invariant-loop-pair l =
-    fold with_pair (members_view l.members.entries) (map shown_pair l.pair-iterator) ≡ pairs_data (printed_pairs (plain l.attributes))
+    fold with_pair (members_view l.members.entries) (map pair_view l.pair-iterator) ≡ pairs_data (printed_pairs (plain l.attributes))

@@ -1,7 +1,7 @@
 use Rattle.std.proofs.Common.{ap, ◌∙◌}
 use Rattle.std.specs.Prelude.{fold}
 use Rattle.std.proofs.lemmas.Result.{on_ok_weaker}
-use Rattle.tl_attributes.specs.ShownAttributes.{shown_attributes}
+use Rattle.tl_attributes.specs.ShownAttributes.{attributes_view}
 use Rattle.uses.specs.Fields.{fields_of}
 use Rattle.uses.specs.Filling.{put}
 use Rattle.uses.proofs.Attributes.{put-all}
@@ -10,6 +10,6 @@ use Rattle.uses.proofs.fill.fill_attributes.Goals as goal
 pub returns : goal.returns
 returns c =
     on_ok_weaker c.put_pairs.result
-    (λ all. ap shown_attributes (all ∙ ap (fold put c.args.attributes.now) c.in_ok-pairs.ensures.pairs)
+    (λ all. ap attributes_view (all ∙ ap (fold put c.args.attributes.now) c.in_ok-pairs.ensures.pairs)
     ∙ put-all (fields_of c.args.fields.now) c.args.attributes.now c.in_ok-pairs.ensures.distinct c.in_ok-pairs.ensures.others)
     c.put_pairs.ensures

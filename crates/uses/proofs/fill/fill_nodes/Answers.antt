@@ -1,5 +1,5 @@
 use Rattle.std.proofs.Common.{◌≡◌, ◌<◌, length, ap, sym, ◌∙◌, arith}
-use Rattle.tl.specs.Shown.{HTMLNode, shown}
+use Rattle.tl.specs.Shown.{HTMLNode, node_view}
 use Rattle.uses.specs.Fields.{Fields, fields_of, node_with}
 use Rattle.uses.proofs.Nodes.{done_after, left_after}
 use Rattle.uses.proofs.fill.fill_nodes.Goals as goal
@@ -12,7 +12,7 @@ loop-node-preserved c =
     let old = c.node-item.result in
     let new = c.fill_node.new.node in
     let within : i < length nodes = omega arith in
-    let filled : shown new ≡ node_with fields (shown old) = c.in_ok-fill_node.ensures ∙ ap (λ (n : HTMLNode). node_with fields (shown n)) (sym c.node-item.is) in
+    let filled : node_view new ≡ node_with fields (node_view old) = c.in_ok-fill_node.ensures ∙ ap (λ (n : HTMLNode). node_with fields (node_view n)) (sym c.node-item.is) in
     record {
       done = done_after fields nodes c.args.nodes.now i old new within c.node-item.is filled c.loop-node.invariant.left c.loop-node.invariant.done;
       left = left_after fields nodes c.args.nodes.now i old new within c.node-item.is filled c.loop-node.invariant.left;

@@ -1,5 +1,5 @@
 use Rattle.std.proofs.Common.{[], inl, map, refl}
-use Rattle.tl.specs.Shown.{shown}
+use Rattle.tl.specs.Shown.{node_view}
 use Rattle.tl.proofs.Remaining.{remaining-over}
 use Rattle.tl.proofs.walk.Walker.stop.Goals as goal
 
@@ -10,4 +10,4 @@ returns-clause-marked c = record {
 }
 
 pub returns-clause-remaining : goal.returns-clause-remaining
-returns-clause-remaining c = remaining-over (map shown c.args.self.now.nodes.now) c.clear.new.self.items [] c.clear.ensures.items refl
+returns-clause-remaining c = remaining-over (map node_view c.args.self.now.nodes.now) c.clear.new.self.items [] c.clear.ensures.items refl

@@ -2,12 +2,12 @@ use Rattle.std.proofs.Common.{List, false, inl, of_calls, refl, rules, subst, tr
 use Rattle.std.specs.Fn.{CalledAt}
 use Rattle.tl.specs.Find.{FindsNodeOrStops, sights}
 use Rattle.tl.specs.Shown.{HTMLNode}
-use Rattle.tl.specs.Walker.{left}
+use Rattle.tl.specs.Walker.{events_to_come}
 use Rattle.tl.proofs.Searching.{stopped, found, passed}
 use Rattle.tl.proofs.walk.find.find_in_walk.Goals as goal
 
 pub returns-in-Err-clause-search : goal.returns-in-Err-clause-search
-returns-in-Err-clause-search g c = c.loop-event.invariant.2 _ _ (stopped g.F.FnMut c.loop-event.f c.loop-event.walker.nodes.now (left c.loop-event.walker) c.in-Err.error c.in-Err.ensures.steps)
+returns-in-Err-clause-search g c = c.loop-event.invariant.2 _ _ (stopped g.F.FnMut c.loop-event.f c.loop-event.walker.nodes.now (events_to_come c.loop-event.walker) c.in-Err.error c.in-Err.ensures.steps)
 
 pub returns-then-f-clause-search : goal.returns-then-f-clause-search
 returns-then-f-clause-search g c =
@@ -18,7 +18,7 @@ returns-then-f-clause-search g c =
     let steps = rw (c.in-Ok-Some.field-0-is, c.in-Meets.is) at c.in-Ok-Some.ensures.steps in
     let met = rw (c.in-Ok-Some.field-0-is, c.in-Meets.is) at c.in-Ok-Some.ensures.met in
     let called : CalledAt g.F.FnMut c.loop-event.f node true after = record { shown = _; shows = refl; called = c.if-f.ensures } in
-    c.loop-event.invariant.2 (Ok (Some h)) after (rw steps (inl (found g.F.FnMut c.loop-event.f after nodes h node (sights nodes (left c.next_event.new.self)) met called)))
+    c.loop-event.invariant.2 (Ok (Some h)) after (rw steps (inl (found g.F.FnMut c.loop-event.f after nodes h node (sights nodes (events_to_come c.next_event.new.self)) met called)))
 
 pub loop-event-preserved-else-f : goal.loop-event-preserved-else-f
 loop-event-preserved-else-f g c =
@@ -26,7 +26,7 @@ loop-event-preserved-else-f g c =
     let h = c.in-Meets.handle in
     let node = c.in-Meets.node.now in
     let after = c.f.new.self in
-    let later = left c.next_event.new.self in
+    let later = events_to_come c.next_event.new.self in
     let searches_on : List HTMLNode → _ → _ → Type 0 = λ table r q. FindsNodeOrStops g.F.FnMut after (sights table later) r q in
     let steps = rw (c.in-Ok-Some.field-0-is, c.in-Meets.is) at c.in-Ok-Some.ensures.steps in
     let met = rw (c.in-Ok-Some.field-0-is, c.in-Meets.is) at c.in-Ok-Some.ensures.met in

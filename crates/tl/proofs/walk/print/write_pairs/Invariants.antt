@@ -1,9 +1,9 @@
 use Rattle.std.proofs.Common.{◌≡◌, ◌++◌, map, string_bytes}
 use Rattle.tl_spec.specs.AttributeList.{printed_pairs}
 use Rattle.tl_spec.specs.Print.{print_pairs}
-use Rattle.tl_attributes.specs.ShownAttributes.{plain, shown_pair}
+use Rattle.tl_attributes.specs.ShownAttributes.{plain, pair_view}
 use Rattle.tl.proofs.walk.print.write_pairs.Given as goal
 
 abbrev pub invariant-loop-pair : goal.invariant-loop-pair
 invariant-loop-pair l =
-    string_bytes l.initial.out ++ print_pairs (printed_pairs (plain l.attributes)) ≡ string_bytes l.out ++ print_pairs (map shown_pair l.pair-iterator)
+    string_bytes l.initial.out ++ print_pairs (printed_pairs (plain l.attributes)) ≡ string_bytes l.out ++ print_pairs (map pair_view l.pair-iterator)

@@ -4,14 +4,14 @@ use Rattle.tl_spec.specs.Clean.{HaveOwnKeys}
 use Rattle.tl_spec.specs.Document.{Node, Tag, TagNode}
 use Rattle.tl_spec.specs.Print.{print, print_start, print_end}
 use Rattle.tl_spec.specs.Walk.{first_fault, plain_node, prints_children, trees, walk, walk_of}
-use Rattle.tl.specs.Shown.{shown, shown_tag}
+use Rattle.tl.specs.Shown.{node_view, tag_view}
 use Rattle.tl.proofs.Printing.{fault-entered, own-entered, own-passed, print-entered, three}
 use Rattle.tl.proofs.walk.print.write_tag.Goals as goal
 
 pub returns-clause-writes : goal.returns-clause-writes
 returns-clause-writes c =
-    let nodes : List Node = map shown c.args.nodes.now in
-    let own : TagNode = shown_tag c.args.tag.now in
+    let nodes : List Node = map node_view c.args.nodes.now in
+    let own : TagNode = tag_view c.args.tag.now in
     let entered : is_printed_alone own.name ≡ false =
     sym (ap is_printed_alone (c.as_bytes.ensures ∙ ap (λ b. b.list) c.name.ensures)) ∙ sym c.is_printed_alone.ensures ∙ c.if-is_printed_alone.false in
     let children : own.children.items ≡ c.as_slice.result.now = sym (c.as_slice.ensures ∙ ap (λ v. v.items) c.child_handles.ensures) in
@@ -26,8 +26,8 @@ returns-clause-writes c =
 
 pub returns-clause-own : goal.returns-clause-own
 returns-clause-own c =
-    let nodes : List Node = map shown c.args.nodes.now in
-    let own : TagNode = shown_tag c.args.tag.now in
+    let nodes : List Node = map node_view c.args.nodes.now in
+    let own : TagNode = tag_view c.args.tag.now in
     let entered : is_printed_alone own.name ≡ false =
     sym (ap is_printed_alone (c.as_bytes.ensures ∙ ap (λ b. b.list) c.name.ensures)) ∙ sym c.is_printed_alone.ensures ∙ c.if-is_printed_alone.false in
     let children : c.as_slice.result.now ≡ own.children.items = c.as_slice.ensures ∙ ap (λ v. v.items) c.child_handles.ensures in
@@ -35,7 +35,7 @@ returns-clause-own c =
 
 pub returns-then-is_printed_alone-clause-own : goal.returns-then-is_printed_alone-clause-own
 returns-then-is_printed_alone-clause-own c =
-    let own : TagNode = shown_tag c.args.tag.now in
+    let own : TagNode = tag_view c.args.tag.now in
     let alone : is_printed_alone own.name ≡ true =
     sym (ap is_printed_alone (c.as_bytes.ensures ∙ ap (λ b. b.list) c.name.ensures)) ∙ sym c.is_printed_alone.ensures ∙ c.if-is_printed_alone.true in
-    own-passed (map shown c.args.nodes.now) own alone c.in_ok-write_start.ensures.own
+    own-passed (map node_view c.args.nodes.now) own alone c.in_ok-write_start.ensures.own

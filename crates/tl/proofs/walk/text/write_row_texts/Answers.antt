@@ -1,9 +1,9 @@
 use Rattle.std.proofs.Common.{List, [], map, string_bytes, subst, sym}
 use Rattle.tl_spec.specs.Text.{text_of}
-use Rattle.tl_spec.specs.Walk.{every, first_fault, trees, walk}
+use Rattle.tl_spec.specs.Walk.{all_tags, first_fault, trees, walk}
 use Rattle.tl.specs.Preorder.{IsInPreorder}
-use Rattle.tl.specs.Shown.{HTMLNode, shown}
-use Rattle.tl.specs.Walker.{left}
+use Rattle.tl.specs.Shown.{HTMLNode, node_view}
+use Rattle.tl.specs.Walker.{events_to_come}
 use Rattle.tl.specs.Writing.{Writes}
 use Rattle.tl.proofs.Printing.{writes-texts}
 use Rattle.tl.proofs.walk.text.write_row_texts.Goals as goal
@@ -13,11 +13,11 @@ write_texts_in_preorder-requires c = subst (λ (ns : List HTMLNode). IsInPreorde
 
 pub returns-then-is_in_preorder-clause-writes : goal.returns-then-is_in_preorder-clause-writes
 returns-then-is_in_preorder-clause-writes c =
-    subst (λ (ns : List HTMLNode). Writes (first_fault (walk every (map shown ns) [] c.args.handles.now)) (text_of (trees (walk every (map shown ns) [] c.args.handles.now)))
+    subst (λ (ns : List HTMLNode). Writes (first_fault (walk all_tags (map node_view ns) [] c.args.handles.now)) (text_of (trees (walk all_tags (map node_view ns) [] c.args.handles.now)))
     (string_bytes c.args.out.now) c.write_texts_in_preorder.result (string_bytes c.write_texts_in_preorder.new.out)) c.nodes-nodes.ensures.value c.write_texts_in_preorder.ensures.writes
 
 pub returns-clause-writes : goal.returns-clause-writes
 returns-clause-writes c =
-    subst (λ (ns : List HTMLNode). Writes (first_fault (walk every (map shown ns) [] c.args.handles.now)) (text_of (trees (walk every (map shown ns) [] c.args.handles.now)))
+    subst (λ (ns : List HTMLNode). Writes (first_fault (walk all_tags (map node_view ns) [] c.args.handles.now)) (text_of (trees (walk all_tags (map node_view ns) [] c.args.handles.now)))
     (string_bytes c.args.out.now) c.write_texts.result (string_bytes c.write_texts.new.out)) c.nodes-nodes.ensures.value
-    (writes-texts (map shown c.nodes-nodes.result.now) c.args.handles.now (left c.new.result) (string_bytes c.args.out.now) c.write_texts.result (string_bytes c.write_texts.new.out) c.new.ensures.left c.write_texts.ensures.writes)
+    (writes-texts (map node_view c.nodes-nodes.result.now) c.args.handles.now (events_to_come c.new.result) (string_bytes c.args.out.now) c.write_texts.result (string_bytes c.write_texts.new.out) c.new.ensures.left c.write_texts.ensures.writes)

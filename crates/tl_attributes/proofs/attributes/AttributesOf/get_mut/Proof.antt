@@ -43,7 +43,7 @@ use types.ByLocal.{alloc_all, pass_all, free_all, look_at, get, through, sets, l
 use types.Kit.{‵, raw, ◌⊛◌, some, later, ◌$◌, ◌∵◌, !, qed, by, move, keep, drop, use0, use1, split, join, fsplit, fjoin, pick, await, rewrite}
 use types.Run.{enter, addr, stop, of_opd, no_more, and_then, returns}
 use Rattle.tl_spec.specs.AttributeEdit.{value_at, with_value_at}
-use Rattle.tl_attributes.specs.Attributes.{nested}
+use Rattle.tl_attributes.specs.Attributes.{nest}
 use Rattle.tl_attributes.specs.AttributesLends.{LendsValueAtOk, PieceMembers}
 use Rattle.tl_attributes.specs.contracts.attributes.AttributesOf.{the_row as attributes_row}
 use Rattle.tl_attributes.specs.contracts.attributes.AttributesOf.get_mut as f
@@ -55,7 +55,7 @@ use Rattle.tl_attributes.proofs.attributes.AttributesOf.get_mut.Code as code
 use Rattle.tl_attributes.proofs.attributes.AttributesOf.get_mut.Statement.{statement}
 
 -- the wrap keeps the name of what is lent
-named_alike : {D : Type 0} (r : Result (MutBor D) Bool) → name_if_ok (λ x. x.ghost_name) r ≡ ghost_name_of (option_flatten (nested r))
+named_alike : {D : Type 0} (r : Result (MutBor D) Bool) → name_if_ok (λ x. x.ghost_name) r ≡ ghost_name_of (option_flatten (nest r))
 named_alike (Ok x) = refl
 named_alike (Err true) = refl
 named_alike (Err false) = refl
@@ -101,7 +101,7 @@ get_mut_spec 𝓤 𝓛 𝓜 𝓡 wired B LB p dp e de q dq k dk dd mp me mq mk m
     let hs : Stays En.signature.params En.kept = (stay_dropped (RefMutOf (0 ∷ []) tt (plain (λ _. Row)) (λ _. tt)) no, (stay_dropped (plain (λ _. P)) no, tt)) in
     let W = walk_of 𝓛 En hs c in
     let lends = met_lends 𝓤 𝓛 𝓜 𝓡 (code.calls-tl_attributes::attributes::AttributesOf::value_or_presence_mut 𝓡.env wired) B LB p dp e de q dq k dk dd mp me mq mk md in
-    let wraps = met_wraps 𝓤 𝓛 𝓜 𝓡 (code.calls-tl_attributes::attributes::nested 𝓡.env wired) B LB in
+    let wraps = met_wraps 𝓤 𝓛 𝓜 𝓡 (code.calls-tl_attributes::attributes::nest 𝓡.env wired) B LB in
     let G = triple_of 𝓛 (g.signature B p dp e de q dq k dk dd) (g.spec B p dp e de q dq k dk dd 𝓛 𝓜.mem 𝓡.returns) in
     let N = triple_of 𝓛 (h.signature B) (h.spec B 𝓛 𝓜.mem 𝓡.returns) in
     proved_at 𝓛 En hs c 𝓜 𝓡 (Goes-spent_ref 𝓛 2 (0 ∷ []) tt (plain (λ _. Row)), (Goes-dropped 𝓛 2 (plain (λ _. P)) no (λ κs x w. refl), tt))
@@ -138,22 +138,22 @@ get_mut_spec 𝓤 𝓛 𝓜 𝓡 wired B LB p dp e de q dq k dk dd mp me mq mk m
     calls_at ! (framed 𝓤 H 𝓜 𝓣) G lends z₁ (and_then ! (get ! refl) (and_then ! (get ! refl) (no_more !))) (λ u.
     use1 𝓛 (later (some (λ (r : Ans.Denot). (tokens ⊛ ‵ (Ans.own_val r (u ∷ []))) ⊛
     some (λ (ws : Lasts (g.ended B p dp e de q dq k dk dd) κs z₁.0.3). ‵ (lasts (g.ended B p dp e de q dq k dk dd) κs z₁.0.3 ws) ⊛
-    (‵ (LendsValueAtOk P members self key r) ⊛ raw (fact 𝓤 (value (nested r)))))))) (id⊢ 𝓤 _) $
+    (‵ (LendsValueAtOk P members self key r) ⊛ raw (fact 𝓤 (value (nest r)))))))) (id⊢ 𝓤 _) $
     await ! tt $ pick ! (λ r. split ! $ split ! $ move ! (1 ∷ []) $ peeks ! Ans (Is Ans) (shows 𝓛 Ans) r (u ∷ []) (λ is-answer.
     let answer-fits = (((answer_laws B LB κs.0).lawful 𝓛).typed r (u ∷ []) is-answer).0 in
     let z₂ : N.Ghost = ((κs, qs, bounds, (r, tt), (u ∷ [], tt)), tt) in
     lands_as ! refl refl answer-fits $
-    move ! (2 ∷ []) $ pick ! (λ ws. split ! $ drop ! $ split ! $ move ! (1 ∷ []) $ heard ! (value (nested r)) (λ is-value.
+    move ! (2 ∷ []) $ pick ! (λ ws. split ! $ drop ! $ split ! $ move ! (1 ∷ []) $ heard ! (value (nest r)) (λ is-value.
     -- [how the attributes follow what is lent; the answer; the tokens; the locals]
     nothing ! $ move ! (2 ∷ 0 ∷ []) $ fjoin ! $ move ! (2 ∷ 0 ∷ []) $ join ! $
     nothing ! $ use0 𝓛 (raw (fact 𝓤 inside)) (fact_i 𝓤 inside (emp 𝓤) is-inside) $ join ! $
     move ! (1 ∷ 0 ∷ []) $ join ! $ use1 𝓛 (raw (N.pre z₂)) (id⊢ 𝓤 _) $
     calls_at ! (framed 𝓤 H 𝓜 𝓣) N wraps z₂ (and_then ! (get ! refl) (no_more !)) (λ w.
     use1 𝓛 (later (some (λ (x : Opt.Denot). (tokens ⊛ ‵ (Opt.own_val x (w ∷ []))) ⊛
-    some (λ (vs : Lasts (h.ended B) κs z₂.0.3). ‵ (lasts (h.ended B) κs z₂.0.3 vs) ⊛ raw (fact 𝓤 (x ≡ nested r)))))) (id⊢ 𝓤 _) $
+    some (λ (vs : Lasts (h.ended B) κs z₂.0.3). ‵ (lasts (h.ended B) κs z₂.0.3 vs) ⊛ raw (fact 𝓤 (x ≡ nest r)))))) (id⊢ 𝓤 _) $
     await ! tt $ pick ! (λ x. split ! $ split ! $ move ! (1 ∷ []) $ peeks ! Opt (Is Opt) (shows 𝓛 Opt) x (w ∷ []) (λ is-lent.
     lands_as ! refl refl (((lent_laws B LB κs.0).lawful 𝓛).typed x (w ∷ []) is-lent).0 $
-    move ! (2 ∷ []) $ pick ! (λ vs. split ! $ drop ! $ heard ! (x ≡ nested r) (λ is-nested.
+    move ! (2 ∷ []) $ pick ! (λ vs. split ! $ drop ! $ heard ! (x ≡ nest r) (λ is-nested.
     returns ! (look_at ! 0 refl) $ free_all ! refl $
     -- [what is lent; the tokens; how the attributes follow it]
     move ! (2 ∷ []) $ rewrite ! 0 (λ (m : mathlib.Core.Option.Option GName). ‵ (Follows m)) (named_alike r ∙ ap (λ t. ghost_name_of (option_flatten t)) (sym is-nested)) refl $

@@ -23,7 +23,7 @@ pub(super) struct Feed {
 }
 
 impl Feed {
-    ghost use Rattle.tl_inline.specs.Digest.{chained, digest_of_feed, empty_feed, with_byte};
+    ghost use Rattle.tl_inline.specs.Digest.{chain, digest_of_feed, empty_feed, with_byte};
 
     fn new() -> Self
         ensures { result ≡ empty_feed }
@@ -48,7 +48,7 @@ impl Feed {
     // The SHA-256 of all bytes, block by block.
     #[inline(never)]
     fn chained(&self) -> [u8; 32]
-        ensures { result ≡ chained self.now }
+        ensures { result ≡ chain self.now }
     {
         match &self.before {
             None => Sha256::digest(self.last.as_slice()),

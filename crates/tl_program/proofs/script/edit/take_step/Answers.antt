@@ -1,6 +1,6 @@
 use Rattle.std.proofs.Common.{rules, true, false, Result, Ok, Some, None}
 use Rattle.tl_bytes.specs.Held.{as_owned}
-use Rattle.tl_spec.specs.Edit.{Refusal, without_handle, on_ok}
+use Rattle.tl_spec.specs.Edit.{Refusal, without_handle, map_ok}
 use Rattle.tl_spec.specs.Inline.{room, with_last}
 use Rattle.tl.specs.Shown.{HTMLTag}
 use Rattle.tl.specs.declared.parser.tag.node.NodeOf.TheVariants.{Raw, Comment}
@@ -51,6 +51,6 @@ returns-in-Push c =
 
 pub returns-in-Pull : goal.returns-in-Pull
 returns-in-Pull c =
-    let edit : HTMLTag → Result HTMLTag Refusal = λ own. on_ok (λ handles. record own { children = handles }) (without_handle own.children c.in-Pull.place) in
+    let edit : HTMLTag → Result HTMLTag Refusal = λ own. map_ok (λ handles. record own { children = handles }) (without_handle own.children c.in-Pull.place) in
     let done = c.change_tag-in-Pull.ensures false edit (λ tag made told h. search rules) in
     search rules

@@ -1,7 +1,7 @@
 use Rattle.std.proofs.Common.{◌≡◌, ap, sym, ◌∙◌, subst, option_map}
 use Rattle.tl_selector.specs.View.{selector}
-use Rattle.tl_selector.specs.TextViews.{link}
-use Rattle.tl_spec.specs.SelectorReading.{nested, before_after, chain_after}
+use Rattle.tl_selector.specs.TextViews.{separator}
+use Rattle.tl_spec.specs.SelectorReading.{nest, list_after, complex_after}
 use Rattle.tl_spec.specs.SelectorReading.{parts_at, next_at, End, Bad, Part}
 use Rattle.tl_spec.proofs.SelectorText.{rest_part, next_lt}
 use Rattle.tl_selector.proofs.TextParts.{kept_chain}
@@ -13,12 +13,12 @@ parts-preserved-in-Comma c =
     let before = option_map selector c.parts.before in
     let chain = selector c.parts.chain in
     let part = selector c.in-Part.part in
-    let step = rest_part before chain c.parts.rest.now (link c.in-Part.link) part c.in-Part.text.now (sym c.in-Part.ensures) in
-    let here = subst (λ (l : Link). option_map (nested before chain) (parts_at c.parts.rest.now) ≡ option_map (nested (before_after (link l) before chain) (chain_after (link l) chain part)) (parts_at c.in-Part.text.now)) c.in-Comma.is step in
+    let step = rest_part before chain c.parts.rest.now (separator c.in-Part.link) part c.in-Part.text.now (sym c.in-Part.ensures) in
+    let here = subst (λ (l : Link). option_map (nest before chain) (parts_at c.parts.rest.now) ≡ option_map (nest (list_after (separator l) before chain) (complex_after (separator l) chain part)) (parts_at c.in-Part.text.now)) c.in-Comma.is step in
     record {
       nests = rw c.in_ok-close-in-Comma.ensures.closed (sym here ∙ c.parts.invariant.nests);
-      alone = λ e. let a = c.parts.invariant.alone e in let k = sym c.in-Part.ensures in let w = ap next_at a.0 in let z : Part (link c.in-Part.link) part c.in-Part.text.now ≡ End = sym k ∙ (w ∙ e) in cc;
-      bad = λ e. let k = sym c.in-Part.ensures in let z : Part (link c.in-Part.link) part c.in-Part.text.now ≡ Bad = sym k ∙ (ap next_at (c.parts.invariant.bad e) ∙ e) in cc;
+      alone = λ e. let a = c.parts.invariant.alone e in let k = sym c.in-Part.ensures in let w = ap next_at a.0 in let z : Part (separator c.in-Part.link) part c.in-Part.text.now ≡ End = sym k ∙ (w ∙ e) in cc;
+      bad = λ e. let k = sym c.in-Part.ensures in let z : Part (separator c.in-Part.link) part c.in-Part.text.now ≡ Bad = sym k ∙ (ap next_at (c.parts.invariant.bad e) ∙ e) in cc;
     }
 
 pub parts-preserved : goal.parts-preserved
@@ -26,16 +26,16 @@ parts-preserved c =
     let before = option_map selector c.parts.before in
     let chain = selector c.parts.chain in
     let part = selector c.in-Part.part in
-    let step = rest_part before chain c.parts.rest.now (link c.in-Part.link) part c.in-Part.text.now (sym c.in-Part.ensures) in
+    let step = rest_part before chain c.parts.rest.now (separator c.in-Part.link) part c.in-Part.text.now (sym c.in-Part.ensures) in
     let kept = kept_chain c.in-Part.link before chain part c.in_default.not-Comma in
     record {
       nests = rw (c.in_ok-chain-in_default.ensures, ← kept.0, ← kept.1) (sym step ∙ c.parts.invariant.nests);
-      alone = λ e. let a = c.parts.invariant.alone e in let k = sym c.in-Part.ensures in let w = ap next_at a.0 in let z : Part (link c.in-Part.link) part c.in-Part.text.now ≡ End = sym k ∙ (w ∙ e) in cc;
-      bad = λ e. let k = sym c.in-Part.ensures in let z : Part (link c.in-Part.link) part c.in-Part.text.now ≡ Bad = sym k ∙ (ap next_at (c.parts.invariant.bad e) ∙ e) in cc;
+      alone = λ e. let a = c.parts.invariant.alone e in let k = sym c.in-Part.ensures in let w = ap next_at a.0 in let z : Part (separator c.in-Part.link) part c.in-Part.text.now ≡ End = sym k ∙ (w ∙ e) in cc;
+      bad = λ e. let k = sym c.in-Part.ensures in let z : Part (separator c.in-Part.link) part c.in-Part.text.now ≡ Bad = sym k ∙ (ap next_at (c.parts.invariant.bad e) ∙ e) in cc;
     }
 
 pub parts-smaller-in-Comma : goal.parts-smaller-in-Comma
-parts-smaller-in-Comma c = next_lt c.parts.rest.now (link c.in-Part.link) (selector c.in-Part.part) c.in-Part.text.now (sym c.in-Part.ensures)
+parts-smaller-in-Comma c = next_lt c.parts.rest.now (separator c.in-Part.link) (selector c.in-Part.part) c.in-Part.text.now (sym c.in-Part.ensures)
 
 pub parts-smaller : goal.parts-smaller
-parts-smaller c = next_lt c.parts.rest.now (link c.in-Part.link) (selector c.in-Part.part) c.in-Part.text.now (sym c.in-Part.ensures)
+parts-smaller c = next_lt c.parts.rest.now (separator c.in-Part.link) (selector c.in-Part.part) c.in-Part.text.now (sym c.in-Part.ensures)

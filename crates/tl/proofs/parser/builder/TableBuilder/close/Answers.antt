@@ -1,6 +1,6 @@
 use Rattle.std.proofs.Common.{refl, sym, ap, ◌∙◌, ◌≡◌, ◌++◌, ◌∷◌, [], reverse, length-set, ℕ}
 use Rattle.tl_spec.proofs.Writes.{closed-written, reverse-last}
-use Rattle.tl.specs.Shown.{shown}
+use Rattle.tl.specs.Shown.{node_view}
 use Rattle.tl.specs.Builder.{state_of}
 use Rattle.tl.proofs.Building.{held_written, last_within, others_open}
 use Rattle.tl.proofs.parser.builder.TableBuilder.close.Goals as goal
@@ -15,7 +15,7 @@ returns-in_ok-set_raw-clause-ok g c =
     let b = c.args.self.now in
     let p : ℕ = c.get_inner.result in
     let tags : b.open_tags.items ≡ c.pop.new.self.items ++ p ∷ [] = c.in-Some.ensures.items ∙ ap (λ p. c.pop.new.self.items ++ p ∷ []) (sym c.get_inner.ensures) in
-    closed-written shown (g.S.Source.text c.args.source.now) c.args.to p (reverse c.pop.new.self.items) (state_of b) b.nodes.items c.index_mut.result.now c.set_raw.new.self refl
+    closed-written node_view (g.S.Source.text c.args.source.now) c.args.to p (reverse c.pop.new.self.items) (state_of b) b.nodes.items c.index_mut.result.now c.set_raw.new.self refl
     (ap reverse tags ∙ reverse-last c.pop.new.self.items p) (last_within _ b.open_tags.items c.pop.new.self.items p b.in_table tags) c.index_mut.ensures.value c.in_ok-set_raw.ensures.ok
 
 pub returns-in_ok-set_raw-clause-held : goal.returns-in_ok-set_raw-clause-held

@@ -5,8 +5,8 @@ use Rattle.tl_spec.specs.Document.{Handles, held_items}
 use Rattle.tl_bytes.specs.Held.{Kept}
 use Rattle.tl_lexer.specs.Span.{bytes_at}
 use Rattle.tl_lexer.specs.Lexed.{ended}
-use Rattle.tl_attributes.specs.ShownAttributes.{shown_attributes}
-use Rattle.tl.specs.Shown.{HTMLTag, shown_tag}
+use Rattle.tl_attributes.specs.ShownAttributes.{attributes_view}
+use Rattle.tl.specs.Shown.{HTMLTag, tag_view}
 use Rattle.tl.proofs.StartTags.{tag-made, tag-ends}
 use Rattle.tl.proofs.parser.builder.start_tag.read_start_tag.Goals as goal
 
@@ -22,8 +22,8 @@ returns-clause-tag g c =
     let children : ◌≡◌ {A = Handles} now.children (held_items []) = ap (λ (x : HTMLTag). x.children) kept ∙ ap (λ (x : HTMLTag). x.children) made in
     let begun : now.start ≡ start = ap (λ (x : HTMLTag). x.start) kept ∙ ap (λ (x : HTMLTag). x.start) made in
     let raw : c.in_ok-raw.raw.list ≡ take (end - start) (drop start t) = ap (λ (b : Kept). b.list) c.in_ok-raw.ensures.ok in
-    tag-made t (bytes_at t c.args.name) c.args.at c.in_ok-after.after (shown_attributes now.attributes) c.in_ok-after.ensures.read start end (shown_tag c.set_raw.new.self)
-    (ap shown_tag c.set_raw.ensures ∙ (λ i. record { name = name i; attributes = shown_attributes now.attributes; children = children i; raw = raw i; start = begun i }))
+    tag-made t (bytes_at t c.args.name) c.args.at c.in_ok-after.after (attributes_view now.attributes) c.in_ok-after.ensures.read start end (tag_view c.set_raw.new.self)
+    (ap tag_view c.set_raw.ensures ∙ (λ i. record { name = name i; attributes = attributes_view now.attributes; children = children i; raw = raw i; start = begun i }))
 
 pub returns-clause-end : goal.returns-clause-end
 returns-clause-end g c =
@@ -33,4 +33,4 @@ returns-clause-end g c =
     let after = c.in_ok-after.after in
     let ends : (name : List ℕ) (pairs : List Pair) → ◌≡◌ {A = Token × List ℕ} (ended name pairs kind, drop end t) (token_after_attributes name pairs (drop after t)) =
     subst (λ (T : List ℕ). (name : List ℕ) (pairs : List Pair) → ◌≡◌ {A = Token × List ℕ} (ended name pairs kind, drop end T) (token_after_attributes name pairs (drop after T))) c.as_bytes.ensures c.tag_end-kind.ensures.read in
-    tag-ends t (bytes_at t c.args.name) c.args.at after (shown_attributes c.read_into.new.tag.attributes) c.in_ok-after.ensures.read kind end ends
+    tag-ends t (bytes_at t c.args.name) c.args.at after (attributes_view c.read_into.new.tag.attributes) c.in_ok-after.ensures.read kind end ends

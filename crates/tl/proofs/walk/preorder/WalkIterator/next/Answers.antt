@@ -1,6 +1,6 @@
 use Rattle.std.proofs.Common.{◌≡◌, ◌<◌, length, rules, None, Some, Ok, Err, subst}
 use Rattle.tl.specs.Remaining.{Place, events_of, remaining_of}
-use Rattle.tl.specs.Walker.{IsNext, place_of, shown_event}
+use Rattle.tl.specs.Walker.{IsNext, place_of, event_view}
 use Rattle.tl.proofs.Remaining.{fewer-error, fewer-step, given-end, given-error, given-event}
 use Rattle.tl.proofs.walk.preorder.WalkIterator.next.Goals as goal
 
@@ -13,7 +13,7 @@ returns-in-Ok-Some-clause-steps c =
 pub returns-in-Ok-Some-clause-goes : goal.returns-in-Ok-Some-clause-goes
 returns-in-Ok-Some-clause-goes c =
     let less : length (events_of (place_of c.next_event.new.self)) < length (events_of c.args.self.now) =
-    fewer-step (remaining_of c.args.self.now) (shown_event c.in-Ok-Some.event) (remaining_of (place_of c.next_event.new.self)) (returns-in-Ok-Some-clause-steps c) in
+    fewer-step (remaining_of c.args.self.now) (event_view c.in-Ok-Some.event) (remaining_of (place_of c.next_event.new.self)) (returns-in-Ok-Some-clause-steps c) in
     search (rules, less)
 
 pub returns-in-Ok-None-clause-steps : goal.returns-in-Ok-None-clause-steps
