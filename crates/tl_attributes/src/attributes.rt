@@ -59,7 +59,7 @@ fn is_class(key: &[u8]) -> bool
 }
 
 // `Ok` becomes a key with its value, `Err(true)` a key without one, and `Err(false)` no key.
-fn nested<B>(value: Result<&mut B, bool>) -> Option<Option<&mut B>>
+fn nest<B>(value: Result<&mut B, bool>) -> Option<Option<&mut B>>
     ensures { result ≡ nest value.entry }
 {
     match value {
@@ -285,7 +285,7 @@ impl<B: Piece> AttributesOf<B> {
             (option_flatten result)) }
         ensures value { option_map option_copied_mut result ≡ value_at B.list B.eq self.old key }
     {
-        nested(self.value_or_presence_mut(key))
+        nest(self.value_or_presence_mut(key))
     }
 
     // The value at `key` for writing; `Err` says that there is none, and whether there is the key.

@@ -11,11 +11,11 @@ pub trait OutlineOf<A>: Copy {
     ghost is_outline: { Self → A → Type 0 };
 
     /// All that it can say of the attributes.
-    fn of(attributes: &A) -> Self
+    fn from_attributes(attributes: &A) -> Self
         ensures { is_outline result attributes.now };
 
     /// What is right of all attributes.
-    fn nothing() -> Self
+    fn unknown() -> Self
         ensures { (attributes : A) → is_outline result attributes };
 }
 
@@ -33,7 +33,7 @@ pub struct Mark {
 impl Mark {
     /// The mark of these bytes.
     #[inline]
-    pub fn of(bytes: &[u8]) -> Mark
+    pub fn from_bytes(bytes: &[u8]) -> Mark
         ensures { result ≡ mark_of bytes.now }
     {
         Mark {
@@ -105,7 +105,7 @@ fn class_bits(class: &[u8]) -> u32
     while at < class.len() {
         let end = at + part_len(&class[at..]);
         if at < end {
-            bits |= 1 << Mark::of(&class[at..end]).bit();
+            bits |= 1 << Mark::from_bytes(&class[at..end]).bit();
         }
         at = end + 1;
     }
@@ -119,11 +119,11 @@ impl<'a> OutlineOf<Attributes<'a>> for Outline {
     ghost is_outline = { IsOutline };
 
     #[inline(always)]
-    fn of(attributes: &Attributes<'a>) -> Outline
+    fn from_attributes(attributes: &Attributes<'a>) -> Outline
         ensures { IsOutline result attributes.now }
     {
         let id = match attributes.id() {
-            Some(id) => IdOutline::Known(Mark::of(id.as_bytes())),
+            Some(id) => IdOutline::Known(Mark::from_bytes(id.as_bytes())),
             None => IdOutline::Absent,
         };
         let classes = match attributes.class() {
@@ -133,7 +133,7 @@ impl<'a> OutlineOf<Attributes<'a>> for Outline {
         Outline { id, classes }
     }
 
-    fn nothing() -> Outline
+    fn unknown() -> Outline
         ensures { (attributes : Attributes Kept) → IsOutline result attributes }
     {
         Outline {

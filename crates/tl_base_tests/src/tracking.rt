@@ -131,7 +131,7 @@ fn noted_names(mut tracking: Tracking) -> Result<bool, AllocError> {
 fn many_names(rt: HostRuntime) -> Result<(), Fail> {
     let both = ParserOptions::new().track_ids().track_classes();
     assert!(rt; noted_names(Tracking::new(rt.alloc(), both))?);
-    assert!(rt; noted_names(Tracking::keyed(rt.alloc(), both, 7))?);
+    assert!(rt; noted_names(Tracking::with_key(rt.alloc(), both, 7))?);
     Ok(())
 }
 

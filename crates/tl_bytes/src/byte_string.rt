@@ -175,7 +175,7 @@ impl<'a> Clone for Bytes<'a> {
         let repr = match &self.repr {
             Repr::Borrowed(slice) => Repr::Borrowed(*slice),
             Repr::Owned(vec) => Repr::Owned(vec.clone()?),
-            Repr::Shared(share) => Repr::Shared(share.again()?),
+            Repr::Shared(share) => Repr::Shared(share.add_owner()?),
         };
         Ok(Bytes { repr })
     }

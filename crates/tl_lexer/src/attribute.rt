@@ -5,7 +5,7 @@ ghost use Rattle.tl_spec.specs.Runs.{drop_while};
 ghost use Rattle.tl_spec.specs.Attribute.{value, optional_value, skip_end, skip_blanks, attribute, next_attribute};
 ghost use Rattle.tl_lexer.specs.Span.{bytes_at, optional_bytes_at, pair_at, IsIn, ArePairIn};
 
-use crate::place::{byte_at, past_blanks, split};
+use crate::place::{byte_at, skip_blanks, split};
 use crate::runs::{bare_len, len_until, name_len};
 use crate::span::{AttributeSpan, Span};
 use tl_bytes::byte_class::is_ident;
@@ -21,7 +21,7 @@ pub fn name(text: &[u8], at: usize) -> (Span, usize)
     ensures within { result.1 ≤ length text.now }
 {
     let (name, end) = split(text, at, name_len(&text[at..]));
-    (name, past_blanks(text, end))
+    (name, skip_blanks(text, end))
 }
 
 // The value at a place, and the place where it ends.
@@ -51,7 +51,7 @@ fn optional_value(text: &[u8], at: usize) -> (Option<Span>, usize)
 {
     match byte_at(text, at) {
         Some(b'=') => {
-            let (value, end) = value(text, past_blanks(text, at + 1));
+            let (value, end) = value(text, skip_blanks(text, at + 1));
             (Some(value), end)
         }
         _ => (None, at),
@@ -59,7 +59,7 @@ fn optional_value(text: &[u8], at: usize) -> (Option<Span>, usize)
 }
 
 // The place after the end of an attribute: one byte is passed over, unless it is `>` or of a name.
-fn past_end(text: &[u8], at: usize) -> usize
+fn skip_end(text: &[u8], at: usize) -> usize
     requires { at ≤ length text.now }
     ensures rest { drop result text.now ≡ skip_end (drop at text.now) }
     ensures order { at ≤ result }
@@ -83,7 +83,7 @@ fn attribute(text: &[u8], at: usize) -> (AttributeSpan, usize)
 {
     let (key, after_key) = name(text, at);
     let (value, end) = optional_value(text, after_key);
-    (AttributeSpan { key, value }, past_end(text, end))
+    (AttributeSpan { key, value }, skip_end(text, end))
 }
 
 /// The attribute at a place, and the place after it and blanks; none at `/`, `>` or the end.
@@ -101,5 +101,5 @@ pub fn next_attribute(text: &[u8], at: usize) -> Option<(AttributeSpan, usize)>
         return None;
     }
     let (attribute, end) = attribute(text, at);
-    Some((attribute, past_blanks(text, end)))
+    Some((attribute, skip_blanks(text, end)))
 }

@@ -25,7 +25,7 @@ pub fn split(text: &[u8], at: usize, len: usize) -> (Span, usize)
 }
 
 /// The place after the byte at a place, or the end.
-pub fn past_one(text: &[u8], at: usize) -> usize
+pub fn skip_one(text: &[u8], at: usize) -> usize
     requires { at ≤ length text.now }
     ensures rest { drop result text.now ≡ drop 1 (drop at text.now) }
     ensures order { at ≤ result }
@@ -35,7 +35,7 @@ pub fn past_one(text: &[u8], at: usize) -> usize
 }
 
 /// The place after blanks.
-pub fn past_blanks(text: &[u8], at: usize) -> usize
+pub fn skip_blanks(text: &[u8], at: usize) -> usize
     requires { at ≤ length text.now }
     ensures rest { drop result text.now ≡ skip_blanks (drop at text.now) }
     ensures order { at ≤ result }

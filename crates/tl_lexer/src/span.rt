@@ -19,7 +19,7 @@ ghost use Rattle.tl_lexer.specs.Span.{bytes_at, IsIn};
 
 impl Span {
     /// The bytes of the span.
-    pub fn of(self, text: &[u8]) -> &[u8]
+    pub fn bytes(self, text: &[u8]) -> &[u8]
         requires { IsIn text.now self }
         ensures { result.now ≡ bytes_at text.now self }
     {

@@ -7,7 +7,7 @@ ghost use Rattle.tl_spec.specs.Attribute.{skip_blanks};
 ghost use Rattle.tl_spec.specs.Token.{end_tag, comment_token, doctype, word, declaration, markup, next_token};
 
 use crate::attribute::name;
-use crate::place::{byte_at, past_blanks, past_one, split};
+use crate::place::{byte_at, skip_blanks, skip_one, split};
 use crate::runs::{ident_len, len_until};
 use crate::span::Span;
 use memchr::memmem;
@@ -32,7 +32,7 @@ pub enum Token {
 ghost use Rattle.tl_lexer.specs.Lexed.{meant, IsTokenIn};
 
 // The place after the first `-->` from a place on.
-fn past_arrow(text: &[u8], at: usize) -> Option<usize>
+fn skip_arrow(text: &[u8], at: usize) -> Option<usize>
     requires { at ≤ length text.now }
     ensures rest { option_map (λ end. drop end text.now) result
         ≡ after_needle (codes "-->") (drop at text.now) }
@@ -52,7 +52,7 @@ fn end_tag(text: &[u8], at: usize) -> (Token, usize)
     ensures within { result.1 ≤ length text.now }
 {
     let (name, end) = split(text, at, len_until(&text[at..], b'>'));
-    (Token::End(name), past_one(text, end))
+    (Token::End(name), skip_one(text, end))
 }
 
 // The word of a doctype at a place, and the place after it and blanks.
@@ -65,7 +65,7 @@ fn ident(text: &[u8], at: usize) -> (Span, usize)
     ensures within { result.1 ≤ length text.now }
 {
     let (word, end) = split(text, at, ident_len(&text[at..]));
-    (word, past_blanks(text, end))
+    (word, skip_blanks(text, end))
 }
 
 // A doctype from after its first word and blanks, and the place after it.
@@ -77,8 +77,8 @@ fn doctype(text: &[u8], at: usize) -> (Token, usize)
     ensures within { result.1 ≤ length text.now }
 {
     let (second, end) = ident(text, at);
-    let is_html5 = second.of(text).eq_ignore_ascii_case(b"html");
-    (Token::Doctype(is_html5), past_one(text, end))
+    let is_html5 = second.bytes(text).eq_ignore_ascii_case(b"html");
+    (Token::Doctype(is_html5), skip_one(text, end))
 }
 
 // The doctype after `!`, if that word is there, or nothing, and the place after it or the other word.
@@ -90,7 +90,7 @@ fn word(text: &[u8], at: usize) -> (Token, usize)
     ensures within { result.1 ≤ length text.now }
 {
     let (first, end) = ident(text, at);
-    if first.of(text).eq_ignore_ascii_case(b"doctype") {
+    if first.bytes(text).eq_ignore_ascii_case(b"doctype") {
         doctype(text, end)
     } else {
         (Token::Nothing, end)
@@ -107,7 +107,7 @@ fn comment(text: &[u8], start: usize, at: usize) -> (Token, usize)
     ensures order { at ≤ result.1 }
     ensures within { result.1 ≤ length text.now }
 {
-    match past_arrow(text, at) {
+    match skip_arrow(text, at) {
         Some(end) => {
             let len = end - start;
             (Token::Comment(Span { start, len }), end)
@@ -170,7 +170,7 @@ pub fn next_token(text: &[u8], at: usize) -> Option<(Token, usize)>
 {
     let first = byte_at(text, at)?;
     if first == b'<' {
-        return Some(markup(text, at, past_blanks(text, at + 1)));
+        return Some(markup(text, at, skip_blanks(text, at + 1)));
     }
     let len = 1 + len_until(&text[at + 1..], b'<');
     let (span, end) = split(text, at, len);

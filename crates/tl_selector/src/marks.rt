@@ -14,7 +14,7 @@ ghost use Rattle.tl_spec.specs.Selector.{Selector as SelectorOf};
 use crate::matching::first::first_alone;
 use crate::matching::holds_alone;
 use crate::selector::Selector;
-use crate::selector::sides::{has_joint, has_sides};
+use crate::selector::sides::{has_combinator, has_sides};
 use std::alloc::{AllocError, Global};
 use tl_table::element::Element;
 
@@ -103,7 +103,7 @@ fn mark_children_at<N: Element>(
 }
 
 // The nodes that are marked.
-fn holders(alloc: Global, holds: &[bool]) -> Result<Vec<usize>, AllocError>
+fn indices(alloc: Global, holds: &[bool]) -> Result<Vec<usize>, AllocError>
     ensures all { IfOk result (λ queue. (m : ℕ) → is_at holds.now m ≡ true
         → is_in queue.items m ≡ true) }
     ensures only { IfOk result (λ queue. (m : ℕ) → is_in queue.items m ≡ true
@@ -122,7 +122,7 @@ fn holders(alloc: Global, holds: &[bool]) -> Result<Vec<usize>, AllocError>
 }
 
 // A mark for each node below a marked one, by one step or more.
-fn below<N: Element>(alloc: Global, nodes: &[N], holds: &[bool]) -> Result<Vec<bool>, AllocError>
+fn descendants_of_set<N: Element>(alloc: Global, nodes: &[N], holds: &[bool]) -> Result<Vec<bool>, AllocError>
     requires { length holds.now ≡ length nodes.now }
     ensures len { IfOk result (λ marks. length marks.items ≡ length nodes.now) }
     ensures sound { IfOk result (λ marks. (n : ℕ) → is_at marks.items n ≡ true
@@ -131,7 +131,7 @@ fn below<N: Element>(alloc: Global, nodes: &[N], holds: &[bool]) -> Result<Vec<b
         → IsBelowMark (map N.node nodes.now) holds.now n → is_at marks.items n ≡ true) }
 {
     let mut marks = vec![in alloc; false; nodes.len()]?;
-    let mut queue = holders(alloc, holds)?;
+    let mut queue = indices(alloc, holds)?;
     'work: while let Some(m) = queue.pop() {
         mark_children_at(nodes, m, &mut marks, &mut queue)?;
     }
@@ -139,7 +139,7 @@ fn below<N: Element>(alloc: Global, nodes: &[N], holds: &[bool]) -> Result<Vec<b
 }
 
 // A mark for each child of a marked node.
-fn under<N: Element>(alloc: Global, nodes: &[N], holds: &[bool]) -> Result<Vec<bool>, AllocError>
+fn children_of_set<N: Element>(alloc: Global, nodes: &[N], holds: &[bool]) -> Result<Vec<bool>, AllocError>
     requires { length holds.now ≡ length nodes.now }
     ensures len { IfOk result (λ marks. length marks.items ≡ length nodes.now) }
     ensures sound { IfOk result (λ marks. (n : ℕ) → is_at marks.items n ≡ true
@@ -148,7 +148,7 @@ fn under<N: Element>(alloc: Global, nodes: &[N], holds: &[bool]) -> Result<Vec<b
         → IsUnderMark (map N.node nodes.now) holds.now n → is_at marks.items n ≡ true) }
 {
     let mut marks = vec![in alloc; false; nodes.len()]?;
-    let mut queue = holders(alloc, holds)?;
+    let mut queue = indices(alloc, holds)?;
     let mut found = Vec::new(alloc);
     'work: while let Some(m) = queue.pop() {
         mark_children_at(nodes, m, &mut marks, &mut found)?;
@@ -157,7 +157,7 @@ fn under<N: Element>(alloc: Global, nodes: &[N], holds: &[bool]) -> Result<Vec<b
 }
 
 // Takes the mark from each node that is not in question.
-fn keep_among(marks: &mut Vec<bool>, among: Option<&[bool]>)
+fn retain_among(marks: &mut Vec<bool>, among: Option<&[bool]>)
     ensures len { length marks.new.items ≡ length marks.old.items }
     ensures kept { (n : ℕ) → is_at marks.new.items n
         ≡ (is_at marks.old.items n && is_among (option_copied among.entry) n) }
@@ -168,7 +168,7 @@ fn keep_among(marks: &mut Vec<bool>, among: Option<&[bool]>)
 }
 
 // Adds the marks of the other.
-fn unite(marks: &mut Vec<bool>, others: &[bool])
+fn union_with(marks: &mut Vec<bool>, others: &[bool])
     requires { length marks.old.items ≡ length others.now }
     ensures len { length marks.new.items ≡ length marks.old.items }
     ensures either { (n : ℕ) → is_at marks.new.items n
@@ -198,10 +198,10 @@ fn marks_alone<N: Element>(
 }
 
 // Whether the selector asks for no ancestors and holds at no node.
-fn holds_nowhere<N: Element>(e: &Selector<'_>, nodes: &[N]) -> bool
+fn matches_nowhere<N: Element>(e: &Selector<'_>, nodes: &[N]) -> bool
     ensures { result ≡ true → (n : ℕ) → Holds (map N.node nodes.now) (selector e.now) n → ⊥ }
 {
-    if has_joint(e) {
+    if has_combinator(e) {
         return false;
     }
     match first_alone(e, nodes) {
@@ -211,12 +211,12 @@ fn holds_nowhere<N: Element>(e: &Selector<'_>, nodes: &[N]) -> bool
 }
 
 // Whether it is a joint of which one side holds at no node, as is seen without a mark.
-fn joins_nothing<N: Element>(e: &Selector<'_>, nodes: &[N]) -> bool
+fn is_empty_join<N: Element>(e: &Selector<'_>, nodes: &[N]) -> bool
     ensures { result ≡ true → (n : ℕ) → Holds (map N.node nodes.now) (selector e.now) n → ⊥ }
 {
     match e {
         Selector::Descendant(a, b) | Selector::Parent(a, b) => {
-            holds_nowhere(a, nodes) || holds_nowhere(b, nodes)
+            matches_nowhere(a, nodes) || matches_nowhere(b, nodes)
         }
         _ => false,
     }
@@ -224,7 +224,7 @@ fn joins_nothing<N: Element>(e: &Selector<'_>, nodes: &[N]) -> bool
 
 // The selectors that stand in one another as first sides, from the outermost on, and the innermost that is looked at: one
 // without sides, or a joint that holds nowhere.
-fn looked_at<'e, 'a, N: Element>(
+fn spine_to_test<'e, 'a, N: Element>(
     alloc: Global,
     nodes: &[N],
     e: &'e Selector<'a>,
@@ -238,7 +238,7 @@ fn looked_at<'e, 'a, N: Element>(
 {
     let mut wholes = Vec::new(alloc);
     let mut first = e;
-    'inwards: while !joins_nothing(first, nodes) {
+    'inwards: while !is_empty_join(first, nodes) {
         match first {
             Selector::And(a, _) => {
                 wholes.push(first)?;
@@ -296,15 +296,15 @@ fn marks_around<N: Element>(
         Selector::And(_, b) => marks(alloc, nodes, Some(&first), b),
         Selector::Or(_, b) => {
             let second = marks(alloc, nodes, None, b)?;
-            unite(&mut first, &second);
+            union_with(&mut first, &second);
             Ok(first)
         }
         Selector::Descendant(_, b) => {
-            let lower = below(alloc, nodes, &first)?;
+            let lower = descendants_of_set(alloc, nodes, &first)?;
             marks(alloc, nodes, Some(&lower), b)
         }
         Selector::Parent(_, b) => {
-            let lower = under(alloc, nodes, &first)?;
+            let lower = children_of_set(alloc, nodes, &first)?;
             marks(alloc, nodes, Some(&lower), b)
         }
         _ => Ok(first),
@@ -322,7 +322,7 @@ fn marks_of_all<N: Element>(
     ensures { IfOk result (λ marks. AreMarks None (selector e.now)
         (map N.node nodes.now) marks.items) }
 {
-    let (mut wholes, first) = looked_at(alloc, nodes, e)?;
+    let (mut wholes, first) = spine_to_test(alloc, nodes, e)?;
     let mut marks = marks_innermost(alloc, nodes, first)?;
     'outwards: while let Some(whole) = wholes.pop() {
         marks = marks_around(alloc, nodes, marks, whole)?;
@@ -346,6 +346,6 @@ pub fn marks<N: Element>(
         return marks_alone(alloc, nodes, among, e);
     }
     let mut marks = marks_of_all(alloc, nodes, e)?;
-    keep_among(&mut marks, among);
+    retain_among(&mut marks, among);
     Ok(marks)
 }

@@ -7,7 +7,7 @@ mod copies;
 mod debug_text;
 pub(crate) mod sides;
 
-use crate::selector::copies::copied;
+use crate::selector::copies::copy;
 use crate::selector::debug_text::show;
 use std::alloc::AllocError;
 use std::fmt;
@@ -76,7 +76,7 @@ impl<'a> Clone for Selector<'a> {
     ghost is_infallible = { λ e. has_sides (selector e) ≡ false };
 
     fn clone(&self) -> Result<Self, AllocError> {
-        copied(self)
+        copy(self)
     }
 }
 

@@ -6,7 +6,7 @@ ghost use Rattle.tl_selector.specs.View.{selector};
 use crate::marks::{is_marked, marks};
 use crate::matching::holds_alone_at;
 use crate::selector::Selector;
-use crate::selector::sides::has_joint;
+use crate::selector::sides::has_combinator;
 use std::alloc::{AllocError, Global};
 use tl_table::element::Element;
 use tl_table::errors::TreeError;
@@ -24,7 +24,7 @@ fn holds_at<N: Element>(
         ↔ Holds (map N.node nodes.now) (selector e.now) number) }
     ensures alone { has_combinator (selector e.now) ≡ false → IsOk result }
 {
-    if has_joint(e) {
+    if has_combinator(e) {
         let marked = marks(alloc, nodes, None, e)?;
         Ok(is_marked(&marked, number))
     } else {

@@ -9,7 +9,7 @@ mod chain;
 mod part;
 
 use crate::selector::Selector;
-use crate::text::chain::whole;
+use crate::text::chain::parse_list;
 use std::alloc::{AllocError, Global};
 use std::marker::Model;
 
@@ -57,7 +57,7 @@ impl<'a> Parser<'a> {
         ensures no_part { LacksFirst self.old → result ≡ Ok None }
         ensures bad { LacksSecond self.old → result ≡ Ok None }
     {
-        let found = whole(alloc, self.rest)?;
+        let found = parse_list(alloc, self.rest)?;
         self.rest = &[];
         Ok(found)
     }

@@ -15,7 +15,7 @@ pub enum Stop {
 }
 
 /// Climbs along last children, from this one on. It takes no memory.
-pub fn climb<N: Element>(nodes: &[N], first: u32) -> Stop
+pub fn last_descendant<N: Element>(nodes: &[N], first: u32) -> Stop
     ensures { StopsAt (map N.node nodes.now) first result }
 {
     let mut handle = first;

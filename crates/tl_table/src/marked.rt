@@ -9,7 +9,7 @@ use crate::handle::NodeHandle;
 use std::alloc::AllocError;
 
 // The end of the way, from this number on, over a table without marks.
-fn end_by_marks<N: Element>(nodes: &[N], marks: &mut [bool], first: u32) -> Result<u32, TreeError>
+fn end_by_visited<N: Element>(nodes: &[N], marks: &mut [bool], first: u32) -> Result<u32, TreeError>
     requires { marks.old ≡ replicate (length nodes.now) false }
     ensures end { Answers Some (last_below (map N.node nodes.now) (Some first)) result }
 
@@ -33,7 +33,7 @@ fn end_by_marks<N: Element>(nodes: &[N], marks: &mut [bool], first: u32) -> Resu
 }
 
 /// The end of the way, from this number on, with these marks, none of which is set, if there was memory for them.
-pub fn marked_end<N: Element>(
+pub fn end_with_visited<N: Element>(
     nodes: &[N],
     marks: Result<Vec<bool>, AllocError>,
     first: u32,
@@ -45,6 +45,6 @@ pub fn marked_end<N: Element>(
     ensures memory { IsOk marks → WantsNoMemory result }
 {
     let mut marks = marks?;
-    let handle = end_by_marks(nodes, &mut marks, first)?;
+    let handle = end_by_visited(nodes, &mut marks, first)?;
     Ok(Some(handle))
 }

@@ -7,11 +7,11 @@ ghost use Rattle.tl_spec.specs.Range.{last_below, boundaries_from, range_from};
 ghost use Rattle.tl_table.specs.Answer.{Answers, WantsNoMemory};
 ghost use Rattle.tl_table.specs.Way.{Rises};
 
-use crate::climb::{Stop, climb};
+use crate::climb::{Stop, last_descendant};
 use crate::element::Element;
 use crate::errors::TreeError;
 use crate::handle::NodeHandle;
-use crate::marked::marked_end;
+use crate::marked::end_with_visited;
 use std::alloc::Global;
 use std::ops::Range;
 
@@ -27,10 +27,10 @@ pub fn end<N: Element>(
     let Some(first) = last else {
         return Ok(None);
     };
-    match climb(nodes, first) {
+    match last_descendant(nodes, first) {
         Stop::End(handle) => Ok(Some(handle)),
         Stop::Dangling(handle) => Err(TreeError::Dangling(NodeHandle::new(handle))),
-        Stop::Fall => marked_end(nodes, vec![in alloc; false; nodes.len()], first),
+        Stop::Fall => end_with_visited(nodes, vec![in alloc; false; nodes.len()], first),
     }
 }
 

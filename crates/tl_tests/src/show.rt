@@ -388,9 +388,9 @@ fn show_member(document: &VDom<'static>, class: &[u8], out: &mut String) -> Resu
 
 fn show_outlines(document: &VDom<'static>, out: &mut String) -> Result<(), Fail> {
     let attributes = first_of(document)?;
-    show_outline(Outline::of(attributes), out)?;
+    show_outline(Outline::from_attributes(attributes), out)?;
     out.push('/')?;
-    show_outline(Outline::nothing(), out)
+    show_outline(Outline::unknown(), out)
 }
 
 // Writes the length and the ends of the id, and after a `;` the numbers of the bits of the class.

@@ -112,7 +112,7 @@ impl<'a> TableBuilder<'a> {
 
     // Makes a node the last child of the innermost open tag, or the last top node.
     #[inline(always)]
-    fn adopt(&mut self, node: NodeHandle) -> Result<(), AllocError>
+    fn append_child(&mut self, node: NodeHandle) -> Result<(), AllocError>
         ensures ok { OnOk result (state_of self.new
             ≡ with_child_of_innermost node (state_of self.old)) }
         ensures len { length self.new.nodes.items ≡ length self.old.nodes.items }
@@ -136,7 +136,7 @@ impl<'a> TableBuilder<'a> {
         ensures len { OnOk result (length self.new.nodes.items ≡ length self.old.nodes.items + 1) }
     {
         let number = self.nodes.len() as u32;
-        self.adopt(NodeHandle::new(number))?;
+        self.append_child(NodeHandle::new(number))?;
         self.nodes.push(node)?;
         Ok(())
     }
@@ -290,7 +290,7 @@ impl<'a> TableBuilder<'a> {
 
     // Writes a token that is no start tag and ends at the place `to` of the text.
     #[inline(always)]
-    fn take_whole<S: Source<'a>>(
+    fn push_whole_token<S: Source<'a>>(
         &mut self,
         alloc: Global,
         source: &S,
@@ -306,7 +306,7 @@ impl<'a> TableBuilder<'a> {
     {
         match token {
             Token::Text(span) => self.add_leaf(alloc, source, span, |bytes| Node::Raw(bytes)),
-            Token::End(name) => self.end_tag(alloc, source, name.of(source.as_bytes()), to),
+            Token::End(name) => self.end_tag(alloc, source, name.bytes(source.as_bytes()), to),
             Token::Comment(span) => self.add_leaf(
                 alloc,
                 source,
@@ -324,7 +324,7 @@ impl<'a> TableBuilder<'a> {
     // Writes a token that the lexer found from `start` up to `after`, and answers the place after it, which is that after the whole
     // tag for a start tag. After an error what has been written means nothing.
     #[inline(always)]
-    fn take<S: Source<'a>>(
+    fn push_token<S: Source<'a>>(
         &mut self,
         alloc: Global,
         source: &S,
@@ -349,7 +349,7 @@ impl<'a> TableBuilder<'a> {
         match token {
             Token::Start(name) => self.start_tag(alloc, source, start, name, after),
             _ => {
-                self.take_whole(alloc, source, token, after)?;
+                self.push_whole_token(alloc, source, token, after)?;
                 Ok(after)
             }
         }
@@ -398,7 +398,7 @@ pub(crate) fn read<'a, S: Source<'a>>(alloc: Global, source: &S) -> Result<Parse
     let mut table = TableBuilder::new(alloc, guessed_nodes(text))?;
     let mut at = 0;
     while let Some((token, after)) = next_token(text, at) {
-        at = table.take(alloc, source, at, token, after)?;
+        at = table.push_token(alloc, source, at, token, after)?;
     }
     let mut parser = table.finish(alloc);
     parser.note_preorder();

@@ -45,7 +45,7 @@ fn has_id(tag: &HTMLTag<'_>, id: &[u8]) -> bool
     ensures { result ≡ is_value id.now (option_map
         (λ (bytes : Kept). bytes.list) tag.now.attributes.id) }
 {
-    tag.outline().may_be_id(Mark::of(id))
+    tag.summary().may_be_id(Mark::from_bytes(id))
         && tag
             .attributes()
             .id()
@@ -57,7 +57,7 @@ fn is_in_class(tag: &HTMLTag<'_>, class: &[u8]) -> bool
     ensures { result ≡ has_member (option_map
         (λ (bytes : Kept). bytes.list) tag.now.attributes.class) class.now }
 {
-    tag.outline().may_be_member(Mark::of(class)) && tag.attributes().is_class_member(class)
+    tag.summary().may_be_member(Mark::from_bytes(class)) && tag.attributes().is_class_member(class)
 }
 
 impl<'a> Element for Node<'a> {

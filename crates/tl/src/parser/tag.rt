@@ -80,7 +80,7 @@ impl<A: Drop, B: Drop, O: OutlineOf<A>> TagOf<A, B, O> {
         };
         Ok(TagOf {
             name,
-            outline: O::nothing(),
+            outline: O::unknown(),
             parts: Box::new(arena, parts)?,
         })
     }
@@ -137,7 +137,7 @@ impl<A, B, O: OutlineOf<A>> TagOf<A, B, O> {
     }
 
     // What is known of the attributes without a look at them.
-    pub(crate) fn outline(&self) -> O
+    pub(crate) fn summary(&self) -> O
         ensures { O.is_outline result self.now.attributes }
     {
         self.outline
@@ -148,7 +148,7 @@ impl<A, B, O: OutlineOf<A>> TagOf<A, B, O> {
     pub(crate) fn renew_outline(&mut self)
         ensures { self.new ≡ self.old }
     {
-        self.outline = O::of(&self.parts.attributes);
+        self.outline = O::from_attributes(&self.parts.attributes);
     }
 
     // The handles of the children.
@@ -172,7 +172,7 @@ impl<A, B, O: OutlineOf<A>> TagOf<A, B, O> {
             (LendsAttributes A.row B.row O.row O.OutlineOf self.entry result) }
         ensures value { result.now ≡ self.old.attributes }
     {
-        self.outline = O::nothing();
+        self.outline = O::unknown();
         &mut self.parts.attributes
     }
 
@@ -187,7 +187,7 @@ impl<A, B, O: OutlineOf<A>> TagOf<A, B, O> {
 }
 
 // A name and a source, each held alike.
-fn copied_texts<'a>(name: &Bytes<'a>, raw: &Bytes<'a>) -> Result<(Bytes<'a>, Bytes<'a>), AllocError>
+fn clone_texts<'a>(name: &Bytes<'a>, raw: &Bytes<'a>) -> Result<(Bytes<'a>, Bytes<'a>), AllocError>
     ensures name { IfOk result (λ p. p.0 ≡ name.now) }
     ensures raw { IfOk result (λ p. p.1 ≡ raw.now) }
 {
@@ -196,7 +196,7 @@ fn copied_texts<'a>(name: &Bytes<'a>, raw: &Bytes<'a>) -> Result<(Bytes<'a>, Byt
 }
 
 // Attributes and handles of children, each held alike.
-fn copied_lists<'a>(
+fn clone_lists<'a>(
     attributes: &Attributes<'a>,
     children: &RawChildren,
 ) -> Result<(Attributes<'a>, RawChildren), AllocError>
@@ -214,9 +214,9 @@ impl<'a> HTMLTag<'a> {
     {
         let parts = &*self.parts;
         let arena = blocks(Box::allocator(&self.parts).alloc())?;
-        let (name, raw) = copied_texts(&self.name, &parts.raw)?;
-        let (attributes, children) = copied_lists(&parts.attributes, &parts.children)?;
-        let outline = Outline::of(&attributes);
+        let (name, raw) = clone_texts(&self.name, &parts.raw)?;
+        let (attributes, children) = clone_lists(&parts.attributes, &parts.children)?;
+        let outline = Outline::from_attributes(&attributes);
         let copy = Parts {
             attributes,
             children,

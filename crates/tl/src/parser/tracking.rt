@@ -178,7 +178,7 @@ fn key_of_names(nodes: &[Node<'_>], options: ParserOptions) -> u64
 }
 
 // Maps without tags, whose names are hashed by a number that depends on all of them.
-fn nothing_tracked<'a>(alloc: Global, nodes: &[Node<'a>], options: ParserOptions) -> Tracking<'a>
+fn empty_tracking<'a>(alloc: Global, nodes: &[Node<'a>], options: ParserOptions) -> Tracking<'a>
     ensures value { result ≡ no_maps options (key_of options (map node_view nodes.now)) }
     ensures ids { AnswerIds result [] }
     ensures classes { AnswerClasses result [] }
@@ -186,11 +186,11 @@ fn nothing_tracked<'a>(alloc: Global, nodes: &[Node<'a>], options: ParserOptions
     if !options.is_tracking() {
         return Tracking::new(alloc, options);
     }
-    Tracking::keyed(alloc, options, key_of_names(nodes, options))
+    Tracking::with_key(alloc, options, key_of_names(nodes, options))
 }
 
 // The maps of nodes that were read.
-fn tracked<'a>(
+fn tracking_of<'a>(
     alloc: Global,
     nodes: &[Node<'a>],
     options: ParserOptions,
@@ -202,7 +202,7 @@ fn tracked<'a>(
     ensures key { IfOk result (λ t. t.key ≡ key_of options (map node_view nodes.now)) }
     ensures empty { nodes.now ≡ [] → IsOk result }
 {
-    let mut tracking = nothing_tracked(alloc, nodes, options);
+    let mut tracking = empty_tracking(alloc, nodes, options);
     if !options.is_tracking() {
         return Ok(tracking);
     }
@@ -225,7 +225,7 @@ impl<'a> Parser<'a> {
             ≡ key_of options (map node_view self.old.nodes)) }
         ensures empty { self.old.nodes ≡ [] → IsOk result }
     {
-        let tracking = tracked(alloc, self.nodes(), options)?;
+        let tracking = tracking_of(alloc, self.nodes(), options)?;
         self.set_tracking(tracking);
         Ok(())
     }

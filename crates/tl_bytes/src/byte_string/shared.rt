@@ -80,7 +80,7 @@ impl Share {
     }
 
     // The same bytes. `Err` means that the count of owners is full.
-    pub(crate) fn again(&self) -> Result<Share, AllocError>
+    pub(crate) fn add_owner(&self) -> Result<Share, AllocError>
         ensures { IfOk result (λ share. share ≡ self.now) }
     {
         Ok(Share {

@@ -7,7 +7,7 @@ ghost use Rattle.tl_selector.specs.View.{selector as selector_of};
 use crate::marks::{is_marked, marks};
 use crate::matching::first::first_alone;
 use crate::selector::Selector;
-use crate::selector::sides::has_joint;
+use crate::selector::sides::has_combinator;
 use std::alloc::{AllocError, Global};
 use tl_table::element::Element;
 
@@ -31,7 +31,7 @@ pub fn test_of<'s, N: Element>(
         ↔ Holds (map N.node nodes.now) (selector_of selector.entry) n) }
     ensures alone { has_combinator (selector_of selector.entry) ≡ false → IsOk result }
 {
-    if has_joint(&selector) {
+    if has_combinator(&selector) {
         Ok(Test::Marked(marks(alloc, nodes, None, &selector)?))
     } else {
         Ok(Test::Alone(selector))

@@ -22,7 +22,7 @@ fn first_named<N: Element>(nodes: &[N], name: &[u8]) -> Option<usize>
 }
 
 // The same of a selector of any kind, which is looked at anew at each node.
-fn first_passing<N: Element>(e: &Selector<'_>, nodes: &[N]) -> Option<usize>
+fn first_match<N: Element>(e: &Selector<'_>, nodes: &[N]) -> Option<usize>
     ensures place { result ≡ position_from (holds_alone (selector e.now)) 0 (map N.node nodes.now) }
     ensures within { IfSome result (λ n. n < length nodes.now) }
 {
@@ -30,7 +30,7 @@ fn first_passing<N: Element>(e: &Selector<'_>, nodes: &[N]) -> Option<usize>
 }
 
 // The same of a part that is no `And`.
-fn first_of_part<N: Element>(part: &Selector<'_>, nodes: &[N]) -> Option<usize>
+fn first_of_simple<N: Element>(part: &Selector<'_>, nodes: &[N]) -> Option<usize>
     ensures first { IsFirstPlace (holds_alone (selector part.now)) (map N.node nodes.now) result }
     ensures within { IfSome result (λ n. n < length nodes.now) }
 {
@@ -39,12 +39,12 @@ fn first_of_part<N: Element>(part: &Selector<'_>, nodes: &[N]) -> Option<usize>
         Selector::Id(id) => first_with_id(nodes, id),
         Selector::Class(class) => first_in_class(nodes, class),
         Selector::All if !nodes.is_empty() => Some(0),
-        _ => first_passing(part, nodes),
+        _ => first_match(part, nodes),
     }
 }
 
 // The first of the parts that all have to hold.
-fn first_part<'e, 'a>(e: &'e Selector<'a>) -> &'e Selector<'a>
+fn first_simple<'e, 'a>(e: &'e Selector<'a>) -> &'e Selector<'a>
     ensures { selector result.now ≡ first_simple (selector e.entry.now) }
 {
     let mut part = e;
@@ -74,10 +74,10 @@ pub fn first_alone<N: Element>(e: &Selector<'_>, nodes: &[N]) -> Option<usize>
     ensures first { IsFirstPlace (holds_alone (selector e.now)) (map N.node nodes.now) result }
     ensures within { IfSome result (λ n. n < length nodes.now) }
 {
-    let part = first_part(e);
+    let part = first_simple(e);
     let mut from = 0;
     'candidates: while from < nodes.len() {
-        let place = from + first_of_part(part, &nodes[from..])?;
+        let place = from + first_of_simple(part, &nodes[from..])?;
         if others_hold(e, &nodes[place]) {
             return Some(place);
         }

@@ -4,12 +4,12 @@ ghost use Rattle.tl_selector.specs.Sides.{has_sides, with_first};
 ghost use Rattle.tl_selector.specs.View.{selector};
 
 use crate::selector::Selector;
-use crate::selector::sides::first_sides;
+use crate::selector::sides::spine;
 use std::alloc::{AllocError, Global};
 
 /// The same selector.
 #[cycle(copies)]
-pub fn copied<'a>(e: &Selector<'a>) -> Result<Selector<'a>, AllocError>
+pub fn copy<'a>(e: &Selector<'a>) -> Result<Selector<'a>, AllocError>
     ensures copy { IfOk result (λ f. selector f ≡ selector e.now) }
     ensures simple { has_sides (selector e.now) ≡ false → IsOk result }
 {
@@ -17,13 +17,13 @@ pub fn copied<'a>(e: &Selector<'a>) -> Result<Selector<'a>, AllocError>
         Selector::And(a, _)
         | Selector::Or(a, _)
         | Selector::Descendant(a, _)
-        | Selector::Parent(a, _) => copied_chain(*Box::allocator(a), e),
-        _ => Ok(copied_part(e)),
+        | Selector::Parent(a, _) => copy_complex(*Box::allocator(a), e),
+        _ => Ok(copy_simple(e)),
     }
 }
 
 // The same of one that has no sides.
-fn copied_part<'a>(e: &Selector<'a>) -> Selector<'a>
+fn copy_simple<'a>(e: &Selector<'a>) -> Selector<'a>
     ensures { has_sides (selector e.now) ≡ false → selector result ≡ selector e.now }
 {
     match e {
@@ -50,20 +50,20 @@ fn copied_part<'a>(e: &Selector<'a>) -> Selector<'a>
 
 // The same of one that has sides: first the innermost of its first sides, then what that stands in, from the inside out.
 #[cycle(copies)]
-fn copied_chain<'a>(alloc: Global, e: &Selector<'a>) -> Result<Selector<'a>, AllocError>
+fn copy_complex<'a>(alloc: Global, e: &Selector<'a>) -> Result<Selector<'a>, AllocError>
     ensures { IfOk result (λ f. selector f ≡ selector e.now) }
 {
-    let (mut wholes, first) = first_sides(alloc, e)?;
-    let mut copy = copied_part(first);
+    let (mut wholes, first) = spine(alloc, e)?;
+    let mut copy = copy_simple(first);
     'outwards: while let Some(whole) = wholes.pop() {
-        copy = around(alloc, copy, whole)?;
+        copy = wrap(alloc, copy, whole)?;
     }
     Ok(copy)
 }
 
 // The same of one whose first side was copied.
 #[cycle(copies)]
-fn around<'a>(
+fn wrap<'a>(
     alloc: Global,
     first: Selector<'a>,
     e: &Selector<'a>,
@@ -71,19 +71,19 @@ fn around<'a>(
     ensures { IfOk result (λ f. selector f ≡ with_first (selector e.now) (selector first.entry)) }
 {
     match e {
-        Selector::And(_, b) => Ok(Selector::And(Box::new(alloc, first)?, boxed(alloc, b)?)),
-        Selector::Or(_, b) => Ok(Selector::Or(Box::new(alloc, first)?, boxed(alloc, b)?)),
+        Selector::And(_, b) => Ok(Selector::And(Box::new(alloc, first)?, copy_box(alloc, b)?)),
+        Selector::Or(_, b) => Ok(Selector::Or(Box::new(alloc, first)?, copy_box(alloc, b)?)),
         Selector::Descendant(_, b) => {
-            Ok(Selector::Descendant(Box::new(alloc, first)?, boxed(alloc, b)?))
+            Ok(Selector::Descendant(Box::new(alloc, first)?, copy_box(alloc, b)?))
         }
-        Selector::Parent(_, b) => Ok(Selector::Parent(Box::new(alloc, first)?, boxed(alloc, b)?)),
+        Selector::Parent(_, b) => Ok(Selector::Parent(Box::new(alloc, first)?, copy_box(alloc, b)?)),
         _ => Ok(first),
     }
 }
 
 #[cycle(copies)]
-fn boxed<'a>(alloc: Global, e: &Selector<'a>) -> Result<Box<Selector<'a>>, AllocError>
+fn copy_box<'a>(alloc: Global, e: &Selector<'a>) -> Result<Box<Selector<'a>>, AllocError>
     ensures { IfOk result (λ f. selector f.value ≡ selector e.now) }
 {
-    Ok(Box::new(alloc, copied(e)?)?)
+    Ok(Box::new(alloc, copy(e)?)?)
 }

@@ -26,7 +26,7 @@ fn show_open<W: Write>(e: &Selector<'_>, f: &mut fmt::Formatter<W>) -> fmt::Resu
                 f.write_str(", first: ")?;
                 first = a;
             }
-            _ => return show_part(first, f),
+            _ => return show_simple(first, f),
         }
     }
 }
@@ -46,7 +46,7 @@ fn close<W: Write>(e: &Selector<'_>, f: &mut fmt::Formatter<W>) -> fmt::Result {
 }
 
 // The text of one that has no sides.
-fn show_part<W: Write>(e: &Selector<'_>, f: &mut fmt::Formatter<W>) -> fmt::Result {
+fn show_simple<W: Write>(e: &Selector<'_>, f: &mut fmt::Formatter<W>) -> fmt::Result {
     match e {
         Selector::Tag(bytes)
         | Selector::Id(bytes)

@@ -23,7 +23,7 @@ pub fn has_sides(e: &Selector<'_>) -> bool
 }
 
 /// The selectors that stand in one another as first sides, from the outermost on, and the innermost of all, which has no sides.
-pub fn first_sides<'e, 'a>(
+pub fn spine<'e, 'a>(
     alloc: Global,
     e: &'e Selector<'a>,
 ) -> Result<(Vec<&'e Selector<'a>>, &'e Selector<'a>), AllocError>
@@ -59,14 +59,14 @@ pub fn first_sides<'e, 'a>(
 }
 
 /// Whether it asks for ancestors.
-pub fn has_joint(e: &Selector<'_>) -> bool
+pub fn has_combinator(e: &Selector<'_>) -> bool
     ensures { result ≡ has_combinator (selector e.now) }
 {
     let mut whole = e;
     'sides: loop {
         match whole {
             Selector::And(a, b) | Selector::Or(a, b) => {
-                if has_joint(b) {
+                if has_combinator(b) {
                     return true;
                 }
                 whole = a;

@@ -8,7 +8,7 @@ ghost use Rattle.tl_spec.specs.SelectorReading.{combine, push_complex, nest, sta
 ghost use Rattle.tl_spec.specs.SelectorText.{StandsAlone};
 
 use crate::selector::Selector;
-use crate::text::part::{past_spaces, simple};
+use crate::text::part::{skip_spaces, parse_simple};
 use std::alloc::{AllocError, Global};
 
 // What stands between two parts.
@@ -50,15 +50,15 @@ fn starts_with_space(s: &[u8]) -> bool
 
 // The link at the front, if the text doesn't end there.
 
-fn read_link(s: &[u8]) -> Option<(Link, &[u8])>
+fn read_separator(s: &[u8]) -> Option<(Link, &[u8])>
     ensures { option_map (λ p. (separator p.0, p.1.now)) result ≡ separator_at s.now }
 {
     let spaced = starts_with_space(s);
-    let text = past_spaces(s);
+    let text = skip_spaces(s);
     let (first, rest) = text.split_first()?;
     Some(match *first {
-        b',' => (Link::Comma, past_spaces(rest)),
-        b'>' => (Link::Step, past_spaces(rest)),
+        b',' => (Link::Comma, skip_spaces(rest)),
+        b'>' => (Link::Step, skip_spaces(rest)),
         _ if spaced => (Link::Spaces, text),
         _ => (Link::Touch, text),
     })
@@ -75,9 +75,9 @@ enum Next<'a> {
 fn read_next(s: &[u8]) -> Next<'_>
     ensures { next result ≡ next_at s.now }
 {
-    match read_link(s) {
+    match read_separator(s) {
         None => Next::End,
-        Some((link, text)) => match simple(text) {
+        Some((link, text)) => match parse_simple(text) {
             None => Next::Bad,
             Some((part, rest)) => Next::Part(link, part, rest),
         },
@@ -85,7 +85,7 @@ fn read_next(s: &[u8]) -> Next<'_>
 }
 
 // The chains up to here: those before the last `,`, if there is one, and the one after it.
-fn close<'a>(
+fn push_complex<'a>(
     alloc: Global,
     before: Option<Selector<'a>>,
     chain: Selector<'a>,
@@ -102,7 +102,7 @@ fn close<'a>(
 
 // The selector whose first part is `first`, where the text goes on with `s`.
 #[tactic(auto, using(crate::proofs::TextParts::rest_part, crate::proofs::TextParts::rest_end, crate::proofs::TextParts::rest_bad))]
-fn chained<'a>(
+fn parse_rest<'a>(
     alloc: Global,
     first: Selector<'a>,
     s: &'a [u8],
@@ -117,13 +117,13 @@ fn chained<'a>(
     let mut rest = s;
     'parts: loop {
         match read_next(rest) {
-            Next::End => return Ok(Some(close(alloc, before, chain)?)),
+            Next::End => return Ok(Some(push_complex(alloc, before, chain)?)),
             Next::Bad => return Ok(None),
             Next::Part(link, part, text) => {
                 rest = text;
                 match link {
                     Link::Comma => {
-                        before = Some(close(alloc, before, chain)?);
+                        before = Some(push_complex(alloc, before, chain)?);
                         chain = part;
                     }
                     _ => {
@@ -137,15 +137,15 @@ fn chained<'a>(
 
 // The selector of a whole text.
 #[tactic(auto, using(crate::proofs::TextParts::alone_some))]
-pub fn whole<'a>(alloc: Global, s: &'a [u8]) -> Result<Option<Selector<'a>>, AllocError>
+pub fn parse_list<'a>(alloc: Global, s: &'a [u8]) -> Result<Option<Selector<'a>>, AllocError>
     ensures reads { IfOk result (λ o. option_map selector o ≡ selector_at s.now) }
     ensures alone { StandsAlone s.now → IsOk result }
     ensures empty { s.now ≡ [] → result ≡ Ok None }
     ensures no_part { LacksFirst s.now → result ≡ Ok None }
     ensures bad { LacksSecond s.now → result ≡ Ok None }
 {
-    match simple(past_spaces(s)) {
+    match parse_simple(skip_spaces(s)) {
         None => Ok(None),
-        Some((first, rest)) => chained(alloc, first, rest),
+        Some((first, rest)) => parse_rest(alloc, first, rest),
     }
 }

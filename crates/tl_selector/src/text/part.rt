@@ -37,14 +37,14 @@ fn space_len(s: &[u8]) -> usize
 
 // What stands after the spaces at the front.
 #[tactic(auto, using(crate::proofs::TextRuns::length_run, crate::proofs::TextRuns::prefix_len_le))]
-pub fn past_spaces(s: &[u8]) -> &[u8]
+pub fn skip_spaces(s: &[u8]) -> &[u8]
     ensures { result.now ≡ drop_while is_space s.now }
 {
     s.split_at(space_len(s)).1
 }
 
 // What stands after this byte, where it stands first.
-fn after_byte(byte: u8, s: &[u8]) -> Option<&[u8]>
+fn skip_byte(byte: u8, s: &[u8]) -> Option<&[u8]>
     ensures { option_map (λ rest. rest.now) result ≡ skip_byte byte s.now }
 {
     match s {
@@ -67,7 +67,7 @@ fn run_before(byte: u8, s: &[u8]) -> Option<(&[u8], &[u8])>
     ensures { option_map (λ p. (p.0.now, p.1.now)) result ≡ run_before byte s.now }
 {
     let (run, rest) = run(s);
-    Some((run, after_byte(byte, rest)?))
+    Some((run, skip_byte(byte, rest)?))
 }
 
 // A value, and what stands after the `]` that has to follow it.
@@ -78,7 +78,7 @@ fn value(s: &[u8]) -> Option<(&[u8], &[u8])>
         None => run_before(b']', s),
         Some((quote, inside)) => {
             let (value, rest) = run_before(quote, inside)?;
-            Some((value, after_byte(b']', rest)?))
+            Some((value, skip_byte(b']', rest)?))
         }
     }
 }
@@ -95,7 +95,7 @@ enum Op {
 
 impl Op {
     // The op whose first byte this is, where a `=` follows.
-    fn of(byte: u8) -> Option<Op>
+    fn from_byte(byte: u8) -> Option<Op>
         ensures { option_map operator result ≡ operator_of byte }
     {
         match byte {
@@ -107,7 +107,7 @@ impl Op {
         }
     }
 
-    fn with<'a>(self, key: &'a [u8], value: &'a [u8]) -> Selector<'a>
+    fn to_selector<'a>(self, key: &'a [u8], value: &'a [u8]) -> Selector<'a>
         ensures { selector result ≡ with_operator (operator self) key.now value.now }
     {
         match self {
@@ -120,15 +120,15 @@ impl Op {
     }
 }
 
-fn read_op(s: &[u8]) -> Option<(Op, &[u8])>
+fn read_operator(s: &[u8]) -> Option<(Op, &[u8])>
     ensures { option_map (λ p. (operator p.0, p.1.now)) result ≡ operator_at s.now }
 {
     let (first, rest) = s.split_first()?;
     if *first == b'=' {
         return Some((Op::Equals, rest));
     }
-    let op = Op::of(*first)?;
-    Some((op, after_byte(b'=', rest)?))
+    let op = Op::from_byte(*first)?;
+    Some((op, skip_byte(b'=', rest)?))
 }
 
 // The test of a key, from after its `[` on.
@@ -136,16 +136,16 @@ fn bracket(s: &[u8]) -> Option<(Selector<'_>, &[u8])>
     ensures { option_map (λ p. (selector p.0, p.1.now)) result ≡ bracket_at s.now }
 {
     let (key, rest) = run(s);
-    if let Some(rest) = after_byte(b']', rest) {
+    if let Some(rest) = skip_byte(b']', rest) {
         return Some((Selector::Attribute(key), rest));
     }
-    let (op, rest) = read_op(rest)?;
+    let (op, rest) = read_operator(rest)?;
     let (value, rest) = value(rest)?;
-    Some((op.with(key, value), rest))
+    Some((op.to_selector(key, value), rest))
 }
 
 // A simple part.
-pub fn simple(s: &[u8]) -> Option<(Selector<'_>, &[u8])>
+pub fn parse_simple(s: &[u8]) -> Option<(Selector<'_>, &[u8])>
     ensures { option_map (λ p. (selector p.0, p.1.now)) result ≡ simple_at s.now }
 {
     let (first, rest) = s.split_first()?;

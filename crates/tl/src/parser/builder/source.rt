@@ -41,7 +41,7 @@ impl<'a> Source<'a> for &'a str {
 
     fn piece(&self, _alloc: Global, span: Span) -> Result<Bytes<'a>, AllocError> {
         let text: &'a str = *self;
-        Ok(Bytes::from(span.of(text.as_bytes())))
+        Ok(Bytes::from(span.bytes(text.as_bytes())))
     }
 }
 

@@ -25,7 +25,7 @@ loop-at-preserved c =
     elim c.if-at-end.branch [
       | then-at-end w ↦
           let first = run_at class at n place within (omega arith) in
-          let bit = w.bit.ensures.value ∙ ap bit_of w.of.ensures in
+          let bit = w.bit.ensures.value ∙ ap bit_of w.from_bytes.ensures in
           subst (λ (bits : ℕ). MayBeMember bits (mark_of member) ⊎ (list_any (bytes_eq member) rest ≡ true)) (sym w.bits-is)
           (noted_more c.loop-at.bits w.bit.result member (slice_range class at (at + n)) (parts (drop at class)) rest first bit (c.loop-at.invariant member h))
       | else-at-end w ↦

@@ -8,5 +8,5 @@ use Rattle.tl_selector.proofs.table.holds_at.Goals as goal
 pub returns-else-has_combinator-clause-held : goal.returns-else-has_combinator-clause-held
 returns-else-has_combinator-clause-held g c =
     let nodes = map g.N.Element.node c.args.nodes.now in
-    let none : has_combinator (selector c.args.e.now) ≡ false = sym c.has_joint.ensures ∙ c.if-has_joint.false in
+    let none : has_combinator (selector c.args.e.now) ≡ false = sym c.has_combinator.ensures ∙ c.if-has_combinator.false in
     subst (λ (b : Bool). Decides b (Holds nodes (selector c.args.e.now) c.args.number)) (sym c.holds_alone_at.ensures) (without_tells (selector c.args.e.now) none nodes c.args.number)

@@ -29,7 +29,7 @@ loop-token-preserved g c =
     let first : ◌≡◌ {A = Option (Token × List ℕ)} (Some (meant t token after)) (next_token (drop at t)) =
     subst (λ (T : List ℕ). ◌≡◌ {A = Option (Token × List ℕ)} (Some (meant T token after)) (next_token (drop at T))) c.as_bytes-text.ensures c.in-Some.ensures.read in
     record {
-      reached = reached_next t at c.in_ok-at.at after token (state_of c.loop-token.table) (state_of c.take.new.self) first c.loop-token.invariant.reached
+      reached = reached_next t at c.in_ok-at.at after token (state_of c.loop-token.table) (state_of c.push_token.new.self) first c.loop-token.invariant.reached
           c.in_ok-at.ensures.rest c.in_ok-at.ensures.within c.in_ok-at.ensures.ok;
       held = c.in_ok-at.ensures.held c.loop-token.invariant.held;
     }

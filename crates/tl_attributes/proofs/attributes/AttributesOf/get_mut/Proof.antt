@@ -48,9 +48,9 @@ use Rattle.tl_attributes.specs.AttributesLends.{LendsValueAtOk, PieceMembers}
 use Rattle.tl_attributes.specs.contracts.attributes.AttributesOf.{the_row as attributes_row}
 use Rattle.tl_attributes.specs.contracts.attributes.AttributesOf.get_mut as f
 use Rattle.tl_attributes.specs.contracts.attributes.AttributesOf.value_or_presence_mut as g
-use Rattle.tl_attributes.specs.contracts.attributes.nested as h
+use Rattle.tl_attributes.specs.contracts.attributes.nest as h
 use Rattle.tl_attributes.proofs.attributes.AttributesOf.value_or_presence_mut.Met.{met as met_lends}
-use Rattle.tl_attributes.proofs.attributes.nested.Met.{met as met_wraps}
+use Rattle.tl_attributes.proofs.attributes.nest.Met.{met as met_wraps}
 use Rattle.tl_attributes.proofs.attributes.AttributesOf.get_mut.Code as code
 use Rattle.tl_attributes.proofs.attributes.AttributesOf.get_mut.Statement.{statement}
 

@@ -39,7 +39,7 @@ impl Feed {
         ensures { self.new ≡ with_byte self.old byte }
     {
         if self.last.is_full() {
-            self.before = Some(self.chained());
+            self.before = Some(self.chain());
             self.last.clear();
         }
         self.last.push(byte);
@@ -47,7 +47,7 @@ impl Feed {
 
     // The SHA-256 of all bytes, block by block.
     #[inline(never)]
-    fn chained(&self) -> [u8; 32]
+    fn chain(&self) -> [u8; 32]
         ensures { result ≡ chain self.now }
     {
         match &self.before {
@@ -66,9 +66,9 @@ impl Feed {
     {
         let bytes = self.last.as_slice();
         if self.before.is_some() {
-            halves(0xff, self.chained().as_slice(), HALF + 1)
+            halves(0xff, self.chain().as_slice(), HALF + 1)
         } else if bytes.len() > SHORT {
-            halves(0xfe, self.chained().as_slice(), HALF + 1)
+            halves(0xfe, self.chain().as_slice(), HALF + 1)
         } else {
             halves(bytes.len() as u128, bytes, bytes.len().min(HALF))
         }

@@ -9,7 +9,7 @@ ghost use Rattle.tl_inline.specs.InlineVec.{ClonesAreEqual};
 ghost use Rattle.tl_inline.specs.Places.{AllowsKeys, Notes, note_of, with_key};
 
 use super::digest::digest_of;
-use super::places::{Place, copied, note, note_swap, noted, place_by_note, place_of, places_with};
+use super::places::{Place, copy_places, note, note_swap, note_of_digest, place_by_note, place_of, places_with};
 use crate::inline::hashmap::pairs::put_value;
 use indexmap::IndexMap;
 use std::alloc::AllocError;
@@ -117,7 +117,7 @@ impl<K: Eq + Hash + Drop, V: Drop> NotedPairs<K, V> {
         ensures unique { IsDistinct K.eq (keys_of self.new) }
     {
         let digest = digest_of(&key);
-        let was = noted(&self.places, digest);
+        let was = note_of_digest(&self.places, digest);
         if let Some(i) = place_by_note(was, self.pairs.as_slice(), &key) {
             put_value(self.pairs.as_mut_slice(), i, value);
             return Ok(());
@@ -151,7 +151,7 @@ impl<K: Eq + Hash + Clone, V: Clone> NotedPairs<K, V> {
     {
         Ok(NotedPairs {
             pairs: self.pairs.clone()?,
-            places: copied(&self.places)?,
+            places: copy_places(&self.places)?,
         })
     }
 }

@@ -31,7 +31,7 @@ pub(super) fn place_of<K: Hash, V>(
         → lookup (K.eq key.now) pairs.now ≡ Some (slice_index_or pairs.now i d).1) }
     ensures absent { IfNone result (lookup (K.eq key.now) pairs.now ≡ None) }
 {
-    place_by_note(noted(places, digest_of(key)), pairs, key)
+    place_by_note(note_of_digest(places, digest_of(key)), pairs, key)
 }
 
 // The same, by what is noted of the key's digest.
@@ -118,7 +118,7 @@ fn note_key<K: Hash>(
         (with_key (note_of places.old.entries digest) at)) }
 {
     let digest = digest_of(key);
-    let was = noted(places, digest);
+    let was = note_of_digest(places, digest);
     note(places, digest, was, at)
 }
 
@@ -163,7 +163,7 @@ fn forget(places: &mut BTreeMap<(u128, u128), Place>, digest: (u128, u128))
     ensures { Notes (note_of places.old.entries) (note_of places.new.entries) digest
         (without_alone (note_of places.old.entries digest)) }
 {
-    if let Some(Place::Alone(_)) = noted(places, digest) {
+    if let Some(Place::Alone(_)) = note_of_digest(places, digest) {
         places.remove(&digest);
     }
 }
@@ -173,7 +173,7 @@ fn note_move(places: &mut BTreeMap<(u128, u128), Place>, digest: (u128, u128), a
     ensures { Notes (note_of places.old.entries) (note_of places.new.entries) digest
         (moved_to (note_of places.old.entries digest) at) }
 {
-    if let Some(Place::Alone(_)) = noted(places, digest) {
+    if let Some(Place::Alone(_)) = note_of_digest(places, digest) {
         match places.insert(digest, Place::Alone(at)) {
             Ok(_) => {}
             Err(_) => unreachable!(),
@@ -182,7 +182,7 @@ fn note_move(places: &mut BTreeMap<(u128, u128), Place>, digest: (u128, u128), a
 }
 
 // The same notes.
-pub(super) fn copied(
+pub(super) fn copy_places(
     places: &BTreeMap<(u128, u128), Place>,
 ) -> Result<BTreeMap<(u128, u128), Place>, AllocError>
     ensures { IfOk result (λ copy. copy.entries ≡ places.now.entries) }
@@ -191,7 +191,7 @@ pub(super) fn copied(
 }
 
 // What is noted of this digest.
-pub(super) fn noted(places: &BTreeMap<(u128, u128), Place>, digest: (u128, u128)) -> Option<Place>
+pub(super) fn note_of_digest(places: &BTreeMap<(u128, u128), Place>, digest: (u128, u128)) -> Option<Place>
     ensures { result ≡ note_of places.now.entries digest }
 {
     places.get(&digest).copied()

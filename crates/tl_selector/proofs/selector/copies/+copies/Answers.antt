@@ -7,8 +7,8 @@ use Rattle.tl_selector.specs.declared.selector.Selector as declared
 use Rattle.tl_selector.proofs.Chains.{selectors_more}
 use Rattle.tl_selector.proofs.selector.copies.+copies.Goals as goal
 
-pub copied_chain-outwards-preserved : goal.copied_chain-outwards-preserved
-copied_chain-outwards-preserved t c =
+pub copy_complex-outwards-preserved : goal.copy_complex-outwards-preserved
+copy_complex-outwards-preserved t c =
     let e = selector c.args.e.now in
     let copy = selector c.outwards.copy in
     let left = c.pop.new.self.items in

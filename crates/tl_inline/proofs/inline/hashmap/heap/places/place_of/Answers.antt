@@ -9,6 +9,6 @@ pub place_by_note-requires : goal.place_by_note-requires
 place_by_note-requires g c =
     let key = c.args.key.now in
     let keys = keys_of c.args.pairs.now in
-    subst (λ note. AllowsKey (g.K.PartialEq.eq key) note keys) (sym c.noted.ensures)
+    subst (λ note. AllowsKey (g.K.PartialEq.eq key) note keys) (sym c.note_of_digest.ensures)
     (allows_key (λ k. digest_of (g.K.Hash.hash_input k)) (note_of c.args.places.now.entries) keys (g.K.PartialEq.eq key) c.digest_of.result
     (λ k h. ap digest_of (sym (g.met.K.Hash.respects_eq key k h)) ∙ sym c.digest_of.ensures) c.requires)

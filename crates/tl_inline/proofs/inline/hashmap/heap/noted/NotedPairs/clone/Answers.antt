@@ -13,7 +13,7 @@ invariant_of-result g c =
     let same = list_clone_is g.K.Clone.is_clone g.V.Clone.is_clone c.args.self.now c.self.inside.pairs.items es is c.requires.keys c.requires.values
     c.in_ok-clone.ensures.cases.0 in (
       subst (λ l. IsDistinct g.K.PartialEq.eq (keys_of l)) (is ∙ sym same) c.self.invariant.0,
-      subst (λ notes. AllowsAll (λ k. digest_of (g.K.Hash.hash_input k)) (note_of notes) (keys_of es)) (sym c.in_ok-copied.ensures)
+      subst (λ notes. AllowsAll (λ k. digest_of (g.K.Hash.hash_input k)) (note_of notes) (keys_of es)) (sym c.in_ok-copy_places.ensures)
           (subst (λ l. AllowsKeys g.K.Hash.hash_input c.self.inside.places (keys_of l)) (is ∙ sym same) c.self.invariant.1),
     )
 

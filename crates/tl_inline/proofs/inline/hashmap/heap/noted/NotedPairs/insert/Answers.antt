@@ -13,7 +13,7 @@ use Rattle.tl_inline.proofs.inline.hashmap.heap.noted.NotedPairs.insert.Goals as
 pub place_by_note-requires : goal.place_by_note-requires
 place_by_note-requires g c =
     let key = c.args.key in
-    rw (c.as_slice.ensures.value, c.noted-was.ensures)
+    rw (c.as_slice.ensures.value, c.note_of_digest-was.ensures)
     (allows_key (λ k. digest_of (g.K.Hash.hash_input k)) (note_of c.self.inside.places.entries) (keys_of c.self.inside.pairs.items) (g.K.PartialEq.eq key)
     c.digest_of-digest.result (λ k h. ap digest_of (sym (g.met.K.Hash.respects_eq key k h)) ∙ sym c.digest_of-digest.ensures) c.self.invariant.1)
 
@@ -59,7 +59,7 @@ invariant_of-self-in-Ok g c =
       distinct_inserted g.K.PartialEq.eq g.met.K.Eq.laws es c.push_reserved.new.self.items k v after c.self.invariant.0,
       subst (λ l. AllowsKeys g.K.Hash.hash_input c.make_room.new.places l) (sym (ap keys_of pushed ∙ map-append (λ p. p.0) es (pair ∷ [])))
           (allows_pushed (λ q. digest_of (g.K.Hash.hash_input q)) (note_of c.self.inside.places.entries) (note_of c.make_room.new.places.entries)
-          (keys_of es) k (length es) (sym (length-keys_of es)) (rw (c.noted-was.ensures, c.digest_of-digest.ensures) at c.in-Ok.ensures.ok) c.self.invariant.1),
+          (keys_of es) k (length es) (sym (length-keys_of es)) (rw (c.note_of_digest-was.ensures, c.digest_of-digest.ensures) at c.in-Ok.ensures.ok) c.self.invariant.1),
     )
 
 pub returns-in-Ok-clause-ok : goal.returns-in-Ok-clause-ok
