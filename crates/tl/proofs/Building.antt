@@ -5,8 +5,7 @@ use Rattle.std.proofs.lemmas.List.Elements.{All-set, All-push, All-pop}
 use Rattle.std.proofs.lemmas.Option.{get_or_from_slice_get, slice_get_within}
 use Rattle.tl_bytes.specs.Held.{Held}
 use Rattle.tl_spec.proofs.Writes.{slice_get-last}
-use Rattle.tl.specs.Shown.{HTMLNode}
-use Rattle.tl.specs.HeldAlike.{IsHeldNode}
+use Rattle.tl.specs.View.{HTMLNode, IsHeldNode}
 
 -- a node that was written keeps how its pieces are held
 pub held_written : (held : Held) (xs : List HTMLNode) (p : ℕ) (x y : HTMLNode) → p < length xs → x ≡ get_or xs p x → (IsHeldNode held x → IsHeldNode held y) → All (IsHeldNode held) xs → All (IsHeldNode held) (set xs p y)

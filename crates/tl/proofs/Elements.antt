@@ -5,7 +5,7 @@ use Rattle.std.specs.List.{find, last_or}
 use Rattle.std.specs.Map.{lookup}
 use Rattle.std.specs.Str.{bytes_eq}
 use Rattle.tl_bytes.specs.Held.{Kept}
-use Rattle.tl_attributes.specs.ShownAttributes.{bytes_view, value_view, pair_view}
+use Rattle.tl_attributes.specs.AttributesView.{bytes_view, value_view, pair_view}
 
 -- the value of the pair that is found
 pub lookup-shown : (key : List ℕ) (es : List (Kept × Option Kept))

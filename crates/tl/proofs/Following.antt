@@ -1,11 +1,11 @@
 -- What the reader has written, token by token.
 use Rattle.std.proofs.Common.{◌≡◌, ℕ, ◌-◌, ◌≤◌, List, length, drop, None, Some, sym, ap, subst, ◌∙◌, arith, length-drop}
-use Rattle.tl_spec.specs.Token.{next_token}
-use Rattle.tl_spec.specs.Document.{document}
-use Rattle.tl_spec.specs.Machine.{State, step, IsReached}
+use Rattle.tl_spec.specs.Lex.Token.{next_token}
+use Rattle.tl_spec.specs.Tree.Document.{document}
+use Rattle.tl_spec.specs.Tree.Builder.{State, step, IsReached}
 use Rattle.tl_spec.proofs.Reached.{IsTokenAt-found, IsReached-next, IsReached-end}
 use Rattle.tl_spec.proofs.Stand.{none-end, place}
-use Rattle.tl_lexer.specs.Lexed.{meant}
+use Rattle.tl_lexer.specs.TokenMeaning.{meant}
 use Rattle.tl_lexer.specs.declared.token.Token.{Token}
 use Rattle.tl.specs.Builder.{placed_token, document_of_state}
 

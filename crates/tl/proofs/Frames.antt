@@ -2,11 +2,11 @@
 use Rattle.std.proofs.Common.{◌≡◌, ℕ, Bool, true, false, List, [], ◌∷◌, ◌++◌, length, Some, None, map, option_map, refl, ap, sym, ◌∙◌, append_assoc, append-nil, arith}
 use Rattle.std.specs.List.{slice_get}
 use Rattle.std.proofs.lemmas.Option.{slice_get-map}
-use Rattle.tl_spec.specs.Document.{Node, Tag, Raw, Comment, TagNode}
+use Rattle.tl_spec.specs.Tree.Document.{Node, Tag, Raw, Comment, TagNode}
 use Rattle.tl_spec.specs.Walk.{Event, meets, leaves, faulty, Dangling, Cycle, stands_on, walk, events}
 use Rattle.tl_spec.proofs.Events.{events-nil, events-dangling, events-cycle, events-text, events-comment, events-tag, events-passed}
 use Rattle.tl.specs.declared.walk.Frame.{Frame}
-use Rattle.tl.specs.Shown.{HTMLNode, node_view, tag_view}
+use Rattle.tl.specs.View.{HTMLNode, node_view, tag_view}
 use Rattle.tl.specs.Walker.{path_from, after_frames_from, after_frames, events_to_come_below}
 
 pub path-push : (path : List ℕ) (fs : List Frame) (f : Frame) → path_from path (fs ++ f ∷ []) ≡ f.handle ∷ path_from path fs

@@ -3,11 +3,11 @@ use Rattle.std.proofs.Common.{◌≡◌, ℕ, Bool, cond, List, Option, None, So
 use Rattle.tl_bytes.specs.Held.{Kept, borrowed}
 use Rattle.tl_bytes.specs.Keys.{same_list}
 use Rattle.tl_tracking.specs.Options.{Options}
-use Rattle.tl_spec.specs.Document.{Node}
-use Rattle.tl_spec.specs.Inline.{InlineVec}
-use Rattle.tl_spec.specs.Scan.{id_scan, class_scan}
+use Rattle.tl_spec.specs.Tree.Document.{Node}
+use Rattle.tl_spec.specs.Tree.Inline.{InlineVec}
+use Rattle.tl_spec.specs.Lookup.Scan.{id_scan, class_scan}
 use Rattle.tl_tracking.specs.Tracking.{TracksIds, TracksClasses, id_in, class_in}
-use Rattle.tl.specs.Shown.{HTMLTable, document_of}
+use Rattle.tl.specs.View.{HTMLTable, document_of}
 use Rattle.tl.specs.Lookup.{with_id, with_member}
 use Rattle.tl.specs.Tracked.{AreAsked, AnswerIds, AnswerClasses}
 

@@ -4,10 +4,10 @@ use Rattle.std.specs.Cmp.Lexicographic.{pointwise}
 use Rattle.std.specs.List.{IsDistinct}
 use Rattle.std.specs.Map.{keys_of}
 use Rattle.std.specs.Str.{bytes_eq}
-use Rattle.tl_spec.specs.AttributeList.{AreOthers, Attributes, HasOwnKeys}
+use Rattle.tl_spec.specs.Lex.AttributeList.{AreOthers, Attributes, HasOwnKeys}
 use Rattle.tl_spec.proofs.Images.{distinct-image, others-image}
 use Rattle.tl_bytes.specs.Held.{Kept}
-use Rattle.tl_attributes.specs.ShownAttributes.{plain, bytes_view, value_view}
+use Rattle.tl_attributes.specs.AttributesView.{plain, bytes_view, value_view}
 
 pub own_keys : (a : Attributes Kept) → IsDistinct (λ (x y : Kept). pointwise nat_eq x.list y.list) (keys_of a.others.entries) → AreOthers (λ b. b.list) a.others.entries
     → HasOwnKeys (plain a)

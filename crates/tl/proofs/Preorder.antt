@@ -5,13 +5,13 @@ use Rattle.std.specs.List.{All, AllByRecursion, between, last_or}
 use Rattle.std.proofs.lemmas.List.{drop-map, map-append, take-map}
 use Rattle.std.proofs.lemmas.List.Elements.{All-nil, All-cons}
 use Rattle.std.specs.Str.Lossy.{utf8_lossy}
-use Rattle.tl_spec.specs.Document.{Node, Tag, Raw, Comment, document, nodes, numbers, size}
-use Rattle.tl_spec.specs.Element.{children_of, last_child_of}
-use Rattle.tl_spec.specs.Forest.{Forest, SourceTag, comment, forest, none, tag, text}
-use Rattle.tl_spec.specs.Order.{ChildrenFollowParents}
-use Rattle.tl_spec.specs.Range.{end_below, range_between, range_from, with_end}
-use Rattle.tl_spec.specs.Text.{text_of}
-use Rattle.tl_spec.specs.Token.{tokens}
+use Rattle.tl_spec.specs.Tree.Document.{Node, Tag, Raw, Comment, document, nodes, numbers, size}
+use Rattle.tl_spec.specs.Tree.Element.{children_of, last_child_of}
+use Rattle.tl_spec.specs.Tree.Forest.{Forest, SourceTag, comment, forest, none, tag, text}
+use Rattle.tl_spec.specs.Tree.Order.{ChildrenFollowParents}
+use Rattle.tl_spec.specs.Walk.Range.{end_below, range_between, range_from, with_end}
+use Rattle.tl_spec.specs.Print.Text.{text_of}
+use Rattle.tl_spec.specs.Lex.Token.{tokens}
 use Rattle.tl_spec.specs.Walk.{TreeFault, Cycle, Dangling, all_tags, first_fault, handle_walk, earlier_fault, trees, walk}
 use Rattle.tl_spec.proofs.Rising.{walk-one}
 use Rattle.tl_spec.proofs.Walks.{walk-nil}
@@ -21,10 +21,10 @@ use Rattle.tl_table.specs.declared.errors.TreeError.{TreeError}
 use Rattle.tl_table.specs.declared.errors.TreeError.TheVariants.{Dangling as DanglingError, Cycle as CycleError, OutOfMemory}
 use Rattle.tl_table.proofs.Way.{AreBelow, all_rise, below-above, below-off, further, here, past}
 use Rattle.tl.specs.Preorder.{ArePreorder, IsInPreorder, children_in}
-use Rattle.tl.specs.Shown.{HTMLNode, node_view}
+use Rattle.tl.specs.View.{HTMLNode, node_view}
 use Rattle.tl.specs.declared.parser.tag.node.NodeOf.TheVariants.{Tag as ATag, Raw as ARaw, Comment as AComment}
 use Rattle.tl.proofs.Frames.{shown_past}
-use Rattle.tl.specs.Writing.{own_text}
+use Rattle.tl.specs.Walker.{own_text}
 
 -- handles in preorder
 

@@ -1,26 +1,26 @@
 -- What is printed of a tag on which a call is made, of a walk by its events, and of attributes in order.
 use Rattle.std.proofs.Common.{◌≡◌, ℕ, Bool, false, not, if◌then◌else◌, List, [], ◌∷◌, ◌++◌, map, flat_map, Option, Some, None, Result, Ok, Err, string_bytes, true, refl, ap, sym, subst, subst₂, ◌∙◌, append-nil, append_assoc}
-use Rattle.tl_spec.specs.AttributeList.{Attributes, pairs_in_order, printed_pairs}
-use Rattle.tl_spec.specs.ByteClass.{is_printed_alone}
-use Rattle.tl_spec.specs.Clean.{HaveOwnKeys, IsCleanNode, IsCleanTable, NodeHasOwnKeys}
-use Rattle.tl_spec.specs.Document.{Node, Tag, TagNode}
-use Rattle.tl_spec.specs.Normal.{ReadsAs}
+use Rattle.tl_spec.specs.Lex.AttributeList.{Attributes, pairs_in_order, printed_pairs}
+use Rattle.tl_spec.specs.Lex.ByteClass.{is_printed_alone}
+use Rattle.tl_spec.specs.Print.Clean.{HaveOwnKeys, IsCleanNode, IsCleanTable, NodeHasOwnKeys}
+use Rattle.tl_spec.specs.Tree.Document.{Node, Tag, TagNode}
+use Rattle.tl_spec.specs.Print.Normal.{ReadsAs}
 use Rattle.tl_spec.specs.Print.{outer_html, print, print_start, print_end, print_of_event}
-use Rattle.tl_spec.specs.Text.{text_of, event_text}
+use Rattle.tl_spec.specs.Print.Text.{text_of, event_text}
 use Rattle.tl_spec.specs.Walk.{Event, TreeFault, Walk, events, all_tags, fault_among, first_fault, earlier_fault, plain_node, prints_children, trees, fault_or, walk, walk_of}
 use Rattle.tl_spec.proofs.Events.{first_fault-events, print-walk, text_of-events, walk_of-passed, walk_of-tag}
 use Rattle.tl_spec.proofs.Images.{image-pairs_in_order}
-use Rattle.tl_spec.specs.Attribute.{Pair}
+use Rattle.tl_spec.specs.Lex.Attribute.{Pair}
 use Rattle.tl_spec.proofs.Walks.{node_identity, table_identity}
 use Rattle.tl_bytes.specs.Held.{Kept}
 use Rattle.tl_table.specs.declared.errors.TreeError.{TreeError}
-use Rattle.tl_attributes.specs.Listed.{as_borrowed, listed}
-use Rattle.tl_attributes.specs.ShownAttributes.{plain, bytes_view, pair_view, value_view}
+use Rattle.tl_attributes.specs.Listing.{as_borrowed, listed}
+use Rattle.tl_attributes.specs.AttributesView.{plain, bytes_view, pair_view, value_view}
 use Rattle.std.specs.Prelude.{IfOk}
 use Rattle.std.specs.Global.{Global}
 use Rattle.std.specs.declared.string.String.{String}
 use Rattle.tl_table.specs.Answer.{Answers}
-use Rattle.tl.specs.Writing.{Writes}
+use Rattle.tl.specs.Walker.{Writes}
 
 earlier_fault-none : (o : Option TreeFault) → earlier_fault o None ≡ o
 earlier_fault-none None = refl

@@ -5,15 +5,15 @@ use Rattle.std.specs.Option.{ForSome}
 use Rattle.std.proofs.lemmas.List.{length-map}
 use Rattle.std.proofs.lemmas.List.FromFn.{length-range_with_len}
 use Rattle.std.proofs.lemmas.List.Sums.{count_by-le-length, length-filter}
-use Rattle.tl_spec.specs.Selector.{Selector}
-use Rattle.tl_spec.specs.SelectorMeaning.{AreMatches}
-use Rattle.tl_spec.specs.SelectorReading.{selector_at}
-use Rattle.tl_spec.specs.SelectorSearch.{matches_between, node_numbers}
-use Rattle.tl_spec.specs.SelectorText.{IsSelectorText}
+use Rattle.tl_spec.specs.Select.Selector.{Selector}
+use Rattle.tl_spec.specs.Select.Meaning.{AreMatches}
+use Rattle.tl_spec.specs.Select.Reading.{selector_at}
+use Rattle.tl_spec.specs.Select.Search.{matches_between, node_numbers}
+use Rattle.tl_spec.specs.Select.Text.{IsSelectorText}
 use Rattle.tl_spec.proofs.SelectorSearch.{matches-only}
 use Rattle.tl_spec.proofs.SelectorText.{text-only, text-none}
 use Rattle.tl.specs.Query.{FindsIn, matches_in}
-use Rattle.tl.specs.Shown.{HTMLTable, node_view, document_of}
+use Rattle.tl.specs.View.{HTMLTable, node_view, document_of}
 
 module _ (d : HTMLTable) (text : List ℕ) where
   whole : (e : Selector) (ns : List ℕ) → AreMatches (map node_view d.nodes) e 0 (length d.nodes) ns → ns ≡ matches_in (document_of d) e

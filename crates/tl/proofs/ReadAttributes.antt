@@ -1,9 +1,9 @@
 -- What holds while the attributes of a start tag are read.
 use Rattle.std.proofs.Common.{ℕ, ◌≤◌, List, length}
-use Rattle.tl_spec.specs.AttributeList.{no_attributes, with_pair, Attributes}
+use Rattle.tl_spec.specs.Lex.AttributeList.{no_attributes, with_pair, Attributes}
 use Rattle.tl_bytes.specs.Held.{Held, Kept}
 use Rattle.tl_lexer.proofs.Tags.{ArePut}
-use Rattle.tl_attributes.specs.ShownAttributes.{plain}
+use Rattle.tl_attributes.specs.AttributesView.{plain}
 use Rattle.tl_attributes.specs.HeldAttributes.{AreRead}
 
 -- the attributes from `at` up to `end` are inserted

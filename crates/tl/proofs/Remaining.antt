@@ -1,14 +1,14 @@
 -- What a walk that enters every tag has still to give.
 use Rattle.std.proofs.Common.{◌≡◌, ℕ, ◌+◌, ◌<◌, ◌≤◌, Bool, true, false, ◌⊎◌, inl, inr, List, [], ◌∷◌, ◌++◌, length, map, Option, Some, None, Ok, Err, refl, ap, sym, ◌∙◌, subst, arith, append_assoc}
 use Rattle.std.specs.List.{slice_get, AllByRecursion}
-use Rattle.tl_spec.specs.Document.{Node, Tag, Raw, Comment, TagNode}
+use Rattle.tl_spec.specs.Tree.Document.{Node, Tag, Raw, Comment, TagNode}
 use Rattle.tl_spec.specs.Walk.{Cycle, Dangling, Event, Walk, end, events, all_tags, faulty, handle_walk, leaves, meets, meets_comment, meets_fault, meets_tag, meets_text, passes_tag, stands_on, walk}
 use Rattle.tl_spec.proofs.Events.{Enters, Enters-walk}
 use Rattle.tl_spec.proofs.Walks.{walk-cons, walk-nil}
 use Rattle.tl_table.specs.declared.errors.TreeError.TheVariants.{Dangling as DanglingError, Cycle as CycleError, OutOfMemory}
 use Rattle.tl.specs.declared.walk.Frame.{Frame}
 use Rattle.tl.specs.Remaining.{Around, FailsAt, Place, Remaining, Within, around_within, events_around, events_left, nothing_left, path_within, remaining_of, step, step_in, step_out}
-use Rattle.tl.specs.Shown.{node_view, tag_view}
+use Rattle.tl.specs.View.{node_view, tag_view}
 use Rattle.tl.specs.Walker.{IsLedBy, IsNext, around, around_from, path_from, place_of, remaining, remaining_below, event_view, within_from}
 use Rattle.tl.specs.declared.walk.Walker.{Walker}
 use Rattle.tl.specs.declared.walk.WalkEvent.{WalkEvent}

@@ -7,7 +7,7 @@ use Rattle.tl_spec.specs.Walk.{Event as Happening}
 use Rattle.tl_table.specs.declared.errors.TreeError.{TreeError}
 use Rattle.tl_table.specs.declared.errors.TreeError.TheVariants.{Dangling as DanglingError, Cycle as CycleError, OutOfMemory}
 use Rattle.tl.specs.Find.{FindsNode, FindsNodeOrStops, Passes, Sight, sight, sight_of, sights}
-use Rattle.tl.specs.Shown.{HTMLNode}
+use Rattle.tl.specs.View.{HTMLNode}
 use Rattle.tl.specs.Walker.{Refuses}
 
 module _ {F : Type 0} (calls : Mut F (Bor HTMLNode × Unit {0}) Bool) where

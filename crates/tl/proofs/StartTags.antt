@@ -1,12 +1,12 @@
 -- The tag that is made of a start tag.
 use Rattle.std.proofs.Common.{◌≡◌, ℕ, ◌-◌, List, [], take, drop, ap, ◌∙◌}
-use Rattle.tl_spec.specs.Attribute.{Pair, attributes}
-use Rattle.tl_spec.specs.AttributeList.{Attributes, attributes_of}
-use Rattle.tl_spec.specs.Token.{Token, token_after_attributes}
-use Rattle.tl_spec.specs.Document.{TagNode, held_items, tag_node}
-use Rattle.tl_lexer.specs.Lexed.{ended, start_tag_of}
+use Rattle.tl_spec.specs.Lex.Attribute.{Pair, attributes}
+use Rattle.tl_spec.specs.Lex.AttributeList.{Attributes, attributes_of}
+use Rattle.tl_spec.specs.Lex.Token.{Token, token_after_attributes}
+use Rattle.tl_spec.specs.Tree.Document.{TagNode, held_items, tag_node}
+use Rattle.tl_lexer.specs.TokenMeaning.{ended, start_tag_of}
 use Rattle.tl_lexer.specs.declared.tag.TagEnd.{TagEnd}
-use Rattle.tl.specs.StartTag.{read_of}
+use Rattle.tl.specs.Builder.{read_of}
 
 module _ (t name : List ℕ) (at after : ℕ) (attrs : Attributes (List ℕ))
     (read : ◌≡◌ {A = Attributes (List ℕ) × List ℕ} (attrs, drop after t) (read_of (attributes (drop at t)))) where

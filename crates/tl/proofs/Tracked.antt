@@ -5,14 +5,14 @@ use Rattle.std.proofs.lemmas.Str.{is_utf8-from_IsUtf8, IsUtf8-from_is_utf8}
 use Rattle.std.specs.Str.{IsUtf8, is_utf8}
 use Rattle.tl_bytes.specs.Held.{Kept}
 use Rattle.tl_bytes.specs.Keys.{same_list}
-use Rattle.tl_spec.specs.ClassMember.{members, parts}
-use Rattle.tl_spec.specs.Document.{Node}
-use Rattle.tl_spec.specs.Scan.{id_of, class_of}
-use Rattle.tl_spec.specs.Inline.{InlineVec}
+use Rattle.tl_spec.specs.Lookup.ClassMember.{members, parts}
+use Rattle.tl_spec.specs.Tree.Document.{Node}
+use Rattle.tl_spec.specs.Lookup.Scan.{id_of, class_of}
+use Rattle.tl_spec.specs.Tree.Inline.{InlineVec}
 use Rattle.tl_tracking.specs.Options.{Options}
 use Rattle.tl_tracking.specs.Tracking.{Tracking, TracksIds, TracksClasses, no_maps, empty_when}
 use Rattle.tl_tracking.proofs.Noted.{members_begin, members_end, id_missing}
-use Rattle.tl.specs.Shown.{HTMLTag, HTMLNode, node_view}
+use Rattle.tl.specs.View.{HTMLTag, HTMLNode, node_view}
 use Rattle.tl.specs.Tracked.{AreAsked, AnswerIds, AnswerClasses, AnswerMembers}
 use Rattle.tl.specs.declared.parser.tag.node.NodeOf.TheVariants.{Tag, Raw, Comment}
 

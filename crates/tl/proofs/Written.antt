@@ -3,8 +3,8 @@ use Rattle.std.proofs.Common.{◌≡◌, List, ◌++◌, length, map, take, drop
 use Rattle.std.specs.List.{All, refill}
 use Rattle.std.proofs.Math.Seq.{take-append_seam}
 use Rattle.std.proofs.lemmas.List.Elements.{All-map}
-use Rattle.tl_spec.specs.Document.{Document, Node}
-use Rattle.tl.specs.Shown.{HTMLNode, HTMLTable, document_of, node_view}
+use Rattle.tl_spec.specs.Tree.Document.{Document, Node}
+use Rattle.tl.specs.View.{HTMLNode, HTMLTable, document_of, node_view}
 use Rattle.tl.specs.TableLends.{with_nodes}
 
 -- a slice of the same length written over a list is that slice

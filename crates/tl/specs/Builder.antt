@@ -1,20 +1,21 @@
 -- What a table that is being written is.
-use Rattle.std.specs.Prelude.{ℕ, ◌<◌, ◌^◌, Bool, ◌||◌, if◌then◌else◌, All, List, length, map, reverse}
+use Rattle.std.specs.Prelude.{ℕ, ◌<◌, ◌^◌, Bool, ◌||◌, if◌then◌else◌, All, List, length, map, reverse, drop}
 use Rattle.tl_bytes.specs.Held.{Held, Kept}
-use Rattle.tl_spec.specs.Token.{PlacedToken}
-use Rattle.tl_spec.specs.Forest.{closes}
-use Rattle.tl_spec.specs.Document.{Node, Raw, Comment, Document}
-use Rattle.tl_spec.specs.Machine.{State, with_next_node, with_open_tag, after_end, enclosing_name}
+use Rattle.tl_spec.specs.Lex.Token.{PlacedToken}
+use Rattle.tl_spec.specs.Tree.Forest.{closes, SourceTag}
+use Rattle.tl_spec.specs.Tree.Document.{Node, Raw, Comment, Document, held_attributes}
+use Rattle.tl_spec.specs.Tree.Builder.{State, with_next_node, with_open_tag, after_end, enclosing_name}
 use Rattle.tl_lexer.specs.Span.{bytes_at}
 use Rattle.tl_lexer.specs.declared.span.Span.{Span}
-use Rattle.tl_lexer.specs.Lexed.{meant}
+use Rattle.tl_lexer.specs.TokenMeaning.{meant}
 use Rattle.tl_lexer.specs.declared.tag.TagEnd.{TagEnd}
 use Rattle.tl_lexer.specs.declared.tag.TagEnd.TheVariants.{Opens, Alone, Broken}
 use Rattle.tl_lexer.specs.declared.token.Token.{Token}
 use Rattle.tl_lexer.specs.declared.token.Token.TheVariants.{Text as TextToken, End as EndToken, Comment as CommentToken, Doctype as DoctypeToken, Start as StartToken, Nothing as NothingToken}
-use Rattle.tl.specs.Shown.{node_view}
-use Rattle.tl.specs.HeldAlike.{IsHeldNode}
+use Rattle.tl.specs.View.{node_view, IsHeldNode}
 use Rattle.tl.specs.declared.parser.builder.TableBuilder.{TableBuilder}
+use Rattle.tl_spec.specs.Lex.Attribute.{Pair, attributes}
+use Rattle.tl_spec.specs.Lex.AttributeList.{Attributes, attributes_of}
 
 -- what has been written, the innermost open tag first
 abbrev pub state_of : TableBuilder → State
@@ -54,3 +55,11 @@ AreHeld held b = All (IsHeldNode held) b.nodes.items
 -- what has been written, as a document
 abbrev pub document_of_state : State → Document
 document_of_state s = record { nodes = s.nodes; top = s.top; is_html5 = s.is_html5 }
+
+-- pairs as the attributes of a tag, and what stands after them
+abbrev pub read_of : List Pair × List ℕ → Attributes (List ℕ) × List ℕ
+read_of found = (held_attributes (attributes_of found.0), found.1)
+
+-- the tag of this name whose attributes stand from `at` on, and which itself stands from one place to another
+abbrev pub source_tag : List ℕ → Span → ℕ → ℕ → ℕ → SourceTag
+source_tag t name at from to = record { name = bytes_at t name; attributes = attributes_of (attributes (drop at t)).0; from = from; to = to }

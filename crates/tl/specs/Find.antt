@@ -8,7 +8,7 @@ use Rattle.tl_table.specs.declared.errors.TreeError.{TreeError}
 use Rattle.tl_table.specs.declared.errors.TreeError.TheVariants.{Dangling as DanglingError, OutOfMemory}
 use Rattle.tl_table.specs.TreeFault.{error_of}
 use Rattle.tl.specs.declared.parser.tag.node.NodeOf.TheVariants.{Tag as ATag, Raw as ARaw, Comment as AComment}
-use Rattle.tl.specs.Shown.{HTMLNode, node_view}
+use Rattle.tl.specs.View.{HTMLNode, node_view}
 
 -- what a search comes to: a handle with its node, or a fault
 abbrev pub Sight : Type 0

@@ -1,8 +1,8 @@
 -- Which names of a table are tracked.
 use Rattle.std.specs.Prelude.{ℕ, List, [], ◌∷◌, ◌++◌, ◌||◌, Option, None, Some, if◌then◌else◌}
 use Rattle.std.specs.List.{flat_map}
-use Rattle.tl_spec.specs.Document.{Node}
-use Rattle.tl_spec.specs.Scan.{id_of, class_of}
+use Rattle.tl_spec.specs.Tree.Document.{Node}
+use Rattle.tl_spec.specs.Lookup.Scan.{id_of, class_of}
 use Rattle.tl_tracking.specs.NameKey.{number_of_names}
 use Rattle.tl_tracking.specs.Options.{Options}
 

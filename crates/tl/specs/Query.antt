@@ -2,13 +2,17 @@
 use Rattle.std.specs.Prelude.{◌≡◌, ℕ, ◌+◌, ◌-◌, List, length, map, Option, Some, None, Result, Ok, Err, slice_get, unwrap_or}
 use Rattle.std.specs.Borrow.{Bor}
 use Rattle.std.specs.Option.{option_map}
-use Rattle.tl_spec.specs.Document.{Document, Node}
-use Rattle.tl_spec.specs.Selector.{Selector}
-use Rattle.tl_spec.specs.SelectorMeaning.{AreMatches}
-use Rattle.tl_spec.specs.SelectorSearch.{matches_between}
-use Rattle.tl_spec.specs.SelectorText.{IsSelectorText}
+use Rattle.tl_spec.specs.Tree.Document.{Document, Node}
+use Rattle.tl_spec.specs.Select.Selector.{Selector}
+use Rattle.tl_spec.specs.Select.Meaning.{AreMatches}
+use Rattle.tl_spec.specs.Select.Search.{matches_between}
+use Rattle.tl_spec.specs.Select.Text.{IsSelectorText}
 use Rattle.tl_spec.specs.Walk.{TreeFault}
-use Rattle.tl.specs.Shown.{HTMLTable, node_view}
+use Rattle.tl.specs.View.{HTMLTable, node_view}
+use Rattle.std.specs.List.{between}
+use Rattle.std.specs.Result.{result_err}
+use Rattle.tl_table.specs.TreeFault.{IsRefusal}
+use Rattle.tl_table.specs.declared.errors.TreeError.{TreeError}
 
 -- a node and its handle
 abbrev pub item_of : {N : Type 0} → Bor N × ℕ → N × ℕ
@@ -44,3 +48,8 @@ FindsIn d text found = FindsMatches text (λ e. AreMatches (map node_view d.node
 -- the numbers of all nodes of a document where a selector holds
 abbrev pub matches_in : Document → Selector → List ℕ
 matches_in d e = matches_between d.nodes e 0 (length d.nodes)
+
+-- the nodes of a range, or the fault; or memory ran out
+abbrev pub ReadsNodes : {N : Type 0} → Result (ℕ × ℕ) TreeFault → List N → Result (Bor (List N)) TreeError → Type 0
+ReadsNodes is nodes (Ok part) = (range : ℕ × ℕ) × (is ≡ Ok range) × (part.now ≡ between range.0 range.1 nodes)
+ReadsNodes is nodes (Err error) = IsRefusal (result_err is) error

@@ -1,6 +1,6 @@
 -- What a walk has still to give.
 use Rattle.std.specs.Prelude.{◌≡◌, ℕ, List, [], ◌∷◌, ◌++◌, map, Option, Some, None, IfSome}
-use Rattle.tl_spec.specs.Document.{Node, Tag, Raw, Comment, TagNode}
+use Rattle.tl_spec.specs.Tree.Document.{Node, Tag, Raw, Comment, TagNode}
 use Rattle.tl_spec.specs.Walk.{Event, Walk, end, events, all_tags, faulty, leaves, meets, meets_comment, meets_fault, meets_tag, meets_text, passes_tag, walk}
 use Rattle.tl_table.specs.declared.errors.TreeError.{TreeError}
 use Rattle.tl_table.specs.TreeFault.{fault_of}

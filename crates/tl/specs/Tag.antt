@@ -1,7 +1,7 @@
 -- What a contract sees of a tag.
 use Rattle.std.specs.Prelude.{ℕ, [], false, refl}
 use Rattle.std.specs.Coded.{Coded, code_by, coded×, coded_ℕ}
-use Rattle.tl_spec.specs.Inline.{InlineVec}
+use Rattle.tl_spec.specs.Tree.Inline.{InlineVec}
 use Rattle.tl_inline.specs.InlineVec.{inline_vec_code}
 
 pub record Tag (A B : Type 0) : Type 0 where

@@ -2,7 +2,7 @@
 use Rattle.std.specs.Prelude.{ℕ}
 use denote.Param.{number}
 use Rattle.std.specs.Borrow.{Lends, Fml, RattleType, MutBor}
-use Rattle.tl_spec.specs.Inline.{InlineVec}
+use Rattle.tl_spec.specs.Tree.Inline.{InlineVec}
 use Rattle.tl_inline.specs.contracts.inline.vec.InlineVec.{the_row as inline_vec_row}
 use Rattle.tl_attributes.specs.declared.outline.OutlineOf.{Ghosts}
 use Rattle.tl.specs.Tag.{Tag}

@@ -2,7 +2,7 @@
 use Rattle.std.specs.Prelude.{◌≡◌, ℕ, List, is_some}
 use Rattle.tl_bytes.specs.Held.{Kept}
 use Rattle.tl_bytes.specs.Keys.{same_list}
-use Rattle.tl_spec.specs.Document.{Node}
+use Rattle.tl_spec.specs.Tree.Document.{Node}
 use Rattle.tl_tracking.specs.Options.{Options}
 use Rattle.tl_tracking.specs.Tracking.{Tracking, TracksIds, TracksClasses, TracksMembers}
 

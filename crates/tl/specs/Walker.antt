@@ -1,10 +1,10 @@
 -- What a walker has still to give.
 use Rattle.std.specs.Prelude.{◌≡◌, ℕ, Bool, List, [], ◌∷◌, ◌++◌, length, map, Option, Some, None, Result, Ok, Err, IfSome, ⊤}
 use Rattle.std.specs.List.{slice_get}
-use Rattle.tl_spec.specs.Document.{Node, TagNode}
-use Rattle.tl_spec.specs.Walk.{Event as Happening, meets, leaves, faulty, all_tags, prints_children, walk, events}
+use Rattle.tl_spec.specs.Tree.Document.{Node, TagNode}
+use Rattle.tl_spec.specs.Walk.{Event as Happening, meets, leaves, faulty, all_tags, prints_children, walk, events, TreeFault}
 use Rattle.tl_table.specs.declared.errors.TreeError.{TreeError}
-use Rattle.tl_table.specs.TreeFault.{fault_of}
+use Rattle.tl_table.specs.TreeFault.{fault_of, IsRefusal}
 use Rattle.tl.specs.declared.walk.Entered.{Entered}
 use Rattle.tl.specs.declared.walk.Entered.TheVariants.{All, Printed}
 use Rattle.tl.specs.declared.walk.Frame.{Frame}
@@ -13,7 +13,8 @@ use Rattle.tl.specs.declared.walk.WalkEvent.{WalkEvent}
 use Rattle.tl.specs.declared.walk.WalkEvent.TheVariants.{Meets, Leaves}
 use Rattle.tl.specs.Marks.{AreFresh, IsKept}
 use Rattle.tl.specs.Remaining.{Around, FailsAt, Place, Remaining, Within, nothing_left, remaining_of, step}
-use Rattle.tl.specs.Shown.{HTMLNode, node_view, tag_view}
+use Rattle.tl.specs.View.{HTMLNode, node_view, tag_view}
+use Rattle.tl_spec.specs.Print.Text.{event_text}
 
 -- the names of the tags that are entered
 abbrev pub enters : Entered → List ℕ → Bool
@@ -142,3 +143,12 @@ Gives before (Some (Err error)) after = FailsAt (step before) error × (after �
 
 abbrev pub IsNext : Place → Option (Result WalkEvent TreeError) → Place → Type 0
 IsNext before result after = Gives (remaining_of before) result (remaining_of after)
+
+-- where there is no fault the text was written after `old`
+abbrev pub Writes : {A : Type 0} → Option TreeFault → List ℕ → List ℕ → Result A TreeError → List ℕ → Type 0
+Writes fault text old (Ok u) new = (fault ≡ None) × (new ≡ old ++ text)
+Writes fault text old (Err error) new = IsRefusal fault error
+
+-- the text of a node by itself: that of a text alone, whichever its handle is
+abbrev pub own_text : Node → List ℕ
+own_text node = event_text (meets 0 node)

@@ -3,15 +3,15 @@ ghost use Rattle.std.specs.Prelude.{◌≡◌, ◌<◌, ◌^◌, All, List, None
 ghost use Rattle.std.specs.Option.{ForSome};
 ghost use Rattle.tl_bytes.specs.Held.{Kept};
 ghost use Rattle.tl_tracking.specs.Options.{Options};
-ghost use Rattle.tl_spec.specs.Document.{Node, document};
-ghost use Rattle.tl_spec.specs.Each.{HoldOfNode, IsCleanAlone, Tests};
-ghost use Rattle.tl_spec.specs.Selector.{Selector};
-ghost use Rattle.tl_spec.specs.SelectorReading.{selector_at};
-ghost use Rattle.tl_spec.specs.SelectorText.{IsSelectorText};
-ghost use Rattle.tl_spec.specs.Scan.{has_id, is_in_class, IsFirstPlace, ArePlaces};
+ghost use Rattle.tl_spec.specs.Tree.Document.{Node, document};
+ghost use Rattle.tl_spec.specs.Tree.EveryNode.{HoldOfNode, IsCleanAlone, Tests};
+ghost use Rattle.tl_spec.specs.Select.Selector.{Selector};
+ghost use Rattle.tl_spec.specs.Select.Reading.{selector_at};
+ghost use Rattle.tl_spec.specs.Select.Text.{IsSelectorText};
+ghost use Rattle.tl_spec.specs.Lookup.Scan.{has_id, is_in_class, IsFirstPlace, ArePlaces};
 ghost use Rattle.tl.specs.Lookup.{with_id, with_member};
 ghost use Rattle.tl.specs.Query.{FindsIn, matches_in};
-ghost use Rattle.tl.specs.Shown.{document_of, node_view, HTMLNode, HTMLTable};
+ghost use Rattle.tl.specs.View.{document_of, node_view, HTMLNode, HTMLTable};
 ghost use Rattle.tl.specs.TableLends.{with_nodes};
 ghost use Rattle.tl.specs.Tracked.{AreAsked, AnswerIds, AnswerClasses};
 

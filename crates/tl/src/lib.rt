@@ -2,15 +2,14 @@
 #![tactic(auto)]
 
 ghost use Rattle.std.specs.Prelude.{◌≡◌, ◌↔◌, ◌<◌, ◌≤◌, [], length, sum_by, string_bytes, IfOk, IsOk, IsErrOf, All};
-ghost use Rattle.tl_spec.specs.Clean.{IsTame, IsCleanTable};
-ghost use Rattle.tl_spec.specs.Document.{document, node_and_attribute_count};
-ghost use Rattle.tl_spec.specs.Forest.{forest, plain};
-ghost use Rattle.tl_spec.specs.Order.{ChildrenFollowParents, DescendantsAreContiguous};
-ghost use Rattle.tl_spec.specs.Range.{AreRangesOfDescendants};
-ghost use Rattle.tl_spec.specs.Token.{tokens};
+ghost use Rattle.tl_spec.specs.Print.Clean.{IsTame, IsCleanTable};
+ghost use Rattle.tl_spec.specs.Tree.Document.{document, node_and_attribute_count};
+ghost use Rattle.tl_spec.specs.Tree.Forest.{forest, plain};
+ghost use Rattle.tl_spec.specs.Tree.Order.{ChildrenFollowParents, DescendantsAreContiguous};
+ghost use Rattle.tl_spec.specs.Walk.Range.{AreRangesOfDescendants};
+ghost use Rattle.tl_spec.specs.Lex.Token.{tokens};
 ghost use Rattle.tl_bytes.specs.Held.{borrowed, shared};
-ghost use Rattle.tl.specs.Shown.{document_of, version_of};
-ghost use Rattle.tl.specs.HeldAlike.{IsHeldNode};
+ghost use Rattle.tl.specs.View.{document_of, version_of, IsHeldNode};
 ghost use Rattle.tl.specs.Tracked.{AreAsked, AnswerIds, AnswerClasses};
 ghost use Rattle.tl.specs.declared.errors.ParseError.TheVariants.{InvalidLength};
 

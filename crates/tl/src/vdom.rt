@@ -3,12 +3,12 @@ ghost use Rattle.std.specs.Prelude.{◌≡◌, ◌<◌, ◌^◌, ℕ, [], length
 ghost use Rattle.std.specs.Borrow.{sem};
 ghost use Rattle.tl_table.specs.Answer.{Answers};
 ghost use Rattle.tl_table.specs.TreeFault.{FirstDangles};
-ghost use Rattle.tl_spec.specs.Clean.{IsCleanTable};
-ghost use Rattle.tl_spec.specs.Normal.{ReadsAs};
+ghost use Rattle.tl_spec.specs.Print.Clean.{IsCleanTable};
+ghost use Rattle.tl_spec.specs.Print.Normal.{ReadsAs};
 ghost use Rattle.tl_spec.specs.Print.{document_print};
-ghost use Rattle.tl_spec.specs.Text.{document_text};
+ghost use Rattle.tl_spec.specs.Print.Text.{document_text};
 ghost use Rattle.tl_spec.specs.Walk.{all_tags, trees, walk};
-ghost use Rattle.tl.specs.Shown.{document_of};
+ghost use Rattle.tl.specs.View.{document_of};
 ghost use Rattle.tl.specs.TableLends.{LendsParser, LendsNodes, LendsTop};
 
 pub(crate) mod guard;

@@ -4,7 +4,7 @@ ghost use Rattle.std.specs.Option.{option_copied};
 ghost use Rattle.std.specs.List.{slice_get};
 ghost use Rattle.tl_table.specs.TreeFault.{FirstDangles};
 ghost use Rattle.tl_spec.specs.Walk.{stands_on, walk, events};
-ghost use Rattle.tl.specs.Shown.{node_view, tag_view};
+ghost use Rattle.tl.specs.View.{node_view, tag_view};
 ghost use Rattle.tl.specs.Marks.{MayFollow};
 ghost use Rattle.tl.specs.Remaining.{nothing_left};
 ghost use Rattle.tl.specs.Walker.{enters, path_of, events_to_come, events_to_come_at, events_to_come_in, place_of, remaining, remaining_at, remaining_in, Takes, TakesNext, Steps, StepsOn, IsMarked, IsMetIn};

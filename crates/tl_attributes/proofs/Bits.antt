@@ -6,7 +6,7 @@ use Rattle.std.specs.Str.{bytes_eq}
 use Rattle.std.proofs.lemmas.Bool.{or_cases}
 use Rattle.std.proofs.lemmas.Nat.Bits.{bit_at_or, bit_at-lt, bit_at_set_same, bit_at_ones}
 use Rattle.std.proofs.lemmas.Slice.Eq.{bytes_eq-Decides}
-use Rattle.tl_attributes.specs.Outline.{mark_of, bit_of, MayBeMember}
+use Rattle.tl_attributes.specs.Summary.{mark_of, bit_of, MayBeMember}
 use Rattle.tl_attributes.specs.declared.outline.Mark.{Mark}
 
 bit_within : (mark : Mark) → bit_of mark < 32

@@ -7,8 +7,8 @@ use Rattle.std.specs.List.{list_any, prefix_len, slice_split, onto_first}
 use Rattle.std.specs.Char.{is_ascii_whitespace}
 use Rattle.std.specs.Int.{is_in_range}
 use Rattle.std.specs.Str.{IsCharBoundary, IsUtf8, bytes_eq, is_utf8}
-use Rattle.tl_spec.specs.ClassMember.{has_member, parts, class_parts}
-use Rattle.tl_spec.specs.Runs.{has_bytes}
+use Rattle.tl_spec.specs.Lookup.ClassMember.{has_member, parts, class_parts}
+use Rattle.tl_spec.specs.Lex.Runs.{has_bytes}
 
 abbrev pub in_part : ℕ → Bool
 in_part b = not (is_ascii_whitespace b)

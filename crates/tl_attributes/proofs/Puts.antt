@@ -7,17 +7,17 @@ use Rattle.std.specs.Map.{lookup}
 use Rattle.std.proofs.lemmas.Bool.Decides.{nat_tests}
 use Rattle.std.proofs.lemmas.List.Elements.{All-from_recursion, recursion_from_All}
 use Rattle.indexmap.specs.IndexMap.{insert_entry}
-use Rattle.tl_spec.specs.Inline.{InlineMap, room, with_entry}
-use Rattle.tl_spec.specs.Attribute.{Pair}
-use Rattle.tl_spec.specs.AttributeList.{Attributes, set_at, with_pair}
-use Rattle.tl_spec.specs.AttributeEdit.{with_attribute}
+use Rattle.tl_spec.specs.Tree.Inline.{InlineMap, room, with_entry}
+use Rattle.tl_spec.specs.Lex.Attribute.{Pair}
+use Rattle.tl_spec.specs.Lex.AttributeList.{Attributes, set_at, with_pair}
+use Rattle.tl_spec.specs.Edit.Attribute.{with_attribute}
 use Rattle.tl_spec.proofs.ByKey.{choose_by_key-all}
 use Rattle.tl_spec.proofs.Images.{image-insert_entry, image-set_at}
 use Rattle.tl_spec.proofs.Pairs.{all-insert_entry, length-insert_entry}
 use Rattle.tl_bytes.specs.Held.{Held, Kept}
 use Rattle.tl_bytes.specs.Keys.{same_list}
 use Rattle.tl_attributes.specs.HeldAttributes.{AreRead, IsHeld, IsHeldPair}
-use Rattle.tl_attributes.specs.ShownAttributes.{plain, bytes_view, entries_view, value_view}
+use Rattle.tl_attributes.specs.AttributesView.{plain, bytes_view, entries_view, value_view}
 
 -- an insert, by the bytes of the key
 abbrev pub put_piece : Attributes Kept → Kept → Option Kept → Attributes Kept

@@ -1,8 +1,8 @@
 -- What a contract sees of the attributes of a tag, beside the words of `tl_spec`.
 use Rattle.std.specs.Prelude.{Bool, false, cond, [], Option, Some, None, refl, Result, Ok, Err}
 use Rattle.std.specs.Coded.{Coded, code_by, coded×, coded_option}
-use Rattle.tl_spec.specs.Inline.{InlineMap}
-use Rattle.tl_spec.specs.AttributeList.{Attributes}
+use Rattle.tl_spec.specs.Tree.Inline.{InlineMap}
+use Rattle.tl_spec.specs.Lex.AttributeList.{Attributes}
 use Rattle.tl_inline.specs.InlineMap.{inline_map_code}
 
 -- attributes are stored as their fields

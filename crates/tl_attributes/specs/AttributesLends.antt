@@ -2,9 +2,9 @@
 use Rattle.std.specs.Prelude.{ℕ, List, Bool, Option, Some, Result}
 use Rattle.std.specs.Borrow.{LendsIf, LendsIfOk, Fml, RattleType, MutBor}
 use Rattle.std.specs.contracts.option.Option.{the_row as option_row}
-use Rattle.tl_spec.specs.Inline.{with_value}
-use Rattle.tl_spec.specs.AttributeList.{Attributes}
-use Rattle.tl_spec.specs.AttributeEdit.{with_value_at}
+use Rattle.tl_spec.specs.Tree.Inline.{with_value}
+use Rattle.tl_spec.specs.Lex.AttributeList.{Attributes}
+use Rattle.tl_spec.specs.Edit.Attribute.{with_value_at}
 use Rattle.tl_attributes.specs.contracts.attributes.AttributesOf.{the_row}
 
 -- the members of a `Piece`

@@ -1,8 +1,8 @@
 -- How the pieces of attributes are held.
 use Rattle.std.specs.Prelude.{◌≡◌, length, nat_lt, IfSome, All, Option}
 use Rattle.tl_bytes.specs.Held.{Held, Kept}
-use Rattle.tl_spec.specs.Inline.{room}
-use Rattle.tl_spec.specs.AttributeList.{Attributes}
+use Rattle.tl_spec.specs.Tree.Inline.{room}
+use Rattle.tl_spec.specs.Lex.AttributeList.{Attributes}
 
 abbrev pub IsHeld : Held → Kept → Type 0
 IsHeld held b = b.held ≡ held

@@ -1,6 +1,6 @@
 pub mod Attributes
-pub mod Listed
+pub mod Listing
 pub mod AttributesLends
-pub mod Outline
-pub mod ShownAttributes
+pub mod Summary
+pub mod AttributesView
 pub mod HeldAttributes

@@ -3,9 +3,9 @@ ghost use Rattle.std.specs.Prelude.{◌≡◌, ◌+◌, ◌<◌, ◌==◌, false
 ghost use Rattle.std.specs.List.{IsDistinct};
 ghost use Rattle.std.specs.Map.{keys_of, lookup};
 ghost use Rattle.std.specs.Option.{option_copied, option_copied_mut, option_map, option_flatten};
-ghost use Rattle.tl_spec.specs.Inline.{room, with_entry, with_value, without_key};
-ghost use Rattle.tl_spec.specs.AttributeList.{AreOthers, IsOther, count_of, is_class, is_id};
-ghost use Rattle.tl_spec.specs.AttributeEdit.{value_at, with_attribute, without_attribute, without_value};
+ghost use Rattle.tl_spec.specs.Tree.Inline.{room, with_entry, with_value, without_key};
+ghost use Rattle.tl_spec.specs.Lex.AttributeList.{AreOthers, IsOther, count_of, is_class, is_id};
+ghost use Rattle.tl_spec.specs.Edit.Attribute.{value_at, with_attribute, without_attribute, without_value};
 ghost use Rattle.tl_bytes.specs.Held.{borrowed};
 ghost use Rattle.tl_attributes.specs.Attributes.{no_attributes, nest};
 ghost use Rattle.tl_attributes.specs.HeldAttributes.{AreHeldAttributes};
@@ -32,7 +32,7 @@ pub struct AttributesOf<B: Piece> {
 pub type Attributes<'a> = AttributesOf<Bytes<'a>>;
 
 impl<B: Piece> Model for AttributesOf<B> {
-    ghost use Rattle.tl_spec.specs.AttributeList.{Attributes, AreOthers};
+    ghost use Rattle.tl_spec.specs.Lex.AttributeList.{Attributes, AreOthers};
     ghost use Rattle.tl_attributes.specs.Attributes.{attributes_code};
 
     ghost Value = { Attributes B };

@@ -5,7 +5,7 @@ ghost use Rattle.std.specs.Str.{bytes_eq, is_utf8};
 ghost use Rattle.std.specs.Char.{is_ascii_whitespace};
 ghost use Rattle.std.specs.Map.Iter.{TakesFirst, deref};
 ghost use Rattle.std.specs.Iterator.{at_most};
-ghost use Rattle.tl_spec.specs.ClassMember.{parts, class_parts, has_member};
+ghost use Rattle.tl_spec.specs.Lookup.ClassMember.{parts, class_parts, has_member};
 
 use crate::attributes::AttributesOf;
 use crate::piece::Piece;
@@ -20,7 +20,7 @@ pub struct ClassIter<'t> {
 
 impl<'t> Model for ClassIter<'t> {
     ghost use Rattle.std.specs.Prelude.{List, ℕ};
-    ghost use Rattle.tl_spec.specs.ClassMember.{parts};
+    ghost use Rattle.tl_spec.specs.Lookup.ClassMember.{parts};
 
     ghost Value = { List (List ℕ) };
 

@@ -1,6 +1,6 @@
 //! What is known of a tag's attributes without a look at them.
 ghost use Rattle.std.specs.Prelude.{◌≡◌, ◌↔◌, ◌<◌, IsTrue, Some};
-ghost use Rattle.tl_attributes.specs.Outline.{mark_of, bit_of, MayBeId, MayBeMember, AreClassBits, IsOutline};
+ghost use Rattle.tl_attributes.specs.Summary.{mark_of, bit_of, MayBeId, MayBeMember, AreClassBits, IsOutline};
 
 use crate::attributes::Attributes;
 use crate::class_iter::part_len;
@@ -113,7 +113,7 @@ fn class_bits(class: &[u8]) -> u32
 }
 
 impl<'a> OutlineOf<Attributes<'a>> for Outline {
-    ghost use Rattle.tl_spec.specs.AttributeList.{Attributes};
+    ghost use Rattle.tl_spec.specs.Lex.AttributeList.{Attributes};
     ghost use Rattle.tl_bytes.specs.Held.{Kept};
 
     ghost is_outline = { IsOutline };

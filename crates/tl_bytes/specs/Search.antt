@@ -2,7 +2,7 @@
 use Rattle.std.specs.Prelude.{ℕ, Bool, ◌==◌, not, if◌then◌else◌, List, Option}
 use Rattle.std.specs.Int.{w64, trailing_zeros}
 use Rattle.std.specs.List.{list_any, position}
-use Rattle.tl_spec.specs.ByteClass.{is_ident, is_name}
+use Rattle.tl_spec.specs.Lex.ByteClass.{is_ident, is_name}
 
 -- the first place whose byte is of this class, if there is one
 abbrev pub first : (ℕ → Bool) → List ℕ → Option ℕ

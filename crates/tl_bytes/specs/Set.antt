@@ -2,7 +2,7 @@
 use Rattle.std.specs.Prelude.{◌≡◌, ℕ, List, length, Option, Vec, Result, Ok, Err, nat_lt, if◌then◌else◌}
 use Rattle.std.specs.Option.{option_map}
 use Rattle.std.specs.declared.alloc.Global.{Global}
-use Rattle.tl_spec.specs.ByteClass.{largest_u32}
+use Rattle.tl_spec.specs.Lex.ByteClass.{largest_u32}
 use Rattle.tl_bytes.specs.Held.{Kept, as_owned, owned_part}
 use Rattle.tl_bytes.specs.declared.byte_string.owned.SetBytesError.{SetBytesError}
 use Rattle.tl_bytes.specs.declared.byte_string.owned.SetBytesError.TheVariants.{LengthOverflow}

@@ -1,6 +1,6 @@
 //! Classes of bytes.
 ghost use Rattle.std.specs.Prelude.{◌≡◌};
-ghost use Rattle.tl_spec.specs.ByteClass.{is_ident, is_name};
+ghost use Rattle.tl_spec.specs.Lex.ByteClass.{is_ident, is_name};
 
 // Each ident byte stands at its own place, and a comma, which is none, at every other.
 static IDENT_BYTES: [u8; 256] = *b"\

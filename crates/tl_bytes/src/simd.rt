@@ -1,7 +1,7 @@
 //! Searches of a byte slice for the first byte of a class. None takes memory.
 ghost use Rattle.std.specs.Prelude.{◌≡◌, ◌==◌, bytes_eq};
 ghost use Rattle.std.specs.Str.{str_to_ascii_lowercase};
-ghost use Rattle.tl_spec.specs.ByteClass.{is_closing};
+ghost use Rattle.tl_spec.specs.Lex.ByteClass.{is_closing};
 ghost use Rattle.tl_bytes.specs.Search.{first, is_one_of, is_not_ident, is_not_name};
 
 /// The same searches, byte by byte.

@@ -1,6 +1,6 @@
 //! Words among others.
 ghost use Rattle.std.specs.Prelude.{◌≡◌, map};
-ghost use Rattle.tl_spec.specs.ByteClass.{is_among_in_any_case};
+ghost use Rattle.tl_spec.specs.Lex.ByteClass.{is_among_in_any_case};
 
 /// Whether a word is one of these, in any ASCII case.
 pub fn is_among_in_any_case(words: &[&str], word: &[u8]) -> bool

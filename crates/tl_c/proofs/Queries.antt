@@ -4,9 +4,9 @@ use Rattle.std.specs.Borrow.{Bor}
 use Rattle.std.specs.Option.{option_flatten, option_map, option_map_or}
 use Rattle.std.specs.Str.{is_utf8}
 use Rattle.std.specs.Str.Lossy.{utf8_lossy}
-use Rattle.tl_spec.specs.Document.{Document, Node, document}
-use Rattle.tl_spec.specs.Element.{attribute_of}
-use Rattle.tl_spec.specs.Selector.{Selector}
+use Rattle.tl_spec.specs.Tree.Document.{Document, Node, document}
+use Rattle.tl_spec.specs.Tree.Element.{attribute_of}
+use Rattle.tl_spec.specs.Select.Selector.{Selector}
 use Rattle.tl.specs.Query.{matches_in}
 use Rattle.tl_page.specs.Outcome.{Outcome, not_understood, success}
 use Rattle.tl_page.specs.Page.{is_page}

@@ -3,11 +3,11 @@ use Rattle.std.specs.Prelude.{◌==◌, ℕ, List, [], ◌∷◌, ◌++◌, map,
 use Rattle.std.specs.Borrow.{Bor}
 use Rattle.std.specs.Option.{option_map_or}
 use Rattle.std.specs.Str.{is_utf8}
-use Rattle.tl_spec.specs.Document.{Document}
+use Rattle.tl_spec.specs.Tree.Document.{Document}
 use Rattle.tl_spec.specs.Edit.{Change}
 use Rattle.tl_spec.specs.Print.{print}
-use Rattle.tl_spec.specs.Selector.{Selector}
-use Rattle.tl_spec.specs.StepLine.{parse_changes}
+use Rattle.tl_spec.specs.Select.Selector.{Selector}
+use Rattle.tl_spec.specs.Edit.StepLine.{parse_changes}
 use Rattle.tl.specs.Query.{matches_in}
 use Rattle.tl_page.specs.Outcome.{Outcome, joined, not_understood, outcome_map, refused, success}
 use Rattle.tl_page.specs.Page.{is_page, outcome_in}

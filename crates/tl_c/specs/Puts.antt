@@ -1,7 +1,7 @@
 -- What a caller in C finds after a call.
 use Rattle.std.specs.Prelude.{◌≡◌, ◌≢◌, ◌<◌, ◌⊎◌, ℕ, Bool, List, ◌++◌, Option, IsSomeAnd, length, drop, nat_lt, if◌then◌else◌}
-use Rattle.tl_spec.specs.Document.{Document}
-use Rattle.tl.specs.Shown.{document_of}
+use Rattle.tl_spec.specs.Tree.Document.{Document}
+use Rattle.tl.specs.View.{document_of}
 use Rattle.tl_page.specs.Outcome.{Outcome, not_understood, status_of, success, written_of}
 use Rattle.tl_c.specs.declared.parsed.Parsed.{Parsed}
 

@@ -2,12 +2,12 @@
 use Rattle.std.specs.Prelude.{ℕ, List, slice_get, Option, None, Some, if◌then◌else◌}
 use Rattle.std.specs.Option.{option_map_or, option_flatten}
 use Rattle.std.specs.Str.{is_utf8}
-use Rattle.tl_spec.specs.Document.{Document, Node}
-use Rattle.tl_spec.specs.Element.{attribute_of}
-use Rattle.tl_spec.specs.Selector.{Selector}
-use Rattle.tl_spec.specs.Text.{inner_text}
+use Rattle.tl_spec.specs.Tree.Document.{Document, Node}
+use Rattle.tl_spec.specs.Tree.Element.{attribute_of}
+use Rattle.tl_spec.specs.Select.Selector.{Selector}
+use Rattle.tl_spec.specs.Print.Text.{inner_text}
 use Rattle.tl.specs.Query.{matches_in}
-use Rattle.tl.specs.Shown.{document_of}
+use Rattle.tl.specs.View.{document_of}
 use Rattle.tl_page.specs.Outcome.{Outcome, not_understood, outcome_of, refused, success}
 use Rattle.tl_c.specs.declared.parsed.Parsed.{Parsed}
 

@@ -1,8 +1,8 @@
 //! The calls with a page.
 ghost use Rattle.std.specs.Prelude.{◌≡◌, ◌≢◌, ◌<◌, length, None, Some, IsUtf8, take};
-ghost use Rattle.tl_spec.specs.Normal.{norm};
-ghost use Rattle.tl_spec.specs.Selector.{Selector};
-ghost use Rattle.tl_spec.specs.SelectorText.{IsSelectorText};
+ghost use Rattle.tl_spec.specs.Print.Normal.{norm};
+ghost use Rattle.tl_spec.specs.Select.Selector.{Selector};
+ghost use Rattle.tl_spec.specs.Select.Text.{IsSelectorText};
 ghost use Rattle.tl_html_spec.specs.HtmlTokenizer.{tokens_in_page};
 ghost use Rattle.tl_safe.specs.IsSafe.{IsSafe, tokens_of};
 ghost use Rattle.tl_safe.specs.Kept.{kept, trees_of};

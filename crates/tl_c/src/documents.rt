@@ -1,7 +1,7 @@
 //! The calls with a document.
 ghost use Rattle.std.specs.Prelude.{◌≡◌, ◌≢◌, IsSome, IsUtf8, None, Some};
-ghost use Rattle.tl_spec.specs.Selector.{Selector};
-ghost use Rattle.tl_spec.specs.SelectorText.{IsSelectorText};
+ghost use Rattle.tl_spec.specs.Select.Selector.{Selector};
+ghost use Rattle.tl_spec.specs.Select.Text.{IsSelectorText};
 ghost use Rattle.tl_page.specs.Outcome.{not_understood, success};
 ghost use Rattle.tl_page.specs.Page.{document_in};
 ghost use Rattle.tl_extract.specs.Field.{IsNoSelector};

@@ -1,7 +1,7 @@
 //! What is made of a page.
 ghost use Rattle.std.specs.Prelude.{◌≡◌, ◌<◌, length, Err, IfOk, IsUtf8, string_bytes};
-ghost use Rattle.tl_spec.specs.Normal.{norm};
-ghost use Rattle.tl.specs.Shown.{document_of};
+ghost use Rattle.tl_spec.specs.Print.Normal.{norm};
+ghost use Rattle.tl.specs.View.{document_of};
 ghost use Rattle.tl_html_spec.specs.HtmlTokenizer.{tokens_in_page};
 ghost use Rattle.tl_safe.specs.IsSafe.{IsSafe, tokens_of};
 ghost use Rattle.tl_safe.specs.Kept.{kept, trees_of};

@@ -1,8 +1,8 @@
 //! What is asked of a document that is held, if one is.
 ghost use Rattle.std.specs.Prelude.{◌≡◌, Err, IfOk, IsSome, IsUtf8, None, Some, option_copied, option_map, slice_get};
-ghost use Rattle.tl_spec.specs.Selector.{Selector};
-ghost use Rattle.tl_spec.specs.SelectorText.{IsSelectorText};
-ghost use Rattle.tl.specs.Shown.{document_of};
+ghost use Rattle.tl_spec.specs.Select.Selector.{Selector};
+ghost use Rattle.tl_spec.specs.Select.Text.{IsSelectorText};
+ghost use Rattle.tl.specs.View.{document_of};
 ghost use Rattle.tl_page.specs.Outcome.{Gives};
 ghost use Rattle.tl_page.specs.declared.failure.Failure.TheVariants.{NotUnderstood, Refused};
 ghost use Rattle.tl_extract.specs.Field.{IsNoSelector};

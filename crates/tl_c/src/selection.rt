@@ -1,7 +1,7 @@
 //! What is asked of the nodes of a page.
 ghost use Rattle.std.specs.Prelude.{◌≡◌, Some, None, string_bytes};
-ghost use Rattle.tl_spec.specs.Selector.{Selector};
-ghost use Rattle.tl_spec.specs.SelectorText.{IsSelectorText};
+ghost use Rattle.tl_spec.specs.Select.Selector.{Selector};
+ghost use Rattle.tl_spec.specs.Select.Text.{IsSelectorText};
 ghost use Rattle.tl_page.specs.Outcome.{Gives};
 ghost use Rattle.tl_extract.specs.Field.{IsNoSelector};
 ghost use Rattle.tl_c.specs.Pages.{ended_texts, field_of_number, selection};

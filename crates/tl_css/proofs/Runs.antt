@@ -4,7 +4,7 @@ use Rattle.std.proofs.lemmas.Bool.{true≢false}
 use Rattle.std.proofs.lemmas.List.Sums.{take_while-cons}
 use Rattle.std.specs.List.{take_while, list_any}
 use Rattle.std.specs.Str.{byte, bytes_eq, str_to_ascii_lowercase}
-use Rattle.tl_spec.specs.Runs.{after_needle, read_many}
+use Rattle.tl_spec.specs.Lex.Runs.{after_needle, read_many}
 use Rattle.tl_spec.proofs.Bytes.{drop-le}
 use Rattle.tl_spec.proofs.Many.{Shrinks, many-none, many-some}
 use Rattle.tl_css.specs.Read.{Read}

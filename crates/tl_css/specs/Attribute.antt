@@ -1,7 +1,7 @@
 -- Attribute selectors: `[key]`, `[key op value]`, `[key op value flag]`.
 use Rattle.std.specs.Prelude.{ℕ, Bool, true, false, ◌==◌, ◌||◌, if◌then◌else◌, List, [], ◌∷◌, Option, Some, None, is_some, codes, Result, Ok}
 use Rattle.std.specs.Str.{byte, str_to_ascii_lowercase}
-use Rattle.tl_spec.specs.ByteClass.{is_quote}
+use Rattle.tl_spec.specs.Lex.ByteClass.{is_quote}
 use Rattle.tl_css.specs.declared.error.Wrong.{Wrong}
 use Rattle.tl_css.specs.declared.error.Cause.TheVariants.{Unclosed, NoOperator, NoValue, NoFlag, Namespace, Unexpected}
 use Rattle.tl_css.specs.declared.selector.Op.{Op}

@@ -3,7 +3,7 @@ use Rattle.std.specs.Prelude.{ℕ, ℤ, pos, neg_ℤ, Bool, not, ◌&&◌, ◌||
 use Rattle.std.specs.Char.{is_ascii_digit}
 use Rattle.std.specs.List.{take_while}
 use Rattle.std.specs.Str.{byte, str_eq_ignore_ascii_case}
-use Rattle.tl_spec.specs.Runs.{drop_while}
+use Rattle.tl_spec.specs.Lex.Runs.{drop_while}
 use Rattle.tl_css.specs.declared.error.Cause.TheVariants.{NoFormula, LargeNumber}
 use Rattle.tl_css.specs.declared.selector.Formula.{Formula}
 use Rattle.tl_css.specs.Bytes.{decimal_number}

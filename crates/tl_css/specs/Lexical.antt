@@ -2,7 +2,7 @@
 use Rattle.std.specs.Prelude.{ℕ, Bool, true, false, ◌&&◌, ◌||◌, ◌==◌, if◌then◌else◌, List, [], ◌∷◌, ◌++◌, length, take, drop, Option, Some, None, is_some, option_map, encode_utf8, codes, Ok}
 use Rattle.std.specs.List.{take_while, list_any}
 use Rattle.std.specs.Str.{byte, bytes_eq, str_to_ascii_lowercase}
-use Rattle.tl_spec.specs.Runs.{after_needle, read_many}
+use Rattle.tl_spec.specs.Lex.Runs.{after_needle, read_many}
 use Rattle.tl_css.specs.declared.error.Cause.TheVariants.{Unclosed, NoName}
 use Rattle.tl_css.specs.Bytes.{is_newline, is_white, is_name_byte, is_string_byte, backslash, is_hex, hex_number, char_of}
 use Rattle.tl_css.specs.Read.{Read, wrong}

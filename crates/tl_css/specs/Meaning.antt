@@ -3,12 +3,12 @@ use Rattle.std.specs.Prelude.{◌≡◌, ◌≢◌, ◌↔◌, ◌⊎◌, ◌<�
 use Rattle.std.specs.List.{All, AllPairs, Contains, slice_split}
 use Rattle.std.specs.Option.{IsSome, IsSomeAnd, unwrap_or}
 use Rattle.std.specs.Str.{byte, str_to_ascii_lowercase}
-use Rattle.tl_spec.specs.Attribute.{Pair}
-use Rattle.tl_spec.specs.AttributeList.{pairs_in_order}
-use Rattle.tl_spec.specs.Document.{Node, Tag, Raw, Comment, TagNode}
-use Rattle.tl_spec.specs.Element.{name_of, children_of}
-use Rattle.tl_spec.specs.Scan.{has_id, is_in_class}
-use Rattle.tl_spec.specs.SelectorMeaning.{IsChild}
+use Rattle.tl_spec.specs.Lex.Attribute.{Pair}
+use Rattle.tl_spec.specs.Lex.AttributeList.{pairs_in_order}
+use Rattle.tl_spec.specs.Tree.Document.{Node, Tag, Raw, Comment, TagNode}
+use Rattle.tl_spec.specs.Tree.Element.{name_of, children_of}
+use Rattle.tl_spec.specs.Lookup.Scan.{has_id, is_in_class}
+use Rattle.tl_spec.specs.Select.Meaning.{IsChild}
 use Rattle.tl_css.specs.declared.selector.Op.{Op}
 use Rattle.tl_css.specs.declared.selector.Op.TheVariants.{Equals, Word, Dashed, Starts, Ends, Inside}
 use Rattle.tl_css.specs.declared.selector.Link.{Link}

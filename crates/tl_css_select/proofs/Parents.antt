@@ -5,9 +5,9 @@ use Rattle.std.specs.Option.{IsSomeAnd, option_map_or}
 use Rattle.std.proofs.lemmas.Bool.{cases_lt, cases_Bool, false≢true}
 use Rattle.std.proofs.lemmas.Bool.Decides.{Decides-eqb}
 use Rattle.std.proofs.lemmas.List.{get_or-set_same, get_or-set_other, get_or-replicate, length-set, length-replicate}
-use Rattle.tl_spec.specs.Document.{Node}
-use Rattle.tl_spec.specs.Element.{children_of}
-use Rattle.tl_spec.specs.SelectorMeaning.{IsChild}
+use Rattle.tl_spec.specs.Tree.Document.{Node}
+use Rattle.tl_spec.specs.Tree.Element.{children_of}
+use Rattle.tl_spec.specs.Select.Meaning.{IsChild}
 use Rattle.tl_spec.proofs.SelectorTests.{any-contained}
 use Rattle.tl_css.specs.declared.selector.Link.TheVariants.{Parent}
 use Rattle.tl_css.specs.Meaning.{IsForest, IsLink}

@@ -2,7 +2,7 @@
 use Rattle.std.proofs.Common.{◌≡◌, ◌<◌, ◌≤◌, ◌↔◌, ◌+◌, ◌||◌, ℕ, Bool, true, false, List, [], ◌∷◌, ◌++◌, length, take, sym, ap, ◌∙◌, arith, inl, inr, subst, get_or}
 use Rattle.std.proofs.lemmas.Bool.{cases_lt, or_cases, or_left, or_right}
 use Rattle.std.proofs.lemmas.List.{get_or_append_left, get_or_push, take_more, take_all}
-use Rattle.tl_spec.specs.Document.{Node}
+use Rattle.tl_spec.specs.Tree.Document.{Node}
 use Rattle.tl_css.specs.declared.selector.Link.{Link}
 use Rattle.tl_css.specs.declared.selector.Link.TheVariants.{Parent, Sibling, Twin}
 use Rattle.tl_css.specs.declared.selector.Step.{Step}

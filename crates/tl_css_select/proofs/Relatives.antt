@@ -2,7 +2,7 @@
 use Rattle.std.proofs.Common.{◌≡◌, ◌<◌, ◌⊎◌, ◌↔◌, ◌&&◌, ℕ, zero, suc, Bool, true, List, [], ◌∷◌, length, sym, ◌∙◌, arith, inl, inr, refl, subst}
 use Rattle.std.specs.List.{AllPairs, Contains}
 use Rattle.std.proofs.lemmas.Bool.{and_parts, and_from}
-use Rattle.tl_spec.specs.Document.{Node}
+use Rattle.tl_spec.specs.Tree.Document.{Node}
 use Rattle.tl_css.specs.declared.selector.Link.{Link}
 use Rattle.tl_css.specs.declared.selector.Reach.{Reach}
 use Rattle.tl_css.specs.declared.selector.Reach.TheVariants.{Once, Often}

@@ -6,9 +6,9 @@ use Rattle.std.proofs.lemmas.Bool.{and_parts, and_from, cases_lt, cases_Bool, fa
 use Rattle.std.proofs.lemmas.List.{drop_all}
 use Rattle.std.proofs.lemmas.List.Elements.{All-cons, All-nil}
 use Rattle.std.proofs.lemmas.List.Kept.{AllPairs-cons}
-use Rattle.tl_spec.specs.Document.{Node, Tag, Raw, Comment}
-use Rattle.tl_spec.specs.Element.{children_of}
-use Rattle.tl_spec.specs.SelectorMeaning.{IsChild}
+use Rattle.tl_spec.specs.Tree.Document.{Node, Tag, Raw, Comment}
+use Rattle.tl_spec.specs.Tree.Element.{children_of}
+use Rattle.tl_spec.specs.Select.Meaning.{IsChild}
 use Rattle.tl_css.specs.Meaning.{IsForest}
 use Rattle.tl_css_select.specs.Kin.{children_at, with_children}
 use Rattle.tl_css_select.specs.Links.{link_at, no_link}

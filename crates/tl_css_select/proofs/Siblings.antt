@@ -3,9 +3,9 @@ use Rattle.std.proofs.Common.{◌≡◌, ◌<◌, ◌≤◌, ◌↔◌, ◌+◌,
 use Rattle.std.specs.List.{Contains}
 use Rattle.std.specs.Option.{IsSome, IsSomeAnd, option_map_or}
 use Rattle.std.proofs.lemmas.Bool.{false≢true}
-use Rattle.tl_spec.specs.Document.{Node, Tag, Raw, Comment, TagNode}
-use Rattle.tl_spec.specs.Element.{children_of, name_of}
-use Rattle.tl_spec.specs.SelectorMeaning.{IsChild}
+use Rattle.tl_spec.specs.Tree.Document.{Node, Tag, Raw, Comment, TagNode}
+use Rattle.tl_spec.specs.Tree.Element.{children_of, name_of}
+use Rattle.tl_spec.specs.Select.Meaning.{IsChild}
 use Rattle.tl_css.specs.declared.selector.Link.{Link}
 use Rattle.tl_css.specs.declared.selector.Link.TheVariants.{Parent, Sibling, Twin}
 use Rattle.tl_css.specs.Meaning.{AreSiblings, IsForest, IsBefore, IsTag}

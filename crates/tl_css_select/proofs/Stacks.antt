@@ -5,7 +5,7 @@ use Rattle.std.proofs.lemmas.Bool.{cases_lt, false≢true}
 use Rattle.std.proofs.lemmas.List.{map-append, reverse-append}
 use Rattle.std.proofs.lemmas.List.Elements.{Contains-append_left, Contains-push, Contains-push_cases, Contains-get_or}
 use Rattle.std.proofs.lemmas.List.Quantifiers.{all_pairs_push}
-use Rattle.tl_spec.specs.Document.{Node}
+use Rattle.tl_spec.specs.Tree.Document.{Node}
 use Rattle.tl_css.specs.Selector.{Css}
 use Rattle.tl_css.specs.Meaning.{AreFound}
 use Rattle.tl_css.specs.Program.{change, meet, unite}

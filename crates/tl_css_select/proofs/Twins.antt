@@ -3,8 +3,8 @@ use Rattle.std.proofs.Common.{◌≡◌, ◌<◌, ◌≤◌, ◌⊎◌, ◌↔�
 use Rattle.std.specs.Option.{IsSomeAnd}
 use Rattle.std.specs.Str.{str_to_ascii_lowercase}
 use Rattle.std.proofs.lemmas.Bool.{cases_eq}
-use Rattle.tl_spec.specs.Document.{Node}
-use Rattle.tl_spec.specs.Element.{name_of}
+use Rattle.tl_spec.specs.Tree.Document.{Node}
+use Rattle.tl_spec.specs.Tree.Element.{name_of}
 use Rattle.tl_css.specs.declared.selector.Link.TheVariants.{Sibling, Twin}
 use Rattle.tl_css.specs.Selector.{Name}
 use Rattle.tl_css.specs.Meaning.{AreNamesakes, AreSiblings, IsBefore, IsLink, IsMet}

@@ -2,7 +2,7 @@
 use Rattle.std.specs.Prelude.{◌≡◌, ◌↔◌, ◌<◌, ℕ, Bool, true, false, if◌then◌else◌, List, [], ◌∷◌, length, map, reverse, ⊤}
 use Rattle.std.specs.List.{AllPairs, Contains}
 use Rattle.std.proofs.Common.{Vec, Global}
-use Rattle.tl_spec.specs.Document.{Node, Tag, Raw, Comment}
+use Rattle.tl_spec.specs.Tree.Document.{Node, Tag, Raw, Comment}
 use Rattle.tl_css.specs.Selector.{Css, Not, Both, Either, At, Nth}
 use Rattle.tl_css.specs.Program.{meet, unite}
 use Rattle.tl_css.specs.declared.selector.Step.{Step}

@@ -1,8 +1,8 @@
 -- Links between the nodes of a table.
 use Rattle.std.specs.Prelude.{◌≡◌, ◌↔◌, ℕ, ◌+◌, Bool, false, if◌then◌else◌, List, [], ◌∷◌, length, Option, None, Some, option_and_then, slice_get, slice_set}
 use Rattle.std.specs.Option.{is_some, option_map_or}
-use Rattle.tl_spec.specs.Document.{Node}
-use Rattle.tl_spec.specs.Element.{children_of, name_of}
+use Rattle.tl_spec.specs.Tree.Document.{Node}
+use Rattle.tl_spec.specs.Tree.Element.{children_of, name_of}
 use Rattle.tl_css.specs.declared.selector.Link.{Link}
 use Rattle.tl_css.specs.declared.selector.Link.TheVariants.{Parent, Sibling, Twin}
 use Rattle.tl_css_select.specs.declared.kin.Kin.{Kin}

@@ -1,7 +1,7 @@
 -- Whether a table is a forest, node by node.
 use Rattle.std.specs.Prelude.{ℕ, Bool, true, not, ◌&&◌, nat_lt, List, [], ◌∷◌, length}
 use Rattle.std.specs.Option.{is_some}
-use Rattle.tl_spec.specs.Document.{Node}
+use Rattle.tl_spec.specs.Tree.Document.{Node}
 use Rattle.tl_css_select.specs.Kin.{children_at}
 use Rattle.tl_css_select.specs.Links.{link_at}
 

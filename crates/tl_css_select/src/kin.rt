@@ -1,7 +1,7 @@
 //! Links between the nodes of a table: to the parent, and to the sibling tag before.
 ghost use Rattle.std.specs.Prelude.{◌≡◌, ◌↔◌, ◌<◌, ◌^◌, ℕ, IfOk, true, length, map, slice_index_or};
 ghost use Rattle.std.specs.Option.{option_copied};
-ghost use Rattle.tl_spec.specs.Element.{children_of};
+ghost use Rattle.tl_spec.specs.Tree.Element.{children_of};
 ghost use Rattle.tl_css.specs.Meaning.{AreNamesakes, IsForest};
 ghost use Rattle.tl_css.specs.declared.selector.Link.TheVariants.{Parent, Sibling, Twin};
 ghost use Rattle.tl_css_select.specs.Kin.{AreKin, AreLinksOf, IsTwin, links_of, children_at, name_at, is_tag, is_tag_at, sibling_group, with_child, with_children};

@@ -1,6 +1,6 @@
 //! Whether a table is a forest.
 ghost use Rattle.std.specs.Prelude.{◌≡◌, ◌↔◌, ◌<◌, ◌^◌, IfOk, true, length, map};
-ghost use Rattle.tl_spec.specs.Element.{children_of};
+ghost use Rattle.tl_spec.specs.Tree.Element.{children_of};
 ghost use Rattle.tl_css.specs.Meaning.{IsForest};
 ghost use Rattle.std.specs.Option.{is_some};
 ghost use Rattle.tl_css_select.specs.Links.{link_at};

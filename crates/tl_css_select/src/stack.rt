@@ -1,6 +1,6 @@
 //! The marks of the selectors that wait, step by step.
 ghost use Rattle.std.specs.Prelude.{◌≡◌, ◌↔◌, ◌<◌, ◌^◌, ℕ, IfOk, List, Bool, [], ◌∷◌, length, map, take, reverse};
-ghost use Rattle.tl_spec.specs.Document.{Node};
+ghost use Rattle.tl_spec.specs.Tree.Document.{Node};
 ghost use Rattle.tl_css.specs.Meaning.{AreFound, IsForest};
 ghost use Rattle.tl_css.specs.Program.{after_step, change, meet, selector_of, waiting_after};
 ghost use Rattle.tl_css.specs.Selector.{At, Css, Is, Nth};

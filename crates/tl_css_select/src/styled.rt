@@ -1,8 +1,8 @@
 //! Tests of a node by itself.
 ghost use Rattle.std.specs.Prelude.{◌≡◌, ◌↔◌, ℕ, IfSome, List, true, false, map};
 ghost use Rattle.std.specs.List.{All};
-ghost use Rattle.tl_spec.specs.Document.{Node};
-ghost use Rattle.tl_spec.specs.Element.{children_of};
+ghost use Rattle.tl_spec.specs.Tree.Document.{Node};
+ghost use Rattle.tl_spec.specs.Tree.Element.{children_of};
 ghost use Rattle.tl_css.specs.Meaning.{Holds, IsMet, IsNothing};
 ghost use Rattle.tl_css.specs.Selector.{Empty, Is};
 ghost use Rattle.tl_css.specs.View.{test as test_of};

@@ -1,9 +1,9 @@
 -- What the walk adds, event by event.
 use Rattle.std.proofs.Common.{◌≡◌, ◌<◌, ◌≤◌, ℕ, Bool, true, false, List, [], ◌∷◌, ◌++◌, map, Option, Some, None, Result, Ok, Err, length, refl, ap, sym, ◌∙◌, subst, append_assoc, append-nil, length-append, true≢false, arith, if◌then◌else◌}
 use Rattle.std.specs.Result.{result_err}
-use Rattle.tl_spec.specs.Document.{Document, document, Tag, Raw, Comment, TagNode}
-use Rattle.tl_spec.specs.Forest.{forest, plain}
-use Rattle.tl_spec.specs.Token.{tokens}
+use Rattle.tl_spec.specs.Tree.Document.{Document, document, Tag, Raw, Comment, TagNode}
+use Rattle.tl_spec.specs.Tree.Forest.{forest, plain}
+use Rattle.tl_spec.specs.Lex.Token.{tokens}
 use Rattle.tl_spec.specs.Walk.{Cycle, Dangling, Event, TreeFault, Walk, end, events, all_tags, faulty, leaves, meets, meets_comment, meets_fault, meets_tag, meets_text, earlier_fault, passes_tag, trees, fault_or, walk}
 use Rattle.tl_spec.proofs.Events.{Enters}
 use Rattle.tl_spec.proofs.Order.{document-whole}
@@ -11,7 +11,7 @@ use Rattle.tl_table.specs.TreeFault.{IsRefusal, error_of}
 use Rattle.tl_table.specs.declared.errors.TreeError.{TreeError}
 use Rattle.tl_table.specs.declared.errors.TreeError.TheVariants.{Dangling as DanglingError, Cycle as CycleError, OutOfMemory}
 use Rattle.tl.specs.Remaining.{Around, FailsAt, Place, Remaining, events_around, events_left, nothing_left, remaining_of, step, step_in, step_out}
-use Rattle.tl.specs.Shown.{node_view, tag_view}
+use Rattle.tl.specs.View.{node_view, tag_view}
 use Rattle.tl.specs.Walker.{event_view}
 use Rattle.tl.specs.declared.walk.WalkEvent.{WalkEvent}
 use Rattle.tl.specs.declared.walk.WalkEvent.TheVariants.{Meets, Leaves}

@@ -3,12 +3,12 @@ use Rattle.std.specs.Prelude.{◌≡◌, ℕ, List, [], ◌∷◌, slice_get, Op
 use Rattle.std.specs.Fmt.{decimal}
 use Rattle.std.specs.Option.{option_map_or, option_flatten}
 use Rattle.std.specs.Str.Lossy.{utf8_lossy}
-use Rattle.tl_spec.specs.Document.{Node}
-use Rattle.tl_spec.specs.Element.{attribute_of}
+use Rattle.tl_spec.specs.Tree.Document.{Node}
+use Rattle.tl_spec.specs.Tree.Element.{attribute_of}
 use Rattle.tl_spec.specs.Print.{inner_html, outer_html}
-use Rattle.tl_spec.specs.Selector.{Selector}
-use Rattle.tl_spec.specs.SelectorText.{IsSelectorText}
-use Rattle.tl_spec.specs.Text.{inner_text}
+use Rattle.tl_spec.specs.Select.Selector.{Selector}
+use Rattle.tl_spec.specs.Select.Text.{IsSelectorText}
+use Rattle.tl_spec.specs.Print.Text.{inner_text}
 use Rattle.tl_page.specs.Outcome.{Outcome, not_understood, outcome_map, outcome_of, refused, success}
 use Rattle.tl_extract.specs.declared.field.Field.{Field}
 use Rattle.tl_extract.specs.declared.field.Field.TheVariants.{Number, OuterHtml, InnerHtml, InnerText, Attribute}

@@ -1,6 +1,6 @@
 -- What is still to be written of a walk.
 use Rattle.std.specs.Prelude.{ℕ, Bool, false, List, [], ◌∷◌, ◌++◌, map, Option, None, if◌then◌else◌}
-use Rattle.tl_spec.specs.Document.{Tag, Raw, Comment}
+use Rattle.tl_spec.specs.Tree.Document.{Tag, Raw, Comment}
 use Rattle.tl_spec.specs.Walk.{Event, TreeFault, end, faulty, leaves, meets, earlier_fault, trees}
 use Rattle.tl.specs.Remaining.{Around, Remaining}
 use Rattle.tl_extract.specs.Readable.{edge, flow, is_hidden, shown_fault, spaced}

@@ -2,8 +2,8 @@
 use Rattle.std.specs.Prelude.{ℕ, List, [], ◌∷◌, codes, flat_map, map}
 use Rattle.std.specs.Borrow.{Bor}
 use Rattle.std.specs.Option.{option_flatten, option_to_list}
-use Rattle.tl_spec.specs.Document.{Node}
-use Rattle.tl_spec.specs.Element.{attribute_of}
+use Rattle.tl_spec.specs.Tree.Document.{Node}
+use Rattle.tl_spec.specs.Tree.Element.{attribute_of}
 
 -- the keys whose values are links
 abbrev pub link_keys : List (List ℕ)

@@ -3,7 +3,7 @@ use Rattle.std.specs.Prelude.{ℕ, List, [], ◌∷◌, ◌++◌, suc, flat_map,
 use Rattle.std.specs.Fmt.{decimal}
 use Rattle.std.specs.List.{before_first}
 use Rattle.std.specs.Str.Lossy.{utf8_lossy}
-use Rattle.tl_spec.specs.Document.{Document, Node, Tag, Raw, Comment}
+use Rattle.tl_spec.specs.Tree.Document.{Document, Node, Tag, Raw, Comment}
 
 -- what stands before the first newline, as text
 abbrev pub first_line : List ℕ → List ℕ

@@ -2,10 +2,10 @@
 use Rattle.std.specs.Prelude.{ℕ, Bool, List, [], ◌∷◌, ◌++◌, codes, flat_map, map, Option, None, Some, if◌then◌else◌}
 use Rattle.std.specs.Char.{is_ascii_whitespace}
 use Rattle.std.specs.Str.Lossy.{utf8_lossy}
-use Rattle.tl_spec.specs.ByteClass.{is_among_in_any_case}
-use Rattle.tl_spec.specs.ClassMember.{parts}
-use Rattle.tl_spec.specs.Document.{Document}
-use Rattle.tl_spec.specs.Forest.{Forest, PlainTag, none, text, comment, tag}
+use Rattle.tl_spec.specs.Lex.ByteClass.{is_among_in_any_case}
+use Rattle.tl_spec.specs.Lookup.ClassMember.{parts}
+use Rattle.tl_spec.specs.Tree.Document.{Document}
+use Rattle.tl_spec.specs.Tree.Forest.{Forest, PlainTag, none, text, comment, tag}
 use Rattle.tl_spec.specs.Walk.{TreeFault, Walk, end, all_tags, meets_comment, meets_fault, meets_tag, meets_text, earlier_fault, passes_tag, trees, fault_or, walk}
 use Rattle.std.specs.Prelude.{Result}
 use Rattle.tl_extract.specs.Split.{pieces}

@@ -2,10 +2,10 @@
 ghost use Rattle.std.specs.Prelude.{◌≡◌, IfOk, ℕ, List, None, Ok, Option, Result, Some, map, option_map, string_bytes};
 ghost use Rattle.std.specs.Option.{option_flatten};
 ghost use Rattle.std.specs.Str.Lossy.{utf8_lossy};
-ghost use Rattle.tl_spec.specs.Element.{attribute_of};
+ghost use Rattle.tl_spec.specs.Tree.Element.{attribute_of};
 ghost use Rattle.tl_spec.specs.Walk.{TreeFault};
 ghost use Rattle.tl_table.specs.Answer.{Answers};
-ghost use Rattle.tl.specs.Shown.{node_view};
+ghost use Rattle.tl.specs.View.{node_view};
 ghost use Rattle.tl_page.specs.Outcome.{Gives, outcome_map, outcome_of, success};
 ghost use Rattle.tl_extract.specs.Field.{field_at, field_of};
 

@@ -1,6 +1,6 @@
 //! Lines of words.
 ghost use Rattle.std.specs.Prelude.{◌≡◌, ◌++◌, IfOk, OnOk, string_bytes};
-ghost use Rattle.tl_spec.specs.ClassMember.{parts};
+ghost use Rattle.tl_spec.specs.Lookup.ClassMember.{parts};
 ghost use Rattle.tl_extract.specs.Readable.{line_of, lines_of, words_after};
 
 use crate::lossy::add_lossy;

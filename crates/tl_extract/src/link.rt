@@ -1,8 +1,8 @@
 //! The links of a document.
 ghost use Rattle.std.specs.Prelude.{◌≡◌, ◌++◌, IfOk, OnOk};
 ghost use Rattle.std.specs.Option.{option_flatten, option_to_list};
-ghost use Rattle.tl_spec.specs.Element.{attribute_of};
-ghost use Rattle.tl.specs.Shown.{document_of, node_view};
+ghost use Rattle.tl_spec.specs.Tree.Element.{attribute_of};
+ghost use Rattle.tl.specs.View.{document_of, node_view};
 ghost use Rattle.tl_extract.specs.Links.{link_keys, links_of, lists_of, values_at};
 
 use std::alloc::{AllocError, Global};

@@ -1,6 +1,6 @@
 //! What the nodes of a document are, by number: what one needs to write a step.
 ghost use Rattle.std.specs.Prelude.{◌≡◌, ◌++◌, [], IfOk, IsOk, OnOk, string_bytes};
-ghost use Rattle.tl.specs.Shown.{document_of, node_view};
+ghost use Rattle.tl.specs.View.{document_of, node_view};
 ghost use Rattle.tl_extract.specs.Outline.{child_words, first_line, node_words, outline_of};
 
 use crate::lossy::add_lossy;

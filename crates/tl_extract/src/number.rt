@@ -1,10 +1,10 @@
 //! How many nodes there are where a selector holds.
 ghost use Rattle.std.specs.Prelude.{◌≡◌, ◌<◌, ◌^◌, Err, IsOk, length};
-ghost use Rattle.tl_spec.specs.Selector.{Selector};
-ghost use Rattle.tl_spec.specs.SelectorText.{IsSelectorText, StandsAlone};
-ghost use Rattle.tl_selector.specs.Lacks.{LacksFirst, LacksSecond};
+ghost use Rattle.tl_spec.specs.Select.Selector.{Selector};
+ghost use Rattle.tl_spec.specs.Select.Text.{IsSelectorText, StandsAlone};
+ghost use Rattle.tl_selector.specs.MissingSimple.{LacksFirst, LacksSecond};
 ghost use Rattle.tl.specs.Query.{matches_in};
-ghost use Rattle.tl.specs.Shown.{document_of};
+ghost use Rattle.tl.specs.View.{document_of};
 ghost use Rattle.tl_page.specs.Outcome.{Gives, refused, success};
 ghost use Rattle.tl_page.specs.declared.failure.Failure.TheVariants.{Refused};
 ghost use Rattle.tl_extract.specs.Field.{IsNoSelector};

@@ -1,11 +1,11 @@
 //! The fields of the nodes where a selector holds.
 ghost use Rattle.std.specs.Prelude.{◌≡◌, [], Err, IsOk, None, Ok, length, map, option_map, string_bytes};
 ghost use Rattle.std.specs.Iterator.{at_most};
-ghost use Rattle.tl_spec.specs.Selector.{Selector};
-ghost use Rattle.tl_spec.specs.SelectorText.{IsSelectorText, StandsAlone};
-ghost use Rattle.tl_selector.specs.Lacks.{LacksFirst, LacksSecond};
+ghost use Rattle.tl_spec.specs.Select.Selector.{Selector};
+ghost use Rattle.tl_spec.specs.Select.Text.{IsSelectorText, StandsAlone};
+ghost use Rattle.tl_selector.specs.MissingSimple.{LacksFirst, LacksSecond};
 ghost use Rattle.tl.specs.Query.{matches_in};
-ghost use Rattle.tl.specs.Shown.{document_of, node_view};
+ghost use Rattle.tl.specs.View.{document_of, node_view};
 ghost use Rattle.tl_page.specs.Outcome.{Gives, YieldsOutcome, refused, success};
 ghost use Rattle.tl_page.specs.declared.failure.Failure.TheVariants.{Refused};
 ghost use Rattle.tl_extract.specs.Field.{IsNoSelector, fields, first_field};
@@ -30,7 +30,7 @@ pub struct Selection<'a, 'd> {
 
 impl<'a, 'd> Model for Selection<'a, 'd> {
     ghost use Rattle.std.specs.Prelude.{List, ℕ, map};
-    ghost use Rattle.tl.specs.Shown.{node_view};
+    ghost use Rattle.tl.specs.View.{node_view};
     ghost use Rattle.tl_page.specs.Outcome.{Outcome};
     ghost use Rattle.tl_extract.specs.Field.{fields};
 

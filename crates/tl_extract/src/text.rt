@@ -1,14 +1,13 @@
 //! The text of a document, as a reader of its text wants it.
 ghost use Rattle.std.specs.Prelude.{◌≡◌, ◌++◌, [], ℕ, List, IfOk, OnOk, map, string_bytes};
-ghost use Rattle.tl_spec.specs.ByteClass.{is_among_in_any_case};
-ghost use Rattle.tl_spec.specs.Document.{document as document_at};
-ghost use Rattle.tl_spec.specs.Forest.{forest, plain};
-ghost use Rattle.tl_spec.specs.Token.{tokens};
+ghost use Rattle.tl_spec.specs.Lex.ByteClass.{is_among_in_any_case};
+ghost use Rattle.tl_spec.specs.Tree.Document.{document as document_at};
+ghost use Rattle.tl_spec.specs.Tree.Forest.{forest, plain};
+ghost use Rattle.tl_spec.specs.Lex.Token.{tokens};
 ghost use Rattle.tl_table.specs.Answer.{Answers};
 ghost use Rattle.tl.specs.Remaining.{remaining_of};
-ghost use Rattle.tl.specs.Shown.{document_of};
-ghost use Rattle.tl.specs.Walker.{event_view};
-ghost use Rattle.tl.specs.Writing.{Writes};
+ghost use Rattle.tl.specs.View.{document_of};
+ghost use Rattle.tl.specs.Walker.{event_view, Writes};
 ghost use Rattle.tl.proofs.Remaining.{IsEntered};
 ghost use Rattle.tl_extract.specs.Flow.{after_event, after_name, event_flow, fault_left, flow_left, shown_edge};
 ghost use Rattle.tl_extract.specs.Readable.{block_names, cell_names, edge, is_hidden, readable, readable_of, spaced};

@@ -3,7 +3,7 @@ use Rattle.std.proofs.Common.{◌≡◌, ℕ, zero, suc, true, false, ◌==◌, 
 use Rattle.std.specs.Prelude.{nat_lt}
 use Rattle.std.specs.List.{starts_with}
 use Rattle.std.proofs.lemmas.Bool.{cases_Bool, eqb-true}
-use Rattle.tl_spec.specs.Runs.{after_needle}
+use Rattle.tl_spec.specs.Lex.Runs.{after_needle}
 
 -- how many dashes stand at the end of a text after so many, where no `-->` stands in it
 abbrev pub scan : ℕ → List ℕ → Option ℕ

@@ -4,8 +4,8 @@ use Rattle.std.specs.Prelude.{flat_map, ⊤}
 use Rattle.std.specs.List.{list_all}
 use Rattle.std.specs.Str.{bytes_eq}
 use Rattle.std.proofs.lemmas.Bool.{and_parts, cases_Bool}
-use Rattle.tl_spec.specs.ByteClass.{is_name}
-use Rattle.tl_spec.specs.Clean.{IsName}
+use Rattle.tl_spec.specs.Lex.ByteClass.{is_name}
+use Rattle.tl_spec.specs.Print.Clean.{IsName}
 use Rattle.tl_html_spec.specs.HtmlTokenizer.{HtmlAttribute, HtmlToken, Character, StartTag, EndTag, CommentToken, DoctypeToken}
 use Rattle.tl_html_spec.specs.Coded.{coded, coded_attribute, coded_byte, coded_tag, coded_token, digit_in, digits, is_kept}
 use Rattle.tl_html_spec.specs.Written.{AreKeys, AreWritable, IsWritable}

@@ -2,8 +2,8 @@
 use Rattle.std.proofs.Common.{◌≡◌, ℕ, true, false, ◌||◌, List, [], ◌∷◌, ◌++◌, map, codes, refl, ap, ◌∙◌, inl, inr}
 use Rattle.std.specs.List.{AllByRecursion, list_any}
 use Rattle.std.proofs.lemmas.Bool.{cases_Bool}
-use Rattle.tl_spec.specs.Document.{document, is_html5_doctype}
-use Rattle.tl_spec.specs.Token.{Comment, Doctype, End, IsNoDoctype, Nothing, PlacedToken, Start, Text, Token, tokens}
+use Rattle.tl_spec.specs.Tree.Document.{document, is_html5_doctype}
+use Rattle.tl_spec.specs.Lex.Token.{Comment, Doctype, End, IsNoDoctype, Nothing, PlacedToken, Start, Text, Token, tokens}
 use Rattle.tl_spec.proofs.Again.{kinds-tokens, kinds_next}
 use Rattle.tl_html_spec.specs.HtmlTokenizer.{HtmlToken, Character, StartTag, EndTag, CommentToken, DoctypeToken, html_tokens}
 use Rattle.tl_html_spec.specs.Balanced.{balanced}

@@ -4,7 +4,7 @@ use Rattle.std.specs.List.{AllByRecursion, list_all, list_any}
 use Rattle.std.specs.Str.{bytes_eq}
 use Rattle.std.proofs.lemmas.Bool.{cases_Bool}
 use Rattle.std.proofs.lemmas.Slice.Eq.{bytes_eq-Decides}
-use Rattle.tl_spec.specs.ByteClass.{is_void, void_names}
+use Rattle.tl_spec.specs.Lex.ByteClass.{is_void, void_names}
 use Rattle.tl_html_spec.specs.HtmlTokenizer.{HtmlToken, Character, StartTag, EndTag, CommentToken, DoctypeToken, html_tokens}
 use Rattle.tl_html_spec.specs.Balanced.{Names, balanced, left_open}
 use Rattle.tl_html_spec.specs.Coded.{coded_tag, coded_token}

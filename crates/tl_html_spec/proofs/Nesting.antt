@@ -3,7 +3,7 @@ use Rattle.std.proofs.Common.{◌≡◌, ℕ, zero, suc, Bool, true, false, ◌=
 use Rattle.std.specs.Str.{bytes_eq}
 use Rattle.std.specs.List.{list_any}
 use Rattle.std.proofs.lemmas.Slice.Eq.{bytes_eq-Decides}
-use Rattle.tl_spec.specs.ByteClass.{is_void}
+use Rattle.tl_spec.specs.Lex.ByteClass.{is_void}
 use Rattle.tl_names.specs.Elements.{closed_at_once, head_parts, is_among}
 use Rattle.tl_html_spec.specs.HtmlTokenizer.{HtmlAttribute, HtmlToken, Character, StartTag, EndTag, CommentToken, DoctypeToken, is_white_space}
 use Rattle.tl_html_spec.specs.Balanced.{Balance, Balanced, Closing, Names, Rule, after_closing, balance, balanced, balanced_from, before_start, carried_out, closed_by, closing, innermost, is_dropped, is_foreign, is_head, is_one_of, is_raw, left_open, nothing_more, opened, put_in, rules_before, start, then_closing, when, without_innermost}

@@ -5,12 +5,12 @@ use Rattle.std.specs.List.{list_all, take_while}
 use Rattle.std.proofs.lemmas.Bool.{and_from, and_parts, cases_Bool, eqb-true}
 use Rattle.std.proofs.lemmas.List.Folds.{list_all-append}
 use Rattle.std.proofs.Math.Seq.{take-append_seam}
-use Rattle.tl_spec.specs.Attribute.{Pair}
-use Rattle.tl_spec.specs.ByteClass.{is_name}
-use Rattle.tl_spec.specs.Clean.{IsName}
-use Rattle.tl_spec.specs.Grammar.{Stops}
-use Rattle.tl_spec.specs.Runs.{after_needle, drop_while}
-use Rattle.tl_spec.specs.Token.{Token, Text, End, Comment, Doctype, Start, next_token}
+use Rattle.tl_spec.specs.Lex.Attribute.{Pair}
+use Rattle.tl_spec.specs.Lex.ByteClass.{is_name}
+use Rattle.tl_spec.specs.Print.Clean.{IsName}
+use Rattle.tl_spec.specs.Lex.Grammar.{Stops}
+use Rattle.tl_spec.specs.Lex.Runs.{after_needle, drop_while}
+use Rattle.tl_spec.specs.Lex.Token.{Token, Text, End, Comment, Doctype, Start, next_token}
 use Rattle.tl_spec.proofs.Again.{kinds_next, name_no_gt}
 use Rattle.tl_spec.proofs.Comments.{comment_again}
 use Rattle.tl_spec.proofs.Grammar.{run-of}

@@ -4,15 +4,15 @@ use Rattle.std.specs.Prelude.{⊤, flat_map, fold}
 use Rattle.std.specs.List.{AllByRecursion, list_all}
 use Rattle.std.specs.Str.{bytes_eq}
 use Rattle.std.proofs.lemmas.Bool.{and_parts, cases_Bool}
-use Rattle.tl_spec.specs.Attribute.{Pair}
-use Rattle.tl_spec.specs.AttributeList.{PlainAttributes, attributes_of, pair_if_some, no_attributes, printed_pairs, with_pair}
-use Rattle.tl_spec.specs.ByteClass.{is_void}
-use Rattle.tl_spec.specs.Clean.{AreTamePairs, IsClean, IsCleanTable, IsCleanValue, IsName, IsTame}
-use Rattle.tl_spec.specs.Document.{document}
-use Rattle.tl_spec.specs.Forest.{Siblings, SourceTag, closes, forest, plain, siblings_within, source_tag, with_end, with_start, with_token}
-use Rattle.tl_spec.specs.Normal.{ReadsAs}
+use Rattle.tl_spec.specs.Lex.Attribute.{Pair}
+use Rattle.tl_spec.specs.Lex.AttributeList.{PlainAttributes, attributes_of, pair_if_some, no_attributes, printed_pairs, with_pair}
+use Rattle.tl_spec.specs.Lex.ByteClass.{is_void}
+use Rattle.tl_spec.specs.Print.Clean.{AreTamePairs, IsClean, IsCleanTable, IsCleanValue, IsName, IsTame}
+use Rattle.tl_spec.specs.Tree.Document.{document}
+use Rattle.tl_spec.specs.Tree.Forest.{Siblings, SourceTag, closes, forest, plain, siblings_within, source_tag, with_end, with_start, with_token}
+use Rattle.tl_spec.specs.Print.Normal.{ReadsAs}
 use Rattle.tl_spec.specs.Print.{print}
-use Rattle.tl_spec.specs.Token.{Comment, Doctype, End, Nothing, PlacedToken, Start, Text, Token, tokens}
+use Rattle.tl_spec.specs.Lex.Token.{Comment, Doctype, End, Nothing, PlacedToken, Start, Text, Token, tokens}
 use Rattle.tl_spec.proofs.Again.{kinds-tokens}
 use Rattle.tl_spec.proofs.ByKey.{choose_by_key-all}
 use Rattle.tl_spec.proofs.Fresh.{fresh_has_own_keys, fresh_is_clean}

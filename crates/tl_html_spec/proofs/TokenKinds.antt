@@ -2,9 +2,9 @@
 use Rattle.std.proofs.Common.{◌≡◌, ℕ, true, false, ◌==◌, List, [], ◌∷◌, ◌++◌, map, Some, codes, refl, ap, sym, subst, ◌∙◌, inl, inr, append_assoc}
 use Rattle.std.specs.List.{AllByRecursion, list_all, take_while}
 use Rattle.std.proofs.lemmas.Bool.{cases_Bool}
-use Rattle.tl_spec.specs.Grammar.{Stops}
-use Rattle.tl_spec.specs.Runs.{drop_while}
-use Rattle.tl_spec.specs.Token.{Token, Text, End, Comment, Doctype, Start, next_token}
+use Rattle.tl_spec.specs.Lex.Grammar.{Stops}
+use Rattle.tl_spec.specs.Lex.Runs.{drop_while}
+use Rattle.tl_spec.specs.Lex.Token.{Token, Text, End, Comment, Doctype, Start, next_token}
 use Rattle.tl_spec.proofs.Again.{kinds_next}
 use Rattle.tl_spec.proofs.Grammar.{run-of}
 use Rattle.tl_spec.proofs.Printed.{text_again}

@@ -1,6 +1,6 @@
 -- What holds of each token that the tokenizer emits.
 use Rattle.std.specs.Prelude.{◌≡◌, ℕ, List, [], ◌∷◌, ◌++◌, Some, codes, ⊤}
-use Rattle.tl_spec.specs.Runs.{after_needle}
+use Rattle.tl_spec.specs.Lex.Runs.{after_needle}
 use Rattle.tl_html_spec.specs.HtmlTokenizer.{HtmlAttribute, HtmlToken, Character, StartTag, EndTag, CommentToken, DoctypeToken}
 
 abbrev pub IsSome : List ℕ → Type 0

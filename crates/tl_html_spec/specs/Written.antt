@@ -1,9 +1,9 @@
 -- Tokens written down so that the grammar of `tl` reads them, and what it reads.
 use Rattle.std.specs.Prelude.{◌≡◌, ℕ, ◌-◌, false, List, [], ◌∷◌, ◌++◌, flat_map, map, length, take, drop, Option, Some, None, codes, ⊤}
-use Rattle.tl_spec.specs.Attribute.{Pair}
-use Rattle.tl_spec.specs.Clean.{IsName}
-use Rattle.tl_spec.specs.Runs.{after_needle, read_many}
-use Rattle.tl_spec.specs.Token.{Token, Text, End, Comment, Doctype, Start, Nothing, next_token}
+use Rattle.tl_spec.specs.Lex.Attribute.{Pair}
+use Rattle.tl_spec.specs.Print.Clean.{IsName}
+use Rattle.tl_spec.specs.Lex.Runs.{after_needle, read_many}
+use Rattle.tl_spec.specs.Lex.Token.{Token, Text, End, Comment, Doctype, Start, Nothing, next_token}
 use Rattle.tl_html_spec.specs.Escapes.{escaped_value, text_escape}
 use Rattle.tl_html_spec.specs.Unescaped.{unescaped_text, unescaped_value}
 use Rattle.tl_html_spec.specs.HtmlTokenizer.{HtmlAttribute, HtmlToken, Character, StartTag, EndTag, CommentToken, DoctypeToken}

@@ -3,12 +3,12 @@
 
 ghost use Rattle.std.specs.Prelude.{◌≡◌, ℕ, ◌+◌, Some, false, List, [], ◌∷◌, ◌++◌, length, true, map};
 ghost use Rattle.std.specs.List.{list_all};
-ghost use Rattle.tl_spec.specs.Clean.{IsClean, IsCleanTable};
-ghost use Rattle.tl_spec.specs.Document.{document};
-ghost use Rattle.tl_spec.specs.Forest.{forest, plain};
-ghost use Rattle.tl_spec.specs.Normal.{ReadsAs};
+ghost use Rattle.tl_spec.specs.Print.Clean.{IsClean, IsCleanTable};
+ghost use Rattle.tl_spec.specs.Tree.Document.{document};
+ghost use Rattle.tl_spec.specs.Tree.Forest.{forest, plain};
+ghost use Rattle.tl_spec.specs.Print.Normal.{ReadsAs};
 ghost use Rattle.tl_spec.specs.Print.{print};
-ghost use Rattle.tl_spec.specs.Token.{tokens};
+ghost use Rattle.tl_spec.specs.Lex.Token.{tokens};
 ghost use Rattle.tl_names.specs.References.{table_of};
 ghost use Rattle.tl_html_spec.specs.Balanced.{balanced, left_open};
 ghost use Rattle.tl_html_spec.specs.Coded.{AreBytes, coded, coded_tag, uncoded};

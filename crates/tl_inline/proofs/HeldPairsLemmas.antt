@@ -2,8 +2,8 @@
 use Rattle.std.proofs.Common.{◌≡◌, ℕ, Bool, Some, position, true, false, ap, sym, subst}
 use Rattle.std.specs.List.{IsDistinct}
 use Rattle.std.specs.Map.{keys_of}
-use Rattle.tl_spec.specs.Inline.{InlineMap, with_value}
-use Rattle.tl_inline.specs.HeldPairs.{storage_view, storage_with_value_at}
+use Rattle.tl_spec.specs.Tree.Inline.{InlineMap, with_value}
+use Rattle.tl_inline.specs.PairStorage.{storage_view, storage_with_value_at}
 use Rattle.tl_inline.specs.declared.inline.hashmap.held.HeldPairs.{HeldPairs}
 use Rattle.tl_inline.specs.declared.inline.hashmap.held.HeldPairs.TheVariants.{Inline, Heap}
 use Rattle.tl_spec.proofs.Pairs.{keys-set_value_at}

@@ -4,9 +4,9 @@ use Rattle.std.specs.List.{AllZip}
 use Rattle.std.specs.Map.Iter.{TakesFirst, ShowsInOrder}
 use Rattle.std.proofs.iter.runs.Sources.{from_front}
 use Rattle.std.proofs.lemmas.List.Elements.{Contains-get_or, Contains-append_right}
-use Rattle.tl_spec.specs.Inline.{InlineVec, with_item}
+use Rattle.tl_spec.specs.Tree.Inline.{InlineVec, with_item}
 use Rattle.tl_inline.specs.InlineVec.{ClonesAreEqual}
-use Rattle.tl_inline.specs.HeldItems.{storage_view, storage_with_item}
+use Rattle.tl_inline.specs.ItemStorage.{storage_view, storage_with_item}
 use Rattle.tl_inline.specs.declared.inline.vec.held.HeldItems.{HeldItems}
 use Rattle.tl_inline.specs.declared.inline.vec.held.HeldItems.TheVariants.{Inline, Heap}
 

@@ -14,7 +14,7 @@ use Rattle.indexmap.specs.IndexMap.{insert_entry, swap_remove_entry, set_value_a
 use Rattle.indexmap.proofs.MapLemmas.{Found-position, Missing-position, swap_remove_entry-found, swap_remove_entry-missing, absent_before, some_index, lookup_permutation}
 use Rattle.indexmap.proofs.RemoveLemmas.{swap_out}
 use Rattle.tl_inline.specs.InlineVec.{ClonesAreEqual}
-use Rattle.tl_spec.specs.Inline.{InlineMap, with_entry}
+use Rattle.tl_spec.specs.Tree.Inline.{InlineMap, with_entry}
 use Rattle.tl_spec.proofs.Pairs.{insert_new, insert_present, distinct_insert, position-map}
 use Rattle.arrayvec.proofs.ArrayVecLemmas.{items-with_items}
 

@@ -1,6 +1,6 @@
 -- What a contract sees of an `InlineHashMap`.
 use Rattle.std.specs.Prelude.{Bool, List, refl}
-use Rattle.tl_spec.specs.Inline.{InlineMap}
+use Rattle.tl_spec.specs.Tree.Inline.{InlineMap}
 use Rattle.std.specs.Coded.{Coded, code_by, coded×, coded_bool, coded_list}
 
 -- a map is stored as the pair of its fields

@@ -2,7 +2,7 @@
 use Rattle.std.specs.Prelude.{Option}
 use Rattle.std.specs.Borrow.{LendsIf, Fml, RattleType, MutBor}
 use Rattle.std.specs.HashMap.Lent.{HashMembers}
-use Rattle.tl_spec.specs.Inline.{InlineMap, with_value}
+use Rattle.tl_spec.specs.Tree.Inline.{InlineMap, with_value}
 use Rattle.tl_inline.specs.contracts.inline.hashmap.InlineHashMap.{the_row}
 
 module _ (K V N : RattleType) (key : HashMembers K.Denot) (m : MutBor (InlineMap K.Denot V.Denot)) where

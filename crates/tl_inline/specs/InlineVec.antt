@@ -1,7 +1,7 @@
 -- What a contract sees of an `InlineVec`.
 use Rattle.std.specs.Prelude.{◌≡◌, Bool, List, refl}
 use Rattle.std.specs.List.{Contains}
-use Rattle.tl_spec.specs.Inline.{InlineVec}
+use Rattle.tl_spec.specs.Tree.Inline.{InlineVec}
 use Rattle.std.specs.Coded.{Coded, code_by, coded×, coded_bool, coded_list}
 
 -- a vector is stored as the pair of its fields

@@ -1,7 +1,7 @@
 -- What an `InlineVec` ends as, where a `&mut` to its items is returned.
 use Rattle.std.specs.Prelude.{ℕ, Bool, List, Option}
 use Rattle.std.specs.Borrow.{follows, LendsIf, Fml, RattleType, MutBor, Array}
-use Rattle.tl_spec.specs.Inline.{InlineVec, with_item, with_items}
+use Rattle.tl_spec.specs.Tree.Inline.{InlineVec, with_item, with_items}
 use Rattle.tl_inline.specs.contracts.inline.vec.InlineVec.{the_row}
 
 module _ (T N : RattleType) (v : MutBor (InlineVec T.Denot)) where

@@ -4,7 +4,7 @@ use Rattle.std.specs.Prelude.{◌==◌}
 use Rattle.std.specs.List.{prefix_len, position_or_len}
 use Rattle.std.proofs.lemmas.Bool.{cases_lt, lt-ltb, le-ltb, cond-true, cond-false}
 use Rattle.std.proofs.lemmas.List.Sums.{prefix_len-le-length}
-use Rattle.tl_spec.specs.ByteClass.{ends_value}
+use Rattle.tl_spec.specs.Lex.ByteClass.{ends_value}
 use Rattle.tl_bytes.specs.Search.{first, is_one_of}
 
 -- two tests that agree have the same run

@@ -1,7 +1,7 @@
 -- Facts of places of a text.
 use Rattle.std.proofs.Common.{◌≡◌, ℕ, ◌+◌, ◌<◌, ◌≤◌, false, List, ◌∷◌, length, drop, arith, length-drop, ap}
-use Rattle.tl_spec.specs.ByteClass.{is_blank, is_closing}
-use Rattle.tl_spec.specs.Attribute.{Pair, attribute, skip_blanks}
+use Rattle.tl_spec.specs.Lex.ByteClass.{is_blank, is_closing}
+use Rattle.tl_spec.specs.Lex.Attribute.{Pair, attribute, skip_blanks}
 use Rattle.tl_spec.proofs.Bytes.{drop_while-le}
 use Rattle.tl_spec.proofs.Shrinks.{attribute-lt}
 

@@ -1,6 +1,6 @@
 -- What stands at a span, and at a place.
 use Rattle.std.specs.Prelude.{ℕ, ◌+◌, ◌≤◌, List, [], ◌∷◌, length, take, drop, Option, None, Some, option_map, IfSome}
-use Rattle.tl_spec.specs.Attribute.{Pair}
+use Rattle.tl_spec.specs.Lex.Attribute.{Pair}
 use Rattle.tl_lexer.specs.declared.span.Span.{Span}
 use Rattle.tl_lexer.specs.declared.span.AttributeSpan.{AttributeSpan}
 

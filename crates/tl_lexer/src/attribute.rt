@@ -1,8 +1,8 @@
 //! Attributes of a start tag.
 ghost use Rattle.std.specs.Prelude.{◌≡◌, ◌≤◌, ◌<◌, ◌+◌, length, drop, take_while, option_map, IfSome};
-ghost use Rattle.tl_spec.specs.ByteClass.{is_name};
-ghost use Rattle.tl_spec.specs.Runs.{drop_while};
-ghost use Rattle.tl_spec.specs.Attribute.{value, optional_value, skip_end, skip_blanks, attribute, next_attribute};
+ghost use Rattle.tl_spec.specs.Lex.ByteClass.{is_name};
+ghost use Rattle.tl_spec.specs.Lex.Runs.{drop_while};
+ghost use Rattle.tl_spec.specs.Lex.Attribute.{value, optional_value, skip_end, skip_blanks, attribute, next_attribute};
 ghost use Rattle.tl_lexer.specs.Span.{bytes_at, optional_bytes_at, pair_at, IsIn, ArePairIn};
 
 use crate::place::{byte_at, skip_blanks, split};

@@ -1,6 +1,6 @@
 //! The names of tags with a meaning of their own.
 ghost use Rattle.std.specs.Prelude.{◌≡◌};
-ghost use Rattle.tl_spec.specs.ByteClass.{is_void, is_printed_alone};
+ghost use Rattle.tl_spec.specs.Lex.ByteClass.{is_void, is_printed_alone};
 
 /// Whether a tag of this name never has children when it is read.
 #[inline(always)]

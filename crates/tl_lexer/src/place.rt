@@ -1,6 +1,6 @@
 //! Places of a text: what stands at one, and where reading goes on.
 ghost use Rattle.std.specs.Prelude.{◌≡◌, ◌≤◌, ◌+◌, length, drop, take};
-ghost use Rattle.tl_spec.specs.Attribute.{skip_blanks};
+ghost use Rattle.tl_spec.specs.Lex.Attribute.{skip_blanks};
 ghost use Rattle.tl_lexer.specs.Span.{in_front, bytes_at, IsIn};
 
 use crate::runs::blank_len;

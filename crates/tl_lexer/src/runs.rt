@@ -1,7 +1,7 @@
 //! The length of the run of bytes that a slice begins with.
 ghost use Rattle.std.specs.Prelude.{◌≡◌, ◌≤◌, ◌==◌, not, length};
 ghost use Rattle.std.specs.List.{prefix_len};
-ghost use Rattle.tl_spec.specs.ByteClass.{is_blank, is_ident, is_name, ends_value};
+ghost use Rattle.tl_spec.specs.Lex.ByteClass.{is_blank, is_ident, is_name, ends_value};
 
 use tl_bytes::simd;
 

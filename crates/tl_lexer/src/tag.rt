@@ -1,7 +1,7 @@
 //! How a start tag ends.
 ghost use Rattle.std.specs.Prelude.{◌≡◌, ◌≤◌, ◌+◌, ℕ, List, length, drop};
-ghost use Rattle.tl_spec.specs.Attribute.{Pair};
-ghost use Rattle.tl_spec.specs.Token.{token_after_attributes};
+ghost use Rattle.tl_spec.specs.Lex.Attribute.{Pair};
+ghost use Rattle.tl_spec.specs.Lex.Token.{token_after_attributes};
 
 /// How a start tag ends.
 #[derive(Clone, Copy)]
@@ -14,7 +14,7 @@ pub enum TagEnd {
     Broken,
 }
 
-ghost use Rattle.tl_lexer.specs.Lexed.{ended};
+ghost use Rattle.tl_lexer.specs.TokenMeaning.{ended};
 
 /// How a start tag ends after its attributes, and the place after that.
 pub fn tag_end(text: &[u8], at: usize) -> (TagEnd, usize)

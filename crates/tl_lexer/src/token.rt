@@ -1,10 +1,10 @@
 //! Tokens.
 ghost use Rattle.std.specs.Prelude.{◌≡◌, ◌≤◌, ◌<◌, ◌+◌, length, drop, take_while, codes, IfSome, option_map};
-ghost use Rattle.tl_spec.specs.ByteClass.{is_ident};
+ghost use Rattle.tl_spec.specs.Lex.ByteClass.{is_ident};
 ghost use Rattle.tl_lexer.specs.Span.{bytes_at, IsIn};
-ghost use Rattle.tl_spec.specs.Runs.{after_needle, drop_while};
-ghost use Rattle.tl_spec.specs.Attribute.{skip_blanks};
-ghost use Rattle.tl_spec.specs.Token.{end_tag, comment_token, doctype, word, declaration, markup, next_token};
+ghost use Rattle.tl_spec.specs.Lex.Runs.{after_needle, drop_while};
+ghost use Rattle.tl_spec.specs.Lex.Attribute.{skip_blanks};
+ghost use Rattle.tl_spec.specs.Lex.Token.{end_tag, comment_token, doctype, word, declaration, markup, next_token};
 
 use crate::attribute::name;
 use crate::place::{byte_at, skip_blanks, skip_one, split};
@@ -29,7 +29,7 @@ pub enum Token {
     Nothing,
 }
 
-ghost use Rattle.tl_lexer.specs.Lexed.{meant, IsTokenIn};
+ghost use Rattle.tl_lexer.specs.TokenMeaning.{meant, IsTokenIn};
 
 // The place after the first `-->` from a place on.
 fn skip_arrow(text: &[u8], at: usize) -> Option<usize>

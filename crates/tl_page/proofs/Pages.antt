@@ -4,8 +4,8 @@ use Rattle.std.specs.Prelude.{◌&&◌, nat_le}
 use Rattle.std.proofs.lemmas.Bool.{le-leb, leb-true}
 use Rattle.std.proofs.lemmas.Str.{IsUtf8-from_is_utf8, is_utf8-from_IsUtf8}
 use Rattle.std.specs.Str.{is_utf8}
-use Rattle.tl_spec.specs.ByteClass.{largest_u32}
-use Rattle.tl_spec.specs.Document.{Document, document}
+use Rattle.tl_spec.specs.Lex.ByteClass.{largest_u32}
+use Rattle.tl_spec.specs.Tree.Document.{Document, document}
 use Rattle.tl_page.specs.Outcome.{Fails, Outcome, not_understood, success}
 use Rattle.tl_page.specs.Page.{IsPage, document_in, is_page, outcome_in}
 use Rattle.tl_page.specs.declared.failure.Failure.{Failure}

@@ -1,6 +1,6 @@
 -- What is wrong with a page or a word, and where.
 use Rattle.std.specs.Prelude.{ℕ, List, ◌++◌, codes, decimal}
-use Rattle.tl_spec.specs.ByteClass.{largest_u32}
+use Rattle.tl_spec.specs.Lex.ByteClass.{largest_u32}
 use Rattle.tl_page.specs.declared.error.Cause.{Cause}
 use Rattle.tl_page.specs.declared.error.Cause.TheVariants.{NoText, TooLong}
 use Rattle.tl_page.specs.declared.error.PageError.{PageError}

@@ -1,8 +1,8 @@
 -- Pages, which are bytes.
 use Rattle.std.specs.Prelude.{ℕ, ◌≤◌, Bool, List, length, ◌&&◌, nat_le, if◌then◌else◌, IsUtf8}
 use Rattle.std.specs.Str.{is_utf8}
-use Rattle.tl_spec.specs.ByteClass.{largest_u32}
-use Rattle.tl_spec.specs.Document.{Document, document}
+use Rattle.tl_spec.specs.Lex.ByteClass.{largest_u32}
+use Rattle.tl_spec.specs.Tree.Document.{Document, document}
 use Rattle.tl_page.specs.Outcome.{Outcome, not_understood, success}
 
 -- bytes that are a text which is not too long

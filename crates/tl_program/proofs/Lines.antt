@@ -8,7 +8,7 @@ use Rattle.std.specs.Borrow.{Bor}
 use Rattle.std.specs.List.{slice_split}
 use Rattle.std.specs.Option.{option_map}
 use Rattle.tl_spec.specs.Edit.{Change}
-use Rattle.tl_spec.specs.StepLine.{is_line_feed}
+use Rattle.tl_spec.specs.Edit.StepLine.{is_line_feed}
 
 -- these changes, and then those
 abbrev pub after_changes : List Change → Option (List Change) → Option (List Change)

@@ -2,7 +2,7 @@
 use Rattle.std.proofs.Common.{◌≡◌, ℕ, ◌||◌, false, List, [], append-nil, Option, None, Some, arith, lit≤, refl, sym, subst}
 use Rattle.std.specs.Prelude.{IfSome}
 use Rattle.std.specs.Io.KnownBytes.{Appends}
-use Rattle.tl_spec.specs.Document.{Document}
+use Rattle.tl_spec.specs.Tree.Document.{Document}
 use Rattle.tl_page.specs.Outcome.{Outcome, not_understood, status_of, written_of}
 use Rattle.tl_program.specs.Run.{IsRun}
 use Rattle.tl_program.specs.Streams.{Reading, Writing}

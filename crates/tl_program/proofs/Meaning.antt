@@ -1,9 +1,9 @@
 -- What is made of an input that is too long, and by which selector.
 use Rattle.std.proofs.Common.{◌≡◌, ◌<◌, List, ℕ, length, Option, None, Some, refl, sym, ap, arith}
 use Rattle.std.specs.Prelude.{IfSome}
-use Rattle.tl_spec.specs.ByteClass.{largest_u32}
-use Rattle.tl_spec.specs.Selector.{Selector}
-use Rattle.tl_spec.specs.SelectorReading.{selector_at}
+use Rattle.tl_spec.specs.Lex.ByteClass.{largest_u32}
+use Rattle.tl_spec.specs.Select.Selector.{Selector}
+use Rattle.tl_spec.specs.Select.Reading.{selector_at}
 use Rattle.tl_spec.proofs.SelectorText.{text-only, text-none}
 use Rattle.tl_page.specs.Outcome.{not_understood}
 use Rattle.tl_page.proofs.Pages.{outcome-no_page}

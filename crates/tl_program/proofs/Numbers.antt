@@ -5,7 +5,7 @@ use Rattle.std.proofs.lemmas.Str.Parse.{IsNumeralModel, numerals_by_fold, parse_
 use Rattle.std.specs.Result.{result_ok}
 use Rattle.std.specs.Str.{all_ascii_digits}
 use Rattle.std.specs.Str.Parse.{ParsesUnsigned}
-use Rattle.tl_spec.specs.StepLine.{continue_number, is_number, number_of}
+use Rattle.tl_spec.specs.Edit.StepLine.{continue_number, is_number, number_of}
 
 own : IsNumeralModel (λ ds. all_ascii_digits ds ≡ true) (continue_number 0)
 own = numerals_by_fold _ (search rules) continue_number (search rules)

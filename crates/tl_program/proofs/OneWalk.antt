@@ -3,8 +3,8 @@ use Rattle.std.proofs.Common.{◌≡◌, ℕ, zero, suc, ◌==◌, Bool, true, f
 use Rattle.std.specs.Option.{option_map_or}
 use Rattle.std.specs.Str.Lossy.{utf8_lossy}
 use Rattle.std.proofs.lemmas.Bool.{or_from, or_parts}
-use Rattle.tl_spec.specs.Document.{Node, Tag, Raw, Comment, document}
-use Rattle.tl_spec.specs.Text.{document_text, inner_text, text_of}
+use Rattle.tl_spec.specs.Tree.Document.{Node, Tag, Raw, Comment, document}
+use Rattle.tl_spec.specs.Print.Text.{document_text, inner_text, text_of}
 use Rattle.tl_spec.specs.Walk.{TreeFault, Walk, Dangling, walk_result, end, all_tags, first_fault, handle_walk, meets_comment, meets_tag, meets_text, earlier_fault, row_walk, stands_on, trees, fault_or, walk, walk_within}
 use Rattle.tl_spec.proofs.Order.{document-faultless}
 use Rattle.tl_spec.proofs.Walks.{walk-step}

@@ -5,16 +5,16 @@ use Rattle.std.specs.Str.{bytes_eq}
 use Rattle.std.proofs.lemmas.Option.{slice_get-map}
 use Rattle.std.proofs.lemmas.List.{map-set}
 use Rattle.tl_bytes.specs.Held.{Kept, as_owned}
-use Rattle.tl_spec.specs.Document.{Handles, TagNode, Node, Document}
-use Rattle.tl_spec.specs.Document as shown_node
-use Rattle.tl_spec.specs.Inline.{room, with_last}
-use Rattle.tl_spec.specs.AttributeList.{Attributes}
+use Rattle.tl_spec.specs.Tree.Document.{Handles, TagNode, Node, Document}
+use Rattle.tl_spec.specs.Tree.Document as shown_node
+use Rattle.tl_spec.specs.Tree.Inline.{room, with_last}
+use Rattle.tl_spec.specs.Lex.AttributeList.{Attributes}
 use Rattle.tl_spec.specs.Edit as shown_edit
 use Rattle.tl_spec.specs.Edit.{Change, Names, Texts, Comments, Sets, Flags, Unsets, Bares, Pushes, Pulls, Roots, Refusal, no_place, map_ok, without_handle, apply_change, apply_changes, none_refused, shift_place}
 use Rattle.tl_spec.proofs.Images.{image-with_attribute, image-without_attribute, image-without_value}
-use Rattle.tl_attributes.specs.ShownAttributes.{bytes_view, attributes_view}
+use Rattle.tl_attributes.specs.AttributesView.{bytes_view, attributes_view}
 use Rattle.tl.specs.TableLends.{with_node}
-use Rattle.tl.specs.Shown.{HTMLTag, HTMLNode, tag_view, node_view, document_of, HTMLTable}
+use Rattle.tl.specs.View.{HTMLTag, HTMLNode, tag_view, node_view, document_of, HTMLTable}
 use Rattle.tl.specs.declared.parser.tag.node.NodeOf.TheVariants.{Tag, Raw, Comment}
 use Rattle.tl_program.specs.TableEdit.{with_attribute, without_attribute, without_value, of_tag, of_node, at_node, at_tag, edited_table, next, table_after}
 

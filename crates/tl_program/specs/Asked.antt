@@ -3,10 +3,10 @@ use Rattle.std.specs.Prelude.{◌≡◌, ℕ, List, [], ◌∷◌, Option, None,
 use Rattle.std.specs.Option.{option_map}
 use Rattle.std.specs.Str.{bytes_eq}
 use Rattle.tl_spec.specs.Edit.{Change}
-use Rattle.tl_spec.specs.Selector.{Selector}
-use Rattle.tl_spec.specs.SelectorReading.{selector_at}
-use Rattle.tl_spec.specs.SelectorText.{IsSelectorText}
-use Rattle.tl_spec.specs.StepLine.{parse_changes}
+use Rattle.tl_spec.specs.Select.Selector.{Selector}
+use Rattle.tl_spec.specs.Select.Reading.{selector_at}
+use Rattle.tl_spec.specs.Select.Text.{IsSelectorText}
+use Rattle.tl_spec.specs.Edit.StepLine.{parse_changes}
 use Rattle.tl_program.specs.Steps.{changes_in}
 use Rattle.tl_program.specs.declared.program.asked.Command.{Command}
 use Rattle.tl_program.specs.declared.program.asked.Command.TheVariants.{Print, Text, Again, Select, Id, Class, Edit}

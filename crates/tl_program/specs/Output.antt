@@ -6,15 +6,15 @@ use Rattle.std.specs.List.{flat_map}
 use Rattle.std.specs.Option.{option_map_or, option_to_list}
 use Rattle.std.specs.Io.KnownBytes.{Appends}
 use Rattle.std.specs.declared.string.String.{String}
-use Rattle.tl_spec.specs.ByteClass.{largest_u32, line_feed}
-use Rattle.tl_spec.specs.Clean.{IsCleanTable}
-use Rattle.tl_spec.specs.Document.{Document, Node, document}
+use Rattle.tl_spec.specs.Lex.ByteClass.{largest_u32, line_feed}
+use Rattle.tl_spec.specs.Print.Clean.{IsCleanTable}
+use Rattle.tl_spec.specs.Tree.Document.{Document, Node, document}
 use Rattle.tl_spec.specs.Edit.{Edited, Refusal, apply_changes}
-use Rattle.tl_spec.specs.Normal.{ReadsAs}
+use Rattle.tl_spec.specs.Print.Normal.{ReadsAs}
 use Rattle.tl_spec.specs.Print.{document_print}
-use Rattle.tl_spec.specs.Scan.{id_scan, class_scan}
-use Rattle.tl_spec.specs.Selector.{Selector}
-use Rattle.tl_spec.specs.Text.{inner_text}
+use Rattle.tl_spec.specs.Lookup.Scan.{id_scan, class_scan}
+use Rattle.tl_spec.specs.Select.Selector.{Selector}
+use Rattle.tl_spec.specs.Print.Text.{inner_text}
 use Rattle.tl_spec.specs.Walk.{TreeFault, Dangling, all_tags, trees, walk}
 use Rattle.tl.specs.Query.{matches_in}
 use Rattle.tl_page.specs.Outcome.{Outcome, joined, not_understood, outcome_of, refused, success}

@@ -1,6 +1,6 @@
 -- What was read of an input.
 use Rattle.std.specs.Prelude.{◌≡◌, ◌<◌, ℕ, List, length}
-use Rattle.tl_spec.specs.ByteClass.{largest_u32}
+use Rattle.tl_spec.specs.Lex.ByteClass.{largest_u32}
 use Rattle.tl_program.specs.declared.program.page.Page.{Page}
 use Rattle.tl_program.specs.declared.program.page.Page.TheVariants.{Whole, TooLong}
 

@@ -2,9 +2,9 @@
 use Rattle.std.specs.Prelude.{ℕ, Bool, IsTrue, Option, Some, None, IfSome}
 use Rattle.std.specs.List.{AllByRecursion}
 use Rattle.tl_bytes.specs.Held.{Kept}
-use Rattle.tl_spec.specs.AttributeList.{Attributes}
+use Rattle.tl_spec.specs.Lex.AttributeList.{Attributes}
 use Rattle.tl_spec.specs.Edit.{Change, Names, Texts, Comments, Sets, Flags, Unsets, Bares, Pushes, Pulls, Roots}
-use Rattle.tl.specs.Shown.{HTMLNode}
+use Rattle.tl.specs.View.{HTMLNode}
 use Rattle.tl.specs.declared.parser.tag.node.NodeOf.TheVariants.{Tag, Raw, Comment}
 
 -- the node that an edit names, if it names one

@@ -1,7 +1,7 @@
 -- What a run does to a reader and a writer, by what it makes of an input.
 use Rattle.std.specs.Prelude.{◌≡◌, ◌≢◌, ℕ, ◌+◌, ◌<◌, ◌≤◌, ◌==◌, true, false, ◌||◌, IsTrue, List, Option, IfSome}
 use Rattle.std.specs.Io.KnownBytes.{Appends, IsAtEnd}
-use Rattle.tl_spec.specs.Document.{Document, document}
+use Rattle.tl_spec.specs.Tree.Document.{Document, document}
 use Rattle.tl_page.specs.Outcome.{Outcome, status_of, written_of}
 use Rattle.tl_program.specs.Output.{ReadsBack, AppendsBeginning}
 use Rattle.tl_program.specs.Streams.{Reading, Writing}

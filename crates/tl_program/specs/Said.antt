@@ -3,8 +3,8 @@ use Rattle.std.specs.Prelude.{◌≡◌, ℕ, List, Option, None, Some, map, str
 use Rattle.std.specs.Global.{Global}
 use Rattle.std.specs.Option.{option_and_then}
 use Rattle.std.specs.declared.string.String.{String}
-use Rattle.tl_spec.specs.Document.{Document}
-use Rattle.tl_spec.specs.Selector.{Selector}
+use Rattle.tl_spec.specs.Tree.Document.{Document}
+use Rattle.tl_spec.specs.Select.Selector.{Selector}
 use Rattle.tl_page.specs.Outcome.{Outcome, not_understood}
 use Rattle.tl_program.specs.Asked.{Asked, IsSelectorOf, asked_by}
 use Rattle.tl_program.specs.Output.{output_of, printed_document}

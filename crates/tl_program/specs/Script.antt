@@ -2,12 +2,12 @@
 use Rattle.std.specs.Prelude.{◌≡◌, ℕ, Bool, true, List, take, slice_get, Some, None, Result, Ok, Err, IsOk, IsTrue, IsSomeAnd}
 use Rattle.std.specs.Borrow.{MutBor}
 use Rattle.tl_bytes.specs.Held.{Kept, as_owned}
-use Rattle.tl_spec.specs.Document.{Document}
+use Rattle.tl_spec.specs.Tree.Document.{Document}
 use Rattle.tl_spec.specs.Edit.{Change, Refusal, no_node, not_tag, no_place, apply_change, apply_changes, none_refused, refusal_at}
 use Rattle.tl.specs.Node.{tag_of}
 use Rattle.tl.specs.Tag.{Tag}
 use Rattle.tl.specs.Table.{Table}
-use Rattle.tl.specs.Shown.{HTMLTag, HTMLNode, HTMLTable}
+use Rattle.tl.specs.View.{HTMLTag, HTMLNode, HTMLTable}
 use Rattle.tl.specs.declared.parser.tag.node.NodeOf.TheVariants.{Tag as ATag}
 use Rattle.tl_program.specs.TableEdit.{at_node, of_tag}
 use Rattle.tl_program.specs.declared.script.step.StepError.{StepError}

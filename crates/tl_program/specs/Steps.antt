@@ -2,7 +2,7 @@
 use Rattle.std.specs.Prelude.{ℕ, List, [], map, Option, None, Some}
 use Rattle.std.specs.List.{slice_split}
 use Rattle.std.specs.Borrow.{Bor}
-use Rattle.tl_spec.specs.StepLine.{is_line_feed}
+use Rattle.tl_spec.specs.Edit.StepLine.{is_line_feed}
 use Rattle.tl_spec.specs.Edit.{Change, Names, Texts, Comments, Sets, Flags, Unsets, Bares, Pushes, Pulls, Roots}
 use Rattle.tl_program.specs.declared.script.step.Step.{Step}
 use Rattle.tl_program.specs.declared.script.step.Step.TheVariants.{Name, Text, Comment, Set, Flag, Unset, Bare, Push, Pull, Root}

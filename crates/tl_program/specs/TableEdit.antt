@@ -3,13 +3,13 @@ use Rattle.std.specs.Prelude.{◌≡◌, ℕ, nat_lt, List, [], ◌∷◌, lengt
 use Rattle.std.specs.List.{slice_get, AllByRecursion}
 use Rattle.tl_bytes.specs.Held.{Kept, as_owned}
 use Rattle.tl_bytes.specs.Keys.{same_list}
-use Rattle.tl_spec.specs.Inline.{room, with_last}
-use Rattle.tl_spec.specs.AttributeList.{Attributes}
-use Rattle.tl_spec.specs.AttributeEdit as any
+use Rattle.tl_spec.specs.Tree.Inline.{room, with_last}
+use Rattle.tl_spec.specs.Lex.AttributeList.{Attributes}
+use Rattle.tl_spec.specs.Edit.Attribute as any
 use Rattle.tl_spec.specs.Edit.{Change, Names, Texts, Comments, Sets, Flags, Unsets, Bares, Pushes, Pulls, Roots, Refusal, no_node, not_tag, no_place, map_ok, without_handle}
-use Rattle.tl_attributes.specs.ShownAttributes.{bytes_view}
+use Rattle.tl_attributes.specs.AttributesView.{bytes_view}
 use Rattle.tl.specs.TableLends.{with_node}
-use Rattle.tl.specs.Shown.{HTMLTag, HTMLNode, HTMLTable}
+use Rattle.tl.specs.View.{HTMLTag, HTMLNode, HTMLTable}
 use Rattle.tl.specs.declared.parser.tag.node.NodeOf.TheVariants.{Tag, Raw, Comment}
 
 -- attributes with v at a key; a key that is there stays, held as it was

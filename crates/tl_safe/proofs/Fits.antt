@@ -8,10 +8,10 @@ use Rattle.std.proofs.lemmas.Bool.{and_from, and_parts, not-true}
 use Rattle.std.proofs.lemmas.Bool.Decides.{nat_tests}
 use Rattle.tl_html_spec.proofs.Ahead.{or_both}
 use Rattle.std.proofs.lemmas.List.Folds.{list_all-append}
-use Rattle.tl_spec.specs.AttributeList.{HasOwnKeys, printed_pairs}
-use Rattle.tl_spec.specs.ByteClass.{is_void}
-use Rattle.tl_spec.specs.Clean.{HaveOwnKeys}
-use Rattle.tl_spec.specs.Forest.{Forest, none, text, comment, tag, PlainTag}
+use Rattle.tl_spec.specs.Lex.AttributeList.{HasOwnKeys, printed_pairs}
+use Rattle.tl_spec.specs.Lex.ByteClass.{is_void}
+use Rattle.tl_spec.specs.Print.Clean.{HaveOwnKeys}
+use Rattle.tl_spec.specs.Tree.Forest.{Forest, none, text, comment, tag, PlainTag}
 use Rattle.tl_html_spec.specs.Escapes.{escaped_text, text_escape}
 use Rattle.tl_tree_spec.specs.Builder.{is_flow, mode_of}
 use Rattle.tl_tree_spec.specs.Groups.{group}

@@ -7,9 +7,9 @@ use Rattle.std.specs.Str.Lossy.{utf8_lossy, utf8_lossy_within, utf8_valid_len, a
 use Rattle.std.proofs.lemmas.Bool.{and_from, and_parts, cases_Bool, eqb-true, not-true}
 use Rattle.std.proofs.lemmas.Bool.Decides.{nat_tests}
 use Rattle.std.proofs.lemmas.List.Folds.{list_all-append}
-use Rattle.tl_spec.specs.ByteClass.{is_void}
-use Rattle.tl_spec.specs.Forest.{Forest, none, text, comment, tag, PlainTag}
-use Rattle.tl_spec.specs.Normal.{join_text, lossy, lossy_tag, norm, tidy}
+use Rattle.tl_spec.specs.Lex.ByteClass.{is_void}
+use Rattle.tl_spec.specs.Tree.Forest.{Forest, none, text, comment, tag, PlainTag}
+use Rattle.tl_spec.specs.Print.Normal.{join_text, lossy, lossy_tag, norm, tidy}
 use Rattle.tl_spec.proofs.Ascii.{are_ascii, lossy-ascii}
 use Rattle.tl_spec.proofs.Bytes.{AllPass-also, all_pass, passes}
 use Rattle.tl_spec.proofs.Lossy.{lossy-nil}

@@ -1,11 +1,11 @@
 -- The tokens of trees are those of the same trees as a browser has them.
 use Rattle.std.proofs.Common.{◌≡◌, false, List, ◌∷◌, ◌++◌, map, Some, true, refl, ap, ap₂, ◌∙◌, if◌then◌else◌}
-use Rattle.tl_spec.specs.AttributeList.{printed_pairs}
-use Rattle.tl_spec.specs.ByteClass.{is_void}
-use Rattle.tl_spec.specs.Forest.{Forest, none, text, comment, tag, PlainTag}
+use Rattle.tl_spec.specs.Lex.AttributeList.{printed_pairs}
+use Rattle.tl_spec.specs.Lex.ByteClass.{is_void}
+use Rattle.tl_spec.specs.Tree.Forest.{Forest, none, text, comment, tag, PlainTag}
 use Rattle.tl_html_spec.specs.HtmlTokenizer.{HtmlToken, Character, StartTag, EndTag, CommentToken}
 use Rattle.tl_html_spec.specs.Written.{inside}
-use Rattle.tl_spec.specs.Normal.{norm}
+use Rattle.tl_spec.specs.Print.Normal.{norm}
 use Rattle.tl_tree_spec.specs.HtmlForest.{html_tokens_of}
 use Rattle.tl_tree_spec.specs.HtmlTreeBuilder.{html_trees}
 use Rattle.tl_tree_spec.proofs.Trees.{stays_exactly}

@@ -1,8 +1,8 @@
 -- What is kept and made to stay.
 use Rattle.std.proofs.Common.{◌≡◌, true, Some, ap, ◌∙◌}
-use Rattle.tl_spec.specs.Clean.{HaveOwnKeys}
-use Rattle.tl_spec.specs.Forest.{Forest, PlainTag}
-use Rattle.tl_spec.specs.Normal.{ReadsAs, norm}
+use Rattle.tl_spec.specs.Print.Clean.{HaveOwnKeys}
+use Rattle.tl_spec.specs.Tree.Forest.{Forest, PlainTag}
+use Rattle.tl_spec.specs.Print.Normal.{ReadsAs, norm}
 use Rattle.tl_spec.specs.Print.{print}
 use Rattle.tl_html_spec.specs.HtmlTokenizer.{tokens_in_page}
 use Rattle.tl_tree_spec.specs.HtmlTreeBuilder.{html_trees}

@@ -1,12 +1,12 @@
 -- What is written of a page.
 use Rattle.std.proofs.Common.{◌≡◌, ℕ, List, [], ap, ◌∙◌, map}
-use Rattle.tl_spec.specs.Document.{Document, document}
-use Rattle.tl_spec.specs.Forest.{forest, plain}
+use Rattle.tl_spec.specs.Tree.Document.{Document, document}
+use Rattle.tl_spec.specs.Tree.Forest.{forest, plain}
 use Rattle.tl_spec.specs.Print.{print}
-use Rattle.tl_spec.specs.Token.{tokens}
+use Rattle.tl_spec.specs.Lex.Token.{tokens}
 use Rattle.tl_spec.specs.Walk.{all_tags, trees, walk}
 use Rattle.tl_spec.proofs.Order.{document-whole}
-use Rattle.tl.specs.Shown.{HTMLTable, document_of, node_view}
+use Rattle.tl.specs.View.{HTMLTable, document_of, node_view}
 use Rattle.tl_safe.specs.Kept.{kept}
 use Rattle.tl_safe.specs.Left.{row}
 use Rattle.tl_safe.specs.Lists.{ListedWords}

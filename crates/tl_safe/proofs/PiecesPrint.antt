@@ -4,9 +4,9 @@ use Rattle.std.specs.List.{list_all}
 use Rattle.std.specs.Prelude.{⊤}
 use Rattle.std.specs.Str.Lossy.{utf8_lossy}
 use Rattle.std.proofs.lemmas.Bool.Decides.{nat_tests}
-use Rattle.tl_spec.specs.ByteClass.{is_printed_alone, is_void}
-use Rattle.tl_spec.specs.Clean.{HaveOwnKeys}
-use Rattle.tl_spec.specs.Forest.{Forest, none, text, comment, tag, PlainTag}
+use Rattle.tl_spec.specs.Lex.ByteClass.{is_printed_alone, is_void}
+use Rattle.tl_spec.specs.Print.Clean.{HaveOwnKeys}
+use Rattle.tl_spec.specs.Tree.Forest.{Forest, none, text, comment, tag, PlainTag}
 use Rattle.tl_spec.specs.Print.{print, print_end, print_start}
 use Rattle.tl_spec.proofs.Identity.{not_command}
 use Rattle.std.specs.Option.{option_or}

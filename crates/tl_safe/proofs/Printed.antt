@@ -10,12 +10,12 @@ use Rattle.std.proofs.lemmas.Cmp.{nat_list_eq_equiv}
 use Rattle.std.proofs.lemmas.List.{map-append}
 use Rattle.std.proofs.lemmas.List.Folds.{list_all-append, list_any-append}
 use Rattle.std.proofs.lemmas.Map.Keys.{IsDistinct-push}
-use Rattle.tl_spec.specs.Attribute.{Pair}
-use Rattle.tl_spec.specs.AttributeList.{AreOthers, HasOwnKeys, IsOther, PlainAttributes, pair_if_some, printed_pairs}
-use Rattle.tl_spec.specs.ByteClass.{is_void, is_printed_alone}
-use Rattle.tl_spec.specs.Clean.{HaveOwnKeys}
-use Rattle.tl_spec.specs.Forest.{Forest, none, text, comment, tag, PlainTag}
-use Rattle.tl_spec.specs.Normal.{ReadsAs, join_text, lossy_attributes, lossy_pair, lossy_tag, norm}
+use Rattle.tl_spec.specs.Lex.Attribute.{Pair}
+use Rattle.tl_spec.specs.Lex.AttributeList.{AreOthers, HasOwnKeys, IsOther, PlainAttributes, pair_if_some, printed_pairs}
+use Rattle.tl_spec.specs.Lex.ByteClass.{is_void, is_printed_alone}
+use Rattle.tl_spec.specs.Print.Clean.{HaveOwnKeys}
+use Rattle.tl_spec.specs.Tree.Forest.{Forest, none, text, comment, tag, PlainTag}
+use Rattle.tl_spec.specs.Print.Normal.{ReadsAs, join_text, lossy_attributes, lossy_pair, lossy_tag, norm}
 use Rattle.tl_spec.specs.Print.{print, print_end, print_pairs, print_start}
 use Rattle.tl_spec.proofs.Identity.{identity, not_command}
 use Rattle.tl_spec.proofs.Ascii.{lossy-ascii}

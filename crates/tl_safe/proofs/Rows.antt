@@ -1,18 +1,18 @@
 -- What the walk writes, handle by handle and frame by frame.
 use Rattle.std.proofs.Common.{◌≡◌, ℕ, ◌+◌, ◌*◌, ◌<◌, Bool, true, false, not, List, [], ◌∷◌, ◌++◌, drop, slice_get, Option, Some, None, refl, ap, ap₂, sym, ◌∙◌, arith, append_assoc, append-nil, true≢false, if◌then◌else◌}
 use Rattle.std.specs.Str.Lossy.{utf8_lossy}
-use Rattle.tl_spec.specs.ByteClass.{is_among_in_any_case, is_printed_alone, is_void}
-use Rattle.tl_spec.specs.Document.{Node, Tag, Raw, Comment, TagNode}
-use Rattle.tl_spec.specs.Element.{children_of}
-use Rattle.tl_spec.specs.Forest.{Forest, none, text, comment, tag, PlainTag}
-use Rattle.tl_spec.specs.Met.{child_at, handle_met, met}
-use Rattle.tl_spec.specs.Order.{ChildrenFollowParents}
+use Rattle.tl_spec.specs.Lex.ByteClass.{is_among_in_any_case, is_printed_alone, is_void}
+use Rattle.tl_spec.specs.Tree.Document.{Node, Tag, Raw, Comment, TagNode}
+use Rattle.tl_spec.specs.Tree.Element.{children_of}
+use Rattle.tl_spec.specs.Tree.Forest.{Forest, none, text, comment, tag, PlainTag}
+use Rattle.tl_spec.specs.Walk.Length.{child_at, handle_met, met}
+use Rattle.tl_spec.specs.Tree.Order.{ChildrenFollowParents}
 use Rattle.tl_spec.specs.Print.{print, print_end, print_start}
 use Rattle.tl_spec.specs.Walk.{Walk, all_tags, handle_walk, plain_node, trees, walk}
 use Rattle.tl_spec.proofs.Identity.{not_command}
 use Rattle.tl_spec.proofs.Rising.{walk-one, met-cons, drop-some, drop-none, child_found, child_missing, given}
 use Rattle.tl_spec.proofs.Walks.{walk-nil}
-use Rattle.tl.specs.Shown.{node_view}
+use Rattle.tl.specs.View.{node_view}
 use Rattle.tl_safe.specs.Lists.{ListedWords, is_among, opaque_names}
 use Rattle.tl_safe.specs.Refusals.{are_lawful}
 use Rattle.tl_safe.specs.Kept.{joined, kept, kept_tag}

@@ -8,11 +8,11 @@ use Rattle.std.proofs.lemmas.Bool.{and_parts, and_from}
 use Rattle.std.proofs.lemmas.List.{map-append}
 use Rattle.std.proofs.lemmas.List.Elements.{filter-append}
 use Rattle.std.proofs.lemmas.Map.Made.{IsDistinct-keys_filter}
-use Rattle.tl_spec.specs.Attribute.{Pair}
-use Rattle.tl_spec.specs.AttributeList.{AreOthers, HasOwnKeys, IsOther, PlainAttributes, pair_if_some, printed_pairs}
-use Rattle.tl_spec.specs.ByteClass.{is_among_in_any_case, is_void}
-use Rattle.tl_spec.specs.Clean.{AreCleanPairs, HaveOwnKeys, IsClean, IsCleanStart, IsName}
-use Rattle.tl_spec.specs.Forest.{Forest, none, text, comment, tag, PlainTag}
+use Rattle.tl_spec.specs.Lex.Attribute.{Pair}
+use Rattle.tl_spec.specs.Lex.AttributeList.{AreOthers, HasOwnKeys, IsOther, PlainAttributes, pair_if_some, printed_pairs}
+use Rattle.tl_spec.specs.Lex.ByteClass.{is_among_in_any_case, is_void}
+use Rattle.tl_spec.specs.Print.Clean.{AreCleanPairs, HaveOwnKeys, IsClean, IsCleanStart, IsName}
+use Rattle.tl_spec.specs.Tree.Forest.{Forest, none, text, comment, tag, PlainTag}
 use Rattle.tl_safe.specs.Lists.{ListedWords, is_among, opaque_names}
 use Rattle.tl_safe.specs.Refusals.{are_lawful}
 use Rattle.tl_safe.specs.Kept.{is_text_byte, is_value_byte, joined, kept, kept_attributes, kept_value, stays, value_stays, written_pair, written_pairs, written_value}

@@ -5,8 +5,8 @@ use Rattle.std.proofs.lemmas.Bool.{and_parts, and_from, cases_Bool, eqb-true, no
 use Rattle.std.proofs.lemmas.Bool.Decides.{nat_tests}
 use Rattle.std.proofs.lemmas.List.Folds.{list_all-append}
 use Rattle.std.specs.Str.Lossy.{utf8_lossy}
-use Rattle.tl_spec.specs.Attribute.{Pair}
-use Rattle.tl_spec.specs.Normal.{lossy_pair}
+use Rattle.tl_spec.specs.Lex.Attribute.{Pair}
+use Rattle.tl_spec.specs.Print.Normal.{lossy_pair}
 use Rattle.tl_spec.proofs.Bytes.{AllPass-also, all_pass, passes}
 use Rattle.tl_spec.proofs.Lossy.{lossy-AllPass}
 use Rattle.tl_html_spec.proofs.Ahead.{apart}

@@ -3,9 +3,9 @@ use Rattle.std.proofs.Common.{◌≡◌, ℕ, Bool, true, false, cond, map, List
 use Rattle.std.specs.List.{filter, list_all}
 use Rattle.std.specs.Str.Lossy.{utf8_lossy}
 use Rattle.std.proofs.lemmas.Bool.{and_parts}
-use Rattle.tl_spec.specs.Attribute.{Pair}
-use Rattle.tl_spec.specs.AttributeList.{printed_pairs}
-use Rattle.tl_spec.specs.Forest.{PlainTag}
+use Rattle.tl_spec.specs.Lex.Attribute.{Pair}
+use Rattle.tl_spec.specs.Lex.AttributeList.{printed_pairs}
+use Rattle.tl_spec.specs.Tree.Forest.{PlainTag}
 use Rattle.tl_spec.specs.Print.{print_pairs, print_start, print_value}
 use Rattle.tl_safe.specs.Lists.{ListedWords}
 use Rattle.tl_safe.specs.Kept.{is_text_byte, kept_tag, stays, written_pair, written_pairs, written_value}

@@ -1,7 +1,7 @@
 -- Trees as a browser has them: keys have a value, and texts and values are what they say.
 use Rattle.std.specs.Prelude.{Bool, [], ◌∷◌, map, codes}
-use Rattle.tl_spec.specs.AttributeList.{printed_pairs}
-use Rattle.tl_spec.specs.Forest.{Forest, none, text, comment, tag, PlainTag}
+use Rattle.tl_spec.specs.Lex.AttributeList.{printed_pairs}
+use Rattle.tl_spec.specs.Tree.Forest.{Forest, none, text, comment, tag, PlainTag}
 use Rattle.tl_html_spec.specs.Written.{inside}
 use Rattle.tl_tree_spec.specs.HtmlForest.{HtmlForest, HtmlTag}
 use Rattle.tl_tree_spec.specs.Stays.{stay}

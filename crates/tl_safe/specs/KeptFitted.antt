@@ -1,6 +1,6 @@
 -- What a policy keeps of trees, made to stay as it is once a browser reads it.
 use Rattle.std.specs.Prelude.{ℕ, Bool, List}
-use Rattle.tl_spec.specs.Forest.{Forest, PlainTag}
+use Rattle.tl_spec.specs.Tree.Forest.{Forest, PlainTag}
 use Rattle.tl_safe.specs.Fitted.{fitted}
 use Rattle.tl_safe.specs.Kept.{kept}
 use Rattle.tl_safe.specs.Lists.{ListedWords, is_among}

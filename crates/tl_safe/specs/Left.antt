@@ -2,13 +2,13 @@
 use Rattle.std.specs.Prelude.{ℕ, ◌+◌, ◌*◌, Bool, List, [], ◌∷◌, ◌++◌, drop, Option, Some, None, if◌then◌else◌}
 use Rattle.std.specs.List.{filter}
 use Rattle.std.specs.Str.Lossy.{utf8_lossy}
-use Rattle.tl_spec.specs.ByteClass.{is_among_in_any_case, is_void}
-use Rattle.tl_spec.specs.Document.{Node, Tag, Raw, Comment}
-use Rattle.tl_spec.specs.Element.{children_of}
-use Rattle.tl_spec.specs.Met.{met}
+use Rattle.tl_spec.specs.Lex.ByteClass.{is_among_in_any_case, is_void}
+use Rattle.tl_spec.specs.Tree.Document.{Node, Tag, Raw, Comment}
+use Rattle.tl_spec.specs.Tree.Element.{children_of}
+use Rattle.tl_spec.specs.Walk.Length.{met}
 use Rattle.tl_spec.specs.Print.{print, print_end, print_start}
 use Rattle.tl_spec.specs.Walk.{all_tags, plain_node, trees, walk}
-use Rattle.tl.specs.Shown.{node_view}
+use Rattle.tl.specs.View.{node_view}
 use Rattle.tl_safe.specs.Lists.{ListedWords, is_among, opaque_names}
 use Rattle.tl_safe.specs.Kept.{is_text_byte, kept, kept_tag}
 use Rattle.tl_safe.specs.declared.walk.Frame.{Frame}

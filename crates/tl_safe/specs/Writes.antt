@@ -5,11 +5,11 @@ use Rattle.std.specs.Global.{Global}
 use Rattle.std.specs.Option.{option_copied}
 use Rattle.std.specs.Str.Lossy.{utf8_lossy}
 use Rattle.std.specs.declared.string.String.{String}
-use Rattle.tl_spec.specs.Attribute.{Pair}
-use Rattle.tl_spec.specs.Document.{TagNode}
+use Rattle.tl_spec.specs.Lex.Attribute.{Pair}
+use Rattle.tl_spec.specs.Tree.Document.{TagNode}
 use Rattle.tl_spec.specs.Print.{print_pairs, print_start, print_value}
 use Rattle.tl_spec.specs.Walk.{plain_node}
-use Rattle.tl_attributes.specs.ShownAttributes.{value_view}
+use Rattle.tl_attributes.specs.AttributesView.{value_view}
 use Rattle.tl_bytes.specs.Held.{Kept}
 use Rattle.tl_safe.specs.Kept.{kept_tag, written_pairs}
 use Rattle.tl_safe.specs.Policies.{lists_of}

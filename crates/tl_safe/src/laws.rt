@@ -2,9 +2,9 @@
 
 ghost use Rattle.std.specs.Prelude.{◌≡◌, ℕ, List, Some, true, false};
 ghost use Rattle.std.specs.List.{list_any};
-ghost use Rattle.tl_spec.specs.Clean.{HaveOwnKeys};
-ghost use Rattle.tl_spec.specs.Forest.{Forest, PlainTag};
-ghost use Rattle.tl_spec.specs.Normal.{ReadsAs, norm};
+ghost use Rattle.tl_spec.specs.Print.Clean.{HaveOwnKeys};
+ghost use Rattle.tl_spec.specs.Tree.Forest.{Forest, PlainTag};
+ghost use Rattle.tl_spec.specs.Print.Normal.{ReadsAs, norm};
 ghost use Rattle.tl_spec.specs.Print.{print};
 ghost use Rattle.tl_html_spec.specs.HtmlTokenizer.{tokens_in_page};
 ghost use Rattle.tl_tree_spec.specs.HtmlTreeBuilder.{html_trees};

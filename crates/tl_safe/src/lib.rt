@@ -2,7 +2,7 @@
 #![tactic(auto)]
 
 ghost use Rattle.std.specs.Prelude.{◌≡◌, ◌↔◌, ◌<◌, length, string_bytes, IfOk, IsErrOf, Some, true};
-ghost use Rattle.tl_spec.specs.Normal.{norm};
+ghost use Rattle.tl_spec.specs.Print.Normal.{norm};
 ghost use Rattle.tl_spec.specs.Print.{print};
 ghost use Rattle.tl.specs.declared.errors.ParseError.TheVariants.{InvalidLength};
 ghost use Rattle.tl_html_spec.specs.HtmlTokenizer.{tokens_in_page};

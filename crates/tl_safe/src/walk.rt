@@ -1,11 +1,11 @@
 //! The walk over a page, which writes what is kept of it.
 ghost use Rattle.std.specs.Prelude.{◌≡◌, ◌++◌, ◌∷◌, ◌+◌, ◌*◌, ◌<◌, [], map, not, OnOk, IfOk, string_bytes, slice_get, if◌then◌else◌};
 ghost use Rattle.std.specs.Option.{option_copied};
-ghost use Rattle.tl_spec.specs.ByteClass.{is_among_in_any_case, is_void};
-ghost use Rattle.tl_spec.specs.Element.{children_of};
-ghost use Rattle.tl_spec.specs.Order.{ChildrenFollowParents};
-ghost use Rattle.tl.specs.Shown.{node_view, tag_view};
-ghost use Rattle.tl_spec.specs.Met.{child_at, handle_met};
+ghost use Rattle.tl_spec.specs.Lex.ByteClass.{is_among_in_any_case, is_void};
+ghost use Rattle.tl_spec.specs.Tree.Element.{children_of};
+ghost use Rattle.tl_spec.specs.Tree.Order.{ChildrenFollowParents};
+ghost use Rattle.tl.specs.View.{node_view, tag_view};
+ghost use Rattle.tl_spec.specs.Walk.Length.{child_at, handle_met};
 ghost use Rattle.tl_safe.specs.Left.{end_print, frame_print, frame_steps, handle_print, owed, row, steps};
 ghost use Rattle.tl_safe.specs.Lists.{is_among, opaque_names};
 ghost use Rattle.tl_safe.specs.Policies.{lists_of};

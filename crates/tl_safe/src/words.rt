@@ -1,7 +1,7 @@
 //! Words, and the classes of their bytes.
 ghost use Rattle.std.specs.Prelude.{◌≡◌};
 ghost use Rattle.std.specs.List.{list_all, list_any};
-ghost use Rattle.tl_spec.specs.ByteClass.{is_among_in_any_case};
+ghost use Rattle.tl_spec.specs.Lex.ByteClass.{is_among_in_any_case};
 ghost use Rattle.tl_safe.specs.Kept.{is_text_byte, is_value_byte, naming_keys};
 ghost use Rattle.tl_safe.specs.IsSafe.{is_written_byte};
 ghost use Rattle.tl_safe.specs.Lists.{active_keys, bending_names, begins_link, begins_path, begins_with_any, has_colon, has_scheme, is_among, is_link_byte, is_word_of, leads_out, leaves_site, opaque_names};

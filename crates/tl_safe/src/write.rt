@@ -2,11 +2,11 @@
 ghost use Rattle.std.specs.Prelude.{◌≡◌, ◌∷◌, ◌++◌, [], OnOk, IfOk};
 ghost use Rattle.std.specs.List.{filter};
 ghost use Rattle.std.specs.Str.Lossy.{utf8_lossy};
-ghost use Rattle.tl_spec.specs.AttributeList.{printed_pairs};
+ghost use Rattle.tl_spec.specs.Lex.AttributeList.{printed_pairs};
 ghost use Rattle.tl_spec.specs.Print.{print_end};
 ghost use Rattle.tl_spec.specs.Walk.{plain_node};
-ghost use Rattle.tl_attributes.specs.ShownAttributes.{plain};
-ghost use Rattle.tl.specs.Shown.{tag_view};
+ghost use Rattle.tl_attributes.specs.AttributesView.{plain};
+ghost use Rattle.tl.specs.View.{tag_view};
 ghost use Rattle.tl_safe.specs.Kept.{is_text_byte, written_byte, written_pair, written_value};
 ghost use Rattle.tl_safe.specs.Writes.{Adds, kept_pairs, kept_start, pair_of, print_pair};
 

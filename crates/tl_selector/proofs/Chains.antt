@@ -4,11 +4,11 @@ use Rattle.std.proofs.lemmas.List.{map-append}
 use Rattle.std.specs.List.{All as AllOf}
 use Rattle.std.proofs.lemmas.List.Elements.{All-push, All-same}
 use denote.Ref.{Bor}
-use Rattle.tl_spec.specs.Scan.{IsFirstPlace}
-use Rattle.tl_spec.specs.Document.{Node}
-use Rattle.tl_spec.specs.Selector.{Selector, Tag, Id, Class, All, And, Or, Descendant, Parent, Attribute, AttributeValue, AttributeValueWhitespacedContains, AttributeValueStartsWith, AttributeValueEndsWith, AttributeValueSubstring}
-use Rattle.tl_spec.specs.SelectorSearch.{holds_alone}
-use Rattle.tl_selector.specs.Sides.{with_first, nested_in, selectors, first_simple, others_hold}
+use Rattle.tl_spec.specs.Lookup.Scan.{IsFirstPlace}
+use Rattle.tl_spec.specs.Tree.Document.{Node}
+use Rattle.tl_spec.specs.Select.Selector.{Selector, Tag, Id, Class, All, And, Or, Descendant, Parent, Attribute, AttributeValue, AttributeValueWhitespacedContains, AttributeValueStartsWith, AttributeValueEndsWith, AttributeValueSubstring}
+use Rattle.tl_spec.specs.Select.Search.{holds_alone}
+use Rattle.tl_selector.specs.Spine.{with_first, nested_in, selectors, first_simple, others_hold}
 use Rattle.tl_selector.specs.View.{selector}
 use Rattle.tl_selector.specs.declared.selector.Selector.{size-Selector}
 use Rattle.tl_selector.specs.declared.selector.Selector as declared

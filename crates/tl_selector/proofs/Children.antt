@@ -3,11 +3,11 @@ use Rattle.std.proofs.Common.{◌≡◌, ◌<◌, ℕ, true, List, [], length, O
 use Rattle.std.specs.List.{Contains}
 use Rattle.std.specs.Option.{IsSomeAnd, option_map_or}
 use Rattle.std.proofs.lemmas.Bool.Decides.{Decides-eqb}
-use Rattle.tl_spec.specs.Document.{Node}
-use Rattle.tl_spec.specs.Element.{children_of}
-use Rattle.tl_spec.specs.SelectorMeaning.{IsChild}
+use Rattle.tl_spec.specs.Tree.Document.{Node}
+use Rattle.tl_spec.specs.Tree.Element.{children_of}
+use Rattle.tl_spec.specs.Select.Meaning.{IsChild}
 use Rattle.tl_spec.proofs.SelectorTests.{any-contained}
-use Rattle.tl_selector.specs.Marks.{children_at, is_in}
+use Rattle.tl_selector.specs.NodeSet.{children_at, is_in}
 
 pub in_contains : (xs : List ℕ) (n : ℕ) → is_in xs n ≡ true → Contains xs n
 in_contains xs n h = (any-contained nat_eq Decides-eqb n xs).0 h

@@ -16,7 +16,7 @@ use Rattle.bstr.proofs.lemmas.SoundLemmas.{SpellsChar-decoded}
 use Rattle.bstr.proofs.lemmas.EncodeLemmas.{lossy_chars-encode}
 use Rattle.bstr.proofs.lemmas.LossyLemmas.{lossy_chars-front}
 use Rattle.memchr.proofs.lemmas.MatchLemmas.{OccursAt-split, OccursAt-from_part}
-use Rattle.tl_spec.specs.LossyText.{IsSameText, BeginsWith, EndsWith, HasPart}
+use Rattle.tl_spec.specs.Select.LossyText.{IsSameText, BeginsWith, EndsWith, HasPart}
 use Rattle.tl_selector.specs.LossyChars.{begins, has_part}
 use Rattle.tl_selector.proofs.LossyTexts.{same_texts, same-eq, begins_texts, begins-front, begins-append}
 use Rattle.tl_selector.proofs.LossyParts.{chars_behind, ends-from_chars, chars-from_ends, part_texts, part-some, part-bytes}

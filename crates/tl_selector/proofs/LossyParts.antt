@@ -10,7 +10,7 @@ use Rattle.bstr.specs.Utf8.{Decoded, or_replacement, decoded, bad, continues, pi
 use Rattle.bstr.proofs.lemmas.PieceLemmas.{lossy_chars-nil, continuation-alone, StartsClean, pieces-append}
 use Rattle.bstr.proofs.lemmas.EncodeLemmas.{decoded-encode}
 use Rattle.bstr.proofs.lemmas.LossyLemmas.{lossy_chars-utf8_lossy, lossy_chars-front}
-use Rattle.tl_spec.specs.LossyText.{EndsWith, HasPart}
+use Rattle.tl_spec.specs.Select.LossyText.{EndsWith, HasPart}
 use Rattle.tl_selector.specs.LossyChars.{begins, has_part}
 use Rattle.tl_selector.proofs.LossyTexts.{scalars_of, chars_of, begins-front, begins-append, encode_all-append, part_front}
 

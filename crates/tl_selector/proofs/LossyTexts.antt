@@ -10,7 +10,7 @@ use Rattle.bstr.proofs.lemmas.PieceLemmas.{lossy_chars-step, lossy_chars-nil, pi
 use Rattle.bstr.proofs.lemmas.SoundLemmas.{SpellsChar-decoded}
 use Rattle.bstr.proofs.lemmas.EncodeLemmas.{lossy_chars-encode}
 use Rattle.bstr.proofs.lemmas.LossyLemmas.{lossy_chars-utf8_lossy, lossy_chars-front}
-use Rattle.tl_spec.specs.LossyText.{IsSameText, BeginsWith}
+use Rattle.tl_spec.specs.Select.LossyText.{IsSameText, BeginsWith}
 use Rattle.tl_selector.specs.LossyChars.{begins, same, has_part}
 
 scalar_of : (bs : List ℕ) (o : Option ℕ) → (decoded bs).char ≡ o → scalar (or_replacement o) ≡ true

@@ -6,7 +6,7 @@ use Rattle.std.proofs.lemmas.Bool.{cases_Bool}
 use Rattle.std.proofs.lemmas.List.Elements.{Contains-append_right}
 use Rattle.std.proofs.lemmas.List.Splits.{length-slice_split}
 use Rattle.bstr.specs.Utf8.{lossy_chars}
-use Rattle.tl_spec.specs.LossyText.{HasWord, words}
+use Rattle.tl_spec.specs.Select.LossyText.{HasWord, words}
 use Rattle.tl_selector.specs.LossyChars.{same, advance, is_done, scan}
 use Rattle.tl_selector.proofs.LossyTexts.{same-eq, same-refl}
 

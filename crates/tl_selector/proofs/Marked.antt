@@ -5,12 +5,12 @@ use Rattle.std.specs.Option.{IsSomeAnd, option_map, option_map_or}
 use Rattle.std.proofs.lemmas.Bool.{and_from, and_parts, cases_lt, or_parts}
 use Rattle.std.proofs.lemmas.List.{get_or_past}
 use Rattle.std.proofs.lemmas.Option.{slice_get_past}
-use Rattle.tl_spec.specs.Document.{Node}
-use Rattle.tl_spec.specs.Selector.{Selector, Tag, Id, Class, All, And, Or, Descendant, Parent, Attribute, AttributeValue, AttributeValueWhitespacedContains, AttributeValueStartsWith, AttributeValueEndsWith, AttributeValueSubstring}
-use Rattle.tl_spec.specs.SelectorMeaning.{Holds, HoldsAlone, has_combinator}
-use Rattle.tl_spec.specs.Scan.{IsFirstPlace}
-use Rattle.tl_spec.specs.SelectorSearch.{holds_alone}
-use Rattle.tl_selector.specs.Marks.{is_among, is_at, AreMarks}
+use Rattle.tl_spec.specs.Tree.Document.{Node}
+use Rattle.tl_spec.specs.Select.Selector.{Selector, Tag, Id, Class, All, And, Or, Descendant, Parent, Attribute, AttributeValue, AttributeValueWhitespacedContains, AttributeValueStartsWith, AttributeValueEndsWith, AttributeValueSubstring}
+use Rattle.tl_spec.specs.Select.Meaning.{Holds, HoldsAlone, has_combinator}
+use Rattle.tl_spec.specs.Lookup.Scan.{IsFirstPlace}
+use Rattle.tl_spec.specs.Select.Search.{holds_alone}
+use Rattle.tl_selector.specs.NodeSet.{is_among, is_at, AreMarks}
 use Rattle.tl_spec.proofs.SelectorTests.{holds_alone-is, some-passes}
 
 both : (o : Option Node) (P Q : Node → Type 0) → IsSomeAnd o P → IsSomeAnd o Q → IsSomeAnd o (λ d. P d × Q d)

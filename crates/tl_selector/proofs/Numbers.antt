@@ -7,11 +7,11 @@ use Rattle.std.proofs.lemmas.Bool.Decides.{eqb_tells}
 use Rattle.std.proofs.lemmas.List.{length-map}
 use Rattle.std.proofs.lemmas.List.Elements.{All-nil, All-cons}
 use Rattle.std.proofs.lemmas.List.Kept.{AllPairs-cons}
-use Rattle.tl_spec.specs.Document.{Node}
-use Rattle.tl_spec.specs.Selector.{Selector}
-use Rattle.tl_spec.specs.SelectorMeaning.{Holds, AreMatches}
-use Rattle.tl_selector.specs.Found.{found_numbers, IsFirst}
-use Rattle.tl_selector.specs.Marks.{is_in}
+use Rattle.tl_spec.specs.Tree.Document.{Node}
+use Rattle.tl_spec.specs.Select.Selector.{Selector}
+use Rattle.tl_spec.specs.Select.Meaning.{Holds, AreMatches}
+use Rattle.tl_selector.specs.NodeTest.{found_numbers, IsFirst}
+use Rattle.tl_selector.specs.NodeSet.{is_in}
 use Rattle.tl_selector.proofs.Children.{in_contains, contains_in}
 use Rattle.tl_selector.proofs.Marked.{holds_within}
 

@@ -5,8 +5,8 @@ use Rattle.std.proofs.lemmas.Bool.{and_from, and_parts, cases_Bool}
 use Rattle.std.proofs.lemmas.Bool.Decides.{eqb_tells}
 use Rattle.std.proofs.lemmas.List.{length-map}
 use Rattle.std.proofs.lemmas.Option.{slice_get-map, slice_get_within}
-use Rattle.tl_spec.specs.Scan.{PassesAt, IsFirstPlace}
-use Rattle.tl_selector.specs.Found.{IsFirst}
+use Rattle.tl_spec.specs.Lookup.Scan.{PassesAt, IsFirstPlace}
+use Rattle.tl_selector.specs.NodeTest.{IsFirst}
 
 take-at : {A : Type 0} (xs : List A) (n k : ℕ) → k < n → slice_get (take n xs) k ≡ slice_get xs k
 take-at xs zero k h = absurd (omega arith)

@@ -4,7 +4,7 @@ use Rattle.std.proofs.Math.ListN.{set, length-set}
 use Rattle.std.proofs.lemmas.List.{get_or-set_same, get_or-set_other}
 use Rattle.std.proofs.lemmas.Bool.{cases_Bool, eq-eqb}
 use Rattle.std.proofs.lemmas.Bool.Decides.{eqb_tells}
-use Rattle.tl_selector.specs.Marks.{is_in, is_at, mark_one, spread, child_at}
+use Rattle.tl_selector.specs.NodeSet.{is_in, is_at, mark_one, spread, child_at}
 
 abbrev pub unmarked : List Bool → ℕ
 unmarked [] = 0

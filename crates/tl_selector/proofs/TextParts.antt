@@ -1,16 +1,16 @@
 -- How parts are nested, one after the other, and what a reader answers.
 use Rattle.std.proofs.Common.{◌≡◌, ◌≢◌, ℕ, List, refl, sym, ap, ◌∙◌, Option, Some, None, option_map, IfSome, IfNone}
-use Rattle.tl_spec.specs.Runs.{drop_while}
-use Rattle.tl_spec.specs.Selector as spec
-use Rattle.tl_spec.specs.SelectorText.{IsSelectorText, StandsAlone}
-use Rattle.tl_spec.specs.ByteClass.{is_space}
-use Rattle.tl_spec.specs.SelectorReading.{simple_at, End, Bad, next_at, combine, list_after, complex_after, selector_at}
+use Rattle.tl_spec.specs.Lex.Runs.{drop_while}
+use Rattle.tl_spec.specs.Select.Selector as spec
+use Rattle.tl_spec.specs.Select.Text.{IsSelectorText, StandsAlone}
+use Rattle.tl_spec.specs.Lex.ByteClass.{is_space}
+use Rattle.tl_spec.specs.Select.Reading.{simple_at, End, Bad, next_at, combine, list_after, complex_after, selector_at}
 use Rattle.tl_spec.proofs.SelectorText.{alone-read, text-only, text-none}
 pub use Rattle.tl_spec.proofs.SelectorText.{rest_part, rest_end, rest_bad, next_lt}
 use Rattle.tl_selector.specs.View.{selector}
 use Rattle.tl_selector.specs.declared.selector.Selector.{Selector}
-use Rattle.tl_selector.specs.Lacks.{LacksSecond}
-use Rattle.tl_selector.specs.TextViews.{separator}
+use Rattle.tl_selector.specs.MissingSimple.{LacksSecond}
+use Rattle.tl_selector.specs.ParserViews.{separator}
 use Rattle.tl_selector.specs.declared.text.chain.Link.{Link}
 use Rattle.tl_selector.specs.declared.text.chain.Link.TheVariants.{Comma, Step, Spaces, Touch}
 

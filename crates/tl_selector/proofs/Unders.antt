@@ -1,8 +1,8 @@
 -- One step down from the nodes that are left.
 use Rattle.std.proofs.Common.{◌≡◌, ◌⊎◌, ℕ, Bool, true, List, [], ◌∷◌, ◌++◌, length, sym, subst, ◌∙◌, arith, inl, inr}
-use Rattle.tl_spec.specs.Document.{Node}
-use Rattle.tl_spec.specs.SelectorMeaning.{IsChild}
-use Rattle.tl_selector.specs.Marks.{children_at, is_in, is_at, IsUnderMark, spread}
+use Rattle.tl_spec.specs.Tree.Document.{Node}
+use Rattle.tl_spec.specs.Select.Meaning.{IsChild}
+use Rattle.tl_selector.specs.NodeSet.{children_at, is_in, is_at, IsUnderMark, spread}
 use Rattle.tl_selector.proofs.Children.{child_listed, listed_child}
 use Rattle.tl_selector.proofs.Spreads.{at-within, in-push, push-in, push-last, Spreads, spreads}
 

@@ -1,7 +1,7 @@
-pub mod Found
-pub mod Marks
-pub mod Sides
+pub mod NodeTest
+pub mod NodeSet
+pub mod Spine
 pub mod View
 pub mod LossyChars
-pub mod TextViews
-pub mod Lacks
+pub mod ParserViews
+pub mod MissingSimple

@@ -1,5 +1,5 @@
 -- Which selector a value of the code is.
-use Rattle.tl_spec.specs.Selector as s
+use Rattle.tl_spec.specs.Select.Selector as s
 use Rattle.tl_selector.specs.declared.selector.Selector.{Selector}
 use Rattle.tl_selector.specs.declared.selector.Selector.TheVariants.{Tag, Id, Class, All, And', Or', Descendant', Parent', Attribute, AttributeValue, AttributeValueWhitespacedContains, AttributeValueStartsWith, AttributeValueEndsWith, AttributeValueSubstring}
 

@@ -4,7 +4,7 @@
 //! Where the text looked for is ASCII, bytes say the same as characters, and are compared.
 ghost use Rattle.std.specs.Prelude.{◌≡◌, ℕ, List, IsTrue, ◌↔◌, length, Option, option_map, Some, reverse, ◌&&◌};
 ghost use Rattle.bstr.specs.Utf8.{lossy_chars};
-ghost use Rattle.tl_spec.specs.LossyText.{IsSameText, BeginsWith, EndsWith, HasPart, HasWord};
+ghost use Rattle.tl_spec.specs.Select.LossyText.{IsSameText, BeginsWith, EndsWith, HasPart, HasWord};
 ghost use Rattle.tl_selector.specs.LossyChars.{begins, same, has_part, advance, is_done, scan};
 
 use bstr::{ByteSlice, Chars};

@@ -3,13 +3,13 @@
 ghost use Rattle.std.specs.Prelude.{◌≡◌, ◌≤◌, ℕ, IsOk, IfOk, IfSome, OnOk, None, length, true, false, map, slice_get, ◌&&◌, ◌||◌};
 ghost use Rattle.std.specs.List.{All};
 ghost use Rattle.std.specs.Option.{option_copied};
-ghost use Rattle.tl_spec.specs.Element.{children_of};
-ghost use Rattle.tl_spec.specs.SelectorMeaning.{Holds, has_combinator};
-ghost use Rattle.tl_selector.specs.Marks.{is_among, is_at, is_done, is_in, mark_one, spread, child_at, children_at, IsUnderMark, IsBelowMark, AreMarks};
-ghost use Rattle.tl_selector.specs.Sides.{has_sides, nested_in, selectors, with_first};
+ghost use Rattle.tl_spec.specs.Tree.Element.{children_of};
+ghost use Rattle.tl_spec.specs.Select.Meaning.{Holds, has_combinator};
+ghost use Rattle.tl_selector.specs.NodeSet.{is_among, is_at, is_done, is_in, mark_one, spread, child_at, children_at, IsUnderMark, IsBelowMark, AreMarks};
+ghost use Rattle.tl_selector.specs.Spine.{has_sides, nested_in, selectors, with_first};
 ghost use Rattle.tl_selector.specs.View.{selector};
 ghost use Rattle.tl_selector.specs.declared.selector.Selector.{size-Selector};
-ghost use Rattle.tl_spec.specs.Selector.{Selector as SelectorOf};
+ghost use Rattle.tl_spec.specs.Select.Selector.{Selector as SelectorOf};
 
 use crate::matching::first::first_alone;
 use crate::matching::holds_alone;

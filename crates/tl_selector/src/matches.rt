@@ -2,7 +2,7 @@
 ghost use Rattle.std.specs.Prelude.{◌≡◌, ◌<◌, ◌^◌, [], length, map, false, IsOk, IfOk};
 ghost use Rattle.std.specs.Iterator.{at_most};
 ghost use Rattle.std.specs.Map.Iter.{TakesFirst};
-ghost use Rattle.tl_spec.specs.SelectorMeaning.{AreMatches, has_combinator};
+ghost use Rattle.tl_spec.specs.Select.Meaning.{AreMatches, has_combinator};
 ghost use Rattle.tl_selector.specs.View.{selector as selector_of};
 
 mod node_test;
@@ -26,7 +26,7 @@ pub struct Matches<'s, 'n, N: Element> {
 
 impl<'s, 'n, N: Element> Model for Matches<'s, 'n, N> {
     ghost use Rattle.std.specs.Prelude.{List, ℕ, ◌-◌, ◌<◌, ◌≤◌, ◌^◌, length, map};
-    ghost use Rattle.tl_selector.specs.Found.{found_numbers, is_found};
+    ghost use Rattle.tl_selector.specs.NodeTest.{found_numbers, is_found};
 
     ghost Value = { List ℕ };
 

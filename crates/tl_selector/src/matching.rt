@@ -1,10 +1,10 @@
 //! Where a selector holds at a node alone.
 ghost use Rattle.std.specs.Prelude.{IsTrue, ◌↔◌, ◌≡◌, false, map, slice_get};
 ghost use Rattle.std.specs.Option.{option_copied, option_flatten, option_map_or};
-ghost use Rattle.tl_spec.specs.Element.{attribute_of};
-ghost use Rattle.tl_spec.specs.SelectorMeaning.{HoldsAlone};
-ghost use Rattle.tl_spec.specs.SelectorSearch.{holds_alone};
-ghost use Rattle.tl_selector.specs.Sides.{has_sides};
+ghost use Rattle.tl_spec.specs.Tree.Element.{attribute_of};
+ghost use Rattle.tl_spec.specs.Select.Meaning.{HoldsAlone};
+ghost use Rattle.tl_spec.specs.Select.Search.{holds_alone};
+ghost use Rattle.tl_selector.specs.Spine.{has_sides};
 ghost use Rattle.tl_selector.specs.View.{selector};
 
 pub mod first;

@@ -1,6 +1,6 @@
 //! Selectors as values.
 ghost use Rattle.std.specs.Prelude.{◌≡◌, false};
-ghost use Rattle.tl_selector.specs.Sides.{has_sides};
+ghost use Rattle.tl_selector.specs.Spine.{has_sides};
 ghost use Rattle.tl_selector.specs.View.{selector};
 
 mod copies;

@@ -1,6 +1,6 @@
 //! Whether a selector holds at a node of a table.
 ghost use Rattle.std.specs.Prelude.{IsTrue, ◌↔◌, ◌≡◌, ◌<◌, ◌≤◌, length, map, false, IsOk, IfOk, IfErr, Err};
-ghost use Rattle.tl_spec.specs.SelectorMeaning.{Holds, has_combinator};
+ghost use Rattle.tl_spec.specs.Select.Meaning.{Holds, has_combinator};
 ghost use Rattle.tl_selector.specs.View.{selector};
 
 use crate::marks::{is_marked, marks};

@@ -1,9 +1,9 @@
 //! The reader of a selector's text.
 ghost use Rattle.std.specs.Prelude.{◌≡◌, IfOk, IfSome, IfNone, IsOk, OnOk, OnErr, Ok, None, []};
 ghost use Rattle.tl_selector.specs.View.{selector};
-ghost use Rattle.tl_selector.specs.Lacks.{LacksFirst, LacksSecond};
-ghost use Rattle.tl_spec.specs.Selector as s;
-ghost use Rattle.tl_spec.specs.SelectorText.{IsSelectorText, StandsAlone};
+ghost use Rattle.tl_selector.specs.MissingSimple.{LacksFirst, LacksSecond};
+ghost use Rattle.tl_spec.specs.Select.Selector as s;
+ghost use Rattle.tl_spec.specs.Select.Text.{IsSelectorText, StandsAlone};
 
 mod chain;
 mod part;

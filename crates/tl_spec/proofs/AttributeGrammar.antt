@@ -11,9 +11,9 @@ use Rattle.std.proofs.lemmas.Map.Views.{any-filter_same}
 use Rattle.std.proofs.lemmas.Slice.Eq.{bytes_eq-Decides}
 use Rattle.indexmap.specs.IndexMap.{insert_entry}
 use Rattle.indexmap.specs.IndexSet.{insert_key}
-use Rattle.tl_spec.specs.Attribute.{Pair}
-use Rattle.tl_spec.specs.AttributeList.{PlainAttributes, IsOther, attributes_of, is_id, is_class, no_attributes, with_pair}
-use Rattle.tl_spec.specs.AttributeGrammar.{AreAttributesOf, distinct_keys, last_value, other_keys}
+use Rattle.tl_spec.specs.Lex.Attribute.{Pair}
+use Rattle.tl_spec.specs.Lex.AttributeList.{PlainAttributes, IsOther, attributes_of, is_id, is_class, no_attributes, with_pair}
+use Rattle.tl_spec.specs.Lex.AttributeGrammar.{AreAttributesOf, distinct_keys, last_value, other_keys}
 use Rattle.tl_spec.proofs.ByKey.{choose_by_key-all}
 
 same_key : (k l : List ℕ) → bytes_eq k l ≡ true → k ≡ l

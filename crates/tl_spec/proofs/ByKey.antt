@@ -1,7 +1,7 @@
 -- Cases of a key: `id`, `class`, or another.
 use Rattle.std.proofs.Common.{◌≡◌, ℕ, true, false, List, ◌∙◌}
 use Rattle.std.proofs.lemmas.Bool.{cond_both, cond-true, cond-false}
-use Rattle.tl_spec.specs.AttributeList.{choose_by_key, is_id, is_class, IsOther}
+use Rattle.tl_spec.specs.Lex.AttributeList.{choose_by_key, is_id, is_class, IsOther}
 
 module _ {A : Type 0} (key : List ℕ) (x y z : A) where
   pub choose_by_key-id : is_id key ≡ true → choose_by_key key x y z ≡ x

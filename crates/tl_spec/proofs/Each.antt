@@ -2,13 +2,13 @@
 use Rattle.std.proofs.Common.{◌≡◌, ℕ, zero, suc, Bool, true, false, List, [], ◌∷◌, length, Option, Some, None, Ok, refl, sym, subst}
 use Rattle.std.specs.List.{All, slice_get}
 use Rattle.std.proofs.lemmas.Option.{slice_get_within, get_or_from_slice_get}
-use Rattle.tl_spec.specs.Clean.{IsCleanNode, IsCleanTable, IsCleanWalk}
-use Rattle.tl_spec.specs.Document.{Document, Node, TagNode, Tag, Raw, Comment}
-use Rattle.tl_spec.specs.Each.{EachNode, IsCleanAlone, HoldOfJoined, HoldOfNode, HoldOfTrees, Tests, of_lossy}
-use Rattle.tl_spec.specs.Forest.{Forest, none, text, comment, tag, PlainTag, forest, plain}
-use Rattle.tl_spec.specs.Normal.{lossy, join_text, join_comment, tidy, norm, ReadsAs}
+use Rattle.tl_spec.specs.Print.Clean.{IsCleanNode, IsCleanTable, IsCleanWalk}
+use Rattle.tl_spec.specs.Tree.Document.{Document, Node, TagNode, Tag, Raw, Comment}
+use Rattle.tl_spec.specs.Tree.EveryNode.{EachNode, IsCleanAlone, HoldOfJoined, HoldOfNode, HoldOfTrees, Tests, of_lossy}
+use Rattle.tl_spec.specs.Tree.Forest.{Forest, none, text, comment, tag, PlainTag, forest, plain}
+use Rattle.tl_spec.specs.Print.Normal.{lossy, join_text, join_comment, tidy, norm, ReadsAs}
 use Rattle.tl_spec.specs.Print.{document_print, print}
-use Rattle.tl_spec.specs.Token.{tokens}
+use Rattle.tl_spec.specs.Lex.Token.{tokens}
 use Rattle.tl_spec.specs.Walk.{TreeFault, Walk, end, meets_text, meets_comment, meets_tag, passes_tag, meets_fault, all_tags, prints_children, walk, walk_of, walk_within, row_walk, handle_walk, node_walk, tag_walk, stands_on, trees, first_fault, earlier_fault, fault_or}
 
 -- walks

@@ -3,9 +3,9 @@ use Rattle.std.proofs.Common.{◌≡◌, ℕ, zero, suc, ◌+◌, Bool, true, fa
 use Rattle.std.proofs.Math.Nat.{suc-add}
 use Rattle.std.proofs.Math.ListN.{length-set}
 use Rattle.std.specs.List.{slice_get}
-use Rattle.tl_spec.specs.Document.{Handles, TagNode, Node, Tag, Raw, Comment, Document}
+use Rattle.tl_spec.specs.Tree.Document.{Handles, TagNode, Node, Tag, Raw, Comment, Document}
 use Rattle.tl_spec.specs.Edit.{Change, Refusal, no_node, not_tag, without_handle, edit_if_tag, edit_tag, apply_change, Edited, apply_changes, none_refused, refusal_at, shift_place, next, Names, Texts, Comments, Sets, Flags, Unsets, Bares, Pushes, Pulls, Roots, map_ok, edit_if_found, no_place}
-use Rattle.tl_spec.specs.Edits.{shift_place_by, KeepsSource, KeepsShape}
+use Rattle.tl_spec.specs.Edit.Shape.{shift_place_by, KeepsSource, KeepsShape}
 
 -- where the later edits are done, they were done at the earlier place too
 done-shift_place : (w : Edited) (e : Document) → shift_place w ≡ none_refused e → w ≡ none_refused e

@@ -4,11 +4,11 @@ use Rattle.std.specs.Prelude.{⊤}
 use Rattle.std.specs.List.{slice_get, AllByRecursion}
 use Rattle.std.proofs.lemmas.List.Concat.{flat_map-append}
 use Rattle.std.specs.Str.Lossy.{utf8_lossy}
-use Rattle.tl_spec.specs.ByteClass.{is_printed_alone}
-use Rattle.tl_spec.specs.Clean.{HaveOwnKeys, MeetsOwnKeys}
-use Rattle.tl_spec.specs.Document.{Comment, Node, Raw, Tag, TagNode}
+use Rattle.tl_spec.specs.Lex.ByteClass.{is_printed_alone}
+use Rattle.tl_spec.specs.Print.Clean.{HaveOwnKeys, MeetsOwnKeys}
+use Rattle.tl_spec.specs.Tree.Document.{Comment, Node, Raw, Tag, TagNode}
 use Rattle.tl_spec.specs.Print.{print, print_end, print_start, print_of_event}
-use Rattle.tl_spec.specs.Text.{text_of, event_text}
+use Rattle.tl_spec.specs.Print.Text.{text_of, event_text}
 use Rattle.tl_spec.specs.Walk.{Cycle, Dangling, Event, TreeFault, Walk, end, events, fault_among, faulty, first_fault, handle_walk, leaves, meets, meets_comment, meets_fault, meets_tag, meets_text, node_walk, earlier_fault, passes_tag, plain_node, row_walk, prints_children, stands_on, tag_walk, trees, walk, walk_of, walk_within}
 use Rattle.tl_spec.proofs.Walks.{walk-cons, walk-nil}
 

@@ -5,11 +5,11 @@ use Rattle.std.specs.Prelude.{codes}
 use Rattle.std.specs.Str.{str_eq_ignore_ascii_case}
 use Rattle.std.proofs.lemmas.Bool.{and_parts, cases_Bool, eqb-true, eqb-false, or_parts, false_from_ne_true}
 use Rattle.std.proofs.lemmas.List.{append_assoc, length-append, take-append-drop}
-use Rattle.tl_spec.specs.ByteClass.{bang, ends_value, equals, greater, is_blank, is_closing, is_ident, is_name, is_quote, less, slash}
-use Rattle.tl_spec.specs.Runs.{after_needle, before_rest, drop_while}
-use Rattle.tl_spec.specs.Attribute.{Pair, attribute, attributes, next_attribute, optional_value, skip_blanks, skip_end, value}
-use Rattle.tl_spec.specs.Grammar.{AttributeStands, AttributesStand, Begins, EndPassed, EndsWithFirst, IsRun, IsUpTo, MarkupStands, TagStands, Stops, TokenStands, ValueStands, WordStands, another, at_end, attribute_parts, bare, closing, comment_closed, comment_cut, doctype_word, end_closed, end_cut, left, markup_after, tag_parts, no_markup, no_more, no_value, other_word, passed, quoted, start_alone, start_cut, start_open, start_slash, text_up_to, word_parts}
-use Rattle.tl_spec.specs.Token.{Comment, Doctype, End, Nothing, Text, Token, token_after_attributes, comment_token, declaration, doctype, end_tag, markup, next_token, token_after_slash, start_tag, word}
+use Rattle.tl_spec.specs.Lex.ByteClass.{bang, ends_value, equals, greater, is_blank, is_closing, is_ident, is_name, is_quote, less, slash}
+use Rattle.tl_spec.specs.Lex.Runs.{after_needle, before_rest, drop_while}
+use Rattle.tl_spec.specs.Lex.Attribute.{Pair, attribute, attributes, next_attribute, optional_value, skip_blanks, skip_end, value}
+use Rattle.tl_spec.specs.Lex.Grammar.{AttributeStands, AttributesStand, Begins, EndPassed, EndsWithFirst, IsRun, IsUpTo, MarkupStands, TagStands, Stops, TokenStands, ValueStands, WordStands, another, at_end, attribute_parts, bare, closing, comment_closed, comment_cut, doctype_word, end_closed, end_cut, left, markup_after, tag_parts, no_markup, no_more, no_value, other_word, passed, quoted, start_alone, start_cut, start_open, start_slash, text_up_to, word_parts}
+use Rattle.tl_spec.specs.Lex.Token.{Comment, Doctype, End, Nothing, Text, Token, token_after_attributes, comment_token, declaration, doctype, end_tag, markup, next_token, token_after_slash, start_tag, word}
 use Rattle.tl_spec.proofs.Bytes.{all-run, drop_while-append, drop_while-stops, take_while-append, take_while-yes}
 use Rattle.tl_spec.proofs.Comments.{front-append, starts_same}
 use Rattle.tl_spec.proofs.Many.{IsRow, next, row-exists, row-is, stop}

@@ -7,9 +7,9 @@ use Rattle.std.proofs.lemmas.List.{length-map, take-map, map-set, map-append}
 use Rattle.std.proofs.Math.ListN.{get_or-map}
 use Rattle.indexmap.specs.IndexMap.{insert_entry, swap_remove_entry}
 use Rattle.indexmap.proofs.MapLemmas.{some_index}
-use Rattle.tl_spec.specs.Inline.{InlineMap, room, with_entry, with_value, without_key, pair_image, map_image}
-use Rattle.tl_spec.specs.AttributeList.{AreOthers, Attributes, AttributesOf, is_id, is_class, choose_by_key, set_at, pair_if_some, pairs_in_order, attributes_image}
-use Rattle.tl_spec.specs.AttributeEdit.{with_attribute, without_attribute, without_value}
+use Rattle.tl_spec.specs.Tree.Inline.{InlineMap, room, with_entry, with_value, without_key, pair_image, map_image}
+use Rattle.tl_spec.specs.Lex.AttributeList.{AreOthers, Attributes, AttributesOf, is_id, is_class, choose_by_key, set_at, pair_if_some, pairs_in_order, attributes_image}
+use Rattle.tl_spec.specs.Edit.Attribute.{with_attribute, without_attribute, without_value}
 use Rattle.tl_spec.proofs.Pairs.{position-map}
 
 -- `swap_remove` of images

@@ -4,11 +4,11 @@ use Rattle.std.specs.Prelude.{slice_get}
 use Rattle.std.specs.List.{list_any}
 use Rattle.std.proofs.Math.Bool.{or-false}
 use Rattle.std.proofs.lemmas.List.Elements.{All-nil, All-cons, All-tail, All-weaker, All-same}
-use Rattle.tl_spec.specs.ByteClass.{is_void}
-use Rattle.tl_spec.specs.Token.{Token, PlacedToken, Text, End, Comment, Doctype, Start, Nothing}
-use Rattle.tl_spec.specs.Forest.{closes}
-use Rattle.tl_spec.specs.Document.{Node, TagNode, Tag, Raw, Comment as Remark, is_html5_doctype}
-use Rattle.tl_spec.specs.Machine.{State, start, map_at, with_child, with_raw_to, enclosing_name, with_child_of_first, with_child_of_innermost, with_next_node, with_open_tag, with_first_closed, with_innermost_closed, start_node, after_start, after_end, after_token, step, run, IsOpen, AreOpen}
+use Rattle.tl_spec.specs.Lex.ByteClass.{is_void}
+use Rattle.tl_spec.specs.Lex.Token.{Token, PlacedToken, Text, End, Comment, Doctype, Start, Nothing}
+use Rattle.tl_spec.specs.Tree.Forest.{closes}
+use Rattle.tl_spec.specs.Tree.Document.{Node, TagNode, Tag, Raw, Comment as Remark, is_html5_doctype}
+use Rattle.tl_spec.specs.Tree.Builder.{State, start, map_at, with_child, with_raw_to, enclosing_name, with_child_of_first, with_child_of_innermost, with_next_node, with_open_tag, with_first_closed, with_innermost_closed, start_node, after_start, after_end, after_token, step, run, IsOpen, AreOpen}
 
 -- a list with one item changed
 

@@ -3,11 +3,11 @@ use Rattle.std.proofs.Common.{◌≡◌, ℕ, ◌+◌, ◌||◌, ◌==◌, Bool,
 use Rattle.std.specs.Prelude.{nat_lt}
 use Rattle.std.proofs.lemmas.Bool.Decides.{nat_tests}
 use Rattle.std.proofs.lemmas.Slice.Eq.{bytes_eq-Decides}
-use Rattle.tl_spec.specs.Inline.{room, with_last}
-use Rattle.tl_spec.specs.Token.{PlacedToken, Start}
-use Rattle.tl_spec.specs.Forest.{Forest, none, text, comment, tag, SourceTag, Siblings, with_tree, source_tag, closes, siblings, forest, ParsesTo, over, a_text, a_comment, alone, opened, ended, stray, a_doctype, dropped}
-use Rattle.tl_spec.specs.Document.{Node, Tag, Raw, Comment as Remark, held_items, size, numbers, tag_node, nodes}
-use Rattle.tl_spec.specs.Machine.{State, start, map_at, with_child, with_raw_to, name_if_tag, enclosing_name, with_next_node, with_open_tag as entered, with_innermost_closed, after_start, after_end, run}
+use Rattle.tl_spec.specs.Tree.Inline.{room, with_last}
+use Rattle.tl_spec.specs.Lex.Token.{PlacedToken, Start}
+use Rattle.tl_spec.specs.Tree.Forest.{Forest, none, text, comment, tag, SourceTag, Siblings, with_tree, source_tag, closes, siblings, forest, ParsesTo, over, a_text, a_comment, alone, opened, ended, stray, a_doctype, dropped}
+use Rattle.tl_spec.specs.Tree.Document.{Node, Tag, Raw, Comment as Remark, held_items, size, numbers, tag_node, nodes}
+use Rattle.tl_spec.specs.Tree.Builder.{State, start, map_at, with_child, with_raw_to, name_if_tag, enclosing_name, with_next_node, with_open_tag as entered, with_innermost_closed, after_start, after_end, run}
 use Rattle.tl_spec.proofs.Machine.{map_at-middle, slice_get-middle}
 use Rattle.tl_spec.proofs.Siblings.{closes-stray, siblings-ParsesTo}
 

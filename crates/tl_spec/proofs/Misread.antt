@@ -4,12 +4,12 @@ use Rattle.std.specs.Prelude.{option_map}
 use Rattle.std.specs.Str.Lossy.{utf8_lossy}
 use Rattle.std.proofs.lemmas.Bool.{and_parts}
 use Rattle.std.proofs.lemmas.Cmp.{nat_list_eq_equiv}
-use Rattle.tl_spec.specs.Attribute.{Pair}
-use Rattle.tl_spec.specs.AttributeList.{PlainAttributes}
-use Rattle.tl_spec.specs.Token.{tokens}
-use Rattle.tl_spec.specs.Forest.{Forest, none, text, comment, tag, PlainTag, forest, plain}
-use Rattle.tl_spec.specs.Normal.{lossy, lossy_attributes, lossy_pair, tidy}
-use Rattle.tl_spec.specs.Misread.{IsMisread}
+use Rattle.tl_spec.specs.Lex.Attribute.{Pair}
+use Rattle.tl_spec.specs.Lex.AttributeList.{PlainAttributes}
+use Rattle.tl_spec.specs.Lex.Token.{tokens}
+use Rattle.tl_spec.specs.Tree.Forest.{Forest, none, text, comment, tag, PlainTag, forest, plain}
+use Rattle.tl_spec.specs.Print.Normal.{lossy, lossy_attributes, lossy_pair, tidy}
+use Rattle.tl_spec.specs.Print.Misread.{IsMisread}
 use Rattle.tl_spec.proofs.Ascii.{are_ascii, ascii_pairs, ascii_trees, ascii_value, lossy-ascii, print-ascii, raw_print}
 
 abbrev pub ascii_attributes : PlainAttributes → Bool

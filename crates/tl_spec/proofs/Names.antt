@@ -1,8 +1,8 @@
 -- All that the proofs use of the class of a name's bytes: a change of the class is a change of the first lemmas here.
 use Rattle.std.proofs.Common.{◌≡◌, ℕ, true, false, not, ◌||◌, ◌&&◌, ◌==◌, codes, refl, ap, ap₂, sym, ◌∙◌}
 use Rattle.std.proofs.lemmas.Bool.{and_parts, false_from_ne_true, or_parts, true≢false}
-use Rattle.tl_spec.specs.ByteClass.{greater, is_blank, is_closing, is_ident, is_name, slash}
-use Rattle.tl_spec.specs.Clean.{IsName}
+use Rattle.tl_spec.specs.Lex.ByteClass.{greater, is_blank, is_closing, is_ident, is_name, slash}
+use Rattle.tl_spec.specs.Print.Clean.{IsName}
 use Rattle.tl_spec.proofs.Bytes.{not_this}
 
 -- so a name is ASCII, and after an attribute the first byte of the next one's key is not passed over

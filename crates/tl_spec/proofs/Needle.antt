@@ -4,8 +4,8 @@ use Rattle.std.specs.List.{starts_with}
 use Rattle.std.proofs.lemmas.Bool.{false_from_ne_true}
 use Rattle.std.proofs.lemmas.Bool.Decides.{Decides-eqb}
 use Rattle.std.proofs.lemmas.Slice.Eq.{starts_is}
-use Rattle.tl_spec.specs.Grammar.{Begins, EndsWithFirst, IsNowhere}
-use Rattle.tl_spec.specs.Runs.{after_needle}
+use Rattle.tl_spec.specs.Lex.Grammar.{Begins, EndsWithFirst, IsNowhere}
+use Rattle.tl_spec.specs.Lex.Runs.{after_needle}
 use Rattle.tl_spec.proofs.Comments.{after_append, from_here}
 
 module _ (w : List ℕ) where

@@ -3,8 +3,8 @@ use Rattle.std.proofs.Common.{◌≡◌, ℕ, zero, suc, ◌+◌, ◌-◌, ◌<�
 use Rattle.std.specs.Prelude.{⊤}
 use Rattle.std.specs.List.{between, last_or}
 use Rattle.std.proofs.lemmas.List.{length-take, take_min}
-use Rattle.tl_spec.specs.Document.{Node, Raw, Comment, Tag, document}
-use Rattle.tl_spec.specs.Range.{handle_end, step_end, end_within, end_below, last_below, range_of, range_between, with_end, end_or_later, walk_end, AreRangesOfDescendants}
+use Rattle.tl_spec.specs.Tree.Document.{Node, Raw, Comment, Tag, document}
+use Rattle.tl_spec.specs.Walk.Range.{handle_end, step_end, end_within, end_below, last_below, range_of, range_between, with_end, end_or_later, walk_end, AreRangesOfDescendants}
 use Rattle.tl_spec.specs.Walk.{TreeFault, Walk, end, meets_text, meets_comment, meets_tag, passes_tag, meets_fault, all_tags, handle_walk, row_walk, walk_within, walk, stands_on, visits, visits_from}
 use Rattle.tl_spec.proofs.Order.{descendants-interval}
 use Rattle.tl_spec.proofs.Walks.{walk-step, walk-nil}

@@ -1,10 +1,10 @@
 -- The states between the first token of a text and the last.
 use Rattle.std.proofs.Common.{◌≡◌, ℕ, ◌+◌, ◌-◌, ◌≤◌, List, [], ◌∷◌, length, drop, Some, refl, sym, ◌∙◌, ap, subst, arith, length-drop}
 use Rattle.std.proofs.lemmas.List.{drop-drop}
-use Rattle.tl_spec.specs.Token.{Token, PlacedToken, next_token, tokens}
-use Rattle.tl_spec.specs.Grammar.{IsTokenAt}
-use Rattle.tl_spec.specs.Document.{document}
-use Rattle.tl_spec.specs.Machine.{State, start, step, run, IsReached}
+use Rattle.tl_spec.specs.Lex.Token.{Token, PlacedToken, next_token, tokens}
+use Rattle.tl_spec.specs.Lex.Grammar.{IsTokenAt}
+use Rattle.tl_spec.specs.Tree.Document.{document}
+use Rattle.tl_spec.specs.Tree.Builder.{State, start, step, run, IsReached}
 use Rattle.tl_spec.proofs.Grammar.{token-there}
 use Rattle.tl_spec.proofs.Stand.{stand-tokens}
 use Rattle.tl_spec.proofs.Steps.{token_less}

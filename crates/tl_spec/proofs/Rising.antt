@@ -1,9 +1,9 @@
 -- Walks below handles that rise: they don't look at their path, so they go one handle on.
 use Rattle.std.proofs.Common.{◌≡◌, ℕ, zero, suc, ◌+◌, ◌<◌, Bool, true, false, List, [], ◌∷◌, length, drop, slice_get, Option, Some, None, option_map, refl, ap, ap₂, sym, ◌∙◌, arith, length-append}
 use Rattle.std.specs.List.{All, AllByRecursion}
-use Rattle.tl_spec.specs.Document.{Node, Tag, Raw, Comment, TagNode}
-use Rattle.tl_spec.specs.Met.{met, handle_met}
-use Rattle.tl_spec.specs.Order.{ChildrenFollowParents}
+use Rattle.tl_spec.specs.Tree.Document.{Node, Tag, Raw, Comment, TagNode}
+use Rattle.tl_spec.specs.Walk.Length.{met, handle_met}
+use Rattle.tl_spec.specs.Tree.Order.{ChildrenFollowParents}
 use Rattle.tl_spec.specs.Walk.{Walk, end, all_tags, handle_walk, meets_tag, row_walk, stands_on, visits, walk, walk_within}
 use Rattle.tl_spec.proofs.Order.{AreBelow, AreBelow-le, off_path}
 use Rattle.tl_spec.proofs.Walks.{walk-cons}

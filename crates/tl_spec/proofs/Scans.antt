@@ -1,7 +1,7 @@
 -- What the scans find, and that nothing else is that.
 use Rattle.std.proofs.Common.{◌≡◌, ℕ, zero, suc, ◌+◌, ◌<◌, ◌≤◌, ◌⊎◌, inl, inr, Bool, true, false, cond, List, [], ◌∷◌, length, Option, None, Some, refl, sym, ◌∙◌, ap, subst, arith}
 use Rattle.std.specs.List.{AllPairs, Contains, position_from, slice_index_or}
-use Rattle.tl_spec.specs.Scan.{places_from, PassesAt, IsFirstPlace, ArePlaces}
+use Rattle.tl_spec.specs.Lookup.Scan.{places_from, PassesAt, IsFirstPlace, ArePlaces}
 
 module _ {A : Type 0} (p : A → Bool) where
   -- nothing passes where there is nothing, and no item that fails passes

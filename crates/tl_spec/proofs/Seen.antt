@@ -2,12 +2,12 @@
 use Rattle.std.proofs.Common.{◌≡◌, ℕ, zero, suc, ◌+◌, ◌||◌, ◌⊎◌, inl, inr, Bool, true, false, cond, List, [], ◌∷◌, ◌++◌, length, map, Some, refl, sym, ◌∙◌, ap, append-nil}
 use Rattle.std.proofs.lemmas.List.{map-append}
 use Rattle.std.specs.List.{position_from}
-use Rattle.tl_spec.specs.ByteClass.{is_void}
-use Rattle.tl_spec.specs.Token.{Token, PlacedToken, Text, End, Comment, Doctype, Start, Nothing}
-use Rattle.tl_spec.specs.Forest.{closes}
-use Rattle.tl_spec.specs.Document.{Node, Tag, Raw, Comment as Remark}
-use Rattle.tl_spec.specs.Machine.{State, map_at, with_child, with_raw_to, enclosing_name, with_child_of_first, with_next_node, with_first_closed, start_node, after_start, after_end, after_token, step}
-use Rattle.tl_spec.specs.Scan.{has_id, is_in_class, places_from, id_scan, class_scan, tags_of}
+use Rattle.tl_spec.specs.Lex.ByteClass.{is_void}
+use Rattle.tl_spec.specs.Lex.Token.{Token, PlacedToken, Text, End, Comment, Doctype, Start, Nothing}
+use Rattle.tl_spec.specs.Tree.Forest.{closes}
+use Rattle.tl_spec.specs.Tree.Document.{Node, Tag, Raw, Comment as Remark}
+use Rattle.tl_spec.specs.Tree.Builder.{State, map_at, with_child, with_raw_to, enclosing_name, with_child_of_first, with_next_node, with_first_closed, start_node, after_start, after_end, after_token, step}
+use Rattle.tl_spec.specs.Lookup.Scan.{has_id, is_in_class, places_from, id_scan, class_scan, tags_of}
 
 abbrev itself : Bool → Bool
 itself b = b

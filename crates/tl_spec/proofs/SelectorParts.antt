@@ -4,12 +4,12 @@ use Rattle.std.specs.Prelude.{option_and_then}
 use Rattle.std.specs.List.{list_all, take_while}
 use Rattle.std.proofs.lemmas.Bool.{and_parts, eqb-true, eq-eqb}
 use Rattle.std.proofs.lemmas.List.{length-append}
-use Rattle.tl_spec.specs.ByteClass.{is_ident, is_quote}
-use Rattle.tl_spec.specs.Runs.{drop_while}
-use Rattle.tl_spec.specs.Grammar.{IsRun}
-use Rattle.tl_spec.specs.Selector.{Selector, Tag, Id, Class}
-use Rattle.tl_spec.specs.SelectorText.{OpGives, equal, has_part, starts, ends, contains, ValueStands, bare, quoted, SimpleStands, id_part, class_part, all_part, tag_part, key_part, value_part}
-use Rattle.tl_spec.specs.SelectorReading.{skip_byte, run_before, quote_at, value_by, value_at, AttrOperator, Equals, HasPart, StartsWith, EndsWith, Contains, with_operator, operator_of, operator_by, operator_at, bracket_by, bracket_at, simple_at}
+use Rattle.tl_spec.specs.Lex.ByteClass.{is_ident, is_quote}
+use Rattle.tl_spec.specs.Lex.Runs.{drop_while}
+use Rattle.tl_spec.specs.Lex.Grammar.{IsRun}
+use Rattle.tl_spec.specs.Select.Selector.{Selector, Tag, Id, Class}
+use Rattle.tl_spec.specs.Select.Text.{OpGives, equal, has_part, starts, ends, contains, ValueStands, bare, quoted, SimpleStands, id_part, class_part, all_part, tag_part, key_part, value_part}
+use Rattle.tl_spec.specs.Select.Reading.{skip_byte, run_before, quote_at, value_by, value_at, AttrOperator, Equals, HasPart, StartsWith, EndsWith, Contains, with_operator, operator_of, operator_by, operator_at, bracket_by, bracket_at, simple_at}
 use Rattle.tl_spec.proofs.Bytes.{not_this, drop_while-le, take_while-yes}
 use Rattle.tl_spec.proofs.Grammar.{if_yes, if_no, run-take, run-drop_while, run-of}
 

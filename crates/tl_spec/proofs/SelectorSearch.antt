@@ -5,12 +5,12 @@ use Rattle.std.specs.Option.{option_map_or}
 use Rattle.std.proofs.lemmas.Bool.Decides.{Decides-like, Decides-and, Decides-or, Decides-eqb, Decides-ltb, eqb_tells, leb_tells}
 use Rattle.std.proofs.lemmas.List.FromFn.{length-range_with_len, get_or-range_with_len}
 use Rattle.std.proofs.lemmas.Option.{slice_get-get_or, slice_get_past, same_Some, none-some}
-use Rattle.tl_spec.specs.Document.{Node}
-use Rattle.tl_spec.specs.Element.{children_of}
-use Rattle.tl_spec.specs.Scan.{places_from, PassesAt, ArePlaces}
-use Rattle.tl_spec.specs.Selector.{Selector, And, Or, Descendant, Parent}
-use Rattle.tl_spec.specs.SelectorMeaning.{HoldsAlone, IsChild, IsChain, IsBelow, Holds, AreMatches}
-use Rattle.tl_spec.specs.SelectorSearch.{holds_alone, node_numbers, is_child, is_below_by, is_below, holds, matches_between}
+use Rattle.tl_spec.specs.Tree.Document.{Node}
+use Rattle.tl_spec.specs.Tree.Element.{children_of}
+use Rattle.tl_spec.specs.Lookup.Scan.{places_from, PassesAt, ArePlaces}
+use Rattle.tl_spec.specs.Select.Selector.{Selector, And, Or, Descendant, Parent}
+use Rattle.tl_spec.specs.Select.Meaning.{HoldsAlone, IsChild, IsChain, IsBelow, Holds, AreMatches}
+use Rattle.tl_spec.specs.Select.Search.{holds_alone, node_numbers, is_child, is_below_by, is_below, holds, matches_between}
 use Rattle.tl_spec.proofs.Scans.{places_are, places_only}
 use Rattle.tl_spec.proofs.SelectorTests.{any-contained, some-passes, holds_alone-is}
 

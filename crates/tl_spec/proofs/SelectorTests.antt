@@ -9,14 +9,14 @@ use Rattle.bstr.specs.Utf8.{lossy_chars}
 use Rattle.std.proofs.lemmas.Bool.Decides.{Decides-like, Decides-and, Decides-or, Decides-by_or, Decides-eqb}
 use Rattle.std.proofs.lemmas.List.Elements.{Decides-contains}
 use Rattle.std.proofs.lemmas.Slice.Eq.{bytes_eq-Decides, starts_is, ends_is}
-use Rattle.tl_spec.specs.Runs.{has_bytes}
-use Rattle.tl_spec.specs.Document.{Node}
-use Rattle.tl_spec.specs.Element.{name_of, attribute_of}
-use Rattle.tl_spec.specs.LossyText.{words, IsSameText, BeginsWith, EndsWith, HasPart, HasWord}
-use Rattle.tl_spec.specs.Scan.{is_value, id_of}
-use Rattle.tl_spec.specs.Selector.{Selector, Tag, Id, Class, All, And, Or, Descendant, Parent, Attribute, AttributeValue, AttributeValueWhitespacedContains, AttributeValueStartsWith, AttributeValueEndsWith, AttributeValueSubstring}
-use Rattle.tl_spec.specs.SelectorMeaning.{HasValue, HoldsAlone}
-use Rattle.tl_spec.specs.SelectorSearch.{is_same_text, begins_with, ends_with, stands_in, has_part, has_word, has_value, holds_alone}
+use Rattle.tl_spec.specs.Lex.Runs.{has_bytes}
+use Rattle.tl_spec.specs.Tree.Document.{Node}
+use Rattle.tl_spec.specs.Tree.Element.{name_of, attribute_of}
+use Rattle.tl_spec.specs.Select.LossyText.{words, IsSameText, BeginsWith, EndsWith, HasPart, HasWord}
+use Rattle.tl_spec.specs.Lookup.Scan.{is_value, id_of}
+use Rattle.tl_spec.specs.Select.Selector.{Selector, Tag, Id, Class, All, And, Or, Descendant, Parent, Attribute, AttributeValue, AttributeValueWhitespacedContains, AttributeValueStartsWith, AttributeValueEndsWith, AttributeValueSubstring}
+use Rattle.tl_spec.specs.Select.Meaning.{HasValue, HoldsAlone}
+use Rattle.tl_spec.specs.Select.Search.{is_same_text, begins_with, ends_with, stands_in, has_part, has_word, has_value, holds_alone}
 
 -- a search by a test of equality finds the items of a list
 pub any-contained : {X : Type 0} (e : X → X → Bool) → ((x y : X) → Decides (e x y) (x ≡ y)) → (x : X) (xs : List X) → Decides (list_any (e x) xs) (Contains xs x)

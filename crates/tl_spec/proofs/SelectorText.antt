@@ -3,14 +3,14 @@ use Rattle.std.proofs.Common.{◌≡◌, ◌≢◌, ◌⊎◌, ◌↔◌, ℕ, z
 use Rattle.std.specs.Prelude.{option_and_then}
 use Rattle.std.proofs.lemmas.Bool.{cases_Bool, eqb-true}
 use Rattle.std.proofs.lemmas.List.{append-nil, length-append}
-use Rattle.tl_spec.specs.ByteClass.{is_ident}
-use Rattle.tl_spec.specs.Runs.{drop_while}
-use Rattle.tl_spec.specs.Grammar.{Stops}
-use Rattle.tl_spec.specs.Selector.{Selector, And, Descendant, Parent}
-use Rattle.tl_spec.specs.SelectorMeaning.{has_combinator}
-use Rattle.tl_spec.specs.SelectorText.{AreSpaces, no_space, one_space, OpGives, equal, has_part, starts, ends, contains, SimpleStands, id_part, class_part, all_part, tag_part, key_part, value_part, JointStands, touching, spaced, stepped, ChainStands, first_part, next_part, SpacedChainStands, spaced_chain, ChainsStand, first_chain, next_chain, IsSelectorText, StandsAlone, alone}
-use Rattle.tl_spec.specs.ByteClass.{is_space}
-use Rattle.tl_spec.specs.SelectorReading.{simple_at, Separator, Comma, Step, Spaces, Touch, starts_with_space, separator_by, separator_at, Next, End, Bad, Part, part_by, next_by, next_at, parts_by, parts_within, parts_at, combine, push_complex, list_after, complex_after, nest, selector_at}
+use Rattle.tl_spec.specs.Lex.ByteClass.{is_ident}
+use Rattle.tl_spec.specs.Lex.Runs.{drop_while}
+use Rattle.tl_spec.specs.Lex.Grammar.{Stops}
+use Rattle.tl_spec.specs.Select.Selector.{Selector, And, Descendant, Parent}
+use Rattle.tl_spec.specs.Select.Meaning.{has_combinator}
+use Rattle.tl_spec.specs.Select.Text.{AreSpaces, no_space, one_space, OpGives, equal, has_part, starts, ends, contains, SimpleStands, id_part, class_part, all_part, tag_part, key_part, value_part, JointStands, touching, spaced, stepped, ChainStands, first_part, next_part, SpacedChainStands, spaced_chain, ChainsStand, first_chain, next_chain, IsSelectorText, StandsAlone, alone}
+use Rattle.tl_spec.specs.Lex.ByteClass.{is_space}
+use Rattle.tl_spec.specs.Select.Reading.{simple_at, Separator, Comma, Step, Spaces, Touch, starts_with_space, separator_by, separator_at, Next, End, Bad, Part, part_by, next_by, next_at, parts_by, parts_within, parts_at, combine, push_complex, list_after, complex_after, nest, selector_at}
 use Rattle.tl_spec.proofs.Bytes.{not_this, drop_while-yes, drop_while-no}
 use Rattle.tl_spec.proofs.Grammar.{if_no}
 use Rattle.tl_spec.proofs.SelectorParts.{if_is, bind-some, map-some, none_some, of_pair, run-first, simple-some, simple-is, simple-lt}

@@ -13,9 +13,9 @@ use Rattle.std.proofs.Math.Seq.{drop-append-add}
 use Rattle.std.specs.List.{position_or_len, slice_split}
 use Rattle.std.specs.Str.{all_ascii_digits}
 use Rattle.tl_spec.specs.Edit.{Change, Names, Texts, Comments, Sets, Flags, Unsets, Bares, Pushes, Pulls, Roots}
-use Rattle.tl_spec.specs.ByteClass.{is_space}
-use Rattle.tl_spec.specs.Runs.{has_bytes}
-use Rattle.tl_spec.specs.StepLine.{is_line_feed, parse_changes, changes_of_lines, lines_of, IsLine, number_of, is_number, continue_number, first_word, after_word, change_with_number, change_of_text, change_of_numbers, change_of_word, change_by_word, change_of_line, word_and_rest, line_of, ReadBack, IsSpellable}
+use Rattle.tl_spec.specs.Lex.ByteClass.{is_space}
+use Rattle.tl_spec.specs.Lex.Runs.{has_bytes}
+use Rattle.tl_spec.specs.Edit.StepLine.{is_line_feed, parse_changes, changes_of_lines, lines_of, IsLine, number_of, is_number, continue_number, first_word, after_word, change_with_number, change_of_text, change_of_numbers, change_of_word, change_by_word, change_of_line, word_and_rest, line_of, ReadBack, IsSpellable}
 
 -- a word without a space ends where the first space stands
 word_length : (word rest : List ℕ) → All (λ b. b ≢ 32) word → position_or_len is_space (word_and_rest word rest) ≡ length word

@@ -14,10 +14,10 @@ use Rattle.std.specs.List.{position_or_len, slice_split, onto_first}
 use Rattle.std.specs.Str.{all_ascii_digits, bytes_eq}
 use Rattle.std.proofs.lemmas.Slice.Eq.{bytes_eq-Decides}
 use Rattle.tl_spec.specs.Edit.{Change, Sets}
-use Rattle.tl_spec.specs.ByteClass.{is_space}
-use Rattle.tl_spec.specs.Runs.{has_bytes}
-use Rattle.tl_spec.specs.StepLine.{number_of, is_number, continue_number, first_word, after_word, change_with_number, change_of_text, change_of_numbers, change_of_word, change_by_word, change_of_line, word_and_rest, is_line_feed, all_some, changes_of_lines, parse_changes}
-use Rattle.tl_spec.specs.StepGrammar.{DigitsSay, one_digit, one_more, IsNumber, NumberThenText, number_alone, number_and_text, TwoNumbers, two_numbers, KeyThenValue, key_alone, key_and_value, LineSays, name_line, text_line, comment_line, set_line, flag_line, unset_line, bare_line, push_line, pull_line, root_line, TextSays, no_line, last_line, empty_line, next_line}
+use Rattle.tl_spec.specs.Lex.ByteClass.{is_space}
+use Rattle.tl_spec.specs.Lex.Runs.{has_bytes}
+use Rattle.tl_spec.specs.Edit.StepLine.{number_of, is_number, continue_number, first_word, after_word, change_with_number, change_of_text, change_of_numbers, change_of_word, change_by_word, change_of_line, word_and_rest, is_line_feed, all_some, changes_of_lines, parse_changes}
+use Rattle.tl_spec.specs.Edit.StepGrammar.{DigitsSay, one_digit, one_more, IsNumber, NumberThenText, number_alone, number_and_text, TwoNumbers, two_numbers, KeyThenValue, key_alone, key_and_value, LineSays, name_line, text_line, comment_line, set_line, flag_line, unset_line, bare_line, push_line, pull_line, root_line, TextSays, no_line, last_line, empty_line, next_line}
 use Rattle.tl_spec.proofs.Shrinks.{if_both}
 use Rattle.tl_spec.proofs.Spelling.{number-if, not_feed, changes_of_lines-cons, number_read, numbers_read, line_read, first_word-spaced, after_word-spaced, spaceless, number-spaceless}
 

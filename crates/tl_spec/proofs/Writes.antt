@@ -3,8 +3,8 @@ use Rattle.std.proofs.Common.{◌≡◌, ℕ, zero, suc, ◌+◌, ◌-◌, ◌<�
 use Rattle.std.specs.Prelude.{slice_get}
 use Rattle.std.proofs.lemmas.List.{reverse-append, take_more, take_all}
 use Rattle.std.proofs.lemmas.Option.{slice_get-get_or}
-use Rattle.tl_spec.specs.Document.{Node}
-use Rattle.tl_spec.specs.Machine.{State, map_at, with_child, with_raw_to, with_child_of_innermost, with_child_of_first, with_innermost_closed, with_first_closed}
+use Rattle.tl_spec.specs.Tree.Document.{Node}
+use Rattle.tl_spec.specs.Tree.Builder.{State, map_at, with_child, with_raw_to, with_child_of_innermost, with_child_of_first, with_innermost_closed, with_first_closed}
 
 -- one item written
 pub map_at-map : {A B : Type 0} (view : A → B) (f : B → B) (xs : List A) (i : ℕ) (x y : A) → i < length xs → x ≡ get_or xs i x → view y ≡ f (view x) →

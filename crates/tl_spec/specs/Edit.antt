@@ -1,11 +1,15 @@
 -- Edits of a document.
+pub mod Attribute
+pub mod Shape
+pub mod StepLine
+pub mod StepGrammar
 use Rattle.std.specs.Prelude.{ℕ, suc, nat_lt, List, [], ◌∷◌, length, Option, Some, None, Result, Ok, Err, if◌then◌else◌, slice_set, option_map}
 use Rattle.std.specs.List.{slice_get}
 use Rattle.std.specs.Str.{bytes_eq}
-use Rattle.tl_spec.specs.Inline.{room, with_last, without_item}
-use Rattle.tl_spec.specs.AttributeList.{Attributes}
-use Rattle.tl_spec.specs.AttributeEdit as any
-use Rattle.tl_spec.specs.Document.{Handles, TagNode, Node, Tag, Raw, Comment, Document}
+use Rattle.tl_spec.specs.Tree.Inline.{room, with_last, without_item}
+use Rattle.tl_spec.specs.Lex.AttributeList.{Attributes}
+use Rattle.tl_spec.specs.Edit.Attribute as any
+use Rattle.tl_spec.specs.Tree.Document.{Handles, TagNode, Node, Tag, Raw, Comment, Document}
 
 -- one edit: of the node or the place of a number
 pub data Change : Type 0 where

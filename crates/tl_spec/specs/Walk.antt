@@ -1,10 +1,12 @@
 -- Walks over a table of nodes.
+pub mod Length
+pub mod Range
 use Rattle.std.specs.Prelude.{ℕ, zero, suc, Bool, true, false, not, ◌==◌, List, [], ◌∷◌, ◌++◌, length, Option, Some, None, Result, Ok, Err, slice_get, map}
 use Rattle.std.specs.List.{list_any, enumerate_from}
-use Rattle.tl_spec.specs.ByteClass.{is_printed_alone}
-use Rattle.tl_spec.specs.AttributeList.{Attributes, PlainAttributes}
-use Rattle.tl_spec.specs.Forest.{Forest, none, text, comment, tag, PlainTag}
-use Rattle.tl_spec.specs.Document.{TagNode, Node, Tag, Raw, Comment}
+use Rattle.tl_spec.specs.Lex.ByteClass.{is_printed_alone}
+use Rattle.tl_spec.specs.Lex.AttributeList.{Attributes, PlainAttributes}
+use Rattle.tl_spec.specs.Tree.Forest.{Forest, none, text, comment, tag, PlainTag}
+use Rattle.tl_spec.specs.Tree.Document.{TagNode, Node, Tag, Raw, Comment}
 
 -- a handle past the table, and a handle that stands on its own path
 pub data TreeFault : Type 0 where

@@ -2,12 +2,12 @@
 //! that is read as; and tables whose walk meets a fault.
 
 ghost use Rattle.std.specs.Prelude.{◌≡◌, [], ◌∷◌, Some, None, Err, codes};
-ghost use Rattle.tl_spec.specs.Forest.{none, tag};
-ghost use Rattle.tl_spec.specs.Clean.{IsClean, IsCleanTable};
+ghost use Rattle.tl_spec.specs.Tree.Forest.{none, tag};
+ghost use Rattle.tl_spec.specs.Print.Clean.{IsClean, IsCleanTable};
 ghost use Rattle.tl_spec.specs.Edit.{Pushes};
-ghost use Rattle.tl_spec.specs.Misread.{IsMisread};
+ghost use Rattle.tl_spec.specs.Print.Misread.{IsMisread};
 ghost use Rattle.tl_spec.specs.Print.{document_print};
-ghost use Rattle.tl_spec.specs.Rows.{comment_tree, document_after, key, pair, tag_tree, text_tree};
+ghost use Rattle.tl_spec.specs.Examples.{comment_tree, document_after, key, pair, tag_tree, text_tree};
 ghost use Rattle.tl_spec.specs.Walk.{Cycle, Dangling};
 
 /// No `<` stands in a text: it begins a token wherever it stands.

@@ -2,25 +2,25 @@
 
 ghost use Rattle.std.specs.Prelude.{◌≡◌, ◌↔◌, ◌≤◌, ◌+◌, ℕ, All, sum_by, length, Some, List, [], ◌∷◌, ◌++◌, Option, None, Bool, Ok};
 ghost use Rattle.std.specs.Fmt.{decimal};
-ghost use Rattle.tl_spec.specs.Attribute.{Pair, attribute, attributes};
-ghost use Rattle.tl_spec.specs.Token.{Token, PlacedToken, next_token, tokens};
-ghost use Rattle.tl_spec.specs.Grammar.{AttributeStands, AttributesStand, TokenStands, StandFrom};
-ghost use Rattle.tl_spec.specs.AttributeList.{PlainAttributes, attributes_of};
-ghost use Rattle.tl_spec.specs.AttributeGrammar.{AreAttributesOf};
-ghost use Rattle.tl_spec.specs.Forest.{Forest, PlainTag, Siblings, ParsesTo, no_siblings, siblings, with_token, forest, plain};
-ghost use Rattle.tl_spec.specs.Document.{Document, Node, document, node_and_attribute_count};
+ghost use Rattle.tl_spec.specs.Lex.Attribute.{Pair, attribute, attributes};
+ghost use Rattle.tl_spec.specs.Lex.Token.{Token, PlacedToken, next_token, tokens};
+ghost use Rattle.tl_spec.specs.Lex.Grammar.{AttributeStands, AttributesStand, TokenStands, StandFrom};
+ghost use Rattle.tl_spec.specs.Lex.AttributeList.{PlainAttributes, attributes_of};
+ghost use Rattle.tl_spec.specs.Lex.AttributeGrammar.{AreAttributesOf};
+ghost use Rattle.tl_spec.specs.Tree.Forest.{Forest, PlainTag, Siblings, ParsesTo, no_siblings, siblings, with_token, forest, plain};
+ghost use Rattle.tl_spec.specs.Tree.Document.{Document, Node, document, node_and_attribute_count};
 ghost use Rattle.tl_spec.specs.Edit.{Change, Refusal, apply_change, apply_changes, none_refused};
-ghost use Rattle.tl_spec.specs.Edits.{shift_place_by, KeepsShape};
-ghost use Rattle.tl_spec.specs.Machine.{State, run, start, step};
-ghost use Rattle.tl_spec.specs.Scan.{has_id, is_in_class, IsFirstPlace, ArePlaces, id_scan, class_scan, tags_of};
+ghost use Rattle.tl_spec.specs.Edit.Shape.{shift_place_by, KeepsShape};
+ghost use Rattle.tl_spec.specs.Tree.Builder.{State, run, start, step};
+ghost use Rattle.tl_spec.specs.Lookup.Scan.{has_id, is_in_class, IsFirstPlace, ArePlaces, id_scan, class_scan, tags_of};
 ghost use Rattle.tl_spec.specs.Walk.{all_tags, prints_children, row_walk, walk, walk_of, trees, first_fault, visits, visits_from};
-ghost use Rattle.tl_spec.specs.Order.{ChildrenFollowParents, DescendantsAreContiguous};
+ghost use Rattle.tl_spec.specs.Tree.Order.{ChildrenFollowParents, DescendantsAreContiguous};
 ghost use Rattle.tl_spec.specs.Print.{print, document_print, outer_html};
-ghost use Rattle.tl_spec.specs.Clean.{IsClean, IsCleanNode, IsCleanTable, HaveOwnKeys, IsTame};
-ghost use Rattle.tl_spec.specs.Normal.{ReadsAs};
+ghost use Rattle.tl_spec.specs.Print.Clean.{IsClean, IsCleanNode, IsCleanTable, HaveOwnKeys, IsTame};
+ghost use Rattle.tl_spec.specs.Print.Normal.{ReadsAs};
 ghost use Rattle.tl_spec.specs.Edit.{Change};
-ghost use Rattle.tl_spec.specs.StepGrammar.{LineSays, TextSays};
-ghost use Rattle.tl_spec.specs.StepLine.{change_of_line, parse_changes, line_of, lines_of, ReadBack, IsSpellable, IsLine};
+ghost use Rattle.tl_spec.specs.Edit.StepGrammar.{LineSays, TextSays};
+ghost use Rattle.tl_spec.specs.Edit.StepLine.{change_of_line, parse_changes, line_of, lines_of, ReadBack, IsSpellable, IsLine};
 
 /// An attribute stands by cases exactly where the function reads it, alone and in a row.
 #[tactic(auto, using(crate::proofs::All::laws))]

@@ -1,13 +1,13 @@
 //! Laws of what holds of all nodes of a table, for the proofs of those who edit each node.
 
 ghost use Rattle.std.specs.Prelude.{◌≡◌, ℕ, All, Bool, IsTrue, List, [], None, Ok};
-ghost use Rattle.tl_spec.specs.Clean.{IsCleanNode, IsCleanTable};
-ghost use Rattle.tl_spec.specs.Document.{Document, Node};
-ghost use Rattle.tl_spec.specs.Each.{EachNode, HoldOfJoined, HoldOfNode, HoldOfTrees, IsCleanAlone, Tests, of_lossy};
-ghost use Rattle.tl_spec.specs.Forest.{Forest, PlainTag, forest, plain};
-ghost use Rattle.tl_spec.specs.Normal.{ReadsAs, norm};
+ghost use Rattle.tl_spec.specs.Print.Clean.{IsCleanNode, IsCleanTable};
+ghost use Rattle.tl_spec.specs.Tree.Document.{Document, Node};
+ghost use Rattle.tl_spec.specs.Tree.EveryNode.{EachNode, HoldOfJoined, HoldOfNode, HoldOfTrees, IsCleanAlone, Tests, of_lossy};
+ghost use Rattle.tl_spec.specs.Tree.Forest.{Forest, PlainTag, forest, plain};
+ghost use Rattle.tl_spec.specs.Print.Normal.{ReadsAs, norm};
 ghost use Rattle.tl_spec.specs.Print.{document_print};
-ghost use Rattle.tl_spec.specs.Token.{tokens};
+ghost use Rattle.tl_spec.specs.Lex.Token.{tokens};
 ghost use Rattle.tl_spec.specs.Walk.{all_tags, first_fault, prints_children, trees, walk, walk_of};
 
 /// Nodes that are clean by themselves make a clean table where the print's walk meets no fault, so

@@ -2,11 +2,11 @@
 
 ghost use Rattle.std.specs.Prelude.{◌≡◌, ℕ, Option, List, [], ◌∷◌, codes, None, Some, Ok, Err, option_map, slice_get};
 ghost use Rattle.std.specs.List.{last_or};
-ghost use Rattle.tl_spec.specs.Document.{Node, document};
+ghost use Rattle.tl_spec.specs.Tree.Document.{Node, document};
 ghost use Rattle.tl_spec.specs.Edit.{Pulls, Pushes};
-ghost use Rattle.tl_spec.specs.Element.{children_of, last_child_of};
-ghost use Rattle.tl_spec.specs.Range.{end_below, step_end, last_below, boundaries_of, range_of, walk_end, AreRangesOfDescendants};
-ghost use Rattle.tl_spec.specs.Rows.{nodes_after, nodes_of};
+ghost use Rattle.tl_spec.specs.Tree.Element.{children_of, last_child_of};
+ghost use Rattle.tl_spec.specs.Walk.Range.{end_below, step_end, last_below, boundaries_of, range_of, walk_end, AreRangesOfDescendants};
+ghost use Rattle.tl_spec.specs.Examples.{nodes_after, nodes_of};
 ghost use Rattle.tl_spec.specs.Walk.{Dangling, Cycle, all_tags, walk};
 
 /// The way along last children goes step by step.

@@ -1,10 +1,10 @@
 //! Laws of the search for the nodes of a selector.
 
 ghost use Rattle.std.specs.Prelude.{◌≡◌, ◌↔◌, ℕ, true, List};
-ghost use Rattle.tl_spec.specs.Document.{Node};
-ghost use Rattle.tl_spec.specs.Selector.{Selector};
-ghost use Rattle.tl_spec.specs.SelectorMeaning.{HoldsAlone, Holds, AreMatches};
-ghost use Rattle.tl_spec.specs.SelectorSearch.{holds_alone, holds, matches_between};
+ghost use Rattle.tl_spec.specs.Tree.Document.{Node};
+ghost use Rattle.tl_spec.specs.Select.Selector.{Selector};
+ghost use Rattle.tl_spec.specs.Select.Meaning.{HoldsAlone, Holds, AreMatches};
+ghost use Rattle.tl_spec.specs.Select.Search.{holds_alone, holds, matches_between};
 
 /// The search says where a selector holds; so the nodes between two numbers where it does are one
 /// list, and can be computed.

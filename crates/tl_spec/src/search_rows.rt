@@ -1,11 +1,11 @@
 //! Worked rows: the nodes where a selector holds, in pages and in edited ones.
 
 ghost use Rattle.std.specs.Prelude.{◌≡◌, List, [], ◌∷◌, ◌++◌, codes};
-ghost use Rattle.tl_spec.specs.Document.{document};
+ghost use Rattle.tl_spec.specs.Tree.Document.{document};
 ghost use Rattle.tl_spec.specs.Edit.{Pushes, Pulls};
-ghost use Rattle.tl_spec.specs.Rows.{class, id, nodes_after, nodes_of, tag};
-ghost use Rattle.tl_spec.specs.Selector.{All, And, Or, Descendant, Parent, Attribute, AttributeValue, AttributeValueWhitespacedContains, AttributeValueStartsWith, AttributeValueEndsWith, AttributeValueSubstring};
-ghost use Rattle.tl_spec.specs.SelectorSearch.{matches_between};
+ghost use Rattle.tl_spec.specs.Examples.{class, id, nodes_after, nodes_of, tag};
+ghost use Rattle.tl_spec.specs.Select.Selector.{All, And, Or, Descendant, Parent, Attribute, AttributeValue, AttributeValueWhitespacedContains, AttributeValueStartsWith, AttributeValueEndsWith, AttributeValueSubstring};
+ghost use Rattle.tl_spec.specs.Select.Search.{matches_between};
 
 /// A descendant at any depth, and a child.
 pub fn below_tags()

@@ -1,10 +1,10 @@
 //! Laws of selector texts.
 
 ghost use Rattle.std.specs.Prelude.{◌↔◌, ◌≡◌, ℕ, List, Some, None, false};
-ghost use Rattle.tl_spec.specs.Selector.{Selector};
-ghost use Rattle.tl_spec.specs.SelectorMeaning.{has_combinator};
-ghost use Rattle.tl_spec.specs.SelectorText.{IsSelectorText, StandsAlone};
-ghost use Rattle.tl_spec.specs.SelectorReading.{selector_at};
+ghost use Rattle.tl_spec.specs.Select.Selector.{Selector};
+ghost use Rattle.tl_spec.specs.Select.Meaning.{has_combinator};
+ghost use Rattle.tl_spec.specs.Select.Text.{IsSelectorText, StandsAlone};
+ghost use Rattle.tl_spec.specs.Select.Reading.{selector_at};
 
 /// A text is derived as a selector exactly where it is read as that one; so there is at most one.
 #[tactic(auto, using(crate::proofs::SelectorText::laws))]

@@ -1,11 +1,11 @@
 //! Worked rows: what selector texts are read as.
 ghost use Rattle.std.specs.Prelude.{◌≡◌, [], ◌∷◌, Some, None, codes};
-ghost use Rattle.tl_spec.specs.Rows.{class, id, tag};
-ghost use Rattle.tl_spec.specs.Selector.{Id, Class, All, And, Or, Descendant, Parent, Attribute, AttributeValue, AttributeValueWhitespacedContains, AttributeValueStartsWith, AttributeValueEndsWith, AttributeValueSubstring};
-ghost use Rattle.tl_spec.specs.SelectorReading.{selector_at};
+ghost use Rattle.tl_spec.specs.Examples.{class, id, tag};
+ghost use Rattle.tl_spec.specs.Select.Selector.{Id, Class, All, And, Or, Descendant, Parent, Attribute, AttributeValue, AttributeValueWhitespacedContains, AttributeValueStartsWith, AttributeValueEndsWith, AttributeValueSubstring};
+ghost use Rattle.tl_spec.specs.Select.Reading.{selector_at};
 
 /// Parts nest from the left, and `,` is loosest.
-#[tactic(auto, unfolding(crate::specs::SelectorReading::parts_at))]
+#[tactic(auto, unfolding(crate::specs::Select::Reading::parts_at))]
 pub fn nested_from_the_left()
     ensures chain_first { selector_at (codes "a.b, c")
         ≡ Some (Or (And (tag "a") (class "b")) (tag "c")) }
@@ -17,7 +17,7 @@ pub fn nested_from_the_left()
 {}
 
 /// Spaces, and no other blanks, may stand around parts, `,` and `>`, and alone they are a joint.
-#[tactic(auto, unfolding(crate::specs::SelectorReading::parts_at))]
+#[tactic(auto, unfolding(crate::specs::Select::Reading::parts_at))]
 pub fn spaces_in_selectors()
     ensures around_chains { selector_at (codes " a , b ") ≡ Some (Or (tag "a") (tag "b")) }
     ensures no_spaces { selector_at (codes "a>b") ≡ Some (Parent (tag "a") (tag "b")) }
@@ -29,7 +29,7 @@ pub fn spaces_in_selectors()
 {}
 
 /// What lacks a part is no selector.
-#[tactic(auto, unfolding(crate::specs::SelectorReading::parts_at))]
+#[tactic(auto, unfolding(crate::specs::Select::Reading::parts_at))]
 pub fn lacking_parts()
     ensures empty { selector_at [] ≡ None }
     ensures space { selector_at (codes " ") ≡ None }
@@ -42,7 +42,7 @@ pub fn lacking_parts()
 {}
 
 /// A name may be empty but for a tag's, and may hold `:`, `+` and `/`.
-#[tactic(auto, unfolding(crate::specs::SelectorReading::parts_at))]
+#[tactic(auto, unfolding(crate::specs::Select::Reading::parts_at))]
 pub fn names_in_selectors()
     ensures id { selector_at (codes "#a") ≡ Some (id "a") }
     ensures empty_id { selector_at (codes "#") ≡ Some (Id []) }
@@ -53,7 +53,7 @@ pub fn names_in_selectors()
 {}
 
 /// What stands in brackets holds no space; a value may stand between two of the same quote.
-#[tactic(auto, unfolding(crate::specs::SelectorReading::parts_at))]
+#[tactic(auto, unfolding(crate::specs::Select::Reading::parts_at))]
 pub fn brackets()
     ensures key { selector_at (codes "[a/b]") ≡ Some (Attribute (codes "a/b")) }
     ensures no_key { selector_at (codes "[]") ≡ Some (Attribute []) }

@@ -1,9 +1,9 @@
 //! Worked rows: what texts of step lines say.
 
 ghost use Rattle.std.specs.Prelude.{◌≡◌, [], ◌∷◌, ◌++◌, Some, None, codes};
-ghost use Rattle.tl_spec.specs.ByteClass.{line_feed};
+ghost use Rattle.tl_spec.specs.Lex.ByteClass.{line_feed};
 ghost use Rattle.tl_spec.specs.Edit.{Names, Texts, Comments, Sets, Flags, Unsets, Bares, Pushes, Pulls, Roots};
-ghost use Rattle.tl_spec.specs.StepLine.{parse_changes};
+ghost use Rattle.tl_spec.specs.Edit.StepLine.{parse_changes};
 
 /// Each of the ten forms.
 pub fn forms_of_lines()

@@ -8,10 +8,10 @@ use Rattle.std.proofs.lemmas.List.{get_or-set_same, get_or-set_other, length-set
 use Rattle.std.proofs.lemmas.List.Elements.{recursion_from_All}
 use Rattle.std.proofs.lemmas.List.Sums.{sum_by-set}
 use Rattle.std.proofs.lemmas.Option.{option_and_then_some, slice_get-map, slice_get-get_or, slice_get_within}
-use Rattle.tl_spec.specs.Document.{Node, Raw, Comment, Tag}
-use Rattle.tl_spec.specs.Element.{last_child_of}
-use Rattle.tl_spec.specs.Order.{ChildrenFollowParents}
-use Rattle.tl_spec.specs.Range.{handle_end, step_end, end_within, end_below, last_below, with_end, boundaries_from}
+use Rattle.tl_spec.specs.Tree.Document.{Node, Raw, Comment, Tag}
+use Rattle.tl_spec.specs.Tree.Element.{last_child_of}
+use Rattle.tl_spec.specs.Tree.Order.{ChildrenFollowParents}
+use Rattle.tl_spec.specs.Walk.Range.{handle_end, step_end, end_within, end_below, last_below, with_end, boundaries_from}
 use Rattle.tl_spec.specs.Walk.{TreeFault, Dangling, Cycle, stands_on}
 use Rattle.tl_table.specs.Way.{last_child_at, after_steps, Rises}
 use Rattle.tl_spec.proofs.Ranges.{end-step}

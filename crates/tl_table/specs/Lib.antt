@@ -1,4 +1,4 @@
 pub mod TreeFault
 pub mod Answer
 pub mod Way
-pub mod Climb
+pub mod LastDescendant

@@ -1,6 +1,6 @@
 //! The way along last children, as long as it rises.
 ghost use Rattle.std.specs.Prelude.{map};
-ghost use Rattle.tl_table.specs.Climb.{StopsAt};
+ghost use Rattle.tl_table.specs.LastDescendant.{StopsAt};
 
 use crate::element::Element;
 

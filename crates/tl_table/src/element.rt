@@ -1,9 +1,9 @@
 //! What lookups, selectors and ranges see of a node.
 ghost use Rattle.std.specs.Prelude.{◌≡◌, length, option_map, slice_get};
 ghost use Rattle.std.specs.Option.{option_copied};
-ghost use Rattle.tl_spec.specs.Document.{Node};
-ghost use Rattle.tl_spec.specs.Element.{name_of, attribute_of, children_of, last_child_of};
-ghost use Rattle.tl_spec.specs.Scan.{has_id, is_in_class};
+ghost use Rattle.tl_spec.specs.Tree.Document.{Node};
+ghost use Rattle.tl_spec.specs.Tree.Element.{name_of, attribute_of, children_of, last_child_of};
+ghost use Rattle.tl_spec.specs.Lookup.Scan.{has_id, is_in_class};
 
 /// A node of a table: a tag, or a text or comment, which has no name, no attributes and no children.
 pub trait Element {

@@ -1,8 +1,8 @@
 //! Laws of the way along last children.
 ghost use Rattle.std.specs.Prelude.{ℕ, List, Option};
 ghost use Rattle.tl_table.specs.Way.{Rises};
-ghost use Rattle.tl_spec.specs.Document.{Node};
-ghost use Rattle.tl_spec.specs.Order.{ChildrenFollowParents};
+ghost use Rattle.tl_spec.specs.Tree.Document.{Node};
+ghost use Rattle.tl_spec.specs.Tree.Order.{ChildrenFollowParents};
 
 /// Where the children of all nodes stand above their parents, as in a document just read, each way rises.
 #[tactic(auto, using(crate::proofs::Way::all_rise))]

@@ -3,7 +3,7 @@ ghost use Rattle.std.specs.Prelude.{◌≡◌, ◌<◌, length, map, All, IfSome
 ghost use Rattle.std.specs.Iterator.{at_most};
 ghost use Rattle.std.specs.List.{position_from};
 ghost use Rattle.std.specs.Map.Iter.{TakesFirst};
-ghost use Rattle.tl_spec.specs.Scan.{is_in_class, id_scan, class_scan};
+ghost use Rattle.tl_spec.specs.Lookup.Scan.{is_in_class, id_scan, class_scan};
 
 use crate::element::Element;
 use std::alloc::AllocError;
@@ -39,7 +39,7 @@ pub struct InClass<'s, N: Element> {
 
 impl<'s, N: Element> Model for InClass<'s, N> {
     ghost use Rattle.std.specs.Prelude.{List, ℕ, ◌+◌, ◌<◌, ◌^◌, length, map};
-    ghost use Rattle.tl_spec.specs.Scan.{is_in_class, places_from};
+    ghost use Rattle.tl_spec.specs.Lookup.Scan.{is_in_class, places_from};
 
     ghost Value = { List ℕ };
 

@@ -1,6 +1,6 @@
 //! The way along last children, with a mark at each number that it passes.
 ghost use Rattle.std.specs.Prelude.{◌≡◌, false, map, length, replicate, Some, IfOk, IsOk};
-ghost use Rattle.tl_spec.specs.Range.{last_below};
+ghost use Rattle.tl_spec.specs.Walk.Range.{last_below};
 ghost use Rattle.tl_table.specs.Answer.{Answers, WantsNoMemory};
 
 use crate::element::Element;

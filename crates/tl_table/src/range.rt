@@ -3,7 +3,7 @@
 //! Memory is taken only where the way along last children doesn't rise: where some node on it has a last child whose number
 //! is not above its own.
 ghost use Rattle.std.specs.Prelude.{◌≤◌, IfOk, length, map};
-ghost use Rattle.tl_spec.specs.Range.{last_below, boundaries_from, range_from};
+ghost use Rattle.tl_spec.specs.Walk.Range.{last_below, boundaries_from, range_from};
 ghost use Rattle.tl_table.specs.Answer.{Answers, WantsNoMemory};
 ghost use Rattle.tl_table.specs.Way.{Rises};
 

@@ -6,11 +6,11 @@ use Rattle.std.specs.Ordering.{match_ordering}
 use Rattle.serde_json.specs.Data.{Data, Members, no_members, member, put}
 use Rattle.serde_json.specs.View.{items_of}
 use Rattle.serde_json.specs.Written.{has_float, items_have_float, members_have_float}
-use Rattle.tl_spec.specs.Attribute.{Pair}
-use Rattle.tl_spec.specs.AttributeList.{printed_pairs}
-use Rattle.tl_spec.specs.Document.{Node, Tag, Raw, Comment}
-use Rattle.tl_spec.specs.Element.{name_of}
-use Rattle.tl_spec.specs.Text.{inner_text}
+use Rattle.tl_spec.specs.Lex.Attribute.{Pair}
+use Rattle.tl_spec.specs.Lex.AttributeList.{printed_pairs}
+use Rattle.tl_spec.specs.Tree.Document.{Node, Tag, Raw, Comment}
+use Rattle.tl_spec.specs.Tree.Element.{name_of}
+use Rattle.tl_spec.specs.Print.Text.{inner_text}
 use Rattle.tl_spec.specs.Walk.{plain_attributes}
 use Rattle.tl_page.specs.Outcome.{Outcome, followed_by, not_understood, outcome_map, outcome_of, refused, success}
 use Rattle.tl_tool.specs.Objects.{attributes_data, data_at, list_data, node_data, value_data, with_pair}

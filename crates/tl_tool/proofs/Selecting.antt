@@ -1,7 +1,7 @@
 -- Answers by a selector are answers by its text.
 use Rattle.std.proofs.Common.{List, ℕ, Option, None, Some, Result}
-use Rattle.tl_spec.specs.Selector.{Selector}
-use Rattle.tl_spec.specs.SelectorText.{IsSelectorText}
+use Rattle.tl_spec.specs.Select.Selector.{Selector}
+use Rattle.tl_spec.specs.Select.Text.{IsSelectorText}
 use Rattle.tl_page.specs.Outcome.{Gives, Outcome, refused}
 use Rattle.tl_page.specs.declared.failure.Failure.{Failure}
 use Rattle.tl_program.specs.Asked.{StandsFor}

@@ -1,10 +1,10 @@
 -- What is made of a page.
 use Rattle.std.specs.Prelude.{◌≡◌, ℕ, List, flat_map, length, map, Option, None, Some}
-use Rattle.tl_spec.specs.Document.{Document}
+use Rattle.tl_spec.specs.Tree.Document.{Document}
 use Rattle.tl_spec.specs.Edit.{Change, apply_changes}
 use Rattle.tl_spec.specs.Print.{document_print, print}
-use Rattle.tl_spec.specs.Selector.{Selector}
-use Rattle.tl_spec.specs.Text.{document_text}
+use Rattle.tl_spec.specs.Select.Selector.{Selector}
+use Rattle.tl_spec.specs.Print.Text.{document_text}
 use Rattle.tl.specs.Query.{matches_in}
 use Rattle.tl_page.specs.Outcome.{Outcome, joined, outcome_map, outcome_of, refused, success}
 use Rattle.tl_page.specs.Page.{outcome_in}

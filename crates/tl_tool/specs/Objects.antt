@@ -5,11 +5,11 @@ use Rattle.std.specs.Str.Lossy.{utf8_lossy}
 use Rattle.serde_json.specs.Data.{Data, null, string, number, unsigned, array, object, Members, no_members, member, put}
 use Rattle.serde_json.specs.View.{items_of}
 use Rattle.serde_json.specs.Written.{compact_text}
-use Rattle.tl_spec.specs.Attribute.{Pair}
-use Rattle.tl_spec.specs.AttributeList.{printed_pairs}
-use Rattle.tl_spec.specs.Document.{Node, Tag, Raw, Comment}
-use Rattle.tl_spec.specs.Element.{name_of}
-use Rattle.tl_spec.specs.Text.{inner_text}
+use Rattle.tl_spec.specs.Lex.Attribute.{Pair}
+use Rattle.tl_spec.specs.Lex.AttributeList.{printed_pairs}
+use Rattle.tl_spec.specs.Tree.Document.{Node, Tag, Raw, Comment}
+use Rattle.tl_spec.specs.Tree.Element.{name_of}
+use Rattle.tl_spec.specs.Print.Text.{inner_text}
 use Rattle.tl_spec.specs.Walk.{plain_attributes}
 use Rattle.tl_page.specs.Outcome.{Outcome, joined, outcome_map, outcome_of, refused}
 use Rattle.tl_tool.specs.Findings.{Finding}

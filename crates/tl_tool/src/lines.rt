@@ -1,10 +1,10 @@
 //! Answers of a document, each with what ends it.
 ghost use Rattle.std.specs.Prelude.{◌≡◌, ℕ, List, IfOk, flat_map, length, map, string_bytes};
 ghost use Rattle.std.specs.Str.Lossy.{utf8_lossy};
-ghost use Rattle.tl_spec.specs.Selector.{Selector};
-ghost use Rattle.tl_spec.specs.SelectorText.{IsSelectorText};
+ghost use Rattle.tl_spec.specs.Select.Selector.{Selector};
+ghost use Rattle.tl_spec.specs.Select.Text.{IsSelectorText};
 ghost use Rattle.tl.specs.Query.{matches_in};
-ghost use Rattle.tl.specs.Shown.{document_of};
+ghost use Rattle.tl.specs.View.{document_of};
 ghost use Rattle.tl_page.specs.Outcome.{Gives, Outcome, joined, outcome_map, refused, success};
 ghost use Rattle.tl_extract.specs.Field.{IsNoSelector, fields, first_field};
 ghost use Rattle.tl_extract.specs.Links.{links_of};

@@ -1,9 +1,9 @@
 //! What is asked of a document.
 ghost use Rattle.std.specs.Prelude.{ℕ, List, Option, Result, string_bytes};
-ghost use Rattle.tl_spec.specs.Selector.{Selector};
+ghost use Rattle.tl_spec.specs.Select.Selector.{Selector};
 ghost use Rattle.tl_spec.specs.Walk.{TreeFault};
 ghost use Rattle.tl_table.specs.Answer.{Answers};
-ghost use Rattle.tl.specs.Shown.{document_of};
+ghost use Rattle.tl.specs.View.{document_of};
 ghost use Rattle.tl_page.specs.Outcome.{Gives, outcome_map, outcome_of};
 ghost use Rattle.tl_tool.specs.Findings.{finding_of, whole};
 ghost use Rattle.tl_tool.specs.Made.{IsSelectorOf, answer_of};

@@ -1,6 +1,6 @@
 //! What is made of a page.
 ghost use Rattle.std.specs.Prelude.{◌≡◌, ◌<◌, Err, IsUtf8, Option, length};
-ghost use Rattle.tl_spec.specs.Selector.{Selector};
+ghost use Rattle.tl_spec.specs.Select.Selector.{Selector};
 ghost use Rattle.tl_page.specs.Outcome.{Gives};
 ghost use Rattle.tl_page.specs.Page.{outcome_in};
 ghost use Rattle.tl_page.specs.declared.failure.Failure.TheVariants.{NotUnderstood};

@@ -3,7 +3,7 @@ use Rattle.std.proofs.Common.{◌≡◌, ℕ, Bool, true, false, cond, List, [],
 use Rattle.std.specs.Cmp.{IsEquivalence}
 use Rattle.std.specs.Map.{lookup}
 use Rattle.std.specs.HashMap.{HashMap, UpdatesBy}
-use Rattle.tl_spec.specs.Inline.{InlineVec}
+use Rattle.tl_spec.specs.Tree.Inline.{InlineVec}
 use Rattle.tl_tracking.specs.Tracking.{AddsMember, numbers_of, class_at, with_number}
 
 module _ {B : Type 0} (eq : B → B → Bool) (laws : IsEquivalence eq) where

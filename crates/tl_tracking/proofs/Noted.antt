@@ -4,10 +4,10 @@ use Rattle.std.specs.List.{list_any}
 use Rattle.std.specs.Option.{option_or}
 use Rattle.std.specs.Str.{bytes_eq}
 use Rattle.std.proofs.lemmas.List.Folds.{list_any-append}
-use Rattle.tl_spec.specs.ClassMember.{members}
-use Rattle.tl_spec.specs.Document.{Node}
-use Rattle.tl_spec.specs.Inline.{InlineVec}
-use Rattle.tl_spec.specs.Scan.{id_of, class_of, is_value, has_id, is_in_class, id_scan, class_scan}
+use Rattle.tl_spec.specs.Lookup.ClassMember.{members}
+use Rattle.tl_spec.specs.Tree.Document.{Node}
+use Rattle.tl_spec.specs.Tree.Inline.{InlineVec}
+use Rattle.tl_spec.specs.Lookup.Scan.{id_of, class_of, is_value, has_id, is_in_class, id_scan, class_scan}
 use Rattle.tl_tracking.specs.Tracking.{IdPairs, ClassPairs, KeepsFirst, AddsMember, with_number, singleton_when, TracksIds, TracksClasses, TracksMembers}
 use Rattle.tl_tracking.proofs.Places.{position-more, places-more, places-below, number-noted}
 

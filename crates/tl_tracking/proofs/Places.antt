@@ -5,7 +5,7 @@ use Rattle.std.specs.Option.{option_or}
 use Rattle.std.proofs.lemmas.Bool.{eq-eqb}
 use Rattle.std.proofs.lemmas.Bool.Decides.{nat_tests}
 use Rattle.std.proofs.lemmas.List.{length-append}
-use Rattle.tl_spec.specs.Scan.{places_from}
+use Rattle.tl_spec.specs.Lookup.Scan.{places_from}
 use Rattle.tl_tracking.specs.Tracking.{is_number, with_number, singleton_when}
 
 module _ {A : Type 0} (p : A → Bool) where

@@ -6,9 +6,9 @@ use Rattle.std.specs.List.{list_any}
 use Rattle.std.specs.Map.{lookup}
 use Rattle.std.specs.Option.{option_or}
 use Rattle.std.specs.Str.{bytes_eq}
-use Rattle.tl_spec.specs.Inline.{InlineVec}
-use Rattle.tl_spec.specs.Document.{Node}
-use Rattle.tl_spec.specs.Scan.{id_scan, class_scan}
+use Rattle.tl_spec.specs.Tree.Inline.{InlineVec}
+use Rattle.tl_spec.specs.Tree.Document.{Node}
+use Rattle.tl_spec.specs.Lookup.Scan.{id_scan, class_scan}
 use Rattle.tl_tracking.specs.Options.{Options}
 use Rattle.tl_inline.specs.InlineVec.{inline_vec_code}
 

@@ -1,8 +1,8 @@
 //! Laws of the definitions: what notes of one tag after the other come to.
 ghost use Rattle.std.specs.Prelude.{◌≡◌, ◌↔◌, List, ℕ, ◌∷◌, [], ◌++◌, None};
-ghost use Rattle.tl_spec.specs.ClassMember.{members};
-ghost use Rattle.tl_spec.specs.Document.{Node};
-ghost use Rattle.tl_spec.specs.Scan.{id_of, class_of, id_scan, class_scan};
+ghost use Rattle.tl_spec.specs.Lookup.ClassMember.{members};
+ghost use Rattle.tl_spec.specs.Tree.Document.{Node};
+ghost use Rattle.tl_spec.specs.Lookup.Scan.{id_of, class_of, id_scan, class_scan};
 ghost use Rattle.tl_tracking.specs.Tracking.{IdPairs, ClassPairs, TracksIds, TracksMembers, TracksClasses};
 
 use tl_attributes::piece::Piece;

@@ -1,7 +1,7 @@
 //! The maps.
 ghost use Rattle.std.specs.Prelude.{◌≡◌, ◌≢◌, List, ℕ, true, ◌∷◌, [], ◌++◌, length, is_some, OnOk, OnErr, Some, None, IsOk, IsSome, IfSome};
-ghost use Rattle.tl_spec.specs.Document.{Node};
-ghost use Rattle.tl_spec.specs.Scan.{id_of, id_scan, class_scan};
+ghost use Rattle.tl_spec.specs.Tree.Document.{Node};
+ghost use Rattle.tl_spec.specs.Lookup.Scan.{id_of, id_scan, class_scan};
 ghost use Rattle.tl_tracking.specs.Tracking.{TracksIds, TracksMembers, TracksClasses, no_maps, ends_with, id_in, class_in, numbers_lent};
 
 use crate::keyed::Keyed;

@@ -1,6 +1,6 @@
 -- Trees that stay at a place of a page.
 use Rattle.std.proofs.Common.{◌≡◌, Bool, true, false, List, [], ◌∷◌, ◌++◌, map, Some, codes, refl, ap, ap₂, sym, ◌∙◌, append-nil, arith}
-use Rattle.tl_spec.specs.Forest.{none}
+use Rattle.tl_spec.specs.Tree.Forest.{none}
 use Rattle.tl_tree_spec.specs.HtmlForest.{HtmlForest, HtmlTag, html_tokens_of, normal_form}
 use Rattle.tl_tree_spec.specs.Groups.{group}
 use Rattle.tl_tree_spec.specs.Builder.{Builder, Mode, Nodes, elements, mode_by, mode_of, names, new_element, no_nodes}

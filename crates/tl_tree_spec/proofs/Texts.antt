@@ -3,7 +3,7 @@ use Rattle.std.proofs.Common.{◌≡◌, ℕ, Bool, true, false, not, ◌==◌, 
 use Rattle.std.specs.Prelude.{⊤}
 use Rattle.std.specs.List.{list_all}
 use Rattle.std.proofs.lemmas.Bool.{and_parts, not-true}
-use Rattle.tl_spec.specs.Forest.{comment, none, tag, text}
+use Rattle.tl_spec.specs.Tree.Forest.{comment, none, tag, text}
 use Rattle.tl_html_spec.specs.HtmlTokenizer.{Character, EndTag, HtmlToken}
 use Rattle.tl_tree_spec.specs.HtmlForest.{HtmlForest, begins_with_text, html_tokens_of, is_normal, join_text, normal_form}
 use Rattle.tl_tree_spec.specs.Builder.{Builder, Entry, Mode, Nodes, Stack, and_character, and_element, and_text, elements, is_flow, no_nodes, reconstructed, with_character}

@@ -2,8 +2,8 @@
 use Rattle.std.proofs.Common.{◌≡◌, ℕ, suc, ◌≤◌, Bool, true, false, not, ◌&&◌, List, [], ◌∷◌, ◌++◌, map, Option, Some, option_map, codes, refl, ap, sym, ◌∙◌, inl, inr, ◌⊎◌, append_assoc, append-nil, true≢false, arith, if◌then◌else◌}
 use Rattle.std.specs.List.{list_all}
 use Rattle.std.proofs.lemmas.Bool.{and_parts, cases_Bool, not-true}
-use Rattle.tl_spec.specs.ByteClass.{is_void}
-use Rattle.tl_spec.specs.Forest.{comment, none, tag, text}
+use Rattle.tl_spec.specs.Lex.ByteClass.{is_void}
+use Rattle.tl_spec.specs.Tree.Forest.{comment, none, tag, text}
 use Rattle.tl_html_spec.specs.HtmlTokenizer.{Character, EndTag, HtmlToken}
 use Rattle.tl_tree_spec.specs.HtmlForest.{HtmlForest, HtmlTag, html_tokens_of, is_normal, normal_form}
 use Rattle.tl_tree_spec.specs.Groups.{Group, a_caption, a_cell, a_column, a_column_group, a_format, a_mark, a_nobr, a_row, a_table, a_table_body, an_anchor, group}

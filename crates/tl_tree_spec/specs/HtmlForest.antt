@@ -1,7 +1,7 @@
 -- Trees as a browser has them: names, pairs and texts are what they say, with no reference left in them.
 use Rattle.std.specs.Prelude.{ℕ, Bool, true, false, not, ◌&&◌, List, [], ◌∷◌, ◌++◌, map, if◌then◌else◌}
-use Rattle.tl_spec.specs.ByteClass.{is_void}
-use Rattle.tl_spec.specs.Forest.{Forest, none, text, comment, tag}
+use Rattle.tl_spec.specs.Lex.ByteClass.{is_void}
+use Rattle.tl_spec.specs.Tree.Forest.{Forest, none, text, comment, tag}
 use Rattle.tl_html_spec.specs.HtmlTokenizer.{HtmlAttribute, HtmlToken, Character, StartTag, EndTag, CommentToken}
 
 -- an element without its children

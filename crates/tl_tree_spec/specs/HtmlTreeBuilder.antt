@@ -16,7 +16,7 @@
 use Rattle.std.specs.Prelude.{ℕ, Bool, true, false, not, ◌||◌, ◌&&◌, ◌==◌, List, [], ◌∷◌, Option, Some, None, option_map, codes, if◌then◌else◌}
 use Rattle.std.specs.Char.{is_ascii_whitespace}
 use Rattle.std.specs.Str.{bytes_eq}
-use Rattle.tl_spec.specs.Forest.{none, tag, text}
+use Rattle.tl_spec.specs.Tree.Forest.{none, tag, text}
 use Rattle.tl_html_spec.specs.HtmlTokenizer.{Character, CommentToken, DoctypeToken, EndTag, HtmlToken, StartTag}
 use Rattle.tl_html_spec.specs.Balanced.{is_button_scope, is_item_bound, is_list_scope, is_one_of, is_scope, is_special}
 use Rattle.tl_tree_spec.specs.HtmlForest.{HtmlForest, HtmlTag}

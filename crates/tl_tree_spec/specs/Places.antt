@@ -1,6 +1,6 @@
 -- Places in a page that is being read.
 use Rattle.std.specs.Prelude.{◌≡◌, List, [], ◌∷◌, Some}
-use Rattle.tl_spec.specs.Forest.{none}
+use Rattle.tl_spec.specs.Tree.Forest.{none}
 use Rattle.tl_html_spec.specs.HtmlTokenizer.{HtmlToken}
 use Rattle.tl_tree_spec.specs.HtmlForest.{HtmlForest, HtmlTag}
 use Rattle.tl_tree_spec.specs.Groups.{Group, a_caption, a_cell, a_format, a_mark, a_nobr, an_anchor, group}

@@ -1,7 +1,7 @@
 -- Words for worked rows. No contract cites them.
 use Prim.Native.String.{String}
 use Rattle.std.specs.Prelude.{ℕ, Bool, List, [], ◌∷◌, Option, option_map, codes}
-use Rattle.tl_spec.specs.Forest.{none, tag, text}
+use Rattle.tl_spec.specs.Tree.Forest.{none, tag, text}
 use Rattle.tl_html_spec.specs.HtmlTokenizer.{tokens_in_page}
 use Rattle.tl_html_spec.specs.Written.{written}
 use Rattle.tl_tree_spec.specs.HtmlForest.{HtmlForest, html_tokens_of}

@@ -3,8 +3,8 @@ use Rattle.std.specs.Prelude.{ℕ, Bool, true, false, not, ◌||◌, ◌&&◌, �
 use Rattle.std.specs.Char.{is_ascii_whitespace}
 use Rattle.std.specs.List.{list_all}
 use Rattle.std.specs.Str.{bytes_eq}
-use Rattle.tl_spec.specs.ByteClass.{is_void}
-use Rattle.tl_spec.specs.Forest.{comment, none, tag, text}
+use Rattle.tl_spec.specs.Lex.ByteClass.{is_void}
+use Rattle.tl_spec.specs.Tree.Forest.{comment, none, tag, text}
 use Rattle.tl_html_spec.specs.Balanced.{is_button_scope, is_item_bound, is_one_of, is_scope}
 use Rattle.tl_tree_spec.specs.HtmlForest.{HtmlForest}
 use Rattle.tl_tree_spec.specs.Groups.{Group, a_block, a_break, a_button, a_caption, a_cell, a_column, a_column_group, a_description, a_detail, a_format, a_heading, a_mark, a_nobr, a_paragraph, a_preformatted, a_row, a_ruby_base, a_ruby_text, a_rule, a_table, a_table_body, a_void, an_anchor, an_item, any_other, group, is_column_group, is_description, is_heading, is_implied, is_item, is_paragraph, is_row, is_table, is_table_body}

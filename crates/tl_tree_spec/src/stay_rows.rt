@@ -1,7 +1,7 @@
 //! Worked rows: which trees stay as the children of a `div`.
 
 ghost use Rattle.std.specs.Prelude.{◌≡◌, Some, true, false};
-ghost use Rattle.tl_spec.specs.Forest.{none};
+ghost use Rattle.tl_spec.specs.Tree.Forest.{none};
 ghost use Rattle.tl_tree_spec.specs.Rows.{element, page_stays, stay_there, words};
 
 /// Trees that stay.

@@ -1,7 +1,7 @@
 -- Nodes that are filled one after the other.
 use Rattle.std.proofs.Common.{◌≡◌, ℕ, ◌+◌, ◌<◌, List, [], ◌∷◌, ◌++◌, length, take, drop, get_or, map, slice_set, ap, ap₂, sym, ◌∙◌, add-one, arith, drop-cons, length-drop, refl}
 use Rattle.std.proofs.lemmas.List.{drop-set-lt, map-append, take_more, take_more_set}
-use Rattle.tl.specs.Shown.{HTMLNode, node_view}
+use Rattle.tl.specs.View.{HTMLNode, node_view}
 use Rattle.uses.specs.Fields.{Fields, node_with}
 
 rest_of : (xs : List HTMLNode) (i : ℕ) (d : HTMLNode) → i < length xs → drop i xs ≡ get_or xs i d ∷ drop (i + 1) xs

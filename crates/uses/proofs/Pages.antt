@@ -1,15 +1,15 @@
 -- What is printed and read of a document with fields.
 use Rattle.std.proofs.Common.{◌≡◌, ℕ, List, [], length, map, Ok, ap, sym, ◌∙◌, subst}
 use Rattle.std.proofs.lemmas.List.{length-map}
-use Rattle.tl_spec.specs.Clean.{IsCleanTable}
-use Rattle.tl_spec.specs.Document.{Document, document}
-use Rattle.tl_spec.specs.Forest.{forest, plain}
-use Rattle.tl_spec.specs.Normal.{ReadsAs}
+use Rattle.tl_spec.specs.Print.Clean.{IsCleanTable}
+use Rattle.tl_spec.specs.Tree.Document.{Document, document}
+use Rattle.tl_spec.specs.Tree.Forest.{forest, plain}
+use Rattle.tl_spec.specs.Print.Normal.{ReadsAs}
 use Rattle.tl_spec.specs.Print.{document_print}
-use Rattle.tl_spec.specs.Token.{tokens}
+use Rattle.tl_spec.specs.Lex.Token.{tokens}
 use Rattle.tl_spec.specs.Walk.{all_tags, trees, walk}
 use Rattle.tl_spec.proofs.Order.{document-whole}
-use Rattle.tl.specs.Shown.{HTMLNode, HTMLTable, document_of, node_view}
+use Rattle.tl.specs.View.{HTMLNode, HTMLTable, document_of, node_view}
 use Rattle.tl.specs.TableLends.{with_nodes}
 use Rattle.tl.proofs.Written.{written-document}
 use Rattle.uses.specs.Fields.{Fields, document_with, node_with, trees_with}

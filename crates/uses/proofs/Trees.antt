@@ -3,13 +3,13 @@ use Rattle.std.proofs.Common.{◌≡◌, ℕ, zero, suc, Bool, true, false, not,
 use Rattle.std.specs.List.{slice_get}
 use Rattle.std.proofs.lemmas.List.{length-map}
 use Rattle.std.proofs.lemmas.Option.{slice_get-map}
-use Rattle.tl_spec.specs.Attribute.{Pair}
-use Rattle.tl_spec.specs.AttributeList.{PlainAttributes, printed_pairs}
-use Rattle.tl_spec.specs.ByteClass.{less, quote}
-use Rattle.tl_spec.specs.Clean.{AreCleanPairs, IsCleanStart, IsCleanTable, IsCleanTag, IsCleanValue, IsCleanWalk}
-use Rattle.tl_spec.specs.Document.{Document, Node, TagNode, Tag, Raw, Comment}
-use Rattle.tl_spec.specs.Forest.{none, text, comment, tag}
-use Rattle.tl_spec.specs.Inline.{pair_image}
+use Rattle.tl_spec.specs.Lex.Attribute.{Pair}
+use Rattle.tl_spec.specs.Lex.AttributeList.{PlainAttributes, printed_pairs}
+use Rattle.tl_spec.specs.Lex.ByteClass.{less, quote}
+use Rattle.tl_spec.specs.Print.Clean.{AreCleanPairs, IsCleanStart, IsCleanTable, IsCleanTag, IsCleanValue, IsCleanWalk}
+use Rattle.tl_spec.specs.Tree.Document.{Document, Node, TagNode, Tag, Raw, Comment}
+use Rattle.tl_spec.specs.Tree.Forest.{none, text, comment, tag}
+use Rattle.tl_spec.specs.Tree.Inline.{pair_image}
 use Rattle.tl_spec.specs.Walk.{Walk, end, meets_text, meets_comment, meets_tag, passes_tag, meets_fault, Dangling, Cycle, all_tags, prints_children, handle_walk, node_walk, plain_attributes, plain_node, row_walk, stands_on, tag_walk, trees, walk, walk_within}
 use Rattle.tl_spec.proofs.Images.{image-pairs_in_order}
 use Rattle.uses.specs.Fields.{Fields, attributes_with, document_with, node_with, plain_attributes_with, text_with, trees_with}

@@ -3,11 +3,11 @@ use Rattle.std.specs.Prelude.{ℕ, ◌+◌, List, [], ◌∷◌, ◌++◌, Optio
 use Rattle.std.specs.Map.{lookup}
 use Rattle.std.specs.Option.{option_map}
 use Rattle.std.specs.Str.{bytes_eq}
-use Rattle.tl_spec.specs.AttributeList.{Attributes, PlainAttributes, attributes_image}
-use Rattle.tl_spec.specs.ByteClass.{less, quote}
-use Rattle.tl_spec.specs.Document.{Document, Node, Tag, Raw, Comment}
-use Rattle.tl_spec.specs.Forest.{Forest, none, text, comment, tag, PlainTag}
-use Rattle.tl_spec.specs.Inline.{pair_image, map_image}
+use Rattle.tl_spec.specs.Lex.AttributeList.{Attributes, PlainAttributes, attributes_image}
+use Rattle.tl_spec.specs.Lex.ByteClass.{less, quote}
+use Rattle.tl_spec.specs.Tree.Document.{Document, Node, Tag, Raw, Comment}
+use Rattle.tl_spec.specs.Tree.Forest.{Forest, none, text, comment, tag, PlainTag}
+use Rattle.tl_spec.specs.Tree.Inline.{pair_image, map_image}
 use Rattle.tl_extract.specs.Split.{pieces}
 use Rattle.uses.specs.declared.field.Field.{Field}
 

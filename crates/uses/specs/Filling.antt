@@ -2,9 +2,9 @@
 use Rattle.std.specs.Prelude.{Option, option_map}
 use Rattle.tl_bytes.specs.Held.{Kept, as_owned}
 use Rattle.tl_bytes.specs.Keys.{same_list}
-use Rattle.tl_spec.specs.AttributeEdit.{with_attribute}
-use Rattle.tl_spec.specs.AttributeList.{Attributes}
-use Rattle.tl_attributes.specs.ShownAttributes.{bytes_view}
+use Rattle.tl_spec.specs.Edit.Attribute.{with_attribute}
+use Rattle.tl_spec.specs.Lex.AttributeList.{Attributes}
+use Rattle.tl_attributes.specs.AttributesView.{bytes_view}
 use Rattle.uses.specs.Fields.{Fields, text_with}
 
 -- a copy of a pair, with fields in its value

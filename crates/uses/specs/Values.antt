@@ -1,8 +1,8 @@
 -- The values at a key, line by line.
 use Rattle.std.specs.Prelude.{ℕ, List, [], ◌∷◌, ◌++◌, map}
 use Rattle.std.specs.Borrow.{Bor}
-use Rattle.tl_spec.specs.Document.{Document}
-use Rattle.tl_spec.specs.Selector.{Selector}
+use Rattle.tl_spec.specs.Tree.Document.{Document}
+use Rattle.tl_spec.specs.Select.Selector.{Selector}
 use Rattle.tl.specs.Query.{matches_in}
 use Rattle.tl_page.specs.Outcome.{Outcome, joined, outcome_map}
 use Rattle.tl_extract.specs.Field.{fields}

@@ -1,8 +1,8 @@
 //! The values of an attribute, line by line.
 ghost use Rattle.std.specs.Prelude.{string_bytes};
-ghost use Rattle.tl_spec.specs.Selector.{Selector};
-ghost use Rattle.tl_spec.specs.SelectorText.{IsSelectorText};
-ghost use Rattle.tl.specs.Shown.{document_of};
+ghost use Rattle.tl_spec.specs.Select.Selector.{Selector};
+ghost use Rattle.tl_spec.specs.Select.Text.{IsSelectorText};
+ghost use Rattle.tl.specs.View.{document_of};
 ghost use Rattle.tl_page.specs.Outcome.{Gives, refused};
 ghost use Rattle.tl_extract.specs.Field.{IsNoSelector};
 ghost use Rattle.uses.specs.Values.{value_lines};

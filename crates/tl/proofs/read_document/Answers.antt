@@ -1,13 +1,13 @@
 use Rattle.std.proofs.Common.{◌≡◌, ◌≤◌, length, sym, ap, ◌∙◌, subst}
 use Rattle.std.specs.Prelude.{sum_by}
-use Rattle.tl_spec.specs.Clean.{IsCleanTable}
-use Rattle.tl_spec.specs.Document.{Document, document, node_and_attribute_count}
-use Rattle.tl_spec.specs.Order.{ChildrenFollowParents, DescendantsAreContiguous}
-use Rattle.tl_spec.specs.Range.{AreRangesOfDescendants}
+use Rattle.tl_spec.specs.Print.Clean.{IsCleanTable}
+use Rattle.tl_spec.specs.Tree.Document.{Document, document, node_and_attribute_count}
+use Rattle.tl_spec.specs.Tree.Order.{ChildrenFollowParents, DescendantsAreContiguous}
+use Rattle.tl_spec.specs.Walk.Range.{AreRangesOfDescendants}
 use Rattle.tl_spec.proofs.Count.{document-weight}
 use Rattle.tl_spec.proofs.Order.{children-above, descendants-interval, fresh_table}
 use Rattle.tl_spec.proofs.Ranges.{ranges-descendants}
-use Rattle.tl.specs.Shown.{document_of}
+use Rattle.tl.specs.View.{document_of}
 use Rattle.tl.proofs.read_document.Goals as goal
 
 pub returns-clause-clean : goal.returns-clause-clean

@@ -1,6 +1,6 @@
 //! Where a tag stands in its text.
 ghost use Rattle.std.specs.Prelude.{◌≡◌};
-ghost use Rattle.tl.specs.Boundaries.{boundaries};
+ghost use Rattle.tl.specs.View.{boundaries};
 
 use crate::parser::base::Parser;
 use crate::parser::tag::HTMLTag;

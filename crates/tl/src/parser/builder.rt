@@ -1,14 +1,13 @@
 //! Reads a text into a table: takes the tokens of the lexer one by one and writes what each stands for.
 ghost use Rattle.std.specs.Prelude.{◌≡◌, ◌↔◌, ◌≤◌, ◌<◌, ◌+◌, ◌*◌, ◌^◌, [], length, drop, slice_get, IfOk, OnOk, IsOk, IsErrOf, All};
 ghost use Rattle.tl_bytes.specs.Held.{Held};
-ghost use Rattle.tl_spec.specs.ByteClass.{is_void as is_void_name};
+ghost use Rattle.tl_spec.specs.Lex.ByteClass.{is_void as is_void_name};
 ghost use Rattle.tl_lexer.specs.Span.{bytes_at, IsIn};
-ghost use Rattle.tl_lexer.specs.Lexed.{meant, start_tag_of, IsTokenIn};
-ghost use Rattle.tl_spec.specs.Forest.{closes};
-ghost use Rattle.tl_spec.specs.Document.{Raw, Comment, document};
-ghost use Rattle.tl_spec.specs.Machine.{start, with_child_of_innermost, with_next_node, with_open_tag, with_innermost_closed, after_end, step, enclosing_name};
-ghost use Rattle.tl.specs.Shown.{node_view, document_of, version_of};
-ghost use Rattle.tl.specs.HeldAlike.{IsHeldNode, IsHeldTag};
+ghost use Rattle.tl_lexer.specs.TokenMeaning.{meant, start_tag_of, IsTokenIn};
+ghost use Rattle.tl_spec.specs.Tree.Forest.{closes};
+ghost use Rattle.tl_spec.specs.Tree.Document.{Raw, Comment, document};
+ghost use Rattle.tl_spec.specs.Tree.Builder.{start, with_child_of_innermost, with_next_node, with_open_tag, with_innermost_closed, after_end, step, enclosing_name};
+ghost use Rattle.tl.specs.View.{node_view, document_of, version_of, IsHeldNode, IsHeldTag};
 ghost use Rattle.tl.specs.declared.errors.ParseError.TheVariants.{InvalidLength};
 ghost use Rattle.tl.specs.declared.parser.tag.node.NodeOf.TheVariants.{Tag};
 

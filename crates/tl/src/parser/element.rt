@@ -3,12 +3,12 @@ ghost use Rattle.std.specs.Prelude.{◌≡◌, option_map};
 ghost use Rattle.std.specs.Map.{lookup};
 ghost use Rattle.std.specs.Option.{option_copied};
 ghost use Rattle.std.specs.Str.{bytes_eq};
-ghost use Rattle.tl_spec.specs.AttributeEdit.{value_at};
-ghost use Rattle.tl_spec.specs.ClassMember.{has_member};
-ghost use Rattle.tl_spec.specs.Scan.{is_value};
-ghost use Rattle.tl_attributes.specs.ShownAttributes.{entries_view, attributes_view};
+ghost use Rattle.tl_spec.specs.Edit.Attribute.{value_at};
+ghost use Rattle.tl_spec.specs.Lookup.ClassMember.{has_member};
+ghost use Rattle.tl_spec.specs.Lookup.Scan.{is_value};
+ghost use Rattle.tl_attributes.specs.AttributesView.{entries_view, attributes_view};
 ghost use Rattle.tl_bytes.specs.Held.{Kept};
-ghost use Rattle.tl.specs.Shown.{node_view};
+ghost use Rattle.tl.specs.View.{node_view};
 
 use crate::parser::tag::HTMLTag;
 use crate::parser::tag::node::Node;

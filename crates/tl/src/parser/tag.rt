@@ -96,7 +96,7 @@ impl<A: Drop, B: Drop, O: OutlineOf<A>> TagOf<A, B, O> {
 
 impl<A, B, O: OutlineOf<A>> TagOf<A, B, O> {
     ghost use Rattle.std.specs.Borrow.{sem};
-    ghost use Rattle.tl_spec.specs.Inline.{room, with_last};
+    ghost use Rattle.tl_spec.specs.Tree.Inline.{room, with_last};
     ghost use Rattle.tl.specs.TagLends.{LendsName, LendsAttributes, LendsChildren};
 
     // Makes `child` the last child.

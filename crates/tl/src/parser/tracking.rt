@@ -1,14 +1,14 @@
 //! Tracks the tags of a table that was read: their ids, and the members of their classes.
 ghost use Rattle.std.specs.Prelude.{◌≡◌, ◌<◌, ◌^◌, ◌++◌, ◌∷◌, [], List, ℕ, length, map, is_some, IfOk, OnOk, IsOk, Some, IfSome, option_map};
 ghost use Rattle.std.specs.Option.{option_copied};
-ghost use Rattle.tl_spec.specs.ClassMember.{members, parts};
+ghost use Rattle.tl_spec.specs.Lookup.ClassMember.{members, parts};
 ghost use Rattle.tl_bytes.specs.Held.{Kept};
-ghost use Rattle.tl_spec.specs.Document.{Node, Tag};
-ghost use Rattle.tl_spec.specs.Scan.{id_of, class_of};
+ghost use Rattle.tl_spec.specs.Tree.Document.{Node, Tag};
+ghost use Rattle.tl_spec.specs.Lookup.Scan.{id_of, class_of};
 ghost use Rattle.tl_tracking.specs.NameKey.{HasNames, number_of_names};
 ghost use Rattle.tl_tracking.specs.Tracking.{no_maps};
 ghost use Rattle.tl.specs.Names.{key_of, name_list, names_in, names_of};
-ghost use Rattle.tl.specs.Shown.{node_view, tag_view};
+ghost use Rattle.tl.specs.View.{node_view, tag_view};
 ghost use Rattle.tl.specs.Tracked.{AreAsked, AnswerIds, AnswerClasses, AnswerMembers};
 
 use crate::parser::base::{Parser, Tracking};

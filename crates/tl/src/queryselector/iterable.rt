@@ -3,11 +3,11 @@ ghost use Rattle.std.specs.Prelude.{◌≡◌, ◌≤◌, ◌^◌, ℕ, ⊤, IfO
 ghost use Rattle.std.specs.Option.{option_map};
 ghost use Rattle.tl_table.specs.Answer.{Answers, WantsNoMemory};
 ghost use Rattle.tl_table.specs.Way.{RisesBelow};
-ghost use Rattle.tl_spec.specs.Document.{Node};
-ghost use Rattle.tl_spec.specs.Range.{range_of};
+ghost use Rattle.tl_spec.specs.Tree.Document.{Node};
+ghost use Rattle.tl_spec.specs.Walk.Range.{range_of};
 ghost use Rattle.tl_spec.specs.Walk.{TreeFault};
 ghost use Rattle.tl.specs.Query.{item_at, item_of, count_in};
-ghost use Rattle.tl.specs.Shown.{node_view};
+ghost use Rattle.tl.specs.View.{node_view};
 
 use crate::errors::TreeError;
 use crate::parser::base::Parser;

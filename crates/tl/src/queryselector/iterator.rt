@@ -6,9 +6,9 @@ ghost use Rattle.std.specs.Result.{result_err};
 ghost use Rattle.tl_table.specs.Answer.{WantsNoMemory};
 ghost use Rattle.tl_table.specs.TreeFault.{IsRefusal, error_of};
 ghost use Rattle.tl_selector.specs.View.{selector as selector_of};
-ghost use Rattle.tl_spec.specs.SelectorMeaning.{AreMatches, has_combinator};
+ghost use Rattle.tl_spec.specs.Select.Meaning.{AreMatches, has_combinator};
 ghost use Rattle.tl.specs.Query.{AreAmong};
-ghost use Rattle.tl.specs.Shown.{node_view};
+ghost use Rattle.tl.specs.View.{node_view};
 
 use crate::errors::TreeError;
 use crate::parser::base::Parser;

@@ -4,12 +4,11 @@ ghost use Rattle.std.specs.Iterator.{at_most};
 ghost use Rattle.std.specs.Map.Iter.{TakesFirst};
 ghost use Rattle.tl_bytes.specs.Held.{borrowed};
 ghost use Rattle.tl_bytes.specs.Keys.{same_list};
-ghost use Rattle.tl_spec.specs.Document.{Node as ShownNode};
-ghost use Rattle.tl_spec.specs.Scan.{id_scan, class_scan};
+ghost use Rattle.tl_spec.specs.Tree.Document.{Node as ShownNode};
+ghost use Rattle.tl_spec.specs.Lookup.Scan.{id_scan, class_scan};
 ghost use Rattle.tl_tracking.specs.Tracking.{id_in, class_in};
-ghost use Rattle.tl.specs.HandlesLeft.{remaining_handles, AreRemainingHandles};
-ghost use Rattle.tl.specs.Lookup.{with_id, with_member};
-ghost use Rattle.tl.specs.Shown.{node_view, document_of};
+ghost use Rattle.tl.specs.Lookup.{remaining_handles, AreRemainingHandles, with_id, with_member};
+ghost use Rattle.tl.specs.View.{node_view, document_of};
 ghost use Rattle.tl.specs.Tracked.{AnswerIds, AnswerClasses};
 
 use crate::parser::base::Tracking;
@@ -40,7 +39,7 @@ impl<'s, 'a> Model for ElementsByClassName<'s, 'a> {
 
     ghost Value = { List ℕ };
 
-    ghost use Rattle.tl.specs.HandlesLeft.{remaining_handles, AreRemainingHandles};
+    ghost use Rattle.tl.specs.Lookup.{remaining_handles, AreRemainingHandles};
 
     ghost view = { λ e. remaining_handles e.left };
 

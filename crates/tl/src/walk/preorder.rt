@@ -1,8 +1,8 @@
 //! Walks for users.
 ghost use Rattle.std.specs.Prelude.{◌≡◌, [], length, map};
 ghost use Rattle.std.specs.Iterator.{at_most};
-ghost use Rattle.tl_spec.specs.Element.{children_of};
-ghost use Rattle.tl.specs.Shown.{document_of, node_view};
+ghost use Rattle.tl_spec.specs.Tree.Element.{children_of};
+ghost use Rattle.tl.specs.View.{document_of, node_view};
 
 use crate::errors::TreeError;
 use crate::parser::base::Parser;

@@ -2,15 +2,14 @@
 ghost use Rattle.std.specs.Prelude.{◌≡◌, ◌++◌, ℕ, [], map, flat_map, Err, OnOk, IfErr, IsOk, IsSome, string_bytes};
 ghost use Rattle.tl_table.specs.Answer.{Answers};
 ghost use Rattle.tl_table.specs.TreeFault.{FirstDangles};
-ghost use Rattle.tl_spec.specs.Document.{Tag};
-ghost use Rattle.tl_spec.specs.Element.{children_of};
-ghost use Rattle.tl_spec.specs.Text.{inner_text, text_of, event_text};
+ghost use Rattle.tl_spec.specs.Tree.Document.{Tag};
+ghost use Rattle.tl_spec.specs.Tree.Element.{children_of};
+ghost use Rattle.tl_spec.specs.Print.Text.{inner_text, text_of, event_text};
 ghost use Rattle.tl_spec.specs.Walk.{all_tags, fault_among, first_fault, trees, walk, walk_of};
-ghost use Rattle.tl.specs.Shown.{node_view, tag_view};
+ghost use Rattle.tl.specs.View.{node_view, tag_view};
 ghost use Rattle.tl.specs.Node.{comment_of};
-ghost use Rattle.tl.specs.Walker.{IsMarked, events_to_come, event_view};
+ghost use Rattle.tl.specs.Walker.{IsMarked, events_to_come, event_view, Writes, own_text};
 ghost use Rattle.tl.specs.Preorder.{IsInPreorder};
-ghost use Rattle.tl.specs.Writing.{Writes, own_text};
 
 use crate::errors::TreeError;
 use crate::parser::base::Parser;

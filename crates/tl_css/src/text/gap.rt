@@ -2,7 +2,7 @@
 ghost use Rattle.std.specs.Prelude.{◌≡◌, length, option_map, codes};
 ghost use Rattle.tl_css.specs.Lexical.{after_comment, begins_comment, gap_at, gap_part_at};
 ghost use Rattle.tl_css.specs.TextView.{read_as};
-ghost use Rattle.tl_spec.specs.Runs.{after_needle};
+ghost use Rattle.tl_spec.specs.Lex.Runs.{after_needle};
 
 use crate::error::{Cause, Wrong};
 use crate::text::byte_class::is_white;

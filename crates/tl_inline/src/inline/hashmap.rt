@@ -7,7 +7,7 @@ ghost use Rattle.std.specs.Map.{lookup, keys_of, values_of};
 ghost use Rattle.std.specs.Option.{option_copied, option_copied_mut};
 ghost use Rattle.std.specs.Borrow.{sem};
 ghost use Rattle.std.specs.Map.Iter.{deref_pair, ShowsInOrder};
-ghost use Rattle.tl_spec.specs.Inline.{with_entry, without_key};
+ghost use Rattle.tl_spec.specs.Tree.Inline.{with_entry, without_key};
 ghost use Rattle.tl_inline.specs.InlineVec.{ClonesAreEqual};
 
 mod heap;
@@ -40,14 +40,14 @@ pub struct InlineHashMap<K: Eq + Hash, V, const N: usize> {
 impl<K: Eq + Hash, V, const N: usize> Model for InlineHashMap<K, V, N> {
     ghost use Rattle.std.specs.List.{IsDistinct};
     ghost use Rattle.std.specs.Map.{keys_of};
-    ghost use Rattle.tl_spec.specs.Inline.{InlineMap};
+    ghost use Rattle.tl_spec.specs.Tree.Inline.{InlineMap};
     ghost use Rattle.tl_inline.specs.InlineMap.{inline_map_code};
 
     ghost Value = { InlineMap K V };
 
     ghost coded = { inline_map_code K.code V.code };
 
-    ghost use Rattle.tl_inline.specs.HeldPairs.{storage_view};
+    ghost use Rattle.tl_inline.specs.PairStorage.{storage_view};
 
     ghost view = { λ m. storage_view m.held };
 

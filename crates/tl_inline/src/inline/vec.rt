@@ -4,7 +4,7 @@ ghost use Rattle.std.specs.List.{All, IsItemAtMut};
 ghost use Rattle.std.specs.Option.{option_copied};
 ghost use Rattle.std.specs.Borrow.{sem};
 ghost use Rattle.std.specs.Map.Iter.{deref, ShowsInOrder};
-ghost use Rattle.tl_spec.specs.Inline.{with_last, without_item};
+ghost use Rattle.tl_spec.specs.Tree.Inline.{with_last, without_item};
 ghost use Rattle.tl_inline.specs.InlineVec.{ClonesAreEqual};
 
 mod held;
@@ -33,14 +33,14 @@ pub struct InlineVec<T, const N: usize> {
 }
 
 impl<T, const N: usize> Model for InlineVec<T, N> {
-    ghost use Rattle.tl_spec.specs.Inline.{InlineVec as Items};
+    ghost use Rattle.tl_spec.specs.Tree.Inline.{InlineVec as Items};
     ghost use Rattle.tl_inline.specs.InlineVec.{inline_vec_code};
 
     ghost Value = { Items T };
 
     ghost coded = { inline_vec_code T.code };
 
-    ghost use Rattle.tl_inline.specs.HeldItems.{storage_view};
+    ghost use Rattle.tl_inline.specs.ItemStorage.{storage_view};
 
     ghost view = { λ v. storage_view v.held };
 }

@@ -1,9 +1,9 @@
 //! What a command writes of a document.
 ghost use Rattle.std.specs.Prelude.{◌≡◌, ◌<◌, length, string_bytes, IsSome, Ok, Some, Err};
-ghost use Rattle.tl_spec.specs.Document.{document};
+ghost use Rattle.tl_spec.specs.Tree.Document.{document};
 ghost use Rattle.tl_spec.specs.Edit.{apply_changes};
 ghost use Rattle.tl_spec.specs.Print.{document_print};
-ghost use Rattle.tl.specs.Shown.{document_of};
+ghost use Rattle.tl.specs.View.{document_of};
 ghost use Rattle.tl.specs.Tracked.{AnswerIds, AnswerClasses};
 ghost use Rattle.tl_page.specs.Outcome.{Gives};
 ghost use Rattle.tl_program.specs.Asked.{asked_of, selector_of};

@@ -1,7 +1,7 @@
 //! The whole program, over its words, a reader and a writer.
 ghost use Rattle.std.specs.Prelude.{◌≡◌, ◌≢◌, IfNone, OnSome, Option};
 ghost use Rattle.std.specs.Io.KnownBytes.{IsAtEnd};
-ghost use Rattle.tl_spec.specs.Selector.{Selector};
+ghost use Rattle.tl_spec.specs.Select.Selector.{Selector};
 ghost use Rattle.tl_program.specs.Run.{IsRun};
 ghost use Rattle.tl_program.specs.Said.{asked_in, output_by, printed_by, IsSelectorIn};
 

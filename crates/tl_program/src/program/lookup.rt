@@ -2,9 +2,9 @@
 ghost use Rattle.std.specs.Prelude.{◌≡◌, ◌++◌, Err, IfOk, IfNone, OnOk, string_bytes};
 ghost use Rattle.std.specs.Option.{option_to_list};
 ghost use Rattle.tl_bytes.specs.Held.{borrowed};
-ghost use Rattle.tl_spec.specs.SelectorReading.{selector_at};
+ghost use Rattle.tl_spec.specs.Select.Reading.{selector_at};
 ghost use Rattle.tl.specs.Lookup.{with_id, with_member};
-ghost use Rattle.tl.specs.Shown.{document_of};
+ghost use Rattle.tl.specs.View.{document_of};
 ghost use Rattle.tl_page.specs.Outcome.{Gives};
 ghost use Rattle.tl_program.specs.Output.{number_line, number_lines, outcome_of_numbers, outcome_of_query};
 

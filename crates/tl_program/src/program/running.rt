@@ -1,8 +1,8 @@
 //! A run of the program: it reads all, makes the output, and writes it.
 ghost use Rattle.std.specs.Prelude.{◌≡◌, ◌≢◌, ◌<◌, ◌+◌, ◌||◌, is_ok, is_err, if◌then◌else◌, length, string_bytes, IsUtf8, IsTrue, Option, Err, OnOk, OnErr};
 ghost use Rattle.std.specs.Io.KnownBytes.{Appends, IsAtEnd};
-ghost use Rattle.tl_spec.specs.Document.{document};
-ghost use Rattle.tl_spec.specs.Selector.{Selector};
+ghost use Rattle.tl_spec.specs.Tree.Document.{document};
+ghost use Rattle.tl_spec.specs.Select.Selector.{Selector};
 ghost use Rattle.tl_program.specs.Asked.{asked_of, selector_of, IsSelectorOf};
 ghost use Rattle.tl_page.specs.Outcome.{Gives};
 ghost use Rattle.tl_program.specs.Output.{command_output, command_print, PrintsBack, AppendsBeginning};

@@ -2,7 +2,7 @@
 ghost use Rattle.std.specs.Prelude.{◌≡◌, OnOk, IfErr};
 ghost use Rattle.std.specs.Borrow.{sem};
 ghost use Rattle.tl_spec.specs.Edit.{Roots, apply_changes, none_refused};
-ghost use Rattle.tl.specs.Shown.{document_of};
+ghost use Rattle.tl.specs.View.{document_of};
 ghost use Rattle.tl_program.specs.Steps.{change_of, changes_in};
 ghost use Rattle.std.specs.Fn.{FnOnceReturnsAtMut};
 ghost use Rattle.tl_program.specs.TableEdit.{edited_table, table_after, done_edits, takes_memory, TakesMemoryAt};

@@ -3,7 +3,7 @@ ghost use Rattle.std.specs.Prelude.{◌≡◌, ◌≢◌, ℕ, Bool, IsTrue, Lis
 ghost use Rattle.std.specs.List.{AllByRecursion};
 ghost use Rattle.tl_bytes.specs.Held.{Kept, as_owned};
 ghost use Rattle.tl_spec.specs.Edit.{Change, map_ok, apply_change, apply_changes, none_refused};
-ghost use Rattle.tl.specs.Shown.{document_of, HTMLTable};
+ghost use Rattle.tl.specs.View.{document_of, HTMLTable};
 ghost use Rattle.tl_program.specs.Pieces.{node_of, NodePasses};
 ghost use Rattle.tl_program.specs.TableEdit.{edited_table, table_after};
 

@@ -2,7 +2,7 @@
 ghost use Rattle.std.specs.Prelude.{◌≡◌, ◌==◌, ◌∷◌, ◌<◌, length, is_some, IsSome, IfOk, IfSome, IfNone, Ok, None, Some};
 ghost use Rattle.std.specs.Option.{option_map};
 ghost use Rattle.std.specs.List.{slice_split};
-ghost use Rattle.tl_spec.specs.StepLine.{is_line_feed, number_of, first_word, after_word, change_of_text, change_of_numbers, change_by_word, change_of_line, parse_changes};
+ghost use Rattle.tl_spec.specs.Edit.StepLine.{is_line_feed, number_of, first_word, after_word, change_of_text, change_of_numbers, change_by_word, change_of_line, parse_changes};
 ghost use Rattle.tl_program.specs.Steps.{change_of, changes_in, lines_left};
 
 use super::step::Step;

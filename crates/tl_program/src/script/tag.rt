@@ -1,7 +1,7 @@
 //! Steps on a tag.
 ghost use Rattle.std.specs.Prelude.{◌≡◌, ◌<◌, true, false, length, OnOk, OnErr};
 ghost use Rattle.tl_bytes.specs.Held.{as_owned};
-ghost use Rattle.tl_spec.specs.Inline.{room, with_last, without_item};
+ghost use Rattle.tl_spec.specs.Tree.Inline.{room, with_last, without_item};
 ghost use Rattle.tl_spec.specs.Edit.{without_handle, map_ok};
 ghost use Rattle.tl_program.specs.TableEdit.{with_attribute, without_attribute, without_value};
 ghost use Rattle.tl_program.specs.Script.{Changes};

@@ -1,7 +1,7 @@
 //! How the nodes of a table are looked at one by one.
 ghost use Rattle.std.specs.Prelude.{◌≡◌, ◌↔◌, ◌≤◌, ℕ, false, length, map, IsTrue, IsOk, IfOk};
-ghost use Rattle.tl_spec.specs.SelectorMeaning.{Holds, has_combinator};
-ghost use Rattle.tl_selector.specs.Found.{is_found, IsFirst, IsOfOnePart};
+ghost use Rattle.tl_spec.specs.Select.Meaning.{Holds, has_combinator};
+ghost use Rattle.tl_selector.specs.NodeTest.{is_found, IsFirst, IsOfOnePart};
 ghost use Rattle.tl_selector.specs.View.{selector as selector_of};
 
 use crate::marks::{is_marked, marks};
@@ -55,7 +55,7 @@ pub fn first_found<N: Element>(
 }
 
 impl<'s> Clone for Test<'s> {
-    ghost use Rattle.tl_spec.specs.Document.{Node};
+    ghost use Rattle.tl_spec.specs.Tree.Document.{Node};
     ghost use Rattle.std.specs.Prelude.{List};
 
     ghost is_clone = { λ x y. (nodes : List Node) (n : ℕ) →

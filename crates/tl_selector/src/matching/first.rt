@@ -1,10 +1,10 @@
 //! The first node of a table where a selector holds at the node alone.
 ghost use Rattle.std.specs.Prelude.{◌≡◌, ◌<◌, length, map, IfSome};
 ghost use Rattle.std.specs.List.{position_from};
-ghost use Rattle.tl_spec.specs.Element.{name_of};
-ghost use Rattle.tl_spec.specs.Scan.{is_value, IsFirstPlace};
-ghost use Rattle.tl_spec.specs.SelectorSearch.{holds_alone};
-ghost use Rattle.tl_selector.specs.Sides.{first_simple, others_hold};
+ghost use Rattle.tl_spec.specs.Tree.Element.{name_of};
+ghost use Rattle.tl_spec.specs.Lookup.Scan.{is_value, IsFirstPlace};
+ghost use Rattle.tl_spec.specs.Select.Search.{holds_alone};
+ghost use Rattle.tl_selector.specs.Spine.{first_simple, others_hold};
 ghost use Rattle.tl_selector.specs.View.{selector};
 
 use crate::matching::holds_alone;

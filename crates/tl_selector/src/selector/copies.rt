@@ -1,6 +1,6 @@
 //! Copies of selectors, with joined parts in boxes of their own.
 ghost use Rattle.std.specs.Prelude.{◌≡◌, false, IfOk, IsOk};
-ghost use Rattle.tl_selector.specs.Sides.{has_sides, with_first};
+ghost use Rattle.tl_selector.specs.Spine.{has_sides, with_first};
 ghost use Rattle.tl_selector.specs.View.{selector};
 
 use crate::selector::Selector;

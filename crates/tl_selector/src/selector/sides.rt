@@ -1,8 +1,8 @@
 //! The way along the first sides of a selector. Chains are nested to the left, so this way may be as long as a text has parts.
 ghost use Rattle.std.specs.Prelude.{◌≡◌, ◌≤◌, false, IfOk};
 ghost use Rattle.std.specs.List.{All};
-ghost use Rattle.tl_spec.specs.SelectorMeaning.{has_combinator};
-ghost use Rattle.tl_selector.specs.Sides.{has_sides, nested_in, selectors};
+ghost use Rattle.tl_spec.specs.Select.Meaning.{has_combinator};
+ghost use Rattle.tl_selector.specs.Spine.{has_sides, nested_in, selectors};
 ghost use Rattle.tl_selector.specs.View.{selector};
 ghost use Rattle.tl_selector.specs.declared.selector.Selector.{size-Selector};
 

@@ -1,11 +1,11 @@
 //! The parts of a selector's text, and how they are nested.
 ghost use Rattle.std.specs.Prelude.{◌≡◌, option_map, IfOk, IsOk, Ok, None, []};
 ghost use Rattle.tl_selector.specs.View.{selector};
-ghost use Rattle.tl_selector.specs.Lacks.{LacksFirst, LacksSecond};
-ghost use Rattle.tl_selector.specs.TextViews.{separator, next};
-ghost use Rattle.tl_spec.specs.SelectorReading as r;
-ghost use Rattle.tl_spec.specs.SelectorReading.{combine, push_complex, nest, starts_with_space, separator_at, next_at, parts_at, selector_at};
-ghost use Rattle.tl_spec.specs.SelectorText.{StandsAlone};
+ghost use Rattle.tl_selector.specs.MissingSimple.{LacksFirst, LacksSecond};
+ghost use Rattle.tl_selector.specs.ParserViews.{separator, next};
+ghost use Rattle.tl_spec.specs.Select.Reading as r;
+ghost use Rattle.tl_spec.specs.Select.Reading.{combine, push_complex, nest, starts_with_space, separator_at, next_at, parts_at, selector_at};
+ghost use Rattle.tl_spec.specs.Select.Text.{StandsAlone};
 
 use crate::selector::Selector;
 use crate::text::part::{skip_spaces, parse_simple};

@@ -3,11 +3,11 @@
 ghost use Rattle.std.specs.Prelude.{◌≡◌, option_map, length};
 ghost use Rattle.std.specs.List.{take_while};
 ghost use Rattle.tl_selector.specs.View.{selector};
-ghost use Rattle.tl_selector.specs.TextViews.{operator};
-ghost use Rattle.tl_spec.specs.ByteClass.{is_ident};
-ghost use Rattle.tl_spec.specs.Runs.{drop_while};
-ghost use Rattle.tl_spec.specs.ByteClass.{is_space};
-ghost use Rattle.tl_spec.specs.SelectorReading.{skip_byte, run_before, quote_at, value_at, operator_of, operator_at, with_operator, bracket_at, simple_at};
+ghost use Rattle.tl_selector.specs.ParserViews.{operator};
+ghost use Rattle.tl_spec.specs.Lex.ByteClass.{is_ident};
+ghost use Rattle.tl_spec.specs.Lex.Runs.{drop_while};
+ghost use Rattle.tl_spec.specs.Lex.ByteClass.{is_space};
+ghost use Rattle.tl_spec.specs.Select.Reading.{skip_byte, run_before, quote_at, value_at, operator_of, operator_at, with_operator, bracket_at, simple_at};
 
 use crate::selector::Selector;
 use tl_bytes::byte_class;

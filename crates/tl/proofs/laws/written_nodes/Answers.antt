@@ -1,4 +1,4 @@
-use Rattle.tl_spec.specs.Each.{HoldOfNode, IsCleanAlone}
+use Rattle.tl_spec.specs.Tree.EveryNode.{HoldOfNode, IsCleanAlone}
 use Rattle.tl.proofs.Written.{written-all, written-document}
 use Rattle.tl.proofs.laws.written_nodes.Goals as goal
 

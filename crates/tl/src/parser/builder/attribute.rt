@@ -1,11 +1,11 @@
 //! Attributes of a start tag.
 ghost use Rattle.std.specs.Prelude.{◌≡◌, ◌≤◌, length, drop, IfOk, OnOk, IfSome};
-ghost use Rattle.tl_spec.specs.Attribute.{attributes as attributes_at};
-ghost use Rattle.tl_spec.specs.AttributeList.{no_attributes, with_pair};
+ghost use Rattle.tl_spec.specs.Lex.Attribute.{attributes as attributes_at};
+ghost use Rattle.tl_spec.specs.Lex.AttributeList.{no_attributes, with_pair};
 ghost use Rattle.tl_lexer.specs.Span.{optional_bytes_at, pair_at, IsIn, ArePairIn};
-ghost use Rattle.tl_attributes.specs.ShownAttributes.{value_view, attributes_view, plain};
+ghost use Rattle.tl_attributes.specs.AttributesView.{value_view, attributes_view, plain};
 ghost use Rattle.tl_attributes.specs.HeldAttributes.{IsHeld, AreHeldAttributes, AreRead};
-ghost use Rattle.tl.specs.StartTag.{read_of};
+ghost use Rattle.tl.specs.Builder.{read_of};
 
 use crate::parser::builder::source::Source;
 use std::alloc::{AllocError, Global};

@@ -1,10 +1,9 @@
 //! What the builder asks and changes of a node that is open.
 ghost use Rattle.std.specs.Prelude.{◌≡◌, ◌≤◌, length, Some, OnOk};
 ghost use Rattle.tl_bytes.specs.Held.{Held};
-ghost use Rattle.tl_spec.specs.Forest.{closes};
-ghost use Rattle.tl_spec.specs.Machine.{with_child, with_raw_to, name_if_tag};
-ghost use Rattle.tl.specs.Shown.{node_view};
-ghost use Rattle.tl.specs.HeldAlike.{IsHeldNode};
+ghost use Rattle.tl_spec.specs.Tree.Forest.{closes};
+ghost use Rattle.tl_spec.specs.Tree.Builder.{with_child, with_raw_to, name_if_tag};
+ghost use Rattle.tl.specs.View.{node_view, IsHeldNode};
 
 use crate::parser::builder::source::Source;
 use crate::parser::tag::node::Node;

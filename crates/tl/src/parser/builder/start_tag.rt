@@ -1,15 +1,14 @@
 //! Reads a start tag.
 ghost use Rattle.std.specs.Prelude.{◌≡◌, ◌≤◌, ◌<◌, ◌^◌, [], length, drop, IfOk, OnOk};
-ghost use Rattle.tl_spec.specs.Attribute.{attributes};
-ghost use Rattle.tl_spec.specs.AttributeList.{no_attributes};
-ghost use Rattle.tl_spec.specs.Document.{tag_node};
+ghost use Rattle.tl_spec.specs.Lex.Attribute.{attributes};
+ghost use Rattle.tl_spec.specs.Lex.AttributeList.{no_attributes};
+ghost use Rattle.tl_spec.specs.Tree.Document.{tag_node};
 ghost use Rattle.tl_lexer.specs.Span.{bytes_at, IsIn};
-ghost use Rattle.tl_lexer.specs.Lexed.{ended, start_tag_of};
-ghost use Rattle.tl_attributes.specs.ShownAttributes.{plain, attributes_view};
+ghost use Rattle.tl_lexer.specs.TokenMeaning.{ended, start_tag_of};
+ghost use Rattle.tl_attributes.specs.AttributesView.{plain, attributes_view};
 ghost use Rattle.tl_attributes.specs.HeldAttributes.{AreRead, AreHeldAttributes};
-ghost use Rattle.tl.specs.StartTag.{read_of, source_tag};
-ghost use Rattle.tl.specs.Shown.{tag_view};
-ghost use Rattle.tl.specs.HeldAlike.{IsHeldTag};
+ghost use Rattle.tl.specs.Builder.{read_of, source_tag};
+ghost use Rattle.tl.specs.View.{tag_view, IsHeldTag};
 
 use crate::parser::builder::attribute::read_attributes;
 use crate::parser::builder::source::Source;

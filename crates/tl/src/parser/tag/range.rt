@@ -3,9 +3,9 @@ ghost use Rattle.std.specs.Prelude.{◌≡◌, ◌<◌, ◌≤◌, ◌^◌, IfOk
 ghost use Rattle.std.specs.List.{last_or};
 ghost use Rattle.tl_table.specs.Answer.{Answers, WantsNoMemory};
 ghost use Rattle.tl_table.specs.Way.{RisesBelow};
-ghost use Rattle.tl_spec.specs.Range.{last_below, boundaries_of, range_of};
-ghost use Rattle.tl.specs.Shown.{node_view};
-ghost use Rattle.tl.specs.Ranges.{ReadsNodes};
+ghost use Rattle.tl_spec.specs.Walk.Range.{last_below, boundaries_of, range_of};
+ghost use Rattle.tl.specs.View.{node_view};
+ghost use Rattle.tl.specs.Query.{ReadsNodes};
 
 use crate::errors::TreeError;
 use crate::parser::base::Parser;

@@ -2,7 +2,7 @@ use Rattle.std.proofs.Common.{◌≡◌, ◌≤◌, ◌+◌, ◌||◌, length, d
 use Rattle.std.proofs.lemmas.List.{at_drop_all, take_rest}
 use Rattle.std.specs.List.{list_any, prefix_len}
 use Rattle.std.specs.Str.{bytes_eq}
-use Rattle.tl_spec.specs.ClassMember.{parts}
+use Rattle.tl_spec.specs.Lookup.ClassMember.{parts}
 use Rattle.tl_attributes.proofs.ClassParts.{in_part, run_at, no_run_at}
 use Rattle.tl_attributes.proofs.class_iter.has_part.Goals as goal
 use Rattle.tl_attributes.proofs.class_iter.has_part.Goals.{else-at-end-via-then-at-end+else-eq, else-at-end-via-else-at-end}

@@ -1,7 +1,7 @@
 use Rattle.std.proofs.Common.{◌≡◌, ◌-◌, length, drop}
 use Rattle.std.specs.List.{list_any}
 use Rattle.std.specs.Str.{bytes_eq}
-use Rattle.tl_spec.specs.ClassMember.{parts}
+use Rattle.tl_spec.specs.Lookup.ClassMember.{parts}
 use Rattle.tl_attributes.proofs.class_iter.has_part.Given as goal
 
 abbrev pub invariant-loop-at : goal.invariant-loop-at

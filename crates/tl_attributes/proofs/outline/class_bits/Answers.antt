@@ -3,8 +3,8 @@ use Rattle.std.proofs.lemmas.List.{at_drop_all, take_rest}
 use Rattle.std.proofs.lemmas.Bool.{and_parts}
 use Rattle.std.specs.List.{list_any, prefix_len}
 use Rattle.std.specs.Str.{bytes_eq, is_utf8}
-use Rattle.tl_spec.specs.ClassMember.{parts}
-use Rattle.tl_attributes.specs.Outline.{bit_of, mark_of, MayBeMember}
+use Rattle.tl_spec.specs.Lookup.ClassMember.{parts}
+use Rattle.tl_attributes.specs.Summary.{bit_of, mark_of, MayBeMember}
 use Rattle.tl_attributes.proofs.Bits.{noted_more}
 use Rattle.tl_attributes.proofs.ClassParts.{in_part, member_is, run_at, no_run_at}
 use Rattle.tl_attributes.proofs.outline.class_bits.Goals as goal

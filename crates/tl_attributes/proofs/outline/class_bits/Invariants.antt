@@ -1,8 +1,8 @@
 use Rattle.std.proofs.Common.{◌≡◌, ◌-◌, ◌⊎◌, ℕ, List, true, length, drop}
 use Rattle.std.specs.List.{list_any}
 use Rattle.std.specs.Str.{bytes_eq}
-use Rattle.tl_spec.specs.ClassMember.{parts}
-use Rattle.tl_attributes.specs.Outline.{mark_of, MayBeMember}
+use Rattle.tl_spec.specs.Lookup.ClassMember.{parts}
+use Rattle.tl_attributes.specs.Summary.{mark_of, MayBeMember}
 use Rattle.tl_attributes.proofs.outline.class_bits.Given as goal
 
 abbrev pub invariant-loop-at : goal.invariant-loop-at

@@ -1,7 +1,7 @@
 -- The table agrees with the class at each of the 256 bytes, by computing.
 use Rattle.std.proofs.Common.{◌≡◌, ℕ, ◌<◌, true, not, nat_eq, get_or, List, refl, arith}
 use Rattle.std.proofs.lemmas.Bool.{agree_below, agree_below_at}
-use Rattle.tl_spec.specs.ByteClass.{is_ident}
+use Rattle.tl_spec.specs.Lex.ByteClass.{is_ident}
 use Rattle.tl_bytes.specs.declared.byte_class.TheConstants.{IDENT_BYTES}
 use Rattle.tl_bytes.proofs.byte_class.is_ident.Goals as goal
 

@@ -1,5 +1,5 @@
 use Rattle.std.proofs.Common.{◌≡◌, drop}
-use Rattle.tl_spec.specs.ByteClass.{is_among_in_any_case}
+use Rattle.tl_spec.specs.Lex.ByteClass.{is_among_in_any_case}
 use Rattle.tl_bytes.proofs.Lent.{words_of}
 use Rattle.tl_bytes.proofs.words.is_among_in_any_case.Given as goal
 

@@ -1,5 +1,5 @@
 use Rattle.std.proofs.Common.{◌≡◌}
-use Rattle.tl_spec.specs.Normal.{norm}
+use Rattle.tl_spec.specs.Print.Normal.{norm}
 use Rattle.tl_html_spec.specs.HtmlTokenizer.{tokens_in_page}
 use Rattle.tl_safe.specs.IsSafe.{IsSafe, tokens_of}
 use Rattle.tl_safe.specs.Kept.{kept, trees_of}

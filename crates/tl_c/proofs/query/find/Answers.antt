@@ -1,7 +1,7 @@
 use Rattle.std.proofs.Common.{◌≡◌, rules, Some, ap, sym, ◌∙◌, subst}
-use Rattle.tl_spec.specs.SelectorText.{IsSelectorText}
+use Rattle.tl_spec.specs.Select.Text.{IsSelectorText}
 use Rattle.tl.specs.Query.{matches_in}
-use Rattle.tl.specs.Shown.{HTMLTable, document_of}
+use Rattle.tl.specs.View.{HTMLTable, document_of}
 use Rattle.tl.proofs.Queries.{query-some}
 use Rattle.tl_page.specs.Outcome.{success}
 use Rattle.tl_c.proofs.query.find.Goals as goal

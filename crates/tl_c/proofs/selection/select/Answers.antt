@@ -1,7 +1,7 @@
 use Rattle.std.proofs.Common.{◌≡◌, Some, ap, sym, ◌∙◌, subst, string_bytes}
-use Rattle.tl_spec.specs.SelectorText.{IsSelectorText}
+use Rattle.tl_spec.specs.Select.Text.{IsSelectorText}
 use Rattle.tl.specs.Query.{matches_in}
-use Rattle.tl.specs.Shown.{document_of}
+use Rattle.tl.specs.View.{document_of}
 use Rattle.tl_page.specs.Outcome.{Gives}
 use Rattle.tl_page.proofs.Pages.{outcome-read}
 use Rattle.tl_extract.specs.Field.{fields}

@@ -1,5 +1,5 @@
 use Rattle.std.proofs.Common.{◌+◌, ◌∙◌, ℕ, Option, ap, drop}
-use Rattle.tl_spec.specs.Element.{children_of}
+use Rattle.tl_spec.specs.Tree.Element.{children_of}
 use Rattle.tl_css_select.specs.Kin.{with_child, with_children}
 use Rattle.tl_css_select.proofs.Parents.{children_next}
 use Rattle.tl_css_select.proofs.kin.link_children.Goals as goal

@@ -1,5 +1,5 @@
 use Rattle.std.proofs.Common.{◌≡◌, drop}
-use Rattle.tl_spec.specs.Element.{children_of}
+use Rattle.tl_spec.specs.Tree.Element.{children_of}
 use Rattle.tl_css_select.specs.Kin.{with_children}
 use Rattle.tl_css_select.proofs.kin.link_children.Given as goal
 

@@ -1,5 +1,5 @@
 use Rattle.std.proofs.Common.{◌≡◌, ◌∙◌, false, true, Some, sym, arith, slice_get}
-use Rattle.tl_spec.specs.Element.{children_of}
+use Rattle.tl_spec.specs.Tree.Element.{children_of}
 use Rattle.tl_css_select.proofs.Shapes.{orphans_next, orphans_end}
 use Rattle.tl_css_select.proofs.shape.are_orphans.Goals as goal
 

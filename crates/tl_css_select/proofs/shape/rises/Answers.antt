@@ -1,5 +1,5 @@
 use Rattle.std.proofs.Common.{◌≡◌, ◌∙◌, Some, sym, arith, slice_get}
-use Rattle.tl_spec.specs.Element.{children_of}
+use Rattle.tl_spec.specs.Tree.Element.{children_of}
 use Rattle.tl_css_select.proofs.Shapes.{rises_on, rises_not, rises_end}
 use Rattle.tl_css_select.proofs.shape.rises.Goals as goal
 

@@ -1,6 +1,6 @@
 use Rattle.std.proofs.Common.{◌≡◌, false, true, map, arith, rules, refl, sym, ◌∙◌}
 use Rattle.std.proofs.lemmas.Bool.{false≢true}
-use Rattle.tl_spec.specs.Element.{children_of}
+use Rattle.tl_spec.specs.Tree.Element.{children_of}
 use Rattle.tl_css.specs.Meaning.{IsNothing}
 use Rattle.tl_css_select.proofs.Nothings.{one_more, one_isnt, all_are}
 use Rattle.tl_css_select.proofs.styled.is_empty.Goals as goal

@@ -1,6 +1,6 @@
 use Rattle.std.proofs.Common.{map, take}
 use Rattle.std.specs.List.{All}
-use Rattle.tl_spec.specs.Element.{children_of}
+use Rattle.tl_spec.specs.Tree.Element.{children_of}
 use Rattle.tl_css.specs.Meaning.{IsNothing}
 use Rattle.tl_css_select.proofs.styled.is_empty.Given as goal
 

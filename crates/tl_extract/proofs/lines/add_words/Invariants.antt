@@ -1,5 +1,5 @@
 use Rattle.std.proofs.Common.{◌≡◌, ◌++◌, ◌-◌, ◌≤◌, drop, length, string_bytes}
-use Rattle.tl_spec.specs.ClassMember.{parts}
+use Rattle.tl_spec.specs.Lookup.ClassMember.{parts}
 use Rattle.tl_extract.specs.Readable.{words_after}
 use Rattle.tl_extract.proofs.lines.add_words.Given as goal
 

@@ -1,6 +1,6 @@
 use Rattle.std.proofs.Common.{◌≡◌, ◌++◌, ◌+◌, flat_map, length, string_bytes}
 use Rattle.std.specs.Option.{option_map_or}
-use Rattle.tl_spec.specs.ClassMember.{parts}
+use Rattle.tl_spec.specs.Lookup.ClassMember.{parts}
 use Rattle.tl_extract.specs.Readable.{line_of, lines_of}
 use Rattle.tl_extract.specs.Split.{pieces_left}
 use Rattle.tl_extract.proofs.lines.lines_of.Given as goal

@@ -1,5 +1,5 @@
 use Rattle.std.proofs.Common.{◌≡◌, map, take}
-use Rattle.tl.specs.Shown.{node_view}
+use Rattle.tl.specs.View.{node_view}
 use Rattle.tl_extract.specs.Links.{links_of, lists_of}
 use Rattle.tl_extract.proofs.link.links.Given as goal
 

@@ -1,5 +1,5 @@
 use Rattle.std.proofs.Common.{◌≡◌, ◌++◌, drop, map, string_bytes}
-use Rattle.tl.specs.Shown.{node_view}
+use Rattle.tl.specs.View.{node_view}
 use Rattle.tl_extract.specs.Outline.{lines_from}
 use Rattle.tl_extract.proofs.listing.outline.Given as goal
 

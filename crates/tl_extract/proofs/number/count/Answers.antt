@@ -1,7 +1,7 @@
 use Rattle.std.proofs.Common.{◌≡◌, length, ap, sym, ◌∙◌, arith}
 use Rattle.tl_spec.proofs.SelectorText.{alone-text}
 use Rattle.tl.specs.Query.{matches_in}
-use Rattle.tl.specs.Shown.{document_of}
+use Rattle.tl.specs.View.{document_of}
 use Rattle.tl.proofs.Queries.{query-few, query-some}
 use Rattle.tl_page.specs.Outcome.{success}
 use Rattle.tl_extract.proofs.number.count.Goals as goal

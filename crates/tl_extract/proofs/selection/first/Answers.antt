@@ -1,6 +1,6 @@
 use Rattle.std.proofs.Common.{◌≡◌, map, ap, subst, sym, ◌∙◌, option_map, string_bytes}
 use Rattle.tl.specs.Query.{matches_in}
-use Rattle.tl.specs.Shown.{HTMLTable, document_of, node_view}
+use Rattle.tl.specs.View.{HTMLTable, document_of, node_view}
 use Rattle.tl.proofs.Queries.{query-some}
 use Rattle.tl_page.specs.Outcome.{Gives}
 use Rattle.tl_extract.specs.Field.{first_field}

@@ -1,5 +1,5 @@
 use Rattle.std.proofs.Common.{◌≡◌, length, map}
-use Rattle.tl.specs.Shown.{node_view}
+use Rattle.tl.specs.View.{node_view}
 use Rattle.tl_extract.specs.Field.{fields}
 use Rattle.tl_extract.proofs.selection.next_field.Given as goal
 

@@ -1,7 +1,7 @@
 use Rattle.std.proofs.Common.{◌≡◌, map, ap, sym, ◌∙◌}
 use Rattle.tl_spec.proofs.SelectorText.{alone-text}
 use Rattle.tl.specs.Query.{matches_in}
-use Rattle.tl.specs.Shown.{HTMLTable, document_of, node_view}
+use Rattle.tl.specs.View.{HTMLTable, document_of, node_view}
 use Rattle.tl.proofs.Queries.{query-some}
 use Rattle.tl_page.specs.Outcome.{success}
 use Rattle.tl_extract.specs.Field.{fields}

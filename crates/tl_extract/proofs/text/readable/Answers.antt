@@ -1,7 +1,7 @@
 use Rattle.std.proofs.Common.{◌≡◌, Ok, arith, map, rules, string_bytes, subst, sym}
 use Rattle.std.proofs.lemmas.Grind.{common_steps}
 use Rattle.tl.specs.Remaining.{Place, remaining_of}
-use Rattle.tl.specs.Shown.{document_of, node_view}
+use Rattle.tl.specs.View.{document_of, node_view}
 use Rattle.tl.proofs.Remaining.{IsEntered, entered-begun}
 use Rattle.tl_extract.specs.Readable.{readable_of}
 use Rattle.tl_extract.proofs.Flows.{readable-read}

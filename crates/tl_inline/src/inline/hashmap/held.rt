@@ -18,8 +18,8 @@ pub(super) enum HeldPairs<K: Eq + Hash, V, const N: usize> {
 }
 
 impl<K: Eq + Hash, V, const N: usize> HeldPairs<K, V, N> {
-    ghost use Rattle.tl_inline.specs.HeldPairs.{storage_view};
-    ghost use Rattle.tl_inline.specs.HeldPairsLends.{lends_value_at};
+    ghost use Rattle.tl_inline.specs.PairStorage.{storage_view};
+    ghost use Rattle.tl_inline.specs.PairStorageLends.{lends_value_at};
 
     pub(super) fn value_at_mut(&mut self, index: usize) -> Option<&mut V>
         ensures* writes_back { sem 𝓛

@@ -23,7 +23,7 @@ impl<'a, K, V> Model for InlineHashMapIterator<'a, K, V> {
 
     ghost Value = { List (K × V) };
 
-    ghost use Rattle.tl_inline.specs.PairsLeft.{remaining_pairs};
+    ghost use Rattle.tl_inline.specs.RemainingPairs.{remaining_pairs};
 
     ghost view = { λ a. remaining_pairs a.left };
 }

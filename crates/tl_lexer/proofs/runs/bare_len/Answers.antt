@@ -1,5 +1,5 @@
 use Rattle.std.proofs.Common.{ℕ, List, [], ◌∷◌, length, unwrap_or, not, ap, ◌∙◌}
-use Rattle.tl_spec.specs.ByteClass.{ends_value}
+use Rattle.tl_spec.specs.Lex.ByteClass.{ends_value}
 use Rattle.tl_bytes.specs.Search.{is_one_of}
 use Rattle.tl_lexer.proofs.Lengths.{first_or_length, prefix_len-same, ends_value_is}
 use Rattle.tl_lexer.proofs.runs.bare_len.Goals as goal

@@ -1,6 +1,6 @@
 use Rattle.std.proofs.Common.{length, unwrap_or, not, ap, ◌∙◌}
 use Rattle.std.proofs.Math.Bool.{not-not}
-use Rattle.tl_spec.specs.ByteClass.{is_ident}
+use Rattle.tl_spec.specs.Lex.ByteClass.{is_ident}
 use Rattle.tl_bytes.specs.Search.{is_not_ident}
 use Rattle.tl_lexer.proofs.Lengths.{first_or_length, prefix_len-same}
 use Rattle.tl_lexer.proofs.runs.ident_len.Goals as goal

@@ -1,6 +1,6 @@
 use Rattle.std.proofs.Common.{◌≡◌, rules, Err, ap, subst, sym, ◌∙◌}
-use Rattle.tl_spec.specs.Document.{document}
-use Rattle.tl.specs.Shown.{document_of}
+use Rattle.tl_spec.specs.Tree.Document.{document}
+use Rattle.tl.specs.View.{document_of}
 use Rattle.tl_page.specs.Outcome.{Gives, not_understood, success}
 use Rattle.tl_page.specs.Page.{document_in}
 use Rattle.tl_page.specs.declared.failure.Failure.TheVariants.{NotUnderstood}

@@ -1,6 +1,6 @@
 use Rattle.std.proofs.Common.{◌≡◌, ◌++◌, ◌+◌, ◌<◌, List, ℕ, map, ap, sym, subst, ◌∙◌, append-nil, arith, string_bytes}
-use Rattle.tl_spec.specs.Document.{Node}
-use Rattle.tl.specs.Shown.{node_view}
+use Rattle.tl_spec.specs.Tree.Document.{Node}
+use Rattle.tl.specs.View.{node_view}
 use Rattle.tl.proofs.Frames.{empty_of_length}
 use Rattle.tl_safe.specs.Left.{frame_steps, owed, steps}
 use Rattle.tl_safe.specs.Lists.{ListedWords}

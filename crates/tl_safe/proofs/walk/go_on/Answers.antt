@@ -1,7 +1,7 @@
 use Rattle.std.proofs.Common.{◌++◌, ◌<◌, List, ℕ, map, refl, ap, sym, subst, ◌∙◌, append_assoc, arith, string_bytes}
 use Rattle.std.proofs.lemmas.Result.{on_ok_weaker}
-use Rattle.tl_spec.specs.Document.{Node}
-use Rattle.tl.specs.Shown.{node_view}
+use Rattle.tl_spec.specs.Tree.Document.{Node}
+use Rattle.tl.specs.View.{node_view}
 use Rattle.tl_safe.specs.Left.{end_print, owed, steps}
 use Rattle.tl_safe.specs.Lists.{ListedWords}
 use Rattle.tl_safe.specs.Policies.{lists_of}

@@ -2,15 +2,15 @@ use Rattle.std.proofs.Common.{◌≡◌, ◌++◌, ◌+◌, ◌*◌, ◌<◌, []
 use Rattle.std.specs.List.{filter}
 use Rattle.std.specs.Str.Lossy.{utf8_lossy}
 use Rattle.std.proofs.lemmas.Result.{on_ok_weaker}
-use Rattle.tl_spec.specs.ByteClass.{is_among_in_any_case, is_void}
-use Rattle.tl_spec.specs.Document.{Node, Tag, Raw, Comment, TagNode}
-use Rattle.tl_spec.specs.Element.{children_of}
+use Rattle.tl_spec.specs.Lex.ByteClass.{is_among_in_any_case, is_void}
+use Rattle.tl_spec.specs.Tree.Document.{Node, Tag, Raw, Comment, TagNode}
+use Rattle.tl_spec.specs.Tree.Element.{children_of}
 use Rattle.tl_spec.specs.Print.{print_end}
 use Rattle.tl_spec.specs.Walk.{plain_node}
-use Rattle.tl.specs.Shown.{node_view, tag_view}
+use Rattle.tl.specs.View.{node_view, tag_view}
 use Rattle.tl.proofs.Frames.{shown_at}
 use Rattle.tl_safe.specs.Kept.{is_text_byte}
-use Rattle.tl_spec.specs.Met.{handle_met, met}
+use Rattle.tl_spec.specs.Walk.Length.{handle_met, met}
 use Rattle.tl_safe.specs.Left.{end_print, frame_print, frame_steps, handle_print, owed, row, steps}
 use Rattle.tl_safe.specs.Lists.{ListedWords, opaque_names}
 use Rattle.tl_safe.specs.Policies.{lists_of}

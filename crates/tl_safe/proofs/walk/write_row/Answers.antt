@@ -1,7 +1,7 @@
 use Rattle.std.proofs.Common.{◌≡◌, ◌++◌, ◌∷◌, ◌+◌, ◌<◌, suc, List, ℕ, drop, get_or, length, map, ap, sym, ◌∙◌, add-one, append_assoc, append-nil, drop-cons, slice_get, string_bytes}
 use Rattle.std.proofs.lemmas.List.{drop_all}
-use Rattle.tl_spec.specs.Document.{Node}
-use Rattle.tl.specs.Shown.{node_view}
+use Rattle.tl_spec.specs.Tree.Document.{Node}
+use Rattle.tl.specs.View.{node_view}
 use Rattle.tl_safe.specs.Left.{handle_print, owed, row}
 use Rattle.tl_safe.specs.Lists.{ListedWords}
 use Rattle.tl_safe.specs.Policies.{lists_of}

@@ -1,8 +1,8 @@
 use Rattle.std.proofs.Common.{◌≡◌, ◌++◌, ◌∷◌, [], List, ℕ, map, ap, sym, ◌∙◌, append_assoc, string_bytes, rules}
 use Rattle.std.proofs.lemmas.Grind.{common_steps}
-use Rattle.tl_spec.specs.Attribute.{Pair}
+use Rattle.tl_spec.specs.Lex.Attribute.{Pair}
 use Rattle.tl_spec.specs.Print.{print_pairs}
-use Rattle.tl_attributes.specs.ShownAttributes.{pair_view}
+use Rattle.tl_attributes.specs.AttributesView.{pair_view}
 use Rattle.tl.proofs.Printing.{pairs-listed}
 use Rattle.tl_safe.specs.Kept.{written_pairs}
 use Rattle.tl_safe.specs.Lists.{ListedWords}

@@ -1,11 +1,11 @@
 use Rattle.std.proofs.Common.{◌≡◌, ◌++◌, List, ℕ, codes, ap, sym, ◌∙◌, arith, string_bytes}
 use Rattle.std.proofs.lemmas.Grind.{common_steps}
 use Rattle.std.specs.Str.Lossy.{utf8_lossy}
-use Rattle.tl_spec.specs.AttributeList.{printed_pairs}
+use Rattle.tl_spec.specs.Lex.AttributeList.{printed_pairs}
 use Rattle.tl_spec.specs.Print.{print_pairs}
 use Rattle.tl_spec.specs.Walk.{plain_node}
-use Rattle.tl_attributes.specs.ShownAttributes.{plain}
-use Rattle.tl.specs.Shown.{tag_view}
+use Rattle.tl_attributes.specs.AttributesView.{plain}
+use Rattle.tl.specs.View.{tag_view}
 use Rattle.tl_safe.specs.Kept.{written_pairs}
 use Rattle.tl_safe.specs.Policies.{lists_of}
 use Rattle.tl_safe.proofs.Writes.{kept_start}

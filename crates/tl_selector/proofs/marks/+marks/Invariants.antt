@@ -1,8 +1,8 @@
 use Rattle.std.proofs.Common.{◌≡◌, ◌+◌, ◌*◌, ◌≤◌, None, length, map}
 use Rattle.std.specs.List.{All}
-use Rattle.tl_spec.specs.Selector.{Selector}
-use Rattle.tl_selector.specs.Marks.{AreMarks}
-use Rattle.tl_selector.specs.Sides.{nested_in, selectors}
+use Rattle.tl_spec.specs.Select.Selector.{Selector}
+use Rattle.tl_selector.specs.NodeSet.{AreMarks}
+use Rattle.tl_selector.specs.Spine.{nested_in, selectors}
 use Rattle.tl_selector.specs.View.{selector}
 use Rattle.tl_selector.specs.declared.selector.Selector.{size-Selector}
 use Rattle.tl_selector.proofs.marks.+marks.Given as goal

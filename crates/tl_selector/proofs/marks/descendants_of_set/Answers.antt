@@ -1,5 +1,5 @@
 use Rattle.std.proofs.Common.{map, ◌≡◌, ◌+◌, List, [], ◌∷◌, ◌++◌, ℕ, Bool, length, subst, ap, ◌∙◌, arith, length-append, refl}
-use Rattle.tl_selector.specs.Marks.{children_at}
+use Rattle.tl_selector.specs.NodeSet.{children_at}
 use Rattle.tl_selector.proofs.Spreads.{unmarked, spreads}
 use Rattle.tl_selector.proofs.Works.{Work, work_step, work_done}
 use Rattle.tl_selector.proofs.marks.descendants_of_set.Goals as goal

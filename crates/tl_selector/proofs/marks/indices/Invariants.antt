@@ -1,5 +1,5 @@
 use Rattle.std.proofs.Common.{◌≡◌, ◌<◌, ℕ, true}
-use Rattle.tl_selector.specs.Marks.{is_at, is_in}
+use Rattle.tl_selector.specs.NodeSet.{is_at, is_in}
 use Rattle.tl_selector.proofs.marks.indices.Given as goal
 
 abbrev pub invariant-loop-m : goal.invariant-loop-m

@@ -1,6 +1,6 @@
 use Rattle.std.proofs.Common.{◌≡◌, drop}
-use Rattle.tl_spec.specs.Element.{children_of}
-use Rattle.tl_selector.specs.Marks.{spread}
+use Rattle.tl_spec.specs.Tree.Element.{children_of}
+use Rattle.tl_selector.specs.NodeSet.{spread}
 use Rattle.tl_selector.proofs.marks.mark_children.Given as goal
 
 abbrev pub invariant-loop-place : goal.invariant-loop-place

@@ -1,7 +1,7 @@
 use Rattle.std.proofs.Common.{◌≡◌, ◌<◌, ◌&&◌, ℕ, false, length, map, slice_get}
 use Rattle.std.specs.Option.{option_copied, option_map_or}
-use Rattle.tl_spec.specs.SelectorSearch.{holds_alone}
-use Rattle.tl_selector.specs.Marks.{is_among, is_at}
+use Rattle.tl_spec.specs.Select.Search.{holds_alone}
+use Rattle.tl_selector.specs.NodeSet.{is_among, is_at}
 use Rattle.tl_selector.specs.View.{selector}
 use Rattle.tl_selector.proofs.marks.marks_alone.Given as goal
 

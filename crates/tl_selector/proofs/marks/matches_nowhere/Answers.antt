@@ -1,5 +1,5 @@
 use Rattle.std.proofs.Common.{rules, ◌≡◌, false, map}
-use Rattle.tl_spec.specs.SelectorMeaning.{has_combinator}
+use Rattle.tl_spec.specs.Select.Meaning.{has_combinator}
 use Rattle.tl_selector.specs.View.{selector}
 use Rattle.tl_selector.proofs.Marked.{none_without}
 use Rattle.tl_selector.proofs.marks.matches_nowhere.Goals as goal

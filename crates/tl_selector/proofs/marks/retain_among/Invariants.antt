@@ -1,6 +1,6 @@
 use Rattle.std.proofs.Common.{◌≡◌, ◌<◌, ◌≤◌, ◌&&◌, ℕ, length}
 use Rattle.std.specs.Option.{option_copied}
-use Rattle.tl_selector.specs.Marks.{is_among, is_at}
+use Rattle.tl_selector.specs.NodeSet.{is_among, is_at}
 use Rattle.tl_selector.proofs.marks.retain_among.Given as goal
 
 abbrev pub invariant-loop-number : goal.invariant-loop-number

@@ -1,5 +1,5 @@
 use Rattle.std.proofs.Common.{rules, ◌≡◌, ◌≤◌, arith}
-use Rattle.tl_selector.specs.Sides.{with_first}
+use Rattle.tl_selector.specs.Spine.{with_first}
 use Rattle.tl_selector.specs.View.{selector}
 use Rattle.tl_selector.specs.declared.selector.Selector.{size-Selector}
 use Rattle.tl_selector.proofs.Chains.{further_in, no_larger, first_no_larger}

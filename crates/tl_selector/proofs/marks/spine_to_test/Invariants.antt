@@ -1,6 +1,6 @@
 use Rattle.std.proofs.Common.{◌≡◌, ◌≤◌}
 use Rattle.std.specs.List.{All}
-use Rattle.tl_selector.specs.Sides.{nested_in, selectors}
+use Rattle.tl_selector.specs.Spine.{nested_in, selectors}
 use Rattle.tl_selector.specs.View.{selector}
 use Rattle.tl_selector.specs.declared.selector.Selector.{size-Selector}
 use Rattle.tl_selector.proofs.marks.spine_to_test.Given as goal

@@ -1,5 +1,5 @@
 use Rattle.std.proofs.Common.{◌≡◌, ◌<◌, ◌≤◌, ◌||◌, ℕ, length}
-use Rattle.tl_selector.specs.Marks.{is_at}
+use Rattle.tl_selector.specs.NodeSet.{is_at}
 use Rattle.tl_selector.proofs.marks.union_with.Given as goal
 
 abbrev pub invariant-loop-number : goal.invariant-loop-number

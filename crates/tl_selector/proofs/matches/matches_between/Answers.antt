@@ -1,6 +1,6 @@
 use Rattle.std.proofs.Common.{ℕ, ◌-◌, subst, sym, map}
-use Rattle.tl_spec.specs.SelectorMeaning.{AreMatches}
-use Rattle.tl_selector.specs.Found.{found_numbers, is_found}
+use Rattle.tl_spec.specs.Select.Meaning.{AreMatches}
+use Rattle.tl_selector.specs.NodeTest.{found_numbers, is_found}
 use Rattle.tl_selector.specs.View.{selector}
 use Rattle.tl_selector.proofs.Numbers.{numbers_are}
 use Rattle.tl_selector.proofs.matches.matches_between.Goals as goal

@@ -1,5 +1,5 @@
 use Rattle.std.proofs.Common.{◌≡◌, ◌≤◌}
-use Rattle.tl_spec.specs.SelectorSearch.{holds_alone}
+use Rattle.tl_spec.specs.Select.Search.{holds_alone}
 use Rattle.tl_selector.specs.View.{selector}
 use Rattle.tl_selector.specs.declared.selector.Selector.{size-Selector}
 use Rattle.tl_selector.proofs.matching.+holds_alone.Given as goal

@@ -1,6 +1,6 @@
 use Rattle.std.proofs.Common.{◌≡◌, ◌∙◌, subst, sym, map, Bool, false}
 use Rattle.std.specs.Bool.{Decides}
-use Rattle.tl_spec.specs.SelectorMeaning.{Holds, has_combinator}
+use Rattle.tl_spec.specs.Select.Meaning.{Holds, has_combinator}
 use Rattle.tl_selector.specs.View.{selector}
 use Rattle.tl_selector.proofs.Marked.{without_tells}
 use Rattle.tl_selector.proofs.table.holds_at.Goals as goal

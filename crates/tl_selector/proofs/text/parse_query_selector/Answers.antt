@@ -1,6 +1,6 @@
 use Rattle.std.proofs.Common.{List, ℕ, subst, ◌∙◌, IfOk, IfNone}
-use Rattle.tl_spec.specs.Selector.{Selector}
-use Rattle.tl_spec.specs.SelectorText.{IsSelectorText}
+use Rattle.tl_spec.specs.Select.Selector.{Selector}
+use Rattle.tl_spec.specs.Select.Text.{IsSelectorText}
 use Rattle.tl_selector.proofs.text.parse_query_selector.Goals as goal
 
 pub returns-clause-none : goal.returns-clause-none

@@ -1,4 +1,4 @@
-use Rattle.tl_spec.specs.Scan.{has_id, is_in_class}
+use Rattle.tl_spec.specs.Lookup.Scan.{has_id, is_in_class}
 use Rattle.tl_spec.proofs.Scans.{first_is, first_only, places_are, places_only}
 use Rattle.tl_spec.proofs.laws.scans.Goals as goal
 

@@ -1,5 +1,5 @@
 use Rattle.std.specs.Prelude.{IsTrue}
-use Rattle.tl_spec.specs.Each.{HoldOfNode}
+use Rattle.tl_spec.specs.Tree.EveryNode.{HoldOfNode}
 use Rattle.tl_spec.specs.Walk.{walk}
 use Rattle.tl_spec.proofs.Each.{each-walk, trees-hold}
 use Rattle.tl_spec.proofs.node_laws.nodes_of_a_walk.Goals as goal

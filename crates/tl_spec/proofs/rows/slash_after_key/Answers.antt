@@ -1,5 +1,5 @@
 use Rattle.std.proofs.Common.{refl, codes}
-use Rattle.tl_spec.specs.Document.{document}
+use Rattle.tl_spec.specs.Tree.Document.{document}
 use Rattle.tl_spec.proofs.Ascii.{document_print-ascii}
 use Rattle.tl_spec.proofs.rows.slash_after_key.Goals as goal
 

@@ -1,5 +1,5 @@
 use Rattle.std.proofs.Common.{refl, [], codes}
-use Rattle.tl_spec.specs.Document.{document}
+use Rattle.tl_spec.specs.Tree.Document.{document}
 use Rattle.tl_spec.proofs.Ascii.{class_scan-ascii}
 use Rattle.tl_spec.proofs.rows.tags_by_id_and_class.Goals as goal
 

@@ -1,5 +1,5 @@
 use Rattle.std.proofs.Common.{◌≡◌, ℕ, ◌-◌, List, [], Some, map, length}
-use Rattle.tl_spec.specs.Range.{end_below}
+use Rattle.tl_spec.specs.Walk.Range.{end_below}
 use Rattle.tl_table.specs.Way.{after_steps}
 use Rattle.tl_table.proofs.Way.{AreBelow}
 use Rattle.tl_table.proofs.climb.last_descendant.Given as goal

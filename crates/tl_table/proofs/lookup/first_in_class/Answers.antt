@@ -2,7 +2,7 @@ use Rattle.std.proofs.Common.{◌∙◌, rules, tests}
 use Rattle.std.proofs.lemmas.Iterator.{YieldsList-from_slice}
 use Rattle.std.proofs.lemmas.Iterator.Adapters.{position_from-zero}
 use Rattle.std.proofs.lemmas.Iterator.Search.{position_from_yields_List}
-use Rattle.tl_spec.specs.Scan.{is_in_class}
+use Rattle.tl_spec.specs.Lookup.Scan.{is_in_class}
 use Rattle.tl_table.proofs.Places.{position-of_image}
 use Rattle.tl_table.proofs.lookup.first_in_class.Goals as goal
 

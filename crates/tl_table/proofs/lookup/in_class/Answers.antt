@@ -1,6 +1,6 @@
 use Rattle.std.proofs.Common.{map, length, arith}
 use Rattle.std.proofs.lemmas.List.{length-map}
-use Rattle.tl_spec.specs.Scan.{is_in_class}
+use Rattle.tl_spec.specs.Lookup.Scan.{is_in_class}
 use Rattle.tl_table.proofs.Places.{places-below}
 use Rattle.tl_table.proofs.lookup.in_class.Goals as goal
 

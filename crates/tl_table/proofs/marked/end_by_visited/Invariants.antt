@@ -1,5 +1,5 @@
 use Rattle.std.proofs.Common.{◌≡◌, ℕ, List, [], Some, map, length}
-use Rattle.tl_spec.specs.Range.{end_below}
+use Rattle.tl_spec.specs.Walk.Range.{end_below}
 use Rattle.tl_table.proofs.Way.{AreMarks, unmarked}
 use Rattle.tl_table.proofs.marked.end_by_visited.Given as goal
 

@@ -1,9 +1,9 @@
 use Rattle.std.proofs.Common.{◌≡◌, Err, List, map, ap, rules, subst, sym, ◌∙◌}
 use Rattle.serde_json.specs.Data.{Data}
 use Rattle.serde_json.specs.View.{view}
-use Rattle.tl_spec.specs.Document.{Document}
+use Rattle.tl_spec.specs.Tree.Document.{Document}
 use Rattle.tl.specs.Query.{matches_in}
-use Rattle.tl.specs.Shown.{HTMLTable, document_of, node_view}
+use Rattle.tl.specs.View.{HTMLTable, document_of, node_view}
 use Rattle.tl.proofs.Queries.{query-some}
 use Rattle.tl_page.specs.Outcome.{Fails, Gives, Outcome, outcome_map, success}
 use Rattle.tl_page.proofs.Outcomes.{fails_mapped}

@@ -1,6 +1,6 @@
 use Rattle.std.proofs.Common.{◌≡◌, map}
 use Rattle.serde_json.specs.View.{view}
-use Rattle.tl.specs.Shown.{node_view}
+use Rattle.tl.specs.View.{node_view}
 use Rattle.tl_page.specs.Outcome.{followed_by, success}
 use Rattle.tl_tool.specs.Objects.{list_data}
 use Rattle.tl_tool.proofs.objects.objects.Given as goal

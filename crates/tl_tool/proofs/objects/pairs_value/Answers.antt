@@ -1,6 +1,6 @@
 use Rattle.std.proofs.Common.{fold, map, ap, ◌∙◌}
 use Rattle.serde_json.specs.View.{members_view}
-use Rattle.tl_attributes.specs.ShownAttributes.{pair_view}
+use Rattle.tl_attributes.specs.AttributesView.{pair_view}
 use Rattle.tl.proofs.Printing.{pairs-listed}
 use Rattle.tl_tool.specs.Objects.{pairs_data, with_pair}
 use Rattle.tl_tool.proofs.objects.pairs_value.Goals as goal

@@ -1,7 +1,7 @@
 use Rattle.std.proofs.Common.{◌≡◌, fold, map}
 use Rattle.serde_json.specs.View.{members_view}
-use Rattle.tl_spec.specs.AttributeList.{printed_pairs}
-use Rattle.tl_attributes.specs.ShownAttributes.{plain, pair_view}
+use Rattle.tl_spec.specs.Lex.AttributeList.{printed_pairs}
+use Rattle.tl_attributes.specs.AttributesView.{plain, pair_view}
 use Rattle.tl_tool.specs.Objects.{pairs_data, with_pair}
 use Rattle.tl_tool.proofs.objects.pairs_value.Given as goal
 

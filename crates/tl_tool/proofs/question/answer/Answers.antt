@@ -1,8 +1,8 @@
 use Rattle.std.proofs.Common.{Option, length, map, rules, subst, sym}
-use Rattle.tl_spec.specs.Document.{Document}
-use Rattle.tl_spec.specs.Selector.{Selector}
+use Rattle.tl_spec.specs.Tree.Document.{Document}
+use Rattle.tl_spec.specs.Select.Selector.{Selector}
 use Rattle.tl.specs.Query.{matches_in}
-use Rattle.tl.specs.Shown.{document_of}
+use Rattle.tl.specs.View.{document_of}
 use Rattle.tl_page.specs.Outcome.{Gives, joined, outcome_map, success}
 use Rattle.tl_extract.specs.Field.{fields, first_field}
 use Rattle.tl_tool.specs.Findings.{finding_of, first_line, listed, number_line}

@@ -1,5 +1,5 @@
 use Rattle.std.proofs.Common.{◌≡◌, Err, List, ℕ, ap, rules, subst, sym, ◌∙◌}
-use Rattle.tl_spec.specs.Document.{Document}
+use Rattle.tl_spec.specs.Tree.Document.{Document}
 use Rattle.tl_spec.specs.Print.{print}
 use Rattle.tl_page.specs.Outcome.{Gives, Outcome, not_understood, success}
 use Rattle.tl_page.specs.declared.failure.Failure.TheVariants.{NotUnderstood}

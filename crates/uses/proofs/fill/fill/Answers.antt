@@ -1,6 +1,6 @@
 use Rattle.uses.specs.Fields.{fields_of}
 use Rattle.std.proofs.Common.{string_bytes}
-use Rattle.tl.specs.Shown.{document_of}
+use Rattle.tl.specs.View.{document_of}
 use Rattle.uses.proofs.Pages.{clean_read, print_read, reads_read}
 use Rattle.uses.proofs.fill.fill.Goals as goal
 

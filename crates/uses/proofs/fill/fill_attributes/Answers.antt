@@ -1,7 +1,7 @@
 use Rattle.std.proofs.Common.{ap, ◌∙◌}
 use Rattle.std.specs.Prelude.{fold}
 use Rattle.std.proofs.lemmas.Result.{on_ok_weaker}
-use Rattle.tl_attributes.specs.ShownAttributes.{attributes_view}
+use Rattle.tl_attributes.specs.AttributesView.{attributes_view}
 use Rattle.uses.specs.Fields.{fields_of}
 use Rattle.uses.specs.Filling.{put}
 use Rattle.uses.proofs.Attributes.{put-all}

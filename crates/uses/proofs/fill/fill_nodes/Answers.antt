@@ -1,5 +1,5 @@
 use Rattle.std.proofs.Common.{◌≡◌, ◌<◌, length, ap, sym, ◌∙◌, arith}
-use Rattle.tl.specs.Shown.{HTMLNode, node_view}
+use Rattle.tl.specs.View.{HTMLNode, node_view}
 use Rattle.uses.specs.Fields.{Fields, fields_of, node_with}
 use Rattle.uses.proofs.Nodes.{done_after, left_after}
 use Rattle.uses.proofs.fill.fill_nodes.Goals as goal

@@ -1,5 +1,5 @@
 use Rattle.std.proofs.Common.{◌≡◌, drop, map, take}
-use Rattle.tl.specs.Shown.{node_view}
+use Rattle.tl.specs.View.{node_view}
 use Rattle.uses.specs.Fields.{fields_of, node_with}
 use Rattle.uses.proofs.fill.fill_nodes.Given as goal
 

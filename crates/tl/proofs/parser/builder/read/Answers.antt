@@ -1,11 +1,10 @@
 use Rattle.std.proofs.Common.{◌≡◌, ℕ, List, Option, Some, None, refl, drop, subst, ap, sym, ◌∙◌}
-use Rattle.tl_spec.specs.Token.{Token, next_token}
+use Rattle.tl_spec.specs.Lex.Token.{Token, next_token}
 use Rattle.std.specs.List.{All}
-use Rattle.tl_spec.specs.Document.{Document, document}
+use Rattle.tl_spec.specs.Tree.Document.{Document, document}
 use Rattle.tl_spec.proofs.Reached.{IsReached-start}
-use Rattle.tl_lexer.specs.Lexed.{meant}
-use Rattle.tl.specs.Shown.{HTMLTable, document_of, version_of}
-use Rattle.tl.specs.HeldAlike.{IsHeldNode}
+use Rattle.tl_lexer.specs.TokenMeaning.{meant}
+use Rattle.tl.specs.View.{HTMLTable, document_of, version_of, IsHeldNode}
 use Rattle.tl.specs.Builder.{state_of}
 use Rattle.tl.proofs.Following.{reached_next, reached_end}
 use Rattle.tl.proofs.Preorder.{read-preorder}

@@ -1,5 +1,5 @@
 use Rattle.std.proofs.Common.{length, ◌-◌}
-use Rattle.tl_spec.specs.Machine.{IsReached}
+use Rattle.tl_spec.specs.Tree.Builder.{IsReached}
 use Rattle.tl.specs.Builder.{state_of, AreHeld}
 use Rattle.tl.proofs.parser.builder.read.Given as goal
 

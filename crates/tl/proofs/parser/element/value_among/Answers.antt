@@ -6,7 +6,7 @@ use Rattle.std.specs.Str.{bytes_eq}
 use Rattle.std.proofs.lemmas.Iterator.Consumers.{YieldsList-from_rest}
 use Rattle.std.proofs.lemmas.Iterator.Search.{find_from_yields_List}
 use Rattle.tl_bytes.specs.Held.{Kept}
-use Rattle.tl_attributes.specs.ShownAttributes.{bytes_view, value_view}
+use Rattle.tl_attributes.specs.AttributesView.{bytes_view, value_view}
 use Rattle.tl.proofs.Elements.{lookup-shown}
 use Rattle.tl.proofs.parser.element.value_among.Goals as goal
 

@@ -1,5 +1,5 @@
 use Rattle.std.proofs.Common.{[], ◌∷◌, ◌++◌, sym, ◌∙◌}
-use Rattle.tl.specs.Shown.{node_view}
+use Rattle.tl.specs.View.{node_view}
 use Rattle.tl.proofs.Tracked.{classes-untracked}
 use Rattle.tl.proofs.parser.tracking.note_class.Goals as goal
 

@@ -2,9 +2,9 @@ use Rattle.std.proofs.Common.{◌≡◌, None, Option, Some, refl, sym, ap, ◌�
 use Rattle.std.specs.Option.{option_copied, option_map}
 use Rattle.std.proofs.lemmas.Result.{on_ok_weaker}
 use Rattle.tl_bytes.specs.Held.{Kept}
-use Rattle.tl_spec.specs.ClassMember.{members}
-use Rattle.tl_spec.specs.Scan.{class_of}
-use Rattle.tl.specs.Shown.{HTMLNode, node_view}
+use Rattle.tl_spec.specs.Lookup.ClassMember.{members}
+use Rattle.tl_spec.specs.Lookup.Scan.{class_of}
+use Rattle.tl.specs.View.{HTMLNode, node_view}
 use Rattle.tl.specs.Tracked.{AnswerMembers}
 use Rattle.tl.proofs.Tracked.{classes-noted, no-class}
 use Rattle.tl.proofs.parser.tracking.note_class_of.Goals as goal

@@ -1,8 +1,8 @@
 use Rattle.std.proofs.Common.{◌≡◌, None, Option, refl, sym, ap, ◌∙◌}
 use Rattle.std.specs.Option.{option_copied, option_map}
 use Rattle.tl_bytes.specs.Held.{Kept}
-use Rattle.tl_spec.specs.Scan.{id_of}
-use Rattle.tl.specs.Shown.{HTMLNode, node_view}
+use Rattle.tl_spec.specs.Lookup.Scan.{id_of}
+use Rattle.tl.specs.View.{HTMLNode, node_view}
 use Rattle.tl.proofs.Tracked.{ids-without, no-id}
 use Rattle.tl.proofs.parser.tracking.note_id_of.Goals as goal
 

@@ -1,7 +1,7 @@
 use Rattle.std.proofs.Common.{◌≡◌, Some, sym, subst}
 use Rattle.std.proofs.lemmas.Result.{on_ok_weaker}
 use Rattle.std.specs.Str.{IsUtf8}
-use Rattle.tl_spec.specs.ClassMember.{members, parts}
+use Rattle.tl_spec.specs.Lookup.ClassMember.{members, parts}
 use Rattle.tl.specs.Tracked.{AnswerMembers}
 use Rattle.tl.proofs.Tracked.{members-of-text, members-of-none}
 use Rattle.tl.proofs.parser.tracking.note_members.Goals as goal

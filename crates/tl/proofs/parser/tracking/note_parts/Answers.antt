@@ -1,7 +1,7 @@
 use Rattle.std.proofs.Common.{◌≡◌, ◌≤◌, ap, ◌∙◌, ◌++◌, ◌∷◌, [], List, ℕ, length, drop, slice_range, sym, subst}
 use Rattle.std.proofs.lemmas.List.{append_assoc}
 use Rattle.tl_bytes.specs.Held.{Kept}
-use Rattle.tl_spec.specs.ClassMember.{parts}
+use Rattle.tl_spec.specs.Lookup.ClassMember.{parts}
 use Rattle.tl.specs.Tracked.{AnswerMembers}
 use Rattle.tl.proofs.parser.tracking.note_parts.Goals as goal
 

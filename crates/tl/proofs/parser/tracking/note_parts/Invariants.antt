@@ -1,6 +1,6 @@
 use Rattle.std.proofs.Common.{◌≡◌, ◌≤◌, ◌-◌, List, ℕ, ◌++◌, [], length, drop, is_some}
-use Rattle.tl_spec.specs.ClassMember.{parts}
-use Rattle.tl_spec.specs.Document.{Node}
+use Rattle.tl_spec.specs.Lookup.ClassMember.{parts}
+use Rattle.tl_spec.specs.Tree.Document.{Node}
 use Rattle.tl.specs.Tracked.{AnswerMembers}
 use Rattle.tl.proofs.parser.tracking.note_parts.Given as goal
 

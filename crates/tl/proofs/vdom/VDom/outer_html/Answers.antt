@@ -1,7 +1,7 @@
 use Rattle.std.proofs.Common.{◌++◌, [], List, ℕ, map, ap, ◌∙◌, rules}
 use Rattle.tl_spec.specs.Print.{print}
 use Rattle.tl_spec.specs.Walk.{prints_children, trees, walk}
-use Rattle.tl.specs.Shown.{node_view}
+use Rattle.tl.specs.View.{node_view}
 use Rattle.tl.proofs.Printing.{reads-printed}
 use Rattle.tl.proofs.vdom.VDom.outer_html.Goals as goal
 

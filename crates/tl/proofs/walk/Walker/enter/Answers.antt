@@ -1,6 +1,6 @@
 use Rattle.std.proofs.Common.{◌≡◌, ◌∷◌, [], ℕ, List, length, map, refl, ap, sym, subst, ◌∙◌}
 use Rattle.tl.specs.Marks.{AreFresh}
-use Rattle.tl.specs.Shown.{node_view}
+use Rattle.tl.specs.View.{node_view}
 use Rattle.tl.specs.Walker.{enters, path_from, path_of, events_to_come_below, remaining_below}
 use Rattle.tl.proofs.Marks.{kept_more}
 use Rattle.tl.proofs.Frames.{path-push, left-pushed}

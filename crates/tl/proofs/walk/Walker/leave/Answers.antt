@@ -1,6 +1,6 @@
 use Rattle.std.proofs.Common.{◌≡◌, ◌∷◌, [], ℕ, List, length, map, ap, sym, subst, ◌∙◌, arith}
 use Rattle.tl.specs.Marks.{AreFresh, IsKept}
-use Rattle.tl.specs.Shown.{node_view}
+use Rattle.tl.specs.View.{node_view}
 use Rattle.tl.specs.Walker.{enters, path_from, remaining_below}
 use Rattle.tl.proofs.Marks.{kept_less}
 use Rattle.tl.proofs.Frames.{path-push, left-popped, left-drained, empty_of_length}

@@ -2,9 +2,9 @@ use Rattle.tl_table.specs.declared.errors.TreeError.TheVariants.{OutOfMemory}
 use Rattle.std.proofs.Common.{rules, ◌≡◌, ◌∷◌, [], true, false, true≢false, Some, map, ap, subst, sym, ◌∙◌}
 use Rattle.std.specs.List.{slice_get}
 use Rattle.std.proofs.lemmas.Option.{slice_get_within}
-use Rattle.tl_spec.specs.Document.{Tag, Raw, Comment}
+use Rattle.tl_spec.specs.Tree.Document.{Tag, Raw, Comment}
 use Rattle.tl_spec.specs.Walk.{meets, stands_on}
-use Rattle.tl.specs.Shown.{node_view, tag_view}
+use Rattle.tl.specs.View.{node_view, tag_view}
 use Rattle.tl.specs.Walker.{enters, path_from, path_of, events_to_come, remaining, remaining_at}
 use Rattle.tl.specs.Remaining.{FailsAt, step}
 use Rattle.tl.specs.declared.walk.Entered.{Entered}

@@ -1,5 +1,5 @@
 use Rattle.std.proofs.Common.{map, ap}
-use Rattle.tl.specs.Shown.{node_view}
+use Rattle.tl.specs.View.{node_view}
 use Rattle.tl.specs.Walker.{enters}
 use Rattle.tl.proofs.Frames.{left-fresh}
 use Rattle.tl.proofs.Remaining.{fresh_place}

@@ -1,5 +1,5 @@
 use Rattle.std.proofs.Common.{[], inl, map, refl}
-use Rattle.tl.specs.Shown.{node_view}
+use Rattle.tl.specs.View.{node_view}
 use Rattle.tl.proofs.Remaining.{remaining-over}
 use Rattle.tl.proofs.walk.Walker.stop.Goals as goal
 

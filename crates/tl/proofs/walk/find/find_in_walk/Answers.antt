@@ -1,7 +1,7 @@
 use Rattle.std.proofs.Common.{List, false, inl, of_calls, refl, rules, subst, true, Ok, Some}
 use Rattle.std.specs.Fn.{CalledAt}
 use Rattle.tl.specs.Find.{FindsNodeOrStops, sights}
-use Rattle.tl.specs.Shown.{HTMLNode}
+use Rattle.tl.specs.View.{HTMLNode}
 use Rattle.tl.specs.Walker.{events_to_come}
 use Rattle.tl.proofs.Searching.{stopped, found, passed}
 use Rattle.tl.proofs.walk.find.find_in_walk.Goals as goal

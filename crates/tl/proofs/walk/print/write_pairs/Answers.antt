@@ -1,6 +1,6 @@
 use Rattle.std.proofs.Common.{◌++◌, map, ap, sym, ◌∙◌, string_bytes}
 use Rattle.tl_spec.specs.Print.{print_pairs}
-use Rattle.tl_attributes.specs.ShownAttributes.{pair_view}
+use Rattle.tl_attributes.specs.AttributesView.{pair_view}
 use Rattle.tl.proofs.Printing.{pairs-listed}
 use Rattle.tl.proofs.walk.print.write_pairs.Goals as goal
 

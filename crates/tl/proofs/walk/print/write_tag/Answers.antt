@@ -1,10 +1,10 @@
 use Rattle.std.proofs.Common.{◌≡◌, ◌++◌, [], ℕ, List, false, true, map, ap, sym, subst, ◌∙◌, string_bytes}
-use Rattle.tl_spec.specs.ByteClass.{is_printed_alone}
-use Rattle.tl_spec.specs.Clean.{HaveOwnKeys}
-use Rattle.tl_spec.specs.Document.{Node, Tag, TagNode}
+use Rattle.tl_spec.specs.Lex.ByteClass.{is_printed_alone}
+use Rattle.tl_spec.specs.Print.Clean.{HaveOwnKeys}
+use Rattle.tl_spec.specs.Tree.Document.{Node, Tag, TagNode}
 use Rattle.tl_spec.specs.Print.{print, print_start, print_end}
 use Rattle.tl_spec.specs.Walk.{first_fault, plain_node, prints_children, trees, walk, walk_of}
-use Rattle.tl.specs.Shown.{node_view, tag_view}
+use Rattle.tl.specs.View.{node_view, tag_view}
 use Rattle.tl.proofs.Printing.{fault-entered, own-entered, own-passed, print-entered, three}
 use Rattle.tl.proofs.walk.print.write_tag.Goals as goal
 

@@ -1,6 +1,6 @@
 use Rattle.std.proofs.Common.{◌≡◌, ℕ, ◌++◌, length, flat_map, string_bytes}
 use Rattle.std.specs.List.{AllByRecursion}
-use Rattle.tl_spec.specs.Clean.{MeetsOwnKeys}
+use Rattle.tl_spec.specs.Print.Clean.{MeetsOwnKeys}
 use Rattle.tl_spec.specs.Print.{print_of_event}
 use Rattle.tl_spec.specs.Walk.{fault_among}
 use Rattle.tl_table.specs.TreeFault.{FirstDangles}

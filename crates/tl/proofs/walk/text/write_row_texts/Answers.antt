@@ -1,10 +1,9 @@
 use Rattle.std.proofs.Common.{List, [], map, string_bytes, subst, sym}
-use Rattle.tl_spec.specs.Text.{text_of}
+use Rattle.tl_spec.specs.Print.Text.{text_of}
 use Rattle.tl_spec.specs.Walk.{all_tags, first_fault, trees, walk}
 use Rattle.tl.specs.Preorder.{IsInPreorder}
-use Rattle.tl.specs.Shown.{HTMLNode, node_view}
-use Rattle.tl.specs.Walker.{events_to_come}
-use Rattle.tl.specs.Writing.{Writes}
+use Rattle.tl.specs.View.{HTMLNode, node_view}
+use Rattle.tl.specs.Walker.{events_to_come, Writes}
 use Rattle.tl.proofs.Printing.{writes-texts}
 use Rattle.tl.proofs.walk.text.write_row_texts.Goals as goal
 

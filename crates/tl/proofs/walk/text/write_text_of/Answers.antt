@@ -1,5 +1,5 @@
 use Rattle.std.proofs.Common.{ap, ◌∙◌, map, string_bytes}
-use Rattle.tl.specs.Shown.{node_view, tag_view}
+use Rattle.tl.specs.View.{node_view, tag_view}
 use Rattle.tl.proofs.Printing.{writes-below}
 use Rattle.tl.proofs.walk.text.write_text_of.Goals as goal
 

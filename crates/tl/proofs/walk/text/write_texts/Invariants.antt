@@ -1,5 +1,5 @@
 use Rattle.std.proofs.Common.{◌≡◌, ℕ, ◌++◌, length, flat_map, string_bytes}
-use Rattle.tl_spec.specs.Text.{event_text}
+use Rattle.tl_spec.specs.Print.Text.{event_text}
 use Rattle.tl_spec.specs.Walk.{fault_among}
 use Rattle.tl_table.specs.TreeFault.{FirstDangles}
 use Rattle.tl.specs.Walker.{events_to_come, IsMarked}

@@ -1,6 +1,6 @@
 use Rattle.std.proofs.Common.{◌≡◌, ◌++◌, flat_map, map, take, string_bytes}
-use Rattle.tl.specs.Shown.{node_view}
-use Rattle.tl.specs.Writing.{own_text}
+use Rattle.tl.specs.View.{node_view}
+use Rattle.tl.specs.Walker.{own_text}
 use Rattle.tl.proofs.walk.text.write_texts_among.Given as goal
 
 abbrev pub invariant-loop-node : goal.invariant-loop-node

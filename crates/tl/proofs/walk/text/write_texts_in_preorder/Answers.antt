@@ -1,10 +1,10 @@
 use Rattle.std.proofs.Common.{◌≡◌, ◌+◌, ◌++◌, [], ◌∷◌, None, Err, drop, map, slice_get, string_bytes, ap, sym, subst, ◌∙◌}
 use Rattle.std.proofs.lemmas.Result.{err_from_is_err_and}
-use Rattle.tl_spec.specs.Text.{text_of}
+use Rattle.tl_spec.specs.Print.Text.{text_of}
 use Rattle.tl_spec.specs.Walk.{all_tags, first_fault, trees, walk}
 use Rattle.tl_table.specs.TreeFault.{IsRefusal}
 use Rattle.tl_table.specs.declared.errors.TreeError.TheVariants.{Dangling}
-use Rattle.tl.specs.Shown.{node_view}
+use Rattle.tl.specs.View.{node_view}
 use Rattle.tl.proofs.Preorder.{dangles, fault-next, first-handle, next-handle, no_range, refused, texts-next}
 use Rattle.tl.proofs.walk.text.write_texts_in_preorder.Goals as goal
 use Rattle.tl.proofs.walk.text.write_texts_in_preorder.Goals.{After-range}

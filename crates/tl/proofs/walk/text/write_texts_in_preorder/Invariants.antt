@@ -1,8 +1,8 @@
 use Rattle.std.proofs.Common.{◌≡◌, ℕ, ◌++◌, [], drop, map, string_bytes}
-use Rattle.tl_spec.specs.Text.{text_of}
+use Rattle.tl_spec.specs.Print.Text.{text_of}
 use Rattle.tl_spec.specs.Walk.{all_tags, first_fault, trees, walk}
 use Rattle.tl_table.specs.TreeFault.{FirstDangles}
-use Rattle.tl.specs.Shown.{node_view}
+use Rattle.tl.specs.View.{node_view}
 use Rattle.tl.proofs.walk.text.write_texts_in_preorder.Given as goal
 
 abbrev pub invariant-loop-handle : goal.invariant-loop-handle

@@ -4,8 +4,8 @@ use Rattle.std.specs.List.{All}
 use Rattle.std.specs.Prelude.{Option, None, Some, IfSome}
 use Rattle.std.proofs.lemmas.List.Elements.{All-map}
 use Rattle.tl_bytes.specs.Held.{Kept, borrowed}
-use Rattle.tl_spec.specs.Inline.{InlineMap}
-use Rattle.tl_spec.specs.AttributeList.{Attributes as AttributesOf}
+use Rattle.tl_spec.specs.Tree.Inline.{InlineMap}
+use Rattle.tl_spec.specs.Lex.AttributeList.{Attributes as AttributesOf}
 use Rattle.tl_attributes.specs.HeldAttributes.{IsHeld, IsHeldPair}
 use Rattle.tl_attributes.proofs.attributes.Attributes.clone.Goals as goal
 

@@ -42,7 +42,7 @@ use prog.Wp.{WpFn}
 use types.ByLocal.{alloc_all, pass_all, free_all, look_at, get, through, sets, lands_as}
 use types.Kit.{‵, raw, ◌⊛◌, some, later, ◌$◌, ◌∵◌, !, qed, by, move, keep, drop, use0, use1, split, join, fsplit, fjoin, pick, await, rewrite}
 use types.Run.{enter, addr, stop, of_opd, no_more, and_then, returns}
-use Rattle.tl_spec.specs.AttributeEdit.{value_at, with_value_at}
+use Rattle.tl_spec.specs.Edit.Attribute.{value_at, with_value_at}
 use Rattle.tl_attributes.specs.Attributes.{nest}
 use Rattle.tl_attributes.specs.AttributesLends.{LendsValueAtOk, PieceMembers}
 use Rattle.tl_attributes.specs.contracts.attributes.AttributesOf.{the_row as attributes_row}

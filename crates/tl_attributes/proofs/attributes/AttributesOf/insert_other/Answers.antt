@@ -1,5 +1,5 @@
 use Rattle.std.proofs.Common.{◌∙◌}
-use Rattle.tl_spec.specs.AttributeList.{IsOther}
+use Rattle.tl_spec.specs.Lex.AttributeList.{IsOther}
 use Rattle.tl_attributes.proofs.Others.{all_after}
 use Rattle.tl_attributes.proofs.attributes.AttributesOf.insert_other.Goals as goal
 

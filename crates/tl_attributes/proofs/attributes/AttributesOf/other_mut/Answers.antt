@@ -1,7 +1,7 @@
 use borrow.Follows.Closed.{read_of}
 use Rattle.std.proofs.Common.{◌∙◌, ap, Some}
 use Rattle.std.specs.Option.{ghost_name_of, option_flatten}
-use Rattle.tl_spec.specs.Inline.{with_value}
+use Rattle.tl_spec.specs.Tree.Inline.{with_value}
 use Rattle.tl_attributes.proofs.Others.{put_back}
 use Rattle.tl_attributes.proofs.attributes.AttributesOf.other_mut.Goals as goal
 

@@ -1,4 +1,4 @@
-use Rattle.tl_spec.specs.AttributeList.{IsOther}
+use Rattle.tl_spec.specs.Lex.AttributeList.{IsOther}
 use Rattle.tl_spec.proofs.Pairs.{all-swap_remove_entry}
 use Rattle.tl_attributes.proofs.attributes.AttributesOf.remove_other.Goals as goal
 

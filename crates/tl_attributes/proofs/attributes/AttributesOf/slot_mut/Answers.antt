@@ -1,5 +1,5 @@
 use Rattle.std.proofs.Common.{refl}
-use Rattle.tl_spec.specs.AttributeList.{IsOther}
+use Rattle.tl_spec.specs.Lex.AttributeList.{IsOther}
 use Rattle.tl_spec.proofs.Pairs.{all-set_value}
 use Rattle.tl_attributes.proofs.attributes.AttributesOf.slot_mut.Goals as goal
 

@@ -1,7 +1,7 @@
 use borrow.Follows.Closed.{read_of}
 use Rattle.std.proofs.Common.{◌≡◌, ◌∙◌, true, false, rules}
 use Rattle.std.specs.Option.{ghost_name_of}
-use Rattle.tl_spec.specs.AttributeList.{is_id, is_class}
+use Rattle.tl_spec.specs.Lex.AttributeList.{is_id, is_class}
 use Rattle.tl_attributes.proofs.Others.{at_id, at_class, value_at_id, value_at_class}
 use Rattle.tl_attributes.proofs.attributes.AttributesOf.value_mut.Goals as goal
 

@@ -1,5 +1,5 @@
 use Rattle.std.proofs.Common.{refl}
-use Rattle.tl_spec.specs.AttributeEdit.{value_at}
+use Rattle.tl_spec.specs.Edit.Attribute.{value_at}
 use Rattle.tl_attributes.proofs.Others.{lent_found}
 use Rattle.tl_attributes.proofs.attributes.AttributesOf.value_or_presence_mut.Goals as goal
 

@@ -1,4 +1,4 @@
-use Rattle.tl_attributes.specs.Outline.{mark_of}
+use Rattle.tl_attributes.specs.Summary.{mark_of}
 use Rattle.tl_attributes.proofs.Bits.{all_set}
 use Rattle.tl_attributes.proofs.outline.OutlineOutlineOfAttributes.unknown.Goals as goal
 

@@ -1,5 +1,5 @@
 use Rattle.std.proofs.Common.{◌≡◌, length, codes}
-use Rattle.tl_spec.specs.Runs.{after_needle}
+use Rattle.tl_spec.specs.Lex.Runs.{after_needle}
 use Rattle.tl_css.proofs.text.gap.after_end.Given as goal
 
 abbrev pub invariant-bytes : goal.invariant-bytes

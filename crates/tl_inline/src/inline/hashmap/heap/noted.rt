@@ -42,7 +42,7 @@ impl<K: Eq + Hash, V> Model for NotedPairs<K, V> {
 }
 
 impl<K: Eq + Hash, V> NotedPairs<K, V> {
-    ghost use Rattle.tl_inline.specs.NotedPairsLends.{lends_index};
+    ghost use Rattle.tl_inline.specs.PairTableLends.{lends_index};
 
     pub(super) fn len(&self) -> usize
         ensures len { result ≡ length self.now }

@@ -1,7 +1,7 @@
 use Rattle.std.proofs.Common.{◌≡◌, ℕ, List, Err, rules, ap, string_bytes, sym, ◌∙◌, subst}
-use Rattle.tl_spec.specs.Document.{Document}
-use Rattle.tl_spec.specs.Text.{document_text}
-use Rattle.tl.specs.Shown.{document_of}
+use Rattle.tl_spec.specs.Tree.Document.{Document}
+use Rattle.tl_spec.specs.Print.Text.{document_text}
+use Rattle.tl.specs.View.{document_of}
 use Rattle.tl_page.specs.Failure.{failure_of_tree}
 use Rattle.tl_page.specs.Outcome.{Fails, Gives, Outcome, outcome_of}
 use Rattle.tl_page.proofs.Outcomes.{fails-outcome}

@@ -1,6 +1,6 @@
 use Rattle.std.proofs.Common.{Option, option_map, sym, ap, ◌∙◌, subst}
 use Rattle.std.specs.Option.{option_and_then}
-use Rattle.tl_spec.specs.Selector.{Selector}
+use Rattle.tl_spec.specs.Select.Selector.{Selector}
 use Rattle.tl_program.specs.Asked.{Asked, asked_of}
 use Rattle.tl_program.specs.Output.{printed_document}
 use Rattle.tl_program.specs.Run.{IsRun}

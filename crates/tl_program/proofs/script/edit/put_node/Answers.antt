@@ -1,6 +1,6 @@
 use Rattle.std.proofs.Common.{true, Result, Ok, refl, sym, ap, subst}
 use Rattle.tl_spec.specs.Edit.{Refusal}
-use Rattle.tl.specs.Shown.{HTMLNode}
+use Rattle.tl.specs.View.{HTMLNode}
 use Rattle.tl_program.specs.declared.script.step.StepError.{StepError}
 use Rattle.tl_program.proofs.Stepping.{node-stepped, kept_for_memory}
 use Rattle.tl_program.proofs.script.edit.put_node.Goals as goal

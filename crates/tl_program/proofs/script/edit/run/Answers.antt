@@ -1,4 +1,4 @@
-use Rattle.tl.specs.Shown.{HTMLTable}
+use Rattle.tl.specs.View.{HTMLTable}
 use Rattle.std.proofs.Common.{map, take, ap, ◌∙◌}
 use Rattle.tl_program.specs.Steps.{change_of}
 use Rattle.tl_program.proofs.Tables.{image-table_after, table_after-version}

@@ -1,8 +1,8 @@
 use Rattle.std.proofs.Common.{rules, true, false, Result, Ok, Some, None}
 use Rattle.tl_bytes.specs.Held.{as_owned}
 use Rattle.tl_spec.specs.Edit.{Refusal, without_handle, map_ok}
-use Rattle.tl_spec.specs.Inline.{room, with_last}
-use Rattle.tl.specs.Shown.{HTMLTag}
+use Rattle.tl_spec.specs.Tree.Inline.{room, with_last}
+use Rattle.tl.specs.View.{HTMLTag}
 use Rattle.tl.specs.declared.parser.tag.node.NodeOf.TheVariants.{Raw, Comment}
 use Rattle.tl_program.specs.TableEdit.{with_attribute, without_attribute, without_value}
 use Rattle.tl_program.proofs.script.edit.take_step.Goals as goal

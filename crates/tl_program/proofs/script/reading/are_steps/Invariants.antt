@@ -1,6 +1,6 @@
 use Rattle.std.proofs.Common.{◌≡◌, ◌+◌, is_some, length}
 use Rattle.std.specs.Option.{option_map_or}
-use Rattle.tl_spec.specs.StepLine.{parse_changes, changes_of_lines}
+use Rattle.tl_spec.specs.Edit.StepLine.{parse_changes, changes_of_lines}
 use Rattle.tl_program.specs.Steps.{lines_left}
 use Rattle.tl_program.proofs.script.reading.are_steps.Given as goal
 

@@ -1,6 +1,6 @@
 use Rattle.std.proofs.Common.{◌≡◌, ◌+◌, length, map}
 use Rattle.std.specs.Option.{option_map_or}
-use Rattle.tl_spec.specs.StepLine.{parse_changes, changes_of_lines}
+use Rattle.tl_spec.specs.Edit.StepLine.{parse_changes, changes_of_lines}
 use Rattle.tl_program.specs.Steps.{change_of, lines_left}
 use Rattle.tl_program.proofs.Lines.{after_changes}
 use Rattle.tl_program.proofs.script.reading.listed.Given as goal

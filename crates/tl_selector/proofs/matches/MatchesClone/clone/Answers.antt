@@ -1,5 +1,5 @@
 use Rattle.std.proofs.Common.{◌≡◌, ◌-◌, ◌∙◌, [], map, subst, sym, arith, rules}
-use Rattle.tl_selector.specs.Found.{is_found, IsFirst}
+use Rattle.tl_selector.specs.NodeTest.{is_found, IsFirst}
 use Rattle.tl_selector.specs.declared.matches.node_test.Test.TheVariants.{Alone}
 use Rattle.tl_selector.specs.declared.selector.Selector.TheBlock.{All}
 use Rattle.tl_selector.proofs.Numbers.{numbers_alike, numbers_from_first, numbers_none, numbers_some}

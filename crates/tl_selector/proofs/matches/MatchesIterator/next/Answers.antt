@@ -1,5 +1,5 @@
 use Rattle.std.proofs.Common.{◌∙◌, map, subst, sym, arith, rules}
-use Rattle.tl_selector.specs.Found.{is_found, IsFirst}
+use Rattle.tl_selector.specs.NodeTest.{is_found, IsFirst}
 use Rattle.tl_selector.proofs.Numbers.{numbers_first, numbers_none}
 use Rattle.tl_selector.proofs.matches.MatchesIterator.next.Goals as goal
 

@@ -1,8 +1,8 @@
 use Rattle.std.proofs.Common.{◌≡◌, true, false, None, Some, map, subst, arith, rules, tests}
 use Rattle.std.proofs.lemmas.Iterator.{first_from_Range}
-use Rattle.tl_spec.specs.Scan.{IsFirstPlace}
-use Rattle.tl_spec.specs.SelectorSearch.{holds_alone}
-use Rattle.tl_selector.specs.Marks.{is_at}
+use Rattle.tl_spec.specs.Lookup.Scan.{IsFirstPlace}
+use Rattle.tl_spec.specs.Select.Search.{holds_alone}
+use Rattle.tl_selector.specs.NodeSet.{is_at}
 use Rattle.tl_selector.specs.View.{selector}
 use Rattle.tl_selector.proofs.Parts.{first_of_part, none_of_part}
 use Rattle.tl_selector.proofs.matches.node_test.first_found.Goals as goal

@@ -1,5 +1,5 @@
 use Rattle.std.proofs.Common.{◌≡◌, ◌∙◌, sym, map, false}
-use Rattle.tl_spec.specs.SelectorMeaning.{has_combinator}
+use Rattle.tl_spec.specs.Select.Meaning.{has_combinator}
 use Rattle.tl_selector.specs.View.{selector}
 use Rattle.tl_selector.proofs.Marked.{without_tells}
 use Rattle.tl_selector.proofs.matches.node_test.test_of.Goals as goal

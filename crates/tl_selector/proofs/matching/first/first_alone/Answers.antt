@@ -1,8 +1,8 @@
 use Rattle.std.proofs.Common.{◌≡◌, ◌∙◌, ◌<◌, ◌-◌, ◌+◌, ◌&&◌, true, false, None, Some, length, map, option_map, slice_get, refl, sym, ap, arith}
 use Rattle.std.proofs.lemmas.Option.{slice_get-map, slice_get_read}
-use Rattle.tl_spec.specs.Document.{Node}
-use Rattle.tl_spec.specs.SelectorSearch.{holds_alone}
-use Rattle.tl_selector.specs.Sides.{others_hold}
+use Rattle.tl_spec.specs.Tree.Document.{Node}
+use Rattle.tl_spec.specs.Select.Search.{holds_alone}
+use Rattle.tl_selector.specs.Spine.{others_hold}
 use Rattle.tl_selector.specs.View.{selector}
 use Rattle.tl_selector.proofs.Chains.{first_by_parts}
 use Rattle.tl_selector.proofs.Parts.{none_of_both, none_past, first_of_both, later_of_both}

@@ -1,7 +1,7 @@
 use Rattle.std.proofs.Common.{◌-◌, ◌≤◌, ◌&&◌, ℕ, length, map}
-use Rattle.tl_spec.specs.Scan.{PassesAt}
-use Rattle.tl_spec.specs.SelectorSearch.{holds_alone}
-use Rattle.tl_selector.specs.Sides.{others_hold}
+use Rattle.tl_spec.specs.Lookup.Scan.{PassesAt}
+use Rattle.tl_spec.specs.Select.Search.{holds_alone}
+use Rattle.tl_selector.specs.Spine.{others_hold}
 use Rattle.tl_selector.specs.View.{selector}
 use Rattle.tl_selector.proofs.matching.first.first_alone.Given as goal
 

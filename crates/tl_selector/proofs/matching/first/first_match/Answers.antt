@@ -2,7 +2,7 @@ use Rattle.std.proofs.Common.{◌∙◌, rules, tests}
 use Rattle.std.proofs.lemmas.Iterator.{YieldsList-from_slice}
 use Rattle.std.proofs.lemmas.Iterator.Adapters.{position_from-zero}
 use Rattle.std.proofs.lemmas.Iterator.Search.{position_from_yields_List}
-use Rattle.tl_spec.specs.SelectorSearch.{holds_alone}
+use Rattle.tl_spec.specs.Select.Search.{holds_alone}
 use Rattle.tl_selector.specs.View.{selector}
 use Rattle.tl_table.proofs.Places.{position-of_image}
 use Rattle.tl_selector.proofs.matching.first.first_match.Goals as goal

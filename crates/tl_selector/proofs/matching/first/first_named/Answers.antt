@@ -2,9 +2,9 @@ use Rattle.std.proofs.Common.{◌∙◌, Bool, rules, tests}
 use Rattle.std.proofs.lemmas.Iterator.{YieldsList-from_slice}
 use Rattle.std.proofs.lemmas.Iterator.Adapters.{position_from-zero}
 use Rattle.std.proofs.lemmas.Iterator.Search.{position_from_yields_List}
-use Rattle.tl_spec.specs.Document.{Node}
-use Rattle.tl_spec.specs.Element.{name_of}
-use Rattle.tl_spec.specs.Scan.{is_value}
+use Rattle.tl_spec.specs.Tree.Document.{Node}
+use Rattle.tl_spec.specs.Tree.Element.{name_of}
+use Rattle.tl_spec.specs.Lookup.Scan.{is_value}
 use Rattle.tl_table.proofs.Places.{position-of_image}
 use Rattle.tl_selector.proofs.matching.first.first_named.Goals as goal
 

@@ -1,5 +1,5 @@
 use Rattle.std.proofs.Common.{◌≡◌}
-use Rattle.tl_selector.specs.Sides.{first_simple}
+use Rattle.tl_selector.specs.Spine.{first_simple}
 use Rattle.tl_selector.specs.View.{selector}
 use Rattle.tl_selector.proofs.matching.first.first_simple.Given as goal
 

@@ -1,5 +1,5 @@
 use Rattle.std.proofs.Common.{◌≡◌}
-use Rattle.tl_selector.specs.Sides.{others_hold}
+use Rattle.tl_selector.specs.Spine.{others_hold}
 use Rattle.tl_selector.specs.View.{selector}
 use Rattle.tl_selector.proofs.matching.first.others_hold.Given as goal
 

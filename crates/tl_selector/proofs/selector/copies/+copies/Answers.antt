@@ -1,6 +1,6 @@
 use Rattle.std.proofs.Common.{◌≡◌, ◌≤◌, ◌++◌, ◌∷◌, [], List, Bor, Some, subst, sym, ap, ◌∙◌}
 use Rattle.std.proofs.lemmas.List.Elements.{All-pop}
-use Rattle.tl_selector.specs.Sides.{nested_in, selectors}
+use Rattle.tl_selector.specs.Spine.{nested_in, selectors}
 use Rattle.tl_selector.specs.View.{selector}
 use Rattle.tl_selector.specs.declared.selector.Selector.{size-Selector}
 use Rattle.tl_selector.specs.declared.selector.Selector as declared

@@ -1,5 +1,5 @@
 use Rattle.std.proofs.Common.{◌≡◌, ◌≤◌}
-use Rattle.tl_spec.specs.SelectorMeaning.{has_combinator}
+use Rattle.tl_spec.specs.Select.Meaning.{has_combinator}
 use Rattle.tl_selector.specs.View.{selector}
 use Rattle.tl_selector.specs.declared.selector.Selector.{size-Selector}
 use Rattle.tl_selector.proofs.selector.sides.+has_combinator.Given as goal

@@ -1,7 +1,7 @@
 use Rattle.std.proofs.Common.{◌≡◌, length, option_map, None}
 use Rattle.tl_selector.specs.View.{selector}
-use Rattle.tl_spec.specs.SelectorReading.{nest}
-use Rattle.tl_spec.specs.SelectorReading.{parts_at, next_at, End, Bad}
+use Rattle.tl_spec.specs.Select.Reading.{nest}
+use Rattle.tl_spec.specs.Select.Reading.{parts_at, next_at, End, Bad}
 use Rattle.tl_selector.proofs.text.chain.parse_rest.Given as goal
 
 abbrev pub invariant-parts : goal.invariant-parts

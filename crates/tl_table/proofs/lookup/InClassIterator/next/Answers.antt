@@ -1,6 +1,6 @@
 use Rattle.std.proofs.Common.{◌≡◌, [], map, refl, subst, sym, ◌∙◌, rules}
 use Rattle.std.specs.List.{position_from}
-use Rattle.tl_spec.specs.Scan.{is_in_class}
+use Rattle.tl_spec.specs.Lookup.Scan.{is_in_class}
 use Rattle.tl_table.proofs.Places.{places-none, places-next}
 use Rattle.tl_table.proofs.lookup.InClassIterator.next.Goals as goal
 

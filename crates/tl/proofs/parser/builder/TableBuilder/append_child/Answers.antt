@@ -1,6 +1,6 @@
 use Rattle.std.proofs.Common.{refl, sym}
 use Rattle.tl_spec.proofs.Writes.{adopted-written}
-use Rattle.tl.specs.Shown.{node_view}
+use Rattle.tl.specs.View.{node_view}
 use Rattle.tl.specs.Builder.{state_of}
 use Rattle.tl.proofs.Building.{held_written, innermost_within}
 use Rattle.tl.proofs.parser.builder.TableBuilder.append_child.Goals as goal

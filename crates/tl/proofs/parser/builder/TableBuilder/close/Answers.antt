@@ -1,6 +1,6 @@
 use Rattle.std.proofs.Common.{refl, sym, ap, ◌∙◌, ◌≡◌, ◌++◌, ◌∷◌, [], reverse, length-set, ℕ}
 use Rattle.tl_spec.proofs.Writes.{closed-written, reverse-last}
-use Rattle.tl.specs.Shown.{node_view}
+use Rattle.tl.specs.View.{node_view}
 use Rattle.tl.specs.Builder.{state_of}
 use Rattle.tl.proofs.Building.{held_written, last_within, others_open}
 use Rattle.tl.proofs.parser.builder.TableBuilder.close.Goals as goal

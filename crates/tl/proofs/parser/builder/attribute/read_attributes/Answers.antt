@@ -1,9 +1,9 @@
 use Rattle.std.proofs.Common.{◌≡◌, ℕ, ◌≤◌, List, Option, Some, length, drop, sym, subst, arith}
-use Rattle.tl_spec.specs.Attribute.{Pair, next_attribute}
-use Rattle.tl_spec.specs.AttributeList.{no_attributes, with_pair}
+use Rattle.tl_spec.specs.Lex.Attribute.{Pair, next_attribute}
+use Rattle.tl_spec.specs.Lex.AttributeList.{no_attributes, with_pair}
 use Rattle.tl_lexer.specs.Span.{pair_at}
 use Rattle.tl_lexer.proofs.Tags.{ArePut, put-none, put-more}
-use Rattle.tl_attributes.specs.ShownAttributes.{plain}
+use Rattle.tl_attributes.specs.AttributesView.{plain}
 use Rattle.tl.proofs.parser.builder.attribute.read_attributes.Goals as goal
 
 pub loop-place-init : goal.loop-place-init

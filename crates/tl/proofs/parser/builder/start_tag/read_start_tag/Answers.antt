@@ -1,12 +1,12 @@
 use Rattle.std.proofs.Common.{◌≡◌, ℕ, ◌-◌, List, [], take, drop, subst, ap, ◌∙◌}
-use Rattle.tl_spec.specs.Attribute.{Pair}
-use Rattle.tl_spec.specs.Token.{Token, token_after_attributes}
-use Rattle.tl_spec.specs.Document.{Handles, held_items}
+use Rattle.tl_spec.specs.Lex.Attribute.{Pair}
+use Rattle.tl_spec.specs.Lex.Token.{Token, token_after_attributes}
+use Rattle.tl_spec.specs.Tree.Document.{Handles, held_items}
 use Rattle.tl_bytes.specs.Held.{Kept}
 use Rattle.tl_lexer.specs.Span.{bytes_at}
-use Rattle.tl_lexer.specs.Lexed.{ended}
-use Rattle.tl_attributes.specs.ShownAttributes.{attributes_view}
-use Rattle.tl.specs.Shown.{HTMLTag, tag_view}
+use Rattle.tl_lexer.specs.TokenMeaning.{ended}
+use Rattle.tl_attributes.specs.AttributesView.{attributes_view}
+use Rattle.tl.specs.View.{HTMLTag, tag_view}
 use Rattle.tl.proofs.StartTags.{tag-made, tag-ends}
 use Rattle.tl.proofs.parser.builder.start_tag.read_start_tag.Goals as goal
 

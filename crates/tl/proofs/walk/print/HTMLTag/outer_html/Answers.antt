@@ -1,10 +1,10 @@
 use Rattle.std.proofs.Common.{◌++◌, List, ℕ, map, ap, ◌∙◌, rules, string_bytes, subst}
-use Rattle.tl_spec.specs.Clean.{IsCleanNode}
-use Rattle.tl_spec.specs.Document.{Tag}
-use Rattle.tl_spec.specs.Normal.{ReadsAs}
+use Rattle.tl_spec.specs.Print.Clean.{IsCleanNode}
+use Rattle.tl_spec.specs.Tree.Document.{Tag}
+use Rattle.tl_spec.specs.Print.Normal.{ReadsAs}
 use Rattle.tl_spec.specs.Print.{print}
 use Rattle.tl_spec.specs.Walk.{all_tags, prints_children, trees, walk_of}
-use Rattle.tl.specs.Shown.{node_view, tag_view}
+use Rattle.tl.specs.View.{node_view, tag_view}
 use Rattle.tl.proofs.Printing.{reads-node}
 use Rattle.tl.proofs.walk.print.HTMLTag.outer_html.Goals as goal
 

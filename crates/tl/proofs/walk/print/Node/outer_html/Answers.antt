@@ -1,7 +1,7 @@
 use Rattle.std.proofs.Common.{map, ap, sym, ◌∙◌, Ok, append-nil, rules}
 use Rattle.std.specs.Str.Lossy.{utf8_lossy}
-use Rattle.tl_spec.specs.Document.{Raw, Comment}
-use Rattle.tl.specs.Shown.{node_view}
+use Rattle.tl_spec.specs.Tree.Document.{Raw, Comment}
+use Rattle.tl.specs.View.{node_view}
 use Rattle.tl.proofs.Printing.{reads-leaf}
 use Rattle.tl.proofs.walk.print.Node.outer_html.Goals as goal
 

@@ -1,0 +1,3 @@
+-- Tags by their id and their class.
+pub mod ClassMember
+pub mod Scan
