@@ -4,7 +4,7 @@ use Rattle.std.specs.Prelude.{All, slice_get, ◌-◌}
 use Rattle.std.proofs.lemmas.List.Elements.{All-set, All-push, All-pop}
 use Rattle.std.proofs.lemmas.Option.{get_or_from_slice_get, slice_get_within}
 use Rattle.tl_bytes.specs.Held.{Held}
-use Rattle.tl_spec.proofs.Writes.{slice_get-last}
+use Rattle.tl_spec.proofs.Tree.Writes.{slice_get-last}
 use Rattle.tl.specs.View.{HTMLNode, IsHeldNode}
 
 -- a node that was written keeps how its pieces are held

@@ -3,8 +3,8 @@ use Rattle.std.proofs.Common.{◌≡◌, ℕ, ◌-◌, ◌≤◌, List, length, 
 use Rattle.tl_spec.specs.Lex.Token.{next_token}
 use Rattle.tl_spec.specs.Tree.Document.{document}
 use Rattle.tl_spec.specs.Tree.Builder.{State, step, IsReached}
-use Rattle.tl_spec.proofs.Reached.{IsTokenAt-found, IsReached-next, IsReached-end}
-use Rattle.tl_spec.proofs.Stand.{none-end, place}
+use Rattle.tl_spec.proofs.Tree.Reached.{IsTokenAt-found, IsReached-next, IsReached-end}
+use Rattle.tl_spec.proofs.Lex.Stand.{none-end, place}
 use Rattle.tl_lexer.specs.TokenMeaning.{meant}
 use Rattle.tl_lexer.specs.declared.token.Token.{Token}
 use Rattle.tl.specs.Builder.{placed_token, document_of_state}

@@ -4,7 +4,7 @@ use Rattle.std.specs.List.{slice_get}
 use Rattle.std.proofs.lemmas.Option.{slice_get-map}
 use Rattle.tl_spec.specs.Tree.Document.{Node, Tag, Raw, Comment, TagNode}
 use Rattle.tl_spec.specs.Walk.{Event, meets, leaves, faulty, Dangling, Cycle, stands_on, walk, events}
-use Rattle.tl_spec.proofs.Events.{events-nil, events-dangling, events-cycle, events-text, events-comment, events-tag, events-passed}
+use Rattle.tl_spec.proofs.Walk.Events.{events-nil, events-dangling, events-cycle, events-text, events-comment, events-tag, events-passed}
 use Rattle.tl.specs.declared.walk.Frame.{Frame}
 use Rattle.tl.specs.View.{HTMLNode, node_view, tag_view}
 use Rattle.tl.specs.Walker.{path_from, after_frames_from, after_frames, events_to_come_below}

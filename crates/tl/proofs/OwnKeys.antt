@@ -5,7 +5,7 @@ use Rattle.std.specs.List.{IsDistinct}
 use Rattle.std.specs.Map.{keys_of}
 use Rattle.std.specs.Str.{bytes_eq}
 use Rattle.tl_spec.specs.Lex.AttributeList.{AreOthers, Attributes, HasOwnKeys}
-use Rattle.tl_spec.proofs.Images.{distinct-image, others-image}
+use Rattle.tl_spec.proofs.Print.Images.{distinct-image, others-image}
 use Rattle.tl_bytes.specs.Held.{Kept}
 use Rattle.tl_attributes.specs.AttributesView.{plain, bytes_view, value_view}
 

@@ -13,8 +13,8 @@ use Rattle.tl_spec.specs.Walk.Range.{end_below, range_between, range_from, with_
 use Rattle.tl_spec.specs.Print.Text.{text_of}
 use Rattle.tl_spec.specs.Lex.Token.{tokens}
 use Rattle.tl_spec.specs.Walk.{TreeFault, Cycle, Dangling, all_tags, first_fault, handle_walk, earlier_fault, trees, walk}
-use Rattle.tl_spec.proofs.Rising.{walk-one}
-use Rattle.tl_spec.proofs.Walks.{walk-nil}
+use Rattle.tl_spec.proofs.Walk.Rising.{walk-one}
+use Rattle.tl_spec.proofs.Walk.Walks.{walk-nil}
 use Rattle.tl_table.specs.TreeFault.{IsRefusal}
 use Rattle.tl_table.specs.Way.{Rises}
 use Rattle.tl_table.specs.declared.errors.TreeError.{TreeError}

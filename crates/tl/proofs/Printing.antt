@@ -8,10 +8,10 @@ use Rattle.tl_spec.specs.Print.Normal.{ReadsAs}
 use Rattle.tl_spec.specs.Print.{outer_html, print, print_start, print_end, print_of_event}
 use Rattle.tl_spec.specs.Print.Text.{text_of, event_text}
 use Rattle.tl_spec.specs.Walk.{Event, TreeFault, Walk, events, all_tags, fault_among, first_fault, earlier_fault, plain_node, prints_children, trees, fault_or, walk, walk_of}
-use Rattle.tl_spec.proofs.Events.{first_fault-events, print-walk, text_of-events, walk_of-passed, walk_of-tag}
-use Rattle.tl_spec.proofs.Images.{image-pairs_in_order}
+use Rattle.tl_spec.proofs.Walk.Events.{first_fault-events, print-walk, text_of-events, walk_of-passed, walk_of-tag}
+use Rattle.tl_spec.proofs.Print.Images.{image-pairs_in_order}
 use Rattle.tl_spec.specs.Lex.Attribute.{Pair}
-use Rattle.tl_spec.proofs.Walks.{node_identity, table_identity}
+use Rattle.tl_spec.proofs.Walk.Walks.{node_identity, table_identity}
 use Rattle.tl_bytes.specs.Held.{Kept}
 use Rattle.tl_table.specs.declared.errors.TreeError.{TreeError}
 use Rattle.tl_attributes.specs.Listing.{as_borrowed, listed}

@@ -10,8 +10,8 @@ use Rattle.tl_spec.specs.Select.Meaning.{AreMatches}
 use Rattle.tl_spec.specs.Select.Reading.{selector_at}
 use Rattle.tl_spec.specs.Select.Search.{matches_between, node_numbers}
 use Rattle.tl_spec.specs.Select.Text.{IsSelectorText}
-use Rattle.tl_spec.proofs.SelectorSearch.{matches-only}
-use Rattle.tl_spec.proofs.SelectorText.{text-only, text-none}
+use Rattle.tl_spec.proofs.Select.Search.{matches-only}
+use Rattle.tl_spec.proofs.Select.Text.{text-only, text-none}
 use Rattle.tl.specs.Query.{FindsIn, matches_in}
 use Rattle.tl.specs.View.{HTMLTable, node_view, document_of}
 

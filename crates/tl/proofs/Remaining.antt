@@ -3,8 +3,8 @@ use Rattle.std.proofs.Common.{◌≡◌, ℕ, ◌+◌, ◌<◌, ◌≤◌, Bool,
 use Rattle.std.specs.List.{slice_get, AllByRecursion}
 use Rattle.tl_spec.specs.Tree.Document.{Node, Tag, Raw, Comment, TagNode}
 use Rattle.tl_spec.specs.Walk.{Cycle, Dangling, Event, Walk, end, events, all_tags, faulty, handle_walk, leaves, meets, meets_comment, meets_fault, meets_tag, meets_text, passes_tag, stands_on, walk}
-use Rattle.tl_spec.proofs.Events.{Enters, Enters-walk}
-use Rattle.tl_spec.proofs.Walks.{walk-cons, walk-nil}
+use Rattle.tl_spec.proofs.Walk.Events.{Enters, Enters-walk}
+use Rattle.tl_spec.proofs.Walk.Walks.{walk-cons, walk-nil}
 use Rattle.tl_table.specs.declared.errors.TreeError.TheVariants.{Dangling as DanglingError, Cycle as CycleError, OutOfMemory}
 use Rattle.tl.specs.declared.walk.Frame.{Frame}
 use Rattle.tl.specs.Remaining.{Around, FailsAt, Place, Remaining, Within, around_within, events_around, events_left, nothing_left, path_within, remaining_of, step, step_in, step_out}

@@ -7,8 +7,8 @@ use Rattle.std.proofs.lemmas.Map.Steps.{set_value_same}
 use Rattle.tl_spec.specs.Tree.Inline.{InlineMap, with_entry, with_value}
 use Rattle.tl_spec.specs.Lex.AttributeList.{Attributes, is_id, is_class}
 use Rattle.tl_spec.specs.Edit.Attribute.{value_at, with_value_at}
-use Rattle.tl_spec.proofs.ByKey.{choose_by_key-id, choose_by_key-class}
-use Rattle.tl_spec.proofs.Pairs.{all-insert_entry}
+use Rattle.tl_spec.proofs.Lex.ByKey.{choose_by_key-id, choose_by_key-class}
+use Rattle.tl_spec.proofs.Tree.Pairs.{all-insert_entry}
 use Rattle.tl_inline.proofs.Maps.{set_value-absent}
 
 -- what an insert leaves true of each key, also where it is refused

@@ -11,9 +11,9 @@ use Rattle.tl_spec.specs.Tree.Inline.{InlineMap, room, with_entry}
 use Rattle.tl_spec.specs.Lex.Attribute.{Pair}
 use Rattle.tl_spec.specs.Lex.AttributeList.{Attributes, set_at, with_pair}
 use Rattle.tl_spec.specs.Edit.Attribute.{with_attribute}
-use Rattle.tl_spec.proofs.ByKey.{choose_by_key-all}
-use Rattle.tl_spec.proofs.Images.{image-insert_entry, image-set_at}
-use Rattle.tl_spec.proofs.Pairs.{all-insert_entry, length-insert_entry}
+use Rattle.tl_spec.proofs.Lex.ByKey.{choose_by_key-all}
+use Rattle.tl_spec.proofs.Print.Images.{image-insert_entry, image-set_at}
+use Rattle.tl_spec.proofs.Tree.Pairs.{all-insert_entry, length-insert_entry}
 use Rattle.tl_bytes.specs.Held.{Held, Kept}
 use Rattle.tl_bytes.specs.Keys.{same_list}
 use Rattle.tl_attributes.specs.HeldAttributes.{AreRead, IsHeld, IsHeldPair}

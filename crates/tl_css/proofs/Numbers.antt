@@ -1,7 +1,7 @@
 -- Numbers that digits say.
 use Rattle.std.proofs.Common.{◌≡◌, ℕ, suc, ◌+◌, ◌-◌, ◌*◌, ◌^◌, ◌<◌, ◌≤◌, nat_lt, true, List, [], ◌∷◌, Some, None, ap, sym, ◌∙◌, arith, if◌then◌else◌}
 use Rattle.std.proofs.Math.Nat.{pow-suc, pow-le-pow_right}
-use Rattle.tl_spec.proofs.Grammar.{if_yes}
+use Rattle.tl_spec.proofs.Lex.Grammar.{if_yes}
 use Rattle.tl_css.specs.Formula.{largest}
 use Rattle.tl_css.specs.Bytes.{decimal_number}
 

@@ -5,12 +5,12 @@ use Rattle.std.proofs.lemmas.List.Sums.{take_while-cons}
 use Rattle.std.specs.List.{take_while, list_any}
 use Rattle.std.specs.Str.{byte, bytes_eq, str_to_ascii_lowercase}
 use Rattle.tl_spec.specs.Lex.Runs.{after_needle, read_many}
-use Rattle.tl_spec.proofs.Bytes.{drop-le}
-use Rattle.tl_spec.proofs.Many.{Shrinks, many-none, many-some}
+use Rattle.tl_spec.proofs.Lex.Bytes.{drop-le}
+use Rattle.tl_spec.proofs.Lex.Many.{Shrinks, many-none, many-some}
 use Rattle.tl_css.specs.Read.{Read}
 use Rattle.tl_css.specs.TextView.{without}
 use Rattle.std.specs.Char.{to_ascii_lowercase}
-use Rattle.tl_spec.proofs.Shrinks.{if_both, after-le, IsLe, IsLe-more}
+use Rattle.tl_spec.proofs.Lex.Shrinks.{if_both, after-le, IsLe, IsLe-more}
 use Rattle.tl_css.specs.Bytes.{is_newline, is_white, backslash, is_hex, hex_number, char_of}
 use Rattle.tl_css.specs.Lexical.{past_white, begins, past_escape, escape_by, escape_at, is_plain, escaped_at, part_at, joined, run_at, after_comment, gap_part_at, gap_result, gap_after, gap_at, is_word}
 

@@ -1,6 +1,6 @@
 -- How many selectors wait after a step.
 use Rattle.std.proofs.Common.{◌≡◌, ℕ, List, [], ◌∷◌, ◌++◌, length, suc, nat_lt, true, refl, sym, ◌∙◌, arith}
-use Rattle.tl_spec.proofs.Grammar.{if_yes}
+use Rattle.tl_spec.proofs.Lex.Grammar.{if_yes}
 use Rattle.tl_css.specs.Selector.{Css}
 use Rattle.tl_css.specs.declared.selector.Step.{Step}
 use Rattle.tl_css.specs.Program.{meet, unite, fewer, change, after_step, after_steps, waiting_after}

@@ -8,7 +8,7 @@ use Rattle.std.proofs.lemmas.List.{get_or-set_same, get_or-set_other, get_or-rep
 use Rattle.tl_spec.specs.Tree.Document.{Node}
 use Rattle.tl_spec.specs.Tree.Element.{children_of}
 use Rattle.tl_spec.specs.Select.Meaning.{IsChild}
-use Rattle.tl_spec.proofs.SelectorTests.{any-contained}
+use Rattle.tl_spec.proofs.Select.Tests.{any-contained}
 use Rattle.tl_css.specs.declared.selector.Link.TheVariants.{Parent}
 use Rattle.tl_css.specs.Meaning.{IsForest, IsLink}
 use Rattle.tl_css_select.specs.Links.{link_at, link_or_none, no_link}

@@ -5,8 +5,8 @@ use Rattle.tl_spec.specs.Tree.Document.{Document, document, Tag, Raw, Comment, T
 use Rattle.tl_spec.specs.Tree.Forest.{forest, plain}
 use Rattle.tl_spec.specs.Lex.Token.{tokens}
 use Rattle.tl_spec.specs.Walk.{Cycle, Dangling, Event, TreeFault, Walk, end, events, all_tags, faulty, leaves, meets, meets_comment, meets_fault, meets_tag, meets_text, earlier_fault, passes_tag, trees, fault_or, walk}
-use Rattle.tl_spec.proofs.Events.{Enters}
-use Rattle.tl_spec.proofs.Order.{document-whole}
+use Rattle.tl_spec.proofs.Walk.Events.{Enters}
+use Rattle.tl_spec.proofs.Tree.Order.{document-whole}
 use Rattle.tl_table.specs.TreeFault.{IsRefusal, error_of}
 use Rattle.tl_table.specs.declared.errors.TreeError.{TreeError}
 use Rattle.tl_table.specs.declared.errors.TreeError.TheVariants.{Dangling as DanglingError, Cycle as CycleError, OutOfMemory}

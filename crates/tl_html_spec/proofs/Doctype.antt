@@ -4,7 +4,7 @@ use Rattle.std.specs.List.{AllByRecursion, list_any}
 use Rattle.std.proofs.lemmas.Bool.{cases_Bool}
 use Rattle.tl_spec.specs.Tree.Document.{document, is_html5_doctype}
 use Rattle.tl_spec.specs.Lex.Token.{Comment, Doctype, End, IsNoDoctype, Nothing, PlacedToken, Start, Text, Token, tokens}
-use Rattle.tl_spec.proofs.Again.{kinds-tokens, kinds_next}
+use Rattle.tl_spec.proofs.Print.Again.{kinds-tokens, kinds_next}
 use Rattle.tl_html_spec.specs.HtmlTokenizer.{HtmlToken, Character, StartTag, EndTag, CommentToken, DoctypeToken, html_tokens}
 use Rattle.tl_html_spec.specs.Balanced.{balanced}
 use Rattle.tl_html_spec.specs.Coded.{coded_token}

@@ -11,11 +11,11 @@ use Rattle.tl_spec.specs.Print.Clean.{IsName}
 use Rattle.tl_spec.specs.Lex.Grammar.{Stops}
 use Rattle.tl_spec.specs.Lex.Runs.{after_needle, drop_while}
 use Rattle.tl_spec.specs.Lex.Token.{Token, Text, End, Comment, Doctype, Start, next_token}
-use Rattle.tl_spec.proofs.Again.{kinds_next, name_no_gt}
-use Rattle.tl_spec.proofs.Comments.{comment_again}
-use Rattle.tl_spec.proofs.Grammar.{run-of}
-use Rattle.tl_spec.proofs.Names.{name-not, name-not-slash}
-use Rattle.tl_spec.proofs.Printed.{ArePairs, IsTagName, IsWord, end_again, no_quote, shown_pairs, start_again, text_again}
+use Rattle.tl_spec.proofs.Print.Again.{kinds_next, name_no_gt}
+use Rattle.tl_spec.proofs.Print.Comments.{comment_again}
+use Rattle.tl_spec.proofs.Lex.Grammar.{run-of}
+use Rattle.tl_spec.proofs.Lex.Names.{name-not, name-not-slash}
+use Rattle.tl_spec.proofs.Print.Printed.{ArePairs, IsTagName, IsWord, end_again, no_quote, shown_pairs, start_again, text_again}
 use Rattle.tl_html_spec.specs.HtmlTokenizer.{HtmlAttribute, HtmlToken, Character, StartTag, EndTag, CommentToken, DoctypeToken}
 use Rattle.tl_html_spec.specs.Escapes.{escaped_value, text_escape, value_escape}
 use Rattle.tl_html_spec.specs.Unescaped.{unescaped_text, unescaped_value}

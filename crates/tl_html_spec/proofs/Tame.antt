@@ -13,13 +13,13 @@ use Rattle.tl_spec.specs.Tree.Forest.{Siblings, SourceTag, closes, forest, plain
 use Rattle.tl_spec.specs.Print.Normal.{ReadsAs}
 use Rattle.tl_spec.specs.Print.{print}
 use Rattle.tl_spec.specs.Lex.Token.{Comment, Doctype, End, Nothing, PlacedToken, Start, Text, Token, tokens}
-use Rattle.tl_spec.proofs.Again.{kinds-tokens}
-use Rattle.tl_spec.proofs.ByKey.{choose_by_key-all}
-use Rattle.tl_spec.proofs.Fresh.{fresh_has_own_keys, fresh_is_clean}
-use Rattle.tl_spec.proofs.Identity.{identity}
-use Rattle.tl_spec.proofs.Order.{fresh_table}
-use Rattle.tl_spec.proofs.Pairs.{all-insert_entry}
-use Rattle.tl_spec.proofs.Siblings.{Reading}
+use Rattle.tl_spec.proofs.Print.Again.{kinds-tokens}
+use Rattle.tl_spec.proofs.Lex.ByKey.{choose_by_key-all}
+use Rattle.tl_spec.proofs.Print.Fresh.{fresh_has_own_keys, fresh_is_clean}
+use Rattle.tl_spec.proofs.Print.Identity.{identity}
+use Rattle.tl_spec.proofs.Tree.Order.{fresh_table}
+use Rattle.tl_spec.proofs.Tree.Pairs.{all-insert_entry}
+use Rattle.tl_spec.proofs.Tree.Siblings.{Reading}
 use Rattle.tl_html_spec.specs.HtmlTokenizer.{HtmlAttribute, HtmlToken, Character, StartTag, EndTag, CommentToken, DoctypeToken, html_tokens}
 use Rattle.tl_html_spec.specs.Balanced.{balanced}
 use Rattle.tl_html_spec.specs.Coded.{coded, coded_attribute, coded_byte, coded_tag, coded_token, is_kept}

@@ -5,9 +5,9 @@ use Rattle.std.proofs.lemmas.Bool.{cases_Bool}
 use Rattle.tl_spec.specs.Lex.Grammar.{Stops}
 use Rattle.tl_spec.specs.Lex.Runs.{drop_while}
 use Rattle.tl_spec.specs.Lex.Token.{Token, Text, End, Comment, Doctype, Start, next_token}
-use Rattle.tl_spec.proofs.Again.{kinds_next}
-use Rattle.tl_spec.proofs.Grammar.{run-of}
-use Rattle.tl_spec.proofs.Printed.{text_again}
+use Rattle.tl_spec.proofs.Print.Again.{kinds_next}
+use Rattle.tl_spec.proofs.Lex.Grammar.{run-of}
+use Rattle.tl_spec.proofs.Print.Printed.{text_again}
 use Rattle.tl_html_spec.specs.Escapes.{text_escape}
 use Rattle.tl_html_spec.specs.HtmlTokenizer.{HtmlToken, Character, StartTag, EndTag, CommentToken, DoctypeToken}
 use Rattle.tl_html_spec.specs.Written.{AreWritable, kinds, written, written_token}

@@ -1,5 +1,5 @@
 pub mod Lists
 pub mod Maps
-pub mod HeldPairsLemmas
+pub mod PairStorageLemmas
 pub mod PlacesLemmas
 pub mod HeapFormLemmas

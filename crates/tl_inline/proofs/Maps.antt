@@ -15,7 +15,7 @@ use Rattle.indexmap.proofs.MapLemmas.{Found-position, Missing-position, swap_rem
 use Rattle.indexmap.proofs.RemoveLemmas.{swap_out}
 use Rattle.tl_inline.specs.InlineVec.{ClonesAreEqual}
 use Rattle.tl_spec.specs.Tree.Inline.{InlineMap, with_entry}
-use Rattle.tl_spec.proofs.Pairs.{insert_new, insert_present, distinct_insert, position-map}
+use Rattle.tl_spec.proofs.Tree.Pairs.{insert_new, insert_present, distinct_insert, position-map}
 use Rattle.arrayvec.proofs.ArrayVecLemmas.{items-with_items}
 
 -- an item of a list that has some

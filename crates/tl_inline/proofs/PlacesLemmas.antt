@@ -14,7 +14,7 @@ use Rattle.std.proofs.lemmas.Option.{slice_get-get_or, slice_get-map, slice_get_
 use Rattle.std.specs.Ordering.{nat_cmp, ordering_then, is_eq}
 use Rattle.indexmap.proofs.MapLemmas.{Found-position, Missing-position}
 use Rattle.indexmap.specs.IndexMap.{insert_entry}
-use Rattle.tl_spec.proofs.Pairs.{insert_present, keys-set_value_at}
+use Rattle.tl_spec.proofs.Tree.Pairs.{insert_present, keys-set_value_at}
 use Rattle.tl_inline.proofs.Maps.{first_of_list, set-part}
 use Rattle.tl_inline.specs.Digest.{Digest, digest_of}
 use Rattle.tl_inline.specs.Places.{is_same, note_of, allows, with_key, without_alone, moved_to, Notes, AllowsAll, AllowsKey, passes_at}

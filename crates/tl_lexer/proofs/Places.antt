@@ -2,8 +2,8 @@
 use Rattle.std.proofs.Common.{◌≡◌, ℕ, ◌+◌, ◌<◌, ◌≤◌, false, List, ◌∷◌, length, drop, arith, length-drop, ap}
 use Rattle.tl_spec.specs.Lex.ByteClass.{is_blank, is_closing}
 use Rattle.tl_spec.specs.Lex.Attribute.{Pair, attribute, skip_blanks}
-use Rattle.tl_spec.proofs.Bytes.{drop_while-le}
-use Rattle.tl_spec.proofs.Shrinks.{attribute-lt}
+use Rattle.tl_spec.proofs.Lex.Bytes.{drop_while-le}
+use Rattle.tl_spec.proofs.Lex.Shrinks.{attribute-lt}
 
 -- an attribute takes something, by the places where it stands
 pub later : (t : List ℕ) (i b n end : ℕ) (pair : Pair) → (b ∷ drop (i + 1) t) ≡ drop i t → is_closing b ≡ false → i ≤ length t → end ≤ length t

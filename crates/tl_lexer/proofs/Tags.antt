@@ -1,8 +1,8 @@
 -- What a builder proves with while it takes the attributes of a start tag one at a time.
 use Rattle.std.proofs.Common.{◌≡◌, ℕ, List, ◌∷◌, length, drop, Some, fold, refl, sym, ap, ◌∙◌, arith}
 use Rattle.tl_spec.specs.Lex.Attribute.{Pair, attributes, next_attribute}
-use Rattle.tl_spec.proofs.Many.{many-some}
-use Rattle.tl_spec.proofs.Shrinks.{next_attribute-shrinks}
+use Rattle.tl_spec.proofs.Lex.Many.{many-some}
+use Rattle.tl_spec.proofs.Lex.Shrinks.{next_attribute-shrinks}
 use Rattle.tl_lexer.specs.Span.{pair_at}
 use Rattle.tl_lexer.specs.declared.span.AttributeSpan.{AttributeSpan}
 

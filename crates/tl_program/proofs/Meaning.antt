@@ -4,7 +4,7 @@ use Rattle.std.specs.Prelude.{IfSome}
 use Rattle.tl_spec.specs.Lex.ByteClass.{largest_u32}
 use Rattle.tl_spec.specs.Select.Selector.{Selector}
 use Rattle.tl_spec.specs.Select.Reading.{selector_at}
-use Rattle.tl_spec.proofs.SelectorText.{text-only, text-none}
+use Rattle.tl_spec.proofs.Select.Text.{text-only, text-none}
 use Rattle.tl_page.specs.Outcome.{not_understood}
 use Rattle.tl_page.proofs.Pages.{outcome-no_page}
 use Rattle.tl_program.specs.Page.{IsPage}

@@ -6,8 +6,8 @@ use Rattle.std.proofs.lemmas.Bool.{or_from, or_parts}
 use Rattle.tl_spec.specs.Tree.Document.{Node, Tag, Raw, Comment, document}
 use Rattle.tl_spec.specs.Print.Text.{document_text, inner_text, text_of}
 use Rattle.tl_spec.specs.Walk.{TreeFault, Walk, Dangling, walk_result, end, all_tags, first_fault, handle_walk, meets_comment, meets_tag, meets_text, earlier_fault, row_walk, stands_on, trees, fault_or, walk, walk_within}
-use Rattle.tl_spec.proofs.Order.{document-faultless}
-use Rattle.tl_spec.proofs.Walks.{walk-step}
+use Rattle.tl_spec.proofs.Tree.Order.{document-faultless}
+use Rattle.tl_spec.proofs.Walk.Walks.{walk-step}
 use Rattle.tl_page.specs.Outcome.{Outcome, followed_by, joined, outcome_of, success}
 use Rattle.tl_program.specs.Output.{text_at, texts_of}
 

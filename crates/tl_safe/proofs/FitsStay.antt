@@ -10,9 +10,9 @@ use Rattle.std.proofs.lemmas.List.Folds.{list_all-append}
 use Rattle.tl_spec.specs.Lex.ByteClass.{is_void}
 use Rattle.tl_spec.specs.Tree.Forest.{Forest, none, text, comment, tag, PlainTag}
 use Rattle.tl_spec.specs.Print.Normal.{join_text, lossy, lossy_tag, norm, tidy}
-use Rattle.tl_spec.proofs.Ascii.{are_ascii, lossy-ascii}
-use Rattle.tl_spec.proofs.Bytes.{AllPass-also, all_pass, passes}
-use Rattle.tl_spec.proofs.Lossy.{lossy-nil}
+use Rattle.tl_spec.proofs.Print.Ascii.{are_ascii, lossy-ascii}
+use Rattle.tl_spec.proofs.Lex.Bytes.{AllPass-also, all_pass, passes}
+use Rattle.tl_spec.proofs.Print.Lossy.{lossy-nil}
 use Rattle.tl_html_spec.specs.HtmlTokenizer.{with_feeds}
 use Rattle.tl_html_spec.specs.References.{not_zero}
 use Rattle.tl_html_spec.specs.Unescaped.{unescaped}

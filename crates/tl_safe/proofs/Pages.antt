@@ -5,7 +5,7 @@ use Rattle.tl_spec.specs.Tree.Forest.{forest, plain}
 use Rattle.tl_spec.specs.Print.{print}
 use Rattle.tl_spec.specs.Lex.Token.{tokens}
 use Rattle.tl_spec.specs.Walk.{all_tags, trees, walk}
-use Rattle.tl_spec.proofs.Order.{document-whole}
+use Rattle.tl_spec.proofs.Tree.Order.{document-whole}
 use Rattle.tl.specs.View.{HTMLTable, document_of, node_view}
 use Rattle.tl_safe.specs.Kept.{kept}
 use Rattle.tl_safe.specs.Left.{row}

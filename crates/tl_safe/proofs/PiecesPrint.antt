@@ -8,7 +8,7 @@ use Rattle.tl_spec.specs.Lex.ByteClass.{is_printed_alone, is_void}
 use Rattle.tl_spec.specs.Print.Clean.{HaveOwnKeys}
 use Rattle.tl_spec.specs.Tree.Forest.{Forest, none, text, comment, tag, PlainTag}
 use Rattle.tl_spec.specs.Print.{print, print_end, print_start}
-use Rattle.tl_spec.proofs.Identity.{not_command}
+use Rattle.tl_spec.proofs.Print.Identity.{not_command}
 use Rattle.std.specs.Option.{option_or}
 use Rattle.tl_tree_spec.specs.Groups.{group}
 use Rattle.tl_safe.specs.KeptFitted.{adds_of}

@@ -17,9 +17,9 @@ use Rattle.tl_spec.specs.Print.Clean.{HaveOwnKeys}
 use Rattle.tl_spec.specs.Tree.Forest.{Forest, none, text, comment, tag, PlainTag}
 use Rattle.tl_spec.specs.Print.Normal.{ReadsAs, join_text, lossy_attributes, lossy_pair, lossy_tag, norm}
 use Rattle.tl_spec.specs.Print.{print, print_end, print_pairs, print_start}
-use Rattle.tl_spec.proofs.Identity.{identity, not_command}
-use Rattle.tl_spec.proofs.Ascii.{lossy-ascii}
-use Rattle.tl_spec.proofs.Images.{image-pairs_in_order}
+use Rattle.tl_spec.proofs.Print.Identity.{identity, not_command}
+use Rattle.tl_spec.proofs.Print.Ascii.{lossy-ascii}
+use Rattle.tl_spec.proofs.Print.Images.{image-pairs_in_order}
 use Rattle.tl_html_spec.specs.HtmlTokenizer.{Character, EndTag, HtmlToken, StartTag, data_state, tokens_in_page}
 use Rattle.tl_safe.specs.Lists.{ListedWords, is_among}
 use Rattle.tl_safe.specs.Refusals.{are_lawful}

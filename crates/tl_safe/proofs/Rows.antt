@@ -9,9 +9,9 @@ use Rattle.tl_spec.specs.Walk.Length.{child_at, handle_met, met}
 use Rattle.tl_spec.specs.Tree.Order.{ChildrenFollowParents}
 use Rattle.tl_spec.specs.Print.{print, print_end, print_start}
 use Rattle.tl_spec.specs.Walk.{Walk, all_tags, handle_walk, plain_node, trees, walk}
-use Rattle.tl_spec.proofs.Identity.{not_command}
-use Rattle.tl_spec.proofs.Rising.{walk-one, met-cons, drop-some, drop-none, child_found, child_missing, given}
-use Rattle.tl_spec.proofs.Walks.{walk-nil}
+use Rattle.tl_spec.proofs.Print.Identity.{not_command}
+use Rattle.tl_spec.proofs.Walk.Rising.{walk-one, met-cons, drop-some, drop-none, child_found, child_missing, given}
+use Rattle.tl_spec.proofs.Walk.Walks.{walk-nil}
 use Rattle.tl.specs.View.{node_view}
 use Rattle.tl_safe.specs.Lists.{ListedWords, is_among, opaque_names}
 use Rattle.tl_safe.specs.Refusals.{are_lawful}

@@ -7,8 +7,8 @@ use Rattle.std.proofs.lemmas.List.Folds.{list_all-append}
 use Rattle.std.specs.Str.Lossy.{utf8_lossy}
 use Rattle.tl_spec.specs.Lex.Attribute.{Pair}
 use Rattle.tl_spec.specs.Print.Normal.{lossy_pair}
-use Rattle.tl_spec.proofs.Bytes.{AllPass-also, all_pass, passes}
-use Rattle.tl_spec.proofs.Lossy.{lossy-AllPass}
+use Rattle.tl_spec.proofs.Lex.Bytes.{AllPass-also, all_pass, passes}
+use Rattle.tl_spec.proofs.Print.Lossy.{lossy-AllPass}
 use Rattle.tl_html_spec.proofs.Ahead.{apart}
 use Rattle.tl_safe.specs.Lists.{ListedWords, begins_link, is_among, is_beginning_byte, is_link_byte, leads_out, leaves_site}
 use Rattle.tl_safe.specs.Refusals.{are_lawful}

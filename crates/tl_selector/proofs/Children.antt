@@ -6,7 +6,7 @@ use Rattle.std.proofs.lemmas.Bool.Decides.{Decides-eqb}
 use Rattle.tl_spec.specs.Tree.Document.{Node}
 use Rattle.tl_spec.specs.Tree.Element.{children_of}
 use Rattle.tl_spec.specs.Select.Meaning.{IsChild}
-use Rattle.tl_spec.proofs.SelectorTests.{any-contained}
+use Rattle.tl_spec.proofs.Select.Tests.{any-contained}
 use Rattle.tl_selector.specs.NodeSet.{children_at, is_in}
 
 pub in_contains : (xs : List ℕ) (n : ℕ) → is_in xs n ≡ true → Contains xs n

@@ -11,7 +11,7 @@ use Rattle.tl_spec.specs.Select.Meaning.{Holds, HoldsAlone, has_combinator}
 use Rattle.tl_spec.specs.Lookup.Scan.{IsFirstPlace}
 use Rattle.tl_spec.specs.Select.Search.{holds_alone}
 use Rattle.tl_selector.specs.NodeSet.{is_among, is_at, AreMarks}
-use Rattle.tl_spec.proofs.SelectorTests.{holds_alone-is, some-passes}
+use Rattle.tl_spec.proofs.Select.Tests.{holds_alone-is, some-passes}
 
 both : (o : Option Node) (P Q : Node → Type 0) → IsSomeAnd o P → IsSomeAnd o Q → IsSomeAnd o (λ d. P d × Q d)
 both None P Q h k = absurd h

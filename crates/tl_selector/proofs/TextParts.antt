@@ -5,8 +5,8 @@ use Rattle.tl_spec.specs.Select.Selector as spec
 use Rattle.tl_spec.specs.Select.Text.{IsSelectorText, StandsAlone}
 use Rattle.tl_spec.specs.Lex.ByteClass.{is_space}
 use Rattle.tl_spec.specs.Select.Reading.{simple_at, End, Bad, next_at, combine, list_after, complex_after, selector_at}
-use Rattle.tl_spec.proofs.SelectorText.{alone-read, text-only, text-none}
-pub use Rattle.tl_spec.proofs.SelectorText.{rest_part, rest_end, rest_bad, next_lt}
+use Rattle.tl_spec.proofs.Select.Text.{alone-read, text-only, text-none}
+pub use Rattle.tl_spec.proofs.Select.Text.{rest_part, rest_end, rest_bad, next_lt}
 use Rattle.tl_selector.specs.View.{selector}
 use Rattle.tl_selector.specs.declared.selector.Selector.{Selector}
 use Rattle.tl_selector.specs.MissingSimple.{LacksSecond}

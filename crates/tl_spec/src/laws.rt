@@ -160,7 +160,7 @@ pub fn scans()
 
 /// What scans find in a table that is written token by token grows with each start tag alone: no
 /// later step changes it.
-#[tactic(auto, using(crate::proofs::Seen::ids_grow, crate::proofs::Seen::classes_grow))]
+#[tactic(auto, using(crate::proofs::Lookup::Seen::ids_grow, crate::proofs::Lookup::Seen::classes_grow))]
 pub fn scans_grow()
     ensures ids { (t : List ℕ) (s : State) (k : PlacedToken) (i : List ℕ) →
         id_scan (step t s k).nodes i ≡ id_scan (s.nodes ++ tags_of t k k.token) i }
@@ -187,7 +187,7 @@ pub fn edits_keep_the_shape()
 
 /// A line says an edit by cases exactly where the function reads it; so it says none exactly where
 /// it has none of the ten forms.
-#[tactic(auto, using(crate::proofs::StepForms::laws))]
+#[tactic(auto, using(crate::proofs::Edit::StepForms::laws))]
 pub fn line_says()
     ensures one { (line : List ℕ) (c : Change) → LineSays line c ↔ (change_of_line line ≡ Some c) }
     ensures none { (line : List ℕ) →
@@ -195,7 +195,7 @@ pub fn line_says()
 {}
 
 /// The same of a text of lines and the edits that it says.
-#[tactic(auto, using(crate::proofs::StepForms::laws))]
+#[tactic(auto, using(crate::proofs::Edit::StepForms::laws))]
 pub fn text_says()
     ensures all { (text : List ℕ) (cs : List Change) →
         TextSays text cs ↔ (parse_changes text ≡ Some cs) }
@@ -204,13 +204,13 @@ pub fn text_says()
 {}
 
 /// The decimal digits of a number are read as that number.
-#[tactic(auto, using(crate::proofs::Spelling::laws))]
+#[tactic(auto, using(crate::proofs::Edit::Spelling::laws))]
 pub fn decimal_reads_back()
     ensures { ReadBack decimal }
 {}
 
 /// The line of an edit says that edit, and lines of edits say all of them in order.
-#[tactic(auto, using(crate::proofs::Spelling::laws))]
+#[tactic(auto, using(crate::proofs::Edit::Spelling::laws))]
 pub fn spelled_lines()
     ensures line { (digits : ℕ → List ℕ) →
         ReadBack digits → (c : Change) → IsSpellable c →

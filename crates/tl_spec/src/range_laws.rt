@@ -10,21 +10,21 @@ ghost use Rattle.tl_spec.specs.Examples.{nodes_after, nodes_of};
 ghost use Rattle.tl_spec.specs.Walk.{Dangling, Cycle, all_tags, walk};
 
 /// The way along last children goes step by step.
-#[tactic(auto, using(crate::proofs::Ranges::laws))]
+#[tactic(auto, using(crate::proofs::Walk::Ranges::laws))]
 pub fn end_by_step()
     ensures { (nodes : List Node) (path : List ℕ) (last : Option ℕ) →
         end_below nodes path last ≡ step_end nodes (end_below nodes) path last }
 {}
 
 /// It ends where the last path of the full walk does.
-#[tactic(auto, using(crate::proofs::Ranges::laws))]
+#[tactic(auto, using(crate::proofs::Walk::Ranges::laws))]
 pub fn end_of_the_walk()
     ensures { (nodes : List Node) (children : List ℕ) →
         last_below nodes (last_or None children) ≡ walk_end None (walk all_tags nodes [] children) }
 {}
 
 /// In a document just read the range of a tag's children is the interval of its descendants.
-#[tactic(auto, using(crate::proofs::Ranges::laws))]
+#[tactic(auto, using(crate::proofs::Walk::Ranges::laws))]
 pub fn ranges_are_descendants()
     ensures { (t : List ℕ) → AreRangesOfDescendants (document t).nodes }
 {}

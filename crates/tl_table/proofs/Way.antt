@@ -14,7 +14,7 @@ use Rattle.tl_spec.specs.Tree.Order.{ChildrenFollowParents}
 use Rattle.tl_spec.specs.Walk.Range.{handle_end, step_end, end_within, end_below, last_below, with_end, boundaries_from}
 use Rattle.tl_spec.specs.Walk.{TreeFault, Dangling, Cycle, stands_on}
 use Rattle.tl_table.specs.Way.{last_child_at, after_steps, Rises}
-use Rattle.tl_spec.proofs.Ranges.{end-step}
+use Rattle.tl_spec.proofs.Walk.Ranges.{end-step}
 
 module _ (nodes : List Node) (path : List ℕ) where
   step-at : (h : ℕ) (stands : Bool) (found : Option Node) → stands_on path h ≡ stands → slice_get nodes h ≡ found →

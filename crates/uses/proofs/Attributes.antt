@@ -8,8 +8,8 @@ use Rattle.tl_bytes.specs.Held.{Kept, as_owned}
 use Rattle.tl_bytes.specs.Keys.{same_list}
 use Rattle.tl_spec.specs.Lex.AttributeList.{AreOthers, Attributes, pair_if_some}
 use Rattle.tl_spec.specs.Tree.Inline.{pair_image, room, with_entry}
-use Rattle.tl_spec.proofs.ByKey.{choose_by_key-other}
-use Rattle.tl_spec.proofs.Images.{image-pairs_in_order}
+use Rattle.tl_spec.proofs.Lex.ByKey.{choose_by_key-other}
+use Rattle.tl_spec.proofs.Print.Images.{image-pairs_in_order}
 use Rattle.tl_attributes.specs.Listing.{as_borrowed, listed}
 use Rattle.tl_attributes.specs.AttributesView.{attributes_view, bytes_view, value_view}
 use Rattle.uses.specs.Fields.{Fields, attributes_with, text_with}

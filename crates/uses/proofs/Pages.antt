@@ -8,7 +8,7 @@ use Rattle.tl_spec.specs.Print.Normal.{ReadsAs}
 use Rattle.tl_spec.specs.Print.{document_print}
 use Rattle.tl_spec.specs.Lex.Token.{tokens}
 use Rattle.tl_spec.specs.Walk.{all_tags, trees, walk}
-use Rattle.tl_spec.proofs.Order.{document-whole}
+use Rattle.tl_spec.proofs.Tree.Order.{document-whole}
 use Rattle.tl.specs.View.{HTMLNode, HTMLTable, document_of, node_view}
 use Rattle.tl.specs.TableLends.{with_nodes}
 use Rattle.tl.proofs.Written.{written-document}

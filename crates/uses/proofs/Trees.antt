@@ -11,7 +11,7 @@ use Rattle.tl_spec.specs.Tree.Document.{Document, Node, TagNode, Tag, Raw, Comme
 use Rattle.tl_spec.specs.Tree.Forest.{none, text, comment, tag}
 use Rattle.tl_spec.specs.Tree.Inline.{pair_image}
 use Rattle.tl_spec.specs.Walk.{Walk, end, meets_text, meets_comment, meets_tag, passes_tag, meets_fault, Dangling, Cycle, all_tags, prints_children, handle_walk, node_walk, plain_attributes, plain_node, row_walk, stands_on, tag_walk, trees, walk, walk_within}
-use Rattle.tl_spec.proofs.Images.{image-pairs_in_order}
+use Rattle.tl_spec.proofs.Print.Images.{image-pairs_in_order}
 use Rattle.uses.specs.Fields.{Fields, attributes_with, document_with, node_with, plain_attributes_with, text_with, trees_with}
 use Rattle.uses.proofs.Texts.{no_less, no_quote, of-text}
 

@@ -4,9 +4,9 @@ use Rattle.tl_spec.specs.Print.Clean.{IsCleanTable}
 use Rattle.tl_spec.specs.Tree.Document.{Document, document, node_and_attribute_count}
 use Rattle.tl_spec.specs.Tree.Order.{ChildrenFollowParents, DescendantsAreContiguous}
 use Rattle.tl_spec.specs.Walk.Range.{AreRangesOfDescendants}
-use Rattle.tl_spec.proofs.Count.{document-weight}
-use Rattle.tl_spec.proofs.Order.{children-above, descendants-interval, fresh_table}
-use Rattle.tl_spec.proofs.Ranges.{ranges-descendants}
+use Rattle.tl_spec.proofs.Lex.Count.{document-weight}
+use Rattle.tl_spec.proofs.Tree.Order.{children-above, descendants-interval, fresh_table}
+use Rattle.tl_spec.proofs.Walk.Ranges.{ranges-descendants}
 use Rattle.tl.specs.View.{document_of}
 use Rattle.tl.proofs.read_document.Goals as goal
 

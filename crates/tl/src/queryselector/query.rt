@@ -25,7 +25,7 @@ use tl_selector::text::parse_query_selector;
 
 impl<'a> VDom<'a> {
     /// The nodes of the document where a selector holds, rising; None where the text stands for no selector.
-    #[tactic(auto, using(tl_spec::proofs::SelectorText::alone_without_joint))]
+    #[tactic(auto, using(tl_spec::proofs::Select::Text::alone_without_joint))]
     pub fn query_selector<'b>(
         &'b self,
         alloc: Global,
@@ -80,7 +80,7 @@ impl<'a> HTMLTag<'a> {
 
     /// The nodes in the range of the tag where a selector holds, rising; None where the text stands for no selector, which
     /// is looked at before the range. All nodes of the table count as ancestors.
-    #[tactic(auto, using(tl_spec::proofs::SelectorText::alone_without_joint))]
+    #[tactic(auto, using(tl_spec::proofs::Select::Text::alone_without_joint))]
     pub fn query_selector<'b>(
         &self,
         alloc: Global,

@@ -2,7 +2,7 @@ use Rattle.std.proofs.Common.{ap, sym, subst, ◌∙◌}
 use Rattle.tl_spec.specs.Tree.Forest.{Forest, PlainTag, forest, plain}
 use Rattle.tl_spec.specs.Print.Normal.{norm}
 use Rattle.tl_spec.specs.Lex.Token.{tokens}
-use Rattle.tl_spec.proofs.Fresh.{fresh_has_own_keys}
+use Rattle.tl_spec.proofs.Print.Fresh.{fresh_has_own_keys}
 use Rattle.tl_html_spec.specs.HtmlTokenizer.{tokens_in_page}
 use Rattle.tl_tree_spec.specs.HtmlTreeBuilder.{html_trees}
 use Rattle.tl_safe.specs.IsSafe.{IsSafe}

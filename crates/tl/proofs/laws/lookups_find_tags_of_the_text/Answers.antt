@@ -1,7 +1,7 @@
 use Rattle.std.proofs.Common.{ap}
 use Rattle.tl_spec.specs.Tree.Document.{Document, document}
 use Rattle.tl_spec.specs.Lookup.Scan.{has_id, is_in_class}
-use Rattle.tl_spec.proofs.Scans.{first_is, places_are}
+use Rattle.tl_spec.proofs.Lookup.Scans.{first_is, places_are}
 use Rattle.tl.specs.Lookup.{with_id, with_member}
 use Rattle.tl.proofs.Lookups.{fresh_id, fresh_member}
 use Rattle.tl.proofs.laws.lookups_find_tags_of_the_text.Goals as goal

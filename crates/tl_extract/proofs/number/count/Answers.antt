@@ -1,5 +1,5 @@
 use Rattle.std.proofs.Common.{◌≡◌, length, ap, sym, ◌∙◌, arith}
-use Rattle.tl_spec.proofs.SelectorText.{alone-text}
+use Rattle.tl_spec.proofs.Select.Text.{alone-text}
 use Rattle.tl.specs.Query.{matches_in}
 use Rattle.tl.specs.View.{document_of}
 use Rattle.tl.proofs.Queries.{query-few, query-some}

@@ -1,5 +1,5 @@
 use Rattle.std.proofs.Common.{◌≡◌, map, ap, sym, ◌∙◌}
-use Rattle.tl_spec.proofs.SelectorText.{alone-text}
+use Rattle.tl_spec.proofs.Select.Text.{alone-text}
 use Rattle.tl.specs.Query.{matches_in}
 use Rattle.tl.specs.View.{HTMLTable, document_of, node_view}
 use Rattle.tl.proofs.Queries.{query-some}

@@ -1,7 +1,7 @@
 use Rattle.std.proofs.Common.{rules, ◌≡◌, ◌∙◌, false}
 use Rattle.std.specs.Bool.{one_answer}
 use Rattle.tl_spec.specs.Select.Search.{holds_alone}
-use Rattle.tl_spec.proofs.SelectorTests.{holds_alone-is}
+use Rattle.tl_spec.proofs.Select.Tests.{holds_alone-is}
 use Rattle.tl_selector.specs.Spine.{has_sides}
 use Rattle.tl_selector.specs.View.{selector}
 use Rattle.tl_selector.proofs.matching.+holds_alone.Goals as goal

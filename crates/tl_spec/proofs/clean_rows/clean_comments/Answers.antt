@@ -1,5 +1,5 @@
 use Rattle.std.proofs.Common.{refl}
-use Rattle.tl_spec.proofs.Misread.{misread}
+use Rattle.tl_spec.proofs.Print.Misread.{misread}
 use Rattle.tl_spec.proofs.clean_rows.clean_comments.Goals as goal
 
 pub returns-clause-without_less : goal.returns-clause-without_less

@@ -1,5 +1,5 @@
 use Rattle.std.proofs.Common.{refl}
-use Rattle.tl_spec.proofs.Misread.{misread}
+use Rattle.tl_spec.proofs.Print.Misread.{misread}
 use Rattle.tl_spec.proofs.clean_rows.clean_pairs.Goals as goal
 
 pub returns-clause-key_with_a_blank : goal.returns-clause-key_with_a_blank

@@ -1,5 +1,5 @@
 use Rattle.std.proofs.Common.{refl}
-use Rattle.tl_spec.proofs.Misread.{misread}
+use Rattle.tl_spec.proofs.Print.Misread.{misread}
 use Rattle.tl_spec.proofs.clean_rows.clean_tags.Goals as goal
 
 pub returns-clause-void_with_a_child : goal.returns-clause-void_with_a_child

@@ -1,5 +1,5 @@
 use Rattle.std.proofs.Common.{refl}
-use Rattle.tl_spec.proofs.Misread.{misread}
+use Rattle.tl_spec.proofs.Print.Misread.{misread}
 use Rattle.tl_spec.proofs.clean_rows.own_keys.Goals as goal
 
 pub returns-clause-repeated : goal.returns-clause-repeated

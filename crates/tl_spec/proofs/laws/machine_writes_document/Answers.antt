@@ -1,4 +1,4 @@
-use Rattle.tl_spec.proofs.Reached.{document-written}
+use Rattle.tl_spec.proofs.Tree.Reached.{document-written}
 use Rattle.tl_spec.proofs.laws.machine_writes_document.Goals as goal
 
 pub returns-clause-nodes : goal.returns-clause-nodes

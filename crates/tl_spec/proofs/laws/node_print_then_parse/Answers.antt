@@ -1,4 +1,4 @@
-use Rattle.tl_spec.proofs.Walks.{node_identity, node-prints}
+use Rattle.tl_spec.proofs.Walk.Walks.{node_identity, node-prints}
 use Rattle.tl_spec.proofs.laws.node_print_then_parse.Goals as goal
 
 pub returns-clause-reads : goal.returns-clause-reads

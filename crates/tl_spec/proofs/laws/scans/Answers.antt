@@ -1,5 +1,5 @@
 use Rattle.tl_spec.specs.Lookup.Scan.{has_id, is_in_class}
-use Rattle.tl_spec.proofs.Scans.{first_is, first_only, places_are, places_only}
+use Rattle.tl_spec.proofs.Lookup.Scans.{first_is, first_only, places_are, places_only}
 use Rattle.tl_spec.proofs.laws.scans.Goals as goal
 
 pub returns-clause-id : goal.returns-clause-id

@@ -1,4 +1,4 @@
-use Rattle.tl_spec.proofs.Each.{clean-node, clean-printed, clean-table}
+use Rattle.tl_spec.proofs.Tree.EveryNode.{clean-node, clean-printed, clean-table}
 use Rattle.tl_spec.proofs.node_laws.clean_nodes.Goals as goal
 
 pub returns-clause-table : goal.returns-clause-table

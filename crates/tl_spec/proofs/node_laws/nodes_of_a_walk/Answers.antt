@@ -1,7 +1,7 @@
 use Rattle.std.specs.Prelude.{IsTrue}
 use Rattle.tl_spec.specs.Tree.EveryNode.{HoldOfNode}
 use Rattle.tl_spec.specs.Walk.{walk}
-use Rattle.tl_spec.proofs.Each.{each-walk, trees-hold}
+use Rattle.tl_spec.proofs.Tree.EveryNode.{each-walk, trees-hold}
 use Rattle.tl_spec.proofs.node_laws.nodes_of_a_walk.Goals as goal
 
 pub returns-clause-nodes : goal.returns-clause-nodes

@@ -1,4 +1,4 @@
-use Rattle.tl_spec.proofs.Each.{norm-hold, read-hold}
+use Rattle.tl_spec.proofs.Tree.EveryNode.{norm-hold, read-hold}
 use Rattle.tl_spec.proofs.node_laws.trees_of_the_normal_form.Goals as goal
 
 pub returns-clause-trees : goal.returns-clause-trees

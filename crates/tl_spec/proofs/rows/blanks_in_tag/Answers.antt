@@ -1,6 +1,6 @@
 use Rattle.std.proofs.Common.{refl, codes}
 use Rattle.tl_spec.specs.Tree.Document.{document}
-use Rattle.tl_spec.proofs.Ascii.{document_print-ascii}
+use Rattle.tl_spec.proofs.Print.Ascii.{document_print-ascii}
 use Rattle.tl_spec.proofs.rows.blanks_in_tag.Goals as goal
 
 pub returns-clause-prints : goal.returns-clause-prints

@@ -1,7 +1,7 @@
 use Rattle.std.proofs.Common.{◌≡◌, false, [], ◌∷◌, ◌++◌, refl, codes}
 use Rattle.std.specs.Str.{chars, is_utf8}
 use lib.Utf8.{encode}
-use Rattle.tl_spec.proofs.Ascii.{members-ascii}
+use Rattle.tl_spec.proofs.Print.Ascii.{members-ascii}
 use Rattle.tl_spec.proofs.rows.members_of_a_class.Goals as goal
 
 cut_letter : is_utf8 (codes "a " ++ 0xC3 ∷ []) ≡ false

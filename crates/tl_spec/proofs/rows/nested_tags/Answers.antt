@@ -3,7 +3,7 @@ use Rattle.std.specs.List.{slice_get}
 use Rattle.tl_spec.specs.Tree.Forest.{none}
 use Rattle.tl_spec.specs.Tree.Document.{Document, document}
 use Rattle.tl_spec.specs.Walk.{walk, walk_of, prints_children, trees}
-use Rattle.tl_spec.proofs.Ascii.{print-ascii, document_print-ascii, document_text-ascii}
+use Rattle.tl_spec.proofs.Print.Ascii.{print-ascii, document_print-ascii, document_text-ascii}
 use Rattle.tl_spec.proofs.rows.nested_tags.Goals as goal
 
 pub returns-clause-prints : goal.returns-clause-prints

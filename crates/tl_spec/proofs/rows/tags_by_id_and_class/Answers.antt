@@ -1,6 +1,6 @@
 use Rattle.std.proofs.Common.{refl, [], codes}
 use Rattle.tl_spec.specs.Tree.Document.{document}
-use Rattle.tl_spec.proofs.Ascii.{class_scan-ascii}
+use Rattle.tl_spec.proofs.Print.Ascii.{class_scan-ascii}
 use Rattle.tl_spec.proofs.rows.tags_by_id_and_class.Goals as goal
 
 pub returns-clause-member_twice : goal.returns-clause-member_twice

@@ -1,5 +1,5 @@
-use Rattle.tl_spec.proofs.SelectorTests.{holds_alone-is}
-use Rattle.tl_spec.proofs.SelectorSearch.{holds-is, matches-are, matches-only}
+use Rattle.tl_spec.proofs.Select.Tests.{holds_alone-is}
+use Rattle.tl_spec.proofs.Select.Search.{holds-is, matches-are, matches-only}
 use Rattle.tl_spec.proofs.search_laws.selector_search.Goals as goal
 
 pub returns-clause-alone : goal.returns-clause-alone

@@ -2,7 +2,7 @@ use Rattle.std.proofs.Common.{◌≡◌, ℕ, List, Option, Some, None, refl, dr
 use Rattle.tl_spec.specs.Lex.Token.{Token, next_token}
 use Rattle.std.specs.List.{All}
 use Rattle.tl_spec.specs.Tree.Document.{Document, document}
-use Rattle.tl_spec.proofs.Reached.{IsReached-start}
+use Rattle.tl_spec.proofs.Tree.Reached.{IsReached-start}
 use Rattle.tl_lexer.specs.TokenMeaning.{meant}
 use Rattle.tl.specs.View.{HTMLTable, document_of, version_of, IsHeldNode}
 use Rattle.tl.specs.Builder.{state_of}

@@ -3,7 +3,7 @@ use Rattle.std.specs.List.{AllByRecursion}
 use Rattle.std.proofs.lemmas.Result.{on_ok_weaker}
 use Rattle.tl_spec.specs.Print.Clean.{MeetsOwnKeys}
 use Rattle.tl_spec.specs.Walk.{prints_children, walk}
-use Rattle.tl_spec.proofs.Events.{own-events}
+use Rattle.tl_spec.proofs.Walk.Events.{own-events}
 use Rattle.tl.specs.View.{node_view}
 use Rattle.tl.specs.Walker.{events_to_come}
 use Rattle.tl.proofs.Printing.{writes-walk}

@@ -1,5 +1,5 @@
 use Rattle.tl_spec.specs.Lex.AttributeList.{IsOther}
-use Rattle.tl_spec.proofs.Pairs.{all-swap_remove_entry}
+use Rattle.tl_spec.proofs.Tree.Pairs.{all-swap_remove_entry}
 use Rattle.tl_attributes.proofs.attributes.AttributesOf.remove_other.Goals as goal
 
 pub invariant_of-self : goal.invariant_of-self

@@ -1,6 +1,6 @@
 use Rattle.std.proofs.Common.{sym, ◌∙◌}
 use Rattle.tl_spec.specs.Lex.AttributeList.{IsOther}
-use Rattle.tl_spec.proofs.Pairs.{all-set_value}
+use Rattle.tl_spec.proofs.Tree.Pairs.{all-set_value}
 use Rattle.tl_attributes.proofs.Others.{no_value_there}
 use Rattle.tl_attributes.proofs.attributes.AttributesOf.remove_other_value.Goals as goal
 

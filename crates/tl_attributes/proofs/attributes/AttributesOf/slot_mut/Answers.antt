@@ -1,6 +1,6 @@
 use Rattle.std.proofs.Common.{refl}
 use Rattle.tl_spec.specs.Lex.AttributeList.{IsOther}
-use Rattle.tl_spec.proofs.Pairs.{all-set_value}
+use Rattle.tl_spec.proofs.Tree.Pairs.{all-set_value}
 use Rattle.tl_attributes.proofs.attributes.AttributesOf.slot_mut.Goals as goal
 
 pub invariant_of-self-lent : goal.invariant_of-self-lent

@@ -1,5 +1,5 @@
 use Rattle.std.proofs.Common.{◌≡◌, true, ◌||◌, subst, ap, sym, ◌∙◌}
-use Rattle.tl_spec.proofs.Grammar.{if_yes, if_no}
+use Rattle.tl_spec.proofs.Lex.Grammar.{if_yes, if_no}
 use Rattle.tl_css.specs.Lexical.{begins_comment}
 use Rattle.tl_css.specs.TextView.{read_as}
 use Rattle.tl_css.proofs.Runs.{gap_from, gap_first, gap_lt, gap_some, gap_none}

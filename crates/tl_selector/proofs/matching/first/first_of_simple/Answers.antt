@@ -2,7 +2,7 @@ use Rattle.std.proofs.Common.{map, refl, sym, ◌∙◌}
 use Rattle.tl_spec.specs.Tree.Document.{Node}
 use Rattle.tl_spec.specs.Tree.Element.{name_of}
 use Rattle.tl_spec.specs.Lookup.Scan.{is_value, has_id, is_in_class}
-use Rattle.tl_spec.proofs.Scans.{first_is}
+use Rattle.tl_spec.proofs.Lookup.Scans.{first_is}
 use Rattle.tl_spec.specs.Select.Selector.{All}
 use Rattle.tl_spec.specs.Select.Search.{holds_alone}
 use Rattle.tl_selector.specs.View.{selector}

@@ -1,7 +1,7 @@
 use Rattle.std.proofs.Common.{Bool, subst, sym}
 use Rattle.std.specs.Bool.{Decides}
 use Rattle.tl_spec.specs.Select.Meaning.{HoldsAlone}
-use Rattle.tl_spec.proofs.SelectorTests.{holds_alone-is}
+use Rattle.tl_spec.proofs.Select.Tests.{holds_alone-is}
 use Rattle.tl_selector.specs.View.{selector}
 use Rattle.tl_selector.proofs.selector.Selector.matches.Goals as goal
 

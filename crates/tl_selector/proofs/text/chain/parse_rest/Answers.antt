@@ -3,7 +3,7 @@ use Rattle.tl_selector.specs.View.{selector}
 use Rattle.tl_selector.specs.ParserViews.{separator}
 use Rattle.tl_spec.specs.Select.Reading.{nest, list_after, complex_after}
 use Rattle.tl_spec.specs.Select.Reading.{parts_at, next_at, End, Bad, Part}
-use Rattle.tl_spec.proofs.SelectorText.{rest_part, next_lt}
+use Rattle.tl_spec.proofs.Select.Text.{rest_part, next_lt}
 use Rattle.tl_selector.proofs.TextParts.{kept_chain}
 use Rattle.tl_selector.specs.declared.text.chain.Link.{Link}
 use Rattle.tl_selector.proofs.text.chain.parse_rest.Goals as goal

@@ -1,5 +1,5 @@
 use Rattle.std.proofs.Common.{refl, sym}
-use Rattle.tl_spec.proofs.Writes.{adopted-written}
+use Rattle.tl_spec.proofs.Tree.Writes.{adopted-written}
 use Rattle.tl.specs.View.{node_view}
 use Rattle.tl.specs.Builder.{state_of}
 use Rattle.tl.proofs.Building.{held_written, innermost_within}

@@ -1,5 +1,5 @@
 use Rattle.std.proofs.Common.{refl, sym, ap, ◌∙◌, ◌≡◌, ◌++◌, ◌∷◌, [], reverse, length-set, ℕ}
-use Rattle.tl_spec.proofs.Writes.{closed-written, reverse-last}
+use Rattle.tl_spec.proofs.Tree.Writes.{closed-written, reverse-last}
 use Rattle.tl.specs.View.{node_view}
 use Rattle.tl.specs.Builder.{state_of}
 use Rattle.tl.proofs.Building.{held_written, last_within, others_open}

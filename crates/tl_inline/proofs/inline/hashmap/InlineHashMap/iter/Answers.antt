@@ -2,7 +2,7 @@ use Rattle.std.proofs.Common.{arith}
 use Rattle.std.proofs.Common.{◌∙◌}
 use Rattle.std.specs.Map.Iter.{deref_pair}
 use Rattle.tl_inline.proofs.Lists.{shows_in_order}
-use Rattle.tl_inline.proofs.HeldPairsLemmas.{distinct_in_view}
+use Rattle.tl_inline.proofs.PairStorageLemmas.{distinct_in_view}
 use Rattle.tl_inline.proofs.inline.hashmap.InlineHashMap.iter.Goals as goal
 
 pub returns-in-Inline-clause-runs : goal.returns-in-Inline-clause-runs

@@ -1,5 +1,5 @@
 use Rattle.std.proofs.Common.{◌≤◌, arith}
-use Rattle.tl_inline.proofs.HeldPairsLemmas.{distinct_in_view}
+use Rattle.tl_inline.proofs.PairStorageLemmas.{distinct_in_view}
 use Rattle.tl_inline.proofs.inline.hashmap.InlineHashMap.len.Goals as goal
 
 pub returns-in-Inline-clause-unique : goal.returns-in-Inline-clause-unique

@@ -1,7 +1,7 @@
 use Rattle.std.proofs.Common.{◌∙◌, sym, subst}
 use Rattle.std.specs.List.{IsDistinct}
 use Rattle.std.specs.Map.{keys_of}
-use Rattle.tl_spec.proofs.Pairs.{insert_new, distinct_insert}
+use Rattle.tl_spec.proofs.Tree.Pairs.{insert_new, distinct_insert}
 use Rattle.tl_inline.proofs.inline.hashmap.held.push_inline.Goals as goal
 
 pub returns-clause-entries : goal.returns-clause-entries

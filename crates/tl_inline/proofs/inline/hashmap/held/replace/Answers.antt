@@ -1,7 +1,7 @@
 use Rattle.std.proofs.Common.{ap, sym, subst, is_some}
 use Rattle.std.specs.List.{IsDistinct}
 use Rattle.std.specs.Map.{keys_of}
-use Rattle.tl_spec.proofs.Pairs.{distinct_insert}
+use Rattle.tl_spec.proofs.Tree.Pairs.{distinct_insert}
 use Rattle.tl_inline.proofs.Maps.{replaced}
 use Rattle.tl_inline.proofs.inline.hashmap.held.replace.Goals as goal
 

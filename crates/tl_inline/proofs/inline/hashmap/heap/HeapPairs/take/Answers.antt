@@ -1,5 +1,5 @@
 use Rattle.std.proofs.Common.{◌∷◌, [], ◌++◌, ◌∙◌, ap, sym}
-use Rattle.tl_spec.proofs.Pairs.{insert_new}
+use Rattle.tl_spec.proofs.Tree.Pairs.{insert_new}
 use Rattle.tl_inline.proofs.Maps.{distinct_inserted}
 use Rattle.tl_inline.proofs.inline.hashmap.heap.HeapPairs.take.Goals as goal
 

@@ -3,7 +3,7 @@ use Rattle.std.specs.List.{refill}
 use Rattle.std.specs.Map.{keys_of, lookup}
 use Rattle.std.proofs.lemmas.List.{map-append}
 use Rattle.std.proofs.lemmas.Map.Entries.{length-keys_of}
-use Rattle.tl_spec.proofs.Pairs.{insert_new}
+use Rattle.tl_spec.proofs.Tree.Pairs.{insert_new}
 use Rattle.tl_inline.specs.Digest.{digest_of}
 use Rattle.tl_inline.specs.Places.{AllowsKeys, note_of}
 use Rattle.tl_inline.proofs.Maps.{distinct_inserted, replaced_of}

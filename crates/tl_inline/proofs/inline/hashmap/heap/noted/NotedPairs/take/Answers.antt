@@ -1,7 +1,7 @@
 use Rattle.std.proofs.Common.{◌∷◌, [], ◌++◌, ◌∙◌, ap, subst, sym}
 use Rattle.std.specs.Map.{keys_of}
 use Rattle.std.proofs.lemmas.List.{map-append}
-use Rattle.tl_spec.proofs.Pairs.{insert_new}
+use Rattle.tl_spec.proofs.Tree.Pairs.{insert_new}
 use Rattle.tl_inline.specs.Places.{AllowsKeys}
 use Rattle.tl_inline.proofs.Maps.{distinct_inserted}
 use Rattle.tl_inline.proofs.inline.hashmap.heap.noted.NotedPairs.take.Goals as goal

@@ -1,0 +1,4 @@
+-- Lemmas of edits.
+pub mod Shape
+pub mod Spelling
+pub mod StepForms

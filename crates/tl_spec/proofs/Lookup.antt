@@ -1,0 +1,3 @@
+-- Lemmas of lookups.
+pub mod Scans
+pub mod Seen

@@ -1,0 +1,5 @@
+-- Lemmas of selectors.
+pub mod Tests
+pub mod Search
+pub mod Parts
+pub mod Text
