@@ -3,7 +3,7 @@ use Rattle.std.proofs.Common.{◌≡◌, ℕ, Bool, true, false, List, [], ◌�
 use Rattle.std.specs.Borrow.{Bor}
 use Rattle.std.specs.Fn.{CalledAt, Mut}
 use Rattle.std.specs.List.{slice_get}
-use Rattle.tl_spec.specs.Walk.{Event as Happening}
+use Rattle.tl_spec.specs.Walk.{Event as SpecEvent}
 use Rattle.tl_table.specs.declared.errors.TreeError.{TreeError}
 use Rattle.tl_table.specs.declared.errors.TreeError.TheVariants.{Dangling as DanglingError, Cycle as CycleError, OutOfMemory}
 use Rattle.tl.specs.Find.{FindsNode, FindsNodeOrStops, Passes, Sight, sight, sight_of, sights}
@@ -18,7 +18,7 @@ module _ {F : Type 0} (calls : Mut F (Bor HTMLNode × Unit {0}) Bool) where
   waits p (Ok v ∷ later) = inl refl
 
   -- for memory, or at a fault
-  pub stopped : (p : F) (nodes : List HTMLNode) (es : List Happening) (e : TreeError) → Refuses es e → FindsNodeOrStops calls p (sights nodes es) (Err e) p
+  pub stopped : (p : F) (nodes : List HTMLNode) (es : List SpecEvent) (e : TreeError) → Refuses es e → FindsNodeOrStops calls p (sights nodes es) (Err e) p
   stopped p nodes es (DanglingError h) (rest, is) = rw is (inl (refl, refl))
   stopped p nodes es (CycleError h) (rest, is) = rw is (inl (refl, refl))
   stopped p nodes es OutOfMemory any = inr (refl, waits p (sights nodes es))

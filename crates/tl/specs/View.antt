@@ -9,7 +9,7 @@ use Rattle.tl.specs.Tag.{Tag as KeptTag}
 use Rattle.tl.specs.Table.{Table}
 use Rattle.tl.specs.declared.parser.tag.node.NodeOf.{NodeOf}
 use Rattle.tl.specs.declared.parser.tag.node.NodeOf.TheVariants.{Tag as ATag, Raw as ARaw, Comment as AComment}
-use Rattle.tl_attributes.specs.declared.outline.Outline.{Outline}
+use Rattle.tl_attributes.specs.declared.outline.Summary.{Summary}
 use Rattle.tl.specs.declared.parser.base.HTMLVersion.{HTMLVersion}
 use Rattle.tl.specs.declared.parser.base.HTMLVersion.TheVariants.{HTML5, StrictHTML401, TransitionalHTML401, FramesetHTML401}
 use Rattle.tl_attributes.specs.HeldAttributes.{IsHeld, AreHeldAttributes}
@@ -29,7 +29,7 @@ tag_view t = record {
 
 -- a node of such a table
 abbrev pub HTMLNode : Type 0
-HTMLNode = NodeOf (Attributes Kept) Kept Outline
+HTMLNode = NodeOf (Attributes Kept) Kept Summary
 
 abbrev pub node_view : HTMLNode → Node
 node_view (ATag t) = Tag (tag_view t)
@@ -50,7 +50,7 @@ version_of false = None
 
 -- a table that `parse` gives
 abbrev pub HTMLTable : Type 0
-HTMLTable = Table (Attributes Kept) Kept Outline (Tracking Kept)
+HTMLTable = Table (Attributes Kept) Kept Summary (Tracking Kept)
 
 -- a table as a document
 abbrev pub document_of : HTMLTable → Document

@@ -2,7 +2,7 @@
 use Rattle.std.specs.Prelude.{◌≡◌, ℕ, Bool, List, [], ◌∷◌, ◌++◌, length, map, Option, Some, None, Result, Ok, Err, IfSome, ⊤}
 use Rattle.std.specs.List.{slice_get}
 use Rattle.tl_spec.specs.Tree.Document.{Node, TagNode}
-use Rattle.tl_spec.specs.Walk.{Event as Happening, meets, leaves, faulty, all_tags, prints_children, walk, events, TreeFault}
+use Rattle.tl_spec.specs.Walk.{Event as SpecEvent, meets, leaves, faulty, all_tags, prints_children, walk, events, TreeFault}
 use Rattle.tl_table.specs.declared.errors.TreeError.{TreeError}
 use Rattle.tl_table.specs.TreeFault.{fault_of, IsRefusal}
 use Rattle.tl.specs.declared.walk.Entered.{Entered}
@@ -28,16 +28,16 @@ path_from path (f ∷ fs) = path_from (f.handle ∷ path) fs
 
 module _ (entered : List ℕ → Bool) (nodes : List Node) where
   -- what comes once the frames are taken one by one, the last first, and `later` after them
-  abbrev pub after_frames_from : List ℕ → List Happening → List Frame → List Happening
+  abbrev pub after_frames_from : List ℕ → List SpecEvent → List Frame → List SpecEvent
   after_frames_from path later [] = later
   after_frames_from path later (f ∷ fs) = after_frames_from (f.handle ∷ path) (leaves (tag_view f.tag.now) ∷ (events (walk entered nodes path f.rest.now) ++ later)) fs
 
   -- what comes once nothing is left below the frames
-  unfoldable pub after_frames : List Frame → List Happening
+  unfoldable pub after_frames : List Frame → List SpecEvent
   after_frames fs = after_frames_from [] [] fs
 
   -- what comes of handles below the frames, and then of the frames
-  abbrev pub events_to_come_below : List Frame → List ℕ → List Happening
+  abbrev pub events_to_come_below : List Frame → List ℕ → List SpecEvent
   events_to_come_below fs hs = events (walk entered nodes (path_from [] fs) hs) ++ after_frames fs
 
 -- the path of a walker
@@ -45,19 +45,19 @@ abbrev pub path_of : Walker → List ℕ
 path_of w = path_from [] w.frames.items
 
 -- what is left, where these handles come first
-abbrev pub events_to_come_at : Walker → List ℕ → List Happening
+abbrev pub events_to_come_at : Walker → List ℕ → List SpecEvent
 events_to_come_at w hs = events_to_come_below (enters w.entered) (map node_view w.nodes.now) w.frames.items hs
 
 -- what is left once this tag is entered
-abbrev pub events_to_come_in : ℕ → TagNode → Walker → List Happening
+abbrev pub events_to_come_in : ℕ → TagNode → Walker → List SpecEvent
 events_to_come_in h own w = events (walk (enters w.entered) (map node_view w.nodes.now) (h ∷ path_of w) own.children.items) ++ (leaves own ∷ events_to_come_at w w.rest.now)
 
 -- what is left
-abbrev pub events_to_come : Walker → List Happening
+abbrev pub events_to_come : Walker → List SpecEvent
 events_to_come w = events_to_come_at w w.rest.now
 
 -- an event in the words of the definitions
-abbrev pub event_view : WalkEvent → Happening
+abbrev pub event_view : WalkEvent → SpecEvent
 event_view (Meets h n) = meets h (node_view n.now)
 event_view (Leaves t) = leaves (tag_view t.now)
 
@@ -67,20 +67,20 @@ IsMetIn nodes (Meets h n) = slice_get nodes h ≡ Some n.now
 IsMetIn nodes (Leaves t) = ⊤
 
 -- a list that begins with this
-abbrev pub IsLedBy : Happening → List Happening → Type 0
-IsLedBy e es = (rest : List Happening) × (es ≡ e ∷ rest)
+abbrev pub IsLedBy : SpecEvent → List SpecEvent → Type 0
+IsLedBy e es = (rest : List SpecEvent) × (es ≡ e ∷ rest)
 
 -- a fault comes first; or memory ran out
-abbrev pub Refuses : List Happening → TreeError → Type 0
+abbrev pub Refuses : List SpecEvent → TreeError → Type 0
 Refuses before error = IfSome (fault_of error) (λ fault. IsLedBy (faulty fault) before)
 
 -- one event is taken, or there is none left
-abbrev pub Takes : List Happening → Option WalkEvent → List Happening → Type 0
+abbrev pub Takes : List SpecEvent → Option WalkEvent → List SpecEvent → Type 0
 Takes before (Some e) after = before ≡ event_view e ∷ after
 Takes before None after = before ≡ []
 
 -- one step of a walk: an event, its end, or its first fault
-abbrev pub Steps : List Happening → Result (Option WalkEvent) TreeError → List Happening → Type 0
+abbrev pub Steps : List SpecEvent → Result (Option WalkEvent) TreeError → List SpecEvent → Type 0
 Steps before (Ok e) after = Takes before e after
 Steps before (Err error) after = Refuses before error
 

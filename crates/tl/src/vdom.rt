@@ -22,20 +22,20 @@ use crate::walk::text::write_row_texts;
 use std::alloc::Global;
 use std::marker::Model;
 use tl_attributes::attributes::Attributes;
-use tl_attributes::outline::{Outline, OutlineOf};
+use tl_attributes::summary::{Summary, SummaryOf};
 use tl_bytes::byte_string::Bytes;
 use tl_table::handle::NodeHandle;
 
 /// A document: the table of its nodes, and which of them stand at its top.
 #[derive(Debug, Drop)]
-pub struct VDomOf<A, B, O: OutlineOf<A>, M> {
+pub struct VDomOf<A, B, O: SummaryOf<A>, M> {
     parser: ParserOf<A, B, O, M>,
 }
 
 /// A document whose nodes borrow from a text.
-pub type VDom<'a> = VDomOf<Attributes<'a>, Bytes<'a>, Outline, Tracking<'a>>;
+pub type VDom<'a> = VDomOf<Attributes<'a>, Bytes<'a>, Summary, Tracking<'a>>;
 
-impl<A, B, O: OutlineOf<A>, M> Model for VDomOf<A, B, O, M> {
+impl<A, B, O: SummaryOf<A>, M> Model for VDomOf<A, B, O, M> {
     ghost use Rattle.tl.specs.Table.{Table};
 
     ghost Value = { Table A B O M };
@@ -43,7 +43,7 @@ impl<A, B, O: OutlineOf<A>, M> Model for VDomOf<A, B, O, M> {
     ghost view = { λ v. v.parser };
 }
 
-impl<A, B, O: OutlineOf<A>, M> From<ParserOf<A, B, O, M>> for VDomOf<A, B, O, M> {
+impl<A, B, O: SummaryOf<A>, M> From<ParserOf<A, B, O, M>> for VDomOf<A, B, O, M> {
     ghost from_gives = { λ p d. d ≡ p };
 
     fn from(parser: ParserOf<A, B, O, M>) -> Self {
@@ -51,7 +51,7 @@ impl<A, B, O: OutlineOf<A>, M> From<ParserOf<A, B, O, M>> for VDomOf<A, B, O, M>
     }
 }
 
-impl<A, B, O: OutlineOf<A>, M> VDomOf<A, B, O, M> {
+impl<A, B, O: SummaryOf<A>, M> VDomOf<A, B, O, M> {
     /// The table.
     pub fn parser(&self) -> &ParserOf<A, B, O, M>
         ensures { result.now ≡ self.now }
@@ -86,7 +86,7 @@ impl<A, B, O: OutlineOf<A>, M> VDomOf<A, B, O, M> {
     /// The table for writing. A table put there brings all that it holds.
     pub fn parser_mut(&mut self) -> &mut ParserOf<A, B, O, M>
         ensures* writes_back { sem 𝓛
-            (LendsParser A.row B.row O.row M.row O.OutlineOf self.entry result) }
+            (LendsParser A.row B.row O.row M.row O.SummaryOf self.entry result) }
         ensures value { result.now ≡ self.old }
     {
         &mut self.parser
@@ -95,7 +95,7 @@ impl<A, B, O: OutlineOf<A>, M> VDomOf<A, B, O, M> {
     /// All nodes for writing, in the order of the text. No node can be added or taken away.
     pub fn nodes_mut(&mut self) -> &mut [NodeOf<A, B, O>]
         ensures* writes_back { sem 𝓛
-            (LendsNodes A.row B.row O.row M.row O.OutlineOf self.entry result) }
+            (LendsNodes A.row B.row O.row M.row O.SummaryOf self.entry result) }
         ensures value { result.now ≡ self.old.nodes }
     {
         self.parser.nodes_mut()
@@ -104,7 +104,7 @@ impl<A, B, O: OutlineOf<A>, M> VDomOf<A, B, O, M> {
     /// The handles of the top nodes for writing. None can be added or taken away.
     pub fn children_mut(&mut self) -> &mut [NodeHandle]
         ensures* writes_back { sem 𝓛
-            (LendsTop A.row B.row O.row M.row O.OutlineOf self.entry result) }
+            (LendsTop A.row B.row O.row M.row O.SummaryOf self.entry result) }
         ensures value { result.now ≡ self.old.top }
     {
         self.parser.top_mut()

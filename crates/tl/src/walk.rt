@@ -28,7 +28,7 @@ use tl_table::handle::NodeHandle;
 #[derive(Clone, Copy)]
 pub(crate) enum Entered {
     All,
-    Shown,
+    Printed,
 }
 
 /// What a walk comes to. Only a tag that was entered is left.
@@ -104,7 +104,7 @@ impl<'s, 'a> Walker<'s, 'a> {
     {
         match self.entered {
             Entered::All => true,
-            Entered::Shown => !is_printed_alone(tag.name().as_bytes()),
+            Entered::Printed => !is_printed_alone(tag.name().as_bytes()),
         }
     }
 

@@ -1,27 +1,27 @@
 //! What is known of a tag's attributes without a look at them.
 ghost use Rattle.std.specs.Prelude.{◌≡◌, ◌↔◌, ◌<◌, IsTrue, Some};
-ghost use Rattle.tl_attributes.specs.Summary.{mark_of, bit_of, MayBeId, MayBeMember, AreClassBits, IsOutline};
+ghost use Rattle.tl_attributes.specs.Summary.{fingerprint_of, bit_of, MayBeId, MayBeMember, AreClassBits, IsSummary};
 
 use crate::attributes::Attributes;
 use crate::class_iter::part_len;
 
 /// What attributes of the type `A` are known to be, for a reader of many tags that would have to fetch each one's attributes.
-pub trait OutlineOf<A>: Copy {
+pub trait SummaryOf<A>: Copy {
     /// Whether nothing that it says of the attributes is wrong.
-    ghost is_outline: { Self → A → Type 0 };
+    ghost is_summary: { Self → A → Type 0 };
 
     /// All that it can say of the attributes.
     fn from_attributes(attributes: &A) -> Self
-        ensures { is_outline result attributes.now };
+        ensures { is_summary result attributes.now };
 
     /// What is right of all attributes.
     fn unknown() -> Self
-        ensures { (attributes : A) → is_outline result attributes };
+        ensures { (attributes : A) → is_summary result attributes };
 }
 
 /// The length and the ends of some bytes. Bytes of different marks differ.
 #[derive(Clone, Copy, PartialEq, Eq, Debug)]
-pub struct Mark {
+pub struct Fingerprint {
     /// What is left of the length by 256.
     pub len: u8,
     /// The first byte, 0 where there is none.
@@ -30,13 +30,13 @@ pub struct Mark {
     pub last: u8,
 }
 
-impl Mark {
+impl Fingerprint {
     /// The mark of these bytes.
     #[inline]
-    pub fn from_bytes(bytes: &[u8]) -> Mark
-        ensures { result ≡ mark_of bytes.now }
+    pub fn from_bytes(bytes: &[u8]) -> Fingerprint
+        ensures { result ≡ fingerprint_of bytes.now }
     {
-        Mark {
+        Fingerprint {
             len: (bytes.len() % 256) as u8,
             first: bytes.first().copied().unwrap_or(0),
             last: bytes.last().copied().unwrap_or(0),
@@ -55,40 +55,40 @@ impl Mark {
 
 /// What is known of the value of `id`.
 #[derive(Clone, Copy, PartialEq, Eq, Debug)]
-pub enum IdOutline {
+pub enum IdSummary {
     /// Nothing.
     Unknown,
     /// There is none.
     Absent,
     /// There is one, of this mark.
-    Known(Mark),
+    Known(Fingerprint),
 }
 
 /// What is known of the values of `id` and `class`, however they are held, in 8 bytes.
 #[derive(Clone, Copy, PartialEq, Eq, Debug)]
-pub struct Outline {
+pub struct Summary {
     /// What is known of the value of `id`.
-    pub id: IdOutline,
+    pub id: IdSummary,
     /// One bit for each member of the class, that of its mark. Where all are set nothing is known.
     pub classes: u32,
 }
 
-impl Outline {
+impl Summary {
     /// Whether bytes of this mark may be the id.
     #[inline]
-    pub fn may_be_id(self, mark: Mark) -> bool
+    pub fn may_be_id(self, mark: Fingerprint) -> bool
         ensures { IsTrue result ↔ MayBeId self.id mark }
     {
         match self.id {
-            IdOutline::Unknown => true,
-            IdOutline::Absent => false,
-            IdOutline::Known(own) => own == mark,
+            IdSummary::Unknown => true,
+            IdSummary::Absent => false,
+            IdSummary::Known(own) => own == mark,
         }
     }
 
     /// Whether bytes of this mark may be a member of the class.
     #[inline]
-    pub fn may_be_member(self, mark: Mark) -> bool
+    pub fn may_be_member(self, mark: Fingerprint) -> bool
         ensures { IsTrue result ↔ MayBeMember self.classes mark }
     {
         (self.classes >> mark.bit()) & 1 == 1
@@ -105,39 +105,39 @@ fn class_bits(class: &[u8]) -> u32
     while at < class.len() {
         let end = at + part_len(&class[at..]);
         if at < end {
-            bits |= 1 << Mark::from_bytes(&class[at..end]).bit();
+            bits |= 1 << Fingerprint::from_bytes(&class[at..end]).bit();
         }
         at = end + 1;
     }
     bits
 }
 
-impl<'a> OutlineOf<Attributes<'a>> for Outline {
+impl<'a> SummaryOf<Attributes<'a>> for Summary {
     ghost use Rattle.tl_spec.specs.Lex.AttributeList.{Attributes};
     ghost use Rattle.tl_bytes.specs.Held.{Kept};
 
-    ghost is_outline = { IsOutline };
+    ghost is_summary = { IsSummary };
 
     #[inline(always)]
-    fn from_attributes(attributes: &Attributes<'a>) -> Outline
-        ensures { IsOutline result attributes.now }
+    fn from_attributes(attributes: &Attributes<'a>) -> Summary
+        ensures { IsSummary result attributes.now }
     {
         let id = match attributes.id() {
-            Some(id) => IdOutline::Known(Mark::from_bytes(id.as_bytes())),
-            None => IdOutline::Absent,
+            Some(id) => IdSummary::Known(Fingerprint::from_bytes(id.as_bytes())),
+            None => IdSummary::Absent,
         };
         let classes = match attributes.class() {
             Some(class) => class_bits(class.as_bytes()),
             None => 0,
         };
-        Outline { id, classes }
+        Summary { id, classes }
     }
 
-    fn unknown() -> Outline
-        ensures { (attributes : Attributes Kept) → IsOutline result attributes }
+    fn unknown() -> Summary
+        ensures { (attributes : Attributes Kept) → IsSummary result attributes }
     {
-        Outline {
-            id: IdOutline::Unknown,
+        Summary {
+            id: IdSummary::Unknown,
             classes: u32::MAX,
         }
     }

@@ -7,8 +7,8 @@ use Rattle.std.proofs.lemmas.List.Elements.{Contains-get_or, Contains-append_rig
 use Rattle.tl_spec.specs.Tree.Inline.{InlineVec, with_item}
 use Rattle.tl_inline.specs.InlineVec.{ClonesAreEqual}
 use Rattle.tl_inline.specs.ItemStorage.{storage_view, storage_with_item}
-use Rattle.tl_inline.specs.declared.inline.vec.held.HeldItems.{HeldItems}
-use Rattle.tl_inline.specs.declared.inline.vec.held.HeldItems.TheVariants.{Inline, Heap}
+use Rattle.tl_inline.specs.declared.inline.vec.held.ItemStorage.{ItemStorage}
+use Rattle.tl_inline.specs.declared.inline.vec.held.ItemStorage.TheVariants.{Inline, Heap}
 
 module _ {A X : Type 0} (shows : A → X) where
   pub shows_in_order : ShowsInOrder shows
@@ -44,6 +44,6 @@ moved_item items done more left rest x whole next put =
 
 module _ {T : Type 0} {N : ℕ} where
   -- a write of an item in the storage is one in what a contract sees
-  pub view_with_item : (h : HeldItems T N) (i : ℕ) (w : T) → storage_view (storage_with_item h i w) ≡ with_item (storage_view h) i w
+  pub view_with_item : (h : ItemStorage T N) (i : ℕ) (w : T) → storage_view (storage_with_item h i w) ≡ with_item (storage_view h) i w
   view_with_item (Inline v) i w = refl
   view_with_item (Heap v) i w = refl

@@ -4,7 +4,7 @@ use crate::stop::{Stop, refused, value};
 use crate::{Named, measured};
 use std::alloc::{AllocError, Global};
 use tl::{
-    Attributes, Bytes, Children, ElementsByClassName, HTMLTag, Node, NodeHandle, OutlineOf,
+    Attributes, Bytes, Children, ElementsByClassName, HTMLTag, Node, NodeHandle, SummaryOf,
     ParserOptions, RawChildren, TagOf, VDom, parse, parse_owned,
 };
 
@@ -179,7 +179,7 @@ fn push_to_node(node: &mut Node<'_>, case: &mut Case) -> Result<(), Stop> {
     }
 }
 
-fn push_to_tag<A, B, O: OutlineOf<A>>(
+fn push_to_tag<A, B, O: SummaryOf<A>>(
     tag: &mut TagOf<A, B, O>,
     case: &mut Case,
 ) -> Result<(), Stop> {

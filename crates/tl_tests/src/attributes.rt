@@ -45,22 +45,22 @@ static LOOKS: [Row; 40] = [
     ("<p class=k>", &[Edit::Part(0, Part::Bytes("class", b"\xff"))], Look::Member(b"k"), "false"),
     // Of an id the length and its first and last byte. Of a member the number of a bit: what is left by 32 of the first byte,
     // three times the last and five times the length.
-    (PAGE, &[], Look::Outline, "1 105 105; 17/unknown; all"),
-    (UPPER, &[], Look::Outline, "absent;/unknown; all"),
-    ("<p id=ab>", &[], Look::Outline, "2 97 98;/unknown; all"),
-    ("<p id=''>", &[], Look::Outline, "0 0 0;/unknown; all"),
-    ("<p id>", &[], Look::Outline, "absent;/unknown; all"),
-    ("<p class>", &[], Look::Outline, "absent;/unknown; all"),
-    ("<p class=''>", &[], Look::Outline, "absent;/unknown; all"),
-    ("<p class=' '>", &[], Look::Outline, "absent;/unknown; all"),
-    (CLASS, &[], Look::Outline, "absent; 9 13/unknown; all"),
+    (PAGE, &[], Look::Summary, "1 105 105; 17/unknown; all"),
+    (UPPER, &[], Look::Summary, "absent;/unknown; all"),
+    ("<p id=ab>", &[], Look::Summary, "2 97 98;/unknown; all"),
+    ("<p id=''>", &[], Look::Summary, "0 0 0;/unknown; all"),
+    ("<p id>", &[], Look::Summary, "absent;/unknown; all"),
+    ("<p class>", &[], Look::Summary, "absent;/unknown; all"),
+    ("<p class=''>", &[], Look::Summary, "absent;/unknown; all"),
+    ("<p class=' '>", &[], Look::Summary, "absent;/unknown; all"),
+    (CLASS, &[], Look::Summary, "absent; 9 13/unknown; all"),
     // Two members with one bit.
-    ("<p class='k ab'>", &[], Look::Outline, "absent; 17/unknown; all"),
+    ("<p class='k ab'>", &[], Look::Summary, "absent; 17/unknown; all"),
     // Parts of a class that is not UTF-8, which has no members, and what was written over what was read.
-    ("<p class=k>", &[Edit::Part(0, Part::Bytes("class", b"k \xff"))], Look::Outline, "absent; 1 17/unknown; all"),
-    (PAGE, &[Edit::Part(0, Part::Value("id", "abc"))], Look::Outline, "3 97 99; 17/unknown; all"),
-    (PAGE, &[Edit::Part(0, Part::Unset("id")), Edit::Part(0, Part::Value("class", "b")),], Look::Outline, "absent; 13/unknown; all"),
-    (PAGE, &[Edit::Part(0, Part::Bare("class"))], Look::Outline, "1 105 105;/unknown; all"),
+    ("<p class=k>", &[Edit::Part(0, Part::Bytes("class", b"k \xff"))], Look::Summary, "absent; 1 17/unknown; all"),
+    (PAGE, &[Edit::Part(0, Part::Value("id", "abc"))], Look::Summary, "3 97 99; 17/unknown; all"),
+    (PAGE, &[Edit::Part(0, Part::Unset("id")), Edit::Part(0, Part::Value("class", "b")),], Look::Summary, "absent; 13/unknown; all"),
+    (PAGE, &[Edit::Part(0, Part::Bare("class"))], Look::Summary, "1 105 105;/unknown; all"),
 ];
 
 #[test]

@@ -4,7 +4,7 @@ use crate::show::{Look, Row, all_show};
 use std::alloc::{AllocError, Global};
 use std::mem;
 use std::test::Fail;
-use tl::{Bytes, HTMLTag, Node, NodeHandle, NodeOf, OutlineOf, ParserOptions, TagOf, VDom, parse};
+use tl::{Bytes, HTMLTag, Node, NodeHandle, NodeOf, SummaryOf, ParserOptions, TagOf, VDom, parse};
 
 // What is done to a document.
 pub enum Edit {
@@ -72,7 +72,7 @@ fn node_mut<'d>(
 }
 
 // Makes a handle the last child.
-fn push_to<A, B, O: OutlineOf<A>>(tag: &mut TagOf<A, B, O>, child: u32) -> Result<(), Fail> {
+fn push_to<A, B, O: SummaryOf<A>>(tag: &mut TagOf<A, B, O>, child: u32) -> Result<(), Fail> {
     let mut children = tag.children_mut();
     children.top_mut().push(NodeHandle::new(child))?;
     Ok(())
@@ -86,7 +86,7 @@ fn push(document: &mut VDom<'static>, number: u32, child: u32) -> Result<(), Fai
 }
 
 // Takes the child at a place out.
-fn pull_from<A, B, O: OutlineOf<A>>(tag: &mut TagOf<A, B, O>, place: usize) -> Result<(), Fail> {
+fn pull_from<A, B, O: SummaryOf<A>>(tag: &mut TagOf<A, B, O>, place: usize) -> Result<(), Fail> {
     let mut children = tag.children_mut();
     let handles = children.top_mut();
     if place >= handles.len() {

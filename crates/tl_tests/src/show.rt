@@ -7,7 +7,7 @@ use std::process::Abort;
 use std::test::Fail;
 use tl::errors::TreeError;
 use tl::{
-    Attributes, Bytes, HTMLTag, IdOutline, Node, NodeHandle, Outline, OutlineOf, Parser,
+    Attributes, Bytes, HTMLTag, IdSummary, Node, NodeHandle, Summary, SummaryOf, Parser,
     ParserOptions, VDom, parse,
 };
 
@@ -32,7 +32,7 @@ pub enum Look {
     // Whether the class of the first tag has a member.
     Member(&'static [u8]),
     // What an outline says of the first tag, and after a `/` what one says that knows nothing.
-    Outline,
+    Summary,
 }
 
 // A page, what is done to its document, what is looked at then, and what that shows.
@@ -107,7 +107,7 @@ fn show(
         Look::Measures => show_measures(document, out),
         Look::Members => show_members(document, out),
         Look::Member(class) => show_member(document, class, out),
-        Look::Outline => show_outlines(document, out),
+        Look::Summary => show_outlines(document, out),
     }
 }
 
@@ -388,17 +388,17 @@ fn show_member(document: &VDom<'static>, class: &[u8], out: &mut String) -> Resu
 
 fn show_outlines(document: &VDom<'static>, out: &mut String) -> Result<(), Fail> {
     let attributes = first_of(document)?;
-    show_outline(Outline::from_attributes(attributes), out)?;
+    show_summary(Summary::from_attributes(attributes), out)?;
     out.push('/')?;
-    show_outline(Outline::unknown(), out)
+    show_summary(Summary::unknown(), out)
 }
 
 // Writes the length and the ends of the id, and after a `;` the numbers of the bits of the class.
-fn show_outline(outline: Outline, out: &mut String) -> Result<(), Fail> {
+fn show_summary(outline: Summary, out: &mut String) -> Result<(), Fail> {
     match outline.id {
-        IdOutline::Unknown => out.push_str("unknown;")?,
-        IdOutline::Absent => out.push_str("absent;")?,
-        IdOutline::Known(mark) => write!(out, "{} {} {};", mark.len, mark.first, mark.last)?,
+        IdSummary::Unknown => out.push_str("unknown;")?,
+        IdSummary::Absent => out.push_str("absent;")?,
+        IdSummary::Known(mark) => write!(out, "{} {} {};", mark.len, mark.first, mark.last)?,
     }
     show_bits(outline.classes, out)
 }

@@ -8,21 +8,21 @@ use std::hash::{BuildHasher, FoldHasher, Hasher};
 
 // A hasher that begins with a number, so that names whose hashes meet under one number have others under another.
 #[derive(Clone, Copy)]
-pub(crate) struct Keyed {
+pub(crate) struct KeyedState {
     initial: FoldHasher,
 }
 
-impl Keyed {
-    pub(crate) fn new(key: u64) -> Keyed
+impl KeyedState {
+    pub(crate) fn new(key: u64) -> KeyedState
         ensures { result ≡ keyed_by key }
     {
         let mut initial = FoldHasher::default();
         initial.write_u64(key);
-        Keyed { initial }
+        KeyedState { initial }
     }
 }
 
-impl BuildHasher for Keyed {
+impl BuildHasher for KeyedState {
     type Hasher = FoldHasher;
 
     ghost build_hasher = { λ keyed. keyed.initial };

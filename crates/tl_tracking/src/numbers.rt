@@ -4,17 +4,17 @@ ghost use Rattle.std.specs.HashMap.{hasher_of};
 ghost use Rattle.std.specs.Map.{lookup};
 ghost use Rattle.tl_tracking.specs.Tracking.{KeepsFirst, AddsMember, class_at, ends_with, with_number};
 
-use crate::keyed::Keyed;
+use crate::keyed::KeyedState;
 use std::alloc::{AllocError, Global};
 use std::collections::HashMap;
 use tl_attributes::piece::Piece;
 use tl_inline::inline::vec::InlineVec;
 
 // The first tag of each id.
-pub(crate) type Ids<B> = HashMap<B, u32, Keyed>;
+pub(crate) type Ids<B> = HashMap<B, u32, KeyedState>;
 
 // The tags of each member of classes.
-pub(crate) type Classes<B> = HashMap<B, InlineVec<u32, 2>, Keyed>;
+pub(crate) type Classes<B> = HashMap<B, InlineVec<u32, 2>, KeyedState>;
 
 // Keeps a number under an id, unless there is one.
 pub(crate) fn keep_first<B: Piece + Drop>(

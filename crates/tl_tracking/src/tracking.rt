@@ -4,7 +4,7 @@ ghost use Rattle.tl_spec.specs.Tree.Document.{Node};
 ghost use Rattle.tl_spec.specs.Lookup.Scan.{id_of, id_scan, class_scan};
 ghost use Rattle.tl_tracking.specs.Tracking.{TracksIds, TracksMembers, TracksClasses, no_maps, ends_with, id_in, class_in, numbers_lent};
 
-use crate::keyed::Keyed;
+use crate::keyed::KeyedState;
 use crate::numbers::{Classes, Ids, add_member, keep_first};
 use crate::options::ParserOptions;
 use std::alloc::{AllocError, Global};
@@ -64,12 +64,12 @@ impl<B: Piece> TrackingOf<B> {
             alloc,
             key,
             ids: if options.is_tracking_ids() {
-                Some(HashMap::with_hasher(alloc, Keyed::new(key)))
+                Some(HashMap::with_hasher(alloc, KeyedState::new(key)))
             } else {
                 None
             },
             classes: if options.is_tracking_classes() {
-                Some(HashMap::with_hasher(alloc, Keyed::new(key)))
+                Some(HashMap::with_hasher(alloc, KeyedState::new(key)))
             } else {
                 None
             },

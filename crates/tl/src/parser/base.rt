@@ -9,7 +9,7 @@ use crate::parser::tag::node::{Node, NodeOf};
 use std::alloc::Global;
 use std::marker::Model;
 use tl_attributes::attributes::Attributes;
-use tl_attributes::outline::{Outline, OutlineOf};
+use tl_attributes::summary::{Summary, SummaryOf};
 use tl_bytes::byte_string::Bytes;
 use tl_inline::inline::vec::InlineVec;
 use tl_table::handle::{InnerNodeHandle, NodeHandle};
@@ -37,7 +37,7 @@ pub enum HTMLVersion {
 
 /// A table of fewer than 2^32 nodes, the handles of its top nodes, its version, and what was tracked of it in a value of the type `M`.
 #[derive(Debug, Drop)]
-pub struct ParserOf<A, B, O: OutlineOf<A>, M> {
+pub struct ParserOf<A, B, O: SummaryOf<A>, M> {
     nodes: Vec<NodeOf<A, B, O>>,
     top: Vec<NodeHandle>,
     version: Option<HTMLVersion>,
@@ -50,9 +50,9 @@ pub struct ParserOf<A, B, O: OutlineOf<A>, M> {
 pub type Tracking<'a> = TrackingOf<Bytes<'a>>;
 
 /// A table of nodes that borrow from a text.
-pub type Parser<'a> = ParserOf<Attributes<'a>, Bytes<'a>, Outline, Tracking<'a>>;
+pub type Parser<'a> = ParserOf<Attributes<'a>, Bytes<'a>, Summary, Tracking<'a>>;
 
-impl<A, B, O: OutlineOf<A>, M> Model for ParserOf<A, B, O, M> {
+impl<A, B, O: SummaryOf<A>, M> Model for ParserOf<A, B, O, M> {
     ghost use Rattle.std.specs.Prelude.{◌≡◌, ◌<◌, ◌^◌, length, true};
     ghost use Rattle.tl.specs.Table.{Table};
     ghost use Rattle.tl.specs.Preorder.{IsInPreorder};
@@ -70,7 +70,7 @@ impl<A, B, O: OutlineOf<A>, M> Model for ParserOf<A, B, O, M> {
         × (p.in_preorder ≡ true → IsInPreorder p.nodes.items) };
 }
 
-impl<A, B, O: OutlineOf<A>, M> ParserOf<A, B, O, M> {
+impl<A, B, O: SummaryOf<A>, M> ParserOf<A, B, O, M> {
     // A table of these parts.
     pub(crate) fn from_parts(
         nodes: Vec<NodeOf<A, B, O>>,
@@ -157,7 +157,7 @@ impl<A, B, O: OutlineOf<A>, M> ParserOf<A, B, O, M> {
     #[tactic(auto, using(crate::proofs::Nodes::copied_of_item))]
     pub fn resolve_node_id_mut(&mut self, id: InnerNodeHandle) -> Option<&mut NodeOf<A, B, O>>
         ensures* writes_back { sem 𝓛
-            (LendsNode A.row B.row O.row M.row O.OutlineOf self.entry id result) }
+            (LendsNode A.row B.row O.row M.row O.SummaryOf self.entry id result) }
         ensures value { option_copied_mut result ≡ slice_get self.old.nodes id }
     {
         self.in_preorder = false;
@@ -167,7 +167,7 @@ impl<A, B, O: OutlineOf<A>, M> ParserOf<A, B, O, M> {
     // All nodes for writing.
     pub(crate) fn nodes_mut(&mut self) -> &mut [NodeOf<A, B, O>]
         ensures* writes_back { sem 𝓛
-            (LendsTableNodes A.row B.row O.row M.row O.OutlineOf self.entry result) }
+            (LendsTableNodes A.row B.row O.row M.row O.SummaryOf self.entry result) }
         ensures value { result.now ≡ self.old.nodes }
     {
         self.in_preorder = false;
@@ -177,14 +177,14 @@ impl<A, B, O: OutlineOf<A>, M> ParserOf<A, B, O, M> {
     // The handles of the top nodes for writing.
     pub(crate) fn top_mut(&mut self) -> &mut [NodeHandle]
         ensures* writes_back { sem 𝓛
-            (LendsTableTop A.row B.row O.row M.row O.OutlineOf self.entry result) }
+            (LendsTableTop A.row B.row O.row M.row O.SummaryOf self.entry result) }
         ensures value { result.now ≡ self.old.top }
     {
         self.top.as_mut_slice()
     }
 }
 
-impl<A: Drop, B: Drop, O: OutlineOf<A>, M: Drop> ParserOf<A, B, O, M> {
+impl<A: Drop, B: Drop, O: SummaryOf<A>, M: Drop> ParserOf<A, B, O, M> {
     // Makes this what was tracked.
     pub(crate) fn set_tracking(&mut self, tracking: M)
         ensures { self.new ≡ record self.old { tracking = tracking } }
@@ -193,7 +193,7 @@ impl<A: Drop, B: Drop, O: OutlineOf<A>, M: Drop> ParserOf<A, B, O, M> {
     }
 }
 
-impl<A, B, O: OutlineOf<A>, M> Table for ParserOf<A, B, O, M> {
+impl<A, B, O: SummaryOf<A>, M> Table for ParserOf<A, B, O, M> {
     type Node = NodeOf<A, B, O>;
 
     ghost nodes = { λ p. p.nodes };

@@ -13,7 +13,7 @@ ghost use Rattle.tl.specs.View.{node_view};
 use crate::parser::tag::HTMLTag;
 use crate::parser::tag::node::Node;
 use tl_attributes::attributes::{Attributes, RawAttributesMap};
-use tl_attributes::outline::Mark;
+use tl_attributes::summary::Fingerprint;
 use tl_table::element::Element;
 
 // What stands at a key among the pairs other than `id` and `class`. They are gone through, since the keys of a map live as long as
@@ -45,7 +45,7 @@ fn has_id(tag: &HTMLTag<'_>, id: &[u8]) -> bool
     ensures { result ≡ is_value id.now (option_map
         (λ (bytes : Kept). bytes.list) tag.now.attributes.id) }
 {
-    tag.summary().may_be_id(Mark::from_bytes(id))
+    tag.summary().may_be_id(Fingerprint::from_bytes(id))
         && tag
             .attributes()
             .id()
@@ -57,7 +57,7 @@ fn is_in_class(tag: &HTMLTag<'_>, class: &[u8]) -> bool
     ensures { result ≡ has_member (option_map
         (λ (bytes : Kept). bytes.list) tag.now.attributes.class) class.now }
 {
-    tag.summary().may_be_member(Mark::from_bytes(class)) && tag.attributes().is_class_member(class)
+    tag.summary().may_be_member(Fingerprint::from_bytes(class)) && tag.attributes().is_class_member(class)
 }
 
 impl<'a> Element for Node<'a> {

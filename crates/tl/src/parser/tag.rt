@@ -9,7 +9,7 @@ mod range;
 use std::alloc::AllocError;
 use std::marker::Model;
 use tl_attributes::attributes::Attributes;
-use tl_attributes::outline::{Outline, OutlineOf};
+use tl_attributes::summary::{Summary, SummaryOf};
 use tl_bytes::byte_string::Bytes;
 use tl_inline::inline::vec::InlineVec;
 use tl_room::arena::{Arena, blocks};
@@ -30,17 +30,17 @@ struct Parts<A, B> {
 /// A tag of bytes of the type `B`, with attributes of the type `A`. What is asked of it most is at hand, and the rest lies in
 /// an arena, so that a table of nodes stays small.
 #[derive(Debug, Drop)]
-pub struct TagOf<A, B, O: OutlineOf<A>> {
+pub struct TagOf<A, B, O: SummaryOf<A>> {
     name: B,
     // What is known of the attributes without a look at them.
-    outline: O,
+    summary: O,
     parts: Box<Parts<A, B>, Arena>,
 }
 
 /// A tag: its name, its attributes, the handles of its children, and where it stands in the text.
-pub type HTMLTag<'a> = TagOf<Attributes<'a>, Bytes<'a>, Outline>;
+pub type HTMLTag<'a> = TagOf<Attributes<'a>, Bytes<'a>, Summary>;
 
-impl<A, B, O: OutlineOf<A>> Model for TagOf<A, B, O> {
+impl<A, B, O: SummaryOf<A>> Model for TagOf<A, B, O> {
     ghost use Rattle.tl.specs.Tag.{Tag, tag_code};
 
     ghost Value = { Tag A B };
@@ -55,10 +55,10 @@ impl<A, B, O: OutlineOf<A>> Model for TagOf<A, B, O> {
       start = t.parts.value.start;
     } };
 
-    ghost invariant = { λ t. O.is_outline t.outline t.parts.value.attributes };
+    ghost invariant = { λ t. O.is_summary t.summary t.parts.value.attributes };
 }
 
-impl<A: Drop, B: Drop, O: OutlineOf<A>> TagOf<A, B, O> {
+impl<A: Drop, B: Drop, O: SummaryOf<A>> TagOf<A, B, O> {
     ghost use Rattle.tl.specs.Tag.{childless};
 
     // A tag without children, of whose attributes nothing is known but by a look at them.
@@ -80,7 +80,7 @@ impl<A: Drop, B: Drop, O: OutlineOf<A>> TagOf<A, B, O> {
         };
         Ok(TagOf {
             name,
-            outline: O::unknown(),
+            summary: O::unknown(),
             parts: Box::new(arena, parts)?,
         })
     }
@@ -94,7 +94,7 @@ impl<A: Drop, B: Drop, O: OutlineOf<A>> TagOf<A, B, O> {
     }
 }
 
-impl<A, B, O: OutlineOf<A>> TagOf<A, B, O> {
+impl<A, B, O: SummaryOf<A>> TagOf<A, B, O> {
     ghost use Rattle.std.specs.Borrow.{sem};
     ghost use Rattle.tl_spec.specs.Tree.Inline.{room, with_last};
     ghost use Rattle.tl.specs.TagLends.{LendsName, LendsAttributes, LendsChildren};
@@ -138,17 +138,17 @@ impl<A, B, O: OutlineOf<A>> TagOf<A, B, O> {
 
     // What is known of the attributes without a look at them.
     pub(crate) fn summary(&self) -> O
-        ensures { O.is_outline result self.now.attributes }
+        ensures { O.is_summary result self.now.attributes }
     {
-        self.outline
+        self.summary
     }
 
     // Makes the outline that of the attributes as they are.
     #[inline(always)]
-    pub(crate) fn renew_outline(&mut self)
+    pub(crate) fn refresh_summary(&mut self)
         ensures { self.new ≡ self.old }
     {
-        self.outline = O::from_attributes(&self.parts.attributes);
+        self.summary = O::from_attributes(&self.parts.attributes);
     }
 
     // The handles of the children.
@@ -160,7 +160,7 @@ impl<A, B, O: OutlineOf<A>> TagOf<A, B, O> {
 
     /// The name for writing. The raw keeps the name that was read.
     pub fn name_mut(&mut self) -> &mut B
-        ensures* writes_back { sem 𝓛 (LendsName A.row B.row O.row O.OutlineOf self.entry result) }
+        ensures* writes_back { sem 𝓛 (LendsName A.row B.row O.row O.SummaryOf self.entry result) }
         ensures value { result.now ≡ self.old.name }
     {
         &mut self.name
@@ -169,17 +169,17 @@ impl<A, B, O: OutlineOf<A>> TagOf<A, B, O> {
     /// The attributes for writing.
     pub fn attributes_mut(&mut self) -> &mut A
         ensures* writes_back { sem 𝓛
-            (LendsAttributes A.row B.row O.row O.OutlineOf self.entry result) }
+            (LendsAttributes A.row B.row O.row O.SummaryOf self.entry result) }
         ensures value { result.now ≡ self.old.attributes }
     {
-        self.outline = O::unknown();
+        self.summary = O::unknown();
         &mut self.parts.attributes
     }
 
     // The handles of the children for writing.
     pub(crate) fn child_handles_mut(&mut self) -> &mut RawChildren
         ensures* writes_back { sem 𝓛
-            (LendsChildren A.row B.row O.row O.OutlineOf self.entry result) }
+            (LendsChildren A.row B.row O.row O.SummaryOf self.entry result) }
         ensures value { result.now ≡ self.old.children }
     {
         &mut self.parts.children
@@ -216,7 +216,7 @@ impl<'a> HTMLTag<'a> {
         let arena = blocks(Box::allocator(&self.parts).alloc())?;
         let (name, raw) = clone_texts(&self.name, &parts.raw)?;
         let (attributes, children) = clone_lists(&parts.attributes, &parts.children)?;
-        let outline = Outline::from_attributes(&attributes);
+        let summary = Summary::from_attributes(&attributes);
         let copy = Parts {
             attributes,
             children,
@@ -225,7 +225,7 @@ impl<'a> HTMLTag<'a> {
         };
         Ok(TagOf {
             name,
-            outline,
+            summary,
             parts: Box::new(arena, copy)?,
         })
     }

@@ -23,7 +23,7 @@ use tl_table::lookup::{InClass, first_with_id, in_class};
 
 // Handles that are numbers of a map, or places that a scan finds.
 #[derive(Debug, Drop)]
-enum HandlesLeft<'s, 'a> {
+enum RemainingHandles<'s, 'a> {
     Tracked(&'s [u32]),
     Scanned(InClass<'s, Node<'a>>),
 }
@@ -31,7 +31,7 @@ enum HandlesLeft<'s, 'a> {
 /// The handles of the tags of a class, rising. A clause sees it as the list of those that are left. A step takes no memory.
 #[derive(Debug, Drop)]
 pub struct ElementsByClassName<'s, 'a> {
-    left: HandlesLeft<'s, 'a>,
+    left: RemainingHandles<'s, 'a>,
 }
 
 impl<'s, 'a> Model for ElementsByClassName<'s, 'a> {
@@ -55,14 +55,14 @@ impl<'s, 'a> Iterator for ElementsByClassName<'s, 'a> {
 
     fn next(&mut self) -> Option<NodeHandle> {
         match &mut self.left {
-            HandlesLeft::Tracked(numbers) => match numbers.split_first() {
+            RemainingHandles::Tracked(numbers) => match numbers.split_first() {
                 Some((first, rest)) => {
                     *numbers = rest;
                     Some(NodeHandle::new(*first))
                 }
                 None => None,
             },
-            HandlesLeft::Scanned(places) => match places.next() {
+            RemainingHandles::Scanned(places) => match places.next() {
                 Some(place) => Some(NodeHandle::new(place as u32)),
                 None => None,
             },
@@ -79,8 +79,8 @@ impl<'s, 'a> Clone for ElementsByClassName<'s, 'a> {
 
     fn clone(&self) -> Result<ElementsByClassName<'s, 'a>, AllocError> {
         let left = match &self.left {
-            HandlesLeft::Tracked(numbers) => HandlesLeft::Tracked(*numbers),
-            HandlesLeft::Scanned(places) => HandlesLeft::Scanned(places.clone()?),
+            RemainingHandles::Tracked(numbers) => RemainingHandles::Tracked(*numbers),
+            RemainingHandles::Scanned(places) => RemainingHandles::Scanned(places.clone()?),
         };
         Ok(ElementsByClassName { left })
     }
@@ -115,12 +115,12 @@ fn tracked_class<'s, 'a>(tracking: &'s Tracking<'a>, member: &'s str) -> &'s [u3
 }
 
 // The places of the tags with a class member, by a scan.
-fn scanned_class<'s, 'a>(nodes: &'s [Node<'a>], member: &'s str) -> HandlesLeft<'s, 'a>
+fn scanned_class<'s, 'a>(nodes: &'s [Node<'a>], member: &'s str) -> RemainingHandles<'s, 'a>
     requires { length nodes.now < 2 ^ 32 }
     ensures left { remaining_handles result ≡ class_scan (map node_view nodes.now) member.now }
     ensures handles { AreRemainingHandles result }
 {
-    HandlesLeft::Scanned(in_class(nodes, member.as_bytes()))
+    RemainingHandles::Scanned(in_class(nodes, member.as_bytes()))
 }
 
 impl<'a> VDom<'a> {
@@ -151,7 +151,7 @@ impl<'a> VDom<'a> {
         let tracking = self.parser().tracking();
         if tracking.is_tracking_classes() {
             ElementsByClassName {
-                left: HandlesLeft::Tracked(tracked_class(tracking, member)),
+                left: RemainingHandles::Tracked(tracked_class(tracking, member)),
             }
         } else {
             ElementsByClassName {

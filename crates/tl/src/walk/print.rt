@@ -186,7 +186,7 @@ pub(crate) fn write_row<'s, 'a>(
     ensures dangling { (h : ℕ) → FirstDangles nodes.now handles.now h
         → result ≡ Err (TreeError.Dangling h) }
 {
-    write_walk(Walker::new(alloc, nodes, Entered::Shown, handles), out)
+    write_walk(Walker::new(alloc, nodes, Entered::Printed, handles), out)
 }
 
 // Writes a tag with all that it holds.

@@ -17,9 +17,9 @@ mod pairs;
 
 use arrayvec::ArrayVec;
 use heap::HeapPairs;
-use held::{HeldPairs, push_inline, remove_inline, replace};
+use held::{PairStorage, push_inline, remove_inline, replace};
 pub use iter::InlineHashMapIterator;
-use iter::PairsLeft;
+use iter::RemainingPairs;
 use pairs::find;
 use std::alloc::{AllocError, Global};
 use std::collections::HashMap;
@@ -34,7 +34,7 @@ use std::marker::Model;
 #[derive(Drop)]
 pub struct InlineHashMap<K: Eq + Hash, V, const N: usize> {
     alloc: Global,
-    held: HeldPairs<K, V, N>,
+    held: PairStorage<K, V, N>,
 }
 
 impl<K: Eq + Hash, V, const N: usize> Model for InlineHashMap<K, V, N> {
@@ -67,8 +67,8 @@ impl<K: Eq + Hash, V, const N: usize> InlineHashMap<K, V, N> {
         ensures unique { IsDistinct K.eq (keys_of self.now.entries) }
     {
         match &self.held {
-            HeldPairs::Inline(inline) => inline.len(),
-            HeldPairs::Heap(heap) => heap.len(),
+            PairStorage::Inline(inline) => inline.len(),
+            PairStorage::Heap(heap) => heap.len(),
         }
     }
 
@@ -84,8 +84,8 @@ impl<K: Eq + Hash, V, const N: usize> InlineHashMap<K, V, N> {
         ensures { result ≡ self.now.on_heap }
     {
         match &self.held {
-            HeldPairs::Inline(_) => false,
-            HeldPairs::Heap(_) => true,
+            PairStorage::Inline(_) => false,
+            PairStorage::Heap(_) => true,
         }
     }
 
@@ -95,8 +95,8 @@ impl<K: Eq + Hash, V, const N: usize> InlineHashMap<K, V, N> {
         ensures value { IfSome result (λ pairs. pairs.now ≡ self.now.entries) }
     {
         match &self.held {
-            HeldPairs::Inline(inline) => Some(inline.as_slice()),
-            HeldPairs::Heap(_) => None,
+            PairStorage::Inline(inline) => Some(inline.as_slice()),
+            PairStorage::Heap(_) => None,
         }
     }
 
@@ -105,11 +105,11 @@ impl<K: Eq + Hash, V, const N: usize> InlineHashMap<K, V, N> {
         ensures { option_copied result ≡ lookup (K.eq key.now) self.now.entries }
     {
         match &self.held {
-            HeldPairs::Inline(inline) => {
+            PairStorage::Inline(inline) => {
                 let i = find(inline.as_slice(), key)?;
                 Some(&inline.as_slice()[i].1)
             }
-            HeldPairs::Heap(heap) => heap.get(key),
+            PairStorage::Heap(heap) => heap.get(key),
         }
     }
 
@@ -130,8 +130,8 @@ impl<K: Eq + Hash, V, const N: usize> InlineHashMap<K, V, N> {
         ensures index { result ≡ position (K.eq key.now) (keys_of self.now.entries) }
     {
         match &self.held {
-            HeldPairs::Inline(inline) => find(inline.as_slice(), key),
-            HeldPairs::Heap(heap) => heap.get_index_of(key),
+            PairStorage::Inline(inline) => find(inline.as_slice(), key),
+            PairStorage::Heap(heap) => heap.get_index_of(key),
         }
     }
 
@@ -152,10 +152,10 @@ impl<K: Eq + Hash, V, const N: usize> InlineHashMap<K, V, N> {
         ensures unique { IsDistinct K.eq (keys_of self.now.entries) }
     {
         match &self.held {
-            HeldPairs::Inline(inline) => InlineHashMapIterator {
-                left: PairsLeft::Slice(inline.as_slice().iter()),
+            PairStorage::Inline(inline) => InlineHashMapIterator {
+                left: RemainingPairs::Slice(inline.as_slice().iter()),
             },
-            HeldPairs::Heap(heap) => heap.iter(),
+            PairStorage::Heap(heap) => heap.iter(),
         }
     }
 }
@@ -168,7 +168,7 @@ impl<K: Default + Eq + Hash, V: Default, const N: usize> InlineHashMap<K, V, N> 
     {
         InlineHashMap {
             alloc,
-            held: HeldPairs::Inline(ArrayVec::new()),
+            held: PairStorage::Inline(ArrayVec::new()),
         }
     }
 }
@@ -186,7 +186,7 @@ impl<K: Default + Eq + Hash + Drop, V: Default + Drop, const N: usize> InlineHas
         ensures succeeds { self.old.on_heap ≡ false → length self.old.entries < N → IsOk result }
     {
         match &mut self.held {
-            HeldPairs::Inline(inline) => {
+            PairStorage::Inline(inline) => {
                 let value = match replace(inline, &key, value) {
                     Ok(()) => return Ok(()),
                     Err(value) => value,
@@ -197,13 +197,13 @@ impl<K: Default + Eq + Hash + Drop, V: Default + Drop, const N: usize> InlineHas
                 }
                 match HeapPairs::take(self.alloc, inline, key, value) {
                     Ok(heap) => {
-                        self.held = HeldPairs::Heap(heap);
+                        self.held = PairStorage::Heap(heap);
                         Ok(())
                     }
                     Err(pair) => Err(pair),
                 }
             }
-            HeldPairs::Heap(heap) => heap.insert(key, value),
+            PairStorage::Heap(heap) => heap.insert(key, value),
         }
     }
 
@@ -213,8 +213,8 @@ impl<K: Default + Eq + Hash + Drop, V: Default + Drop, const N: usize> InlineHas
         ensures left { self.new ≡ without_key K.eq self.old key.now }
     {
         match &mut self.held {
-            HeldPairs::Inline(inline) => remove_inline(inline, key),
-            HeldPairs::Heap(heap) => heap.swap_remove(key),
+            PairStorage::Inline(inline) => remove_inline(inline, key),
+            PairStorage::Heap(heap) => heap.swap_remove(key),
         }
     }
 }
@@ -231,13 +231,13 @@ impl<K: Default + Eq + Hash + Clone, V: Default + Clone, const N: usize> InlineH
             → All V.is_infallible (values_of self.now.entries) → IsOk result }
     {
         match &self.held {
-            HeldPairs::Inline(inline) => Ok(InlineHashMap {
+            PairStorage::Inline(inline) => Ok(InlineHashMap {
                 alloc: self.alloc,
-                held: HeldPairs::Inline(inline.clone()?),
+                held: PairStorage::Inline(inline.clone()?),
             }),
-            HeldPairs::Heap(heap) => Ok(InlineHashMap {
+            PairStorage::Heap(heap) => Ok(InlineHashMap {
                 alloc: self.alloc,
-                held: HeldPairs::Heap(heap.clone()?),
+                held: PairStorage::Heap(heap.clone()?),
             }),
         }
     }

@@ -12,7 +12,7 @@ mod iter;
 
 use super::spill::move_out;
 use arrayvec::ArrayVec;
-use held::HeldItems;
+use held::ItemStorage;
 pub use iter::InlineVecIter;
 use std::alloc::{AllocError, Global};
 use std::fmt;
@@ -29,7 +29,7 @@ const MORE: usize = 4;
 #[derive(Drop)]
 pub struct InlineVec<T, const N: usize> {
     alloc: Global,
-    held: HeldItems<T, N>,
+    held: ItemStorage<T, N>,
 }
 
 impl<T, const N: usize> Model for InlineVec<T, N> {
@@ -56,8 +56,8 @@ impl<T, const N: usize> InlineVec<T, N> {
         ensures inline { self.now.on_heap ≡ false → result ≤ N }
     {
         match &self.held {
-            HeldItems::Inline(inline) => inline.len(),
-            HeldItems::Heap(heap) => heap.len(),
+            ItemStorage::Inline(inline) => inline.len(),
+            ItemStorage::Heap(heap) => heap.len(),
         }
     }
 
@@ -73,8 +73,8 @@ impl<T, const N: usize> InlineVec<T, N> {
         ensures { result ≡ self.now.on_heap }
     {
         match &self.held {
-            HeldItems::Inline(_) => false,
-            HeldItems::Heap(_) => true,
+            ItemStorage::Inline(_) => false,
+            ItemStorage::Heap(_) => true,
         }
     }
 
@@ -83,8 +83,8 @@ impl<T, const N: usize> InlineVec<T, N> {
         ensures { result.now ≡ self.now.items }
     {
         match &self.held {
-            HeldItems::Inline(inline) => inline.as_slice(),
-            HeldItems::Heap(heap) => heap.as_slice(),
+            ItemStorage::Inline(inline) => inline.as_slice(),
+            ItemStorage::Heap(heap) => heap.as_slice(),
         }
     }
 
@@ -147,7 +147,7 @@ impl<T: Default, const N: usize> InlineVec<T, N> {
     {
         InlineVec {
             alloc,
-            held: HeldItems::Inline(ArrayVec::new()),
+            held: ItemStorage::Inline(ArrayVec::new()),
         }
     }
 }
@@ -163,7 +163,7 @@ impl<T: Default + Drop, const N: usize> InlineVec<T, N> {
         ensures succeeds { self.old.on_heap ≡ false → length self.old.items < N → IsOk result }
     {
         match &mut self.held {
-            HeldItems::Inline(inline) => {
+            ItemStorage::Inline(inline) => {
                 if !inline.is_full() {
                     inline.push(item);
                     return Ok(());
@@ -172,13 +172,13 @@ impl<T: Default + Drop, const N: usize> InlineVec<T, N> {
                 match moved {
                     Ok(mut heap) => {
                         heap.push_reserved(item);
-                        self.held = HeldItems::Heap(heap);
+                        self.held = ItemStorage::Heap(heap);
                         Ok(())
                     }
                     Err(_) => Err(item),
                 }
             }
-            HeldItems::Heap(heap) => match heap.push(item) {
+            ItemStorage::Heap(heap) => match heap.push(item) {
                 Ok(()) => Ok(()),
                 Err(failed) => Err(failed.value),
             },
@@ -192,8 +192,8 @@ impl<T: Default + Drop, const N: usize> InlineVec<T, N> {
         ensures left { self.new ≡ without_item self.old index }
     {
         match &mut self.held {
-            HeldItems::Inline(inline) => inline.remove(index),
-            HeldItems::Heap(heap) => heap.remove(index),
+            ItemStorage::Inline(inline) => inline.remove(index),
+            ItemStorage::Heap(heap) => heap.remove(index),
         }
     }
 }
@@ -209,13 +209,13 @@ impl<T: Default + Clone, const N: usize> InlineVec<T, N> {
             IsOk result }
     {
         match &self.held {
-            HeldItems::Inline(inline) => Ok(InlineVec {
+            ItemStorage::Inline(inline) => Ok(InlineVec {
                 alloc: self.alloc,
-                held: HeldItems::Inline(inline.clone()?),
+                held: ItemStorage::Inline(inline.clone()?),
             }),
-            HeldItems::Heap(heap) => Ok(InlineVec {
+            ItemStorage::Heap(heap) => Ok(InlineVec {
                 alloc: self.alloc,
-                held: HeldItems::Heap(heap.clone()?),
+                held: ItemStorage::Heap(heap.clone()?),
             }),
         }
     }

@@ -14,7 +14,7 @@ use crate::script::tag::{
     pull_child, push_child, remove_key, remove_value, set_flag, set_name, set_value,
 };
 use std::alloc::Global;
-use tl::{HTMLTag, Node, NodeHandle, NodeOf, OutlineOf, ParserOf, TagOf, VDom};
+use tl::{HTMLTag, Node, NodeHandle, NodeOf, SummaryOf, ParserOf, TagOf, VDom};
 use tl_bytes::byte_string::{Bytes, copied};
 
 /// Takes the steps in order, up to the first that is refused, whose place in the list, from 0, is answered with
@@ -76,12 +76,12 @@ fn take_step<'a>(alloc: Global, document: &mut VDom<'a>, step: &Step<'_>) -> Res
 }
 
 // The tag at a number for writing.
-fn tag_mut<A, B, O: OutlineOf<A>, M>(
+fn tag_mut<A, B, O: SummaryOf<A>, M>(
     table: &mut ParserOf<A, B, O, M>,
     number: u32,
 ) -> Result<&mut TagOf<A, B, O>, StepError>
     ensures* writes_back { sem 𝓛
-        (LendsTagAt A.row B.row O.row M.row O.OutlineOf table.entry number result) }
+        (LendsTagAt A.row B.row O.row M.row O.SummaryOf table.entry number result) }
     ensures value { IsTagAt table.old number result }
 {
     let Some(node) = table.resolve_node_id_mut(number) else {

@@ -8,7 +8,7 @@ ghost use Rattle.tl_program.specs.Script.{Changes};
 
 use crate::script::step::StepError;
 use std::alloc::{AllocError, Global};
-use tl::{HTMLTag, NodeHandle, OutlineOf, TagOf};
+use tl::{HTMLTag, NodeHandle, SummaryOf, TagOf};
 use tl_bytes::byte_string::copied;
 
 // Names the tag.
@@ -115,7 +115,7 @@ pub(super) fn pull_child<'a>(tag: &mut HTMLTag<'a>, place: usize) -> Result<(), 
 }
 
 // A push of a tag of any parts: what a tag with a lifetime holds after the list was lent is not seen.
-fn push_handle<A, B, O: OutlineOf<A>>(
+fn push_handle<A, B, O: SummaryOf<A>>(
     tag: &mut TagOf<A, B, O>,
     child: NodeHandle,
 ) -> Result<(), AllocError>
@@ -129,7 +129,7 @@ fn push_handle<A, B, O: OutlineOf<A>>(
 }
 
 // A removal of the child at a place of a tag of any parts.
-fn pull_handle<A, B, O: OutlineOf<A>>(tag: &mut TagOf<A, B, O>, place: usize)
+fn pull_handle<A, B, O: SummaryOf<A>>(tag: &mut TagOf<A, B, O>, place: usize)
     requires { place < length tag.old.children.items }
     ensures { tag.new ≡ record tag.old { children = without_item tag.old.children place } }
 {

@@ -13,14 +13,14 @@ use std::alloc::{AllocError, Global};
 
 // What stands between two parts.
 #[derive(Clone, Copy)]
-enum Link {
+enum Separator {
     Comma,
     Step,
     Spaces,
     Touch,
 }
 
-impl Link {
+impl Separator {
     // What it gives of what stands before it and the part after it.
     fn join<'a>(
         self,
@@ -34,10 +34,10 @@ impl Link {
         let before = Box::new(alloc, before)?;
         let part = Box::new(alloc, part)?;
         Ok(match self {
-            Link::Comma => Selector::Or(before, part),
-            Link::Step => Selector::Parent(before, part),
-            Link::Spaces => Selector::Descendant(before, part),
-            Link::Touch => Selector::And(before, part),
+            Separator::Comma => Selector::Or(before, part),
+            Separator::Step => Selector::Parent(before, part),
+            Separator::Spaces => Selector::Descendant(before, part),
+            Separator::Touch => Selector::And(before, part),
         })
     }
 }
@@ -50,17 +50,17 @@ fn starts_with_space(s: &[u8]) -> bool
 
 // The link at the front, if the text doesn't end there.
 
-fn read_separator(s: &[u8]) -> Option<(Link, &[u8])>
+fn read_separator(s: &[u8]) -> Option<(Separator, &[u8])>
     ensures { option_map (λ p. (separator p.0, p.1.now)) result ≡ separator_at s.now }
 {
     let spaced = starts_with_space(s);
     let text = skip_spaces(s);
     let (first, rest) = text.split_first()?;
     Some(match *first {
-        b',' => (Link::Comma, skip_spaces(rest)),
-        b'>' => (Link::Step, skip_spaces(rest)),
-        _ if spaced => (Link::Spaces, text),
-        _ => (Link::Touch, text),
+        b',' => (Separator::Comma, skip_spaces(rest)),
+        b'>' => (Separator::Step, skip_spaces(rest)),
+        _ if spaced => (Separator::Spaces, text),
+        _ => (Separator::Touch, text),
     })
 }
 
@@ -69,7 +69,7 @@ fn read_separator(s: &[u8]) -> Option<(Link, &[u8])>
 enum Next<'a> {
     End,
     Bad,
-    Part(Link, Selector<'a>, &'a [u8]),
+    Part(Separator, Selector<'a>, &'a [u8]),
 }
 
 fn read_next(s: &[u8]) -> Next<'_>
@@ -96,7 +96,7 @@ fn push_complex<'a>(
 {
     match before {
         None => Ok(chain),
-        Some(before) => Link::Comma.join(alloc, before, chain),
+        Some(before) => Separator::Comma.join(alloc, before, chain),
     }
 }
 
@@ -122,7 +122,7 @@ fn parse_rest<'a>(
             Next::Part(link, part, text) => {
                 rest = text;
                 match link {
-                    Link::Comma => {
+                    Separator::Comma => {
                         before = Some(push_complex(alloc, before, chain)?);
                         chain = part;
                     }

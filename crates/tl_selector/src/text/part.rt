@@ -85,7 +85,7 @@ fn value(s: &[u8]) -> Option<(&[u8], &[u8])>
 
 // What is asked of a value.
 #[derive(Clone, Copy)]
-enum Op {
+enum AttrOperator {
     Equals,
     HasPart,
     StartsWith,
@@ -93,16 +93,16 @@ enum Op {
     Contains,
 }
 
-impl Op {
+impl AttrOperator {
     // The op whose first byte this is, where a `=` follows.
-    fn from_byte(byte: u8) -> Option<Op>
+    fn from_byte(byte: u8) -> Option<AttrOperator>
         ensures { option_map operator result ≡ operator_of byte }
     {
         match byte {
-            b'~' => Some(Op::HasPart),
-            b'^' => Some(Op::StartsWith),
-            b'$' => Some(Op::EndsWith),
-            b'*' => Some(Op::Contains),
+            b'~' => Some(AttrOperator::HasPart),
+            b'^' => Some(AttrOperator::StartsWith),
+            b'$' => Some(AttrOperator::EndsWith),
+            b'*' => Some(AttrOperator::Contains),
             _ => None,
         }
     }
@@ -111,23 +111,23 @@ impl Op {
         ensures { selector result ≡ with_operator (operator self) key.now value.now }
     {
         match self {
-            Op::Equals => Selector::AttributeValue(key, value),
-            Op::HasPart => Selector::AttributeValueWhitespacedContains(key, value),
-            Op::StartsWith => Selector::AttributeValueStartsWith(key, value),
-            Op::EndsWith => Selector::AttributeValueEndsWith(key, value),
-            Op::Contains => Selector::AttributeValueSubstring(key, value),
+            AttrOperator::Equals => Selector::AttributeValue(key, value),
+            AttrOperator::HasPart => Selector::AttributeValueWhitespacedContains(key, value),
+            AttrOperator::StartsWith => Selector::AttributeValueStartsWith(key, value),
+            AttrOperator::EndsWith => Selector::AttributeValueEndsWith(key, value),
+            AttrOperator::Contains => Selector::AttributeValueSubstring(key, value),
         }
     }
 }
 
-fn read_operator(s: &[u8]) -> Option<(Op, &[u8])>
+fn read_operator(s: &[u8]) -> Option<(AttrOperator, &[u8])>
     ensures { option_map (λ p. (operator p.0, p.1.now)) result ≡ operator_at s.now }
 {
     let (first, rest) = s.split_first()?;
     if *first == b'=' {
-        return Some((Op::Equals, rest));
+        return Some((AttrOperator::Equals, rest));
     }
-    let op = Op::from_byte(*first)?;
+    let op = AttrOperator::from_byte(*first)?;
     Some((op, skip_byte(b'=', rest)?))
 }
 

@@ -41,7 +41,7 @@ fn read_into<'a, S: Source<'a>>(
     ensures within { IfOk result (λ end. end ≤ length (S.text source.now)) }
 {
     let end = read_attributes(alloc, source, tag.attributes_mut(), at)?;
-    tag.renew_outline();
+    tag.refresh_summary();
     Ok(end)
 }
 

@@ -5,19 +5,19 @@ use crate::parser::tag::{RawChildren, TagOf};
 use std::alloc::AllocError;
 use std::marker::Model;
 use tl_attributes::attributes::Attributes;
-use tl_attributes::outline::{Outline, OutlineOf};
+use tl_attributes::summary::{Summary, SummaryOf};
 use tl_bytes::byte_string::Bytes;
 
 /// The children of a tag for reading, seen as the tag.
 #[derive(Debug, Drop)]
-pub struct ChildrenOf<'b, A, B, O: OutlineOf<A>> {
+pub struct ChildrenOf<'b, A, B, O: SummaryOf<A>> {
     tag: &'b TagOf<A, B, O>,
 }
 
 /// The children of a tag of a table.
-pub type Children<'a, 'b> = ChildrenOf<'b, Attributes<'a>, Bytes<'a>, Outline>;
+pub type Children<'a, 'b> = ChildrenOf<'b, Attributes<'a>, Bytes<'a>, Summary>;
 
-impl<'b, A, B, O: OutlineOf<A>> Model for ChildrenOf<'b, A, B, O> {
+impl<'b, A, B, O: SummaryOf<A>> Model for ChildrenOf<'b, A, B, O> {
     ghost use Rattle.tl.specs.Tag.{Tag, tag_code};
 
     ghost Value = { Tag A B };
@@ -28,7 +28,7 @@ impl<'b, A, B, O: OutlineOf<A>> Model for ChildrenOf<'b, A, B, O> {
 }
 
 /// A clone has the same tag, and takes no memory.
-impl<'b, A, B, O: OutlineOf<A>> Clone for ChildrenOf<'b, A, B, O> {
+impl<'b, A, B, O: SummaryOf<A>> Clone for ChildrenOf<'b, A, B, O> {
     ghost is_clone = { λ c copy. copy ≡ c };
 
     ghost is_infallible = { λ _. ⊤ };
@@ -38,7 +38,7 @@ impl<'b, A, B, O: OutlineOf<A>> Clone for ChildrenOf<'b, A, B, O> {
     }
 }
 
-impl<'b, A, B, O: OutlineOf<A>> ChildrenOf<'b, A, B, O> {
+impl<'b, A, B, O: SummaryOf<A>> ChildrenOf<'b, A, B, O> {
     /// The handles of the children, in order.
     pub fn top(&self) -> &RawChildren
         ensures { result.now ≡ self.now.children }
@@ -47,7 +47,7 @@ impl<'b, A, B, O: OutlineOf<A>> ChildrenOf<'b, A, B, O> {
     }
 }
 
-impl<A, B, O: OutlineOf<A>> TagOf<A, B, O> {
+impl<A, B, O: SummaryOf<A>> TagOf<A, B, O> {
     /// The children for reading.
     pub fn children(&self) -> ChildrenOf<'_, A, B, O>
         ensures { result ≡ self.now }

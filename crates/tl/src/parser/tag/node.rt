@@ -10,12 +10,12 @@ use crate::parser::tag::TagOf;
 use crate::parser::tag::children::ChildrenOf;
 use std::alloc::AllocError;
 use tl_attributes::attributes::Attributes;
-use tl_attributes::outline::{Outline, OutlineOf};
+use tl_attributes::summary::{Summary, SummaryOf};
 use tl_bytes::byte_string::Bytes;
 
 /// A node of bytes of the type `B`, whose tags have attributes of the type `A`.
 #[derive(Debug, Drop)]
-pub enum NodeOf<A, B, O: OutlineOf<A>> {
+pub enum NodeOf<A, B, O: SummaryOf<A>> {
     /// A tag.
     Tag(TagOf<A, B, O>),
     /// A text.
@@ -25,9 +25,9 @@ pub enum NodeOf<A, B, O: OutlineOf<A>> {
 }
 
 /// A node of a table: a tag, a text or a comment.
-pub type Node<'a> = NodeOf<Attributes<'a>, Bytes<'a>, Outline>;
+pub type Node<'a> = NodeOf<Attributes<'a>, Bytes<'a>, Summary>;
 
-impl<A, B, O: OutlineOf<A>> NodeOf<A, B, O> {
+impl<A, B, O: SummaryOf<A>> NodeOf<A, B, O> {
     /// The tag, if it is one.
     pub fn as_tag(&self) -> Option<&TagOf<A, B, O>>
         ensures { option_copied result ≡ tag_of self.now }
@@ -60,7 +60,7 @@ impl<A, B, O: OutlineOf<A>> NodeOf<A, B, O> {
 
     /// The tag for writing, if it is one.
     pub fn as_tag_mut(&mut self) -> Option<&mut TagOf<A, B, O>>
-        ensures* writes_back { sem 𝓛 (LendsTag A.row B.row O.row O.OutlineOf self.entry result) }
+        ensures* writes_back { sem 𝓛 (LendsTag A.row B.row O.row O.SummaryOf self.entry result) }
         ensures value { option_copied_mut result ≡ tag_of self.old }
     {
         match self {
@@ -71,7 +71,7 @@ impl<A, B, O: OutlineOf<A>> NodeOf<A, B, O> {
 
     /// The bytes of the text for writing, if it is one.
     pub fn as_raw_mut(&mut self) -> Option<&mut B>
-        ensures* writes_back { sem 𝓛 (LendsRaw A.row B.row O.row O.OutlineOf self.entry result) }
+        ensures* writes_back { sem 𝓛 (LendsRaw A.row B.row O.row O.SummaryOf self.entry result) }
         ensures value { option_copied_mut result ≡ raw_of self.old }
     {
         match self {
@@ -83,7 +83,7 @@ impl<A, B, O: OutlineOf<A>> NodeOf<A, B, O> {
     /// The bytes of the comment for writing, if it is one.
     pub fn as_comment_mut(&mut self) -> Option<&mut B>
         ensures* writes_back { sem 𝓛
-            (LendsComment A.row B.row O.row O.OutlineOf self.entry result) }
+            (LendsComment A.row B.row O.row O.SummaryOf self.entry result) }
         ensures value { option_copied_mut result ≡ comment_of self.old }
     {
         match self {
@@ -93,7 +93,7 @@ impl<A, B, O: OutlineOf<A>> NodeOf<A, B, O> {
     }
 }
 
-impl<A, B, O: OutlineOf<A>> NodeOf<A, B, O> {
+impl<A, B, O: SummaryOf<A>> NodeOf<A, B, O> {
     /// The children, if it is a tag.
     pub fn children(&self) -> Option<ChildrenOf<'_, A, B, O>>
         ensures { result ≡ tag_of self.now }

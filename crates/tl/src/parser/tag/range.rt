@@ -12,11 +12,11 @@ use crate::parser::base::Parser;
 use crate::parser::tag::children::{Children, ChildrenOf};
 use crate::parser::tag::node::Node;
 use std::ops::Range;
-use tl_attributes::outline::OutlineOf;
+use tl_attributes::summary::SummaryOf;
 use tl_table::handle::{InnerNodeHandle, NodeHandle};
 use tl_table::range;
 
-impl<'b, A, B, O: OutlineOf<A>> ChildrenOf<'b, A, B, O> {
+impl<'b, A, B, O: SummaryOf<A>> ChildrenOf<'b, A, B, O> {
     /// The number of the first child, which is not looked up; None where there is no child.
     pub fn start(&self) -> Option<InnerNodeHandle>
         ensures { result ≡ slice_get self.now.children.items 0 }

@@ -4,7 +4,7 @@ use Rattle.std.proofs.lemmas.Bool.{and_parts}
 use Rattle.std.specs.List.{list_any, prefix_len}
 use Rattle.std.specs.Str.{bytes_eq, is_utf8}
 use Rattle.tl_spec.specs.Lookup.ClassMember.{parts}
-use Rattle.tl_attributes.specs.Summary.{bit_of, mark_of, MayBeMember}
+use Rattle.tl_attributes.specs.Summary.{bit_of, fingerprint_of, MayBeMember}
 use Rattle.tl_attributes.proofs.Bits.{noted_more}
 use Rattle.tl_attributes.proofs.ClassParts.{in_part, member_is, run_at, no_run_at}
 use Rattle.tl_attributes.proofs.outline.class_bits.Goals as goal
@@ -26,12 +26,12 @@ loop-at-preserved c =
       | then-at-end w ↦
           let first = run_at class at n place within (omega arith) in
           let bit = w.bit.ensures.value ∙ ap bit_of w.from_bytes.ensures in
-          subst (λ (bits : ℕ). MayBeMember bits (mark_of member) ⊎ (list_any (bytes_eq member) rest ≡ true)) (sym w.bits-is)
+          subst (λ (bits : ℕ). MayBeMember bits (fingerprint_of member) ⊎ (list_any (bytes_eq member) rest ≡ true)) (sym w.bits-is)
           (noted_more c.loop-at.bits w.bit.result member (slice_range class at (at + n)) (parts (drop at class)) rest first bit (c.loop-at.invariant member h))
       | else-at-end w ↦
           let same : parts (drop at class) ≡ rest = no_run_at class at n place (omega arith) in
-          subst (λ (bits : ℕ). MayBeMember bits (mark_of member) ⊎ (list_any (bytes_eq member) rest ≡ true)) (sym w.bits-is)
-          (subst (λ (left : List (List ℕ)). MayBeMember c.loop-at.bits (mark_of member) ⊎ (list_any (bytes_eq member) left ≡ true)) same (c.loop-at.invariant member h))
+          subst (λ (bits : ℕ). MayBeMember bits (fingerprint_of member) ⊎ (list_any (bytes_eq member) rest ≡ true)) (sym w.bits-is)
+          (subst (λ (left : List (List ℕ)). MayBeMember c.loop-at.bits (fingerprint_of member) ⊎ (list_any (bytes_eq member) left ≡ true)) same (c.loop-at.invariant member h))
     ]
 
 pub returns : goal.returns

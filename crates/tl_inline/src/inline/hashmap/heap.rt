@@ -12,12 +12,12 @@ mod form;
 mod noted;
 mod places;
 
-use super::iter::{InlineHashMapIterator, PairsLeft};
+use super::iter::{InlineHashMapIterator, RemainingPairs};
 use super::pairs::{find, put_value};
 use crate::inline::spill::move_out;
 use arrayvec::ArrayVec;
 use form::{HeapForm, insert_many, map_of, push_few, put_in_room, remove_few, takes_more};
-use noted::NotedPairs;
+use noted::PairTable;
 use std::alloc::{AllocError, Global};
 use std::hash::Hash;
 use std::marker::Model;
@@ -103,13 +103,13 @@ impl<K: Eq + Hash, V> HeapPairs<K, V> {
     {
         match &self.form {
             HeapForm::Few(few) => InlineHashMapIterator {
-                left: PairsLeft::Slice(few.as_slice().iter()),
+                left: RemainingPairs::Slice(few.as_slice().iter()),
             },
             HeapForm::Many(many) => InlineHashMapIterator {
-                left: PairsLeft::Map(many.iter()),
+                left: RemainingPairs::Map(many.iter()),
             },
             HeapForm::Noted(noted) => InlineHashMapIterator {
-                left: PairsLeft::Slice(noted.as_slice().iter()),
+                left: RemainingPairs::Slice(noted.as_slice().iter()),
             },
         }
     }
@@ -170,7 +170,7 @@ impl<K: Default + Eq + Hash + Drop, V: Default + Drop> HeapPairs<K, V> {
                 if takes_more(many) || many.contains_key(&key) {
                     return insert_many(many, key, value);
                 }
-                match NotedPairs::take(many, key, value) {
+                match PairTable::take(many, key, value) {
                     Ok(noted) => {
                         self.form = HeapForm::Noted(noted);
                         Ok(())

@@ -12,12 +12,12 @@ use arrayvec::ArrayVec;
 use std::hash::Hash;
 
 #[derive(Drop)]
-pub(super) enum HeldPairs<K: Eq + Hash, V, const N: usize> {
+pub(super) enum PairStorage<K: Eq + Hash, V, const N: usize> {
     Inline(ArrayVec<(K, V), N>),
     Heap(HeapPairs<K, V>),
 }
 
-impl<K: Eq + Hash, V, const N: usize> HeldPairs<K, V, N> {
+impl<K: Eq + Hash, V, const N: usize> PairStorage<K, V, N> {
     ghost use Rattle.tl_inline.specs.PairStorage.{storage_view};
     ghost use Rattle.tl_inline.specs.PairStorageLends.{lends_value_at};
 
@@ -28,11 +28,11 @@ impl<K: Eq + Hash, V, const N: usize> HeldPairs<K, V, N> {
             ≡ slice_get (values_of (storage_view self.old).entries) index }
     {
         match self {
-            HeldPairs::Inline(inline) => match inline.get_mut(index) {
+            PairStorage::Inline(inline) => match inline.get_mut(index) {
                 Some(pair) => Some(&mut pair.1),
                 None => None,
             },
-            HeldPairs::Heap(heap) => heap.get_index_mut(index),
+            PairStorage::Heap(heap) => heap.get_index_mut(index),
         }
     }
 }

@@ -7,7 +7,7 @@ use std::marker::Model;
 use std::slice;
 
 #[derive(Drop)]
-pub(super) enum PairsLeft<'a, K, V> {
+pub(super) enum RemainingPairs<'a, K, V> {
     Slice(slice::Iter<'a, (K, V)>),
     Map(indexmap::map::Iter<'a, K, V>),
 }
@@ -15,7 +15,7 @@ pub(super) enum PairsLeft<'a, K, V> {
 /// The pairs of an `InlineHashMap` in order. A clause sees it as the list of those that are left.
 #[derive(Drop)]
 pub struct InlineHashMapIterator<'a, K, V> {
-    pub(super) left: PairsLeft<'a, K, V>,
+    pub(super) left: RemainingPairs<'a, K, V>,
 }
 
 impl<'a, K, V> Model for InlineHashMapIterator<'a, K, V> {
@@ -37,11 +37,11 @@ impl<'a, K, V> Iterator for InlineHashMapIterator<'a, K, V> {
 
     fn next(&mut self) -> Option<(&'a K, &'a V)> {
         match &mut self.left {
-            PairsLeft::Slice(pairs) => match pairs.next() {
+            RemainingPairs::Slice(pairs) => match pairs.next() {
                 Some(pair) => Some((&pair.0, &pair.1)),
                 None => None,
             },
-            PairsLeft::Map(pairs) => pairs.next(),
+            RemainingPairs::Map(pairs) => pairs.next(),
         }
     }
 }

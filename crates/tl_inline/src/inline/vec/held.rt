@@ -6,12 +6,12 @@ ghost use Rattle.std.specs.Borrow.{sem};
 use arrayvec::ArrayVec;
 
 #[derive(Drop)]
-pub(super) enum HeldItems<T, const N: usize> {
+pub(super) enum ItemStorage<T, const N: usize> {
     Inline(ArrayVec<T, N>),
     Heap(Vec<T>),
 }
 
-impl<T, const N: usize> HeldItems<T, N> {
+impl<T, const N: usize> ItemStorage<T, N> {
     ghost use Rattle.tl_inline.specs.ItemStorage.{storage_view};
     ghost use Rattle.tl_inline.specs.ItemStorageLends.{lends_item, lends_items};
 
@@ -23,8 +23,8 @@ impl<T, const N: usize> HeldItems<T, N> {
         ensures item { IsItemAtMut (storage_view self.old).items index result }
     {
         match self {
-            HeldItems::Inline(inline) => inline.get_mut(index),
-            HeldItems::Heap(heap) => heap.get_mut(index),
+            ItemStorage::Inline(inline) => inline.get_mut(index),
+            ItemStorage::Heap(heap) => heap.get_mut(index),
         }
     }
 
@@ -35,8 +35,8 @@ impl<T, const N: usize> HeldItems<T, N> {
         ensures on_heap { result.1 ≡ (storage_view self.old).on_heap }
     {
         match self {
-            HeldItems::Inline(inline) => (inline.as_mut_slice(), false),
-            HeldItems::Heap(heap) => (heap.as_mut_slice(), true),
+            ItemStorage::Inline(inline) => (inline.as_mut_slice(), false),
+            ItemStorage::Heap(heap) => (heap.as_mut_slice(), true),
         }
     }
 }

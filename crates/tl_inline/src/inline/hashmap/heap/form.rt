@@ -6,7 +6,7 @@ ghost use Rattle.std.specs.Option.{option_copied_mut};
 ghost use Rattle.std.specs.Borrow.{sem};
 ghost use Rattle.indexmap.specs.IndexMap.{insert_entry, swap_remove_entry, spare, IsUnique};
 
-use super::noted::NotedPairs;
+use super::noted::PairTable;
 use crate::inline::hashmap::pairs::find;
 use indexmap::IndexMap;
 use std::alloc::AllocError;
@@ -29,7 +29,7 @@ const CLASSES: usize = 1024;
 pub(super) enum HeapForm<K: Eq + Hash, V> {
     Few(Vec<(K, V)>),
     Many(IndexMap<K, V>),
-    Noted(NotedPairs<K, V>),
+    Noted(PairTable<K, V>),
 }
 
 impl<K: Eq + Hash, V> HeapForm<K, V> {

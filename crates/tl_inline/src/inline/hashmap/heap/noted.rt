@@ -19,12 +19,12 @@ use std::marker::Model;
 
 // A list of pairs, and where its keys stand by their digests. A clause sees the pairs in order, with distinct keys.
 #[derive(Drop)]
-pub(super) struct NotedPairs<K: Eq + Hash, V> {
+pub(super) struct PairTable<K: Eq + Hash, V> {
     pairs: Vec<(K, V)>,
     places: BTreeMap<(u128, u128), Place>,
 }
 
-impl<K: Eq + Hash, V> Model for NotedPairs<K, V> {
+impl<K: Eq + Hash, V> Model for PairTable<K, V> {
     ghost use Rattle.std.specs.Prelude.{List};
     ghost use Rattle.std.specs.Coded.{coded×, coded_list};
     ghost use Rattle.std.specs.List.{IsDistinct};
@@ -41,7 +41,7 @@ impl<K: Eq + Hash, V> Model for NotedPairs<K, V> {
         × AllowsKeys K.hash_input h.places (keys_of h.pairs.items) };
 }
 
-impl<K: Eq + Hash, V> NotedPairs<K, V> {
+impl<K: Eq + Hash, V> PairTable<K, V> {
     ghost use Rattle.tl_inline.specs.PairTableLends.{lends_index};
 
     pub(super) fn len(&self) -> usize
@@ -86,7 +86,7 @@ impl<K: Eq + Hash, V> NotedPairs<K, V> {
     }
 }
 
-impl<K: Eq + Hash + Drop, V: Drop> NotedPairs<K, V> {
+impl<K: Eq + Hash + Drop, V: Drop> PairTable<K, V> {
     // Takes the pairs from a map, and a new one after them. Where memory is refused it hands that back, and the others stay.
     pub(super) fn take(many: &mut IndexMap<K, V>, key: K, value: V) -> Result<Self, (K, V)>
         requires distinct { IsDistinct K.eq (keys_of many.old.entries) }
@@ -102,7 +102,7 @@ impl<K: Eq + Hash + Drop, V: Drop> NotedPairs<K, V> {
         match list_of(many) {
             Ok(mut pairs) => {
                 pairs.push_reserved((key, value));
-                Ok(NotedPairs { pairs, places })
+                Ok(PairTable { pairs, places })
             }
             Err(_) => Err((key, value)),
         }
@@ -141,7 +141,7 @@ impl<K: Eq + Hash + Drop, V: Drop> NotedPairs<K, V> {
     }
 }
 
-impl<K: Eq + Hash + Clone, V: Clone> NotedPairs<K, V> {
+impl<K: Eq + Hash + Clone, V: Clone> PairTable<K, V> {
     // What is noted is copied with the pairs. A clone of a key or a value must be that key or value.
     pub(super) fn clone(&self) -> Result<Self, AllocError>
         requires keys { ClonesAreEqual K.is_clone (keys_of self.now) }
@@ -149,7 +149,7 @@ impl<K: Eq + Hash + Clone, V: Clone> NotedPairs<K, V> {
         ensures ok { IfOk result (λ h. h ≡ self.now) }
         ensures unique { IfOk result (λ h. IsDistinct K.eq (keys_of h)) }
     {
-        Ok(NotedPairs {
+        Ok(PairTable {
             pairs: self.pairs.clone()?,
             places: copy_places(&self.places)?,
         })

@@ -1,5 +1,5 @@
 use Rattle.std.proofs.Common.{refl, arith}
-use Rattle.tl_inline.proofs.inline.vec.held.HeldItems.get_mut.Goals as goal
+use Rattle.tl_inline.proofs.inline.vec.held.ItemStorage.get_mut.Goals as goal
 
 pub returns-in-Inline : goal.returns-in-Inline
 returns-in-Inline g c =

@@ -1,6 +1,6 @@
 use Rattle.std.proofs.Common.{◌<◌, length, Some, arith, subst, sym, ap}
 use Rattle.tl_inline.proofs.Maps.{first_of_list, swap_removed, distinct_removed, value-at_place}
-use Rattle.tl_inline.proofs.inline.hashmap.heap.noted.NotedPairs.swap_remove.Goals as goal
+use Rattle.tl_inline.proofs.inline.hashmap.heap.noted.PairTable.swap_remove.Goals as goal
 
 pub invariant_of-self : goal.invariant_of-self
 invariant_of-self g c =

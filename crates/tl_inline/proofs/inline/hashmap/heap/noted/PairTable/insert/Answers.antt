@@ -8,7 +8,7 @@ use Rattle.tl_inline.specs.Digest.{digest_of}
 use Rattle.tl_inline.specs.Places.{AllowsKeys, note_of}
 use Rattle.tl_inline.proofs.Maps.{distinct_inserted, replaced_of}
 use Rattle.tl_inline.proofs.PlacesLemmas.{allows_key, allows_pushed, keys_replaced}
-use Rattle.tl_inline.proofs.inline.hashmap.heap.noted.NotedPairs.insert.Goals as goal
+use Rattle.tl_inline.proofs.inline.hashmap.heap.noted.PairTable.insert.Goals as goal
 
 pub place_by_note-requires : goal.place_by_note-requires
 place_by_note-requires g c =

@@ -3,7 +3,7 @@ use Rattle.std.specs.List.{IsDistinct}
 use Rattle.tl_inline.specs.Places.{AllowsKeys}
 use Rattle.tl_inline.proofs.Maps.{lent_same, set-part, value_at, no_value_at}
 use Rattle.tl_inline.proofs.PlacesLemmas.{keys_written}
-use Rattle.tl_inline.proofs.inline.hashmap.heap.noted.NotedPairs.get_index_mut.Goals as goal
+use Rattle.tl_inline.proofs.inline.hashmap.heap.noted.PairTable.get_index_mut.Goals as goal
 
 pub invariant_of-self-lent : goal.invariant_of-self-lent
 invariant_of-self-lent g c =

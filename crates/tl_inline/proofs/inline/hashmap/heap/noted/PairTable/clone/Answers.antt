@@ -4,7 +4,7 @@ use Rattle.std.specs.Map.{keys_of}
 use Rattle.tl_inline.specs.Digest.{digest_of}
 use Rattle.tl_inline.specs.Places.{AllowsAll, AllowsKeys, note_of}
 use Rattle.tl_inline.proofs.Maps.{list_clone_is}
-use Rattle.tl_inline.proofs.inline.hashmap.heap.noted.NotedPairs.clone.Goals as goal
+use Rattle.tl_inline.proofs.inline.hashmap.heap.noted.PairTable.clone.Goals as goal
 
 pub invariant_of-result : goal.invariant_of-result
 invariant_of-result g c =

@@ -4,7 +4,7 @@ use Rattle.std.proofs.lemmas.List.{map-append}
 use Rattle.tl_spec.proofs.Tree.Pairs.{insert_new}
 use Rattle.tl_inline.specs.Places.{AllowsKeys}
 use Rattle.tl_inline.proofs.Maps.{distinct_inserted}
-use Rattle.tl_inline.proofs.inline.hashmap.heap.noted.NotedPairs.take.Goals as goal
+use Rattle.tl_inline.proofs.inline.hashmap.heap.noted.PairTable.take.Goals as goal
 
 pub invariant_of-result : goal.invariant_of-result
 invariant_of-result g c =

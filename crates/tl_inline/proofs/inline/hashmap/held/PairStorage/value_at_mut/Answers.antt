@@ -1,7 +1,7 @@
 use Rattle.std.proofs.Common.{ap, refl}
-use Rattle.tl_inline.specs.declared.inline.hashmap.held.HeldPairs.TheVariants.{Inline}
+use Rattle.tl_inline.specs.declared.inline.hashmap.held.PairStorage.TheVariants.{Inline}
 use Rattle.tl_inline.proofs.Maps.{lent_same, set-part, value_at, no_value_at}
-use Rattle.tl_inline.proofs.inline.hashmap.held.HeldPairs.value_at_mut.Goals as goal
+use Rattle.tl_inline.proofs.inline.hashmap.held.PairStorage.value_at_mut.Goals as goal
 
 pub returns-in-Some : goal.returns-in-Some
 returns-in-Some g c =
