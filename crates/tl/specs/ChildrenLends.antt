@@ -6,7 +6,7 @@ use mir.Syntax.{named}
 use denote.Param.{number}
 use Rattle.tl_spec.specs.Tree.Inline.{InlineVec}
 use Rattle.tl_inline.specs.contracts.inline.vec.InlineVec.{the_row as inline_vec_row}
-use Rattle.tl_attributes.specs.declared.outline.SummaryOf.{Ghosts}
+use Rattle.tl_attributes.specs.declared.summary.SummaryOf.{Ghosts}
 use Rattle.tl.specs.Tag.{Tag}
 use Rattle.tl.specs.declared.parser.tag.children_mut.ChildrenMutOf.{ChildrenMutOf}
 use Rattle.tl_table.specs.contracts.handle.NodeHandle.{the_row as handle_row}

@@ -1,7 +1,7 @@
 -- What a node ends as, where what it holds is lent.
 use Rattle.std.specs.Prelude.{Option}
 use Rattle.std.specs.Borrow.{LendsIf, Fml, RattleType, MutBor}
-use Rattle.tl_attributes.specs.declared.outline.SummaryOf.{Ghosts}
+use Rattle.tl_attributes.specs.declared.summary.SummaryOf.{Ghosts}
 use Rattle.tl.specs.Tag.{Tag}
 use Rattle.tl.specs.contracts.parser.tag.TagOf.{the_row as tag_row}
 use Rattle.tl.specs.declared.parser.tag.node.NodeOf.{NodeOf}

@@ -2,7 +2,7 @@
 use Rattle.std.specs.Prelude.{ℕ, List, Option, length, slice_set}
 use Rattle.std.specs.List.{refill}
 use Rattle.std.specs.Borrow.{Lends, LendsIf, Fml, RattleType, MutBor, Array}
-use Rattle.tl_attributes.specs.declared.outline.SummaryOf.{Ghosts}
+use Rattle.tl_attributes.specs.declared.summary.SummaryOf.{Ghosts}
 use Rattle.tl.specs.Table.{Table}
 use Rattle.tl.specs.declared.parser.tag.node.NodeOf.{NodeOf}
 use Rattle.tl_table.specs.contracts.handle.NodeHandle.{the_row as handle_row}

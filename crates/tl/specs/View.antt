@@ -9,7 +9,7 @@ use Rattle.tl.specs.Tag.{Tag as KeptTag}
 use Rattle.tl.specs.Table.{Table}
 use Rattle.tl.specs.declared.parser.tag.node.NodeOf.{NodeOf}
 use Rattle.tl.specs.declared.parser.tag.node.NodeOf.TheVariants.{Tag as ATag, Raw as ARaw, Comment as AComment}
-use Rattle.tl_attributes.specs.declared.outline.Summary.{Summary}
+use Rattle.tl_attributes.specs.declared.summary.Summary.{Summary}
 use Rattle.tl.specs.declared.parser.base.HTMLVersion.{HTMLVersion}
 use Rattle.tl.specs.declared.parser.base.HTMLVersion.TheVariants.{HTML5, StrictHTML401, TransitionalHTML401, FramesetHTML401}
 use Rattle.tl_attributes.specs.HeldAttributes.{IsHeld, AreHeldAttributes}

@@ -10,7 +10,7 @@ pub mod iter {
 
 /// The reader of selector texts.
 pub mod parser {
-    pub use tl_selector::text::Parser;
+    pub use tl_selector::parser::Parser;
 }
 
 /// Selectors as values.
@@ -21,4 +21,4 @@ pub mod selector {
 pub use iterable::QueryIterable;
 pub use iterator::QuerySelectorIterator;
 pub use tl_selector::selector::Selector;
-pub use tl_selector::text::{Parser, parse_query_selector};
+pub use tl_selector::parser::{Parser, parse_query_selector};

@@ -7,7 +7,7 @@ use Rattle.std.proofs.lemmas.Bool.{or_cases}
 use Rattle.std.proofs.lemmas.Nat.Bits.{bit_at_or, bit_at-lt, bit_at_set_same, bit_at_ones}
 use Rattle.std.proofs.lemmas.Slice.Eq.{bytes_eq-Decides}
 use Rattle.tl_attributes.specs.Summary.{fingerprint_of, bit_of, MayBeMember}
-use Rattle.tl_attributes.specs.declared.outline.Fingerprint.{Fingerprint}
+use Rattle.tl_attributes.specs.declared.summary.Fingerprint.{Fingerprint}
 
 bit_within : (mark : Fingerprint) → bit_of mark < 32
 bit_within mark = omega arith

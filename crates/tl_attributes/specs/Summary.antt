@@ -4,10 +4,10 @@ use Rattle.std.specs.Int.{bit_at}
 use Rattle.tl_spec.specs.Lex.AttributeList.{Attributes}
 use Rattle.tl_spec.specs.Lookup.ClassMember.{has_member}
 use Rattle.tl_bytes.specs.Held.{Kept}
-use Rattle.tl_attributes.specs.declared.outline.Fingerprint.{Fingerprint}
-use Rattle.tl_attributes.specs.declared.outline.IdSummary.{IdSummary}
-use Rattle.tl_attributes.specs.declared.outline.IdSummary.TheVariants.{Unknown, Absent, Known}
-use Rattle.tl_attributes.specs.declared.outline.Summary.{Summary}
+use Rattle.tl_attributes.specs.declared.summary.Fingerprint.{Fingerprint}
+use Rattle.tl_attributes.specs.declared.summary.IdSummary.{IdSummary}
+use Rattle.tl_attributes.specs.declared.summary.IdSummary.TheVariants.{Unknown, Absent, Known}
+use Rattle.tl_attributes.specs.declared.summary.Summary.{Summary}
 
 -- the mark of some bytes, so that equal bytes have equal marks
 abbrev pub fingerprint_of : List ℕ → Fingerprint

@@ -1,5 +1,5 @@
 //! Tests of byte strings by their lossy texts.
-use tl_selector::lossy::{begins_with, ends_with, has_part, has_word, is_same_text};
+use tl_selector::attr_value::{begins_with, ends_with, has_part, has_word, is_same_text};
 
 // What the five tests say of a value and another, in the order of the columns below.
 fn said(value: &[u8], other: &[u8]) -> (bool, bool, bool, bool, bool) {

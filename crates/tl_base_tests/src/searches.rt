@@ -3,7 +3,7 @@ use tl_base::simd::{
     fallback, find, find_multi, find4, is_closing, matches_case_insensitive, search_non_ident,
     search_non_name,
 };
-use tl_bytes::words::is_among_in_any_case;
+use tl_bytes::ascii_case::is_among_in_any_case;
 use tl_lexer::runs::{bare_len, blank_len, ident_len, len_until, name_len};
 
 // A search, and what it looks for.

@@ -4,8 +4,8 @@ use Rattle.std.specs.Option.{option_map}
 use Rattle.std.specs.declared.alloc.Global.{Global}
 use Rattle.tl_spec.specs.Lex.ByteClass.{largest_u32}
 use Rattle.tl_bytes.specs.Held.{Kept, as_owned, owned_part}
-use Rattle.tl_bytes.specs.declared.byte_string.owned.SetBytesError.{SetBytesError}
-use Rattle.tl_bytes.specs.declared.byte_string.owned.SetBytesError.TheVariants.{LengthOverflow}
+use Rattle.tl_bytes.specs.declared.byte_string.into_owned.SetBytesError.{SetBytesError}
+use Rattle.tl_bytes.specs.declared.byte_string.into_owned.SetBytesError.TheVariants.{LengthOverflow}
 
 -- the bytes, owned, or the refusal of what is longer than 4294967295
 abbrev pub set_or_refused : List ℕ → Result Kept SetBytesError

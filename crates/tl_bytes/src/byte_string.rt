@@ -12,12 +12,12 @@ use std::marker::Model;
 use std::{fmt, str};
 
 mod order;
-mod owned;
-mod shared;
+mod into_owned;
+mod shared_bytes;
 
-pub use owned::{IntoOwnedBytes, SetBytesError, copied};
-use shared::Share;
-pub use shared::Shared;
+pub use into_owned::{IntoOwnedBytes, SetBytesError, copied};
+use shared_bytes::Share;
+pub use shared_bytes::Shared;
 
 // A share is a place in a text that is counted once for all, so that a `Bytes` is no larger than a vector and a tag.
 #[derive(Drop)]

@@ -4,4 +4,4 @@
 pub mod byte_class;
 pub mod byte_string;
 pub mod simd;
-pub mod words;
+pub mod ascii_case;

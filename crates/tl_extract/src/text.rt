@@ -16,7 +16,7 @@ use crate::lines::lines_of;
 use std::alloc::{AllocError, Global};
 use tl::errors::TreeError;
 use tl::{Node, VDom, Walk, WalkEvent};
-use tl_bytes::words::is_among_in_any_case;
+use tl_bytes::ascii_case::is_among_in_any_case;
 
 static HIDDEN_NAMES: [&str; 2] = ["script", "style"];
 

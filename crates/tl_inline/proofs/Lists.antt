@@ -7,8 +7,8 @@ use Rattle.std.proofs.lemmas.List.Elements.{Contains-get_or, Contains-append_rig
 use Rattle.tl_spec.specs.Tree.Inline.{InlineVec, with_item}
 use Rattle.tl_inline.specs.InlineVec.{ClonesAreEqual}
 use Rattle.tl_inline.specs.ItemStorage.{storage_view, storage_with_item}
-use Rattle.tl_inline.specs.declared.inline.vec.held.ItemStorage.{ItemStorage}
-use Rattle.tl_inline.specs.declared.inline.vec.held.ItemStorage.TheVariants.{Inline, Heap}
+use Rattle.tl_inline.specs.declared.inline.vec.storage.ItemStorage.{ItemStorage}
+use Rattle.tl_inline.specs.declared.inline.vec.storage.ItemStorage.TheVariants.{Inline, Heap}
 
 module _ {A X : Type 0} (shows : A → X) where
   pub shows_in_order : ShowsInOrder shows

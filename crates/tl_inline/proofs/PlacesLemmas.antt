@@ -18,8 +18,8 @@ use Rattle.tl_spec.proofs.Tree.Pairs.{insert_present, keys-set_value_at}
 use Rattle.tl_inline.proofs.Maps.{first_of_list, set-part}
 use Rattle.tl_inline.specs.Digest.{Digest, digest_of}
 use Rattle.tl_inline.specs.Places.{is_same, note_of, allows, with_key, without_alone, moved_to, Notes, AllowsAll, AllowsKey, passes_at}
-use Rattle.tl_inline.specs.declared.inline.hashmap.heap.places.Place.{Place}
-use Rattle.tl_inline.specs.declared.inline.hashmap.heap.places.Place.TheVariants.{Alone, Several}
+use Rattle.tl_inline.specs.declared.inline.hashmap.heap.index.Place.{Place}
+use Rattle.tl_inline.specs.declared.inline.hashmap.heap.index.Place.TheVariants.{Alone, Several}
 
 same_some : {A : Type 0} {x y : A} → Some x ≡ Some y → x ≡ y
 same_some {A} {x} e = ap (λ r. unwrap_or r x) e

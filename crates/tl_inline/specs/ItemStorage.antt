@@ -3,8 +3,8 @@ use Rattle.std.specs.Prelude.{ℕ, true, false, List}
 use Rattle.std.specs.Vec as vec
 use Rattle.arrayvec.specs.ArrayVec as inline
 use Rattle.tl_spec.specs.Tree.Inline.{InlineVec}
-use Rattle.tl_inline.specs.declared.inline.vec.held.ItemStorage.{ItemStorage}
-use Rattle.tl_inline.specs.declared.inline.vec.held.ItemStorage.TheVariants.{Inline, Heap}
+use Rattle.tl_inline.specs.declared.inline.vec.storage.ItemStorage.{ItemStorage}
+use Rattle.tl_inline.specs.declared.inline.vec.storage.ItemStorage.TheVariants.{Inline, Heap}
 
 module _ {T : Type 0} {N : ℕ} where
   -- what a contract sees

@@ -2,8 +2,8 @@
 use Rattle.std.specs.Prelude.{ℕ, true, false}
 use Rattle.indexmap.specs.IndexMap.{set_value_at}
 use Rattle.tl_spec.specs.Tree.Inline.{InlineMap}
-use Rattle.tl_inline.specs.declared.inline.hashmap.held.PairStorage.{PairStorage}
-use Rattle.tl_inline.specs.declared.inline.hashmap.held.PairStorage.TheVariants.{Inline, Heap}
+use Rattle.tl_inline.specs.declared.inline.hashmap.storage.PairStorage.{PairStorage}
+use Rattle.tl_inline.specs.declared.inline.hashmap.storage.PairStorage.TheVariants.{Inline, Heap}
 
 module _ {K V : Type 0} {N : ℕ} where
   -- what a contract sees

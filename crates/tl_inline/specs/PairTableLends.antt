@@ -3,7 +3,7 @@ use Rattle.std.specs.Prelude.{ℕ, List, Option}
 use Rattle.std.specs.Borrow.{LendsIf, Fml, RattleType, MutBor}
 use Rattle.std.specs.HashMap.Lent.{HashMembers}
 use Rattle.indexmap.specs.IndexMap.{set_value_at}
-use Rattle.tl_inline.specs.contracts.inline.hashmap.heap.noted.PairTable.{the_row}
+use Rattle.tl_inline.specs.contracts.inline.hashmap.heap.pair_table.PairTable.{the_row}
 
 module _ (K V : RattleType) (key : HashMembers K.Denot) (h : MutBor (List (K.Denot × V.Denot))) where
   -- the type of the pairs, with the comparison and the hash of their keys

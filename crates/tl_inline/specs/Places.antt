@@ -5,8 +5,8 @@ use Rattle.std.specs.Ordering.{nat_cmp, ordering_then, is_eq}
 use Rattle.std.specs.Map.{lookup}
 use Rattle.std.specs.BTreeMap.{BTreeMap}
 use Rattle.tl_inline.specs.Digest.{Digest, digest_of}
-use Rattle.tl_inline.specs.declared.inline.hashmap.heap.places.Place.{Place}
-use Rattle.tl_inline.specs.declared.inline.hashmap.heap.places.Place.TheVariants.{Alone, Several}
+use Rattle.tl_inline.specs.declared.inline.hashmap.heap.index.Place.{Place}
+use Rattle.tl_inline.specs.declared.inline.hashmap.heap.index.Place.TheVariants.{Alone, Several}
 
 -- whether two digests are the same
 abbrev pub is_same : Digest → Digest → Bool

@@ -5,7 +5,7 @@ ghost use Rattle.tl_spec.specs.Lex.Runs.{drop_while};
 ghost use Rattle.tl_spec.specs.Lex.Attribute.{value, optional_value, skip_end, skip_blanks, attribute, next_attribute};
 ghost use Rattle.tl_lexer.specs.Span.{bytes_at, optional_bytes_at, pair_at, IsIn, ArePairIn};
 
-use crate::place::{byte_at, skip_blanks, split};
+use crate::cursor::{byte_at, skip_blanks, split};
 use crate::runs::{bare_len, len_until, name_len};
 use crate::span::{AttributeSpan, Span};
 use tl_bytes::byte_class::is_ident;

@@ -3,7 +3,7 @@
 
 pub mod attribute;
 pub mod names;
-mod place;
+mod cursor;
 pub mod runs;
 pub mod span;
 pub mod tag;

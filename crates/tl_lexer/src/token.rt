@@ -7,7 +7,7 @@ ghost use Rattle.tl_spec.specs.Lex.Attribute.{skip_blanks};
 ghost use Rattle.tl_spec.specs.Lex.Token.{end_tag, comment_token, doctype, word, declaration, markup, next_token};
 
 use crate::attribute::name;
-use crate::place::{byte_at, skip_blanks, skip_one, split};
+use crate::cursor::{byte_at, skip_blanks, skip_one, split};
 use crate::runs::{ident_len, len_until};
 use crate::span::Span;
 use memchr::memmem;

@@ -8,7 +8,7 @@ ghost use Rattle.tl_safe.specs.Lists.{active_keys, bending_names, begins_link, b
 ghost use Rattle.tl_safe.specs.Words.{is_of, words_of};
 
 use memchr::{memchr2, memchr3};
-use tl_bytes::words::is_among_in_any_case;
+use tl_bytes::ascii_case::is_among_in_any_case;
 
 // Classes of bytes.
 #[derive(Clone, Copy)]

@@ -11,8 +11,8 @@ use Rattle.tl_selector.specs.View.{selector}
 use Rattle.tl_selector.specs.declared.selector.Selector.{Selector}
 use Rattle.tl_selector.specs.MissingSimple.{LacksSecond}
 use Rattle.tl_selector.specs.ParserViews.{separator}
-use Rattle.tl_selector.specs.declared.text.chain.Separator.{Separator}
-use Rattle.tl_selector.specs.declared.text.chain.Separator.TheVariants.{Comma, Step, Spaces, Touch}
+use Rattle.tl_selector.specs.declared.parser.complex.Separator.{Separator}
+use Rattle.tl_selector.specs.declared.parser.complex.Separator.TheVariants.{Comma, Step, Spaces, Touch}
 
 -- a link that is no `,` makes the chain longer
 pub kept_chain : (l : Separator) (b : Option spec.Selector) (c e : spec.Selector) → (l ≡ Comma → ⊥) → (list_after (separator l) b c ≡ b) × (complex_after (separator l) c e ≡ combine (separator l) c e)

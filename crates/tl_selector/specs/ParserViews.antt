@@ -2,12 +2,12 @@
 use Rattle.std.specs.Prelude.{}
 use Rattle.tl_spec.specs.Select.Reading as r
 use Rattle.tl_selector.specs.View.{selector}
-use Rattle.tl_selector.specs.declared.text.part.AttrOperator.{AttrOperator}
-use Rattle.tl_selector.specs.declared.text.part.AttrOperator.TheVariants.{Equals, HasPart, StartsWith, EndsWith, Contains}
-use Rattle.tl_selector.specs.declared.text.chain.Separator.{Separator}
-use Rattle.tl_selector.specs.declared.text.chain.Separator.TheVariants.{Comma, Step, Spaces, Touch}
-use Rattle.tl_selector.specs.declared.text.chain.Next.{Next}
-use Rattle.tl_selector.specs.declared.text.chain.Next.TheVariants.{End, Bad, Part}
+use Rattle.tl_selector.specs.declared.parser.simple.AttrOperator.{AttrOperator}
+use Rattle.tl_selector.specs.declared.parser.simple.AttrOperator.TheVariants.{Equals, HasPart, StartsWith, EndsWith, Contains}
+use Rattle.tl_selector.specs.declared.parser.complex.Separator.{Separator}
+use Rattle.tl_selector.specs.declared.parser.complex.Separator.TheVariants.{Comma, Step, Spaces, Touch}
+use Rattle.tl_selector.specs.declared.parser.complex.Next.{Next}
+use Rattle.tl_selector.specs.declared.parser.complex.Next.TheVariants.{End, Bad, Part}
 
 abbrev pub operator : AttrOperator → r.AttrOperator
 operator Equals = r.Equals

@@ -1,10 +1,10 @@
 //! Selectors: as values, as texts, and where they hold.
 #![tactic(auto)]
 
-pub mod lossy;
-mod marks;
+pub mod attr_value;
+mod node_set;
 pub mod matches;
 mod matching;
 pub mod selector;
 mod table;
-pub mod text;
+pub mod parser;

@@ -7,9 +7,9 @@ ghost use Rattle.tl_spec.specs.Select.Search.{holds_alone};
 ghost use Rattle.tl_selector.specs.Spine.{has_sides};
 ghost use Rattle.tl_selector.specs.View.{selector};
 
-pub mod first;
+pub mod scan;
 
-use crate::lossy::{begins_with, ends_with, has_part, has_word, is_same_text};
+use crate::attr_value::{begins_with, ends_with, has_part, has_word, is_same_text};
 use crate::selector::Selector;
 use tl_table::element::Element;
 

@@ -5,7 +5,7 @@ ghost use Rattle.tl_selector.specs.View.{selector};
 
 mod copies;
 mod debug_text;
-pub(crate) mod sides;
+pub(crate) mod spine;
 
 use crate::selector::copies::copy;
 use crate::selector::debug_text::show;

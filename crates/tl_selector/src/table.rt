@@ -3,10 +3,10 @@ ghost use Rattle.std.specs.Prelude.{IsTrue, ◌↔◌, ◌≡◌, ◌<◌, ◌�
 ghost use Rattle.tl_spec.specs.Select.Meaning.{Holds, has_combinator};
 ghost use Rattle.tl_selector.specs.View.{selector};
 
-use crate::marks::{is_marked, marks};
+use crate::node_set::{is_marked, marks};
 use crate::matching::holds_alone_at;
 use crate::selector::Selector;
-use crate::selector::sides::has_combinator;
+use crate::selector::spine::has_combinator;
 use std::alloc::{AllocError, Global};
 use tl_table::element::Element;
 use tl_table::errors::TreeError;

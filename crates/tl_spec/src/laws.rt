@@ -22,6 +22,11 @@ ghost use Rattle.tl_spec.specs.Edit.{Change};
 ghost use Rattle.tl_spec.specs.Edit.StepGrammar.{LineSays, TextSays};
 ghost use Rattle.tl_spec.specs.Edit.StepLine.{change_of_line, parse_changes, line_of, lines_of, ReadBack, IsSpellable, IsLine};
 
+pub mod nodes;
+pub mod ranges;
+pub mod searches;
+pub mod selectors;
+
 /// An attribute stands by cases exactly where the function reads it, alone and in a row.
 #[tactic(auto, using(crate::proofs::All::laws))]
 pub fn attribute_stands()

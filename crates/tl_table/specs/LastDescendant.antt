@@ -4,8 +4,8 @@ use Rattle.tl_spec.specs.Tree.Document.{Node}
 use Rattle.tl_spec.specs.Walk.Range.{last_below}
 use Rattle.tl_spec.specs.Walk.{Dangling}
 use Rattle.tl_table.specs.Way.{Rises}
-use Rattle.tl_table.specs.declared.climb.Stop.{Stop}
-use Rattle.tl_table.specs.declared.climb.Stop.TheVariants.{End, Dangling as Dangles, Fall}
+use Rattle.tl_table.specs.declared.last_descendant.Stop.{Stop}
+use Rattle.tl_table.specs.declared.last_descendant.Stop.TheVariants.{End, Dangling as Dangles, Fall}
 
 -- the end, or the handle that the table lacks; the way does not rise where the climb falls
 abbrev pub StopsAt : List Node → ℕ → Stop → Type 0

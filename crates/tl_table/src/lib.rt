@@ -2,12 +2,11 @@
 //! hang below a tag begin and end. What fails answers a [`TreeError`](errors::TreeError).
 #![tactic(auto)]
 
-mod climb;
+mod last_descendant;
 pub mod element;
 pub mod errors;
 pub mod handle;
 pub mod laws;
 pub mod lookup;
-mod marked;
 pub mod range;
 pub mod table;

@@ -3,7 +3,7 @@ use Rattle.std.specs.Prelude.{ℕ}
 use Rattle.std.specs.Hash.{u64}
 use Rattle.std.specs.Hash.FoldHasher.{initial, write}
 use Rattle.std.specs.List.{fold}
-use Rattle.tl_tracking.specs.declared.keyed.KeyedState.{KeyedState}
+use Rattle.tl_tracking.specs.declared.hasher.KeyedState.{KeyedState}
 
 -- the hasher that begins with this number
 abbrev pub keyed_by : ℕ → KeyedState

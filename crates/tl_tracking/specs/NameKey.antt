@@ -3,7 +3,7 @@ use Rattle.std.specs.Prelude.{ℕ, List, [], ◌∷◌, ◌++◌, take}
 use Rattle.std.specs.Int.{w64, from_le_bytes}
 use Rattle.std.specs.List.{flat_map}
 use Rattle.md5.specs.Md5.{md5, Holds}
-use Rattle.tl_tracking.specs.declared.keyed.NameKey.{NameKey}
+use Rattle.tl_tracking.specs.declared.hasher.NameKey.{NameKey}
 
 -- names, each with the byte 255 after it, which is no byte of a text
 abbrev pub terminated_names : List (List ℕ) → List ℕ

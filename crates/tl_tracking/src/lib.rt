@@ -1,12 +1,12 @@
 //! What is tracked while a text is read: maps from ids and classes to the numbers of tags.
 #![tactic(auto)]
 
-mod keyed;
+mod hasher;
 pub mod laws;
-mod numbers;
+mod postings;
 mod options;
 mod tracking;
 
-pub use keyed::NameKey;
+pub use hasher::NameKey;
 pub use options::ParserOptions;
 pub use tracking::TrackingOf;

@@ -11,13 +11,13 @@ ghost use Rattle.tl_spec.specs.Tree.Inline.{with_entry, without_key};
 ghost use Rattle.tl_inline.specs.InlineVec.{ClonesAreEqual};
 
 mod heap;
-mod held;
+mod storage;
 mod iter;
 mod pairs;
 
 use arrayvec::ArrayVec;
 use heap::HeapPairs;
-use held::{PairStorage, push_inline, remove_inline, replace};
+use storage::{PairStorage, push_inline, remove_inline, replace};
 pub use iter::InlineHashMapIterator;
 use iter::RemainingPairs;
 use pairs::find;

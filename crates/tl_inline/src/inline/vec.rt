@@ -7,12 +7,12 @@ ghost use Rattle.std.specs.Map.Iter.{deref, ShowsInOrder};
 ghost use Rattle.tl_spec.specs.Tree.Inline.{with_last, without_item};
 ghost use Rattle.tl_inline.specs.InlineVec.{ClonesAreEqual};
 
-mod held;
+mod storage;
 mod iter;
 
 use super::spill::move_out;
 use arrayvec::ArrayVec;
-use held::ItemStorage;
+use storage::ItemStorage;
 pub use iter::InlineVecIter;
 use std::alloc::{AllocError, Global};
 use std::fmt;

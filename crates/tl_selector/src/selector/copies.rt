@@ -4,7 +4,7 @@ ghost use Rattle.tl_selector.specs.Spine.{has_sides, with_first};
 ghost use Rattle.tl_selector.specs.View.{selector};
 
 use crate::selector::Selector;
-use crate::selector::sides::spine;
+use crate::selector::spine::spine;
 use std::alloc::{AllocError, Global};
 
 /// The same selector.

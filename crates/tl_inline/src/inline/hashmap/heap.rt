@@ -9,15 +9,15 @@ ghost use Rattle.tl_inline.specs.InlineVec.{ClonesAreEqual};
 
 mod digest;
 mod form;
-mod noted;
-mod places;
+mod pair_table;
+mod index;
 
 use super::iter::{InlineHashMapIterator, RemainingPairs};
 use super::pairs::{find, put_value};
 use crate::inline::spill::move_out;
 use arrayvec::ArrayVec;
 use form::{HeapForm, insert_many, map_of, push_few, put_in_room, remove_few, takes_more};
-use noted::PairTable;
+use pair_table::PairTable;
 use std::alloc::{AllocError, Global};
 use std::hash::Hash;
 use std::marker::Model;

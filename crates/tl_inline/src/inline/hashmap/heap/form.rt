@@ -6,7 +6,7 @@ ghost use Rattle.std.specs.Option.{option_copied_mut};
 ghost use Rattle.std.specs.Borrow.{sem};
 ghost use Rattle.indexmap.specs.IndexMap.{insert_entry, swap_remove_entry, spare, IsUnique};
 
-use super::noted::PairTable;
+use super::pair_table::PairTable;
 use crate::inline::hashmap::pairs::find;
 use indexmap::IndexMap;
 use std::alloc::AllocError;

@@ -1,0 +1,7 @@
+use Rattle.std.proofs.Common.{refl, codes}
+use Rattle.tl_spec.specs.Tree.Document.{document}
+use Rattle.tl_spec.proofs.Print.Ascii.{document_print-ascii}
+use Rattle.tl_spec.proofs.examples.pages.quoted_then_key.Goals as goal
+
+pub returns-clause-prints : goal.returns-clause-prints
+returns-clause-prints c = document_print-ascii (document (codes "<p a='b'c=d>")) refl
