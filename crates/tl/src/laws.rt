@@ -15,15 +15,15 @@ ghost use Rattle.tl.specs.View.{document_of, node_view, HTMLNode, HTMLTable};
 ghost use Rattle.tl.specs.TableLends.{with_nodes};
 ghost use Rattle.tl.specs.Tracked.{AreAsked, AnswerIds, AnswerClasses};
 
+pub use tl_spec::laws::nodes::{clean_nodes, nodes_of_a_walk, trees_of_the_normal_form};
+pub use tl_spec::laws::ranges::{end_by_step, end_of_the_walk, ranges_are_descendants};
+pub use tl_spec::laws::searches::selector_search;
+pub use tl_spec::laws::selectors::{alone_is_a_selector, selector_text};
 pub use tl_spec::laws::{
     document_order, document_size, document_walk, fresh_is_clean, node_print_then_parse, scans,
     siblings_by_rules, siblings_by_token, table_print_then_parse, token_stands, tokens_stand,
     trees_print_then_parse, walk_by_step,
 };
-pub use tl_spec::laws::nodes::{clean_nodes, nodes_of_a_walk, trees_of_the_normal_form};
-pub use tl_spec::laws::ranges::{end_by_step, end_of_the_walk, ranges_are_descendants};
-pub use tl_spec::laws::searches::selector_search;
-pub use tl_spec::laws::selectors::{alone_is_a_selector, selector_text};
 
 /// What is looked up in a document that was just read is the first tag of the text with the id, and all its tags with the class
 /// member, rising, whatever is tracked. The premises are what `parse` ensures, and the answers those of the lookups.

@@ -37,7 +37,7 @@ use std::alloc::Global;
 pub use tl_attributes::attributes::{Attributes, AttributesOf, RawAttributesMap};
 pub use tl_attributes::attributes_iter::AttributesIter;
 pub use tl_attributes::class_iter::ClassIter;
-pub use tl_attributes::summary::{IdSummary, Fingerprint, Summary, SummaryOf};
+pub use tl_attributes::summary::{Fingerprint, IdSummary, Summary, SummaryOf};
 use tl_bytes::byte_string::Shared;
 pub use tl_bytes::byte_string::{Bytes, IntoOwnedBytes};
 pub use tl_bytes::simd;

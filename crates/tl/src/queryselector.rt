@@ -20,5 +20,5 @@ pub mod selector {
 
 pub use iterable::QueryIterable;
 pub use iterator::QuerySelectorIterator;
-pub use tl_selector::selector::Selector;
 pub use tl_selector::parser::{Parser, parse_query_selector};
+pub use tl_selector::selector::Selector;

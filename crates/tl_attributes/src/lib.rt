@@ -4,5 +4,5 @@
 pub mod attributes;
 pub mod attributes_iter;
 pub mod class_iter;
-pub mod summary;
 pub mod piece;
+pub mod summary;

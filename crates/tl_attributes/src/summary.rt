@@ -19,7 +19,7 @@ pub trait SummaryOf<A>: Copy {
         ensures { (attributes : A) → is_summary result attributes };
 }
 
-/// The length and the ends of some bytes. Bytes of different marks differ.
+/// The length and the ends of some bytes. Bytes of different fingerprints differ.
 #[derive(Clone, Copy, PartialEq, Eq, Debug)]
 pub struct Fingerprint {
     /// What is left of the length by 256.
@@ -31,7 +31,7 @@ pub struct Fingerprint {
 }
 
 impl Fingerprint {
-    /// The mark of these bytes.
+    /// The fingerprint of these bytes.
     #[inline]
     pub fn from_bytes(bytes: &[u8]) -> Fingerprint
         ensures { result ≡ fingerprint_of bytes.now }
@@ -60,7 +60,7 @@ pub enum IdSummary {
     Unknown,
     /// There is none.
     Absent,
-    /// There is one, of this mark.
+    /// There is one, of this fingerprint.
     Known(Fingerprint),
 }
 
@@ -69,12 +69,12 @@ pub enum IdSummary {
 pub struct Summary {
     /// What is known of the value of `id`.
     pub id: IdSummary,
-    /// One bit for each member of the class, that of its mark. Where all are set nothing is known.
+    /// One bit for each member of the class, that of its fingerprint. Where all are set nothing is known.
     pub classes: u32,
 }
 
 impl Summary {
-    /// Whether bytes of this mark may be the id.
+    /// Whether bytes of this fingerprint may be the id.
     #[inline]
     pub fn may_be_id(self, mark: Fingerprint) -> bool
         ensures { IsTrue result ↔ MayBeId self.id mark }
@@ -86,7 +86,7 @@ impl Summary {
         }
     }
 
-    /// Whether bytes of this mark may be a member of the class.
+    /// Whether bytes of this fingerprint may be a member of the class.
     #[inline]
     pub fn may_be_member(self, mark: Fingerprint) -> bool
         ensures { IsTrue result ↔ MayBeMember self.classes mark }

@@ -11,8 +11,8 @@ use std::borrow::CowStr;
 use std::marker::Model;
 use std::{fmt, str};
 
-mod order;
 mod into_owned;
+mod order;
 mod shared_bytes;
 
 pub use into_owned::{IntoOwnedBytes, SetBytesError, copied};

@@ -1,7 +1,7 @@
 //! Byte strings and byte searches.
 #![tactic(auto)]
 
+pub mod ascii_case;
 pub mod byte_class;
 pub mod byte_string;
 pub mod simd;
-pub mod ascii_case;

@@ -50,8 +50,8 @@ pub escape_number : (s digits : List ℕ) (n : ℕ) → n ≡ length (take_while
 escape_number s digits n e are some =
     let is : digits ≡ take_while is_hex (take 6 s) = are ∙ (ap (λ n. take n s) e ∙ front_is is_hex 6 s) in
     let digits_are : escape_at s ≡ escape_by digits s = ap (λ (ds : List ℕ). escape_by ds s) (sym is) in
-    let read_many : length digits ≡ n = ap (λ (ds : List ℕ). length ds) is ∙ sym e in
-    digits_are ∙ (escape_digits digits s some ∙ ap (λ k. (encode_utf8 (char_of (hex_number 0 digits)), past_escape (drop k s))) read_many)
+    let count : length digits ≡ n = ap (λ (ds : List ℕ). length ds) is ∙ sym e in
+    digits_are ∙ (escape_digits digits s some ∙ ap (λ k. (encode_utf8 (char_of (hex_number 0 digits)), past_escape (drop k s))) count)
 
 -- what stands after it is no longer than n
 abbrev pub Within : {A : Type 0} → ℕ → Option (A × List ℕ) → Type 0

@@ -2,8 +2,8 @@
 #![tactic(auto)]
 
 pub mod attribute;
-pub mod names;
 mod cursor;
+pub mod names;
 pub mod runs;
 pub mod span;
 pub mod tag;

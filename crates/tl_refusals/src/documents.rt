@@ -4,8 +4,8 @@ use crate::stop::{Stop, refused, value};
 use crate::{Named, measured};
 use std::alloc::{AllocError, Global};
 use tl::{
-    Attributes, Bytes, Children, ElementsByClassName, HTMLTag, Node, NodeHandle, SummaryOf,
-    ParserOptions, RawChildren, TagOf, VDom, parse, parse_owned,
+    Attributes, Bytes, Children, ElementsByClassName, HTMLTag, Node, NodeHandle, ParserOptions,
+    RawChildren, SummaryOf, TagOf, VDom, parse, parse_owned,
 };
 
 const PAGE: &str =

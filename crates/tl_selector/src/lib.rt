@@ -2,9 +2,9 @@
 #![tactic(auto)]
 
 pub mod attr_value;
-mod node_set;
 pub mod matches;
 mod matching;
+mod node_set;
+pub mod parser;
 pub mod selector;
 mod table;
-pub mod parser;

@@ -11,8 +11,8 @@ ghost use Rattle.tl_selector.specs.View.{selector};
 ghost use Rattle.tl_selector.specs.declared.selector.Selector.{size-Selector};
 ghost use Rattle.tl_spec.specs.Select.Selector.{Selector as SelectorOf};
 
-use crate::matching::scan::first_alone;
 use crate::matching::holds_alone;
+use crate::matching::scan::first_alone;
 use crate::selector::Selector;
 use crate::selector::spine::{has_combinator, has_sides};
 use std::alloc::{AllocError, Global};
@@ -122,7 +122,11 @@ fn indices(alloc: Global, holds: &[bool]) -> Result<Vec<usize>, AllocError>
 }
 
 // A mark for each node below a marked one, by one step or more.
-fn descendants_of_set<N: Element>(alloc: Global, nodes: &[N], holds: &[bool]) -> Result<Vec<bool>, AllocError>
+fn descendants_of_set<N: Element>(
+    alloc: Global,
+    nodes: &[N],
+    holds: &[bool],
+) -> Result<Vec<bool>, AllocError>
     requires { length holds.now ≡ length nodes.now }
     ensures len { IfOk result (λ marks. length marks.items ≡ length nodes.now) }
     ensures sound { IfOk result (λ marks. (n : ℕ) → is_at marks.items n ≡ true
@@ -139,7 +143,11 @@ fn descendants_of_set<N: Element>(alloc: Global, nodes: &[N], holds: &[bool]) ->
 }
 
 // A mark for each child of a marked node.
-fn children_of_set<N: Element>(alloc: Global, nodes: &[N], holds: &[bool]) -> Result<Vec<bool>, AllocError>
+fn children_of_set<N: Element>(
+    alloc: Global,
+    nodes: &[N],
+    holds: &[bool],
+) -> Result<Vec<bool>, AllocError>
     requires { length holds.now ≡ length nodes.now }
     ensures len { IfOk result (λ marks. length marks.items ≡ length nodes.now) }
     ensures sound { IfOk result (λ marks. (n : ℕ) → is_at marks.items n ≡ true

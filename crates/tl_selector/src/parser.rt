@@ -8,8 +8,8 @@ ghost use Rattle.tl_spec.specs.Select.Text.{IsSelectorText, StandsAlone};
 mod complex;
 mod simple;
 
-use crate::selector::Selector;
 use crate::parser::complex::parse_list;
+use crate::selector::Selector;
 use std::alloc::{AllocError, Global};
 use std::marker::Model;
 

@@ -3,8 +3,8 @@ ghost use Rattle.std.specs.Prelude.{IsTrue, ◌↔◌, ◌≡◌, ◌<◌, ◌�
 ghost use Rattle.tl_spec.specs.Select.Meaning.{Holds, has_combinator};
 ghost use Rattle.tl_selector.specs.View.{selector};
 
-use crate::node_set::{is_marked, marks};
 use crate::matching::holds_alone_at;
+use crate::node_set::{is_marked, marks};
 use crate::selector::Selector;
 use crate::selector::spine::has_combinator;
 use std::alloc::{AllocError, Global};

@@ -2,10 +2,10 @@
 //! hang below a tag begin and end. What fails answers a [`TreeError`](errors::TreeError).
 #![tactic(auto)]
 
-mod last_descendant;
 pub mod element;
 pub mod errors;
 pub mod handle;
+mod last_descendant;
 pub mod laws;
 pub mod lookup;
 pub mod range;

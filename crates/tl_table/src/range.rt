@@ -7,11 +7,11 @@ ghost use Rattle.tl_spec.specs.Walk.Range.{last_below, boundaries_from, range_fr
 ghost use Rattle.tl_table.specs.Answer.{Answers, WantsNoMemory};
 ghost use Rattle.tl_table.specs.Way.{Rises};
 
-use crate::last_descendant::{Stop, last_descendant};
 use crate::element::Element;
 use crate::errors::TreeError;
 use crate::handle::NodeHandle;
 use crate::last_descendant::visited::end_with_visited;
+use crate::last_descendant::{Stop, last_descendant};
 use std::alloc::Global;
 use std::ops::Range;
 

@@ -4,7 +4,7 @@ use crate::show::{Look, Row, all_show};
 use std::alloc::{AllocError, Global};
 use std::mem;
 use std::test::Fail;
-use tl::{Bytes, HTMLTag, Node, NodeHandle, NodeOf, SummaryOf, ParserOptions, TagOf, VDom, parse};
+use tl::{Bytes, HTMLTag, Node, NodeHandle, NodeOf, ParserOptions, SummaryOf, TagOf, VDom, parse};
 
 // What is done to a document.
 pub enum Edit {

@@ -7,8 +7,8 @@ use std::process::Abort;
 use std::test::Fail;
 use tl::errors::TreeError;
 use tl::{
-    Attributes, Bytes, HTMLTag, IdSummary, Node, NodeHandle, Summary, SummaryOf, Parser,
-    ParserOptions, VDom, parse,
+    Attributes, Bytes, HTMLTag, IdSummary, Node, NodeHandle, Parser, ParserOptions, Summary,
+    SummaryOf, VDom, parse,
 };
 
 // What is looked at.

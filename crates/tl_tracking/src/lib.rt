@@ -3,8 +3,8 @@
 
 mod hasher;
 pub mod laws;
-mod postings;
 mod options;
+mod postings;
 mod tracking;
 
 pub use hasher::NameKey;

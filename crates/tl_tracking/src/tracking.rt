@@ -5,8 +5,8 @@ ghost use Rattle.tl_spec.specs.Lookup.Scan.{id_of, id_scan, class_scan};
 ghost use Rattle.tl_tracking.specs.Tracking.{TracksIds, TracksMembers, TracksClasses, no_maps, ends_with, id_in, class_in, numbers_lent};
 
 use crate::hasher::KeyedState;
-use crate::postings::{Classes, Ids, add_member, keep_first};
 use crate::options::ParserOptions;
+use crate::postings::{Classes, Ids, add_member, keep_first};
 use std::alloc::{AllocError, Global};
 use std::collections::HashMap;
 use std::marker::Model;

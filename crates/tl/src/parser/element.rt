@@ -40,7 +40,7 @@ fn value_of<'s>(attributes: &'s Attributes<'_>, key: &[u8]) -> Option<Option<&'s
     value_among(attributes.unstable_raw(), key)
 }
 
-// Whether a tag has this id. Its attributes are looked at only where its outline allows that.
+// Whether a tag has this id. Its attributes are looked at only where its summary allows that.
 fn has_id(tag: &HTMLTag<'_>, id: &[u8]) -> bool
     ensures { result ≡ is_value id.now (option_map
         (λ (bytes : Kept). bytes.list) tag.now.attributes.id) }
@@ -52,12 +52,13 @@ fn has_id(tag: &HTMLTag<'_>, id: &[u8]) -> bool
             .is_some_and(|own| id == own.as_bytes())
 }
 
-// Whether this is a member of a tag's class. Its attributes are looked at only where its outline allows that.
+// Whether this is a member of a tag's class. Its attributes are looked at only where its summary allows that.
 fn is_in_class(tag: &HTMLTag<'_>, class: &[u8]) -> bool
     ensures { result ≡ has_member (option_map
         (λ (bytes : Kept). bytes.list) tag.now.attributes.class) class.now }
 {
-    tag.summary().may_be_member(Fingerprint::from_bytes(class)) && tag.attributes().is_class_member(class)
+    tag.summary().may_be_member(Fingerprint::from_bytes(class))
+        && tag.attributes().is_class_member(class)
 }
 
 impl<'a> Element for Node<'a> {

@@ -143,7 +143,7 @@ impl<A, B, O: SummaryOf<A>> TagOf<A, B, O> {
         self.summary
     }
 
-    // Makes the outline that of the attributes as they are.
+    // Makes the summary that of the attributes as they are.
     #[inline(always)]
     pub(crate) fn refresh_summary(&mut self)
         ensures { self.new ≡ self.old }

@@ -20,8 +20,8 @@ use crate::parser::tag::HTMLTag;
 use crate::queryselector::iterator::QuerySelectorIterator;
 use crate::vdom::VDom;
 use std::alloc::Global;
-use tl_selector::selector::Selector;
 use tl_selector::parser::parse_query_selector;
+use tl_selector::selector::Selector;
 
 impl<'a> VDom<'a> {
     /// The nodes of the document where a selector holds, rising; None where the text stands for no selector.

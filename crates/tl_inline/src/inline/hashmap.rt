@@ -11,13 +11,12 @@ ghost use Rattle.tl_spec.specs.Tree.Inline.{with_entry, without_key};
 ghost use Rattle.tl_inline.specs.InlineVec.{ClonesAreEqual};
 
 mod heap;
-mod storage;
 mod iter;
 mod pairs;
+mod storage;
 
 use arrayvec::ArrayVec;
 use heap::HeapPairs;
-use storage::{PairStorage, push_inline, remove_inline, replace};
 pub use iter::InlineHashMapIterator;
 use iter::RemainingPairs;
 use pairs::find;
@@ -26,6 +25,7 @@ use std::collections::HashMap;
 use std::fmt;
 use std::hash::Hash;
 use std::marker::Model;
+use storage::{PairStorage, push_inline, remove_inline, replace};
 
 /// A map that keeps up to `N` pairs in the value itself. An insert of a new key while `N` pairs are held moves all of
 /// them to the heap, and there they stay, also when some are removed. `N` may be 0.

@@ -7,17 +7,17 @@ ghost use Rattle.std.specs.Map.Iter.{deref, ShowsInOrder};
 ghost use Rattle.tl_spec.specs.Tree.Inline.{with_last, without_item};
 ghost use Rattle.tl_inline.specs.InlineVec.{ClonesAreEqual};
 
-mod storage;
 mod iter;
+mod storage;
 
 use super::spill::move_out;
 use arrayvec::ArrayVec;
-use storage::ItemStorage;
 pub use iter::InlineVecIter;
 use std::alloc::{AllocError, Global};
 use std::fmt;
 use std::marker::Model;
 use std::ops::Index;
+use storage::ItemStorage;
 
 // For how many more items there is room as they come to the heap, so that few small lists grow there.
 const MORE: usize = 4;

@@ -14,7 +14,7 @@ use crate::script::tag::{
     pull_child, push_child, remove_key, remove_value, set_flag, set_name, set_value,
 };
 use std::alloc::Global;
-use tl::{HTMLTag, Node, NodeHandle, NodeOf, SummaryOf, ParserOf, TagOf, VDom};
+use tl::{HTMLTag, Node, NodeHandle, NodeOf, ParserOf, SummaryOf, TagOf, VDom};
 use tl_bytes::byte_string::{Bytes, copied};
 
 /// Takes the steps in order, up to the first that is refused, whose place in the list, from 0, is answered with

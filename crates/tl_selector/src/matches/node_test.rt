@@ -4,8 +4,8 @@ ghost use Rattle.tl_spec.specs.Select.Meaning.{Holds, has_combinator};
 ghost use Rattle.tl_selector.specs.NodeTest.{is_found, IsFirst, IsOfOnePart};
 ghost use Rattle.tl_selector.specs.View.{selector as selector_of};
 
-use crate::node_set::{is_marked, marks};
 use crate::matching::scan::first_alone;
+use crate::node_set::{is_marked, marks};
 use crate::selector::Selector;
 use crate::selector::spine::has_combinator;
 use std::alloc::{AllocError, Global};

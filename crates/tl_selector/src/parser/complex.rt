@@ -7,8 +7,8 @@ ghost use Rattle.tl_spec.specs.Select.Reading as r;
 ghost use Rattle.tl_spec.specs.Select.Reading.{combine, push_complex, nest, starts_with_space, separator_at, next_at, parts_at, selector_at};
 ghost use Rattle.tl_spec.specs.Select.Text.{StandsAlone};
 
+use crate::parser::simple::{parse_simple, skip_spaces};
 use crate::selector::Selector;
-use crate::parser::simple::{skip_spaces, parse_simple};
 use std::alloc::{AllocError, Global};
 
 // What stands between two parts.

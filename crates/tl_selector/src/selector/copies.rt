@@ -76,7 +76,10 @@ fn wrap<'a>(
         Selector::Descendant(_, b) => {
             Ok(Selector::Descendant(Box::new(alloc, first)?, copy_box(alloc, b)?))
         }
-        Selector::Parent(_, b) => Ok(Selector::Parent(Box::new(alloc, first)?, copy_box(alloc, b)?)),
+        Selector::Parent(_, b) => Ok(Selector::Parent(
+            Box::new(alloc, first)?,
+            copy_box(alloc, b)?,
+        )),
         _ => Ok(first),
     }
 }

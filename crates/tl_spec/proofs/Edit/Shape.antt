@@ -16,9 +16,9 @@ done-shift_place w e h = λ t. record { document = ap (λ (x : Edited). x.docume
     none (Some r) is = cc
 
 -- edits are done where the first is, and then the others
-done-next : (shift_place_by : Document → Edited) (d e : Document) (r : Result Document Refusal) → next shift_place_by d r ≡ none_refused e → (f : Document) × (r ≡ Ok f) × (shift_place_by f ≡ none_refused e)
-done-next shift_place_by d e (Ok f) h = (f, refl, done-shift_place (shift_place_by f) e h)
-done-next shift_place_by d e (Err x) h = absurd (apart (0, x) (ap (λ (w : Edited). w.refused) h))
+done-next : (later : Document → Edited) (d e : Document) (r : Result Document Refusal) → next later d r ≡ none_refused e → (f : Document) × (r ≡ Ok f) × (later f ≡ none_refused e)
+done-next later d e (Ok f) h = (f, refl, done-shift_place (later f) e h)
+done-next later d e (Err x) h = absurd (apart (0, x) (ap (λ (w : Edited). w.refused) h))
   where
     apart : (r : ℕ × Refusal) → Some r ≡ None → ⊥
     apart r same = cc

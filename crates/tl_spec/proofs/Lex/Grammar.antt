@@ -98,8 +98,8 @@ pub attribute-is : {s : List ℕ} {pair : Pair} {rest : List ℕ} → AttributeS
 attribute-is (attribute_parts {s = s} {rest = rest} key blanks v end) =
     let m = ap skip_blanks (run-drop_while key) ∙ run-drop_while blanks in
     let o = ap optional_value m ∙ value-is v in
-    let after_needle : skip_end (optional_value (skip_blanks (drop_while is_name s))).1 ≡ rest = ap (λ (o : Option (List ℕ) × List ℕ). skip_end o.1) o ∙ passed-is end in
-    λ i. ((run-take key i, (o i).0), after_needle i)
+    let passed : skip_end (optional_value (skip_blanks (drop_while is_name s))).1 ≡ rest = ap (λ (o : Option (List ℕ) × List ℕ). skip_end o.1) o ∙ passed-is end in
+    λ i. ((run-take key i, (o i).0), passed i)
 
 pub attribute-stands : (s : List ℕ) → AttributeStands s (attribute s).0 (attribute s).1
 attribute-stands s =
@@ -143,7 +143,7 @@ row-next (b ∷ s) found pairs rest e more =
 
 row-attributes : {s rest : List ℕ} {pairs : List Pair} → IsRow next_attribute s pairs rest → AttributesStand s pairs rest
 row-attributes (stop {s = s} e) = row-stop s e
-row-attributes (next {s = s} {x = x} {rest = after_needle} {xs = pairs} {end = rest} e r) = row-next s (x, after_needle) pairs rest e (row-attributes r)
+row-attributes (next {s = s} {x = x} {rest = after} {xs = pairs} {end = rest} e r) = row-next s (x, after) pairs rest e (row-attributes r)
 
 pub attributes-is : {s rest : List ℕ} {pairs : List Pair} → AttributesStand s pairs rest → attributes s ≡ (pairs, rest)
 attributes-is a = row-is next_attribute next_attribute-shrinks (attributes-row a)

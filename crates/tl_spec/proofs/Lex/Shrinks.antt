@@ -33,13 +33,13 @@ skip_end-le (b ∷ s) = if_both (λ v. length v ≤ length (b ∷ s)) ((b == 0x3
 -- an attribute that begins with neither `/` nor `>` takes something
 pub attribute-lt : (b : ℕ) (s : List ℕ) → is_closing b ≡ false → length (attribute (b ∷ s)).1 < length (b ∷ s)
 attribute-lt b s open_ =
-    let after_needle : (r : List ℕ) → length (skip_end (optional_value r).1) ≤ length r = λ r.
+    let passed : (r : List ℕ) → length (skip_end (optional_value r).1) ≤ length r = λ r.
     let one = skip_end-le (optional_value r).1 in let two = optional_value-le r in omega arith in
     let by_name : (v : Bool) → is_name b ≡ v → length (attribute (b ∷ s)).1 < length (b ∷ s) = elim [
-      | true ↦ λ e. let key = drop_while-lt is_name b s e in let blanks = drop_while-le is_blank (drop_while is_name (b ∷ s)) in let one = after_needle (skip_blanks (drop_while is_name (b ∷ s))) in omega arith
+      | true ↦ λ e. let key = drop_while-lt is_name b s e in let blanks = drop_while-le is_blank (drop_while is_name (b ∷ s)) in let one = passed (skip_blanks (drop_while is_name (b ∷ s))) in omega arith
       | false ↦ λ e. rw (drop_while-no is_name (b ∷ s) e) (
           let by_blank : (w : Bool) → is_blank b ≡ w → length (skip_end (optional_value (skip_blanks (b ∷ s))).1) < length (b ∷ s) = elim [
-            | true ↦ λ f. let blanks = drop_while-lt is_blank b s f in let one = after_needle (skip_blanks (b ∷ s)) in omega arith
+            | true ↦ λ f. let blanks = drop_while-lt is_blank b s f in let one = passed (skip_blanks (b ∷ s)) in omega arith
             | false ↦ λ f. rw (drop_while-no is_blank (b ∷ s) f) (if_both (λ (v : Option (List ℕ) × List ℕ). length (skip_end v.1) < length (b ∷ s)) (b == 0x3D) _ _
                 (λ _. let one = skip_end-le (value (skip_blanks s)).1 in let two = value-le (skip_blanks s) in let three = drop_while-le is_blank s in omega arith)
                 (λ g. if_both (λ (v : List ℕ). length v < length (b ∷ s)) ((b == 0x3E) || is_ident b) _ _ (λ h. absurd (let none = ident-name b open_ e in grind arith)) (λ h. omega arith)))

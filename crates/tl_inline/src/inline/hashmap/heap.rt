@@ -9,8 +9,8 @@ ghost use Rattle.tl_inline.specs.InlineVec.{ClonesAreEqual};
 
 mod digest;
 mod form;
-mod pair_table;
 mod index;
+mod pair_table;
 
 use super::iter::{InlineHashMapIterator, RemainingPairs};
 use super::pairs::{find, put_value};

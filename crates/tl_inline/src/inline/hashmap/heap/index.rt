@@ -191,7 +191,10 @@ pub(super) fn copy_places(
 }
 
 // What is noted of this digest.
-pub(super) fn note_of_digest(places: &BTreeMap<(u128, u128), Place>, digest: (u128, u128)) -> Option<Place>
+pub(super) fn note_of_digest(
+    places: &BTreeMap<(u128, u128), Place>,
+    digest: (u128, u128),
+) -> Option<Place>
     ensures { result ≡ note_of places.now.entries digest }
 {
     places.get(&digest).copied()

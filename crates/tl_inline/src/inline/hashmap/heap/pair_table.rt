@@ -9,7 +9,9 @@ ghost use Rattle.tl_inline.specs.InlineVec.{ClonesAreEqual};
 ghost use Rattle.tl_inline.specs.Places.{AllowsKeys, Notes, note_of, with_key};
 
 use super::digest::digest_of;
-use super::index::{Place, copy_places, note, note_swap, note_of_digest, place_by_note, place_of, places_with};
+use super::index::{
+    Place, copy_places, note, note_of_digest, note_swap, place_by_note, place_of, places_with,
+};
 use crate::inline::hashmap::pairs::put_value;
 use indexmap::IndexMap;
 use std::alloc::AllocError;
