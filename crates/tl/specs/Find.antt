@@ -48,6 +48,6 @@ module _ {F : Type 0} (calls : Mut F (Bor HTMLNode × Unit {0}) Bool) where
   Passes p (Err e ∷ later) q = p ≡ q
   Passes p (Ok v ∷ later) q = (p ≡ q) ⊎ ((m : F) × CalledAt calls p v.1 false m × Passes m later q)
 
-  -- the same as `Finds`; or memory ran out, and a beginning was shown
+  -- as in `FindsNode`; or memory ran out, and a beginning was shown
   abbrev pub FindsNodeOrStops : F → List Sight → Result (Option ℕ) TreeError → F → Type 0
   FindsNodeOrStops p seen r q = FindsNode p seen r q ⊎ ((r ≡ Err OutOfMemory) × Passes p seen q)

@@ -13,10 +13,10 @@ module _ (A B O : RattleType) (o : Ghosts O.Denot A.Denot) (n : MutBor (NodeOf A
   abbrev pub LendsTag : Option (MutBor (Tag A.Denot B.Denot)) → Fml
   LendsTag r = LendsIf (the_row A B O o) (tag_row A B O o) n r TagNode n.now
 
-  -- the same of a text
+  -- once the borrow r ends, the node is the text that was last written through r, and at `None` it stays as it is
   abbrev pub LendsRaw : Option (MutBor B.Denot) → Fml
   LendsRaw r = LendsIf (the_row A B O o) B n r Raw n.now
 
-  -- the same of a comment
+  -- once the borrow r ends, the node is the comment that was last written through r, and at `None` it stays as it is
   abbrev pub LendsComment : Option (MutBor B.Denot) → Fml
   LendsComment r = LendsIf (the_row A B O o) B n r Comment n.now

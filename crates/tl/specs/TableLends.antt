@@ -20,7 +20,7 @@ module _ {A B O M : Type 0} where
   abbrev pub with_nodes : Table A B O M → List (NodeOf A B O) → Table A B O M
   with_nodes d nodes = record d { nodes = refill (length d.nodes) d.nodes nodes }
 
-  -- the same of the handles of its top nodes
+  -- a table with these handles of its top nodes, as many as it has
   abbrev pub with_top : Table A B O M → List ℕ → Table A B O M
   with_top d handles = record d { top = refill (length d.top) d.top handles }
 
@@ -33,7 +33,7 @@ module _ (A B O M : RattleType) (o : Ghosts O.Denot A.Denot) (d : MutBor (Table 
   abbrev pub LendsTableNodes : MutBor (List (NodeOf A.Denot B.Denot O.Denot)) → Fml
   LendsTableNodes r = Lends (parser_row A B O M o) (Array (node_row A B O o) 0) d r (with_nodes d.now)
 
-  -- the same of the handles of the top nodes
+  -- once the borrow r ends, the handles of the top nodes are those last written through r
   abbrev pub LendsTableTop : MutBor (List ℕ) → Fml
   LendsTableTop r = Lends (parser_row A B O M o) (Array handle_row 0) d r (with_top d.now)
 
@@ -45,7 +45,7 @@ module _ (A B O M : RattleType) (o : Ghosts O.Denot A.Denot) (d : MutBor (Table 
   abbrev pub LendsNodes : MutBor (List (NodeOf A.Denot B.Denot O.Denot)) → Fml
   LendsNodes r = Lends (document_row A B O M o) (Array (node_row A B O o) 0) d r (with_nodes d.now)
 
-  -- the same of the handles of its top nodes
+  -- once the borrow r ends, the handles of its top nodes are those last written through r
   abbrev pub LendsTop : MutBor (List ℕ) → Fml
   LendsTop r = Lends (document_row A B O M o) (Array handle_row 0) d r (with_top d.now)
 

@@ -14,10 +14,10 @@ module _ (A B O : RattleType) (o : Ghosts O.Denot A.Denot) (t : MutBor (Tag A.De
   abbrev pub LendsName : MutBor B.Denot → Fml
   LendsName r = Lends (the_row A B O o) B t r (λ w. record t.now { name = w })
 
-  -- the same of the attributes
+  -- once the borrow r ends, the attributes are those last written through r
   abbrev pub LendsAttributes : MutBor A.Denot → Fml
   LendsAttributes r = Lends (the_row A B O o) A t r (λ w. record t.now { attributes = w })
 
-  -- the same of the handles of the children
+  -- once the borrow r ends, the children are those last written through r
   abbrev pub LendsChildren : MutBor (InlineVec ℕ) → Fml
   LendsChildren r = Lends (the_row A B O o) (inline_vec_row handle_row (number 2)) t r (λ w. record t.now { children = w })

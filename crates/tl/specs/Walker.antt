@@ -102,7 +102,7 @@ module _ (nodes : List Node) where
   abbrev pub remaining_below : List Frame → List ℕ → Remaining
   remaining_below fs hs = record { inside = walk all_tags nodes (path_from [] fs) hs; around = around fs }
 
--- the same of a walker
+-- what is left of a walker's walk that enters every tag, where these handles come first
 abbrev pub remaining_at : Walker → List ℕ → Remaining
 remaining_at w hs = remaining_below (map node_view w.nodes.now) w.frames.items hs
 

@@ -74,7 +74,7 @@ pub fn queries_find()
     ensures none { (d : HTMLTable) (text : List ℕ) (found : Option (List ℕ)) → FindsIn d text found
         → ((e : Selector) → IsSelectorText text e → ⊥) → found ≡ None }
 
-    // The same by the plain reader of selector texts.
+    // What is found, by the plain reader of selector texts.
     ensures reading { (d : HTMLTable) (text : List ℕ) (found : Option (List ℕ)) → FindsIn d text found
         → found ≡ option_map (matches_in (document_of d)) (selector_at text) }
     ensures few { (d : HTMLTable) (text : List ℕ) (found : Option (List ℕ)) → FindsIn d text found

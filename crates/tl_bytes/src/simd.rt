@@ -4,7 +4,7 @@ ghost use Rattle.std.specs.Str.{str_to_ascii_lowercase};
 ghost use Rattle.tl_spec.specs.Lex.ByteClass.{is_closing};
 ghost use Rattle.tl_bytes.specs.Search.{first, is_one_of, is_not_ident, is_not_name};
 
-/// The same searches, byte by byte.
+/// The searches byte by byte.
 pub mod fallback;
 mod lanes;
 
@@ -32,7 +32,7 @@ pub fn find(haystack: &[u8], needle: u8) -> Option<usize>
     }
 }
 
-// The same search, for hits that are mostly far.
+// `find` for hits that are mostly far.
 fn find_far(haystack: &[u8], needle: u8) -> Option<usize>
     ensures { result ≡ first (λ b. b == needle) haystack.now }
 {

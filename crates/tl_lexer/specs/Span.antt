@@ -13,7 +13,7 @@ in_front (Some b) rest = b ∷ rest
 abbrev pub bytes_at : List ℕ → Span → List ℕ
 bytes_at t s = take s.len (drop s.start t)
 
--- the same, where there is a span
+-- the bytes of a span, where there is one
 abbrev pub optional_bytes_at : List ℕ → Option Span → Option (List ℕ)
 optional_bytes_at t s = option_map (bytes_at t) s
 

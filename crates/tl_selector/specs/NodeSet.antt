@@ -27,7 +27,7 @@ is_done marks n = slice_index_or marks n true
 abbrev pub mark_one : ℕ → List Bool × List ℕ → List Bool × List ℕ
 mark_one c s = if slice_index_or s.0 c true then s else (slice_set s.0 c true, s.1 ++ c ∷ [])
 
--- the same of one child after the other
+-- the children marked, one after the other
 abbrev pub spread : List ℕ → List Bool × List ℕ → List Bool × List ℕ
 spread [] s = s
 spread (c ∷ cs) s = spread cs (mark_one c s)

@@ -47,7 +47,7 @@ pub fn holds_alone<E: Element>(e: &Selector<'_>, node: &E) -> bool
     }
 }
 
-// The same of one that has no sides.
+// Whether a selector without sides holds at a node alone.
 fn is_met<E: Element>(e: &Selector<'_>, node: &E) -> bool
     ensures { has_sides (selector e.now) ≡ false
         → (IsTrue result ↔ HoldsAlone (selector e.now) (E.node node.now)) }

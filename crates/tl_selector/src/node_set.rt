@@ -50,7 +50,7 @@ fn mark(number: usize, marks: &mut Vec<bool>, queue: &mut Vec<usize>) -> Result<
     Ok(())
 }
 
-// The same of the child at a place, if there is one.
+// Marks the child at a place, if there is one.
 fn mark_child<N: Element>(
     node: &N,
     place: usize,
@@ -71,7 +71,7 @@ fn mark_child<N: Element>(
     }
 }
 
-// The same of each child of a node.
+// Marks each child of a node.
 fn mark_children<N: Element>(
     node: &N,
     marks: &mut Vec<bool>,
@@ -86,7 +86,7 @@ fn mark_children<N: Element>(
     Ok(())
 }
 
-// The same of the node of a number, if there is one.
+// Marks each child of the node of a number, if there is one.
 fn mark_children_at<N: Element>(
     nodes: &[N],
     number: usize,

@@ -38,7 +38,7 @@ element name pairs children raw start = Tag (record {
 abbrev pub table : List Node → List ℕ → Document
 table nodes top = record { nodes = nodes; top = top; is_html5 = false }
 
--- the same where one was
+-- a document of these nodes in which a doctype was read
 abbrev pub html5_table : List Node → List ℕ → Document
 html5_table nodes top = record { nodes = nodes; top = top; is_html5 = true }
 

@@ -96,7 +96,7 @@ pub fn table_print_then_parse()
         (s : List ℕ) → document_print d ≡ Ok s → ReadsAs s (trees (walk all_tags d.nodes [] d.top)) }
 {}
 
-/// The same of a node over a table: a clean one has a print, which is read as the normal form of
+/// A clean node over a table has a print, which is read as the normal form of
 /// the one tree of its full walk.
 #[tactic(auto, using(crate::proofs::All::laws))]
 pub fn node_print_then_parse()
@@ -199,7 +199,7 @@ pub fn line_says()
         ((c : Change) → LineSays line c → ⊥) ↔ (change_of_line line ≡ None) }
 {}
 
-/// The same of a text of lines and the edits that it says.
+/// A text of lines says its edits by the relation exactly where the function reads them of it.
 #[tactic(auto, using(crate::proofs::Edit::StepForms::laws))]
 pub fn text_says()
     ensures all { (text : List ℕ) (cs : List Change) →

@@ -102,7 +102,7 @@ module _ {B : Type 0} (list : B → List ℕ) (eq : B → B → Bool) where
   TracksClasses None nodes = ⊤
   TracksClasses (Some pairs) nodes = (member : B) → class_at eq pairs member ≡ class_scan nodes (list member)
 
-  -- the same, and the tag after these nodes stands under these of its members
+  -- where classes are tracked, each member is answered as by a scan of these nodes, and the tag after them stands under these of its members
   abbrev pub TracksMembers : ClassPairs B → List Node → List (List ℕ) → Type 0
   TracksMembers None nodes noted = ⊤
   TracksMembers (Some pairs) nodes noted = (member : B) → class_at eq pairs member ≡ class_scan nodes (list member) ++ singleton_when (list_any (bytes_eq (list member)) noted) (length nodes)

@@ -53,7 +53,7 @@ impl<B: Piece> TrackingOf<B> {
         TrackingOf::with_key(alloc, options, 0)
     }
 
-    /// The same, where names are hashed by a number. Whoever writes a text may not know the number before all names stand: with
+    /// Nothing tracked yet, where names are hashed by a number. Whoever writes a text may not know the number before all names stand: with
     /// a number that they know they can choose names whose hashes meet, and each of these is looked for along all of them.
     pub fn with_key(alloc: Global, options: ParserOptions, key: u64) -> Self
         ensures value { result ≡ no_maps options key }

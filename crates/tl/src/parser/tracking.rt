@@ -84,7 +84,7 @@ fn note_id_of<'a>(
     tracking.note_id(id.clone()?, number)
 }
 
-// The same, where ids are tracked.
+// Notes the tag under its id, where ids are tracked.
 fn note_id<'a>(tracking: &mut Tracking<'a>, node: &Node<'a>, number: u32) -> Result<(), AllocError>
     ensures ids { OnOk result ((nodes : List Node) → number ≡ length nodes →
         AnswerIds tracking.old nodes → AnswerIds tracking.new (nodes ++ node_view node.now ∷ [])) }
@@ -121,7 +121,7 @@ fn note_class_of<'a>(
     note_members(alloc, tracking, class, number)
 }
 
-// The same, where classes are tracked.
+// Notes the tag under its classes, where classes are tracked.
 fn note_class<'a>(
     alloc: Global,
     tracking: &mut Tracking<'a>,

@@ -21,7 +21,7 @@ fn first_named<N: Element>(nodes: &[N], name: &[u8]) -> Option<usize>
     nodes.iter().position(|node| node.name() == Some(name))
 }
 
-// The same of a selector of any kind, which is looked at anew at each node.
+// The place of the first node where a selector of any kind holds, which is looked at anew at each node.
 fn first_match<N: Element>(e: &Selector<'_>, nodes: &[N]) -> Option<usize>
     ensures place { result ≡ position_from (holds_alone (selector e.now)) 0 (map N.node nodes.now) }
     ensures within { IfSome result (λ n. n < length nodes.now) }
@@ -29,7 +29,7 @@ fn first_match<N: Element>(e: &Selector<'_>, nodes: &[N]) -> Option<usize>
     nodes.iter().position(|node| holds_alone(e, node))
 }
 
-// The same of a part that is no `And`.
+// The place of the first node where a simple selector holds, by the lookup that fits its kind.
 fn first_of_simple<N: Element>(part: &Selector<'_>, nodes: &[N]) -> Option<usize>
     ensures first { IsFirstPlace (holds_alone (selector part.now)) (map N.node nodes.now) result }
     ensures within { IfSome result (λ n. n < length nodes.now) }

@@ -22,7 +22,7 @@ pub fn copy<'a>(e: &Selector<'a>) -> Result<Selector<'a>, AllocError>
     }
 }
 
-// The same of one that has no sides.
+// A copy of a selector without sides.
 fn copy_simple<'a>(e: &Selector<'a>) -> Selector<'a>
     ensures { has_sides (selector e.now) ≡ false → selector result ≡ selector e.now }
 {
@@ -48,7 +48,7 @@ fn copy_simple<'a>(e: &Selector<'a>) -> Selector<'a>
     }
 }
 
-// The same of one that has sides: first the innermost of its first sides, then what that stands in, from the inside out.
+// A copy of a selector with sides: first the innermost of its first sides, then what that stands in, from the inside out.
 #[cycle(copies)]
 fn copy_complex<'a>(alloc: Global, e: &Selector<'a>) -> Result<Selector<'a>, AllocError>
     ensures { IfOk result (λ f. selector f ≡ selector e.now) }
@@ -61,7 +61,7 @@ fn copy_complex<'a>(alloc: Global, e: &Selector<'a>) -> Result<Selector<'a>, All
     Ok(copy)
 }
 
-// The same of one whose first side was copied.
+// A selector with its first side, which was copied, and a copy of its second.
 #[cycle(copies)]
 fn wrap<'a>(
     alloc: Global,

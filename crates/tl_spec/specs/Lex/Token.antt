@@ -74,7 +74,7 @@ abbrev pub next_token : List ℕ → Option (Token × List ℕ)
 next_token [] = None
 next_token (b ∷ s) = Some (if b == less then markup (b ∷ s) (skip_blanks s) else text_token (b ∷ s))
 
--- the same with its span, where s is the last part of a text of n bytes
+-- the next token with its span, where s is the last part of a text of n bytes
 abbrev pub next_placed : ℕ → List ℕ → Option (PlacedToken × List ℕ)
 next_placed n s = option_map (λ found. (record { token = found.0; from = n - length s; to = n - length found.1 }, found.1)) (next_token s)
 

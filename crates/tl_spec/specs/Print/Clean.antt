@@ -86,13 +86,13 @@ HaveOwnKeys (text bytes more) = HaveOwnKeys more
 HaveOwnKeys (comment bytes more) = HaveOwnKeys more
 HaveOwnKeys (tag own children more) = HasOwnKeys own.attributes × HaveOwnKeys children × HaveOwnKeys more
 
--- the same for a node
+-- a node keeps what the type of attributes keeps
 abbrev pub NodeHasOwnKeys : Node → Type 0
 NodeHasOwnKeys (Tag own) = HasOwnKeys (plain_attributes own.attributes)
 NodeHasOwnKeys (Raw bytes) = ⊤
 NodeHasOwnKeys (Comment bytes) = ⊤
 
--- the same for the node that is met, if one is
+-- the node that is met, if one is, keeps it too
 abbrev pub MeetsOwnKeys : Event → Type 0
 MeetsOwnKeys (meets h node) = NodeHasOwnKeys node
 MeetsOwnKeys (leaves own) = ⊤

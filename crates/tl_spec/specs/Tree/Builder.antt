@@ -55,7 +55,7 @@ abbrev pub with_child_of_first : ℕ → State → List ℕ → State
 with_child_of_first n s [] = record s { top = s.top ++ n ∷ [] }
 with_child_of_first n s (p ∷ ps) = record s { nodes = map_at (with_child n) p s.nodes }
 
--- the same by the tags that are open
+-- a number becomes the last child of the innermost open tag, or the last of the top list
 abbrev pub with_child_of_innermost : ℕ → State → State
 with_child_of_innermost n s = with_child_of_first n s s.open_tags
 

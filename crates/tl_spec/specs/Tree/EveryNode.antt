@@ -46,7 +46,7 @@ HoldOfNode t (Comment bytes) = IsTrue (t.of_comment bytes)
 abbrev pub HoldOfJoined : Tests → Type 0
 HoldOfJoined t = (a b : List ℕ) → IsTrue (t.of_text a) → IsTrue (t.of_text b) → IsTrue (t.of_text (a ++ b))
 
--- the same tests of what is made text
+-- tests of pieces after they are made text
 abbrev pub of_lossy : Tests → Tests
 of_lossy t = record {
   of_tag = λ own. t.of_tag (lossy_tag own);

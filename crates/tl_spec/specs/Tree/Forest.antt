@@ -100,7 +100,7 @@ abbrev pub IsStray : List ℕ → Option (List ℕ) → Type 0
 IsStray name None = ⊤
 IsStray name (Some enclosing) = name ≢ enclosing
 
--- the same by cases, one for each rule: inside a tag of this name or at the top, the tokens make these siblings
+-- siblings by cases, one for each rule: inside a tag of this name or at the top, the tokens make these siblings
 pub data ParsesTo : Option (List ℕ) → List PlacedToken → Siblings → Type 0 where
   over : {o : Option (List ℕ)} → ParsesTo o [] no_siblings
   a_text : {o : Option (List ℕ)} {bytes : List ℕ} {i j : ℕ} {ks : List PlacedToken} {s : Siblings} →

@@ -12,7 +12,7 @@ module _ (nodes : List Node) where
   abbrev pub met : List ℕ → ℕ
   met hs = length (visits (walk all_tags nodes [] hs))
 
-  -- the same of one handle
+  -- how many a walk meets from one handle on
   abbrev pub handle_met : Option Node → ℕ
   handle_met (Some (Tag own)) = 1 + met own.children.items
   handle_met _ = 1

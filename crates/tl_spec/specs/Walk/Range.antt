@@ -41,7 +41,7 @@ with_end (Some first) (Err fault) = Err fault
 abbrev pub boundaries_from : List Node → Option ℕ → Option ℕ → Result (Option (ℕ × ℕ)) TreeFault
 boundaries_from nodes first last = with_end first (last_below nodes last)
 
--- the same of its children
+-- the boundaries of what hangs below a node with these children
 abbrev pub boundaries_of : List Node → List ℕ → Result (Option (ℕ × ℕ)) TreeFault
 boundaries_of nodes children = boundaries_from nodes (slice_get children 0) (last_or None children)
 
@@ -59,7 +59,7 @@ range_between (Err fault) = Err fault
 abbrev pub range_from : List Node → Option ℕ → Option ℕ → Result (ℕ × ℕ) TreeFault
 range_from nodes first last = range_between (boundaries_from nodes first last)
 
--- the same of its children
+-- the range of what hangs below a node with these children
 abbrev pub range_of : List Node → List ℕ → Result (ℕ × ℕ) TreeFault
 range_of nodes children = range_between (boundaries_of nodes children)
 

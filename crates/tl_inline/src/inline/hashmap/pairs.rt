@@ -14,7 +14,7 @@ pub(super) fn find<K: Eq, V>(pairs: &[(K, V)], key: &K) -> Option<usize>
     find_pair(pairs, key)
 }
 
-// The same, as a search of the pairs.
+// The place of a key, by a search of the pairs.
 fn find_pair<K: Eq, V>(pairs: &[(K, V)], key: &K) -> Option<usize>
     ensures { result ≡ position (λ pair. K.eq key.now pair.0) pairs.now }
 {

@@ -34,7 +34,7 @@ pub(super) fn place_of<K: Hash, V>(
     place_by_note(note_of_digest(places, digest_of(key)), pairs, key)
 }
 
-// The same, by what is noted of the key's digest.
+// The place of the pair with this key, by what is noted of the key's digest.
 pub(super) fn place_by_note<K: Eq, V>(
     note: Option<Place>,
     pairs: &[(K, V)],
@@ -50,7 +50,7 @@ pub(super) fn place_by_note<K: Eq, V>(
     index_by_note(note, pairs, key)
 }
 
-// The same. Whatever is noted, a key is compared before its place is answered.
+// Whatever is noted, a key is compared before its place is answered.
 fn index_by_note<K: Eq, V>(note: Option<Place>, pairs: &[(K, V)], key: &K) -> Option<usize>
     requires { AllowsKey (K.eq key.now) note (keys_of pairs.now) }
     ensures { result ≡ position (K.eq key.now) (keys_of pairs.now) }
