@@ -19,7 +19,12 @@ use Rattle.tl_spec.specs.Lex.AttributeList.{Attributes, attributes_of}
 
 -- what has been written, the innermost open tag first
 abbrev pub state_of : TableBuilder → State
-state_of b = record { nodes = map node_view b.nodes.items; open_tags = reverse b.open_tags.items; top = b.top.items; is_html5 = b.is_html5 }
+state_of b = record {
+  nodes = map node_view b.nodes.items;
+  open_tags = reverse b.open_tags.items;
+  top = b.top.items;
+  is_html5 = b.is_html5;
+}
 
 -- the tag of a start tag written: nothing where that is broken, else opened unless it stands alone
 abbrev pub with_tag : Node → Bool → State → TagEnd → State
@@ -30,7 +35,8 @@ with_tag node void s Opens = (if void then with_next_node node s else with_open_
 -- a token that is no start tag and ends at a place written
 abbrev pub with_whole : List ℕ → Token → ℕ → State → State
 with_whole t (TextToken span) to s = with_next_node (Raw (bytes_at t span)) s
-with_whole t (EndToken name) to s = after_end t to s (closes (bytes_at t name) (enclosing_name s.nodes s.open_tags))
+with_whole t (EndToken name) to s =
+    after_end t to s (closes (bytes_at t name) (enclosing_name s.nodes s.open_tags))
 with_whole t (CommentToken span) to s = with_next_node (Comment (bytes_at t span)) s
 with_whole t (DoctypeToken html) to s = record s { is_html5 = s.is_html5 || html }
 with_whole t (StartToken name) to s = s
@@ -38,7 +44,11 @@ with_whole t NothingToken to s = s
 
 -- what a token of the lexer stands for, from one place to another
 abbrev pub placed_token : List ℕ → Token → ℕ → ℕ → ℕ → PlacedToken
-placed_token t token after from to = record { token = (meant t token after).0; from = from; to = to }
+placed_token t token after from to = record {
+  token = (meant t token after).0;
+  from = from;
+  to = to;
+}
 
 -- the bytes at a span of a text, held so
 abbrev pub piece_at : Held → List ℕ → Span → Kept
@@ -60,6 +70,12 @@ document_of_state s = record { nodes = s.nodes; top = s.top; is_html5 = s.is_htm
 abbrev pub read_of : List Pair × List ℕ → Attributes (List ℕ) × List ℕ
 read_of found = (held_attributes (attributes_of found.0), found.1)
 
--- the tag of this name whose attributes stand from `at` on, and which itself stands from one place to another
+-- the tag of this name whose attributes stand from `at` on, and which itself stands from one place
+-- to another
 abbrev pub source_tag : List ℕ → Span → ℕ → ℕ → ℕ → SourceTag
-source_tag t name at from to = record { name = bytes_at t name; attributes = attributes_of (attributes (drop at t)).0; from = from; to = to }
+source_tag t name at from to = record {
+  name = bytes_at t name;
+  attributes = attributes_of (attributes (drop at t)).0;
+  from = from;
+  to = to;
+}

@@ -23,8 +23,11 @@ module _ {A B O : Type 0} where
 
   -- c where the handles of the tag's children are these
   abbrev pub with_lent_children : ChildrenMutOf A B O → InlineVec ℕ → ChildrenMutOf A B O
-  with_lent_children c handles = record c { tag = record c.tag { now = record c.tag.now { children = handles } } }
+  with_lent_children c handles =
+      record c { tag = record c.tag { now = record c.tag.now { children = handles } } }
 
 -- once the borrow r ends, the handles are those that were last written through r
-abbrev pub LendsTopHandles : (A B O : RattleType) → Ghosts O.Denot A.Denot → MutBor (ChildrenMutOf A.Denot B.Denot O.Denot) → MutBor (InlineVec ℕ) → Fml
-LendsTopHandles A B O o c r = Lends (the_row (record { mir = named 1; lft = [] }) A B O o) (inline_vec_row handle_row (number 2)) c r (with_lent_children c.now)
+abbrev pub LendsTopHandles : (A B O : RattleType) → Ghosts O.Denot A.Denot →
+    MutBor (ChildrenMutOf A.Denot B.Denot O.Denot) → MutBor (InlineVec ℕ) → Fml
+LendsTopHandles A B O o c r = Lends (the_row (record { mir = named 1; lft = [] }) A B O o)
+    (inline_vec_row handle_row (number 2)) c r (with_lent_children c.now)

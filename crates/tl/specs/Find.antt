@@ -31,16 +31,19 @@ sights nodes (faulty fault ∷ later) = Err (error_of fault) ∷ sights nodes la
 
 -- all that hangs below a node, in the order of the walk that enters every tag
 abbrev pub sights_below : List HTMLNode → HTMLNode → List Sight
-sights_below nodes (ATag tag) = sights nodes (events (walk all_tags (map node_view nodes) [] tag.children.items))
+sights_below nodes (ATag tag) =
+    sights nodes (events (walk all_tags (map node_view nodes) [] tag.children.items))
 sights_below nodes (ARaw bytes) = []
 sights_below nodes (AComment bytes) = []
 
 module _ {F : Type 0} (calls : Mut F (Bor HTMLNode × Unit {0}) Bool) where
-  -- calls lead from p to q: false at each node, up to one that is true, or to a fault, or to the end
+  -- calls lead from p to q: false at each node, up to one that is true, or to a fault, or to the
+  -- end
   abbrev pub FindsNode : F → List Sight → Result (Option ℕ) TreeError → F → Type 0
   FindsNode p [] r q = (r ≡ Ok None) × (p ≡ q)
   FindsNode p (Err e ∷ later) r q = (r ≡ Err e) × (p ≡ q)
-  FindsNode p (Ok v ∷ later) r q = (CalledAt calls p v.1 true q × (r ≡ Ok (Some v.0))) ⊎ ((m : F) × CalledAt calls p v.1 false m × FindsNode m later r q)
+  FindsNode p (Ok v ∷ later) r q = (CalledAt calls p v.1 true q × (r ≡ Ok (Some v.0)))
+      ⊎ ((m : F) × CalledAt calls p v.1 false m × FindsNode m later r q)
 
   -- calls lead from p to q: false at each node of a beginning
   abbrev pub Passes : F → List Sight → F → Type 0

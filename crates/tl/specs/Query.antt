@@ -21,7 +21,8 @@ item_of p = (p.0.now, p.1)
 -- the node of a table at a place counted from a first number, and its handle
 abbrev pub item_at : {N : Type 0} → Option ℕ → List N → ℕ → Option (N × ℕ)
 item_at None nodes index = None
-item_at (Some first) nodes index = option_map (λ node. (node, first + index)) (slice_get nodes (first + index))
+item_at (Some first) nodes index =
+    option_map (λ node. (node, first + index)) (slice_get nodes (first + index))
 
 -- how many numbers a range has
 abbrev pub count_in : Result (ℕ × ℕ) TreeFault → Result ℕ TreeFault
@@ -30,7 +31,8 @@ count_in (Err fault) = Err fault
 
 -- the numbers at which a selector holds, among so many from the first one on
 abbrev pub AreAmong : List Node → Selector → Option ℕ → Result ℕ TreeFault → List ℕ → Type 0
-AreAmong nodes e first count ns = (n : ℕ) × (count ≡ Ok n) × AreMatches nodes e (unwrap_or first 0) (unwrap_or first 0 + n) ns
+AreAmong nodes e first count ns =
+    (n : ℕ) × (count ≡ Ok n) × AreMatches nodes e (unwrap_or first 0) (unwrap_or first 0 + n) ns
 
 -- the numbers at which a selector holds, in a range
 abbrev pub AreIn : List Node → Result (ℕ × ℕ) TreeFault → Selector → List ℕ → Type 0
@@ -43,13 +45,16 @@ FindsMatches text AreFound (Some ns) = (e : Selector) × IsSelectorText text e �
 
 -- what is found of a document by the text of a selector
 abbrev pub FindsIn : HTMLTable → List ℕ → Option (List ℕ) → Type 0
-FindsIn d text found = FindsMatches text (λ e. AreMatches (map node_view d.nodes) e 0 (length d.nodes)) found
+FindsIn d text found =
+    FindsMatches text (λ e. AreMatches (map node_view d.nodes) e 0 (length d.nodes)) found
 
 -- the numbers of all nodes of a document where a selector holds
 abbrev pub matches_in : Document → Selector → List ℕ
 matches_in d e = matches_between d.nodes e 0 (length d.nodes)
 
 -- the nodes of a range, or the fault; or memory ran out
-abbrev pub ReadsNodes : {N : Type 0} → Result (ℕ × ℕ) TreeFault → List N → Result (Bor (List N)) TreeError → Type 0
-ReadsNodes is nodes (Ok part) = (range : ℕ × ℕ) × (is ≡ Ok range) × (part.now ≡ between range.0 range.1 nodes)
+abbrev pub ReadsNodes : {N : Type 0} → Result (ℕ × ℕ) TreeFault → List N →
+    Result (Bor (List N)) TreeError → Type 0
+ReadsNodes is nodes (Ok part) =
+    (range : ℕ × ℕ) × (is ≡ Ok range) × (part.now ≡ between range.0 range.1 nodes)
 ReadsNodes is nodes (Err error) = IsRefusal (result_err is) error

@@ -36,10 +36,20 @@ step_out (tag ∷ outer) = Some (leaves tag.own, record { inside = tag.more; aro
 -- the next event, and what is left then: nothing comes after a fault
 abbrev pub step_in : List Around → Walk → Option (Event × Remaining)
 step_in around end = step_out around
-step_in around (meets_text h bytes more) = Some (meets h (Raw bytes), record { inside = more; around = around })
-step_in around (meets_comment h bytes more) = Some (meets h (Comment bytes), record { inside = more; around = around })
-step_in around (meets_tag h own children more) = Some (meets h (Tag own), record { inside = children; around = record { own = own; more = more } ∷ around })
-step_in around (passes_tag h own more) = Some (meets h (Tag own), record { inside = more; around = around })
+step_in around (meets_text h bytes more) =
+    Some (meets h (Raw bytes), record { inside = more; around = around })
+step_in around (meets_comment h bytes more) =
+    Some (meets h (Comment bytes), record { inside = more; around = around })
+step_in around (meets_tag h own children more) =
+    Some (
+      meets h (Tag own),
+      record {
+        inside = children;
+        around = record { own = own; more = more } ∷ around;
+      },
+    )
+step_in around (passes_tag h own more) =
+    Some (meets h (Tag own), record { inside = more; around = around })
 step_in around (meets_fault e more) = Some (faulty e, nothing_left)
 
 abbrev pub step : Remaining → Option (Event × Remaining)
@@ -56,7 +66,8 @@ pub record Within : Type 0 where
   pub own : TagNode
   pub rest : List ℕ
 
--- where a walk over nodes that enters every tag stands: the handles that come next, and the tags that it is in, the innermost first
+-- where a walk over nodes that enters every tag stands: the handles that come next, and the tags
+-- that it is in, the innermost first
 pub record Place : Type 0 where
   pub nodes : List Node
   pub next : List ℕ
@@ -70,11 +81,16 @@ module _ (nodes : List Node) where
   -- what is met after these tags
   abbrev pub around_within : List Within → List Around
   around_within [] = []
-  around_within (tag ∷ outer) = record { own = tag.own; more = walk all_tags nodes (path_within outer) tag.rest } ∷ around_within outer
+  around_within (tag ∷ outer) = record
+      { own = tag.own; more = walk all_tags nodes (path_within outer) tag.rest }
+      ∷ around_within outer
 
 -- what is left of a walk that stands there
 abbrev pub remaining_of : Place → Remaining
-remaining_of p = record { inside = walk all_tags p.nodes (path_within p.within) p.next; around = around_within p.nodes p.within }
+remaining_of p = record {
+  inside = walk all_tags p.nodes (path_within p.within) p.next;
+  around = around_within p.nodes p.within;
+}
 
 -- its events, if nothing is skipped
 abbrev pub events_of : Place → List Event

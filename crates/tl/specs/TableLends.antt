@@ -24,14 +24,17 @@ module _ {A B O M : Type 0} where
   abbrev pub with_top : Table A B O M → List ℕ → Table A B O M
   with_top d handles = record d { top = refill (length d.top) d.top handles }
 
-module _ (A B O M : RattleType) (o : Ghosts O.Denot A.Denot) (d : MutBor (Table A.Denot B.Denot O.Denot M.Denot)) where
-  -- once the borrow r ends, the number has the last node written through r, and at `None` the table stays as it is
+module _ (A B O M : RattleType) (o : Ghosts O.Denot A.Denot)
+    (d : MutBor (Table A.Denot B.Denot O.Denot M.Denot)) where
+  -- once the borrow r ends, the number has the last node written through r, and at `None` the table
+  -- stays as it is
   abbrev pub LendsNode : ℕ → Option (MutBor (NodeOf A.Denot B.Denot O.Denot)) → Fml
   LendsNode i r = LendsIf (parser_row A B O M o) (node_row A B O o) d r (with_node d.now i) d.now
 
   -- once the borrow r ends, the nodes are those that r shows last
   abbrev pub LendsTableNodes : MutBor (List (NodeOf A.Denot B.Denot O.Denot)) → Fml
-  LendsTableNodes r = Lends (parser_row A B O M o) (Array (node_row A B O o) 0) d r (with_nodes d.now)
+  LendsTableNodes r =
+      Lends (parser_row A B O M o) (Array (node_row A B O o) 0) d r (with_nodes d.now)
 
   -- once the borrow r ends, the handles of the top nodes are those last written through r
   abbrev pub LendsTableTop : MutBor (List ℕ) → Fml

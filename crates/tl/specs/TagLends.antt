@@ -20,4 +20,5 @@ module _ (A B O : RattleType) (o : Ghosts O.Denot A.Denot) (t : MutBor (Tag A.De
 
   -- once the borrow r ends, the children are those last written through r
   abbrev pub LendsChildren : MutBor (InlineVec ℕ) → Fml
-  LendsChildren r = Lends (the_row A B O o) (inline_vec_row handle_row (number 2)) t r (λ w. record t.now { children = w })
+  LendsChildren r = Lends (the_row A B O o) (inline_vec_row handle_row (number 2)) t r
+      (λ w. record t.now { children = w })

@@ -19,6 +19,7 @@ AnswerIds t nodes = TracksIds (λ (b : Kept). b.list) same_list t.ids nodes
 abbrev pub AnswerClasses : Tracking Kept → List Node → Type 0
 AnswerClasses t nodes = TracksClasses (λ (b : Kept). b.list) same_list t.classes nodes
 
--- where classes are tracked, each member is answered as by a scan of these nodes, and the tag after them stands under these of its members
+-- where classes are tracked, each member is answered as by a scan of these nodes, and the tag after
+-- them stands under these of its members
 abbrev pub AnswerMembers : Tracking Kept → List Node → List (List ℕ) → Type 0
 AnswerMembers t nodes noted = TracksMembers (λ (b : Kept). b.list) same_list t.classes nodes noted

@@ -30,7 +30,9 @@ module _ (entered : List ℕ → Bool) (nodes : List Node) where
   -- what comes once the frames are taken one by one, the last first, and `later` after them
   abbrev pub after_frames_from : List ℕ → List SpecEvent → List Frame → List SpecEvent
   after_frames_from path later [] = later
-  after_frames_from path later (f ∷ fs) = after_frames_from (f.handle ∷ path) (leaves (tag_view f.tag.now) ∷ (events (walk entered nodes path f.rest.now) ++ later)) fs
+  after_frames_from path later (f ∷ fs) =
+      after_frames_from (f.handle ∷ path) (leaves (tag_view f.tag.now)
+      ∷ (events (walk entered nodes path f.rest.now) ++ later)) fs
 
   -- what comes once nothing is left below the frames
   unfoldable pub after_frames : List Frame → List SpecEvent
@@ -46,11 +48,13 @@ path_of w = path_from [] w.frames.items
 
 -- what is left, where these handles come first
 abbrev pub events_to_come_at : Walker → List ℕ → List SpecEvent
-events_to_come_at w hs = events_to_come_below (enters w.entered) (map node_view w.nodes.now) w.frames.items hs
+events_to_come_at w hs =
+    events_to_come_below (enters w.entered) (map node_view w.nodes.now) w.frames.items hs
 
 -- what is left once this tag is entered
 abbrev pub events_to_come_in : ℕ → TagNode → Walker → List SpecEvent
-events_to_come_in h own w = events (walk (enters w.entered) (map node_view w.nodes.now) (h ∷ path_of w) own.children.items) ++ (leaves own ∷ events_to_come_at w w.rest.now)
+events_to_come_in h own w = events (walk (enters w.entered) (map node_view w.nodes.now)
+    (h ∷ path_of w) own.children.items) ++ (leaves own ∷ events_to_come_at w w.rest.now)
 
 -- what is left
 abbrev pub events_to_come : Walker → List SpecEvent
@@ -93,14 +97,18 @@ module _ (nodes : List Node) where
   -- the tags of the frames, the last first, before those around them
   abbrev pub around_from : List ℕ → List Around → List Frame → List Around
   around_from path outer [] = outer
-  around_from path outer (f ∷ fs) = around_from (f.handle ∷ path) (record { own = tag_view f.tag.now; more = walk all_tags nodes path f.rest.now } ∷ outer) fs
+  around_from path outer (f ∷ fs) = around_from (f.handle ∷ path)
+      (record { own = tag_view f.tag.now; more = walk all_tags nodes path f.rest.now } ∷ outer) fs
 
   unfoldable pub around : List Frame → List Around
   around fs = around_from [] [] fs
 
   -- what is left of a walk that enters every tag, where these handles come first
   abbrev pub remaining_below : List Frame → List ℕ → Remaining
-  remaining_below fs hs = record { inside = walk all_tags nodes (path_from [] fs) hs; around = around fs }
+  remaining_below fs hs = record {
+    inside = walk all_tags nodes (path_from [] fs) hs;
+    around = around fs;
+  }
 
 -- what is left of a walker's walk that enters every tag, where these handles come first
 abbrev pub remaining_at : Walker → List ℕ → Remaining
@@ -114,7 +122,10 @@ abbrev pub remaining_in : ℕ → TagNode → Walker → Remaining
 remaining_in h own w =
     let nodes = map node_view w.nodes.now in
     let after = remaining w in
-    record { inside = walk all_tags nodes (h ∷ path_of w) own.children.items; around = record { own = own; more = after.inside } ∷ after.around }
+    record {
+      inside = walk all_tags nodes (h ∷ path_of w) own.children.items;
+      around = record { own = own; more = after.inside } ∷ after.around;
+    }
 
 -- the next event is taken, or there is none
 abbrev pub TakesNext : Remaining → Option WalkEvent → Remaining → Type 0
@@ -129,11 +140,16 @@ StepsOn before (Err error) after = FailsAt (step before) error
 -- the tags of the frames, the last first, before those around them
 abbrev pub within_from : List Within → List Frame → List Within
 within_from outer [] = outer
-within_from outer (f ∷ fs) = within_from (record { handle = f.handle; own = tag_view f.tag.now; rest = f.rest.now } ∷ outer) fs
+within_from outer (f ∷ fs) = within_from
+    (record { handle = f.handle; own = tag_view f.tag.now; rest = f.rest.now } ∷ outer) fs
 
 -- where a walker stands
 abbrev pub place_of : Walker → Place
-place_of w = record { nodes = map node_view w.nodes.now; next = w.rest.now; within = within_from [] w.frames.items }
+place_of w = record {
+  nodes = map node_view w.nodes.now;
+  next = w.rest.now;
+  within = within_from [] w.frames.items;
+}
 
 -- what `next` of a walk gives, of what is left of it: nothing is left after an error
 abbrev pub Gives : Remaining → Option (Result WalkEvent TreeError) → Remaining → Type 0
@@ -145,7 +161,8 @@ abbrev pub IsNext : Place → Option (Result WalkEvent TreeError) → Place → 
 IsNext before result after = Gives (remaining_of before) result (remaining_of after)
 
 -- where there is no fault the text was written after `old`
-abbrev pub Writes : {A : Type 0} → Option TreeFault → List ℕ → List ℕ → Result A TreeError → List ℕ → Type 0
+abbrev pub Writes : {A : Type 0} → Option TreeFault → List ℕ → List ℕ → Result A TreeError →
+    List ℕ → Type 0
 Writes fault text old (Ok u) new = (fault ≡ None) × (new ≡ old ++ text)
 Writes fault text old (Err error) new = IsRefusal fault error
 

@@ -1,4 +1,5 @@
-//! Laws of what calls answer together, and of what a loan for writing leaves; and those of the definitions that a caller needs.
+//! Laws of what calls answer together, and of what a loan for writing leaves; and those of the
+//! definitions that a caller needs.
 ghost use Rattle.std.specs.Prelude.{◌≡◌, ◌<◌, ◌^◌, All, List, None, Option, Some, ℕ, length, map, option_map};
 ghost use Rattle.std.specs.Option.{ForSome};
 ghost use Rattle.tl_bytes.specs.Held.{Kept};
@@ -25,8 +26,9 @@ pub use tl_spec::laws::{
     trees_print_then_parse, walk_by_step,
 };
 
-/// What is looked up in a document that was just read is the first tag of the text with the id, and all its tags with the class
-/// member, rising, whatever is tracked. The premises are what `parse` ensures, and the answers those of the lookups.
+/// What is looked up in a document that was just read is the first tag of the text with the id, and
+/// all its tags with the class member, rising, whatever is tracked. The premises are what `parse`
+/// ensures, and the answers those of the lookups.
 pub fn lookups_find_tags_of_the_text()
     ensures id { (d : HTMLTable) (t : List ℕ) (id : Kept) → document_of d ≡ document t
         → AnswerIds d.tracking (document t).nodes →
@@ -36,9 +38,10 @@ pub fn lookups_find_tags_of_the_text()
         ArePlaces (is_in_class member) (document t).nodes (with_member d member) }
 {}
 
-/// Two documents that show the same nodes answer each lookup alike, whether they keep their text or borrow it: just read, and
-/// after edits. The premises are that they were read with the same options, and that their maps are of the same nodes; of one text
-/// `parse` and `parse_owned` ensure both, and no edit of a node changes it.
+/// Two documents that show the same nodes answer each lookup alike, whether they keep their text or
+/// borrow it: just read, and after edits. The premises are that they were read with the same
+/// options, and that their maps are of the same nodes; of one text `parse` and `parse_owned` ensure
+/// both, and no edit of a node changes it.
 pub fn lookups_answer_alike()
     ensures id { (d e : HTMLTable) (asked : Options) (read : List Node) (id : Kept)
         → (document_of d).nodes ≡ (document_of e).nodes →
@@ -52,8 +55,9 @@ pub fn lookups_answer_alike()
         with_member d member ≡ with_member e member }
 {}
 
-/// What is written through the nodes that `nodes_mut` lends, whose number stays, is the nodes of the document, and all else of it is
-/// as it was. So what holds of each node that was written holds of the document's.
+/// What is written through the nodes that `nodes_mut` lends, whose number stays, is the nodes of
+/// the document, and all else of it is as it was. So what holds of each node that was written holds
+/// of the document's.
 pub fn written_nodes()
     ensures document { (d : HTMLTable) (nodes : List HTMLNode) → length nodes ≡ length d.nodes →
         document_of (with_nodes d nodes) ≡ record (document_of d) { nodes = map node_view nodes } }
@@ -66,16 +70,19 @@ pub fn written_nodes()
         All (HoldOfNode tests) (document_of (with_nodes d nodes)).nodes }
 {}
 
-/// A query of a document finds all nodes where the selector of its text holds, and nothing where the text is no selector's. The
-/// premise is what `query_selector` ensures. No more nodes are found than there are.
+/// A query of a document finds all nodes where the selector of its text holds, and nothing where
+/// the text is no selector's. The premise is what `query_selector` ensures. No more nodes are found
+/// than there are.
 pub fn queries_find()
     ensures some { (d : HTMLTable) (text : List ℕ) (found : Option (List ℕ)) (e : Selector)
-        → FindsIn d text found → IsSelectorText text e → found ≡ Some (matches_in (document_of d) e) }
+        → FindsIn d text found → IsSelectorText text e →
+        found ≡ Some (matches_in (document_of d) e) }
     ensures none { (d : HTMLTable) (text : List ℕ) (found : Option (List ℕ)) → FindsIn d text found
         → ((e : Selector) → IsSelectorText text e → ⊥) → found ≡ None }
 
     // What is found, by the plain reader of selector texts.
-    ensures reading { (d : HTMLTable) (text : List ℕ) (found : Option (List ℕ)) → FindsIn d text found
+    ensures reading { (d : HTMLTable) (text : List ℕ) (found : Option (List ℕ)) →
+        FindsIn d text found
         → found ≡ option_map (matches_in (document_of d)) (selector_at text) }
     ensures few { (d : HTMLTable) (text : List ℕ) (found : Option (List ℕ)) → FindsIn d text found
         → length d.nodes < 2 ^ 32 → ForSome found (λ numbers. length numbers < 2 ^ 32) }

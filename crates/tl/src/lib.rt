@@ -82,9 +82,10 @@ fn read_document<'a, S: Source<'a>>(
 
 /// Reads a text into a document whose pieces are slices of it.
 ///
-/// Markup that is broken is dropped without a fault. A text longer than 4294967295 bytes is refused before any memory is taken.
-/// The nodes stand in the order of the text: what hangs below a tag is the nodes right after it, and these are the tag's range.
-/// The ids and classes that `options` ask for are tracked in one pass over the nodes; no later edit changes what was tracked.
+/// Markup that is broken is dropped without a fault. A text longer than 4294967295 bytes is refused
+/// before any memory is taken. The nodes stand in the order of the text: what hangs below a tag is
+/// the nodes right after it, and these are the tag's range. The ids and classes that `options` ask
+/// for are tracked in one pass over the nodes; no later edit changes what was tracked.
 pub fn parse<'a>(
     alloc: Global,
     text: &'a str,
@@ -98,11 +99,13 @@ pub fn parse<'a>(
     ensures version { IfOk result (λ d. d.version ≡ version_of (document text.now).is_html5) }
     ensures borrowed { IfOk result (λ d. All (IsHeldNode borrowed) d.nodes) }
 
-    // What callers go by who count nodes: their order, the ranges of tags, and that they and their attributes are no more than the bytes.
+    // What callers go by who count nodes: their order, the ranges of tags, and that they and their
+    // attributes are no more than the bytes.
     ensures above { IfOk result (λ d. ChildrenFollowParents (document_of d).nodes) }
     ensures interval { IfOk result (λ d. DescendantsAreContiguous (document_of d).nodes) }
     ensures ranges { IfOk result (λ d. AreRangesOfDescendants (document_of d).nodes) }
-    ensures size { IfOk result (λ d. sum_by node_and_attribute_count (document_of d).nodes ≤ length text.now) }
+    ensures size { IfOk result (λ d. sum_by node_and_attribute_count (document_of d).nodes
+        ≤ length text.now) }
 
     // What is tracked answers as a scan of the table that was read.
     ensures asked { IfOk result (λ d. AreAsked options d.tracking) }
@@ -116,7 +119,8 @@ pub fn parse<'a>(
     read_document(alloc, &text, options)
 }
 
-/// Reads a text into a document that keeps it: its pieces are shares of the one text, which is not copied.
+/// Reads a text into a document that keeps it: its pieces are shares of the one text, which is not
+/// copied.
 ///
 /// It reads, tracks and refuses as [`parse`] does.
 pub fn parse_owned(
@@ -130,7 +134,8 @@ pub fn parse_owned(
         ≡ version_of (document (string_bytes text)).is_html5) }
     ensures shared { IfOk result (λ d. All (IsHeldNode shared) d.nodes) }
 
-    // What callers go by who count nodes: their order, the ranges of tags, and that they and their attributes are no more than the bytes.
+    // What callers go by who count nodes: their order, the ranges of tags, and that they and their
+    // attributes are no more than the bytes.
     ensures above { IfOk result (λ d. ChildrenFollowParents (document_of d).nodes) }
     ensures interval { IfOk result (λ d. DescendantsAreContiguous (document_of d).nodes) }
     ensures ranges { IfOk result (λ d. AreRangesOfDescendants (document_of d).nodes) }

@@ -1,4 +1,5 @@
-//! The walk over a table: each handle's node is met, and then what hangs below it, unless the handle dangles or stands on its own path.
+//! The walk over a table: each handle's node is met, and then what hangs below it, unless the
+//! handle dangles or stands on its own path.
 ghost use Rattle.std.specs.Prelude.{◌≡◌, ◌≢◌, ◌<◌, ℕ, true, false, [], ◌∷◌, length, map, None, Err, OnOk, IfOk, IfErr, IfSome};
 ghost use Rattle.std.specs.Option.{option_copied};
 ghost use Rattle.std.specs.List.{slice_get};
@@ -122,7 +123,8 @@ impl<'s, 'a> Walker<'s, 'a> {
             → StepsOn (remaining_at self.old (handle ∷ self.old.rest.now)) result
             (remaining self.new) }
 
-        // Neither fault is hidden as want of memory, which only the first marks and a deeper path take.
+        // Neither fault is hidden as want of memory, which only the first marks and a deeper path
+        // take.
         ensures dangling { slice_get self.old.nodes.now handle ≡ None
             → result ≡ Err (TreeError.Dangling handle) }
         ensures cycle { self.old.marks.items ≢ [] → handle < length self.old.nodes.now
@@ -161,7 +163,8 @@ impl<'s, 'a> Walker<'s, 'a> {
         requires off { stands_on (path_of self.old) handle ≡ false }
         requires may { MayFollow handle (path_of self.old) self.old.marks.items }
         ensures marked { OnOk result (IsMarked self.new) }
-        ensures left { OnOk result (events_to_come self.new ≡ events_to_come_in handle (tag_view tag.now) self.old) }
+        ensures left { OnOk result (events_to_come self.new
+            ≡ events_to_come_in handle (tag_view tag.now) self.old) }
         ensures err { IfErr result (λ e. e ≡ TreeError.OutOfMemory) }
         ensures table { self.new.nodes.now ≡ self.old.nodes.now }
         ensures entered { self.new.entered ≡ self.old.entered }

@@ -8,12 +8,19 @@ use Rattle.tl_inline.specs.InlineMap.{inline_map_code}
 -- attributes are stored as their fields
 abbrev pub attributes_code : {B : Type 0} → Coded B → Coded (Attributes B)
 attributes_code {B} code =
-    code_by (InlineMap B (Option B) × (Option B × Option B)) (coded× (inline_map_code code (coded_option code)) (coded× (coded_option code) (coded_option code)))
-    (λ a. (a.others, (a.id, a.class))) (λ p. record { others = p.0; id = p.1.0; class = p.1.1 }) (λ _. refl)
+    code_by (InlineMap B (Option B) × (Option B × Option B))
+    (coded× (inline_map_code code (coded_option code))
+    (coded× (coded_option code) (coded_option code)))
+    (λ a. (a.others, (a.id, a.class))) (λ p. record { others = p.0; id = p.1.0; class = p.1.1 })
+    (λ _. refl)
 
 -- no attributes, and none on the heap
 abbrev pub no_attributes : {B : Type 0} → Attributes B
-no_attributes = record { others = record { entries = []; on_heap = false }; id = None; class = None }
+no_attributes = record {
+  others = record { entries = []; on_heap = false };
+  id = None;
+  class = None;
+}
 
 -- a value with its key, and, where there is none, whether there is the key
 abbrev pub nest : {V : Type 0} → Result V Bool → Option (Option V)

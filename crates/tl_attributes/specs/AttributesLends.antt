@@ -13,16 +13,19 @@ PieceMembers B = record { hash_input : B → List (List ℕ); eq : B → B → B
 
 module _ (B : RattleType) (p : PieceMembers B.Denot) (s : MutBor (Attributes B.Denot)) where
   abbrev pub row : RattleType
-  row = the_row B (record { list = p.list }) (record { eq = p.eq }) (record { hash_input = p.hash_input })
+  row = the_row B (record { list = p.list }) (record { eq = p.eq })
+      (record { hash_input = p.hash_input })
 
   abbrev pub LendsId : Option (MutBor B.Denot) → Fml
   LendsId r = LendsIf row B s r (λ w. record s.now { id = Some w }) s.now
 
   abbrev pub LendsSlot : B.Denot → Option (MutBor (Option B.Denot)) → Fml
-  LendsSlot k r = LendsIf row (option_row B) s r (λ w. record s.now { others = with_value p.eq s.now.others k w }) s.now
+  LendsSlot k r = LendsIf row (option_row B) s r
+      (λ w. record s.now { others = with_value p.eq s.now.others k w }) s.now
 
   abbrev pub LendsValue : B.Denot → Option (MutBor B.Denot) → Fml
-  LendsValue k r = LendsIf row B s r (λ w. record s.now { others = with_value p.eq s.now.others k (Some w) }) s.now
+  LendsValue k r = LendsIf row B s r (λ w.
+      record s.now { others = with_value p.eq s.now.others k (Some w) }) s.now
 
   abbrev pub LendsClass : Option (MutBor B.Denot) → Fml
   LendsClass r = LendsIf row B s r (λ w. record s.now { class = Some w }) s.now

@@ -13,8 +13,10 @@ module _ {B : Type 0} where
   abbrev pub read_pair : Kept × Option (Bor B) → Kept × Option B
   read_pair p = (p.0, option_copied p.1)
 
-  abbrev pub listed_parts : (B → List ℕ) → List (B × Option B) → Option B → Option B → List (Kept × Option B)
-  listed_parts list others id class = pairs_in_order as_borrowed (map (λ e. (as_borrowed (list e.0), e.1)) others) id class
+  abbrev pub listed_parts : (B → List ℕ) → List (B × Option B) → Option B → Option B →
+      List (Kept × Option B)
+  listed_parts list others id class =
+      pairs_in_order as_borrowed (map (λ e. (as_borrowed (list e.0), e.1)) others) id class
 
   -- the other keys in their order, then id, then class
   abbrev pub listed : (B → List ℕ) → Attributes B → List (Kept × Option B)

@@ -11,7 +11,11 @@ use Rattle.tl_attributes.specs.declared.summary.Summary.{Summary}
 
 -- the mark of some bytes, so that equal bytes have equal marks
 abbrev pub fingerprint_of : List ℕ → Fingerprint
-fingerprint_of bytes = record { len = length bytes % 256; first = unwrap_or (slice_get bytes 0) 0; last = unwrap_or (slice_get bytes (length bytes - 1)) 0 }
+fingerprint_of bytes = record {
+  len = length bytes % 256;
+  first = unwrap_or (slice_get bytes 0) 0;
+  last = unwrap_or (slice_get bytes (length bytes - 1)) 0;
+}
 
 -- the number of its bit, from 0 to 31
 abbrev pub bit_of : Fingerprint → ℕ
@@ -35,7 +39,8 @@ IsIdSummary (Known mark) id = option_map fingerprint_of id ≡ Some mark
 
 -- the bit of each member of a class is set
 abbrev pub AreClassBits : ℕ → Option (List ℕ) → Type 0
-AreClassBits classes class = (member : List ℕ) → IsTrue (has_member class member) → MayBeMember classes (fingerprint_of member)
+AreClassBits classes class = (member : List ℕ) → IsTrue (has_member class member) →
+    MayBeMember classes (fingerprint_of member)
 
 -- nothing that is said of attributes is wrong, however they are held
 pub record IsSummary (o : Summary) (attributes : Attributes Kept) : Type 0 where

@@ -19,8 +19,8 @@ use tl_inline::inline::hashmap::InlineHashMap;
 /// The pairs of a tag other than `id` and `class`. Up to two lie inline.
 pub type RawAttributesMap<'a> = InlineHashMap<Bytes<'a>, Option<Bytes<'a>>, 2>;
 
-/// The attributes of a tag, with keys and values of the type `B`. Each key is there once, and `id` and `class`, in exact
-/// case, stand apart: they are there only with a value.
+/// The attributes of a tag, with keys and values of the type `B`. Each key is there once, and `id`
+/// and `class`, in exact case, stand apart: they are there only with a value.
 #[derive(Debug, Drop)]
 pub struct AttributesOf<B: Piece> {
     others: InlineHashMap<B, Option<B>, 2>,
@@ -71,7 +71,8 @@ fn nest<B>(value: Result<&mut B, bool>) -> Option<Option<&mut B>>
 
 impl<B: Piece + Default> AttributesOf<B> {
     /// No attributes, which take no memory. What they take later comes from `alloc`.
-    // Out of line: where it is seen that each field is constant, they are copied one by one at each step on their way.
+    // Out of line: where it is seen that each field is constant, they are copied one by one at each
+    // step on their way.
     #[inline(never)]
     pub fn new(alloc: Global) -> Self
         ensures { result ≡ no_attributes }
@@ -153,14 +154,16 @@ impl<B: Piece> AttributesOf<B> {
 }
 
 impl<B: Piece + Default + Drop> AttributesOf<B> {
-    /// Puts `value` at `key`. A key that is there keeps its place, and a new one goes last; `id` and `class` without a
-    /// value are taken out. `Err` means that memory was refused; at `id`, `class` and a key that is there none is taken.
+    /// Puts `value` at `key`. A key that is there keeps its place, and a new one goes last; `id`
+    /// and `class` without a value are taken out. `Err` means that memory was refused; at `id`,
+    /// `class` and a key that is there none is taken.
     #[inline(always)]
     pub fn insert(&mut self, key: B, value: Option<B>) -> Result<(), AllocError>
         ensures ok { OnOk result (self.new ≡ with_attribute B.list B.eq self.old key value) }
         ensures err { OnErr result (self.new ≡ self.old) }
 
-        // At `id`, at `class`, at a key that is there, and into inline room, an insert takes no memory.
+        // At `id`, at `class`, at a key that is there, and into inline room, an insert takes no
+        // memory.
         ensures other { OnErr result (IsOther (B.list key)) }
         ensures absent { OnErr result (value_at B.list B.eq self.old key ≡ None) }
         ensures succeeds { self.old.others.on_heap ≡ false → length self.old.others.entries < room
@@ -191,7 +194,8 @@ impl<B: Piece + Default + Drop> AttributesOf<B> {
         self.others.insert(key, value).map_err(|_| AllocError)
     }
 
-    /// Takes `key` out, and returns what `get` gave. The last of the other pairs moves into its place.
+    /// Takes `key` out, and returns what `get` gave. The last of the other pairs moves into its
+    /// place.
     pub fn remove(&mut self, key: B) -> Option<Option<B>>
         ensures value { result ≡ value_at B.list B.eq self.old key }
         ensures left { self.new ≡ without_attribute B.list B.eq self.old key }
@@ -215,8 +219,8 @@ impl<B: Piece + Default + Drop> AttributesOf<B> {
         self.others.remove(&key)
     }
 
-    /// Takes the value at `key` out. The key stays without it, if it is neither `id` nor `class`. A missing key, and one
-    /// without a value, answer `None`, and nothing changes.
+    /// Takes the value at `key` out. The key stays without it, if it is neither `id` nor `class`. A
+    /// missing key, and one without a value, answer `None`, and nothing changes.
     pub fn remove_value(&mut self, key: B) -> Option<B>
         ensures value { result ≡ option_flatten (value_at B.list B.eq self.old key) }
         ensures left { self.new ≡ without_value B.list B.eq self.old key }
@@ -276,8 +280,8 @@ impl<B: Piece> AttributesOf<B> {
         self.other_mut(key)
     }
 
-    /// The value at `key` for writing: `None` where the key is missing, `Some(None)` where it has no value. A proof that needs
-    /// what a write leaves takes `value_mut`.
+    /// The value at `key` for writing: `None` where the key is missing, `Some(None)` where it has
+    /// no value. A proof that needs what a write leaves takes `value_mut`.
     pub fn get_mut(&mut self, key: B) -> Option<Option<&mut B>>
     where
         B: Drop,
@@ -336,7 +340,8 @@ impl<B: Piece> AttributesOf<B> {
 }
 
 impl<'a> Attributes<'a> {
-    /// The same attributes, each piece held as it is here: borrowed bytes stay borrowed, owned ones are copied.
+    /// The same attributes, each piece held as it is here: borrowed bytes stay borrowed, owned ones
+    /// are copied.
     pub fn clone(&self) -> Result<Attributes<'a>, AllocError>
         ensures ok { IfOk result (λ a. a ≡ self.now) }
 

@@ -12,7 +12,8 @@ use crate::piece::Piece;
 use std::marker::Model;
 use std::str;
 
-/// The parts of a class between white space, seen as the list of those that are left. A step takes no memory.
+/// The parts of a class between white space, seen as the list of those that are left. A step takes
+/// no memory.
 #[derive(Drop)]
 pub struct ClassIter<'t> {
     rest: &'t str,
@@ -47,8 +48,8 @@ fn white_len(bytes: &[u8]) -> usize
     bytes.iter().take_while(|b| b.is_ascii_whitespace()).count()
 }
 
-/// Where the first part stands that begins at the place `at` or after it: the place of its first byte, and that after its last.
-/// None where there is no more. It takes no memory.
+/// Where the first part stands that begins at the place `at` or after it: the place of its first
+/// byte, and that after its last. None where there is no more. It takes no memory.
 pub fn next_part(bytes: &[u8], at: usize) -> Option<(usize, usize)>
     requires { at ≤ length bytes.now }
     ensures first { MatchOption result (parts (drop at bytes.now) ≡ [])
@@ -95,8 +96,10 @@ fn is_text(bytes: &[u8]) -> bool
 
 /// Whether `name` is a member of this class, in exact case. It takes no memory.
 ///
-/// Most classes have no such part, and only those that do are gone through once more, for bytes that are no text.
-// Out of line: most tags are passed over by their outline, and the registers that this needs would be saved for them too.
+/// Most classes have no such part, and only those that do are gone through once more, for bytes
+/// that are no text.
+// Out of line: most tags are passed over by their outline, and the registers that this needs would
+// be saved for them too.
 #[inline(never)]
 #[tactic(auto, using(crate::proofs::ClassParts::member_is))]
 pub fn has_member(class: &[u8], name: &[u8]) -> bool
@@ -134,8 +137,9 @@ impl<'t> Iterator for ClassIter<'t> {
 }
 
 impl<B: Piece> AttributesOf<B> {
-    /// The parts of the class between ASCII white space, in order. `None` says that there is no class, or that it is
-    /// not UTF-8; a class of white space has no parts. Neither this nor a step takes memory.
+    /// The parts of the class between ASCII white space, in order. `None` says that there is no
+    /// class, or that it is not UTF-8; a class of white space has no parts. Neither this nor a step
+    /// takes memory.
     pub fn class_iter(&self) -> Option<ClassIter<'_>>
         ensures { result ≡ class_parts (option_map B.list self.now.class) }
     {
@@ -146,7 +150,8 @@ impl<B: Piece> AttributesOf<B> {
         }
     }
 
-    /// Whether `class` is one of the parts that `class_iter` gives, in exact case. It takes no memory.
+    /// Whether `class` is one of the parts that `class_iter` gives, in exact case. It takes no
+    /// memory.
     pub fn is_class_member(&self, class: &[u8]) -> bool
         ensures { result ≡ has_member (option_map B.list self.now.class) class.now }
     {

@@ -5,7 +5,8 @@ ghost use Rattle.tl_attributes.specs.Summary.{fingerprint_of, bit_of, MayBeId, M
 use crate::attributes::Attributes;
 use crate::class_iter::part_len;
 
-/// What attributes of the type `A` are known to be, for a reader of many tags that would have to fetch each one's attributes.
+/// What attributes of the type `A` are known to be, for a reader of many tags that would have to
+/// fetch each one's attributes.
 pub trait SummaryOf<A>: Copy {
     /// Whether nothing that it says of the attributes is wrong.
     ghost is_summary: { Self → A → Type 0 };
@@ -69,7 +70,8 @@ pub enum IdSummary {
 pub struct Summary {
     /// What is known of the value of `id`.
     pub id: IdSummary,
-    /// One bit for each member of the class, that of its fingerprint. Where all are set nothing is known.
+    /// One bit for each member of the class, that of its fingerprint. Where all are set nothing is
+    /// known.
     pub classes: u32,
 }
 

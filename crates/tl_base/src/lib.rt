@@ -1,6 +1,8 @@
-//! Byte strings, containers with room inline, and byte searches: the ground that documents stand on.
+//! Byte strings, containers with room inline, and byte searches: the ground that documents stand
+//! on.
 //!
-//! This crate has no code. It gives again what `tl_bytes` and `tl_inline` hold, under the names that users know.
+//! This crate has no code. It gives again what `tl_bytes` and `tl_inline` hold, under the names
+//! that users know.
 #![tactic(auto)]
 
 /// Byte strings.

@@ -9,7 +9,8 @@ use Rattle.tl_bytes.specs.declared.byte_string.into_owned.SetBytesError.TheVaria
 
 -- the bytes, owned, or the refusal of what is longer than 4294967295
 abbrev pub set_or_refused : List ℕ → Result Kept SetBytesError
-set_or_refused bytes = (if nat_lt largest_u32 (length bytes) then Err LengthOverflow else Ok (as_owned bytes))
+set_or_refused bytes =
+    (if nat_lt largest_u32 (length bytes) then Err LengthOverflow else Ok (as_owned bytes))
 
 -- the bytes of the value that was replaced come back exactly if they were owned
 abbrev pub GivesBack : Kept → Option (Vec ℕ Global) → Type 0

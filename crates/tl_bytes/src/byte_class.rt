@@ -13,7 +13,8 @@ static IDENT_BYTES: [u8; 256] = *b"\
     ,,,,,,,,,,,,,,,,,,,,,,,,,,,,,,,,\
     ,,,,,,,,,,,,,,,,,,,,,,,,,,,,,,,,";
 
-/// Whether a doctype's word may hold this byte: a digit, an ASCII letter, `-`, `_`, `:`, `+` or `/`.
+/// Whether a doctype's word may hold this byte: a digit, an ASCII letter, `-`, `_`, `:`, `+` or
+/// `/`.
 #[inline]
 pub fn is_ident(byte: u8) -> bool
     ensures { result ≡ is_ident byte }

@@ -19,7 +19,8 @@ pub use into_owned::{IntoOwnedBytes, SetBytesError, copied};
 use shared_bytes::Share;
 pub use shared_bytes::Shared;
 
-// A share is a place in a text that is counted once for all, so that a `Bytes` is no larger than a vector and a tag.
+// A share is a place in a text that is counted once for all, so that a `Bytes` is no larger than a
+// vector and a tag.
 #[derive(Drop)]
 enum Repr<'a> {
     Borrowed(&'a [u8]),
@@ -117,7 +118,8 @@ impl<'a> Bytes<'a> {
     }
 }
 
-/// The bytes from `start` up to `end` without `end`, held in the same way. A part of borrowed ones takes no memory.
+/// The bytes from `start` up to `end` without `end`, held in the same way. A part of borrowed ones
+/// takes no memory.
 pub fn part<'a>(
     bytes: &Bytes<'a>,
     alloc: Global,

@@ -10,7 +10,8 @@ mod lanes;
 
 use lanes::{before_any, before_byte, before_non_ident, before_non_name};
 
-// So many bytes are looked at sixteen at once before the search that is faster for far hits: most hits in a page are near.
+// So many bytes are looked at sixteen at once before the search that is faster for far hits: most
+// hits in a page are near.
 const NEAR: usize = 16;
 
 /// The first place of `haystack` that holds `needle`.

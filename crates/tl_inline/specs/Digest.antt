@@ -22,21 +22,26 @@ empty_feed = record { before = None; last = record { items = [] } }
 
 -- the SHA-256 of all bytes, block by block
 abbrev pub chain : Feed → List ℕ
-chain feed = sha256 (option_map_or (λ before. before ++ feed.last.items) feed.before feed.last.items)
+chain feed =
+    sha256 (option_map_or (λ before. before ++ feed.last.items) feed.before feed.last.items)
 
 -- one byte more; where 119 are kept, their SHA-256 takes their place
 abbrev pub with_byte : Feed → ℕ → Feed
 with_byte feed byte =
-    cond (length feed.last.items == 119) (record { before = Some (chain feed); last = record { items = byte ∷ [] } })
+    cond (length feed.last.items == 119)
+    (record { before = Some (chain feed); last = record { items = byte ∷ [] } })
     (record { before = feed.before; last = record { items = feed.last.items ++ byte ∷ [] } })
 
--- up to 31 bytes are their own digest; of more it is the SHA-256, but for a mark that says whether it is of one block
+-- up to 31 bytes are their own digest; of more it is the SHA-256, but for a mark that says whether
+-- it is of one block
 abbrev pub digest_of_feed : Feed → Digest
 digest_of_feed feed = by feed.before
   where
     by : Option (List ℕ) → Digest
     by (Some before) = halves 0xff (chain feed) 17
-    by None = cond (nat_le (length feed.last.items) 31) (halves (length feed.last.items) feed.last.items (min (length feed.last.items) 16)) (halves 0xfe (chain feed) 17)
+    by None = cond (nat_le (length feed.last.items) 31)
+        (halves (length feed.last.items) feed.last.items (min (length feed.last.items) 16))
+        (halves 0xfe (chain feed) 17)
 
 -- the digest of all that is fed
 abbrev pub digest_of : List (List ℕ) → Digest

@@ -15,6 +15,7 @@ module _ {K V : Type 0} where
 
   -- f with w as the value at the index
   abbrev pub form_with_value_at : HeapForm K V → ℕ → V → HeapForm K V
-  form_with_value_at (Few v) i w = Few (option_map_or (λ p. with_item v i (p.0, w)) (slice_get v.items i) v)
+  form_with_value_at (Few v) i w =
+      Few (option_map_or (λ p. with_item v i (p.0, w)) (slice_get v.items i) v)
   form_with_value_at (Many m) i w = Many (with_value_at m i w)
   form_with_value_at (Noted es) i w = Noted (set_value_at es i w)

@@ -40,12 +40,14 @@ moved_to (Some Several) i = Some Several
 moved_to (Some (Alone at)) i = Some (Alone i)
 
 -- `new` says w of the digest, and of all others what `old` says
-abbrev pub Notes : (Digest → Option Place) → (Digest → Option Place) → Digest → Option Place → Type 0
+abbrev pub Notes : (Digest → Option Place) → (Digest → Option Place) → Digest → Option Place →
+    Type 0
 Notes old new digest w = (d : Digest) → new d ≡ cond (is_same digest d) w (old d)
 
 -- each key may stand where it does
 abbrev pub AllowsAll : {K : Type 0} → (K → Digest) → (Digest → Option Place) → List K → Type 0
-AllowsAll {K} digest note keys = (i : ℕ) (k : K) → slice_get keys i ≡ Some k → allows (note (digest k)) i ≡ true
+AllowsAll {K} digest note keys =
+    (i : ℕ) (k : K) → slice_get keys i ≡ Some k → allows (note (digest k)) i ≡ true
 
 -- what is noted of the digest of each key lets it stand where it does
 abbrev pub AllowsKeys : {K : Type 0} → (K → List (List ℕ)) → BTreeMap Digest Place → List K → Type 0
@@ -53,7 +55,8 @@ AllowsKeys input places keys = AllowsAll (λ k. digest_of (input k)) (note_of pl
 
 -- each key that passes the test may stand where it does, where this is noted of it
 abbrev pub AllowsKey : {K : Type 0} → (K → Bool) → Option Place → List K → Type 0
-AllowsKey {K} test note keys = (i : ℕ) (k : K) → slice_get keys i ≡ Some k → test k ≡ true → allows note i ≡ true
+AllowsKey {K} test note keys =
+    (i : ℕ) (k : K) → slice_get keys i ≡ Some k → test k ≡ true → allows note i ≡ true
 
 -- whether the pair at i has a key that passes the test
 abbrev pub passes_at : {K V : Type 0} → (K → Bool) → List (K × V) → ℕ → Bool

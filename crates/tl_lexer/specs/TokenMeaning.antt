@@ -18,7 +18,8 @@ ended name pairs Broken = Nothing
 abbrev pub start_tag_of : List ℕ → List ℕ → Meant × List ℕ
 start_tag_of name s = let a = attributes s in token_after_attributes name a.0 a.1
 
--- what the token says that stands in t before the place `end`, and what stands after it: after a tag's name and blanks its attributes and its end follow
+-- what the token says that stands in t before the place `end`, and what stands after it: after a
+-- tag's name and blanks its attributes and its end follow
 abbrev pub meant : List ℕ → Token → ℕ → Meant × List ℕ
 meant t (TextToken s) end = (Text (bytes_at t s), drop end t)
 meant t (EndToken name) end = (End (bytes_at t name), drop end t)

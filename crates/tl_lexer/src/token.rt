@@ -81,7 +81,8 @@ fn doctype(text: &[u8], at: usize) -> (Token, usize)
     (Token::Doctype(is_html5), skip_one(text, end))
 }
 
-// The doctype after `!`, if that word is there, or nothing, and the place after it or the other word.
+// The doctype after `!`, if that word is there, or nothing, and the place after it or the other
+// word.
 fn word(text: &[u8], at: usize) -> (Token, usize)
     requires { at ≤ length text.now }
     ensures read { meant text.now result.0 result.1 ≡ word (drop at text.now) }
@@ -97,7 +98,8 @@ fn word(text: &[u8], at: usize) -> (Token, usize)
     }
 }
 
-// The comment that stands from `start` on, whose end is looked for from `at` on; one without an end has no bytes and takes all.
+// The comment that stands from `start` on, whose end is looked for from `at` on; one without an end
+// has no bytes and takes all.
 fn comment(text: &[u8], start: usize, at: usize) -> (Token, usize)
     requires order { start ≤ at }
     requires within { at ≤ length text.now }
@@ -158,7 +160,8 @@ fn markup(text: &[u8], start: usize, at: usize) -> (Token, usize)
     }
 }
 
-/// The token at a place, and the place after it, which for a start tag stands after its name and blanks; none at the end.
+/// The token at a place, and the place after it, which for a start tag stands after its name and
+/// blanks; none at the end.
 #[inline(always)]
 pub fn next_token(text: &[u8], at: usize) -> Option<(Token, usize)>
     requires { at ≤ length text.now }

@@ -35,4 +35,5 @@ is_done (Some (d ∷ left)) = false
 -- a word of the value is word, where left is what its first one has yet to say
 abbrev pub scan : List ℕ → Option (List ℕ) → List ℕ → Bool
 scan word left [] = is_done left
-scan word left (c ∷ value) = if is_whitespace c then is_done left || scan word (Some word) value else scan word (advance left c) value
+scan word left (c ∷ value) = if is_whitespace c then is_done left || scan word (Some word) value
+    else scan word (advance left c) value

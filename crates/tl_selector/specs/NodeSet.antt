@@ -49,7 +49,8 @@ abbrev pub is_among : Option (List Bool) → ℕ → Bool
 is_among among n = option_map_or (λ marks. is_at marks n) among true
 
 -- a mark for each node in question where the selector holds, and for no other
-pub record AreMarks (among : Option (List Bool)) (e : Selector) (nodes : List Node) (marks : List Bool) : Type 0 where
+pub record AreMarks (among : Option (List Bool)) (e : Selector) (nodes : List Node)
+    (marks : List Bool) : Type 0 where
   pub len : length marks ≡ length nodes
   pub sound : (n : ℕ) → is_at marks n ≡ true → (is_among among n ≡ true) × Holds nodes e n
   pub complete : (n : ℕ) → is_among among n ≡ true → Holds nodes e n → is_at marks n ≡ true

@@ -15,7 +15,8 @@ found_numbers p n (suc k) = if p n then n ∷ found_numbers p (n + 1) k else fou
 
 -- a number is the first from one on, and below another, that passes; none where none does
 abbrev pub IsFirst : (ℕ → Bool) → ℕ → ℕ → Option ℕ → Type 0
-IsFirst p from to first = MatchOption first ((n : ℕ) → from ≤ n → n < to → p n ≡ false) (λ m. (from ≤ m) × (m < to) × (p m ≡ true) × ((n : ℕ) → from ≤ n → n < m → p n ≡ false))
+IsFirst p from to first = MatchOption first ((n : ℕ) → from ≤ n → n < to → p n ≡ false)
+    (λ m. (from ≤ m) × (m < to) × (p m ≡ true) × ((n : ℕ) → from ≤ n → n < m → p n ≡ false))
 
 -- whether a test finds the node of a number
 abbrev pub is_found : Test → List Node → ℕ → Bool

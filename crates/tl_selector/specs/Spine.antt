@@ -23,7 +23,8 @@ with_first (Descendant x b) a = Descendant a b
 with_first (Parent x b) a = Parent a b
 with_first _ a = a
 
--- a selector as the first side of the last of a list, which is the first side of the one before it, and so on
+-- a selector as the first side of the last of a list, which is the first side of the one before it,
+-- and so on
 abbrev pub nested_in : List Selector → Selector → Selector
 nested_in [] e = e
 nested_in (x ∷ xs) e = with_first x (nested_in xs e)

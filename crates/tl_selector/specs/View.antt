@@ -14,7 +14,8 @@ selector (Descendant' p a q b) = s.Descendant (selector a) (selector b)
 selector (Parent' p a q b) = s.Parent (selector a) (selector b)
 selector (Attribute key) = s.Attribute key.now
 selector (AttributeValue key value) = s.AttributeValue key.now value.now
-selector (AttributeValueWhitespacedContains key value) = s.AttributeValueWhitespacedContains key.now value.now
+selector (AttributeValueWhitespacedContains key value) =
+    s.AttributeValueWhitespacedContains key.now value.now
 selector (AttributeValueStartsWith key value) = s.AttributeValueStartsWith key.now value.now
 selector (AttributeValueEndsWith key value) = s.AttributeValueEndsWith key.now value.now
 selector (AttributeValueSubstring key value) = s.AttributeValueSubstring key.now value.now

@@ -14,7 +14,8 @@ use std::iter::FusedIterator;
 use std::marker::Model;
 use tl_table::element::Element;
 
-/// The numbers of the nodes where a selector holds, seen as the list of those that are left. A step takes no memory.
+/// The numbers of the nodes where a selector holds, seen as the list of those that are left. A step
+/// takes no memory.
 #[derive(Debug, Drop)]
 pub struct Matches<'s, 'n, N: Element> {
     test: Test<'s>,
@@ -37,8 +38,9 @@ impl<'s, 'n, N: Element> Model for Matches<'s, 'n, N> {
     ghost invariant = { λ m. (m.end ≤ length m.nodes.now) × (length m.nodes.now < 2 ^ 32) };
 }
 
-/// The numbers of the nodes where the selector holds, from `from` on and below `to`, rising. Where the selector asks for
-/// ancestors, all nodes of the table are looked at here, once for each of its parts.
+/// The numbers of the nodes where the selector holds, from `from` on and below `to`, rising. Where
+/// the selector asks for ancestors, all nodes of the table are looked at here, once for each of its
+/// parts.
 pub fn matches_between<'s, 'n, N: Element>(
     alloc: Global,
     selector: Selector<'s>,

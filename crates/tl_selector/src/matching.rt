@@ -14,7 +14,8 @@ use crate::selector::Selector;
 use tl_table::element::Element;
 
 impl<'a> Selector<'a> {
-    /// Whether it holds at the node alone. No ancestors are known, so `Descendant` and `Parent` hold nowhere. It takes no memory.
+    /// Whether it holds at the node alone. No ancestors are known, so `Descendant` and `Parent`
+    /// hold nowhere. It takes no memory.
     pub fn matches<E: Element>(&self, node: &E) -> bool
         ensures { IsTrue result ↔ HoldsAlone (selector self.now) (E.node node.now) }
     {

@@ -1,5 +1,6 @@
-//! A mark for each node where a selector holds. Each part of the selector costs a pass over the nodes and their
-//! children, however deep the table is and however often a node stands among children.
+//! A mark for each node where a selector holds. Each part of the selector costs a pass over the
+//! nodes and their children, however deep the table is and however often a node stands among
+//! children.
 ghost use Rattle.std.specs.Prelude.{◌≡◌, ◌≤◌, ℕ, IsOk, IfOk, IfSome, OnOk, None, length, true, false, map, slice_get, ◌&&◌, ◌||◌};
 ghost use Rattle.std.specs.List.{All};
 ghost use Rattle.std.specs.Option.{option_copied};
@@ -61,7 +62,8 @@ fn mark_child<N: Element>(
         ≡ spread (child_at (children_of (N.node node.now)) place)
         (marks.old.items, queue.old.items)) }
 
-    // Memory is taken for a new mark alone: not for a child that has its mark, nor for one past the table.
+    // Memory is taken for a new mark alone: not for a child that has its mark, nor for one past the
+    // table.
     ensures done { IfSome (slice_get (children_of (N.node node.now)) place)
         (λ child. is_done marks.old.items child ≡ true) → IsOk result }
 {
@@ -230,8 +232,8 @@ fn is_empty_join<N: Element>(e: &Selector<'_>, nodes: &[N]) -> bool
     }
 }
 
-// The selectors that stand in one another as first sides, from the outermost on, and the innermost that is looked at: one
-// without sides, or a joint that holds nowhere.
+// The selectors that stand in one another as first sides, from the outermost on, and the innermost
+// that is looked at: one without sides, or a joint that holds nowhere.
 fn spine_to_test<'e, 'a, N: Element>(
     alloc: Global,
     nodes: &[N],
@@ -287,7 +289,8 @@ fn marks_innermost<N: Element>(
     marks_alone(alloc, nodes, None, e)
 }
 
-// The marks of a selector from those of its first side. Where both sides have to hold the second is asked only where the first holds.
+// The marks of a selector from those of its first side. Where both sides have to hold the second is
+// asked only where the first holds.
 #[cycle(marks)]
 fn marks_around<N: Element>(
     alloc: Global,
@@ -319,8 +322,8 @@ fn marks_around<N: Element>(
     }
 }
 
-// The marks of a selector, where every node is in question: first of the innermost of its first sides, then of what that stands in,
-// from the inside out.
+// The marks of a selector, where every node is in question: first of the innermost of its first
+// sides, then of what that stands in, from the inside out.
 #[cycle(marks)]
 fn marks_of_all<N: Element>(
     alloc: Global,
@@ -338,8 +341,8 @@ fn marks_of_all<N: Element>(
     Ok(marks)
 }
 
-/// A mark for each node in question where the selector holds. In question are the nodes that `among` marks, and where it is
-/// `None` all.
+/// A mark for each node in question where the selector holds. In question are the nodes that
+/// `among` marks, and where it is `None` all.
 #[cycle(marks)]
 pub fn marks<N: Element>(
     alloc: Global,

@@ -44,8 +44,8 @@ pub enum Selector<'a> {
     AttributeValueSubstring(&'a [u8], &'a [u8]),
 }
 
-// Chains are nested to the left: the first sides are gone along by a loop, as long as a chain may be. A second side is dropped
-// by a call of its own.
+// Chains are nested to the left: the first sides are gone along by a loop, as long as a chain may
+// be. A second side is dropped by a call of its own.
 impl<'a> Drop for Selector<'a> {
     fn drop(mut self) {
         'sides: loop {

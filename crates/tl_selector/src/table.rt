@@ -33,8 +33,8 @@ fn holds_at<N: Element>(
 }
 
 impl<'a> Selector<'a> {
-    /// Whether it holds at the node that the handle names, where whatever nodes of the table have it among their
-    /// children, or their children's, count as its ancestors.
+    /// Whether it holds at the node that the handle names, where whatever nodes of the table have
+    /// it among their children, or their children's, count as its ancestors.
     pub fn matches_in<T: Table>(&self, table: &T, handle: NodeHandle) -> Result<bool, TreeError>
     where
         T::Node: Element,

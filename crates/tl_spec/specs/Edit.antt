@@ -49,7 +49,8 @@ map_ok f (Err refusal) = Err refusal
 
 -- handles without the one at a place
 abbrev pub without_handle : Handles → ℕ → Result Handles Refusal
-without_handle handles i = if nat_lt i (length handles.items) then Ok (without_item handles i) else Err no_place
+without_handle handles i =
+    if nat_lt i (length handles.items) then Ok (without_item handles i) else Err no_place
 
 -- an edit of a node, if it is a tag
 abbrev pub edit_if_tag : (TagNode → Result TagNode Refusal) → Node → Result Node Refusal
@@ -58,9 +59,11 @@ edit_if_tag change (Raw bytes) = Err not_tag
 edit_if_tag change (Comment bytes) = Err not_tag
 
 -- an edit of a node that is there
-abbrev pub edit_if_found : Document → ℕ → (Node → Result Node Refusal) → Option Node → Result Document Refusal
+abbrev pub edit_if_found : Document → ℕ → (Node → Result Node Refusal) → Option Node →
+    Result Document Refusal
 edit_if_found d n change None = Err no_node
-edit_if_found d n change (Some node) = map_ok (λ m. record d { nodes = slice_set d.nodes n m }) (change node)
+edit_if_found d n change (Some node) =
+    map_ok (λ m. record d { nodes = slice_set d.nodes n m }) (change node)
 
 -- an edit of the node of a number
 abbrev pub edit_node : ℕ → (Node → Result Node Refusal) → Document → Result Document Refusal
@@ -75,15 +78,24 @@ abbrev pub apply_change : Change → Document → Result Document Refusal
 apply_change (Names n name) d = edit_tag n (λ own. record own { name = name }) d
 apply_change (Texts n text) d = edit_node n (λ _. Ok (Raw text)) d
 apply_change (Comments n text) d = edit_node n (λ _. Ok (Comment text)) d
-apply_change (Sets n key value) d = edit_tag n (λ own. record own { attributes = with_attribute own.attributes key (Some value) }) d
-apply_change (Flags n key) d = edit_tag n (λ own. record own { attributes = with_attribute own.attributes key None }) d
-apply_change (Unsets n key) d = edit_tag n (λ own. record own { attributes = without_attribute own.attributes key }) d
-apply_change (Bares n key) d = edit_tag n (λ own. record own { attributes = without_value own.attributes key }) d
-apply_change (Pushes n h) d = edit_tag n (λ own. record own { children = with_last room own.children h }) d
-apply_change (Pulls n i) d = edit_node n (edit_if_tag (λ own. map_ok (λ handles. record own { children = handles }) (without_handle own.children i))) d
-apply_change (Roots i h) d = if nat_lt i (length d.top) then Ok (record d { top = slice_set d.top i h }) else Err no_place
+apply_change (Sets n key value) d =
+    edit_tag n (λ own. record own { attributes = with_attribute own.attributes key (Some value) }) d
+apply_change (Flags n key) d =
+    edit_tag n (λ own. record own { attributes = with_attribute own.attributes key None }) d
+apply_change (Unsets n key) d =
+    edit_tag n (λ own. record own { attributes = without_attribute own.attributes key }) d
+apply_change (Bares n key) d =
+    edit_tag n (λ own. record own { attributes = without_value own.attributes key }) d
+apply_change (Pushes n h) d =
+    edit_tag n (λ own. record own { children = with_last room own.children h }) d
+apply_change (Pulls n i) d = edit_node n
+    (edit_if_tag (λ own. map_ok (λ handles. record own { children = handles })
+    (without_handle own.children i))) d
+apply_change (Roots i h) d =
+    if nat_lt i (length d.top) then Ok (record d { top = slice_set d.top i h }) else Err no_place
 
--- a document after edits, and which of them was refused, if any, and why: those after it are left out
+-- a document after edits, and which of them was refused, if any, and why: those after it are left
+-- out
 pub record Edited : Type 0 where
   pub document : Document
   pub refused : Option (ℕ × Refusal)

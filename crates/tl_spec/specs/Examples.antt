@@ -1,4 +1,5 @@
--- Words for worked rows: what a row says is written out, and a quoted text stands for its bytes. No contract cites them.
+-- Words for worked rows: what a row says is written out, and a quoted text stands for its bytes. No
+-- contract cites them.
 use Prim.Native.String.{String}
 use Rattle.std.specs.Prelude.{ℕ, true, false, List, Some, None, codes}
 use Rattle.tl_spec.specs.Lex.Attribute.{Pair}
@@ -23,12 +24,13 @@ text_node bytes = Raw (codes bytes)
 abbrev pub comment_node : String → Node
 comment_node bytes = Comment (codes bytes)
 
--- a tag by its name, its pairs, its children, its raw and the place of its `<`; pairs and children lie inline, and there is
--- neither `id` nor `class`
+-- a tag by its name, its pairs, its children, its raw and the place of its `<`; pairs and children
+-- lie inline, and there is neither `id` nor `class`
 abbrev pub element : String → List Pair → List ℕ → String → ℕ → Node
 element name pairs children raw start = Tag (record {
   name = codes name;
-  attributes = record { others = record { entries = pairs; on_heap = false }; id = None; class = None };
+  attributes =
+      record { others = record { entries = pairs; on_heap = false }; id = None; class = None };
   children = record { items = children; on_heap = false };
   raw = codes raw;
   start = start;
@@ -54,10 +56,15 @@ document_after changes page = (apply_changes changes (document (codes page))).do
 abbrev pub nodes_after : List Change → String → List Node
 nodes_after changes page = (document_after changes page).nodes
 
--- the first tree a tag, by its name and its pairs, of which none is `id` or `class`; with its children, and the trees after it
-abbrev pub tag_tree : String → List Pair → forest.Forest forest.PlainTag → forest.Forest forest.PlainTag → forest.Forest forest.PlainTag
+-- the first tree a tag, by its name and its pairs, of which none is `id` or `class`; with its
+-- children, and the trees after it
+abbrev pub tag_tree : String → List Pair → forest.Forest forest.PlainTag →
+    forest.Forest forest.PlainTag → forest.Forest forest.PlainTag
 tag_tree name pairs children more =
-    forest.tag (record { name = codes name; attributes = record { others = pairs; id = None; class = None } }) children more
+    forest.tag (record {
+      name = codes name;
+      attributes = record { others = pairs; id = None; class = None };
+    }) children more
 
 -- the first tree a text, and the trees after it
 abbrev pub text_tree : String → forest.Forest forest.PlainTag → forest.Forest forest.PlainTag

@@ -13,7 +13,8 @@ pub data TreeFault : Type 0 where
   Dangling : ℕ → TreeFault
   Cycle : ℕ → TreeFault
 
--- what a walk meets, in a row: as trees of handles and nodes, with faults as leaves; a tag is entered or passed by
+-- what a walk meets, in a row: as trees of handles and nodes, with faults as leaves; a tag is
+-- entered or passed by
 pub data Walk : Type 0 where
   end : Walk
   meets_text : ℕ → List ℕ → Walk → Walk
@@ -47,7 +48,8 @@ module _ (enters : List ℕ → Bool) (nodes : List Node) where
   -- handles in a row, where `below` walks what hangs below a path
   abbrev pub row_walk : (List ℕ → List ℕ → Walk) → List ℕ → List ℕ → Walk
   row_walk below path [] = end
-  row_walk below path (h ∷ hs) = handle_walk (below (h ∷ path)) h (row_walk below path hs) (stands_on path h) (slice_get nodes h)
+  row_walk below path (h ∷ hs) = handle_walk (below (h ∷ path)) h (row_walk below path hs)
+      (stands_on path h) (slice_get nodes h)
 
   -- the walk at most n steps down
   abbrev pub walk_within : ℕ → List ℕ → List ℕ → Walk
@@ -58,7 +60,8 @@ module _ (enters : List ℕ → Bool) (nodes : List Node) where
   abbrev pub walk : List ℕ → List ℕ → Walk
   walk = walk_within (length nodes)
 
-  -- the walk of a node on which a call is made: its handle is not known, so no path holds it, and 0 stands for it
+  -- the walk of a node on which a call is made: its handle is not known, so no path holds it, and 0
+  -- stands for it
   abbrev pub walk_of : Node → Walk
   walk_of node = node_walk (walk []) 0 end node
 
@@ -80,7 +83,8 @@ abbrev pub first_fault : Walk → Option TreeFault
 first_fault end = None
 first_fault (meets_text h bytes more) = first_fault more
 first_fault (meets_comment h bytes more) = first_fault more
-first_fault (meets_tag h own children more) = earlier_fault (first_fault children) (first_fault more)
+first_fault (meets_tag h own children more) =
+    earlier_fault (first_fault children) (first_fault more)
 first_fault (passes_tag h own more) = first_fault more
 first_fault (meets_fault e more) = Some e
 
@@ -134,7 +138,8 @@ abbrev pub events : Walk → List Event
 events end = []
 events (meets_text h bytes more) = meets h (Raw bytes) ∷ events more
 events (meets_comment h bytes more) = meets h (Comment bytes) ∷ events more
-events (meets_tag h own children more) = meets h (Tag own) ∷ events children ++ leaves own ∷ events more
+events (meets_tag h own children more) =
+    meets h (Tag own) ∷ events children ++ leaves own ∷ events more
 events (passes_tag h own more) = meets h (Tag own) ∷ events more
 events (meets_fault e more) = faulty e ∷ events more
 

@@ -93,7 +93,8 @@ pub fn table_print_then_parse()
         document_print d ≡ Ok (print (trees (walk all_tags d.nodes [] d.top))) }
     ensures reads { (d : Document) →
         IsCleanTable d.nodes d.top → HaveOwnKeys (trees (walk prints_children d.nodes [] d.top)) →
-        (s : List ℕ) → document_print d ≡ Ok s → ReadsAs s (trees (walk all_tags d.nodes [] d.top)) }
+        (s : List ℕ) → document_print d ≡ Ok s →
+        ReadsAs s (trees (walk all_tags d.nodes [] d.top)) }
 {}
 
 /// A clean node over a table has a print, which is read as the normal form of
@@ -181,7 +182,8 @@ pub fn edits_compose()
         apply_changes cs d ≡ none_refused e →
         apply_changes (cs ++ ds) d ≡ shift_place_by (length cs) (apply_changes ds e) }
     ensures after_refused { (cs ds : List Change) (d : Document) (i : ℕ) (refusal : Refusal) →
-        (apply_changes cs d).refused ≡ Some (i, refusal) → apply_changes (cs ++ ds) d ≡ apply_changes cs d }
+        (apply_changes cs d).refused ≡ Some (i, refusal) →
+        apply_changes (cs ++ ds) d ≡ apply_changes cs d }
 {}
 
 /// No edit adds a node or takes one away, nor a place of the top list; none moves a tag in its

@@ -5,7 +5,8 @@ ghost use Rattle.tl_spec.specs.Tree.Document.{Node};
 ghost use Rattle.tl_spec.specs.Tree.Element.{name_of, attribute_of, children_of, last_child_of};
 ghost use Rattle.tl_spec.specs.Lookup.Scan.{has_id, is_in_class};
 
-/// A node of a table: a tag, or a text or comment, which has no name, no attributes and no children.
+/// A node of a table: a tag, or a text or comment, which has no name, no attributes and no
+/// children.
 pub trait Element {
     /// Which node it is.
     ghost node: { Self → Node };
@@ -22,7 +23,8 @@ pub trait Element {
     fn is_in_class(&self, class: &[u8]) -> bool
         ensures { result ≡ is_in_class class.now (node self.now) };
 
-    /// What stands at a key, in exact case: `None` where the key is missing, `Some(None)` where it has no value.
+    /// What stands at a key, in exact case: `None` where the key is missing, `Some(None)` where it
+    /// has no value.
     fn attribute(&self, key: &[u8]) -> Option<Option<&[u8]>>
         ensures { option_map option_copied result ≡ attribute_of key.now (node self.now) };
 

@@ -9,7 +9,8 @@ use std::marker::Model;
 /// What a handle holds.
 pub type InnerNodeHandle = u32;
 
-/// The number of a node in its table, counted from 0 in the order of the text. Nothing ties it to one table.
+/// The number of a node in its table, counted from 0 in the order of the text. Nothing ties it to
+/// one table.
 #[derive(Clone, Copy, PartialEq, Eq, PartialOrd, Ord, Hash, Debug)]
 pub struct NodeHandle(InnerNodeHandle);
 
@@ -45,8 +46,8 @@ impl NodeHandle {
         table.nodes().get(self.get_inner() as usize)
     }
 
-    /// The node of this number in a table for writing, or None past the table. A proof that needs what a write leaves takes
-    /// `resolve_node_id_mut` of the table.
+    /// The node of this number in a table for writing, or None past the table. A proof that needs
+    /// what a write leaves takes `resolve_node_id_mut` of the table.
     pub fn get_mut<T: Table>(self, table: &mut T) -> Option<&mut T::Node>
         ensures* writes_back { sem 𝓛 (LendsIf T.row T.Node.row table.entry result
             (T.with_node table.entry.now self) table.entry.now) }

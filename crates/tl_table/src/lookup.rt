@@ -20,7 +20,8 @@ pub fn first_with_id<N: Element>(nodes: &[N], id: &[u8]) -> Option<usize>
     nodes.iter().position(|node| node.has_id(id))
 }
 
-/// The place of the first node with this member of its class, `None` where no node has it. It takes no memory.
+/// The place of the first node with this member of its class, `None` where no node has it. It takes
+/// no memory.
 pub fn first_in_class<N: Element>(nodes: &[N], class: &[u8]) -> Option<usize>
     ensures scan { result ≡ position_from (is_in_class class.now) 0 (map N.node nodes.now) }
     ensures within { IfSome result (λ n. n < length nodes.now) }
@@ -28,7 +29,8 @@ pub fn first_in_class<N: Element>(nodes: &[N], class: &[u8]) -> Option<usize>
     nodes.iter().position(|node| node.is_in_class(class))
 }
 
-/// The places of the nodes with a class member, seen as the list of those that are left. A step takes no memory.
+/// The places of the nodes with a class member, seen as the list of those that are left. A step
+/// takes no memory.
 #[derive(Debug, Drop)]
 pub struct InClass<'s, N: Element> {
     class: &'s [u8],

@@ -1,7 +1,7 @@
 //! The end, the boundaries and the range of what hangs below a node.
 //!
-//! Memory is taken only where the way along last children doesn't rise: where some node on it has a last child whose number
-//! is not above its own.
+//! Memory is taken only where the way along last children doesn't rise: where some node on it has a
+//! last child whose number is not above its own.
 ghost use Rattle.std.specs.Prelude.{◌≤◌, IfOk, length, map};
 ghost use Rattle.tl_spec.specs.Walk.Range.{last_below, boundaries_from, range_from};
 ghost use Rattle.tl_table.specs.Answer.{Answers, WantsNoMemory};
@@ -15,7 +15,8 @@ use crate::last_descendant::{Stop, last_descendant};
 use std::alloc::Global;
 use std::ops::Range;
 
-/// The last of what hangs below a node whose last child is `last`: that child, or its last child, and so on.
+/// The last of what hangs below a node whose last child is `last`: that child, or its last child,
+/// and so on.
 pub fn end<N: Element>(
     alloc: Global,
     nodes: &[N],
@@ -54,7 +55,8 @@ pub fn boundaries<N: Element>(
     Ok(Some((from, to)))
 }
 
-/// The numbers from the first child to the end, both included: none where there is no child, or the end is below the first.
+/// The numbers from the first child to the end, both included: none where there is no child, or the
+/// end is below the first.
 pub fn range<N: Element>(
     alloc: Global,
     nodes: &[N],

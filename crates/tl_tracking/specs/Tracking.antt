@@ -29,8 +29,11 @@ pub record Tracking (B : Type 0) : Type 0 where
 -- they are stored as their fields
 abbrev pub tracking_code : {B : Type 0} → Coded B → Coded (Tracking B)
 tracking_code {B} piece =
-    code_by (IdPairs B × (ClassPairs B × ℕ)) (coded× (coded_option (coded_list (coded× piece coded_ℕ))) (coded× (coded_option (coded_list (coded× piece (inline_vec_code coded_ℕ)))) coded_ℕ))
-    (λ t. (t.ids, (t.classes, t.key))) (λ p. record { ids = p.0; classes = p.1.0; key = p.1.1 }) (λ _. refl)
+    code_by (IdPairs B × (ClassPairs B × ℕ))
+    (coded× (coded_option (coded_list (coded× piece coded_ℕ)))
+    (coded× (coded_option (coded_list (coded× piece (inline_vec_code coded_ℕ)))) coded_ℕ))
+    (λ t. (t.ids, (t.classes, t.key))) (λ p. record { ids = p.0; classes = p.1.0; key = p.1.1 })
+    (λ _. refl)
 
 -- a map without pairs, where it is asked for
 abbrev pub empty_when : {A : Type 0} → Bool → Option (List A)
@@ -38,7 +41,11 @@ empty_when asked = if asked then Some [] else None
 
 -- what is asked for, before any tag
 abbrev pub no_maps : {B : Type 0} → Options → ℕ → Tracking B
-no_maps asked key = record { ids = empty_when asked.ids; classes = empty_when asked.classes; key = key }
+no_maps asked key = record {
+  ids = empty_when asked.ids;
+  classes = empty_when asked.classes;
+  key = key;
+}
 
 -- n alone, if it is there
 abbrev pub singleton_when : Bool → ℕ → List ℕ
@@ -74,12 +81,15 @@ class_at eq pairs member = numbers_of (lookup (eq member) pairs)
 -- a number is put under an id, unless there is one
 abbrev pub KeepsFirst : {B : Type 0} → (B → B → Bool) → B → ℕ → List (B × ℕ) → List (B × ℕ) → Type 0
 KeepsFirst {B} eq id number old new =
-    (key : B) → lookup (eq key) new ≡ option_or (lookup (eq key) old) (if eq key id then Some number else None)
+    (key : B) → lookup (eq key) new ≡ option_or (lookup (eq key) old)
+    (if eq key id then Some number else None)
 
 -- a number is put at the end of those under a member, once
-abbrev pub AddsMember : {B : Type 0} → (B → B → Bool) → B → ℕ → List (B × InlineVec ℕ) → List (B × InlineVec ℕ) → Type 0
+abbrev pub AddsMember : {B : Type 0} → (B → B → Bool) → B → ℕ → List (B × InlineVec ℕ) →
+    List (B × InlineVec ℕ) → Type 0
 AddsMember {B} eq member number old new =
-    (key : B) → class_at eq new key ≡ (if eq key member then with_number number (class_at eq old key) else class_at eq old key)
+    (key : B) → class_at eq new key ≡ (if eq key member then with_number number
+    (class_at eq old key) else class_at eq old key)
 
 -- the number under an id, where ids are tracked
 abbrev pub id_in : {B : Type 0} → (B → B → Bool) → IdPairs B → B → Option ℕ
@@ -100,9 +110,13 @@ module _ {B : Type 0} (list : B → List ℕ) (eq : B → B → Bool) where
   -- where classes are tracked, each member is answered as by a scan of these nodes
   abbrev pub TracksClasses : ClassPairs B → List Node → Type 0
   TracksClasses None nodes = ⊤
-  TracksClasses (Some pairs) nodes = (member : B) → class_at eq pairs member ≡ class_scan nodes (list member)
+  TracksClasses (Some pairs) nodes =
+      (member : B) → class_at eq pairs member ≡ class_scan nodes (list member)
 
-  -- where classes are tracked, each member is answered as by a scan of these nodes, and the tag after them stands under these of its members
+  -- where classes are tracked, each member is answered as by a scan of these nodes, and the tag
+  -- after them stands under these of its members
   abbrev pub TracksMembers : ClassPairs B → List Node → List (List ℕ) → Type 0
   TracksMembers None nodes noted = ⊤
-  TracksMembers (Some pairs) nodes noted = (member : B) → class_at eq pairs member ≡ class_scan nodes (list member) ++ singleton_when (list_any (bytes_eq (list member)) noted) (length nodes)
+  TracksMembers (Some pairs) nodes noted = (member : B) →
+      class_at eq pairs member ≡ class_scan nodes (list member)
+      ++ singleton_when (list_any (bytes_eq (list member)) noted) (length nodes)

@@ -6,7 +6,8 @@ ghost use Rattle.tl_tracking.specs.NameKey.{number_of_names, HasNames};
 use md5::{Digest, Md5};
 use std::hash::{BuildHasher, FoldHasher, Hasher};
 
-// A hasher that begins with a number, so that names whose hashes meet under one number have others under another.
+// A hasher that begins with a number, so that names whose hashes meet under one number have others
+// under another.
 #[derive(Clone, Copy)]
 pub(crate) struct KeyedState {
     initial: FoldHasher,
@@ -32,9 +33,9 @@ impl BuildHasher for KeyedState {
     }
 }
 
-/// What makes a number of all names of a text. Whoever writes a text learns the number with its last name, so they can't choose
-/// names by the number. MD5 is the fastest digest for which that holds: that two texts can be made of one digest is no help to
-/// them.
+/// What makes a number of all names of a text. Whoever writes a text learns the number with its
+/// last name, so they can't choose names by the number. MD5 is the fastest digest for which that
+/// holds: that two texts can be made of one digest is no help to them.
 #[derive(Drop)]
 pub struct NameKey {
     digest: Md5,

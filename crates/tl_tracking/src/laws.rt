@@ -7,7 +7,8 @@ ghost use Rattle.tl_tracking.specs.Tracking.{IdPairs, ClassPairs, TracksIds, Tra
 
 use tl_attributes::piece::Piece;
 
-/// Before the first member of a tag the nodes before it are tracked, and after the last one that tag as well.
+/// Before the first member of a tag the nodes before it are tracked, and after the last one that
+/// tag as well.
 #[tactic(auto, using(crate::proofs::Noted::laws))]
 pub fn members_noted<B: Piece>()
     ensures first { (classes : ClassPairs B) (nodes : List Node) →

@@ -4,7 +4,8 @@ ghost use Rattle.tl_tracking.specs.Options.{untracked, raw_of};
 
 use std::marker::Model;
 
-/// How a text is read: whether tags can be looked up by their id, and by the members of their class, without a scan.
+/// How a text is read: whether tags can be looked up by their id, and by the members of their
+/// class, without a scan.
 #[derive(Clone, Copy, PartialEq, Eq, Debug)]
 pub struct ParserOptions {
     ids: bool,
@@ -32,7 +33,8 @@ impl ParserOptions {
         }
     }
 
-    /// The options of a number: bit 0 asks for ids, bit 1 for classes. `None` exactly where another bit is set.
+    /// The options of a number: bit 0 asks for ids, bit 1 for classes. `None` exactly where another
+    /// bit is set.
     pub fn from_raw_checked(raw: u8) -> Option<Self>
         ensures some { IsSome result ↔ (raw ≤ 3) }
         ensures value { IfSome result (λ o. raw_of o ≡ raw) }

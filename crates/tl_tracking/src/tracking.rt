@@ -12,7 +12,8 @@ use std::collections::HashMap;
 use std::marker::Model;
 use tl_attributes::piece::Piece;
 
-/// The number of the first tag of each id, and those of the tags of each member of classes, where they are tracked.
+/// The number of the first tag of each id, and those of the tags of each member of classes, where
+/// they are tracked.
 #[derive(Debug, Drop)]
 pub struct TrackingOf<B: Piece> {
     alloc: Global,
@@ -44,7 +45,8 @@ impl<B: Piece> Model for TrackingOf<B> {
 }
 
 impl<B: Piece> TrackingOf<B> {
-    /// Maps without tags, which answer as scans of no node do, as far as the options ask for them. They take no memory before the first tag.
+    /// Maps without tags, which answer as scans of no node do, as far as the options ask for them.
+    /// They take no memory before the first tag.
     pub fn new(alloc: Global, options: ParserOptions) -> Self
         ensures value { result ≡ no_maps options 0 }
         ensures ids { TracksIds B.list B.eq result.ids [] }
@@ -53,8 +55,9 @@ impl<B: Piece> TrackingOf<B> {
         TrackingOf::with_key(alloc, options, 0)
     }
 
-    /// Nothing tracked yet, where names are hashed by a number. Whoever writes a text may not know the number before all names stand: with
-    /// a number that they know they can choose names whose hashes meet, and each of these is looked for along all of them.
+    /// Nothing tracked yet, where names are hashed by a number. Whoever writes a text may not know
+    /// the number before all names stand: with a number that they know they can choose names whose
+    /// hashes meet, and each of these is looked for along all of them.
     pub fn with_key(alloc: Global, options: ParserOptions, key: u64) -> Self
         ensures value { result ≡ no_maps options key }
         ensures ids { TracksIds B.list B.eq result.ids [] }
@@ -90,7 +93,8 @@ impl<B: Piece> TrackingOf<B> {
         self.classes.is_some()
     }
 
-    /// The number of the first tag with this id. `None` where there is none, and where ids are not tracked.
+    /// The number of the first tag with this id. `None` where there is none, and where ids are not
+    /// tracked.
     pub fn id(&self, id: &B) -> Option<u32>
         ensures value { result ≡ id_in B.eq self.now.ids id.now }
         ensures scan { (nodes : List Node) → IsSome self.now.ids →
@@ -99,7 +103,8 @@ impl<B: Piece> TrackingOf<B> {
         self.ids.as_ref()?.get(id).copied()
     }
 
-    /// The numbers of the tags with this member of their class, rising. `None` where there is none, and where classes are not tracked.
+    /// The numbers of the tags with this member of their class, rising. `None` where there is none,
+    /// and where classes are not tracked.
     pub fn class(&self, member: &B) -> Option<&[u32]>
         ensures value { numbers_lent result ≡ class_in B.eq self.now.classes member.now }
         ensures scan { (nodes : List Node) → IsSome self.now.classes →
@@ -151,7 +156,8 @@ impl<B: Piece + Drop> TrackingOf<B> {
         keep_first(ids, id, number)
     }
 
-    /// Notes one member of the class of a tag. A member that is noted again for this tag changes nothing.
+    /// Notes one member of the class of a tag. A member that is noted again for this tag changes
+    /// nothing.
     pub fn note_class(&mut self, member: B, number: u32) -> Result<(), AllocError>
         ensures noted { OnOk result ((nodes : List Node) (noted : List (List ℕ)) →
             number ≡ length nodes →

@@ -35,7 +35,8 @@ pub enum HTMLVersion {
     FramesetHTML401,
 }
 
-/// A table of fewer than 2^32 nodes, the handles of its top nodes, its version, and what was tracked of it in a value of the type `M`.
+/// A table of fewer than 2^32 nodes, the handles of its top nodes, its version, and what was
+/// tracked of it in a value of the type `M`.
 #[derive(Debug, Drop)]
 pub struct ParserOf<A, B, O: SummaryOf<A>, M> {
     nodes: Vec<NodeOf<A, B, O>>,

@@ -1,4 +1,5 @@
-//! Reads a text into a table: takes the tokens of the lexer one by one and writes what each stands for.
+//! Reads a text into a table: takes the tokens of the lexer one by one and writes what each stands
+//! for.
 ghost use Rattle.std.specs.Prelude.{◌≡◌, ◌↔◌, ◌≤◌, ◌<◌, ◌+◌, ◌*◌, ◌^◌, [], length, drop, slice_get, IfOk, OnOk, IsOk, IsErrOf, All};
 ghost use Rattle.tl_bytes.specs.Held.{Held};
 ghost use Rattle.tl_spec.specs.Lex.ByteClass.{is_void as is_void_name};
@@ -38,8 +39,9 @@ const SAMPLE: usize = 4096;
 // For how many nodes memory is taken at most before the first of them is read.
 const MOST_AT_ONCE: usize = 65536;
 
-// About how many nodes a text has, by how often `<` stands at its front: a tag and a text for each. With room for them few nodes
-// are moved as the table grows, and a text that only begins with many tags takes no memory that counts.
+// About how many nodes a text has, by how often `<` stands at its front: a tag and a text for each.
+// With room for them few nodes are moved as the table grows, and a text that only begins with many
+// tags takes no memory that counts.
 fn guessed_nodes(text: &[u8]) -> usize
     ensures empty { text.now ≡ [] → result ≡ 0 }
     ensures few { result ≤ 4 * length text.now }
@@ -186,7 +188,8 @@ impl<'a> TableBuilder<'a> {
         Ok(())
     }
 
-    // Adds the tag of a start tag, and opens it unless it stands alone. Of a broken one nothing comes.
+    // Adds the tag of a start tag, and opens it unless it stands alone. Of a broken one nothing
+    // comes.
     #[inline(always)]
     fn add_tag(&mut self, tag: HTMLTag<'a>, end: TagEnd) -> Result<(), AllocError>
         requires { HasRoom self.old }
@@ -209,8 +212,8 @@ impl<'a> TableBuilder<'a> {
         }
     }
 
-    // Writes the start tag of this name that begins at `start` and whose attributes stand from `at` on, and answers the place
-    // after it.
+    // Writes the start tag of this name that begins at `start` and whose attributes stand from `at`
+    // on, and answers the place after it.
     #[inline(always)]
     fn start_tag<S: Source<'a>>(
         &mut self,
@@ -264,7 +267,8 @@ impl<'a> TableBuilder<'a> {
         self.add(node)
     }
 
-    // Closes the innermost open tag if it has this name: its raw then ends at the place `to` of the text.
+    // Closes the innermost open tag if it has this name: its raw then ends at the place `to` of the
+    // text.
     #[inline(always)]
     fn end_tag<S: Source<'a>>(
         &mut self,
@@ -320,8 +324,9 @@ impl<'a> TableBuilder<'a> {
         }
     }
 
-    // Writes a token that the lexer found from `start` up to `after`, and answers the place after it, which is that after the whole
-    // tag for a start tag. After an error what has been written means nothing.
+    // Writes a token that the lexer found from `start` up to `after`, and answers the place after
+    // it, which is that after the whole tag for a start tag. After an error what has been written
+    // means nothing.
     #[inline(always)]
     fn push_token<S: Source<'a>>(
         &mut self,

@@ -16,8 +16,8 @@ use tl_attributes::attributes::{Attributes, RawAttributesMap};
 use tl_attributes::summary::Fingerprint;
 use tl_table::element::Element;
 
-// What stands at a key among the pairs other than `id` and `class`. They are gone through, since the keys of a map live as long as
-// the text, and this key may not.
+// What stands at a key among the pairs other than `id` and `class`. They are gone through, since
+// the keys of a map live as long as the text, and this key may not.
 fn value_among<'s>(others: &'s RawAttributesMap<'_>, key: &[u8]) -> Option<Option<&'s [u8]>>
     ensures { option_map option_copied result
         ≡ lookup (bytes_eq key.now) (entries_view others.now).entries }
@@ -52,7 +52,8 @@ fn has_id(tag: &HTMLTag<'_>, id: &[u8]) -> bool
             .is_some_and(|own| id == own.as_bytes())
 }
 
-// Whether this is a member of a tag's class. Its attributes are looked at only where its summary allows that.
+// Whether this is a member of a tag's class. Its attributes are looked at only where its summary
+// allows that.
 fn is_in_class(tag: &HTMLTag<'_>, class: &[u8]) -> bool
     ensures { result ≡ has_member (option_map
         (λ (bytes : Kept). bytes.list) tag.now.attributes.class) class.now }

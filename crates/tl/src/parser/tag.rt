@@ -27,8 +27,8 @@ struct Parts<A, B> {
     start: u32,
 }
 
-/// A tag of bytes of the type `B`, with attributes of the type `A`. What is asked of it most is at hand, and the rest lies in
-/// an arena, so that a table of nodes stays small.
+/// A tag of bytes of the type `B`, with attributes of the type `A`. What is asked of it most is at
+/// hand, and the rest lies in an arena, so that a table of nodes stays small.
 #[derive(Debug, Drop)]
 pub struct TagOf<A, B, O: SummaryOf<A>> {
     name: B,
@@ -122,7 +122,8 @@ impl<A, B, O: SummaryOf<A>> TagOf<A, B, O> {
         &self.name
     }
 
-    /// The whole source of the tag: up to the end of its end tag where one closed it, else its start tag alone. No edit changes it.
+    /// The whole source of the tag: up to the end of its end tag where one closed it, else its
+    /// start tag alone. No edit changes it.
     pub fn raw(&self) -> &B
         ensures { result.now ≡ self.now.raw }
     {

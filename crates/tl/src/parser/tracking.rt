@@ -220,7 +220,8 @@ impl<'a> Parser<'a> {
         ensures table { self.new ≡ record self.old { tracking = self.new.tracking } }
         ensures asked { OnOk result (AreAsked options self.new.tracking) }
         ensures ids { OnOk result (AnswerIds self.new.tracking (map node_view self.old.nodes)) }
-        ensures classes { OnOk result (AnswerClasses self.new.tracking (map node_view self.old.nodes)) }
+        ensures classes { OnOk result (AnswerClasses self.new.tracking
+            (map node_view self.old.nodes)) }
         ensures key { OnOk result (self.new.tracking.key
             ≡ key_of options (map node_view self.old.nodes)) }
         ensures empty { self.old.nodes ≡ [] → IsOk result }

@@ -26,13 +26,15 @@ pub trait QueryIterable<'a>: private::Sealed {
     /// The first number, if there is one.
     ghost first: { Self → Option ℕ };
 
-    /// How many numbers there are, by the nodes of the table that is handed in; or the fault on the way.
+    /// How many numbers there are, by the nodes of the table that is handed in; or the fault on the
+    /// way.
     ghost count: { Self → List Node → Result ℕ TreeFault };
 
     /// The tables of which they are counted without memory.
     ghost counts_freely: { Self → List Node → Type 0 };
 
-    /// The node of a table at a place counted from the first number, and its handle; None past the table.
+    /// The node of a table at a place counted from the first number, and its handle; None past the
+    /// table.
     fn get<'p>(
         &'p self,
         parser: &'p Parser<'a>,
@@ -81,8 +83,8 @@ impl<'a> QueryIterable<'a> for VDom<'a> {
 
 impl<'a> private::Sealed for HTMLTag<'a> {}
 
-/// A tag is asked at the numbers from its first child to the last of what hangs below it. They are counted without memory
-/// where the way along last children rises.
+/// A tag is asked at the numbers from its first child to the last of what hangs below it. They are
+/// counted without memory where the way along last children rises.
 impl<'a> QueryIterable<'a> for HTMLTag<'a> {
     ghost first = { λ t. slice_get t.children.items 0 };
 

@@ -21,7 +21,8 @@ use tl_selector::matches::{Matches, matches_between};
 use tl_selector::selector::Selector;
 use tl_table::handle::NodeHandle;
 
-/// The handles of the nodes that a query gives, rising, seen as the list of those that are left. A step takes no memory.
+/// The handles of the nodes that a query gives, rising, seen as the list of those that are left. A
+/// step takes no memory.
 #[derive(Debug, Drop)]
 pub struct QuerySelectorIterator<'a, 'b> {
     found: Matches<'b, 'b, Node<'a>>,
@@ -36,8 +37,8 @@ impl<'a, 'b> Model for QuerySelectorIterator<'a, 'b> {
 }
 
 impl<'a, 'b> QuerySelectorIterator<'a, 'b> {
-    /// The nodes of a table at which the selector holds, among the numbers of a document or below a tag. What a selector
-    /// that asks for ancestors needs is taken here.
+    /// The nodes of a table at which the selector holds, among the numbers of a document or below a
+    /// tag. What a selector that asks for ancestors needs is taken here.
     pub fn new<Q: QueryIterable<'a>>(
         selector: Selector<'b>,
         parser: &'b Parser<'a>,

@@ -24,7 +24,8 @@ use tl_selector::parser::parse_query_selector;
 use tl_selector::selector::Selector;
 
 impl<'a> VDom<'a> {
-    /// The nodes of the document where a selector holds, rising; None where the text stands for no selector.
+    /// The nodes of the document where a selector holds, rising; None where the text stands for no
+    /// selector.
     #[tactic(auto, using(tl_spec::proofs::Select::Text::alone_without_joint))]
     pub fn query_selector<'b>(
         &'b self,
@@ -38,7 +39,8 @@ impl<'a> VDom<'a> {
         // A selector of one simple part takes no memory.
         ensures alone { StandsAlone selector.now → IsOk result }
 
-        // Nor does a text take any that lacks its first part, or the second: no want of memory hides that it is no selector.
+        // Nor does a text take any that lacks its first part, or the second: no want of memory
+        // hides that it is no selector.
         ensures no_part { LacksFirst selector.now → result ≡ Ok None }
         ensures bad { LacksSecond selector.now → result ≡ Ok None }
     {
@@ -78,8 +80,9 @@ impl<'a> HTMLTag<'a> {
         Ok(found)
     }
 
-    /// The nodes in the range of the tag where a selector holds, rising; None where the text stands for no selector, which
-    /// is looked at before the range. All nodes of the table count as ancestors.
+    /// The nodes in the range of the tag where a selector holds, rising; None where the text stands
+    /// for no selector, which is looked at before the range. All nodes of the table count as
+    /// ancestors.
     #[tactic(auto, using(tl_spec::proofs::Select::Text::alone_without_joint))]
     pub fn query_selector<'b>(
         &self,
@@ -97,12 +100,14 @@ impl<'a> HTMLTag<'a> {
         ensures outside { ((e : SelectorOf) → IsSelectorText selector.now e → ⊥)
             → IfErr result (λ error. error ≡ OutOfMemory) }
 
-        // A selector of one simple part takes no memory, nor does a way along last children that rises.
+        // A selector of one simple part takes no memory, nor does a way along last children that
+        // rises.
         ensures memory { StandsAlone selector.now
             → RisesBelow (map node_view parser.now.nodes) self.now.children.items
             → WantsNoMemory result }
 
-        // Nor does a text take any that lacks its first part, or the second: no want of memory hides that it is no selector.
+        // Nor does a text take any that lacks its first part, or the second: no want of memory
+        // hides that it is no selector.
         ensures no_part { LacksFirst selector.now → result ≡ Ok None }
         ensures bad { LacksSecond selector.now → result ≡ Ok None }
     {

@@ -28,7 +28,8 @@ enum RemainingHandles<'s, 'a> {
     Scanned(InClass<'s, Node<'a>>),
 }
 
-/// The handles of the tags of a class, rising. A clause sees it as the list of those that are left. A step takes no memory.
+/// The handles of the tags of a class, rising. A clause sees it as the list of those that are left.
+/// A step takes no memory.
 #[derive(Debug, Drop)]
 pub struct ElementsByClassName<'s, 'a> {
     left: RemainingHandles<'s, 'a>,
@@ -124,7 +125,8 @@ fn scanned_class<'s, 'a>(nodes: &'s [Node<'a>], member: &'s str) -> RemainingHan
 }
 
 impl<'a> VDom<'a> {
-    /// The handle of the first tag with this id. Where ids are tracked, that is the one that was read first, whatever was edited since; else the table is gone through as it stands.
+    /// The handle of the first tag with this id. Where ids are tracked, that is the one that was
+    /// read first, whatever was edited since; else the table is gone through as it stands.
     pub fn get_element_by_id<'b>(&self, id: Bytes<'b>) -> Option<NodeHandle>
         ensures value { result ≡ with_id self.now id.entry }
         ensures tracked { (nodes : List ShownNode) → IsSome self.now.tracking.ids
@@ -140,7 +142,9 @@ impl<'a> VDom<'a> {
         }
     }
 
-    /// The handles of the tags with this member of their class, in exact case. Where classes are tracked, those are the tags that were read with it, whatever was edited since; else the table is gone through as it stands.
+    /// The handles of the tags with this member of their class, in exact case. Where classes are
+    /// tracked, those are the tags that were read with it, whatever was edited since; else the
+    /// table is gone through as it stands.
     pub fn get_elements_by_class_name<'s>(&'s self, member: &'s str) -> ElementsByClassName<'s, 'a>
         ensures value { result ≡ with_member self.now member.now }
         ensures tracked { (nodes : List ShownNode) → IsSome self.now.tracking.classes

@@ -42,7 +42,8 @@ fn find_in_walk<'s, 'a, F: FnMut(&Node<'a>) -> bool>(
 }
 
 impl<'a> HTMLTag<'a> {
-    /// The first child, in order, at which `f` answers true, by the table of `parser`. No node below the children is shown to it.
+    /// The first child, in order, at which `f` answers true, by the table of `parser`. No node
+    /// below the children is shown to it.
     pub fn find_node<F: FnMut(&Node<'a>) -> bool>(
         &self,
         parser: &Parser<'a>,
@@ -65,7 +66,8 @@ impl<'a> HTMLTag<'a> {
 }
 
 impl<'a> Node<'a> {
-    /// The first node below this one, in the order of the walk, at which `f` answers true, by the table of `parser`. The node itself is not shown to it; a text or a comment has none below.
+    /// The first node below this one, in the order of the walk, at which `f` answers true, by the
+    /// table of `parser`. The node itself is not shown to it; a text or a comment has none below.
     pub fn find_node<F: FnMut(&Node<'a>) -> bool>(
         &self,
         parser: &Parser<'a>,
@@ -77,7 +79,8 @@ impl<'a> Node<'a> {
         ensures leaf { tag_of self.now ≡ None → result ≡ Ok None }
 
         // A first child that dangles is answered before any memory is taken.
-        ensures dangling { (h : ℕ) → FirstDangles parser.now.nodes (children_of (node_view self.now)) h
+        ensures dangling { (h : ℕ) → FirstDangles parser.now.nodes
+            (children_of (node_view self.now)) h
             → result ≡ Err (TreeError.Dangling h) }
     {
         match self {

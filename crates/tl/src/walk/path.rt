@@ -1,6 +1,8 @@
 //! Whether a handle stands on the path of a walk.
 //!
-//! While the handles of a path rise, the last one tells. The first that doesn't rise makes a mark for each node of the table, so that most walks take no memory for marks and none looks through its path twice.
+//! While the handles of a path rise, the last one tells. The first that doesn't rise makes a mark
+//! for each node of the table, so that most walks take no memory for marks and none looks through
+//! its path twice.
 ghost use Rattle.std.specs.Prelude.{◌≡◌, ◌≢◌, ◌↔◌, ◌<◌, [], OnOk, IfOk, IfErr, IsOk, true, set};
 ghost use Rattle.tl_spec.specs.Walk.{stands_on};
 ghost use Rattle.tl.specs.Marks.{marks_of, IsAbove, IsKept, MayFollow};

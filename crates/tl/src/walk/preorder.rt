@@ -14,8 +14,8 @@ use std::iter::FusedIterator;
 use std::marker::Model;
 use tl_table::handle::NodeHandle;
 
-/// A walk in progress, seen as the place where it stands: each node is met before what hangs below it,
-/// and each tag is left after that. A fault ends it, as want of memory does.
+/// A walk in progress, seen as the place where it stands: each node is met before what hangs below
+/// it, and each tag is left after that. A fault ends it, as want of memory does.
 #[derive(Drop)]
 pub struct Walk<'s, 'a> {
     walker: Walker<'s, 'a>,
@@ -48,8 +48,8 @@ impl<'s, 'a> Walk<'s, 'a> {
         }
     }
 
-    /// Passes over what is left inside the tag that the walk is in, which it leaves next; outside of
-    /// all tags it ends.
+    /// Passes over what is left inside the tag that the walk is in, which it leaves next; outside
+    /// of all tags it ends.
     pub fn skip_subtree(&mut self)
         ensures { self.new ≡ record self.old { next = [] } }
     {

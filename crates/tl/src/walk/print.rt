@@ -28,7 +28,8 @@ use tl_bytes::byte_string::Bytes;
 use tl_lexer::names::is_printed_alone;
 use tl_table::handle::NodeHandle;
 
-// Up to how many bytes are pushed one by one, which costs less than a search for a byte above ASCII and a copy.
+// Up to how many bytes are pushed one by one, which costs less than a search for a byte above ASCII
+// and a copy.
 const FEW: usize = 8;
 
 // Whether there are few bytes, all ASCII.
@@ -222,8 +223,8 @@ pub(crate) fn lossy_text(alloc: Global, bytes: &[u8]) -> Result<String, TreeErro
 }
 
 impl<'a> HTMLTag<'a> {
-    /// The tag as markup, with all that it holds by the table of `parser`. An end tag is written whether or not the text had one.
-    /// What is printed of a clean tag is read as that one tree.
+    /// The tag as markup, with all that it holds by the table of `parser`. An end tag is written
+    /// whether or not the text had one. What is printed of a clean tag is read as that one tree.
     pub fn outer_html(&self, alloc: Global, parser: &Parser<'a>) -> Result<String, TreeError>
         ensures answers { Answers string_bytes (outer_html (map node_view parser.now.nodes)
             (Tag (tag_view self.now))) result }
@@ -237,7 +238,8 @@ impl<'a> HTMLTag<'a> {
         Ok(out)
     }
 
-    /// The children as markup, with all that they hold by the table of `parser`: those of a void tag too.
+    /// The children as markup, with all that they hold by the table of `parser`: those of a void
+    /// tag too.
     pub fn inner_html(&self, alloc: Global, parser: &Parser<'a>) -> Result<String, TreeError>
         ensures answers { Answers string_bytes (inner_html (map node_view parser.now.nodes)
             (Tag (tag_view self.now))) result }
@@ -258,11 +260,13 @@ impl<'a> HTMLTag<'a> {
 }
 
 impl<'a> Node<'a> {
-    /// The node as markup, with all that it holds by the table of `parser`. What is printed of a clean node is read as that one tree.
+    /// The node as markup, with all that it holds by the table of `parser`. What is printed of a
+    /// clean node is read as that one tree.
     pub fn outer_html(&self, alloc: Global, parser: &Parser<'a>) -> Result<String, TreeError>
         ensures answers { Answers string_bytes (outer_html (map node_view parser.now.nodes)
             (node_view self.now)) result }
-        ensures identity { let nodes = map node_view parser.now.nodes in let own = node_view self.now in
+        ensures identity { let nodes = map node_view parser.now.nodes in
+            let own = node_view self.now in
             IsCleanNode nodes own →
             IfOk result (λ s. ReadsAs (string_bytes s) (trees (walk_of all_tags nodes own))) }
     {
@@ -273,13 +277,15 @@ impl<'a> Node<'a> {
         }
     }
 
-    /// The children of a tag as markup, by the table of `parser`. A text or a comment answers its own text.
+    /// The children of a tag as markup, by the table of `parser`. A text or a comment answers its
+    /// own text.
     pub fn inner_html(&self, alloc: Global, parser: &Parser<'a>) -> Result<String, TreeError>
         ensures answers { Answers string_bytes (inner_html (map node_view parser.now.nodes)
             (node_view self.now)) result }
 
         // A first child that dangles is answered before any memory is taken.
-        ensures dangling { (h : ℕ) → FirstDangles parser.now.nodes (children_of (node_view self.now)) h
+        ensures dangling { (h : ℕ) → FirstDangles parser.now.nodes
+            (children_of (node_view self.now)) h
             → result ≡ Err (TreeError.Dangling h) }
     {
         match self {

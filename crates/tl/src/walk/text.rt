@@ -118,7 +118,8 @@ fn write_text_of<'s, 'a>(
     tag: &'s HTMLTag<'a>,
     out: &mut String,
 ) -> Result<(), TreeError>
-    ensures writes { let w = walk_of all_tags (map node_view parser.now.nodes) (Tag (tag_view tag.now)) in
+    ensures writes { let w = walk_of all_tags (map node_view parser.now.nodes)
+        (Tag (tag_view tag.now)) in
         Writes (first_fault w) (text_of (trees w)) (string_bytes out.old) result
         (string_bytes out.new) }
     ensures dangling { (h : ℕ) → FirstDangles parser.now.nodes tag.now.children.items h
@@ -129,7 +130,8 @@ fn write_text_of<'s, 'a>(
 }
 
 impl<'a> HTMLTag<'a> {
-    /// The texts below the tag by the table of `parser`, in the order of the walk. Comments give none.
+    /// The texts below the tag by the table of `parser`, in the order of the walk. Comments give
+    /// none.
     pub fn inner_text(&self, alloc: Global, parser: &Parser<'a>) -> Result<String, TreeError>
         ensures answers { Answers string_bytes (inner_text (map node_view parser.now.nodes)
             (Tag (tag_view self.now))) result }
@@ -145,7 +147,8 @@ impl<'a> HTMLTag<'a> {
 }
 
 impl<'a> Node<'a> {
-    /// The texts at or below the node by the table of `parser`, in the order of the walk. Comments give none.
+    /// The texts at or below the node by the table of `parser`, in the order of the walk. Comments
+    /// give none.
     pub fn inner_text(&self, alloc: Global, parser: &Parser<'a>) -> Result<String, TreeError>
         ensures answers { Answers string_bytes (inner_text (map node_view parser.now.nodes)
             (node_view self.now)) result }
@@ -154,7 +157,8 @@ impl<'a> Node<'a> {
         ensures comment { IsSome (comment_of self.now) → IsOk result }
 
         // A first child that dangles is answered before any memory is taken.
-        ensures dangling { (h : ℕ) → FirstDangles parser.now.nodes (children_of (node_view self.now)) h
+        ensures dangling { (h : ℕ) → FirstDangles parser.now.nodes
+            (children_of (node_view self.now)) h
             → result ≡ Err (TreeError.Dangling h) }
     {
         match self {

@@ -64,7 +64,8 @@ impl Share {
         &self.text.as_str().as_bytes()[self.start..self.end]
     }
 
-    // Those of them from `start` up to `end` without `end`. `Err` means that the count of owners is full.
+    // Those of them from `start` up to `end` without `end`. `Err` means that the count of owners is
+    // full.
     #[tactic(auto, using(crate::proofs::Shares::part_of_part, crate::proofs::Shares::part_len))]
     pub(crate) fn part(&self, start: usize, end: usize) -> Result<Share, AllocError>
         requires order { start ≤ end }

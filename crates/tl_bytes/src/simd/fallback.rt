@@ -18,7 +18,8 @@ pub fn find_multi<const N: usize>(haystack: &[u8], needle: [u8; N]) -> Option<us
     find_any(haystack, &needle)
 }
 
-// `find_multi` of any number of needles: a closure in a function generic in `N` would need clauses of its own.
+// `find_multi` of any number of needles: a closure in a function generic in `N` would need clauses
+// of its own.
 fn find_any(haystack: &[u8], needles: &[u8]) -> Option<usize>
     ensures { result ≡ first (is_one_of needles.now) haystack.now }
 {

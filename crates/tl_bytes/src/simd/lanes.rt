@@ -27,7 +27,8 @@ pub(super) fn before_byte(haystack: &[u8], at: usize, needle: u8) -> usize
     lowest_bit(lanes.simd_eq(u8x16::splat(needle)).to_bitmask())
 }
 
-/// How many of the sixteen bytes from `at` on come before the first that is one of the four of `needle`.
+/// How many of the sixteen bytes from `at` on come before the first that is one of the four of
+/// `needle`.
 #[inline(always)]
 pub(super) fn before_any(haystack: &[u8], at: usize, needle: [u8; 4]) -> usize
     requires { at + 16 ≤ length haystack.now }

@@ -27,10 +27,12 @@ use std::hash::Hash;
 use std::marker::Model;
 use storage::{PairStorage, push_inline, remove_inline, replace};
 
-/// A map that keeps up to `N` pairs in the value itself. An insert of a new key while `N` pairs are held moves all of
-/// them to the heap, and there they stay, also when some are removed. `N` may be 0.
+/// A map that keeps up to `N` pairs in the value itself. An insert of a new key while `N` pairs are
+/// held moves all of them to the heap, and there they stay, also when some are removed. `N` may be
+/// 0.
 ///
-/// A clause sees the pairs in order, with distinct keys, and whether they lie on the heap. New pairs go last.
+/// A clause sees the pairs in order, with distinct keys, and whether they lie on the heap. New
+/// pairs go last.
 #[derive(Drop)]
 pub struct InlineHashMap<K: Eq + Hash, V, const N: usize> {
     alloc: Global,
@@ -174,8 +176,8 @@ impl<K: Default + Eq + Hash, V: Default, const N: usize> InlineHashMap<K, V, N> 
 }
 
 impl<K: Default + Eq + Hash + Drop, V: Default + Drop, const N: usize> InlineHashMap<K, V, N> {
-    /// Puts `value` at `key`. A key that is there keeps its place, and the old key stays; a new one goes last.
-    /// Where memory is refused it hands the pair back, and the map is as it was.
+    /// Puts `value` at `key`. A key that is there keeps its place, and the old key stays; a new one
+    /// goes last. Where memory is refused it hands the pair back, and the map is as it was.
     pub fn insert(&mut self, key: K, value: V) -> Result<(), (K, V)>
         ensures ok { OnOk result (self.new ≡ with_entry K.eq N self.old key value) }
         ensures err { OnErr result (self.new ≡ self.old) }
@@ -207,7 +209,8 @@ impl<K: Default + Eq + Hash + Drop, V: Default + Drop, const N: usize> InlineHas
         }
     }
 
-    /// Removes `key` and returns its value. The last pair moves into the place. Where the pairs lie stays.
+    /// Removes `key` and returns its value. The last pair moves into the place. Where the pairs lie
+    /// stays.
     pub fn remove(&mut self, key: &K) -> Option<V>
         ensures value { result ≡ lookup (K.eq key.now) self.old.entries }
         ensures left { self.new ≡ without_key K.eq self.old key.now }
@@ -220,7 +223,8 @@ impl<K: Default + Eq + Hash + Drop, V: Default + Drop, const N: usize> InlineHas
 }
 
 impl<K: Default + Eq + Hash + Clone, V: Default + Clone, const N: usize> InlineHashMap<K, V, N> {
-    /// A map of clones of the pairs, which lie where these do. A clone of a key or a value must be that key or value.
+    /// A map of clones of the pairs, which lie where these do. A clone of a key or a value must be
+    /// that key or value.
     pub fn clone(&self) -> Result<Self, AllocError>
         requires keys { ClonesAreEqual K.is_clone (keys_of self.now.entries) }
         requires values { ClonesAreEqual V.is_clone (values_of self.now.entries) }
@@ -244,7 +248,8 @@ impl<K: Default + Eq + Hash + Clone, V: Default + Clone, const N: usize> InlineH
 }
 
 impl<K: Eq + Hash + Clone, V: Clone, const N: usize> InlineHashMap<K, V, N> {
-    /// Clones of the pairs in a `HashMap`, in no promised order. A clone of a key or a value must be that key or value.
+    /// Clones of the pairs in a `HashMap`, in no promised order. A clone of a key or a value must
+    /// be that key or value.
     pub fn to_map(&self, alloc: Global) -> Result<HashMap<K, V>, AllocError>
         requires keys { ClonesAreEqual K.is_clone (keys_of self.now.entries) }
         requires values { ClonesAreEqual V.is_clone (values_of self.now.entries) }

@@ -4,8 +4,8 @@ ghost use Rattle.std.specs.Prelude.{◌≡◌, ◌+◌, ◌≤◌, IfOk, OnErr, 
 use arrayvec::ArrayVec;
 use std::alloc::{AllocError, Global};
 
-// Moves the items to an allocation with room for a few more, and for no others. What can fail comes first, so an `Err` moves
-// none.
+// Moves the items to an allocation with room for a few more, and for no others. What can fail comes
+// first, so an `Err` moves none.
 pub(super) fn move_out<T: Default + Drop, const N: usize>(
     alloc: Global,
     inline: &mut ArrayVec<T, N>,

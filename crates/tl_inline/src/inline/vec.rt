@@ -19,11 +19,12 @@ use std::marker::Model;
 use std::ops::Index;
 use storage::ItemStorage;
 
-// For how many more items there is room as they come to the heap, so that few small lists grow there.
+// For how many more items there is room as they come to the heap, so that few small lists grow
+// there.
 const MORE: usize = 4;
 
-/// A vector that keeps up to `N` items in the value itself. A push while `N` are held moves all of them to the heap,
-/// and there they stay, also when some are removed. `N` may be 0.
+/// A vector that keeps up to `N` items in the value itself. A push while `N` are held moves all of
+/// them to the heap, and there they stay, also when some are removed. `N` may be 0.
 ///
 /// A clause sees the items in order and whether they lie on the heap.
 #[derive(Drop)]
@@ -105,8 +106,8 @@ impl<T, const N: usize> InlineVec<T, N> {
         self.held.get_mut(index)
     }
 
-    /// The items for writing, or `None` where they lie on the heap. No item can be added or taken away. A proof that needs
-    /// what a write leaves takes `get_mut` at each place.
+    /// The items for writing, or `None` where they lie on the heap. No item can be added or taken
+    /// away. A proof that needs what a write leaves takes `get_mut` at each place.
     pub fn inline_parts_mut(&mut self) -> Option<&mut [T]>
         ensures* writes_back { sem 𝓛 (lends_inline T.row N.row self.entry result) }
         ensures variant { is_some result ≡ not self.old.on_heap }
@@ -199,7 +200,8 @@ impl<T: Default + Drop, const N: usize> InlineVec<T, N> {
 }
 
 impl<T: Default + Clone, const N: usize> InlineVec<T, N> {
-    /// A vector of clones of the items, which lie where these do. A clone of an item must be that item.
+    /// A vector of clones of the items, which lie where these do. A clone of an item must be that
+    /// item.
     pub fn clone(&self) -> Result<Self, AllocError>
         requires { ClonesAreEqual T.is_clone self.now.items }
         ensures ok { IfOk result (λ v. v ≡ self.now) }

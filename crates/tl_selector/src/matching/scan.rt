@@ -21,7 +21,8 @@ fn first_named<N: Element>(nodes: &[N], name: &[u8]) -> Option<usize>
     nodes.iter().position(|node| node.name() == Some(name))
 }
 
-// The place of the first node where a selector of any kind holds, which is looked at anew at each node.
+// The place of the first node where a selector of any kind holds, which is looked at anew at each
+// node.
 fn first_match<N: Element>(e: &Selector<'_>, nodes: &[N]) -> Option<usize>
     ensures place { result ≡ position_from (holds_alone (selector e.now)) 0 (map N.node nodes.now) }
     ensures within { IfSome result (λ n. n < length nodes.now) }
@@ -68,8 +69,8 @@ fn others_hold<N: Element>(e: &Selector<'_>, node: &N) -> bool
     true
 }
 
-/// The place of the first node where the selector holds at the node alone, `None` where it holds at none. Of parts that all have
-/// to hold the others are asked only where the first holds.
+/// The place of the first node where the selector holds at the node alone, `None` where it holds at
+/// none. Of parts that all have to hold the others are asked only where the first holds.
 pub fn first_alone<N: Element>(e: &Selector<'_>, nodes: &[N]) -> Option<usize>
     ensures first { IsFirstPlace (holds_alone (selector e.now)) (map N.node nodes.now) result }
     ensures within { IfSome result (λ n. n < length nodes.now) }

@@ -48,7 +48,8 @@ fn copy_simple<'a>(e: &Selector<'a>) -> Selector<'a>
     }
 }
 
-// A copy of a selector with sides: first the innermost of its first sides, then what that stands in, from the inside out.
+// A copy of a selector with sides: first the innermost of its first sides, then what that stands
+// in, from the inside out.
 #[cycle(copies)]
 fn copy_complex<'a>(alloc: Global, e: &Selector<'a>) -> Result<Selector<'a>, AllocError>
     ensures { IfOk result (λ f. selector f ≡ selector e.now) }

@@ -1,5 +1,5 @@
-//! The debug text of a selector. It names the second of two sides before the first, so that a chain, which is nested to the left,
-//! is written by a loop that takes no memory.
+//! The debug text of a selector. It names the second of two sides before the first, so that a
+//! chain, which is nested to the left, is written by a loop that takes no memory.
 use crate::selector::Selector;
 use std::fmt;
 use std::fmt::Write;

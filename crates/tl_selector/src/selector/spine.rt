@@ -1,4 +1,5 @@
-//! The way along the first sides of a selector. Chains are nested to the left, so this way may be as long as a text has parts.
+//! The way along the first sides of a selector. Chains are nested to the left, so this way may be
+//! as long as a text has parts.
 ghost use Rattle.std.specs.Prelude.{◌≡◌, ◌≤◌, false, IfOk};
 ghost use Rattle.std.specs.List.{All};
 ghost use Rattle.tl_spec.specs.Select.Meaning.{has_combinator};
@@ -22,7 +23,8 @@ pub fn has_sides(e: &Selector<'_>) -> bool
     )
 }
 
-/// The selectors that stand in one another as first sides, from the outermost on, and the innermost of all, which has no sides.
+/// The selectors that stand in one another as first sides, from the outermost on, and the innermost
+/// of all, which has no sides.
 pub fn spine<'e, 'a>(
     alloc: Global,
     e: &'e Selector<'a>,

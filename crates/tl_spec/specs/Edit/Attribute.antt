@@ -7,7 +7,8 @@ use Rattle.tl_spec.specs.Lex.AttributeList.{Attributes, choose_by_key, set_at}
 module _ {B : Type 0} (list : B → List ℕ) (eq : B → B → Bool) where
   -- the value at a key; at `id` and `class` there is a key only with its value
   abbrev pub value_at : Attributes B → B → Option (Option B)
-  value_at a k = choose_by_key (list k) (option_map Some a.id) (option_map Some a.class) (lookup (eq k) a.others.entries)
+  value_at a k = choose_by_key (list k) (option_map Some a.id) (option_map Some a.class)
+      (lookup (eq k) a.others.entries)
 
   -- attributes with v at a key; at `id` and `class` no value is no key
   abbrev pub with_attribute : Attributes B → B → Option B → Attributes B

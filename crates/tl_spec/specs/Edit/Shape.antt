@@ -20,5 +20,6 @@ KeepsSource old (Comment bytes) = ⊤
 pub record KeepsShape (d e : Document) : Type 0 where
   pub nodes : length e.nodes ≡ length d.nodes
   pub top : length e.top ≡ length d.top
-  pub sources : (n : ℕ) (old new : Node) → slice_get d.nodes n ≡ Some old → slice_get e.nodes n ≡ Some new → KeepsSource old new
+  pub sources : (n : ℕ) (old new : Node) → slice_get d.nodes n ≡ Some old →
+      slice_get e.nodes n ≡ Some new → KeepsSource old new
   pub version : e.is_html5 ≡ d.is_html5

@@ -17,7 +17,8 @@ continue_number n (digit ∷ digits) = continue_number (10 * n + (digit - byte "
 
 -- one or more decimal digits of a value of at most 4294967295, the largest `u32`
 abbrev pub is_number : List ℕ → Bool
-is_number digits = nat_lt 0 (length digits) && (all_ascii_digits digits && nat_le (continue_number 0 digits) largest_u32)
+is_number digits = nat_lt 0 (length digits)
+    && (all_ascii_digits digits && nat_le (continue_number 0 digits) largest_u32)
 
 abbrev pub number_of : List ℕ → Option ℕ
 number_of digits = if is_number digits then Some (continue_number 0 digits) else None
@@ -53,11 +54,13 @@ change_of_numbers word n m =
 -- the edit that a word says of a number and what stands after it: a text, or a second number
 abbrev pub change_of_word : List ℕ → ℕ → List ℕ → Option Change
 change_of_word word n text =
-    option_or (change_of_text word n text) (option_and_then (λ m. change_of_numbers word n m) (number_of text))
+    option_or (change_of_text word n text)
+    (option_and_then (λ m. change_of_numbers word n m) (number_of text))
 
 -- what is made of a number and of all that stands after its space
 abbrev pub change_with_number : (ℕ → List ℕ → Option Change) → List ℕ → Option Change
-change_with_number made bytes = option_and_then (λ n. made n (after_word bytes)) (number_of (first_word bytes))
+change_with_number made bytes =
+    option_and_then (λ n. made n (after_word bytes)) (number_of (first_word bytes))
 
 -- the edit that a line says: its first word tells the form, and the rest is read by it
 abbrev pub change_by_word : List ℕ → List ℕ → Option Change
@@ -90,7 +93,8 @@ abbrev pub line_of : (ℕ → List ℕ) → Change → List ℕ
 line_of digits (Names n name) = word_and_rest (codes "name") (word_and_rest (digits n) name)
 line_of digits (Texts n text) = word_and_rest (codes "text") (word_and_rest (digits n) text)
 line_of digits (Comments n text) = word_and_rest (codes "comment") (word_and_rest (digits n) text)
-line_of digits (Sets n key value) = word_and_rest (codes "set") (word_and_rest (digits n) (word_and_rest key value))
+line_of digits (Sets n key value) =
+    word_and_rest (codes "set") (word_and_rest (digits n) (word_and_rest key value))
 line_of digits (Flags n key) = word_and_rest (codes "flag") (word_and_rest (digits n) key)
 line_of digits (Unsets n key) = word_and_rest (codes "unset") (word_and_rest (digits n) key)
 line_of digits (Bares n key) = word_and_rest (codes "bare") (word_and_rest (digits n) key)

@@ -12,7 +12,8 @@ Pair = List ℕ × Option (List ℕ)
 abbrev pub skip_blanks : List ℕ → List ℕ
 skip_blanks s = drop_while is_blank s
 
--- the value at the front: up to the same quote, or without a quote up to a byte that ends it; and what stands from its end on
+-- the value at the front: up to the same quote, or without a quote up to a byte that ends it; and
+-- what stands from its end on
 abbrev pub value : List ℕ → List ℕ × List ℕ
 value [] = ([], [])
 value (b ∷ s) =
@@ -22,7 +23,8 @@ value (b ∷ s) =
 -- the value after `=` and blanks, where a `=` stands at the front; and what stands from its end on
 abbrev pub optional_value : List ℕ → Option (List ℕ) × List ℕ
 optional_value [] = (None, [])
-optional_value (b ∷ s) = if b == equals then (let v = value (skip_blanks s) in (Some v.0, v.1)) else (None, b ∷ s)
+optional_value (b ∷ s) =
+    if b == equals then (let v = value (skip_blanks s) in (Some v.0, v.1)) else (None, b ∷ s)
 
 -- what stands after the end of an attribute: one byte is passed over, unless it is `>` or ident
 abbrev pub skip_end : List ℕ → List ℕ
@@ -31,12 +33,14 @@ skip_end (b ∷ s) = if (b == greater) || is_ident b then b ∷ s else s
 
 -- the attribute at the front, and what stands after it
 abbrev pub attribute : List ℕ → Pair × List ℕ
-attribute s = let v = optional_value (skip_blanks (drop_while is_name s)) in ((take_while is_name s, v.0), skip_end v.1)
+attribute s = let v = optional_value (skip_blanks (drop_while is_name s)) in
+    ((take_while is_name s, v.0), skip_end v.1)
 
 -- the attribute at the front, and what stands after it and blanks; none at `/`, `>` or the end
 abbrev pub next_attribute : List ℕ → Option (Pair × List ℕ)
 next_attribute [] = None
-next_attribute (b ∷ s) = if is_closing b then None else (let a = attribute (b ∷ s) in Some (a.0, skip_blanks a.1))
+next_attribute (b ∷ s) =
+    if is_closing b then None else (let a = attribute (b ∷ s) in Some (a.0, skip_blanks a.1))
 
 -- all attributes at the front, and what stands after them
 abbrev pub attributes : List ℕ → List Pair × List ℕ

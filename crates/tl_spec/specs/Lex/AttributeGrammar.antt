@@ -18,7 +18,8 @@ other_keys pairs = filter (λ key. not (is_id key || is_class key)) (distinct_ke
 abbrev pub last_value : List ℕ → List Pair → Option (List ℕ)
 last_value key pairs = unwrap_or (lookup (bytes_eq key) (reverse pairs)) None
 
--- each key with the value of its last pair: the other keys in the order in which they first stand, and `id` and `class` apart
+-- each key with the value of its last pair: the other keys in the order in which they first stand,
+-- and `id` and `class` apart
 pub record AreAttributesOf (pairs : List Pair) (a : PlainAttributes) : Type 0 where
   pub others : a.others ≡ map (λ key. (key, last_value key pairs)) (other_keys pairs)
   pub id : a.id ≡ last_value (codes "id") pairs

@@ -40,13 +40,16 @@ IsOther key = (is_id key ≡ false) × (is_class key ≡ false)
 
 -- the first at `id`, the second at `class`, and the third at every other key
 abbrev pub choose_by_key : {A : Type 0} → List ℕ → A → A → A → A
-choose_by_key key at_id at_class at_other = if is_id key then at_id else if is_class key then at_class else at_other
+choose_by_key key at_id at_class at_other =
+    if is_id key then at_id else if is_class key then at_class else at_other
 
 -- attributes with this value where the key is `id` or `class`, and else with these others
 abbrev pub set_at : {B L : Type 0} → List ℕ → Option B → L → AttributesOf B L → AttributesOf B L
-set_at key value others a = choose_by_key key (record a { id = value }) (record a { class = value }) (record a { others = others })
+set_at key value others a = choose_by_key key (record a { id = value }) (record a { class = value })
+    (record a { others = others })
 
--- the attributes after one more pair: a later one replaces an earlier one of its key, at the earlier one's place
+-- the attributes after one more pair: a later one replaces an earlier one of its key, at the
+-- earlier one's place
 abbrev pub with_pair : PlainAttributes → Pair → PlainAttributes
 with_pair a p = set_at p.0 p.1 (insert_entry bytes_eq a.others p.0 p.1) a
 
@@ -60,8 +63,10 @@ pair_if_some key None = []
 pair_if_some key (Some v) = (key, Some v) ∷ []
 
 -- these others, then `id` and `class` where they have a value; `key` makes a key of its bytes
-abbrev pub pairs_in_order : {K V : Type 0} → (List ℕ → K) → List (K × Option V) → Option V → Option V → List (K × Option V)
-pairs_in_order key others id class = others ++ pair_if_some (key (codes "id")) id ++ pair_if_some (key (codes "class")) class
+abbrev pub pairs_in_order : {K V : Type 0} → (List ℕ → K) → List (K × Option V) → Option V →
+    Option V → List (K × Option V)
+pairs_in_order key others id class =
+    others ++ pair_if_some (key (codes "id")) id ++ pair_if_some (key (codes "class")) class
 
 -- all pairs in the order of the print
 abbrev pub printed_pairs : PlainAttributes → List Pair
@@ -85,5 +90,10 @@ abbrev pub count_of : {B : Type 0} → Attributes B → ℕ
 count_of a = length a.others.entries + one_if_some a.id + one_if_some a.class
 
 -- attributes with each value under f, and the others under g
-abbrev pub attributes_image : {B C L M : Type 0} → (B → C) → (L → M) → AttributesOf B L → AttributesOf C M
-attributes_image f g a = record { others = g a.others; id = option_map f a.id; class = option_map f a.class }
+abbrev pub attributes_image : {B C L M : Type 0} → (B → C) → (L → M) → AttributesOf B L →
+    AttributesOf C M
+attributes_image f g a = record {
+  others = g a.others;
+  id = option_map f a.id;
+  class = option_map f a.class;
+}

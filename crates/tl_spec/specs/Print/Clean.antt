@@ -66,9 +66,11 @@ IsCleanWalk end = ⊤
 IsCleanWalk (meets_text h bytes more) = IsCleanText bytes × IsCleanWalk more
 IsCleanWalk (meets_comment h bytes more) = IsCleanComment bytes × IsCleanWalk more
 IsCleanWalk (meets_tag h own children more) =
-    IsCleanTag (plain_node own) × (IsTrue (is_void own.name) → own.children.items ≡ []) × IsCleanWalk children × IsCleanWalk more
+    IsCleanTag (plain_node own) × (IsTrue (is_void own.name) → own.children.items ≡ [])
+    × IsCleanWalk children × IsCleanWalk more
 IsCleanWalk (passes_tag h own more) =
-    IsCleanTag (plain_node own) × (IsTrue (is_void own.name) → own.children.items ≡ []) × IsCleanWalk more
+    IsCleanTag (plain_node own) × (IsTrue (is_void own.name) → own.children.items ≡ [])
+    × IsCleanWalk more
 IsCleanWalk (meets_fault e more) = ⊥
 
 -- a table whose print's walk of the top list is clean
@@ -84,7 +86,8 @@ abbrev pub HaveOwnKeys : Forest PlainTag → Type 0
 HaveOwnKeys none = ⊤
 HaveOwnKeys (text bytes more) = HaveOwnKeys more
 HaveOwnKeys (comment bytes more) = HaveOwnKeys more
-HaveOwnKeys (tag own children more) = HasOwnKeys own.attributes × HaveOwnKeys children × HaveOwnKeys more
+HaveOwnKeys (tag own children more) =
+    HasOwnKeys own.attributes × HaveOwnKeys children × HaveOwnKeys more
 
 -- a node keeps what the type of attributes keeps
 abbrev pub NodeHasOwnKeys : Node → Type 0
@@ -109,4 +112,5 @@ IsTame none = ⊤
 IsTame (text bytes more) = IsTame more
 IsTame (comment bytes more) = IsTame more
 IsTame (tag own children more) =
-    AreTamePairs (printed_pairs own.attributes) × (own.name ≢ codes "command") × IsTame children × IsTame more
+    AreTamePairs (printed_pairs own.attributes) × (own.name ≢ codes "command") × IsTame children
+    × IsTame more

@@ -1,4 +1,5 @@
--- The normal form of trees: each piece made text, empty texts and comments dropped, adjacent texts joined.
+-- The normal form of trees: each piece made text, empty texts and comments dropped, adjacent texts
+-- joined.
 use Rattle.std.specs.Prelude.{◌≡◌, ℕ, List, [], ◌∷◌, ◌++◌, map, option_map}
 use Rattle.std.specs.Str.Lossy.{utf8_lossy}
 use Rattle.tl_spec.specs.Lex.Attribute.{Pair}

@@ -1,4 +1,5 @@
--- Tests of a value by its lossy text, in which a replacement character stands for bytes that are no UTF-8.
+-- Tests of a value by its lossy text, in which a replacement character stands for bytes that are no
+-- UTF-8.
 use Rattle.std.specs.Prelude.{◌≡◌, ◌≢◌, ℕ, List, [], ◌++◌}
 use Rattle.std.specs.Char.{is_whitespace}
 use Rattle.std.specs.List.{Contains, slice_split}
@@ -19,9 +20,11 @@ EndsWith value back = (rest : List ℕ) × (utf8_lossy value ≡ rest ++ utf8_lo
 
 -- the text of part stands in that of a value
 abbrev pub HasPart : List ℕ → List ℕ → Type 0
-HasPart value part = (before : List ℕ) × (behind : List ℕ) × (utf8_lossy value ≡ before ++ utf8_lossy part ++ behind)
+HasPart value part =
+    (before : List ℕ) × (behind : List ℕ) × (utf8_lossy value ≡ before ++ utf8_lossy part ++ behind)
 
--- the words of a value's text, in characters: its parts between Unicode white space, of which some may be empty
+-- the words of a value's text, in characters: its parts between Unicode white space, of which some
+-- may be empty
 abbrev pub words : List ℕ → List (List ℕ)
 words value = slice_split is_whitespace (lossy_chars value)
 

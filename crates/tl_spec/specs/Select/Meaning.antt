@@ -24,11 +24,16 @@ HoldsAlone (Or a b) node = HoldsAlone a node ⊎ HoldsAlone b node
 HoldsAlone (Descendant a b) node = ⊥
 HoldsAlone (Parent a b) node = ⊥
 HoldsAlone (Attribute key) node = IsSome (attribute_of key node)
-HoldsAlone (AttributeValue key value) node = HasValue (λ own. IsSameText own value) (attribute_of key node)
-HoldsAlone (AttributeValueWhitespacedContains key value) node = HasValue (λ own. HasWord own value) (attribute_of key node)
-HoldsAlone (AttributeValueStartsWith key value) node = HasValue (λ own. BeginsWith own value) (attribute_of key node)
-HoldsAlone (AttributeValueEndsWith key value) node = HasValue (λ own. EndsWith own value) (attribute_of key node)
-HoldsAlone (AttributeValueSubstring key value) node = HasValue (λ own. HasPart own value) (attribute_of key node)
+HoldsAlone (AttributeValue key value) node =
+    HasValue (λ own. IsSameText own value) (attribute_of key node)
+HoldsAlone (AttributeValueWhitespacedContains key value) node =
+    HasValue (λ own. HasWord own value) (attribute_of key node)
+HoldsAlone (AttributeValueStartsWith key value) node =
+    HasValue (λ own. BeginsWith own value) (attribute_of key node)
+HoldsAlone (AttributeValueEndsWith key value) node =
+    HasValue (λ own. EndsWith own value) (attribute_of key node)
+HoldsAlone (AttributeValueSubstring key value) node =
+    HasValue (λ own. HasPart own value) (attribute_of key node)
 
 -- whether a selector asks for ancestors
 abbrev pub has_combinator : Selector → Bool
@@ -61,7 +66,8 @@ module _ (nodes : List Node) where
   Holds (Parent a b) n = Holds b n × (m : ℕ) × Holds a m × IsChild m n
   Holds e n = IsSomeAnd (slice_get nodes n) (HoldsAlone e)
 
-  -- the numbers from one on, and below another, of the nodes where a selector holds: each once, rising
+  -- the numbers from one on, and below another, of the nodes where a selector holds: each once,
+  -- rising
   pub record AreMatches (e : Selector) (from to : ℕ) (ns : List ℕ) : Type 0 where
     pub rising : AllPairs (λ m n. m < n) ns
     pub each : (n : ℕ) → Contains ns n ↔ (from ≤ n) × (n < to) × Holds e n

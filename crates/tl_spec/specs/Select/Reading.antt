@@ -17,7 +17,8 @@ skip_byte b (c ∷ s) = if c == b then Some s else None
 
 -- a run of ident bytes, and what stands after the byte that has to follow it
 abbrev pub run_before : ℕ → List ℕ → Option (List ℕ × List ℕ)
-run_before b s = option_map (λ rest. (take_while is_ident s, rest)) (skip_byte b (drop_while is_ident s))
+run_before b s =
+    option_map (λ rest. (take_while is_ident s, rest)) (skip_byte b (drop_while is_ident s))
 
 -- a quote that stands first, and what stands after it
 abbrev pub quote_at : List ℕ → Option (ℕ × List ℕ)
@@ -26,7 +27,8 @@ quote_at (c ∷ s) = if is_quote c then Some (c, s) else None
 
 abbrev pub value_by : Option (ℕ × List ℕ) → List ℕ → Option (List ℕ × List ℕ)
 value_by None s = run_before (byte "]") s
-value_by (Some q) s = run_before q.0 q.1 >>= λ v. option_map (λ rest. (v.0, rest)) (skip_byte (byte "]") v.1)
+value_by (Some q) s =
+    run_before q.0 q.1 >>= λ v. option_map (λ rest. (v.0, rest)) (skip_byte (byte "]") v.1)
 
 -- a value, and what stands after the `]` that has to follow it
 abbrev pub value_at : List ℕ → Option (List ℕ × List ℕ)
@@ -67,11 +69,13 @@ operator_at (b ∷ s) = if b == byte "=" then Some (Equals, s) else operator_by 
 
 abbrev pub bracket_by : Option (List ℕ) → List ℕ → List ℕ → Option (Selector × List ℕ)
 bracket_by (Some rest) key s = Some (Attribute key, rest)
-bracket_by None key s = operator_at s >>= λ op. option_map (λ v. (with_operator op.0 key v.0, v.1)) (value_at op.1)
+bracket_by None key s =
+    operator_at s >>= λ op. option_map (λ v. (with_operator op.0 key v.0, v.1)) (value_at op.1)
 
 -- a test of a key, and what stands after its `]`, from after its `[` on
 abbrev pub bracket_at : List ℕ → Option (Selector × List ℕ)
-bracket_at s = let m = drop_while is_ident s in bracket_by (skip_byte (byte "]") m) (take_while is_ident s) m
+bracket_at s =
+    let m = drop_while is_ident s in bracket_by (skip_byte (byte "]") m) (take_while is_ident s) m
 
 -- a simple part, and what stands after it
 abbrev pub simple_at : List ℕ → Option (Selector × List ℕ)
@@ -102,7 +106,8 @@ separator_by spaced (b ∷ s) =
     else (if b == byte ">" then Some (Step, drop_while is_space s)
     else Some ((if spaced then Spaces else Touch), b ∷ s))
 
--- the link after a part with the spaces around it, and what stands after it; none where the text ends
+-- the link after a part with the spaces around it, and what stands after it; none where the text
+-- ends
 abbrev pub separator_at : List ℕ → Option (Separator × List ℕ)
 separator_at s = separator_by (starts_with_space s) (drop_while is_space s)
 
@@ -123,7 +128,8 @@ next_by (Some link) = part_by link.0 (simple_at link.1)
 abbrev pub next_at : List ℕ → Next
 next_at s = next_by (separator_at s)
 
-abbrev pub parts_by : (List ℕ → Option (List (Separator × Selector))) → Next → Option (List (Separator × Selector))
+abbrev pub parts_by : (List ℕ → Option (List (Separator × Selector))) → Next →
+    Option (List (Separator × Selector))
 parts_by more End = Some []
 parts_by more Bad = None
 parts_by more (Part link part rest) = option_map (λ parts. (link, part) ∷ parts) (more rest)
@@ -144,7 +150,8 @@ combine Step = Parent
 combine Spaces = Descendant
 combine Touch = And
 
--- The parts are nested from the left, with `,` loosest: all that stands before the last `,`, where there is one, and the chain after it.
+-- The parts are nested from the left, with `,` loosest: all that stands before the last `,`, where
+-- there is one, and the chain after it.
 
 abbrev pub push_complex : Option Selector → Selector → Selector
 push_complex None chain = chain
@@ -164,4 +171,5 @@ nest before chain (p ∷ ps) = nest (list_after p.0 before chain) (complex_after
 
 -- the selector of a text, `None` where the text is none
 abbrev pub selector_at : List ℕ → Option Selector
-selector_at s = simple_at (drop_while is_space s) >>= λ first. option_map (nest None first.0) (parts_at first.1)
+selector_at s =
+    simple_at (drop_while is_space s) >>= λ first. option_map (nest None first.0) (parts_at first.1)

@@ -54,11 +54,16 @@ holds_alone (Or a b) node = holds_alone a node || holds_alone b node
 holds_alone (Descendant a b) node = false
 holds_alone (Parent a b) node = false
 holds_alone (Attribute key) node = is_some (attribute_of key node)
-holds_alone (AttributeValue key value) node = has_value (λ own. is_same_text own value) (attribute_of key node)
-holds_alone (AttributeValueWhitespacedContains key value) node = has_value (λ own. has_word own value) (attribute_of key node)
-holds_alone (AttributeValueStartsWith key value) node = has_value (λ own. begins_with own value) (attribute_of key node)
-holds_alone (AttributeValueEndsWith key value) node = has_value (λ own. ends_with own value) (attribute_of key node)
-holds_alone (AttributeValueSubstring key value) node = has_value (λ own. has_part own value) (attribute_of key node)
+holds_alone (AttributeValue key value) node =
+    has_value (λ own. is_same_text own value) (attribute_of key node)
+holds_alone (AttributeValueWhitespacedContains key value) node =
+    has_value (λ own. has_word own value) (attribute_of key node)
+holds_alone (AttributeValueStartsWith key value) node =
+    has_value (λ own. begins_with own value) (attribute_of key node)
+holds_alone (AttributeValueEndsWith key value) node =
+    has_value (λ own. ends_with own value) (attribute_of key node)
+holds_alone (AttributeValueSubstring key value) node =
+    has_value (λ own. has_part own value) (attribute_of key node)
 
 module _ (nodes : List Node) where
   -- the numbers of all nodes
@@ -67,10 +72,12 @@ module _ (nodes : List Node) where
 
   -- whether the node n of the table stands among the children of m
   abbrev pub is_child : ℕ → ℕ → Bool
-  is_child m n = nat_lt n (length nodes) && option_map_or (λ node. list_any (nat_eq n) (children_of node)) (slice_get nodes m) false
+  is_child m n = nat_lt n (length nodes)
+      && option_map_or (λ node. list_any (nat_eq n) (children_of node)) (slice_get nodes m) false
 
-  -- whether one or more steps lead from m down to n, where all nodes between the two are from a list: a way passes the first of the list
-  -- or doesn't, and where one does, one that passes it once does
+  -- whether one or more steps lead from m down to n, where all nodes between the two are from a
+  -- list: a way passes the first of the list or doesn't, and where one does, one that passes it
+  -- once does
   abbrev pub is_below_by : List ℕ → ℕ → ℕ → Bool
   is_below_by [] m n = is_child m n
   is_below_by (l ∷ ls) m n = is_below_by ls m n || (is_below_by ls m l && is_below_by ls l n)

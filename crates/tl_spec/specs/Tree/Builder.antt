@@ -9,7 +9,8 @@ use Rattle.tl_spec.specs.Tree.Inline.{room, with_last}
 use Rattle.tl_spec.specs.Tree.Forest.{closes, source_tag}
 use Rattle.tl_spec.specs.Tree.Document.{Node, TagNode, Tag, Raw, Comment as CommentNode, tag_node}
 
--- what has been written: the nodes, the numbers of the open tags (innermost first), the top list, and whether a doctype was that of HTML5
+-- what has been written: the nodes, the numbers of the open tags (innermost first), the top list,
+-- and whether a doctype was that of HTML5
 pub record State : Type 0 where
   pub nodes : List Node
   pub open_tags : List ℕ
@@ -50,7 +51,8 @@ abbrev pub enclosing_name : List Node → List ℕ → Option (List ℕ)
 enclosing_name nodes [] = None
 enclosing_name nodes (p ∷ ps) = name_if_tag (slice_get nodes p)
 
--- a number becomes the last child of the first of these tags, or the last of the top list where there is none
+-- a number becomes the last child of the first of these tags, or the last of the top list where
+-- there is none
 abbrev pub with_child_of_first : ℕ → State → List ℕ → State
 with_child_of_first n s [] = record s { top = s.top ++ n ∷ [] }
 with_child_of_first n s (p ∷ ps) = record s { nodes = map_at (with_child n) p s.nodes }
@@ -61,16 +63,19 @@ with_child_of_innermost n s = with_child_of_first n s s.open_tags
 
 -- one more node, as the last child of the innermost open tag
 abbrev pub with_next_node : Node → State → State
-with_next_node node s = let adopting = with_child_of_innermost (length s.nodes) s in record adopting { nodes = adopting.nodes ++ node ∷ [] }
+with_next_node node s = let adopting = with_child_of_innermost (length s.nodes) s in
+    record adopting { nodes = adopting.nodes ++ node ∷ [] }
 
 -- one more tag, which opens
 abbrev pub with_open_tag : Node → State → State
-with_open_tag node s = let adding = with_next_node node s in record adding { open_tags = length s.nodes ∷ s.open_tags }
+with_open_tag node s =
+    let adding = with_next_node node s in record adding { open_tags = length s.nodes ∷ s.open_tags }
 
 -- the first of these tags closed, its raw up to a place of the text
 abbrev pub with_first_closed : List ℕ → ℕ → State → List ℕ → State
 with_first_closed t to s [] = s
-with_first_closed t to s (p ∷ ps) = record s { nodes = map_at (with_raw_to t to) p s.nodes; open_tags = ps }
+with_first_closed t to s (p ∷ ps) =
+    record s { nodes = map_at (with_raw_to t to) p s.nodes; open_tags = ps }
 
 -- the innermost open tag closed
 abbrev pub with_innermost_closed : List ℕ → ℕ → State → State
@@ -95,7 +100,8 @@ module _ (t : List ℕ) where
   abbrev pub after_token : PlacedToken → State → Token → State
   after_token k s (Text bytes) = with_next_node (Raw bytes) s
   after_token k s (Comment bytes) = with_next_node (CommentNode bytes) s
-  after_token k s (Start name pairs alone) = after_start (start_node t k name pairs) s (alone || is_void name)
+  after_token k s (Start name pairs alone) =
+      after_start (start_node t k name pairs) s (alone || is_void name)
   after_token k s (End name) = after_end k.to s (closes name (enclosing_name s.nodes s.open_tags))
   after_token k s (Doctype html) = record s { is_html5 = s.is_html5 || html }
   after_token k s Nothing = s
@@ -118,9 +124,11 @@ pub record IsOpen (place : ℕ) (nodes : List Node) (p : ℕ) : Type 0 where
 abbrev pub AreOpen : ℕ → State → Type 0
 AreOpen place s = All (IsOpen place s.nodes) s.open_tags
 
--- a state that the tokens of t up to this place lead to: those after it lead on to where all tokens do
+-- a state that the tokens of t up to this place lead to: those after it lead on to where all tokens
+-- do
 pub record IsReached (t : List ℕ) (place : ℕ) (s : State) : Type 0 where
   pub within : place ≤ length t
-  pub leads_on : (ks : List PlacedToken) → StandFrom t place ks → run t s ks ≡ run t start (tokens t)
+  pub leads_on : (ks : List PlacedToken) → StandFrom t place ks →
+      run t s ks ≡ run t start (tokens t)
   pub are_open : AreOpen place s
   pub few : length s.nodes ≤ place

@@ -35,7 +35,8 @@ pub record Document : Type 0 where
   pub top : List ℕ
   pub is_html5 : Bool
 
--- the list after pushes into an empty one: on the heap exactly where there are more than the room holds
+-- the list after pushes into an empty one: on the heap exactly where there are more than the room
+-- holds
 abbrev pub held_items : List ℕ → Handles
 held_items items = record { items = items; on_heap = nat_lt room (length items) }
 
@@ -77,7 +78,8 @@ nodes t n none = []
 nodes t n (text bytes more) = Raw bytes ∷ nodes t (n + 1) more
 nodes t n (comment bytes more) = Comment bytes ∷ nodes t (n + 1) more
 nodes t n (tag own children more) =
-    Tag (tag_node t own (numbers (n + 1) children)) ∷ nodes t (n + 1) children ++ nodes t (n + 1 + size children) more
+    Tag (tag_node t own (numbers (n + 1) children)) ∷ nodes t (n + 1) children
+    ++ nodes t (n + 1 + size children) more
 
 -- a doctype of HTML5
 abbrev pub is_html5_doctype : Token → Bool
@@ -87,7 +89,11 @@ is_html5_doctype _ = false
 -- the document of a text
 abbrev pub document : List ℕ → Document
 document t = let trees = forest (tokens t) in
-    record { nodes = nodes t 0 trees; top = numbers 0 trees; is_html5 = list_any (λ k. is_html5_doctype k.token) (tokens t) }
+    record {
+      nodes = nodes t 0 trees;
+      top = numbers 0 trees;
+      is_html5 = list_any (λ k. is_html5_doctype k.token) (tokens t);
+    }
 
 -- a node and its attributes
 abbrev pub node_and_attribute_count : Node → ℕ

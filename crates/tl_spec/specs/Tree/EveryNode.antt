@@ -12,7 +12,8 @@ use Rattle.tl_spec.specs.Walk.{Walk, end, meets_text, meets_comment, meets_tag, 
 abbrev pub IsCleanAlone : Node → Type 0
 IsCleanAlone (Raw bytes) = IsCleanText bytes
 IsCleanAlone (Comment bytes) = IsCleanComment bytes
-IsCleanAlone (Tag own) = IsCleanTag (plain_node own) × (IsTrue (is_void own.name) → own.children.items ≡ [])
+IsCleanAlone (Tag own) =
+    IsCleanTag (plain_node own) × (IsTrue (is_void own.name) → own.children.items ≡ [])
 
 -- P holds of each node that a walk meets
 abbrev pub EachNode : (Node → Type 0) → Walk → Type 0
@@ -34,7 +35,8 @@ abbrev pub HoldOfTrees : Tests → Forest PlainTag → Type 0
 HoldOfTrees t none = ⊤
 HoldOfTrees t (text bytes more) = IsTrue (t.of_text bytes) × HoldOfTrees t more
 HoldOfTrees t (comment bytes more) = IsTrue (t.of_comment bytes) × HoldOfTrees t more
-HoldOfTrees t (tag own children more) = IsTrue (t.of_tag own) × HoldOfTrees t children × HoldOfTrees t more
+HoldOfTrees t (tag own children more) =
+    IsTrue (t.of_tag own) × HoldOfTrees t children × HoldOfTrees t more
 
 -- they hold of a node, whatever hangs below it
 abbrev pub HoldOfNode : Tests → Node → Type 0
@@ -44,7 +46,8 @@ HoldOfNode t (Comment bytes) = IsTrue (t.of_comment bytes)
 
 -- they hold of what two texts make that are joined, where they hold of both
 abbrev pub HoldOfJoined : Tests → Type 0
-HoldOfJoined t = (a b : List ℕ) → IsTrue (t.of_text a) → IsTrue (t.of_text b) → IsTrue (t.of_text (a ++ b))
+HoldOfJoined t =
+    (a b : List ℕ) → IsTrue (t.of_text a) → IsTrue (t.of_text b) → IsTrue (t.of_text (a ++ b))
 
 -- tests of pieces after they are made text
 abbrev pub of_lossy : Tests → Tests

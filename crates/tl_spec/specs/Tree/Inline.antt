@@ -21,7 +21,10 @@ room = 2
 module _ {T : Type 0} where
   -- v with x as its last item; where n items are held they move to the heap, and stay there
   abbrev pub with_last : ℕ → InlineVec T → T → InlineVec T
-  with_last n v x = record { items = v.items ++ x ∷ []; on_heap = v.on_heap || (length v.items == n) }
+  with_last n v x = record {
+    items = v.items ++ x ∷ [];
+    on_heap = v.on_heap || (length v.items == n);
+  }
 
   -- v with x as the item at a place
   abbrev pub with_item : InlineVec T → ℕ → T → InlineVec T
@@ -36,7 +39,8 @@ module _ {T : Type 0} where
   without_item v i = record v { items = remove v.items i }
 
 module _ {K V : Type 0} (eq : K → K → Bool) where
-  -- m with v at k: in the place of its value, or as the last pair; where n pairs are held a new key moves them to the heap, and they stay there
+  -- m with v at k: in the place of its value, or as the last pair; where n pairs are held a new key
+  -- moves them to the heap, and they stay there
   abbrev pub with_entry : ℕ → InlineMap K V → K → V → InlineMap K V
   with_entry n m k v = record {
     entries = insert_entry eq m.entries k v;

@@ -11,7 +11,8 @@ pub fn forms_of_lines()
     ensures text { parse_changes (codes "text 1 a b") ≡ Some (Texts 1 (codes "a b") ∷ []) }
     ensures comment { parse_changes (codes "comment 2 <!-- a -->")
         ≡ Some (Comments 2 (codes "<!-- a -->") ∷ []) }
-    ensures set { parse_changes (codes "set 0 a b c") ≡ Some (Sets 0 (codes "a") (codes "b c") ∷ []) }
+    ensures set { parse_changes (codes "set 0 a b c")
+        ≡ Some (Sets 0 (codes "a") (codes "b c") ∷ []) }
     ensures flag { parse_changes (codes "flag 0 id") ≡ Some (Flags 0 (codes "id") ∷ []) }
     ensures unset { parse_changes (codes "unset 3 a b") ≡ Some (Unsets 3 (codes "a b") ∷ []) }
     ensures bare { parse_changes (codes "bare 4 a") ≡ Some (Bares 4 (codes "a") ∷ []) }

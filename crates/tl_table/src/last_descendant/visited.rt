@@ -32,7 +32,8 @@ fn end_by_visited<N: Element>(nodes: &[N], marks: &mut [bool], first: u32) -> Re
     }
 }
 
-/// The end of the way, from this number on, with these marks, none of which is set, if there was memory for them.
+/// The end of the way, from this number on, with these marks, none of which is set, if there was
+/// memory for them.
 pub fn end_with_visited<N: Element>(
     nodes: &[N],
     marks: Result<Vec<bool>, AllocError>,

@@ -49,7 +49,8 @@ fn insert_at<'a, S: Source<'a>>(
     attributes.insert(key, value)
 }
 
-/// Reads the attributes from a place on into attributes without a key, and answers the place that ends them.
+/// Reads the attributes from a place on into attributes without a key, and answers the place that
+/// ends them.
 pub(crate) fn read_attributes<'a, S: Source<'a>>(
     alloc: Global,
     source: &S,

@@ -20,7 +20,8 @@ use tl_lexer::span::Span;
 use tl_lexer::tag::{TagEnd, tag_end};
 use tl_room::arena::Arena;
 
-// Reads the attributes from a place on into a tag without any, and answers the place that ends them.
+// Reads the attributes from a place on into a tag without any, and answers the place that ends
+// them.
 fn read_into<'a, S: Source<'a>>(
     alloc: Global,
     source: &S,
@@ -45,8 +46,9 @@ fn read_into<'a, S: Source<'a>>(
     Ok(end)
 }
 
-/// Reads a start tag of this name that begins at `start` and whose attributes stand from `at` on: its tag, how it ends, and
-/// the place after it. Nothing comes of the tag where the end is broken. Its parts lie in the arena.
+/// Reads a start tag of this name that begins at `start` and whose attributes stand from `at` on:
+/// its tag, how it ends, and the place after it. Nothing comes of the tag where the end is broken.
+/// Its parts lie in the arena.
 pub(crate) fn read_start_tag<'a, S: Source<'a>>(
     alloc: Global,
     arena: Arena,

@@ -18,8 +18,9 @@ pub struct ChildrenMutOf<'b, A, B, O: SummaryOf<A>> {
 pub type ChildrenMut<'a, 'b> = ChildrenMutOf<'b, Attributes<'a>, Bytes<'a>, Summary>;
 
 impl<'b, A, B, O: SummaryOf<A>> ChildrenMutOf<'b, A, B, O> {
-    /// The handles of the children, in order. Nothing ties them to a table. A proof that needs what a write leaves calls this
-    /// and `children_mut` in a function generic in `A`, `B` and `O`, on `&mut TagOf<A, B, O>`; a caller at a lifetime calls that one.
+    /// The handles of the children, in order. Nothing ties them to a table. A proof that needs what
+    /// a write leaves calls this and `children_mut` in a function generic in `A`, `B` and `O`, on
+    /// `&mut TagOf<A, B, O>`; a caller at a lifetime calls that one.
     pub fn top_mut<'s>(&'s mut self) -> &'s mut RawChildren
         ensures* writes_back { sem 𝓛
             (LendsTopHandles A.row B.row O.row O.SummaryOf self.entry result) }
@@ -31,7 +32,8 @@ impl<'b, A, B, O: SummaryOf<A>> ChildrenMutOf<'b, A, B, O> {
 }
 
 impl<A, B, O: SummaryOf<A>> TagOf<A, B, O> {
-    /// The children for writing. What a write through them leaves is a clause of `top_mut`, which says how a proof learns it.
+    /// The children for writing. What a write through them leaves is a clause of `top_mut`, which
+    /// says how a proof learns it.
     pub fn children_mut(&mut self) -> ChildrenMutOf<'_, A, B, O>
         ensures name { lent_name result ≡ self.entry.ghost_name }
         ensures value { lent_tag result ≡ self.old }

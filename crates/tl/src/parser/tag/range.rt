@@ -44,8 +44,8 @@ fn last_of(handles: &[NodeHandle]) -> Option<InnerNodeHandle>
 }
 
 impl<'a, 'b> Children<'a, 'b> {
-    /// The number of the last of what hangs below the tag: its last child, that one's last child, and so on; None where
-    /// there is no child.
+    /// The number of the last of what hangs below the tag: its last child, that one's last child,
+    /// and so on; None where there is no child.
     pub fn end(&self, parser: &Parser<'_>) -> Result<Option<InnerNodeHandle>, TreeError>
         ensures end { Answers (λ end. end) (last_below (map node_view parser.now.nodes)
             (last_or None self.now.children.items)) result }
@@ -80,7 +80,8 @@ impl<'a, 'b> Children<'a, 'b> {
         range::range(parser.alloc(), parser.nodes(), self.start(), self.last())
     }
 
-    /// The nodes from start to end, both included: none where there is no child, or the end is below the start.
+    /// The nodes from start to end, both included: none where there is no child, or the end is
+    /// below the start.
     pub fn all<'p>(&self, parser: &'p Parser<'a>) -> Result<&'p [Node<'a>], TreeError>
         ensures all { ReadsNodes
             (range_of

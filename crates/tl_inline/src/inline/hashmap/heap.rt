@@ -22,15 +22,16 @@ use std::alloc::{AllocError, Global};
 use std::hash::Hash;
 use std::marker::Model;
 
-// Up to how many pairs a list is looked through one by one, which takes one request for memory and no hash.
+// Up to how many pairs a list is looked through one by one, which takes one request for memory and
+// no hash.
 const FEW: usize = 16;
 
 // For how many more pairs there is room as they come to the heap.
 const MORE: usize = 3;
 
-// A map that keeps the order in which its keys came: a list of few pairs, an index map of many, and a list with digests
-// of more, or of keys that are made for the index map to compare. It doesn't go back when pairs are removed. A clause sees
-// the pairs in order, with distinct keys.
+// A map that keeps the order in which its keys came: a list of few pairs, an index map of many, and
+// a list with digests of more, or of keys that are made for the index map to compare. It doesn't go
+// back when pairs are removed. A clause sees the pairs in order, with distinct keys.
 #[derive(Drop)]
 pub(super) struct HeapPairs<K: Eq + Hash, V> {
     form: HeapForm<K, V>,
@@ -116,7 +117,8 @@ impl<K: Eq + Hash, V> HeapPairs<K, V> {
 }
 
 impl<K: Default + Eq + Hash + Drop, V: Default + Drop> HeapPairs<K, V> {
-    // Takes the pairs from inline, and a new one after them. Where memory is refused it hands that back, and the others stay.
+    // Takes the pairs from inline, and a new one after them. Where memory is refused it hands that
+    // back, and the others stay.
     pub(super) fn take<const N: usize>(
         alloc: Global,
         inline: &mut ArrayVec<(K, V), N>,
@@ -196,7 +198,8 @@ impl<K: Default + Eq + Hash + Drop, V: Default + Drop> HeapPairs<K, V> {
 }
 
 impl<K: Default + Eq + Hash + Clone, V: Default + Clone> HeapPairs<K, V> {
-    // The clones lie in the form of these pairs. A clone of a key or a value must be that key or value.
+    // The clones lie in the form of these pairs. A clone of a key or a value must be that key or
+    // value.
     pub(super) fn clone(&self) -> Result<Self, AllocError>
         requires keys { ClonesAreEqual K.is_clone (keys_of self.now) }
         requires values { ClonesAreEqual V.is_clone (values_of self.now) }

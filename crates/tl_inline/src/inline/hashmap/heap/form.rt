@@ -15,14 +15,16 @@ use std::hash::{BuildHasher, Hash};
 // Up to how many pairs an index map holds them.
 const MANY: usize = 1024;
 
-// Of how many keys that came last it is counted which of them an index map compares with one another.
+// Of how many keys that came last it is counted which of them an index map compares with one
+// another.
 const RECENT: usize = 64;
 
 // Up to how many of those come to be alike by chance.
 const ALIKE: u8 = 3;
 
-// Which keys an index map compares with one another, as a number of ten bits: it compares keys that share the upper eight
-// bits of a hash of 32, if they stand near each other, which is told here by two of the lower bits.
+// Which keys an index map compares with one another, as a number of ten bits: it compares keys that
+// share the upper eight bits of a hash of 32, if they stand near each other, which is told here by
+// two of the lower bits.
 const CLASSES: usize = 1024;
 
 #[derive(Drop)]
@@ -106,8 +108,9 @@ pub(super) fn insert_many<K: Eq + Hash + Drop, V: Drop>(
     }
 }
 
-// Whether one more pair may come to the pairs of an index map. It hashes without a secret, so names can be made that it
-// compares with one another: those go where digests find a key. No clause asks what is answered.
+// Whether one more pair may come to the pairs of an index map. It hashes without a secret, so names
+// can be made that it compares with one another: those go where digests find a key. No clause asks
+// what is answered.
 pub(super) fn takes_more<K: Eq + Hash, V>(many: &IndexMap<K, V>) -> bool {
     many.len() < MANY && (many.len() % RECENT != 0 || !are_alike(many))
 }
@@ -150,7 +153,8 @@ pub(super) fn put_in_room<K: Eq + Hash + Drop, V: Drop>(many: &mut IndexMap<K, V
     }
 }
 
-// Moves the pairs to a map with room for one more. What can fail comes first, so an `Err` moves none.
+// Moves the pairs to a map with room for one more. What can fail comes first, so an `Err` moves
+// none.
 pub(super) fn map_of<K: Eq + Hash + Drop, V: Drop>(
     few: &mut Vec<(K, V)>,
 ) -> Result<IndexMap<K, V>, AllocError>

@@ -143,7 +143,8 @@ pub(super) fn note(
     }
 }
 
-// Before the pair at `at` goes and the last one takes its place: what is noted of both is set right.
+// Before the pair at `at` goes and the last one takes its place: what is noted of both is set
+// right.
 pub(super) fn note_swap<K: Hash, V>(
     places: &mut BTreeMap<(u128, u128), Place>,
     pairs: &[(K, V)],

@@ -19,7 +19,8 @@ use std::collections::BTreeMap;
 use std::hash::Hash;
 use std::marker::Model;
 
-// A list of pairs, and where its keys stand by their digests. A clause sees the pairs in order, with distinct keys.
+// A list of pairs, and where its keys stand by their digests. A clause sees the pairs in order,
+// with distinct keys.
 #[derive(Drop)]
 pub(super) struct PairTable<K: Eq + Hash, V> {
     pairs: Vec<(K, V)>,
@@ -89,7 +90,8 @@ impl<K: Eq + Hash, V> PairTable<K, V> {
 }
 
 impl<K: Eq + Hash + Drop, V: Drop> PairTable<K, V> {
-    // Takes the pairs from a map, and a new one after them. Where memory is refused it hands that back, and the others stay.
+    // Takes the pairs from a map, and a new one after them. Where memory is refused it hands that
+    // back, and the others stay.
     pub(super) fn take(many: &mut IndexMap<K, V>, key: K, value: V) -> Result<Self, (K, V)>
         requires distinct { IsDistinct K.eq (keys_of many.old.entries) }
         requires new { lookup (K.eq key) many.old.entries ≡ None }
@@ -110,7 +112,8 @@ impl<K: Eq + Hash + Drop, V: Drop> PairTable<K, V> {
         }
     }
 
-    // The digest of a new key is made once, and looked for twice: what is noted of it, and the note.
+    // The digest of a new key is made once, and looked for twice: what is noted of it, and the
+    // note.
     pub(super) fn insert(&mut self, key: K, value: V) -> Result<(), (K, V)>
         ensures ok { OnOk result (self.new ≡ insert_entry K.eq self.old key value) }
         ensures err { OnErr result (self.new ≡ self.old) }
@@ -144,7 +147,8 @@ impl<K: Eq + Hash + Drop, V: Drop> PairTable<K, V> {
 }
 
 impl<K: Eq + Hash + Clone, V: Clone> PairTable<K, V> {
-    // What is noted is copied with the pairs. A clone of a key or a value must be that key or value.
+    // What is noted is copied with the pairs. A clone of a key or a value must be that key or
+    // value.
     pub(super) fn clone(&self) -> Result<Self, AllocError>
         requires keys { ClonesAreEqual K.is_clone (keys_of self.now) }
         requires values { ClonesAreEqual V.is_clone (values_of self.now) }
@@ -158,7 +162,8 @@ impl<K: Eq + Hash + Clone, V: Clone> PairTable<K, V> {
     }
 }
 
-// Makes room for a pair whose key is new, and notes where it comes to stand. What was noted of its digest is `was`.
+// Makes room for a pair whose key is new, and notes where it comes to stand. What was noted of its
+// digest is `was`.
 fn make_room<K, V>(
     pairs: &mut Vec<(K, V)>,
     places: &mut BTreeMap<(u128, u128), Place>,
@@ -192,7 +197,8 @@ fn remove_at<K: Eq + Hash + Drop, V: Drop>(
     value
 }
 
-// Moves the pairs to a list with room for one more. What can fail comes first, so an `Err` moves none.
+// Moves the pairs to a list with room for one more. What can fail comes first, so an `Err` moves
+// none.
 fn list_of<K: Eq + Hash + Drop, V: Drop>(
     many: &mut IndexMap<K, V>,
 ) -> Result<Vec<(K, V)>, AllocError>
