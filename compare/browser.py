@@ -1,12 +1,12 @@
-"""What browsers make of pages that `tl sanitise` made safe.
+"""What browsers make of pages that `tl sanitize` made safe.
 
     ./x compare browser [--program FILE] [--runs N] [--trees N] [--seed N]
 
 The pages are those of `crates/tl_safe_tests/src/pages.rt`, which attack a browser, and N made up of pieces of such pages.
-Each is handed to Chromium as it stands and once it is sanitised: as a document in a frame, put into a live element, and put
+Each is handed to Chromium as it stands and once it is sanitized: as a document in a frame, put into a live element, and put
 there once more as the browser writes it. It says of how many pages a script ran, and of how many a link would run one.
-Of what is sanitised it says too which elements, keys and comments there are beyond the policy's lists, whether html5lib's
-tokenizer reads the tags and keys that were written, and whether sanitiser.py, written from docs/SAFE.md alone, prints the same.
+Of what is sanitized it says too which elements, keys and comments there are beyond the policy's lists, whether html5lib's
+tokenizer reads the tags and keys that were written, and whether sanitizer.py, written from docs/SAFE.md alone, prints the same.
 
 With --trees it compares instead the trees that html5lib's tree builder makes of N balanced pages with the trees that were
 written: of all names of the policy, and of those that the builder has no rule for that ends or moves another one.
@@ -27,7 +27,7 @@ from tools.programs import gate_build
 from tools.workspace import ROOT, Stop, text_of
 
 from .markup import balanced, tags_read, tags_written, tree_read, tree_written
-from .sanitiser import Policy, safe_print
+from .sanitizer import Policy, safe_print
 
 BATCH = 100
 CALL = "steal()"
@@ -84,8 +84,8 @@ def made_up(chance):
     return "".join(chance.choice(PIECES) for _ in range(chance.randint(1, 14)))
 
 
-def sanitised(program, page, words=()):
-    done = subprocess.run([program, "sanitise", *words], input=page.encode(), stdout=subprocess.PIPE, stderr=subprocess.PIPE, check=False)
+def sanitized(program, page, words=()):
+    done = subprocess.run([program, "sanitize", *words], input=page.encode(), stdout=subprocess.PIPE, stderr=subprocess.PIPE, check=False)
     if done.returncode != 0:
         raise Stop(f"{program} ended with {done.returncode}: {done.stderr.decode()}")
     return done.stdout.decode()
@@ -93,7 +93,7 @@ def sanitised(program, page, words=()):
 
 def policy(program):
     """The lists that the program takes, as it says them."""
-    return Policy(sanitised(program, "", ["--policy"]).splitlines())
+    return Policy(sanitized(program, "", ["--policy"]).splitlines())
 
 
 def chromium():
@@ -133,7 +133,7 @@ def look_at_trees(program, count, chance):
     for said, used in (("all names", names), ("all but " + " ".join(sorted(ENDED)), [it for it in names if it not in ENDED])):
         other, first = 0, None
         for _ in range(count):
-            page = sanitised(program, balanced(chance, used))
+            page = sanitized(program, balanced(chance, used))
             if tree_read(page) != tree_written(tags_written(page)):
                 other += 1
                 first = min(first or page, page, key=len)
@@ -146,11 +146,11 @@ def look_at_trees(program, count, chance):
 def look_at_pages(program, browser, pages):
     lists = policy(program)
     elements, keys = ({word.decode() for word in words} for words in (lists.tags, lists.keys))
-    prints = [sanitised(program, page) for page in pages]
+    prints = [sanitized(program, page) for page in pages]
     wrong = 0
     for page, text in zip(pages, prints):
         if text.encode() != safe_print(page.encode(), lists):
-            print(f"browser: the plain sanitiser prints another page: {page!r} is printed as {text!r}")
+            print(f"browser: the plain sanitizer prints another page: {page!r} is printed as {text!r}")
             wrong += 1
         tags = tags_written(text)
         if tags is None or tags != tags_read(text):
@@ -162,7 +162,7 @@ def look_at_pages(program, browser, pages):
         if seen["script"] or seen["link"] or seen["comments"] or beyond:
             print(f"browser: {page!r} is printed as {text!r}: {seen}")
             wrong += 1
-    for said, all_seen in (("as they stand", before), ("sanitised", after)):
+    for said, all_seen in (("as they stand", before), ("sanitized", after)):
         scripts, links = (sum(1 for seen in all_seen if seen[what]) for what in ("script", "link"))
         print(f"browser: {len(pages)} pages {said}: a script ran of {scripts}, a link would run one of {links}")
     return wrong

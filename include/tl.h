@@ -66,22 +66,22 @@ tl_status tl_edit(const uint8_t *steps, size_t steps_len,
 
 /* What can be asked of a node. */
 enum {
-    TL_ITS_NUMBER = 0, /* its number in the order of the text, from 0, in decimal */
-    TL_ITS_PRINT = 1,  /* its print */
-    TL_ITS_INSIDE = 2, /* the print of what is inside; of a text or a comment its own */
-    TL_ITS_TEXT = 3,   /* the texts at or below it */
-    TL_ITS_VALUE = 4   /* its value at the key `key`, or nothing where it has none */
+    TL_NUMBER = 0,     /* its number in the order of the text, from 0, in decimal */
+    TL_OUTER_HTML = 1, /* its print */
+    TL_INNER_HTML = 2, /* the print of what is inside; of a text or a comment its own */
+    TL_INNER_TEXT = 3, /* the texts at or below it */
+    TL_ATTRIBUTE = 4   /* its value at the key `key`, or nothing where it has none */
 };
 
 /* What is asked of each node where the selector holds, in the order of the text, with a byte 0 after each. A node that lacks the value
- * gives nothing, and no byte 0 either. `key` is read with TL_ITS_VALUE alone, but has to be UTF-8 always; its length may be 0. */
+ * gives nothing, and no byte 0 either. `key` is read with TL_ATTRIBUTE alone, but has to be UTF-8 always; its length may be 0. */
 tl_status tl_select(const uint8_t *selector, size_t selector_len,
-                    uint8_t asked, const uint8_t *key, size_t key_len,
+                    uint8_t field, const uint8_t *key, size_t key_len,
                     const uint8_t *page, size_t page_len,
                     uint8_t *out, size_t room, size_t *needed);
 
 /* What the policy for the text of a blog keeps of the page: docs/SAFE.md says what that is, and what it does not promise. */
-tl_status tl_sanitise(const uint8_t *page, size_t page_len,
+tl_status tl_sanitize(const uint8_t *page, size_t page_len,
                       uint8_t *out, size_t room, size_t *needed);
 
 /* The version, as "0.1.0". It takes no memory. */

@@ -6,7 +6,7 @@ The first of README.md, and of docs/COMMANDS.md:
   $ tl select -a href 'nav a' index.html
   /
   /about
-  $ printf '<p onclick=f()>x<script>y</script><a href="javascript:f()">z' | tl sanitise
+  $ printf '<p onclick=f()>x<script>y</script><a href="javascript:f()">z' | tl sanitize
   <p>x<a>z</a></p> (no-eol)
 
 README.md, Try it:
@@ -31,17 +31,17 @@ docs/COMMANDS.md, `tl`:
   $ tl select --json h2 x.html
   [{"attributes":{"id":"x"},"name":"h2","node":12,"text":"Title"}]
   $ printf '<p onclick="f()">x<!-- y --></p>' >comment.html
-  $ tl sanitise comment.html
+  $ tl sanitize comment.html
   <p>x</p> (no-eol)
 
 Safe pages:
 
-  $ printf '<p onclick="x()">a<script>b</script><b>c' | tl sanitise
+  $ printf '<p onclick="x()">a<script>b</script><b>c' | tl sanitize
   <p>a<b>c</b></p> (no-eol)
   $ printf '<p class=c>x <i>y</i> <a href="https://z.example">w</a></p>' >page.html
-  $ tl sanitise --tags p,b,a --keys href --links https: page.html
+  $ tl sanitize --tags p,b,a --keys href --links https: page.html
   <p>x y <a href="https://z.example">w</a></p> (no-eol)
-  $ tl sanitise --tags p --keys onclick page.html
+  $ tl sanitize --tags p --keys onclick page.html
   tl: no policy may list the key `onclick`: its value is a script (err)
   [2]
 

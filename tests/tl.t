@@ -57,11 +57,11 @@ Each command, and each option of `select`.
   3 text\x20 (esc)
   $ printf '<a>y</a>' | tl edit 'set 0 href /x y' 'name 0 b'
   <b href="/x y">y</b> (no-eol)
-  $ printf '<p onclick=f()>x<script>y</script><a href="javascript:f()">z' | tl sanitise
+  $ printf '<p onclick=f()>x<script>y</script><a href="javascript:f()">z' | tl sanitize
   <p>x<a>z</a></p> (no-eol)
-  $ printf '<p id=i title=t><i>a</i><b>c' | tl sanitise --tags p,i --keys title
+  $ printf '<p id=i title=t><i>a</i><b>c' | tl sanitize --tags p,i --keys title
   <p title="t"><i>a</i>c</p> (no-eol)
-  $ printf '<p id=u-i><a href="ftp:x" id=i><a href="/y">' | tl sanitise --keys=id,href --link-keys=href --links=/ --prefix=u-
+  $ printf '<p id=u-i><a href="ftp:x" id=i><a href="/y">' | tl sanitize --keys=id,href --link-keys=href --links=/ --prefix=u-
   <p id="u-i"><a><a href="/y"></a></a></p> (no-eol)
   $ tl print
   $ tl select --json -0 b <page
@@ -290,180 +290,182 @@ Pages made safe.
   $ printf '<i>d</i>' >./-d.html
   $ printf '<i>e</i>' >./--
   $ : >empty.html
-  $ printf '<p onclick="x()">a<script>b</script><b>c' | tl sanitise
+  $ printf '<p onclick="x()">a<script>b</script><b>c' | tl sanitize
   <p>a<b>c</b></p> (no-eol)
-  $ tl sanitise
-  $ printf '<i>x</i>' | tl sanitise -
+  $ tl sanitize
+  $ printf '<i>x</i>' | tl sanitise
   <i>x</i> (no-eol)
-  $ tl sanitise --no-name a.html b.html
+  $ printf '<i>x</i>' | tl sanitize -
+  <i>x</i> (no-eol)
+  $ tl sanitize --no-name a.html b.html
   <p>a</p><b>b</b> (no-eol)
-  $ tl sanitise a.html b.html
+  $ tl sanitize a.html b.html
   a.html:<p>a</p>
   b.html:<b>b</b>
-  $ printf '<i>x</i>' | tl sanitise --no-name a.html - b.html
+  $ printf '<i>x</i>' | tl sanitize --no-name a.html - b.html
   <p>a</p><i>x</i><b>b</b> (no-eol)
-  $ tl sanitise -- -d.html
+  $ tl sanitize -- -d.html
   <i>d</i> (no-eol)
-  $ tl sanitise --no-name a.html -- -d.html
+  $ tl sanitize --no-name a.html -- -d.html
   <p>a</p><i>d</i> (no-eol)
-  $ tl sanitise -- --
+  $ tl sanitize -- --
   <i>e</i> (no-eol)
-  $ tl sanitise empty.html
-  $ tl sanitise empty.html a.html
+  $ tl sanitize empty.html
+  $ tl sanitize empty.html a.html
   a.html:<p>a</p>
 
 Their lists.
 
-  $ printf '<p><b>a</b><i title=x class=user-y>c</i></p>' | tl sanitise --tags b,i --keys title
+  $ printf '<p><b>a</b><i title=x class=user-y>c</i></p>' | tl sanitize --tags b,i --keys title
   <b>a</b><i title="x">c</i> (no-eol)
-  $ printf '<p><b>a</b></p>' | tl sanitise --tags=b
+  $ printf '<p><b>a</b></p>' | tl sanitize --tags=b
   <b>a</b> (no-eol)
-  $ printf '<p><b>a</b></p>' | tl sanitise --tags ''
+  $ printf '<p><b>a</b></p>' | tl sanitize --tags ''
   a (no-eol)
-  $ printf '<p><b>a</b></p>' | tl sanitise --tags=
+  $ printf '<p><b>a</b></p>' | tl sanitize --tags=
   a (no-eol)
-  $ printf '<p><b>a</b></p>' | tl sanitise --tags ,p,,b,
+  $ printf '<p><b>a</b></p>' | tl sanitize --tags ,p,,b,
   <p><b>a</b></p> (no-eol)
-  $ printf '<a href="/x">a</a><a href="ftp://x">b</a>' | tl sanitise --links ftp:
+  $ printf '<a href="/x">a</a><a href="ftp://x">b</a>' | tl sanitize --links ftp:
   <a>a</a><a href="ftp://x">b</a> (no-eol)
-  $ printf '<a href="/x=y">a</a><a href="/z">b</a>' | tl sanitise --links=/x=
+  $ printf '<a href="/x=y">a</a><a href="/z">b</a>' | tl sanitize --links=/x=
   <a href="/x=y">a</a><a>b</a> (no-eol)
-  $ printf '<a href="//e">a</a><a href="/x">b</a><a href>c</a>' | tl sanitise --links //,/x
+  $ printf '<a href="//e">a</a><a href="/x">b</a><a href>c</a>' | tl sanitize --links //,/x
   <a href="//e">a</a><a href="/x">b</a><a>c</a> (no-eol)
-  $ printf '<a href="//e">a</a><a href="/x" title="<b>">b</a>' | tl sanitise
+  $ printf '<a href="//e">a</a><a href="/x" title="<b>">b</a>' | tl sanitize
   <a>a</a><a href="/x" title="&lt;b&gt;">b</a> (no-eol)
-  $ printf '<a data-x="javascript:x">a</a><a data-x="/y">b</a>' | tl sanitise --keys data-x --link-keys data-x
+  $ printf '<a data-x="javascript:x">a</a><a data-x="/y">b</a>' | tl sanitize --keys data-x --link-keys data-x
   <a>a</a><a data-x="/y">b</a> (no-eol)
-  $ printf '<p class=user-x>a</p><p class=site-x>b</p>' | tl sanitise --prefix site-
+  $ printf '<p class=user-x>a</p><p class=site-x>b</p>' | tl sanitize --prefix site-
   <p>a</p><p class="site-x">b</p> (no-eol)
-  $ tl sanitise a.html --tags b
+  $ tl sanitize a.html --tags b
   a (no-eol)
-  $ printf '<p title=t>x' | tl sanitise --tags p
+  $ printf '<p title=t>x' | tl sanitize --tags p
   <p title="t">x</p> (no-eol)
-  $ tl sanitise --tags b,i --policy
+  $ tl sanitize --tags b,i --policy
   --tags b,i
   --keys alt,cite,class,datetime,dir,height,href,id,lang,src,start,title,width
   --link-keys cite,href,src
   --links https://,http://,mailto:,/,#
   --prefix user-
-  $ tl sanitise --policy --tags b,i
+  $ tl sanitize --policy --tags b,i
   --tags b,i
   --keys alt,cite,class,datetime,dir,height,href,id,lang,src,start,title,width
   --link-keys cite,href,src
   --links https://,http://,mailto:,/,#
   --prefix user-
-  $ tl sanitise --policy a.html --tags b,i none
+  $ tl sanitize --policy a.html --tags b,i none
   --tags b,i
   --keys alt,cite,class,datetime,dir,height,href,id,lang,src,start,title,width
   --link-keys cite,href,src
   --links https://,http://,mailto:,/,#
   --prefix user-
-  $ tl sanitise --policy --tags ''
+  $ tl sanitize --policy --tags ''
   --tags
   --keys alt,cite,class,datetime,dir,height,href,id,lang,src,start,title,width
   --link-keys cite,href,src
   --links https://,http://,mailto:,/,#
   --prefix user-
-  $ tl sanitise --policy --tags script
+  $ tl sanitize --policy --tags script
   tl: no policy may list the tag `script`: what stands in it is no markup of HTML (err)
   [2]
 
 Words that no policy may list: the first one is named, and no page is made safe.
 
-  $ tl sanitise --tags b,script,form a.html
+  $ tl sanitize --tags b,script,form a.html
   tl: no policy may list the tag `script`: what stands in it is no markup of HTML (err)
   [2]
-  $ tl sanitise --tags B
+  $ tl sanitize --tags B
   tl: no policy may list the tag `B`: a name is a letter of a-z, and then letters and digits (err)
   [2]
-  $ tl sanitise --tags form
+  $ tl sanitize --tags form
   tl: no policy may list the tag `form`: it changes what is around it, or loads what is no page (err)
   [2]
-  $ tl sanitise --keys title,onclick
+  $ tl sanitize --keys title,onclick
   tl: no policy may list the key `onclick`: its value is a script (err)
   [2]
-  $ tl sanitise --keys style
+  $ tl sanitize --keys style
   tl: no policy may list the key `style`: its value is no name, text or link (err)
   [2]
-  $ tl sanitise --keys attributionsrc
+  $ tl sanitize --keys attributionsrc
   tl: no policy may list the key `attributionsrc`: its value is no name, text or link (err)
   [2]
-  $ tl sanitise --keys poster
+  $ tl sanitize --keys poster
   tl: no policy may list the key `poster`: it holds links, and is no link key (err)
   [2]
-  $ tl sanitise --links javascript:
+  $ tl sanitize --links javascript:
   tl: no policy may let links begin with `javascript:`: such links are programs or documents (err)
   [2]
-  $ tl sanitise --links http
+  $ tl sanitize --links http
   tl: no policy may let links begin with `http`: it is no scheme with its `:`, and no `/`, `#`, `?` or `.` stands first (err)
   [2]
-  $ tl sanitise --prefix 1
+  $ tl sanitize --prefix 1
   tl: no prefix of names: `1`: a prefix is a letter of a-z, and then letters and `-` (err)
   [2]
-  $ tl sanitise --prefix=
+  $ tl sanitize --prefix=
   tl: no prefix of names: ``: a prefix is a letter of a-z, and then letters and `-` (err)
   [2]
-  $ tl sanitise --prefix 1 --tags script
+  $ tl sanitize --prefix 1 --tags script
   tl: no policy may list the tag `script`: what stands in it is no markup of HTML (err)
   [2]
-  $ tl sanitise --colour
+  $ tl sanitize --colour
   error: unexpected argument '--colour' found (err)
   ...
   [2]
-  $ tl sanitise -x
+  $ tl sanitize -x
   error: unexpected argument '-x' found (err)
   ...
   [2]
-  $ tl sanitise --tags
+  $ tl sanitize --tags
   error: a value is required for '--tags <WORDS>' but none was supplied (err)
   ...
   [2]
-  $ tl sanitise --tags --keys
+  $ tl sanitize --tags --keys
   error: a value is required for '--tags <WORDS>' but none was supplied (err)
   ...
   [2]
-  $ tl sanitise --tags --
+  $ tl sanitize --tags --
   error: a value is required for '--tags <WORDS>' but none was supplied (err)
   ...
   [2]
-  $ tl sanitise --tags i --tags b
+  $ tl sanitize --tags i --tags b
   error: the argument '--tags <WORDS>' cannot be used multiple times (err)
   ...
   [2]
-  $ tl sanitise --tags=i --tags=b
+  $ tl sanitize --tags=i --tags=b
   error: the argument '--tags <WORDS>' cannot be used multiple times (err)
   ...
   [2]
-  $ tl sanitise "$(printf '\377')"
+  $ tl sanitize "$(printf '\377')"
   tl: words: no UTF-8 (err)
   [2]
 
 Pages that can't be had are passed over, and the greatest status counts.
 
-  $ printf '\377' | tl sanitise
+  $ printf '\377' | tl sanitize
   tl: -: not understood (err)
   [2]
-  $ tl sanitise --no-name a.html bytes.html b.html
+  $ tl sanitize --no-name a.html bytes.html b.html
   <p>a</p><b>b</b> (no-eol)
   tl: bytes.html: not understood (err)
   [2]
-  $ tl sanitise --no-name a.html none b.html
+  $ tl sanitize --no-name a.html none b.html
   <p>a</p><b>b</b> (no-eol)
   tl: none: read or write failed (err)
   [4]
-  $ tl sanitise none bytes.html
+  $ tl sanitize none bytes.html
   tl: none: read or write failed (err)
   tl: bytes.html: not understood (err)
   [4]
-  $ tl sanitise bytes.html none
+  $ tl sanitize bytes.html none
   tl: bytes.html: not understood (err)
   tl: none: read or write failed (err)
   [4]
-  $ printf '<i>x</i>' | tl sanitise --no-name none -
+  $ printf '<i>x</i>' | tl sanitize --no-name none -
   <i>x</i> (no-eol)
   tl: none: read or write failed (err)
   [4]
-  $ tl sanitise .
+  $ tl sanitize .
   tl: .: read or write failed (err)
   [4]
 
@@ -476,16 +478,16 @@ Help names each command and each option, and words the lists.
   print
   outline
   edit
-  sanitise
+  sanitize
   help
-  $ for command in select links text print outline edit sanitise; do tl $command --help >help && grep '^Usage: ' help; done
+  $ for command in select links text print outline edit sanitize; do tl $command --help >help && grep '^Usage: ' help; done
   Usage: tl select [OPTIONS] <SELECTOR> [FILE]...
   Usage: tl links [OPTIONS] [FILE]...
   Usage: tl text [OPTIONS] [FILE]...
   Usage: tl print [OPTIONS] [FILE]...
   Usage: tl outline [OPTIONS] [FILE]...
   Usage: tl edit [OPTIONS] <STEP>... [-- [FILE]...]
-  Usage: tl sanitise [OPTIONS] [FILE]...
+  Usage: tl sanitize [OPTIONS] [FILE]...
   $ tl select --help >help && grep -oE -e '--[a-z-]+' help | sort -u
   --attribute
   --count
@@ -497,7 +499,7 @@ Help names each command and each option, and words the lists.
   --null
   --number
   --text
-  $ tl sanitise --help >help && grep -oE -e '--[a-z-]+' help | sort -u
+  $ tl sanitize --help >help && grep -oE -e '--[a-z-]+' help | sort -u
   --help
   --keys
   --link-keys
@@ -524,7 +526,7 @@ Where nothing can be written, that is said once, and no more is read.
   $ tl --version >/dev/full
   tl: standard output: read or write failed (err)
   [4]
-  $ tl sanitise --policy >/dev/full
+  $ tl sanitize --policy >/dev/full
   tl: standard output: read or write failed (err)
   [4]
   $ printf '<p>' | tl print >/dev/full
@@ -533,7 +535,7 @@ Where nothing can be written, that is said once, and no more is read.
   $ printf '<p>' | { tl select p one - two >/dev/full; cat; }
   <p> (no-eol)
   tl: standard output: read or write failed (err)
-  $ tl sanitise a.html none >/dev/full
+  $ tl sanitize a.html none >/dev/full
   tl: standard output: read or write failed (err)
   [4]
   $ tl print one two >&-
@@ -546,11 +548,11 @@ A page longer than the memory, and pages that are long or deep.
   $ (ulimit -v 40000 && exec tl print) <long
   tl: -: out of memory (err)
   [3]
-  $ (ulimit -v 40000 && exec tl sanitise long)
+  $ (ulimit -v 40000 && exec tl sanitize long)
   tl: long: out of memory (err)
   [3]
   $ head -c 2000000 long >large
-  $ tl sanitise large | cmp - large
+  $ tl sanitize large | cmp - large
   $ (printf '<p>' && head -c 5000000 long && printf '</p>') >larger
   $ (head -c 5000000 long && echo) >text
   $ tl select -t p larger | cmp - text

@@ -1,10 +1,10 @@
-"""Calls the library for C from C, from C under sanitisers, from Rust and from Python.
+"""Calls the library for C from C, from C under sanitizers, from Rust and from Python.
 
     ./x bindings              of the library that ./x library makes
     ./x bindings --over-ci    the same right after `rt ci`, as ./x library says
     ./x bindings FOLDER       of the library and the headers in FOLDER/lib and FOLDER/include, as a release has them
 
-The callers stand in calls, and each function of the headers in include is called. What was left out, where a compiler isn't
+The callers stand in bindings, and each function of the headers in include is called. What was left out, where a compiler isn't
 there, is said at the end; without cc nothing is called.
 """
 import glob
@@ -29,7 +29,7 @@ class Callers:
 
     def run_c(self, *options):
         """Builds and runs each caller in C, with these options."""
-        for file in sorted(glob.glob(f"{ROOT}/calls/c/*.c")):
+        for file in sorted(glob.glob(f"{ROOT}/bindings/c/*.c")):
             wrapped = [f"-Wl,--wrap={it}" for it in WRAPPED.get(os.path.basename(file), ())]
             words = ["cc", *options, "-std=c11", "-Wall", "-Wextra", "-Werror", "-pedantic", "-I", self.include]
             words += ["-D", f'VERSION="{self.version}"', file, self.archive, *wrapped, "-o", f"{self.room}/calls"]
@@ -39,8 +39,8 @@ class Callers:
     def of_c(self):
         self.run_c("-O2")
 
-    def of_c_under_sanitisers(self):
-        """The same, where the compiler has sanitisers; else why not."""
+    def of_c_under_sanitizers(self):
+        """The same, where the compiler has sanitizers; else why not."""
         words = ["cc", "-xc", "-", "-fsanitize=address,undefined", "-o", f"{self.room}/calls"]
         if run(words, given=b"int main(void) { return 0; }\n").status:
             return "the compiler has none"
@@ -50,7 +50,7 @@ class Callers:
     def of_rust(self):
         if not shutil.which("cargo"):
             return "no cargo"
-        shutil.copytree(f"{ROOT}/calls/rust", f"{self.room}/rust")
+        shutil.copytree(f"{ROOT}/bindings/rust", f"{self.room}/rust")
         env = {"TL_LIB": f"{self.folder}/lib", "TL_VERSION": self.version, "CARGO_TARGET_DIR": f"{self.room}/target"}
         words = ["cargo", "test", "--offline", "--quiet", "--manifest-path", f"{self.room}/rust/Cargo.toml"]
         must(words, "the caller in Rust failed", env={**os.environ, **env})
@@ -61,7 +61,7 @@ class Callers:
         words = ["cc", "-shared", "-o", shared, "-Wl,--whole-archive", self.archive, "-Wl,--no-whole-archive"]
         must(words, "no shared library")
         env = {**os.environ, "LIBTL": shared, "TL_VERSION": self.version}
-        must(["python3", "-B", f"{ROOT}/calls/python/calls.py"], "the caller in Python failed", env=env)
+        must(["python3", "-B", f"{ROOT}/bindings/python/calls.py"], "the caller in Python failed", env=env)
 
 
 def check(folder=None, over_ci=False):
@@ -78,7 +78,7 @@ def check(folder=None, over_ci=False):
         callers = Callers(os.path.abspath(folder), room)
         if not os.path.isfile(callers.archive):
             raise Stop(f"{callers.archive} is not there")
-        languages = {"C": callers.of_c, "C under sanitisers": callers.of_c_under_sanitisers}
+        languages = {"C": callers.of_c, "C under sanitizers": callers.of_c_under_sanitizers}
         languages |= {"Rust": callers.of_rust, "Python": callers.of_python}
         missing = {name: call() for name, call in languages.items()}
     made = ", ".join(name for name, why in missing.items() if not why)

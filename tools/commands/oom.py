@@ -4,7 +4,7 @@
     ./x oom --table      counts, and writes the table anew
     ./x oom --jobs N     so many runs side by side; else one on each core, four at most
 
-The calls are those of crates/tl_refusals. The table says how many requests each call makes, and how many are made before it for
+The calls are those of crates/tl_oom. The table says how many requests each call makes, and how many are made before it for
 what it needs. There is a run for each request, in which it alone is refused and the call has to answer that, and one more for
 each call that takes all it wants: so a call that makes one request more than the table says, or one less, is named. Then the
 requests for the words of the program `tlq` are refused too. What runs is built by `rt try`, and so not proved.
@@ -59,7 +59,7 @@ def cases_of(rows):
 
 def counting_cases():
     """Cases that count: for each number one that ends right before the call, and one with the whole call."""
-    modules = re.findall(r"(?m)^ +(\d+) => \w+::call\(", text_of(f"{ROOT}/crates/tl_refusals/src/main.rt"))
+    modules = re.findall(r"(?m)^ +(\d+) => \w+::call\(", text_of(f"{ROOT}/crates/tl_oom/src/main.rt"))
     for number in range(CALLS * (max(map(int, modules)) + 1)):
         yield f"{number:04}-before", str(number)
         yield f"{number:04}-whole", f"{number} 0"
@@ -71,7 +71,7 @@ def endings(cases, jobs):
         for place, (name, given) in enumerate(cases):
             put(f"{room}/{place % jobs}/{name}", given)
         parts = [f"{room}/{it}" for it in range(jobs)]
-        outputs = list(workers.map(lambda it: try_cases("tl_refusals", REFUSED, it), parts))
+        outputs = list(workers.map(lambda it: try_cases("tl_oom", REFUSED, it), parts))
     found = {}
     for output in outputs:
         line = ""
@@ -113,7 +113,7 @@ def check_calls(jobs):
     cases = cases_of(rows)
     found, said = endings([(name, given) for name, (given, _) in cases.items()], jobs)
     if not found:
-        raise Stop(f"the program of crates/tl_refusals did not run:\n{said}")
+        raise Stop(f"the program of crates/tl_oom did not run:\n{said}")
     wrong = []
     for name, (_, expected) in cases.items():
         if found.get(name) != expected:

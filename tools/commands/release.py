@@ -25,7 +25,7 @@ from . import bindings, library, runs
 # The programs that are packed.
 PROGRAMS = ("tl", "tlq")
 # What a program prints of a page, with the words that it takes.
-ALONE = (("tl", "print"), ("tl", "sanitise"), ("tlq", "print"))
+ALONE = (("tl", "print"), ("tl", "sanitize"), ("tlq", "print"))
 PAGE, PRINT = b"<p>a<b>c", b"<p>a<b>c</b></p>"
 
 

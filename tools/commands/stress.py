@@ -4,7 +4,7 @@
 
 Five parts, each with a stack of 8 MB:
 
-- Cuts: broken pages of crates/tl_hostile, each text in the tests and in the runs with memory refused, and ten thousand open tags,
+- Cuts: broken pages of crates/tl_stress, each text in the tests and in the runs with memory refused, and ten thousand open tags,
   cut at each character boundary. What is read fits its text, borrowed or kept, and the print of a clean document is read as it
   stands.
 - Depth: tables of some more than 1,000,000 tags, nested, side by side or falling, selectors of as many parts, and as many
@@ -40,7 +40,7 @@ TEXTS = 500
 MEETING_BOUND = 3
 COMMANDS = (["again"], ["text"], ["select", "a b, p > a.k, [b]#i"], ["class", "k"], ["id", "i"])
 # Commands of `tl` that walk a page.
-WALKS = (["sanitise"], ["select", "-t", "i"], ["text", "-w"], ["links"], ["outline"])
+WALKS = (["sanitize"], ["select", "-t", "i"], ["text", "-w"], ["links"], ["outline"])
 
 
 def cut(program, name, word, given=(), limit=100):
@@ -141,7 +141,7 @@ def limited_stack():
 
 def check(program=None, tlq=None, tl=None, sizes=(1000000, 4000000), jobs=None, lists=False):
     """Looks at all parts; a Stop says what is wrong."""
-    program, tlq, tl = (it or programs.proved_build(name) for it, name in ((program, "tl_hostile"), (tlq, "tlq"), (tl, "tl")))
+    program, tlq, tl = (it or programs.proved_build(name) for it, name in ((program, "tl_stress"), (tlq, "tlq"), (tl, "tl")))
     workers = ThreadPoolExecutor(jobs or min(4, cores()))
     with limited_stack():
         try:

@@ -22,7 +22,7 @@ from ..wants.source import Source
 from ..workspace import ROOT, Workspace, text_of
 
 # Crates that are not built to be used.
-OTHERS = re.compile(r".*_tests|tl_(refusals|hostile|bench)")
+OTHERS = re.compile(r".*_tests|tl_(oom|stress|bench)")
 ALLOWED = "tools/wants/allowed.list"
 
 

@@ -1,4 +1,5 @@
-//! Maps of keys that feed nothing to a hasher, so that none can be told from another but by a comparison.
+//! Maps of keys that feed nothing to a hasher, so that none can be told from another but by a
+//! comparison.
 ghost use Rattle.std.specs.Prelude.{refl, []};
 
 use std::hash::{Hash, Hasher};

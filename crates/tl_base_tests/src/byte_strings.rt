@@ -251,7 +251,8 @@ fn prints(alloc: Global, bytes: &Bytes<'_>, text: &str) -> Result<bool, AllocErr
     Ok(print.as_str() == text)
 }
 
-// Whether bytes that are no text are read with a mark in the place of what is wrong, and print as numbers.
+// Whether bytes that are no text are read with a mark in the place of what is wrong, and print as
+// numbers.
 fn reads_broken(alloc: Global) -> Result<bool, AllocError> {
     let broken = Bytes::from(b"a\xC3".as_slice());
     Ok(

@@ -15,7 +15,8 @@ enum Room {
     Four,
 }
 
-// A call on a vector, with what it must answer, or what the vector must hold and whether on the heap.
+// A call on a vector, with what it must answer, or what the vector must hold and whether on the
+// heap.
 enum VecStep {
     Push(u8),
     // Refused, it hands the item back and leaves these items inline; else these lie on the heap.

@@ -14,7 +14,8 @@ fn said(value: &[u8], other: &[u8]) -> (bool, bool, bool, bool, bool) {
 
 const NONE: (bool, bool, bool, bool, bool) = (false, false, false, false, false);
 
-// Values, what is sought, and whether it is the same, stands at the front, at the end, anywhere, and as a word.
+// Values, what is sought, and whether it is the same, stands at the front, at the end, anywhere,
+// and as a word.
 const ROWS: &[(&[u8], &[u8], (bool, bool, bool, bool, bool))] = &[
     (b"", b"", (true, true, true, true, false)),
     (b"x", b"", (false, true, true, true, false)),

@@ -1,4 +1,5 @@
-//! Byte searches: known answers, and each search against its plain form at every length up to some blocks.
+//! Byte searches: known answers, and each search against its plain form at every length up to some
+//! blocks.
 use tl_base::simd::{
     fallback, find, find_multi, find4, is_closing, matches_case_insensitive, search_non_ident,
     search_non_name,

@@ -41,7 +41,8 @@ fn options(rt: HostRuntime) -> Result<(), Fail> {
 
 type Tracking = TrackingOf<Bytes<'static>>;
 
-// The notes of `<p id=x class="k k"></p><p id=x class="m"></p>a<p class="k m"></p>`, whose tags are 0, 1 and 3.
+// The notes of `<p id=x class="k k"></p><p id=x class="m"></p>a<p class="k m"></p>`, whose tags are
+// 0, 1 and 3.
 #[rattlefmt::skip]
 static CLASSES: [(&str, u32); 5] = [("k", 0), ("k", 0), ("m", 1), ("k", 3), ("m", 3)];
 

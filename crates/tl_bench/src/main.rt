@@ -1,5 +1,6 @@
-//! Times the library on a page: `WORD TEXT FILE TIMES` reads the file's page and does what the word says, so many times,
-//! and prints the least time of reading, of that work and of the document's drop, in nanoseconds.
+//! Times the library on a page: `WORD TEXT FILE TIMES` reads the file's page and does what the word
+//! says, so many times, and prints the least time of reading, of that work and of the document's
+//! drop, in nanoseconds.
 //!
 //! | Word | Work | The answer, a number that depends on it |
 //! |---|---|---|
@@ -14,14 +15,14 @@
 //! | `class`, `class_scan` | the tags with the class TEXT, with tracked classes and without | how many |
 #![tactic(auto)]
 
-mod failed;
+mod failure;
 mod times;
 mod work;
 
-use failed::Failed;
+use failure::Failed;
 use std::process::ExitCode;
 use std::{env, fs};
-use times::{Times, timed};
+use times::{Times, least_times};
 use work::work_of;
 
 fn main(rt: HostRuntime) -> ExitCode {
@@ -35,7 +36,7 @@ fn main(rt: HostRuntime) -> ExitCode {
 }
 
 // The words after the program's name.
-fn words(rt: &HostRuntime) -> Result<Vec<String>, Failed> {
+fn arguments(rt: &HostRuntime) -> Result<Vec<String>, Failed> {
     let mut words = Vec::new(rt.alloc());
     for word in env::args(rt)?.skip(1) {
         if words.push(word).is_err() {
@@ -47,7 +48,7 @@ fn words(rt: &HostRuntime) -> Result<Vec<String>, Failed> {
 
 // Does what the words say, and prints the times.
 fn bench(rt: &HostRuntime) -> Result<(), Failed> {
-    let words = words(rt)?;
+    let words = arguments(rt)?;
     let [word, text, file, times] = words.as_slice() else {
         return Err(Failed::NotUnderstood);
     };
@@ -58,7 +59,7 @@ fn bench(rt: &HostRuntime) -> Result<(), Failed> {
         return Err(Failed::NotUnderstood);
     };
     let page = fs::read_to_string(rt, file.as_str())?;
-    let best = timed(rt, page.as_str(), &work, times)?;
+    let best = least_times(rt, page.as_str(), &work, times)?;
     print(rt, page.len(), &best)
 }
 

@@ -1,5 +1,5 @@
 //! The least times of some runs.
-use crate::failed::Failed;
+use crate::failure::Failed;
 use crate::work::Work;
 use std::mem;
 use std::time::{Duration, Instant};
@@ -32,7 +32,7 @@ fn once(rt: &HostRuntime, page: &str, work: &Work<'_>) -> Result<Times, Failed> 
     let mut document = tl::parse(rt.alloc(), page, work.options())?;
     let read = start.elapsed(rt)?;
     let start = Instant::now(rt)?;
-    let answer = work.done(rt.alloc(), &mut document)?;
+    let answer = work.run(rt.alloc(), &mut document)?;
     let done = start.elapsed(rt)?;
     let start = Instant::now(rt)?;
     mem::drop(document);
@@ -72,7 +72,12 @@ fn run(rt: &HostRuntime, page: &str, work: &Work<'_>) -> Result<Times, Failed> {
 }
 
 /// The least times of so many runs, and of one at least.
-pub fn timed(rt: &HostRuntime, page: &str, work: &Work<'_>, times: u32) -> Result<Times, Failed> {
+pub fn least_times(
+    rt: &HostRuntime,
+    page: &str,
+    work: &Work<'_>,
+    times: u32,
+) -> Result<Times, Failed> {
     let mut best = run(rt, page, work)?;
     for _ in 1..times {
         best = best.and_then(run(rt, page, work)?);

@@ -1,5 +1,5 @@
 //! What is timed, and how it is done.
-use crate::failed::Failed;
+use crate::failure::Failed;
 use std::alloc::{AllocError, Global};
 use tl::errors::TreeError;
 use tl::{Bytes, ParserOptions, VDom};
@@ -20,7 +20,7 @@ pub enum Work<'w> {
 }
 
 // The work of a word that needs no text.
-fn of_word<'w>(word: &str) -> Option<Work<'w>> {
+fn plain_work<'w>(word: &str) -> Option<Work<'w>> {
     match word {
         "parse" => Some(Work::Read),
         "parse_owned" => Some(Work::ReadOwned),
@@ -32,7 +32,7 @@ fn of_word<'w>(word: &str) -> Option<Work<'w>> {
 }
 
 // The work of a word that asks for what a text names.
-fn of_name<'w>(word: &str, name: &'w str) -> Option<Work<'w>> {
+fn named_work<'w>(word: &str, name: &'w str) -> Option<Work<'w>> {
     let options = ParserOptions::new();
     match word {
         "select" => Some(Work::Select(name)),
@@ -53,9 +53,9 @@ pub fn work_of<'w>(
     if word == "edit" {
         return Ok(steps(alloc, text)?.map(Work::Edit));
     }
-    match of_word(word) {
+    match plain_work(word) {
         Some(work) => Ok(Some(work)),
-        None => Ok(of_name(word, text)),
+        None => Ok(named_work(word, text)),
     }
 }
 
@@ -79,7 +79,7 @@ fn again_len(alloc: Global, document: &VDom<'_>) -> Result<usize, Failed> {
 }
 
 // How many nodes a selector finds.
-fn selected(alloc: Global, document: &VDom<'_>, selector: &str) -> Result<usize, TreeError> {
+fn count_selected(alloc: Global, document: &VDom<'_>, selector: &str) -> Result<usize, TreeError> {
     let Some(found) = document.query_selector(alloc, selector)? else {
         return Ok(0);
     };
@@ -91,7 +91,7 @@ fn selected(alloc: Global, document: &VDom<'_>, selector: &str) -> Result<usize,
 }
 
 // How many tags have a class.
-fn in_class(document: &VDom<'_>, member: &str) -> usize {
+fn count_class(document: &VDom<'_>, member: &str) -> usize {
     let mut count = 0usize;
     for _ in document.get_elements_by_class_name(member) {
         count = count.wrapping_add(1);
@@ -100,7 +100,11 @@ fn in_class(document: &VDom<'_>, member: &str) -> usize {
 }
 
 // How many nodes the document has after the steps.
-fn edited(alloc: Global, document: &mut VDom<'_>, steps: &[Step<'_>]) -> Result<usize, Failed> {
+fn edit_and_count(
+    alloc: Global,
+    document: &mut VDom<'_>,
+    steps: &[Step<'_>],
+) -> Result<usize, Failed> {
     if run(alloc, document, steps).is_err() {
         return Err(Failed::Refused);
     }
@@ -117,19 +121,19 @@ impl Work<'_> {
     }
 
     /// Does it once, and answers a number that depends on all that it gives.
-    pub fn done(&self, alloc: Global, document: &mut VDom<'_>) -> Result<usize, Failed> {
+    pub fn run(&self, alloc: Global, document: &mut VDom<'_>) -> Result<usize, Failed> {
         match self {
             Work::Read | Work::ReadOwned => Ok(document.nodes().len()),
             Work::Print => Ok(document.outer_html(alloc)?.len()),
             Work::Text => Ok(text_len(alloc, document)?),
             Work::Again => again_len(alloc, document),
-            Work::Edit(steps) => edited(alloc, document, steps),
-            Work::Select(selector) => Ok(selected(alloc, document, selector)?),
+            Work::Edit(steps) => edit_and_count(alloc, document, steps),
+            Work::Select(selector) => Ok(count_selected(alloc, document, selector)?),
             Work::Id(id, _) => match document.get_element_by_id(Bytes::from(*id)) {
                 Some(handle) => Ok(handle.get_inner() as usize),
                 None => Ok(0),
             },
-            Work::Class(member, _) => Ok(in_class(document, member)),
+            Work::Class(member, _) => Ok(count_class(document, member)),
         }
     }
 }

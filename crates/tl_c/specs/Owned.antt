@@ -6,17 +6,17 @@ use denote.RawPtr.{Ptr, null_ptr}
 use Rattle.std.specs.declared.alloc.Global.{Global}
 use Rattle.std.specs.contracts.impls.GlobalAllocator.TheImpl.{ghosts}
 use Rattle.std.specs.Box.Ownership.{box_owns}
-use Rattle.tl_c.specs.declared.parsed.Parsed.{Parsed}
-use Rattle.tl_c.specs.contracts.parsed.Parsed.{the_row}
+use Rattle.tl_c.specs.declared.parsed_page.ParsedPage.{ParsedPage}
+use Rattle.tl_c.specs.contracts.parsed_page.ParsedPage.{the_row}
 
-abbrev pub parsed_code : Coded Parsed
+abbrev pub parsed_code : Coded ParsedPage
 parsed_code = the_row.coded
 
 -- a page that was read, on the heap at p, and the right to give its memory back
-abbrev pub boxed : Global → Ptr → Parsed → Fml
+abbrev pub boxed : Global → Ptr → ParsedPage → Fml
 boxed a = box_owns (ghosts.dealloc_token a) the_row
 
 -- such a page, or nothing at null
-abbrev pub owned_at : Global → Ptr → Option Parsed → Fml
+abbrev pub owned_at : Global → Ptr → Option ParsedPage → Fml
 owned_at a p None = fex (p ≡ null_ptr) (λ _. ftrue)
 owned_at a p (Some x) = boxed a p x

@@ -3,7 +3,7 @@ use Rattle.std.specs.Prelude.{◌≡◌, ◌≢◌, ◌<◌, ◌⊎◌, ℕ, Boo
 use Rattle.tl_spec.specs.Tree.Document.{Document}
 use Rattle.tl.specs.View.{document_of}
 use Rattle.tl_page.specs.Outcome.{Outcome, not_understood, status_of, success, written_of}
-use Rattle.tl_c.specs.declared.parsed.Parsed.{Parsed}
+use Rattle.tl_c.specs.declared.parsed_page.ParsedPage.{ParsedPage}
 
 -- more items than there is room for
 abbrev pub is_too_long : {X : Type 0} → List X → List X → Bool
@@ -18,9 +18,10 @@ abbrev pub room_with : {X : Type 0} → List X → List X → List X
 room_with items room =
     if is_too_long items room then room else items ++ drop (length items) room
 
--- An outcome is put into room (old, and new after the call), or memory ran out, which is 3. All else
--- is determined: what has no items leaves the room as it was.
-pub record Puts {X : Type 0} (outcome : Outcome (List X)) (old new : List X) (needed status : ℕ) : Type 0 where
+-- An outcome is put into room (old, and new after the call), or memory ran out, which is 3. All
+-- else is determined: what has no items leaves the room as it was.
+pub record Puts {X : Type 0} (outcome : Outcome (List X)) (old new : List X)
+    (needed status : ℕ) : Type 0 where
   pub answered : status ≢ 3 → status ≡ status_in old outcome
   pub counted : status ≢ 3 → needed ≡ length (written_of outcome)
   pub filled : status ≢ 3 → new ≡ room_with (written_of outcome) old
@@ -29,7 +30,7 @@ pub record Puts {X : Type 0} (outcome : Outcome (List X)) (old new : List X) (ne
 
 -- A page is read into a document (what it held, and what it holds after the call): the status, and
 -- the document.
-pub record Reads (read : Outcome Document) (old new : Option Parsed) (status : ℕ) : Type 0 where
+pub record Reads (read : Outcome Document) (old new : Option ParsedPage) (status : ℕ) : Type 0 where
   pub range : (status ≡ 0) ⊎ (status ≡ 2) ⊎ (status ≡ 3)
   -- 0: it holds the document of the page
   pub is_read : status ≡ 0 → IsSomeAnd new (λ parsed. read ≡ success (document_of parsed.document))

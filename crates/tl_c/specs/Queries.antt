@@ -9,7 +9,7 @@ use Rattle.tl_spec.specs.Print.Text.{inner_text}
 use Rattle.tl.specs.Query.{matches_in}
 use Rattle.tl.specs.View.{document_of}
 use Rattle.tl_page.specs.Outcome.{Outcome, not_understood, outcome_of, refused, success}
-use Rattle.tl_c.specs.declared.parsed.Parsed.{Parsed}
+use Rattle.tl_c.specs.declared.parsed_page.ParsedPage.{ParsedPage}
 
 -- what is made of a value; where there is none, that is refused
 abbrev pub outcome_of_some : {A X : Type 0} → (A → Outcome X) → Option A → Outcome X
@@ -18,25 +18,27 @@ outcome_of_some make value = option_map_or make value refused
 -- the numbers of the nodes where a selector holds, by what its text stands for
 abbrev pub numbers_by : List ℕ → Option Selector → Document → Outcome (List ℕ)
 numbers_by text selector d =
-    if is_utf8 text then outcome_of_some (λ e. success (matches_in d e)) selector else not_understood
+    if is_utf8 text then outcome_of_some (λ e. success (matches_in d e)) selector
+    else not_understood
 
-abbrev pub numbers_in : List ℕ → Option Selector → Option Parsed → Outcome (List ℕ)
+abbrev pub numbers_in : List ℕ → Option Selector → Option ParsedPage → Outcome (List ℕ)
 numbers_in text selector held =
     outcome_of_some (λ p. numbers_by text selector (document_of p.document)) held
 
 -- the node of a number
-abbrev pub node_in : ℕ → Option Parsed → Option Node
+abbrev pub node_in : ℕ → Option ParsedPage → Option Node
 node_in number None = None
 node_in number (Some p) = slice_get (document_of p.document).nodes number
 
 -- the value at a key of the node of a number, if it has one
-abbrev pub value_in : ℕ → List ℕ → Option Parsed → Option (List ℕ)
-value_in number key held = option_flatten (option_map_or (attribute_of key) (node_in number held) None)
+abbrev pub value_in : ℕ → List ℕ → Option ParsedPage → Option (List ℕ)
+value_in number key held =
+    option_flatten (option_map_or (attribute_of key) (node_in number held) None)
 
 -- the texts at or below the node of a number
 abbrev pub text_of_node : ℕ → Document → Outcome (List ℕ)
 text_of_node number d =
     outcome_of_some (λ node. outcome_of (inner_text d.nodes node)) (slice_get d.nodes number)
 
-abbrev pub text_in : ℕ → Option Parsed → Outcome (List ℕ)
+abbrev pub text_in : ℕ → Option ParsedPage → Outcome (List ℕ)
 text_in number held = outcome_of_some (λ p. text_of_node number (document_of p.document)) held

@@ -1,13 +1,14 @@
-//! Calls for C over what the caller lends: `include/tl.h` says what each does, and what a caller owes.
+//! Calls for C over what the caller lends: `include/tl.h` says what each does, and what a caller
+//! owes.
 #![tactic(auto)]
 
-mod calls;
+mod copy_out;
 mod document;
-mod documents;
-mod loose;
+mod document_calls;
 mod page;
-mod parsed;
-mod put;
+mod page_calls;
+mod parsed_page;
 mod query;
+mod raw_box;
 mod selection;
 mod text;

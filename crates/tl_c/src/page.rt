@@ -4,21 +4,21 @@ ghost use Rattle.tl_spec.specs.Print.Normal.{norm};
 ghost use Rattle.tl.specs.View.{document_of};
 ghost use Rattle.tl_html_spec.specs.HtmlTokenizer.{tokens_in_page};
 ghost use Rattle.tl_safe.specs.IsSafe.{IsSafe, tokens_of};
-ghost use Rattle.tl_safe.specs.Kept.{kept, trees_of};
-ghost use Rattle.tl_safe.specs.Lists.{page_lists};
+ghost use Rattle.tl_safe.specs.Filter.{kept, trees_of};
+ghost use Rattle.tl_safe.specs.Lists.{blog_lists};
 ghost use Rattle.tl_page.specs.Outcome.{Gives, not_understood};
 ghost use Rattle.tl_page.specs.Page.{document_in};
 ghost use Rattle.tl_page.specs.declared.failure.Failure.TheVariants.{NotUnderstood};
 ghost use Rattle.tl_c.specs.Pages.{edited_page, safe_page};
 
-use crate::parsed::Parsed;
+use crate::parsed_page::ParsedPage;
 use crate::text::text_of;
 use std::alloc::{AllocError, Global};
 use tl::{ParserOptions, parse_owned};
 use tl_page::{Failure, text};
 use tl_program::program::{Command, output};
 use tl_program::script::steps;
-use tl_safe::{Policy, sanitised};
+use tl_safe::{Policy, sanitize};
 
 /// The print of a page after the steps that lines say. Lines that say none are not understood.
 pub(crate) fn edit(alloc: Global, lines: &[u8], page: &[u8]) -> Result<String, Failure>
@@ -31,22 +31,22 @@ pub(crate) fn edit(alloc: Global, lines: &[u8], page: &[u8]) -> Result<String, F
 }
 
 /// What the policy for the text of a blog keeps of a page, printed.
-pub(crate) fn safe(alloc: Global, page: &[u8]) -> Result<String, Failure>
+pub(crate) fn safe_page(alloc: Global, page: &[u8]) -> Result<String, Failure>
     ensures gives { Gives string_bytes (safe_page page.now) result }
     ensures no_text { ¬ (IsUtf8 page.now) → result ≡ Err NotUnderstood }
     ensures long { u32.MAX < length page.now → result ≡ Err NotUnderstood }
 
-    // As `sanitised` says of a text.
-    ensures form { IfOk result (λ safe. IsSafe page_lists (string_bytes safe)) }
+    // As `sanitize` says of a text.
+    ensures form { IfOk result (λ safe. IsSafe blog_lists (string_bytes safe)) }
     ensures standard { IfOk result (λ safe. tokens_in_page (string_bytes safe)
-        ≡ tokens_of (norm (kept page_lists (trees_of page.now)))) }
+        ≡ tokens_of (norm (kept blog_lists (trees_of page.now)))) }
 {
     let text = text(page)?;
-    Ok(sanitised(alloc, &Policy::page(), text)?)
+    Ok(sanitize(alloc, &Policy::blog(), text)?)
 }
 
 /// The document of a copy of a page.
-pub(crate) fn parse(alloc: Global, page: &[u8]) -> Result<Box<Parsed>, Failure>
+pub(crate) fn parse(alloc: Global, page: &[u8]) -> Result<Box<ParsedPage>, Failure>
     ensures gives { Gives (λ own. document_of own.value.document) (document_in page.now) result }
 
     // What is no page is said to be none before the memory of the copy.
@@ -54,5 +54,5 @@ pub(crate) fn parse(alloc: Global, page: &[u8]) -> Result<Box<Parsed>, Failure>
 {
     let copy = String::from_str(alloc, text(page)?)?;
     let document = parse_owned(alloc, copy, ParserOptions::new())?;
-    Ok(Box::new(alloc, Parsed { document }).map_err(AllocError::from)?)
+    Ok(Box::new(alloc, ParsedPage { document }).map_err(AllocError::from)?)
 }

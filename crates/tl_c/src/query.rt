@@ -8,7 +8,7 @@ ghost use Rattle.tl_page.specs.declared.failure.Failure.TheVariants.{NotUndersto
 ghost use Rattle.tl_extract.specs.Field.{IsNoSelector};
 ghost use Rattle.tl_c.specs.Queries.{node_in, numbers_in, text_in, text_of_node, value_in};
 
-use crate::parsed::Parsed;
+use crate::parsed_page::ParsedPage;
 use crate::text::text_of;
 use std::alloc::{AllocError, Global};
 use tl::queryselector::QuerySelectorIterator;
@@ -29,7 +29,7 @@ fn numbers(alloc: Global, found: QuerySelectorIterator<'_, '_>) -> Result<Vec<u3
 /// The numbers of the nodes where a selector holds.
 pub(crate) fn find(
     alloc: Global,
-    held: &Option<Box<Parsed>>,
+    held: &Option<Box<ParsedPage>>,
     selector: &[u8],
 ) -> Result<Vec<u32>, Failure>
     ensures finds { let parsed = option_map (λ own. own.value) held.now in
@@ -58,7 +58,11 @@ pub(crate) fn find(
 }
 
 /// The value at a key of a node.
-pub(crate) fn value<'h>(held: &'h Option<Box<Parsed>>, node: u32, key: &[u8]) -> Option<&'h [u8]>
+pub(crate) fn value<'h>(
+    held: &'h Option<Box<ParsedPage>>,
+    node: u32,
+    key: &[u8],
+) -> Option<&'h [u8]>
     ensures { let parsed = option_map (λ own. own.value) held.now in
         option_copied result ≡ value_in node key.now parsed }
 {
@@ -89,7 +93,11 @@ fn text_of_node(alloc: Global, document: &VDom<'_>, node: NodeHandle) -> Result<
 }
 
 /// The texts at or below a node.
-pub(crate) fn text(alloc: Global, held: &Option<Box<Parsed>>, node: u32) -> Result<Vec<u8>, Failure>
+pub(crate) fn text(
+    alloc: Global,
+    held: &Option<Box<ParsedPage>>,
+    node: u32,
+) -> Result<Vec<u8>, Failure>
     ensures gives { let parsed = option_map (λ own. own.value) held.now in
         Gives (λ text. text.items) (text_in node parsed) result }
     ensures no_node { node_in node (option_map (λ own. own.value) held.now) ≡ None

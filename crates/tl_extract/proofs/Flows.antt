@@ -16,8 +16,8 @@ use Rattle.tl.specs.Walker.{event_view}
 use Rattle.tl.specs.declared.walk.WalkEvent.{WalkEvent}
 use Rattle.tl.specs.declared.walk.WalkEvent.TheVariants.{Meets, Leaves}
 use Rattle.tl.proofs.Remaining.{IsEntered, entered-step, fewer-step, next_at, next_same, place-skipped}
-use Rattle.tl_extract.specs.Flow.{after_event, after_name, event_flow, fault_around, fault_left, flow_around, flow_left, meets_hidden}
-use Rattle.tl_extract.specs.Readable.{edge, flow, is_hidden, readable, readable_of, shown_fault, spaced}
+use Rattle.tl_extract.specs.Flow.{after_event, after_name, event_flow, fault_around, remaining_fault, flow_around, remaining_flow, meets_hidden}
+use Rattle.tl_extract.specs.Readable.{edge, flow, is_hidden, readable, readable_of, visible_fault, spaced_byte}
 
 or_else_assoc : (a b c : Option TreeFault) → earlier_fault (earlier_fault a b) c ≡ earlier_fault a (earlier_fault b c)
 or_else_assoc None b c = refl
@@ -31,14 +31,14 @@ tag_flow edge inside more later =
 
 -- what an event adds, and what is left then, is all that is left
 pub record Goes (before : Remaining) (e : Event) (after : Remaining) : Type 0 where
-  pub flow : flow_left before ≡ event_flow e ++ flow_left after
-  pub fault : fault_left before ≡ fault_left after
+  pub flow : remaining_flow before ≡ event_flow e ++ remaining_flow after
+  pub fault : remaining_fault before ≡ remaining_fault after
 
 -- nothing changes but for a fault, which is the first
 abbrev Adds : Remaining → Event → Remaining → Type 0
 Adds before (meets h node) after = Goes before (meets h node) (after_event (meets h node) after)
 Adds before (leaves own) after = Goes before (leaves own) (after_event (leaves own) after)
-Adds before (faulty fault) after = fault_left before ≡ Some fault
+Adds before (faulty fault) after = remaining_fault before ≡ Some fault
 
 adds_at : (r : Remaining) (f e : Event) (left after : Remaining) → next_at f left ≡ next_at e after → Adds r f left → Adds r e after
 adds_at r f e left after s a =
@@ -52,12 +52,12 @@ adds-out (tag ∷ outer) e after s =
     (record { flow = refl; fault = refl })
 
 tag_case : (b : Bool) (ends inside more later : List ℕ) (left : Remaining) → flow (trees left.inside) ≡ inside → flow_around left.around ≡ (if b then [] else ends) ++ (more ++ later)
-    → ((if b then [] else ends ++ (inside ++ ends)) ++ more) ++ later ≡ (if b then [] else ends) ++ flow_left (if b then record left { inside = end } else left)
+    → ((if b then [] else ends ++ (inside ++ ends)) ++ more) ++ later ≡ (if b then [] else ends) ++ remaining_flow (if b then record left { inside = end } else left)
 tag_case true ends inside more later left e f = sym f
 tag_case false ends inside more later left e f = tag_flow ends inside more later ∙ (λ i. ends ++ (sym e i ++ sym f i))
 
-fault_case : (b : Bool) (inside more later : Option TreeFault) (left : Remaining) → shown_fault left.inside ≡ inside → fault_around left.around ≡ earlier_fault more later
-    → earlier_fault (earlier_fault (if b then None else inside) more) later ≡ fault_left (if b then record left { inside = end } else left)
+fault_case : (b : Bool) (inside more later : Option TreeFault) (left : Remaining) → visible_fault left.inside ≡ inside → fault_around left.around ≡ earlier_fault more later
+    → earlier_fault (earlier_fault (if b then None else inside) more) later ≡ remaining_fault (if b then record left { inside = end } else left)
 fault_case true inside more later left e f = sym f
 fault_case false inside more later left e f = or_else_assoc inside more later ∙ (λ i. earlier_fault (sym e i) (sym f i))
 
@@ -67,14 +67,14 @@ adds-tag h own children more outer =
     let left : Remaining = record { inside = children; around = record { own = own; more = more } ∷ outer } in
     record {
       flow = tag_case (is_hidden own.name) (edge own.name) (flow (trees children)) (flow (trees more)) (flow_around outer) left refl refl;
-      fault = fault_case (is_hidden own.name) (shown_fault children) (shown_fault more) (fault_around outer) left refl refl;
+      fault = fault_case (is_hidden own.name) (visible_fault children) (visible_fault more) (fault_around outer) left refl refl;
     }
 
 adds-in : (outer : List Around) (w : Walk) (e : Event) (after : Remaining) → Enters all_tags w → step_in outer w ≡ Some (e, after) → Adds (record { inside = w; around = outer }) e after
 adds-in outer end e after enters s = adds-out outer e after s
 adds-in outer (meets_text h bytes more) e after enters s =
     adds_at (record { inside = meets_text h bytes more; around = outer }) (meets h (Raw bytes)) e (record { inside = more; around = outer }) after s
-    (record { flow = append_assoc (map spaced bytes) (flow (trees more)) (flow_around outer); fault = refl })
+    (record { flow = append_assoc (map spaced_byte bytes) (flow (trees more)) (flow_around outer); fault = refl })
 adds-in outer (meets_comment h bytes more) e after enters s =
     adds_at (record { inside = meets_comment h bytes more; around = outer }) (meets h (Comment bytes)) e (record { inside = more; around = outer }) after s
     (record { flow = refl; fault = refl })
@@ -121,10 +121,10 @@ fewer-after r e after s =
     omega arith
 
 -- at the end nothing is left
-pub over-step : (r : Remaining) → step r ≡ None → (flow_left r ≡ []) × (fault_left r ≡ None)
+pub over-step : (r : Remaining) → step r ≡ None → (remaining_flow r ≡ []) × (remaining_fault r ≡ None)
 over-step r s = over r.inside r.around s
   where
-    over : (w : Walk) (outer : List Around) → step_in outer w ≡ None → (flow_left (record { inside = w; around = outer }) ≡ []) × (fault_left (record { inside = w; around = outer }) ≡ None)
+    over : (w : Walk) (outer : List Around) → step_in outer w ≡ None → (remaining_flow (record { inside = w; around = outer }) ≡ []) × (remaining_fault (record { inside = w; around = outer }) ≡ None)
     over end [] s = (refl, refl)
     over end (tag ∷ outer) s = absurd (cc)
     over (meets_text h bytes more) outer s = absurd (cc)
@@ -135,12 +135,12 @@ over-step r s = over r.inside r.around s
 
 -- an error says the first fault
 module _ {A : Type 0} (x : A) (r : Remaining) (enters : IsEntered r) where
-  refused-at : (fault : TreeFault) (o : Option (Event × Remaining)) → step r ≡ o → FailsAt o (error_of fault) → result_err (fault_or (fault_left r) x) ≡ Some fault
+  refused-at : (fault : TreeFault) (o : Option (Event × Remaining)) → step r ≡ o → FailsAt o (error_of fault) → result_err (fault_or (remaining_fault r) x) ≡ Some fault
   refused-at fault None s fails = absurd fails
   refused-at (Dangling h) (Some next) s fails = ap (λ f. result_err (fault_or f x)) (subst (λ e. Adds r e next.1) fails (adds-step r next.0 next.1 enters s))
   refused-at (Cycle h) (Some next) s fails = ap (λ f. result_err (fault_or f x)) (subst (λ e. Adds r e next.1) fails (adds-step r next.0 next.1 enters s))
 
-  pub refused-step : (error : TreeError) → FailsAt (step r) error → IsRefusal (result_err (fault_or (fault_left r) x)) error
+  pub refused-step : (error : TreeError) → FailsAt (step r) error → IsRefusal (result_err (fault_or (remaining_fault r) x)) error
   refused-step (DanglingError h) fails = refused-at (Dangling h) (step r) refl fails
   refused-step (CycleError h) fails = refused-at (Cycle h) (step r) refl fails
   refused-step OutOfMemory fails = tt
@@ -158,6 +158,6 @@ read-value (Some f) all text e = absurd (cc)
 pub readable-read : (d : Document) (page lines : List ℕ) → d ≡ document page → readable_of d ≡ Ok lines → lines ≡ readable (plain (forest (tokens page)))
 readable-read d page lines e r =
     let w = walk all_tags d.nodes [] d.top in
-    read-value (shown_fault w) (readable (trees w)) lines r
+    read-value (visible_fault w) (readable (trees w)) lines r
     ∙ ap (λ (x : Document). readable (trees (walk all_tags x.nodes [] x.top))) e
     ∙ ap readable (document-whole page)

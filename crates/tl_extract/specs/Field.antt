@@ -20,17 +20,22 @@ IsNoSelector text = (e : Selector) → IsSelectorText text e → ⊥
 -- the field of a node of this number, among nodes; none where it has no such value
 abbrev pub field_of : Field → List Node → ℕ → Node → Outcome (Option (List ℕ))
 field_of Number nodes n node = success (Some (decimal n))
-field_of OuterHtml nodes n node = outcome_map (λ text. Some text) (outcome_of (outer_html nodes node))
-field_of InnerHtml nodes n node = outcome_map (λ text. Some text) (outcome_of (inner_html nodes node))
-field_of InnerText nodes n node = outcome_map (λ text. Some text) (outcome_of (inner_text nodes node))
-field_of (Attribute key) nodes n node = success (option_map utf8_lossy (option_flatten (attribute_of key.now node)))
+field_of OuterHtml nodes n node =
+    outcome_map (λ text. Some text) (outcome_of (outer_html nodes node))
+field_of InnerHtml nodes n node =
+    outcome_map (λ text. Some text) (outcome_of (inner_html nodes node))
+field_of InnerText nodes n node =
+    outcome_map (λ text. Some text) (outcome_of (inner_text nodes node))
+field_of (Attribute key) nodes n node =
+    success (option_map utf8_lossy (option_flatten (attribute_of key.now node)))
 
 -- the field of the node of a number; none past the table
 abbrev pub field_at : Field → List Node → ℕ → Outcome (Option (List ℕ))
 field_at field nodes n = option_map_or (field_of field nodes n) (slice_get nodes n) (success None)
 
 -- a field before others, where there is one
-abbrev pub with_field : Outcome (Option (List ℕ)) → List (Outcome (List ℕ)) → List (Outcome (List ℕ))
+abbrev pub with_field : Outcome (Option (List ℕ)) → List (Outcome (List ℕ)) →
+    List (Outcome (List ℕ))
 with_field (success None) later = later
 with_field (success (Some text)) later = success text ∷ later
 with_field refused later = refused ∷ later

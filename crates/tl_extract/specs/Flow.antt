@@ -3,18 +3,18 @@ use Rattle.std.specs.Prelude.{ℕ, Bool, false, List, [], ◌∷◌, ◌++◌, m
 use Rattle.tl_spec.specs.Tree.Document.{Tag, Raw, Comment}
 use Rattle.tl_spec.specs.Walk.{Event, TreeFault, end, faulty, leaves, meets, earlier_fault, trees}
 use Rattle.tl.specs.Remaining.{Around, Remaining}
-use Rattle.tl_extract.specs.Readable.{edge, flow, is_hidden, shown_fault, spaced}
+use Rattle.tl_extract.specs.Readable.{edge, flow, is_hidden, visible_fault, spaced_byte}
 
 -- what stands at an end of a tag that may be hidden
-abbrev pub shown_edge : List ℕ → List ℕ
-shown_edge name = if is_hidden name then [] else edge name
+abbrev pub visible_edge : List ℕ → List ℕ
+visible_edge name = if is_hidden name then [] else edge name
 
 -- what an event adds
 abbrev pub event_flow : Event → List ℕ
-event_flow (meets h (Tag own)) = shown_edge own.name
-event_flow (meets h (Raw bytes)) = map spaced bytes
+event_flow (meets h (Tag own)) = visible_edge own.name
+event_flow (meets h (Raw bytes)) = map spaced_byte bytes
 event_flow (meets h (Comment bytes)) = []
-event_flow (leaves own) = shown_edge own.name
+event_flow (leaves own) = visible_edge own.name
 event_flow (faulty e) = []
 
 -- what is left after a tag of this name was met
@@ -36,17 +36,18 @@ after_event e left = if meets_hidden e then record left { inside = end } else le
 -- what the tags around add
 abbrev pub flow_around : List Around → List ℕ
 flow_around [] = []
-flow_around (tag ∷ outer) = shown_edge tag.own.name ++ (flow (trees tag.more) ++ flow_around outer)
+flow_around (tag ∷ outer) =
+    visible_edge tag.own.name ++ (flow (trees tag.more) ++ flow_around outer)
 
 -- what is still to be written
-abbrev pub flow_left : Remaining → List ℕ
-flow_left left = flow (trees left.inside) ++ flow_around left.around
+abbrev pub remaining_flow : Remaining → List ℕ
+remaining_flow left = flow (trees left.inside) ++ flow_around left.around
 
 -- the first fault after the tags around
 abbrev pub fault_around : List Around → Option TreeFault
 fault_around [] = None
-fault_around (tag ∷ outer) = earlier_fault (shown_fault tag.more) (fault_around outer)
+fault_around (tag ∷ outer) = earlier_fault (visible_fault tag.more) (fault_around outer)
 
 -- the first fault that is still to come
-abbrev pub fault_left : Remaining → Option TreeFault
-fault_left left = earlier_fault (shown_fault left.inside) (fault_around left.around)
+abbrev pub remaining_fault : Remaining → Option TreeFault
+remaining_fault left = earlier_fault (visible_fault left.inside) (fault_around left.around)

@@ -22,7 +22,8 @@ node_words (Comment bytes) = codes " comment " ++ first_line bytes
 -- the lines of nodes, counted from a number on
 abbrev pub lines_from : ℕ → List Node → List ℕ
 lines_from number [] = []
-lines_from number (node ∷ later) = (decimal number ++ node_words node ++ 10 ∷ []) ++ lines_from (suc number) later
+lines_from number (node ∷ later) =
+    (decimal number ++ node_words node ++ 10 ∷ []) ++ lines_from (suc number) later
 
 -- the lines of all nodes of a document
 abbrev pub outline_of : Document → List ℕ

@@ -17,13 +17,18 @@ hidden_names = codes "script" ∷ codes "style" ∷ []
 -- tags on lines of their own: the blocks of the standard's style sheet, and what else begins a line
 abbrev pub block_names : List (List ℕ)
 block_names =
-    codes "p" ∷ codes "div" ∷ codes "br" ∷ codes "li" ∷ codes "ul" ∷ codes "ol" ∷ codes "tr" ∷ codes "table"
+    codes "p" ∷ codes "div" ∷ codes "br" ∷ codes "li" ∷ codes "ul" ∷ codes "ol" ∷ codes "tr"
+    ∷ codes "table"
     ∷ codes "h1" ∷ codes "h2" ∷ codes "h3" ∷ codes "h4" ∷ codes "h5" ∷ codes "h6" ∷ codes "title"
-    ∷ codes "blockquote" ∷ codes "pre" ∷ codes "hr" ∷ codes "dl" ∷ codes "dt" ∷ codes "dd" ∷ codes "section"
+    ∷ codes "blockquote" ∷ codes "pre" ∷ codes "hr" ∷ codes "dl" ∷ codes "dt" ∷ codes "dd"
+    ∷ codes "section"
     ∷ codes "article" ∷ codes "header" ∷ codes "footer" ∷ codes "main" ∷ codes "nav"
-    ∷ codes "aside" ∷ codes "figure" ∷ codes "figcaption" ∷ codes "address" ∷ codes "form" ∷ codes "fieldset"
-    ∷ codes "legend" ∷ codes "details" ∷ codes "summary" ∷ codes "dialog" ∷ codes "caption" ∷ codes "option"
-    ∷ codes "optgroup" ∷ codes "center" ∷ codes "menu" ∷ codes "hgroup" ∷ codes "search" ∷ codes "body"
+    ∷ codes "aside" ∷ codes "figure" ∷ codes "figcaption" ∷ codes "address" ∷ codes "form"
+    ∷ codes "fieldset"
+    ∷ codes "legend" ∷ codes "details" ∷ codes "summary" ∷ codes "dialog" ∷ codes "caption"
+    ∷ codes "option"
+    ∷ codes "optgroup" ∷ codes "center" ∷ codes "menu" ∷ codes "hgroup" ∷ codes "search"
+    ∷ codes "body"
     ∷ codes "html" ∷ []
 
 -- tags that stand beside each other
@@ -35,19 +40,21 @@ is_hidden name = is_among_in_any_case hidden_names name
 
 -- what stands at either end of a tag
 unfoldable pub edge : List ℕ → List ℕ
-edge name = if is_among_in_any_case block_names name then 10 ∷ [] else if is_among_in_any_case cell_names name then 32 ∷ [] else []
+edge name = if is_among_in_any_case block_names name then 10 ∷ []
+    else if is_among_in_any_case cell_names name then 32 ∷ [] else []
 
 -- white space is a space
-abbrev pub spaced : ℕ → ℕ
-spaced byte = if is_ascii_whitespace byte then 32 else byte
+abbrev pub spaced_byte : ℕ → ℕ
+spaced_byte byte = if is_ascii_whitespace byte then 32 else byte
 
 -- the texts of trees with the ends of their tags; nothing of a hidden tag, and nothing of a comment
 abbrev pub flow : Forest PlainTag → List ℕ
 flow none = []
-flow (text bytes more) = map spaced bytes ++ flow more
+flow (text bytes more) = map spaced_byte bytes ++ flow more
 flow (comment bytes more) = flow more
 flow (tag own children more) =
-    (if is_hidden own.name then [] else edge own.name ++ (flow children ++ edge own.name)) ++ flow more
+    (if is_hidden own.name then [] else edge own.name ++ (flow children ++ edge own.name))
+    ++ flow more
 
 -- what comes after the first word of a line
 abbrev pub words_after : List (List ℕ) → List ℕ
@@ -68,14 +75,16 @@ abbrev pub readable : Forest PlainTag → List ℕ
 readable trees = lines_of (flow trees)
 
 -- the first fault of a walk that enters no hidden tag
-abbrev pub shown_fault : Walk → Option TreeFault
-shown_fault end = None
-shown_fault (meets_text h bytes more) = shown_fault more
-shown_fault (meets_comment h bytes more) = shown_fault more
-shown_fault (meets_tag h own children more) = earlier_fault (if is_hidden own.name then None else shown_fault children) (shown_fault more)
-shown_fault (passes_tag h own more) = shown_fault more
-shown_fault (meets_fault e more) = Some e
+abbrev pub visible_fault : Walk → Option TreeFault
+visible_fault end = None
+visible_fault (meets_text h bytes more) = visible_fault more
+visible_fault (meets_comment h bytes more) = visible_fault more
+visible_fault (meets_tag h own children more) =
+    earlier_fault (if is_hidden own.name then None else visible_fault children) (visible_fault more)
+visible_fault (passes_tag h own more) = visible_fault more
+visible_fault (meets_fault e more) = Some e
 
 -- the text of a document, or the first fault outside of hidden tags
 abbrev pub readable_of : Document → Result (List ℕ) TreeFault
-readable_of d = let w = walk all_tags d.nodes [] d.top in fault_or (shown_fault w) (readable (trees w))
+readable_of d =
+    let w = walk all_tags d.nodes [] d.top in fault_or (visible_fault w) (readable (trees w))

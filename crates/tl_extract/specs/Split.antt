@@ -8,6 +8,6 @@ abbrev pub pieces : ℕ → List ℕ → List (List ℕ)
 pieces at bytes = slice_split (λ byte. byte == at) bytes
 
 -- these pieces of what is left, if anything is
-abbrev pub pieces_left : ℕ → Option (Bor (List ℕ)) → List (List ℕ)
-pieces_left at None = []
-pieces_left at (Some rest) = pieces at rest.now
+abbrev pub remaining_pieces : ℕ → Option (Bor (List ℕ)) → List (List ℕ)
+remaining_pieces at None = []
+remaining_pieces at (Some rest) = pieces at rest.now

@@ -9,7 +9,7 @@ ghost use Rattle.tl.specs.View.{node_view};
 ghost use Rattle.tl_page.specs.Outcome.{Gives, outcome_map, outcome_of, success};
 ghost use Rattle.tl_extract.specs.Field.{field_at, field_of};
 
-use crate::lossy::add_lossy;
+use crate::lossy_text::add_lossy;
 use std::alloc::{AllocError, Global};
 use tl::errors::TreeError;
 use tl::{Element, Node, NodeHandle, Parser};
@@ -54,7 +54,7 @@ fn value(alloc: Global, node: &Node<'_>, key: &str) -> Result<Option<String>, Al
 
 // A text that was read.
 #[tactic(auto, using(tl_page::proofs::Outcomes::readings))]
-fn reading(reading: Result<String, TreeError>) -> Result<Option<String>, Failure>
+fn optional_text(reading: Result<String, TreeError>) -> Result<Option<String>, Failure>
     ensures { (of : Result (List ℕ) TreeFault) → Answers string_bytes of reading
         → Gives (option_map string_bytes) (outcome_map (λ text. Some text) (outcome_of of)) result }
 {
@@ -70,15 +70,16 @@ fn field_of<'a>(
     field: &Field<'_>,
 ) -> Result<Option<String>, Failure>
     ensures gives { let nodes = map node_view parser.now.nodes in
-        Gives (option_map string_bytes) (field_of field.now nodes handle (node_view node.now)) result }
+        Gives (option_map string_bytes) (field_of field.now nodes handle (node_view node.now))
+        result }
     ensures none { field_of field.now (map node_view parser.now.nodes) handle (node_view node.now)
         ≡ success None → result ≡ Ok None }
 {
     match field {
         Field::Number => Ok(Some(handle.get_inner().to_string(alloc)?)),
-        Field::OuterHtml => reading(node.outer_html(alloc, parser)),
-        Field::InnerHtml => reading(node.inner_html(alloc, parser)),
-        Field::InnerText => reading(node.inner_text(alloc, parser)),
+        Field::OuterHtml => optional_text(node.outer_html(alloc, parser)),
+        Field::InnerHtml => optional_text(node.inner_html(alloc, parser)),
+        Field::InnerText => optional_text(node.inner_text(alloc, parser)),
         Field::Attribute(key) => Ok(value(alloc, node, key)?),
     }
 }

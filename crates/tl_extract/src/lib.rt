@@ -6,7 +6,7 @@ mod field;
 mod lines;
 mod link;
 mod listing;
-mod lossy;
+mod lossy_text;
 mod number;
 mod selection;
 mod split;

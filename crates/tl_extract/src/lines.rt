@@ -3,7 +3,7 @@ ghost use Rattle.std.specs.Prelude.{◌≡◌, ◌++◌, IfOk, OnOk, string_byte
 ghost use Rattle.tl_spec.specs.Lookup.ClassMember.{parts};
 ghost use Rattle.tl_extract.specs.Readable.{line_of, lines_of, words_after};
 
-use crate::lossy::add_lossy;
+use crate::lossy_text::add_lossy;
 use crate::split::split_once;
 use std::alloc::{AllocError, Global};
 use tl_attributes::class_iter::next_part;
@@ -34,7 +34,8 @@ fn add_words(lines: &mut String, line: &[u8]) -> Result<(), AllocError>
     lines.push('\n')
 }
 
-/// The lines of bytes that have words, each as text with one space between two words, and a newline.
+/// The lines of bytes that have words, each as text with one space between two words, and a
+/// newline.
 pub fn lines_of(alloc: Global, bytes: &[u8]) -> Result<String, AllocError>
     ensures { IfOk result (λ lines. string_bytes lines ≡ lines_of bytes.now) }
 {

@@ -3,7 +3,7 @@ ghost use Rattle.std.specs.Prelude.{◌≡◌, ◌++◌, [], IfOk, IsOk, OnOk, s
 ghost use Rattle.tl.specs.View.{document_of, node_view};
 ghost use Rattle.tl_extract.specs.Outline.{child_words, first_line, node_words, outline_of};
 
-use crate::lossy::add_lossy;
+use crate::lossy_text::add_lossy;
 use std::alloc::{AllocError, Global};
 use tl::{Node, NodeHandle, VDom};
 

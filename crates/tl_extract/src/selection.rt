@@ -18,8 +18,8 @@ use tl::queryselector::QuerySelectorIterator;
 use tl::{Parser, VDom};
 use tl_page::Failure;
 
-/// The fields of the nodes where a selector holds, in order, seen as the list of what comes of each.
-/// A node that has no such value gives nothing.
+/// The fields of the nodes where a selector holds, in order, seen as the list of what comes of
+/// each. A node that has no such value gives nothing.
 #[derive(Drop)]
 pub struct Selection<'a, 'd> {
     alloc: Global,
@@ -104,7 +104,7 @@ pub fn select<'a, 'd>(
 }
 
 // The field of the first node that is left.
-fn first_of(
+fn first_field(
     alloc: Global,
     parser: &Parser<'_>,
     mut found: QuerySelectorIterator<'_, '_>,
@@ -148,5 +148,5 @@ pub fn first(
     let Some(found) = query else {
         return Err(Failure::Refused);
     };
-    first_of(alloc, document.parser(), found, field)
+    first_field(alloc, document.parser(), found, field)
 }

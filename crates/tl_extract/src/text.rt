@@ -9,8 +9,8 @@ ghost use Rattle.tl.specs.Remaining.{remaining_of};
 ghost use Rattle.tl.specs.View.{document_of};
 ghost use Rattle.tl.specs.Walker.{event_view, Writes};
 ghost use Rattle.tl.proofs.Remaining.{IsEntered};
-ghost use Rattle.tl_extract.specs.Flow.{after_event, after_name, event_flow, fault_left, flow_left, shown_edge};
-ghost use Rattle.tl_extract.specs.Readable.{block_names, cell_names, edge, is_hidden, readable, readable_of, spaced};
+ghost use Rattle.tl_extract.specs.Flow.{after_event, after_name, event_flow, remaining_fault, remaining_flow, visible_edge};
+ghost use Rattle.tl_extract.specs.Readable.{block_names, cell_names, edge, is_hidden, readable, readable_of, spaced_byte};
 
 use crate::lines::lines_of;
 use std::alloc::{AllocError, Global};
@@ -67,8 +67,8 @@ fn add_edge(text: &mut Vec<u8>, name: &[u8]) -> Result<(), AllocError>
 }
 
 // Adds what stands at either end of a tag that may be hidden: then nothing.
-fn add_shown_edge(text: &mut Vec<u8>, name: &[u8]) -> Result<(), AllocError>
-    ensures { OnOk result (text.new.items ≡ text.old.items ++ shown_edge name.now) }
+fn add_visible_edge(text: &mut Vec<u8>, name: &[u8]) -> Result<(), AllocError>
+    ensures { OnOk result (text.new.items ≡ text.old.items ++ visible_edge name.now) }
 {
     if is_hidden(name) {
         return Ok(());
@@ -77,8 +77,8 @@ fn add_shown_edge(text: &mut Vec<u8>, name: &[u8]) -> Result<(), AllocError>
 }
 
 // A space for a byte of white space.
-fn spaced(byte: u8) -> u8
-    ensures { result ≡ spaced byte }
+fn spaced_byte(byte: u8) -> u8
+    ensures { result ≡ spaced_byte byte }
 {
     if byte.is_ascii_whitespace() {
         b' '
@@ -89,17 +89,17 @@ fn spaced(byte: u8) -> u8
 
 // Adds a text, with a space for each byte of white space.
 fn add_text(text: &mut Vec<u8>, bytes: &[u8]) -> Result<(), AllocError>
-    ensures { OnOk result (text.new.items ≡ text.old.items ++ map spaced bytes.now) }
+    ensures { OnOk result (text.new.items ≡ text.old.items ++ map spaced_byte bytes.now) }
 {
     for byte in bytes {
-        text.push(spaced(*byte))?;
+        text.push(spaced_byte(*byte))?;
     }
     Ok(())
 }
 
 // Enters a tag, or passes over what is inside a hidden one.
 fn enter(walk: &mut Walk<'_, '_>, text: &mut Vec<u8>, name: &[u8]) -> Result<(), AllocError>
-    ensures text { OnOk result (text.new.items ≡ text.old.items ++ shown_edge name.now) }
+    ensures text { OnOk result (text.new.items ≡ text.old.items ++ visible_edge name.now) }
     ensures walk { OnOk result (remaining_of walk.new
         ≡ after_name name.now (remaining_of walk.old)) }
 {
@@ -111,7 +111,7 @@ fn enter(walk: &mut Walk<'_, '_>, text: &mut Vec<u8>, name: &[u8]) -> Result<(),
 }
 
 // Adds what an event of the walk adds, and passes over what is hidden.
-fn take(
+fn add_event(
     walk: &mut Walk<'_, '_>,
     text: &mut Vec<u8>,
     event: WalkEvent<'_, '_>,
@@ -125,19 +125,20 @@ fn take(
         WalkEvent::Meets(_, Node::Tag(tag)) => enter(walk, text, tag.name().as_bytes()),
         WalkEvent::Meets(_, Node::Raw(bytes)) => add_text(text, bytes.as_bytes()),
         WalkEvent::Meets(_, Node::Comment(_)) => Ok(()),
-        WalkEvent::Leaves(tag) => add_shown_edge(text, tag.name().as_bytes()),
+        WalkEvent::Leaves(tag) => add_visible_edge(text, tag.name().as_bytes()),
     }
 }
 
 // Adds what is left of a walk.
 fn finish(walk: &mut Walk<'_, '_>, text: &mut Vec<u8>) -> Result<(), TreeError>
     requires { IsEntered (remaining_of walk.old) }
-    ensures { Writes (fault_left (remaining_of walk.old)) (flow_left (remaining_of walk.old))
+    ensures { Writes (remaining_fault (remaining_of walk.old))
+        (remaining_flow (remaining_of walk.old))
         text.old.items result text.new.items }
 {
     loop {
         match walk.next() {
-            Some(Ok(event)) => take(walk, text, event)?,
+            Some(Ok(event)) => add_event(walk, text, event)?,
             Some(Err(error)) => return Err(error),
             None => return Ok(()),
         }

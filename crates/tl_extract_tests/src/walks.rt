@@ -7,8 +7,8 @@ use tl_page::{Failure, read};
 // More events than any of these walks has.
 const MOST_EVENTS: usize = 100;
 
-// Writes an event: `(` and the name for a tag that is met, `)` for one that is left, texts as they stand, and `!` for a
-// comment; and passes over what is inside the tags of a name.
+// Writes an event: `(` and the name for a tag that is met, `)` for one that is left, texts as they
+// stand, and `!` for a comment; and passes over what is inside the tags of a name.
 fn write_event(
     walk: &mut Walk<'_, '_>,
     out: &mut String,

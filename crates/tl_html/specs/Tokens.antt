@@ -56,4 +56,5 @@ AreTokensOf page tokens = AreTokens page tokens (placed (mark_len page) (runs (p
 -- tokens side by side, from one place to another
 abbrev pub AreSideBySide : ℕ → List Token → ℕ → Type 0
 AreSideBySide start [] end = start ≡ end
-AreSideBySide start (token ∷ tokens) end = (token.start ≡ start) × AreSideBySide token.end tokens end
+AreSideBySide start (token ∷ tokens) end =
+    (token.start ≡ start) × AreSideBySide token.end tokens end

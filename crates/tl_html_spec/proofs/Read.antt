@@ -20,7 +20,7 @@ use Rattle.tl_html_spec.specs.HtmlTokenizer.{HtmlAttribute, HtmlToken, Character
 use Rattle.tl_html_spec.specs.Escapes.{escaped_value, text_escape, value_escape}
 use Rattle.tl_html_spec.specs.Unescaped.{unescaped_text, unescaped_value}
 use Rattle.tl_html_spec.proofs.Looked.{byte-plain}
-use Rattle.tl_html_spec.specs.Written.{AreKeys, AreWritable, attribute_shown, inside, shown, tokens_read, written, written_attribute, written_token}
+use Rattle.tl_html_spec.specs.Written.{AreKeys, AreWritable, attribute_reading, inside, token_reading, tokens_read, written, written_attribute, written_token}
 use Rattle.tl_html_spec.proofs.Escapes.{value_back}
 
 abbrev pub not_lt : ℕ → Bool
@@ -32,8 +32,8 @@ not_quote c = not (c == 0x22)
 pub all_append : (p : ℕ → Bool) (xs ys : List ℕ) → list_all p xs ≡ true → list_all p ys ≡ true → list_all p (xs ++ ys) ≡ true
 all_append p xs ys h k = list_all-append p xs ys ∙ and_from (list_all p xs) (list_all p ys) h k
 
-read_next : (s : List ℕ) (k : Token) (rest : List ℕ) → next_token s ≡ Some (k, rest) → tokens_read s ≡ shown k ++ tokens_read rest
-read_next s k rest e = ap (flat_map shown) (kinds_next s k rest e)
+read_next : (s : List ℕ) (k : Token) (rest : List ℕ) → next_token s ≡ Some (k, rest) → tokens_read s ≡ token_reading k ++ tokens_read rest
+read_next s k rest e = ap (flat_map token_reading) (kinds_next s k rest e)
 
 -- a run without `<`, and what stands after it
 run_read : (y rest : List ℕ) → list_all not_lt y ≡ true → Stops not_lt rest → tokens_read (y ++ rest) ≡ map Character (unescaped_text y) ++ tokens_read rest
@@ -102,7 +102,7 @@ pairs_are : (xs : List HtmlAttribute) → AreKeys xs → ArePairs (map written_p
 pairs_are [] h = tt
 pairs_are (a ∷ xs) h = (word_is a.0 h.0, no_quote_value a.1, pairs_are xs h.1)
 
-pairs_shown : (xs : List HtmlAttribute) → map attribute_shown (map written_pair xs) ≡ xs
+pairs_shown : (xs : List HtmlAttribute) → map attribute_reading (map written_pair xs) ≡ xs
 pairs_shown [] = refl
 pairs_shown (a ∷ xs) =
     ap₂ (λ v more. (a.0, v) ∷ more)

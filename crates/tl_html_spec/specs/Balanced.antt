@@ -1,10 +1,12 @@
--- Tokens with the end tags that HTML leaves out, and without those that close nothing: the rules of 'in body' (13.2.6.4.7) and
--- of tables (13.2.6.4.9 to .15), as one mode over the names of the open tags.
+-- Tokens with the end tags that HTML leaves out, and without those that close nothing: the rules of
+-- 'in body' (13.2.6.4.7) and of tables (13.2.6.4.9 to .15), as one mode over the names of the open
+-- tags.
 --
--- Left out, so a browser's tree may differ there: formatting elements that are closed out of order or opened again (the
--- adoption agency), what stands in a table and not in a cell (foster parenting), start tags that a browser puts in (`html`,
--- `head`, `body`, `tbody`, `tr`, `colgroup`), `select`, `frameset`, the names that end `svg` and `math`, and `isindex` or
--- `image` under other names.
+-- Left out, so a browser's tree may differ there: formatting elements that are closed out of order
+-- or opened again (the adoption agency), what stands in a table and not in a cell (foster
+-- parenting), start tags that a browser puts in (`html`, `head`, `body`, `tbody`, `tr`,
+-- `colgroup`), `select`, `frameset`, the names that end `svg` and `math`, and `isindex` or `image`
+-- under other names.
 use Rattle.std.specs.Prelude.{ℕ, suc, Bool, true, false, not, ◌||◌, ◌&&◌, ◌==◌, List, [], ◌∷◌, ◌++◌, take, drop, map, Option, Some, None, option_map, codes, is_some, if◌then◌else◌}
 use Rattle.std.specs.List.{list_any}
 use Rattle.std.specs.Str.{bytes_eq}
@@ -31,7 +33,8 @@ is_one_of text name = list_any (bytes_eq name) (words text)
 
 -- what holds a text and no markup
 abbrev pub is_raw : List ℕ → Bool
-is_raw name = is_among rcdata_names name || is_among rawtext_names name || is_one_of (codes "script plaintext") name
+is_raw name = is_among rcdata_names name || is_among rawtext_names name
+    || is_one_of (codes "script plaintext") name
 
 abbrev pub is_special : List ℕ → Bool
 is_special name = is_among special_names name
@@ -71,7 +74,8 @@ looked_at = 512
 abbrev pub depth_in : (List ℕ → Bool) → (List ℕ → Bool) → Names → Option ℕ
 depth_in found stops [] = None
 depth_in found stops (name ∷ tags) =
-    if found name then Some 0 else if stops name then None else option_map (λ n. suc n) (depth_in found stops tags)
+    if found name then Some 0 else if stops name then None
+    else option_map (λ n. suc n) (depth_in found stops tags)
 
 abbrev pub depth : (List ℕ → Bool) → (List ℕ → Bool) → Names → Option ℕ
 depth found stops tags = depth_in found stops (take looked_at tags)
@@ -151,12 +155,17 @@ rules_before n =
     ∷ when (is_one_of (codes "button") n) (nearest (is_one_of (codes "button")) is_scope)
     ∷ when (is_one_of (codes "a nobr") n) (nearest (bytes_eq n) is_special)
     ∷ when (is_one_of (codes "rb rtc") n) (λ tags. when (is_in_ruby tags) (leading is_implied) tags)
-    ∷ when (is_one_of (codes "rt rp") n) (λ tags. when (is_in_ruby tags) (leading (λ x. is_implied x && not (is_one_of (codes "rtc") x))) tags)
+    ∷ when (is_one_of (codes "rt rp") n)
+    (λ tags. when (is_in_ruby tags) (leading (λ x. is_implied x && not (is_one_of (codes "rtc") x)))
+    tags)
     ∷ when (is_one_of (codes "tr") n) (inside_of (λ x. is_section x || is_table_bound x))
-    ∷ when (is_one_of (codes "td th") n) (inside_of (λ x. is_section x || is_table_bound x || is_one_of (codes "tr") x))
-    ∷ when (is_one_of (codes "col") n) (inside_of (λ x. is_table_bound x || is_one_of (codes "colgroup") x))
+    ∷ when (is_one_of (codes "td th") n)
+    (inside_of (λ x. is_section x || is_table_bound x || is_one_of (codes "tr") x))
+    ∷ when (is_one_of (codes "col") n) (inside_of
+    (λ x. is_table_bound x || is_one_of (codes "colgroup") x))
     ∷ when (is_one_of (codes "tbody thead tfoot caption colgroup") n) (inside_of is_table_bound)
-    ∷ when (is_one_of (codes "table") n) (nearest (is_one_of (codes "table")) (is_one_of (codes "td th caption template")))
+    ∷ when (is_one_of (codes "table") n)
+    (nearest (is_one_of (codes "table")) (is_one_of (codes "td th caption template")))
     ∷ []
 
 abbrev pub is_head : List ℕ → Bool
@@ -167,8 +176,10 @@ then_closing first more = record { ends = first.ends ++ more.ends; left = more.l
 
 abbrev pub before_start : List ℕ → Names → Closing
 before_start n tags =
-    let first = closing (when (not (is_among head_parts n || is_head n)) (innermost is_head) tags) tags in
-    if is_foreign first.left then first else then_closing first (carried_out (rules_before n) first.left)
+    let first =
+    closing (when (not (is_among head_parts n || is_head n)) (innermost is_head) tags) tags in
+    if is_foreign first.left then first else then_closing first
+    (carried_out (rules_before n) first.left)
 
 -- a start tag that is dropped
 abbrev pub is_dropped : List ℕ → Names → Bool
@@ -176,8 +187,10 @@ is_dropped n tags =
     not (is_foreign tags) && (
     (is_one_of (codes "html") n && is_some (depth (λ x. true) never tags))
     || (is_head n && is_some (depth (λ x. not (is_one_of (codes "html") x)) never tags))
-    || (is_one_of (codes "body") n && is_some (depth (λ x. not (is_one_of (codes "html head") x)) never tags))
-    || (is_one_of (codes "form") n && is_some (depth (is_one_of (codes "form")) (is_one_of (codes "template")) tags))
+    || (is_one_of (codes "body") n && is_some
+    (depth (λ x. not (is_one_of (codes "html head") x)) never tags))
+    || (is_one_of (codes "form") n && is_some
+    (depth (is_one_of (codes "form")) (is_one_of (codes "template")) tags))
     || (is_among table_parts n && not (is_some (depth is_table_bound never tags))))
 
 -- how many tags an end tag of this name closes
@@ -188,7 +201,8 @@ closed_by n tags =
     else if is_one_of (codes "li") n then nearest (is_one_of (codes "li")) is_list_scope tags
     else if is_heading n then nearest is_heading is_scope tags
     else if is_among scoped_ends n then nearest (bytes_eq n) is_scope tags
-    else if is_among table_parts n || is_one_of (codes "table") n then nearest (bytes_eq n) (is_among table_scope_bounds) tags
+    else if is_among table_parts n || is_one_of (codes "table") n then nearest (bytes_eq n)
+    (is_among table_scope_bounds) tags
     else if is_one_of (codes "template select head") n then nearest (bytes_eq n) never tags
     else nearest (bytes_eq n) is_special tags
 
@@ -196,7 +210,9 @@ closed_by n tags =
 abbrev pub put_in : List ℕ → Names → List HtmlToken
 put_in n tags =
     if is_one_of (codes "br") n then StartTag n [] false ∷ []
-    else if is_one_of (codes "p") n && not (is_foreign tags) && not (is_some (depth (is_one_of (codes "p")) is_button_scope tags)) then StartTag n [] false ∷ EndTag n ∷ []
+    else if is_one_of (codes "p") n && not (is_foreign tags)
+    && not (is_some (depth (is_one_of (codes "p")) is_button_scope tags)) then StartTag n [] false
+    ∷ EndTag n ∷ []
     else []
 
 -- the open tags, and whether a line feed goes, after `<pre>` and its like
@@ -215,31 +231,50 @@ abbrev pub nothing_more : Balance → Balanced
 nothing_more s = record { emits = []; next = record s { drops_feed = false } }
 
 abbrev pub after_closing : Closing → List HtmlToken → Balanced
-after_closing c tokens = record { emits = c.ends ++ tokens; next = record { open_tags = c.left; drops_feed = false } }
+after_closing c tokens = record {
+  emits = c.ends ++ tokens;
+  next = record { open_tags = c.left; drops_feed = false };
+}
 
 -- a start tag that stays, after what it ended
 abbrev pub opened : Closing → List ℕ → List HtmlAttribute → Bool → Balanced
 opened c n attributes closes =
     let tag : HtmlToken = StartTag n attributes false in
-    if is_void n then record { emits = c.ends ++ tag ∷ []; next = record { open_tags = c.left; drops_feed = false } }
-    else if is_among closed_at_once n || (closes && not (is_raw n) && (is_foreign c.left || is_one_of (codes "svg math") n)) then
-    record { emits = c.ends ++ (tag ∷ EndTag n ∷ []); next = record { open_tags = c.left; drops_feed = is_among feed_droppers n } }
-    else record { emits = c.ends ++ tag ∷ []; next = record { open_tags = n ∷ c.left; drops_feed = is_among feed_droppers n } }
+    if is_void n then record {
+      emits = c.ends ++ tag ∷ [];
+      next = record { open_tags = c.left; drops_feed = false };
+    }
+    else if is_among closed_at_once n ||
+    (closes && not (is_raw n) && (is_foreign c.left || is_one_of (codes "svg math") n)) then
+    record {
+      emits = c.ends ++ (tag ∷ EndTag n ∷ []);
+      next = record { open_tags = c.left; drops_feed = is_among feed_droppers n };
+    }
+    else record {
+      emits = c.ends ++ tag ∷ [];
+      next = record { open_tags = n ∷ c.left; drops_feed = is_among feed_droppers n };
+    }
 
 abbrev pub balance : Balance → HtmlToken → Balanced
 balance s (Character b) =
     if (b == 0) || (s.drops_feed && (b == 10)) then nothing_more s
-    else after_closing (closing (when (not (is_white_space b)) (innermost is_head) s.open_tags) s.open_tags) (Character b ∷ [])
+    else after_closing (closing (when (not (is_white_space b)) (innermost is_head) s.open_tags)
+    s.open_tags) (Character b ∷ [])
 balance s (StartTag n attributes closes) =
     if is_dropped n s.open_tags then nothing_more s
     else opened (before_start n s.open_tags) n attributes closes
-balance s (EndTag n) = after_closing (closing (closed_by n s.open_tags) s.open_tags) (put_in n s.open_tags)
-balance s (CommentToken bytes) = record { emits = CommentToken bytes ∷ []; next = record s { drops_feed = false } }
+balance s (EndTag n) =
+    after_closing (closing (closed_by n s.open_tags) s.open_tags) (put_in n s.open_tags)
+balance s (CommentToken bytes) = record {
+  emits = CommentToken bytes ∷ [];
+  next = record s { drops_feed = false };
+}
 balance s DoctypeToken = nothing_more s
 
 abbrev pub balanced_from : Balance → List HtmlToken → List HtmlToken
 balanced_from s [] = map EndTag s.open_tags
-balanced_from s (token ∷ tokens) = (balance s token).emits ++ balanced_from (balance s token).next tokens
+balanced_from s (token ∷ tokens) =
+    (balance s token).emits ++ balanced_from (balance s token).next tokens
 
 abbrev pub balanced : List HtmlToken → List HtmlToken
 balanced tokens = balanced_from start tokens
@@ -249,11 +284,13 @@ abbrev pub without_innermost : List ℕ → Names → Option Names
 without_innermost name [] = None
 without_innermost name (first ∷ tags) = if bytes_eq name first then Some tags else None
 
--- the names that some tokens leave open, where each end tag closes the innermost one; none where one doesn't
+-- the names that some tokens leave open, where each end tag closes the innermost one; none where
+-- one doesn't
 abbrev pub left_open : Names → List HtmlToken → Option Names
 left_open tags [] = Some tags
 left_open tags (Character b ∷ tokens) = left_open tags tokens
-left_open tags (StartTag n attributes closes ∷ tokens) = left_open (if is_void n then tags else n ∷ tags) tokens
+left_open tags (StartTag n attributes closes ∷ tokens) =
+    left_open (if is_void n then tags else n ∷ tags) tokens
 left_open tags (EndTag n ∷ tokens) =
     elim (without_innermost n tags) as (λ _. Option Names) [
       | None ↦ None

@@ -1,5 +1,5 @@
--- Names written with the bytes that names of `tl` have, and read back. The tokenizer of the standard takes nearly any byte
--- into a name; those that `tl` doesn't are coded.
+-- Names written with the bytes that names of `tl` have, and read back. The tokenizer of the
+-- standard takes nearly any byte into a name; those that `tl` doesn't are coded.
 use Rattle.std.specs.Prelude.{ℕ, zero, suc, ◌+◌, ◌-◌, ◌*◌, ◌/◌, ◌%◌, ◌<◌, ◌||◌, ◌==◌, Bool, false, List, [], ◌∷◌, ◌++◌, flat_map, map, codes, nat_lt, if◌then◌else◌}
 use Rattle.std.specs.Char.{is_ascii_digit, is_ascii_lowercase}
 use Rattle.std.specs.List.{AllByRecursion}
@@ -31,7 +31,8 @@ abbrev pub coded : List ℕ → List ℕ
 coded [] = codes "+"
 coded (b ∷ name) = flat_map coded_byte (b ∷ name)
 
--- the name of a tag: of `command` a byte is coded, since `tl` prints a tag of that name without children
+-- the name of a tag: of `command` a byte is coded, since `tl` prints a tag of that name without
+-- children
 abbrev pub coded_tag : List ℕ → List ℕ
 coded_tag name = if bytes_eq name (codes "command") then codes "+63ommand" else coded name
 
@@ -48,7 +49,8 @@ first_code _ = []
 abbrev pub uncoded_after : ℕ → List ℕ → List ℕ
 uncoded_after n [] = []
 uncoded_after (suc n) (b ∷ s) = uncoded_after n s
-uncoded_after zero (b ∷ s) = if b == 43 then first_code s ++ uncoded_after 2 s else b ∷ uncoded_after 0 s
+uncoded_after zero (b ∷ s) =
+    if b == 43 then first_code s ++ uncoded_after 2 s else b ∷ uncoded_after 0 s
 
 abbrev pub uncoded : List ℕ → List ℕ
 uncoded name = uncoded_after 0 name
@@ -62,7 +64,8 @@ coded_attribute a = (coded a.0, a.1)
 
 -- a token with its names so, and without the flag, which has no meaning once end tags are put in
 abbrev pub coded_token : HtmlToken → HtmlToken
-coded_token (StartTag name attributes closes) = StartTag (coded_tag name) (map coded_attribute attributes) false
+coded_token (StartTag name attributes closes) =
+    StartTag (coded_tag name) (map coded_attribute attributes) false
 coded_token (EndTag name) = EndTag (coded_tag name)
 coded_token (Character b) = Character b
 coded_token (CommentToken bytes) = CommentToken bytes

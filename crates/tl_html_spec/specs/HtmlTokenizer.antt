@@ -1,19 +1,22 @@
--- The tokenizer of the HTML standard, whole: 13.2.5.1 to 13.2.5.80, with what stands before it (13.2.3.5).
+-- The tokenizer of the HTML standard, whole: 13.2.5.1 to 13.2.5.80, with what stands before it
+-- (13.2.3.5).
 --
--- It goes over bytes, since the contracts speak of the bytes of a page: no state tells two characters above 127 apart, so
--- what is emitted here are the bytes, in UTF-8, of the characters that the standard emits.
+-- It goes over bytes, since the contracts speak of the bytes of a page: no state tells two
+-- characters above 127 apart, so what is emitted here are the bytes, in UTF-8, of the characters
+-- that the standard emits.
 --
 -- Said otherwise than there, with the same tokens:
--- - A named reference (13.2.5.73) is resolved where its letters and digits end, or its `;`, in the place of looking ahead
---   from its `&`.
+-- - A named reference (13.2.5.73) is resolved where its letters and digits end, or its `;`, in the
+--   place of looking ahead from its `&`.
 -- - What follows `<!` (13.2.5.42) is collected, in the place of looking ahead.
 -- - A doctype has no parts: each of 13.2.5.53 to .68 ends at the first `>`.
 -- - A key that the tag has already is not added (13.2.5.33), in the place of being removed later.
 --
 -- Left to tree construction, which is here in two ways:
--- - After some start tags it sets the state (`after_start`), by the name alone: as it does outside of `svg` and `math`, and
---   with scripting off, so that `noscript` holds markup.
--- - `<![CDATA[` begins a bogus comment, as it does outside of `svg` and `math`; so 13.2.5.69 to .71 are never come to.
+-- - After some start tags it sets the state (`after_start`), by the name alone: as it does outside
+--   of `svg` and `math`, and with scripting off, so that `noscript` holds markup.
+-- - `<![CDATA[` begins a bogus comment, as it does outside of `svg` and `math`; so 13.2.5.69 to .71
+--   are never come to.
 use Rattle.std.specs.Prelude.{ℕ, zero, suc, ◌+◌, ◌-◌, ◌*◌, Bool, true, false, ◌||◌, ◌&&◌, not, ◌==◌, List, [], ◌∷◌, ◌++◌, drop, map, codes, if◌then◌else◌}
 use Rattle.std.specs.Char.{is_ascii_alphabetic, is_ascii_alphanumeric, is_ascii_digit, is_ascii_hexdigit, to_ascii_lowercase}
 use Rattle.std.specs.List.{list_any, starts_with}
@@ -165,7 +168,8 @@ replacement = 0xEF ∷ 0xBF ∷ 0xBD ∷ []
 abbrev pub char_of : ℕ → List ℕ
 char_of b = if b == 0 then replacement else b ∷ []
 
--- the state after a byte, the tokens that it emits, and whether the byte is read once more there ("reconsume")
+-- the state after a byte, the tokens that it emits, and whether the byte is read once more there
+-- ("reconsume")
 pub record Step : Type 0 where
   pub next : State
   pub emits : List HtmlToken
@@ -289,9 +293,21 @@ is_value _ = false
 
 -- what a reference gives goes to its return state: into the value, or out as characters
 abbrev pub flushed : State → List ℕ → Bool → Step
-flushed (double_quoted tag key value) bytes again = record { next = double_quoted tag key (value ++ bytes); emits = []; again = again }
-flushed (single_quoted tag key value) bytes again = record { next = single_quoted tag key (value ++ bytes); emits = []; again = again }
-flushed (unquoted tag key value) bytes again = record { next = unquoted tag key (value ++ bytes); emits = []; again = again }
+flushed (double_quoted tag key value) bytes again = record {
+  next = double_quoted tag key (value ++ bytes);
+  emits = [];
+  again = again;
+}
+flushed (single_quoted tag key value) bytes again = record {
+  next = single_quoted tag key (value ++ bytes);
+  emits = [];
+  again = again;
+}
+flushed (unquoted tag key value) bytes again = record {
+  next = unquoted tag key (value ++ bytes);
+  emits = [];
+  again = again;
+}
 flushed state bytes again = record { next = state; emits = map Character bytes; again = again }
 
 -- the value of a digit of base 10 or 16
@@ -343,14 +359,18 @@ step (raw_end_tag_name r buffer) b =
     else emitting_again (codes "</" ++ buffer) (raw r)
 -- 13.2.5.18
 step script_data_escape_start b =
-    if b == 45 then emitting (codes "-") script_data_escape_start_dash else again_in (raw script_data)
+    if b == 45 then emitting (codes "-") script_data_escape_start_dash
+    else again_in (raw script_data)
 -- 13.2.5.19
 step script_data_escape_start_dash b =
-    if b == 45 then emitting (codes "-") (raw script_data_escaped_dash_dash) else again_in (raw script_data)
+    if b == 45 then emitting (codes "-") (raw script_data_escaped_dash_dash)
+    else again_in (raw script_data)
 -- 13.2.5.26
 step (script_data_double_escape_start buffer) b =
-    if ends_name b then emitting (b ∷ []) (after_word buffer script_data_double_escaped (raw script_data_escaped))
-    else if is_ascii_alphabetic b then emitting (b ∷ []) (script_data_double_escape_start (buffer ++ to_ascii_lowercase b ∷ []))
+    if ends_name b then emitting (b ∷ [])
+    (after_word buffer script_data_double_escaped (raw script_data_escaped))
+    else if is_ascii_alphabetic b then emitting (b ∷ [])
+    (script_data_double_escape_start (buffer ++ to_ascii_lowercase b ∷ []))
     else again_in (raw script_data_escaped)
 -- 13.2.5.27
 step script_data_double_escaped b =
@@ -370,11 +390,14 @@ step script_data_double_escaped_dash_dash b =
     else emitting (char_of b) script_data_double_escaped
 -- 13.2.5.30
 step script_data_double_escaped_less_than_sign b =
-    if b == 47 then emitting (codes "/") (script_data_double_escape_end []) else again_in script_data_double_escaped
+    if b == 47 then emitting (codes "/") (script_data_double_escape_end [])
+    else again_in script_data_double_escaped
 -- 13.2.5.31
 step (script_data_double_escape_end buffer) b =
-    if ends_name b then emitting (b ∷ []) (after_word buffer (raw script_data_escaped) script_data_double_escaped)
-    else if is_ascii_alphabetic b then emitting (b ∷ []) (script_data_double_escape_end (buffer ++ to_ascii_lowercase b ∷ []))
+    if ends_name b then emitting (b ∷ [])
+    (after_word buffer (raw script_data_escaped) script_data_double_escaped)
+    else if is_ascii_alphabetic b then emitting (b ∷ [])
+    (script_data_double_escape_end (buffer ++ to_ascii_lowercase b ∷ []))
     else again_in script_data_double_escaped
 -- 13.2.5.32, where `/` and `>` are read as after a key, and there is none
 step (before_attribute_name tag) b =
@@ -435,7 +458,8 @@ step (bogus_comment bytes) b =
 step (markup_declaration_open buffer) b =
     if bytes_eq (buffer ++ b ∷ []) (codes "--") then to comment_start
     else if bytes_eq (map to_ascii_lowercase (buffer ++ b ∷ [])) (codes "doctype") then to doctype
-    else if begins (codes "--") (buffer ++ b ∷ []) || begins (codes "doctype") (buffer ++ b ∷ []) then
+    else if begins (codes "--") (buffer ++ b ∷ [])
+    || begins (codes "doctype") (buffer ++ b ∷ []) then
     to (markup_declaration_open (buffer ++ b ∷ []))
     else again_in (bogus_comment buffer)
 -- 13.2.5.43
@@ -463,7 +487,8 @@ step (comment_less_than_sign_bang bytes) b =
     if b == 45 then to (comment_less_than_sign_bang_dash bytes) else again_in (comment bytes)
 -- 13.2.5.48
 step (comment_less_than_sign_bang_dash bytes) b =
-    if b == 45 then to (comment_less_than_sign_bang_dash_dash bytes) else again_in (comment_end_dash bytes)
+    if b == 45 then to (comment_less_than_sign_bang_dash_dash bytes)
+    else again_in (comment_end_dash bytes)
 -- 13.2.5.49
 step (comment_less_than_sign_bang_dash_dash bytes) b = again_in (comment_end bytes)
 -- 13.2.5.50
@@ -494,10 +519,12 @@ step (named_character_reference state buffer) b =
     else flushed state (named_value (is_value state) buffer (b ∷ [])) true
 -- 13.2.5.75
 step (numeric_character_reference state) b =
-    if to_ascii_lowercase b == 120 then to (hexadecimal_start state b) else again_in (decimal_start state)
+    if to_ascii_lowercase b == 120 then to (hexadecimal_start state b)
+    else again_in (decimal_start state)
 -- 13.2.5.76
 step (hexadecimal_start state x) b =
-    if is_ascii_hexdigit b then again_in (hexadecimal state 0) else flushed state (codes "&#" ++ x ∷ []) true
+    if is_ascii_hexdigit b then again_in (hexadecimal state 0)
+    else flushed state (codes "&#" ++ x ∷ []) true
 -- 13.2.5.77
 step (decimal_start state) b =
     if is_ascii_digit b then again_in (decimal state 0) else flushed state (codes "&#") true
@@ -545,10 +572,12 @@ at_end_of (comment_end_bang bytes) = CommentToken bytes ∷ []
 at_end_of doctype = DoctypeToken ∷ []
 at_end_of _ = []
 
--- a reference that the end of the text cuts gives what it is; of a value nothing comes, as of its tag
+-- a reference that the end of the text cuts gives what it is; of a value nothing comes, as of its
+-- tag
 abbrev pub at_end : State → List HtmlToken
 at_end (character_reference state) = (flushed state (codes "&") false).emits
-at_end (named_character_reference state buffer) = (flushed state (named_value (is_value state) buffer []) false).emits
+at_end (named_character_reference state buffer) =
+    (flushed state (named_value (is_value state) buffer []) false).emits
 at_end (numeric_character_reference state) = (flushed state (codes "&#") false).emits
 at_end (hexadecimal_start state x) = (flushed state (codes "&#" ++ x ∷ []) false).emits
 at_end (decimal_start state) = (flushed state (codes "&#") false).emits
@@ -559,14 +588,16 @@ at_end state = at_end_of state
 -- the tokens of a text, from a state
 abbrev pub tokens_from : State → List ℕ → List HtmlToken
 tokens_from state [] = at_end state
-tokens_from state (b ∷ text) = (whole_step state b).emits ++ tokens_from (whole_step state b).next text
+tokens_from state (b ∷ text) =
+    (whole_step state b).emits ++ tokens_from (whole_step state b).next text
 
 -- line feeds at the ends of lines (13.2.3.5)
 abbrev pub with_feeds : List ℕ → List ℕ
 with_feeds [] = []
 with_feeds (b ∷ []) = (if b == 13 then 10 else b) ∷ []
 with_feeds (b ∷ c ∷ text) =
-    if (b == 13) && (c == 10) then with_feeds (c ∷ text) else (if b == 13 then 10 else b) ∷ with_feeds (c ∷ text)
+    if (b == 13) && (c == 10) then with_feeds (c ∷ text)
+    else (if b == 13 then 10 else b) ∷ with_feeds (c ∷ text)
 
 -- without a byte order mark at the front, which belongs to the encoding
 abbrev pub without_mark : List ℕ → List ℕ

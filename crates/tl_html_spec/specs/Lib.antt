@@ -9,4 +9,4 @@ pub mod Coded
 pub mod Sound
 pub mod Written
 pub mod HtmlForm
-pub mod Rows
+pub mod Examples

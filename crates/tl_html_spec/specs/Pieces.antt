@@ -1,9 +1,11 @@
--- A page cut where the tokenizer is at rest: each byte stands in one piece, with what the piece emits.
+-- A page cut where the tokenizer is at rest: each byte stands in one piece, with what the piece
+-- emits.
 use Rattle.std.specs.Prelude.{◌≡◌, ℕ, ◌+◌, Bool, true, false, ◌&&◌, List, [], ◌∷◌, ◌++◌, length, Option, Some, None, option_map, flat_map, if◌then◌else◌, ⊤}
 use Rattle.tl_html_spec.specs.HtmlTokenizer.{HtmlToken, Character, State, data_state, at_end, without_mark}
 use Rattle.tl_html_spec.specs.Reader.{Reader, Rest, after, at, emitted, emitting_before, next, rest_before, tokens_of}
 
--- a tag, a comment, a doctype, a character, or what is dropped: the state of rest before it, its bytes, its tokens
+-- a tag, a comment, a doctype, a character, or what is dropped: the state of rest before it, its
+-- bytes, its tokens
 pub record Piece : Type 0 where
   pub rest : State
   pub bytes : List ℕ
@@ -26,12 +28,14 @@ pieces_from state r bytes tokens (b ∷ text) =
       | None ↦ pieces_from state (next r b) (bytes ++ b ∷ []) (tokens ++ emitted r (b ∷ [])) text
       | Some rest ↦ (
           piece state bytes (tokens ++ rest.emits)
-          ∷ pieces_from rest.state (next (at rest.state) b) (b ∷ []) (emitted (at rest.state) (b ∷ [])) text)
+          ∷ pieces_from rest.state (next (at rest.state) b) (b ∷ [])
+          (emitted (at rest.state) (b ∷ [])) text)
     ]
 
 abbrev pub pieces_of : List ℕ → List Piece
 pieces_of [] = []
-pieces_of (b ∷ text) = pieces_from data_state (next (at data_state) b) (b ∷ []) (emitted (at data_state) (b ∷ [])) text
+pieces_of (b ∷ text) =
+    pieces_from data_state (next (at data_state) b) (b ∷ []) (emitted (at data_state) (b ∷ [])) text
 
 -- the pieces of a page, after its byte order mark
 abbrev pub pieces : List ℕ → List Piece
@@ -47,7 +51,8 @@ are_characters _ = false
 abbrev pub with_piece : Piece → List Piece → List Piece
 with_piece p [] = p ∷ []
 with_piece p (q ∷ ps) =
-    if are_characters p.tokens && are_characters q.tokens then piece p.rest (p.bytes ++ q.bytes) (p.tokens ++ q.tokens) ∷ ps
+    if are_characters p.tokens && are_characters q.tokens then piece p.rest (p.bytes ++ q.bytes)
+    (p.tokens ++ q.tokens) ∷ ps
     else p ∷ q ∷ ps
 
 -- runs of characters as one piece: what a list of tokens with their places holds
@@ -60,18 +65,22 @@ abbrev pub placed : ℕ → List Piece → List (ℕ × Piece)
 placed place [] = []
 placed place (p ∷ ps) = (place, p) ∷ placed (place + length p.bytes) ps
 
--- what a text emits from a state of rest, with what is pending, before a byte that finds the machine at rest
+-- what a text emits from a state of rest, with what is pending, before a byte that finds the
+-- machine at rest
 abbrev pub read_before : State → List ℕ → Option ℕ → Option Rest
 read_before state text None = None
-read_before state text (Some b) = option_map (emitting_before (emitted (at state) text)) (rest_before (after (at state) text) b)
+read_before state text (Some b) =
+    option_map (emitting_before (emitted (at state) text)) (rest_before (after (at state) text) b)
 
 abbrev pub first_byte : List ℕ → Option ℕ
 first_byte [] = None
 first_byte (b ∷ text) = Some b
 
--- each piece stands for its tokens where it stands: the machine is at rest before it, and before the next
+-- each piece stands for its tokens where it stands: the machine is at rest before it, and before
+-- the next
 abbrev pub AreRead : State → List Piece → Type 0
 AreRead state [] = ⊤
 AreRead state (p ∷ []) = (p.rest ≡ state) × (p.tokens ≡ tokens_of (at state) p.bytes)
 AreRead state (p ∷ q ∷ more) =
-    (rest : Rest) × (p.rest ≡ state) × (read_before state p.bytes (first_byte q.bytes) ≡ Some rest) × (p.tokens ≡ rest.emits) × AreRead rest.state (q ∷ more)
+    (rest : Rest) × (p.rest ≡ state) × (read_before state p.bytes (first_byte q.bytes) ≡ Some rest)
+    × (p.tokens ≡ rest.emits) × AreRead rest.state (q ∷ more)

@@ -1,5 +1,6 @@
--- The tokenizer over the bytes of a page as they stand, one after the other: the definition of tokens is
--- a fold over its states, and only its end and what stands before it (13.2.3.5) are no part of the fold.
+-- The tokenizer over the bytes of a page as they stand, one after the other: the definition of
+-- tokens is a fold over its states, and only its end and what stands before it (13.2.3.5) are no
+-- part of the fold.
 use Rattle.std.specs.Prelude.{ℕ, zero, suc, Bool, true, false, ◌&&◌, ◌==◌, List, [], ◌∷◌, ◌++◌, Option, Some, None, option_map, if◌then◌else◌}
 use Rattle.tl_html_spec.specs.HtmlTokenizer.{HtmlToken, State, Step, data_state, raw, plaintext, to, step, whole_step, at_end, without_mark}
 
@@ -73,7 +74,8 @@ abbrev pub rest_within : ℕ → State → ℕ → Option Rest
 rest_within zero state b = if is_at_rest state then Some (resting state) else None
 rest_within (suc n) state b =
     if is_at_rest state then Some (resting state)
-    else if (step state b).again then option_map (emitting_before (step state b).emits) (rest_within n (step state b).next b)
+    else if (step state b).again then option_map (emitting_before (step state b).emits)
+    (rest_within n (step state b).next b)
     else None
 
 abbrev pub rest_if : Bool → State → ℕ → Option Rest

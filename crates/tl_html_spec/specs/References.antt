@@ -20,15 +20,18 @@ rows_within zero table = []
 rows_within (suc n) [] = []
 rows_within (suc n) (b ∷ table) =
     let value = drop (suc (prefix_len not_equals (b ∷ table))) (b ∷ table) in
-    (take_while not_equals (b ∷ table), take_while not_zero value) ∷ rows_within n (drop (suc (prefix_len not_zero value)) value)
+    (take_while not_equals (b ∷ table), take_while not_zero value)
+    ∷ rows_within n (drop (suc (prefix_len not_zero value)) value)
 
 abbrev pub rows : List ℕ → List Row
 rows table = rows_within (length table) table
 
--- the first row whose name the letters begin with: a row stands before those of the names that its own name begins with
+-- the first row whose name the letters begin with: a row stands before those of the names that its
+-- own name begins with
 abbrev pub first_row : List Row → List ℕ → Option Row
 first_row [] letters = None
-first_row (row ∷ rows) letters = if starts_with ◌==◌ letters row.0 then Some row else first_row rows letters
+first_row (row ∷ rows) letters =
+    if starts_with ◌==◌ letters row.0 then Some row else first_row rows letters
 
 -- the longest name that the letters begin with
 abbrev pub named : List ℕ → Option Row
@@ -37,7 +40,8 @@ named (b ∷ letters) = first_row (rows (table_of b)) (b ∷ letters)
 
 -- no name of these rows that the letters begin with is longer than that of the row
 abbrev pub IsLongest : List Row → List ℕ → Row → Type 0
-IsLongest rows letters row = AllByRecursion (λ (other : Row). starts_with ◌==◌ letters other.0 ≡ true → length other.0 ≤ length row.0) rows
+IsLongest rows letters row = AllByRecursion
+    (λ (other : Row). starts_with ◌==◌ letters other.0 ≡ true → length other.0 ≤ length row.0) rows
 
 abbrev pub ends_with_semicolon : List ℕ → Bool
 ends_with_semicolon [] = false
@@ -76,7 +80,8 @@ abbrev pub resolved : Option Reference → List ℕ → List ℕ
 resolved None bytes = codes "&" ++ bytes
 resolved (Some r) bytes = r.gives ++ drop r.takes bytes
 
--- what `&` and these letters and digits, which may end with `;`, give in a value or a text, where this stands after them
+-- what `&` and these letters and digits, which may end with `;`, give in a value or a text, where
+-- this stands after them
 abbrev pub named_value : Bool → List ℕ → List ℕ → List ℕ
 named_value in_value letters after = resolved (named_reference in_value (letters ++ after)) letters
 
@@ -114,8 +119,10 @@ windows_1252 code =
 
 -- surrogates, numbers past the last character, and 0 stand for U+FFFD
 abbrev pub is_no_character : ℕ → Bool
-is_no_character code = (code == 0) || nat_lt 0x10FFFF code || (nat_lt 0xD7FF code && nat_lt code 0xE000)
+is_no_character code =
+    (code == 0) || nat_lt 0x10FFFF code || (nat_lt 0xD7FF code && nat_lt code 0xE000)
 
 -- what the reference of a number gives
 abbrev pub number_value : ℕ → List ℕ
-number_value code = if is_no_character code then encode_utf8 0xFFFD else encode_utf8 (windows_1252 code)
+number_value code =
+    if is_no_character code then encode_utf8 0xFFFD else encode_utf8 (windows_1252 code)

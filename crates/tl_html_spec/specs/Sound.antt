@@ -16,7 +16,8 @@ abbrev pub IsSound : HtmlToken → Type 0
 IsSound (Character b) = ⊤
 IsSound (StartTag name attributes closes) = IsSome name × HaveKeys attributes
 IsSound (EndTag name) = IsSome name
-IsSound (CommentToken bytes) = after_needle (codes "-->") (codes "--" ++ (bytes ++ codes "-->")) ≡ Some []
+IsSound (CommentToken bytes) =
+    after_needle (codes "-->") (codes "--" ++ (bytes ++ codes "-->")) ≡ Some []
 IsSound DoctypeToken = ⊤
 
 abbrev pub AreSound : List HtmlToken → Type 0

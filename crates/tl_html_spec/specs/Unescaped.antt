@@ -1,4 +1,5 @@
--- What a text or a value says: its characters, with each reference looked at from its `&` (13.2.5.72 to .80).
+-- What a text or a value says: its characters, with each reference looked at from its `&`
+-- (13.2.5.72 to .80).
 use Rattle.std.specs.Prelude.{ℕ, zero, suc, ◌+◌, ◌*◌, ◌==◌, Bool, true, false, ◌||◌, not, List, [], ◌∷◌, ◌++◌, Option, Some, None, codes, option_map, if◌then◌else◌}
 use Rattle.std.specs.Char.{is_ascii_alphanumeric, is_ascii_digit, is_ascii_hexdigit, to_ascii_lowercase}
 use Rattle.tl_html_spec.specs.HtmlTokenizer.{digit_value}
@@ -8,7 +9,8 @@ use Rattle.tl_html_spec.specs.References.{Reference, begins_with, named_referenc
 abbrev pub one_before : Reference → Reference
 one_before r = record r { takes = suc r.takes }
 
--- a number of which the digits so far make this, up to where its digits end, or the `;` after them (13.2.5.78, .79)
+-- a number of which the digits so far make this, up to where its digits end, or the `;` after them
+-- (13.2.5.78, .79)
 abbrev pub number_from : (ℕ → Bool) → ℕ → ℕ → List ℕ → Reference
 number_from is_digit base code [] = record { gives = number_value code; takes = 0 }
 number_from is_digit base code (b ∷ s) =
@@ -17,7 +19,8 @@ number_from is_digit base code (b ∷ s) =
 
 -- a number has a digit at least (13.2.5.76, .77)
 abbrev pub number : (ℕ → Bool) → ℕ → List ℕ → Option Reference
-number is_digit base s = if begins_with is_digit s then Some (number_from is_digit base 0 s) else None
+number is_digit base s =
+    if begins_with is_digit s then Some (number_from is_digit base 0 s) else None
 
 -- a number after `#`, with an `x` before it of base 16 (13.2.5.75)
 abbrev pub numeric_reference : List ℕ → Option Reference
@@ -44,7 +47,8 @@ abbrev pub unescaped_after : Bool → ℕ → List ℕ → List ℕ
 unescaped_after in_value n [] = []
 unescaped_after in_value (suc n) (b ∷ s) = unescaped_after in_value n s
 unescaped_after in_value zero (b ∷ s) =
-    if b == 38 then (or_itself (reference in_value s)).gives ++ unescaped_after in_value (or_itself (reference in_value s)).takes s
+    if b == 38 then (or_itself (reference in_value s)).gives
+    ++ unescaped_after in_value (or_itself (reference in_value s)).takes s
     else b ∷ unescaped_after in_value 0 s
 
 abbrev pub unescaped : Bool → List ℕ → List ℕ

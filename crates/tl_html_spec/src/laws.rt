@@ -102,7 +102,8 @@ pub fn references_are_resolved()
         ≡ map Character (unescaped_text text) ++ tokens_from data_state (60 ∷ rest) }
     ensures value { (tag : OpenTag) (key value rest : List ℕ) → list_all is_in_value value ≡ true →
         tokens_from (double_quoted tag key []) (value ++ 34 ∷ rest)
-        ≡ tokens_from (after_attribute_value (with_attribute tag key (unescaped_value value))) rest }
+        ≡ tokens_from (after_attribute_value
+        (with_attribute tag key (unescaped_value value))) rest }
 {}
 
 /// What is escaped is read back, whatever follows it.
@@ -129,7 +130,8 @@ pub fn written_tokens_are_read_back()
 {}
 
 /// The grammar of `tl` reads of a page's form the tokens that the tokenizer of the HTML standard
-/// reads of the page, with the end tags that HTML leaves out, names coded, and its doctype in front.
+/// reads of the page, with the end tags that HTML leaves out, names coded, and its doctype in
+/// front.
 #[tactic(auto, using(crate::proofs::Form::form_read))]
 pub fn html_form_is_read_as_the_page()
     ensures { (page : List ℕ) →

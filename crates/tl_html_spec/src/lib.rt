@@ -2,7 +2,7 @@
 //! `tl`: the definitions that contracts cite, and their laws.
 #![tactic(auto)]
 
-mod form_rows;
+mod examples;
+mod form_examples;
 pub mod laws;
-mod reference_rows;
-mod rows;
+mod reference_examples;

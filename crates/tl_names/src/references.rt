@@ -1,7 +1,7 @@
 //! The named character references of the HTML standard (13.5), a table for each first letter.
 //!
-//! A row is a name, `=`, its characters and a byte 0. A name stands before those that it begins with,
-//! so the first row that fits a text has the longest name.
+//! A row is a name, `=`, its characters and a byte 0. A name stands before those that it begins
+//! with, so the first row that fits a text has the longest name.
 
 #[rattlefmt::skip]
 pub(crate) static UPPER_A: [u8; 271] = *b"\

@@ -57,7 +57,8 @@ joined [] = success []
 joined (list ∷ later) = followed_by list (joined later)
 
 -- what `next` gives of values that are left: the first of them, and the others are left
-abbrev pub YieldsOutcome : {A X : Type 0} → (A → X) → List (Outcome X) → Option (Result A Failure) → List (Outcome X) → Type 0
+abbrev pub YieldsOutcome : {A X : Type 0} → (A → X) → List (Outcome X) → Option (Result A Failure) →
+    List (Outcome X) → Type 0
 YieldsOutcome view before None after = (before ≡ []) × (after ≡ [])
 YieldsOutcome view [] (Some value) after = ⊥
 YieldsOutcome view (outcome ∷ later) (Some value) after = Gives view outcome value × (after ≡ later)

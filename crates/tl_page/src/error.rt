@@ -15,7 +15,8 @@ pub enum Cause {
     TooLong,
 }
 
-/// Why a page or a word is not understood or refused, with the place of the first byte that is wrong.
+/// Why a page or a word is not understood or refused, with the place of the first byte that is
+/// wrong.
 #[derive(Clone, Copy, PartialEq, Eq, Debug)]
 pub struct PageError {
     /// What comes of it.

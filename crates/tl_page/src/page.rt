@@ -40,8 +40,8 @@ pub fn text(page: &[u8]) -> Result<&str, PageError>
     }
 }
 
-/// Reads a page into a document whose pieces are slices of it, as [`tl::parse`] does with a text. To
-/// say what is wrong with a page that is none, ask for its [`text`] and read that.
+/// Reads a page into a document whose pieces are slices of it, as [`tl::parse`] does with a text.
+/// To say what is wrong with a page that is none, ask for its [`text`] and read that.
 pub fn read<'p>(alloc: Global, page: &'p [u8], options: ParserOptions) -> Result<VDom<'p>, Failure>
     ensures gives { Gives document_of (document_in page.now) result }
 
@@ -58,7 +58,8 @@ pub fn read<'p>(alloc: Global, page: &'p [u8], options: ParserOptions) -> Result
     ensures above { IfOk result (λ d. ChildrenFollowParents (document_of d).nodes) }
     ensures interval { IfOk result (λ d. DescendantsAreContiguous (document_of d).nodes) }
     ensures ranges { IfOk result (λ d. AreRangesOfDescendants (document_of d).nodes) }
-    ensures size { IfOk result (λ d. sum_by node_and_attribute_count (document_of d).nodes ≤ length page.now) }
+    ensures size { IfOk result (λ d. sum_by node_and_attribute_count (document_of d).nodes
+        ≤ length page.now) }
     ensures asked { IfOk result (λ d. AreAsked options d.tracking) }
     ensures ids { IfOk result (λ d. AnswerIds d.tracking (document page.now).nodes) }
     ensures classes { IfOk result (λ d. AnswerClasses d.tracking (document page.now).nodes) }

@@ -10,17 +10,17 @@ use Rattle.tl_page.proofs.Pages.{outcome-no_page}
 use Rattle.tl_program.specs.Page.{IsPage}
 use Rattle.tl_program.specs.declared.program.page.Page.TheVariants.{TooLong}
 use Rattle.tl_program.specs.Output.{output_of, outcome_of_document}
-use Rattle.tl_program.specs.Asked.{Asked, Prints, Texts, PrintsAgain, Selects, FindsId, FindsClass, Edits, StandsFor, IsSelectorOf, selector_of}
+use Rattle.tl_program.specs.Action.{Action, Prints, Texts, PrintsAgain, Selects, FindsId, FindsClass, Edits, StandsFor, IsSelectorOf, selector_of}
 
 -- what is too long is not understood, be it text or not
-output_of-long : (asked : Asked) (selector : Option Selector) (input : List ℕ) → largest_u32 < length input → output_of asked selector input ≡ not_understood
-output_of-long asked selector input long = outcome-no_page input (outcome_of_document asked selector) (λ page. let short = page.1 in omega arith)
+output_of-long : (action : Action) (selector : Option Selector) (input : List ℕ) → largest_u32 < length input → output_of action selector input ≡ not_understood
+output_of-long action selector input long = outcome-no_page input (outcome_of_document action selector) (λ page. let short = page.1 in omega arith)
 
 -- so is a page that was too long to be kept
-pub IsPage-not_understood : (asked : Asked) (selector : Option Selector) (left : Option (List ℕ)) → IfSome left (IsPage TooLong)
-    → IfSome left (λ input. output_of asked selector input ≡ not_understood)
-IsPage-not_understood asked selector None is = tt
-IsPage-not_understood asked selector (Some input) is = output_of-long asked selector input is
+pub IsPage-not_understood : (action : Action) (selector : Option Selector) (left : Option (List ℕ)) → IfSome left (IsPage TooLong)
+    → IfSome left (λ input. output_of action selector input ≡ not_understood)
+IsPage-not_understood action selector None is = tt
+IsPage-not_understood action selector (Some input) is = output_of-long action selector input is
 
 -- the plain reader finds what a text stands for
 StandsFor-selector_at : (text : List ℕ) (selector : Option Selector) → selector_at text ≡ selector → StandsFor text selector
@@ -33,7 +33,7 @@ selector_at-StandsFor text None is = sym ((text-none text).0 is)
 selector_at-StandsFor text (Some e) is = sym ((text-only text e).0 is)
 
 -- so it finds the selector of what is asked, of which there is one
-pub IsSelectorOf-selector_of : (asked : Asked) → IsSelectorOf asked (selector_of asked)
+pub IsSelectorOf-selector_of : (action : Action) → IsSelectorOf action (selector_of action)
 IsSelectorOf-selector_of (Selects text) = StandsFor-selector_at text (selector_at text) refl
 IsSelectorOf-selector_of Prints = refl
 IsSelectorOf-selector_of Texts = refl
@@ -42,7 +42,7 @@ IsSelectorOf-selector_of (FindsId id) = refl
 IsSelectorOf-selector_of (FindsClass member) = refl
 IsSelectorOf-selector_of (Edits changes) = refl
 
-pub IsSelectorOf-only : (asked : Asked) (selector : Option Selector) → IsSelectorOf asked selector → selector ≡ selector_of asked
+pub IsSelectorOf-only : (action : Action) (selector : Option Selector) → IsSelectorOf action selector → selector ≡ selector_of action
 IsSelectorOf-only (Selects text) selector is = selector_at-StandsFor text selector is
 IsSelectorOf-only Prints selector is = is
 IsSelectorOf-only Texts selector is = is

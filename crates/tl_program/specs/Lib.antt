@@ -1,11 +1,11 @@
-pub mod Asked
+pub mod Action
 pub mod Failure
 pub mod Marks
 pub mod Output
 pub mod Page
 pub mod Pieces
 pub mod Run
-pub mod Said
+pub mod Args
 pub mod Script
 pub mod Status
 pub mod Steps

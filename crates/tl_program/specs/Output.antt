@@ -20,18 +20,21 @@ use Rattle.tl.specs.Query.{matches_in}
 use Rattle.tl_page.specs.Outcome.{Outcome, joined, not_understood, outcome_of, refused, success}
 use Rattle.tl_page.specs.Page.{outcome_in}
 use Rattle.tl_page.specs.declared.failure.Failure.{Failure}
-use Rattle.tl_program.specs.Asked.{Asked, asked_of, Prints, Texts, PrintsAgain, Selects, FindsId, FindsClass, Edits}
-use Rattle.tl_program.specs.declared.program.asked.Command.{Command}
+use Rattle.tl_program.specs.Action.{Action, action_of, Prints, Texts, PrintsAgain, Selects, FindsId, FindsClass, Edits}
+use Rattle.tl_program.specs.declared.program.commands.Command.{Command}
 
--- the document that a print is read as, printed; a print longer than 4294967295 bytes is not understood
+-- the document that a print is read as, printed; a print longer than 4294967295 bytes is not
+-- understood
 abbrev pub outcome_of_print : Result (List ℕ) TreeFault → Outcome (List ℕ)
 outcome_of_print (Ok text) =
-    if nat_lt largest_u32 (length text) then not_understood else outcome_of (document_print (document text))
+    if nat_lt largest_u32 (length text) then not_understood
+    else outcome_of (document_print (document text))
 outcome_of_print (Err fault) = refused
 
 -- the text of the node of a handle, which is a fault past the table
 abbrev pub text_at : List Node → ℕ → Result (List ℕ) TreeFault
-text_at nodes h = option_map_or (λ node. inner_text nodes node) (slice_get nodes h) (Err (Dangling h))
+text_at nodes h =
+    option_map_or (λ node. inner_text nodes node) (slice_get nodes h) (Err (Dangling h))
 
 -- the text of each top node, joined in order
 abbrev pub texts_of : Document → Outcome (List ℕ)
@@ -57,7 +60,8 @@ number_line n = decimal n ++ line_feed ∷ []
 abbrev pub number_lines : List ℕ → List ℕ
 number_lines = flat_map number_line
 
--- the numbers that a query found are written; a text that stands for no selector finds none, and is refused
+-- the numbers that a query found are written; a text that stands for no selector finds none, and is
+-- refused
 abbrev pub outcome_of_numbers : Option (List ℕ) → Outcome (List ℕ)
 outcome_of_numbers None = refused
 outcome_of_numbers (Some numbers) = success (number_lines numbers)
@@ -67,18 +71,20 @@ abbrev pub outcome_of_query : Option Selector → Document → Outcome (List ℕ
 outcome_of_query selector d = outcome_of_numbers (option_map (matches_in d) selector)
 
 -- what a command makes of a document, by its selector
-abbrev pub outcome_of_document : Asked → Option Selector → Document → Outcome (List ℕ)
+abbrev pub outcome_of_document : Action → Option Selector → Document → Outcome (List ℕ)
 outcome_of_document Prints selector d = outcome_of (document_print d)
 outcome_of_document Texts selector d = texts_of d
 outcome_of_document PrintsAgain selector d = outcome_of_print (document_print d)
 outcome_of_document (Selects text) selector d = outcome_of_query selector d
-outcome_of_document (FindsId id) selector d = success (number_lines (option_to_list (id_scan d.nodes id)))
-outcome_of_document (FindsClass member) selector d = success (number_lines (class_scan d.nodes member))
+outcome_of_document (FindsId id) selector d =
+    success (number_lines (option_to_list (id_scan d.nodes id)))
+outcome_of_document (FindsClass member) selector d =
+    success (number_lines (class_scan d.nodes member))
 outcome_of_document (Edits changes) selector d = outcome_of_edited (apply_changes changes d)
 
 -- what is made of an input; one that is no text, or longer than 4294967295 bytes, is not understood
-abbrev pub output_of : Asked → Option Selector → List ℕ → Outcome (List ℕ)
-output_of asked selector input = outcome_in (outcome_of_document asked selector) input
+abbrev pub output_of : Action → Option Selector → List ℕ → Outcome (List ℕ)
+output_of action selector input = outcome_in (outcome_of_document action selector) input
 
 -- the document that a print is read as
 abbrev pub document_again : Result (List ℕ) TreeFault → Option Document
@@ -90,7 +96,7 @@ abbrev pub document_edited : Edited → Option Document
 document_edited e = if is_some e.refused then None else Some e.document
 
 -- the document whose print a command makes of a document, if it makes one
-abbrev pub printed_document : Asked → Document → Option Document
+abbrev pub printed_document : Action → Document → Option Document
 printed_document Prints d = Some d
 printed_document Texts d = None
 printed_document PrintsAgain d = document_again (document_print d)
@@ -101,16 +107,17 @@ printed_document (Edits changes) d = document_edited (apply_changes changes d)
 
 -- what a command makes of an input, by its selector
 abbrev pub command_output : Command → Option Selector → List ℕ → Outcome (List ℕ)
-command_output command selector input = output_of (asked_of command) selector input
+command_output command selector input = output_of (action_of command) selector input
 
 -- the document whose print a command makes of a document, if it makes one
 abbrev pub command_print : Command → Document → Option Document
-command_print command d = printed_document (asked_of command) d
+command_print command d = printed_document (action_of command) d
 
 -- where there is a document and it is clean, the text is read as its trees
 abbrev pub ReadsBack : Option Document → List ℕ → Type 0
 ReadsBack None text = ⊤
-ReadsBack (Some d) text = IsCleanTable d.nodes d.top → ReadsAs text (trees (walk all_tags d.nodes [] d.top))
+ReadsBack (Some d) text =
+    IsCleanTable d.nodes d.top → ReadsAs text (trees (walk all_tags d.nodes [] d.top))
 
 -- what is given is read as the trees of this document, where there is one and it is clean
 abbrev pub PrintsBack : Option Document → Result (String Global) Failure → Type 0

@@ -31,7 +31,8 @@ module _ (test : Kept → Bool) where
 
   -- each key and value passes
   abbrev pub AttributesPass : Attributes Kept → Type 0
-  AttributesPass a = AllByRecursion PairPasses a.others.entries × IfSome a.id Passes × IfSome a.class Passes
+  AttributesPass a =
+      AllByRecursion PairPasses a.others.entries × IfSome a.id Passes × IfSome a.class Passes
 
   -- each piece of a node passes
   abbrev pub NodePasses : HTMLNode → Type 0

@@ -25,6 +25,6 @@ abbrev pub changes_in : List Step → List Change
 changes_in steps = map change_of steps
 
 -- the lines of what is left of a text, if anything is
-abbrev pub lines_left : Option (Bor (List ℕ)) → List (List ℕ)
-lines_left None = []
-lines_left (Some rest) = slice_split is_line_feed rest.now
+abbrev pub remaining_lines : Option (Bor (List ℕ)) → List (List ℕ)
+remaining_lines None = []
+remaining_lines (Some rest) = slice_split is_line_feed rest.now

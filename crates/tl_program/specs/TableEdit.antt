@@ -1,4 +1,5 @@
--- Edits of a table, each piece of which is held in its own way: what an edit puts is owned, and what it leaves is held as it was.
+-- Edits of a table, each piece of which is held in its own way: what an edit puts is owned, and
+-- what it leaves is held as it was.
 use Rattle.std.specs.Prelude.{◌≡◌, ℕ, nat_lt, List, [], ◌∷◌, length, take, slice_set, Bool, true, false, Option, Some, None, Result, Ok, Err, IsTrue, IsSomeAnd, if◌then◌else◌}
 use Rattle.std.specs.List.{slice_get, AllByRecursion}
 use Rattle.tl_bytes.specs.Held.{Kept, as_owned}
@@ -31,7 +32,8 @@ of_tag change (Raw bytes) = Err not_tag
 of_tag change (Comment bytes) = Err not_tag
 
 -- an edit of a node that is there
-abbrev pub of_node : HTMLTable → ℕ → (HTMLNode → Result HTMLNode Refusal) → Option HTMLNode → Result HTMLTable Refusal
+abbrev pub of_node : HTMLTable → ℕ → (HTMLNode → Result HTMLNode Refusal) → Option HTMLNode →
+    Result HTMLTable Refusal
 of_node t n change None = Err no_node
 of_node t n change (Some node) = map_ok (with_node t n) (change node)
 
@@ -48,16 +50,25 @@ abbrev pub edited_table : Change → HTMLTable → Result HTMLTable Refusal
 edited_table (Names n name) t = at_tag n (λ own. record own { name = as_owned name }) t
 edited_table (Texts n text) t = at_node n (λ _. Ok (Raw (as_owned text))) t
 edited_table (Comments n text) t = at_node n (λ _. Ok (Comment (as_owned text))) t
-edited_table (Sets n key value) t = at_tag n (λ own. record own { attributes = with_attribute own.attributes key (Some (as_owned value)) }) t
-edited_table (Flags n key) t = at_tag n (λ own. record own { attributes = with_attribute own.attributes key None }) t
-edited_table (Unsets n key) t = at_tag n (λ own. record own { attributes = without_attribute own.attributes key }) t
-edited_table (Bares n key) t = at_tag n (λ own. record own { attributes = without_value own.attributes key }) t
-edited_table (Pushes n h) t = at_tag n (λ own. record own { children = with_last room own.children h }) t
-edited_table (Pulls n i) t = at_node n (of_tag (λ own. map_ok (λ handles. record own { children = handles }) (without_handle own.children i))) t
-edited_table (Roots i h) t = if nat_lt i (length t.top) then Ok (record t { top = slice_set t.top i h }) else Err no_place
+edited_table (Sets n key value) t = at_tag n
+    (λ own. record own { attributes = with_attribute own.attributes key (Some (as_owned value)) }) t
+edited_table (Flags n key) t =
+    at_tag n (λ own. record own { attributes = with_attribute own.attributes key None }) t
+edited_table (Unsets n key) t =
+    at_tag n (λ own. record own { attributes = without_attribute own.attributes key }) t
+edited_table (Bares n key) t =
+    at_tag n (λ own. record own { attributes = without_value own.attributes key }) t
+edited_table (Pushes n h) t =
+    at_tag n (λ own. record own { children = with_last room own.children h }) t
+edited_table (Pulls n i) t = at_node n
+    (of_tag (λ own. map_ok (λ handles. record own { children = handles })
+    (without_handle own.children i))) t
+edited_table (Roots i h) t =
+    if nat_lt i (length t.top) then Ok (record t { top = slice_set t.top i h }) else Err no_place
 
 -- what later edits make of the table after an edit, unless it is refused
-abbrev pub next : (HTMLTable → Result HTMLTable Refusal) → Result HTMLTable Refusal → Result HTMLTable Refusal
+abbrev pub next : (HTMLTable → Result HTMLTable Refusal) → Result HTMLTable Refusal →
+    Result HTMLTable Refusal
 next later (Ok t) = later t
 next later (Err refusal) = Err refusal
 

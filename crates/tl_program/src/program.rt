@@ -1,25 +1,25 @@
 //! What the program does, over any reader and writer.
-mod answer;
-mod asked;
+mod args;
+mod commands;
 mod entry;
+mod execute;
 mod failure;
-mod fault;
-mod flushes;
+mod flush_count;
 mod lookup;
 mod marked;
 mod page;
-mod running;
+mod runner;
 mod status;
-mod words;
-mod wrapped;
+mod std_streams;
+mod streams;
 
-pub use answer::edited;
-pub use asked::Command;
+pub use args::command;
+pub use commands::Command;
 pub use entry::run_words;
+pub use execute::edit_and_print;
 pub use failure::Failure;
-pub use fault::{Fault, Input, Output};
 pub use marked::Marked;
-pub use running::{output, run};
+pub use runner::{output, run};
 pub use status::line;
-pub use words::command;
-pub use wrapped::{Reader, Writer};
+pub use std_streams::{Reader, Writer};
+pub use streams::{Fault, Input, Output};

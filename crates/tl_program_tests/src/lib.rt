@@ -2,14 +2,14 @@
 #![tactic(auto)]
 
 #[cfg(test)]
-mod again;
+mod args;
 #[cfg(test)]
 mod marked;
 #[cfg(test)]
 mod program;
 #[cfg(test)]
+mod reprints;
+#[cfg(test)]
 mod scripts;
 #[cfg(test)]
 mod step_lines;
-#[cfg(test)]
-mod words;

@@ -1,10 +1,12 @@
-//! What a marked reader or writer answers, call by call, and that each call is one of what it wraps.
+//! What a marked reader or writer answers, call by call, and that each call is one of what it
+//! wraps.
 use std::io;
 use std::io::{ErrorKind, Read, Write};
 use tl_program::program::{Input, Marked, Output};
 
-// What is read from or written to by a plan: at `!` a call fails, at `.` it gives or takes nothing, at a small letter it
-// gives that letter, or takes a byte, and at a capital it gives as many of it as there is room for.
+// What is read from or written to by a plan: at `!` a call fails, at `.` it gives or takes nothing,
+// at a small letter it gives that letter, or takes a byte, and at a capital it gives as many of it
+// as there is room for.
 #[derive(Drop)]
 struct Planned<'p> {
     plan: &'p [u8],
@@ -64,8 +66,8 @@ impl<'p> Write for Planned<'p> {
     }
 }
 
-// What a read into as much room, at most two bytes, answers: the last byte where it fills the room, `-` where it gives
-// fewer, `.` for none, `!` for a fault.
+// What a read into as much room, at most two bytes, answers: the last byte where it fills the room,
+// `-` where it gives fewer, `.` for none, `!` for a fault.
 fn read_answer(reader: &mut Marked<Planned<'_>>, room: usize) -> u8 {
     let mut buffer = [0u8; 2];
     let room = &mut buffer[..room.min(2)];
@@ -77,7 +79,8 @@ fn read_answer(reader: &mut Marked<Planned<'_>>, room: usize) -> u8 {
     }
 }
 
-// Whether reads into as much room are answered so, each by one call, and the reader is marked from the first fault on.
+// Whether reads into as much room are answered so, each by one call, and the reader is marked from
+// the first fault on.
 fn reads(plan: &[u8], rooms: &[usize], wanted: &[u8]) -> bool {
     let mut reader = Marked::new(Planned::new(plan));
     let mut has_failed = false;
@@ -114,8 +117,8 @@ fn reads_are_those_of_the_reader(rt: HostRuntime) {
     }
 }
 
-// What a write of a byte (`w`), a write of nothing (`n`) or a flush (`f`) answers: `1` or `.` by the bytes taken, `f`,
-// or `!` for a fault.
+// What a write of a byte (`w`), a write of nothing (`n`) or a flush (`f`) answers: `1` or `.` by
+// the bytes taken, `f`, or `!` for a fault.
 fn write_answer(writer: &mut Marked<Planned<'_>>, call: u8) -> u8 {
     if call == b'f' {
         return if writer.flush().is_ok() { b'f' } else { b'!' };
@@ -128,8 +131,8 @@ fn write_answer(writer: &mut Marked<Planned<'_>>, call: u8) -> u8 {
     }
 }
 
-// Whether calls are answered so, each by one call, with as many flushes, and the writer is marked from the first fault
-// on.
+// Whether calls are answered so, each by one call, with as many flushes, and the writer is marked
+// from the first fault on.
 fn writes(plan: &[u8], calls: &[u8], wanted: &[u8], flushes: usize) -> bool {
     let mut writer = Marked::new(Planned::new(plan));
     let mut has_failed = false;

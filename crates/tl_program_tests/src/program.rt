@@ -1,5 +1,6 @@
-//! Runs of the program: their status, what they write, and whether a reader or a writer is marked as failed.
-use crate::words::owned;
+//! Runs of the program: their status, what they write, and whether a reader or a writer is marked
+//! as failed.
+use crate::args::owned_words;
 use std::alloc::{AllocError, Global};
 use std::io;
 use std::io::{ErrorKind, Read, Write};
@@ -7,8 +8,9 @@ use tl_program::program::{Command, Fault, Input, Marked, Output, command, line, 
 
 const NEVER: usize = usize::MAX;
 
-// How a writer takes what it is given: at most `most` bytes a call, with an error at the call `bad`, counted from 0, and
-// with or without one at the first flush, of this kind. It would take what is tried again.
+// How a writer takes what it is given: at most `most` bytes a call, with an error at the call
+// `bad`, counted from 0, and with or without one at the first flush, of this kind. It would take
+// what is tried again.
 #[derive(Clone, Copy)]
 struct Manner {
     most: usize,
@@ -107,18 +109,20 @@ fn narrow_writer<'a>(manner: &'a Manner, taken: &'a mut Vec<u8>) -> Marked<Narro
     })
 }
 
-// Prints a page to a writer of that manner, and answers the status and whether the writer is marked as failed.
-fn printed(alloc: Global, page: &[u8], manner: &Manner, taken: &mut Vec<u8>) -> (u8, bool) {
+// Prints a page to a writer of that manner, and answers the status and whether the writer is marked
+// as failed.
+fn print_by(alloc: Global, page: &[u8], manner: &Manner, taken: &mut Vec<u8>) -> (u8, bool) {
     let mut reader = Marked::new(page);
     let mut writer = narrow_writer(manner, taken);
     let status = run(alloc, &Command::Print, &mut reader, &mut writer);
     (status, writer.failed())
 }
 
-// Whether a page is printed with this status and these bytes, and the writer is marked as failed at status 4 alone.
+// Whether a page is printed with this status and these bytes, and the writer is marked as failed at
+// status 4 alone.
 fn prints(alloc: Global, page: &[u8], manner: &Manner, wanted: u8, print: &[u8]) -> bool {
     let mut taken = Vec::new(alloc);
-    let (status, failed) = printed(alloc, page, manner, &mut taken);
+    let (status, failed) = print_by(alloc, page, manner, &mut taken);
     status == wanted && failed == (wanted == 4) && taken.as_slice() == print
 }
 
@@ -170,21 +174,24 @@ fn prints_to_writers(rt: HostRuntime) {
     }
 }
 
-// A call of a writer, the bytes that it takes or its fault, and whether the writer is marked as failed then.
-fn wrote(manner: &Manner, bytes: &[u8], taken: &mut Vec<u8>) -> (Option<usize>, bool) {
+// A call of a writer, the bytes that it takes or its fault, and whether the writer is marked as
+// failed then.
+fn write_by(manner: &Manner, bytes: &[u8], taken: &mut Vec<u8>) -> (Option<usize>, bool) {
     let mut writer = narrow_writer(manner, taken);
     let answer = writer.write(bytes);
     (answer.ok(), writer.failed())
 }
 
-// Whether a write is answered so and passes on as many bytes, and the writer is marked as failed by a fault alone.
+// Whether a write is answered so and passes on as many bytes, and the writer is marked as failed by
+// a fault alone.
 fn writes(alloc: Global, manner: &Manner, bytes: &[u8], wanted: Option<usize>) -> bool {
     let mut taken = Vec::new(alloc);
-    let (answer, failed) = wrote(manner, bytes, &mut taken);
+    let (answer, failed) = write_by(manner, bytes, &mut taken);
     answer == wanted && failed == wanted.is_none() && taken.len() == wanted.unwrap_or(0)
 }
 
-// How a writer takes bytes, the bytes, and how many of them it takes, or none where it answers a fault.
+// How a writer takes bytes, the bytes, and how many of them it takes, or none where it answers a
+// fault.
 const WRITES: &[(Manner, &[u8], Option<usize>)] = &[
     (THREE_BYTES, b"abcd", Some(3)),
     (FIRST_FAILS, b"abcd", None),
@@ -200,8 +207,8 @@ fn writes_are_answered(rt: HostRuntime) {
     }
 }
 
-// A reader of a text in pieces of three bytes, with an error of this kind at the call `bad`, counted from 0. It would go on
-// with the text where that is tried again.
+// A reader of a text in pieces of three bytes, with an error of this kind at the call `bad`,
+// counted from 0. It would go on with the text where that is tried again.
 #[derive(Drop)]
 struct Pieces<'a> {
     left: &'a [u8],
@@ -225,7 +232,8 @@ impl<'a> Read for Pieces<'a> {
     }
 }
 
-// Prints a page that comes in pieces, and answers the status and whether the reader is marked as failed.
+// Prints a page that comes in pieces, and answers the status and whether the reader is marked as
+// failed.
 fn printed_from_pieces(
     alloc: Global,
     page: &[u8],
@@ -243,8 +251,8 @@ fn printed_from_pieces(
     (status, reader.failed())
 }
 
-// Whether a page that comes in pieces is printed with this status and these bytes, and the reader is marked as failed
-// at status 4 alone.
+// Whether a page that comes in pieces is printed with this status and these bytes, and the reader
+// is marked as failed at status 4 alone.
 fn prints_pieces(alloc: Global, page: &[u8], bad: usize, wanted: u8, print: &[u8]) -> bool {
     let mut written = Vec::new(alloc);
     let (status, failed) = printed_from_pieces(alloc, page, bad, &mut written);
@@ -286,20 +294,20 @@ fn run_words(
 }
 
 // Runs the command of words, as rows give them.
-fn answered(
+fn run_row(
     alloc: Global,
     words: &[&str],
     page: &[u8],
     written: &mut Vec<u8>,
 ) -> Result<u8, AllocError> {
-    let words = owned(alloc, words)?;
+    let words = owned_words(alloc, words)?;
     run_words(alloc, &words, page, written)
 }
 
 // Whether words are answered with this status and these bytes.
 fn are_answered(alloc: Global, words: &[&str], page: &[u8], wanted: u8, bytes: &[u8]) -> bool {
     let mut written = Vec::new(alloc);
-    match answered(alloc, words, page, &mut written) {
+    match run_row(alloc, words, page, &mut written) {
         Ok(status) => status == wanted && written.as_slice() == bytes,
         Err(_) => false,
     }
@@ -397,7 +405,8 @@ static STREAMED: [Streamed; 12] = [
     (&["class", "zz"], b"<p>", b""),
 ];
 
-// Runs the command of the words between two streams, and answers the status and whether each stream is marked as failed.
+// Runs the command of the words between two streams, and answers the status and whether each stream
+// is marked as failed.
 fn run_streams(
     alloc: Global,
     words: &[String],
@@ -416,8 +425,9 @@ fn run_streams(
     }
 }
 
-// Whether a run with a reader that fails at a call, if it comes to that, and a writer of that manner has this status, writes
-// so many bytes of what it is to write, and marks one stream as failed at status 4 and none else.
+// Whether a run with a reader that fails at a call, if it comes to that, and a writer of that
+// manner has this status, writes so many bytes of what it is to write, and marks one stream as
+// failed at status 4 and none else.
 fn streams(
     alloc: Global,
     row: &Streamed,
@@ -427,7 +437,7 @@ fn streams(
     len: usize,
 ) -> Result<bool, AllocError> {
     let (words, page, written) = *row;
-    let words = owned(alloc, words)?;
+    let words = owned_words(alloc, words)?;
     let mut taken = Vec::new(alloc);
     let reader = Pieces {
         left: page,
@@ -507,8 +517,8 @@ fn streams_that_fail(rt: HostRuntime) {
 }
 
 // What the command of the words gives of a page, or the number of its failure.
-fn given(alloc: Global, words: &[&str], page: &[u8]) -> Result<String, u8> {
-    let Ok(words) = owned(alloc, words) else {
+fn output_by(alloc: Global, words: &[&str], page: &[u8]) -> Result<String, u8> {
+    let Ok(words) = owned_words(alloc, words) else {
         return Err(3);
     };
     match command(alloc, &words) {
@@ -519,7 +529,7 @@ fn given(alloc: Global, words: &[&str], page: &[u8]) -> Result<String, u8> {
 
 // Whether words give these bytes of a page, or with another status than 0 nothing and that status.
 fn are_given(alloc: Global, words: &[&str], page: &[u8], status: u8, bytes: &[u8]) -> bool {
-    match given(alloc, words, page) {
+    match output_by(alloc, words, page) {
         Ok(text) => status == 0 && text.as_bytes() == bytes,
         Err(failure) => status == failure && bytes.is_empty(),
     }

@@ -1,5 +1,5 @@
 //! Steps that are taken and steps that are refused, and what the documents print then.
-use crate::again::kept;
+use crate::reprints::kept_page;
 use std::alloc::Global;
 use std::fmt::Write;
 use tl::{ParserOptions, VDom, parse};
@@ -45,14 +45,14 @@ fn leave_borrowed(alloc: Global, page: &str, lines: &str, wanted: &str) -> bool 
 }
 
 fn leave_kept(alloc: Global, page: &str, lines: &str, wanted: &str) -> bool {
-    match kept(alloc, page) {
+    match kept_page(alloc, page) {
         Some(mut guard) => leave(alloc, guard.get_mut_ref(), lines, wanted),
         None => false,
     }
 }
 
-// Pages, lines of steps, and what is left: the print after them, or the cause and the place of the step that is refused, and
-// the print after the steps before it.
+// Pages, lines of steps, and what is left: the print after them, or the cause and the place of the
+// step that is refused, and the print after the steps before it.
 const ROWS: &[(&str, &str, &str)] = &[
     ("<p>x</p>", "", "<p>x</p>"),
     ("<br>x", "name 0 p", "<p></p>x"),

@@ -5,7 +5,8 @@ use std::alloc::{AllocError, Allocator, Global};
 use std::marker::Model;
 use std::rc::Rc;
 
-/// A handle of an allocator, which goes with the last of its handles. A block may be freed by any of them.
+/// A handle of an allocator, which goes with the last of its handles. A block may be freed by any
+/// of them.
 #[derive(Drop)]
 pub struct Shared<A> {
     alloc: Global,
@@ -49,7 +50,8 @@ impl<A> Shared<A> {
 impl<A: Drop> Clone for Shared<A> {
     ghost is_clone = { λ it copy. copy ≡ it };
 
-    /// Another handle of the same allocator. It takes no memory: there is none only where there are 2 ^ 64 - 1 handles.
+    /// Another handle of the same allocator. It takes no memory: there is none only where there are
+    /// 2 ^ 64 - 1 handles.
     #[inline(always)]
     fn clone(&self) -> Result<Self, AllocError> {
         Ok(Shared {

@@ -26,7 +26,7 @@ use Rattle.tl_tree_spec.specs.Stays.{begins_line, is_alone, is_none, is_preforma
 use Rattle.tl_safe.specs.Fitted.{is_empty, is_read, most_open, names_of}
 use Rattle.tl_safe.specs.HtmlTrees.{as_html, stays}
 use Rattle.tl_safe.specs.IsSafe.{text_characters}
-use Rattle.tl_safe.specs.Kept.{is_text_byte}
+use Rattle.tl_safe.specs.Filter.{is_text_byte}
 use Rattle.tl_safe.specs.Lists.{ListedWords}
 use Rattle.tl_safe.specs.Refusals.{are_lawful}
 use Rattle.tl_safe.proofs.Characters.{unescaped-nonzero}

@@ -9,7 +9,7 @@ use Rattle.tl_tree_spec.specs.HtmlTreeBuilder.{html_trees}
 use Rattle.tl_safe.specs.Fitted.{pieces_of, print_pieces}
 use Rattle.tl_safe.specs.HtmlTrees.{as_html, stays}
 use Rattle.tl_safe.specs.IsSafe.{IsSafe, tokens_of}
-use Rattle.tl_safe.specs.Kept.{kept}
+use Rattle.tl_safe.specs.Filter.{kept}
 use Rattle.tl_safe.specs.KeptFitted.{adds_of, kept_fitted}
 use Rattle.tl_safe.specs.Lists.{ListedWords}
 use Rattle.tl_safe.specs.Refusals.{are_lawful}

@@ -9,7 +9,7 @@ use Rattle.tl_html_spec.proofs.Ahead.{or_both}
 use Rattle.tl_html_spec.proofs.Feeds.{feed-byte}
 use Rattle.tl_html_spec.proofs.Looked.{byte-plain}
 use Rattle.tl_safe.specs.IsSafe.{value_characters}
-use Rattle.tl_safe.specs.Kept.{is_link}
+use Rattle.tl_safe.specs.Filter.{is_link}
 use Rattle.tl_safe.specs.Lists.{ListedWords, begins_link, is_link_byte, leads_out, leaves_site}
 use Rattle.tl_safe.specs.Refusals.{are_lawful}
 use Rattle.tl_safe.proofs.Listed.{begins_plainly, listed_fronts}
@@ -62,7 +62,7 @@ any_within v (front ∷ fronts) plain site begins h =
       | inr n ↦ any_within v fronts first.1 sites.1 (sym (ap (λ x. x || list_any (begins_link v) fronts) n) ∙ begins) h
     ]
 
-pub links_within : (p : ListedWords) → are_lawful p ≡ true → list_any leaves_site p.link_beginnings ≡ false → (v : List ℕ) → is_link p v ≡ true → leaves_site (value_characters v) ≡ false
+pub links_within : (p : ListedWords) → are_lawful p ≡ true → list_any leaves_site p.link_prefixes ≡ false → (v : List ℕ) → is_link p v ≡ true → leaves_site (value_characters v) ≡ false
 links_within p lawful site v h =
-    let parts = and_parts (list_any (begins_link v) p.link_beginnings) (list_all is_link_byte v) h in
-    any_within v p.link_beginnings (listed_fronts p lawful) site parts.0 parts.1
+    let parts = and_parts (list_any (begins_link v) p.link_prefixes) (list_all is_link_byte v) h in
+    any_within v p.link_prefixes (listed_fronts p lawful) site parts.0 parts.1

@@ -7,8 +7,8 @@ use Rattle.tl_spec.specs.Lex.Token.{tokens}
 use Rattle.tl_spec.specs.Walk.{all_tags, trees, walk}
 use Rattle.tl_spec.proofs.Tree.Order.{document-whole}
 use Rattle.tl.specs.View.{HTMLTable, document_of, node_view}
-use Rattle.tl_safe.specs.Kept.{kept}
-use Rattle.tl_safe.specs.Left.{row}
+use Rattle.tl_safe.specs.Filter.{kept}
+use Rattle.tl_safe.specs.Remaining.{row}
 use Rattle.tl_safe.specs.Lists.{ListedWords}
 
 -- the rows of a document just read are what is kept of the trees of its text

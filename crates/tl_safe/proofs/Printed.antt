@@ -23,7 +23,7 @@ use Rattle.tl_spec.proofs.Print.Images.{image-pairs_in_order}
 use Rattle.tl_html_spec.specs.HtmlTokenizer.{Character, EndTag, HtmlToken, StartTag, data_state, tokens_in_page}
 use Rattle.tl_safe.specs.Lists.{ListedWords, is_among}
 use Rattle.tl_safe.specs.Refusals.{are_lawful}
-use Rattle.tl_safe.specs.Kept.{is_text_byte, kept, stays, value_stays}
+use Rattle.tl_safe.specs.Filter.{is_text_byte, kept, is_allowed, is_allowed_value}
 use Rattle.tl_safe.specs.IsSafe.{IsSafe, a_text, a_void_element, an_element, end_of, html_attribute, is_written, nothing, safe_pairs, start_of, text_characters, tokens_of}
 use Rattle.tl_safe.proofs.Tokenizer.{AreNew, end-read, read, start-read, text-last, text-run}
 use Rattle.tl_safe.proofs.Trees.{AreKept, kept-AreKept, kept-clean, kept-own}
@@ -187,17 +187,17 @@ module _ (p : ListedWords) (lawful : are_lawful p ≡ true) where
 
   -- keys
 
-  key-lossy : (q : Pair) → stays p q ≡ true → utf8_lossy q.0 ≡ q.0
-  key-lossy (key, None) h = (listed_key p lawful key (and_parts (is_among p.keys key) (value_stays p key []) h).0).lossy
-  key-lossy (key, Some value) h = (listed_key p lawful key (and_parts (is_among p.keys key) (value_stays p key value) h).0).lossy
+  key-lossy : (q : Pair) → is_allowed p q ≡ true → utf8_lossy q.0 ≡ q.0
+  key-lossy (key, None) h = (listed_key p lawful key (and_parts (is_among p.keys key) (is_allowed_value p key []) h).0).lossy
+  key-lossy (key, Some value) h = (listed_key p lawful key (and_parts (is_among p.keys key) (is_allowed_value p key value) h).0).lossy
 
-  keys-lossy : (ps : List Pair) → list_all (stays p) ps ≡ true → keys_of (map lossy_pair ps) ≡ keys_of ps
+  keys-lossy : (ps : List Pair) → list_all (is_allowed p) ps ≡ true → keys_of (map lossy_pair ps) ≡ keys_of ps
   keys-lossy [] h = refl
   keys-lossy (q ∷ ps) h =
-      let here = and_parts (stays p q) (list_all (stays p) ps) h in
+      let here = and_parts (is_allowed p q) (list_all (is_allowed p) ps) h in
       ap₂ (λ k ks. k ∷ ks) (key-lossy q here.0) (keys-lossy ps here.1)
 
-  new-keys : (a : PlainAttributes) → HasOwnKeys a → list_all (stays p) (printed_pairs a) ≡ true → AreNew [] (map lossy_pair (printed_pairs a))
+  new-keys : (a : PlainAttributes) → HasOwnKeys a → list_all (is_allowed p) (printed_pairs a) ≡ true → AreNew [] (map lossy_pair (printed_pairs a))
   new-keys a own h =
       new-from [] (map lossy_pair (printed_pairs a)) (subst (IsDistinct bytes_eq) (sym (keys-lossy (printed_pairs a) h)) (distinct-printed a own))
 

@@ -15,8 +15,8 @@ use Rattle.tl_spec.proofs.Walk.Walks.{walk-nil}
 use Rattle.tl.specs.View.{node_view}
 use Rattle.tl_safe.specs.Lists.{ListedWords, is_among, opaque_names}
 use Rattle.tl_safe.specs.Refusals.{are_lawful}
-use Rattle.tl_safe.specs.Kept.{joined, kept, kept_tag}
-use Rattle.tl_safe.specs.Left.{end_print, frame_print, frame_steps, handle_print, node_print, owed, owed_from, row, steps}
+use Rattle.tl_safe.specs.Filter.{joined, kept, kept_tag}
+use Rattle.tl_safe.specs.Remaining.{end_print, frame_print, frame_steps, handle_print, node_print, owed, owed_from, row, steps}
 use Rattle.tl_safe.specs.declared.walk.Frame.{Frame}
 use Rattle.tl_safe.proofs.Listed.{listed_tag}
 

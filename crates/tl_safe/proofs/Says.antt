@@ -9,7 +9,7 @@ use Rattle.tl_html_spec.specs.Unescaped.{number, number_from, numeric_reference,
 use Rattle.tl_html_spec.proofs.Ahead.{AreLetters, apart, is_name_byte}
 use Rattle.tl_html_spec.proofs.Feeds.{feed-byte, feed-word, is_no_return}
 use Rattle.tl_html_spec.proofs.Looked.{byte-plain, letters-read, passes, semicolon-read}
-use Rattle.tl_safe.specs.Kept.{written_byte, written_value}
+use Rattle.tl_safe.specs.Filter.{written_byte, written_value}
 use Rattle.tl_safe.specs.IsSafe.{value_characters}
 use Rattle.tl_safe.proofs.Values.{written_by, written_by-all}
 

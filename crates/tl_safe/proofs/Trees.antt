@@ -15,7 +15,7 @@ use Rattle.tl_spec.specs.Print.Clean.{AreCleanPairs, HaveOwnKeys, IsClean, IsCle
 use Rattle.tl_spec.specs.Tree.Forest.{Forest, none, text, comment, tag, PlainTag}
 use Rattle.tl_safe.specs.Lists.{ListedWords, is_among, opaque_names}
 use Rattle.tl_safe.specs.Refusals.{are_lawful}
-use Rattle.tl_safe.specs.Kept.{is_text_byte, is_value_byte, joined, kept, kept_attributes, kept_value, stays, value_stays, written_pair, written_pairs, written_value}
+use Rattle.tl_safe.specs.Filter.{is_text_byte, is_value_byte, joined, kept, kept_attributes, kept_value, is_allowed, is_allowed_value, written_pair, written_pairs, written_value}
 use Rattle.tl_safe.specs.IsSafe.{is_written}
 use Rattle.tl_safe.proofs.Listed.{listed_key, listed_tag}
 use Rattle.tl_safe.proofs.Values.{all-stay, pairs-written}
@@ -51,7 +51,7 @@ module _ (p : ListedWords) where
 
   kept-named : (key : List ℕ) (v : Option (List ℕ)) → pair_if_some key (kept_value p key v) ≡ written_pairs p (pair_if_some key v)
   kept-named key None = refl
-  kept-named key (Some v) = here (stays p (key, Some v))
+  kept-named key (Some v) = here (is_allowed p (key, Some v))
     where
       here : (b : Bool) → pair_if_some key (if b then Some (written_value v) else None) ≡ map written_pair (cond b ((key, Some v) ∷ []) [])
       here true = refl
@@ -59,7 +59,7 @@ module _ (p : ListedWords) where
 
   pub written_pairs-append : (ps qs : List Pair) → written_pairs p (ps ++ qs) ≡ written_pairs p ps ++ written_pairs p qs
   written_pairs-append ps qs =
-      ap (map written_pair) (filter-append (stays p) ps qs) ∙ map-append written_pair (filter (stays p) ps) (filter (stays p) qs)
+      ap (map written_pair) (filter-append (is_allowed p) ps qs) ∙ map-append written_pair (filter (is_allowed p) ps) (filter (is_allowed p) qs)
 
   kept-printed : (a : PlainAttributes) → printed_pairs (kept_attributes p a) ≡ written_pairs p (printed_pairs a)
   kept-printed a =
@@ -94,11 +94,11 @@ module _ (p : ListedWords) where
 
   -- keys
 
-  others-filter : (es : List Pair) → AreOthers (λ key. key) es → AreOthers (λ key. key) (filter (stays p) es)
+  others-filter : (es : List Pair) → AreOthers (λ key. key) es → AreOthers (λ key. key) (filter (is_allowed p) es)
   others-filter [] h = tt
-  others-filter (e ∷ es) h = here (stays p e) (others-filter es h.1)
+  others-filter (e ∷ es) h = here (is_allowed p e) (others-filter es h.1)
     where
-      here : (b : Bool) → AreOthers (λ key. key) (filter (stays p) es) → AreOthers (λ key. key) (cond b (e ∷ filter (stays p) es) (filter (stays p) es))
+      here : (b : Bool) → AreOthers (λ key. key) (filter (is_allowed p) es) → AreOthers (λ key. key) (cond b (e ∷ filter (is_allowed p) es) (filter (is_allowed p) es))
       here true rest = (h.0, rest)
       here false rest = rest
 
@@ -116,8 +116,8 @@ module _ (p : ListedWords) where
 
   own-kept : (a : PlainAttributes) → HasOwnKeys a → HasOwnKeys (kept_attributes p a)
   own-kept a h = record {
-    distinct = subst (IsDistinct bytes_eq) (sym (keys-written (filter (stays p) a.others))) (IsDistinct-keys_filter bytes_eq (stays p) a.others h.distinct);
-    others = others-written (filter (stays p) a.others) (others-filter a.others h.others);
+    distinct = subst (IsDistinct bytes_eq) (sym (keys-written (filter (is_allowed p) a.others))) (IsDistinct-keys_filter bytes_eq (is_allowed p) a.others h.distinct);
+    others = others-written (filter (is_allowed p) a.others) (others-filter a.others h.others);
   }
 
   joined-own : (f g : Forest PlainTag) → HaveOwnKeys f → HaveOwnKeys g → HaveOwnKeys (joined f g)
@@ -153,14 +153,14 @@ module _ (p : ListedWords) where
         let here = and_parts (is_value_byte b) (list_all is_value_byte s) h in
         and_from _ _ (and_parts (not (b == 34)) (not (b == 0)) (and_parts (not (b == 34) && not (b == 0)) (not (b == 27)) here.0).0).0 (no_quote s here.1)
 
-    clean-pairs : (ps : List Pair) → list_all (stays p) ps ≡ true → AreCleanPairs ps
+    clean-pairs : (ps : List Pair) → list_all (is_allowed p) ps ≡ true → AreCleanPairs ps
     clean-pairs [] h = tt
     clean-pairs ((key, None) ∷ ps) h =
-        let here = and_parts (stays p (key, None)) (list_all (stays p) ps) h in
-        ((listed_key p lawful key (and_parts (is_among p.keys key) (value_stays p key []) here.0).0).name, tt, clean-pairs ps here.1)
+        let here = and_parts (is_allowed p (key, None)) (list_all (is_allowed p) ps) h in
+        ((listed_key p lawful key (and_parts (is_among p.keys key) (is_allowed_value p key []) here.0).0).name, tt, clean-pairs ps here.1)
     clean-pairs ((key, Some value) ∷ ps) h =
-        let here = and_parts (stays p (key, Some value)) (list_all (stays p) ps) h in
-        let parts = and_parts (is_among p.keys key) (value_stays p key value) here.0 in
+        let here = and_parts (is_allowed p (key, Some value)) (list_all (is_allowed p) ps) h in
+        let parts = and_parts (is_among p.keys key) (is_allowed_value p key value) here.0 in
         ((listed_key p lawful key parts.0).name, no_quote value (and_parts _ _ (and_parts _ _ parts.1).0).0, clean-pairs ps here.1)
 
     clean_start : (name : List ℕ) → IsName name → (ps : List Pair) → AreCleanPairs ps → IsCleanStart name ps

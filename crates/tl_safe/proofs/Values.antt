@@ -12,9 +12,9 @@ use Rattle.tl_spec.proofs.Print.Lossy.{lossy-AllPass}
 use Rattle.tl_html_spec.proofs.Ahead.{apart}
 use Rattle.tl_safe.specs.Lists.{ListedWords, begins_link, is_among, is_beginning_byte, is_link_byte, leads_out, leaves_site}
 use Rattle.tl_safe.specs.Refusals.{are_lawful}
-use Rattle.tl_safe.specs.Kept.{is_link, is_own_byte, is_own_name, is_value_byte, naming_keys, stays, value_stays, written_byte, written_pair, written_pairs, written_value}
+use Rattle.tl_safe.specs.Filter.{is_link, is_own_byte, is_own_name, is_value_byte, naming_keys, is_allowed, is_allowed_value, written_byte, written_pair, written_pairs, written_value}
 use Rattle.tl_safe.specs.IsSafe.{is_written, is_written_byte}
-use Rattle.tl_safe.proofs.Listed.{listed_beginnings, stays-lossy}
+use Rattle.tl_safe.proofs.Listed.{listed_beginnings, is_allowed-lossy}
 
 -- a byte, by what it is
 abbrev pub written_by : Bool → Bool → ℕ → List ℕ
@@ -130,16 +130,16 @@ asked-written false test v f h = refl
 module _ (p : ListedWords) (lawful : are_lawful p ≡ true) where
   link-written : (v : List ℕ) → is_link p v ≡ true → is_link p (written_value v) ≡ true
   link-written v h =
-      let parts = and_parts (list_any (begins_link v) p.link_beginnings) (list_all is_link_byte v) h in
-      and_from _ _ (any-written v p.link_beginnings (listed_beginnings p lawful) parts.0) (written-all is_link_byte refl refl v parts.1)
+      let parts = and_parts (list_any (begins_link v) p.link_prefixes) (list_all is_link_byte v) h in
+      and_from _ _ (any-written v p.link_prefixes (listed_beginnings p lawful) parts.0) (written-all is_link_byte refl refl v parts.1)
 
   own-written : (v : List ℕ) → is_own_name p v ≡ true → is_own_name p (written_value v) ≡ true
   own-written v h = ap (is_own_name p) (own-same v (and_parts _ (list_all is_own_byte v) h).1) ∙ h
 
-  pub pair-written : (q : Pair) → stays p q ≡ true → is_written p (written_pair q) ≡ true
+  pub pair-written : (q : Pair) → is_allowed p q ≡ true → is_written p (written_pair q) ≡ true
   pair-written (key, None) h = h
   pair-written (key, Some v) h =
-      let parts = and_parts (is_among p.keys key) (value_stays p key v) h in
+      let parts = and_parts (is_among p.keys key) (is_allowed_value p key v) h in
       let tests = and_parts _ (not (is_among naming_keys key) || is_own_name p v) parts.1 in
       let first = and_parts (list_all is_value_byte v) (not (is_among p.link_keys key) || is_link p v) tests.0 in
       and_from _ _
@@ -151,9 +151,9 @@ module _ (p : ListedWords) (lawful : are_lawful p ≡ true) where
 
   pub pairs-written : (ps : List Pair) → list_all (is_written p) (written_pairs p ps) ≡ true
   pairs-written [] = refl
-  pairs-written (q ∷ ps) = here (stays p q) refl (pairs-written ps)
+  pairs-written (q ∷ ps) = here (is_allowed p q) refl (pairs-written ps)
     where
-      here : (b : Bool) → stays p q ≡ b → list_all (is_written p) (written_pairs p ps) ≡ true → list_all (is_written p) (map written_pair (cond b (q ∷ filter (stays p) ps) (filter (stays p) ps))) ≡ true
+      here : (b : Bool) → is_allowed p q ≡ b → list_all (is_written p) (written_pairs p ps) ≡ true → list_all (is_written p) (map written_pair (cond b (q ∷ filter (is_allowed p) ps) (filter (is_allowed p) ps))) ≡ true
       here true e rest = and_from _ _ (pair-written q e) rest
       here false e rest = rest
 
@@ -163,18 +163,18 @@ module _ (p : ListedWords) (lawful : are_lawful p ≡ true) where
   free-lossy s h = all_pass is_written_byte (utf8_lossy s) (lossy-AllPass is_written_byte refl refl refl s (passes is_written_byte s h))
 
   pub written-lossy : (q : Pair) → is_written p q ≡ true → is_written p (lossy_pair q) ≡ true
-  written-lossy (key, None) h = stays-lossy p lawful (key, None) h
+  written-lossy (key, None) h = is_allowed-lossy p lawful (key, None) h
   written-lossy (key, Some v) h =
-      let parts = and_parts (stays p (key, Some v)) (list_all is_written_byte v) h in
-      and_from _ _ (stays-lossy p lawful (key, Some v) parts.0) (free-lossy v parts.1)
+      let parts = and_parts (is_allowed p (key, Some v)) (list_all is_written_byte v) h in
+      and_from _ _ (is_allowed-lossy p lawful (key, Some v) parts.0) (free-lossy v parts.1)
 
 -- what is written stays
-pub written-stays : (p : ListedWords) (q : Pair) → is_written p q ≡ true → stays p q ≡ true
-written-stays p (key, None) h = h
-written-stays p (key, Some v) h = (and_parts (stays p (key, Some v)) (list_all is_written_byte v) h).0
+pub written-is_allowed : (p : ListedWords) (q : Pair) → is_written p q ≡ true → is_allowed p q ≡ true
+written-is_allowed p (key, None) h = h
+written-is_allowed p (key, Some v) h = (and_parts (is_allowed p (key, Some v)) (list_all is_written_byte v) h).0
 
-pub all-stay : (p : ListedWords) (ps : List Pair) → list_all (is_written p) ps ≡ true → list_all (stays p) ps ≡ true
+pub all-stay : (p : ListedWords) (ps : List Pair) → list_all (is_written p) ps ≡ true → list_all (is_allowed p) ps ≡ true
 all-stay p [] h = refl
 all-stay p (q ∷ ps) h =
     let here = and_parts (is_written p q) (list_all (is_written p) ps) h in
-    and_from _ _ (written-stays p q here.0) (all-stay p ps here.1)
+    and_from _ _ (written-is_allowed p q here.0) (all-stay p ps here.1)

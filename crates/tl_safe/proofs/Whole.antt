@@ -6,7 +6,7 @@ use Rattle.std.proofs.lemmas.List.Elements.{All-from_get_or}
 use Rattle.std.proofs.lemmas.List.Folds.{list_all_at}
 use Rattle.std.proofs.lemmas.List.Sums.{list_all-from_AllPass}
 use Rattle.memchr.specs.Find.{IsFirstByte, is_byte2, is_byte3}
-use Rattle.tl_safe.specs.Kept.{is_text_byte, is_value_byte}
+use Rattle.tl_safe.specs.Filter.{is_text_byte, is_value_byte}
 use Rattle.tl_safe.specs.IsSafe.{is_written_byte}
 
 -- a search for a byte that may not stand, and a test of all bytes

@@ -8,7 +8,7 @@ use Rattle.tl_spec.specs.Lex.AttributeList.{printed_pairs}
 use Rattle.tl_spec.specs.Tree.Forest.{PlainTag}
 use Rattle.tl_spec.specs.Print.{print_pairs, print_start, print_value}
 use Rattle.tl_safe.specs.Lists.{ListedWords}
-use Rattle.tl_safe.specs.Kept.{is_text_byte, kept_tag, stays, written_pair, written_pairs, written_value}
+use Rattle.tl_safe.specs.Filter.{is_text_byte, kept_tag, is_allowed, written_pair, written_pairs, written_value}
 use Rattle.tl_safe.specs.IsSafe.{is_written_byte}
 use Rattle.tl_safe.proofs.Trees.{kept-pairs}
 use Rattle.tl_safe.proofs.Values.{written-same}
@@ -36,9 +36,9 @@ one_more q qs = ap (λ x. x ++ print_pairs qs) (sym (append-nil (codes " " ++ ut
 
 -- a pair, and those after it
 pub pairs_more : (p : ListedWords) (q : Pair) (qs : List Pair) → print_pairs (written_pairs p (q ∷ qs)) ≡ print_pairs (written_pairs p (q ∷ [])) ++ print_pairs (written_pairs p qs)
-pairs_more p q qs = here (stays p q)
+pairs_more p q qs = here (is_allowed p q)
   where
-    here : (b : Bool) → print_pairs (map written_pair (cond b (q ∷ filter (stays p) qs) (filter (stays p) qs)))
+    here : (b : Bool) → print_pairs (map written_pair (cond b (q ∷ filter (is_allowed p) qs) (filter (is_allowed p) qs)))
         ≡ print_pairs (map written_pair (cond b (q ∷ []) [])) ++ print_pairs (written_pairs p qs)
     here true = one_more (written_pair q) (written_pairs p qs)
     here false = refl

@@ -185,7 +185,8 @@ module _ (adds : List ℕ → Bool) where
       record later { pieces = map says texts ++ later.pieces }
   fit place (comment bytes more) = fit place more
   fit place (tag own children more) =
-      sequence (tag_run own (λ (p : Place). fit p children) place (room_for adds own.name place.around))
+      sequence (tag_run own (λ (p : Place). fit p children) place
+      (room_for adds own.name place.around))
       (λ (p : Place). fit p more)
 
 -- trees of pieces: what stands in the innermost open element, and after it in those around it

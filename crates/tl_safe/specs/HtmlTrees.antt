@@ -8,7 +8,10 @@ use Rattle.tl_tree_spec.specs.Stays.{stay}
 use Rattle.tl_safe.specs.IsSafe.{html_attribute, text_characters}
 
 abbrev pub html_tag : PlainTag → HtmlTag
-html_tag own = record { name = own.name; attributes = map html_attribute (printed_pairs own.attributes) }
+html_tag own = record {
+  name = own.name;
+  attributes = map html_attribute (printed_pairs own.attributes);
+}
 
 abbrev pub as_html : Forest PlainTag → HtmlForest
 as_html none = none

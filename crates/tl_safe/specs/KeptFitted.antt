@@ -2,7 +2,7 @@
 use Rattle.std.specs.Prelude.{ℕ, Bool, List}
 use Rattle.tl_spec.specs.Tree.Forest.{Forest, PlainTag}
 use Rattle.tl_safe.specs.Fitted.{fitted}
-use Rattle.tl_safe.specs.Kept.{kept}
+use Rattle.tl_safe.specs.Filter.{kept}
 use Rattle.tl_safe.specs.Lists.{ListedWords, is_among}
 
 -- a part of a table that is missing is added where the policy lists it

@@ -1,12 +1,12 @@
 pub mod Lists
-pub mod Kept
+pub mod Filter
 pub mod IsSafe
 pub mod Fitted
 pub mod KeptFitted
 pub mod Rows
 pub mod HtmlTrees
-pub mod Words
+pub mod Names
 pub mod Policies
-pub mod Left
+pub mod Remaining
 pub mod Writes
 pub mod Refusals

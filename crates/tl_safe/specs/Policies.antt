@@ -1,9 +1,9 @@
 -- What a policy and a refusal show.
 use Rattle.std.specs.Prelude.{ℕ, List}
 use Rattle.tl_spec.specs.Tree.Forest.{Forest, PlainTag}
-use Rattle.tl_safe.specs.Kept.{kept, trees_of}
+use Rattle.tl_safe.specs.Filter.{kept, trees_of}
 use Rattle.tl_safe.specs.Lists.{ListedWords}
-use Rattle.tl_safe.specs.Words.{listed_words}
+use Rattle.tl_safe.specs.Names.{listed_words}
 use Rattle.tl_safe.specs.declared.policy.Policy.{Policy}
 
 -- the words that a policy lists

@@ -2,7 +2,7 @@
 use Rattle.std.specs.Prelude.{ℕ, Bool, not, ◌&&◌, ◌==◌, List, [], ◌∷◌, Option, Some, None, is_none, codes, if◌then◌else◌}
 use Rattle.std.specs.List.{list_all, starts_with}
 use Rattle.std.specs.Option.{option_map, option_or}
-use Rattle.tl_safe.specs.Lists.{ListedWords, active_keys, active_schemes, begins_path, begins_with_any, bending_names, has_scheme, is_among, is_beginning_byte, is_key_byte, is_tag_byte, is_word_of, known_link_keys, opaque_names}
+use Rattle.tl_safe.specs.Lists.{ListedWords, active_keys, active_schemes, begins_path, begins_with_any, structural_names, has_scheme, is_among, is_beginning_byte, is_key_byte, is_tag_byte, is_word_of, known_link_keys, opaque_names}
 use Rattle.tl_safe.specs.declared.refusal.PolicyError.{PolicyError}
 use Rattle.tl_safe.specs.declared.refusal.Reason.{Reason}
 use Rattle.tl_safe.specs.declared.refusal.Reason.TheVariants.{MalformedTag, OpaqueTag, StructuralTag, MalformedKey, ScriptKey, ActiveKey, LinkKey, MalformedLink, ActiveScheme, NoScheme, MalformedPrefix}
@@ -12,7 +12,7 @@ abbrev pub tag_reason : List ℕ → Option Reason
 tag_reason name =
     if not (is_word_of is_tag_byte name) then Some MalformedTag
     else if is_among opaque_names name then Some OpaqueTag
-    else if is_among bending_names name then Some StructuralTag
+    else if is_among structural_names name then Some StructuralTag
     else None
 
 -- why no policy with these link keys may list a key, if none may
@@ -35,8 +35,8 @@ link_reason word =
 
 -- why no policy may have a prefix, if none may
 abbrev pub prefix_reason : List ℕ → Option Reason
-prefix_reason prefix =
-    if is_word_of is_key_byte prefix then None else Some MalformedPrefix
+prefix_reason id_prefix =
+    if is_word_of is_key_byte id_prefix then None else Some MalformedPrefix
 
 -- a word, and why no policy may list it
 abbrev pub Refusal : Type 0
@@ -59,8 +59,8 @@ first_refusal p =
     option_or (option_or (option_or
     (first_refused tag_reason p.tags)
     (first_refused (key_reason p.link_keys) p.keys))
-    (first_refused link_reason p.link_beginnings))
-    (first_refused prefix_reason (p.prefix ∷ []))
+    (first_refused link_reason p.link_prefixes))
+    (first_refused prefix_reason (p.id_prefix ∷ []))
 
 -- a policy of these lists is one
 abbrev pub are_lawful : ListedWords → Bool

@@ -4,14 +4,15 @@ use Rattle.std.specs.Prelude.{ℕ, List, ◌∷◌, codes}
 use Rattle.tl_html_spec.specs.Written.{written}
 use Rattle.tl_tree_spec.specs.HtmlForest.{html_tokens_of}
 use Rattle.tl_safe.specs.HtmlTrees.{as_html}
-use Rattle.tl_safe.specs.Kept.{trees_of}
+use Rattle.tl_safe.specs.Filter.{trees_of}
 use Rattle.tl_safe.specs.KeptFitted.{kept_fitted}
-use Rattle.tl_safe.specs.Lists.{ListedWords, page_lists}
+use Rattle.tl_safe.specs.Lists.{ListedWords, blog_lists}
 
 -- the lists of the page, with these tags beside its own
 abbrev pub lists_with : List (List ℕ) → ListedWords
-lists_with tags = record page_lists { tags = tags }
+lists_with tags = record blog_lists { tags = tags }
 
 -- what is kept of a page by lists with these tags, made to stay, as `innerHTML` writes it
 abbrev pub fitted_with : List (List ℕ) → String → List ℕ
-fitted_with tags page = written (html_tokens_of (as_html (kept_fitted (lists_with tags) (trees_of (codes page)))))
+fitted_with tags page =
+    written (html_tokens_of (as_html (kept_fitted (lists_with tags) (trees_of (codes page)))))

@@ -11,7 +11,7 @@ use Rattle.tl_spec.specs.Print.{print_pairs, print_start, print_value}
 use Rattle.tl_spec.specs.Walk.{plain_node}
 use Rattle.tl_attributes.specs.AttributesView.{value_view}
 use Rattle.tl_bytes.specs.Held.{Kept}
-use Rattle.tl_safe.specs.Kept.{kept_tag, written_pairs}
+use Rattle.tl_safe.specs.Filter.{kept_tag, written_pairs}
 use Rattle.tl_safe.specs.Policies.{lists_of}
 use Rattle.tl_safe.specs.declared.policy.Policy.{Policy}
 

@@ -19,7 +19,8 @@ pub fn tags_taken_out()
         ≡ codes "<h1>xy</h1>" }
     ensures item_across_b { fitted_with (codes "li" ∷ codes "b" ∷ []) "<li>x<b><li>y"
         ≡ codes "<li>x<b>y</b></li>" }
-    ensures row { fitted_with (codes "table" ∷ codes "tr" ∷ []) "<table> <tr>x" ≡ codes "<table> </table>" }
+    ensures row { fitted_with (codes "table" ∷ codes "tr" ∷ []) "<table> <tr>x"
+        ≡ codes "<table> </table>" }
 {}
 
 /// Parts of tables that are missing are added where they are listed.
@@ -38,8 +39,10 @@ pub fn parts_of_tables()
 /// A line feed at the front of `pre` goes, by a reference too.
 pub fn lines()
     ensures feeds { fitted_with (codes "pre" ∷ []) "<pre>\n\nx</pre>" ≡ codes "<pre>x</pre>" }
-    ensures reference { fitted_with (codes "pre" ∷ []) "<pre>&#10;&lt;</pre>" ≡ codes "<pre>&lt;</pre>" }
-    ensures unlisted { fitted_with (codes "pre" ∷ []) "<pre><i>\n</i>x\n</pre>" ≡ codes "<pre>x\n</pre>" }
+    ensures reference { fitted_with (codes "pre" ∷ []) "<pre>&#10;&lt;</pre>"
+        ≡ codes "<pre>&lt;</pre>" }
+    ensures unlisted { fitted_with (codes "pre" ∷ []) "<pre><i>\n</i>x\n</pre>"
+        ≡ codes "<pre>x\n</pre>" }
     ensures after_a_tag { fitted_with (codes "pre" ∷ codes "b" ∷ []) "<pre><b></b>\nx</pre>"
         ≡ codes "<pre><b></b>\nx</pre>" }
 {}

@@ -11,7 +11,7 @@ ghost use Rattle.tl_tree_spec.specs.HtmlTreeBuilder.{html_trees};
 ghost use Rattle.tl_safe.specs.Fitted.{pieces_of, print_pieces};
 ghost use Rattle.tl_safe.specs.HtmlTrees.{as_html};
 ghost use Rattle.tl_safe.specs.IsSafe.{IsSafe, tokens_of, value_characters};
-ghost use Rattle.tl_safe.specs.Kept.{is_link, kept, written_value};
+ghost use Rattle.tl_safe.specs.Filter.{is_link, kept, written_value};
 ghost use Rattle.tl_safe.specs.KeptFitted.{adds_of, kept_fitted};
 ghost use Rattle.tl_safe.specs.Lists.{ListedWords, leaves_site};
 ghost use Rattle.tl_safe.specs.Refusals.{are_lawful};
@@ -29,13 +29,13 @@ pub fn written_values_say_the_same()
 #[tactic(auto, using(crate::proofs::Links::links_within))]
 pub fn links_stay_within_the_site()
     ensures { (p : ListedWords) → are_lawful p ≡ true →
-        list_any leaves_site p.link_beginnings ≡ false →
+        list_any leaves_site p.link_prefixes ≡ false →
         (value : List ℕ) → is_link p value ≡ true →
         leaves_site (value_characters value) ≡ false }
 {}
 
-/// The print of what a lawful policy keeps of trees, made to stay: it is safe, `tl` reads it as these
-/// trees, and so do the tokenizer and the tree builder of the HTML standard.
+/// The print of what a lawful policy keeps of trees, made to stay: it is safe, `tl` reads it as
+/// these trees, and so do the tokenizer and the tree builder of the HTML standard.
 #[tactic(auto, using(crate::proofs::KeptFitted::form, crate::proofs::KeptFitted::pieces, crate::proofs::KeptFitted::reads, crate::proofs::KeptFitted::standard, crate::proofs::KeptFitted::browser))]
 pub fn kept_trees_that_are_fitted_stay()
     ensures form { (p : ListedWords) → are_lawful p ≡ true → (f : Forest PlainTag) →

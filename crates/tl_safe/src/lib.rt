@@ -9,17 +9,17 @@ ghost use Rattle.tl_html_spec.specs.HtmlTokenizer.{tokens_in_page};
 ghost use Rattle.tl_tree_spec.specs.HtmlTreeBuilder.{html_trees};
 ghost use Rattle.tl_safe.specs.HtmlTrees.{as_html, stays};
 ghost use Rattle.tl_safe.specs.IsSafe.{IsSafe, tokens_of};
-ghost use Rattle.tl_safe.specs.Kept.{trees_of};
+ghost use Rattle.tl_safe.specs.Filter.{trees_of};
 ghost use Rattle.tl_safe.specs.Policies.{kept_of, lists_of};
 
+mod filter;
 mod fitted_rows;
-mod keep;
 pub mod laws;
 mod lists;
+mod names;
 mod policy;
 mod refusal;
 mod walk;
-mod words;
 mod write;
 
 pub use lists::Lists;
@@ -30,7 +30,7 @@ use tl::{ParseError, ParserOptions, parse};
 use walk::write_row;
 
 // The print of what is kept of a page.
-fn written(alloc: Global, policy: &Policy<'_>, page: &str) -> Result<String, ParseError>
+fn print_kept(alloc: Global, policy: &Policy<'_>, page: &str) -> Result<String, ParseError>
     ensures length { IsErrOf result InvalidLength ↔ (u32.MAX < length page.now) }
     ensures prints { IfOk result (λ safe. string_bytes safe ≡ print (kept_of policy.now page.now)) }
 {
@@ -53,7 +53,7 @@ fn written(alloc: Global, policy: &Policy<'_>, page: &str) -> Result<String, Par
 /// whose name, in any ASCII case, is one of those that hold no markup of HTML. Comments and
 /// doctypes go, and so do keys that are not listed, and a value that may not stand takes its key
 /// along.
-pub fn sanitised(alloc: Global, policy: &Policy<'_>, page: &str) -> Result<String, ParseError>
+pub fn sanitize(alloc: Global, policy: &Policy<'_>, page: &str) -> Result<String, ParseError>
     ensures length { IsErrOf result InvalidLength ↔ (u32.MAX < length page.now) }
 
     // Read by the grammar of `tl`, it is the kept trees: all that may be kept is.
@@ -77,6 +77,6 @@ pub fn sanitised(alloc: Global, policy: &Policy<'_>, page: &str) -> Result<Strin
         html_trees (tokens_in_page (string_bytes safe))
         ≡ Some (as_html (norm (kept_of policy.now page.now)))) }
 {
-    let safe = written(alloc, policy, page)?;
+    let safe = print_kept(alloc, policy, page)?;
     Ok(safe)
 }

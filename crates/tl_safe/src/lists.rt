@@ -1,7 +1,7 @@
 //! The lists of a policy.
 
 /// What is to stand of a page. Another policy than that of a blog begins best with its lists, as
-/// `Lists { tags: &["b", "p"], ..Lists::PAGE }`.
+/// `Lists { tags: &["b", "p"], ..Lists::BLOG }`.
 #[derive(Clone, Copy, PartialEq, Eq, Debug)]
 pub struct Lists<'w> {
     /// The names of tags that may stand.
@@ -11,15 +11,15 @@ pub struct Lists<'w> {
     /// The keys whose values are links.
     pub link_keys: &'w [&'w str],
     /// What links begin with.
-    pub link_beginnings: &'w [&'w str],
+    pub link_prefixes: &'w [&'w str],
     /// What the values of `id`, `name` and `class` begin with.
-    pub prefix: &'w str,
+    pub id_prefix: &'w str,
 }
 
 impl Lists<'static> {
     /// For the text of a blog: no parts of tables, no forms, links to the web, to mail and within
     /// the site, and names that begin with `user-`.
-    pub const PAGE: Lists<'static> = Lists {
+    pub const BLOG: Lists<'static> = Lists {
         tags: &[
             "a",
             "abbr",
@@ -76,7 +76,7 @@ impl Lists<'static> {
             "start", "title", "width",
         ],
         link_keys: &["cite", "href", "src"],
-        link_beginnings: &["https://", "http://", "mailto:", "/", "#"],
-        prefix: "user-",
+        link_prefixes: &["https://", "http://", "mailto:", "/", "#"],
+        id_prefix: "user-",
     };
 }

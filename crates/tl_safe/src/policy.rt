@@ -1,7 +1,7 @@
 //! Policies.
 ghost use Rattle.std.specs.Prelude.{IsTrue};
 ghost use Rattle.tl_safe.specs.Refusals.{are_lawful};
-ghost use Rattle.tl_safe.specs.Words.{listed_words};
+ghost use Rattle.tl_safe.specs.Names.{listed_words};
 
 use crate::lists::Lists;
 use crate::refusal::{PolicyError, first_refusal};
@@ -17,12 +17,13 @@ impl<'w> Policy<'w> {
     ghost use Rattle.std.specs.Prelude.{◌≡◌, IfOk};
     ghost use Rattle.std.specs.Option.{option_map};
     ghost use Rattle.std.specs.Result.{result_err};
-    ghost use Rattle.tl_safe.specs.Lists.{page_lists};
+    ghost use Rattle.tl_safe.specs.Lists.{blog_lists};
     ghost use Rattle.tl_safe.specs.Policies.{lists_of};
     ghost use Rattle.tl_safe.specs.Refusals.{first_refusal, refusal_of};
 
     /// The policy of these lists, or the first word that no policy may list: by the order of tags,
-    /// keys, link beginnings and prefix, and of the words in each. Any word may be a link key.
+    /// keys, link prefixes and the prefix of names, and of the words in each. Any word may be a
+    /// link key.
     pub fn new(lists: Lists<'w>) -> Result<Policy<'w>, PolicyError<'w>>
         ensures lists { IfOk result (λ policy. lists_of policy ≡ listed_words lists.entry) }
 
@@ -36,11 +37,11 @@ impl<'w> Policy<'w> {
         }
     }
 
-    /// The policy for the text of a blog: that of `Lists::PAGE`.
-    pub fn page() -> Policy<'static>
-        ensures { lists_of result ≡ page_lists }
+    /// The policy for the text of a blog: that of `Lists::BLOG`.
+    pub fn blog() -> Policy<'static>
+        ensures { lists_of result ≡ blog_lists }
     {
-        Policy { lists: Lists::PAGE }
+        Policy { lists: Lists::BLOG }
     }
 
     /// What it lists.

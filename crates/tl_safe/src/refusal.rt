@@ -2,12 +2,12 @@
 ghost use Rattle.std.specs.Prelude.{◌≡◌, ◌∷◌, []};
 ghost use Rattle.std.specs.Option.{option_map};
 ghost use Rattle.tl_safe.specs.Refusals.{first_refusal, first_refused, key_reason, link_reason, prefix_reason, refusal_of, tag_reason};
-ghost use Rattle.tl_safe.specs.Words.{listed_words, reason_in, words_of};
+ghost use Rattle.tl_safe.specs.Names.{listed_words, reason_in, words_of};
 
 use crate::lists::Lists;
-use crate::words::{
-    ACTIVE_SCHEMES, ByteClass, KNOWN_LINK_KEYS, are_of, begins_path, begins_with_any, has_scheme,
-    is_active, is_among, is_bending, is_opaque_in_lowercase, is_word_of,
+use crate::names::{
+    ACTIVE_SCHEMES, ByteClass, KNOWN_LINK_KEYS, all_have_class, begins_path, begins_with_any,
+    has_scheme, is_active_key, is_among, is_opaque_in_lowercase, is_structural, is_word_of,
 };
 use std::error::Error;
 use std::fmt;
@@ -102,18 +102,18 @@ impl Error for PolicyError<'_> {}
 pub(crate) enum Role {
     Tag,
     Key,
-    LinkBeginning,
+    LinkPrefix,
 }
 
 // Why no policy may list a name of a tag, if none may.
 fn tag_reason(name: &[u8]) -> Option<Reason>
     ensures { result ≡ tag_reason name.now }
 {
-    if !is_word_of(ByteClass::OfTag, name) {
+    if !is_word_of(ByteClass::TagName, name) {
         Some(Reason::MalformedTag)
     } else if is_opaque_in_lowercase(name) {
         Some(Reason::OpaqueTag)
-    } else if is_bending(name) {
+    } else if is_structural(name) {
         Some(Reason::StructuralTag)
     } else {
         None
@@ -124,11 +124,11 @@ fn tag_reason(name: &[u8]) -> Option<Reason>
 fn key_reason(link_keys: &[&str], key: &[u8]) -> Option<Reason>
     ensures { result ≡ key_reason (words_of link_keys.now) key.now }
 {
-    if !is_word_of(ByteClass::OfKey, key) {
+    if !is_word_of(ByteClass::AttributeKey, key) {
         Some(Reason::MalformedKey)
     } else if key.starts_with(b"on") {
         Some(Reason::ScriptKey)
-    } else if is_active(key) {
+    } else if is_active_key(key) {
         Some(Reason::ActiveKey)
     } else if is_among(&KNOWN_LINK_KEYS, key) && !is_among(link_keys, key) {
         Some(Reason::LinkKey)
@@ -141,7 +141,7 @@ fn key_reason(link_keys: &[&str], key: &[u8]) -> Option<Reason>
 fn link_reason(word: &[u8]) -> Option<Reason>
     ensures { result ≡ link_reason word.now }
 {
-    if !are_of(ByteClass::OfBeginning, word) {
+    if !all_have_class(ByteClass::OfBeginning, word) {
         Some(Reason::MalformedLink)
     } else if begins_path(word) {
         None
@@ -155,10 +155,10 @@ fn link_reason(word: &[u8]) -> Option<Reason>
 }
 
 // Why no policy may have a prefix, if none may.
-fn prefix_reason(prefix: &[u8]) -> Option<Reason>
-    ensures { result ≡ prefix_reason prefix.now }
+fn prefix_reason(id_prefix: &[u8]) -> Option<Reason>
+    ensures { result ≡ prefix_reason id_prefix.now }
 {
-    if is_word_of(ByteClass::OfKey, prefix) {
+    if is_word_of(ByteClass::AttributeKey, id_prefix) {
         None
     } else {
         Some(Reason::MalformedPrefix)
@@ -172,7 +172,7 @@ fn reason_in(role: Role, link_keys: &[&str], word: &[u8]) -> Option<Reason>
     match role {
         Role::Tag => tag_reason(word),
         Role::Key => key_reason(link_keys, word),
-        Role::LinkBeginning => link_reason(word),
+        Role::LinkPrefix => link_reason(word),
     }
 }
 
@@ -194,23 +194,24 @@ fn first_refused<'w>(
 }
 
 // A prefix that no policy may have.
-fn refused_prefix(prefix: &str) -> Option<PolicyError<'_>>
-    ensures { option_map refusal_of result ≡ first_refused prefix_reason (prefix.now ∷ []) }
+fn refused_prefix(id_prefix: &str) -> Option<PolicyError<'_>>
+    ensures { option_map refusal_of result ≡ first_refused prefix_reason (id_prefix.now ∷ []) }
 {
-    let reason = prefix_reason(prefix.as_bytes())?;
+    let reason = prefix_reason(id_prefix.as_bytes())?;
     Some(PolicyError {
-        word: prefix,
+        word: id_prefix,
         reason,
     })
 }
 
-// The first word for which lists are no policy: by the order of the lists, and of the words in each.
+// The first word for which lists are no policy: by the order of the lists, and of the words in
+// each.
 pub(crate) fn first_refusal<'w>(lists: &Lists<'w>) -> Option<PolicyError<'w>>
     ensures { option_map refusal_of result ≡ first_refusal (listed_words lists.now) }
 {
     let link_keys = lists.link_keys;
     first_refused(Role::Tag, link_keys, lists.tags)
         .or_else(|| first_refused(Role::Key, link_keys, lists.keys))
-        .or_else(|| first_refused(Role::LinkBeginning, link_keys, lists.link_beginnings))
-        .or_else(|| refused_prefix(lists.prefix))
+        .or_else(|| first_refused(Role::LinkPrefix, link_keys, lists.link_prefixes))
+        .or_else(|| refused_prefix(lists.id_prefix))
 }

@@ -6,13 +6,13 @@ ghost use Rattle.tl_spec.specs.Tree.Element.{children_of};
 ghost use Rattle.tl_spec.specs.Tree.Order.{ChildrenFollowParents};
 ghost use Rattle.tl.specs.View.{node_view, tag_view};
 ghost use Rattle.tl_spec.specs.Walk.Length.{child_at, handle_met};
-ghost use Rattle.tl_safe.specs.Left.{end_print, frame_print, frame_steps, handle_print, owed, row, steps};
+ghost use Rattle.tl_safe.specs.Remaining.{end_print, frame_print, frame_steps, handle_print, owed, row, steps};
 ghost use Rattle.tl_safe.specs.Lists.{is_among, opaque_names};
 ghost use Rattle.tl_safe.specs.Policies.{lists_of};
 ghost use Rattle.tl_safe.specs.Writes.{Adds, kept_start};
 
+use crate::names::{is_among, is_opaque};
 use crate::policy::Policy;
-use crate::words::{is_among, is_opaque};
 use crate::write::{write_end, write_start, write_text};
 use std::alloc::{AllocError, Global};
 use tl::{Element, HTMLTag, Node, NodeHandle};
@@ -127,7 +127,7 @@ fn close(frame: &Frame<'_, '_>, out: &mut String) -> Result<(), AllocError>
 }
 
 // Goes on in a tag: to its next child, or out of it.
-fn go_on<'s, 'a>(
+fn advance<'s, 'a>(
     alloc: Global,
     policy: &Policy<'_>,
     nodes: &'s [Node<'a>],
@@ -169,7 +169,7 @@ fn finish<'s, 'a>(
     ensures empty { OnOk result (frames.new.items ≡ []) }
 {
     while let Some(frame) = frames.pop() {
-        go_on(alloc, policy, nodes, frame, frames, out)?;
+        advance(alloc, policy, nodes, frame, frames, out)?;
     }
     Ok(())
 }

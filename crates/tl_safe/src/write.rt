@@ -7,12 +7,12 @@ ghost use Rattle.tl_spec.specs.Print.{print_end};
 ghost use Rattle.tl_spec.specs.Walk.{plain_node};
 ghost use Rattle.tl_attributes.specs.AttributesView.{plain};
 ghost use Rattle.tl.specs.View.{tag_view};
-ghost use Rattle.tl_safe.specs.Kept.{is_text_byte, written_byte, written_pair, written_value};
+ghost use Rattle.tl_safe.specs.Filter.{is_text_byte, written_byte, written_pair, written_value};
 ghost use Rattle.tl_safe.specs.Writes.{Adds, kept_pairs, kept_start, pair_of, print_pair};
 
-use crate::keep::stays;
+use crate::filter::is_allowed;
+use crate::names::{is_text_byte, is_whole_text, is_written_value};
 use crate::policy::Policy;
-use crate::words::{is_text_byte, is_whole_text, is_written_value};
 use bstr::ByteSlice;
 use std::alloc::{AllocError, Global};
 use tl::{Attributes, Bytes, HTMLTag};
@@ -121,7 +121,7 @@ fn write_kept_pair(
     ensures { OnOk result (Adds out.old out.new
         (kept_pairs policy.now (pair_of key.now value.entry ∷ []))) }
 {
-    if stays(policy, key, value) {
+    if is_allowed(policy, key, value) {
         write_pair(alloc, key, value, out)?;
     }
     Ok(())

@@ -3,7 +3,7 @@
 
 use std::alloc::AllocError;
 use std::process::Abort;
-use tl_safe::{Lists, Policy, sanitised};
+use tl_safe::{Lists, Policy, sanitize};
 
 // A page and its print; a table for each subject, of some fifteen rows at most: one test of a
 // longer one passes the prover's limit.
@@ -269,22 +269,22 @@ static OTHER_ROWS: [(&str, &str); 9] = [
 ];
 
 static ANY_HOST: Lists<'static> = Lists {
-    link_beginnings: &["//"],
-    ..Lists::PAGE
+    link_prefixes: &["//"],
+    ..Lists::BLOG
 };
 
 static TABLES_AND_VIDEOS: Lists<'static> = Lists {
     tags: &["table", "tr", "td", "video"],
     keys: &["data-x", "src", "id"],
     link_keys: &["src"],
-    link_beginnings: &["ftp:", "./"],
-    prefix: "v",
+    link_prefixes: &["ftp:", "./"],
+    id_prefix: "v",
 };
 
 // Looks whether each page is printed as its row says.
 fn run(rt: &(impl Abort + AllocGlobal), policy: &Policy<'_>, rows: &[(&str, &str)]) {
     for (page, expected) in rows {
-        match sanitised(rt.alloc(), policy, page) {
+        match sanitize(rt.alloc(), policy, page) {
             Ok(safe) => assert_eq!(rt; safe.as_str(), *expected, "{page}"),
             Err(error) => assert!(rt; false, "{page}: {error}"),
         }
@@ -293,37 +293,37 @@ fn run(rt: &(impl Abort + AllocGlobal), policy: &Policy<'_>, rows: &[(&str, &str
 
 #[test]
 fn raw_texts(rt: HostRuntime) {
-    run(&rt, &Policy::page(), &RAW_TEXT_ROWS);
+    run(&rt, &Policy::blog(), &RAW_TEXT_ROWS);
 }
 
 #[test]
 fn ends_of_raw_texts(rt: HostRuntime) {
-    run(&rt, &Policy::page(), &RAW_TEXT_END_ROWS);
+    run(&rt, &Policy::blog(), &RAW_TEXT_END_ROWS);
 }
 
 #[test]
 fn elements_of_other_languages(rt: HostRuntime) {
-    run(&rt, &Policy::page(), &FOREIGN_ROWS);
+    run(&rt, &Policy::blog(), &FOREIGN_ROWS);
 }
 
 #[test]
 fn tags_that_change_what_is_around(rt: HostRuntime) {
-    run(&rt, &Policy::page(), &STRUCTURE_ROWS);
+    run(&rt, &Policy::blog(), &STRUCTURE_ROWS);
 }
 
 #[test]
 fn schemes(rt: HostRuntime) {
-    run(&rt, &Policy::page(), &SCHEME_ROWS);
+    run(&rt, &Policy::blog(), &SCHEME_ROWS);
 }
 
 #[test]
 fn links(rt: HostRuntime) {
-    run(&rt, &Policy::page(), &LINK_ROWS);
+    run(&rt, &Policy::blog(), &LINK_ROWS);
 }
 
 #[test]
 fn links_within_the_site(rt: HostRuntime) {
-    run(&rt, &Policy::page(), &SITE_ROWS);
+    run(&rt, &Policy::blog(), &SITE_ROWS);
 }
 
 #[test]
@@ -336,42 +336,42 @@ fn links_to_any_host(rt: HostRuntime) {
 
 #[test]
 fn values(rt: HostRuntime) {
-    run(&rt, &Policy::page(), &VALUE_ROWS);
+    run(&rt, &Policy::blog(), &VALUE_ROWS);
 }
 
 #[test]
 fn comments(rt: HostRuntime) {
-    run(&rt, &Policy::page(), &COMMENT_ROWS);
+    run(&rt, &Policy::blog(), &COMMENT_ROWS);
 }
 
 #[test]
 fn quotes(rt: HostRuntime) {
-    run(&rt, &Policy::page(), &QUOTE_ROWS);
+    run(&rt, &Policy::blog(), &QUOTE_ROWS);
 }
 
 #[test]
 fn tags(rt: HostRuntime) {
-    run(&rt, &Policy::page(), &TAG_ROWS);
+    run(&rt, &Policy::blog(), &TAG_ROWS);
 }
 
 #[test]
 fn keys(rt: HostRuntime) {
-    run(&rt, &Policy::page(), &KEY_ROWS);
+    run(&rt, &Policy::blog(), &KEY_ROWS);
 }
 
 #[test]
 fn names(rt: HostRuntime) {
-    run(&rt, &Policy::page(), &NAME_ROWS);
+    run(&rt, &Policy::blog(), &NAME_ROWS);
 }
 
 #[test]
 fn characters(rt: HostRuntime) {
-    run(&rt, &Policy::page(), &CHARACTER_ROWS);
+    run(&rt, &Policy::blog(), &CHARACTER_ROWS);
 }
 
 #[test]
 fn texts(rt: HostRuntime) {
-    run(&rt, &Policy::page(), &TEXT_ROWS);
+    run(&rt, &Policy::blog(), &TEXT_ROWS);
 }
 
 #[test]
@@ -388,6 +388,6 @@ fn deep_page(rt: HostRuntime) -> Result<(), AllocError> {
     let starts = "<b>".repeat(rt.alloc(), 1000)?;
     let ends = "</b>".repeat(rt.alloc(), 1000)?;
     let whole = format!(in rt.alloc(); "{starts}{ends}")?;
-    run(&rt, &Policy::page(), &[(starts.as_str(), whole.as_str())]);
+    run(&rt, &Policy::blog(), &[(starts.as_str(), whole.as_str())]);
     Ok(())
 }

@@ -14,31 +14,31 @@ struct Row {
 // One word is refused.
 #[rattlefmt::skip]
 static REFUSED_ROWS: [Row; 15] = [
-    Row { lists: Lists { tags: &["p", "P"], ..Lists::PAGE }, word: "P", reason: Reason::MalformedTag },
-    Row { lists: Lists { tags: &[""], ..Lists::PAGE }, word: "", reason: Reason::MalformedTag },
-    Row { lists: Lists { tags: &["p", "style"], ..Lists::PAGE }, word: "style", reason: Reason::OpaqueTag },
-    Row { lists: Lists { tags: &["form"], ..Lists::PAGE }, word: "form", reason: Reason::StructuralTag },
-    Row { lists: Lists { keys: &["data_x"], ..Lists::PAGE }, word: "data_x", reason: Reason::MalformedKey },
-    Row { lists: Lists { keys: &["title", "onclick"], ..Lists::PAGE }, word: "onclick", reason: Reason::ScriptKey },
-    Row { lists: Lists { keys: &["style"], ..Lists::PAGE }, word: "style", reason: Reason::ActiveKey },
-    Row { lists: Lists { keys: &["attributionsrc"], ..Lists::PAGE }, word: "attributionsrc", reason: Reason::ActiveKey },
-    Row { lists: Lists { keys: &["poster"], ..Lists::PAGE }, word: "poster", reason: Reason::LinkKey },
-    Row { lists: Lists { link_beginnings: &["/", "/a b"], ..Lists::PAGE }, word: "/a b", reason: Reason::MalformedLink },
-    Row { lists: Lists { link_beginnings: &["#", "#<"], ..Lists::PAGE }, word: "#<", reason: Reason::MalformedLink },
-    Row { lists: Lists { link_beginnings: &["data:"], ..Lists::PAGE }, word: "data:", reason: Reason::ActiveScheme },
-    Row { lists: Lists { link_beginnings: &["java"], ..Lists::PAGE }, word: "java", reason: Reason::NoScheme },
-    Row { lists: Lists { prefix: "1", ..Lists::PAGE }, word: "1", reason: Reason::MalformedPrefix },
-    Row { lists: Lists { prefix: "", ..Lists::PAGE }, word: "", reason: Reason::MalformedPrefix },
+    Row { lists: Lists { tags: &["p", "P"], ..Lists::BLOG }, word: "P", reason: Reason::MalformedTag },
+    Row { lists: Lists { tags: &[""], ..Lists::BLOG }, word: "", reason: Reason::MalformedTag },
+    Row { lists: Lists { tags: &["p", "style"], ..Lists::BLOG }, word: "style", reason: Reason::OpaqueTag },
+    Row { lists: Lists { tags: &["form"], ..Lists::BLOG }, word: "form", reason: Reason::StructuralTag },
+    Row { lists: Lists { keys: &["data_x"], ..Lists::BLOG }, word: "data_x", reason: Reason::MalformedKey },
+    Row { lists: Lists { keys: &["title", "onclick"], ..Lists::BLOG }, word: "onclick", reason: Reason::ScriptKey },
+    Row { lists: Lists { keys: &["style"], ..Lists::BLOG }, word: "style", reason: Reason::ActiveKey },
+    Row { lists: Lists { keys: &["attributionsrc"], ..Lists::BLOG }, word: "attributionsrc", reason: Reason::ActiveKey },
+    Row { lists: Lists { keys: &["poster"], ..Lists::BLOG }, word: "poster", reason: Reason::LinkKey },
+    Row { lists: Lists { link_prefixes: &["/", "/a b"], ..Lists::BLOG }, word: "/a b", reason: Reason::MalformedLink },
+    Row { lists: Lists { link_prefixes: &["#", "#<"], ..Lists::BLOG }, word: "#<", reason: Reason::MalformedLink },
+    Row { lists: Lists { link_prefixes: &["data:"], ..Lists::BLOG }, word: "data:", reason: Reason::ActiveScheme },
+    Row { lists: Lists { link_prefixes: &["java"], ..Lists::BLOG }, word: "java", reason: Reason::NoScheme },
+    Row { lists: Lists { id_prefix: "1", ..Lists::BLOG }, word: "1", reason: Reason::MalformedPrefix },
+    Row { lists: Lists { id_prefix: "", ..Lists::BLOG }, word: "", reason: Reason::MalformedPrefix },
 ];
 
 // Several are, and the first of them is named.
 #[rattlefmt::skip]
 static FIRST_ROWS: [Row; 5] = [
-    Row { lists: Lists { tags: &["script", "style"], ..Lists::PAGE }, word: "script", reason: Reason::OpaqueTag },
-    Row { lists: Lists { tags: &["script"], keys: &["onclick"], ..Lists::PAGE }, word: "script", reason: Reason::OpaqueTag },
-    Row { lists: Lists { keys: &["onclick"], link_beginnings: &["java"], ..Lists::PAGE }, word: "onclick", reason: Reason::ScriptKey },
-    Row { lists: Lists { link_beginnings: &["java"], prefix: "1", ..Lists::PAGE }, word: "java", reason: Reason::NoScheme },
-    Row { lists: Lists { tags: &["script"], prefix: "1", ..Lists::PAGE }, word: "script", reason: Reason::OpaqueTag },
+    Row { lists: Lists { tags: &["script", "style"], ..Lists::BLOG }, word: "script", reason: Reason::OpaqueTag },
+    Row { lists: Lists { tags: &["script"], keys: &["onclick"], ..Lists::BLOG }, word: "script", reason: Reason::OpaqueTag },
+    Row { lists: Lists { keys: &["onclick"], link_prefixes: &["java"], ..Lists::BLOG }, word: "onclick", reason: Reason::ScriptKey },
+    Row { lists: Lists { link_prefixes: &["java"], id_prefix: "1", ..Lists::BLOG }, word: "java", reason: Reason::NoScheme },
+    Row { lists: Lists { tags: &["script"], id_prefix: "1", ..Lists::BLOG }, word: "script", reason: Reason::OpaqueTag },
 ];
 
 // A reason, a word, and what is said.
@@ -99,14 +99,14 @@ fn texts_of_errors(rt: HostRuntime) {
 fn any_word_may_be_a_link_key(rt: HostRuntime) {
     let lists = Lists {
         link_keys: &["cite", "href", "src", "script", ""],
-        ..Lists::PAGE
+        ..Lists::BLOG
     };
     assert!(rt; Policy::new(lists).is_ok());
 }
 
 #[test]
 fn lists_of_the_page(rt: HostRuntime) {
-    assert!(rt; Policy::page().lists() == Lists::PAGE);
-    assert!(rt; Policy::new(Lists::PAGE) == Ok(Policy::page()));
-    assert!(rt; Lists::PAGE.tags.len() == 49);
+    assert!(rt; Policy::blog().lists() == Lists::BLOG);
+    assert!(rt; Policy::new(Lists::BLOG) == Ok(Policy::blog()));
+    assert!(rt; Lists::BLOG.tags.len() == 49);
 }

@@ -1,6 +1,6 @@
 //! The calls of a tag's attributes.
 use crate::edits::{Edit, Part};
-use crate::owned::read;
+use crate::owned_pages::read;
 use crate::show::{Look, Row, all_show, first_of, show_pairs, show_value};
 use std::alloc::{AllocError, Global};
 use std::test::Fail;
@@ -43,8 +43,8 @@ static LOOKS: [Row; 40] = [
     ("<p class=k>", &[Edit::Part(0, Part::Bytes("class", b"\xff"))], Look::Members, "none"),
     ("<p class=k>", &[Edit::Part(0, Part::Bytes("class", b"\xff"))], Look::Member(b"\xff"), "false"),
     ("<p class=k>", &[Edit::Part(0, Part::Bytes("class", b"\xff"))], Look::Member(b"k"), "false"),
-    // Of an id the length and its first and last byte. Of a member the number of a bit: what is left by 32 of the first byte,
-    // three times the last and five times the length.
+    // Of an id the length and its first and last byte. Of a member the number of a bit: what is
+    // left by 32 of the first byte, three times the last and five times the length.
     (PAGE, &[], Look::Summary, "1 105 105; 17/unknown; all"),
     (UPPER, &[], Look::Summary, "absent;/unknown; all"),
     ("<p id=ab>", &[], Look::Summary, "2 97 98;/unknown; all"),
@@ -56,7 +56,8 @@ static LOOKS: [Row; 40] = [
     (CLASS, &[], Look::Summary, "absent; 9 13/unknown; all"),
     // Two members with one bit.
     ("<p class='k ab'>", &[], Look::Summary, "absent; 17/unknown; all"),
-    // Parts of a class that is not UTF-8, which has no members, and what was written over what was read.
+    // Parts of a class that is not UTF-8, which has no members, and what was written over what was
+    // read.
     ("<p class=k>", &[Edit::Part(0, Part::Bytes("class", b"k \xff"))], Look::Summary, "absent; 1 17/unknown; all"),
     (PAGE, &[Edit::Part(0, Part::Value("id", "abc"))], Look::Summary, "3 97 99; 17/unknown; all"),
     (PAGE, &[Edit::Part(0, Part::Unset("id")), Edit::Part(0, Part::Value("class", "b")),], Look::Summary, "absent; 13/unknown; all"),
@@ -78,7 +79,8 @@ enum Call {
     Write(&'static str),
 }
 
-// Calls in turn on a clone of the page's attributes; for each what it takes out, and the pairs that are left.
+// Calls in turn on a clone of the page's attributes; for each what it takes out, and the pairs that
+// are left.
 #[rattlefmt::skip]
 static CALLS: [(&[Call], &str); 12] = [
     (&[Call::Remove("a")], "4 | c=3 b=2 id=i class=k\n"),
@@ -156,7 +158,7 @@ fn make_all(
 }
 
 // A clone of the attributes of the page's tag.
-fn copied(alloc: Global, keeps: bool) -> Result<Attributes<'static>, Fail> {
+fn copy_attributes(alloc: Global, keeps: bool) -> Result<Attributes<'static>, Fail> {
     let document = read(alloc, PAGE, ParserOptions::new(), keeps)?;
     Ok(first_of(&document)?.clone()?)
 }
@@ -174,7 +176,7 @@ fn calls_on(
 
 // Whether the calls in turn, on a clone of the page's attributes, show this.
 fn calls_show(alloc: Global, calls: &[Call], wanted: &str, keeps: bool) -> Result<bool, Fail> {
-    match copied(alloc, keeps) {
+    match copy_attributes(alloc, keeps) {
         Ok(mut attributes) => calls_on(alloc, &mut attributes, calls, wanted),
         Err(fail) => Err(fail),
     }

@@ -8,7 +8,8 @@ use tl::{ParserOptions, VDom, parse, parse_query_selector};
 // What is repeated, and how often.
 type Repeated = (&'static str, u32);
 
-// The parts of a text, what stands after them, the page, and the nodes that are found, `none` where the text is no selector.
+// The parts of a text, what stands after them, the page, and the nodes that are found, `none` where
+// the text is no selector.
 type Row = (Repeated, &'static str, Repeated, &'static str);
 
 const PAGE: Repeated = ("<p class=a></p><b></b>", 2);
@@ -34,7 +35,7 @@ static ROWS: [Row; 14] = [
     (("i, ", 300), "", PAGE, "none"),
 ];
 
-fn repeated(alloc: Global, repeated: &Repeated, end: &str) -> Result<String, Fail> {
+fn repeat(alloc: Global, repeated: &Repeated, end: &str) -> Result<String, Fail> {
     let (part, times) = *repeated;
     let mut text = String::new(alloc);
     for _ in 0..times {
@@ -82,8 +83,8 @@ fn are_found<'b>(
 
 fn row_is_found(alloc: Global, row: &Row) -> Result<bool, Fail> {
     let (parts, end, page, wanted) = row;
-    let text = repeated(alloc, parts, end)?;
-    let page = repeated(alloc, page, "")?;
+    let text = repeat(alloc, parts, end)?;
+    let page = repeat(alloc, page, "")?;
     let document = parse(alloc, page.as_str(), ParserOptions::new())?;
     match parse_query_selector(alloc, text.as_str())? {
         Some(selector) => are_found(alloc, &document, selector, wanted),

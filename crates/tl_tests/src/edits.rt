@@ -1,5 +1,5 @@
 //! Documents that are edited, and what they print then.
-use crate::owned::owned;
+use crate::owned_pages::owned_page;
 use crate::show::{Look, Row, all_show};
 use std::alloc::{AllocError, Global};
 use std::mem;
@@ -50,7 +50,7 @@ fn edit_one(document: &mut VDom<'static>, edit: &Edit) -> Result<(), Fail> {
     match edit {
         Edit::Push(number, child) => push(document, *number, *child),
         Edit::Pull(number, place) => pull(document, *number, *place),
-        Edit::Put(number, bytes) => put(document, *number, bytes),
+        Edit::Put(number, bytes) => replace_text(document, *number, bytes),
         Edit::SwapNodes => swap_nodes(document),
         Edit::SwapTop => swap_top(document),
         Edit::Root(place, handle) => put_top(document, *place, *handle),
@@ -103,7 +103,11 @@ fn pull(document: &mut VDom<'static>, number: u32, place: usize) -> Result<(), F
     }
 }
 
-fn put(document: &mut VDom<'static>, number: u32, bytes: &'static [u8]) -> Result<(), Fail> {
+fn replace_text(
+    document: &mut VDom<'static>,
+    number: u32,
+    bytes: &'static [u8],
+) -> Result<(), Fail> {
     *node_mut(document, number)? = NodeOf::Raw(Bytes::from(bytes));
     Ok(())
 }
@@ -240,7 +244,8 @@ const FIRST: &str = "<p>a</p>";
 
 const SECOND: &str = "b";
 
-// Whether each of the documents of the two pages prints the other page once their tables were exchanged.
+// Whether each of the documents of the two pages prints the other page once their tables were
+// exchanged.
 fn exchanges(
     alloc: Global,
     first: &mut VDom<'static>,
@@ -257,8 +262,8 @@ fn borrowed_exchange(alloc: Global) -> Result<bool, Fail> {
 }
 
 fn kept_exchange(alloc: Global) -> Result<bool, Fail> {
-    let mut first = owned(alloc, FIRST, ParserOptions::new())?;
-    let mut second = owned(alloc, SECOND, ParserOptions::new())?;
+    let mut first = owned_page(alloc, FIRST, ParserOptions::new())?;
+    let mut second = owned_page(alloc, SECOND, ParserOptions::new())?;
     exchanges(alloc, first.get_mut_ref(), second.get_mut_ref())
 }
 

@@ -12,7 +12,7 @@ mod errors;
 #[cfg(test)]
 mod lookups;
 #[cfg(test)]
-mod owned;
+mod owned_pages;
 #[cfg(test)]
 mod paths;
 #[cfg(test)]

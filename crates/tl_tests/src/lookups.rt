@@ -1,6 +1,6 @@
 //! Lookups by id and by class, with maps and without.
 use crate::edits::{Edit, Part, edit_all};
-use crate::owned::{owned, read};
+use crate::owned_pages::{owned_page, read};
 use std::alloc::Global;
 use std::test::Fail;
 use tl::{Bytes, ElementsByClassName, NodeHandle, ParserOptions, VDom, parse};
@@ -124,7 +124,7 @@ fn reads(
     wanted: &[u32],
 ) -> Result<bool, Fail> {
     let document = parse(alloc, page, options)?;
-    let guard = owned(alloc, page, options)?;
+    let guard = owned_page(alloc, page, options)?;
     Ok(finds(&document, sought, wanted) && finds(guard.get_ref(), sought, wanted))
 }
 
@@ -179,7 +179,8 @@ fn maps_and_scans(rt: HostRuntime) -> Result<(), Fail> {
     Ok(())
 }
 
-// A page, what is done to its document, what is looked up then, and what is found with maps and without.
+// A page, what is done to its document, what is looked up then, and what is found with maps and
+// without.
 type EditedRow = (
     &'static str,
     &'static [Edit],
@@ -242,7 +243,7 @@ fn finds_edited(
     if !finds_then(&mut document, row, wanted)? {
         return Ok(false);
     }
-    let mut guard = owned(alloc, page, options)?;
+    let mut guard = owned_page(alloc, page, options)?;
     finds_then(guard.get_mut_ref(), row, wanted)
 }
 
@@ -268,7 +269,7 @@ fn clone_goes_on(document: &VDom<'_>) -> Result<bool, Fail> {
 
 fn clones(alloc: Global, options: ParserOptions) -> Result<bool, Fail> {
     let document = parse(alloc, "<p class=k><p class=k><p class=k>", options)?;
-    let guard = owned(alloc, "<p class=k><p class=k><p class=k>", options)?;
+    let guard = owned_page(alloc, "<p class=k><p class=k><p class=k>", options)?;
     Ok(clone_goes_on(&document)? && clone_goes_on(guard.get_ref())?)
 }
 
@@ -296,7 +297,7 @@ fn has_text(alloc: Global, document: &VDom<'_>, id: &str, wanted: &str) -> Resul
 #[test]
 fn text_of_an_id(rt: HostRuntime) -> Result<(), Fail> {
     let document = parse(rt.alloc(), "<a id=u54423>Hello World</a>", both())?;
-    let guard = owned(rt.alloc(), "<a id=u54423>Hello World</a>", both())?;
+    let guard = owned_page(rt.alloc(), "<a id=u54423>Hello World</a>", both())?;
     let id = format!(in rt.alloc(); "u{}", 54423)?;
     let found = has_text(rt.alloc(), &document, id.as_str(), "Hello World")?;
     assert!(rt; found);
@@ -350,7 +351,7 @@ fn finds_thirds(alloc: Global, document: &VDom<'_>, tags: u32) -> bool {
 // Whether they are found in a page of so many tags.
 fn page_finds_thirds(alloc: Global, tags: u32) -> Result<bool, Fail> {
     let page = page_of(alloc, tags)?;
-    let guard = owned(alloc, page.as_str(), ParserOptions::new())?;
+    let guard = owned_page(alloc, page.as_str(), ParserOptions::new())?;
     let document = parse(alloc, page.as_str(), ParserOptions::new())?;
     Ok(finds_thirds(alloc, &document, tags) && finds_thirds(alloc, guard.get_ref(), tags))
 }

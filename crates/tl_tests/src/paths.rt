@@ -1,4 +1,5 @@
-//! Each path of the public surface is given again here: one that goes is a module that can't be read.
+//! Each path of the public surface is given again here: one that goes is a module that can't be
+//! read.
 use std::alloc::Global;
 use std::test::Fail;
 

@@ -1,6 +1,6 @@
 //! Selectors in documents: where they hold, and what queries and ranges give.
 use crate::edits::{Edit, Part, edit_all};
-use crate::owned::read;
+use crate::owned_pages::read;
 use std::alloc::Global;
 use std::fmt::Write;
 use std::test::Fail;
@@ -96,7 +96,8 @@ enum Place {
     Tag(u32),
 }
 
-// A page, what is done to its document, where a query is made then, its selector, and what it gives.
+// A page, what is done to its document, where a query is made then, its selector, and what it
+// gives.
 type Row = (
     &'static str,
     &'static [Edit],
@@ -121,7 +122,8 @@ fn query_by_new(alloc: Global, document: &VDom<'_>, row: &Row, out: &mut String)
     }
 }
 
-// Whether a query gives what it must once the document was edited, by the text and by the selector that was read before.
+// Whether a query gives what it must once the document was edited, by the text and by the selector
+// that was read before.
 fn gives(alloc: Global, document: &mut VDom<'static>, row: &Row) -> Result<bool, Fail> {
     let (_, edits, _, _, wanted) = *row;
     edit_all(document, edits)?;
@@ -242,7 +244,8 @@ fn show_range(document: &VDom<'_>, number: u32, out: &mut String) -> bool {
     }
 }
 
-// A page, what is done to its document, the number of a tag, and its start, end, boundaries and number of nodes.
+// A page, what is done to its document, the number of a tag, and its start, end, boundaries and
+// number of nodes.
 type Range = (&'static str, &'static [Edit], u32, &'static str);
 
 fn has_range(alloc: Global, document: &mut VDom<'static>, row: &Range) -> Result<bool, Fail> {
@@ -270,7 +273,8 @@ static RANGES: [Range; 12] = [
     ("<a><b></b></a>", &[Edit::Push(1, 0)], 1, "Some(0) Err(Cycle(NodeHandle(0))) Err(Cycle(NodeHandle(0))) Err(Cycle(NodeHandle(0)))"),
     ("<a></a>", &[Edit::Push(0, 0)], 0, "Some(0) Err(Cycle(NodeHandle(0))) Err(Cycle(NodeHandle(0))) Err(Cycle(NodeHandle(0)))"),
     ("<a></a>", &[Edit::Push(0, 7)], 0, "Some(7) Err(Dangling(NodeHandle(7))) Err(Dangling(NodeHandle(7))) Err(Dangling(NodeHandle(7)))"),
-    // The way falls, from the second tag to the first, and ends there or goes on to a handle that dangles.
+    // The way falls, from the second tag to the first, and ends there or goes on to a handle that
+    // dangles.
     ("<a></a><b></b><c></c>", &[Edit::Push(2, 1), Edit::Push(1, 0)], 2, "Some(1) Ok(Some(0)) Ok(Some((1, 0))) Ok(0)"),
     ("<a></a><b></b><c></c>", &[Edit::Push(2, 1), Edit::Push(1, 0), Edit::Push(0, 9)], 2, "Some(1) Err(Dangling(NodeHandle(9))) Err(Dangling(NodeHandle(9))) Err(Dangling(NodeHandle(9)))"),
 ];
@@ -388,7 +392,8 @@ fn collections_are_asked(rt: HostRuntime) -> Result<(), Fail> {
     Ok(())
 }
 
-// Questions by the table of a page of one text: a document counts by its own table, a tag by the handed one.
+// Questions by the table of a page of one text: a document counts by its own table, a tag by the
+// handed one.
 #[rattlefmt::skip]
 static HANDED: [Collection; 4] = [
     ("<a><b></b></a>", &[], Place::Document, 0, "Some(0) Ok(2) 0 Bytes(\"y\")"),

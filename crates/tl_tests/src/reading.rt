@@ -1,5 +1,5 @@
 //! Pages, and the tables that are read.
-use crate::owned::{owned, read};
+use crate::owned_pages::{owned_page, read};
 use crate::show::{Look, all_look};
 use std::alloc::Global;
 use std::mem::size_of;
@@ -133,7 +133,8 @@ fn versions_have_an_order(rt: HostRuntime) {
 
 const NESTED: &str = "abc <p>test<span>a</span></p> def";
 
-// A page whose table is walked for node 1 of the page above, and the print, or the number of the handle that dangles.
+// A page whose table is walked for node 1 of the page above, and the print, or the number of the
+// handle that dangles.
 #[rattlefmt::skip]
 static OVER: [(&str, Result<&str, u32>); 2] = [
     (NESTED, Ok("<p>test<span>a</span></p>")),
@@ -184,7 +185,7 @@ fn prints_over_tables(rt: HostRuntime) -> Result<(), Fail> {
 }
 
 // Ten thousand open tags.
-fn nested(alloc: Global) -> Result<String, Fail> {
+fn nested_page(alloc: Global) -> Result<String, Fail> {
     let mut page = String::new(alloc);
     for _ in 0..10_000 {
         page.push_str("<p>")?;
@@ -228,7 +229,8 @@ fn text_len<'a>(alloc: Global, node: &Node<'a>, parser: &Parser<'a>) -> Result<u
     Ok(text.len())
 }
 
-// Whether a search below the first tag is shown all others, as are its range and queries, and its text is empty.
+// Whether a search below the first tag is shown all others, as are its range and queries, and its
+// text is empty.
 fn walks_below(alloc: Global, document: &VDom<'_>) -> Result<bool, Fail> {
     let Some(node) = document.nodes().first() else {
         return Err(Fail::from("no node"));
@@ -243,7 +245,7 @@ fn walks_below(alloc: Global, document: &VDom<'_>) -> Result<bool, Fail> {
 }
 
 // How many nodes a query finds.
-fn counted(found: Option<QuerySelectorIterator<'_, '_>>) -> usize {
+fn count(found: Option<QuerySelectorIterator<'_, '_>>) -> usize {
     let mut count = 0usize;
     if let Some(found) = found {
         for _ in found {
@@ -264,8 +266,8 @@ fn finds_below<'a>(
     let children = tag.children();
     let end = children.end(parser)?;
     let all = children.all(parser).map(|nodes| nodes.len())?;
-    let in_tag = counted(tag.query_selector(alloc, parser, "p")?);
-    let in_document = counted(document.query_selector(alloc, "p")?);
+    let in_tag = count(tag.query_selector(alloc, parser, "p")?);
+    let in_document = count(document.query_selector(alloc, "p")?);
     Ok(
         end.is_some_and(|last| last as usize == below)
             && all == below
@@ -307,7 +309,7 @@ fn borrowed_nests(
 }
 
 fn kept_nests(alloc: Global, page: &str, nodes: usize, print: &mut String) -> Result<bool, Fail> {
-    let guard = owned(alloc, page, ParserOptions::new())?;
+    let guard = owned_page(alloc, page, ParserOptions::new())?;
     nests(alloc, guard.get_ref(), nodes, print)
 }
 
@@ -323,7 +325,7 @@ fn both_nest(alloc: Global, page: &str, nodes: usize, print: &mut String) -> Res
 
 #[test]
 fn deep_nesting(rt: HostRuntime) -> Result<(), Fail> {
-    let page = nested(rt.alloc())?;
+    let page = nested_page(rt.alloc())?;
     let mut print = String::new(rt.alloc());
     let mut again = String::new(rt.alloc());
     let open = both_nest(rt.alloc(), page.as_str(), 10_000, &mut print)?;

@@ -1,6 +1,6 @@
 //! Rows of pages: what is done to a document, what is looked at then, and what that shows.
 use crate::edits::{Edit, edit_all};
-use crate::owned::owned;
+use crate::owned_pages::owned_page;
 use std::alloc::{AllocError, Global};
 use std::fmt::Write;
 use std::process::Abort;
@@ -19,13 +19,16 @@ pub enum Look {
     Text,
     // The nodes, each with a `|` after it, and the numbers of the top list.
     Table,
-    // The text of a node, what it holds as markup, and the node as markup; after a `/` the first two of its tag.
+    // The text of a node, what it holds as markup, and the node as markup; after a `/` the first
+    // two of its tag.
     Texts(u32),
-    // What a search below a node for these bytes is shown, and its answer; after a `/` the same among its children.
+    // What a search below a node for these bytes is shown, and its answer; after a `/` the same
+    // among its children.
     Search(u32, &'static str),
     // What stands at a key of the first tag, and whether the key is said to be there.
     Key(&'static str),
-    // The number of keys of the first tag, its id and class, and its other keys: how many, and where they lie.
+    // The number of keys of the first tag, its id and class, and its other keys: how many, and
+    // where they lie.
     Measures,
     // The members of the class of the first tag, each after a `|`, or `none`.
     Members,
@@ -73,7 +76,7 @@ pub fn shows(
     if !shows_then(alloc, &mut document, edits, look, wanted)? {
         return Ok(false);
     }
-    let mut guard = owned(alloc, page, ParserOptions::new())?;
+    let mut guard = owned_page(alloc, page, ParserOptions::new())?;
     shows_then(alloc, guard.get_mut_ref(), edits, look, wanted)
 }
 
@@ -291,7 +294,8 @@ fn show_search(
     }
 }
 
-// What is seen is a text of the function's own: a closure that writes to what was lent gets no proof here.
+// What is seen is a text of the function's own: a closure that writes to what was lent gets no
+// proof here.
 fn show_search_below(
     alloc: Global,
     node: &Node<'static>,

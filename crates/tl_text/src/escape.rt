@@ -2,12 +2,12 @@
 ghost use Rattle.std.specs.Prelude.{◌≡◌, ◌++◌, IfOk, OnOk};
 ghost use Rattle.tl_html_spec.specs.Escapes.{escaped_text, escaped_value, text_escape, value_escape};
 
-use crate::part::{front, past, write_bytes};
+use crate::split::{bytes_after, bytes_before, write_bytes};
 use memchr::memchr2;
 use std::alloc::{AllocError, Global};
 
 // Writes a character of a text.
-fn write_of_text(byte: u8, out: &mut Vec<u8>) -> Result<(), AllocError>
+fn write_text_byte(byte: u8, out: &mut Vec<u8>) -> Result<(), AllocError>
     ensures { OnOk result (out.new.items ≡ out.old.items ++ text_escape byte) }
 {
     match byte {
@@ -21,7 +21,7 @@ fn write_of_text(byte: u8, out: &mut Vec<u8>) -> Result<(), AllocError>
 }
 
 // Writes a character of a value.
-fn write_of_value(byte: u8, out: &mut Vec<u8>) -> Result<(), AllocError>
+fn write_value_byte(byte: u8, out: &mut Vec<u8>) -> Result<(), AllocError>
     ensures { OnOk result (out.new.items ≡ out.old.items ++ value_escape byte) }
 {
     match byte {
@@ -41,9 +41,9 @@ pub fn escape_text(alloc: Global, characters: &[u8]) -> Result<Vec<u8>, AllocErr
     let mut out = Vec::new(alloc);
     let mut rest = characters;
     while let Some(at) = memchr2(b'&', b'<', rest) {
-        write_bytes(front(rest, at), &mut out)?;
-        write_of_text(rest[at], &mut out)?;
-        rest = past(rest, at + 1);
+        write_bytes(bytes_before(rest, at), &mut out)?;
+        write_text_byte(rest[at], &mut out)?;
+        rest = bytes_after(rest, at + 1);
     }
     write_bytes(rest, &mut out)?;
     Ok(out)
@@ -56,9 +56,9 @@ pub fn escape_value(alloc: Global, characters: &[u8]) -> Result<Vec<u8>, AllocEr
     let mut out = Vec::new(alloc);
     let mut rest = characters;
     while let Some(at) = memchr2(b'&', b'"', rest) {
-        write_bytes(front(rest, at), &mut out)?;
-        write_of_value(rest[at], &mut out)?;
-        rest = past(rest, at + 1);
+        write_bytes(bytes_before(rest, at), &mut out)?;
+        write_value_byte(rest[at], &mut out)?;
+        rest = bytes_after(rest, at + 1);
     }
     write_bytes(rest, &mut out)?;
     Ok(out)

@@ -6,8 +6,8 @@ mod base;
 mod escape;
 mod names;
 mod numbers;
-mod part;
 mod reference;
+mod split;
 mod unescape;
 
 pub use escape::{escape_text, escape_value};

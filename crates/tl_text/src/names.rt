@@ -1,9 +1,9 @@
 //! The names of references.
 ghost use Rattle.std.specs.Prelude.{◌≡◌, ◌≤◌, Some, length, IfSome, option_map};
 ghost use Rattle.tl_html_spec.specs.References.{ends_with_semicolon, first_row, named, rows};
-ghost use Rattle.tl_text.specs.Shown.{shown_row};
+ghost use Rattle.tl_text.specs.View.{row_view};
 
-use crate::part::part;
+use crate::split::split_at_byte;
 use tl_names::table_of;
 
 // A name, and its characters.
@@ -14,8 +14,8 @@ pub(crate) struct Row {
 }
 
 // The rows of the commonest names, which are those of the tables.
-fn common(bytes: &[u8]) -> Option<Row>
-    ensures row { IfSome result (λ row. named bytes.now ≡ Some (shown_row row)) }
+fn common_row(bytes: &[u8]) -> Option<Row>
+    ensures row { IfSome result (λ row. named bytes.now ≡ Some (row_view row)) }
     ensures within { IfSome result (λ row. length row.name.now ≤ length bytes.now) }
 {
     if bytes.starts_with(b"amp;") {
@@ -53,13 +53,13 @@ fn common(bytes: &[u8]) -> Option<Row>
 
 // The first row of a table whose name these bytes begin with.
 fn first_row(table: &'static [u8], bytes: &[u8]) -> Option<Row>
-    ensures row { first_row (rows table.now) bytes.now ≡ option_map shown_row result }
+    ensures row { first_row (rows table.now) bytes.now ≡ option_map row_view result }
     ensures within { IfSome result (λ row. length row.name.now ≤ length bytes.now) }
 {
     let mut left = table;
     while !left.is_empty() {
-        let (name, after) = part(left, b'=');
-        let (characters, later) = part(after, 0);
+        let (name, after) = split_at_byte(left, b'=');
+        let (characters, later) = split_at_byte(after, 0);
         if bytes.starts_with(name) {
             return Some(Row { name, characters });
         }
@@ -69,14 +69,14 @@ fn first_row(table: &'static [u8], bytes: &[u8]) -> Option<Row>
 }
 
 // The row of the longest name that these bytes begin with.
-pub(crate) fn named(bytes: &[u8]) -> Option<Row>
-    ensures row { named bytes.now ≡ option_map shown_row result }
+pub(crate) fn longest_name(bytes: &[u8]) -> Option<Row>
+    ensures row { named bytes.now ≡ option_map row_view result }
     ensures within { IfSome result (λ row. length row.name.now ≤ length bytes.now) }
 {
     if bytes.is_empty() {
         return None;
     }
-    match common(bytes) {
+    match common_row(bytes) {
         Some(row) => Some(row),
         None => first_row(table_of(bytes[0]), bytes),
     }

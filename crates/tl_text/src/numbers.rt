@@ -2,7 +2,7 @@
 ghost use Rattle.std.specs.Prelude.{◌≡◌, ◌+◌, ◌*◌, ◌<◌, ◌≤◌, length, encode_utf8};
 ghost use Rattle.tl_html_spec.specs.References.{is_no_character, number_value, windows_1252};
 ghost use Rattle.tl_html_spec.specs.Unescaped.{number_from};
-ghost use Rattle.tl_text.specs.Shown.{base_of, capped, is_digit_of, number_reference, shown};
+ghost use Rattle.tl_text.specs.View.{base_of, capped, is_digit_of, number_reference, reference_view};
 
 use crate::base::Base;
 use crate::reference::{Characters, Reference};
@@ -74,8 +74,8 @@ fn with_digit(code: u32, base: u32, digit: u32) -> u32
     if next > 0x110000 { 0x110000 } else { next }
 }
 
-fn found(code: u32, takes: usize) -> Reference
-    ensures { shown result ≡ number_reference code takes }
+fn numbered_reference(code: u32, takes: usize) -> Reference
+    ensures { reference_view result ≡ number_reference code takes }
 {
     Reference {
         gives: Characters::Numbered(character(code)),
@@ -85,16 +85,17 @@ fn found(code: u32, takes: usize) -> Reference
 
 // The number whose digits stand in front, with the `;` after them.
 pub(crate) fn number_from(bytes: &[u8], base: Base) -> Reference
-    ensures row { number_from (is_digit_of base) (base_of base) 0 bytes.now ≡ shown result }
+    ensures row { number_from (is_digit_of base) (base_of base) 0 bytes.now
+        ≡ reference_view result }
     ensures within { result.takes ≤ length bytes.now }
 {
     let mut code = 0;
     for (at, byte) in bytes.iter().enumerate() {
         match base.digit(*byte) {
             Some(digit) => code = with_digit(code, base.value(), digit),
-            None if *byte == b';' => return found(code, at + 1),
-            None => return found(code, at),
+            None if *byte == b';' => return numbered_reference(code, at + 1),
+            None => return numbered_reference(code, at),
         }
     }
-    found(code, bytes.len())
+    numbered_reference(code, bytes.len())
 }

@@ -2,10 +2,10 @@
 ghost use Rattle.std.specs.Prelude.{◌≡◌, ◌<◌, ◌≤◌, ◌^◌, ◌++◌, length, option_map, OnOk, IfSome};
 ghost use Rattle.tl_html_spec.specs.References.{begins_with, goes_on, is_left, named_reference};
 ghost use Rattle.tl_html_spec.specs.Unescaped.{number, numeric_reference, one_before, reference};
-ghost use Rattle.tl_text.specs.Shown.{base_of, is_digit_of, shown, shown_characters};
+ghost use Rattle.tl_text.specs.View.{base_of, is_digit_of, reference_view, characters_view};
 
 use crate::base::Base;
-use crate::names::{ends_with_semicolon, named};
+use crate::names::{ends_with_semicolon, longest_name};
 use crate::numbers::number_from;
 use std::alloc::AllocError;
 
@@ -18,7 +18,7 @@ pub(crate) enum Characters {
 
 impl Characters {
     pub(crate) fn write(&self, out: &mut Vec<u8>) -> Result<(), AllocError>
-        ensures { OnOk result (out.new.items ≡ out.old.items ++ shown_characters self.now) }
+        ensures { OnOk result (out.new.items ≡ out.old.items ++ characters_view self.now) }
     {
         match self {
             Characters::Listed(bytes) => out.extend_from_slice(bytes),
@@ -42,7 +42,7 @@ impl Reference {
     // With one byte more before it.
     fn one_before(self) -> Reference
         requires { self.takes < 2 ^ 63 }
-        ensures { shown result ≡ one_before (shown self) }
+        ensures { reference_view result ≡ one_before (reference_view self) }
     {
         Reference {
             gives: self.gives,
@@ -51,7 +51,7 @@ impl Reference {
     }
 }
 
-fn goes_on(byte: u8) -> bool
+fn continues_name(byte: u8) -> bool
     ensures { result ≡ goes_on byte }
 {
     byte == b'=' || byte.is_ascii_alphanumeric()
@@ -61,27 +61,27 @@ fn begins_with_more(bytes: &[u8]) -> bool
     ensures { result ≡ begins_with goes_on bytes.now }
 {
     match bytes.first() {
-        Some(byte) => goes_on(*byte),
+        Some(byte) => continues_name(*byte),
         None => false,
     }
 }
 
 // Whether a name is no reference in a value.
-fn is_left(name: &[u8], after: &[u8]) -> bool
+fn is_kept_text(name: &[u8], after: &[u8]) -> bool
     ensures { result ≡ is_left name.now after.now }
 {
     !ends_with_semicolon(name) && begins_with_more(after)
 }
 
 fn named_reference(in_value: bool, bytes: &[u8]) -> Option<Reference>
-    ensures row { named_reference in_value bytes.now ≡ option_map shown result }
+    ensures row { named_reference in_value bytes.now ≡ option_map reference_view result }
     ensures within { IfSome result (λ found. found.takes ≤ length bytes.now) }
 {
-    let Some(row) = named(bytes) else {
+    let Some(row) = longest_name(bytes) else {
         return None;
     };
     let takes = row.name.len();
-    if in_value && is_left(row.name, &bytes[takes..]) {
+    if in_value && is_kept_text(row.name, &bytes[takes..]) {
         return None;
     }
     Some(Reference {
@@ -91,7 +91,8 @@ fn named_reference(in_value: bool, bytes: &[u8]) -> Option<Reference>
 }
 
 fn number(bytes: &[u8], base: Base) -> Option<Reference>
-    ensures row { number (is_digit_of base) (base_of base) bytes.now ≡ option_map shown result }
+    ensures row { number (is_digit_of base) (base_of base) bytes.now
+        ≡ option_map reference_view result }
     ensures within { IfSome result (λ found. found.takes ≤ length bytes.now) }
 {
     match bytes.first() {
@@ -102,7 +103,7 @@ fn number(bytes: &[u8], base: Base) -> Option<Reference>
 
 // The number after a `#`.
 fn numeric_reference(bytes: &[u8]) -> Option<Reference>
-    ensures row { numeric_reference bytes.now ≡ option_map shown result }
+    ensures row { numeric_reference bytes.now ≡ option_map reference_view result }
     ensures within { IfSome result (λ found. found.takes ≤ length bytes.now) }
 {
     if bytes.is_empty() {
@@ -119,7 +120,7 @@ fn numeric_reference(bytes: &[u8]) -> Option<Reference>
 
 // The reference of which these bytes stand after its `&`.
 pub(crate) fn reference_at(in_value: bool, bytes: &[u8]) -> Option<Reference>
-    ensures row { reference in_value bytes.now ≡ option_map shown result }
+    ensures row { reference in_value bytes.now ≡ option_map reference_view result }
     ensures within { IfSome result (λ found. found.takes ≤ length bytes.now) }
 {
     if bytes.is_empty() {

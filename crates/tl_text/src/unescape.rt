@@ -2,8 +2,8 @@
 ghost use Rattle.std.specs.Prelude.{◌≡◌, ◌≤◌, ◌++◌, length, IfOk, OnOk};
 ghost use Rattle.tl_html_spec.specs.Unescaped.{or_itself, reference, unescaped, unescaped_text, unescaped_value};
 
-use crate::part::{front, past, write_bytes};
 use crate::reference::reference_at;
+use crate::split::{bytes_after, bytes_before, write_bytes};
 use memchr::memchr;
 use std::alloc::{AllocError, Global};
 
@@ -34,10 +34,10 @@ fn unescape(alloc: Global, in_value: bool, bytes: &[u8]) -> Result<Vec<u8>, Allo
     let mut out = Vec::new(alloc);
     let mut rest = bytes;
     while let Some(at) = memchr(b'&', rest) {
-        write_bytes(front(rest, at), &mut out)?;
-        let after = past(rest, at + 1);
+        write_bytes(bytes_before(rest, at), &mut out)?;
+        let after = bytes_after(rest, at + 1);
         let takes = write_reference(in_value, after, &mut out)?;
-        rest = past(after, takes);
+        rest = bytes_after(after, takes);
     }
     write_bytes(rest, &mut out)?;
     Ok(out)
@@ -50,8 +50,8 @@ pub fn unescape_text(alloc: Global, text: &[u8]) -> Result<Vec<u8>, AllocError>
     unescape(alloc, false, text)
 }
 
-/// The characters that a value says. In a value a name without its `;` is no reference before `=`, a
-/// letter or a digit.
+/// The characters that a value says. In a value a name without its `;` is no reference before `=`,
+/// a letter or a digit.
 pub fn unescape_value(alloc: Global, value: &[u8]) -> Result<Vec<u8>, AllocError>
     ensures { IfOk result (λ characters. characters.items ≡ unescaped_value value.now) }
 {

@@ -1,5 +1,5 @@
--- What the tree builder holds (13.2.4), and what is done to it: the stack of open elements, the list of active formatting
--- elements, the insertion mode.
+-- What the tree builder holds (13.2.4), and what is done to it: the stack of open elements, the
+-- list of active formatting elements, the insertion mode.
 use Rattle.std.specs.Prelude.{ℕ, suc, Bool, true, false, not, ◌||◌, ◌&&◌, ◌==◌, nat_lt, List, [], ◌∷◌, ◌++◌, length, map, Option, Some, None, if◌then◌else◌}
 use Rattle.std.specs.List.{list_all, list_any}
 use Rattle.std.specs.Str.{bytes_eq}
@@ -12,7 +12,8 @@ pub record Element : Type 0 where
   pub number : ℕ
   pub own : HtmlTag
 
--- nodes in a row, the last one outside: a text after these, an element with its children after these
+-- nodes in a row, the last one outside: a text after these, an element with its children after
+-- these
 pub data Nodes : Type 0 where
   no_nodes : Nodes
   and_text : Nodes → List ℕ → Nodes
@@ -33,8 +34,8 @@ pub data Mode : Type 0 where
   in_row : Mode
   in_cell : Mode
 
--- the stack of open elements (13.2.4.2): the current node, and those around it, the innermost first;
--- the last of all is the `html` element
+-- the stack of open elements (13.2.4.2): the current node, and those around it, the innermost
+-- first; the last of all is the `html` element
 pub record Stack : Type 0 where
   pub current : Frame
   pub others : List Frame
@@ -87,7 +88,8 @@ is_flow _ = false
 
 -- an element that is not open any more stands at the end of the one around it
 abbrev pub closed_into : Frame → Frame → Frame
-closed_into outer f = record outer { children = and_element outer.children f.element.own f.children }
+closed_into outer f =
+    record outer { children = and_element outer.children f.element.own f.children }
 
 abbrev pub elements : Stack → List Element
 elements s = s.current.element ∷ map (λ (f : Frame). f.element) s.others
@@ -208,7 +210,8 @@ abbrev pub alone : Builder → HtmlTag → Builder
 alone b own =
     record b {
       stack = record b.stack {
-        current = record b.stack.current { children = and_element b.stack.current.children own no_nodes };
+        current =
+            record b.stack.current { children = and_element b.stack.current.children own no_nodes };
       };
       next = suc b.next;
     }
@@ -221,7 +224,8 @@ formatted b own =
 abbrev pub and_character : Nodes → ℕ → Nodes
 and_character no_nodes c = and_text no_nodes (c ∷ [])
 and_character (and_text nodes bytes) c = and_text nodes (bytes ++ c ∷ [])
-and_character (and_element nodes own children) c = and_text (and_element nodes own children) (c ∷ [])
+and_character (and_element nodes own children) c =
+    and_text (and_element nodes own children) (c ∷ [])
 
 abbrev pub with_character : Builder → ℕ → Builder
 with_character b c =

@@ -203,7 +203,8 @@ is_part _ = false
 abbrev pub is_table_scope : List ℕ → Bool
 is_table_scope n = is_among table_scope_bounds n
 
--- where clearing the stack back to a table context, a table body context, a table row context ends (13.2.6.4.9, .13, .14)
+-- where clearing the stack back to a table context, a table body context, a table row context ends
+-- (13.2.6.4.9, .13, .14)
 abbrev pub is_table_context : List ℕ → Bool
 is_table_context n = is_table n || is_one_of (codes "html template") n
 

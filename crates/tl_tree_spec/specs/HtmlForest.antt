@@ -1,4 +1,5 @@
--- Trees as a browser has them: names, pairs and texts are what they say, with no reference left in them.
+-- Trees as a browser has them: names, pairs and texts are what they say, with no reference left in
+-- them.
 use Rattle.std.specs.Prelude.{ℕ, Bool, true, false, not, ◌&&◌, List, [], ◌∷◌, ◌++◌, map, if◌then◌else◌}
 use Rattle.tl_spec.specs.Lex.ByteClass.{is_void}
 use Rattle.tl_spec.specs.Tree.Forest.{Forest, none, text, comment, tag}
@@ -47,6 +48,7 @@ is_empty (b ∷ bytes) = false
 -- whether trees have this form
 abbrev pub is_normal : HtmlForest → Bool
 is_normal none = true
-is_normal (text bytes more) = not (is_empty bytes) && (not (begins_with_text more) && is_normal more)
+is_normal (text bytes more) =
+    not (is_empty bytes) && (not (begins_with_text more) && is_normal more)
 is_normal (comment bytes more) = is_normal more
 is_normal (tag own children more) = is_normal children && is_normal more

@@ -1,18 +1,18 @@
--- The tree builder of the HTML standard (13.2.6): its insertion modes "in body" (13.2.6.4.7) and those of tables
--- (13.2.6.4.9 to .15), in a document that isn't in quirks mode, with scripting off.
+-- The tree builder of the HTML standard (13.2.6): its insertion modes "in body" (13.2.6.4.7) and
+-- those of tables (13.2.6.4.9 to .15), in a document that isn't in quirks mode, with scripting off.
 --
--- What is not written down has no outcome (`None`), so a law that names an outcome says as well that the builder meets none
--- of it:
--- - what leaves these modes, or stands in the head: `template`, `frameset`, `svg`, `math`, `html`, `body`, the elements of
---   the head, those whose content is no markup, and `noscript`;
+-- What is not written down has no outcome (`None`), so a law that names an outcome says as well
+-- that the builder meets none of it:
+-- - what leaves these modes, or stands in the head: `template`, `frameset`, `svg`, `math`, `html`,
+--   `body`, the elements of the head, those whose content is no markup, and `noscript`;
 -- - what is foster parented: in a table, tags and characters that are none of tables;
 -- - `form`, `input`, `select`, `option` and `optgroup`, with the rules for the form that is open;
 -- - comments and doctypes;
--- - in the adoption agency algorithm what follows from its step on a furthest block; and that an `a` leaves the open
---   elements from between others.
+-- - in the adoption agency algorithm what follows from its step on a furthest block; and that an
+--   `a` leaves the open elements from between others.
 --
--- Left out, since it shows in no tree that is made here: parse errors, the frameset-ok flag, the self-closing flag, and
--- namespaces, as no element here is of another one than HTML's.
+-- Left out, since it shows in no tree that is made here: parse errors, the frameset-ok flag, the
+-- self-closing flag, and namespaces, as no element here is of another one than HTML's.
 use Rattle.std.specs.Prelude.{ℕ, Bool, true, false, not, ◌||◌, ◌&&◌, ◌==◌, List, [], ◌∷◌, Option, Some, None, option_map, codes, if◌then◌else◌}
 use Rattle.std.specs.Char.{is_ascii_whitespace}
 use Rattle.std.specs.Str.{bytes_eq}
@@ -25,8 +25,8 @@ use Rattle.tl_tree_spec.specs.Builder.{Builder, Element, Frame, Mode, Nodes, Sta
 
 -- "in body" (13.2.6.4.7)
 
--- where an element that passes the test is open in a scope, which these bound: implied end tags are generated, but for some
--- names, and elements popped until it was popped
+-- where an element that passes the test is open in a scope, which these bound: implied end tags are
+-- generated, but for some names, and elements popped until it was popped
 abbrev pub closed_in : (List ℕ → Bool) → (List ℕ → Bool) → (List ℕ → Bool) → Builder → Builder
 closed_in bounds but test b =
     if within test bounds (names b.stack) then with_stack b (closed_through but test b.stack) else b
@@ -42,7 +42,8 @@ heading_closed b =
     then with_stack b (popped b.stack.current b.stack.others)
     else b
 
--- an earlier item is closed, up to a special element but `address`, `div` and `p`; so is an earlier description
+-- an earlier item is closed, up to a special element but `address`, `div` and `p`; so is an earlier
+-- description
 abbrev pub item_closed : Builder → Builder
 item_closed b = closed_in is_item_bound is_item is_item b
 
@@ -54,7 +55,8 @@ found test (n ∷ ns) = if test n then n else found test ns
 abbrev pub description_closed : Builder → Builder
 description_closed b =
     let is_found = bytes_eq (found is_description (names b.stack)) in
-    if within is_description is_item_bound (names b.stack) then with_stack b (closed_through is_found is_found b.stack) else b
+    if within is_description is_item_bound (names b.stack) then with_stack b
+    (closed_through is_found is_found b.stack) else b
 
 -- a button that is in scope is closed
 abbrev pub button_closed : Builder → List ℕ → Builder
@@ -93,7 +95,8 @@ adopted b n (Some e) =
 -- the adoption agency algorithm, for an end tag, and for a start tag of `a` or `nobr`
 abbrev pub adoption : Builder → List ℕ → Option Builder
 adoption b n =
-    if bytes_eq n b.stack.current.element.own.name && not (is_listed b.stack.current.element.number b.active)
+    if bytes_eq n b.stack.current.element.own.name
+    && not (is_listed b.stack.current.element.number b.active)
     then Some (with_stack b (popped b.stack.current b.stack.others))
     else adopted b n (listed n b.active)
 
@@ -124,11 +127,13 @@ body_start b an_item own = Some (inserted (p_closed (item_closed b)) own)
 body_start b a_description own = Some (inserted (p_closed (description_closed b)) own)
 body_start b a_button own = Some (inserted (reconstructed (button_closed b own.name)) own)
 body_start b an_anchor own =
-    option_map (λ (c : Builder). formatted (reconstructed c) own) (anchor_ended b own.name (listed own.name b.active))
+    option_map (λ (c : Builder). formatted (reconstructed c) own)
+    (anchor_ended b own.name (listed own.name b.active))
 body_start b a_format own = Some (formatted (reconstructed b) own)
 body_start b a_nobr own =
     if within (bytes_eq own.name) is_scope (names (reconstructed b).stack)
-    then option_map (λ (c : Builder). formatted (reconstructed c) own) (adoption (reconstructed b) own.name)
+    then option_map (λ (c : Builder). formatted (reconstructed c) own)
+    (adoption (reconstructed b) own.name)
     else Some (formatted (reconstructed b) own)
 body_start b a_mark own =
     let opened = inserted (reconstructed b) own in
@@ -255,11 +260,13 @@ table_start b a_caption own =
 table_start b a_column_group own =
     Some (to_mode in_column_group (inserted (cleared is_table_context b) own))
 table_start b a_column own =
-    Some (alone (to_mode in_column_group (inserted (cleared is_table_context b) (implied_tag (codes "colgroup")))) own)
+    Some (alone (to_mode in_column_group
+    (inserted (cleared is_table_context b) (implied_tag (codes "colgroup")))) own)
 table_start b a_table_body own = Some (body_opened b own)
 table_start b a_row own = Some (row_opened (body_opened b (implied_tag (codes "tbody"))) own)
 table_start b a_cell own =
-    Some (cell_opened (row_opened (body_opened b (implied_tag (codes "tbody"))) (implied_tag (codes "tr"))) own)
+    Some (cell_opened (row_opened (body_opened b (implied_tag (codes "tbody")))
+    (implied_tag (codes "tr"))) own)
 table_start b a_table own =
     if not (has_in_table_scope is_table b) then Some b
     else if is_flow (table_closed b).mode then body_start (table_closed b) a_table own
@@ -275,14 +282,16 @@ abbrev pub caption_closed : Builder → Builder
 caption_closed b = marked_closed is_caption in_table b
 
 abbrev pub caption_part_start : Builder → Group → HtmlTag → Option Builder
-caption_part_start b g own = if has_in_table_scope is_caption b then table_start (caption_closed b) g own else Some b
+caption_part_start b g own =
+    if has_in_table_scope is_caption b then table_start (caption_closed b) g own else Some b
 
 abbrev pub caption_start : Builder → Group → HtmlTag → Option Builder
 caption_start b g own = if is_part g then caption_part_start b g own else body_start b g own
 
 abbrev pub caption_end : Builder → Group → List ℕ → Option Builder
 caption_end b a_caption n = Some (if has_in_table_scope is_caption b then caption_closed b else b)
-caption_end b a_table n = if has_in_table_scope is_caption b then table_end (caption_closed b) a_table n else Some b
+caption_end b a_table n =
+    if has_in_table_scope is_caption b then table_end (caption_closed b) a_table n else Some b
 caption_end b g n = if is_part g then Some b else body_end b g n
 
 -- "in column group" (13.2.6.4.12)
@@ -295,7 +304,8 @@ column_group_closed b = to_mode in_table (current_popped b)
 abbrev pub column_start : Builder → Group → HtmlTag → Option Builder
 column_start b a_column own = Some (alone b own)
 column_start b elsewhere own = None
-column_start b g own = if is_in_column_group b then table_start (column_group_closed b) g own else Some b
+column_start b g own =
+    if is_in_column_group b then table_start (column_group_closed b) g own else Some b
 
 abbrev pub column_end : Builder → Group → List ℕ → Option Builder
 column_end b a_column_group n = Some (if is_in_column_group b then column_group_closed b else b)
@@ -314,13 +324,16 @@ table_body_start b a_cell own = Some (cell_opened (row_opened b (implied_tag (co
 table_body_start b g own = if is_part g then body_part_start b g own else table_start b g own
 
 abbrev pub table_body_end : Builder → Group → List ℕ → Option Builder
-table_body_end b a_table_body n = Some (if has_in_table_scope (bytes_eq n) b then body_closed b else b)
-table_body_end b a_table n = if has_in_table_scope is_table_body b then table_end (body_closed b) a_table n else Some b
+table_body_end b a_table_body n =
+    Some (if has_in_table_scope (bytes_eq n) b then body_closed b else b)
+table_body_end b a_table n =
+    if has_in_table_scope is_table_body b then table_end (body_closed b) a_table n else Some b
 table_body_end b g n = table_end b g n
 
 -- "in row" (13.2.6.4.14)
 abbrev pub row_part_start : Builder → Group → HtmlTag → Option Builder
-row_part_start b g own = if has_in_table_scope is_row b then table_body_start (row_closed b) g own else Some b
+row_part_start b g own =
+    if has_in_table_scope is_row b then table_body_start (row_closed b) g own else Some b
 
 abbrev pub row_start : Builder → Group → HtmlTag → Option Builder
 row_start b a_cell own = Some (cell_opened b own)
@@ -328,9 +341,11 @@ row_start b g own = if is_part g then row_part_start b g own else table_start b 
 
 abbrev pub row_end : Builder → Group → List ℕ → Option Builder
 row_end b a_row n = Some (if has_in_table_scope is_row b then row_closed b else b)
-row_end b a_table n = if has_in_table_scope is_row b then table_body_end (row_closed b) a_table n else Some b
+row_end b a_table n =
+    if has_in_table_scope is_row b then table_body_end (row_closed b) a_table n else Some b
 row_end b a_table_body n =
-    if has_in_table_scope (bytes_eq n) b && has_in_table_scope is_row b then table_body_end (row_closed b) a_table_body n
+    if has_in_table_scope (bytes_eq n) b
+    && has_in_table_scope is_row b then table_body_end (row_closed b) a_table_body n
     else Some b
 row_end b g n = table_end b g n
 
@@ -342,10 +357,12 @@ abbrev pub cell_start : Builder → Group → HtmlTag → Option Builder
 cell_start b g own = if is_part g then row_start (cell_closed b) g own else body_start b g own
 
 abbrev pub cell_outer_end : Builder → Group → List ℕ → Option Builder
-cell_outer_end b g n = if has_in_table_scope (bytes_eq n) b then row_end (cell_closed b) g n else Some b
+cell_outer_end b g n =
+    if has_in_table_scope (bytes_eq n) b then row_end (cell_closed b) g n else Some b
 
 abbrev pub cell_end : Builder → Group → List ℕ → Option Builder
-cell_end b a_cell n = Some (if has_in_table_scope (bytes_eq n) b then marked_closed (bytes_eq n) in_row b else b)
+cell_end b a_cell n =
+    Some (if has_in_table_scope (bytes_eq n) b then marked_closed (bytes_eq n) in_row b else b)
 cell_end b a_caption n = Some b
 cell_end b a_column_group n = Some b
 cell_end b a_column n = Some b
@@ -373,8 +390,8 @@ end_tag in_table_body b g n = table_body_end b g n
 end_tag in_row b g n = row_end b g n
 end_tag in_cell b g n = cell_end b g n
 
--- characters, by whether the rules are those of "in body": between the parts of a table white space is inserted (13.2.6.4.10),
--- and all else foster parented
+-- characters, by whether the rules are those of "in body": between the parts of a table white space
+-- is inserted (13.2.6.4.10), and all else foster parented
 abbrev pub a_character : Bool → Builder → ℕ → Option Builder
 a_character true b c = Some (if c == 0 then b else with_character (reconstructed b) c)
 a_character false b c = if is_ascii_whitespace c then Some (with_character b c) else None

@@ -4,4 +4,4 @@ pub mod Builder
 pub mod HtmlTreeBuilder
 pub mod Stays
 pub mod Places
-pub mod Rows
+pub mod Examples

@@ -27,7 +27,8 @@ placed (own ∷ tags) =
       mode = mode_by (group own.name) around.mode;
     }
 
--- from this builder the tokens put these trees into the current node, and leave all around it as it is
+-- from this builder the tokens put these trees into the current node, and leave all around it as it
+-- is
 pub record Puts (b : Builder) (tokens : List HtmlToken) (trees : HtmlForest) : Type 0 where
   pub after : Builder
   pub outcome : run (Some b) tokens ≡ Some after

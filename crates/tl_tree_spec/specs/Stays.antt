@@ -15,8 +15,8 @@ use Rattle.tl_tree_spec.specs.HtmlTreeBuilder.{is_rtc}
 abbrev pub in_p : List (List ℕ) → Bool
 in_p names = within is_paragraph is_button_scope names
 
--- the search of a `li`, `dd` or `dt` for an earlier one ends here in browsers too: not all take `search`
--- for a special element
+-- the search of a `li`, `dd` or `dt` for an earlier one ends here in browsers too: not all take
+-- `search` for a special element
 abbrev pub surely_ends : List ℕ → Bool
 surely_ends n = is_item_bound n && not (is_one_of (codes "search") n)
 
@@ -46,7 +46,8 @@ stands_in_flow a_block names n = not (in_p names)
 stands_in_flow a_heading names n = not (in_p names) && not (directly_in is_heading names)
 stands_in_flow a_preformatted names n = not (in_p names)
 stands_in_flow an_item names n = not (within is_item surely_ends names) && not (in_p names)
-stands_in_flow a_description names n = not (within is_description surely_ends names) && not (in_p names)
+stands_in_flow a_description names n =
+    not (within is_description surely_ends names) && not (in_p names)
 stands_in_flow a_button names n = not (within (bytes_eq n) is_scope names)
 stands_in_flow an_anchor names n = not (within (bytes_eq n) is_mark names)
 stands_in_flow a_format names n = true

@@ -2,7 +2,7 @@
 //! and their laws.
 #![tactic(auto)]
 
+mod examples;
 pub mod laws;
-mod rows;
-mod stay_rows;
-mod table_rows;
+mod stay_examples;
+mod table_examples;

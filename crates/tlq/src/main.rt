@@ -18,7 +18,8 @@ fn main(rt: HostRuntime) -> ExitCode {
     ExitCode::from(status)
 }
 
-// Runs the command that the arguments say, from standard input to standard output, and answers the status.
+// Runs the command that the arguments say, from standard input to standard output, and answers the
+// status.
 fn status_of(rt: &HostRuntime) -> u8
     ensures { result ≤ 4 }
 {

@@ -13,7 +13,7 @@ use Rattle.tl_spec.proofs.Print.Images.{image-pairs_in_order}
 use Rattle.tl_attributes.specs.Listing.{as_borrowed, listed}
 use Rattle.tl_attributes.specs.AttributesView.{attributes_view, bytes_view, value_view}
 use Rattle.uses.specs.Fields.{Fields, attributes_with, text_with}
-use Rattle.uses.specs.Filling.{pair_with, put}
+use Rattle.uses.specs.Filling.{pair_with, insert_pair}
 
 abbrev Entry : Type 0
 Entry = Kept × Option Kept
@@ -72,31 +72,31 @@ module _ (fields : Fields) where
   abbrev again : Entry → Entry
   again e = (as_owned e.0.list, option_map held_with e.1)
 
-  put-one : (heap : Bool) (id class : Option Kept) (done : List Entry) (e : Entry) (rest : List Entry) → IsDistinct same_list (keys_of (done ++ e ∷ rest)) →
-      AreOthers bytes_view (e ∷ rest) → put (holding heap id class (done ++ e ∷ rest)) (again e) ≡ holding heap id class (done ++ entry_with e ∷ rest)
-  put-one heap id class done e rest d o =
+  insert_pair-one : (heap : Bool) (id class : Option Kept) (done : List Entry) (e : Entry) (rest : List Entry) → IsDistinct same_list (keys_of (done ++ e ∷ rest)) →
+      AreOthers bytes_view (e ∷ rest) → insert_pair (holding heap id class (done ++ e ∷ rest)) (again e) ≡ holding heap id class (done ++ entry_with e ∷ rest)
+  insert_pair-one heap id class done e rest d o =
       choose_by_key-other e.0.list _ _ _ o.0
       ∙ ap₂ (λ b es. holding b id class es)
       (stays_on heap (is_some (lookup (same_list (as_owned e.0.list)) (done ++ e ∷ rest))) (length (done ++ e ∷ rest) == room) (there done e rest d))
       (in_place done e rest (option_map held_with e.1) d)
 
-  put-others : (heap : Bool) (id class : Option Kept) (done rest later : List Entry) → IsDistinct same_list (keys_of (done ++ rest)) → AreOthers bytes_view rest →
-      fold put (holding heap id class (done ++ rest)) (map again rest ++ later) ≡ fold put (holding heap id class (done ++ map entry_with rest)) later
-  put-others heap id class done [] later d o = refl
-  put-others heap id class done (e ∷ rest) later d o =
-      let one = put-one heap id class done e rest d o in
+  insert_pair-others : (heap : Bool) (id class : Option Kept) (done rest later : List Entry) → IsDistinct same_list (keys_of (done ++ rest)) → AreOthers bytes_view rest →
+      fold insert_pair (holding heap id class (done ++ rest)) (map again rest ++ later) ≡ fold insert_pair (holding heap id class (done ++ map entry_with rest)) later
+  insert_pair-others heap id class done [] later d o = refl
+  insert_pair-others heap id class done (e ∷ rest) later d o =
+      let one = insert_pair-one heap id class done e rest d o in
       let before : List Entry = done ++ entry_with e ∷ [] in
-      ap (λ a. fold put a (map again rest ++ later)) (one ∙ ap (holding heap id class) (sym (append_assoc done (entry_with e ∷ []) rest)))
-      ∙ put-others heap id class before rest later (subst (IsDistinct same_list) (sym (keys-same done e rest (option_map held_with e.1))) d) o.1
-      ∙ ap (λ es. fold put (holding heap id class es) later) (append_assoc done (entry_with e ∷ []) (map entry_with rest))
+      ap (λ a. fold insert_pair a (map again rest ++ later)) (one ∙ ap (holding heap id class) (sym (append_assoc done (entry_with e ∷ []) rest)))
+      ∙ insert_pair-others heap id class before rest later (subst (IsDistinct same_list) (sym (keys-same done e rest (option_map held_with e.1))) d) o.1
+      ∙ ap (λ es. fold insert_pair (holding heap id class es) later) (append_assoc done (entry_with e ∷ []) (map entry_with rest))
 
-  put-named : (heap : Bool) (es : List Entry) (id class : Option Kept) →
-      fold put (holding heap id class es) (pair_if_some (as_owned (codes "id")) (option_map held_with id) ++ pair_if_some (as_owned (codes "class")) (option_map held_with class))
+  insert_pair-named : (heap : Bool) (es : List Entry) (id class : Option Kept) →
+      fold insert_pair (holding heap id class es) (pair_if_some (as_owned (codes "id")) (option_map held_with id) ++ pair_if_some (as_owned (codes "class")) (option_map held_with class))
       ≡ holding heap (option_map held_with id) (option_map held_with class) es
-  put-named heap es None None = refl
-  put-named heap es None (Some c) = refl
-  put-named heap es (Some i) None = refl
-  put-named heap es (Some i) (Some c) = refl
+  insert_pair-named heap es None None = refl
+  insert_pair-named heap es None (Some c) = refl
+  insert_pair-named heap es (Some i) None = refl
+  insert_pair-named heap es (Some i) (Some c) = refl
 
   -- of the entries as they are read
   read-again : (es : List Entry) → map (pair_image owned_key (option_map held_with)) (map (λ e. (as_borrowed e.0.list, e.1)) es) ≡ map again es
@@ -123,9 +123,9 @@ module _ (fields : Fields) where
       }
 
   -- all pairs of a tag put again, with fields in their values
-  pub put-all : (a : Attributes Kept) → IsDistinct same_list (keys_of a.others.entries) → AreOthers bytes_view a.others.entries →
-      attributes_view (fold put a (map (pair_with fields) (listed bytes_view a))) ≡ attributes_with fields (attributes_view a)
-  put-all a d o =
+  pub insert_pair-all : (a : Attributes Kept) → IsDistinct same_list (keys_of a.others.entries) → AreOthers bytes_view a.others.entries →
+      attributes_view (fold insert_pair a (map (pair_with fields) (listed bytes_view a))) ≡ attributes_with fields (attributes_view a)
+  insert_pair-all a d o =
       let es = a.others.entries in
       let ids = pair_if_some (as_owned (codes "id")) (option_map held_with a.id) in
       let classes = pair_if_some (as_owned (codes "class")) (option_map held_with a.class) in
@@ -133,7 +133,7 @@ module _ (fields : Fields) where
       image-pairs_in_order owned_key held_with as_borrowed (map (λ e. (as_borrowed e.0.list, e.1)) es) a.id a.class
       ∙ ap (λ l. (l ++ ids) ++ classes) (read-again es)
       ∙ append_assoc (map again es) ids classes in
-      ap attributes_view (ap (fold put a) listed_again
-      ∙ put-others a.others.on_heap a.id a.class [] es (ids ++ classes) d o
-      ∙ put-named a.others.on_heap (map entry_with es) a.id a.class)
+      ap attributes_view (ap (fold insert_pair a) listed_again
+      ∙ insert_pair-others a.others.on_heap a.id a.class [] es (ids ++ classes) d o
+      ∙ insert_pair-named a.others.on_heap (map entry_with es) a.id a.class)
       ∙ shown-all a.others.on_heap a.id a.class es

@@ -70,7 +70,8 @@ text_with fields bytes = parts_with fields (pieces opening bytes)
 -- the values of attributes with fields; keys stay
 abbrev pub plain_attributes_with : Fields → PlainAttributes → PlainAttributes
 plain_attributes_with fields a =
-    attributes_image (text_with fields) (map (pair_image (λ key. key) (option_map (text_with fields)))) a
+    attributes_image (text_with fields) (map
+    (pair_image (λ key. key) (option_map (text_with fields)))) a
 
 -- trees with fields in their texts and values; names, keys and comments stay
 abbrev pub trees_with : Fields → Forest PlainTag → Forest PlainTag

@@ -9,8 +9,9 @@ use Rattle.uses.specs.Fields.{Fields, text_with}
 
 -- a copy of a pair, with fields in its value
 abbrev pub pair_with : Fields → Kept × Option Kept → Kept × Option Kept
-pair_with fields p = (as_owned p.0.list, option_map (λ value. as_owned (text_with fields value.list)) p.1)
+pair_with fields p =
+    (as_owned p.0.list, option_map (λ value. as_owned (text_with fields value.list)) p.1)
 
 -- attributes with one more pair
-abbrev pub put : Attributes Kept → Kept × Option Kept → Attributes Kept
-put a p = with_attribute bytes_view same_list a p.0 p.1
+abbrev pub insert_pair : Attributes Kept → Kept × Option Kept → Attributes Kept
+insert_pair a p = with_attribute bytes_view same_list a p.0 p.1

@@ -1,7 +1,7 @@
 //! Texts with fields in the place of their names.
 ghost use Rattle.std.specs.Prelude.{◌≡◌, ◌<◌, ◌∷◌, ◌++◌, length, IfOk, IfSome, OnOk};
 ghost use Rattle.std.specs.Option.{option_copied};
-ghost use Rattle.tl_extract.specs.Split.{pieces, pieces_left};
+ghost use Rattle.tl_extract.specs.Split.{pieces, remaining_pieces};
 ghost use Rattle.uses.specs.Fields.{escape, escape_of, fields_of, opening, part_with, text_with, value_of};
 
 use std::alloc::{AllocError, Global};
@@ -69,7 +69,7 @@ fn add_part(text: &mut Vec<u8>, fields: &[Field<'_>], part: &[u8]) -> Result<(),
 
 // What stands before the first `{`, and what stands after it, if there is one.
 fn split_at_brace(text: &[u8]) -> (&[u8], Option<&[u8]>)
-    ensures pieces { pieces opening text.now ≡ result.0.now ∷ pieces_left opening result.1 }
+    ensures pieces { pieces opening text.now ≡ result.0.now ∷ remaining_pieces opening result.1 }
     ensures shorter { IfSome result.1 (λ rest. length rest.now < length text.now) }
 {
     match find(text, b'{') {

@@ -16,7 +16,7 @@ ghost use Rattle.tl_attributes.specs.Listing.{listed};
 ghost use Rattle.tl_attributes.specs.AttributesView.{attributes_view, bytes_view};
 ghost use Rattle.tl.specs.View.{document_of, node_view};
 ghost use Rattle.uses.specs.Fields.{attributes_with, document_with, fields_of, node_with, text_with, trees_with};
-ghost use Rattle.uses.specs.Filling.{pair_with, put};
+ghost use Rattle.uses.specs.Filling.{pair_with, insert_pair};
 
 use crate::field::{Field, text_with};
 use anyhow::Result as AnyResult;
@@ -74,11 +74,11 @@ fn pairs_with(
 }
 
 // Puts pairs, one after the other.
-fn put_pairs<'a>(
+fn insert_pairs<'a>(
     attributes: &mut Attributes<'a>,
     pairs: Vec<(Bytes<'a>, Option<Bytes<'a>>)>,
 ) -> Result<(), AllocError>
-    ensures { OnOk result (attributes.new ≡ fold put attributes.old pairs.entry.items) }
+    ensures { OnOk result (attributes.new ≡ fold insert_pair attributes.old pairs.entry.items) }
 {
     for pair in pairs {
         attributes.insert(pair.0, pair.1)?;
@@ -96,12 +96,13 @@ fn fill_attributes<'a>(
         ≡ attributes_with (fields_of fields.now) (attributes_view attributes.old)) }
 {
     let pairs = pairs_with(alloc, fields, attributes)?;
-    put_pairs(attributes, pairs)
+    insert_pairs(attributes, pairs)
 }
 
 // Puts fields into a node.
 fn fill_node<'a>(alloc: Global, fields: &[Field<'_>], node: &mut Node<'a>) -> Result<(), AllocError>
-    ensures { OnOk result (node_view node.new ≡ node_with (fields_of fields.now) (node_view node.old)) }
+    ensures { OnOk result (node_view node.new
+        ≡ node_with (fields_of fields.now) (node_view node.old)) }
 {
     match node {
         Node::Tag(tag) => fill_attributes(alloc, fields, tag.attributes_mut()),
@@ -141,11 +142,12 @@ fn fill_document<'a>(
     fill_nodes(alloc, fields, document.nodes_mut())
 }
 
-/// A page from a template: the escaped value stands in the place of each `{name}` of a field, in the texts and in the values of
-/// attributes. Braces around anything else stay as they are, since a page has braces of its own, as in its styles.
+/// A page from a template: the escaped value stands in the place of each `{name}` of a field, in
+/// the texts and in the values of attributes. Braces around anything else stay as they are, since a
+/// page has braces of its own, as in its styles.
 ///
-/// No value adds a tag or ends one: what is read of the page are the trees of the template, with the fields in their texts and
-/// values.
+/// No value adds a tag or ends one: what is read of the page are the trees of the template, with
+/// the fields in their texts and values.
 pub fn fill(alloc: Global, fields: &[Field<'_>], template: &str) -> AnyResult<String>
     ensures print { let filled = document_with (fields_of fields.now) (document template.now) in
         IfOk result (λ page. document_print filled ≡ Ok (string_bytes page)) }

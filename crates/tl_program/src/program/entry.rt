@@ -3,17 +3,18 @@ ghost use Rattle.std.specs.Prelude.{◌≡◌, ◌≢◌, IfNone, OnSome, Option
 ghost use Rattle.std.specs.Io.KnownBytes.{IsAtEnd};
 ghost use Rattle.tl_spec.specs.Select.Selector.{Selector};
 ghost use Rattle.tl_program.specs.Run.{IsRun};
-ghost use Rattle.tl_program.specs.Said.{asked_in, output_by, printed_by, IsSelectorIn};
+ghost use Rattle.tl_program.specs.Args.{action_in, output_of_args, print_of_args, IsSelectorIn};
 
+use super::args::command;
 use super::failure::Failure;
-use super::fault::{Input, Output};
-use super::running::run;
-use super::words::command;
+use super::runner::run;
+use super::streams::{Input, Output};
 use std::alloc::Global;
 
 /// Runs the command that the words say, and answers the status, as `run` does.
 ///
-/// Words that say no command are not understood: the status is 2, and nothing is asked of the reader and the writer.
+/// Words that say no command are not understood: the status is 2, and nothing is asked of the
+/// reader and the writer.
 pub fn run_words<R: Input, W: Output>(
     alloc: Global,
     words: &[String],
@@ -21,19 +22,19 @@ pub fn run_words<R: Input, W: Output>(
     writer: &mut W,
 ) -> u8
     // Words that say no command.
-    ensures unasked { IfNone (asked_in words.now) (result ≡ 2) }
-    ensures unasked_reader { IfNone (asked_in words.now) (reader.new ≡ reader.old) }
-    ensures unasked_writer { IfNone (asked_in words.now) (writer.new ≡ writer.old) }
+    ensures unasked { IfNone (action_in words.now) (result ≡ 2) }
+    ensures unasked_reader { IfNone (action_in words.now) (reader.new ≡ reader.old) }
+    ensures unasked_writer { IfNone (action_in words.now) (writer.new ≡ writer.old) }
 
     // What is made of the input by the command that they say.
     ensures run { (selector : Option Selector) × IsSelectorIn words.now selector
-        × IsRun (output_by words.now selector) (printed_by words.now) result
+        × IsRun (output_of_args words.now selector) (print_of_args words.now) result
         (R.seen reader.old) (R.seen reader.new) W.seen writer.old writer.new }
     ensures end { result ≢ 3 → result ≢ 4 →
-        OnSome (asked_in words.now) (IsAtEnd (R.seen reader.new).left) }
+        OnSome (action_in words.now) (IsAtEnd (R.seen reader.new).left) }
 {
     match command(alloc, words) {
-        Ok(Some(asked)) => run(alloc, &asked, reader, writer),
+        Ok(Some(action)) => run(alloc, &action, reader, writer),
         Ok(None) => Failure::NotUnderstood as u8,
         Err(_) => Failure::OutOfMemory as u8,
     }

@@ -3,7 +3,7 @@ ghost use Rattle.std.specs.Prelude.{◌≡◌};
 ghost use Rattle.tl_page.specs.declared.failure.Failure.TheVariants.{Fault as StreamFault};
 ghost use Rattle.tl_program.specs.Failure.{failure_of_step};
 
-use super::fault::Fault;
+use super::streams::Fault;
 use crate::script::StepError;
 pub use tl_page::Failure;
 

@@ -23,7 +23,7 @@ fn add_line(alloc: Global, lines: &mut String, handle: NodeHandle) -> Result<(),
 }
 
 /// The line of the first tag with an id, or nothing.
-pub fn by_id(alloc: Global, document: &VDom<'_>, id: &str) -> Result<String, AllocError>
+pub fn id_lines(alloc: Global, document: &VDom<'_>, id: &str) -> Result<String, AllocError>
     ensures { IfOk result (λ s. string_bytes s ≡ number_lines (option_to_list
         (with_id document.now (record { list = id.now; held = borrowed })))) }
 {
@@ -35,7 +35,7 @@ pub fn by_id(alloc: Global, document: &VDom<'_>, id: &str) -> Result<String, All
 }
 
 /// The lines of the tags with a class member.
-pub fn by_class(alloc: Global, document: &VDom<'_>, member: &str) -> Result<String, AllocError>
+pub fn class_lines(alloc: Global, document: &VDom<'_>, member: &str) -> Result<String, AllocError>
     ensures { IfOk result (λ s.
         string_bytes s ≡ number_lines (with_member document.now member.now)) }
 {
@@ -57,8 +57,9 @@ fn lines_of(alloc: Global, found: QuerySelectorIterator<'_, '_>) -> Result<Strin
     Ok(lines)
 }
 
-// The lines of what a query found; a text that stands for no selector finds nothing, and is refused.
-fn lines_found(
+// The lines of what a query found; a text that stands for no selector finds nothing, and is
+// refused.
+fn lines_or_refusal(
     alloc: Global,
     found: Option<QuerySelectorIterator<'_, '_>>,
 ) -> Result<String, Failure>
@@ -72,10 +73,10 @@ fn lines_found(
 }
 
 /// The lines of the nodes where a selector holds; a text that stands for no selector is refused.
-pub fn by_selector(alloc: Global, document: &VDom<'_>, selector: &str) -> Result<String, Failure>
+pub fn selector_lines(alloc: Global, document: &VDom<'_>, selector: &str) -> Result<String, Failure>
     ensures { let made = outcome_of_query (selector_at selector.now) (document_of document.now) in
         Gives string_bytes made result }
 {
     let found = document.query_selector(alloc, selector)?;
-    lines_found(alloc, found)
+    lines_or_refusal(alloc, found)
 }

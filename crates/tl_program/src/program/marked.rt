@@ -4,8 +4,8 @@ ghost use Rattle.std.specs.Prelude.{◌≡◌, true, false};
 mod input;
 mod output;
 
-use super::fault::Fault;
-use super::flushes::Flushes;
+use super::flush_count::Flushes;
+use super::streams::Fault;
 use std::marker::Model;
 
 /// A reader or a writer that remembers whether it has failed.

@@ -5,7 +5,7 @@ ghost use Rattle.tl_program.specs.Failure.{is_fault, IsReadFailure};
 ghost use Rattle.tl_program.specs.Page.{IsPage};
 
 use super::failure::Failure;
-use super::fault::Input;
+use super::streams::Input;
 use std::alloc::Global;
 
 /// What was read to its end.

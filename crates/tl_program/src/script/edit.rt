@@ -6,7 +6,7 @@ ghost use Rattle.tl.specs.View.{document_of};
 ghost use Rattle.tl_program.specs.Steps.{change_of, changes_in};
 ghost use Rattle.std.specs.Fn.{FnOnceReturnsAtMut};
 ghost use Rattle.tl_program.specs.TableEdit.{edited_table, table_after, done_edits, takes_memory, TakesMemoryAt};
-ghost use Rattle.tl_program.specs.Script.{Changes, ChangesTagAt, PutsNode, StopsAt, IsTagAt};
+ghost use Rattle.tl_program.specs.Script.{Changes, ChangesTagAt, ReplacesNode, StopsAt, IsTagAt};
 ghost use Rattle.tl_program.specs.TagLent.{LendsTagAt};
 
 use crate::script::step::{Step, StepError};
@@ -17,8 +17,8 @@ use std::alloc::Global;
 use tl::{HTMLTag, Node, NodeHandle, NodeOf, ParserOf, SummaryOf, TagOf, VDom};
 use tl_bytes::byte_string::{Bytes, copied};
 
-/// Takes the steps in order, up to the first that is refused, whose place in the list, from 0, is answered with
-/// the cause. That step changes nothing, and the edits before it stay.
+/// Takes the steps in order, up to the first that is refused, whose place in the list, from 0, is
+/// answered with the cause. That step changes nothing, and the edits before it stay.
 pub fn run<'a>(
     alloc: Global,
     document: &mut VDom<'a>,
@@ -53,8 +53,14 @@ fn take_step<'a>(alloc: Global, document: &mut VDom<'a>, step: &Step<'_>) -> Res
 {
     match *step {
         Step::Name(node, name) => change_tag(document, node, |tag| set_name(alloc, tag, name)),
-        Step::Text(node, text) => put_node(alloc, document, node, text, |bytes| NodeOf::Raw(bytes)),
-        Step::Comment(node, text) => put_node(
+        Step::Text(node, text) => replace_node(
+            alloc,
+            document,
+            node,
+            text,
+            |bytes| NodeOf::Raw(bytes),
+        ),
+        Step::Comment(node, text) => replace_node(
             alloc,
             document,
             node,
@@ -71,7 +77,7 @@ fn take_step<'a>(alloc: Global, document: &mut VDom<'a>, step: &Step<'_>) -> Res
         Step::Bare(node, key) => change_tag(document, node, |tag| remove_value(alloc, tag, key)),
         Step::Push(node, child) => change_tag(document, node, |tag| push_child(tag, child)),
         Step::Pull(node, place) => change_tag(document, node, |tag| pull_child(tag, place)),
-        Step::Root(place, child) => put_top(document, place, child),
+        Step::Root(place, child) => replace_top(document, place, child),
     }
 }
 
@@ -108,7 +114,7 @@ fn change_tag<'a, F: FnOnce(&mut HTMLTag<'a>) -> Result<(), StepError>>(
 }
 
 // Puts what is made of a copy of the text in the place of the node at a number.
-fn put_node<'a, F: FnOnce(Bytes<'a>) -> Node<'a>>(
+fn replace_node<'a, F: FnOnce(Bytes<'a>) -> Node<'a>>(
     alloc: Global,
     document: &mut VDom<'a>,
     number: u32,
@@ -116,7 +122,7 @@ fn put_node<'a, F: FnOnce(Bytes<'a>) -> Node<'a>>(
     make: F,
 ) -> Result<(), StepError>
     requires { F.IsAlwaysCallable make }
-    ensures { PutsNode number text.now (F.post make) document.old document.new result }
+    ensures { ReplacesNode number text.now (F.post make) document.old document.new result }
 {
     let Some(node) = document.parser_mut().resolve_node_id_mut(number) else {
         return Err(StepError::NoNode);
@@ -126,7 +132,7 @@ fn put_node<'a, F: FnOnce(Bytes<'a>) -> Node<'a>>(
     Ok(())
 }
 
-fn put_top<'a>(document: &mut VDom<'a>, place: usize, child: u32) -> Result<(), StepError>
+fn replace_top<'a>(document: &mut VDom<'a>, place: usize, child: u32) -> Result<(), StepError>
     ensures { Changes (takes_memory (Roots place child))
         (edited_table (Roots place child)) document.old document.new result }
 {

@@ -7,7 +7,8 @@ ghost use Rattle.tl.specs.View.{document_of, HTMLTable};
 ghost use Rattle.tl_program.specs.Pieces.{node_of, NodePasses};
 ghost use Rattle.tl_program.specs.TableEdit.{edited_table, table_after};
 
-/// An edit of a table is that edit of its document, and is refused for the same cause; so are edits in order.
+/// An edit of a table is that edit of its document, and is refused for the same cause; so are edits
+/// in order.
 pub fn table_edits_are_edits()
     ensures one { (c : Change) (t : HTMLTable)
         → apply_change c (document_of t) ≡ map_ok document_of (edited_table c t) }
@@ -15,8 +16,9 @@ pub fn table_edits_are_edits()
         → apply_changes cs (document_of t) ≡ none_refused (document_of u) }
 {}
 
-/// A node that no edit names is the old one. Of the others, what all owned bytes pass and each piece of the old node passes, each piece of
-/// the new one passes: it is a piece that was there, or owned.
+/// A node that no edit names is the old one. Of the others, what all owned bytes pass and each
+/// piece of the old node passes, each piece of the new one passes: it is a piece that was there, or
+/// owned.
 pub fn table_edits_keep_the_rest()
     ensures others { (cs : List Change) (t u : HTMLTable) (n : ℕ) → table_after cs t ≡ Ok u →
         AllByRecursion (λ c. node_of c ≢ Some n) cs → slice_get u.nodes n ≡ slice_get t.nodes n }

@@ -4,14 +4,16 @@ ghost use Rattle.tl_program.specs.declared.script.step.StepError.TheVariants.{Ou
 
 use std::alloc::AllocError;
 
-/// One edit of a document. A number is that of a node, or the place of a child or of a top node, counted from 0.
+/// One edit of a document. A number is that of a node, or the place of a child or of a top node,
+/// counted from 0.
 #[derive(Clone, Copy, PartialEq, Eq, Debug)]
 pub enum Step<'s> {
     /// Sets the name of a tag, whatever the bytes are.
     Name(u32, &'s [u8]),
     /// Puts a text in the place of a node of any kind.
     Text(u32, &'s [u8]),
-    /// Puts a comment in the place of a node of any kind. The bytes are the whole comment, from its `<` to its `>`.
+    /// Puts a comment in the place of a node of any kind. The bytes are the whole comment, from its
+    /// `<` to its `>`.
     Comment(u32, &'s [u8]),
     /// Puts a value at a key of a tag.
     Set(u32, &'s [u8], &'s [u8]),

@@ -114,7 +114,8 @@ pub(super) fn pull_child<'a>(tag: &mut HTMLTag<'a>, place: usize) -> Result<(), 
     Ok(())
 }
 
-// A push of a tag of any parts: what a tag with a lifetime holds after the list was lent is not seen.
+// A push of a tag of any parts: what a tag with a lifetime holds after the list was lent is not
+// seen.
 fn push_handle<A, B, O: SummaryOf<A>>(
     tag: &mut TagOf<A, B, O>,
     child: NodeHandle,

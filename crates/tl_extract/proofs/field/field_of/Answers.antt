@@ -2,10 +2,10 @@ use Rattle.std.proofs.Common.{rules}
 use Rattle.tl_extract.proofs.field.field_of.Goals as goal
 
 pub returns-in-OuterHtml-clause-gives : goal.returns-in-OuterHtml-clause-gives
-returns-in-OuterHtml-clause-gives c = rw c.in-OuterHtml.is (c.reading.ensures _ (search rules))
+returns-in-OuterHtml-clause-gives c = rw c.in-OuterHtml.is (c.optional_text.ensures _ (search rules))
 
 pub returns-in-InnerHtml-clause-gives : goal.returns-in-InnerHtml-clause-gives
-returns-in-InnerHtml-clause-gives c = rw c.in-InnerHtml.is (c.reading-in-InnerHtml.ensures _ (search rules))
+returns-in-InnerHtml-clause-gives c = rw c.in-InnerHtml.is (c.optional_text-in-InnerHtml.ensures _ (search rules))
 
 pub returns-in-InnerText-clause-gives : goal.returns-in-InnerText-clause-gives
-returns-in-InnerText-clause-gives c = rw c.in-InnerText.is (c.reading-in-InnerText.ensures _ (search rules))
+returns-in-InnerText-clause-gives c = rw c.in-InnerText.is (c.optional_text-in-InnerText.ensures _ (search rules))

@@ -13,7 +13,7 @@ returns-clause-first c = λ e stands.
     let same : c.in-Some.found ≡ matches_in (document_of c.args.document.now) e = cc in
     let all = ap (λ (table : HTMLTable). first_field c.args.field.now (map node_view table.nodes) c.in-Some.found) c.parser.ensures
     ∙ ap (λ numbers. first_field c.args.field.now (map node_view c.args.document.now.nodes) numbers) same in
-    subst (λ outcome. Gives (option_map string_bytes) outcome c.first_of.result) all c.first_of.ensures.gives
+    subst (λ outcome. Gives (option_map string_bytes) outcome c.first_field.result) all c.first_field.ensures.gives
 
 pub returns-clause-nothing : goal.returns-clause-nothing
 returns-clause-nothing c = λ e alone stands none.
@@ -22,4 +22,4 @@ returns-clause-nothing c = λ e alone stands none.
     let same : c.in-Some.found ≡ matches_in (document_of c.args.document.now) e = cc in
     let all = ap (λ (table : HTMLTable). first_field c.args.field.now (map node_view table.nodes) c.in-Some.found) c.parser.ensures
     ∙ ap (λ numbers. first_field c.args.field.now (map node_view c.args.document.now.nodes) numbers) same in
-    c.first_of.ensures.none (all ∙ none)
+    c.first_field.ensures.none (all ∙ none)

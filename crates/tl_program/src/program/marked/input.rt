@@ -4,8 +4,8 @@ ghost use Rattle.std.specs.Io.{ReadsAtMost};
 ghost use Rattle.std.specs.Io.KnownBytes.{ReadConsumes};
 
 use super::Marked;
-use crate::program::fault::{Fault, Input};
-use crate::program::wrapped::Reader;
+use crate::program::std_streams::Reader;
+use crate::program::streams::{Fault, Input};
 
 impl<T: Reader> Input for Marked<T> {
     ghost seen = { λ m. record { left = T.left m.inner; has_failed = m.has_failed } };

@@ -4,8 +4,8 @@ ghost use Rattle.std.specs.Io.{WritesAtMost};
 ghost use Rattle.std.specs.Io.KnownBytes.{Keeps, WriteAppends};
 
 use super::Marked;
-use crate::program::fault::{Fault, Output};
-use crate::program::wrapped::Writer;
+use crate::program::std_streams::Writer;
+use crate::program::streams::{Fault, Output};
 
 impl<T: Writer> Output for Marked<T> {
     ghost seen = { λ m. record {
@@ -23,13 +23,14 @@ impl<T: Writer> Output for Marked<T> {
         ensures marks { self.new.has_failed ≡ (self.old.has_failed || is_err result) }
         ensures counts { self.new.flushes ≡ self.old.flushes }
         ensures unflushed { self.new.is_flushed ≡ false }
-        // It answers what one call of the wrapped writer answers, but a fault where that took none of the bytes.
+        // It answers what one call of the wrapped writer answers, but a fault where that took none
+        // of the bytes.
         ensures ok { IfOk result (λ n. T.writes self.old.inner bytes.now (Ok n) self.new.inner) }
         ensures fault { IfErr result (λ e. T.writes self.old.inner bytes.now (Err e) self.new.inner
             ⊎ ((0 < length bytes.now)
             × T.writes self.old.inner bytes.now (Ok 0) self.new.inner)) }
     {
-        self.flushes.wrote();
+        self.flushes.note_write();
         match self.inner.write_once(bytes) {
             Ok(n) if n > 0 || bytes.is_empty() => Ok(n),
             _ => Err(self.fault()),
@@ -47,7 +48,7 @@ impl<T: Writer> Output for Marked<T> {
     {
         match self.inner.flush_once() {
             Ok(()) => {
-                self.flushes.flushed();
+                self.flushes.note_flush();
                 Ok(())
             }
             Err(Fault) => Err(self.fault()),

@@ -1,6 +1,6 @@
 use Rattle.std.proofs.Common.{◌≡◌, ◌++◌, map, string_bytes}
 use Rattle.tl.specs.View.{node_view}
-use Rattle.tl_safe.specs.Left.{owed, steps}
+use Rattle.tl_safe.specs.Remaining.{owed, steps}
 use Rattle.tl_safe.specs.Policies.{lists_of}
 use Rattle.tl_safe.proofs.walk.finish.Given as goal
 

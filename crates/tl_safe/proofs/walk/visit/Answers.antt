@@ -9,9 +9,9 @@ use Rattle.tl_spec.specs.Print.{print_end}
 use Rattle.tl_spec.specs.Walk.{plain_node}
 use Rattle.tl.specs.View.{node_view, tag_view}
 use Rattle.tl.proofs.Frames.{shown_at}
-use Rattle.tl_safe.specs.Kept.{is_text_byte}
+use Rattle.tl_safe.specs.Filter.{is_text_byte}
 use Rattle.tl_spec.specs.Walk.Length.{handle_met, met}
-use Rattle.tl_safe.specs.Left.{end_print, frame_print, frame_steps, handle_print, owed, row, steps}
+use Rattle.tl_safe.specs.Remaining.{end_print, frame_print, frame_steps, handle_print, owed, row, steps}
 use Rattle.tl_safe.specs.Lists.{ListedWords, opaque_names}
 use Rattle.tl_safe.specs.Policies.{lists_of}
 use Rattle.tl_safe.specs.declared.walk.Frame.{Frame}

@@ -2,7 +2,7 @@ use Rattle.std.proofs.Common.{◌≡◌, ◌++◌, ◌∷◌, ◌+◌, ◌<◌, 
 use Rattle.std.proofs.lemmas.List.{drop_all}
 use Rattle.tl_spec.specs.Tree.Document.{Node}
 use Rattle.tl.specs.View.{node_view}
-use Rattle.tl_safe.specs.Left.{handle_print, owed, row}
+use Rattle.tl_safe.specs.Remaining.{handle_print, owed, row}
 use Rattle.tl_safe.specs.Lists.{ListedWords}
 use Rattle.tl_safe.specs.Policies.{lists_of}
 use Rattle.tl_safe.proofs.Rows.{owed-none, row-cons, row-nil}

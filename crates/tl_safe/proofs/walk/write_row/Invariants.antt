@@ -1,6 +1,6 @@
 use Rattle.std.proofs.Common.{◌≡◌, ◌++◌, [], drop, map, string_bytes}
 use Rattle.tl.specs.View.{node_view}
-use Rattle.tl_safe.specs.Left.{row}
+use Rattle.tl_safe.specs.Remaining.{row}
 use Rattle.tl_safe.specs.Policies.{lists_of}
 use Rattle.tl_safe.proofs.walk.write_row.Given as goal
 

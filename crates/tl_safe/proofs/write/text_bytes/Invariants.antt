@@ -1,6 +1,6 @@
 use Rattle.std.proofs.Common.{◌≡◌, ◌++◌, drop}
 use Rattle.std.specs.List.{filter}
-use Rattle.tl_safe.specs.Kept.{is_text_byte}
+use Rattle.tl_safe.specs.Filter.{is_text_byte}
 use Rattle.tl_safe.proofs.write.text_bytes.Given as goal
 
 abbrev pub invariant-loop-byte : goal.invariant-loop-byte

@@ -1,5 +1,5 @@
 use Rattle.std.proofs.Common.{◌≡◌, ◌++◌, drop}
-use Rattle.tl_safe.specs.Kept.{written_value}
+use Rattle.tl_safe.specs.Filter.{written_value}
 use Rattle.tl_safe.proofs.write.value_bytes.Given as goal
 
 abbrev pub invariant-loop-byte : goal.invariant-loop-byte

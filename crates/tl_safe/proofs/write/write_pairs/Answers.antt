@@ -4,7 +4,7 @@ use Rattle.tl_spec.specs.Lex.Attribute.{Pair}
 use Rattle.tl_spec.specs.Print.{print_pairs}
 use Rattle.tl_attributes.specs.AttributesView.{pair_view}
 use Rattle.tl.proofs.Printing.{pairs-listed}
-use Rattle.tl_safe.specs.Kept.{written_pairs}
+use Rattle.tl_safe.specs.Filter.{written_pairs}
 use Rattle.tl_safe.specs.Lists.{ListedWords}
 use Rattle.tl_safe.specs.Policies.{lists_of}
 use Rattle.tl_safe.specs.Writes.{pair_of}

@@ -2,7 +2,7 @@ use Rattle.std.proofs.Common.{◌≡◌, ◌++◌, map, string_bytes}
 use Rattle.tl_spec.specs.Lex.AttributeList.{printed_pairs}
 use Rattle.tl_spec.specs.Print.{print_pairs}
 use Rattle.tl_attributes.specs.AttributesView.{plain, pair_view}
-use Rattle.tl_safe.specs.Kept.{written_pairs}
+use Rattle.tl_safe.specs.Filter.{written_pairs}
 use Rattle.tl_safe.specs.Policies.{lists_of}
 use Rattle.tl_safe.proofs.write.write_pairs.Given as goal
 

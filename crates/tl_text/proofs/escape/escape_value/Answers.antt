@@ -8,10 +8,10 @@ loop-at-preserved c =
     let o : List ℕ = c.loop-at.out.items in
     let s : List ℕ = c.loop-at.rest.now in
     let k : ℕ = c.in-Some.at in
-    let b : c.write_bytes.new.out.items ≡ o ++ take k s = c.in_ok-write_bytes.ensures ∙ ap (λ x. o ++ x) c.front.ensures in
+    let b : c.write_bytes.new.out.items ≡ o ++ take k s = c.in_ok-write_bytes.ensures ∙ ap (λ x. o ++ x) c.bytes_before.ensures in
     c.loop-at.invariant
     ∙ value_found o s k c.in-Some.ensures
-    ∙ ap₂ (λ x y. x ++ escaped_value y) (sym (c.in_ok-write_of_value.ensures ∙ ap (λ x. x ++ value_escape (get_or s k 0)) b)) (sym c.past-rest.ensures)
+    ∙ ap₂ (λ x y. x ++ escaped_value y) (sym (c.in_ok-write_value_byte.ensures ∙ ap (λ x. x ++ value_escape (get_or s k 0)) b)) (sym c.bytes_after-rest.ensures)
 
 pub returns : goal.returns
 returns c =

@@ -8,5 +8,5 @@ pub loop-left-preserved : goal.loop-left-preserved
 loop-left-preserved c =
     let s : List ℕ = c.args.bytes.now in
     c.loop-left.invariant
-    ∙ row_later c.loop-left.left.now s (ap (starts_with ◌==◌ s) (sym c.part.ensures.before) ∙ sym c.starts_with.ensures.value ∙ c.if-starts_with.false)
-    ∙ ap (λ t. first_row (rows t) s) (sym (c.part-in-loop-left.ensures.after ∙ ap (λ x. drop (suc (prefix_len not_zero x)) x) c.part.ensures.after))
+    ∙ row_later c.loop-left.left.now s (ap (starts_with ◌==◌ s) (sym c.split_at_byte.ensures.before) ∙ sym c.starts_with.ensures.value ∙ c.if-starts_with.false)
+    ∙ ap (λ t. first_row (rows t) s) (sym (c.split_at_byte-in-loop-left.ensures.after ∙ ap (λ x. drop (suc (prefix_len not_zero x)) x) c.split_at_byte.ensures.after))

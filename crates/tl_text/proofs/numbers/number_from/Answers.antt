@@ -1,7 +1,7 @@
 use Rattle.std.proofs.Common.{◌≡◌, ℕ, ◌+◌, ◌*◌, ◌<◌, ◌==◌, Bool, true, false, length, List, slice_index_or, ap, ap₂, sym, ◌∙◌, arith}
 use Rattle.std.proofs.lemmas.Bool.{ne_eqb}
 use Rattle.tl_html_spec.specs.HtmlTokenizer.{digit_value}
-use Rattle.tl_text.specs.Shown.{base_of, capped, is_digit_of, number_reference}
+use Rattle.tl_text.specs.View.{base_of, capped, is_digit_of, number_reference}
 use Rattle.tl_text.proofs.Digits.{digit-read, is-digit, no-digit, no-digit-read, value-is}
 use Rattle.tl_text.proofs.numbers.number_from.Goals as goal
 
@@ -17,7 +17,7 @@ returns-in-None-2-clause-row c =
     c.loop-at.invariant.read
     ∙ no-digit-read c.args.base s i code false lt (no-digit (is_digit_of c.args.base (slice_index_or s i 0)) (digit_value (slice_index_or s i 0)) (sym c.in-None.is ∙ c.digit.ensures.value)) f
     ∙ ap (number_reference code) zero
-    ∙ sym c.found-in-None-2.ensures
+    ∙ sym c.numbered_reference-in-None-2.ensures
 
 pub loop-at-preserved : goal.loop-at-preserved
 loop-at-preserved c =

@@ -9,14 +9,14 @@ loop-at-preserved c =
     let o : List ℕ = c.loop-at.out.items in
     let s : List ℕ = c.loop-at.rest.now in
     let k : ℕ = c.in-Some.at in
-    let a : List ℕ = c.past-after.result.now in
-    let b : c.write_bytes.new.out.items ≡ o ++ take k s = c.in_ok-write_bytes.ensures ∙ ap (λ x. o ++ x) c.front.ensures in
+    let a : List ℕ = c.bytes_after-after.result.now in
+    let b : c.write_bytes.new.out.items ≡ o ++ take k s = c.in_ok-write_bytes.ensures ∙ ap (λ x. o ++ x) c.bytes_before.ensures in
     c.loop-at.invariant
     ∙ reference_found v o s k c.in-Some.ensures
-    ∙ ap (λ t. ((o ++ take k s) ++ (or_itself (reference v t)).gives) ++ unescaped v (drop (or_itself (reference v t)).takes t)) (sym c.past-after.ensures)
+    ∙ ap (λ t. ((o ++ take k s) ++ (or_itself (reference v t)).gives) ++ unescaped v (drop (or_itself (reference v t)).takes t)) (sym c.bytes_after-after.ensures)
     ∙ ap₂ (λ x y. x ++ unescaped v y)
     (sym (c.in_ok-takes.ensures.gives ∙ ap (λ x. x ++ (or_itself (reference v a)).gives) b))
-    (sym (c.past-rest.ensures ∙ ap (λ n. drop n a) c.in_ok-takes.ensures.takes))
+    (sym (c.bytes_after-rest.ensures ∙ ap (λ n. drop n a) c.in_ok-takes.ensures.takes))
 
 pub returns : goal.returns
 returns c =

@@ -11,7 +11,7 @@ use denote.RawPtr.{null_ptr}
 use denote.Steps.{nothing}
 use denote.Triple.Walked.{Stays, stay_dropped, walk_of, Goes-dropped}
 use Rattle.std.specs.Prelude.{Option, None}
-use Rattle.tl_c.specs.declared.parsed.Parsed.{Parsed}
+use Rattle.tl_c.specs.declared.parsed_page.ParsedPage.{ParsedPage}
 use Rattle.tl_c.proofs.Values.{both, Heap, none_good, none_in}
 use prog.Wp.{WpFn}
 use contract.Monad.{fact, fact_i}
@@ -35,7 +35,7 @@ none_spec 𝓤 𝓛 𝓜 𝓡 wired =
     proved_at 𝓛 En hs c 𝓜 𝓡 (Goes-dropped 𝓛 0 (plain (λ _. Heap)) yes (λ κs x f. refl), tt) #self fn (code.unfolded 𝓤 H 𝓜 𝓡 wired) (λ z are.
     let κs = z.0.0 in let qs = z.0.1 in let Post : Val → SProp 𝓤 = (walk_of 𝓛 En hs c).post z in let Run : List Val → SProp 𝓤 = λ ws. WpFn 𝓤 H 𝓣.C 𝓣.Λ fn ws Post in
     let a = z.0.3.0 in let h = one (layout Heap) z.0.4.0 ((LZ.lawful 𝓛).typed a z.0.4.0 are.0) in let w : Val = both vnull h.0 in let good = none_good h.0 h.2 in
-    let no : Option Parsed = None in let Held : Type 0 = no ≡ no in
+    let no : Option ParsedPage = None in let Held : Type 0 = no ≡ no in
     qed 𝓛 ((raw (alive 𝓛 En.signature κs qs) ⊛ ‵ (owns (types_at En.signature.params κs) z.0.3 z.0.4)) ∷ raw ((c κs z.0.3).requires z.1) ∷ []) ∵ split ! $ move ! (1 ∷ []) $ fsplit ! $
     rewrite ! 0 (λ (us : List Val). ‵ (Heap.own_val a us)) h.1 refl $ none_in ! h.0 a $
     suffices ! (Run (h.0 ∷ [])) (subst (λ (us : List Val). ent 𝓤 (Run (h.0 ∷ [])) (Run us)) (sym (λ i. h.1 i ++ [])) (id⊢ 𝓤 (Run (h.0 ∷ [])))) $

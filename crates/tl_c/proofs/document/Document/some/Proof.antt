@@ -12,7 +12,7 @@ use denote.Steps.{nothing}
 use denote.Triple.Walked.{Stays, stay_dropped, walk_of}
 use Rattle.std.proofs.alloc.Calls.{Goes-blank}
 use Rattle.std.specs.Prelude.{Some}
-use Rattle.tl_c.proofs.Values.{both, Heap, Loose, loose_good, loose_out, Page, some_in}
+use Rattle.tl_c.proofs.Values.{both, Heap, RawBox, raw_box_good, raw_box_out, Page, some_in}
 use prog.Wp.{WpFn}
 use contract.Monad.{fact, fact_i}
 use contract.Running.{tables}
@@ -30,13 +30,13 @@ use Rattle.tl_c.proofs.document.Document.some.Code as code
 pub some_spec : {M : Type 1} → statement M
 some_spec 𝓤 𝓛 𝓜 𝓡 wired =
     let H = 𝓛.H in let 𝓣 = tables 𝓤 H 𝓜 𝓡 𝓡.env in let En = ended in let c = clauses 𝓛 𝓜.mem 𝓡.returns in
-    let fn = code.function in let LZ = heap_laws.the_row_laws in let Lr : RattleType = Loose Page Heap LZ ghosts in
+    let fn = code.function in let LZ = heap_laws.the_row_laws in let Lr : RattleType = RawBox Page Heap LZ ghosts in
     let hs : Stays En.signature.params En.kept = (stay_dropped (plain (λ _. Lr)) no, tt) in
     proved_at 𝓛 En hs c 𝓜 𝓡 (Goes-blank 𝓛 0 (plain (λ _. Lr)) no (λ κs x f. tt), tt) #self fn (code.unfolded 𝓤 H 𝓜 𝓡 wired) (λ z are.
     let κs = z.0.0 in let qs = z.0.1 in let Post : Val → SProp 𝓤 = (walk_of 𝓛 En hs c).post z in let Run : List Val → SProp 𝓤 = λ ws. WpFn 𝓤 H 𝓣.C 𝓣.Λ fn ws Post in
     let v = z.0.3.0 in let a = v.alloc in let x = v.value in let Held : Type 0 = Some x ≡ Some x in
     qed 𝓛 ((raw (alive 𝓛 En.signature κs qs) ⊛ ‵ (owns (types_at En.signature.params κs) z.0.3 z.0.4)) ∷ raw ((c κs z.0.3).requires z.1) ∷ []) ∵ split ! $ move ! (1 ∷ []) $ fsplit ! $
-    loose_out Page Heap LZ ghosts ! v z.0.4.0 (λ b o h e ws fits. let w : Val = both (vptr b o) h in let good = loose_good Page Heap LZ ghosts b o h fits in
+    raw_box_out Page Heap LZ ghosts ! v z.0.4.0 (λ b o h e ws fits. let w : Val = both (vptr b o) h in let good = raw_box_good Page Heap LZ ghosts b o h fits in
     some_in ! b o h a x $
     suffices ! (Run (w ∷ [])) (subst (λ (us : List Val). ent 𝓤 (Run (w ∷ [])) (Run us)) (sym (λ i. ws i ++ [])) (id⊢ 𝓤 (Run (w ∷ [])))) $
     enter ! 𝓣.C 𝓣.Λ fn (w ∷ []) Post $ alloc_all ! (λ l. pass_all ! refl (good, tt) $

@@ -14,10 +14,10 @@ returns-in-Name c =
     search rules
 
 pub returns-in-Text : goal.returns-in-Text
-returns-in-Text c = let done = c.put_node.ensures (Raw (as_owned c.in-Text.text.now)) (λ made h. search rules) in search rules
+returns-in-Text c = let done = c.replace_node.ensures (Raw (as_owned c.in-Text.text.now)) (λ made h. search rules) in search rules
 
 pub returns-in-Comment : goal.returns-in-Comment
-returns-in-Comment c = let done = c.put_node-in-Comment.ensures (Comment (as_owned c.in-Comment.text.now)) (λ made h. search rules) in search rules
+returns-in-Comment c = let done = c.replace_node-in-Comment.ensures (Comment (as_owned c.in-Comment.text.now)) (λ made h. search rules) in search rules
 
 pub returns-in-Set : goal.returns-in-Set
 returns-in-Set c =

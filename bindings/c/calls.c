@@ -1,0 +1,223 @@
+/* Calls each function of tl.h for each status that it can answer, and exits with 1 and a line on standard error where one answers
+ * otherwise. It is linked with --wrap=malloc,--wrap=realloc,--wrap=free, so that requests of the library for memory go through here.
+ */
+#include "tl.h"
+
+#include <stdio.h>
+#include <stdlib.h>
+#include <string.h>
+
+#define CHECK(fact) \
+    do { \
+        if (!(fact)) { \
+            fprintf(stderr, "calls.c, line %d: %s\n", __LINE__, #fact); \
+            exit(1); \
+        } \
+    } while (0)
+
+/* How many requests for memory were made, which of them is refused (none where it is 0), and how many blocks are held. */
+static unsigned long requests, refused;
+static long held;
+
+void *__real_malloc(size_t size);
+void *__real_realloc(void *block, size_t size);
+void __real_free(void *block);
+void *__wrap_malloc(size_t size);
+void *__wrap_realloc(void *block, size_t size);
+void __wrap_free(void *block);
+
+void *__wrap_malloc(size_t size) {
+    if (++requests == refused) return NULL;
+    held++;
+    return __real_malloc(size);
+}
+
+void *__wrap_realloc(void *block, size_t size) {
+    if (++requests == refused) return NULL;
+    if (block == NULL) held++;
+    return __real_realloc(block, size);
+}
+
+void __wrap_free(void *block) {
+    if (block != NULL) held--;
+    __real_free(block);
+}
+
+/* The room that is lent, of dots where nothing was written, and what was needed. */
+static uint8_t out[64];
+static size_t needed;
+
+#define TEXT(text) (const uint8_t *)(text), sizeof(text) - 1
+#define OUT out, sizeof out, &needed
+#define ROOM(room) out, (room), &needed
+
+static int is_dotted_from(size_t start) {
+    for (size_t at = start; at < sizeof out; at++)
+        if (out[at] != '.') return 0;
+    return 1;
+}
+
+/* Whether a call was done, put these bytes at the front of `out` and wrote nothing after them. It makes all dots again. */
+static int has_put(tl_status status, const char *bytes, size_t len) {
+    int is = status == TL_DONE && needed == len && memcmp(out, bytes, len) == 0 && is_dotted_from(len);
+    memset(out, '.', sizeof out);
+    return is && held == 0;
+}
+
+/* Whether a call answered this status, needs so many bytes and wrote nothing. */
+static int has_left(tl_status status, tl_status wanted, size_t count) {
+    return status == wanted && needed == count && is_dotted_from(0) && held == 0;
+}
+
+#define PUTS(bytes, call) CHECK(has_put((call), bytes, sizeof(bytes) - 1))
+#define LEAVES(status, count, call) CHECK(has_left((call), (status), (count)))
+
+/* Refuses each request for memory of a call in turn: it answers that, and nothing else. The last run makes them all. */
+#define RUNS_OUT(bytes, call) \
+    for (refused = 1;; refused++) { \
+        requests = 0; \
+        tl_status status = (call); \
+        if (requests < refused) { \
+            CHECK(refused > 1 && has_put(status, bytes, sizeof(bytes) - 1)); \
+            refused = 0; \
+            break; \
+        } \
+        LEAVES(TL_OUT_OF_MEMORY, 0, status); \
+    }
+
+static void of_print(void) {
+    PUTS("<p a>x</p>", tl_print(TEXT("<p a>x"), OUT));
+    PUTS("", tl_print(TEXT(""), OUT));
+    PUTS("", tl_print(TEXT(""), ROOM(0)));
+    PUTS("<p a>x</p>", tl_print(TEXT("<p a>x"), ROOM(10)));
+    PUTS("a\0b", tl_print(TEXT("a\0b"), OUT));
+    LEAVES(TL_NO_ROOM, 10, tl_print(TEXT("<p a>x"), ROOM(9)));
+    LEAVES(TL_NO_ROOM, 10, tl_print(TEXT("<p a>x"), ROOM(0)));
+    LEAVES(TL_NOT_UNDERSTOOD, 0, tl_print(TEXT("\xff"), OUT));
+    RUNS_OUT("<p a=\"b\">x</p>", tl_print(TEXT("<p a=b>x"), OUT));
+}
+
+static void of_text(void) {
+    PUTS("abc", tl_text(TEXT("a<p>b<br>c</p><!-- d -->"), OUT));
+    LEAVES(TL_NO_ROOM, 3, tl_text(TEXT("abc"), ROOM(2)));
+    LEAVES(TL_NOT_UNDERSTOOD, 0, tl_text(TEXT("\xff"), OUT));
+    RUNS_OUT("ab", tl_text(TEXT("a<p>b"), OUT));
+}
+
+static void of_edit(void) {
+    PUTS("<a href=\"/x\">y</a>", tl_edit(TEXT("set 0 href /x"), TEXT("<a>y</a>"), OUT));
+    PUTS("<a></a>", tl_edit(TEXT(""), TEXT("<a>"), OUT));
+    LEAVES(TL_NO_ROOM, 7, tl_edit(TEXT(""), TEXT("<a>"), ROOM(6)));
+    LEAVES(TL_REFUSED, 0, tl_edit(TEXT("push 5 0"), TEXT("<a></a>"), OUT));
+    LEAVES(TL_REFUSED, 0, tl_edit(TEXT("push 0 0"), TEXT("<a></a>"), OUT));
+    LEAVES(TL_NOT_UNDERSTOOD, 0, tl_edit(TEXT("push 0"), TEXT("<a></a>"), OUT));
+    LEAVES(TL_NOT_UNDERSTOOD, 0, tl_edit(TEXT("\xff"), TEXT("<a></a>"), OUT));
+    LEAVES(TL_NOT_UNDERSTOOD, 0, tl_edit(TEXT(""), TEXT("\xff"), OUT));
+    PUTS("", tl_edit(TEXT("\n\n"), TEXT(""), OUT));
+    RUNS_OUT("<a b=\"c\"></a>", tl_edit(TEXT("set 0 b c"), TEXT("<a>"), OUT));
+}
+
+#define NO_KEY TEXT("")
+#define PAGE TEXT("<p id=a>x<b>y</b></p><p>z")
+
+static void of_select(void) {
+    PUTS("0\0" "4\0", tl_select(TEXT("p"), TL_NUMBER, NO_KEY, PAGE, OUT));
+    PUTS("<p id=\"a\">x<b>y</b></p>\0<p>z</p>\0", tl_select(TEXT("p"), TL_OUTER_HTML, NO_KEY, PAGE, OUT));
+    PUTS("x<b>y</b>\0z\0", tl_select(TEXT("p"), TL_INNER_HTML, NO_KEY, PAGE, OUT));
+    PUTS("xy\0z\0", tl_select(TEXT("p"), TL_INNER_TEXT, NO_KEY, PAGE, OUT));
+    PUTS("a\0", tl_select(TEXT("p"), TL_ATTRIBUTE, TEXT("id"), PAGE, OUT));
+    PUTS("", tl_select(TEXT("i"), TL_INNER_TEXT, NO_KEY, PAGE, OUT));
+    PUTS("", tl_select(TEXT("i"), TL_INNER_TEXT, NO_KEY, TEXT(""), OUT));
+    PUTS("\0\0", tl_select(TEXT("br"), TL_INNER_TEXT, NO_KEY, TEXT("<br><br>"), OUT));
+    PUTS("x\0", tl_select(TEXT("a"), TL_ATTRIBUTE, TEXT("b"), TEXT("<a b><a><a b=x>"), OUT));
+    LEAVES(TL_NO_ROOM, 2, tl_select(TEXT("b"), TL_INNER_TEXT, NO_KEY, PAGE, ROOM(1)));
+    LEAVES(TL_REFUSED, 0, tl_select(TEXT(",p"), TL_INNER_TEXT, NO_KEY, PAGE, OUT));
+    LEAVES(TL_NOT_UNDERSTOOD, 0, tl_select(TEXT("p"), 5, NO_KEY, PAGE, OUT));
+    LEAVES(TL_NOT_UNDERSTOOD, 0, tl_select(TEXT("\xff"), TL_INNER_TEXT, NO_KEY, PAGE, OUT));
+    LEAVES(TL_NOT_UNDERSTOOD, 0, tl_select(TEXT("p"), TL_ATTRIBUTE, TEXT("\xff"), PAGE, OUT));
+    LEAVES(TL_NOT_UNDERSTOOD, 0, tl_select(TEXT("p"), TL_INNER_TEXT, NO_KEY, TEXT("\xff"), OUT));
+    RUNS_OUT("y\0", tl_select(TEXT("p b"), TL_INNER_TEXT, NO_KEY, PAGE, OUT));
+}
+
+static void of_sanitize(void) {
+    PUTS("<p>x</p>", tl_sanitize(TEXT("<p onclick=f()>x<script>y</script></p>"), OUT));
+    LEAVES(TL_NO_ROOM, 8, tl_sanitize(TEXT("<p>x"), ROOM(7)));
+    LEAVES(TL_NOT_UNDERSTOOD, 0, tl_sanitize(TEXT("\xff"), OUT));
+    PUTS("", tl_sanitize(TEXT(""), OUT));
+    RUNS_OUT("<p>x</p>", tl_sanitize(TEXT("<p>x"), OUT));
+}
+
+static void of_version(void) {
+    PUTS(VERSION, tl_version(OUT));
+    LEAVES(TL_NO_ROOM, sizeof(VERSION) - 1, tl_version(ROOM(sizeof(VERSION) - 2)));
+    requests = 0;
+    PUTS(VERSION, tl_version(OUT));
+    CHECK(requests == 0);
+}
+
+/* A call that makes something of a page alone. */
+typedef tl_status page_call(const uint8_t *page, size_t page_len, uint8_t *out, size_t room, size_t *needed);
+
+static tl_status texts_of_b(const uint8_t *page, size_t page_len, uint8_t *block, size_t room, size_t *count) {
+    return tl_select(TEXT("b"), TL_INNER_TEXT, NO_KEY, page, page_len, block, room, count);
+}
+
+static tl_status steps_on_page(const uint8_t *page, size_t page_len, uint8_t *block, size_t room, size_t *count) {
+    return tl_edit(page, page_len, TEXT("<a>"), block, room, count);
+}
+
+/* What a call makes of a page, in a block of its own: first with as much room as the page has bytes, then with what is needed. */
+static uint8_t *made(page_call *call, const uint8_t *page, size_t len, size_t *count) {
+    for (size_t room = len + 1;; room = *count) {
+        uint8_t *block = malloc(room);
+        CHECK(block != NULL);
+        tl_status status = call(page, len, block, room, count);
+        if (status == TL_DONE) return block;
+        free(block);
+        CHECK(status == TL_NO_ROOM);
+    }
+}
+
+/* Whether a call makes so many times these bytes of a page of so many times a text. */
+static int makes(page_call *call, size_t times, const uint8_t *text, size_t len, size_t wanted_times, const uint8_t *wanted,
+                 size_t wanted_len) {
+    size_t count;
+    uint8_t *page = malloc(len * times);
+    CHECK(page != NULL);
+    for (size_t at = 0; at < times; at++) memcpy(page + at * len, text, len);
+    uint8_t *block = made(call, page, len * times, &count);
+    int is = count == wanted_len * wanted_times;
+    for (size_t at = 0; is && at < wanted_times; at++) is = memcmp(block + at * wanted_len, wanted, wanted_len) == 0;
+    free(block);
+    free(page);
+    return is && held == 0;
+}
+
+/* Pages and answers of 10 MB, tags deep in one another, many steps: none of them wants more memory than there is. */
+static void of_large(void) {
+    CHECK(makes(tl_print, 1000000, TEXT("<b>xyz</b>"), 1000000, TEXT("<b>xyz</b>")));
+    CHECK(makes(tl_sanitize, 1000000, TEXT("<b>xyz</b>"), 1000000, TEXT("<b>xyz</b>")));
+    CHECK(makes(tl_text, 1000000, TEXT("<b>xyz</b>"), 1000000, TEXT("xyz")));
+    CHECK(makes(texts_of_b, 2000000, TEXT("<b>xyz</b>"), 2000000, TEXT("xyz\0")));
+    CHECK(makes(texts_of_b, 1000000, TEXT("<br>"), 0, TEXT("")));
+    CHECK(makes(tl_text, 10000, TEXT("<b>x"), 10000, TEXT("x")));
+    CHECK(makes(tl_sanitize, 10000, TEXT("<x-y>z"), 10000, TEXT("z")));
+    CHECK(makes(steps_on_page, 100000, TEXT("flag 0 b\n"), 1, TEXT("<a b></a>")));
+}
+
+int main(void) {
+    memset(out, '.', sizeof out);
+    of_print();
+    of_text();
+    of_edit();
+    of_select();
+    of_sanitize();
+    of_version();
+    of_large();
+    size_t count;
+    uint8_t *block = made(tl_print, TEXT("<p>x"), &count);
+    CHECK(count == 8 && memcmp(block, "<p>x</p>", 8) == 0);
+    free(block);
+    CHECK(held == 0);
+    return 0;
+}

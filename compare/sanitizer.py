@@ -1,0 +1,68 @@
+"""A plain sanitizer by the rules of docs/SAFE.md, over the plain reader of reader.py: what `tl sanitize` has to print of a page.
+
+It is written from those two pages alone, and knows nothing of how the crates do it.
+"""
+import re
+
+from .reader import VOID, Document
+
+OPAQUE = b"script style textarea title xmp iframe noembed noframes noscript plaintext svg math".split()
+
+
+class Policy:
+    """Lists of words, as bytes, by the names of the options that say them."""
+
+    def __init__(self, lines):
+        words = {line.split(" ")[0]: line.split(" ", 1)[1].encode().split(b",") for line in lines}
+        self.tags, self.keys, self.link_keys = words["--tags"], words["--keys"], words["--link-keys"]
+        self.links, self.prefix = words["--links"], words["--prefix"][0]
+
+    def begins_link(self, value):
+        """Whether a link begins as it may: where it leaves the site, what it begins with does so too."""
+        leaves = re.compile(rb"/[/\\&<>]")
+        return any(value.startswith(front) and (leaves.match(front) or not leaves.match(value)) for front in self.links)
+
+    def keeps(self, key, value):
+        """Whether a key stays with its value, which may be None."""
+        if key not in self.keys:
+            return False
+        value = value or b""
+        if any(byte in value for byte in b'"\0\x1b'):
+            return False
+        if key in self.link_keys and not (self.begins_link(value) and all(32 < byte < 127 for byte in value)):
+            return False
+        return key not in (b"id", b"name", b"class") or bool(value.startswith(self.prefix) and re.fullmatch(rb"[A-Za-z0-9_-]*", value))
+
+
+def written(value):
+    """A value with references for `<` and `>`."""
+    return value.replace(b"<", b"&lt;").replace(b">", b"&gt;")
+
+
+def safe_print(page, policy):
+    """What is kept of a page, printed."""
+    document, out = Document(page), []
+    work = [("meet", handle) for handle in reversed(document.top)]
+    while work:
+        what, it = work.pop()
+        if what == "write":
+            out.append(it)
+            continue
+        node = document.nodes[it]
+        if node[0] == "text":
+            out.append(bytes(byte for byte in node[1] if byte not in b"<\0\x1b"))
+        elif node[0] == "tag":
+            name = node[1]
+            if name in policy.tags:
+                out.append(b"<" + name)
+                for key, value in node[2].pairs():
+                    if policy.keeps(key, value):
+                        out.append(b" " + key + (b"" if value is None else b'="' + written(value) + b'"'))
+                out.append(b">")
+                if name in VOID:
+                    continue
+                work.append(("write", b"</" + name + b">"))
+            elif name.lower() in OPAQUE:
+                continue
+            work += [("meet", child) for child in reversed(node[3])]
+    return b"".join(out)

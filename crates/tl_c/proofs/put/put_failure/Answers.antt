@@ -1,5 +1,0 @@
-use Rattle.tl_c.proofs.Room.{puts_failure}
-use Rattle.tl_c.proofs.put.put_failure.Goals as goal
-
-pub returns-clause-put : goal.returns-clause-put
-returns-clause-put g c = λ outcome fails. puts_failure outcome c.args.failure c.args.out.now fails

@@ -1,0 +1,79 @@
+//! What is put into the room that a caller lends.
+ghost use Rattle.std.specs.Prelude.{◌≡◌, ◌≢◌, ℕ, List, Err, IsOkAnd, option_copied, string_bytes, take};
+ghost use Rattle.tl_page.specs.Outcome.{Fails, Gives, Outcome, success};
+ghost use Rattle.tl_page.specs.declared.failure.Failure.TheVariants.{NotUnderstood, Refused};
+ghost use Rattle.tl_c.specs.Puts.{Puts};
+ghost use Rattle.tl_c.specs.Queries.{outcome_of_some};
+
+use tl_page::Failure;
+
+// The room is smaller than what is to be put there.
+const NO_ROOM: u8 = 4;
+
+// Puts items at the front of `out`, and how many they are into `needed`. That takes no memory.
+pub(crate) fn copy_items<T: Copy>(items: &[T], out: &mut [T], needed: &mut usize) -> u8
+    ensures put { Puts (success items.now) out.old out.new needed.new result }
+    ensures memory { result ≢ 3 }
+{
+    *needed = items.len();
+    if items.len() > out.len() {
+        return NO_ROOM;
+    }
+    out[..items.len()].copy_from_slice(items);
+    0
+}
+
+// Puts that there is nothing, and why.
+fn report_failure<T: Copy>(failure: Failure, out: &mut [T], needed: &mut usize) -> u8
+    ensures put { (outcome : Outcome (List T)) → Fails outcome failure
+        → Puts outcome out.old out.new needed.new result }
+    ensures failed { result ≢ 0 }
+    ensures refused { failure ≡ Refused → result ≡ 1 }
+    ensures not_understood { failure ≡ NotUnderstood → result ≡ 2 }
+{
+    *needed = 0;
+    failure as u8
+}
+
+// Puts a value, or answers that there is none. That takes no memory.
+pub(crate) fn copy_value(value: Option<&[u8]>, out: &mut [u8], needed: &mut usize) -> u8
+    ensures put { let outcome = outcome_of_some success (option_copied value.entry) in
+        Puts outcome out.old out.new needed.new result }
+    ensures memory { result ≢ 3 }
+{
+    match value {
+        Some(value) => copy_items(value, out, needed),
+        None => report_failure(Failure::Refused, out, needed),
+    }
+}
+
+// Puts items that were given, or answers why none were.
+pub(crate) fn copy_result<T: Copy + Drop>(
+    given: Result<Vec<T>, Failure>,
+    out: &mut [T],
+    needed: &mut usize,
+) -> u8
+    ensures put { (outcome : Outcome (List T)) → Gives (λ items. items.items) outcome given
+        → Puts outcome out.old out.new needed.new result }
+    ensures refused { given ≡ Err Refused → result ≡ 1 }
+    ensures not_understood { given ≡ Err NotUnderstood → result ≡ 2 }
+{
+    match given {
+        Ok(items) => copy_items(items.as_slice(), out, needed),
+        Err(failure) => report_failure(failure, out, needed),
+    }
+}
+
+// Puts a text that was given, or answers why none was.
+pub(crate) fn copy_text(given: Result<String, Failure>, out: &mut [u8], needed: &mut usize) -> u8
+    ensures put { (outcome : Outcome (List ℕ)) → Gives string_bytes outcome given
+        → Puts outcome out.old out.new needed.new result }
+    ensures not_understood { given ≡ Err NotUnderstood → result ≡ 2 }
+    ensures text { result ≡ 0
+        → IsOkAnd given (λ text. take needed.new out.new ≡ string_bytes text) }
+{
+    match given {
+        Ok(text) => copy_items(text.as_bytes(), out, needed),
+        Err(failure) => report_failure(failure, out, needed),
+    }
+}

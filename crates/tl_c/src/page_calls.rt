@@ -1,0 +1,111 @@
+//! The calls with a page.
+ghost use Rattle.std.specs.Prelude.{◌≡◌, ◌≢◌, ◌<◌, length, None, Some, IsUtf8, take};
+ghost use Rattle.tl_spec.specs.Print.Normal.{norm};
+ghost use Rattle.tl_spec.specs.Select.Selector.{Selector};
+ghost use Rattle.tl_spec.specs.Select.Text.{IsSelectorText};
+ghost use Rattle.tl_html_spec.specs.HtmlTokenizer.{tokens_in_page};
+ghost use Rattle.tl_safe.specs.IsSafe.{IsSafe, tokens_of};
+ghost use Rattle.tl_safe.specs.Filter.{kept, trees_of};
+ghost use Rattle.tl_safe.specs.Lists.{blog_lists};
+ghost use Rattle.tl_page.specs.Outcome.{success};
+ghost use Rattle.tl_extract.specs.Field.{IsNoSelector};
+ghost use Rattle.tl_program.specs.Action.{Prints, Texts};
+ghost use Rattle.tl_program.specs.Output.{output_of};
+ghost use Rattle.tl_c.specs.Pages.{edited_page, safe_page, selection};
+ghost use Rattle.tl_c.specs.Puts.{Puts};
+
+use crate::copy_out::{copy_items, copy_text};
+use crate::page::{edit, safe_page};
+use crate::selection::select;
+use std::alloc::Global;
+use tl_page::VERSION;
+use tl_program::program::{Command, output};
+
+/// Prints a page as it was read, as `tlq print` does.
+#[unsafe(no_mangle)]
+pub extern "C" fn tl_print(alloc: Global, page: &[u8], out: &mut [u8], needed: &mut usize) -> u8
+    ensures put { Puts (output_of Prints None page.now) out.old out.new needed.new result }
+
+    // No want of memory hides that a page is no text, or too long.
+    ensures no_text { ¬ (IsUtf8 page.now) → result ≡ 2 }
+    ensures long { u32.MAX < length page.now → result ≡ 2 }
+{
+    copy_text(output(alloc, &Command::Print, page), out, needed)
+}
+
+/// Writes the texts of a page in order, as `tlq text` does.
+#[unsafe(no_mangle)]
+pub extern "C" fn tl_text(alloc: Global, page: &[u8], out: &mut [u8], needed: &mut usize) -> u8
+    ensures put { Puts (output_of Texts None page.now) out.old out.new needed.new result }
+
+    // No want of memory hides that a page is no text, or too long.
+    ensures no_text { ¬ (IsUtf8 page.now) → result ≡ 2 }
+    ensures long { u32.MAX < length page.now → result ≡ 2 }
+{
+    copy_text(output(alloc, &Command::Text, page), out, needed)
+}
+
+/// Prints a page after the steps that lines say, as `tlq edit` does. Lines that say no steps are
+/// not understood.
+#[unsafe(no_mangle)]
+pub extern "C" fn tl_edit(
+    alloc: Global,
+    steps: &[u8],
+    page: &[u8],
+    out: &mut [u8],
+    needed: &mut usize,
+) -> u8
+    ensures { Puts (edited_page steps.now page.now) out.old out.new needed.new result }
+{
+    copy_text(edit(alloc, steps, page), out, needed)
+}
+
+/// Writes what is asked of each node of a page where a selector holds, in order, with a byte 0
+/// after each: its number (0), its print (1), the print of what is inside (2), the texts at or
+/// below it (3), or its value at a key (4), where it has one. Another number is not understood, and
+/// a text that is no selector is refused.
+#[unsafe(no_mangle)]
+pub extern "C" fn tl_select(
+    alloc: Global,
+    selector: &[u8],
+    field: u8,
+    key: &[u8],
+    page: &[u8],
+    out: &mut [u8],
+    needed: &mut usize,
+) -> u8
+    ensures selects { (e : Selector) → IsSelectorText selector.now e →
+        let outcome = selection selector.now (Some e) field key.entry page.now in
+        Puts outcome out.old out.new needed.new result }
+    ensures no_selector { IsNoSelector selector.now →
+        let outcome = selection selector.now None field key.entry page.now in
+        Puts outcome out.old out.new needed.new result }
+{
+    copy_text(select(alloc, selector, field, key, page), out, needed)
+}
+
+/// Prints what the policy for the text of a blog keeps of a page.
+#[unsafe(no_mangle)]
+pub extern "C" fn tl_sanitize(alloc: Global, page: &[u8], out: &mut [u8], needed: &mut usize) -> u8
+    ensures put { Puts (safe_page page.now) out.old out.new needed.new result }
+
+    // As `sanitize` says of what it prints.
+    ensures form { result ≡ 0 → IsSafe blog_lists (take needed.new out.new) }
+    ensures standard { result ≡ 0 → tokens_in_page (take needed.new out.new)
+        ≡ tokens_of (norm (kept blog_lists (trees_of page.now))) }
+
+    // No want of memory hides that a page is no text, or too long.
+    ensures no_text { ¬ (IsUtf8 page.now) → result ≡ 2 }
+    ensures long { u32.MAX < length page.now → result ≡ 2 }
+{
+    copy_text(safe_page(alloc, page), out, needed)
+}
+
+/// Writes the version. That takes no memory.
+#[unsafe(no_mangle)]
+pub extern "C" fn tl_version(out: &mut [u8], needed: &mut usize) -> u8
+    ensures put { Puts (success VERSION.now) out.old out.new needed.new result }
+    ensures memory { result ≢ 3 }
+{
+    copy_items(VERSION.as_bytes(), out, needed)
+}

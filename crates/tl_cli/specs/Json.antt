@@ -1,0 +1,69 @@
+-- Nodes as JSON.
+use Rattle.std.specs.Prelude.{ℕ, Bool, true, false, List, [], ◌∷◌, ◌++◌, codes, fold, map, Option, None, Some, slice_get}
+use Rattle.std.specs.Option.{option_map_or}
+use Rattle.std.specs.Str.Lossy.{utf8_lossy}
+use Rattle.serde_json.specs.Data.{Data, null, string, number, unsigned, array, object, Members, no_members, member, put}
+use Rattle.serde_json.specs.View.{items_of}
+use Rattle.serde_json.specs.Written.{compact_text}
+use Rattle.tl_spec.specs.Lex.Attribute.{Pair}
+use Rattle.tl_spec.specs.Lex.AttributeList.{printed_pairs}
+use Rattle.tl_spec.specs.Tree.Document.{Node, Tag, Raw, Comment}
+use Rattle.tl_spec.specs.Tree.Element.{name_of}
+use Rattle.tl_spec.specs.Print.Text.{inner_text}
+use Rattle.tl_spec.specs.Walk.{plain_attributes}
+use Rattle.tl_page.specs.Outcome.{Outcome, joined, outcome_map, outcome_of, refused}
+use Rattle.tl_cli.specs.Findings.{Finding}
+
+-- bytes as a text; null where there are none
+abbrev pub value_data : Option (List ℕ) → Data
+value_data None = null
+value_data (Some bytes) = string (utf8_lossy bytes)
+
+-- members, and an attribute
+abbrev pub with_pair : Members → Pair → Members
+with_pair members pair = put (utf8_lossy pair.0) (value_data pair.1) members
+
+abbrev pub pairs_data : List Pair → Members
+pairs_data pairs = fold with_pair no_members pairs
+
+-- the attributes of a node
+abbrev pub attributes_data : Node → Data
+attributes_data (Tag own) = object (pairs_data (printed_pairs (plain_attributes own.attributes)))
+attributes_data (Raw bytes) = object no_members
+attributes_data (Comment bytes) = object no_members
+
+-- an object of attributes, a name, a number and a text
+abbrev pub object_of : Data → Data → ℕ → List ℕ → Data
+object_of attributes name n text = object (member (codes "attributes") attributes
+    (member (codes "name") name
+    (member (codes "node") (number (unsigned n))
+    (member (codes "text") (string text) no_members))))
+
+-- what is said of a node, with its number and its text
+abbrev pub node_data : ℕ → Node → List ℕ → Data
+node_data n node text = object_of (attributes_data node) (value_data (name_of node)) n text
+
+-- what is said of the node of a number, which is refused past the table
+abbrev pub data_at : List Node → ℕ → Outcome Data
+data_at nodes n = option_map_or (λ node.
+    outcome_map (node_data n node) (outcome_of (inner_text nodes node))) (slice_get nodes n) refused
+
+-- a list of what is said of that node, and of nothing else
+abbrev pub one_data : List Node → ℕ → Outcome (List Data)
+one_data nodes n = outcome_map (λ d. d ∷ []) (data_at nodes n)
+
+-- what is said of the nodes of these numbers, in order
+abbrev pub list_data : List Node → List ℕ → Outcome (List Data)
+list_data nodes numbers = joined (map (one_data nodes) numbers)
+
+-- whether there is something
+abbrev pub has_items : {X : Type 0} → List X → Bool
+has_items [] = false
+has_items (x ∷ xs) = true
+
+-- an array and what ends it
+abbrev pub array_line : List ℕ → List Data → Finding
+array_line end list = record {
+  text = compact_text (array (items_of list)) ++ end;
+  is_found = has_items list;
+}

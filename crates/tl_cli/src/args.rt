@@ -1,0 +1,214 @@
+//! What the words of the program ask for.
+ghost use Rattle.std.specs.Prelude.{◌≡◌};
+ghost use Rattle.clap.specs.Values.{kind_of};
+ghost use Rattle.clap.specs.declared.error.kind.ErrorKind.TheVariants.{OutOfMemory as NoMemory};
+ghost use Rattle.tl_cli.specs.declared.args.UsageError.TheVariants.{OutOfMemory};
+
+use crate::commands::{Verb, program};
+use crate::lists::ListTexts;
+use crate::question::Question;
+use crate::task::Task;
+use clap::error::ErrorKind;
+use clap::{ArgMatches, Error};
+use std::alloc::{AllocError, AllocFailed, Global};
+use tl_extract::Field;
+use tl_program::script::{Step, steps};
+
+/// The pages, and how what is made of them is written.
+#[derive(Drop)]
+pub struct Pages<'w> {
+    /// The files; without one standard input is read.
+    pub files: Vec<&'w str>,
+    /// Whether each answer ends with a byte 0, and not with a line feed.
+    pub ends_with_zero: bool,
+    /// Whether the name of its file stands before each line, where there are several.
+    pub has_names: bool,
+}
+
+/// What is made of the pages.
+#[derive(Drop)]
+pub enum Action<'w> {
+    /// What a task makes.
+    Task(Task<'w>),
+    /// Safe pages, by the lists of these texts.
+    Safe(ListTexts<'w>),
+    /// The lists of these texts, and no page.
+    Policy(ListTexts<'w>),
+}
+
+/// What the words ask for.
+#[derive(Drop)]
+pub struct Args<'w> {
+    pub action: Action<'w>,
+    pub pages: Pages<'w>,
+}
+
+/// Why nothing is made.
+#[derive(Drop)]
+pub enum UsageError<'w> {
+    /// The words are not understood, or ask for help or the version.
+    Clap(Error),
+    /// They name no command.
+    NoCommand,
+    /// A word of `edit` that is empty.
+    EmptyStep,
+    /// One of several lines.
+    LinesOfSteps(&'w str),
+    /// One that says no step.
+    NoStep(&'w str),
+    OutOfMemory,
+}
+
+impl From<AllocError> for UsageError<'_> {
+    ghost from_gives = { λ _ usage_error. usage_error ≡ OutOfMemory };
+
+    fn from(_: AllocError) -> Self {
+        UsageError::OutOfMemory
+    }
+}
+
+impl<T: Drop> From<AllocFailed<T>> for UsageError<'_> {
+    ghost from_gives = { λ _ usage_error. usage_error ≡ OutOfMemory };
+
+    fn from(_: AllocFailed<T>) -> Self {
+        UsageError::OutOfMemory
+    }
+}
+
+impl From<Error> for UsageError<'_> {
+    ghost from_gives = { λ error usage_error. kind_of error ≡ NoMemory →
+        usage_error ≡ OutOfMemory };
+
+    fn from(error: Error) -> Self {
+        match error.kind() {
+            ErrorKind::OutOfMemory => UsageError::OutOfMemory,
+            _ => UsageError::Clap(error),
+        }
+    }
+}
+
+// What is written of each node.
+fn field<'w>(matches: &ArgMatches<'w>) -> Field<'w> {
+    if let Some(key) = matches.get_str("attribute") {
+        Field::Attribute(key)
+    } else if matches.get_flag("text") {
+        Field::InnerText
+    } else if matches.get_flag("inside") {
+        Field::InnerHtml
+    } else if matches.get_flag("number") {
+        Field::Number
+    } else {
+        Field::OuterHtml
+    }
+}
+
+// What is asked of the nodes where a selector holds.
+fn selection<'w>(matches: &ArgMatches<'w>) -> Question<'w> {
+    let selector = matches.get_str("SELECTOR").unwrap_or("");
+    if matches.get_flag("count") {
+        Question::Count(selector)
+    } else if matches.get_flag("json") {
+        Question::Objects(selector)
+    } else if matches.get_flag("first") {
+        Question::First(selector, field(matches))
+    } else {
+        Question::Select(selector, field(matches))
+    }
+}
+
+// The values of an argument that may have several.
+fn values<'w>(
+    alloc: Global,
+    matches: &ArgMatches<'w>,
+    name: &str,
+) -> Result<Vec<&'w str>, AllocError> {
+    match matches.get_strs(name) {
+        Some(values) => Vec::from_slice(alloc, values),
+        None => Ok(Vec::new(alloc)),
+    }
+}
+
+// Adds the step that a word says.
+fn add_step<'w>(
+    alloc: Global,
+    all: &mut Vec<Step<'w>>,
+    word: &'w str,
+) -> Result<(), UsageError<'w>> {
+    if word.is_empty() {
+        return Err(UsageError::EmptyStep);
+    }
+    if word.contains('\n') {
+        return Err(UsageError::LinesOfSteps(word));
+    }
+    let Some(said) = steps(alloc, word)? else {
+        return Err(UsageError::NoStep(word));
+    };
+    for step in said {
+        all.push(step)?;
+    }
+    Ok(())
+}
+
+// The steps that words say, one each.
+fn edit<'w>(alloc: Global, words: &[&'w str]) -> Result<Task<'w>, UsageError<'w>> {
+    let mut all = Vec::new(alloc);
+    for word in words {
+        add_step(alloc, &mut all, word)?;
+    }
+    Ok(Task::Edit(all))
+}
+
+// The lists that are said.
+fn lists<'w>(matches: &ArgMatches<'w>) -> ListTexts<'w> {
+    ListTexts {
+        tags: matches.get_str("tags"),
+        keys: matches.get_str("keys"),
+        link_keys: matches.get_str("link-keys"),
+        link_prefixes: matches.get_str("links"),
+        id_prefix: matches.get_str("prefix"),
+    }
+}
+
+// What a command makes of pages.
+fn action_of<'w>(
+    alloc: Global,
+    verb: Verb,
+    matches: &ArgMatches<'w>,
+) -> Result<Action<'w>, UsageError<'w>> {
+    let question = match verb {
+        Verb::Select => selection(matches),
+        Verb::Links => Question::Links,
+        Verb::Text if matches.get_flag("whitespace") => Question::Readable,
+        Verb::Text => Question::Text,
+        Verb::Print => Question::Print,
+        Verb::Outline => Question::Outline,
+        Verb::Edit => return Ok(Action::Task(edit(alloc, &values(alloc, matches, "STEP")?)?)),
+        Verb::Sanitize if matches.get_flag("policy") => return Ok(Action::Policy(lists(matches))),
+        Verb::Sanitize => return Ok(Action::Safe(lists(matches))),
+    };
+    Ok(Action::Task(Task::Ask(question)))
+}
+
+// The pages of a command.
+fn pages_of<'w>(alloc: Global, matches: &ArgMatches<'w>) -> Result<Pages<'w>, AllocError> {
+    Ok(Pages {
+        files: values(alloc, matches, "FILE")?,
+        ends_with_zero: matches.get_flag("null"),
+        has_names: !matches.get_flag("no-name"),
+    })
+}
+
+/// What words ask for; the first is the name of the program.
+pub fn read<'w>(alloc: Global, words: &'w [String]) -> Result<Args<'w>, UsageError<'w>> {
+    let matches = program(alloc)?.try_get_matches_from(words)?;
+    let Some((word, own)) = matches.subcommand() else {
+        return Err(UsageError::NoCommand);
+    };
+    let Some(verb) = Verb::from_word(word) else {
+        return Err(UsageError::NoCommand);
+    };
+    Ok(Args {
+        action: action_of(alloc, verb, own)?,
+        pages: pages_of(alloc, own)?,
+    })
+}

@@ -1,0 +1,164 @@
+//! `tl` for people: reads pages of HTML, however broken. `tl --help` says what it does.
+#![tactic(auto)]
+
+ghost use Rattle.std.specs.Prelude.{◌≡◌, Err, IfErr};
+ghost use Rattle.tl_page.specs.declared.failure.Failure.TheVariants.{NotUnderstood, OutOfMemory as NoMemory};
+ghost use Rattle.tl_cli.specs.declared.args.UsageError.TheVariants.{OutOfMemory};
+ghost use Rattle.tl_cli.specs.UsageErrors.{IsNoStep};
+
+mod args;
+mod commands;
+mod filename;
+mod json;
+mod lines;
+mod lists;
+mod output;
+mod pages;
+mod question;
+mod reports;
+mod task;
+
+use args::{Action, Pages, UsageError, read};
+use clap::Error;
+use lists::{ListTexts, WordLists, lines_of};
+use pages::{STANDARD_OUTPUT, process_pages, report, write};
+use std::alloc::AllocError;
+use std::env;
+use std::io::ErrorKind;
+use std::process::ExitCode;
+use task::Task;
+use tl_page::{Cause, Failure};
+use tl_safe::{Lists, Policy};
+
+fn main(rt: HostRuntime) -> ExitCode {
+    match run(&rt) {
+        Ok(status) => ExitCode::from(status),
+        Err(failure) => ExitCode::from(failure as u8),
+    }
+}
+
+// The words of the command line. One that is no text is not understood.
+fn arguments(rt: &HostRuntime) -> Result<Vec<String>, Failure> {
+    let given = match env::args(rt) {
+        Ok(given) => given,
+        Err(error) if error.kind() == ErrorKind::OutOfMemory => return Err(Failure::OutOfMemory),
+        Err(_) => return Err(Failure::NotUnderstood),
+    };
+    let mut words = Vec::new(rt.alloc());
+    for word in given {
+        words.push(word).map_err(AllocError::from)?;
+    }
+    Ok(words)
+}
+
+// Why there are no words, once it is said.
+fn no_words(rt: &HostRuntime, failure: Failure) -> Failure
+    ensures { result ≡ failure }
+{
+    if failure != Failure::NotUnderstood {
+        return report_failure(rt, "words", failure);
+    }
+    let cause = Cause::NoText;
+    let _ = eprintln!(rt; "tl: words: {cause}");
+    failure
+}
+
+// Does what the words ask for, and answers the status. What fails was said then.
+fn run(rt: &HostRuntime) -> Result<u8, Failure> {
+    let words = match arguments(rt) {
+        Ok(words) => words,
+        Err(failure) => return Err(no_words(rt, failure)),
+    };
+    match read(rt.alloc(), &words) {
+        Ok(args) => match &args.action {
+            Action::Task(task) => process_pages(rt, task, &args.pages),
+            Action::Safe(texts) => sanitize(rt, texts, &args.pages),
+            Action::Policy(texts) => write_policy(rt, texts),
+        },
+        Err(usage_error) => report_usage_error(rt, &usage_error),
+    }
+}
+
+// A failure, once it is said.
+fn report_failure(rt: &HostRuntime, name: &str, failure: Failure) -> Failure
+    ensures { result ≡ failure }
+{
+    report(rt, name, failure);
+    failure
+}
+
+// Says what `clap` does: what is wrong with the words, or what was asked for, as help.
+fn print_clap_error(rt: &HostRuntime, error: &Error) -> Result<u8, Failure> {
+    match error.print(rt) {
+        Ok(()) if error.use_stderr() => Err(Failure::NotUnderstood),
+        Ok(()) => Ok(0),
+        Err(_) if error.use_stderr() => Err(Failure::Fault),
+        Err(_) => Err(report_failure(rt, STANDARD_OUTPUT, Failure::Fault)),
+    }
+}
+
+// Says why nothing is made, or what was asked for in its place.
+fn report_usage_error(rt: &HostRuntime, usage_error: &UsageError<'_>) -> Result<u8, Failure>
+    ensures memory { usage_error.now ≡ OutOfMemory → result ≡ Err NoMemory }
+    ensures step { IsNoStep usage_error.now → result ≡ Err NotUnderstood }
+{
+    match usage_error {
+        UsageError::Clap(error) => return print_clap_error(rt, error),
+        UsageError::OutOfMemory => return Err(report_failure(rt, "words", Failure::OutOfMemory)),
+        UsageError::NoCommand => return Err(report_failure(rt, "words", Failure::NotUnderstood)),
+        UsageError::EmptyStep => {
+            let _ = eprintln!(rt; "tl: no step: an empty word");
+        }
+        UsageError::LinesOfSteps(word) => {
+            let _ = eprintln!(rt; "tl: no step, but several lines: {word}");
+        }
+        UsageError::NoStep(word) => {
+            let _ = eprintln!(rt; "tl: no step: {word}");
+        }
+    }
+    Err(Failure::NotUnderstood)
+}
+
+// The lists that texts say.
+fn lists_of<'w>(rt: &HostRuntime, texts: &ListTexts<'w>) -> Result<WordLists<'w>, Failure>
+    ensures { IfErr result (λ failure. failure ≡ NoMemory) }
+{
+    match WordLists::new(rt.alloc(), texts) {
+        Ok(lists) => Ok(lists),
+        Err(_) => Err(report_failure(rt, "words", Failure::OutOfMemory)),
+    }
+}
+
+// The policy of lists. A word that no policy may list is said.
+fn policy_of<'w>(rt: &HostRuntime, lists: Lists<'w>) -> Result<Policy<'w>, Failure>
+    ensures { IfErr result (λ failure. failure ≡ NotUnderstood) }
+{
+    match Policy::new(lists) {
+        Ok(policy) => Ok(policy),
+        Err(error) => {
+            let _ = eprintln!(rt; "tl: {error}");
+            Err(Failure::NotUnderstood)
+        }
+    }
+}
+
+// Makes pages safe by the lists of these texts.
+fn sanitize(rt: &HostRuntime, texts: &ListTexts<'_>, pages: &Pages<'_>) -> Result<u8, Failure> {
+    let lists = lists_of(rt, texts)?;
+    let policy = policy_of(rt, lists.lists())?;
+    process_pages(rt, &Task::Sanitize(policy), pages)
+}
+
+// Writes the lists of these texts as options that say them.
+fn write_policy(rt: &HostRuntime, texts: &ListTexts<'_>) -> Result<u8, Failure> {
+    let lists = lists_of(rt, texts)?;
+    let policy = policy_of(rt, lists.lists())?;
+    let text = match lines_of(rt.alloc(), &policy.lists()) {
+        Ok(text) => text,
+        Err(_) => return Err(report_failure(rt, "policy", Failure::OutOfMemory)),
+    };
+    match write(rt, text.as_bytes()) {
+        Ok(()) => Ok(0),
+        Err(failure) => Err(report_failure(rt, STANDARD_OUTPUT, failure)),
+    }
+}

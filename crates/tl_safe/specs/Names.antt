@@ -1,0 +1,40 @@
+-- Words as values, and what is asked of them.
+use Rattle.std.specs.Prelude.{ℕ, Bool, List, map, Option}
+use Rattle.std.specs.Borrow.{Bor}
+use Rattle.tl_safe.specs.Lists.{ListedWords, is_beginning_byte, is_key_byte, is_link_byte, is_tag_byte}
+use Rattle.tl_safe.specs.Filter.{is_own_byte}
+use Rattle.tl_safe.specs.Refusals.{key_reason, link_reason, tag_reason}
+use Rattle.tl_safe.specs.declared.lists.Lists.{Lists}
+use Rattle.tl_safe.specs.declared.refusal.Reason.{Reason}
+use Rattle.tl_safe.specs.declared.refusal.Role.{Role}
+use Rattle.tl_safe.specs.declared.refusal.Role.TheVariants.{Tag, Key, LinkPrefix}
+use Rattle.tl_safe.specs.declared.names.ByteClass.{ByteClass}
+use Rattle.tl_safe.specs.declared.names.ByteClass.TheVariants.{TagName, AttributeKey, Link, OfBeginning, OwnName}
+
+-- lent words as lists of bytes
+abbrev pub words_of : List (Bor (List ℕ)) → List (List ℕ)
+words_of words = map (λ w. w.now) words
+
+-- the words of lists
+abbrev pub listed_words : Lists → ListedWords
+listed_words lists = record {
+  tags = words_of lists.tags.now;
+  keys = words_of lists.keys.now;
+  link_keys = words_of lists.link_keys.now;
+  link_prefixes = words_of lists.link_prefixes.now;
+  id_prefix = lists.id_prefix.now;
+}
+
+-- whether a byte is of a class
+abbrev pub has_class : ByteClass → ℕ → Bool
+has_class TagName = is_tag_byte
+has_class AttributeKey = is_key_byte
+has_class Link = is_link_byte
+has_class OfBeginning = is_beginning_byte
+has_class OwnName = is_own_byte
+
+-- why no policy with these link keys may list a word in a role, if none may
+abbrev pub reason_in : Role → List (List ℕ) → List ℕ → Option Reason
+reason_in Tag link_keys = tag_reason
+reason_in Key link_keys = key_reason link_keys
+reason_in LinkPrefix link_keys = link_reason
