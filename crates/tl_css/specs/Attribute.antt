@@ -13,11 +13,13 @@ use Rattle.tl_css.specs.Lexical.{run_at, begins_name, name_at, is_word, gap_at}
 -- `|` or `*|` stands first
 abbrev pub begins_namespace : List ℕ → Bool
 begins_namespace [] = false
-begins_namespace (b ∷ s) = (b == byte "|") || (if b == byte "*" then is_some (after_byte (byte "|") s) else false)
+begins_namespace (b ∷ s) =
+    (b == byte "|") || (if b == byte "*" then is_some (after_byte (byte "|") s) else false)
 
 -- a key, in lower case
 abbrev pub key_at : List ℕ → Read (List ℕ)
-key_at s = if begins_namespace s then wrong s Namespace else (name_at s >>= λ name. Ok (str_to_ascii_lowercase name.0, name.1))
+key_at s = if begins_namespace s then wrong s Namespace
+    else (name_at s >>= λ name. Ok (str_to_ascii_lowercase name.0, name.1))
 
 -- the op whose first byte this is, where a `=` follows
 abbrev pub op_of : ℕ → Option Op
@@ -36,12 +38,15 @@ op_by b s op None = if b == byte "|" then wrong (b ∷ s) Namespace else wrong (
 
 abbrev pub op_at : List ℕ → Read Op
 op_at [] = wrong [] NoOperator
-op_at (b ∷ s) = if b == byte "=" then Ok (Equals, s) else op_by b s (op_of b) (after_byte (byte "=") s)
+op_at (b ∷ s) =
+    if b == byte "=" then Ok (Equals, s) else op_by b s (op_of b) (after_byte (byte "=") s)
 
 abbrev pub string_by : List ℕ → ℕ → List ℕ × List ℕ → Read (List ℕ)
-string_by s quote run = elim (after_byte quote run.1) as (λ _. Read (List ℕ)) [ None ↦ wrong s Unclosed | Some rest ↦ Ok (run.0, rest) ]
+string_by s quote run = elim (after_byte quote run.1) as (λ _. Read (List ℕ))
+    [ None ↦ wrong s Unclosed | Some rest ↦ Ok (run.0, rest) ]
 
--- a value: a name, or a string between two of the same quotes; `opened` is where its bracket was opened
+-- a value: a name, or a string between two of the same quotes; `opened` is where its bracket was
+-- opened
 abbrev pub value_at : ℕ → List ℕ → Read (List ℕ)
 value_at opened [] = wrong_at opened Unclosed
 value_at opened (b ∷ s) =
@@ -64,13 +69,16 @@ close_at opened (b ∷ s) = if b == byte "]" then Ok s else wrong (b ∷ s) Unex
 -- what stands after a key and an op: a value, a flag or none, and `]`
 abbrev pub match_at : ℕ → List ℕ → Op → List ℕ → Read Test
 match_at opened key op s =
-    gap_at s >>= λ a. value_at opened a.1 >>= λ value. gap_at value.1 >>= λ b. flag_at b.1 >>= λ folds. gap_at folds.1 >>= λ c.
+    gap_at s >>= λ a. value_at opened a.1 >>= λ value. gap_at value.1 >>= λ b.
+    flag_at b.1 >>= λ folds. gap_at folds.1 >>= λ c.
     close_at opened c.1 >>= λ rest. Ok (Value key op value.0 folds.0, rest)
 
 abbrev pub after_key : ℕ → List ℕ → List ℕ → Read Test
 after_key opened key [] = wrong_at opened Unclosed
-after_key opened key (b ∷ s) = if b == byte "]" then Ok (Key key, s) else (op_at (b ∷ s) >>= λ op. match_at opened key op.0 op.1)
+after_key opened key (b ∷ s) = if b == byte "]" then Ok (Key key, s)
+    else (op_at (b ∷ s) >>= λ op. match_at opened key op.0 op.1)
 
 -- from after the `[` on
 abbrev pub attribute_at : ℕ → List ℕ → Read Test
-attribute_at opened s = gap_at s >>= λ a. key_at a.1 >>= λ key. gap_at key.1 >>= λ b. after_key opened key.0 b.1
+attribute_at opened s =
+    gap_at s >>= λ a. key_at a.1 >>= λ key. gap_at key.1 >>= λ b. after_key opened key.0 b.1

@@ -38,4 +38,5 @@ decimal_number n (b ∷ s) = decimal_number (n * 10 + (b - 48)) s
 
 -- the character of a number, or the replacement character where it has none
 abbrev pub char_of : ℕ → ℕ
-char_of n = if (n == 0) || (nat_le 0xD800 n && nat_lt n 0xE000) || nat_lt 0x10FFFF n then 0xFFFD else n
+char_of n =
+    if (n == 0) || (nat_le 0xD800 n && nat_lt n 0xE000) || nat_lt 0x10FFFF n then 0xFFFD else n

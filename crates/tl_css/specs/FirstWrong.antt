@@ -7,4 +7,5 @@ use Rattle.tl_css.specs.Item.{begin_at}
 
 -- the first simple selector is wrong, or none stands there: here, for this cause
 abbrev pub IsFirstWrong : List ℕ → ℕ → Cause → Type 0
-IsFirstWrong text at cause = (wrong : Wrong) × (begin_at Top text ≡ Err wrong) × (at ≡ length text - wrong.left) × (cause ≡ wrong.cause)
+IsFirstWrong text at cause = (wrong : Wrong) × (begin_at Top text ≡ Err wrong)
+    × (at ≡ length text - wrong.left) × (cause ≡ wrong.cause)

@@ -16,7 +16,8 @@ largest = 2147483647
 
 abbrev pub digits_by : List ℕ → List ℕ → Read ℕ
 digits_by s [] = wrong s NoFormula
-digits_by s (d ∷ ds) = if nat_lt largest (decimal_number 0 (d ∷ ds)) then wrong s LargeNumber else Ok (decimal_number 0 (d ∷ ds), drop_while is_ascii_digit s)
+digits_by s (d ∷ ds) = if nat_lt largest (decimal_number 0 (d ∷ ds)) then wrong s LargeNumber
+    else Ok (decimal_number 0 (d ∷ ds), drop_while is_ascii_digit s)
 
 -- a number of digits
 abbrev pub digits_at : List ℕ → Read ℕ
@@ -37,7 +38,8 @@ sign_at s = (begins (λ b. b == byte "-") s, if begins is_sign s then drop 1 s e
 
 -- `even` or `odd` in any case, without escapes, and nothing more of a name
 abbrev pub begins_keyword : List ℕ → List ℕ → Bool
-begins_keyword word s = str_eq_ignore_ascii_case (take (length word) s) word && not (begins_name (drop (length word) s))
+begins_keyword word s =
+    str_eq_ignore_ascii_case (take (length word) s) word && not (begins_name (drop (length word) s))
 
 -- a formula ends where no name goes on
 abbrev pub ended : ℤ → ℤ → List ℕ → Read Formula
@@ -49,7 +51,8 @@ after_n a s =
     if begins_name s && not (begins (λ b. b == byte "-") s) then wrong s NoFormula
     else (gap_at s >>= λ gap.
     (if begins is_sign gap.1 then
-    (gap_at (sign_at gap.1).1 >>= λ after. digits_at after.1 >>= λ b. ended a (with_sign (sign_at gap.1).0 b.0) b.1)
+    (gap_at (sign_at gap.1).1 >>= λ after. digits_at after.1 >>= λ b.
+    ended a (with_sign (sign_at gap.1).0 b.0) b.1)
     else Ok (record { a = a; b = pos 0 }, s)))
 
 -- after the sign: a number, an `n` or both

@@ -1,4 +1,5 @@
--- What stands next in a selector text: a simple selector with the combinator before it, a comma, or the end of a list.
+-- What stands next in a selector text: a simple selector with the combinator before it, a comma, or
+-- the end of a list.
 use Rattle.std.specs.Prelude.{ℕ, Bool, true, false, not, ◌&&◌, ◌==◌, if◌then◌else◌, List, [], ◌∷◌, length, Option, Some, None, codes, Ok, unwrap_or}
 use Rattle.std.specs.Str.{byte}
 use Rattle.std.specs.List.{list_any}
@@ -27,7 +28,8 @@ abbrev pub simple_at : List ℕ → Read Simple
 simple_at [] = wrong [] NoSelector
 simple_at (b ∷ s) =
     if b == byte ":" then pseudo_at (b ∷ s) s
-    else (if b == byte "[" then (attribute_at (length (b ∷ s)) s >>= λ test. Ok (Whole (Is test.0), test.1))
+    else (if b == byte "[" then (attribute_at (length (b ∷ s)) s >>= λ test.
+    Ok (Whole (Is test.0), test.1))
     else (if b == byte "#" then (name_at s >>= λ id. Ok (Whole (Is (Id id.0)), id.1))
     else (if b == byte "." then (name_at s >>= λ class. Ok (Whole (Is (Class class.0)), class.1))
     else wrong (b ∷ s) (unexpected b))))
@@ -37,7 +39,8 @@ abbrev pub first_at : List ℕ → Read Simple
 first_at [] = wrong [] NoSelector
 first_at (b ∷ s) =
     if b == byte "*" then Ok (Whole (Is Any), s)
-    else (if begins_name (b ∷ s) then Ok (Whole (Is (Name (lower_run (b ∷ s)))), (run_at None (b ∷ s)).1)
+    else (if begins_name (b ∷ s) then Ok
+    (Whole (Is (Name (lower_run (b ∷ s)))), (run_at None (b ∷ s)).1)
     else simple_at (b ∷ s))
 
 abbrev pub combinator_of : ℕ → Option Combinator
@@ -83,12 +86,14 @@ is_top (NthOf way formula) = false
 -- the combinator at the front of a complex selector: a relative one may begin with it
 abbrev pub leading_at : Role → List ℕ → Read Combinator
 leading_at role s =
-    if is_relative role then (combinator_at s >>= λ combinator. Ok (unwrap_or combinator.0 Descendant, combinator.1))
+    if is_relative role then (combinator_at s >>= λ combinator.
+    Ok (unwrap_or combinator.0 Descendant, combinator.1))
     else Ok (Descendant, s)
 
 -- the first item of a complex selector
 abbrev pub begin_at : Role → List ℕ → Read Item
-begin_at role s = gap_at s >>= λ gap. leading_at role gap.1 >>= λ combinator. part (Begin combinator.0) combinator.1 (first_at combinator.1)
+begin_at role s = gap_at s >>= λ gap. leading_at role gap.1 >>= λ combinator.
+    part (Begin combinator.0) combinator.1 (first_at combinator.1)
 
 abbrev pub part_at : Bool → Option Combinator → List ℕ → Read Item
 part_at spaced (Some combinator) s = part (After combinator) s (first_at s)
@@ -102,6 +107,7 @@ next_by role opened spaced (b ∷ s) =
     else (if (b == byte ")") && not (is_top role) then Ok (End, s)
     else (combinator_at (b ∷ s) >>= λ combinator. part_at spaced combinator.0 combinator.1))
 
--- the next item after a simple selector, in a list whose bracket was opened where so many bytes were left
+-- the next item after a simple selector, in a list whose bracket was opened where so many bytes
+-- were left
 abbrev pub next_at : Role → ℕ → List ℕ → Read Item
 next_at role opened s = gap_at s >>= λ gap. next_by role opened gap.0 gap.1

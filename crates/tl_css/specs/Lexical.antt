@@ -24,10 +24,12 @@ past_escape s = if begins is_white s then past_white s else s
 abbrev pub escape_by : List ℕ → List ℕ → List ℕ × List ℕ
 escape_by [] [] = ([], [])
 escape_by [] (b ∷ s) = (b ∷ [], s)
-escape_by (d ∷ ds) s = (encode_utf8 (char_of (hex_number 0 (d ∷ ds))), past_escape (drop (length (d ∷ ds)) s))
+escape_by (d ∷ ds) s =
+    (encode_utf8 (char_of (hex_number 0 (d ∷ ds))), past_escape (drop (length (d ∷ ds)) s))
 
--- what an escape stands for, from after its backslash on, and what stands after it: a character by its number, of one to six hex
--- digits, or a byte as it is (the other bytes of a character stand for themselves)
+-- what an escape stands for, from after its backslash on, and what stands after it: a character by
+-- its number, of one to six hex digits, or a byte as it is (the other bytes of a character stand
+-- for themselves)
 abbrev pub escape_at : List ℕ → List ℕ × List ℕ
 escape_at s = escape_by (take_while is_hex (take 6 s)) s
 
@@ -36,14 +38,16 @@ abbrev pub is_plain : Option ℕ → ℕ → Bool
 is_plain None b = is_name_byte b
 is_plain (Some quote) b = is_string_byte quote b
 
--- after a backslash: an escape, but before a line end there is none in a name, and it stands for nothing in a string
+-- after a backslash: an escape, but before a line end there is none in a name, and it stands for
+-- nothing in a string
 abbrev pub escaped_at : Option ℕ → List ℕ → Option (List ℕ × List ℕ)
 escaped_at quote [] = None
 escaped_at quote (c ∷ s) =
     if is_newline c then (if is_some quote then Some ([], past_white (c ∷ s)) else None)
     else Some (escape_at (c ∷ s))
 
--- the first part of a name, or of what stands between quotes: what it stands for, and what stands after it
+-- the first part of a name, or of what stands between quotes: what it stands for, and what stands
+-- after it
 abbrev pub part_at : Option ℕ → List ℕ → Option (List ℕ × List ℕ)
 part_at quote [] = None
 part_at quote (b ∷ s) =
@@ -91,7 +95,8 @@ after_comment s = if begins_comment s then after_needle (codes "*/") (drop 2 s) 
 -- a byte of white space, which is `true`, or a comment
 abbrev pub gap_part_at : List ℕ → Option (Bool × List ℕ)
 gap_part_at [] = None
-gap_part_at (b ∷ s) = if is_white b then Some (true, s) else option_map (λ rest. (false, rest)) (after_comment (b ∷ s))
+gap_part_at (b ∷ s) = if is_white b then Some (true, s)
+    else option_map (λ rest. (false, rest)) (after_comment (b ∷ s))
 
 abbrev pub gap_result : Bool → List ℕ → Read Bool
 gap_result white rest = if begins_comment rest then wrong rest Unclosed else Ok (white, rest)

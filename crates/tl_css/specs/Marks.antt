@@ -53,11 +53,14 @@ marks_of e = marks_onto e []
 abbrev pub selector_of_marks : List Mark → Css
 selector_of_marks ms = first_or_any (after_marks ms [])
 
-pub marks-onto : (e : Css) (ms : List Mark) (es : List Css) → after_marks (marks_onto e ms) es ≡ after_marks ms (e ∷ es)
+pub marks-onto : (e : Css) (ms : List Mark) (es : List Css) →
+    after_marks (marks_onto e ms) es ≡ after_marks ms (e ∷ es)
 marks-onto (Is t) ms es = refl
 marks-onto (Not e) ms es = marks-onto e (NotMark ∷ ms) es
-marks-onto (Both a b) ms es = marks-onto a (marks_onto b (BothMark ∷ ms)) es ∙ marks-onto b (BothMark ∷ ms) (a ∷ es)
-marks-onto (Either a b) ms es = marks-onto a (marks_onto b (EitherMark ∷ ms)) es ∙ marks-onto b (EitherMark ∷ ms) (a ∷ es)
+marks-onto (Both a b) ms es =
+    marks-onto a (marks_onto b (BothMark ∷ ms)) es ∙ marks-onto b (BothMark ∷ ms) (a ∷ es)
+marks-onto (Either a b) ms es =
+    marks-onto a (marks_onto b (EitherMark ∷ ms)) es ∙ marks-onto b (EitherMark ∷ ms) (a ∷ es)
 marks-onto (At way link reach e) ms es = marks-onto e (AtMark way link reach ∷ ms) es
 marks-onto (Nth way link formula e) ms es = marks-onto e (NthMark way link formula ∷ ms) es
 

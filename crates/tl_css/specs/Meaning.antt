@@ -23,7 +23,8 @@ use Rattle.tl_css.specs.Bytes.{is_white}
 
 -- the pairs of a tag, `id` and `class` too
 abbrev pub pairs_of : Node → List Pair
-pairs_of (Tag own) = pairs_in_order (λ key. key) own.attributes.others.entries own.attributes.id own.attributes.class
+pairs_of (Tag own) =
+    pairs_in_order (λ key. key) own.attributes.others.entries own.attributes.id own.attributes.class
 pairs_of (Raw bytes) = []
 pairs_of (Comment bytes) = []
 
@@ -38,11 +39,14 @@ Passes Word value own = (value ≢ []) × Contains (slice_split is_white own) va
 Passes Dashed value own = (own ≡ value) ⊎ ((rest : List ℕ) × (own ≡ value ++ byte "-" ∷ rest))
 Passes Starts value own = (value ≢ []) × (rest : List ℕ) × (own ≡ value ++ rest)
 Passes Ends value own = (value ≢ []) × (before : List ℕ) × (own ≡ before ++ value)
-Passes Inside value own = (value ≢ []) × (before : List ℕ) × (behind : List ℕ) × (own ≡ before ++ value ++ behind)
+Passes Inside value own =
+    (value ≢ []) × (before : List ℕ) × (behind : List ℕ) × (own ≡ before ++ value ++ behind)
 
--- there is a key that is this one in lower case, and what stands there passes: nothing stands for the empty value
+-- there is a key that is this one in lower case, and what stands there passes: nothing stands for
+-- the empty value
 abbrev pub HasKey : (List ℕ → Type 0) → List ℕ → Node → Type 0
-HasKey P key node = (pair : Pair) × Contains (pairs_of node) pair × (str_to_ascii_lowercase pair.0 ≡ key) × P (unwrap_or pair.1 [])
+HasKey P key node = (pair : Pair) × Contains (pairs_of node) pair
+    × (str_to_ascii_lowercase pair.0 ≡ key) × P (unwrap_or pair.1 [])
 
 -- count is a k + b for some k
 abbrev pub IsTerm : Formula → ℕ → Type 0
@@ -62,7 +66,8 @@ module _ (nodes : List Node) where
 
   -- a child is no text with a byte, and no tag
   abbrev pub IsNothing : ℕ → Type 0
-  IsNothing n = (slice_get nodes n ≡ Some (Raw [])) ⊎ ((bytes : List ℕ) × (slice_get nodes n ≡ Some (Comment bytes)))
+  IsNothing n = (slice_get nodes n ≡ Some (Raw []))
+      ⊎ ((bytes : List ℕ) × (slice_get nodes n ≡ Some (Comment bytes)))
 
   -- a test passes at a tag; the keys `id` and `class` are these in exact case
   abbrev pub IsMet : Test → Node → Type 0
@@ -71,7 +76,8 @@ module _ (nodes : List Node) where
   IsMet (Id id) node = has_id id node ≡ true
   IsMet (Class class) node = is_in_class class node ≡ true
   IsMet (Key key) node = HasKey (λ own. ⊤) key node
-  IsMet (Value key op value folds) node = HasKey (λ own. Passes op (folded folds value) (folded folds own)) key node
+  IsMet (Value key op value folds) node =
+      HasKey (λ own. Passes op (folded folds value) (folded folds own)) key node
   IsMet Empty node = All IsNothing (children_of node)
 
   -- both are tags, and children of the same node or of none
@@ -82,7 +88,8 @@ module _ (nodes : List Node) where
 
   -- both are tags of one name, in any case
   abbrev pub AreNamesakes : ℕ → ℕ → Type 0
-  AreNamesakes m n = (name : List ℕ) × IsSomeAnd (slice_get nodes m) (IsMet (Name name)) × IsSomeAnd (slice_get nodes n) (IsMet (Name name))
+  AreNamesakes m n = (name : List ℕ) × IsSomeAnd (slice_get nodes m) (IsMet (Name name))
+      × IsSomeAnd (slice_get nodes n) (IsMet (Name name))
 
   -- m is among the tags that links of this kind lead to from n, and stands before it
   abbrev pub IsBefore : Link → ℕ → ℕ → Type 0
@@ -119,7 +126,8 @@ module _ (nodes : List Node) where
   Holds (Both a b) n = Holds a n × Holds b n
   Holds (Either a b) n = Holds a n ⊎ Holds b n
   Holds (At y l r e) n = IsTag n × (m : ℕ) × StandsThere y l r m n × Holds e m
-  Holds (Nth y l formula e) n = Holds e n × (count : ℕ) × IsCount (λ m. IsUpTo y l m n × Holds e m) count × IsTerm formula count
+  Holds (Nth y l formula e) n = Holds e n × (count : ℕ)
+      × IsCount (λ m. IsUpTo y l m n × Holds e m) count × IsTerm formula count
 
   -- the numbers of the tags where a selector holds: each once, rising
   pub record AreFound (e : Css) (ns : List ℕ) : Type 0 where
@@ -129,7 +137,8 @@ module _ (nodes : List Node) where
   -- children rise, above their parent and in the table
   abbrev pub AreChildrenRising : Type 0
   AreChildrenRising = (n : ℕ) (own : TagNode) → slice_get nodes n ≡ Some (Tag own)
-      → AllPairs (λ a b. a < b) (n ∷ own.children.items) × All (λ c. c < length nodes) own.children.items
+      → AllPairs (λ a b. a < b) (n ∷ own.children.items)
+      × All (λ c. c < length nodes) own.children.items
 
   -- each node is the child of one at most, and children rise
   pub record IsForest : Type 0 where

@@ -62,8 +62,8 @@ or_else (Some x) o = Some x
 abbrev pub pseudo_class : List ℕ → Option PseudoClass
 pseudo_class word = or_else (plain_class word) (or_else (nth_class word) (list_class word))
 
--- a simple selector: read to its end, or up to a list in brackets, with what that is for and how many bytes are left from its
--- bracket on
+-- a simple selector: read to its end, or up to a list in brackets, with what that is for and how
+-- many bytes are left from its bracket on
 pub data Simple : Type 0 where
   Whole : Css → Simple
   Opens : Role → ℕ → Simple
@@ -85,7 +85,8 @@ abbrev pub after_formula : ℕ → Way → Link → Formula → Bool → List �
 after_formula opened way link formula spaced [] = wrong_at opened Unclosed
 after_formula opened way link formula spaced (b ∷ s) =
     if b == byte ")" then Ok (Whole (Nth way link formula (Is Any)), s)
-    else (if spaced && (is_sibling link && is_word (b ∷ s) (codes "of")) then Ok (Opens (NthOf way formula) opened, (run_at None (b ∷ s)).1)
+    else (if spaced && (is_sibling link && is_word (b ∷ s) (codes "of")) then Ok
+    (Opens (NthOf way formula) opened, (run_at None (b ∷ s)).1)
     else wrong (b ∷ s) NoFormula)
 
 -- from after the `(` on
@@ -93,7 +94,8 @@ abbrev pub nth_at : ℕ → Way → Link → List ℕ → Read Simple
 nth_at opened way link s =
     gap_at s >>= λ gap.
     (if length gap.1 == 0 then wrong_at opened Unclosed
-    else (formula_at gap.1 >>= λ formula. gap_at formula.1 >>= λ rest. after_formula opened way link formula.0 rest.0 rest.1))
+    else (formula_at gap.1 >>= λ formula. gap_at formula.1 >>= λ rest.
+    after_formula opened way link formula.0 rest.0 rest.1))
 
 -- the bracket of an argument: how many bytes are left from it on
 abbrev pub argument_at : List ℕ → Read ℕ

@@ -3,7 +3,8 @@ use Rattle.std.specs.Prelude.{ℕ, ◌==◌, if◌then◌else◌, List, [], ◌�
 use Rattle.tl_css.specs.declared.error.Wrong.{Wrong}
 use Rattle.tl_css.specs.declared.error.Cause.{Cause}
 
--- what stands at the front of a text, and what stands after it; or how many bytes are left from the first wrong one on, and the cause
+-- what stands at the front of a text, and what stands after it; or how many bytes are left from the
+-- first wrong one on, and the cause
 abbrev pub Read : Type 0 → Type 0
 Read A = Result (A × List ℕ) Wrong
 

@@ -33,14 +33,21 @@ pub record Open : Type 0 where
   -- in a relative selector, the combinators before each compound, the last one first
   pub combinators : List Combinator
 
--- What has been read: the selectors that wait to be put together, the last one first, the list that is being read, and those around it
+-- What has been read: the selectors that wait to be put together, the last one first, the list that
+-- is being read, and those around it
 pub record State : Type 0 where
   pub waiting : List Css
   pub open_ : Open
   pub outer : List Open
 
 abbrev pub opened : Role → ℕ → Open
-opened role left = record { role = role; left = left; listed = false; begun = false; combinators = [] }
+opened role left = record {
+  role = role;
+  left = left;
+  listed = false;
+  begun = false;
+  combinators = [];
+}
 
 abbrev pub start : State
 start = record { waiting = []; open_ = opened Top 0; outer = [] }
@@ -57,12 +64,18 @@ reach_of Child = Once
 reach_of NextSibling = Once
 reach_of SubsequentSibling = Often
 
--- A combinator after a compound: what has been read holds at a tag from which links lead here. In a relative selector it waits
--- for the end, where links lead from here to what follows.
+-- A combinator after a compound: what has been read holds at a tag from which links lead here. In a
+-- relative selector it waits for the end, where links lead from here to what follows.
 abbrev pub combine : Combinator → State → State
 combine combinator st =
-    if is_relative st.open_.role then record st { open_ = record st.open_ { begun = false; combinators = combinator ∷ st.open_.combinators } }
-    else record st { waiting = change (At From (link_of combinator) (reach_of combinator)) st.waiting }
+    if is_relative st.open_.role then record st {
+      open_ =
+          record st.open_ { begun = false; combinators = combinator ∷ st.open_.combinators };
+    }
+    else record st {
+      waiting =
+          change (At From (link_of combinator) (reach_of combinator)) st.waiting;
+    }
 
 abbrev pub lead : Combinator → State → State
 lead combinator st = if is_relative st.open_.role then combine combinator st else st
@@ -77,14 +90,19 @@ abbrev pub compounded : Bool → List Css → List Css
 compounded begun es = if begun then meet es else es
 
 abbrev pub with_simple : Simple → State → State
-with_simple (Whole e) st = record st { waiting = compounded st.open_.begun (e ∷ st.waiting); open_ = record st.open_ { begun = true } }
-with_simple (Opens role left) st = record st { open_ = opened role left; outer = st.open_ ∷ st.outer }
+with_simple (Whole e) st = record st {
+  waiting = compounded st.open_.begun (e ∷ st.waiting);
+  open_ = record st.open_ { begun = true };
+}
+with_simple (Opens role left) st =
+    record st { open_ = opened role left; outer = st.open_ ∷ st.outer }
 
 -- the last one, seen from where a combinator leads to it, and put together with what stands there
 abbrev pub seen : Combinator → Bool → List Css → List Css
 seen c more es = compounded more (change (At To (link_of c) (reach_of c)) es)
 
--- the compounds of a relative selector, put together from the last one to the first, as they are seen from its anchor
+-- the compounds of a relative selector, put together from the last one to the first, as they are
+-- seen from its anchor
 abbrev pub related : List Combinator → List Css → List Css
 related [] es = es
 related (c ∷ cs) es = related cs (seen c (nat_lt 0 (length cs)) es)
@@ -107,7 +125,8 @@ made NotRole es = change Not es
 made Has es = es
 made (NthOf way formula) es = change (Nth way Sibling formula) es
 
--- how many selectors may wait where a simple selector begins: two more may wait while it is put together, so at most 60 at once
+-- how many selectors may wait where a simple selector begins: two more may wait while it is put
+-- together, so at most 60 at once
 abbrev pub most_waiting : ℕ
 most_waiting = 58
 
@@ -120,7 +139,11 @@ pub data Taken : Type 0 where
 abbrev pub close : State → List Open → Taken
 close st [] = Done (last_waiting st.waiting)
 close st (open_ ∷ outer) =
-    Goes (record { waiting = compounded open_.begun (made st.open_.role st.waiting); open_ = record open_ { begun = true }; outer = outer })
+    Goes (record {
+      waiting = compounded open_.begun (made st.open_.role st.waiting);
+      open_ = record open_ { begun = true };
+      outer = outer;
+    })
 
 abbrev pub taken : Item → State → Result Taken Wrong
 taken End st = Ok (close (finish st) st.outer)
@@ -141,7 +164,8 @@ go_on more (Done e) = Ok e
 abbrev pub read_within : ℕ → State → List ℕ → Result Css Wrong
 read_within zero st s = wrong s Unexpected
 read_within (suc n) st s =
-    item_at st.open_ s >>= λ item. taken item.0 st >>= λ taken. go_on (λ st. read_within n st item.1) taken
+    item_at st.open_ s >>= λ item. taken item.0 st >>= λ taken.
+    go_on (λ st. read_within n st item.1) taken
 
 -- the same from the front of a text: each item but the last takes a byte
 unfoldable pub read : List ℕ → Result Css Wrong

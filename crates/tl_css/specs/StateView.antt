@@ -15,10 +15,20 @@ use Rattle.tl_css.specs.declared.error.SelectorError.{SelectorError}
 use Rattle.tl_css.specs.declared.error.SelectorError.TheVariants as e
 
 abbrev pub open_list : Open → s.Open
-open_list o = record { role = o.role; left = o.left; listed = o.listed; begun = o.begun; combinators = reverse o.combinators.items }
+open_list o = record {
+  role = o.role;
+  left = o.left;
+  listed = o.listed;
+  begun = o.begun;
+  combinators = reverse o.combinators.items;
+}
 
 abbrev pub state : State → s.State
-state st = record { waiting = waiting_after st.program.steps.items; open_ = open_list st.open; outer = reverse (map open_list st.outer.items) }
+state st = record {
+  waiting = waiting_after st.program.steps.items;
+  open_ = open_list st.open;
+  outer = reverse (map open_list st.outer.items);
+}
 
 abbrev pub taken : Taken → s.Taken
 taken (t.Goes st) = s.Goes (state st)

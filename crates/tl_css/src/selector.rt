@@ -82,7 +82,8 @@ pub enum Step {
     Unite,
     /// The last one, at another tag.
     Shift(Way, Link, Reach),
-    /// The last one, where the count of those tags along the link, from this end, is of the formula.
+    /// The last one, where the count of those tags along the link, from this end, is of the
+    /// formula.
     Count(Way, Link, Formula),
 }
 

@@ -30,7 +30,8 @@ is_tag_at nodes n = option_map_or is_tag (slice_get nodes n) false
 
 -- the number that tells siblings: the same for all tags of one parent, and for all at the top
 abbrev pub sibling_group : List Node → List ℕ → ℕ → ℕ
-sibling_group nodes parents n = if is_tag_at nodes n then option_map_or (λ p. p + 1) (link_at parents n) 0 else no_link
+sibling_group nodes parents n =
+    if is_tag_at nodes n then option_map_or (λ p. p + 1) (link_at parents n) 0 else no_link
 
 -- the links of a kind between the nodes
 pub record AreLinksOf (nodes : List Node) (link : Link) (links : List ℕ) : Type 0 where

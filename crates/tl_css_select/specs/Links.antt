@@ -45,12 +45,14 @@ passes_on marks often found n = is_at marks n || (often && is_at found n)
 
 -- what the link of a number says of it
 abbrev pub source_mark : List ℕ → List Bool → Bool → List Bool → ℕ → Bool
-source_mark links marks often found n = option_map_or (passes_on marks often found) (link_at links n) false
+source_mark links marks often found n =
+    option_map_or (passes_on marks often found) (link_at links n) false
 
 -- marks with one more: where a number passes its mark on, that to which its link leads
 abbrev pub with_target : List ℕ → List Bool → Bool → ℕ → List Bool → List Bool
 with_target links marks often n found =
-    option_map_or (λ to. if passes_on marks often found n then slice_set found to true else found) (link_at links n) found
+    option_map_or (λ to. if passes_on marks often found n then slice_set found to true else found)
+    (link_at links n) found
 
 abbrev pub count_at : List ℕ → ℕ → ℕ
 count_at counts n = slice_index_or counts n 0
@@ -64,7 +66,8 @@ linked_count links counts n = option_map_or (count_at counts) (link_at links n) 
 
 -- counts, where that of a number is added to the one that its link leads to
 abbrev pub with_added : List ℕ → ℕ → List ℕ → List ℕ
-with_added links n counts = option_map_or (λ to. slice_set counts to (count_at counts to + count_at counts n)) (link_at links n) counts
+with_added links n counts = option_map_or
+    (λ to. slice_set counts to (count_at counts to + count_at counts n)) (link_at links n) counts
 
 -- m is marked, and is n or links lead from n to m
 abbrev pub IsAhead : List ℕ → List Bool → ℕ → ℕ → Type 0
@@ -85,4 +88,5 @@ IsLastBelow R m n = ((m < n) × R m n) × ((k : ℕ) → (k < n) × R k n → k 
 -- the last number below another that has a group, if there is one
 abbrev pub IsLatest : List ℕ → ℕ → ℕ → Option ℕ → Type 0
 IsLatest groups number g None = (k : ℕ) → k < number → link_at groups k ≡ Some g → ⊥
-IsLatest groups number g (Some m) = (m < number) × (link_at groups m ≡ Some g) × ((k : ℕ) → k < number → link_at groups k ≡ Some g → k ≤ m)
+IsLatest groups number g (Some m) = (m < number) × (link_at groups m ≡ Some g)
+    × ((k : ℕ) → k < number → link_at groups k ≡ Some g → k ≤ m)

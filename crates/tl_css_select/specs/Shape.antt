@@ -16,4 +16,5 @@ are_orphans parents [] = true
 are_orphans parents (c ∷ cs) = not (is_some (link_at parents c)) && are_orphans parents cs
 
 abbrev pub fits_at : List Node → List ℕ → ℕ → Bool
-fits_at nodes parents n = rises n (length nodes) (children_at nodes n) && are_orphans parents (children_at nodes n)
+fits_at nodes parents n =
+    rises n (length nodes) (children_at nodes n) && are_orphans parents (children_at nodes n)

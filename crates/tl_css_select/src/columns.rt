@@ -17,7 +17,8 @@ use tl_table::element::Element;
 
 /// The marks of a test.
 pub fn asked<N: Styled>(alloc: Global, nodes: &[N], test: &Test) -> Result<Vec<bool>, AllocError>
-    ensures { IfOk result (λ marks. AreMarks (map N.node nodes.now) (Is (test_of test.now)) marks.items) }
+    ensures { IfOk result (λ marks. AreMarks (map N.node nodes.now)
+        (Is (test_of test.now)) marks.items) }
 {
     let mut marks = Vec::with_capacity(alloc, nodes.len())?;
     for number in 0..nodes.len() {
@@ -34,7 +35,8 @@ pub fn asked_among<N: Styled>(
     test: &Test,
 ) -> Result<Vec<bool>, AllocError>
     ensures { (e : Css) → AreMarks (map N.node nodes.now) e among.now
-        → IfOk result (λ marks. AreMarks (map N.node nodes.now) (Both e (Is (test_of test.now))) marks.items) }
+        → IfOk result (λ marks. AreMarks (map N.node nodes.now)
+        (Both e (Is (test_of test.now))) marks.items) }
 {
     let mut marks = Vec::with_capacity(alloc, nodes.len())?;
     for number in 0..nodes.len() {

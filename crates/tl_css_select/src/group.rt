@@ -10,8 +10,10 @@ use std::alloc::{AllocError, Global};
 // The number that stands at a group, where this one stands from now on.
 fn replaced(latest: &mut Vec<u32>, group: Option<usize>, number: u32) -> u32
     requires { IfSome group (λ g. g < length latest.old.items) }
-    ensures was { result ≡ option_map_or (λ g. slice_index_or latest.old.items g no_link) group no_link }
-    ensures is { latest.new.items ≡ option_map_or (λ g. slice_set latest.old.items g number) group latest.old.items }
+    ensures was { result ≡ option_map_or
+        (λ g. slice_index_or latest.old.items g no_link) group no_link }
+    ensures is { latest.new.items ≡ option_map_or
+        (λ g. slice_set latest.old.items g number) group latest.old.items }
 {
     let Some(group) = group else {
         return NO_LINK;
@@ -21,7 +23,8 @@ fn replaced(latest: &mut Vec<u32>, group: Option<usize>, number: u32) -> u32
     was
 }
 
-/// A link from each number to the last one before it of its group. Groups are numbers below that of all numbers.
+/// A link from each number to the last one before it of its group. Groups are numbers below that of
+/// all numbers.
 pub fn previous(alloc: Global, groups: &[u32]) -> Result<Vec<u32>, AllocError>
     requires few { (n : ℕ) → IfSome (link_at groups.now n) (λ g. g < length groups.now) }
     requires numbered { length groups.now < 2 ^ 32 }

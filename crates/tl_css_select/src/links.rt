@@ -42,7 +42,8 @@ fn source_mark(links: &[u32], marks: &[bool], often: bool, found: &[bool], numbe
     }
 }
 
-/// A mark for each number from which a link leads to a marked one; where `often`, one or more links.
+/// A mark for each number from which a link leads to a marked one; where `often`, one or more
+/// links.
 pub fn sources(
     alloc: Global,
     links: &[u32],
@@ -73,7 +74,8 @@ fn mark_target(found: &mut Vec<bool>, links: &[u32], marks: &[bool], often: bool
     }
 }
 
-/// A mark for each number to which a link leads from a marked one; where `often`, one or more links.
+/// A mark for each number to which a link leads from a marked one; where `often`, one or more
+/// links.
 pub fn targets(
     alloc: Global,
     links: &[u32],

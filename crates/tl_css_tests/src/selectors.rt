@@ -3,9 +3,9 @@ use std::alloc::{AllocError, Global};
 use tl_css::parse;
 use tl_css::selector::{Formula, Link, Op, Reach, Step, Test, Way};
 
-// A selector, and its steps. A test stands for itself; `&` puts one to what is there, `!` turns it, `+` puts two together, `|` joins
-// two; `<` and `>` are links from here and to here, with `p`, `s` or `t` for a parent, a sibling or a twin, and `1` or `*` for how
-// far; `#` counts along them.
+// A selector, and its steps. A test stands for itself; `&` puts one to what is there, `!` turns it,
+// `+` puts two together, `|` joins two; `<` and `>` are links from here and to here, with `p`, `s`
+// or `t` for a parent, a sibling or a twin, and `1` or `*` for how far; `#` counts along them.
 #[rattlefmt::skip]
 static READ: [(&str, &str); 88] = [
     // Simple selectors.

@@ -18,7 +18,8 @@ const LARGEST: u64 = 2147483647;
 
 // The number that digits say, if it is not too large.
 fn decimal(digits: &[u8]) -> Option<u32>
-    ensures { result ≡ (if nat_lt largest (decimal_number 0 digits.now) then None else Some (decimal_number 0 digits.now)) }
+    ensures { result ≡ (if nat_lt largest (decimal_number 0 digits.now) then None
+        else Some (decimal_number 0 digits.now)) }
 {
     let mut number = 0u64;
     let mut left = digits;

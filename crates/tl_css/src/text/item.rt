@@ -12,7 +12,8 @@ use crate::text::pseudo_class::{Simple, Whole, pseudo};
 use crate::text::role::{Before, Combinator, Role};
 use crate::text::run::{begins_name, name, past_run};
 
-/// A comma, the end of a list, or a simple selector with what stands before it and how many bytes are left from it on.
+/// A comma, the end of a list, or a simple selector with what stands before it and how many bytes
+/// are left from it on.
 #[derive(Clone, Copy)]
 pub enum Item<'a> {
     End,
@@ -132,7 +133,8 @@ fn part(spaced: bool, combinator: Option<Combinator>, s: &[u8]) -> Result<(Item<
     Ok((Item::Part(Before::After(combinator), s.len(), simple), rest))
 }
 
-/// The next item after a simple selector, in a list whose bracket was opened where so many bytes were left.
+/// The next item after a simple selector, in a list whose bracket was opened where so many bytes
+/// were left.
 pub fn next(role: Role, opened: usize, s: &[u8]) -> Result<(Item<'_>, &[u8]), Wrong>
     ensures { read_as item result ≡ next_at role opened s.now }
 {

@@ -71,7 +71,8 @@ impl Program {
 
     #[tactic(auto, using(crate::proofs::Waiting::meet_len))]
     pub fn meet(self) -> Result<Program, AllocError>
-        ensures { IfOk result (λ p. waiting_after p.steps.items ≡ meet (waiting_after self.steps.items)) }
+        ensures { IfOk result (λ p. waiting_after p.steps.items
+            ≡ meet (waiting_after self.steps.items)) }
     {
         let waiting = fewer(self.waiting);
         self.step(Step::Meet, waiting)
@@ -79,7 +80,8 @@ impl Program {
 
     #[tactic(auto, using(crate::proofs::Waiting::unite_len))]
     pub fn unite(self) -> Result<Program, AllocError>
-        ensures { IfOk result (λ p. waiting_after p.steps.items ≡ unite (waiting_after self.steps.items)) }
+        ensures { IfOk result (λ p. waiting_after p.steps.items
+            ≡ unite (waiting_after self.steps.items)) }
     {
         let waiting = fewer(self.waiting);
         self.step(Step::Unite, waiting)

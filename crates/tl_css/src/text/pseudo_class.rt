@@ -24,7 +24,8 @@ pub enum Whole<'a> {
     Nth(Way, Link, Formula),
 }
 
-/// A simple selector, up to a list in brackets: what that is for, and how many bytes are left from its bracket on.
+/// A simple selector, up to a list in brackets: what that is for, and how many bytes are left from
+/// its bracket on.
 #[derive(Clone, Copy)]
 pub enum Simple<'a> {
     Whole(Whole<'a>),
@@ -109,7 +110,8 @@ fn begins_argument(s: &[u8]) -> bool
 // A pseudo-class without an argument.
 fn without_argument<'a>(class: Whole<'a>, s: &'a [u8]) -> Result<(Simple<'a>, &'a [u8]), Wrong>
     ensures { read_as simple result
-        ≡ (if begins_argument s.now then wrong s.now Cause.TakesNone else Ok (p.Whole (whole class.entry), s.now)) }
+        ≡ (if begins_argument s.now then wrong s.now Cause.TakesNone
+        else Ok (p.Whole (whole class.entry), s.now)) }
 {
     if begins_argument(s) {
         return wrong(s, Cause::TakesNone);

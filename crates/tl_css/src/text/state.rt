@@ -35,7 +35,8 @@ pub struct Open {
     pub combinators: Vec<Combinator>,
 }
 
-/// What has been read: the selectors that wait to be put together, the list that is being read, and those around it.
+/// What has been read: the selectors that wait to be put together, the list that is being read, and
+/// those around it.
 #[derive(Drop)]
 pub struct State {
     pub program: Program,
@@ -80,7 +81,8 @@ fn decoded(alloc: Global, own: TestText<'_>) -> Result<Test, AllocError>
 // No link leads from here, or to here.
 fn edge(program: Program, way: Way, link: Link) -> Result<Program, AllocError>
     requires { length (waiting_after program.steps.items) < 60 }
-    ensures { IfOk result (λ q. waiting_after q.steps.items ≡ p.edge way link ∷ waiting_after program.steps.items) }
+    ensures { IfOk result (λ q. waiting_after q.steps.items ≡ p.edge way link
+        ∷ waiting_after program.steps.items) }
 {
     program
         .ask(Test::Any)?
@@ -90,7 +92,8 @@ fn edge(program: Program, way: Way, link: Link) -> Result<Program, AllocError>
 
 // The last one, put together with what is begun of its compound.
 fn compounded(program: Program, begun: bool) -> Result<Program, AllocError>
-    ensures { IfOk result (λ p. waiting_after p.steps.items ≡ compounded begun (waiting_after program.steps.items)) }
+    ensures { IfOk result (λ p. waiting_after p.steps.items
+        ≡ compounded begun (waiting_after program.steps.items)) }
 {
     if begun { program.meet() } else { Ok(program) }
 }
@@ -154,14 +157,16 @@ fn related(mut program: Program, combinators: &[Combinator]) -> Result<Program, 
 }
 
 fn listed(program: Program, more: bool) -> Result<Program, AllocError>
-    ensures { IfOk result (λ p. waiting_after p.steps.items ≡ listed more (waiting_after program.steps.items)) }
+    ensures { IfOk result (λ p. waiting_after p.steps.items
+        ≡ listed more (waiting_after program.steps.items)) }
 {
     if more { program.unite() } else { Ok(program) }
 }
 
 // What a list is made into.
 fn made(program: Program, role: Role) -> Result<Program, AllocError>
-    ensures { IfOk result (λ p. waiting_after p.steps.items ≡ made role (waiting_after program.steps.items)) }
+    ensures { IfOk result (λ p. waiting_after p.steps.items
+        ≡ made role (waiting_after program.steps.items)) }
 {
     match role {
         Role::Top | Role::Is | Role::Has => Ok(program),
@@ -283,7 +288,8 @@ impl State {
 
     // The end of a list whose last complex selector is ended.
     fn close(self) -> Result<Taken, AllocError>
-        ensures { IfOk result (λ t. v.taken t ≡ close (state self) (reverse (map open_list self.outer.items))) }
+        ensures { IfOk result (λ t. v.taken t
+            ≡ close (state self) (reverse (map open_list self.outer.items))) }
     {
         let State {
             program,
