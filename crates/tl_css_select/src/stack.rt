@@ -19,7 +19,8 @@ use tl_css::selector::{Formula, Link, Reach, Step, Test, Way};
 // One column more.
 #[tactic(auto, using(crate::proofs::Stacks::columns_push))]
 fn put(mut columns: Vec<Vec<bool>>, marks: Vec<bool>) -> Result<Vec<Vec<bool>>, AllocError>
-    ensures { IfOk result (λ after. columns_of after.items ≡ marks.items ∷ columns_of columns.items) }
+    ensures { IfOk result (λ after.
+        columns_of after.items ≡ marks.items ∷ columns_of columns.items) }
 {
     columns.push(marks)?;
     Ok(columns)
