@@ -8,7 +8,7 @@ pieces put in. What differs is said. Where it is a known fault of html5lib (`FAU
 Before, the tables of `crates/tl_names` are compared with the names of references that Python has: they have to be the same ones,
 each before those that it begins with.
 
-With --row it writes what it reads of a text, and the text's form, in the words of the worked rows of `crates/tl_html_spec`.
+Who changes a definition of `crates/tl_html_spec` changes html_tokenizer.py too. With --row it writes what it reads of a text, and the text's form, in the words of the worked rows of `crates/tl_html_spec`.
 
 Status: 0 where nothing differs, 1 where something does, 2 for words that aren't understood, 3 where html5lib isn't installed
 (Debian: python3-html5lib).

@@ -13,12 +13,8 @@ README.md, Try it:
 
   $ printf '<nav><a href="/x">y</a></nav>' | tl select -a href 'nav a'
   /x
-  $ printf '<div><p>x</p></div>' | tlq select 'div > p'
-  1
-  $ printf '<a>y</a>' | tlq edit 'set 0 href /x'
-  <a href="/x">y</a> (no-eol)
-  $ printf 'a<p>b<br>c</p><!-- d -->' | tlq text
-  abc (no-eol)
+  $ printf '<a>y</a>' | tl edit 'set 0 href /x y' 'name 0 b'
+  <b href="/x y">y</b> (no-eol)
 
 docs/COMMANDS.md, `tl`:
 
@@ -47,5 +43,11 @@ Safe pages:
 
 `tlq`:
 
+  $ printf '<a>y</a>' | tlq edit 'set 0 href /x'
+  <a href="/x">y</a> (no-eol)
+  $ printf 'a<p>b<br>c</p><!-- d -->' | tlq text
+  abc (no-eol)
   $ printf '<a><b></a></b>' | tlq print
   <a><b></b></a> (no-eol)
+  $ printf '<div><p>x</p></div>' | tlq select 'div > p'
+  1

@@ -1,12 +1,23 @@
-"""What the documents show: commands and their output, which transcripts have, and the README's example, which a crate has."""
+"""What the documents show and name: commands and their output, which transcripts have, code, which a source has, and paths, commands
+and names, which are there."""
 import glob
 import os
 import re
 
+from .commands import new
 from .transcripts import rows_of
+from . import readmes
 from .workspace import ROOT, text_of
 
 BY_HAND = "tests/by_hand.list"
+# The caller whose body the README shows.
+CALLER = "crates/uses/src/values.rt"
+# Paths begin with one of these, or with the name of a crate.
+TOP = {"crates", "docs", "tools", "tests", "include", "bindings", "compare", *os.listdir(f"{ROOT}/crates")}
+BUILT = {".git", "out", "target", "__pycache__"}
+SOURCES = (".rt", ".antt", ".py", ".h", ".t", ".txt", ".toml", ".rs", ".c")
+# Documents whose names are all of this repository.
+ON_CODE = {"README.md", "ARCHITECTURE.md", "CONTRIBUTING.md", "docs/CALLING.md", "docs/DECISIONS.md"}
 PLACES = ("*.md", "docs/*.md", "crates/*/*.md")
 # How a document calls a program that stands in a transcript by its name.
 CALLS = re.compile(r"\./x (?:try )?(?=(?:tlq|tl|uses)\b)")
@@ -69,10 +80,15 @@ def by_hand():
     return found
 
 
+def documents():
+    """The documents, by their paths."""
+    return sorted(os.path.relpath(it, ROOT) for part in PLACES for it in glob.glob(f"{ROOT}/{part}"))
+
+
 def faults():
     """What documents show and nothing runs, and what is listed and nothing shows."""
     runs, listed, met = transcript_rows(), by_hand(), set()
-    for path in sorted(os.path.relpath(it, ROOT) for part in PLACES for it in glob.glob(f"{ROOT}/{part}")):
+    for path in documents():
         for it in examples_in(path, text_of(f"{ROOT}/{path}")):
             key = path, it.command
             met.add(key if key in listed else it.key())
@@ -83,14 +99,66 @@ def faults():
             yield f"{BY_HAND}: {key[0]}: $ {key[1]}: the document doesn't show it"
         if not reason:
             yield f"{BY_HAND}: {key[0]}: $ {key[1]}: it has no reason"
-    example = re.search(r"(?ms)^```rust\n(.*?)^```$", text_of(f"{ROOT}/README.md"))
-    if not example or example[1] != text_of(f"{ROOT}/crates/uses/src/values.rt"):
-        yield "README.md: its first block of Rust isn't crates/uses/src/values.rt"
+    yield from code_faults()
+    yield from name_faults()
+
+
+def code_faults():
+    """The first blocks of Rust that no source has: the README's are lines of a body, that of CALLING what ./x new makes."""
+    for file, place, has in (
+        ("README.md", CALLER, lambda it: re.sub("(?m)^(?=.)", "    ", it) in text_of(f"{ROOT}/{CALLER}")),
+        ("docs/CALLING.md", "tools/commands/new.py", lambda it: it == new.SOURCE),
+    ):
+        block = re.search(r"(?ms)^```rust\n(.*?)^```$", text_of(f"{ROOT}/{file}"))
+        if not block or not has(block[1]):
+            yield f"{file}: its first block of Rust doesn't stand in {place}"
+
+
+def files_there():
+    """All files and folders, but for what was built."""
+    for folder, folders, names in os.walk(ROOT):
+        folders[:] = [it for it in folders if it not in BUILT]
+        yield from (os.path.relpath(f"{folder}/{it}", ROOT) for it in (*folders, *names))
+
+
+class Names:
+    """The paths that a document may name, and all words of the sources."""
+
+    def __init__(self):
+        there = set(files_there())
+        self.words = {os.path.basename(it).partition(".")[0] for it in there}
+        for it in there:
+            if it.endswith(SOURCES):
+                self.words.update(re.findall(r"\w+", text_of(f"{ROOT}/{it}")))
+        # A document may leave out `crates` in front, and the ending of a source.
+        self.paths = there | {re.sub(r"\.(rt|antt)$", "", it) for it in there}
+        self.paths |= {it.removeprefix("crates/") for it in self.paths}
+
+    def missing(self, code, is_on_code):
+        """What stands between backticks and is nowhere: a command of ./x, a path, and in a document on the code a name."""
+        command = re.match(r"\./x (?!help\b)([a-z]+)", code)
+        if command and not os.path.isfile(f"{ROOT}/tools/commands/{command[1]}.py"):
+            yield f"the command {command[1]}"
+        for it in re.findall(r"(?<![\w./-])[\w.]+(?:/[\w.-]+)+", code):
+            first, *others = it.split("/")
+            if first in TOP and "NAME" not in others and not BUILT.intersection(others) and it not in self.paths:
+                yield it
+        if is_on_code and re.fullmatch(r"[A-Za-z_][\w:]*", code):
+            yield from (it for it in code.split("::") if it and it not in self.words)
+
+
+def name_faults():
+    """What documents name that is nowhere; tools/readmes.py looks at those of crates."""
+    names = Names()
+    for document in documents():
+        lines = [] if document.startswith("crates/") else enumerate(text_of(f"{ROOT}/{document}").split("\n"), 1)
+        for number, code in ((number, it) for number, line in lines for it in re.findall(r"`([^`]+)`", line)):
+            yield from (f"{document}:{number}: `{code}`: {it} is nowhere" for it in names.missing(code, document in ON_CODE))
 
 
 def check():
     """Says what is wrong in the documents. Whether nothing is."""
-    found = list(faults())
+    found = [*faults(), *readmes.faults()]
     for it in found:
         print(f"runs: {it}")
     if not found:

@@ -27,7 +27,8 @@ def copy(crate, to):
         shutil.rmtree(f"{to}/{part}", ignore_errors=True)
         if os.path.isdir(f"{crate}/{part}"):
             shutil.copytree(f"{crate}/{part}", f"{to}/{part}")
-    shutil.copy(f"{ROOT}/LICENSE", to)
+    for it in (f"{crate}/README.md", f"{ROOT}/LICENSE"):
+        shutil.copy(it, to)
 
 
 def vendor(to, name="tl"):

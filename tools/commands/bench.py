@@ -9,6 +9,9 @@ it is asked for: the first node of a file may be no tag. What is timed is the pr
 built first unless --program names one. --against names another program of the same words, as that of `compare/`: both are run
 by turns, and its figures stand beside ours with the ratio of ours to its.
 
+The Rust crate's words are built by `cargo build --release` in compare, as compare/target/release/compare. Its print takes time
+with the square of the page on news and deep: above 1 MB leave `print` and `again` out (--works).
+
 Of each work there are two figures, the least of all rounds: what the program itself says that the work took (of `parse` the
 reading), and what the processor took for reading, work and drop together, which doesn't count what other programs do meanwhile.
 Growth is the nanoseconds a byte at a size over those at the size before it. Memory and page faults are of a run that reads once,

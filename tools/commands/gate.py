@@ -16,7 +16,19 @@
 It needs the toolchain and Python alone, and 8 GB of memory that is free. Where fewer than 18 GB are, `rt ci` runs one check of one
 job on each core, four at most and one for each 4 GB (RT_JOBS, which is kept where it is set).
 It says what each crate cost, in minutes of the processor, and which chain of crates was the longest; its last line after how
-many minutes each part had ended. CONTRIBUTING.md says how many there may be.
+many minutes each part had ended. It may take 60 minutes on 4 cores and 90 on 2, without other load. Each crate is proved from
+nothing once, and a second time with its tests if it has any; the mutants of must-fail of one crate are tried one after the other,
+the first of them at the cost of a proof of the crate. A check of one job takes 1 GB, of tl_program 2, of tl 3.
+
+Where it takes longer:
+- See which part grew, and which crate begins to try its must-fail edits last. A crate above some 15 of these or 100 functions is
+  cut in two, by the rule of docs/DECISIONS.md (Crates); a mutant that shows what another one shows, of one clause, goes.
+- A slow function: `rattle check --jobs 1 --incremental NEWDIR` (`rattle` is in the `bin` of the kit) in a crate's folder writes
+  one file for each module as it ends. What is live at each point costs most, so split it, or take its parts by reference. A clause
+  whose search is long gets its answer by hand, in one line.
+- Tests: rows in `static` tables, which no body builds, one loop, one helper that answers `bool` or a number; one function owns the
+  document, all others take references; no `?` inside an `assert!`.
+No clause is weakened and no row of a test is dropped for it.
 """
 import os
 import subprocess

@@ -1,29 +1,36 @@
-"""Lists the crates and their modules, each with the first line of what its source says of it.
+"""Lists the crates and their modules, each with the first sentence of what its source says of it.
 
     ./x map [NAME..]      of all crates, in the order of crates.txt, or of those that are named
-    ./x map --specs ..    their definitions too, by the first line of each file of specs
+    ./x map --specs ..    their definitions too
 """
+import itertools
 import re
 
 from ..workspace import Stop, Workspace, text_of
 
-HEADS = {".rt": re.compile(r"\A(?:\s*//! ?(.*))"), ".antt": re.compile(r"\A\s*-- ?(.*)")}
+MARKS = {".rt": "//!", ".antt": "--"}
 
 
 def module_of(path):
-    """A source's name among those of its crate, as `lib`, `parser/tag` or `specs/Lib`, and how its text begins."""
+    """A source's name among those of its crate, as `lib`, `parser/tag` or `specs/Lib`, and how the lines of its comments begin."""
     found = re.match(r"crates/\w+/(?:src/(.*)(\.rt)|(specs/.*)(\.antt))$", path)
-    return (found[1] or found[3], HEADS[found[2] or found[4]]) if found else None
+    return (found[1] or found[3], MARKS[found[2] or found[4]]) if found else None
 
 
-def first_lines(workspace, crate, with_specs):
-    """The modules of a crate, each with its first line."""
+def first_sentence(text, mark):
+    """The first sentence of the comment that a source begins with."""
+    lines = itertools.takewhile(lambda it: it.startswith(mark) and it != mark, text.lstrip().splitlines())
+    said = " ".join(it.removeprefix(mark).strip() for it in lines)
+    return re.match(r".*?(?:\.(?= [A-Z`])|$)", said)[0]
+
+
+def modules(workspace, crate, with_specs):
+    """The modules of a crate, each with its first sentence."""
     for path in workspace.files(crate):
         module = module_of(path)
         if module and (with_specs or not module[0].startswith("specs/")):
-            name, head = module
-            found = head.match(text_of(f"{workspace.root}/{path}"))
-            yield name, found[1] if found else ""
+            name, mark = module
+            yield name, first_sentence(text_of(f"{workspace.root}/{path}"), mark)
 
 
 def main(parser, words):
@@ -36,7 +43,7 @@ def main(parser, words):
             raise Stop(f"crates.txt has no line of {it}")
     for crate in given.names or workspace.libraries:
         print(f"{crate}: {workspace.notes[crate]}")
-        for name, line in first_lines(workspace, crate, given.specs):
-            print(f"    {name:<28}{line}".rstrip())
+        for name, sentence in modules(workspace, crate, given.specs):
+            print(f"    {name:<28} {sentence}".rstrip())
         print()
     return 0

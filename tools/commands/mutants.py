@@ -12,16 +12,21 @@ and the first alone is well:
 
     refused                      a goal of the changed function is left; of a mutant in no function, any goal. Of a wrong definition,
                                  a row that is false, or, which a line says, a lemma that fails
-    proved                       the contract lets it through
-    can't be read                it doesn't compile
-    refused by a name alone      a proof file names what the mutant took away, and nothing else is known
-    refused by an answer alone   an answer by hand doesn't fit, and without it the function is proved
-    not judged                   the prover asks for something else first, or could not tell
+    proved                       the contract lets it through: strengthen the contract, or where the body is right after all,
+                                 write another mutant
+    can't be read                it doesn't compile: mend it
+    refused by a name alone      a proof file names what the mutant took away, and nothing else is known: change a value and keep
+                                 the names, of variables, of conditions (goals and loops are named after them), of calls
+    refused by an answer alone   an answer by hand doesn't fit, and without it the function is proved: as `proved`
+    not judged                   the prover asks for something else first, as the measure of a loop, or could not tell: write
+                                 another mutant of the same meaning, of a plainer form
+    it doesn't fit               the text that it changes isn't there once: write the line as it stands now
 
 Answers that don't fit are left out, and the mutant is tried again: what is left then counts as refused, and a line says so where
-those answers name what the mutant took away.
+those answers name what the mutant took away; better change a value and keep the names there too. `rt must-fail` takes a refusal by
+a name or by an answer for one that shows something, so a mutant is tried here, with --all, before it is put into must-fail.
 What isn't refused is tried again, without those that are, before it is said. What the prover said stands in
-crates/NAME/out/mutants.log. CONTRIBUTING.md says what to do about each of them.
+crates/NAME/out/mutants.log. Before a release: --all. Where what tries mutants changed, or the toolchain: --test.
 """
 import os
 import tempfile

@@ -5,7 +5,8 @@
     ./x new --workspace DIR         a workspace in the folder DIR, which is not there or empty: `tl` and what it stands on, as
                                     ./x vendor copies them, and the program `page`, which prints a page again
 
-What is made compiles (`rt try`) and is proved (`rt check`) as it stands. What more a new crate here wants says docs/DECISIONS.md.
+What is made compiles (`rt try`) and is proved (`rt check`) as it stands. What more a new crate here wants say
+CONTRIBUTING.md, and docs/DECISIONS.md (Crates).
 """
 import os
 import re
@@ -33,6 +34,10 @@ fn main(rt: HostRuntime) -> Result<()> {
 """
 LIBRARY = """//! (What this crate is for.)
 #![tactic(auto)]
+"""
+README = """# `{name}`
+
+(What this crate gives, what is proved of it and by which clause, what is only tested.)
 """
 MAIN = """//! (What this program does.)
 #![tactic(auto)]
@@ -64,6 +69,7 @@ def make_crate(name, libraries, is_program):
         if it not in workspace.libraries and not os.path.isdir(f"{workspace.kit}/rlibs/{it}.rlib"):
             raise Stop(f"{it} is no library of crates.txt or of the kit")
     put(f"{workspace.folder(name)}/src/{'main' if is_program else 'lib'}.rt", MAIN if is_program else LIBRARY)
+    put(f"{workspace.folder(name)}/README.md", README.format(name=name))
     line = f"{name}: {' '.join(libraries)}".rstrip()
     put(f"{ROOT}/crates.txt", text_of(f"{ROOT}/crates.txt") + f"# (what it is for)\n{line}\n")
     print(f"new: crates/{name}, and its line at the end of crates.txt: what stands there in brackets is yours to say")

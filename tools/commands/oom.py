@@ -1,13 +1,14 @@
 """Refuses each request for memory in turn, of each call that takes memory or promises to take none.
 
-    ./x oom              compares with the table of docs/REFUSALS.md
+    ./x oom              compares with the table in crates/tl_oom/calls.tsv
     ./x oom --table      counts, and writes the table anew
     ./x oom --jobs N     so many runs side by side; else one on each core, four at most
 
-The calls are those of crates/tl_oom. The table says how many requests each call makes, and how many are made before it for
-what it needs. There is a run for each request, in which it alone is refused and the call has to answer that, and one more for
-each call that takes all it wants: so a call that makes one request more than the table says, or one less, is named. Then the
-requests for the words of the program `tlq` are refused too. What runs is built by `rt try`, and so not proved.
+The calls are those of crates/tl_oom, whose README says what has to hold once a request was refused. The table says how many
+requests each call makes, and how many are made before it for what it needs. There is a run for each request, in which it alone is
+refused and the call has to answer that, and one more for each call that takes all it wants: so a call that makes one request more
+than the table says, or one less, is named; where that is meant, --table counts anew. Then the requests for the words of the program
+`tlq` are refused too. What runs is built by `rt try`, and so not proved.
 """
 import re
 import tempfile
@@ -19,8 +20,9 @@ from ..workspace import ROOT, Stop, cores, put, text_of
 # The toolchain refuses the request of one number for each build, so always that of the same number is refused: the case of a
 # run says how many requests are made right before the call.
 REFUSED = 500
-TABLE = "docs/REFUSALS.md"
-HEAD = "| Number | Call | Requests before it | Its requests |"
+# The table: a line a call, its columns apart by tabs, below a line of their names.
+TABLE = "crates/tl_oom/calls.tsv"
+HEAD = "number\tcall\tbefore\trequests"
 # Each module of the crate has room for so many calls.
 CALLS = 32
 # Of the program the first request for its words, which is for the arguments, and the last one, which is for a list of one.
@@ -34,11 +36,14 @@ class Call:
         self.number, self.name, self.before, self.requests = int(number), name, int(before), int(requests)
 
     def row(self):
-        return f"| {self.number} | {self.name} | {self.before} | {self.requests} |"
+        return f"{self.number}\t{self.name}\t{self.before}\t{self.requests}"
 
 
 def calls():
-    return [Call(*it) for it in re.findall(r"(?m)^\| (\d+) \| (.*) \| (\d+) \| (\d+) \|$", text_of(f"{ROOT}/{TABLE}"))]
+    head, *rows = text_of(f"{ROOT}/{TABLE}").splitlines()
+    if head != HEAD or not rows:
+        raise Stop(f"{TABLE} has another first line than `{HEAD}`, or no call: --table writes it anew")
+    return [Call(*it.split("\t")) for it in rows]
 
 
 def cases_of(rows):
@@ -102,8 +107,7 @@ def tabulate(jobs):
             rows.append(Call(number, line.partition(" ")[2], REFUSED - 1 - before, before - whole))
     if wrong or not rows:
         raise Stop("\n".join(["the calls are not counted:", *wrong, *([] if rows else said.splitlines()[-5:])]))
-    document = text_of(f"{ROOT}/{TABLE}").partition(HEAD)[0]
-    put(f"{ROOT}/{TABLE}", document + "\n".join([HEAD, "|---|---|---|---|", *(it.row() for it in rows)]) + "\n")
+    put(f"{ROOT}/{TABLE}", "".join(f"{it}\n" for it in (HEAD, *(row.row() for row in rows))))
     print(f"oom: {count(len(rows), 'call')} are in the table")
 
 

@@ -3,7 +3,8 @@
     ./x release VERSION
 
 It has the programs, the library for C with its headers, the licence, the README, and a note that says what they were proved and
-built with. VERSION is that of the sources and of a heading of CHANGELOG.md, and what is packed is a commit. It is tried as it is
+built with. First the gate and ./x mutants --all have to pass. VERSION is that of the sources (`VERSION` of crates/tl_page) and of a
+heading of CHANGELOG.md, and what is packed is a commit, without times, owners and an order of files of its own. It is tried as it is
 packed; where root runs it, each program too where there is nothing but the C library. The same commit and the same kit give the
 same bytes. It takes strip and readelf (Debian: binutils).
 """

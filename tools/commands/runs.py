@@ -8,7 +8,8 @@ files, are run first.
 
 With no words it also looks whether each command that README.md, docs/*.md and other documents show after a `$` stands in a
 transcript with the output that is shown (`./x tlq` for `tlq`, `./x try NAME` for NAME), or in tests/by_hand.list, with the reason
-why nothing runs it; and whether the README's first block of Rust is crates/uses/src/values.rt.
+why nothing runs it; whether the code that documents show stands in a source; and whether the paths, commands and names between
+backticks are there. A new row of a document goes into tests/documents.t; --write fills in what is written.
 """
 import os
 import re

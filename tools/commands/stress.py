@@ -16,6 +16,7 @@ Five parts, each with a stack of 8 MB:
 A run at the larger size, or at a million, may take at most 2.5 times as much for each byte or part as at the smaller, or at a
 quarter, by the processor's clock; one on names that meet at most 3 times as much as one on as many others of their length. --list
 prints the figures of all runs. At most N run side by side. It takes some four minutes of processor time and 3 GB.
+A page that was once read wrongly or slowly gets a row in crates/tl_stress/src/pages.rt, or in tools/stress/pages.py.
 The programs are those that the gate builds, unless others are named; what isn't there yet is proved and built first.
 """
 import contextlib
