@@ -4,8 +4,8 @@ use tl::{ParserOptions, VDom};
 use tl_extract::{Field, count, first, links, select};
 use tl_page::{Failure, read};
 
-static PAGE: &str = "<p id=\"a\">x<b>y</b></p>\u{e9}<p>z<img src=\"i.png\" srcset=\"j.png
-    2x\"><a href=\"/q\"></a></p>";
+static PAGE: &str =
+    "<p id=\"a\">x<b>y</b></p>\u{e9}<p>z<img src=\"i.png\" srcset=\"j.png 2x\"><a href=\"/q\"></a></p>";
 
 struct Selected {
     selector: &'static str,
