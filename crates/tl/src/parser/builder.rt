@@ -29,7 +29,6 @@ use tl_lexer::names::is_void;
 use tl_lexer::span::Span;
 use tl_lexer::tag::TagEnd;
 use tl_lexer::token::{Token, next_token};
-use tl_room::arena::{Arena, blocks};
 use tl_table::handle::NodeHandle;
 use tl_tracking::ParserOptions;
 
@@ -64,8 +63,6 @@ pub(crate) struct TableBuilder<'a> {
     open_tags: Vec<NodeHandle>,
     top: Vec<NodeHandle>,
     is_html5: bool,
-    // Where the parts of the tags lie, from the first tag on.
-    arena: Option<Arena>,
     // An open tag is a node of the table.
     ghost in_table: { All (λ p. p < length nodes.items) open_tags.items },
 }
@@ -84,23 +81,7 @@ impl<'a> TableBuilder<'a> {
             open_tags: Vec::new(alloc),
             top: Vec::new(alloc),
             is_html5: false,
-            arena: None,
         })
-    }
-
-    // A handle of the arena of the tags.
-    #[inline(always)]
-    fn arena(&mut self, alloc: Global) -> Result<Arena, AllocError>
-        ensures state { state_of self.new ≡ state_of self.old }
-        ensures nodes { self.new.nodes ≡ self.old.nodes }
-    {
-        if let Some(arena) = &self.arena {
-            return arena.clone();
-        }
-        let arena = blocks(alloc)?;
-        let own = arena.clone()?;
-        self.arena = Some(arena);
-        Ok(own)
     }
 
     // The place of the innermost open tag in the table.
@@ -237,8 +218,7 @@ impl<'a> TableBuilder<'a> {
         ensures order { IfOk result (λ to. start < to) }
         ensures within { IfOk result (λ to. to ≤ length (S.text source.now)) }
     {
-        let arena = self.arena(alloc)?;
-        let (tag, end, to) = read_start_tag(alloc, arena, source, start, name, at)?;
+        let (tag, end, to) = read_start_tag(alloc, source, start, name, at)?;
         self.add_tag(tag, end)?;
         Ok(to)
     }
@@ -372,7 +352,6 @@ impl<'a> TableBuilder<'a> {
             open_tags: _,
             top,
             is_html5,
-            arena: _,
         } = self;
         let version = is_html5.then_some(HTMLVersion::HTML5);
         Parser::from_parts(

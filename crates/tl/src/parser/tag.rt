@@ -6,13 +6,12 @@ pub(crate) mod children_mut;
 pub(crate) mod node;
 mod range;
 
-use std::alloc::AllocError;
+use std::alloc::{AllocError, Global};
 use std::marker::Model;
 use tl_attributes::attributes::Attributes;
 use tl_attributes::summary::{Summary, SummaryOf};
 use tl_bytes::byte_string::Bytes;
 use tl_inline::inline::vec::InlineVec;
-use tl_room::arena::{Arena, blocks};
 use tl_table::handle::NodeHandle;
 
 /// The handles of a tag's children, the first two inline.
@@ -28,13 +27,13 @@ struct Parts<A, B> {
 }
 
 /// A tag of bytes of the type `B`, with attributes of the type `A`. What is asked of it most is at
-/// hand, and the rest lies in an arena, so that a table of nodes stays small.
+/// hand, and the rest lies on the heap, so that a table of nodes stays small.
 #[derive(Debug, Drop)]
 pub struct TagOf<A, B, O: SummaryOf<A>> {
     name: B,
     // What is known of the attributes without a look at them.
     summary: O,
-    parts: Box<Parts<A, B>, Arena>,
+    parts: Box<Parts<A, B>>,
 }
 
 /// A tag: its name, its attributes, the handles of its children, and where it stands in the text.
@@ -64,7 +63,7 @@ impl<A: Drop, B: Drop, O: SummaryOf<A>> TagOf<A, B, O> {
     // A tag without children, of whose attributes nothing is known but by a look at them.
     #[inline(always)]
     pub(crate) fn new(
-        arena: Arena,
+        alloc: Global,
         name: B,
         attributes: A,
         raw: B,
@@ -74,14 +73,14 @@ impl<A: Drop, B: Drop, O: SummaryOf<A>> TagOf<A, B, O> {
     {
         let parts = Parts {
             attributes,
-            children: InlineVec::new(arena.alloc()),
+            children: InlineVec::new(alloc),
             raw,
             start,
         };
         Ok(TagOf {
             name,
             summary: O::unknown(),
-            parts: Box::new(arena, parts)?,
+            parts: Box::new(alloc, parts)?,
         })
     }
 
@@ -209,12 +208,12 @@ fn clone_lists<'a>(
 }
 
 impl<'a> HTMLTag<'a> {
-    /// A tag with the same parts, each held alike, in an arena of its own.
+    /// A tag with the same parts, each held alike.
     pub fn clone(&self) -> Result<HTMLTag<'a>, AllocError>
         ensures { IfOk result (λ t. t ≡ self.now) }
     {
         let parts = &*self.parts;
-        let arena = blocks(Box::allocator(&self.parts).alloc())?;
+        let alloc = *Box::allocator(&self.parts);
         let (name, raw) = clone_texts(&self.name, &parts.raw)?;
         let (attributes, children) = clone_lists(&parts.attributes, &parts.children)?;
         let summary = Summary::from_attributes(&attributes);
@@ -227,7 +226,7 @@ impl<'a> HTMLTag<'a> {
         Ok(TagOf {
             name,
             summary,
-            parts: Box::new(arena, copy)?,
+            parts: Box::new(alloc, copy)?,
         })
     }
 }
