@@ -35,7 +35,7 @@ impl Feed {
     }
 
     #[inline(always)]
-    fn put(&mut self, byte: u8)
+    fn push(&mut self, byte: u8)
         ensures { self.new ≡ with_byte self.old byte }
     {
         if self.last.is_full() {
@@ -109,7 +109,7 @@ impl Hasher for Feed {
     #[inline(always)]
     fn write(&mut self, bytes: &[u8]) {
         for byte in bytes {
-            self.put(*byte);
+            self.push(*byte);
         }
     }
 }
