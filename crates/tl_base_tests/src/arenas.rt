@@ -3,22 +3,23 @@ use bumpalo::Bump;
 use linked_list_allocator::LocalHeap;
 use std::alloc::{AllocError, Global};
 use std::test::Fail;
-use tl_room::arena::{Arena, blocks};
+use tl_room::arena::{Arena, Block};
 use tl_room::shared::Shared;
 use tl_room::slot::Slot;
 
-// An arena whose blocks come from a heap that counts what is out.
-type Counted<'h> = Shared<Bump<&'h LocalHeap>>;
+// A block of a heap that counts what is out.
+type Counted<'h> = Block<&'h LocalHeap>;
 
-// So many boxes in the arena, each with its number.
+// So many boxes in an arena, each with its number.
 fn boxes<'h>(
     alloc: Global,
-    arena: &Counted<'h>,
+    heap: &'h LocalHeap,
     many: u64,
 ) -> Result<Vec<Box<u64, Counted<'h>>>, AllocError> {
+    let mut arena = Arena::new(alloc, heap);
     let mut made = Vec::new(alloc);
     for number in 0..many {
-        made.push(Box::new(arena.clone()?, number)?)?;
+        made.push(arena.allocate(number)?)?;
     }
     Ok(made)
 }
@@ -38,17 +39,55 @@ fn are_numbered(boxes: &mut [Box<u64, Counted<'_>>]) -> bool {
 }
 
 #[test]
-fn blocks_go_back_with_the_last_value(rt: HostRuntime) -> Result<(), Fail> {
+fn a_block_goes_back_with_its_last_value(rt: HostRuntime) -> Result<(), Fail> {
     let heap = LocalHeap::new(rt.alloc(), 1 << 16)?;
-    let arena = Shared::new(rt.alloc(), Bump::new(&heap))?;
-    assert_eq!(rt; heap.used(), 0);
-    let mut made = boxes(rt.alloc(), &arena, 300)?;
+    let mut made = boxes(rt.alloc(), &heap, 300)?;
     assert!(rt; are_numbered(&mut made));
-    drop(arena);
+    let all = heap.used();
     made.truncate(1);
-    assert!(rt; 0 < heap.used());
+    let one = heap.used();
+    assert!(rt; 0 < one && one < all);
     drop(made);
     assert_eq!(rt; heap.used(), 0);
+    Ok(())
+}
+
+// How many values an arena over the heap takes before it is refused a block.
+fn values_until_refused(alloc: Global, heap: &LocalHeap) -> Result<usize, AllocError> {
+    let mut arena = Arena::new(alloc, heap);
+    let mut made = Vec::with_capacity(alloc, 1000)?;
+    for number in 0..1000u64 {
+        let Ok(value) = arena.allocate(number) else {
+            break;
+        };
+        made.push(value)?;
+    }
+    Ok(made.len())
+}
+
+#[test]
+fn a_refused_block_is_not_asked_for_again(rt: HostRuntime) -> Result<(), Fail> {
+    // Blocks of 496 and 1008 bytes fit, which hold 55 and 119 values, and none of 2032. Another of
+    // 496 would.
+    let heap = LocalHeap::new(rt.alloc(), 1 << 11)?;
+    assert_eq!(rt; values_until_refused(rt.alloc(), &heap)?, 55 + 119);
+    let first = Box::new(&heap, [0u8; 496])?;
+    let second = Box::new(&heap, [0u8; 1008])?;
+    assert!(rt; Box::new(&heap, [0u8; 496]).is_ok());
+    drop(first);
+    drop(second);
+    Ok(())
+}
+
+#[test]
+fn a_block_does_not_grow(rt: HostRuntime) -> Result<(), Fail> {
+    let heap = LocalHeap::new(rt.alloc(), 1 << 16)?;
+    let value = Arena::new(rt.alloc(), &heap).allocate(7u64)?;
+    let used = heap.used();
+    let block = Box::allocator(&value);
+    assert!(rt; Box::new(block.clone()?, [0u8; 400]).is_ok());
+    assert!(rt; Box::new(block.clone()?, [0u8; 448]).is_err());
+    assert_eq!(rt; heap.used(), used);
     Ok(())
 }
 
@@ -90,9 +129,9 @@ fn a_slot_drops_its_value(rt: HostRuntime) -> Result<(), Fail> {
 
 #[test]
 fn handles_outlive_each_other(rt: HostRuntime) -> Result<(), Fail> {
-    let arena: Arena = blocks(rt.alloc())?;
-    let other = arena.clone()?;
-    drop(arena);
+    let first = Shared::new(rt.alloc(), rt.alloc())?;
+    let other = first.clone()?;
+    drop(first);
     let value = Box::new(other, 7u64)?;
     assert_eq!(rt; *value, 7);
     Ok(())

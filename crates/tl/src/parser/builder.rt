@@ -29,6 +29,7 @@ use tl_lexer::names::is_void;
 use tl_lexer::span::Span;
 use tl_lexer::tag::TagEnd;
 use tl_lexer::token::{Token, next_token};
+use tl_room::arena::Arena;
 use tl_table::handle::NodeHandle;
 use tl_tracking::ParserOptions;
 
@@ -63,6 +64,8 @@ pub(crate) struct TableBuilder<'a> {
     open_tags: Vec<NodeHandle>,
     top: Vec<NodeHandle>,
     is_html5: bool,
+    // Where the parts of the tags lie.
+    arena: Arena,
     // An open tag is a node of the table.
     ghost in_table: { All (λ p. p < length nodes.items) open_tags.items },
 }
@@ -81,6 +84,7 @@ impl<'a> TableBuilder<'a> {
             open_tags: Vec::new(alloc),
             top: Vec::new(alloc),
             is_html5: false,
+            arena: Arena::new(alloc, alloc),
         })
     }
 
@@ -218,7 +222,7 @@ impl<'a> TableBuilder<'a> {
         ensures order { IfOk result (λ to. start < to) }
         ensures within { IfOk result (λ to. to ≤ length (S.text source.now)) }
     {
-        let (tag, end, to) = read_start_tag(alloc, source, start, name, at)?;
+        let (tag, end, to) = read_start_tag(alloc, &mut self.arena, source, start, name, at)?;
         self.add_tag(tag, end)?;
         Ok(to)
     }
@@ -352,6 +356,7 @@ impl<'a> TableBuilder<'a> {
             open_tags: _,
             top,
             is_html5,
+            arena: _,
         } = self;
         let version = is_html5.then_some(HTMLVersion::HTML5);
         Parser::from_parts(

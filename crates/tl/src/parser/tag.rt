@@ -12,6 +12,7 @@ use tl_attributes::attributes::Attributes;
 use tl_attributes::summary::{Summary, SummaryOf};
 use tl_bytes::byte_string::Bytes;
 use tl_inline::inline::vec::InlineVec;
+use tl_room::arena::{Arena, Block};
 use tl_table::handle::NodeHandle;
 
 /// The handles of a tag's children, the first two inline.
@@ -27,13 +28,13 @@ struct Parts<A, B> {
 }
 
 /// A tag of bytes of the type `B`, with attributes of the type `A`. What is asked of it most is at
-/// hand, and the rest lies on the heap, so that a table of nodes stays small.
+/// hand, and the rest lies in a block of an arena, so that a table of nodes stays small.
 #[derive(Debug, Drop)]
 pub struct TagOf<A, B, O: SummaryOf<A>> {
     name: B,
     // What is known of the attributes without a look at them.
     summary: O,
-    parts: Box<Parts<A, B>>,
+    parts: Box<Parts<A, B>, Block>,
 }
 
 /// A tag: its name, its attributes, the handles of its children, and where it stands in the text.
@@ -64,6 +65,7 @@ impl<A: Drop, B: Drop, O: SummaryOf<A>> TagOf<A, B, O> {
     #[inline(always)]
     pub(crate) fn new(
         alloc: Global,
+        arena: &mut Arena,
         name: B,
         attributes: A,
         raw: B,
@@ -80,7 +82,7 @@ impl<A: Drop, B: Drop, O: SummaryOf<A>> TagOf<A, B, O> {
         Ok(TagOf {
             name,
             summary: O::unknown(),
-            parts: Box::new(alloc, parts)?,
+            parts: arena.allocate(parts)?,
         })
     }
 
@@ -208,12 +210,12 @@ fn clone_lists<'a>(
 }
 
 impl<'a> HTMLTag<'a> {
-    /// A tag with the same parts, each held alike.
+    /// A tag with the same parts, each held alike, in a block of its own.
     pub fn clone(&self) -> Result<HTMLTag<'a>, AllocError>
         ensures { IfOk result (λ t. t ≡ self.now) }
     {
         let parts = &*self.parts;
-        let alloc = *Box::allocator(&self.parts);
+        let alloc = Box::allocator(&self.parts).alloc();
         let (name, raw) = clone_texts(&self.name, &parts.raw)?;
         let (attributes, children) = clone_lists(&parts.attributes, &parts.children)?;
         let summary = Summary::from_attributes(&attributes);
@@ -226,7 +228,7 @@ impl<'a> HTMLTag<'a> {
         Ok(TagOf {
             name,
             summary,
-            parts: Box::new(alloc, copy)?,
+            parts: Arena::new(alloc, alloc).allocate(copy)?,
         })
     }
 }

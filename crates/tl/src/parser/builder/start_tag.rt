@@ -18,6 +18,7 @@ use tl_attributes::attributes::AttributesOf;
 use tl_bytes::byte_string::Bytes;
 use tl_lexer::span::Span;
 use tl_lexer::tag::{TagEnd, tag_end};
+use tl_room::arena::Arena;
 
 // Reads the attributes from a place on into a tag without any, and answers the place that ends
 // them.
@@ -47,8 +48,10 @@ fn read_into<'a, S: Source<'a>>(
 
 /// Reads a start tag of this name that begins at `start` and whose attributes stand from `at` on:
 /// its tag, how it ends, and the place after it. Nothing comes of the tag where the end is broken.
+/// Its parts lie in the arena.
 pub(crate) fn read_start_tag<'a, S: Source<'a>>(
     alloc: Global,
+    arena: &mut Arena,
     source: &S,
     start: usize,
     name: Span,
@@ -73,6 +76,7 @@ pub(crate) fn read_start_tag<'a, S: Source<'a>>(
     let name = source.piece(alloc, name)?;
     let mut tag: HTMLTag<'a> = TagOf::new(
         alloc,
+        arena,
         name,
         AttributesOf::new(alloc),
         Bytes::new(),
