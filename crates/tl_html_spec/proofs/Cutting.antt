@@ -12,14 +12,14 @@ pub none_or_some : {A : Type 0} (o : Option A) → (o ≡ None) ⊎ ((x : A) × 
 none_or_some None = inl refl
 none_or_some (Some x) = inr (x, refl)
 
-bytes_joined : (s : State) (r : Reader) (bs : List ℕ) (ts : List HtmlToken) (text : List ℕ) → bytes_of (pieces_from s r bs ts text) ≡ bs ++ text
+pub bytes_joined : (s : State) (r : Reader) (bs : List ℕ) (ts : List HtmlToken) (text : List ℕ) → bytes_of (pieces_from s r bs ts text) ≡ bs ++ text
 bytes_joined s r bs ts [] = refl
 bytes_joined s r bs ts (b ∷ text) = elim (none_or_some (rest_before r b)) [
   | inl e ↦ rw (e, pieces_from) (bytes_joined s (next r b) (bs ++ b ∷ []) (ts ++ emitted r (b ∷ [])) text ∙ append_assoc bs (b ∷ []) text)
   | inr p ↦ rw (p.1, pieces_from) (ap (λ t. bs ++ t) (bytes_joined (p.0).state (next (at (p.0).state) b) (b ∷ []) (emitted (at (p.0).state) (b ∷ [])) text))
 ]
 
-tokens_joined : (s : State) (r : Reader) (bs : List ℕ) (ts : List HtmlToken) (text : List ℕ) → tokens_in (pieces_from s r bs ts text) ≡ ts ++ tokens_of r text
+pub tokens_joined : (s : State) (r : Reader) (bs : List ℕ) (ts : List HtmlToken) (text : List ℕ) → tokens_in (pieces_from s r bs ts text) ≡ ts ++ tokens_of r text
 tokens_joined s r bs ts [] = append-nil (ts ++ at_end r.state)
 tokens_joined s r bs ts (b ∷ text) = elim (none_or_some (rest_before r b)) [
   | inl e ↦ rw (e, pieces_from) (

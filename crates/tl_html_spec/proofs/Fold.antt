@@ -27,11 +27,11 @@ replaced r x y c e = tokens_append r y c ∙ ap (λ s. emitted r y ++ tokens_of 
 -- the reader over raw bytes is the tokenizer after line ends were made line feeds
 
 -- after a carriage return, without a line feed
-abbrev without_feed : Bool → List ℕ → List ℕ
+abbrev pub without_feed : Bool → List ℕ → List ℕ
 without_feed v [] = []
 without_feed v (c ∷ text) = if v && (c == 10) then text else c ∷ text
 
-all_stays : (text : List ℕ) → without_feed false text ≡ text
+pub all_stays : (text : List ℕ) → without_feed false text ≡ text
 all_stays [] = refl
 all_stays (c ∷ text) = refl
 
@@ -39,7 +39,7 @@ feed_first : (text : List ℕ) → with_feeds (10 ∷ text) ≡ 10 ∷ with_feed
 feed_first [] = refl
 feed_first (c ∷ text) = refl
 
-feeds_cons : (b : ℕ) (text : List ℕ) → with_feeds (b ∷ text) ≡ feed b ∷ with_feeds (without_feed (b == 13) text)
+pub feeds_cons : (b : ℕ) (text : List ℕ) → with_feeds (b ∷ text) ≡ feed b ∷ with_feeds (without_feed (b == 13) text)
 feeds_cons b [] = refl
 feeds_cons b (c ∷ text) = elim (cases_Bool ((b == 13) && (c == 10))) [
   | inl y ↦ (
@@ -56,7 +56,7 @@ feeds_cons b (c ∷ text) = elim (cases_Bool ((b == 13) && (c == 10))) [
 abbrev reading : Bool → State → Bool → ℕ → List ℕ → List HtmlToken
 reading passed s v b text = (byte_step passed s b).emits ++ tokens_of (record { state = (byte_step passed s b).next; after_return = v }) text
 
-feeds_read : (v : Bool) (s : State) (text : List ℕ) → tokens_of (record { state = s; after_return = v }) text ≡ tokens_from s (with_feeds (without_feed v text))
+pub feeds_read : (v : Bool) (s : State) (text : List ℕ) → tokens_of (record { state = s; after_return = v }) text ≡ tokens_from s (with_feeds (without_feed v text))
 unfolding read
 feeds_read v s [] = refl
 feeds_read v s (b ∷ text) = elim (cases_Bool (v && (b == 10))) [

@@ -23,3 +23,4 @@ pub mod Places
 pub mod Nesting
 pub mod Longest
 pub mod FormNesting
+pub mod Seams

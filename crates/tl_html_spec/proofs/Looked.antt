@@ -70,7 +70,7 @@ left-same : (n x t r : List ℕ) → begins_with goes_on t ≡ begins_with goes_
 left-same n [] t r e = ap (λ (b : Bool). not (ends_with_semicolon n) && b) e
 left-same n (b ∷ x) t r e = refl
 
-letters-alike : (w t r : List ℕ) → begins_with is_name_byte t ≡ false → begins_with is_name_byte r ≡ false → begins_with goes_on t ≡ begins_with goes_on r → Alike w t r
+pub letters-alike : (w t r : List ℕ) → begins_with is_name_byte t ≡ false → begins_with is_name_byte r ≡ false → begins_with goes_on t ≡ begins_with goes_on r → Alike w t r
 letters-alike w t r x y e = record {
   same = λ n h. letters-same w n t r h x y;
   within = λ n h stands.

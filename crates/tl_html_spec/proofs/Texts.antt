@@ -1,15 +1,16 @@
 -- Texts, and values between double quotes, as the tokenizer reads them.
 use Rattle.std.proofs.Common.{◌≡◌, ℕ, Bool, true, false, ◌||◌, ◌==◌, List, [], ◌∷◌, ◌++◌, map, refl, ap, sym, ◌∙◌, append-nil, if◌then◌else◌}
 use Rattle.std.specs.List.{list_all}
+use Rattle.std.proofs.lemmas.Bool.{or_parts}
 use Rattle.std.proofs.lemmas.List.{map-append}
 use Rattle.tl_html_spec.specs.HtmlTokenizer.{Character, OpenTag, after_attribute_value, character_reference, char_of, data_state, double_quoted, emitting, tag_open, to, tokens_from, with_attribute}
 use Rattle.tl_html_spec.specs.Unescaped.{is_in_text, is_in_value, unescaped_text, unescaped_value}
-use Rattle.tl_html_spec.proofs.Resolved.{IsEnd, Reading, read}
+use Rattle.tl_html_spec.proofs.Resolved.{IsEnd, Reading, Rest, read}
 
 abbrev less_than : ℕ → Bool
 less_than b = b == 60
 
-abbrev quote_or_nul : ℕ → Bool
+abbrev pub quote_or_nul : ℕ → Bool
 quote_or_nul b = (b == 34) || (b == 0)
 
 in-text : Reading false less_than
@@ -32,11 +33,7 @@ in-text = record {
     rests b false true = refl
     rests b false false = refl
 
-or_parts : (a b : Bool) → (a || b) ≡ false → (a ≡ false) × (b ≡ false)
-or_parts true b e = cc
-or_parts false b e = (refl, e)
-
-in-value : (tag : OpenTag) (key : List ℕ) → Reading true quote_or_nul
+unfoldable pub in-value : (tag : OpenTag) (key : List ℕ) → Reading true quote_or_nul
 in-value tag key = record {
   at = λ d. double_quoted tag key d;
   out = λ d. [];
@@ -59,11 +56,16 @@ in-value tag key = record {
     rests d b false true = refl
     rests d b false false = refl
 
-less_than-IsEnd : IsEnd 60
+pub less_than-IsEnd : IsEnd 60
 less_than-IsEnd = record { alphanumeric = refl; hexdigit = refl; digit = refl; semicolon = refl; number_sign = refl; equals = refl; x = refl }
 
-quote-IsEnd : IsEnd 34
+pub quote-IsEnd : IsEnd 34
 quote-IsEnd = record { alphanumeric = refl; hexdigit = refl; digit = refl; semicolon = refl; number_sign = refl; equals = refl; x = refl }
+
+-- a text up to a byte that ends each reference, or the end
+pub text_before : (t r : List ℕ) → list_all is_in_text t ≡ true → Rest r → tokens_from data_state (t ++ r) ≡ map Character (unescaped_text t) ++ tokens_from data_state r
+unfolding in-text
+text_before t r h e = read false less_than in-text r e [] t h
 
 -- a text up to the end, or to a `<`
 pub text_end_read : (t : List ℕ) → list_all is_in_text t ≡ true → tokens_from data_state t ≡ map Character (unescaped_text t)

@@ -106,6 +106,15 @@ pub fn references_are_resolved()
         (with_attribute tag key (unescaped_value value))) rest }
 {}
 
+/// Where a text is cut before a `<` or U+FFFD, each part says its characters by itself.
+#[tactic(auto, using(crate::proofs::Seams::less_than_cut, crate::proofs::Seams::replacement_cut))]
+pub fn texts_are_cut()
+    ensures less_than { (text rest : List ℕ) →
+        unescaped_text (text ++ 60 ∷ rest) ≡ unescaped_text text ++ 60 ∷ unescaped_text rest }
+    ensures replacement { (text rest : List ℕ) →
+        unescaped_text (text ++ 0xEF ∷ rest) ≡ unescaped_text text ++ 0xEF ∷ unescaped_text rest }
+{}
+
 /// What is escaped is read back, whatever follows it.
 #[tactic(auto, using(crate::proofs::Escapes::text_back, crate::proofs::Escapes::value_back))]
 pub fn escapes_are_read_back()

@@ -30,6 +30,12 @@ all_before test [] (suc k) h fails = absurd (omega arith)
 all_before test (b ∷ s) (suc k) h fails =
     and_from (not (test b)) (list_all (λ c. not (test c)) (take k s)) (ap not (fails 0 (omega arith))) (all_before test s k (omega arith) (λ j l. fails (suc j) (omega arith)))
 
+-- all bytes fail a test that none of them passes
+pub all_fail : (test : ℕ → Bool) (s : List ℕ) → IsFirstByte test s None → list_all (λ b. not (test b)) s ≡ true
+all_fail test s none =
+    sym (ap (list_all (λ b. not (test b))) (take_all (length s) s (le_refl (length s))))
+    ∙ all_before test s (length s) (le_refl (length s)) (λ j l. fails_not (test (get_or s j 0)) (none j (omega arith) l))
+
 -- escapes
 
 text_plain : (b : ℕ) → is_byte2 38 60 b ≡ false → text_escape b ≡ b ∷ []
@@ -97,6 +103,4 @@ reference_found v o s k found =
 
 pub reference_none : (v : Bool) (s : List ℕ) → IsFirstByte (is_byte 38) s None → unescaped v s ≡ s
 reference_none v s none =
-    let all = all_before (is_byte 38) s (length s) (le_refl (length s)) (λ j l. fails_not (is_byte 38 (get_or s j 0)) (none j (omega arith) l)) in
-    let whole : list_all is_plain s ≡ true = sym (ap (list_all is_plain) (take_all (length s) s (le_refl (length s)))) ∙ all in
-    ap (unescaped v) (sym (append-nil s)) ∙ bytes-plain v s [] whole ∙ append-nil s
+    ap (unescaped v) (sym (append-nil s)) ∙ bytes-plain v s [] (all_fail (is_byte 38) s none) ∙ append-nil s

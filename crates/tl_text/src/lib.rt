@@ -10,5 +10,5 @@ mod reference;
 mod split;
 mod unescape;
 
-pub use escape::{escape_text, escape_value};
+pub use escape::{escape_text, escape_value, write_escaped_text, write_escaped_value};
 pub use unescape::{unescape_text, unescape_value};

@@ -1,7 +1,8 @@
 use Rattle.std.proofs.Common.{◌≡◌, ◌++◌, ℕ, ◌+◌, List, drop, take, get_or, ap, ap₂, sym, ◌∙◌}
 use Rattle.tl_html_spec.specs.Escapes.{escaped_value, value_escape}
+use Rattle.std.proofs.lemmas.Result.{IfOk-equal}
 use Rattle.tl_text.proofs.Plain.{value_found, value_none}
-use Rattle.tl_text.proofs.escape.escape_value.Goals as goal
+use Rattle.tl_text.proofs.escape.write_escaped_value.Goals as goal
 
 pub loop-at-preserved : goal.loop-at-preserved
 loop-at-preserved c =
@@ -16,4 +17,5 @@ loop-at-preserved c =
 pub returns : goal.returns
 returns c =
     let o : List ℕ = c.loop-at.out.items in
-    c.in_ok-write_bytes-2.ensures ∙ ap (λ x. o ++ x) (sym (value_none c.loop-at.rest.now c.in_default.ensures)) ∙ sym c.loop-at.invariant
+    let last : escaped_value c.loop-at.rest.now ≡ c.loop-at.rest.now = value_none c.loop-at.rest.now c.in_default.ensures in
+    IfOk-equal c.write_bytes-2.result _ _ _ c.write_bytes-2.ensures (ap (λ x. o ++ x) (sym last) ∙ sym c.loop-at.invariant)
