@@ -1,6 +1,6 @@
 //! Pages, and where each of their tokens ends and what it is.
 use std::alloc::AllocError;
-use tl_html::{Token, TokenKind, tokens};
+use tl_html_tokens::{Token, TokenKind, tokens};
 
 // A page, the kinds of its tokens by their letters, and where they end.
 #[rattlefmt::skip]

@@ -1,0 +1,5 @@
+pub mod Runs
+pub mod Values
+pub mod Attributes
+pub mod Splits
+pub mod Tags

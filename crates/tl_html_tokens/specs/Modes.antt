@@ -1,0 +1,51 @@
+-- The states of rest, as the code has them.
+use Rattle.std.specs.Prelude.{ℕ, List, [], codes, if◌then◌else◌}
+use Rattle.std.specs.Str.{str_eq_ignore_ascii_case}
+use Rattle.tl_html_spec.specs.HtmlTokenizer.{State, data_state, plaintext, raw, rawtext, rcdata, script_data, script_data_escaped, script_data_escaped_dash, script_data_escaped_dash_dash}
+use Rattle.tl_html_tokens.specs.declared.mode.Mode.{Mode}
+use Rattle.tl_html_tokens.specs.declared.mode.Mode.TheVariants.{Data, Title, Textarea, Style, Xmp, Iframe, Noembed, Noframes, Script, ScriptEscaped, ScriptEscapedDash, ScriptEscapedDashDash, Plaintext}
+
+abbrev pub state_of : Mode → State
+state_of Data = data_state
+state_of Title = raw (rcdata (codes "title"))
+state_of Textarea = raw (rcdata (codes "textarea"))
+state_of Style = raw (rawtext (codes "style"))
+state_of Xmp = raw (rawtext (codes "xmp"))
+state_of Iframe = raw (rawtext (codes "iframe"))
+state_of Noembed = raw (rawtext (codes "noembed"))
+state_of Noframes = raw (rawtext (codes "noframes"))
+state_of Script = raw script_data
+state_of ScriptEscaped = raw script_data_escaped
+state_of ScriptEscapedDash = raw script_data_escaped_dash
+state_of ScriptEscapedDashDash = raw script_data_escaped_dash_dash
+state_of Plaintext = plaintext
+
+-- after a start tag of this name, in any case
+abbrev pub mode_after : List ℕ → Mode
+mode_after name =
+    if str_eq_ignore_ascii_case name (codes "title") then Title
+    else if str_eq_ignore_ascii_case name (codes "textarea") then Textarea
+    else if str_eq_ignore_ascii_case name (codes "style") then Style
+    else if str_eq_ignore_ascii_case name (codes "xmp") then Xmp
+    else if str_eq_ignore_ascii_case name (codes "iframe") then Iframe
+    else if str_eq_ignore_ascii_case name (codes "noembed") then Noembed
+    else if str_eq_ignore_ascii_case name (codes "noframes") then Noframes
+    else if str_eq_ignore_ascii_case name (codes "script") then Script
+    else if str_eq_ignore_ascii_case name (codes "plaintext") then Plaintext
+    else Data
+
+-- the name of the end tag that ends such a text
+abbrev pub own_name : Mode → List ℕ
+own_name Data = []
+own_name Title = codes "title"
+own_name Textarea = codes "textarea"
+own_name Style = codes "style"
+own_name Xmp = codes "xmp"
+own_name Iframe = codes "iframe"
+own_name Noembed = codes "noembed"
+own_name Noframes = codes "noframes"
+own_name Script = codes "script"
+own_name ScriptEscaped = codes "script"
+own_name ScriptEscapedDash = codes "script"
+own_name ScriptEscapedDashDash = codes "script"
+own_name Plaintext = []
