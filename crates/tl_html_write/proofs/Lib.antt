@@ -1,0 +1,5 @@
+pub mod KeySets
+pub mod Names
+pub mod Repeats
+pub mod Texts
+pub mod Values

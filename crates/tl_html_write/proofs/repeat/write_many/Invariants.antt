@@ -1,0 +1,10 @@
+use Rattle.std.proofs.Common.{◌≡◌, ◌++◌, take}
+use Rattle.tl_html_write.specs.Attributes.{attributes_in, written_attributes}
+use Rattle.tl_html_write.proofs.KeySets.{KnowsKeys}
+use Rattle.tl_html_write.proofs.repeat.write_many.Given as goal
+
+abbrev pub invariant-loop-at : goal.invariant-loop-at
+invariant-loop-at l = record {
+  written : l.out.items ≡ l.fn.out.items ++ written_attributes (attributes_in (take l.at l.attributes));
+  keys : KnowsKeys l.keys (attributes_in (take l.at l.attributes));
+}
