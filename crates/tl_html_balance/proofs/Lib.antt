@@ -1,0 +1,9 @@
+pub mod Letters
+pub mod Agreed
+pub mod Tests
+pub mod Nested
+pub mod Opened
+pub mod Depths
+pub mod Totals
+pub mod Rules
+pub mod Tokens
