@@ -1,0 +1,5 @@
+pub mod Growing
+pub mod Plain
+pub mod Tags
+pub mod Whole
+pub mod Grown

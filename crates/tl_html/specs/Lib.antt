@@ -1,0 +1,4 @@
+pub mod Written
+pub mod Forms
+pub mod Parts
+pub mod Opened
