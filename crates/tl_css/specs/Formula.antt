@@ -42,8 +42,8 @@ begins_keyword word s =
     str_eq_ignore_ascii_case (take (length word) s) word && not (begins_name (drop (length word) s))
 
 -- a formula ends where no name goes on
-abbrev pub ended : ℤ → ℤ → List ℕ → Read Formula
-ended a b s = if begins_name s then wrong s NoFormula else Ok (record { a = a; b = b }, s)
+abbrev pub end_formula : ℤ → ℤ → List ℕ → Read Formula
+end_formula a b s = if begins_name s then wrong s NoFormula else Ok (record { a = a; b = b }, s)
 
 -- after the `n`: a number with its sign, or none; white space may stand around the sign
 abbrev pub after_n : ℤ → List ℕ → Read Formula
@@ -52,7 +52,7 @@ after_n a s =
     else (gap_at s >>= λ gap.
     (if begins is_sign gap.1 then
     (gap_at (sign_at gap.1).1 >>= λ after. digits_at after.1 >>= λ b.
-    ended a (with_sign (sign_at gap.1).0 b.0) b.1)
+    end_formula a (with_sign (sign_at gap.1).0 b.0) b.1)
     else Ok (record { a = a; b = pos 0 }, s)))
 
 -- after the sign: a number, an `n` or both
@@ -61,7 +61,7 @@ terms_at minus s =
     if begins is_n s then after_n (with_sign minus 1) (drop 1 s)
     else (digits_at s >>= λ a.
     (if begins is_n a.1 then after_n (with_sign minus a.0) (drop 1 a.1)
-    else ended (pos 0) (with_sign minus a.0) a.1))
+    else end_formula (pos 0) (with_sign minus a.0) a.1))
 
 abbrev pub formula_at : List ℕ → Read Formula
 formula_at s =

@@ -86,12 +86,12 @@ with_before (After combinator) st = combine combinator st
 with_before (Begin combinator) st = lead combinator st
 
 -- a selector, put together with what is begun of its compound
-abbrev pub compounded : Bool → List Css → List Css
-compounded begun es = if begun then meet es else es
+abbrev pub meet_if : Bool → List Css → List Css
+meet_if begun es = if begun then meet es else es
 
 abbrev pub with_simple : Simple → State → State
 with_simple (Whole e) st = record st {
-  waiting = compounded st.open_.begun (e ∷ st.waiting);
+  waiting = meet_if st.open_.begun (e ∷ st.waiting);
   open_ = record st.open_ { begun = true };
 }
 with_simple (Opens role left) st =
@@ -99,31 +99,31 @@ with_simple (Opens role left) st =
 
 -- the last one, seen from where a combinator leads to it, and put together with what stands there
 abbrev pub seen : Combinator → Bool → List Css → List Css
-seen c more es = compounded more (change (At To (link_of c) (reach_of c)) es)
+seen c more es = meet_if more (change (At To (link_of c) (reach_of c)) es)
 
 -- the compounds of a relative selector, put together from the last one to the first, as they are
 -- seen from its anchor
-abbrev pub related : List Combinator → List Css → List Css
-related [] es = es
-related (c ∷ cs) es = related cs (seen c (nat_lt 0 (length cs)) es)
+abbrev pub relate : List Combinator → List Css → List Css
+relate [] es = es
+relate (c ∷ cs) es = relate cs (seen c (nat_lt 0 (length cs)) es)
 
-abbrev pub listed : Bool → List Css → List Css
-listed more es = if more then unite es else es
+abbrev pub unite_if : Bool → List Css → List Css
+unite_if more es = if more then unite es else es
 
 -- the end of a complex selector
 abbrev pub finish : State → State
 finish st = record st {
-  waiting = listed st.open_.listed (related st.open_.combinators st.waiting);
+  waiting = unite_if st.open_.listed (relate st.open_.combinators st.waiting);
   open_ = record st.open_ { listed = true; begun = false; combinators = [] };
 }
 
 -- what a list is made into
-abbrev pub made : Role → List Css → List Css
-made Top es = es
-made IsRole es = es
-made NotRole es = change Not es
-made Has es = es
-made (NthOf way formula) es = change (Nth way Sibling formula) es
+abbrev pub apply_role : Role → List Css → List Css
+apply_role Top es = es
+apply_role IsRole es = es
+apply_role NotRole es = change Not es
+apply_role Has es = es
+apply_role (NthOf way formula) es = change (Nth way Sibling formula) es
 
 -- how many selectors may wait where a simple selector begins: two more may wait while it is put
 -- together, so at most 60 at once
@@ -140,7 +140,7 @@ abbrev pub close : State → List Open → Taken
 close st [] = Done (last_waiting st.waiting)
 close st (open_ ∷ outer) =
     Goes (record {
-      waiting = compounded open_.begun (made st.open_.role st.waiting);
+      waiting = meet_if open_.begun (apply_role st.open_.role st.waiting);
       open_ = record open_ { begun = true };
       outer = outer;
     })

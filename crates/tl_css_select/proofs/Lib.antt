@@ -13,3 +13,8 @@ pub mod Relatives
 pub mod Stacks
 pub mod Pushes
 pub mod Shapes
+pub mod Values
+pub mod Lowercase
+pub mod Tests
+pub mod Pairs
+pub mod Fresh

@@ -3,15 +3,11 @@ use Rattle.std.proofs.Common.{◌≡◌, ◌<◌, ◌≤◌, ◌↔◌, ◌+◌,
 use Rattle.std.proofs.lemmas.Bool.{cases_lt, or_cases, or_left, or_right}
 use Rattle.std.proofs.lemmas.List.{get_or_append_left, get_or_push, take_more, take_all}
 use Rattle.tl_spec.specs.Tree.Document.{Node}
-use Rattle.tl_css.specs.declared.selector.Link.{Link}
-use Rattle.tl_css.specs.declared.selector.Link.TheVariants.{Parent, Sibling, Twin}
 use Rattle.tl_css.specs.declared.selector.Step.{Step}
 use Rattle.tl_css.specs.Selector.{Css, Either}
 use Rattle.tl_css.specs.Program.{after_step, waiting_after}
 use Rattle.tl_css.proofs.Waiting.{waiting_none, waiting_more}
 use Rattle.tl_css_select.specs.Columns.{AreColumns, AreMarks}
-use Rattle.tl_css_select.specs.Kin.{AreKin, AreLinksOf, links_of}
-use Rattle.tl_css_select.specs.declared.kin.Kin.{Kin}
 use Rattle.tl_css_select.specs.Links.{is_at}
 use Rattle.tl_css_select.proofs.Marks.{marks_within}
 
@@ -27,11 +23,6 @@ one_mark P xs x number len each new i w = elim (cases_lt i number) [
       let at = get_or_push xs x false i (len ∙ sym here) in
       (λ mark. subst P (sym here) (new.0 (sym at ∙ mark)), λ p. at ∙ new.1 (subst P here p)))
 ]
-
-pub kin_links : (nodes : List Node) (kin : Kin) → AreKin nodes kin → (link : Link) → AreLinksOf nodes link (links_of kin link)
-kin_links nodes kin are Parent = are.parents
-kin_links nodes kin are Sibling = are.siblings
-kin_links nodes kin are Twin = are.twins
 
 pub columns_none : (nodes : List Node) (columns : List (List Bool)) → columns ≡ [] → AreColumns nodes (waiting_after []) columns
 columns_none nodes columns e =

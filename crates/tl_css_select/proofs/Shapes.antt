@@ -52,18 +52,16 @@ orphans_end parents cs i past = ap (are_orphans parents) (drop_all i cs past)
 
 -- what rises
 
-Rising : ℕ → List ℕ → Type 0
+abbrev pub Rising : ℕ → List ℕ → Type 0
 Rising n cs = AllPairs (λ a b. a < b) (n ∷ cs)
 
 above : (n : ℕ) (cs : List ℕ) → Rising n cs → All (λ c. n < c) cs
-unfolding Rising
 above n cs h = λ k d w. h 0 (suc k) d (omega arith) (omega (arith, w))
 
 lower : (m n : ℕ) (cs : List ℕ) → m < n → All (λ c. n < c) cs → All (λ c. m < c) cs
 lower m n cs lt all = λ k d w. let h = all k d w in omega (arith, lt, h)
 
-all_rises : (len n : ℕ) (cs : List ℕ) → rises n len cs ≡ true → Rising n cs × All (λ c. c < len) cs
-unfolding Rising
+pub all_rises : (len n : ℕ) (cs : List ℕ) → rises n len cs ≡ true → Rising n cs × All (λ c. c < len) cs
 all_rises len n [] h = (AllPairs-cons (λ a b. a < b) n [] (All-nil (λ c. n < c)) (λ i j d lt w. absurd (omega (arith, w))), All-nil (λ c. c < len))
 all_rises len n (c ∷ cs) h =
     let a = and_parts (nat_lt n c) (nat_lt c len && rises c len cs) h in
@@ -75,7 +73,6 @@ all_rises len n (c ∷ cs) h =
     )
 
 rises_all : (len n : ℕ) (cs : List ℕ) → Rising n cs → All (λ c. c < len) cs → rises n len cs ≡ true
-unfolding Rising
 rises_all len n [] h all = refl
 rises_all len n (c ∷ cs) h all =
     let low : n < c = h 0 1 0 (omega arith) (omega arith) in
@@ -154,7 +151,6 @@ get-within (y ∷ xs) zero x e = omega arith
 get-within (y ∷ xs) (suc n) x e = let l = get-within xs n x e in omega (arith, l)
 
 pub all_looked : (nodes : List Node) (parents : List ℕ) → Looked nodes (length nodes) parents → IsForest nodes
-unfolding Rising
 all_looked nodes parents looked = record {
   rising = λ n own e.
       let up = looked.rising n (get-within nodes n (Tag own) e) in
@@ -164,7 +160,6 @@ all_looked nodes parents looked = record {
 }
 
 rises_by : (nodes : List Node) → IsForest nodes → (n : ℕ) (o : Option Node) → slice_get nodes n ≡ o → rises n (length nodes) (option_map_or children_of o []) ≡ true
-unfolding Rising
 rises_by nodes forest n None e = refl
 rises_by nodes forest n (Some (Raw bytes)) e = refl
 rises_by nodes forest n (Some (Comment bytes)) e = refl

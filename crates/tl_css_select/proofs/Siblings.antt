@@ -9,8 +9,8 @@ use Rattle.tl_spec.specs.Select.Meaning.{IsChild}
 use Rattle.tl_css.specs.declared.selector.Link.{Link}
 use Rattle.tl_css.specs.declared.selector.Link.TheVariants.{Parent, Sibling, Twin}
 use Rattle.tl_css.specs.Meaning.{AreSiblings, IsForest, IsBefore, IsTag}
-use Rattle.tl_css_select.specs.Links.{AreLower, AreGrouped, IsLastBelow, link_at, link_or_none, no_link}
-use Rattle.tl_css_select.specs.Kin.{AreLinksOf, is_tag, is_tag_at, sibling_group}
+use Rattle.tl_css_select.specs.Links.{AreLower, AreGrouped, AreToLast, link_at, link_or_none, no_link}
+use Rattle.tl_css_select.specs.Kin.{AreLinksOf, AreSiblingGroups, is_tag, is_tag_at, sibling_group}
 use Rattle.tl_css_select.proofs.Previous.{link_read, link_is}
 use Rattle.tl_css_select.proofs.Sources.{link_within, lower_at}
 use Rattle.tl_css_select.proofs.Parents.{parent_link}
@@ -31,7 +31,7 @@ pub is_tag_is : (nodes : List Node) (n : ℕ) → (is_tag_at nodes n ≡ true) �
 is_tag_is nodes n = (tag_by (slice_get nodes n), by_tag (slice_get nodes n))
 
 -- what has a child is a tag with children
-parent_tag : (o : Option Node) (n : ℕ) → IsSomeAnd o (λ node. Contains (children_of node) n) → (own : TagNode) × (o ≡ Some (Tag own)) × Contains own.children.items n
+pub parent_tag : (o : Option Node) (n : ℕ) → IsSomeAnd o (λ node. Contains (children_of node) n) → (own : TagNode) × (o ≡ Some (Tag own)) × Contains own.children.items n
 parent_tag None n h = absurd h
 parent_tag (Some (Tag own)) n h = (own, refl, h)
 parent_tag (Some (Raw bytes)) n h = absurd (omega (arith, h.1))
@@ -91,7 +91,7 @@ module _ (nodes : List Node) (forest : IsForest nodes) (small : length nodes < 2
       absurd (let both : None ≡ Some g = sym (group_of n w false t) ∙ e in cc)
 
   -- there are no more groups than tags
-  pub few : (n : ℕ) → IfSome (link_at groups n) (λ g. g < length groups)
+  few : (n : ℕ) → IfSome (link_at groups n) (λ g. g < length groups)
   unfolding own
   few n = some_by (link_at groups n) (λ g. g < length groups) (λ g e.
       let w = link_within groups n g e in
@@ -116,7 +116,7 @@ module _ (nodes : List Node) (forest : IsForest nodes) (small : length nodes < 2
   parents_alike m n h (Some p) b ea eb = sym ((child_of p n).1 ((h p).0 ((child_of p m).0 ea))) ∙ eb
   parents_alike m n h None (Some q) ea eb = sym ea ∙ (child_of q m).1 ((h q).1 ((child_of q n).0 eb))
 
-  grouped_siblings : (m n : ℕ) → AreGrouped groups m n ↔ AreSiblings nodes m n
+  grouped_siblings : (m n : ℕ) → AreGrouped (link_at groups) m n ↔ AreSiblings nodes m n
   unfolding own
   grouped_siblings m n = (
     λ h.
@@ -136,13 +136,23 @@ module _ (nodes : List Node) (forest : IsForest nodes) (small : length nodes < 2
       tag_within (x ∷ xs) zero h = omega arith
       tag_within (x ∷ xs) (suc m) h = let l = tag_within xs m h in omega (arith, l)
 
-  pub are_siblings : (links : List ℕ) → length links ≡ length groups → ((m n : ℕ) → (link_at links n ≡ Some m) ↔ IsLastBelow (AreGrouped groups) m n)
-      → ((k n : ℕ) → link_at links n ≡ None → k < n → AreGrouped groups k n → ⊥) → AreLinksOf nodes Sibling links
-  are_siblings links same last none = record {
-    len = same ∙ len;
-    each = λ m n. (
-      λ e. (let l = (last m n).0 e in ((l.0.0, (grouped_siblings m n).0 l.0.1), λ k h. l.1 k (h.0, (grouped_siblings k n).1 h.1))),
-      λ h. (last m n).1 ((h.0.0, (grouped_siblings m n).1 h.0.1), λ k l. h.1 k (l.0, (grouped_siblings k n).0 l.1)),
-    );
-    none = λ k n e h. none k n e h.0 ((grouped_siblings k n).1 h.1);
-  }
+  pub are_groups : AreSiblingGroups nodes groups
+  are_groups = record { len = len; few = few; grouped = grouped_siblings }
+
+-- links to the last one before that is related, where this relation is that of a kind of links
+pub links_to_last : (nodes : List Node) (link : Link) (R : ℕ → ℕ → Type 0) (links : List ℕ) → length links ≡ length nodes
+    → ((m n : ℕ) → ((m < n) × R m n) ↔ IsBefore nodes link m n) → AreToLast R links → AreLinksOf nodes link links
+links_to_last nodes link R links len same last = record {
+  len = len;
+  each = λ m n. (
+    λ e. (let l = (last.each m n).0 e in ((same m n).0 l.0, λ k h. l.1 k ((same k n).1 h))),
+    λ h. (last.each m n).1 ((same m n).1 h.0, λ k l. h.1 k ((same k n).0 l)),
+  );
+  none = λ k n e h. (let l = (same k n).1 h in last.none k n e l.0 l.1);
+}
+
+pub siblings_to_last : (nodes : List Node) (groups links : List ℕ) → AreSiblingGroups nodes groups → length links ≡ length groups
+    → AreToLast (AreGrouped (link_at groups)) links → AreLinksOf nodes Sibling links
+siblings_to_last nodes groups links are len last =
+    links_to_last nodes Sibling (AreGrouped (link_at groups)) links (len ∙ are.len)
+    (λ m n. (λ h. (h.0, (are.grouped m n).0 h.1), λ h. (h.0, (are.grouped m n).1 h.1))) last

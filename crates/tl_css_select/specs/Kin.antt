@@ -1,13 +1,17 @@
 -- Links between the nodes of a table.
-use Rattle.std.specs.Prelude.{◌≡◌, ◌↔◌, ℕ, ◌+◌, Bool, false, if◌then◌else◌, List, [], ◌∷◌, length, Option, None, Some, option_and_then, slice_get, slice_set}
+use Rattle.std.specs.Prelude.{◌≡◌, ◌↔◌, ◌<◌, ℕ, ◌+◌, Bool, true, false, if◌then◌else◌, List, [], ◌∷◌, length, Option, None, Some, IfSome, option_and_then, option_map, slice_get, slice_set, ⊤}
+use Rattle.std.specs.List.{All, list_any}
 use Rattle.std.specs.Option.{is_some, option_map_or}
+use Rattle.std.specs.Str.{str_to_ascii_lowercase}
 use Rattle.tl_spec.specs.Tree.Document.{Node}
 use Rattle.tl_spec.specs.Tree.Element.{children_of, name_of}
 use Rattle.tl_css.specs.declared.selector.Link.{Link}
 use Rattle.tl_css.specs.declared.selector.Link.TheVariants.{Parent, Sibling, Twin}
+use Rattle.tl_css.specs.declared.selector.Step.{Step}
+use Rattle.tl_css.specs.declared.selector.Step.TheVariants.{Ask, Keep, Turn, Meet, Unite, Shift, Count}
 use Rattle.tl_css_select.specs.declared.kin.Kin.{Kin}
-use Rattle.tl_css.specs.Meaning.{IsBefore, IsLink}
-use Rattle.tl_css_select.specs.Links.{link_at, no_link}
+use Rattle.tl_css.specs.Meaning.{AreSiblings, IsBefore, IsLink}
+use Rattle.tl_css_select.specs.Links.{AreGrouped, link_at, no_link}
 
 -- links, where that of a child, if there is one, leads to this number
 abbrev pub with_child : Option ℕ → ℕ → List ℕ → List ℕ
@@ -39,22 +43,53 @@ pub record AreLinksOf (nodes : List Node) (link : Link) (links : List ℕ) : Typ
   pub each : (m n : ℕ) → (link_at links n ≡ Some m) ↔ IsLink nodes link m n
   pub none : (k n : ℕ) → link_at links n ≡ None → IsBefore nodes link k n → ⊥
 
--- the twin before a number, or that there is none
-abbrev pub IsTwin : List Node → ℕ → Option ℕ → Type 0
-IsTwin nodes n None = (k : ℕ) → IsBefore nodes Twin k n → ⊥
-IsTwin nodes n (Some m) = IsLink nodes Twin m n
+-- groups of tags: two tags have one group exactly where they are siblings
+pub record AreSiblingGroups (nodes : List Node) (groups : List ℕ) : Type 0 where
+  pub len : length groups ≡ length nodes
+  pub few : (n : ℕ) → IfSome (link_at groups n) (λ g. g < length groups)
+  pub grouped : (m n : ℕ) → AreGrouped (link_at groups) m n ↔ AreSiblings nodes m n
 
 -- the name of the node of a number, if it is a tag
 abbrev pub name_at : List Node → ℕ → Option (List ℕ)
 name_at nodes n = option_and_then name_of (slice_get nodes n)
 
--- the links of all kinds
-pub record AreKin (nodes : List Node) (kin : Kin) : Type 0 where
-  pub parents : AreLinksOf nodes Parent kin.parents.items
-  pub siblings : AreLinksOf nodes Sibling kin.siblings.items
-  pub twins : AreLinksOf nodes Twin kin.twins.items
+-- what twins have in common: the group of siblings, and the name in lower case
+abbrev pub twin_group : List Node → List ℕ → ℕ → Option (ℕ × List ℕ)
+twin_group nodes groups n = option_and_then
+    (λ g. option_map (λ name. (g, str_to_ascii_lowercase name)) (name_at nodes n))
+    (link_at groups n)
 
 abbrev pub links_of : Kin → Link → List ℕ
 links_of kin Parent = kin.parents.items
 links_of kin Sibling = kin.siblings.items
 links_of kin Twin = kin.twins.items
+
+-- the links that a step follows are there
+abbrev pub HasLinks : List Node → Kin → Step → Type 0
+HasLinks nodes kin (Shift way link reach) = AreLinksOf nodes link (links_of kin link)
+HasLinks nodes kin (Count way link formula) = AreLinksOf nodes link (links_of kin link)
+HasLinks nodes kin (Ask test) = ⊤
+HasLinks nodes kin (Keep test) = ⊤
+HasLinks nodes kin Turn = ⊤
+HasLinks nodes kin Meet = ⊤
+HasLinks nodes kin Unite = ⊤
+
+-- the same of each of some steps
+abbrev pub AreKin : List Node → Kin → List Step → Type 0
+AreKin nodes kin steps = All (HasLinks nodes kin) steps
+
+abbrev pub is_same : Link → Link → Bool
+is_same Parent Parent = true
+is_same Sibling Sibling = true
+is_same Twin Twin = true
+is_same _ _ = false
+
+-- whether a step follows links of this kind
+abbrev pub follows : Link → Step → Bool
+follows link (Shift way own reach) = is_same own link
+follows link (Count way own formula) = is_same own link
+follows link _ = false
+
+-- whether one of some steps does
+abbrev pub needs : List Step → Link → Bool
+needs steps link = list_any (follows link) steps

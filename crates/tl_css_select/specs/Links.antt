@@ -1,5 +1,5 @@
 -- Links from numbers to lower ones, and marks of numbers.
-use Rattle.std.specs.Prelude.{◌≡◌, ◌<◌, ◌≤◌, ◌⊎◌, ℕ, zero, suc, ◌+◌, Bool, true, false, ◌||◌, ◌&&◌, ◌==◌, if◌then◌else◌, List, Option, Some, None, IfSome, slice_get, slice_index_or, slice_set, option_and_then}
+use Rattle.std.specs.Prelude.{◌≡◌, ◌↔◌, ◌<◌, ◌≤◌, ◌⊎◌, ℕ, zero, suc, ◌+◌, Bool, true, false, ◌||◌, ◌&&◌, ◌==◌, if◌then◌else◌, List, Option, Some, None, IfSome, slice_get, slice_index_or, slice_set, option_and_then}
 use Rattle.std.specs.Option.{option_map_or}
 
 -- the number that stands for no link
@@ -77,16 +77,21 @@ IsAhead links marks n m = ((m ≡ n) ⊎ IsLinked links true m n) × (is_at mark
 abbrev pub IsBehind : List ℕ → List Bool → ℕ → ℕ → Type 0
 IsBehind links marks n m = ((m ≡ n) ⊎ IsLinked links true n m) × (is_at marks m ≡ true)
 
--- both numbers have this group
-abbrev pub AreGrouped : List ℕ → ℕ → ℕ → Type 0
-AreGrouped groups m n = (g : ℕ) × (link_at groups m ≡ Some g) × (link_at groups n ≡ Some g)
+-- both numbers have one group
+abbrev pub AreGrouped : {G : Type 0} → (ℕ → Option G) → ℕ → ℕ → Type 0
+AreGrouped {G} group_at m n = (g : G) × (group_at m ≡ Some g) × (group_at n ≡ Some g)
 
 -- m is the last number below n that is related to it
 abbrev pub IsLastBelow : (ℕ → ℕ → Type 0) → ℕ → ℕ → Type 0
 IsLastBelow R m n = ((m < n) × R m n) × ((k : ℕ) → (k < n) × R k n → k ≤ m)
 
+-- links from each number to the last one below it that is related to it, and none where none is
+pub record AreToLast (R : ℕ → ℕ → Type 0) (links : List ℕ) : Type 0 where
+  pub each : (m n : ℕ) → (link_at links n ≡ Some m) ↔ IsLastBelow R m n
+  pub none : (k n : ℕ) → link_at links n ≡ None → k < n → R k n → ⊥
+
 -- the last number below another that has a group, if there is one
-abbrev pub IsLatest : List ℕ → ℕ → ℕ → Option ℕ → Type 0
-IsLatest groups number g None = (k : ℕ) → k < number → link_at groups k ≡ Some g → ⊥
-IsLatest groups number g (Some m) = (m < number) × (link_at groups m ≡ Some g)
-    × ((k : ℕ) → k < number → link_at groups k ≡ Some g → k ≤ m)
+abbrev pub IsLatest : {G : Type 0} → (ℕ → Option G) → ℕ → G → Option ℕ → Type 0
+IsLatest group_at number g None = (k : ℕ) → k < number → group_at k ≡ Some g → ⊥
+IsLatest group_at number g (Some m) = (m < number) × (group_at m ≡ Some g)
+    × ((k : ℕ) → k < number → group_at k ≡ Some g → k ≤ m)

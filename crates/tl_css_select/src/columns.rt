@@ -2,7 +2,7 @@
 ghost use Rattle.std.specs.Prelude.{◌≡◌, ◌↔◌, ◌<◌, ◌^◌, ℕ, IfOk, true, length, map, not, ◌&&◌, ◌||◌};
 ghost use Rattle.tl_css.specs.Selector.{At, Both, Css, Is, Not, Nth};
 ghost use Rattle.tl_css.specs.View.{test as test_of};
-ghost use Rattle.tl_css.specs.Meaning.{IsCount, IsForest, IsTerm};
+ghost use Rattle.tl_css.specs.Meaning.{Holds, IsCount, IsForest, IsTerm};
 ghost use Rattle.tl_css_select.specs.Columns.{AreMarks, IsCounted, IsPassed, is_often};
 ghost use Rattle.tl_css_select.specs.Kin.{AreLinksOf, is_tag_at};
 ghost use Rattle.tl_css_select.specs.Links.{AreLower, count_at, is_at};
@@ -16,19 +16,41 @@ use tl_css::selector::{Formula, Link, Reach, Test, Way};
 use tl_table::element::Element;
 
 /// The marks of a test.
-pub fn asked<N: Styled>(alloc: Global, nodes: &[N], test: &Test) -> Result<Vec<bool>, AllocError>
+pub fn test_marks<N: Styled>(
+    alloc: Global,
+    nodes: &[N],
+    test: &Test,
+) -> Result<Vec<bool>, AllocError>
     ensures { IfOk result (λ marks. AreMarks (map N.node nodes.now)
         (Is (test_of test.now)) marks.items) }
 {
     let mut marks = Vec::with_capacity(alloc, nodes.len())?;
     for number in 0..nodes.len() {
-        marks.push(is_met_at(nodes, number, test))?;
+        let mark = is_met_at(alloc, nodes, number, test)?;
+        marks.push(mark)?;
     }
     Ok(marks)
 }
 
+// Whether a number is marked, and a test passes there.
+fn is_met_among<N: Styled>(
+    alloc: Global,
+    nodes: &[N],
+    among: &[bool],
+    number: usize,
+    test: &Test,
+) -> Result<bool, AllocError>
+    ensures { IfOk result (λ met. (met ≡ true) ↔ ((is_at among.now number ≡ true)
+        × Holds (map N.node nodes.now) (Is (test_of test.now)) number)) }
+{
+    if !is_marked(among, number) {
+        return Ok(false);
+    }
+    is_met_at(alloc, nodes, number, test)
+}
+
 /// The marks of a test among those that are marked.
-pub fn asked_among<N: Styled>(
+pub fn test_marks_among<N: Styled>(
     alloc: Global,
     nodes: &[N],
     among: &[bool],
@@ -40,7 +62,8 @@ pub fn asked_among<N: Styled>(
 {
     let mut marks = Vec::with_capacity(alloc, nodes.len())?;
     for number in 0..nodes.len() {
-        marks.push(is_marked(among, number) && is_met_at(nodes, number, test))?;
+        let mark = is_met_among(alloc, nodes, among, number, test)?;
+        marks.push(mark)?;
     }
     Ok(marks)
 }
@@ -95,7 +118,7 @@ fn keep_tags<N: Element>(marks: &mut Vec<bool>, nodes: &[N])
 }
 
 // The marks that links pass on, in this way.
-fn passed(
+fn pass_marks(
     alloc: Global,
     links: &[u32],
     marks: &[bool],
@@ -133,7 +156,7 @@ pub fn relatives<N: Element>(
         AreMarks (map N.node nodes.now) (At relation.0 relation.1 relation.2 e) found.items) }
 {
     let (way, _, reach) = relation;
-    let mut found = passed(alloc, links, marks, way, is_often(reach))?;
+    let mut found = pass_marks(alloc, links, marks, way, is_often(reach))?;
     keep_tags(&mut found, nodes);
     Ok(found)
 }

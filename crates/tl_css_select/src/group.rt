@@ -1,6 +1,6 @@
 //! Links to the last number before another that is of its group.
-ghost use Rattle.std.specs.Prelude.{◌≡◌, ◌↔◌, ◌<◌, ◌^◌, ℕ, IfOk, IfSome, None, Some, length};
-ghost use Rattle.tl_css_select.specs.Links.{AreGrouped, IsLastBelow, link_at, link_or_none, no_link};
+ghost use Rattle.std.specs.Prelude.{◌≡◌, ◌<◌, ◌^◌, ℕ, IfOk, IfSome, length};
+ghost use Rattle.tl_css_select.specs.Links.{AreGrouped, AreToLast, link_at, no_link};
 ghost use Rattle.std.specs.Prelude.{slice_index_or, slice_set};
 ghost use Rattle.std.specs.Option.{option_map_or};
 
@@ -8,7 +8,7 @@ use crate::links::{NO_LINK, link};
 use std::alloc::{AllocError, Global};
 
 // The number that stands at a group, where this one stands from now on.
-fn replaced(latest: &mut Vec<u32>, group: Option<usize>, number: u32) -> u32
+fn replace_latest(latest: &mut Vec<u32>, group: Option<usize>, number: u32) -> u32
     requires { IfSome group (λ g. g < length latest.old.items) }
     ensures was { result ≡ option_map_or
         (λ g. slice_index_or latest.old.items g no_link) group no_link }
@@ -29,15 +29,12 @@ pub fn previous(alloc: Global, groups: &[u32]) -> Result<Vec<u32>, AllocError>
     requires few { (n : ℕ) → IfSome (link_at groups.now n) (λ g. g < length groups.now) }
     requires numbered { length groups.now < 2 ^ 32 }
     ensures len { IfOk result (λ links. length links.items ≡ length groups.now) }
-    ensures each { IfOk result (λ links. (m n : ℕ)
-        → (link_at links.items n ≡ Some m) ↔ IsLastBelow (AreGrouped groups.now) m n) }
-    ensures none { IfOk result (λ links. (k n : ℕ) → link_at links.items n ≡ None
-        → k < n → AreGrouped groups.now k n → ⊥) }
+    ensures each { IfOk result (λ links. AreToLast (AreGrouped (link_at groups.now)) links.items) }
 {
     let mut links = Vec::with_capacity(alloc, groups.len())?;
     let mut latest = vec![in alloc; NO_LINK; groups.len()]?;
     for number in 0..groups.len() {
-        let before = replaced(&mut latest, link(groups, number), number as u32);
+        let before = replace_latest(&mut latest, link(groups, number), number as u32);
         links.push(before)?;
     }
     Ok(links)

@@ -1,16 +1,17 @@
-//! Links between the nodes of a table: to the parent, and to the sibling tag before.
-ghost use Rattle.std.specs.Prelude.{◌≡◌, ◌↔◌, ◌<◌, ◌^◌, ℕ, IfOk, true, length, map, slice_index_or};
-ghost use Rattle.std.specs.Option.{option_copied};
+//! Links between the nodes of a table: to the parent, and to siblings before.
+ghost use Rattle.std.specs.Prelude.{◌≡◌, ◌<◌, ◌^◌, ℕ, IfOk, IfSome, List, true, length, map, slice_index_or};
+ghost use Rattle.tl_spec.specs.Tree.Document.{Node};
 ghost use Rattle.tl_spec.specs.Tree.Element.{children_of};
-ghost use Rattle.tl_css.specs.Meaning.{AreNamesakes, IsForest};
+ghost use Rattle.tl_css.specs.Meaning.{IsForest};
 ghost use Rattle.tl_css.specs.declared.selector.Link.TheVariants.{Parent, Sibling, Twin};
-ghost use Rattle.tl_css_select.specs.Kin.{AreKin, AreLinksOf, IsTwin, links_of, children_at, name_at, is_tag, is_tag_at, sibling_group, with_child, with_children};
-ghost use Rattle.tl_css_select.specs.Links.{link_or_none, no_link};
+ghost use Rattle.tl_css_select.specs.Kin.{AreKin, AreLinksOf, AreSiblingGroups, links_of, children_at, is_tag, is_tag_at, is_same, follows, needs, sibling_group, with_child, with_children};
+ghost use Rattle.tl_css_select.specs.Links.{link_at, no_link};
 
 use crate::group::previous;
-use crate::links::{NO_LINK, link};
+use crate::links::NO_LINK;
+use crate::twin::twins;
 use std::alloc::{AllocError, Global};
-use tl_css::selector::Link;
+use tl_css::selector::{Link, Step};
 use tl_table::element::Element;
 
 /// Whether a node is a tag.
@@ -87,15 +88,16 @@ fn sibling_group<N: Element>(nodes: &[N], parents: &[u32], number: usize) -> u32
     }
 }
 
+/// A group for each tag, one for all that are siblings.
 fn sibling_groups<N: Element>(
     alloc: Global,
     nodes: &[N],
     parents: &[u32],
 ) -> Result<Vec<u32>, AllocError>
-    ensures len { IfOk result (λ groups. length groups.items ≡ length nodes.now) }
-    ensures each { IfOk result (λ groups. (n : ℕ) → n < length nodes.now
-        → slice_index_or groups.items n no_link
-        ≡ sibling_group (map N.node nodes.now) parents.now n) }
+    requires forest { IsForest (map N.node nodes.now) }
+    requires numbered { length nodes.now < 2 ^ 32 }
+    requires parents { AreLinksOf (map N.node nodes.now) Parent parents.now }
+    ensures { IfOk result (λ groups. AreSiblingGroups (map N.node nodes.now) groups.items) }
 {
     let mut groups = Vec::with_capacity(alloc, nodes.len())?;
     for number in 0..nodes.len() {
@@ -104,85 +106,97 @@ fn sibling_groups<N: Element>(
     Ok(groups)
 }
 
-/// A link from each tag to the sibling tag before it.
-pub fn siblings<N: Element>(
+fn is_same(link: Link, other: Link) -> bool
+    ensures { result ≡ is_same link other }
+{
+    match (link, other) {
+        (Link::Parent, Link::Parent) => true,
+        (Link::Sibling, Link::Sibling) => true,
+        (Link::Twin, Link::Twin) => true,
+        _ => false,
+    }
+}
+
+// Whether a step follows links of this kind.
+fn follows(link: Link, step: &Step) -> bool
+    ensures { result ≡ follows link step.now }
+{
+    match step {
+        Step::Shift(_, own, _) => is_same(*own, link),
+        Step::Count(_, own, _) => is_same(*own, link),
+        _ => false,
+    }
+}
+
+// Whether one of some steps does.
+fn needs(steps: &[Step], link: Link) -> bool
+    ensures { result ≡ needs steps.now link }
+{
+    for step in steps {
+        if follows(link, step) {
+            return true;
+        }
+    }
+    false
+}
+
+// The links of siblings by their groups, if they are needed.
+fn sibling_links(alloc: Global, groups: &[u32], needed: bool) -> Result<Vec<u32>, AllocError>
+    requires few { (n : ℕ) → IfSome (link_at groups.now n) (λ g. g < length groups.now) }
+    requires numbered { length groups.now < 2 ^ 32 }
+    ensures { needed ≡ true → IfOk result (λ links. (nodes : List Node)
+        → AreSiblingGroups nodes groups.now → AreLinksOf nodes Sibling links.items) }
+{
+    if !needed {
+        return Ok(Vec::new(alloc));
+    }
+    let links = previous(alloc, groups)?;
+    Ok(links)
+}
+
+// The links of twins by the groups of siblings, if they are needed.
+fn twin_links<N: Element>(
     alloc: Global,
     nodes: &[N],
-    parents: &[u32],
+    groups: &[u32],
+    needed: bool,
+) -> Result<Vec<u32>, AllocError>
+    requires groups { AreSiblingGroups (map N.node nodes.now) groups.now }
+    requires numbered { length nodes.now < 2 ^ 32 }
+    ensures { needed ≡ true → IfOk result
+        (λ links. AreLinksOf (map N.node nodes.now) Twin links.items) }
+{
+    if !needed {
+        return Ok(Vec::new(alloc));
+    }
+    let links = twins(alloc, nodes, groups)?;
+    Ok(links)
+}
+
+// The links of parents, if they are needed.
+fn parent_links<N: Element>(
+    alloc: Global,
+    nodes: &[N],
+    needed: bool,
 ) -> Result<Vec<u32>, AllocError>
     requires forest { IsForest (map N.node nodes.now) }
     requires numbered { length nodes.now < 2 ^ 32 }
-    requires parents { AreLinksOf (map N.node nodes.now) Parent parents.now }
-    ensures { IfOk result (λ links. AreLinksOf (map N.node nodes.now) Sibling links.items) }
+    ensures { needed ≡ true → IfOk result
+        (λ links. AreLinksOf (map N.node nodes.now) Parent links.items) }
 {
-    let groups = sibling_groups(alloc, nodes, parents)?;
-    let links = previous(alloc, &groups)?;
+    if !needed {
+        return Ok(Vec::new(alloc));
+    }
+    let links = parents(alloc, nodes)?;
     Ok(links)
 }
 
-// The name of the node of a number, if it is a tag.
-fn name_at<'n, N: Element>(nodes: &'n [N], number: usize) -> Option<&'n [u8]>
-    ensures { option_copied result ≡ name_at (map N.node nodes.entry.now) number }
-{
-    match nodes.get(number) {
-        Some(node) => node.name(),
-        None => None,
-    }
-}
-
-// Whether both are tags of one name, in any case.
-fn are_namesakes<N: Element>(nodes: &[N], first: usize, second: usize) -> bool
-    ensures { (result ≡ true) ↔ AreNamesakes (map N.node nodes.now) first second }
-{
-    let Some(name) = name_at(nodes, first) else {
-        return false;
-    };
-    let Some(other) = name_at(nodes, second) else {
-        return false;
-    };
-    name.eq_ignore_ascii_case(other)
-}
-
-// The sibling tag before of the same name: siblings are gone along backwards.
-fn twin<N: Element>(nodes: &[N], siblings: &[u32], number: usize) -> u32
-    requires siblings { AreLinksOf (map N.node nodes.now) Sibling siblings.now }
-    requires within { number < length nodes.now }
-    requires numbered { length nodes.now < 2 ^ 32 }
-    ensures { IsTwin (map N.node nodes.now) number (link_or_none result) }
-{
-    let mut from = number;
-    'back: while let Some(to) = link(siblings, from) {
-        if are_namesakes(nodes, to, number) {
-            return to as u32;
-        }
-        from = to;
-    }
-    NO_LINK
-}
-
-/// A link from each tag to the sibling tag before of the same name.
-pub fn twins<N: Element>(
-    alloc: Global,
-    nodes: &[N],
-    siblings: &[u32],
-) -> Result<Vec<u32>, AllocError>
-    requires numbered { length nodes.now < 2 ^ 32 }
-    requires siblings { AreLinksOf (map N.node nodes.now) Sibling siblings.now }
-    ensures { IfOk result (λ links. AreLinksOf (map N.node nodes.now) Twin links.items) }
-{
-    let mut links = Vec::with_capacity(alloc, nodes.len())?;
-    for number in 0..nodes.len() {
-        links.push(twin(nodes, siblings, number))?;
-    }
-    Ok(links)
-}
-
-/// The links of all kinds.
+/// Links between the nodes of a table: those of the kinds that are needed, and else none.
 #[derive(Drop)]
 pub struct Kin {
-    pub parents: Vec<u32>,
-    pub siblings: Vec<u32>,
-    pub twins: Vec<u32>,
+    parents: Vec<u32>,
+    siblings: Vec<u32>,
+    twins: Vec<u32>,
 }
 
 impl Kin {
@@ -196,15 +210,37 @@ impl Kin {
         }
     }
 
-    /// The links between the nodes of a table.
-    pub fn new<N: Element>(alloc: Global, nodes: &[N]) -> Result<Kin, AllocError>
+    // Where no sibling is asked for.
+    fn ancestry<N: Element>(alloc: Global, nodes: &[N], needed: bool) -> Result<Kin, AllocError>
         requires forest { IsForest (map N.node nodes.now) }
         requires numbered { length nodes.now < 2 ^ 32 }
-        ensures { IfOk result (λ kin. AreKin (map N.node nodes.now) kin) }
+        ensures { needed ≡ true → IfOk result
+            (λ kin. AreLinksOf (map N.node nodes.now) Parent kin.parents.items) }
     {
+        let parents = parent_links(alloc, nodes, needed)?;
+        Ok(Kin {
+            parents,
+            siblings: Vec::new(alloc),
+            twins: Vec::new(alloc),
+        })
+    }
+
+    /// The links between the nodes of a table that some steps follow.
+    pub fn new<N: Element>(alloc: Global, nodes: &[N], steps: &[Step]) -> Result<Kin, AllocError>
+        requires forest { IsForest (map N.node nodes.now) }
+        requires numbered { length nodes.now < 2 ^ 32 }
+        ensures { IfOk result (λ kin. AreKin (map N.node nodes.now) kin steps.now) }
+    {
+        let needs_siblings = needs(steps, Link::Sibling);
+        let needs_twins = needs(steps, Link::Twin);
+        if !needs_siblings && !needs_twins {
+            let kin = Kin::ancestry(alloc, nodes, needs(steps, Link::Parent))?;
+            return Ok(kin);
+        }
         let parents = parents(alloc, nodes)?;
-        let siblings = siblings(alloc, nodes, &parents)?;
-        let twins = twins(alloc, nodes, &siblings)?;
+        let groups = sibling_groups(alloc, nodes, &parents)?;
+        let siblings = sibling_links(alloc, &groups, needs_siblings)?;
+        let twins = twin_links(alloc, nodes, &groups, needs_twins)?;
         Ok(Kin {
             parents,
             siblings,

@@ -1,12 +1,18 @@
-//! The tags of a table where a selector of CSS holds.
+//! The tags of a document where a selector of CSS holds.
 #![tactic(auto)]
 
 mod columns;
+pub mod document;
 pub mod forest;
 mod group;
 mod kin;
+pub mod laws;
+mod letters;
 mod links;
+mod pair;
 mod shape;
 mod stack;
 pub mod styled;
 mod term;
+mod twin;
+mod value;

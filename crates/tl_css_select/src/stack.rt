@@ -6,9 +6,9 @@ ghost use Rattle.tl_css.specs.Program.{after_step, change, meet, selector_of, wa
 ghost use Rattle.tl_css.specs.Selector.{At, Css, Is, Nth};
 ghost use Rattle.tl_css.specs.View.{test as test_of};
 ghost use Rattle.tl_css_select.specs.Columns.{AreColumns, AreMarks, AreNumbers, changed, columns_of, join, joined};
-ghost use Rattle.tl_css_select.specs.Kin.{AreKin};
+ghost use Rattle.tl_css_select.specs.Kin.{AreKin, AreLinksOf, HasLinks, links_of};
 
-use crate::columns::{asked, asked_among, meet, relatives, terms, unite, unmarked_tags};
+use crate::columns::{meet, relatives, terms, test_marks, test_marks_among, unite, unmarked_tags};
 use crate::kin::Kin;
 use crate::links::is_marked;
 use crate::styled::Styled;
@@ -18,7 +18,7 @@ use tl_css::selector::{Formula, Link, Reach, Step, Test, Way};
 
 // One column more.
 #[tactic(auto, using(crate::proofs::Stacks::columns_push))]
-fn put(mut columns: Vec<Vec<bool>>, marks: Vec<bool>) -> Result<Vec<Vec<bool>>, AllocError>
+fn push_column(mut columns: Vec<Vec<bool>>, marks: Vec<bool>) -> Result<Vec<Vec<bool>>, AllocError>
     ensures { IfOk result (λ after.
         columns_of after.items ≡ marks.items ∷ columns_of columns.items) }
 {
@@ -36,8 +36,8 @@ fn ask<N: Styled>(
         → IfOk result (λ after. AreColumns (map N.node nodes.now) (Is (test_of test.now) ∷ es)
         (columns_of after.items)) }
 {
-    let marks = asked(alloc, nodes, test)?;
-    let after = put(columns, marks)?;
+    let marks = test_marks(alloc, nodes, test)?;
+    let after = push_column(columns, marks)?;
     Ok(after)
 }
 
@@ -52,12 +52,12 @@ fn keep<N: Styled>(
         (meet (Is (test_of test.now) ∷ es)) (columns_of after.items)) }
 {
     let Some(marks) = columns.pop() else {
-        let found = asked(alloc, nodes, test)?;
-        let after = put(columns, found)?;
+        let found = test_marks(alloc, nodes, test)?;
+        let after = push_column(columns, found)?;
         return Ok(after);
     };
-    let found = asked_among(alloc, nodes, &marks, test)?;
-    let after = put(columns, found)?;
+    let found = test_marks_among(alloc, nodes, &marks, test)?;
+    let after = push_column(columns, found)?;
     Ok(after)
 }
 
@@ -70,7 +70,7 @@ fn relate<N: Styled>(
     relation: (Way, Link, Reach),
 ) -> Result<Vec<bool>, AllocError>
     requires forest { IsForest (map N.node nodes.now) }
-    requires kin { AreKin (map N.node nodes.now) kin.now }
+    requires links { AreLinksOf (map N.node nodes.now) relation.1 (links_of kin.now relation.1) }
     ensures { (e : Css) → AreMarks (map N.node nodes.now) e marks.now → IfOk result (λ found.
         AreMarks (map N.node nodes.now) (At relation.0 relation.1 relation.2 e) found.items) }
 {
@@ -88,7 +88,7 @@ fn count<N: Styled>(
 ) -> Result<Vec<bool>, AllocError>
     requires forest { IsForest (map N.node nodes.now) }
     requires numbered { length nodes.now < 2 ^ 32 }
-    requires kin { AreKin (map N.node nodes.now) kin.now }
+    requires links { AreLinksOf (map N.node nodes.now) sequence.1 (links_of kin.now sequence.1) }
     ensures { (e : Css) → AreMarks (map N.node nodes.now) e marks.now → IfOk result (λ found.
         AreMarks (map N.node nodes.now) (Nth sequence.0 sequence.1 sequence.2 e) found.items) }
 {
@@ -106,7 +106,7 @@ fn change_marks<N: Styled>(
 ) -> Result<Vec<bool>, AllocError>
     requires forest { IsForest (map N.node nodes.now) }
     requires numbered { length nodes.now < 2 ^ 32 }
-    requires kin { AreKin (map N.node nodes.now) kin.now }
+    requires kin { HasLinks (map N.node nodes.now) kin.now step.now }
     ensures { (e : Css) → AreMarks (map N.node nodes.now) e marks.now → IfOk result
         (λ found. AreMarks (map N.node nodes.now) (changed step.now e) found.items) }
 {
@@ -128,7 +128,7 @@ fn change_last<N: Styled>(
 ) -> Result<Vec<Vec<bool>>, AllocError>
     requires forest { IsForest (map N.node nodes.now) }
     requires numbered { length nodes.now < 2 ^ 32 }
-    requires kin { AreKin (map N.node nodes.now) kin.now }
+    requires kin { HasLinks (map N.node nodes.now) kin.now step.now }
     ensures { (es : List Css) → AreColumns (map N.node nodes.now) es (columns_of columns.items)
         → IfOk result (λ after. AreColumns (map N.node nodes.now) (change (changed step.now) es)
         (columns_of after.items)) }
@@ -137,7 +137,7 @@ fn change_last<N: Styled>(
         return Ok(columns);
     };
     let found = change_marks(alloc, nodes, kin, step, &marks)?;
-    let after = put(columns, found)?;
+    let after = push_column(columns, found)?;
     Ok(after)
 }
 
@@ -162,11 +162,11 @@ fn join_last(mut columns: Vec<Vec<bool>>, both: bool) -> Result<Vec<Vec<bool>>, 
         return Ok(columns);
     };
     let Some(marks) = columns.pop() else {
-        let after = put(columns, others)?;
+        let after = push_column(columns, others)?;
         return Ok(after);
     };
     let marks = join_marks(marks, &others, both);
-    let after = put(columns, marks)?;
+    let after = push_column(columns, marks)?;
     Ok(after)
 }
 
@@ -180,7 +180,7 @@ fn after_step<N: Styled>(
 ) -> Result<Vec<Vec<bool>>, AllocError>
     requires forest { IsForest (map N.node nodes.now) }
     requires numbered { length nodes.now < 2 ^ 32 }
-    requires kin { AreKin (map N.node nodes.now) kin.now }
+    requires kin { HasLinks (map N.node nodes.now) kin.now step.now }
     ensures { (es : List Css) → AreColumns (map N.node nodes.now) es (columns_of columns.items)
         → IfOk result (λ after. AreColumns (map N.node nodes.now) (after_step step.now es)
         (columns_of after.items)) }
@@ -203,7 +203,7 @@ fn columns<N: Styled>(
 ) -> Result<Vec<Vec<bool>>, AllocError>
     requires forest { IsForest (map N.node nodes.now) }
     requires numbered { length nodes.now < 2 ^ 32 }
-    requires kin { AreKin (map N.node nodes.now) kin.now }
+    requires kin { AreKin (map N.node nodes.now) kin.now steps.now }
     ensures { IfOk result (λ columns. AreColumns (map N.node nodes.now) (waiting_after steps.now)
         (columns_of columns.items)) }
 {
@@ -223,13 +223,13 @@ fn marks<N: Styled>(
 ) -> Result<Vec<bool>, AllocError>
     requires forest { IsForest (map N.node nodes.now) }
     requires numbered { length nodes.now < 2 ^ 32 }
-    requires kin { AreKin (map N.node nodes.now) kin.now }
+    requires kin { AreKin (map N.node nodes.now) kin.now steps.now }
     ensures { IfOk result (λ marks. AreMarks (map N.node nodes.now) (selector_of steps.now)
         marks.items) }
 {
     let mut columns = columns(alloc, nodes, kin, steps)?;
     let Some(marks) = columns.pop() else {
-        let marks = asked(alloc, nodes, &Test::Any)?;
+        let marks = test_marks(alloc, nodes, &Test::Any)?;
         return Ok(marks);
     };
     Ok(marks)
@@ -260,8 +260,9 @@ pub fn matches<N: Styled>(
     requires numbered { length nodes.now < 2 ^ 32 }
     ensures { IfOk result (λ ns. AreFound (map N.node nodes.now) selector.now ns.items) }
 {
-    let kin = Kin::new(alloc, nodes)?;
-    let marks = marks(alloc, nodes, &kin, selector.steps())?;
+    let steps = selector.steps();
+    let kin = Kin::new(alloc, nodes, steps)?;
+    let marks = marks(alloc, nodes, &kin, steps)?;
     let numbers = numbers(alloc, &marks)?;
     Ok(numbers)
 }

@@ -1,5 +1,5 @@
 //! Tests of a node by itself.
-ghost use Rattle.std.specs.Prelude.{◌≡◌, ◌↔◌, ℕ, IfSome, List, true, false, map};
+ghost use Rattle.std.specs.Prelude.{◌≡◌, ◌↔◌, ℕ, IfOk, IfSome, List, true, false, map};
 ghost use Rattle.std.specs.List.{All};
 ghost use Rattle.tl_spec.specs.Tree.Document.{Node};
 ghost use Rattle.tl_spec.specs.Tree.Element.{children_of};
@@ -9,15 +9,16 @@ ghost use Rattle.tl_css.specs.View.{test as test_of};
 ghost use Rattle.tl_css_select.specs.Columns.{is_nothing};
 
 use crate::kin::is_tag;
+use std::alloc::{AllocError, Global};
 use tl_css::selector::Test;
 use tl_table::element::Element;
 
 /// What selectors of CSS see of a node.
 pub trait Styled: Element {
     /// Whether a test other than `Empty` passes at it.
-    fn passes(&self, test: &Test) -> bool
-        ensures { (nodes : List Node) → (test_of test.now ≡ Empty → ⊥)
-            → (result ≡ true) ↔ IsMet nodes (test_of test.now) (Self.node self.now) };
+    fn passes(&self, alloc: Global, test: &Test) -> Result<bool, AllocError>
+        ensures { (nodes : List Node) → (test_of test.now ≡ Empty → ⊥) → IfOk result (λ passes.
+            (passes ≡ true) ↔ IsMet nodes (test_of test.now) (Self.node self.now)) };
 
     /// Whether it is a text without a byte, or a comment.
     fn is_nothing(&self) -> bool
@@ -58,21 +59,28 @@ fn is_empty<N: Styled>(nodes: &[N], node: &N) -> bool
 }
 
 // Whether a test passes at a node.
-fn is_met<N: Styled>(nodes: &[N], node: &N, test: &Test) -> bool
-    ensures { (result ≡ true) ↔ IsMet (map N.node nodes.now) (test_of test.now) (N.node node.now) }
+fn is_met<N: Styled>(alloc: Global, nodes: &[N], node: &N, test: &Test) -> Result<bool, AllocError>
+    ensures { IfOk result (λ met. (met ≡ true)
+        ↔ IsMet (map N.node nodes.now) (test_of test.now) (N.node node.now)) }
 {
     match test {
-        Test::Empty => is_empty(nodes, node),
-        _ => node.passes(test),
+        Test::Empty => Ok(is_empty(nodes, node)),
+        _ => node.passes(alloc, test),
     }
 }
 
 /// Whether there is a tag of this number, and a test passes at it.
-pub fn is_met_at<N: Styled>(nodes: &[N], number: usize, test: &Test) -> bool
-    ensures { (result ≡ true) ↔ Holds (map N.node nodes.now) (Is (test_of test.now)) number }
+pub fn is_met_at<N: Styled>(
+    alloc: Global,
+    nodes: &[N],
+    number: usize,
+    test: &Test,
+) -> Result<bool, AllocError>
+    ensures { IfOk result (λ met. (met ≡ true)
+        ↔ Holds (map N.node nodes.now) (Is (test_of test.now)) number) }
 {
     match nodes.get(number) {
-        Some(node) => is_tag(node) && is_met(nodes, node, test),
-        None => false,
+        Some(node) if is_tag(node) => is_met(alloc, nodes, node, test),
+        _ => Ok(false),
     }
 }

@@ -4,7 +4,7 @@ ghost use Rattle.std.specs.Str.{byte};
 ghost use Rattle.std.specs.Char.{is_ascii_digit};
 ghost use Rattle.std.specs.List.{take_while};
 ghost use Rattle.tl_css.specs.Bytes.{decimal_number};
-ghost use Rattle.tl_css.specs.Formula.{after_n, begins_keyword, digits_at, ended, formula_at, is_n, is_sign, largest, sign_at, terms_at, with_sign};
+ghost use Rattle.tl_css.specs.Formula.{after_n, begins_keyword, digits_at, end_formula, formula_at, is_n, is_sign, largest, sign_at, terms_at, with_sign};
 ghost use Rattle.tl_css.specs.Lexical.{begins};
 ghost use Rattle.tl_css.specs.TextView.{read_as};
 
@@ -119,8 +119,8 @@ fn begins_keyword(word: &[u8], s: &[u8]) -> bool
     word_front(word, s).eq_ignore_ascii_case(word) && !begins_name(past_word(word, s))
 }
 
-fn ended(a: i64, b: i64, s: &[u8]) -> Result<(Formula, &[u8]), Wrong>
-    ensures { read_as (λ formula. formula) result ≡ ended a b s.now }
+fn end_formula(a: i64, b: i64, s: &[u8]) -> Result<(Formula, &[u8]), Wrong>
+    ensures { read_as (λ formula. formula) result ≡ end_formula a b s.now }
 {
     if begins_name(s) {
         return wrong(s, Cause::NoFormula);
@@ -142,7 +142,7 @@ fn after_n(a: i64, s: &[u8]) -> Result<(Formula, &[u8]), Wrong>
     let (minus, next) = sign(next);
     let (_white, next) = gap(next)?;
     let (number, rest) = digits(next)?;
-    ended(a, with_sign(minus, number), rest)
+    end_formula(a, with_sign(minus, number), rest)
 }
 
 // What stands after a sign.
@@ -157,7 +157,7 @@ fn terms(minus: bool, s: &[u8]) -> Result<(Formula, &[u8]), Wrong>
     if begins_n(rest) {
         return after_n(number, past_byte(rest));
     }
-    ended(0, number, rest)
+    end_formula(0, number, rest)
 }
 
 /// A formula.

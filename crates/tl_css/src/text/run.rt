@@ -104,7 +104,7 @@ fn is_plain(quote: Option<u8>, byte: u8) -> bool
 }
 
 // What stands after a backslash.
-fn escaped(quote: Option<u8>, s: &[u8]) -> Option<(Part, &[u8])>
+fn escape_part(quote: Option<u8>, s: &[u8]) -> Option<(Part, &[u8])>
     ensures { option_map (λ p. (part_bytes p.0, p.1.now)) result ≡ escaped_at quote s.now }
 {
     match s {
@@ -121,7 +121,7 @@ fn first_part(quote: Option<u8>, s: &[u8]) -> Option<(Part, &[u8])>
 {
     match s {
         [byte, rest @ ..] if is_plain(quote, *byte) => Some((Part::Byte(*byte), rest)),
-        [b'\\', rest @ ..] => escaped(quote, rest),
+        [b'\\', rest @ ..] => escape_part(quote, rest),
         _ => None,
     }
 }

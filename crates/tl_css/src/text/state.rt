@@ -3,7 +3,7 @@ ghost use Rattle.std.specs.Prelude.{◌≡◌, ◌≤◌, ◌<◌, ◌∷◌, re
 ghost use Rattle.tl_css.specs.Program.{change, unite, meet, waiting_after};
 ghost use Rattle.tl_css.specs.PseudoClass as p;
 ghost use Rattle.tl_css.specs.Selector as s;
-ghost use Rattle.tl_css.specs.Reading.{combine, compounded, finish, lead, link_of, listed, made, opened, reach_of, related, seen, start, close, taken, with_before, with_simple};
+ghost use Rattle.tl_css.specs.Reading.{combine, meet_if, finish, lead, link_of, unite_if, apply_role, opened, reach_of, relate, seen, start, close, taken, with_before, with_simple};
 ghost use Rattle.tl_css.specs.SimpleView.{run_text, simple, test_text, whole};
 ghost use Rattle.tl_css.specs.ItemView.{item};
 ghost use Rattle.tl_css.specs.StateView as v;
@@ -59,7 +59,7 @@ impl Open {
 }
 
 // The test that is not decoded yet.
-fn decoded(alloc: Global, own: TestText<'_>) -> Result<Test, AllocError>
+fn decode_test(alloc: Global, own: TestText<'_>) -> Result<Test, AllocError>
     ensures { IfOk result (λ t. test t ≡ test_text own.entry) }
 {
     Ok(match own {
@@ -91,17 +91,17 @@ fn edge(program: Program, way: Way, link: Link) -> Result<Program, AllocError>
 }
 
 // The last one, put together with what is begun of its compound.
-fn compounded(program: Program, begun: bool) -> Result<Program, AllocError>
+fn meet_if(program: Program, begun: bool) -> Result<Program, AllocError>
     ensures { IfOk result (λ p. waiting_after p.steps.items
-        ≡ compounded begun (waiting_after program.steps.items)) }
+        ≡ meet_if begun (waiting_after program.steps.items)) }
 {
     if begun { program.meet() } else { Ok(program) }
 }
 
-fn tested(program: Program, begun: bool, asked: Test) -> Result<Program, AllocError>
+fn add_test(program: Program, begun: bool, asked: Test) -> Result<Program, AllocError>
     requires { length (waiting_after program.steps.items) ≤ 58 }
     ensures { IfOk result (λ p. waiting_after p.steps.items
-        ≡ compounded begun (s.Is (test asked) ∷ waiting_after program.steps.items)) }
+        ≡ meet_if begun (s.Is (test asked) ∷ waiting_after program.steps.items)) }
 {
     if begun {
         program.keep(asked)
@@ -119,17 +119,17 @@ fn with_whole(
 ) -> Result<Program, AllocError>
     requires { length (waiting_after program.steps.items) ≤ 58 }
     ensures { IfOk result (λ p. waiting_after p.steps.items
-        ≡ compounded begun (whole own.entry ∷ waiting_after program.steps.items)) }
+        ≡ meet_if begun (whole own.entry ∷ waiting_after program.steps.items)) }
 {
     match own {
-        Whole::Test(text) => tested(program, begun, decoded(alloc, text)?),
-        Whole::Edge(way, link) => compounded(edge(program, way, link)?, begun),
+        Whole::Test(text) => add_test(program, begun, decode_test(alloc, text)?),
+        Whole::Edge(way, link) => meet_if(edge(program, way, link)?, begun),
         Whole::Only(link) => {
             let first = edge(program, Way::From, link)?;
-            compounded(edge(first, Way::To, link)?.meet()?, begun)
+            meet_if(edge(first, Way::To, link)?.meet()?, begun)
         }
         Whole::Nth(way, link, formula) => {
-            compounded(program.ask(Test::Any)?.count(way, link, formula)?, begun)
+            meet_if(program.ask(Test::Any)?.count(way, link, formula)?, begun)
         }
     }
 }
@@ -140,13 +140,13 @@ fn relate_last(program: Program, last: Combinator, more: bool) -> Result<Program
         ≡ seen last more (waiting_after program.steps.items)) }
 {
     let program = program.shift(Way::To, last.link(), last.reach())?;
-    compounded(program, more)
+    meet_if(program, more)
 }
 
 // The compounds of a relative selector.
-fn related(mut program: Program, combinators: &[Combinator]) -> Result<Program, AllocError>
+fn relate(mut program: Program, combinators: &[Combinator]) -> Result<Program, AllocError>
     ensures { IfOk result (λ p. waiting_after p.steps.items
-        ≡ related (reverse combinators.now) (waiting_after program.steps.items)) }
+        ≡ relate (reverse combinators.now) (waiting_after program.steps.items)) }
 {
     let mut left = combinators;
     'combinators: while let Some((last, before)) = left.split_last() {
@@ -156,17 +156,17 @@ fn related(mut program: Program, combinators: &[Combinator]) -> Result<Program, 
     Ok(program)
 }
 
-fn listed(program: Program, more: bool) -> Result<Program, AllocError>
+fn unite_if(program: Program, more: bool) -> Result<Program, AllocError>
     ensures { IfOk result (λ p. waiting_after p.steps.items
-        ≡ listed more (waiting_after program.steps.items)) }
+        ≡ unite_if more (waiting_after program.steps.items)) }
 {
     if more { program.unite() } else { Ok(program) }
 }
 
 // What a list is made into.
-fn made(program: Program, role: Role) -> Result<Program, AllocError>
+fn apply_role(program: Program, role: Role) -> Result<Program, AllocError>
     ensures { IfOk result (λ p. waiting_after p.steps.items
-        ≡ made role (waiting_after program.steps.items)) }
+        ≡ apply_role role (waiting_after program.steps.items)) }
 {
     match role {
         Role::Top | Role::Is | Role::Has => Ok(program),
@@ -270,8 +270,8 @@ impl State {
             open,
             outer,
         } = self;
-        let program = related(program, open.combinators.as_slice())?;
-        let program = listed(program, open.listed)?;
+        let program = relate(program, open.combinators.as_slice())?;
+        let program = unite_if(program, open.listed)?;
         let open = Open {
             role: open.role,
             left: open.left,
@@ -300,7 +300,7 @@ impl State {
             let Program { steps, waiting: _ } = program;
             return Ok(Taken::Done(Selector::new(steps)));
         };
-        let program = compounded(made(program, open.role)?, around.begun)?;
+        let program = meet_if(apply_role(program, open.role)?, around.begun)?;
         around.begun = true;
         Ok(Taken::Goes(State {
             program,

@@ -5,8 +5,8 @@ use Rattle.tl_css_select.proofs.Siblings.{links_lower}
 use Rattle.tl_css_select.proofs.Relatives.{marks_related}
 use Rattle.tl_css_select.proofs.columns.relatives.Goals as goal
 
-pub passed-requires : goal.passed-requires
-passed-requires g c =
+pub pass_marks-requires : goal.pass_marks-requires
+pass_marks-requires g c =
     links_lower (map g.N.Element.node c.args.nodes.now) c.requires.forest c.args.relation.1 c.args.links.now c.requires.links
 
 pub returns : goal.returns

@@ -1,6 +1,5 @@
 use Rattle.std.proofs.Common.{List, ℕ, map, subst, sym}
 use Rattle.tl_css_select.specs.Kin.{AreLinksOf}
-use Rattle.tl_css_select.proofs.Pushes.{kin_links}
 use Rattle.tl_css_select.proofs.stack.count.Goals as goal
 
 pub terms-requires : goal.terms-requires
@@ -9,5 +8,5 @@ terms-requires g c =
     record {
       forest = c.requires.forest;
       numbered = c.requires.numbered;
-      links = subst (λ (ls : List ℕ). AreLinksOf nodes c.args.sequence.1 ls) (sym c.links.ensures) (kin_links nodes c.args.kin.now c.requires.kin c.args.sequence.1);
+      links = subst (λ (ls : List ℕ). AreLinksOf nodes c.args.sequence.1 ls) (sym c.links.ensures) c.requires.links;
     }

@@ -19,5 +19,5 @@ returns g c =
     let marks = c.in_ok-marks.marks.items in
     let ns = c.in_ok-numbers.numbers.items in
     numbers_found nodes c.args.selector.now marks ns
-    (subst (λ (e : Css). AreMarks nodes e marks) (sym c.steps.ensures) c.in_ok-marks.ensures)
+    (subst (λ (e : Css). AreMarks nodes e marks) (sym c.steps-steps.ensures) c.in_ok-marks.ensures)
     (subst (λ (ms : List Bool). AreNumbers ms (length ms) ns) c.deref.ensures.value c.in_ok-numbers.ensures)

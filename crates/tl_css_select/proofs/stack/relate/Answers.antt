@@ -1,6 +1,5 @@
 use Rattle.std.proofs.Common.{List, ℕ, map, subst, sym}
 use Rattle.tl_css_select.specs.Kin.{AreLinksOf}
-use Rattle.tl_css_select.proofs.Pushes.{kin_links}
 use Rattle.tl_css_select.proofs.stack.relate.Goals as goal
 
 pub relatives-requires : goal.relatives-requires
@@ -8,5 +7,5 @@ relatives-requires g c =
     let nodes = map g.N.Element.node c.args.nodes.now in
     record {
       forest = c.requires.forest;
-      links = subst (λ (ls : List ℕ). AreLinksOf nodes c.args.relation.1 ls) (sym c.links.ensures) (kin_links nodes c.args.kin.now c.requires.kin c.args.relation.1);
+      links = subst (λ (ls : List ℕ). AreLinksOf nodes c.args.relation.1 ls) (sym c.links.ensures) c.requires.links;
     }

@@ -1,0 +1,47 @@
+use Rattle.std.proofs.Common.{◌≡◌, ◌↔◌, ◌∷◌, ◌∙◌, [], List, ℕ, map, option_map, ap, sym, subst, refl, rules}
+use Rattle.std.specs.Option.{option_copied, unwrap_or}
+use Rattle.std.proofs.lemmas.Bool.{false≢true}
+use Rattle.std.proofs.lemmas.Grind.{common_steps}
+use Rattle.tl_spec.specs.Lex.Attribute.{Pair}
+use Rattle.tl_spec.specs.Lex.AttributeList.{printed_pairs}
+use Rattle.tl_attributes.specs.AttributesView.{bytes_view, plain, pair_view}
+use Rattle.tl.proofs.Printing.{pairs-listed}
+use Rattle.tl_css.specs.View.{test}
+use Rattle.tl_css_select.specs.Pair.{HasPair, IsPairMet}
+use Rattle.tl_css_select.proofs.Pairs.{none_has, has_more, has_here, has_behind}
+use Rattle.tl_css_select.proofs.pair.has_pair.Goals as goal
+
+pub loop-pair-init : goal.loop-pair-init
+loop-pair-init c =
+    let all = printed_pairs (plain c.args.attributes.now) in
+    subst (λ (ps : List Pair). HasPair (test c.args.test.now) ps ↔ HasPair (test c.args.test.now) all)
+    (sym (pairs-listed c.args.attributes.now) ∙ ap (map pair_view) (sym c.iter-pair-items.ensures.value) ∙ ap (map pair_view) (sym c.into_iter-pair-iterator.ensures.into_iter_gives))
+    (λ h. h, λ h. h)
+
+pub loop-pair-preserved : goal.loop-pair-preserved
+loop-pair-preserved c =
+    let t = test c.args.test.now in
+    let q : Pair = (c.as_bytes.result.now, option_map bytes_view (option_copied c.in-Some.pair.1)) in
+    let qs : List Pair = map pair_view c.next.new.self in
+    let rest : map pair_view c.loop-pair.pair-iterator ≡ q ∷ qs = search (rules, common_steps) in
+    let isnt : IsPairMet t q.0 (unwrap_or q.1 []) → ⊥ =
+    λ h. false≢true (sym c.if-met.false ∙ c.in_ok-met.ensures.1 (subst (λ (own : List ℕ). IsPairMet t q.0 own) (sym c.value_bytes.ensures) h)) in (
+      λ h. c.loop-pair.invariant.0 (subst (λ (ps : List Pair). HasPair t ps) (sym rest) (has_more t q qs h)),
+      λ h. has_behind t q qs isnt (subst (λ (ps : List Pair). HasPair t ps) rest (c.loop-pair.invariant.1 h)),
+    )
+
+pub returns-then-met : goal.returns-then-met
+returns-then-met c =
+    let t = test c.args.test.now in
+    let q : Pair = (c.as_bytes.result.now, option_map bytes_view (option_copied c.in-Some.pair.1)) in
+    let qs : List Pair = map pair_view c.next.new.self in
+    let rest : map pair_view c.loop-pair.pair-iterator ≡ q ∷ qs = search (rules, common_steps) in
+    let met : IsPairMet t q.0 (unwrap_or q.1 []) =
+    subst (λ (own : List ℕ). IsPairMet t q.0 own) c.value_bytes.ensures (c.in_ok-met.ensures.0 c.if-met.true) in
+    (λ e. c.loop-pair.invariant.0 (subst (λ (ps : List Pair). HasPair t ps) (sym rest) (has_here t q qs met)), λ h. refl)
+
+pub returns : goal.returns
+returns c =
+    let t = test c.args.test.now in
+    let none : map pair_view c.loop-pair.pair-iterator ≡ [] = ap (map pair_view) c.in-None.ensures.steps.0 in
+    (λ e. absurd (false≢true e), λ h. absurd (none_has t (subst (λ (ps : List Pair). HasPair t ps) none (c.loop-pair.invariant.1 h))))

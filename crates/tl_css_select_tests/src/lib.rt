@@ -1,0 +1,7 @@
+//! Worked rows of selectors of CSS in documents.
+#![tactic(auto)]
+
+#[cfg(test)]
+mod found;
+#[cfg(test)]
+mod shared;
