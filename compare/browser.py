@@ -1,6 +1,6 @@
 """What browsers make of pages that `tl sanitize` made safe.
 
-    ./x compare browser [--program FILE] [--runs N] [--trees N] [--seed N]
+    ./x compare browser [--program FILE] [--runs N] [--trees N [--ammonia FILE]] [--seed N]
 
 The pages are those of `crates/tl_safe_tests/src/pages.rt`, which attack a browser, and N made up of pieces of such pages.
 Each is handed to Chromium as it stands and once it is sanitized: as a document in a frame, put into a live element, and put
@@ -8,29 +8,37 @@ there once more as the browser writes it. It says of how many pages a script ran
 Of what is sanitized it says too which elements, keys and comments there are beyond the policy's lists, whether html5lib's
 tokenizer reads the tags and keys that were written, and whether sanitizer.py, written from docs/SAFE.md alone, prints the same.
 
-With --trees it compares instead the trees that html5lib's tree builder makes of N balanced pages with the trees that were
-written: of all names of the policy, and of those that the builder has no rule for that ends or moves another one.
+With --trees it looks instead at N pages for each of five policies whose tags are nested wrongly (misnested.py): whether the
+plain sanitizer prints the same, and whether the trees that Chromium builds of the print are those that it was printed of: put
+into `div`, `body`, `td` and `li`, and as a document, each of them once more as the browser writes it. The same pages go through
+the Rust crate ammonia where its program is named, which `cargo build --release` makes in compare/ammonia.
 
 Status: 0 where nothing is wrong, 1 where something is, 2 for words that aren't understood, 3 where Chromium or html5lib isn't
 installed (Debian: chromium, python3-html5lib).
 """
-import base64
-import html
-import json
 import random
 import re
-import shutil
 import subprocess
+import sys
 import tempfile
 
 from tools.programs import gate_build
-from tools.workspace import ROOT, Stop, text_of
+from tools.workspace import ROOT, Stop
 
-from .markup import balanced, tags_read, tags_written, tree_read, tree_written
+from .chromium import Missing, all_answers, chromium, version
+from .fitting import Unchanged
+from .markup import tags_read, tags_written, tree_said, tree_with_values_as_texts
+from .misnested import POLICIES, misnested
 from .sanitizer import Policy, safe_print
 
 BATCH = 100
+MANY = 1000
+TREES = 4000
+# how many wrong pages are shown, the shortest first
+SHOWN = 5
 CALL = "steal()"
+# A page that is printed as it stands, between others.
+BETWEEN = "(here begins another page)"
 
 # Pieces of pages: tags that end and begin where they should not, names in any case, references, controls, raw texts, links.
 PIECES = [
@@ -47,10 +55,6 @@ PIECES = [
     " onclick=\"steal()\"", " href=javascript:steal()", " style=x", " id=body", " class=user-x", " id=\"user-y\"", " title=z", " src=/y",
     "x", "text", "é", "東", "\u2028", "</p title=\">", "<p<img>", "< img src=x onerror=steal()>", "<li>", "<ul>", "</ul>", "<h1>", "</h1>",
 ]
-
-
-class Missing(Exception):
-    """Something isn't installed."""
 
 
 def literals(text):
@@ -84,69 +88,90 @@ def made_up(chance):
     return "".join(chance.choice(PIECES) for _ in range(chance.randint(1, 14)))
 
 
-def sanitized(program, page, words=()):
-    done = subprocess.run([program, "sanitize", *words], input=page.encode(), stdout=subprocess.PIPE, stderr=subprocess.PIPE, check=False)
+def said_by(command, data=b""):
+    done = subprocess.run(command, input=data, stdout=subprocess.PIPE, stderr=subprocess.PIPE, check=False)
     if done.returncode != 0:
-        raise Stop(f"{program} ended with {done.returncode}: {done.stderr.decode()}")
+        raise Stop(f"{command[0]} ended with {done.returncode}: {done.stderr.decode()}")
     return done.stdout.decode()
 
 
-def policy(program):
+def prints_of(command, pages):
+    """What a command prints of many pages, whose files stand after its words, by few runs of it."""
+    out = []
+    for start in range(0, len(pages), MANY):
+        with tempfile.TemporaryDirectory() as folder:
+            files = []
+            for number, page in enumerate([BETWEEN, *pages[start:start + MANY]]):
+                with open(f"{folder}/{number}", "wb") as file:
+                    file.write(page.encode())
+                files += [f"{folder}/{number}", f"{folder}/0"] if number else []
+            out += said_by([*command, *files]).split(BETWEEN)[:-1]
+    return out
+
+
+def sanitized(program, pages, words=()):
+    return prints_of([program, "sanitize", *words, "--no-name", "--"], pages)
+
+
+def policy(program, words=()):
     """The lists that the program takes, as it says them."""
-    return Policy(sanitized(program, "", ["--policy"]).splitlines())
-
-
-def chromium():
-    found = shutil.which("chromium") or shutil.which("chromium-browser") or shutil.which("google-chrome")
-    if not found:
-        raise Missing("chromium")
-    return found
+    return Policy(said_by([program, "sanitize", *words, "--policy"]).splitlines())
 
 
 def judged(browser, pages):
     """What is seen in Chromium of each page."""
-    out = []
-    for start in range(0, len(pages), BATCH):
-        batch = [page.replace(CALL, f"parent.stolen({number})") for number, page in enumerate(pages[start:start + BATCH])]
-        with tempfile.TemporaryDirectory() as folder:
-            coded = json.dumps([base64.b64encode(page.encode()).decode() for page in batch])
-            with open(f"{folder}/page.html", "w", encoding="utf-8") as file:
-                # A script of the page calls `parent.stolen(N)`; what is seen of each page is written into the document.
-                file.write(text_of(f"{ROOT}/compare/harness.html").replace("PAGES", coded))
-            words = ["timeout", "300", browser, "--headless", "--no-sandbox", "--disable-gpu", f"--user-data-dir={folder}/user",
-                     "--virtual-time-budget=300000", "--dump-dom", f"file://{folder}/page.html"]
-            dom = subprocess.run(words, stdout=subprocess.PIPE, stderr=subprocess.DEVNULL, check=False).stdout.decode("utf-8", "replace")
-        found = re.search(r"JUDGED(.*?)END</pre>", dom, re.S)
-        if not found:
-            raise Stop("Chromium didn't end")
-        out += json.loads(html.unescape(found.group(1)))
-    return out
+    # A script of the page calls `parent.stolen(N)`.
+    batch = [page.replace(CALL, f"parent.stolen({number % BATCH})") for number, page in enumerate(pages)]
+    return all_answers(browser, "harness.html", batch, BATCH)
 
 
-# The tree builder's rules end one of these where another one begins, or open it again.
-ENDED = {"a", "dd", "dt", "h1", "h2", "h3", "h4", "h5", "h6", "li", "p"}
+def trees_seen(browser, prints):
+    """The tree that each print stands for, and what is seen of it in Chromium."""
+    trees = [tree_said(text) for text in prints]
+    batch = [(text, tree, tree_with_values_as_texts(text)) for text, tree in zip(prints, trees)]
+    return list(zip(trees, all_answers(browser, "trees.html", batch, TREES)))
 
 
-def look_at_trees(program, count, chance):
-    names = sorted(name.decode() for name in policy(program).tags)
-    wrong = 0
-    for said, used in (("all names", names), ("all but " + " ".join(sorted(ENDED)), [it for it in names if it not in ENDED])):
-        other, first = 0, None
-        for _ in range(count):
-            page = sanitized(program, balanced(chance, used))
-            if tree_read(page) != tree_written(tags_written(page)):
-                other += 1
-                first = min(first or page, page, key=len)
-        print(f"browser: {said}: {count} balanced pages, {other} with another tree" + (f", as {first}" if first else ""))
-        if used is not names:
-            wrong += other
-    return wrong
+def changes(tree, seen):
+    return bool(tree is None or seen["other"] or seen["again"])
+
+
+def look_at_trees(given, browser, called):
+    """Misnested pages of a policy's names: the plain sanitizer's print, and Chromium's trees of it."""
+    tags = POLICIES[called]
+    words = ["--tags", tags.replace(" ", ",")] if tags else []
+    lists = policy(given.program, words)
+    names = sorted(name.decode() for name in lists.tags)
+    chance = random.Random(f"{called} {given.seed}")
+    pages = [misnested(chance, names) if chance.random() < 0.9 else made_up(chance) for _ in range(given.trees)]
+    prints = sanitized(given.program, pages, words)
+    kept = [safe_print(page.encode(), lists, Unchanged).decode() for page in pages]
+    wrong = []
+    for page, text in zip(pages, prints):
+        if text.encode() != safe_print(page.encode(), lists):
+            wrong.append((len(page), f"the plain sanitizer prints another page: {page!r} is printed as {text!r}"))
+    all_seen = trees_seen(browser, prints)
+    for page, text, (tree, seen) in zip(pages, prints, all_seen):
+        if changes(tree, seen):
+            wrong.append((len(page), f"{page!r} is printed as {text!r}, for {tree}: {seen}"))
+    for _, said in sorted(wrong)[:SHOWN]:
+        print(f"browser: {called}: {said}")
+    changed = sum(1 for text, other in zip(prints, kept) if text != other)
+    returns, references = (sum(1 for _, seen in all_seen if seen[what]) for what in ("returns", "references"))
+    print(f"browser: {called}: {len(pages)} pages, {changed} of them changed to stay: {len(wrong)} wrong; of {references} a value has a "
+          f"reference that Chromium reads otherwise by its short way, of {returns} a carriage return that was a reference is a line feed "
+          "when read back", flush=True)
+    if given.ammonia:
+        others = prints_of([given.ammonia, ",".join(names)], pages)
+        moved = sum(1 for tree, seen in trees_seen(browser, others) if changes(tree, seen))
+        print(f"browser: {called}: of {moved} pages Chromium builds another tree than the one that ammonia prints", flush=True)
+    return len(wrong)
 
 
 def look_at_pages(program, browser, pages):
     lists = policy(program)
     elements, keys = ({word.decode() for word in words} for words in (lists.tags, lists.keys))
-    prints = [sanitized(program, page) for page in pages]
+    prints = sanitized(program, pages)
     wrong = 0
     for page, text in zip(pages, prints):
         if text.encode() != safe_print(page.encode(), lists):
@@ -170,6 +195,7 @@ def look_at_pages(program, browser, pages):
 
 def main(parser, words):
     parser.add_argument("--program", metavar="FILE")
+    parser.add_argument("--ammonia", metavar="FILE")
     for it, otherwise in (("runs", 1000), ("trees", 0), ("seed", 1)):
         parser.add_argument(f"--{it}", type=int, default=otherwise, metavar="N")
     given = parser.parse_args(words)
@@ -183,12 +209,13 @@ def main(parser, words):
     except Missing as missing:
         print(f"browser: {missing} isn't installed; nothing was compared")
         return 3
-    version = subprocess.run([browser, "--version"], stdout=subprocess.PIPE, stderr=subprocess.DEVNULL, check=False).stdout.decode().strip()
-    print(f"browser: {version}, html5lib {html5lib.__version__}")
-    chance = random.Random(given.seed)
+    print(f"browser: {version(browser)}, html5lib {html5lib.__version__}", flush=True)
     if given.trees:
-        wrong = look_at_trees(given.program, given.trees, chance)
+        # a tree is a list in a list for each element
+        sys.setrecursionlimit(10000)
+        wrong = sum(look_at_trees(given, browser, called) for called in POLICIES)
     else:
+        chance = random.Random(given.seed)
         pages = written_pages() + [made_up(chance) for _ in range(given.runs)]
         wrong = look_at_pages(given.program, browser, pages)
     print(f"browser: {wrong} pages wrong" if wrong else "browser: nothing wrong")

@@ -1,8 +1,9 @@
-"""Tags and trees: those that are written in a page of the safe form, those that html5lib reads, and balanced pages of some names."""
+"""Tags and trees that are written in a page of the safe form, and those that html5lib reads."""
 import re
 
 TAG = re.compile(r'<(/?)([a-z][a-z0-9]*)((?: [a-z-]+(?:="[^"\0\x1b]*")?)*)>')
 KEY = re.compile(r' ([a-z-]+)(?:="[^"]*")?')
+PAIR = re.compile(r' ([a-z-]+)(?:="([^"]*)")?')
 VOID = {"area", "base", "br", "col", "embed", "hr", "img", "input", "link", "meta", "param", "source", "track", "wbr"}
 
 
@@ -21,14 +22,18 @@ def tags_written(page):
     return tags
 
 
-def tags_read(page):
-    """The tags that html5lib's tokenizer reads, and what else it reads but characters."""
+def tokens(page):
+    """The tokens that html5lib's tokenizer reads, each with its kind."""
     from html5lib._tokenizer import HTMLTokenizer
     from html5lib.constants import tokenTypes
-    names = {number: name for name, number in tokenTypes.items()}
+    kinds = {number: name for name, number in tokenTypes.items()}
+    return [(kinds[token["type"]], token) for token in HTMLTokenizer(page)]
+
+
+def tags_read(page):
+    """The tags that html5lib's tokenizer reads, and what else it reads but characters."""
     tags = []
-    for token in HTMLTokenizer(page):
-        kind = names[token["type"]]
+    for kind, token in tokens(page):
         if kind in ("StartTag", "EmptyTag"):
             tags.append((False, token["name"], tuple(token["data"])))
         elif kind == "EndTag":
@@ -38,38 +43,43 @@ def tags_read(page):
     return tags
 
 
-def tree_written(tags):
-    root = ("", [])
-    path = [root]
-    for is_end, name, _ in tags:
-        if is_end:
+def tree_said(page, values=None):
+    """The tree that a page of the safe form stands for, by html5lib's tokenizer: lists of texts and of (name, pairs, children), with the
+    pairs of its tags in place of those that are read, where they are given. None where its tags aren't balanced, or something else is
+    read."""
+    root = []
+    path, open_names = [root], []
+    for kind, token in tokens(page):
+        if kind in ("Characters", "SpaceCharacters"):
+            if path[-1] and isinstance(path[-1][-1], str):
+                path[-1][-1] += token["data"]
+            else:
+                path[-1].append(token["data"])
+        elif kind == "StartTag":
+            children = []
+            path[-1].append([token["name"], values.pop(0) if values else [list(pair) for pair in token["data"].items()], children])
+            if token["name"] not in VOID:
+                path.append(children)
+                open_names.append(token["name"])
+        elif kind == "EndTag":
+            if not open_names or open_names.pop() != token["name"]:
+                return None
             path.pop()
-            continue
-        node = (name, [])
-        path[-1][1].append(node)
-        if name not in VOID:
-            path.append(node)
-    return root[1]
+        elif kind != "ParseError":
+            return None
+    return None if open_names else root
 
 
-def tree_read(page):
-    import html5lib
+def tree_with_values_as_texts(page):
+    """The same with the references of values read as those of texts are: `&copy=` too. None where it is the same tree."""
+    values, other = [], False
+    for tag in TAG.finditer(page):
+        if tag.group(1) != "/":
+            pairs = PAIR.findall(tag.group(3))
+            values.append([[key, text_said(value)] for key, value in pairs])
+            other = other or any("&" in value for _, value in pairs)
+    return tree_said(page, values) if other else None
 
-    def node(element):
-        return (element.tag, [node(child) for child in element])
-    return [node(child) for child in html5lib.parseFragment(page, container="div", namespaceHTMLElements=False)]
 
-
-def balanced(chance, names, depth=0):
-    """A balanced page of such names."""
-    out = []
-    for _ in range(chance.randint(1, 4)):
-        name = chance.choice(names)
-        if chance.random() < 0.3:
-            out.append(chance.choice(["x", " ", "y "]))
-        if name in VOID:
-            out.append(f"<{name}>")
-        else:
-            inner = balanced(chance, names, depth + 1) if depth < 6 and chance.random() < 0.6 else chance.choice(["", "z"])
-            out.append(f"<{name}>{inner}</{name}>")
-    return "".join(out)
+def text_said(text):
+    return "".join(token["data"] for kind, token in tokens(text) if kind in ("Characters", "SpaceCharacters"))

@@ -4,6 +4,7 @@ It is written from those two pages alone, and knows nothing of how the crates do
 """
 import re
 
+from .fitting import Writer
 from .reader import VOID, Document
 
 OPAQUE = b"script style textarea title xmp iframe noembed noframes noscript plaintext svg math".split()
@@ -39,30 +40,36 @@ def written(value):
     return value.replace(b"<", b"&lt;").replace(b">", b"&gt;")
 
 
-def safe_print(page, policy):
-    """What is kept of a page, printed."""
-    document, out = Document(page), []
+def start_of(node, policy):
+    """The start tag of a tag, with the keys that stay."""
+    out = b"<" + node[1]
+    for key, value in node[2].pairs():
+        if policy.keeps(key, value):
+            out += b" " + key + (b"" if value is None else b'="' + written(value) + b'"')
+    return out + b">"
+
+
+def safe_print(page, policy, how=Writer):
+    """What is kept of a page, made to stay, printed."""
+    document, writer = Document(page), how(policy.tags)
     work = [("meet", handle) for handle in reversed(document.top)]
     while work:
         what, it = work.pop()
-        if what == "write":
-            out.append(it)
+        if what == "leave":
+            writer.leave(it)
             continue
         node = document.nodes[it]
         if node[0] == "text":
-            out.append(bytes(byte for byte in node[1] if byte not in b"<\0\x1b"))
+            writer.text(bytes(byte for byte in node[1] if byte not in b"<\0\x1b"))
         elif node[0] == "tag":
-            name = node[1]
-            if name in policy.tags:
-                out.append(b"<" + name)
-                for key, value in node[2].pairs():
-                    if policy.keeps(key, value):
-                        out.append(b" " + key + (b"" if value is None else b'="' + written(value) + b'"'))
-                out.append(b">")
-                if name in VOID:
+            if node[1] in policy.tags:
+                count = writer.tag(node[1], start_of(node, policy), node[1] in VOID)
+                if node[1] in VOID:
                     continue
-                work.append(("write", b"</" + name + b">"))
-            elif name.lower() in OPAQUE:
+                if count is not None:
+                    work.append(("leave", count))
+            elif node[1].lower() in OPAQUE:
                 continue
             work += [("meet", child) for child in reversed(node[3])]
-    return b"".join(out)
+    writer.end_beyond(0)
+    return b"".join(writer.out)

@@ -61,8 +61,8 @@ Each command, and each option of `select`.
   <p>x<a>z</a></p> (no-eol)
   $ printf '<p id=i title=t><i>a</i><b>c' | tl sanitize --tags p,i --keys title
   <p title="t"><i>a</i>c</p> (no-eol)
-  $ printf '<p id=u-i><a href="ftp:x" id=i><a href="/y">' | tl sanitize --keys=id,href --link-keys=href --links=/ --prefix=u-
-  <p id="u-i"><a><a href="/y"></a></a></p> (no-eol)
+  $ printf '<p id=u-i><a href="ftp:x" id=i></a><a href="/y">' | tl sanitize --keys=id,href --link-keys=href --links=/ --prefix=u-
+  <p id="u-i"><a></a><a href="/y"></a></p> (no-eol)
   $ tl print
   $ tl select --json -0 b <page
   [{"attributes":{},"name":"b","node":2,"text":"y"}]\x00 (esc) (no-eol)

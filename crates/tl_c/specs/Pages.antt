@@ -16,7 +16,8 @@ use Rattle.tl_extract.specs.declared.field.Field.{Field}
 use Rattle.tl_extract.specs.declared.field.Field.TheVariants.{Number, OuterHtml, InnerHtml, InnerText, Attribute}
 use Rattle.tl_program.specs.Action.{Edits}
 use Rattle.tl_program.specs.Output.{output_of}
-use Rattle.tl_safe.specs.Filter.{kept, trees_of}
+use Rattle.tl_safe.specs.Filter.{trees_of}
+use Rattle.tl_safe.specs.KeptFitted.{kept_fitted}
 use Rattle.tl_safe.specs.Lists.{blog_lists}
 
 -- the print of a page after edits
@@ -72,4 +73,5 @@ selection text selector number key page =
 -- what the policy for the text of a blog keeps of a page
 abbrev pub safe_page : List ℕ → Outcome (List ℕ)
 safe_page page =
-    if is_page page then success (print (kept blog_lists (trees_of page))) else not_understood
+    if is_page page then success (print (kept_fitted blog_lists (trees_of page)))
+    else not_understood

@@ -4,7 +4,8 @@ ghost use Rattle.tl_spec.specs.Print.Normal.{norm};
 ghost use Rattle.tl.specs.View.{document_of};
 ghost use Rattle.tl_html_spec.specs.HtmlTokenizer.{tokens_in_page};
 ghost use Rattle.tl_safe.specs.IsSafe.{IsSafe, tokens_of};
-ghost use Rattle.tl_safe.specs.Filter.{kept, trees_of};
+ghost use Rattle.tl_safe.specs.Filter.{trees_of};
+ghost use Rattle.tl_safe.specs.KeptFitted.{kept_fitted};
 ghost use Rattle.tl_safe.specs.Lists.{blog_lists};
 ghost use Rattle.tl_page.specs.Outcome.{Gives, not_understood};
 ghost use Rattle.tl_page.specs.Page.{document_in};
@@ -39,7 +40,7 @@ pub(crate) fn safe_page(alloc: Global, page: &[u8]) -> Result<String, Failure>
     // As `sanitize` says of a text.
     ensures form { IfOk result (λ safe. IsSafe blog_lists (string_bytes safe)) }
     ensures standard { IfOk result (λ safe. tokens_in_page (string_bytes safe)
-        ≡ tokens_of (norm (kept blog_lists (trees_of page.now)))) }
+        ≡ tokens_of (norm (kept_fitted blog_lists (trees_of page.now)))) }
 {
     let text = text(page)?;
     Ok(sanitize(alloc, &Policy::blog(), text)?)

@@ -5,7 +5,8 @@ ghost use Rattle.tl_spec.specs.Select.Selector.{Selector};
 ghost use Rattle.tl_spec.specs.Select.Text.{IsSelectorText};
 ghost use Rattle.tl_html_spec.specs.HtmlTokenizer.{tokens_in_page};
 ghost use Rattle.tl_safe.specs.IsSafe.{IsSafe, tokens_of};
-ghost use Rattle.tl_safe.specs.Filter.{kept, trees_of};
+ghost use Rattle.tl_safe.specs.Filter.{trees_of};
+ghost use Rattle.tl_safe.specs.KeptFitted.{kept_fitted};
 ghost use Rattle.tl_safe.specs.Lists.{blog_lists};
 ghost use Rattle.tl_page.specs.Outcome.{success};
 ghost use Rattle.tl_extract.specs.Field.{IsNoSelector};
@@ -92,7 +93,7 @@ pub extern "C" fn tl_sanitize(alloc: Global, page: &[u8], out: &mut [u8], needed
     // As `sanitize` says of what it prints.
     ensures form { result ≡ 0 → IsSafe blog_lists (take needed.new out.new) }
     ensures standard { result ≡ 0 → tokens_in_page (take needed.new out.new)
-        ≡ tokens_of (norm (kept blog_lists (trees_of page.now))) }
+        ≡ tokens_of (norm (kept_fitted blog_lists (trees_of page.now))) }
 
     // No want of memory hides that a page is no text, or too long.
     ensures no_text { ¬ (IsUtf8 page.now) → result ≡ 2 }

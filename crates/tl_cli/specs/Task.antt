@@ -11,7 +11,8 @@ use Rattle.tl_page.specs.Page.{outcome_in}
 use Rattle.tl_program.specs.Action.{StandsFor}
 use Rattle.tl_program.specs.Output.{outcome_of_edited}
 use Rattle.tl_program.specs.Steps.{changes_in}
-use Rattle.tl_safe.specs.Filter.{kept, trees_of}
+use Rattle.tl_safe.specs.Filter.{trees_of}
+use Rattle.tl_safe.specs.KeptFitted.{kept_fitted}
 use Rattle.tl_safe.specs.Lists.{ListedWords}
 use Rattle.tl_safe.specs.Policies.{lists_of}
 use Rattle.tl_extract.specs.Field.{fields, first_field}
@@ -67,7 +68,8 @@ edit_of changes d = outcome_map whole (outcome_of_edited (apply_changes changes 
 
 -- the print of what lists let stand of a page
 abbrev pub safe_of : ListedWords → List ℕ → Outcome Finding
-safe_of lists page = outcome_in (λ d. success (whole (print (kept lists (trees_of page))))) page
+safe_of lists page =
+    outcome_in (λ d. success (whole (print (kept_fitted lists (trees_of page))))) page
 
 -- the selector of a task
 abbrev pub IsSelectorIn : Task → Option Selector → Type 0

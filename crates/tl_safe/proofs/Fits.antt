@@ -1,5 +1,5 @@
 -- Trees that are made to stay: what holds of each place of them.
-use Rattle.std.proofs.Common.{◌≡◌, ℕ, zero, suc, ◌+◌, ◌<◌, Bool, true, false, not, ◌||◌, ◌&&◌, ◌==◌, nat_lt, List, [], ◌∷◌, ◌++◌, length, map, Option, Some, None, option_map, codes, refl, ap, ap₂, sym, subst, ◌∙◌, inl, inr, true≢false, arith, append_assoc, append-nil, cond, if◌then◌else◌}
+use Rattle.std.proofs.Common.{◌≡◌, ℕ, suc, Bool, true, false, not, ◌||◌, ◌&&◌, ◌==◌, nat_lt, List, [], ◌∷◌, ◌++◌, length, map, Option, Some, None, option_map, codes, refl, ap, sym, subst, ◌∙◌, true≢false, arith, append_assoc, append-nil, cond, if◌then◌else◌}
 use Rattle.std.specs.Prelude.{⊤}
 use Rattle.std.specs.Char.{is_ascii_whitespace}
 use Rattle.std.specs.List.{IsDistinct, filter, list_all, starts_with}
@@ -127,8 +127,18 @@ no_flow flow e h = absurd (true≢false (sym e ∙ h))
 
 anew : (cs : List ℕ) → list_all is_written_anew cs ≡ true → ((c : ℕ) (rest : List ℕ) → cs ≡ c ∷ rest → (c == 10) ≡ false) → AreTexts true true (as_texts cs)
 anew [] h first = tt
-anew (c ∷ cs) h first =
-    let here = and_parts (is_written_anew c) (list_all is_written_anew cs) h in (
+anew (c ∷ cs) h first = by ((c == 38) || (c == 60)) refl
+  where
+    here : (is_written_anew c ≡ true) × (list_all is_written_anew cs ≡ true)
+    here = and_parts (is_written_anew c) (list_all is_written_anew cs) h
+
+    never : (c : ℕ) (x y : Bool) → (is_empty (if x then codes "&amp;" else if y then codes "&lt;" else c ∷ []) && true) ≡ false
+    never c true y = refl
+    never c false true = refl
+    never c false false = refl
+
+    by : (x : Bool) → ((c == 38) || (c == 60)) ≡ x → AreTexts true true (if x then text_escape c ∷ escaped_text cs ∷ [] else escaped_text (c ∷ cs) ∷ [])
+    by true e = (
       record {
         stays = escape-stays c (c == 38) (c == 60) refl here.0;
         spaces = λ e. absurd (true≢false e);
@@ -145,11 +155,22 @@ anew (c ∷ cs) h first =
         tt,
       ),
     )
-  where
-    never : (c : ℕ) (x y : Bool) → (is_empty (if x then codes "&amp;" else if y then codes "&lt;" else c ∷ []) && true) ≡ false
-    never c true y = refl
-    never c false true = refl
-    never c false false = refl
+    by false e =
+        let two = or_both (c == 38) (c == 60) e in
+        let same : text_escape c ≡ c ∷ [] =
+        ap (λ x. if x then codes "&amp;" else if c == 60 then codes "&lt;" else c ∷ []) two.0 ∙ ap (λ y. if y then codes "&lt;" else c ∷ []) two.1 in
+        let parts = and_parts (not (c == 0) && not (c == 13)) (not (c == 27)) here.0 in (
+          record {
+            stays = escaped-stays (c ∷ cs) h;
+            spaces = λ e. absurd (true≢false e);
+            first = λ _. ap (λ (s : List ℕ). is_first_text (s ++ escaped_text cs)) same
+                ∙ and_from (not (c == 10) && not (c == 13)) _
+                (and_from _ _ (ap not (first c cs refl)) (and_parts (not (c == 0)) (not (c == 13)) parts.0).1)
+                (ap (λ z. not z || starts_with ◌==◌ (c ∷ escaped_text cs) (codes "&amp;") || starts_with ◌==◌ (c ∷ escaped_text cs) (codes "&lt;")) two.0);
+            ascii = λ _. ap (λ (s : List ℕ). is_ascii_reference (s ++ escaped_text cs)) same ∙ ap (λ z. not z || are_ascii (c ∷ escaped_text cs)) two.0;
+          },
+          tt,
+        )
 
 plain_first : (bytes : List ℕ) → may_begin_line bytes ≡ false → is_first_text bytes ≡ true
 plain_first [] h = refl

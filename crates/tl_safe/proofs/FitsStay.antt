@@ -1,5 +1,5 @@
 -- Trees that fit stay, once they are made text.
-use Rattle.std.proofs.Common.{◌≡◌, ℕ, zero, suc, Bool, true, false, not, ◌||◌, ◌&&◌, ◌==◌, nat_lt, List, [], ◌∷◌, ◌++◌, length, take, codes, ◌⊎◌, inl, inr, refl, ap, ap₂, sym, subst, ◌∙◌, true≢false, arith, append-nil, cond, if◌then◌else◌}
+use Rattle.std.proofs.Common.{◌≡◌, ℕ, zero, suc, Bool, true, false, not, ◌||◌, ◌&&◌, ◌==◌, nat_lt, List, [], ◌∷◌, ◌++◌, length, take, codes, ◌⊎◌, inl, inr, refl, ap, ap₂, sym, subst, ◌∙◌, true≢false, arith, append-nil, if◌then◌else◌}
 use Rattle.std.specs.Prelude.{⊤}
 use Rattle.std.specs.Char.{is_ascii_whitespace}
 use Rattle.std.specs.List.{list_all, starts_with}
@@ -9,21 +9,21 @@ use Rattle.std.proofs.lemmas.Bool.Decides.{nat_tests}
 use Rattle.std.proofs.lemmas.List.Folds.{list_all-append}
 use Rattle.tl_spec.specs.Lex.ByteClass.{is_void}
 use Rattle.tl_spec.specs.Tree.Forest.{Forest, none, text, comment, tag, PlainTag}
-use Rattle.tl_spec.specs.Print.Normal.{join_text, lossy, lossy_tag, norm, tidy}
+use Rattle.tl_spec.specs.Print.Normal.{join_text, lossy, norm, tidy}
 use Rattle.tl_spec.proofs.Print.Ascii.{are_ascii, lossy-ascii}
 use Rattle.tl_spec.proofs.Lex.Bytes.{AllPass-also, all_pass, passes}
 use Rattle.tl_spec.proofs.Print.Lossy.{lossy-nil}
 use Rattle.tl_html_spec.specs.HtmlTokenizer.{with_feeds}
 use Rattle.tl_html_spec.specs.References.{not_zero}
 use Rattle.tl_html_spec.specs.Unescaped.{unescaped}
-use Rattle.tl_html_spec.proofs.Ahead.{apart, or_both}
+use Rattle.tl_html_spec.proofs.Ahead.{apart}
 use Rattle.tl_html_spec.proofs.Escapes.{text_byte}
 use Rattle.tl_html_spec.proofs.Feeds.{feed-all, feed-byte, feed-word}
 use Rattle.tl_html_spec.proofs.Looked.{byte-plain, bytes-plain, is_plain}
 use Rattle.tl_tree_spec.specs.Builder.{is_flow, mode_of}
 use Rattle.tl_tree_spec.specs.Groups.{group}
 use Rattle.tl_tree_spec.specs.Stays.{begins_line, is_alone, is_none, is_preformatted, may_be_read, may_stand, stay}
-use Rattle.tl_safe.specs.Fitted.{is_empty, is_read, most_open, names_of}
+use Rattle.tl_safe.specs.Fitted.{is_empty, is_read, names_of}
 use Rattle.tl_safe.specs.HtmlTrees.{as_html, stays}
 use Rattle.tl_safe.specs.IsSafe.{text_characters}
 use Rattle.tl_safe.specs.Filter.{is_text_byte}

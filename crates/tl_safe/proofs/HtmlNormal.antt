@@ -1,11 +1,11 @@
 -- The normal form of trees, as a browser has them: no text is empty, and none stands beside another one.
-use Rattle.std.proofs.Common.{◌≡◌, ℕ, Bool, true, false, not, ◌&&◌, ◌==◌, List, [], ◌∷◌, ◌++◌, refl, ap, ap₂, sym, subst, ◌∙◌, if◌then◌else◌}
+use Rattle.std.proofs.Common.{◌≡◌, ℕ, Bool, true, false, not, ◌&&◌, ◌==◌, List, [], ◌∷◌, ◌++◌, refl, ap, ◌∙◌, if◌then◌else◌}
 use Rattle.std.proofs.lemmas.Bool.{and_from, and_parts}
 use Rattle.tl_spec.specs.Tree.Forest.{Forest, none, text, comment, tag, PlainTag}
 use Rattle.tl_spec.specs.Print.Normal.{join_comment, join_text, lossy, norm, tidy}
 use Rattle.tl_html_spec.specs.HtmlTokenizer.{with_feeds}
 use Rattle.tl_html_spec.specs.Unescaped.{unescaped}
-use Rattle.tl_tree_spec.specs.HtmlForest.{begins_with_text, is_empty, is_normal}
+use Rattle.tl_tree_spec.specs.HtmlForest.{is_empty, is_normal}
 use Rattle.tl_safe.specs.HtmlTrees.{as_html}
 use Rattle.tl_safe.specs.IsSafe.{text_characters}
 use Rattle.tl_safe.proofs.Characters.{is_filled, unescaped-filled}

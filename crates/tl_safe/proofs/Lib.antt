@@ -4,8 +4,6 @@ pub mod Says
 pub mod Links
 pub mod Writes
 pub mod Whole
-pub mod Rows
-pub mod Pages
 pub mod Tokenizer
 pub mod Trees
 pub mod Printed
@@ -16,3 +14,9 @@ pub mod Fits
 pub mod FitsStay
 pub mod KeptFitted
 pub mod PiecesPrint
+pub mod KindFacts
+pub mod LevelFacts
+pub mod RowRuns
+pub mod FirstTexts
+pub mod WriterFacts
+pub mod WalkFacts

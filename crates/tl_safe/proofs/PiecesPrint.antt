@@ -1,5 +1,5 @@
 -- The print of trees that are made to stay is that of their pieces.
-use Rattle.std.proofs.Common.{◌≡◌, ℕ, suc, Bool, true, false, not, ◌&&◌, nat_lt, List, [], ◌∷◌, ◌++◌, length, map, Option, Some, None, option_map, refl, ap, ap₂, sym, subst, ◌∙◌, arith, append_assoc, append-nil, if◌then◌else◌}
+use Rattle.std.proofs.Common.{◌≡◌, ℕ, suc, Bool, true, false, not, ◌&&◌, nat_lt, List, [], ◌∷◌, ◌++◌, length, map, Option, Some, None, option_map, refl, ap, sym, ◌∙◌, arith, append_assoc, append-nil, if◌then◌else◌}
 use Rattle.std.specs.List.{list_all}
 use Rattle.std.specs.Prelude.{⊤}
 use Rattle.std.specs.Str.Lossy.{utf8_lossy}
@@ -28,7 +28,7 @@ outer_print (own ∷ around) (f ∷ fs) = print_end own ++ (print f ++ outer_pri
 abbrev levels_print : List PlainTag → Levels → List ℕ
 levels_print around b = print b.here ++ outer_print around b.outer
 
-print-append : (ps qs : List Piece) → print_pieces (ps ++ qs) ≡ print_pieces ps ++ print_pieces qs
+pub print-append : (ps qs : List Piece) → print_pieces (ps ++ qs) ≡ print_pieces ps ++ print_pieces qs
 print-append [] qs = refl
 print-append (p ∷ ps) qs = ap (λ s. print_piece p ++ s) (print-append ps qs) ∙ sym (append_assoc (print_piece p) (print_pieces ps) (print_pieces qs))
 

@@ -117,10 +117,17 @@ abbrev pub may_begin_line : List ℕ → Bool
 may_begin_line [] = false
 may_begin_line (b ∷ bytes) = (b == 10) || (b == 13) || (b == 38)
 
--- characters as texts: the first of them, and the others
+-- how many characters at the front are a text by themselves: one that is written as a reference
+abbrev pub first_len : List ℕ → ℕ
+first_len [] = 0
+first_len (c ∷ cs) = if (c == 38) || (c == 60) then 1 else 0
+
+-- characters as texts
 abbrev pub as_texts : List ℕ → List (List ℕ)
 as_texts [] = []
-as_texts (c ∷ cs) = text_escape c ∷ escaped_text cs ∷ []
+as_texts (c ∷ cs) =
+    if (c == 38) || (c == 60) then text_escape c ∷ escaped_text cs ∷ []
+    else escaped_text (c ∷ cs) ∷ []
 
 -- a text that stands first in `pre`: where it may begin with a line feed, its characters are
 -- written anew, from the first one on that is none

@@ -2,14 +2,16 @@
 use Rattle.std.specs.Prelude.{ℕ, Bool, List, map, Option}
 use Rattle.std.specs.Borrow.{Bor}
 use Rattle.tl_safe.specs.Lists.{ListedWords, is_beginning_byte, is_key_byte, is_link_byte, is_tag_byte}
-use Rattle.tl_safe.specs.Filter.{is_own_byte}
+use Rattle.std.specs.Char.{is_ascii_whitespace}
+use Rattle.tl_safe.specs.Filter.{is_own_byte, is_text_byte}
+use Rattle.tl_safe.specs.Fitted.{is_written_anew}
 use Rattle.tl_safe.specs.Refusals.{key_reason, link_reason, tag_reason}
 use Rattle.tl_safe.specs.declared.lists.Lists.{Lists}
 use Rattle.tl_safe.specs.declared.refusal.Reason.{Reason}
 use Rattle.tl_safe.specs.declared.refusal.Role.{Role}
 use Rattle.tl_safe.specs.declared.refusal.Role.TheVariants.{Tag, Key, LinkPrefix}
 use Rattle.tl_safe.specs.declared.names.ByteClass.{ByteClass}
-use Rattle.tl_safe.specs.declared.names.ByteClass.TheVariants.{TagName, AttributeKey, Link, OfBeginning, OwnName}
+use Rattle.tl_safe.specs.declared.names.ByteClass.TheVariants.{TagName, AttributeKey, Link, OfBeginning, OwnName, Text, Space, WrittenAnew}
 
 -- lent words as lists of bytes
 abbrev pub words_of : List (Bor (List ℕ)) → List (List ℕ)
@@ -32,6 +34,9 @@ has_class AttributeKey = is_key_byte
 has_class Link = is_link_byte
 has_class OfBeginning = is_beginning_byte
 has_class OwnName = is_own_byte
+has_class Text = is_text_byte
+has_class Space = is_ascii_whitespace
+has_class WrittenAnew = is_written_anew
 
 -- why no policy with these link keys may list a word in a role, if none may
 abbrev pub reason_in : Role → List (List ℕ) → List ℕ → Option Reason

@@ -1,6 +1,6 @@
 -- Words for worked rows. No contract cites them.
 use Prim.Native.String.{String}
-use Rattle.std.specs.Prelude.{ℕ, List, ◌∷◌, codes}
+use Rattle.std.specs.Prelude.{ℕ, List, codes}
 use Rattle.tl_html_spec.specs.Written.{written}
 use Rattle.tl_tree_spec.specs.HtmlForest.{html_tokens_of}
 use Rattle.tl_safe.specs.HtmlTrees.{as_html}

@@ -18,6 +18,9 @@ pub(crate) enum ByteClass {
     Link,
     OfBeginning,
     OwnName,
+    Text,
+    Space,
+    WrittenAnew,
 }
 
 static OPAQUE_NAMES: [&str; 12] = [
@@ -117,7 +120,7 @@ fn is_link_byte(byte: u8) -> bool
 
 // Whether a byte is of a class.
 #[inline(always)]
-fn has_class(class: ByteClass, byte: u8) -> bool
+pub(crate) fn has_class(class: ByteClass, byte: u8) -> bool
     ensures { result ≡ has_class class byte }
 {
     match class {
@@ -126,11 +129,14 @@ fn has_class(class: ByteClass, byte: u8) -> bool
         ByteClass::Link => is_link_byte(byte),
         ByteClass::OfBeginning => is_link_byte(byte) && byte != b'<' && byte != b'>',
         ByteClass::OwnName => byte.is_ascii_alphanumeric() || byte == b'-' || byte == b'_',
+        ByteClass::Text => is_text_byte(byte),
+        ByteClass::Space => byte.is_ascii_whitespace(),
+        ByteClass::WrittenAnew => byte != 0 && byte != b'\r' && byte != 27,
     }
 }
 
 // Whether a byte stays in a text.
-pub(crate) fn is_text_byte(byte: u8) -> bool
+fn is_text_byte(byte: u8) -> bool
     ensures { result ≡ is_text_byte byte }
 {
     byte != b'<' && byte != 0 && byte != 27

@@ -1,60 +1,26 @@
 //! The walk over a page, which writes what is kept of it.
-ghost use Rattle.std.specs.Prelude.{◌≡◌, ◌++◌, ◌∷◌, ◌+◌, ◌*◌, ◌<◌, [], map, not, OnOk, IfOk, string_bytes, slice_get, if◌then◌else◌};
+ghost use Rattle.std.specs.Prelude.{◌≡◌, ◌∷◌, ◌++◌, [], ◌+◌, ◌*◌, ◌<◌, List, Some, map, OnOk, slice_get};
 ghost use Rattle.std.specs.Option.{option_copied};
-ghost use Rattle.tl_spec.specs.Lex.ByteClass.{is_among_in_any_case, is_void};
 ghost use Rattle.tl_spec.specs.Tree.Element.{children_of};
 ghost use Rattle.tl_spec.specs.Tree.Order.{ChildrenFollowParents};
 ghost use Rattle.tl.specs.View.{node_view, tag_view};
+ghost use Rattle.tl_spec.specs.Tree.Document.{Node, Tag as TagOf};
 ghost use Rattle.tl_spec.specs.Walk.Length.{child_at, handle_met};
-ghost use Rattle.tl_safe.specs.Remaining.{end_print, frame_print, frame_steps, handle_print, owed, row, steps};
-ghost use Rattle.tl_safe.specs.Lists.{is_among, opaque_names};
-ghost use Rattle.tl_safe.specs.Policies.{lists_of};
-ghost use Rattle.tl_safe.specs.Writes.{Adds, kept_start};
+ghost use Rattle.tl_safe.specs.Remaining.{frame_run, frame_steps, owed, steps};
+ghost use Rattle.tl_safe.specs.Runs.{handle_run, kept_run, row_run, then_run};
+ghost use Rattle.tl_safe.specs.Writers.{GoesOn, IsLevel, Writes, place_of, with_more, words_by};
 
-use crate::names::{is_among, is_opaque};
-use crate::policy::Policy;
-use crate::write::{write_end, write_start, write_text};
+use crate::writer::{Entry, Writer};
 use std::alloc::{AllocError, Global};
 use tl::{Element, HTMLTag, Node, NodeHandle};
-use tl_lexer::names::is_void;
 
-// A tag that was entered, the place of its next child, and whether the tag itself stands.
+// A tag that was entered, the place of its next child, and how many elements were open where one
+// was opened for it, if it was.
 #[derive(Clone, Copy)]
 pub(crate) struct Frame<'s, 'a> {
     node: &'s Node<'a>,
     next: usize,
-    stands: bool,
-}
-
-// Whether the children of a tag are gone through.
-fn enters(stands: bool, name: &[u8]) -> bool
-    ensures { result ≡ (if stands then not (is_void name.now)
-        else not (is_among_in_any_case opaque_names name.now)) }
-{
-    if stands {
-        !is_void(name)
-    } else {
-        !is_opaque(name)
-    }
-}
-
-// Writes the start tag of a tag that stands, and says whether it does.
-fn write_opening(
-    alloc: Global,
-    policy: &Policy<'_>,
-    tag: &HTMLTag<'_>,
-    out: &mut String,
-) -> Result<bool, AllocError>
-    ensures stands { IfOk result (λ stands.
-        stands ≡ is_among (lists_of policy.now).tags tag.now.name.list) }
-    ensures ok { IfOk result (λ stands. Adds out.old out.new
-        (if stands then kept_start policy.now (tag_view tag.now) else [])) }
-{
-    let stands = is_among(policy.lists.tags, tag.name().as_bytes());
-    if stands {
-        write_start(alloc, policy, tag, out)?;
-    }
-    Ok(stands)
+    opened: Option<usize>,
 }
 
 // The node of a number, or None past the table.
@@ -64,19 +30,63 @@ fn node_at<'s, 'a>(nodes: &'s [Node<'a>], number: u32) -> Option<&'s Node<'a>>
     nodes.get(number as usize)
 }
 
+// The children of a tag come next.
+fn enter<'s, 'a>(
+    node: &'s Node<'a>,
+    opened: Option<usize>,
+    frames: &mut Vec<Frame<'s, 'a>>,
+) -> Result<(), AllocError>
+    ensures { OnOk result (frames.new.items
+        ≡ frames.old.items ++ record { node = node.entry; next = 0; opened = opened } ∷ []) }
+{
+    frames.push(Frame {
+        node,
+        next: 0,
+        opened,
+    })?;
+    Ok(())
+}
+
+// Goes to a tag: writes it, or begins to, where its children come next.
+fn visit_tag<'s, 'a>(
+    alloc: Global,
+    node: &'s Node<'a>,
+    tag: &'s HTMLTag<'a>,
+    frames: &mut Vec<Frame<'s, 'a>>,
+    writer: &mut Writer<'_, 's, 'a>,
+) -> Result<(), AllocError>
+    requires is_level { IsLevel writer.old }
+    requires node { node_view node.now ≡ TagOf (tag_view tag.now) }
+    ensures goes_on { OnOk result (GoesOn writer.old writer.new) }
+    ensures ok { let p = words_by writer.old in let own = tag_view tag.now in (ns : List Node) →
+        OnOk result (with_more writer.new (owed p ns frames.new.items)
+        ≡ with_more writer.old (then_run
+        (kept_run p own (row_run p ns own.children.items)) (owed p ns frames.old.items))) }
+    ensures steps { let own = tag_view tag.now in (ns : List Node) →
+        OnOk result (steps ns frames.new.items
+        < 2 * handle_met ns (Some (TagOf own)) + steps ns frames.old.items) }
+{
+    match writer.open_tag(alloc, tag)? {
+        Entry::Passed => Ok(()),
+        Entry::Unwrapped => enter(node, None, frames),
+        Entry::Opened(count) => enter(node, Some(count), frames),
+    }
+}
+
 // Goes to the node of a number: writes it, or begins to, where its children come next.
 fn visit<'s, 'a>(
     alloc: Global,
-    policy: &Policy<'_>,
     nodes: &'s [Node<'a>],
     number: u32,
     frames: &mut Vec<Frame<'s, 'a>>,
-    out: &mut String,
+    writer: &mut Writer<'_, 's, 'a>,
 ) -> Result<(), AllocError>
-    ensures ok { let p = lists_of policy.now in let ns = map node_view nodes.now in
-        OnOk result (string_bytes out.new ++ owed p ns frames.new.items
-        ≡ string_bytes out.old
-        ++ (handle_print p ns (slice_get ns number) ++ owed p ns frames.old.items)) }
+    requires { IsLevel writer.old }
+    ensures goes_on { OnOk result (GoesOn writer.old writer.new) }
+    ensures ok { let p = words_by writer.old in let ns = map node_view nodes.now in
+        OnOk result (with_more writer.new (owed p ns frames.new.items)
+        ≡ with_more writer.old
+        (then_run (handle_run p ns (slice_get ns number)) (owed p ns frames.old.items))) }
     ensures steps { let ns = map node_view nodes.now in
         OnOk result (steps ns frames.new.items
         < 2 * handle_met ns (slice_get ns number) + steps ns frames.old.items) }
@@ -85,19 +95,8 @@ fn visit<'s, 'a>(
         return Ok(());
     };
     match node {
-        Node::Tag(tag) => {
-            let stands = write_opening(alloc, policy, tag, out)?;
-            if !enters(stands, tag.name().as_bytes()) {
-                return Ok(());
-            }
-            frames.push(Frame {
-                node,
-                next: 0,
-                stands,
-            })?;
-            Ok(())
-        }
-        Node::Raw(bytes) => write_text(alloc, bytes.as_bytes(), out),
+        Node::Tag(tag) => visit_tag(alloc, node, tag, frames, writer),
+        Node::Raw(bytes) => writer.say(alloc, bytes.as_bytes()),
         Node::Comment(_) => Ok(()),
     }
 }
@@ -113,63 +112,53 @@ fn child_at(node: &Node<'_>, place: usize) -> Option<(u32, usize)>
     Some((child, place + 1))
 }
 
-// Writes the end tag of a tag that stands.
-fn close(frame: &Frame<'_, '_>, out: &mut String) -> Result<(), AllocError>
-    ensures { OnOk result (Adds out.old out.new
-        (end_print frame.now.stands (node_view frame.now.node.now))) }
-{
-    if frame.stands {
-        if let Node::Tag(tag) = frame.node {
-            return write_end(tag, out);
-        }
-    }
-    Ok(())
-}
-
 // Goes on in a tag: to its next child, or out of it.
 fn advance<'s, 'a>(
     alloc: Global,
-    policy: &Policy<'_>,
     nodes: &'s [Node<'a>],
     frame: Frame<'s, 'a>,
     frames: &mut Vec<Frame<'s, 'a>>,
-    out: &mut String,
+    writer: &mut Writer<'_, 's, 'a>,
 ) -> Result<(), AllocError>
-    requires { ChildrenFollowParents (map node_view nodes.now) }
-    ensures ok { let p = lists_of policy.now in let ns = map node_view nodes.now in
-        OnOk result (string_bytes out.new ++ owed p ns frames.new.items
-        ≡ string_bytes out.old
-        ++ (frame_print p ns frame.entry ++ owed p ns frames.old.items)) }
+    requires rising { ChildrenFollowParents (map node_view nodes.now) }
+    requires is_level { IsLevel writer.old }
+    ensures goes_on { OnOk result (GoesOn writer.old writer.new) }
+    ensures ok { let p = words_by writer.old in let ns = map node_view nodes.now in
+        OnOk result (with_more writer.new (owed p ns frames.new.items)
+        ≡ with_more writer.old
+        (then_run (frame_run p ns frame.entry) (owed p ns frames.old.items))) }
     ensures steps { let ns = map node_view nodes.now in
         OnOk result (steps ns frames.new.items
         < frame_steps ns frame.entry + steps ns frames.old.items) }
 {
     let Some((child, next)) = child_at(frame.node, frame.next) else {
-        return close(&frame, out);
+        return writer.leave(frame.opened);
     };
     frames.push(Frame {
         node: frame.node,
         next,
-        stands: frame.stands,
+        opened: frame.opened,
     })?;
-    visit(alloc, policy, nodes, child, frames, out)
+    visit(alloc, nodes, child, frames, writer)
 }
 
 // Goes through all that frames hold.
 fn finish<'s, 'a>(
     alloc: Global,
-    policy: &Policy<'_>,
     nodes: &'s [Node<'a>],
     frames: &mut Vec<Frame<'s, 'a>>,
-    out: &mut String,
+    writer: &mut Writer<'_, 's, 'a>,
 ) -> Result<(), AllocError>
-    requires { ChildrenFollowParents (map node_view nodes.now) }
-    ensures ok { OnOk result (Adds out.old out.new
-        (owed (lists_of policy.now) (map node_view nodes.now) frames.old.items)) }
+    requires rising { ChildrenFollowParents (map node_view nodes.now) }
+    requires is_level { IsLevel writer.old }
+    ensures goes_on { OnOk result (GoesOn writer.old writer.new) }
+    ensures writes { let p = words_by writer.old in let ns = map node_view nodes.now in
+        OnOk result (Writes writer.old writer.new
+        (owed p ns frames.old.items (place_of writer.old))) }
     ensures empty { OnOk result (frames.new.items ≡ []) }
 {
     while let Some(frame) = frames.pop() {
-        advance(alloc, policy, nodes, frame, frames, out)?;
+        advance(alloc, nodes, frame, frames, writer)?;
     }
     Ok(())
 }
@@ -177,19 +166,21 @@ fn finish<'s, 'a>(
 // Writes what is kept of the nodes of these handles, in order.
 pub(crate) fn write_row<'s, 'a>(
     alloc: Global,
-    policy: &Policy<'_>,
     nodes: &'s [Node<'a>],
     handles: &[NodeHandle],
-    out: &mut String,
+    writer: &mut Writer<'_, 's, 'a>,
 ) -> Result<(), AllocError>
-    requires { ChildrenFollowParents (map node_view nodes.now) }
-    ensures { OnOk result (Adds out.old out.new
-        (row (lists_of policy.now) (map node_view nodes.now) handles.now)) }
+    requires rising { ChildrenFollowParents (map node_view nodes.now) }
+    requires is_level { IsLevel writer.old }
+    ensures goes_on { OnOk result (GoesOn writer.old writer.new) }
+    ensures writes { let p = words_by writer.old in let ns = map node_view nodes.now in
+        OnOk result (Writes writer.old writer.new
+        (row_run p ns handles.now (place_of writer.old))) }
 {
     let mut frames = Vec::new(alloc);
     for handle in handles {
-        visit(alloc, policy, nodes, handle.get_inner(), &mut frames, out)?;
-        finish(alloc, policy, nodes, &mut frames, out)?;
+        visit(alloc, nodes, handle.get_inner(), &mut frames, writer)?;
+        finish(alloc, nodes, &mut frames, writer)?;
     }
     Ok(())
 }

@@ -1,37 +1,40 @@
 //! Writes of what is kept of a node.
 ghost use Rattle.std.specs.Prelude.{◌≡◌, ◌∷◌, ◌++◌, [], OnOk, IfOk};
+ghost use Rattle.std.specs.Char.{is_ascii_whitespace};
 ghost use Rattle.std.specs.List.{filter};
 ghost use Rattle.std.specs.Str.Lossy.{utf8_lossy};
 ghost use Rattle.tl_spec.specs.Lex.AttributeList.{printed_pairs};
-ghost use Rattle.tl_spec.specs.Print.{print_end};
+ghost use Rattle.tl_spec.specs.Print.{print_end, print_start};
 ghost use Rattle.tl_spec.specs.Walk.{plain_node};
 ghost use Rattle.tl_attributes.specs.AttributesView.{plain};
 ghost use Rattle.tl.specs.View.{tag_view};
 ghost use Rattle.tl_safe.specs.Filter.{is_text_byte, written_byte, written_pair, written_value};
+ghost use Rattle.tl_safe.specs.Fitted.{part_tag};
+ghost use Rattle.tl_safe.specs.Names.{has_class};
 ghost use Rattle.tl_safe.specs.Writes.{Adds, kept_pairs, kept_start, pair_of, print_pair};
 
 use crate::filter::is_allowed;
-use crate::names::{is_text_byte, is_whole_text, is_written_value};
+use crate::names::{ByteClass, all_have_class, has_class, is_whole_text, is_written_value};
 use crate::policy::Policy;
 use bstr::ByteSlice;
 use std::alloc::{AllocError, Global};
 use tl::{Attributes, Bytes, HTMLTag};
 
 // Writes bytes as text.
-fn write_lossy(bytes: &[u8], out: &mut String) -> Result<(), AllocError>
+pub(crate) fn write_lossy(bytes: &[u8], out: &mut String) -> Result<(), AllocError>
     ensures { OnOk result (Adds out.old out.new (utf8_lossy bytes.now)) }
 {
     bytes.to_str_lossy_into(out)?;
     Ok(())
 }
 
-// The bytes of a text that stay in it.
-fn text_bytes(alloc: Global, bytes: &[u8]) -> Result<Vec<u8>, AllocError>
-    ensures { IfOk result (λ v. v.items ≡ filter is_text_byte bytes.now) }
+// The bytes of a class.
+pub(crate) fn bytes_of(alloc: Global, class: ByteClass, bytes: &[u8]) -> Result<Vec<u8>, AllocError>
+    ensures { IfOk result (λ v. v.items ≡ filter (has_class class) bytes.now) }
 {
     let mut kept = Vec::new(alloc);
     for byte in bytes {
-        if is_text_byte(*byte) {
+        if has_class(class, *byte) {
             kept.push(*byte)?;
         }
     }
@@ -46,7 +49,20 @@ pub(crate) fn write_text(alloc: Global, bytes: &[u8], out: &mut String) -> Resul
     if is_whole_text(bytes) {
         return write_lossy(bytes, out);
     }
-    let kept = text_bytes(alloc, bytes)?;
+    let kept = bytes_of(alloc, ByteClass::Text, bytes)?;
+    write_lossy(kept.as_slice(), out)
+}
+
+// Writes the white space of what is kept of a text. Where it is no more, it is not copied.
+#[tactic(auto, using(crate::proofs::Writes::spaces_same, crate::proofs::Writes::spaces_kept))]
+pub(crate) fn write_spaces(alloc: Global, bytes: &[u8], out: &mut String) -> Result<(), AllocError>
+    ensures { OnOk result (Adds out.old out.new
+        (utf8_lossy (filter is_ascii_whitespace (filter is_text_byte bytes.now)))) }
+{
+    if all_have_class(ByteClass::Space, bytes) {
+        return write_lossy(bytes, out);
+    }
+    let kept = bytes_of(alloc, ByteClass::Space, bytes)?;
     write_lossy(kept.as_slice(), out)
 }
 
@@ -166,6 +182,26 @@ pub(crate) fn write_end(tag: &HTMLTag<'_>, out: &mut String) -> Result<(), Alloc
 {
     out.push_str("</")?;
     write_lossy(tag.name().as_bytes(), out)?;
+    out.push('>')?;
+    Ok(())
+}
+
+// Writes the start tag of a part of a table.
+pub(crate) fn write_name_start(name: &str, out: &mut String) -> Result<(), AllocError>
+    ensures { OnOk result (Adds out.old out.new (print_start (part_tag name.now))) }
+{
+    out.push('<')?;
+    write_lossy(name.as_bytes(), out)?;
+    out.push('>')?;
+    Ok(())
+}
+
+// Writes the end tag of a part of a table.
+pub(crate) fn write_name_end(name: &str, out: &mut String) -> Result<(), AllocError>
+    ensures { OnOk result (Adds out.old out.new (print_end (part_tag name.now))) }
+{
+    out.push_str("</")?;
+    write_lossy(name.as_bytes(), out)?;
     out.push('>')?;
     Ok(())
 }

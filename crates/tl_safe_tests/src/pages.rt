@@ -178,7 +178,7 @@ static QUOTE_ROWS: [(&str, &str); 9] = [
     ("<p title=\"a'b\">x</p>", "<p title=\"a'b\">x</p>"),
     ("<p title=a\"b>x</p>", "<p>x</p>"),
     ("<img src=/ onerror=\"steal()\" a=\"<p title='\">z", " onerror=\"steal()\" a=\""),
-    ("<a href=\"/1\"><a href=\"/2\" title=\"</a><img src=x onerror='steal()'>\">x</a></a>", "<a href=\"/1\"><a href=\"/2\" title=\"&lt;/a&gt;&lt;img src=x onerror='steal()'&gt;\">x</a></a>"),
+    ("<a href=\"/1\"><a href=\"/2\" title=\"</a><img src=x onerror='steal()'>\">x</a></a>", "<a href=\"/1\">x</a>"),
 ];
 
 // How tags begin and end, and stand in one another.
@@ -257,15 +257,15 @@ static TEXT_ROWS: [(&str, &str); 6] = [
 // By a policy for tables and videos.
 #[rattlefmt::skip]
 static OTHER_ROWS: [(&str, &str); 9] = [
-    ("<table><tr><td>x</td></tr></table>", "<table><tr><td>x</td></tr></table>"),
+    ("<table><tr><td>x</td></tr></table>", "<table></table>"),
     ("<p>x</p>", "x"),
     ("<video src=\"javascript:steal()\" data-x=\"javascript:steal()\">x</video>", "<video data-x=\"javascript:steal()\">x</video>"),
     ("<video src=\"ftp://e/x\">x</video>", "<video src=\"ftp://e/x\">x</video>"),
     ("<video src=\"./x\" SRC=\"./y\">x</video>", "<video src=\"./x\">x</video>"),
     ("<video src=\"../x\">x</video>", "<video>x</video>"),
-    ("<td id=\"v1\">x</td><td id=\"1\">y</td>", "<td id=\"v1\">x</td><td>y</td>"),
-    ("<td class=\"v1\">x</td>", "<td>x</td>"),
-    ("<table><script>steal()</script><TR><td>x", "<table><td>x</td></table>"),
+    ("<video id=\"v1\">x</video><video id=\"1\">y</video>", "<video id=\"v1\">x</video><video>y</video>"),
+    ("<video class=\"v1\">x</video>", "<video>x</video>"),
+    ("<table> <script>steal()</script><TR><td>x", "<table> </table>"),
 ];
 
 static ANY_HOST: Lists<'static> = Lists {
@@ -279,6 +279,50 @@ static TABLES_AND_VIDEOS: Lists<'static> = Lists {
     link_keys: &["src"],
     link_prefixes: &["ftp:", "./"],
     id_prefix: "v",
+};
+
+// Tags that end others, and that may not stand in one another.
+#[rattlefmt::skip]
+static FITTED_ROWS: [(&str, &str); 15] = [
+    ("<p>a<p>b", "<p>a</p><p>b</p>"),
+    ("<ul><li>x<li>y</ul>", "<ul><li>x</li><li>y</li></ul>"),
+    ("<ul><li><p>x<li><p>y", "<ul><li><p>x</p></li><li><p>y</p></li></ul>"),
+    ("<p>a<div>b</div>c</p>", "<p>a</p><div>b</div>c"),
+    ("<p><span>a<div>b</div></span></p>c", "<p><span>ab</span></p>c"),
+    ("<dl><dt>a<dd>b<dt>c</dl>", "<dl><dt>a</dt><dd>b</dd><dt>c</dt></dl>"),
+    ("<a>x<a>y</a>z</a>", "<a>xyz</a>"),
+    ("<h1>x<h2>y</h2></h1>", "<h1>xy</h1>"),
+    ("<h1>x<p>y<h2>z", "<h1>x<p>yz</p></h1>"),
+    ("<li>x<span><li>y</span>z", "<li>x<span>yz</span></li>"),
+    ("<b>1<b>2<b>3<b>4</b></b></b></b>5", "<b>1<b>2<b>3<b>4</b></b></b></b>5"),
+    ("<pre>\n\nx\n</pre>", "<pre>x\n</pre>"),
+    ("<pre>\ré&lt;</pre>", "<pre>é&lt;</pre>"),
+    ("<pre>&#10;&amp;y</pre>", "<pre>&amp;y</pre>"),
+    ("<pre><b></b>\nx</pre>", "<pre><b></b>\nx</pre>"),
+];
+
+// Tables and ruby.
+#[rattlefmt::skip]
+static TABLE_ROWS: [(&str, &str); 12] = [
+    ("<table><tr><td>a<td>b<tr><td>c", "<table><tbody><tr><td>a</td><td>b</td></tr><tr><td>c</td></tr></tbody></table>"),
+    ("<table>x<tr>y<td>z</td></tr></table>w", "<table><tbody><tr><td>z</td></tr></tbody></table>w"),
+    ("<table> <tr> <td>x</td> </tr> </table>", "<table> <tbody><tr> <td>x</td> </tr> </tbody></table>"),
+    ("<table><caption>x<td>y", "<table><caption>x</caption><tbody><tr><td>y</td></tr></tbody></table>"),
+    ("<table><col><tr><td>x", "<table><colgroup><col></colgroup><tbody><tr><td>x</td></tr></tbody></table>"),
+    ("<p>1<table><tr><td><p>2<p>3", "<p>1</p><table><tbody><tr><td><p>2</p><p>3</p></td></tr></tbody></table>"),
+    ("<table><tr><td><table><tr><td>x</td></tr></table>y", "<table><tbody><tr><td><table><tbody><tr><td>x</td></tr></tbody></table>y</td></tr></tbody></table>"),
+    ("<table><table>x", "<table></table>"),
+    ("<tr><td>x", "x"),
+    ("<table><tbody><td>x</tbody><tr>", "<table><tbody><tr><td>x</td></tr><tr></tr></tbody></table>"),
+    ("<ruby>a<rt>b<rt>c</rt></rt></ruby>d", "<ruby>a<rt>b</rt><rt>c</rt></ruby>d"),
+    ("<ruby>a<rtc>b<rt>c<rb>d</ruby>", "<ruby>a<rtc>b<rt>c</rt></rtc><rb>d</rb></ruby>"),
+];
+
+static TABLES_AND_RUBY: Lists<'static> = Lists {
+    tags: &[
+        "caption", "col", "colgroup", "p", "rb", "rt", "rtc", "ruby", "table", "tbody", "td", "tr",
+    ],
+    ..Lists::BLOG
 };
 
 // Looks whether each page is printed as its row says.
@@ -382,12 +426,27 @@ fn pages_by_another_policy(rt: HostRuntime) {
     }
 }
 
-// More tags in one another than a byte counts.
+#[test]
+fn tags_that_end_others(rt: HostRuntime) {
+    run(&rt, &Policy::blog(), &FITTED_ROWS);
+}
+
+#[test]
+fn tables_and_ruby(rt: HostRuntime) {
+    match Policy::new(TABLES_AND_RUBY) {
+        Ok(policy) => run(&rt, &policy, &TABLE_ROWS),
+        Err(error) => assert!(rt; false, "{error}"),
+    }
+}
+
+// More tags in one another than may be open.
 #[test]
 fn deep_page(rt: HostRuntime) -> Result<(), AllocError> {
-    let starts = "<b>".repeat(rt.alloc(), 1000)?;
-    let ends = "</b>".repeat(rt.alloc(), 1000)?;
-    let whole = format!(in rt.alloc(); "{starts}{ends}")?;
-    run(&rt, &Policy::blog(), &[(starts.as_str(), whole.as_str())]);
+    let starts = "<div>".repeat(rt.alloc(), 600)?;
+    let page = format!(in rt.alloc(); "{starts}x")?;
+    let opened = "<div>".repeat(rt.alloc(), 400)?;
+    let ends = "</div>".repeat(rt.alloc(), 400)?;
+    let whole = format!(in rt.alloc(); "{opened}x{ends}")?;
+    run(&rt, &Policy::blog(), &[(page.as_str(), whole.as_str())]);
     Ok(())
 }

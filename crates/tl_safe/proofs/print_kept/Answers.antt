@@ -1,15 +1,24 @@
-use Rattle.std.proofs.Common.{◌++◌, map, ap, ap₂, ◌∙◌}
+use Rattle.std.proofs.Common.{map, ap, ap₂, subst}
 use Rattle.tl.specs.View.{node_view}
-use Rattle.tl_safe.specs.Remaining.{row}
-use Rattle.tl_safe.specs.Lists.{ListedWords}
 use Rattle.tl_safe.specs.Policies.{lists_of}
-use Rattle.tl_safe.proofs.Pages.{page_print}
+use Rattle.tl_safe.specs.Runs.{row_run}
+use Rattle.tl_safe.specs.Writers.{Writes, place_of, words_by}
+use Rattle.tl_safe.specs.declared.writer.Writer.{Writer}
+use Rattle.tl_safe.proofs.WalkFacts.{page-text}
 use Rattle.tl_safe.proofs.print_kept.Goals as goal
+
+pub write_row-requires-clause-is_level : goal.write_row-requires-clause-is_level
+write_row-requires-clause-is_level c = c.new-writer.ensures.is_level
+
+pub into_text-requires : goal.into_text-requires
+into_text-requires c = c.in_ok-write_row.ensures.goes_on.is_level
 
 pub returns-clause-prints : goal.returns-clause-prints
 returns-clause-prints c =
-    let p : ListedWords = lists_of c.args.policy.now in
-    c.in_ok-write_row.ensures
-    ∙ ap (λ s. s ++ row p (map node_view c.nodes.result.now) c.children.result.now) c.new-out.ensures.bytes
-    ∙ ap₂ (λ ns hs. row p (map node_view ns) hs) c.nodes.ensures.value c.children.ensures
-    ∙ page_print p c.in_ok-document.document c.args.page.now c.in_ok-document.ensures.document
+    let first : Writer = c.new-writer.result in
+    page-text c.args.policy.now c.in_ok-document.document c.args.page.now first c.write_row.new.writer _ c.in_ok-document.ensures.document
+    (ap (λ policy. lists_of policy.now) c.new-writer.ensures.policy) c.new-writer.ensures.place c.new-writer.ensures.out
+    (subst (λ r. Writes first c.write_row.new.writer r)
+    (ap₂ (λ ns hs. row_run (words_by first) (map node_view ns) hs (place_of first)) c.nodes.ensures.value c.children.ensures)
+    c.in_ok-write_row.ensures.writes)
+    c.in_ok-text.ensures

@@ -1,15 +1,13 @@
 use Rattle.std.proofs.Common.{ap, sym, subst, ◌∙◌}
 use Rattle.tl_spec.specs.Tree.Forest.{Forest, PlainTag, forest, plain}
-use Rattle.tl_spec.specs.Print.Normal.{norm}
 use Rattle.tl_spec.specs.Lex.Token.{tokens}
 use Rattle.tl_spec.proofs.Print.Fresh.{fresh_has_own_keys}
 use Rattle.tl_html_spec.specs.HtmlTokenizer.{tokens_in_page}
 use Rattle.tl_tree_spec.specs.HtmlTreeBuilder.{html_trees}
 use Rattle.tl_safe.specs.IsSafe.{IsSafe}
 use Rattle.tl_safe.specs.Lists.{ListedWords}
-use Rattle.tl_safe.specs.Policies.{kept_of, lists_of}
-use Rattle.tl_safe.proofs.HtmlTrees.{norm-stays}
-use Rattle.tl_safe.proofs.Printed.{form, reads, standard}
+use Rattle.tl_safe.specs.Policies.{lists_of}
+use Rattle.tl_safe.proofs.KeptFitted.{browser, form, reads, standard}
 use Rattle.tl_safe.proofs.sanitize.Goals as goal
 
 pub returns-clause-trees : goal.returns-clause-trees
@@ -22,7 +20,7 @@ pub returns-clause-form : goal.returns-clause-form
 returns-clause-form c =
     let p : ListedWords = lists_of c.args.policy.now in
     let f : Forest PlainTag = plain (forest (tokens c.args.page.now)) in
-    subst (IsSafe p) (sym c.in_ok-safe.ensures.prints) (form p c.args.policy.now.lawful f)
+    subst (IsSafe p) (sym c.in_ok-safe.ensures.prints) (form p c.args.policy.now.lawful f (fresh_has_own_keys c.args.page.now))
 
 pub returns-clause-standard : goal.returns-clause-standard
 returns-clause-standard c =
@@ -31,8 +29,7 @@ returns-clause-standard c =
     ap tokens_in_page c.in_ok-safe.ensures.prints ∙ standard p c.args.policy.now.lawful f (fresh_has_own_keys c.args.page.now)
 
 pub returns-clause-browser : goal.returns-clause-browser
-returns-clause-browser c h =
+returns-clause-browser c =
     let p : ListedWords = lists_of c.args.policy.now in
     let f : Forest PlainTag = plain (forest (tokens c.args.page.now)) in
-    ap html_trees (ap tokens_in_page c.in_ok-safe.ensures.prints ∙ standard p c.args.policy.now.lawful f (fresh_has_own_keys c.args.page.now))
-    ∙ norm-stays (kept_of c.args.policy.now c.args.page.now) h
+    ap (λ s. html_trees (tokens_in_page s)) c.in_ok-safe.ensures.prints ∙ browser p c.args.policy.now.lawful f (fresh_has_own_keys c.args.page.now)

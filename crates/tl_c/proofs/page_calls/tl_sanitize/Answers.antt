@@ -2,7 +2,8 @@ use Rattle.std.proofs.Common.{◌≡◌}
 use Rattle.tl_spec.specs.Print.Normal.{norm}
 use Rattle.tl_html_spec.specs.HtmlTokenizer.{tokens_in_page}
 use Rattle.tl_safe.specs.IsSafe.{IsSafe, tokens_of}
-use Rattle.tl_safe.specs.Filter.{kept, trees_of}
+use Rattle.tl_safe.specs.Filter.{trees_of}
+use Rattle.tl_safe.specs.KeptFitted.{kept_fitted}
 use Rattle.tl_safe.specs.Lists.{blog_lists}
 use Rattle.tl_c.proofs.Room.{of_given}
 use Rattle.tl_c.proofs.page_calls.tl_sanitize.Goals as goal
@@ -16,5 +17,5 @@ returns-clause-form c = λ is_done.
 
 pub returns-clause-standard : goal.returns-clause-standard
 returns-clause-standard c = λ is_done.
-    of_given c.safe_page.result (λ bytes. tokens_in_page bytes ≡ tokens_of (norm (kept blog_lists (trees_of c.args.page.now)))) _
+    of_given c.safe_page.result (λ bytes. tokens_in_page bytes ≡ tokens_of (norm (kept_fitted blog_lists (trees_of c.args.page.now)))) _
     (c.copy_text.ensures.text is_done) c.safe_page.ensures.standard

@@ -4,7 +4,8 @@ use Rattle.tl_spec.specs.Print.{print}
 use Rattle.tl_page.specs.Outcome.{Gives, Outcome, not_understood, success}
 use Rattle.tl_page.specs.declared.failure.Failure.TheVariants.{NotUnderstood}
 use Rattle.tl_page.proofs.Pages.{outcome-no_page, outcome-page}
-use Rattle.tl_safe.specs.Filter.{kept, trees_of}
+use Rattle.tl_safe.specs.Filter.{trees_of}
+use Rattle.tl_safe.specs.KeptFitted.{kept_fitted}
 use Rattle.tl_safe.specs.Policies.{lists_of}
 use Rattle.tl_cli.specs.Findings.{Finding, finding_of, whole}
 use Rattle.tl_cli.specs.Task.{safe_of}
@@ -13,7 +14,7 @@ use Rattle.tl_cli.proofs.task.safe_page.Goals as goal
 pub returns-in_err-text-clause-made : goal.returns-in_err-text-clause-made
 returns-in_err-text-clause-made c =
     let page : List ℕ = c.args.page.now in
-    let made : Document → Outcome Finding = λ d. success (whole (print (kept (lists_of c.args.policy.now) (trees_of page)))) in
+    let made : Document → Outcome Finding = λ d. success (whole (print (kept_fitted (lists_of c.args.policy.now) (trees_of page)))) in
     let none : safe_of (lists_of c.args.policy.now) page ≡ not_understood = outcome-no_page page made (λ p. let ok = c.in_err-text.ensures.reads p in cc) in
     let is : c.from_residual.result ≡ Err NotUnderstood = search (rules, c.in_err-text.ensures.failure) in
     subst (Gives finding_of (safe_of (lists_of c.args.policy.now) page)) (sym is) none
@@ -21,8 +22,8 @@ returns-in_err-text-clause-made c =
 pub returns-clause-made : goal.returns-clause-made
 returns-clause-made c =
     let page : List ℕ = c.args.page.now in
-    let made : Document → Outcome Finding = λ d. success (whole (print (kept (lists_of c.args.policy.now) (trees_of page)))) in
+    let made : Document → Outcome Finding = λ d. success (whole (print (kept_fitted (lists_of c.args.policy.now) (trees_of page)))) in
     let safe = c.in_ok-sanitize.ensures.prints in
-    let same : print (kept (lists_of c.args.policy.now) (trees_of c.in_ok-text.text.now)) ≡ print (kept (lists_of c.args.policy.now) (trees_of page))
-    = ap (λ (text : List ℕ). print (kept (lists_of c.args.policy.now) (trees_of text))) c.in_ok-text.ensures.text in
+    let same : print (kept_fitted (lists_of c.args.policy.now) (trees_of c.in_ok-text.text.now)) ≡ print (kept_fitted (lists_of c.args.policy.now) (trees_of page))
+    = ap (λ (text : List ℕ). print (kept_fitted (lists_of c.args.policy.now) (trees_of text))) c.in_ok-text.ensures.text in
     outcome-page page made c.in_ok-text.ensures.page ∙ ap success (sym (c.whole.ensures ∙ ap whole (safe ∙ same)))
