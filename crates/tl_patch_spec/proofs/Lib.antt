@@ -1,0 +1,15 @@
+pub mod Inside
+pub mod Writing
+pub mod Tags
+pub mod Sets
+pub mod Added
+pub mod Shape
+pub mod Patched
+pub mod Unset
+pub mod Renamed
+pub mod Markup
+pub mod Tag
+pub mod Closed
+pub mod Bare
+pub mod Elements
+pub mod Given

@@ -1,0 +1,62 @@
+-- Words for worked rows. No contract cites them.
+use Prim.Native.String.{String}
+use Rattle.std.specs.Prelude.{ℕ, true, false, List, [], ◌∷◌, Option, codes}
+use Rattle.tl_html_spec.specs.HtmlTokenizer.{HtmlToken}
+use Rattle.tl_html_spec.specs.Pieces.{Piece, pieces, runs}
+use Rattle.tl_patch_spec.specs.Elements.{Element, elements}
+use Rattle.tl_patch_spec.specs.Patches.{Content, NewContent, Patch, Put, Text, asked_of, tokens_asked}
+use Rattle.tl_patch_spec.specs.Splices.{Splice}
+
+-- the pieces of a page, where characters are joined
+abbrev pub cut_page : String → List Piece
+cut_page page = runs (pieces (codes page))
+
+-- its elements, by the numbers of these pieces
+abbrev pub elements_in : String → List Element
+elements_in page = elements (cut_page page)
+
+-- one that ends with its own end tag
+abbrev pub whole : String → ℕ → ℕ → Element
+whole name start end =
+    record { name = codes name; start = start; end = end; has_end_tag = true }
+
+-- one that ends before a piece
+abbrev pub cut : String → ℕ → ℕ → Element
+cut name start end =
+    record { name = codes name; start = start; end = end; has_end_tag = false }
+
+-- one of a start tag alone
+abbrev pub alone : String → ℕ → Element
+alone name place = cut name place place
+
+-- what a patch asks for, on an element of two tags, one whose end tag is left out, one of a tag
+-- alone, one that another end tag closes, a tag that is dropped, and a title
+
+abbrev pub on_whole : Patch → Option (List (Splice Put))
+on_whole patch = asked_of (cut_page "<b>x</b>") 0 patch
+
+abbrev pub on_implied : Patch → Option (List (Splice Put))
+on_implied patch = asked_of (cut_page "<ul><li>a<li>b</ul>") 1 patch
+
+abbrev pub on_alone : Patch → Option (List (Splice Put))
+on_alone patch = asked_of (cut_page "<br>x") 0 patch
+
+abbrev pub on_unclosed : Patch → Option (List (Splice Put))
+on_unclosed patch = asked_of (cut_page "<div><b>x</div>") 1 patch
+
+abbrev pub on_dropped : Patch → Option (List (Splice Put))
+on_dropped patch = asked_of (cut_page "<body>a<body>b") 2 patch
+
+abbrev pub on_title : Patch → Option (List (Splice Put))
+on_title patch = asked_of (cut_page "<title>x</title>") 0 patch
+
+abbrev pub words : String → Content
+words bytes = Text (codes bytes)
+
+-- a text that is put
+abbrev pub put_words : String → List Put
+put_words bytes = NewContent (words bytes) ∷ []
+
+-- the tokens that a patch asks for
+abbrev pub with_patch : String → ℕ → Patch → Option (List HtmlToken)
+with_patch page place patch = tokens_asked (cut_page page) place patch

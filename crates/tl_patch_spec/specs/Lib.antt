@@ -1,0 +1,7 @@
+pub mod Splices
+pub mod TagChanges
+pub mod Markup
+pub mod PieceChanges
+pub mod Elements
+pub mod Patches
+pub mod Examples

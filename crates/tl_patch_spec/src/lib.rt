@@ -1,0 +1,6 @@
+//! Edits of a page in its own bytes: the definitions that contracts cite, and their laws.
+#![tactic(auto)]
+
+mod examples;
+pub mod laws;
+mod patch_examples;
