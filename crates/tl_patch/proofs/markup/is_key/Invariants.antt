@@ -1,0 +1,7 @@
+use Rattle.std.proofs.Common.{◌≡◌, drop}
+use Rattle.std.specs.List.{list_all}
+use Rattle.tl_patch_spec.specs.Markup.{is_key_byte}
+use Rattle.tl_patch.proofs.markup.is_key.Given as goal
+
+abbrev pub invariant-loop-byte : goal.invariant-loop-byte
+invariant-loop-byte l = list_all is_key_byte l.key ≡ list_all is_key_byte (drop l.byte-index l.key)

@@ -1,0 +1,7 @@
+use Rattle.std.proofs.Common.{◌≡◌, ◌++◌, drop}
+use Rattle.std.specs.Prelude.{flat_map}
+use Rattle.tl_patch_spec.specs.Markup.{value_byte_markup}
+use Rattle.tl_patch.proofs.markup.write_value.Given as goal
+
+abbrev pub invariant-loop-byte : goal.invariant-loop-byte
+invariant-loop-byte l = l.initial.out.items ++ flat_map value_byte_markup l.value ≡ l.out.items ++ flat_map value_byte_markup (drop l.byte-index l.value)

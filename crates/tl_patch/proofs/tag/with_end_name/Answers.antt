@@ -1,0 +1,15 @@
+use Rattle.std.proofs.Common.{◌++◌, codes, ap, ap₂, sym, ◌∙◌}
+use Rattle.std.proofs.lemmas.List.{take_rest}
+use Rattle.tl_patch.proofs.Changes.{end_renamed}
+use Rattle.tl_patch.proofs.tag.with_end_name.Goals as goal
+
+pub returns : goal.returns
+returns c =
+    let first = c.in_ok-extend_from_slice.ensures.items in
+    let second = c.in_ok-extend_from_slice-2.ensures.items in
+    let third = c.in_ok-extend_from_slice-3.ensures.items in
+    end_renamed c.args.tag.now c.args.name.now c.extend_from_slice-3.new.self.items c.in-Some.end c.in-Some.ensures
+    (sym c.is_name.ensures ∙ c.if-not-is_name.false)
+    (third ∙ ap₂ (λ items rest. items ++ rest)
+    (second ∙ ap (λ items. items ++ c.args.name.now) (first ∙ ap (λ items. items ++ codes "</") c.new-new_tag.ensures.items))
+    (take_rest c.args.tag.now c.in-Some.end))
