@@ -1,7 +1,7 @@
 """Compares the programs with others, on made-up pages.
 
     ./x compare check ..        what `tlq` writes, and its status, with a plain reader written from docs/GRAMMAR.md alone
-    ./x compare browser ..      what Chromium runs of pages as they stand, and as `tl sanitize` prints them
+    ./x compare browser ..      what Chromium runs and builds of pages as they stand, and as `tl sanitize` prints them
     ./x compare html ..         a tokenizer written from the HTML standard alone with that of html5lib; tables of names with Python's
     ./x compare tools ..        the time that `tl` takes with that of pup, xmllint and hxselect
 

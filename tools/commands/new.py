@@ -2,11 +2,12 @@
 
     ./x new NAME [LIBRARY..]        a library in crates/NAME that stands on these, with its line in crates.txt
     ./x new --program NAME ..       a program
-    ./x new --workspace DIR         a workspace in the folder DIR, which is not there or empty: `tl` and what it stands on, as
-                                    ./x vendor copies them, and the program `page`, which prints a page again
+    ./x new --workspace DIR         a workspace in the folder DIR, which is not there or empty: `tl_extract` and what it stands on,
+                                    as ./x vendor copies them, and the program `page`, which prints where the links of a page lead:
+                                    the caller that the README shows, with its definition and its clause
 
-What is made compiles (`rt try`) and is proved (`rt check`) as it stands. What more a new crate here wants say
-CONTRIBUTING.md, and docs/DECISIONS.md (Crates).
+What is made compiles (`rt try`) and is proved (`rt check`) as it stands: a crate begins with one function, whose clause cites the
+definition in `specs`. What more a new crate here wants say CONTRIBUTING.md, and docs/DECISIONS.md (Crates).
 """
 import os
 import re
@@ -15,47 +16,98 @@ from ..vendoring import vendor
 from ..workspace import ROOT, Stop, Workspace, put, text_of
 
 PROGRAM = "page"
-SOURCE = """//! Prints a page again.
+# The library below the program of a new workspace, and the crate with the caller, whose parts are copied.
+BELOW = "tl_extract"
+CALLER = "uses"
+PARTS = ("src/values.rt", "specs/Values.antt", "proofs/values/values/Invariants.antt")
+SOURCE = """//! Prints where the links of a page lead.
 #![tactic(auto)]
+
+mod values;
 
 use anyhow::Result;
 use std::io::{Read, Write};
-use tl::{ParserOptions, parse};
+use tl::ParserOptions;
+use tl_page::read;
+use values::values;
 
 fn main(rt: HostRuntime) -> Result<()> {
-    let mut page = String::new(rt.alloc());
-    rt.stdin().read_to_string(&mut page)?;
-    let document = parse(rt.alloc(), page.as_str(), ParserOptions::new())?;
+    let mut page = Vec::new(rt.alloc());
+    rt.stdin().read_to_end(&mut page)?;
+    let document = read(rt.alloc(), page.as_slice(), ParserOptions::new())?;
+    let lines = values(rt.alloc(), &document, "a", "href")?;
     let mut out = rt.stdout();
-    out.write_all(document.outer_html(rt.alloc())?.as_bytes())?;
+    out.write_all(lines.as_bytes())?;
     out.flush()?;
     Ok(())
 }
 """
 LIBRARY = """//! (What this crate is for.)
 #![tactic(auto)]
+
+pub mod line;
+"""
+MAIN = """//! (What this program does.)
+#![tactic(auto)]
+
+mod line;
+
+use anyhow::Result;
+use line::line;
+use std::io::Write;
+
+fn main(rt: HostRuntime) -> Result<()> {
+    let mut out = rt.stdout();
+    out.write_all(line(rt.alloc(), "Hello")?.as_bytes())?;
+    out.flush()?;
+    Ok(())
+}
+"""
+# One function with its clause, and the definition that it cites.
+FUNCTION = """//! Lines (to be replaced by what this crate is for).
+ghost use Rattle.std.specs.Prelude.{{◌≡◌, IfOk, string_bytes}};
+ghost use Rattle.{name}.specs.Line.{{line}};
+
+use std::alloc::{{AllocError, Global}};
+
+/// A text and a newline.
+pub fn line(alloc: Global, text: &str) -> Result<String, AllocError>
+    ensures {{ IfOk result (λ written. string_bytes written ≡ line text.now) }}
+{{
+    let mut written = String::new(alloc);
+    written.push_str(text)?;
+    written.push('\\n')?;
+    Ok(written)
+}}
+"""
+DEFINITION = """-- Lines.
+use Rattle.std.specs.Prelude.{ℕ, List, [], ◌∷◌, ◌++◌}
+
+-- a text and a newline
+abbrev pub line : List ℕ → List ℕ
+line text = text ++ 10 ∷ []
 """
 README = """# `{name}`
 
 (What this crate gives, what is proved of it and by which clause, what is only tested.)
 """
-MAIN = """//! (What this program does.)
-#![tactic(auto)]
-
-fn main(_rt: HostRuntime) {}
-"""
 
 
 def make_workspace(folder):
-    """Makes a workspace over `tl` with a program."""
+    """Makes a workspace over `tl_extract` with a program."""
     if os.path.exists(folder) and os.listdir(folder):
         raise Stop(f"{folder} is not empty")
     os.makedirs(f"{folder}/crates", exist_ok=True)
-    put(f"{folder}/crates.txt", f"# prints a page again\n{PROGRAM}: tl anyhow\n")
+    libraries = f"{BELOW} tl_page tl tl_spec anyhow"
+    put(f"{folder}/crates.txt", f"# prints where the links of a page lead\n{PROGRAM}: {libraries}\n")
     put(f"{folder}/HANDLES", "Handles allowed: none.\n")
     put(f"{folder}/.gitignore", "out/\n")
     put(f"{folder}/crates/{PROGRAM}/src/main.rt", SOURCE)
-    vendor(folder)
+    put(f"{folder}/crates/{PROGRAM}/specs/Lib.antt", "pub mod Values\n")
+    for part in PARTS:
+        text = text_of(f"{ROOT}/crates/{CALLER}/{part}")
+        put(f"{folder}/crates/{PROGRAM}/{part}", text.replace(f"Rattle.{CALLER}.", f"Rattle.{PROGRAM}."))
+    vendor(folder, BELOW)
 
 
 def make_crate(name, libraries, is_program):
@@ -68,8 +120,14 @@ def make_crate(name, libraries, is_program):
     for it in libraries:
         if it not in workspace.libraries and not os.path.isdir(f"{workspace.kit}/rlibs/{it}.rlib"):
             raise Stop(f"{it} is no library of crates.txt or of the kit")
-    put(f"{workspace.folder(name)}/src/{'main' if is_program else 'lib'}.rt", MAIN if is_program else LIBRARY)
-    put(f"{workspace.folder(name)}/README.md", README.format(name=name))
+    folder = workspace.folder(name)
+    put(f"{folder}/src/{'main' if is_program else 'lib'}.rt", MAIN if is_program else LIBRARY)
+    put(f"{folder}/src/line.rt", FUNCTION.format(name=name))
+    put(f"{folder}/specs/Lib.antt", "pub mod Line\n")
+    put(f"{folder}/specs/Line.antt", DEFINITION)
+    put(f"{folder}/README.md", README.format(name=name))
+    if is_program and "anyhow" not in libraries:
+        libraries = [*libraries, "anyhow"]
     line = f"{name}: {' '.join(libraries)}".rstrip()
     put(f"{ROOT}/crates.txt", text_of(f"{ROOT}/crates.txt") + f"# (what it is for)\n{line}\n")
     print(f"new: crates/{name}, and its line at the end of crates.txt: what stands there in brackets is yours to say")

@@ -1,7 +1,7 @@
 """Copies a library of this workspace, with those that it stands on, into another workspace, whose crates can list it then.
 
     ./x vendor DIR [NAME]     the library NAME, `tl` where none is named
-    ./x vendor --test         has ./x new make a workspace over `tl`, copies it once more, and runs the program there, unproved
+    ./x vendor --test         has ./x new make a workspace, copies its libraries once more, and runs the program there, unproved
 
 The folders come to stand in DIR/crates, each with its README, in the place of those that stand there, and their lines in
 DIR/crates.txt, as far as it lacks them. Mutants (`mutants`, `must-fail`) stay here, and so does what was proved: the first check
@@ -14,23 +14,24 @@ from ..programs import unproved_build
 from ..running import count, run
 from ..vendoring import vendor
 from ..workspace import Stop, Workspace, text_of
-from .new import PROGRAM, make_workspace
+from .new import BELOW, PROGRAM, make_workspace
 
-PAGE = b"<p>a<br></p><!-- b -->"
+PAGE = b'<p><a href="/x">a</a><br><a>b</a><a href="#y">c</a></p>'
+LINES = b"/x\n#y\n"
 
 
 def check():
     """Looks whether what is copied is enough for a program in another workspace."""
     with tempfile.TemporaryDirectory(prefix="x-vendor-") as room:
         make_workspace(f"{room}/other")
-        vendor(f"{room}/other")
+        vendor(f"{room}/other", BELOW)
         other = Workspace(f"{room}/other")
         if len(re.findall(r"(?m)^tl *:", text_of(f"{other.root}/crates.txt"))) != 1:
             raise Stop("copied twice, it left another number of lines of tl than one")
         ran = run([unproved_build(PROGRAM, other)], given=PAGE)
-        if ran.status or ran.out != PAGE:
-            raise Stop(f"the program did not print its page: {ran.ending()}: {ran.said()}")
-    print("vendor: a program in another workspace printed its page", flush=True)
+        if ran.status or ran.out != LINES:
+            raise Stop(f"the program did not print the links of its page: {ran.ending()}: {ran.said()}")
+    print("vendor: a program in another workspace printed the links of a page", flush=True)
     return True
 
 
