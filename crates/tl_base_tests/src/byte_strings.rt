@@ -155,7 +155,7 @@ fn shared_world(alloc: Global) -> Result<Bytes<'static>, AllocError> {
     buffer.slice(alloc, 6, 11)
 }
 
-fn made(alloc: Global, held: &Held) -> Result<Bytes<'static>, AllocError> {
+fn build_bytes(alloc: Global, held: &Held) -> Result<Bytes<'static>, AllocError> {
     match held {
         Held::Shared => shared_world(alloc),
         Held::Owned => copied(alloc, b"world"),
@@ -174,7 +174,7 @@ fn is_held(bytes: &Bytes<'static>, held: &Held, text: &str) -> bool {
 
 // Whether the bytes and a clone of them are equal, and held alike.
 fn clones_alike(alloc: Global, held: &Held, text: &str) -> Result<bool, AllocError> {
-    let bytes = made(alloc, held)?;
+    let bytes = build_bytes(alloc, held)?;
     let copy = bytes.clone()?;
     Ok(copy == bytes && is_held(&bytes, held, text) && is_held(&copy, held, text))
 }

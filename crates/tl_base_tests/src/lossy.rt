@@ -2,7 +2,7 @@
 use tl_selector::attr_value::{begins_with, ends_with, has_part, has_word, is_same_text};
 
 // What the five tests say of a value and another, in the order of the columns below.
-fn said(value: &[u8], other: &[u8]) -> (bool, bool, bool, bool, bool) {
+fn comparisons(value: &[u8], other: &[u8]) -> (bool, bool, bool, bool, bool) {
     (
         is_same_text(value, other),
         begins_with(value, other),
@@ -49,6 +49,6 @@ const ROWS: &[(&[u8], &[u8], (bool, bool, bool, bool, bool))] = &[
 #[test]
 fn values_are_compared_by_their_texts(rt: HostRuntime) {
     for (place, (value, other, wanted)) in ROWS.iter().enumerate() {
-        assert!(rt; said(value, other) == *wanted, "row {place}");
+        assert!(rt; comparisons(value, other) == *wanted, "row {place}");
     }
 }

@@ -7,8 +7,8 @@ ghost use Rattle.tl_html_balance.specs.Tokens.{Opens, is_closed_at_once, is_misp
 ghost use Rattle.tl_html_balance.specs.View.{name_of, names_left, open_names};
 
 use crate::class;
-use crate::left::Left;
 use crate::open_tags::OpenTags;
+use crate::remaining::Remaining;
 use crate::rule::{BEFORE_START, Reach, count_all};
 use crate::tag_name::TagName;
 
@@ -33,10 +33,10 @@ pub enum Opening {
 }
 
 impl OpenTags {
-    fn all(&self) -> Left<'_>
+    fn all(&self) -> Remaining<'_>
         ensures { names_left result ≡ open_names self.now }
     {
-        Left {
+        Remaining {
             tags: self,
             closed: 0,
         }
@@ -85,7 +85,7 @@ impl OpenTags {
         ensures within { result ≤ length (open_names self.now) }
     {
         let head = self.head_before(name);
-        let left = self.all().after(head);
+        let left = self.all().skip(head);
         if left.is_foreign() {
             return head;
         }

@@ -4,8 +4,8 @@
 mod balance;
 mod class;
 mod known;
-mod left;
 mod open_tags;
+mod remaining;
 mod rule;
 mod tag_name;
 

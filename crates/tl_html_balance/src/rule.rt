@@ -4,7 +4,7 @@ ghost use Rattle.tl_html_balance.specs.Rules.{rule_of, rules_for, total};
 ghost use Rattle.tl_html_balance.specs.View.{name_of, names_left};
 
 use crate::class::*;
-use crate::left::Left;
+use crate::remaining::Remaining;
 use crate::tag_name::TagName;
 
 /// How far a rule closes.
@@ -45,7 +45,7 @@ pub(crate) static BEFORE_START: [(u64, Reach); 15] = [
 
 impl Reach {
     /// How many are closed for a tag of this name.
-    pub(crate) fn count(self, left: &Left<'_>, name: &TagName<'_>) -> usize
+    pub(crate) fn count(self, left: &Remaining<'_>, name: &TagName<'_>) -> usize
         ensures value { result ≡ rule_of self (name_of name.now) (names_left left.now) }
         ensures within { result ≤ length (names_left left.now) }
     {
@@ -61,7 +61,7 @@ impl Reach {
 }
 
 /// How many are closed by the rules for this name, one after the other.
-pub(crate) fn count_all(rules: &[(u64, Reach)], left: &Left<'_>, name: &TagName<'_>) -> usize
+pub(crate) fn count_all(rules: &[(u64, Reach)], left: &Remaining<'_>, name: &TagName<'_>) -> usize
     ensures value { result
         ≡ total (rules_for rules.now (name_of name.now)) (names_left left.now) }
     ensures within { result ≤ length (names_left left.now) }
@@ -69,7 +69,7 @@ pub(crate) fn count_all(rules: &[(u64, Reach)], left: &Left<'_>, name: &TagName<
     let mut closed = 0;
     for (names, reach) in rules {
         if name.is(*names) {
-            closed += reach.count(&left.after(closed), name);
+            closed += reach.count(&left.skip(closed), name);
         }
     }
     closed

@@ -27,7 +27,7 @@ static ROWS: [(&str, &str); 20] = [
     ("h1 # h2 #", "h1 # /h1 h2 # /h2"),
 ];
 
-fn put(out: &mut Vec<u8>, sign: &[u8], name: &[u8]) -> Result<(), AllocError> {
+fn push_tag(out: &mut Vec<u8>, sign: &[u8], name: &[u8]) -> Result<(), AllocError> {
     if !out.is_empty() {
         out.push(b' ')?;
     }
@@ -38,7 +38,7 @@ fn put(out: &mut Vec<u8>, sign: &[u8], name: &[u8]) -> Result<(), AllocError> {
 fn close(tags: &mut OpenTags, out: &mut Vec<u8>, count: usize) -> Result<(), AllocError> {
     for place in 0..count {
         if let Some(name) = tags.name(place) {
-            put(out, b"/", name)?;
+            push_tag(out, b"/", name)?;
         }
     }
     tags.close(count);
@@ -57,10 +57,10 @@ fn put_start(
     }
     let count = tags.closed_before_start(&name);
     close(tags, out, count)?;
-    put(out, b"", name.bytes())?;
+    push_tag(out, b"", name.bytes())?;
     match tags.opening(&name, closes) {
         Opening::Void => Ok(()),
-        Opening::ClosedAtOnce => put(out, b"/", name.bytes()),
+        Opening::ClosedAtOnce => push_tag(out, b"/", name.bytes()),
         Opening::Open => tags.push(&name),
     }
 }
@@ -72,10 +72,10 @@ fn put_end(tags: &mut OpenTags, out: &mut Vec<u8>, name: &[u8]) -> Result<(), Al
     close(tags, out, count)?;
     match put_in {
         PutIn::Nothing => Ok(()),
-        PutIn::LineBreak => put(out, b"", name.bytes()),
+        PutIn::LineBreak => push_tag(out, b"", name.bytes()),
         PutIn::Paragraph => {
-            put(out, b"", name.bytes())?;
-            put(out, b"/", name.bytes())
+            push_tag(out, b"", name.bytes())?;
+            push_tag(out, b"/", name.bytes())
         }
     }
 }
@@ -84,7 +84,7 @@ fn put_word(tags: &mut OpenTags, out: &mut Vec<u8>, word: &[u8]) -> Result<(), A
     if word == b"#".as_slice() {
         let count = tags.closed_before_text(false);
         close(tags, out, count)?;
-        return put(out, b"", word);
+        return push_tag(out, b"", word);
     }
     if let Some(name) = word.strip_prefix(b"/") {
         return put_end(tags, out, name);

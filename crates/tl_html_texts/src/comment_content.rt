@@ -51,7 +51,7 @@ fn before_greater(bytes: &[u8]) -> &[u8]
 }
 
 // The bytes past so many, if there are any.
-fn past(bytes: &[u8], count: usize) -> &[u8]
+fn skip(bytes: &[u8], count: usize) -> &[u8]
     ensures { result.now ≡ drop count bytes.now }
 {
     if bytes.len() < count {
@@ -65,9 +65,9 @@ fn bogus(bytes: &[u8]) -> &[u8]
     ensures { result.now ≡ bogus bytes.now }
 {
     if bytes.starts_with(b"<?") {
-        before_greater(past(bytes, 1))
+        before_greater(skip(bytes, 1))
     } else {
-        before_greater(past(bytes, 2))
+        before_greater(skip(bytes, 2))
     }
 }
 
@@ -76,7 +76,7 @@ fn content(bytes: &[u8]) -> &[u8]
     ensures { result.now ≡ content bytes.now }
 {
     if bytes.starts_with(b"<!--") {
-        inside(past(bytes, 4))
+        inside(skip(bytes, 4))
     } else {
         bogus(bytes)
     }

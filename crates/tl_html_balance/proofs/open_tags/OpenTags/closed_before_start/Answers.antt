@@ -11,18 +11,18 @@ pub overflow_add-result : goal.overflow_add-result
 overflow_add-result c =
     let tags = open_names c.args.self.now in
     let few = left-small c.args.self.now 0 in
-    let left = ap (λ names. length names) (c.after-left.ensures ∙ ap (drop c.head_before-head.result) c.all.ensures) in
+    let left = ap (λ names. length names) (c.skip-left.ensures ∙ ap (drop c.head_before-head.result) c.all.ensures) in
     omega (arith, length-drop c.head_before-head.result tags, c.head_before-head.ensures.within, c.count_all.ensures.within)
 
 pub returns-then-is_foreign-clause-value : goal.returns-then-is_foreign-clause-value
 returns-then-is_foreign-clause-value c =
-    let left = c.after-left.ensures ∙ ap (drop c.head_before-head.result) c.all.ensures in
+    let left = c.skip-left.ensures ∙ ap (drop c.head_before-head.result) c.all.ensures in
     before-foreign (name_of c.args.name.now) (open_names c.args.self.now) c.head_before-head.result c.head_before-head.ensures.value
     (sym (ap is_foreign left) ∙ sym c.is_foreign.ensures ∙ c.if-is_foreign.true)
 
 pub returns-clause-value : goal.returns-clause-value
 returns-clause-value c =
-    let left = c.after-left.ensures ∙ ap (drop c.head_before-head.result) c.all.ensures in
+    let left = c.skip-left.ensures ∙ ap (drop c.head_before-head.result) c.all.ensures in
     before-rules (name_of c.args.name.now) (open_names c.args.self.now) c.head_before-head.result c.count_all.result c.head_before-head.ensures.value
     (sym (ap is_foreign left) ∙ sym c.is_foreign.ensures ∙ c.if-is_foreign.false)
     (c.count_all.ensures.value ∙ ap (total (rules_for BEFORE_START (name_of c.args.name.now))) left)

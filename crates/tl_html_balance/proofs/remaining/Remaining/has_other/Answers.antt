@@ -4,7 +4,7 @@ use Rattle.tl_html_balance.specs.Classes.{is}
 use Rattle.tl_html_balance.specs.View.{names_left}
 use Rattle.std.specs.Option.{is_some}
 use Rattle.tl_html_balance.proofs.Depths.{search-begins, search-ends, search-finds, search-passes}
-use Rattle.tl_html_balance.proofs.left.Left.has_other.Goals as goal
+use Rattle.tl_html_balance.proofs.remaining.Remaining.has_other.Goals as goal
 
 pub loop-depth-init : goal.loop-depth-init
 loop-depth-init c = search-begins (λ name. not (is c.args.passed name)) never (names_left c.args.self.now)

@@ -2,7 +2,7 @@ use Rattle.std.proofs.Common.{◌≡◌, ◌+◌, drop}
 use Rattle.tl_html_spec.specs.Balanced.{leading}
 use Rattle.tl_html_balance.specs.Classes.{is}
 use Rattle.tl_html_balance.specs.View.{names_left}
-use Rattle.tl_html_balance.proofs.left.Left.leading.Given as goal
+use Rattle.tl_html_balance.proofs.remaining.Remaining.leading.Given as goal
 
 abbrev pub invariant-loop-depth : goal.invariant-loop-depth
 invariant-loop-depth l =

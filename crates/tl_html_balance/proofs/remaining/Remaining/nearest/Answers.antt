@@ -1,6 +1,6 @@
 use Rattle.std.proofs.Common.{arith}
 use Rattle.tl_html_balance.proofs.Opened.{left-small}
-use Rattle.tl_html_balance.proofs.left.Left.nearest_of.Goals as goal
+use Rattle.tl_html_balance.proofs.remaining.Remaining.nearest.Goals as goal
 
 pub overflow_add-result : goal.overflow_add-result
 overflow_add-result c =

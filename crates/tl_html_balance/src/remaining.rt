@@ -15,17 +15,17 @@ const LOOKED_AT: usize = 512;
 
 /// The open tags but the innermost that are closed.
 #[derive(Clone, Copy)]
-pub(crate) struct Left<'t> {
+pub(crate) struct Remaining<'t> {
     pub(crate) tags: &'t OpenTags,
     pub(crate) closed: usize,
 }
 
-impl<'t> Left<'t> {
+impl<'t> Remaining<'t> {
     /// What is left after so many more.
-    pub(crate) fn after(&self, count: usize) -> Left<'t>
+    pub(crate) fn skip(&self, count: usize) -> Remaining<'t>
         ensures { names_left result ≡ drop count (names_left self.now) }
     {
-        Left {
+        Remaining {
             tags: self.tags,
             closed: self.closed.saturating_add(count),
         }

@@ -3,7 +3,7 @@ use Rattle.tl_html_spec.specs.Balanced.{depth, never}
 use Rattle.tl_html_balance.specs.Classes.{is}
 use Rattle.tl_html_balance.specs.View.{names_left}
 use Rattle.tl_html_balance.proofs.Depths.{found_from}
-use Rattle.tl_html_balance.proofs.left.Left.has_other.Given as goal
+use Rattle.tl_html_balance.proofs.remaining.Remaining.has_other.Given as goal
 
 abbrev pub invariant-loop-depth : goal.invariant-loop-depth
 invariant-loop-depth l =

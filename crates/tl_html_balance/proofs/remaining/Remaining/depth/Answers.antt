@@ -3,7 +3,7 @@ use Rattle.tl_html_spec.specs.Balanced.{looked_at}
 use Rattle.tl_html_balance.specs.Classes.{is}
 use Rattle.tl_html_balance.specs.View.{names_left}
 use Rattle.tl_html_balance.proofs.Depths.{search-begins, search-ends, search-finds, search-passes, search-stops}
-use Rattle.tl_html_balance.proofs.left.Left.depth.Goals as goal
+use Rattle.tl_html_balance.proofs.remaining.Remaining.depth.Goals as goal
 
 pub loop-depth-init : goal.loop-depth-init
 loop-depth-init c = search-begins (is c.args.found) (is c.args.stops) (names_left c.args.self.now)

@@ -1,5 +1,5 @@
 use Rattle.tl_html_balance.proofs.Opened.{more-left}
-use Rattle.tl_html_balance.proofs.left.Left.after.Goals as goal
+use Rattle.tl_html_balance.proofs.remaining.Remaining.skip.Goals as goal
 
 pub returns : goal.returns
 returns c =

@@ -1,6 +1,6 @@
 use Rattle.tl_html_balance.specs.View.{names_left}
 use Rattle.tl_html_balance.proofs.Depths.{foreign-none, foreign-some}
-use Rattle.tl_html_balance.proofs.left.Left.is_foreign.Goals as goal
+use Rattle.tl_html_balance.proofs.remaining.Remaining.is_foreign.Goals as goal
 
 pub returns-in-Some : goal.returns-in-Some
 returns-in-Some c =

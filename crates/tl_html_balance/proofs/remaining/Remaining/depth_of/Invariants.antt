@@ -4,7 +4,7 @@ use Rattle.tl_html_spec.specs.Balanced.{depth}
 use Rattle.tl_html_balance.specs.Classes.{is}
 use Rattle.tl_html_balance.specs.View.{name_of, names_left}
 use Rattle.tl_html_balance.proofs.Depths.{found_from}
-use Rattle.tl_html_balance.proofs.left.Left.depth_of.Given as goal
+use Rattle.tl_html_balance.proofs.remaining.Remaining.depth_of.Given as goal
 
 abbrev pub invariant-loop-depth : goal.invariant-loop-depth
 invariant-loop-depth l =

@@ -4,7 +4,7 @@ use Rattle.tl_html_spec.specs.Balanced.{looked_at}
 use Rattle.tl_html_balance.specs.Classes.{is}
 use Rattle.tl_html_balance.specs.View.{name_of, names_left}
 use Rattle.tl_html_balance.proofs.Depths.{search-begins, search-ends, search-finds, search-passes, search-stops}
-use Rattle.tl_html_balance.proofs.left.Left.depth_of.Goals as goal
+use Rattle.tl_html_balance.proofs.remaining.Remaining.depth_of.Goals as goal
 
 pub loop-depth-init : goal.loop-depth-init
 loop-depth-init c = search-begins (bytes_eq (name_of c.args.name.now)) (is c.args.stops) (names_left c.args.self.now)

@@ -3,7 +3,7 @@ use Rattle.std.proofs.lemmas.List.{get_or-drop}
 use Rattle.tl_html_balance.specs.Classes.{classes_of, has, is}
 use Rattle.tl_html_balance.specs.View.{open_names}
 use Rattle.tl_html_balance.proofs.Opened.{place-fits}
-use Rattle.tl_html_balance.proofs.left.Left.is.Goals as goal
+use Rattle.tl_html_balance.proofs.remaining.Remaining.is.Goals as goal
 
 pub overflow_add-self : goal.overflow_add-self
 overflow_add-self c =

@@ -1,6 +1,6 @@
 use Rattle.std.proofs.Common.{arith}
 use Rattle.tl_html_balance.proofs.Opened.{place-fits}
-use Rattle.tl_html_balance.proofs.left.Left.has_name.Goals as goal
+use Rattle.tl_html_balance.proofs.remaining.Remaining.has_name.Goals as goal
 
 pub overflow_add-self : goal.overflow_add-self
 overflow_add-self c =
