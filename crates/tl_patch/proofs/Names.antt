@@ -3,14 +3,14 @@ use Rattle.std.proofs.Common.{arith, ◌≡◌, ℕ, ◌+◌, ◌<◌, Bool, tru
 use Rattle.std.specs.Char.{is_ascii_alphabetic, to_ascii_lowercase}
 use Rattle.std.specs.List.{list_all}
 use Rattle.std.proofs.lemmas.Bool.{and_parts, cases_Bool, eqb-true, not-true}
-use Rattle.std.proofs.lemmas.List.{take_more}
+use Rattle.std.proofs.lemmas.List.{drop_more, take_more}
 use Rattle.tl_html_spec.specs.HtmlTokenizer.{HtmlToken, OpenTag, State, Step, data_state, end_tag_open, ends_name, is_white_space, new_tag, tag_name, tag_open, to, whole_step, with_letter}
 use Rattle.tl_html_spec.specs.Reader.{Reader, after, at, emitted, feed, read}
 use Rattle.tl_html_spec.proofs.Fold.{after_append, emitted_append}
 use Rattle.tl_patch_spec.specs.Markup.{is_name, is_name_byte}
 use Rattle.tl_patch_spec.proofs.Sets.{neither}
 use Rattle.tl_patch_spec.proofs.Writing.{Reads, then_reads}
-use Rattle.tl_patch.specs.Places.{IsInName}
+use Rattle.tl_patch.specs.Places.{IsInName, has_name_end}
 
 -- a letter is no other byte
 letter_is_not : (b c : ℕ) → is_ascii_alphabetic b ≡ true → is_ascii_alphabetic c ≡ false → (b == c) ≡ false
@@ -84,6 +84,10 @@ name_goes_on text n l h is_end p =
       p.3,
       p.4,
     )
+
+pub end_goes_on : (text : List ℕ) (n : ℕ) → n < length text → ends_name (feed (get_or text n 0)) ≡ false → has_name_end (drop (n + 1) text) ≡ has_name_end (drop n text)
+end_goes_on text n l h =
+    sym (ap has_name_end (drop_more text n 0 l) ∙ ap (λ q. q || has_name_end (drop (n + 1) text)) h)
 
 -- it begins with a letter
 

@@ -1,5 +1,7 @@
 -- Places in a tag, and tags with a change.
-use Rattle.std.specs.Prelude.{◌≡◌, ℕ, ◌<◌, Bool, true, List, [], ◌∷◌, ◌++◌, length, take, drop, slice_index}
+use Rattle.std.specs.Prelude.{◌≡◌, ℕ, ◌<◌, ◌==◌, ◌&&◌, Bool, true, false, List, [], ◌∷◌, ◌++◌, length, take, drop, slice_index}
+use Rattle.std.specs.Char.{is_ascii_alphabetic}
+use Rattle.std.specs.List.{list_any}
 use Rattle.tl_html_spec.specs.HtmlTokenizer.{OpenTag, data_state, ends_name, tag_name}
 use Rattle.tl_html_spec.specs.Reader.{after, at, emitted, feed}
 use Rattle.tl_patch_spec.specs.Markup.{attribute_markup}
@@ -21,6 +23,21 @@ pub record GoesOn (from n : ℕ) (text : List ℕ) : Type 0 where
   pub in_name : (is_end : Bool) → IsInName is_end from text → IsInName is_end n text
   pub within : n < length text
   pub ends : ends_name (feed (slice_index text n)) ≡ true
+
+-- whether some byte here ends a name
+abbrev pub has_name_end : List ℕ → Bool
+has_name_end text = list_any (λ b. ends_name (feed b)) text
+
+-- whether a start tag begins here, and its name ends
+abbrev pub begins_start_tag : List ℕ → Bool
+begins_start_tag (a ∷ b ∷ text) = (a == 60) && (is_ascii_alphabetic b && has_name_end text)
+begins_start_tag _ = false
+
+-- and an end tag
+abbrev pub begins_end_tag : List ℕ → Bool
+begins_end_tag (a ∷ b ∷ c ∷ text) =
+    (a == 60) && ((b == 47) && (is_ascii_alphabetic c && has_name_end text))
+begins_end_tag _ = false
 
 -- new is the tag with one attribute more and each other byte as it is; where the tag lacks the key,
 -- its token has the attribute in front, and all that follows is read as before

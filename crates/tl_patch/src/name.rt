@@ -1,13 +1,14 @@
 //! The names of tags.
-ghost use Rattle.std.specs.Prelude.{IfSome, false, true};
-ghost use Rattle.tl_patch.specs.Places.{GoesOn, IsNameEnd};
+ghost use Rattle.std.specs.Prelude.{◌≡◌, IfSome, drop, false, is_some, true};
+ghost use Rattle.tl_patch.specs.Places.{GoesOn, IsNameEnd, begins_end_tag, begins_start_tag, has_name_end};
 
 use crate::markup::ends_name;
 
 // Where a name ends that goes on at a place; `None` where the bytes end in it.
-#[tactic(auto, using(crate::proofs::Names::name_goes_on))]
+#[tactic(auto, using(crate::proofs::Names::name_goes_on, crate::proofs::Names::end_goes_on))]
 fn name_end(tag: &[u8], from: usize) -> Option<usize>
-    ensures { IfSome result (λ end. GoesOn from end tag.now) }
+    ensures goes_on { IfSome result (λ end. GoesOn from end tag.now) }
+    ensures some { is_some result ≡ has_name_end (drop from tag.now) }
 {
     let mut end = from;
     while end < tag.len() {
@@ -23,7 +24,8 @@ fn name_end(tag: &[u8], from: usize) -> Option<usize>
 // begins, or the bytes end in its name.
 #[tactic(auto, using(crate::proofs::Names::start_name_begins))]
 pub(crate) fn start_name_end(tag: &[u8]) -> Option<usize>
-    ensures { IfSome result (λ end. IsNameEnd false end tag.now) }
+    ensures ends { IfSome result (λ end. IsNameEnd false end tag.now) }
+    ensures some { is_some result ≡ begins_start_tag tag.now }
 {
     if tag.len() < 2 || tag[0] != b'<' || !tag[1].is_ascii_alphabetic() {
         return None;
@@ -34,7 +36,8 @@ pub(crate) fn start_name_end(tag: &[u8]) -> Option<usize>
 // The same of an end tag.
 #[tactic(auto, using(crate::proofs::Names::end_name_begins))]
 pub(crate) fn end_name_end(tag: &[u8]) -> Option<usize>
-    ensures { IfSome result (λ end. IsNameEnd true end tag.now) }
+    ensures ends { IfSome result (λ end. IsNameEnd true end tag.now) }
+    ensures some { is_some result ≡ begins_end_tag tag.now }
 {
     if tag.len() < 3 || tag[0] != b'<' || tag[1] != b'/' || !tag[2].is_ascii_alphabetic() {
         return None;

@@ -1,6 +1,7 @@
 //! Tags with a change, in their own bytes.
-ghost use Rattle.std.specs.Prelude.{codes, IfOk, IfSome};
-ghost use Rattle.tl_patch.specs.Places.{IsAdded, IsRenamed};
+ghost use Rattle.std.specs.Prelude.{◌≡◌, ◌&&◌, codes, IfOk, IfSome, is_some};
+ghost use Rattle.tl_patch.specs.Places.{IsAdded, IsRenamed, begins_end_tag, begins_start_tag};
+ghost use Rattle.tl_patch_spec.specs.Markup.{is_key, is_name, is_without_nul};
 
 use crate::markup::{is_key, is_name, is_value, write_attribute};
 use crate::name::{end_name_end, start_name_end};
@@ -14,8 +15,10 @@ pub fn with_attribute(
     key: &[u8],
     value: &[u8],
 ) -> Result<Option<Vec<u8>>, AllocError>
-    ensures { IfOk result (λ found. IfSome found (λ new.
+    ensures added { IfOk result (λ found. IfSome found (λ new.
         IsAdded tag.now new.items key.now value.now)) }
+    ensures some { IfOk result (λ found. is_some found
+        ≡ (is_key key.now && (is_without_nul value.now && begins_start_tag tag.now))) }
 {
     if !is_key(key) || !is_value(value) {
         return Ok(None);
@@ -36,8 +39,10 @@ pub fn with_start_name(
     tag: &[u8],
     name: &[u8],
 ) -> Result<Option<Vec<u8>>, AllocError>
-    ensures { IfOk result (λ found. IfSome found (λ new.
+    ensures renamed { IfOk result (λ found. IfSome found (λ new.
         IsRenamed (codes "<") tag.now new.items name.now)) }
+    ensures some { IfOk result (λ found.
+        is_some found ≡ (is_name name.now && begins_start_tag tag.now)) }
 {
     if !is_name(name) {
         return Ok(None);
@@ -54,8 +59,10 @@ pub fn with_start_name(
 
 /// An end tag with another name; `None` where no end tag begins, or the name can't be written.
 pub fn with_end_name(alloc: Global, tag: &[u8], name: &[u8]) -> Result<Option<Vec<u8>>, AllocError>
-    ensures { IfOk result (λ found. IfSome found (λ new.
+    ensures renamed { IfOk result (λ found. IfSome found (λ new.
         IsRenamed (codes "</") tag.now new.items name.now)) }
+    ensures some { IfOk result (λ found.
+        is_some found ≡ (is_name name.now && begins_end_tag tag.now)) }
 {
     if !is_name(name) {
         return Ok(None);
