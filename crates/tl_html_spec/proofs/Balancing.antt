@@ -6,7 +6,7 @@ use Rattle.tl_spec.specs.Lex.ByteClass.{is_void}
 use Rattle.tl_names.specs.Elements.{closed_at_once, head_parts, is_among}
 use Rattle.tl_html_spec.specs.HtmlTokenizer.{HtmlAttribute, HtmlToken, Character, StartTag, EndTag, CommentToken, DoctypeToken, is_white_space}
 use Rattle.tl_html_spec.specs.Sound.{AreSound, HaveKeys, IsSome, IsSound}
-use Rattle.tl_html_spec.specs.Balanced.{Balance, Balanced, Closing, Names, Rule, after_closing, balance, balanced, balanced_from, before_start, carried_out, closed_by, closing, innermost, is_dropped, is_foreign, is_head, is_one_of, is_raw, nothing_more, opened, put_in, rules_before, start, then_closing, when}
+use Rattle.tl_html_spec.specs.Balanced.{Balance, Balanced, Closing, Names, Rule, after_closing, balance, balanced, balanced_from, before_start, carried_out, closed_by, closing, is_dropped, is_foreign, is_head, is_one_of, is_raw, leading, nothing_more, opened, put_in, rules_before, start, then_closing, when}
 
 -- sound, and no doctype
 abbrev pub IsKept : HtmlToken → Type 0
@@ -63,8 +63,8 @@ chosen false c d h k = k
 
 before_sound : (n : List ℕ) (ns : Names) → AreSome ns → IsSoundClosing (before_start n ns)
 before_sound n ns h =
-    let first : Closing = closing (when (not (is_among head_parts n || is_head n)) (innermost is_head) ns) ns in
-    let c : IsSoundClosing first = closing_sound (when (not (is_among head_parts n || is_head n)) (innermost is_head) ns) ns h in
+    let first : Closing = closing (when (not (is_among head_parts n || is_head n)) (leading is_head) ns) ns in
+    let c : IsSoundClosing first = closing_sound (when (not (is_among head_parts n || is_head n)) (leading is_head) ns) ns h in
     chosen (is_foreign first.left) first (then_closing first (carried_out (rules_before n) first.left)) c
     (then_sound first (carried_out (rules_before n) first.left) c (carried_sound (rules_before n) first.left c.left))
 
@@ -104,7 +104,7 @@ put_in_sound n ns k =
 balance_sound : (s : Balance) (t : HtmlToken) → AreSome s.open_tags → IsSound t → IsSoundBalance (balance s t)
 balance_sound s (Character b) h k =
     choice ((b == 0) || (s.drops_feed && (b == 10))) _ _ (nothing_sound s h)
-    (after_sound _ (Character b ∷ []) (closing_sound (when (not (is_white_space b)) (innermost is_head) s.open_tags) s.open_tags h) (tt, tt))
+    (after_sound _ (Character b ∷ []) (closing_sound (when (not (is_white_space b)) (leading is_head) s.open_tags) s.open_tags h) (tt, tt))
 balance_sound s (StartTag n xs closes) h k =
     choice (is_dropped n s.open_tags) _ _ (nothing_sound s h)
     (opened_sound (before_start n s.open_tags) n xs closes (before_sound n s.open_tags h) k.0 k.1)

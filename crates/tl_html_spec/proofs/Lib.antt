@@ -24,3 +24,16 @@ pub mod Nesting
 pub mod Longest
 pub mod FormNesting
 pub mod Seams
+pub mod Utf8Characters
+pub mod Utf8References
+pub mod Utf8Tokens
+pub mod Utf8States
+pub mod Utf8Tests
+pub mod Utf8Steps
+pub mod Utf8Page
+pub mod Utf8Written
+pub mod Utf8Form
+pub mod Utf8Unescaped
+pub mod NodeTokens
+pub mod NodesWritten
+pub mod FormNodes

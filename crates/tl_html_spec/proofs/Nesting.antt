@@ -6,7 +6,7 @@ use Rattle.std.proofs.lemmas.Slice.Eq.{bytes_eq-Decides}
 use Rattle.tl_spec.specs.Lex.ByteClass.{is_void}
 use Rattle.tl_names.specs.Elements.{closed_at_once, head_parts, is_among}
 use Rattle.tl_html_spec.specs.HtmlTokenizer.{HtmlAttribute, HtmlToken, Character, StartTag, EndTag, CommentToken, DoctypeToken, is_white_space}
-use Rattle.tl_html_spec.specs.Balanced.{Balance, Balanced, Closing, Names, Rule, after_closing, balance, balanced, balanced_from, before_start, carried_out, closed_by, closing, innermost, is_dropped, is_foreign, is_head, is_one_of, is_raw, left_open, nothing_more, opened, put_in, rules_before, start, then_closing, when, without_innermost}
+use Rattle.tl_html_spec.specs.Balanced.{Balance, Balanced, Closing, Names, Rule, after_closing, balance, balanced, balanced_from, before_start, carried_out, closed_by, closing, is_dropped, is_foreign, is_head, is_one_of, is_raw, leading, left_open, nothing_more, opened, put_in, rules_before, start, then_closing, when, without_innermost}
 
 first_gone : (n : List ℕ) (ns : Names) → without_innermost n (n ∷ ns) ≡ Some ns
 first_gone n ns = rw ((bytes_eq-Decides n n).1 refl) refl
@@ -45,7 +45,7 @@ either false ns c d h k = k
 
 before : (n : List ℕ) (ns : Names) → Closes ns (before_start n ns)
 before n ns =
-    let rule : Rule = when (not (is_among head_parts n || is_head n)) (innermost is_head) in
+    let rule : Rule = when (not (is_among head_parts n || is_head n)) (leading is_head) in
     let first : Closing = closing (rule ns) ns in
     let more : Closing = carried_out (rules_before n) first.left in
     either (is_foreign first.left) ns first (then_closing first more) (ends_close (rule ns) ns)
@@ -98,7 +98,7 @@ puts n ns ms =
 
 moves : (s : Balance) (t : HtmlToken) → Goes s.open_tags (balance s t)
 moves s (Character b) =
-    let rule : Rule = when (not (is_white_space b)) (innermost is_head) in
+    let rule : Rule = when (not (is_white_space b)) (leading is_head) in
     chosen ((b == 0) || (s.drops_feed && (b == 10))) s.open_tags (nothing_more s) (after_closing (closing (rule s.open_tags) s.open_tags) (Character b ∷ [])) (λ _ us. refl)
     (λ _. leads_on s.open_tags (map EndTag (take (rule s.open_tags) s.open_tags)) (drop (rule s.open_tags) s.open_tags) (Character b ∷ []) (drop (rule s.open_tags) s.open_tags)
     (ends_close (rule s.open_tags) s.open_tags) (λ us. refl))

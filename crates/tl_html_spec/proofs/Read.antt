@@ -136,7 +136,7 @@ end_next name r n =
 end_read : (name r : List ℕ) → IsName name → tokens_read (written_token (EndTag name) ++ r) ≡ EndTag name ∷ tokens_read r
 end_read name r n = read_next (written_token (EndTag name) ++ r) (End name) r (end_next name r n)
 
-inside_is : (d : List ℕ) → inside (codes "<!--" ++ (d ++ codes "-->")) ≡ d
+pub inside_is : (d : List ℕ) → inside (codes "<!--" ++ (d ++ codes "-->")) ≡ d
 inside_is d =
     let e : length (codes "<!--" ++ (d ++ codes "-->")) - 7 ≡ length d = let both = length-append d (codes "-->") in omega arith in
     ap (λ n. take n (d ++ codes "-->")) e ∙ take-append_seam d (codes "-->")

@@ -168,6 +168,7 @@ rules_before n =
     (nearest (is_one_of (codes "table")) (is_one_of (codes "td th caption template")))
     ∷ []
 
+-- heads end before what can't stand in one: all on top, since a character's bytes come one by one
 abbrev pub is_head : List ℕ → Bool
 is_head name = is_one_of (codes "head") name
 
@@ -177,7 +178,7 @@ then_closing first more = record { ends = first.ends ++ more.ends; left = more.l
 abbrev pub before_start : List ℕ → Names → Closing
 before_start n tags =
     let first =
-    closing (when (not (is_among head_parts n || is_head n)) (innermost is_head) tags) tags in
+    closing (when (not (is_among head_parts n || is_head n)) (leading is_head) tags) tags in
     if is_foreign first.left then first else then_closing first
     (carried_out (rules_before n) first.left)
 
@@ -258,7 +259,7 @@ opened c n attributes closes =
 abbrev pub balance : Balance → HtmlToken → Balanced
 balance s (Character b) =
     if (b == 0) || (s.drops_feed && (b == 10)) then nothing_more s
-    else after_closing (closing (when (not (is_white_space b)) (innermost is_head) s.open_tags)
+    else after_closing (closing (when (not (is_white_space b)) (leading is_head) s.open_tags)
     s.open_tags) (Character b ∷ [])
 balance s (StartTag n attributes closes) =
     if is_dropped n s.open_tags then nothing_more s

@@ -9,4 +9,6 @@ pub mod Coded
 pub mod Sound
 pub mod Written
 pub mod HtmlForm
+pub mod Nodes
 pub mod Examples
+pub mod Utf8

@@ -61,6 +61,10 @@ pub fn others()
     ensures head { read_balanced "<head><title>x</title>y"
         ≡ start "head" [] ++ start "title" [] ++ text "x" ++ end "title" ++ end "head"
         ++ text "y" }
+    ensures heads_in_svg { balanced (html_tokens
+        (codes "<svg><head><head>" ++ (0xC3 ∷ 0xA9 ∷ []))) ≡ start "svg" [] ++ start "head" []
+        ++ start "head" [] ++ end "head" ++ end "head" ++ characters (0xC3 ∷ 0xA9 ∷ [])
+        ++ end "svg" }
     ensures second_body { read_balanced "<body><body>" ≡ start "body" [] ++ end "body" }
     ensures void { read_balanced "<br></br><img></img>"
         ≡ start "br" [] ++ start "br" [] ++ start "img" [] }

@@ -1,7 +1,7 @@
 //! Laws of the definitions: of the tokenizer and its pieces, of balanced tokens, and of the form in
 //! which `tl` reads a page.
 
-ghost use Rattle.std.specs.Prelude.{◌≡◌, ℕ, ◌+◌, Some, false, List, [], ◌∷◌, ◌++◌, length, true, map};
+ghost use Rattle.std.specs.Prelude.{◌≡◌, ℕ, ◌+◌, Some, false, List, [], ◌∷◌, ◌++◌, length, true, map, IsUtf8};
 ghost use Rattle.std.specs.List.{list_all};
 ghost use Rattle.tl_spec.specs.Print.Clean.{IsClean, IsCleanTable};
 ghost use Rattle.tl_spec.specs.Tree.Document.{document};
@@ -15,11 +15,13 @@ ghost use Rattle.tl_html_spec.specs.Coded.{AreBytes, coded, coded_tag, uncoded};
 ghost use Rattle.tl_html_spec.specs.Escapes.{escaped_text, escaped_value};
 ghost use Rattle.tl_html_spec.specs.HtmlForm.{doctype_in, form_tokens, has_doctype, html_form};
 ghost use Rattle.tl_html_spec.specs.HtmlTokenizer.{HtmlToken, State, data_state, html_tokens, without_mark, Character, OpenTag, after_attribute_value, double_quoted, tokens_from, with_attribute};
+ghost use Rattle.tl_html_spec.specs.Nodes.{form_tokens_at, html_nodes, node_data, read_node, sources, written_node};
 ghost use Rattle.tl_html_spec.specs.Pieces.{AreRead, Piece, bytes_of, first_byte, pieces, placed, read_before, runs, tokens_in};
 ghost use Rattle.tl_html_spec.specs.Reader.{Reader, after, at, emitted, page_tokens, read, tokens_of};
 ghost use Rattle.tl_html_spec.specs.References.{IsLongest, Row, named, rows};
 ghost use Rattle.tl_html_spec.specs.Sound.{AreSound};
 ghost use Rattle.tl_html_spec.specs.Unescaped.{is_in_text, is_in_value, unescaped_text, unescaped_value};
+ghost use Rattle.tl_html_spec.specs.Utf8.{AreUtf8};
 ghost use Rattle.tl_html_spec.specs.Written.{AreWritable, tokens_read, written};
 
 /// No tag that the tokenizer emits has an empty name or key, no comment is cut by a `-->` before
@@ -154,6 +156,22 @@ pub fn html_form_says_the_version()
         (document (html_form page)).is_html5 ≡ has_doctype (html_tokens page) }
 {}
 
+/// The nodes that `tl` reads of a page's form, in the order of their numbers, are its start tags,
+/// texts and comments, as they are written; read as HTML they say what these tokens do.
+#[tactic(auto, using(crate::proofs::FormNodes::nodes_written, crate::proofs::FormNodes::nodes_read, crate::proofs::FormNodes::tokens_are_the_form, crate::proofs::FormNodes::count_sources))]
+pub fn html_form_has_the_nodes_of_the_page()
+    ensures written { (page : List ℕ) → map node_data (document (html_form page)).nodes
+        ≡ map (λ n. written_node n.1) (html_nodes page) }
+    ensures read { (page : List ℕ) →
+        map (λ n. read_node (node_data n)) (document (html_form page)).nodes
+        ≡ map (λ n. n.1) (html_nodes page) }
+    // these are the nodes of the form's tokens, whatever places are written beside them
+    ensures tokens { (page : List ℕ) → map (λ t. t.1) (form_tokens_at page) ≡ form_tokens page }
+    // and each has its place
+    ensures sources { (page : List ℕ) →
+        length (sources page) ≡ length (document (html_form page)).nodes }
+{}
+
 /// What `tl` reads of a page's form is clean, so its print is read as the same trees.
 pub fn html_form_is_clean()
     ensures trees { (page : List ℕ) → IsClean (plain (forest (tokens (html_form page)))) }
@@ -161,4 +179,18 @@ pub fn html_form_is_clean()
         IsCleanTable (document (html_form page)).nodes (document (html_form page)).top }
     ensures prints { (page : List ℕ) → let trees = plain (forest (tokens (html_form page))) in
         ReadsAs (print trees) trees }
+{}
+
+/// The tokens of a page in UTF-8 say UTF-8, and the page's form is UTF-8.
+#[tactic(auto, using(crate::proofs::Utf8Page::page_utf8, crate::proofs::Utf8Form::form_utf8))]
+pub fn html_form_is_utf8()
+    ensures tokens { (page : List ℕ) → IsUtf8 page → AreUtf8 (html_tokens page) }
+    ensures form { (page : List ℕ) → IsUtf8 page → IsUtf8 (html_form page) }
+{}
+
+/// What a text or a value in UTF-8 says is UTF-8.
+#[tactic(auto, using(crate::proofs::Utf8Unescaped::text_said, crate::proofs::Utf8Unescaped::value_said))]
+pub fn unescaped_is_utf8()
+    ensures texts { (text : List ℕ) → IsUtf8 text → IsUtf8 (unescaped_text text) }
+    ensures values { (value : List ℕ) → IsUtf8 value → IsUtf8 (unescaped_value value) }
 {}

@@ -5,4 +5,5 @@
 mod examples;
 mod form_examples;
 pub mod laws;
+mod node_examples;
 mod reference_examples;

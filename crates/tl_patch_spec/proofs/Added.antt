@@ -17,7 +17,7 @@ use Rattle.tl_patch_spec.proofs.Sets.{adding_if, attribute_is, end_emits, end_un
 use Rattle.tl_patch_spec.proofs.Tags.{emits_of, past, tag_text_emits}
 use Rattle.tl_patch_spec.proofs.Writing.{Reads, quoted_value_reads, then_reads}
 
-abbrev fronted : HtmlAttribute → OpenTag → OpenTag
+abbrev pub fronted : HtmlAttribute → OpenTag → OpenTag
 fronted a tag = with_list tag (a ∷ tag.attributes)
 
 front_if : (c : Bool) (a : HtmlAttribute) (tag : OpenTag) (k v : List ℕ) → adding_if c (fronted a tag) k v ≡ fronted a (adding_if c tag k v)
@@ -56,7 +56,7 @@ lacked key tag more h = elim (cases_Bool (has_attribute key tag)) [
   | inr n ↦ n
 ]
 
-front_all : (a : HtmlAttribute) (tag : OpenTag) (more : List HtmlAttribute) → has_attribute a.0 (with_all tag more) ≡ false →
+pub front_all : (a : HtmlAttribute) (tag : OpenTag) (more : List HtmlAttribute) → has_attribute a.0 (with_all tag more) ≡ false →
     with_all (fronted a tag) more ≡ fronted a (with_all tag more)
 front_all a tag [] h = refl
 front_all a tag (x ∷ more) h =
@@ -93,7 +93,7 @@ emits_fronted key value tag o h = elim (cases_Bool tag.is_end) [
 none_has : (key : List ℕ) (xs : List HtmlAttribute) → xs ≡ [] → list_any (has_key key) xs ≡ false
 none_has key xs e = ap (list_any (has_key key)) e
 
-fronted_first : (tag : OpenTag) (key value : List ℕ) → tag.attributes ≡ [] → with_attribute tag key value ≡ fronted (key, value) tag
+pub fronted_first : (tag : OpenTag) (key value : List ℕ) → tag.attributes ≡ [] → with_attribute tag key value ≡ fronted (key, value) tag
 fronted_first tag key value none =
     attribute_is tag key value
     ∙ ap (λ (c : Bool). adding_if c tag key value) (none_has key tag.attributes none)

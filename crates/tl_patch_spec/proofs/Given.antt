@@ -6,7 +6,7 @@ use Rattle.std.proofs.lemmas.List.Elements.{All-from_recursion, Contains-append_
 use Rattle.tl_spec.specs.Lex.ByteClass.{is_void}
 use Rattle.tl_names.specs.Elements.{closed_at_once, head_parts, is_among}
 use Rattle.tl_html_spec.specs.HtmlTokenizer.{HtmlAttribute, HtmlToken, Character, StartTag, EndTag, CommentToken, DoctypeToken, is_white_space}
-use Rattle.tl_html_spec.specs.Balanced.{Balance, Balanced, Closing, Names, Rule, after_closing, balance, before_start, carried_out, closed_by, closing, innermost, is_dropped, is_foreign, is_head, is_one_of, is_raw, nothing_more, opened, put_in, rules_before, start, then_closing, when}
+use Rattle.tl_html_spec.specs.Balanced.{Balance, Balanced, Closing, Names, Rule, after_closing, balance, before_start, carried_out, closed_by, closing, is_dropped, is_foreign, is_head, is_one_of, is_raw, leading, nothing_more, opened, put_in, rules_before, start, then_closing, when}
 use Rattle.tl_html_spec.specs.Pieces.{Piece, tokens_in}
 use Rattle.tl_patch_spec.specs.Elements.{GivesStart, IsOfPiece, PlacedToken, StandsIn, at_piece, balance_after, balanced_at, balanced_in, balanced_pieces, is_end_tag, open_names, tokens_at}
 
@@ -37,7 +37,7 @@ either_closing false t c d h k = k
 
 before_given : (t : HtmlToken) (n : List ℕ) (ns : Names) → AreGiven t (before_start n ns).ends
 before_given t n ns =
-    let k : ℕ = when (not (is_among head_parts n || is_head n)) (innermost is_head) ns in
+    let k : ℕ = when (not (is_among head_parts n || is_head n)) (leading is_head) ns in
     let first : Closing = closing k ns in
     let h : AreGiven t first.ends = ends_given t (take k ns) in
     either_closing (is_foreign first.left) t first (then_closing first (carried_out (rules_before n) first.left)) h
@@ -62,7 +62,7 @@ opened_given c n xs closes h =
 
 balance_given : (s : Balance) (t : HtmlToken) → AreGiven t (balance s t).emits
 balance_given s (Character b) =
-    let k : ℕ = when (not (is_white_space b)) (innermost is_head) s.open_tags in
+    let k : ℕ = when (not (is_white_space b)) (leading is_head) s.open_tags in
     either_balanced ((b == 0) || (s.drops_feed && (b == 10))) (Character b) (nothing_more s) (after_closing (closing k s.open_tags) (Character b ∷ [])) tt
     (given_append (Character b) (map EndTag (take k s.open_tags)) (Character b ∷ []) (ends_given (Character b) (take k s.open_tags)) (tt, tt))
 balance_given s (StartTag n xs closes) =

@@ -158,7 +158,7 @@ abbrev pub revalued_step : OpenTag → List HtmlAttribute → Bool → Bool → 
 revalued_step tag xs closes is_end =
     if is_end then emitting_token (EndTag tag.name) data_state else emitting_token (StartTag tag.name xs closes) (after_start tag.name)
 
-with_key_is : (key value : List ℕ) (xs : List HtmlAttribute) → list_any (has_key key) xs ≡ true → with_key key value xs ≡ map (with_value key value) xs
+pub with_key_is : (key value : List ℕ) (xs : List HtmlAttribute) → list_any (has_key key) xs ≡ true → with_key key value xs ≡ map (with_value key value) xs
 with_key_is key value xs h = ap (λ (c : Bool). if c then map (with_value key value) xs else (key, value) ∷ xs) h
 
 token_set : (is_end : Bool) (key value : List ℕ) (tag : OpenTag) (closes : Bool) (rest : List HtmlToken) → has_attribute key tag ≡ true →
@@ -192,7 +192,7 @@ no_key key value (a ∷ xs) h =
     let p = neither (has_key key a) (list_any (has_key key) xs) h in
     ap₂ (λ (c : Bool) (ys : List HtmlAttribute). value_if c value a ∷ ys) p.0 (no_key key value xs p.1)
 
-fresh : (key old new : List ℕ) (tag : OpenTag) → has_attribute key tag ≡ false → with_attribute tag key new ≡ revalued key new (with_attribute tag key old)
+pub fresh : (key old new : List ℕ) (tag : OpenTag) → has_attribute key tag ≡ false → with_attribute tag key new ≡ revalued key new (with_attribute tag key old)
 fresh key old new tag h =
     attribute_is tag key new
     ∙ ap (λ (c : Bool). adding_if c tag key new) h
@@ -201,7 +201,7 @@ fresh key old new tag h =
     ∙ ap₂ (λ (ys : List HtmlAttribute) (c : Bool). ys ++ value_if c new (key, old) ∷ []) (no_key key new tag.attributes h) ((bytes_eq-Decides key key).1 refl)))
     ∙ ap (revalued key new) (sym (attribute_is tag key old ∙ ap (λ (c : Bool). adding_if c tag key old) h))
 
-has_fresh : (key value : List ℕ) (tag : OpenTag) → has_attribute key tag ≡ false → has_attribute key (with_attribute tag key value) ≡ true
+pub has_fresh : (key value : List ℕ) (tag : OpenTag) → has_attribute key tag ≡ false → has_attribute key (with_attribute tag key value) ≡ true
 has_fresh key value tag h =
     ap (has_attribute key) (attribute_is tag key value ∙ ap (λ (c : Bool). adding_if c tag key value) h)
     ∙ any_last key tag.attributes (key, value) ((bytes_eq-Decides key key).1 refl)

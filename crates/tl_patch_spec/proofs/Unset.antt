@@ -13,7 +13,7 @@ use Rattle.tl_patch_spec.proofs.Added.{lacked, lacks, other_way}
 use Rattle.tl_patch_spec.proofs.Sets.{adding_if, attribute_is, end_emits, end_unchanged, neither, next_same, revalued_step, start_lacks, with_list}
 use Rattle.tl_patch_spec.proofs.Tags.{emits_of, past, tag_text_emits}
 
-abbrev dropped : List ℕ → OpenTag → OpenTag
+abbrev pub dropped : List ℕ → OpenTag → OpenTag
 dropped key tag = with_list tag (without_key key tag.attributes)
 
 -- one pair
@@ -53,12 +53,28 @@ drop_if : (c : Bool) (key : List ℕ) (tag : OpenTag) (k v : List ℕ) → bytes
 drop_if true key tag k v n = refl
 drop_if false key tag k v n = ap (with_list tag) (end_stays key tag.attributes (k, v) n)
 
-drop_attribute : (key : List ℕ) (tag : OpenTag) (k v : List ℕ) → bytes_eq key k ≡ false → dropped key (with_attribute tag k v) ≡ with_attribute (dropped key tag) k v
+pub drop_attribute : (key : List ℕ) (tag : OpenTag) (k v : List ℕ) → bytes_eq key k ≡ false → dropped key (with_attribute tag k v) ≡ with_attribute (dropped key tag) k v
 drop_attribute key tag k v n =
     ap (dropped key) (attribute_is tag k v)
     ∙ drop_if (has_attribute k tag) key tag k v (other_way key k n)
     ∙ ap (λ (c : Bool). adding_if c (dropped key tag) k v) (sym (other_stays key k tag.attributes n))
     ∙ sym (attribute_is (dropped key tag) k v)
+
+-- of an attribute with the key nothing stays
+
+end_dropped : (key : List ℕ) (xs : List HtmlAttribute) (a : HtmlAttribute) → has_key key a ≡ true → without_key key (xs ++ a ∷ []) ≡ without_key key xs
+end_dropped key [] a y = gone_pair key a [] y
+end_dropped key (x ∷ xs) a y = elim (cases_Bool (has_key key x)) [
+  | inl z ↦ gone_pair key x (xs ++ a ∷ []) z ∙ end_dropped key xs a y ∙ sym (gone_pair key x xs z)
+  | inr m ↦ kept_pair key x (xs ++ a ∷ []) m ∙ ap (λ ys. x ∷ ys) (end_dropped key xs a y) ∙ sym (kept_pair key x xs m)
+]
+
+dropped_if : (c : Bool) (key : List ℕ) (tag : OpenTag) (k v : List ℕ) → bytes_eq k key ≡ true → dropped key (adding_if c tag k v) ≡ dropped key tag
+dropped_if true key tag k v y = refl
+dropped_if false key tag k v y = ap (with_list tag) (end_dropped key tag.attributes (k, v) y)
+
+pub dropped_same : (key : List ℕ) (tag : OpenTag) (k v : List ℕ) → bytes_eq k key ≡ true → dropped key (with_attribute tag k v) ≡ dropped key tag
+dropped_same key tag k v y = ap (dropped key) (attribute_is tag k v) ∙ dropped_if (has_attribute k tag) key tag k v y
 
 drop_all : (key : List ℕ) (tag : OpenTag) (more : List HtmlAttribute) → has_attribute key (with_all (dropped key tag) more) ≡ false →
     dropped key (with_all tag more) ≡ with_all (dropped key tag) more
