@@ -11,4 +11,4 @@ mod split;
 mod unescape;
 
 pub use escape::{escape_text, escape_value, write_escaped_text, write_escaped_value};
-pub use unescape::{unescape_text, unescape_value};
+pub use unescape::{unescape_text, unescape_text_str, unescape_value, unescape_value_str};
