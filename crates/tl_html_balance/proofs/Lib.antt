@@ -3,6 +3,7 @@ pub mod Agreed
 pub mod Tests
 pub mod Nested
 pub mod Opened
+pub mod Lacking
 pub mod Depths
 pub mod Totals
 pub mod Rules

@@ -1,31 +1,39 @@
 -- Names in one list of bytes, each from where its tag says.
-use Rattle.std.proofs.Common.{◌≡◌, ℕ, zero, suc, ◌+◌, ◌-◌, ◌<◌, ◌≤◌, nat_le, true, ◌&&◌, ◌==◌, List, [], ◌∷◌, ◌++◌, length, take, drop, get_or, refl, ap, sym, ◌∙◌, arith, length-append, length-take, length-take-le}
+use Rattle.std.proofs.Common.{◌≡◌, ℕ, zero, suc, ◌+◌, ◌-◌, ◌<◌, ◌≤◌, nat_le, true, bit_or, ◌&&◌, ◌==◌, List, [], ◌∷◌, ◌++◌, length, take, drop, get_or, refl, ap, sym, ◌∙◌, arith, length-append, length-take, length-take-le}
 use Rattle.std.proofs.lemmas.Bool.{and_from, and_parts, eq-eqb, eqb-true, le-leb, leb-true}
 use Rattle.std.proofs.lemmas.List.{drop-take, drop_at, take-take, take_at, take_rest}
 use Rattle.tl_html_balance.specs.Classes.{classes_of}
-use Rattle.tl_html_balance.specs.Names.{are_nested, end_at, names_in}
+use Rattle.tl_html_balance.specs.Names.{all_classes, are_nested, end_at, names_in, says_classes}
 use Rattle.tl_html_balance.specs.declared.open_tags.OpenTag.{OpenTag}
 
 -- what is known of the innermost tag and of those around it
 pub record Nested (tag : OpenTag) (tags : List OpenTag) (bytes : List ℕ) : Type 0 where
   pub within : tag.start ≤ length bytes
   pub known : tag.classes ≡ classes_of (drop tag.start bytes)
+  pub all : tag.all_classes ≡ bit_or tag.classes (all_classes tags)
   pub around : are_nested tags (take tag.start bytes) ≡ true
 
 pub nested_parts : (tag : OpenTag) (tags : List OpenTag) (bytes : List ℕ) → are_nested (tag ∷ tags) bytes ≡ true → Nested tag tags bytes
 nested_parts tag tags bytes h =
-    let outer = and_parts (nat_le tag.start (length bytes) && (tag.classes == classes_of (drop tag.start bytes))) (are_nested tags (take tag.start bytes)) h in
-    let inner = and_parts (nat_le tag.start (length bytes)) (tag.classes == classes_of (drop tag.start bytes)) outer.0 in
+    let name : List ℕ = drop tag.start bytes in
+    let outer = and_parts (nat_le tag.start (length bytes) && says_classes tag tags name) (are_nested tags (take tag.start bytes)) h in
+    let inner = and_parts (nat_le tag.start (length bytes)) (says_classes tag tags name) outer.0 in
+    let own = and_parts (tag.classes == classes_of name) (tag.all_classes == bit_or tag.classes (all_classes tags)) inner.1 in
     record {
       within = leb-true tag.start (length bytes) inner.0;
-      known = eqb-true tag.classes (classes_of (drop tag.start bytes)) inner.1;
+      known = eqb-true tag.classes (classes_of name) own.0;
+      all = eqb-true tag.all_classes (bit_or tag.classes (all_classes tags)) own.1;
       around = outer.1;
     }
 
 pub nested_from : (tag : OpenTag) (tags : List OpenTag) (bytes : List ℕ) → Nested tag tags bytes → are_nested (tag ∷ tags) bytes ≡ true
 nested_from tag tags bytes h =
-    and_from (nat_le tag.start (length bytes) && (tag.classes == classes_of (drop tag.start bytes))) (are_nested tags (take tag.start bytes))
-    (and_from (nat_le tag.start (length bytes)) (tag.classes == classes_of (drop tag.start bytes)) (le-leb tag.start (length bytes) h.within) (eq-eqb tag.classes (classes_of (drop tag.start bytes)) h.known))
+    let name : List ℕ = drop tag.start bytes in
+    let own : says_classes tag tags name ≡ true =
+    and_from (tag.classes == classes_of name) (tag.all_classes == bit_or tag.classes (all_classes tags))
+    (eq-eqb tag.classes (classes_of name) h.known) (eq-eqb tag.all_classes (bit_or tag.classes (all_classes tags)) h.all) in
+    and_from (nat_le tag.start (length bytes) && says_classes tag tags name) (are_nested tags (take tag.start bytes))
+    (and_from (nat_le tag.start (length bytes)) (says_classes tag tags name) (le-leb tag.start (length bytes) h.within) own)
     h.around
 
 pub names-length : (tags : List OpenTag) (bytes : List ℕ) → length (names_in tags bytes) ≡ length tags
@@ -71,11 +79,13 @@ pushed-names tag tags bytes name e =
     ap (λ (own : List ℕ). own ∷ names_in tags (take tag.start (bytes ++ name))) (drop_at bytes name tag.start (sym e))
     ∙ ap (λ (more : List ℕ). name ∷ names_in tags more) (take_at bytes name tag.start (sym e))
 
-pub pushed-nested : (tag : OpenTag) (tags : List OpenTag) (bytes name : List ℕ) → tag.start ≡ length bytes → tag.classes ≡ classes_of name → are_nested tags bytes ≡ true → are_nested (tag ∷ tags) (bytes ++ name) ≡ true
-pushed-nested tag tags bytes name e known h =
+pub pushed-nested : (tag : OpenTag) (tags : List OpenTag) (bytes name : List ℕ) → tag.start ≡ length bytes → tag.classes ≡ classes_of name → tag.all_classes ≡ bit_or tag.classes (all_classes tags) → are_nested tags bytes ≡ true
+    → are_nested (tag ∷ tags) (bytes ++ name) ≡ true
+pushed-nested tag tags bytes name e known all h =
     nested_from tag tags (bytes ++ name) (record {
       within = omega (arith, length-append bytes name);
       known = known ∙ sym (ap classes_of (drop_at bytes name tag.start (sym e)));
+      all = all;
       around = ap (are_nested tags) (take_at bytes name tag.start (sym e)) ∙ h;
     })
 

@@ -14,7 +14,7 @@ use Rattle.tl_html_balance.proofs.Nested.{Remains, classes-at, end-after, end-wi
 abbrev inner_first : OpenTags → List OpenTag
 inner_first t = reverse t.tags.items
 
-inner-length : (t : OpenTags) → length (inner_first t) ≡ vec_len t.tags
+pub inner-length : (t : OpenTags) → length (inner_first t) ≡ vec_len t.tags
 inner-length t = length-reverse t.tags.items ∙ sym t.tags.ok.0
 
 pub open-length : (t : OpenTags) → length (open_names t) ≡ vec_len t.tags

@@ -67,11 +67,11 @@ rules-are n =
 -- what a start tag closes
 
 abbrev pub head_closed : List ℕ → Names → ℕ
-head_closed n tags = when (not (is_among head_parts n || is_head n)) (innermost is_head) tags
+head_closed n tags = when (not (is_among head_parts n || is_head n)) (leading is_head) tags
 
-pub head-is : (n : List ℕ) (tags : Names) (k : ℕ) (within : Bool) → within ≡ is class.IN_HEAD n → k ≡ when (not within) (innermost is_head) tags → k ≡ head_closed n tags
+pub head-is : (n : List ℕ) (tags : Names) (k : ℕ) (within : Bool) → within ≡ is class.IN_HEAD n → k ≡ when (not within) (leading is_head) tags → k ≡ head_closed n tags
 head-is n tags k within e h =
-    h ∙ ap (λ (v : Bool). when (not v) (innermost is_head) tags) (e ∙ at n test.head_or_part)
+    h ∙ ap (λ (v : Bool). when (not v) (leading is_head) tags) (e ∙ at n test.head_or_part)
 
 before_with : (n : List ℕ) (tags : Names) (v : Bool) → is_foreign (drop (head_closed n tags) tags) ≡ v →
     before_start n tags ≡ (if v then closing (head_closed n tags) tags else then_closing (closing (head_closed n tags) tags) (carried_out (rules_before n) (drop (head_closed n tags) tags)))

@@ -1,7 +1,7 @@
 //! What a token of a page closes, and what becomes of it.
 ghost use Rattle.std.specs.Prelude.{◌≡◌, ◌≤◌, ◌||◌, length, not};
 ghost use Rattle.tl_names.specs.Elements.{head_parts, is_among};
-ghost use Rattle.tl_html_spec.specs.Balanced.{before_start, closed_by, closing, innermost, is_dropped, is_foreign, is_head, put_in, when};
+ghost use Rattle.tl_html_spec.specs.Balanced.{before_start, closed_by, closing, is_dropped, is_foreign, is_head, leading, put_in, when};
 ghost use Rattle.tl_html_balance.specs.Rules.{end_reach, same_name_stops};
 ghost use Rattle.tl_html_balance.specs.Tokens.{Opens, is_closed_at_once, is_misplaced, tokens_put_in};
 ghost use Rattle.tl_html_balance.specs.View.{name_of, names_left, open_names};
@@ -92,11 +92,11 @@ impl OpenTags {
         head + count_all(&BEFORE_START, &left, name)
     }
 
-    // 1 where a start tag closes the head.
+    // How many heads on top a start tag closes.
     fn head_before(&self, name: &TagName<'_>) -> usize
         ensures value { result
             ≡ when (not (is_among head_parts (name_of name.now) || is_head (name_of name.now)))
-            (innermost is_head) (open_names self.now) }
+            (leading is_head) (open_names self.now) }
         ensures within { result ≤ length (open_names self.now) }
     {
         self.closed_before_text(name.is(class::IN_HEAD))
@@ -105,13 +105,13 @@ impl OpenTags {
     /// How many of the innermost tags are closed before characters, which are white space or none
     /// of them is.
     pub fn closed_before_text(&self, is_white: bool) -> usize
-        ensures value { result ≡ when (not is_white) (innermost is_head) (open_names self.now) }
+        ensures value { result ≡ when (not is_white) (leading is_head) (open_names self.now) }
         ensures within { result ≤ length (open_names self.now) }
     {
         if is_white {
             0
         } else {
-            self.all().innermost(class::HEAD)
+            self.all().leading(class::HEAD)
         }
     }
 

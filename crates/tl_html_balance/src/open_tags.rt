@@ -2,14 +2,16 @@
 ghost use Rattle.std.specs.Prelude.{IsTrue, reverse};
 ghost use Rattle.tl_html_balance.specs.Names.{are_nested};
 
+use crate::class;
 use crate::tag_name::TagName;
 use std::alloc::{AllocError, Global};
 
-/// Where the name of an open tag begins, and its classes.
+/// Where the name of an open tag begins, its classes, and those of it and all around it.
 #[derive(Clone, Copy)]
 pub(crate) struct OpenTag {
     pub(crate) start: usize,
     pub(crate) classes: u64,
+    pub(crate) all_classes: u64,
 }
 
 /// The names of the open tags.
@@ -21,11 +23,12 @@ pub struct OpenTags {
 }
 
 impl OpenTags {
-    ghost use Rattle.std.specs.Prelude.{◌≡◌, ◌<◌, ◌∷◌, [], OnOk, OnErr, drop, length, slice_get, slice_index_or};
+    ghost use Rattle.std.specs.Prelude.{◌≡◌, ◌<◌, ◌∷◌, [], false, OnOk, OnErr, drop, length, slice_get, slice_index_or};
+    ghost use Rattle.std.specs.List.{list_any};
     ghost use Rattle.std.specs.Option.{option_map};
     ghost use Rattle.std.specs.Str.{bytes_eq};
-    ghost use Rattle.tl_html_balance.specs.Classes.{classes_of};
-    ghost use Rattle.tl_html_balance.specs.Names.{end_at};
+    ghost use Rattle.tl_html_balance.specs.Classes.{classes_of, is};
+    ghost use Rattle.tl_html_balance.specs.Names.{all_classes, end_at};
     ghost use Rattle.tl_html_balance.specs.View.{name_of, open_names};
 
     pub fn new(alloc: Global) -> OpenTags
@@ -50,6 +53,28 @@ impl OpenTags {
         ensures { result ≡ classes_of (slice_index_or (open_names self.now) place []) }
     {
         self.tags[self.tags.len() - 1 - place].classes
+    }
+
+    // The classes of all open tags.
+    fn all_classes(&self) -> u64
+        ensures { result ≡ all_classes (reverse self.now.tags.items) }
+    {
+        match self.tags.last() {
+            Some(tag) => tag.all_classes,
+            None => 0,
+        }
+    }
+
+    /// Whether a name may have one of these classes, at a place counted from the innermost or
+    /// further out. Where the answer is no, none has.
+    pub(crate) fn may_have(&self, place: usize, wanted: u64) -> bool
+        ensures { result ≡ false
+            → list_any (is wanted) (drop place (open_names self.now)) ≡ false }
+    {
+        if place >= self.tags.len() {
+            return false;
+        }
+        class::has(self.tags[self.tags.len() - 1 - place].all_classes, wanted)
     }
 
     /// The name at a place, counted from the innermost.
@@ -96,11 +121,13 @@ impl OpenTags {
         ensures err { OnErr result (open_names self.new ≡ open_names self.old) }
     {
         let start = self.names.len();
+        let all_classes = self.all_classes();
         self.tags.reserve(1)?;
         self.names.extend_from_slice(name.bytes)?;
         self.tags.push_reserved(OpenTag {
             start,
             classes: name.classes,
+            all_classes: name.classes | all_classes,
         });
         Ok(())
     }

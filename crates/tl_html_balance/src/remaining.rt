@@ -1,5 +1,6 @@
 //! What is left of the open tags after some were closed, as rules look at it.
-ghost use Rattle.std.specs.Prelude.{◌≡◌, ◌<◌, ◌≤◌, [], IfSome, drop, length, not, is_some, slice_index_or};
+ghost use Rattle.std.specs.Prelude.{◌≡◌, ◌<◌, ◌≤◌, [], false, IfSome, drop, length, not, is_some, slice_index_or};
+ghost use Rattle.std.specs.List.{list_any};
 ghost use Rattle.std.specs.Str.{bytes_eq};
 ghost use Rattle.tl_html_spec.specs.Balanced.{depth, innermost, is_foreign, leading, nearest, never, or_none};
 ghost use Rattle.tl_html_balance.specs.Classes.{is};
@@ -55,11 +56,21 @@ impl<'t> Remaining<'t> {
         self.tags.has_name(self.closed + depth, name)
     }
 
+    // Whether one of them may have one of these classes.
+    fn may_have(&self, wanted: u64) -> bool
+        ensures { result ≡ false → list_any (is wanted) (names_left self.now) ≡ false }
+    {
+        self.tags.may_have(self.closed, wanted)
+    }
+
     /// The depth of the nearest that is found, before the first that stops.
     pub(crate) fn depth(&self, found: u64, stops: u64) -> Option<usize>
         ensures value { result ≡ depth (is found) (is stops) (names_left self.now) }
         ensures within { IfSome result (λ depth. depth < length (names_left self.now)) }
     {
+        if !self.may_have(found) {
+            return None;
+        }
         for depth in 0..self.len().min(LOOKED_AT) {
             if self.is(depth, found) {
                 return Some(depth);

@@ -84,10 +84,15 @@ fn skip_quiet(scan: Scan, at: usize, len: usize) -> Scan
     if len == 0 {
         return scan;
     }
+    let word = if scan.stage.has_word() {
+        scan.word
+    } else {
+        at + len
+    };
     Scan {
         stage: scan.stage,
         after_return: false,
-        word: at + len,
+        word,
     }
 }
 
@@ -126,6 +131,9 @@ pub(crate) fn next_front(page: &[u8], start: usize, mode: Mode) -> Front
     requires { start < length page.now }
     ensures { IsFront page.now start mode result }
 {
+    if page[start] == b'<' {
+        return read_front(page, start, mode);
+    }
     let len = run_len(mode, &page[start..]);
     if len == 0 {
         return read_front(page, start, mode);

@@ -20,6 +20,29 @@ fn len_before(first: u8, second: u8, third: u8, text: &[u8]) -> usize
     }
 }
 
+ghost use Rattle.tl_html_tokens.specs.Quiet.{is_inside_name};
+
+use crate::byte_class::ends_name;
+
+// Whether a byte leaves a name or a key as it is.
+fn is_inside_name(byte: u8) -> bool
+    ensures { result ≡ is_inside_name byte }
+{
+    !(ends_name(byte) || byte == b'=' || byte == b'\r')
+}
+
+// How many bytes in front of a text go on with a name or a key.
+fn name_len(text: &[u8]) -> usize
+    ensures quiet { list_all is_inside_name (take result text.now) ≡ true }
+    ensures within { result ≤ length text.now }
+{
+    let mut at = 0;
+    while at < text.len() && is_inside_name(text[at]) {
+        at += 1;
+    }
+    at
+}
+
 // How many bytes in front of a text leave the stage as it is.
 pub(crate) fn quiet_len(stage: Stage, text: &[u8]) -> usize
     ensures quiet { list_all (is_quiet stage) (take result text.now) ≡ true }
@@ -29,6 +52,7 @@ pub(crate) fn quiet_len(stage: Stage, text: &[u8]) -> usize
         Stage::Value(Quote::Double, _) => len_before(b'"', b'&', b'\r', text),
         Stage::Value(Quote::Single, _) => len_before(b'\'', b'&', b'\r', text),
         Stage::Comment => len_before(b'<', b'-', b'\r', text),
+        Stage::TagName(_) | Stage::Key(_) => name_len(text),
         _ => 0,
     }
 }

@@ -3,3 +3,4 @@ pub mod Names
 pub mod Repeats
 pub mod Texts
 pub mod Values
+pub mod Uncoded

@@ -37,7 +37,7 @@ lower_kept b h = grind arith
 nonzero_kept : (b : ℕ) → is_kept b ≡ true → (b == 0) ≡ false
 nonzero_kept b h = grind arith
 
-name_kept : (s : List ℕ) → list_all is_kept s ≡ true → name_of s ≡ s
+pub name_kept : (s : List ℕ) → list_all is_kept s ≡ true → name_of s ≡ s
 name_kept [] h = refl
 name_kept (b ∷ s) h =
     let parts = and_parts (is_kept b) (list_all is_kept s) h in

@@ -8,8 +8,10 @@ mod name;
 mod repeat;
 mod tag;
 mod text;
+mod uncode;
 mod value;
 
-pub use name::lower_name;
+pub use name::{LowerName, coded_name, lower_name};
 pub use tag::{write_end_tag, write_start_tag};
 pub use text::{write_comment, write_text};
+pub use uncode::uncoded_name;

@@ -6,12 +6,33 @@ ghost use Rattle.std.specs.Str.{bytes_eq};
 ghost use Rattle.tl_html_spec.specs.Coded.{coded, coded_byte, coded_tag, digit_in, digits, is_kept};
 ghost use Rattle.tl_html_spec.specs.HtmlTokenizer.{char_of};
 ghost use Rattle.tl_html_tags.specs.Parts.{name_of};
+ghost use Rattle.tl_html_write.specs.Names.{name_view};
 
 use crate::character::write_character;
 use std::alloc::{AllocError, Global};
 
 /// A name as it is read: its letters in lower case, U+FFFD for NUL.
-pub fn lower_name(alloc: Global, raw: &[u8]) -> Result<Vec<u8>, AllocError>
+#[derive(Drop)]
+pub enum LowerName<'r> {
+    /// As it stands.
+    Same(&'r [u8]),
+    /// Written anew.
+    Lowered(Vec<u8>),
+}
+
+impl LowerName<'_> {
+    pub fn as_bytes(&self) -> &[u8]
+        ensures { result.now ≡ name_view self.now }
+    {
+        match self {
+            LowerName::Same(bytes) => bytes,
+            LowerName::Lowered(bytes) => bytes,
+        }
+    }
+}
+
+// A name as it is read, in bytes of its own.
+pub(crate) fn lowered(alloc: Global, raw: &[u8]) -> Result<Vec<u8>, AllocError>
     ensures { IfOk result (λ name. name.items ≡ name_of raw.now) }
 {
     let mut name = Vec::with_capacity(alloc, raw.len())?;
@@ -19,6 +40,17 @@ pub fn lower_name(alloc: Global, raw: &[u8]) -> Result<Vec<u8>, AllocError>
         write_character(byte.to_ascii_lowercase(), &mut name)?;
     }
     Ok(name)
+}
+
+/// A name as it is read, which most stand for already.
+#[tactic(auto, using(crate::proofs::Names::name_kept))]
+pub fn lower_name<'r>(alloc: Global, raw: &'r [u8]) -> Result<LowerName<'r>, AllocError>
+    ensures { IfOk result (λ name. name_view name ≡ name_of raw.now) }
+{
+    if are_kept(raw) {
+        return Ok(LowerName::Same(raw));
+    }
+    Ok(LowerName::Lowered(lowered(alloc, raw)?))
 }
 
 // Whether a byte of a name stays as it is.
@@ -146,4 +178,13 @@ pub(crate) fn write_raw_tag(raw: &[u8], out: &mut Vec<u8>) -> Result<(), AllocEr
         return out.extend_from_slice(b"+63ommand");
     }
     write_raw_name(raw, out)
+}
+
+/// A name as the form of a page has it: as it is read, and coded.
+pub fn coded_name(alloc: Global, raw: &[u8]) -> Result<Vec<u8>, AllocError>
+    ensures { IfOk result (λ name. name.items ≡ coded (name_of raw.now)) }
+{
+    let mut name = Vec::new(alloc);
+    write_raw_name(raw, &mut name)?;
+    Ok(name)
 }

@@ -6,13 +6,13 @@ ghost use Rattle.tl_html_tags.specs.Parts.{attribute_of, attribute_view, name_of
 ghost use Rattle.tl_html_write.specs.Attributes.{HavePlainKeys, attributes_in, first_attribute, has_key, has_nul, written_attributes};
 
 use crate::attribute::write_attribute;
-use crate::name::lower_name;
+use crate::name::lowered;
 use std::alloc::{AllocError, Global};
 use std::collections::BTreeSet;
 use tl_html_tags::AttributeParts;
 
 // So many keys are compared one by one.
-const FEW: usize = 8;
+const FEW: usize = 16;
 
 fn have_plain_keys(attributes: &[AttributeParts<'_>]) -> bool
     ensures { OnTrue result (HavePlainKeys attributes.now) }
@@ -92,7 +92,7 @@ fn write_many(
 {
     let mut keys = BTreeSet::new(alloc);
     for at in 0..attributes.len() {
-        let name = lower_name(alloc, attributes[at].key)?;
+        let name = lowered(alloc, attributes[at].key)?;
         let is_new = keys.insert(name)?;
         write_first(alloc, !is_new, &attributes[at], out)?;
     }

@@ -1,14 +1,18 @@
 //! Values of attributes, read and written.
 ghost use Rattle.std.specs.Prelude.{◌≡◌, ◌∷◌, ◌++◌, IfOk, OnOk};
 ghost use Rattle.std.specs.Bool.{OnTrue};
+ghost use Rattle.std.specs.List.{list_all};
 ghost use Rattle.tl_html_spec.specs.Escapes.{escaped_value};
 ghost use Rattle.tl_html_tags.specs.Parts.{value_of};
-ghost use Rattle.tl_html_write.specs.Values.{characters_of, begins_with_feed};
+ghost use Rattle.tl_html_write.specs.Values.{characters_of, begins_with_feed, is_written_byte};
 
 use crate::character::write_character;
 use memchr::memchr2;
 use std::alloc::{AllocError, Global};
 use tl_text::{unescape_value, write_escaped_value};
+
+// So many bytes of a value are looked at one by one.
+const SHORT: usize = 64;
 
 // Whether each byte is a character as it stands.
 #[tactic(auto, using(crate::proofs::Values::characters_kept))]
@@ -65,11 +69,32 @@ fn value(alloc: Global, raw: &[u8]) -> Result<Vec<u8>, AllocError>
     unescape_value(alloc, characters.as_slice())
 }
 
-// Whether a value is written as it stands.
-#[tactic(auto, using(crate::proofs::Values::value_kept))]
+// Whether a byte of a value is written as it stands.
+fn is_written_byte(byte: u8) -> bool
+    ensures { result ≡ is_written_byte byte }
+{
+    !((byte == b'&' || byte == b'"') || (byte == b'\r' || byte == 0))
+}
+
+fn are_written_bytes(raw: &[u8]) -> bool
+    ensures { result ≡ list_all is_written_byte raw.now }
+{
+    for byte in raw {
+        if !is_written_byte(*byte) {
+            return false;
+        }
+    }
+    true
+}
+
+// Whether a value is written as it stands: a short one is not worth two searches.
+#[tactic(auto, using(crate::proofs::Values::value_kept, crate::proofs::Values::bytes_kept))]
 fn is_written_value(raw: &[u8]) -> bool
     ensures { OnTrue result (escaped_value (value_of raw.now) ≡ raw.now) }
 {
+    if raw.len() <= SHORT {
+        return are_written_bytes(raw);
+    }
     memchr2(b'&', b'"', raw).is_none() && are_characters(raw)
 }
 

@@ -59,7 +59,7 @@ static PLACES: [&[u8]; 9] = [b"0", b"1", b"2", b"3", b"4", b"5", b"6", b"7", b"8
 
 fn is_name(alloc: Global, raw: &[u8], name: &[u8]) -> bool {
     match lower_name(alloc, raw) {
-        Ok(read) => read.as_slice() == name,
+        Ok(read) => read.as_bytes() == name,
         Err(_) => false,
     }
 }

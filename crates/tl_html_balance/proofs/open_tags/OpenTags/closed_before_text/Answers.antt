@@ -1,5 +1,5 @@
 use Rattle.std.proofs.Common.{ap, ◌∙◌, sym, not}
-use Rattle.tl_html_spec.specs.Balanced.{innermost, is_head, when}
+use Rattle.tl_html_spec.specs.Balanced.{is_head, leading, when}
 use Rattle.tl_html_balance.specs.Classes.{is}
 use Rattle.tl_html_balance.specs.declared.class.TheConstants as class
 use Rattle.tl_html_balance.specs.View.{open_names}
@@ -9,7 +9,7 @@ use Rattle.tl_html_balance.proofs.open_tags.OpenTags.closed_before_text.Goals as
 pub returns-else-is_white-clause-value : goal.returns-else-is_white-clause-value
 returns-else-is_white-clause-value c =
     let tags = open_names c.args.self.now in
-    c.innermost.ensures.value
-    ∙ ap (innermost (is class.HEAD)) c.all.ensures
-    ∙ ap (λ found. innermost found tags) test.head
-    ∙ sym (ap (λ white. when (not white) (innermost is_head) tags) c.if-is_white.false)
+    c.leading.ensures.value
+    ∙ ap (leading (is class.HEAD)) c.all.ensures
+    ∙ ap (λ found. leading found tags) test.head
+    ∙ sym (ap (λ white. when (not white) (leading is_head) tags) c.if-is_white.false)

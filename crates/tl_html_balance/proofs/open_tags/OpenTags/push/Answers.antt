@@ -1,4 +1,4 @@
-use Rattle.std.proofs.Common.{[], ◌∷◌, ◌++◌, ap, ◌∙◌, refl}
+use Rattle.std.proofs.Common.{[], ◌∷◌, ◌++◌, bit_or, ap, ◌∙◌, refl}
 use Rattle.tl_html_balance.specs.declared.open_tags.OpenTag.{OpenTag}
 use Rattle.tl_html_balance.proofs.Opened.{at_err, push-open, same-open}
 use Rattle.tl_html_balance.proofs.open_tags.OpenTags.push.Goals as goal
@@ -13,6 +13,10 @@ returns-in_err-extend_from_slice-clause-err c =
 
 pub returns-clause-ok : goal.returns-clause-ok
 returns-clause-ok c =
-    let tag : OpenTag = record { start = c.len-start.result; classes = c.args.name.now.classes } in
+    let tag : OpenTag = record {
+      start = c.len-start.result;
+      classes = c.args.name.now.classes;
+      all_classes = bit_or c.args.name.now.classes c.all_classes-all_classes.result;
+    } in
     push-open c.args.self.now _ tag c.args.name.now.bytes.now (c.len-start.ensures ∙ c.args.self.now.names.ok.0)
     (c.push_reserved.ensures.items ∙ ap (λ items. items ++ tag ∷ []) c.reserve.ensures.items) c.in_ok-extend_from_slice.ensures.items

@@ -3,7 +3,12 @@ use Rattle.tl_html_spec.specs.Balanced.{looked_at}
 use Rattle.tl_html_balance.specs.Classes.{is}
 use Rattle.tl_html_balance.specs.View.{names_left}
 use Rattle.tl_html_balance.proofs.Depths.{search-begins, search-ends, search-finds, search-passes, search-stops}
+use Rattle.tl_html_balance.proofs.Lacking.{search-none}
 use Rattle.tl_html_balance.proofs.remaining.Remaining.depth.Goals as goal
+
+pub returns-then-not-may_have-clause-value : goal.returns-then-not-may_have-clause-value
+returns-then-not-may_have-clause-value c =
+    search-none (is c.args.found) (is c.args.stops) (names_left c.args.self.now) (c.may_have.ensures c.if-not-may_have.true)
 
 pub loop-depth-init : goal.loop-depth-init
 loop-depth-init c = search-begins (is c.args.found) (is c.args.stops) (names_left c.args.self.now)
