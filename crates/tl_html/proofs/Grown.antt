@@ -2,7 +2,7 @@
 use Rattle.std.proofs.Common.{◌≡◌, ℕ, Bool, true, false, not, List, [], ◌∷◌, ◌++◌, take, drop, map, ap, ap₂, sym, ◌∙◌, append-nil, append_assoc}
 use Rattle.std.specs.Prelude.{filter}
 use Rattle.tl_html_spec.specs.HtmlTokenizer.{HtmlAttribute, HtmlToken, Character, StartTag, EndTag, CommentToken, is_white_space}
-use Rattle.tl_html_spec.specs.Balanced.{Balance, Names, balance, before_start, closed_by, closing, innermost, is_dropped, is_head, put_in, when}
+use Rattle.tl_html_spec.specs.Balanced.{Balance, Names, balance, before_start, closed_by, closing, is_dropped, is_head, leading, put_in, when}
 use Rattle.tl_html_spec.specs.Coded.{coded_token}
 use Rattle.tl_html_spec.specs.Written.{written, written_token}
 use Rattle.tl_html_balance.specs.Tokens.{Opens, tokens_put_in}
@@ -31,7 +31,7 @@ character_goes old new b h e o f =
     unchanged old new (Character b) e (P.dropped_emits tags old.drops_feed b h)
     (ap₂ (λ (x : Names) y. balanced_at x y) o f ∙ sym (P.dropped_next tags old.drops_feed b h))
 
-pub character_stays : (old new : Form) (b n : ℕ) → goes old.drops_feed b ≡ false → n ≡ when (not (is_white_space b)) (innermost is_head) (open_names old.open_tags) →
+pub character_stays : (old new : Form) (b n : ℕ) → goes old.drops_feed b ≡ false → n ≡ when (not (is_white_space b)) (leading is_head) (open_names old.open_tags) →
     new.out.items ≡ (old.out.items ++ written_form (map EndTag (take n (open_names old.open_tags)))) ++ written (map Character (b ∷ [])) →
     open_names new.open_tags ≡ drop n (open_names old.open_tags) → new.drops_feed ≡ false → Grows old new (Character b ∷ [])
 character_stays old new b n h c e o f =
@@ -42,7 +42,7 @@ character_stays old new b n h c e o f =
     ∙ ap (λ u. old.out.items ++ u) (sym (P.kept_form tags b n) ∙ ap written_form (sym (P.kept_emits tags old.drops_feed b n h c))))
     (ap₂ (λ (x : Names) y. balanced_at x y) o f ∙ sym (P.kept_next tags old.drops_feed b n h c))
 
-pub characters_stay : (old new : Form) (s : List ℕ) → old.drops_feed ≡ false → innermost is_head (open_names old.open_tags) ≡ 0 →
+pub characters_stay : (old new : Form) (s : List ℕ) → old.drops_feed ≡ false → leading is_head (open_names old.open_tags) ≡ 0 →
     new.out.items ≡ old.out.items ++ written (map Character (filter is_some_byte s)) → open_names new.open_tags ≡ open_names old.open_tags → new.drops_feed ≡ false →
     Grows old new (map Character s)
 characters_stay old new s f h e o g =

@@ -3,3 +3,6 @@ pub mod Plain
 pub mod Tags
 pub mod Whole
 pub mod Grown
+pub mod Noting
+pub mod Chunks
+pub mod SourcedParts

@@ -7,7 +7,7 @@ use Rattle.std.proofs.lemmas.List.{at_drop_more, map-append, take-append-drop}
 use Rattle.std.proofs.lemmas.Grind.{flat_map-append}
 use Rattle.memchr.specs.Find.{IsFirstByte, is_byte}
 use Rattle.tl_html_spec.specs.HtmlTokenizer.{Character, EndTag, is_white_space}
-use Rattle.tl_html_spec.specs.Balanced.{Balance, Names, balance, innermost, is_head, when}
+use Rattle.tl_html_spec.specs.Balanced.{Balance, Names, balance, is_head, leading, when}
 use Rattle.tl_html_spec.specs.Written.{written, written_token}
 use Rattle.tl_html_tokens.proofs.Plain.{all_before, fails_not}
 use Rattle.tl_html.specs.Written.{emits_of, goes, is_some_byte, next_after, written_form}
@@ -24,11 +24,11 @@ dropped_emits tags feed b h = rw h refl
 pub dropped_next : (tags : Names) (feed : Bool) (b : ℕ) → goes feed b ≡ true → (balance (balanced_at tags feed) (Character b)).next ≡ balanced_at tags false
 dropped_next tags feed b h = rw h refl
 
-pub kept_emits : (tags : Names) (feed : Bool) (b n : ℕ) → goes feed b ≡ false → n ≡ when (not (is_white_space b)) (innermost is_head) tags →
+pub kept_emits : (tags : Names) (feed : Bool) (b n : ℕ) → goes feed b ≡ false → n ≡ when (not (is_white_space b)) (leading is_head) tags →
     (balance (balanced_at tags feed) (Character b)).emits ≡ map EndTag (take n tags) ++ Character b ∷ []
 kept_emits tags feed b n h e = rw h (ap (λ k. map EndTag (take k tags) ++ Character b ∷ []) (sym e))
 
-pub kept_next : (tags : Names) (feed : Bool) (b n : ℕ) → goes feed b ≡ false → n ≡ when (not (is_white_space b)) (innermost is_head) tags →
+pub kept_next : (tags : Names) (feed : Bool) (b n : ℕ) → goes feed b ≡ false → n ≡ when (not (is_white_space b)) (leading is_head) tags →
     (balance (balanced_at tags feed) (Character b)).next ≡ balanced_at (drop n tags) false
 kept_next tags feed b n h e = rw h (ap (λ k. balanced_at (drop k tags) false) (sym e))
 
@@ -37,11 +37,11 @@ kept_form tags b n = form_append (map EndTag (take n tags)) (Character b ∷ [])
 
 -- where no head is to be closed
 
-none_when : (v : Bool) (tags : Names) → innermost is_head tags ≡ 0 → when v (innermost is_head) tags ≡ 0
+none_when : (v : Bool) (tags : Names) → leading is_head tags ≡ 0 → when v (leading is_head) tags ≡ 0
 none_when true tags h = h
 none_when false tags h = refl
 
-pub plain_emits : (tags : Names) (s : List ℕ) → innermost is_head tags ≡ 0 → emits_of (balanced_at tags false) (map Character s) ≡ map Character (filter is_some_byte s)
+pub plain_emits : (tags : Names) (s : List ℕ) → leading is_head tags ≡ 0 → emits_of (balanced_at tags false) (map Character s) ≡ map Character (filter is_some_byte s)
 plain_emits tags [] h = refl
 plain_emits tags (b ∷ s) h = elim (cases_Bool (b == 0)) [
   | inl y ↦ rw y (plain_emits tags s h)
@@ -50,7 +50,7 @@ plain_emits tags (b ∷ s) h = elim (cases_Bool (b == 0)) [
       rw (n, none) (ap (λ ts. Character b ∷ ts) (plain_emits tags s h)))
 ]
 
-pub plain_next : (tags : Names) (s : List ℕ) → innermost is_head tags ≡ 0 → next_after (balanced_at tags false) (map Character s) ≡ balanced_at tags false
+pub plain_next : (tags : Names) (s : List ℕ) → leading is_head tags ≡ 0 → next_after (balanced_at tags false) (map Character s) ≡ balanced_at tags false
 plain_next tags [] h = refl
 plain_next tags (b ∷ s) h = elim (cases_Bool (b == 0)) [
   | inl y ↦ (

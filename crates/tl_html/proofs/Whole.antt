@@ -38,10 +38,10 @@ says page token kind.EndTag p e i s w = (w refl, i)
 says page token kind.Doctype p e i s w = doctype_is p.tokens i
 says page token kind.Nothing p e i s w = i
 
-abbrev parts_of : List Piece → List (List HtmlToken)
+abbrev pub parts_of : List Piece → List (List HtmlToken)
 parts_of ps = map (λ (p : Piece). p.tokens) ps
 
-are_parts : (page : List ℕ) (tokens : List Token) (n : ℕ) (ps : List Piece) → AreTokens page tokens (placed n ps) → AreSaid tokens ps → AreWholeTags page tokens (placed n ps) →
+pub are_parts : (page : List ℕ) (tokens : List Token) (n : ℕ) (ps : List Piece) → AreTokens page tokens (placed n ps) → AreSaid tokens ps → AreWholeTags page tokens (placed n ps) →
     AreParts page tokens (parts_of ps)
 are_parts page [] n [] h s w = tt
 are_parts page [] n (p ∷ ps) h s w = absurd h

@@ -2,3 +2,5 @@ pub mod Written
 pub mod Forms
 pub mod Parts
 pub mod Opened
+pub mod Noted
+pub mod Sourced

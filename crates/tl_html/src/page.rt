@@ -1,5 +1,5 @@
 //! The form of a page.
-ghost use Rattle.std.specs.Prelude.{◌≡◌, ◌≤◌, ◌<◌, ◌++◌, ◌⊎◌, length, Err, IfErr, IfOk, OnOk};
+ghost use Rattle.std.specs.Prelude.{◌≡◌, ◌≤◌, ◌<◌, ◌++◌, ◌⊎◌, length, string_bytes, Err, IfErr, IfOk, OnOk};
 ghost use Rattle.tl_html_spec.specs.HtmlForm.{doctype_of, html_form};
 ghost use Rattle.tl_html_spec.specs.HtmlTokenizer.{html_tokens};
 ghost use Rattle.tl_html_tokens.specs.Tokens.{AreTokensOf};
@@ -29,7 +29,7 @@ fn push_tokens(
 }
 
 // Writes the doctype of a page, if it has one.
-fn write_doctype(
+pub(crate) fn write_doctype(
     alloc: Global,
     page: &[u8],
     tokens: &[Token],
@@ -75,4 +75,16 @@ pub fn normalize_bytes(alloc: Global, page: &[u8]) -> Result<Vec<u8>, NormalizeE
         return Err(NormalizeError::TooLong);
     }
     Ok(form)
+}
+
+/// The same of a text, whose form is a text: `html_form_is_utf8`.
+pub fn normalize(alloc: Global, page: &str) -> Result<String, NormalizeError>
+    ensures form { IfOk result (λ form. string_bytes form ≡ html_form page.now) }
+    ensures short { IfOk result (λ form. length (string_bytes form) ≤ u32.MAX) }
+    ensures long { u32.MAX < length page.now → result ≡ Err TooLong }
+    ensures failure { result ≡ Err TooLong →
+        (u32.MAX < length page.now) ⊎ (u32.MAX < length (html_form page.now)) }
+{
+    let form = normalize_bytes(alloc, page.as_bytes())?;
+    Ok(unsafe { String::from_utf8_unchecked(form) })
 }

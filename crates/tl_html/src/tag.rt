@@ -35,7 +35,7 @@ fn write_put_in(
         return Ok(());
     }
     let name = lower_name(alloc, name)?;
-    write_end_tag(name.as_slice(), out)?;
+    write_end_tag(name.as_bytes(), out)?;
     Ok(())
 }
 
@@ -101,7 +101,7 @@ impl Form {
         ensures { OnOk result (Grows self.old self.new (start_tag (parts_view parts.now) ∷ [])) }
     {
         let bytes = lower_name(alloc, parts.name)?;
-        let name = TagName::new(bytes.as_slice());
+        let name = TagName::new(bytes.as_bytes());
         if self.open_tags.is_dropped(&name) {
             self.drops_feed = false;
             return Ok(());
@@ -116,7 +116,7 @@ impl Form {
         ensures { OnOk result (Grows self.old self.new (EndTag (name_of raw.now) ∷ [])) }
     {
         let bytes = lower_name(alloc, raw)?;
-        let name = TagName::new(bytes.as_slice());
+        let name = TagName::new(bytes.as_bytes());
         let put_in = self.open_tags.put_in(&name);
         let count = self.open_tags.closed_by_end(&name);
         self.drops_feed = false;

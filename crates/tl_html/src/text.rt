@@ -1,7 +1,7 @@
 //! Texts and comments.
 ghost use Rattle.std.specs.Prelude.{◌≡◌, ◌≤◌, ◌++◌, ◌∷◌, [], drop, false, filter, length, map, take, IsTrue, OnOk};
 ghost use Rattle.tl_html_spec.specs.HtmlTokenizer.{Character, CommentToken, is_white_space};
-ghost use Rattle.tl_html_spec.specs.Balanced.{innermost, is_head};
+ghost use Rattle.tl_html_spec.specs.Balanced.{is_head, leading};
 ghost use Rattle.tl_html_spec.specs.Written.{written};
 ghost use Rattle.tl_html_balance.specs.View.{open_names};
 ghost use Rattle.tl_html.specs.Written.{goes, is_some_byte};
@@ -59,7 +59,7 @@ impl Form {
     // Whether each character that comes next but NUL is written.
     fn takes_characters(&self) -> bool
         ensures feed { IsTrue result → self.now.drops_feed ≡ false }
-        ensures head { IsTrue result → innermost is_head (open_names self.now.open_tags) ≡ 0 }
+        ensures head { IsTrue result → leading is_head (open_names self.now.open_tags) ≡ 0 }
     {
         !self.drops_feed && self.open_tags.closed_before_text(false) == 0
     }
@@ -82,7 +82,7 @@ impl Form {
     #[tactic(auto, using(crate::proofs::Grown::characters_stay))]
     fn push_characters(&mut self, characters: &[u8]) -> Result<(), AllocError>
         requires feed { self.old.drops_feed ≡ false }
-        requires head { innermost is_head (open_names self.old.open_tags) ≡ 0 }
+        requires head { leading is_head (open_names self.old.open_tags) ≡ 0 }
         ensures { OnOk result (Grows self.old self.new (map Character characters.now)) }
     {
         write_without_nul(characters, &mut self.out)?;

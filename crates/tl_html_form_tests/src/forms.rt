@@ -1,8 +1,8 @@
 //! Pages, and their form.
-use tl_html::{NormalizeError, normalize_bytes};
+use tl_html::{NormalizeError, normalize, normalize_bytes};
 
 #[rattlefmt::skip]
-static ROWS: [(&[u8], &[u8]); 64] = [
+static ROWS: [(&[u8], &[u8]); 65] = [
     (b"", b""),
     (b"\xEF\xBB\xBF", b""),
     (b"\xEF\xBB\xBFa", b"a"),
@@ -34,7 +34,8 @@ static ROWS: [(&[u8], &[u8]); 64] = [
     (b"<head><title>x</title>y", b"<head><title>x</title></head>y"),
     (b"<head> \n<title>x</title> y", b"<head> \n<title>x</title> </head>y"),
     (b"<head>a\x00b", b"<head></head>ab"),
-    (b"<svg><head><head>ab", b"<svg><head><head></head>a</head>b</svg>"),
+    (b"<svg><head><head>ab", b"<svg><head><head></head></head>ab</svg>"),
+    (b"<svg><head><head>\xC3\xA9", b"<svg><head><head></head></head>\xC3\xA9</svg>"),
     (b"<body><body>", b"<body></body>"),
     (b"<br></br><img></img>", b"<br><br><img>"),
     (b"<b/>x<svg><path/></svg>", b"<b>x<svg><path></path></svg></b>"),
@@ -74,6 +75,25 @@ fn pages_have_their_form(rt: HostRuntime) -> Result<(), NormalizeError> {
     for (page, form) in &ROWS {
         let found = normalize_bytes(rt.alloc(), page)?;
         assert_eq!(rt; found.as_slice(), *form);
+    }
+    Ok(())
+}
+
+// Texts, whose form is a text.
+#[rattlefmt::skip]
+static TEXT_ROWS: [(&str, &str); 5] = [
+    ("", ""),
+    ("\u{FEFF}é", "é"),
+    ("<P É=ü>\u{20AC}<p>&eacute;", "<p +c3+89=\"ü\">€</p><p>é</p>"),
+    ("<svg><head><head>\u{1F600}", "<svg><head><head></head></head>\u{1F600}</svg>"),
+    ("<head>é<!--é--!><é", "<head></head>é<!--é-->&lt;é"),
+];
+
+#[test]
+fn texts_have_their_form(rt: HostRuntime) -> Result<(), NormalizeError> {
+    for (page, form) in &TEXT_ROWS {
+        let found = normalize(rt.alloc(), page)?;
+        assert_eq!(rt; found.as_str(), *form);
     }
     Ok(())
 }
