@@ -1,0 +1,9 @@
+use Rattle.std.proofs.Common.{ℕ, List, map, drop}
+use Rattle.tl_patch_page.specs.Steps.{AreTagChanges}
+use Rattle.tl_patch_page.specs.View.{change_of, patch_view}
+use Rattle.tl_patch_page.proofs.change.changed_tag.Given as goal
+
+abbrev pub invariant-loop-at : goal.invariant-loop-at
+invariant-loop-at l =
+    (new : List ℕ) → AreTagChanges (map change_of (map patch_view (drop l.at l.patches))) l.now.items new
+    → AreTagChanges (map change_of (map patch_view l.patches)) l.tag new

@@ -1,0 +1,4 @@
+pub mod View
+pub mod Pages
+pub mod Steps
+pub mod Asked

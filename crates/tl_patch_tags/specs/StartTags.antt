@@ -1,0 +1,100 @@
+-- Start tags by their own bytes, and with a change.
+use Rattle.std.specs.Prelude.{◌≡◌, ◌<◌, ◌⊎◌, ℕ, ◌+◌, ◌==◌, ◌&&◌, Bool, true, false, not, List, [], ◌∷◌, ◌++◌, length, take, drop, map, codes, slice_index_or, ⊤}
+use Rattle.std.specs.List.{All, filter, list_any}
+use Rattle.std.specs.Str.{bytes_eq}
+use Rattle.tl_html_spec.specs.HtmlTokenizer.{HtmlToken}
+use Rattle.tl_html_tokens.specs.Kinds.{IsStartTag}
+use Rattle.tl_html_tokens.specs.Whole.{IsWhole}
+use Rattle.tl_html_tokens.specs.declared.mode.Mode.{Mode}
+use Rattle.tl_html_tokens.specs.declared.mode.Mode.TheVariants as mode
+use Rattle.tl_html_tokens.specs.declared.stage.TokenKind.{TokenKind}
+use Rattle.tl_html_tokens.specs.declared.stage.TokenKind.TheVariants as kind
+use Rattle.tl_html_tokens.specs.declared.token.Token.{Token}
+use Rattle.tl_html_tags.specs.Parts.{Parts, name_of, start_tag}
+use Rattle.tl_patch_spec.specs.Markup.{attribute_markup, quoted_value}
+use Rattle.tl_patch_spec.specs.Splices.{Splice, with_splices}
+use Rattle.tl_patch_spec.specs.TagChanges.{Set, TagChange, Unset, changed_token}
+
+-- bytes are a start tag by themselves, which says this
+pub record IsStartTagOf (bytes : List ℕ) (parts : Parts) : Type 0 where
+  pub whole : IsWhole mode.Data bytes (start_tag parts ∷ [])
+
+pub record IsStartTagAlone (bytes : List ℕ) : Type 0 where
+  pub tokens : List HtmlToken
+  pub whole : IsWhole mode.Data bytes tokens
+  pub start : IsStartTag tokens
+
+abbrev pub is_start_kind : TokenKind → Bool
+is_start_kind kind.StartTag = true
+is_start_kind _ = false
+
+abbrev pub is_data : Mode → Bool
+is_data mode.Data = true
+is_data _ = false
+
+-- whether a token is a start tag and stands up to an end
+abbrev pub is_whole_tag : Token → ℕ → Bool
+is_whole_tag token len = is_start_kind token.kind
+    && (is_data token.mode && ((token.start == 0) && (token.end == len)))
+
+-- whether tokens are one such tag alone
+abbrev pub is_one_tag : List Token → ℕ → Bool
+is_one_tag (token ∷ []) len = is_whole_tag token len
+is_one_tag _ len = false
+
+-- whether an attribute as it stands in a tag has this key
+abbrev pub has_key : List ℕ → List ℕ × List ℕ → Bool
+has_key key a = bytes_eq (name_of a.0) key
+
+abbrev pub have_key : List ℕ → List (List ℕ × List ℕ) → Bool
+have_key key attributes = list_any (has_key key) attributes
+
+abbrev pub pair_at : ℕ → List (List ℕ × List ℕ) → List ℕ × List ℕ
+pair_at number attributes = slice_index_or attributes number ([], [])
+
+-- the first attribute with this key has this number
+pub record IsFirst (key : List ℕ) (number : ℕ) (attributes : List (List ℕ × List ℕ)) : Type 0 where
+  pub within : number < length attributes
+  pub none_before : have_key key (take number attributes) ≡ false
+  pub is : has_key key (pair_at number attributes) ≡ true
+
+-- with another value at a place
+abbrev pub with_value_at : ℕ → List ℕ → List (List ℕ × List ℕ) → List (List ℕ × List ℕ)
+with_value_at number value attributes = take number attributes
+    ++ ((pair_at number attributes).0, value) ∷ drop (number + 1) attributes
+
+-- the attributes with other keys
+abbrev pub with_other_keys : List ℕ → List (List ℕ × List ℕ) → List (List ℕ × List ℕ)
+with_other_keys key attributes = filter (λ a. not (has_key key a)) attributes
+
+-- a value in the place of another, or after a key that has none
+abbrev pub IsValuePut : List ℕ → List ℕ → Type 0
+IsValuePut value put = (put ≡ quoted_value value) ⊎ (put ≡ 61 ∷ quoted_value value)
+
+-- in the place of an attribute that goes stands nothing, or what keeps its neighbours apart
+abbrev pub IsCutPut : List ℕ → Type 0
+IsCutPut put = (put ≡ []) ⊎ ((put ≡ codes " ") ⊎ (put ≡ codes "/"))
+
+abbrev pub IsCut : Splice ℕ → Type 0
+IsCut s = IsCutPut s.put
+
+-- what is put into a tag
+abbrev pub IsPut : TagChange → Splice ℕ → Type 0
+IsPut (Set key value) s = IsValuePut value s.put ⊎ (s.put ≡ attribute_markup key value)
+IsPut (Unset key) s = IsCut s
+IsPut _ s = ⊤
+
+-- a tag with splices, which is read with just these parts
+pub record IsSpliced (tag : List ℕ) (splices : List (Splice ℕ)) (wanted : Parts) (new : List ℕ) :
+    Type 0 where
+  pub bytes : new ≡ with_splices tag splices
+  pub read : IsStartTagOf new wanted
+
+-- new is the tag with a change: some places in it have something else, and each other byte is as it
+-- was; and where the tag is a start tag by itself, so is new, with the token changed
+pub record IsChanged (change : TagChange) (tag new : List ℕ) : Type 0 where
+  pub splices : List (Splice ℕ)
+  pub bytes : new ≡ with_splices tag splices
+  pub put : All (IsPut change) splices
+  pub tokens : (tokens : List HtmlToken) → IsWhole mode.Data tag tokens → IsStartTag tokens →
+      IsWhole mode.Data new (map (changed_token change) tokens)

@@ -1,0 +1,86 @@
+//! What a start tag says, by its own bytes.
+ghost use Rattle.std.specs.Prelude.{◌≡◌, IfOk, IfSome, true};
+ghost use Rattle.tl_html_tags.specs.Parts.{parts_view};
+ghost use Rattle.tl_patch_tags.specs.StartTags.{IsStartTagAlone, IsStartTagOf, is_data, is_one_tag, is_start_kind, is_whole_tag};
+
+use crate::alike::are_alike;
+use std::alloc::{AllocError, Global};
+use tl_html_tags::{TagParts, tag_parts};
+use tl_html_tokens::{Mode, Token, TokenKind, tokens};
+
+fn is_start_kind(kind: TokenKind) -> bool
+    ensures { result ≡ is_start_kind kind }
+{
+    matches!(kind, TokenKind::StartTag)
+}
+
+fn is_data(mode: Mode) -> bool
+    ensures { result ≡ is_data mode }
+{
+    matches!(mode, Mode::Data)
+}
+
+// Whether a token is a start tag and stands up to an end.
+fn is_whole_tag(token: &Token, len: usize) -> bool
+    ensures { result ≡ is_whole_tag token.now len }
+{
+    is_start_kind(token.kind) && is_data(token.mode) && token.start == 0 && token.end == len
+}
+
+// Whether tokens are one such tag alone.
+fn is_one_tag(tokens: &[Token], len: usize) -> bool
+    ensures { result ≡ is_one_tag tokens.now len }
+{
+    match tokens {
+        [token] => is_whole_tag(token, len),
+        _ => false,
+    }
+}
+
+// Whether bytes are a start tag by themselves.
+#[tactic(auto, using(crate::proofs::Alone::alone))]
+fn is_start_tag(alloc: Global, bytes: &[u8]) -> Result<bool, AllocError>
+    ensures { IfOk result (λ is. is ≡ true → IsStartTagAlone bytes.now) }
+{
+    let all = tokens(alloc, bytes)?;
+    Ok(is_one_tag(all.as_slice(), bytes.len()))
+}
+
+// The parts of a start tag; `None` where the bytes are no start tag by themselves.
+pub(crate) fn start_tag_parts(
+    alloc: Global,
+    bytes: &[u8],
+) -> Result<Option<TagParts<'_>>, AllocError>
+    ensures { IfOk result (λ found. IfSome found (λ parts.
+        IsStartTagOf bytes.now (parts_view parts))) }
+{
+    let is_alone = is_start_tag(alloc, bytes)?;
+    if !is_alone {
+        return Ok(None);
+    }
+    let parts = tag_parts(alloc, bytes)?;
+    Ok(Some(parts))
+}
+
+// Whether bytes are a start tag by themselves with just these parts, byte by byte.
+pub(crate) fn is_read_as(
+    alloc: Global,
+    bytes: &[u8],
+    wanted: &TagParts<'_>,
+) -> Result<bool, AllocError>
+    ensures { IfOk result (λ is. is ≡ true → IsStartTagOf bytes.now (parts_view wanted.now)) }
+{
+    let Some(parts) = start_tag_parts(alloc, bytes)? else {
+        return Ok(false);
+    };
+    Ok(has_parts(&parts, wanted))
+}
+
+// Whether two tags have the same parts, byte by byte.
+fn has_parts(tag: &TagParts<'_>, wanted: &TagParts<'_>) -> bool
+    ensures { result ≡ true → parts_view tag.now ≡ parts_view wanted.now }
+{
+    tag.name == wanted.name
+        && tag.closes == wanted.closes
+        && are_alike(tag.attributes.as_slice(), wanted.attributes.as_slice())
+}
