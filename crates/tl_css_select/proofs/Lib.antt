@@ -18,3 +18,5 @@ pub mod Lowercase
 pub mod Tests
 pub mod Pairs
 pub mod Fresh
+pub mod Found
+pub mod Spellings

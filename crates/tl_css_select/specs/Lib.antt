@@ -5,3 +5,5 @@ pub mod Columns
 pub mod Terms
 pub mod Shape
 pub mod Pair
+pub mod Spelling
+pub mod Decoded

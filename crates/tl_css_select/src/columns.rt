@@ -13,7 +13,6 @@ use crate::styled::{Styled, is_met_at};
 use crate::term::is_term;
 use std::alloc::{AllocError, Global};
 use tl_css::selector::{Formula, Link, Reach, Test, Way};
-use tl_table::element::Element;
 
 /// The marks of a test.
 pub fn test_marks<N: Styled>(
@@ -69,7 +68,7 @@ pub fn test_marks_among<N: Styled>(
 }
 
 /// The marks of the tags that have none.
-pub fn unmarked_tags<N: Element>(
+pub fn unmarked_tags<N: Styled>(
     alloc: Global,
     nodes: &[N],
     marks: &[bool],
@@ -107,7 +106,7 @@ pub fn unite(marks: &mut Vec<bool>, others: &[bool])
 }
 
 // Takes the mark from each node that is no tag.
-fn keep_tags<N: Element>(marks: &mut Vec<bool>, nodes: &[N])
+fn keep_tags<N: Styled>(marks: &mut Vec<bool>, nodes: &[N])
     ensures len { length marks.new.items ≡ length marks.old.items }
     ensures kept { (n : ℕ) → is_at marks.new.items n
         ≡ (is_at marks.old.items n && is_tag_at (map N.node nodes.now) n) }
@@ -143,7 +142,7 @@ fn is_often(reach: Reach) -> bool
 }
 
 /// The marks of the tags that are related to a marked one.
-pub fn relatives<N: Element>(
+pub fn relatives<N: Styled>(
     alloc: Global,
     nodes: &[N],
     links: &[u32],
@@ -194,7 +193,7 @@ fn is_marked_term(marks: &[bool], counts: &[u32], formula: Formula, number: usiz
 }
 
 /// The marks of the tags whose counts are of a formula.
-pub fn terms<N: Element>(
+pub fn terms<N: Styled>(
     alloc: Global,
     nodes: &[N],
     links: &[u32],

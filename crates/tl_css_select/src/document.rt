@@ -1,67 +1,14 @@
 //! Documents, and where selectors hold in them.
-ghost use Rattle.std.specs.Prelude.{◌≡◌, ◌↔◌, Err, IfOk, true};
-ghost use Rattle.std.specs.Option.{IsSomeAnd};
-ghost use Rattle.std.specs.Str.{str_to_ascii_lowercase};
-ghost use Rattle.tl_spec.specs.Tree.Element.{name_of};
-ghost use Rattle.tl_css.specs.Meaning.{AreFound, IsForest, pairs_of};
-ghost use Rattle.tl_css.specs.View.{test as test_of};
-ghost use Rattle.tl_css_select.specs.Pair.{HasPair};
-ghost use Rattle.tl.specs.View.{document_of, node_view};
+ghost use Rattle.std.specs.Prelude.{◌≡◌, Err, IfOk};
+ghost use Rattle.tl_css.specs.Meaning.{AreFound, IsForest};
+ghost use Rattle.tl.specs.View.{document_of};
+ghost use Rattle.tl_css_select.specs.Spelling.{decoded_nodes};
 
+use crate::decoded::decoded;
 use crate::forest::{self, SelectError};
-use crate::letters::is_lowercase;
-use crate::pair::has_pair;
-use crate::styled::Styled;
-use std::alloc::{AllocError, Global};
-use tl::{Node, VDom};
+use std::alloc::Global;
+use tl::VDom;
 use tl_css::Selector;
-use tl_css::selector::Test;
-use tl_table::element::Element;
-
-// Whether a node is a tag of this name; the name is in lower case.
-fn is_named(node: &Node<'_>, name: &[u8]) -> bool
-    ensures { (result ≡ true) ↔ IsSomeAnd (name_of (node_view node.now))
-        (λ own. str_to_ascii_lowercase own ≡ name.now) }
-{
-    match node.name() {
-        Some(own) => is_lowercase(name, own),
-        None => false,
-    }
-}
-
-// Whether a test of keys passes at a node.
-fn has_key(alloc: Global, node: &Node<'_>, test: &Test) -> Result<bool, AllocError>
-    ensures { IfOk result (λ has. (has ≡ true)
-        ↔ HasPair (test_of test.now) (pairs_of (node_view node.now))) }
-{
-    match node {
-        Node::Tag(tag) => has_pair(alloc, tag.attributes(), test),
-        Node::Raw(_) => Ok(false),
-        Node::Comment(_) => Ok(false),
-    }
-}
-
-impl<'a> Styled for Node<'a> {
-    fn passes(&self, alloc: Global, test: &Test) -> Result<bool, AllocError> {
-        match test {
-            Test::Any => Ok(true),
-            Test::Name(name) => Ok(is_named(self, name)),
-            Test::Id(id) => Ok(self.has_id(id)),
-            Test::Class(class) => Ok(self.is_in_class(class)),
-            Test::Key(_) => has_key(alloc, self, test),
-            Test::Value(_, _, _, _) => has_key(alloc, self, test),
-            Test::Empty => Ok(false),
-        }
-    }
-
-    fn is_nothing(&self) -> bool {
-        match self {
-            Node::Tag(_) => false,
-            Node::Raw(text) => text.as_bytes().is_empty(),
-            Node::Comment(_) => true,
-        }
-    }
-}
 
 /// The numbers of the tags of a document where a selector holds, rising: the number of a tag is its
 /// handle. The table is looked at first, since edits may have put a node under two.
@@ -78,4 +25,23 @@ pub fn select(
     ensures not_too_long { result ≡ Err SelectError.TooLong → ⊥ }
 {
     forest::select(alloc, document.nodes(), selector)
+}
+
+/// The same of a document of a page in its form, as `tl_html::normalize_bytes` writes it: names are
+/// coded there and values escaped, and selectors say what they were written of.
+pub fn select_decoded(
+    alloc: Global,
+    document: &VDom<'_>,
+    selector: &Selector,
+) -> Result<Vec<u32>, SelectError>
+    ensures forest { IfOk result
+        (λ _. IsForest (decoded_nodes (document_of document.now).nodes)) }
+    ensures found { IfOk result (λ ns.
+        AreFound (decoded_nodes (document_of document.now).nodes) selector.now ns.items) }
+    ensures not_forest { result ≡ Err SelectError.NotForest
+        → IsForest (document_of document.now).nodes → ⊥ }
+    ensures not_too_long { result ≡ Err SelectError.TooLong → ⊥ }
+{
+    let nodes = decoded(alloc, document.nodes())?;
+    forest::select(alloc, &nodes, selector)
 }

@@ -4,29 +4,22 @@ ghost use Rattle.tl_spec.specs.Tree.Document.{Node};
 ghost use Rattle.tl_spec.specs.Tree.Element.{children_of};
 ghost use Rattle.tl_css.specs.Meaning.{IsForest};
 ghost use Rattle.tl_css.specs.declared.selector.Link.TheVariants.{Parent, Sibling, Twin};
-ghost use Rattle.tl_css_select.specs.Kin.{AreKin, AreLinksOf, AreSiblingGroups, links_of, children_at, is_tag, is_tag_at, is_same, follows, needs, sibling_group, with_child, with_children};
+ghost use Rattle.tl_css_select.specs.Kin.{AreKin, AreLinksOf, AreSiblingGroups, links_of, children_at, is_tag_at, is_same, follows, needs, sibling_group, with_child, with_children};
 ghost use Rattle.tl_css_select.specs.Links.{link_at, no_link};
 
 use crate::group::previous;
 use crate::links::NO_LINK;
+use crate::styled::Styled;
 use crate::twin::twins;
 use std::alloc::{AllocError, Global};
 use tl_css::selector::{Link, Step};
-use tl_table::element::Element;
-
-/// Whether a node is a tag.
-pub fn is_tag<N: Element>(node: &N) -> bool
-    ensures { result ≡ is_tag (N.node node.now) }
-{
-    node.name().is_some()
-}
 
 /// Whether there is a tag of this number.
-pub fn is_tag_at<N: Element>(nodes: &[N], number: usize) -> bool
+pub fn is_tag_at<N: Styled>(nodes: &[N], number: usize) -> bool
     ensures { result ≡ is_tag_at (map N.node nodes.now) number }
 {
     match nodes.get(number) {
-        Some(node) => is_tag(node),
+        Some(node) => node.is_tag(),
         None => false,
     }
 }
@@ -42,7 +35,7 @@ fn link_child(links: &mut Vec<u32>, child: Option<u32>, parent: u32)
     }
 }
 
-fn link_children<N: Element>(links: &mut Vec<u32>, node: &N, parent: u32)
+fn link_children<N: Styled>(links: &mut Vec<u32>, node: &N, parent: u32)
     ensures { links.new.items
         ≡ with_children (children_of (N.node node.now)) parent links.old.items }
 {
@@ -52,7 +45,7 @@ fn link_children<N: Element>(links: &mut Vec<u32>, node: &N, parent: u32)
 }
 
 /// Lets the links of the children of a node lead to it, if there is a node of this number.
-pub fn link_children_at<N: Element>(links: &mut Vec<u32>, nodes: &[N], number: usize)
+pub fn link_children_at<N: Styled>(links: &mut Vec<u32>, nodes: &[N], number: usize)
     requires { number < 2 ^ 32 }
     ensures { links.new.items
         ≡ with_children (children_at (map N.node nodes.now) number) number links.old.items }
@@ -63,7 +56,7 @@ pub fn link_children_at<N: Element>(links: &mut Vec<u32>, nodes: &[N], number: u
 }
 
 /// A link from each child to its parent.
-pub fn parents<N: Element>(alloc: Global, nodes: &[N]) -> Result<Vec<u32>, AllocError>
+pub fn parents<N: Styled>(alloc: Global, nodes: &[N]) -> Result<Vec<u32>, AllocError>
     requires forest { IsForest (map N.node nodes.now) }
     requires numbered { length nodes.now < 2 ^ 32 }
     ensures { IfOk result (λ links. AreLinksOf (map N.node nodes.now) Parent links.items) }
@@ -76,7 +69,7 @@ pub fn parents<N: Element>(alloc: Global, nodes: &[N]) -> Result<Vec<u32>, Alloc
 }
 
 // The number that tells siblings: the same for all tags of one parent, and for all at the top.
-fn sibling_group<N: Element>(nodes: &[N], parents: &[u32], number: usize) -> u32
+fn sibling_group<N: Styled>(nodes: &[N], parents: &[u32], number: usize) -> u32
     ensures { result ≡ sibling_group (map N.node nodes.now) parents.now number }
 {
     if !is_tag_at(nodes, number) {
@@ -89,7 +82,7 @@ fn sibling_group<N: Element>(nodes: &[N], parents: &[u32], number: usize) -> u32
 }
 
 /// A group for each tag, one for all that are siblings.
-fn sibling_groups<N: Element>(
+fn sibling_groups<N: Styled>(
     alloc: Global,
     nodes: &[N],
     parents: &[u32],
@@ -155,7 +148,7 @@ fn sibling_links(alloc: Global, groups: &[u32], needed: bool) -> Result<Vec<u32>
 }
 
 // The links of twins by the groups of siblings, if they are needed.
-fn twin_links<N: Element>(
+fn twin_links<N: Styled>(
     alloc: Global,
     nodes: &[N],
     groups: &[u32],
@@ -174,11 +167,7 @@ fn twin_links<N: Element>(
 }
 
 // The links of parents, if they are needed.
-fn parent_links<N: Element>(
-    alloc: Global,
-    nodes: &[N],
-    needed: bool,
-) -> Result<Vec<u32>, AllocError>
+fn parent_links<N: Styled>(alloc: Global, nodes: &[N], needed: bool) -> Result<Vec<u32>, AllocError>
     requires forest { IsForest (map N.node nodes.now) }
     requires numbered { length nodes.now < 2 ^ 32 }
     ensures { needed ≡ true → IfOk result
@@ -211,7 +200,7 @@ impl Kin {
     }
 
     // Where no sibling is asked for.
-    fn ancestry<N: Element>(alloc: Global, nodes: &[N], needed: bool) -> Result<Kin, AllocError>
+    fn ancestry<N: Styled>(alloc: Global, nodes: &[N], needed: bool) -> Result<Kin, AllocError>
         requires forest { IsForest (map N.node nodes.now) }
         requires numbered { length nodes.now < 2 ^ 32 }
         ensures { needed ≡ true → IfOk result
@@ -226,7 +215,7 @@ impl Kin {
     }
 
     /// The links between the nodes of a table that some steps follow.
-    pub fn new<N: Element>(alloc: Global, nodes: &[N], steps: &[Step]) -> Result<Kin, AllocError>
+    pub fn new<N: Styled>(alloc: Global, nodes: &[N], steps: &[Step]) -> Result<Kin, AllocError>
         requires forest { IsForest (map N.node nodes.now) }
         requires numbered { length nodes.now < 2 ^ 32 }
         ensures { IfOk result (λ kin. AreKin (map N.node nodes.now) kin steps.now) }

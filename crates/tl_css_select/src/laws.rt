@@ -1,9 +1,22 @@
 //! Laws of the definitions.
-ghost use Rattle.std.specs.Prelude.{List, ℕ};
-ghost use Rattle.tl_spec.specs.Tree.Document.{document};
-ghost use Rattle.tl_css.specs.Meaning.{IsForest};
+ghost use Rattle.std.specs.Prelude.{◌≡◌, List, ℕ};
+ghost use Rattle.tl_spec.specs.Tree.Document.{Node, document};
+ghost use Rattle.tl_css.specs.Meaning.{AreFound, IsForest};
+ghost use Rattle.tl_css.specs.Selector.{Css};
+ghost use Rattle.tl_css_select.specs.Spelling.{decoded_nodes};
 
 /// A document that was just read is a forest.
 pub fn documents_are_forests()
     ensures { (t : List ℕ) → IsForest (document t).nodes }
+{}
+
+/// A forest is one seen decoded.
+pub fn decoded_forests_are_forests()
+    ensures { (nodes : List Node) → IsForest nodes → IsForest (decoded_nodes nodes) }
+{}
+
+/// A selector is found at one list of numbers.
+pub fn selectors_find_once()
+    ensures { (nodes : List Node) (e : Css) (ms ns : List ℕ) → AreFound nodes e ms
+        → AreFound nodes e ns → ms ≡ ns }
 {}

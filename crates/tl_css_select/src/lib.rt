@@ -2,6 +2,7 @@
 #![tactic(auto)]
 
 mod columns;
+mod decoded;
 pub mod document;
 pub mod forest;
 mod group;
@@ -9,8 +10,10 @@ mod kin;
 pub mod laws;
 mod letters;
 mod links;
+mod node;
 mod pair;
 mod shape;
+mod spelling;
 mod stack;
 pub mod styled;
 mod term;

@@ -8,11 +8,11 @@ ghost use Rattle.tl_css_select.specs.Shape.{are_orphans, fits_at, rises};
 
 use crate::kin::link_children_at;
 use crate::links::{NO_LINK, link};
+use crate::styled::Styled;
 use std::alloc::{AllocError, Global};
-use tl_table::element::Element;
 
 // Whether the numbers of a node's children rise above its own, in a table of so many nodes.
-fn rises<N: Element>(node: &N, number: usize, len: usize) -> bool
+fn rises<N: Styled>(node: &N, number: usize, len: usize) -> bool
     ensures { result ≡ rises number len (children_of (N.node node.now)) }
 {
     let mut last = number;
@@ -38,7 +38,7 @@ fn has_parent(parents: &[u32], number: usize) -> bool
 }
 
 // Whether none of a node's children has a parent yet.
-fn are_orphans<N: Element>(node: &N, parents: &[u32]) -> bool
+fn are_orphans<N: Styled>(node: &N, parents: &[u32]) -> bool
     ensures { result ≡ are_orphans parents.now (children_of (N.node node.now)) }
 {
     for place in 0..node.child_count() {
@@ -53,7 +53,7 @@ fn are_orphans<N: Element>(node: &N, parents: &[u32]) -> bool
 }
 
 // Both, of the node of a number.
-fn fits_at<N: Element>(nodes: &[N], number: usize, parents: &[u32]) -> bool
+fn fits_at<N: Styled>(nodes: &[N], number: usize, parents: &[u32]) -> bool
     ensures { result ≡ fits_at (map N.node nodes.now) parents.now number }
 {
     match nodes.get(number) {
@@ -64,7 +64,7 @@ fn fits_at<N: Element>(nodes: &[N], number: usize, parents: &[u32]) -> bool
 
 /// Whether a table is a forest: children rise, above their parent and in the table, and each node
 /// is the child of one at most.
-pub fn is_forest<N: Element>(alloc: Global, nodes: &[N]) -> Result<bool, AllocError>
+pub fn is_forest<N: Styled>(alloc: Global, nodes: &[N]) -> Result<bool, AllocError>
     requires { length nodes.now < 2 ^ 32 }
     ensures { IfOk result (λ holds. (holds ≡ true) ↔ IsForest (map N.node nodes.now)) }
 {

@@ -1,28 +1,48 @@
 //! Tests of a node by itself.
-ghost use Rattle.std.specs.Prelude.{◌≡◌, ◌↔◌, ℕ, IfOk, IfSome, List, true, false, map};
+ghost use Rattle.std.specs.Prelude.{◌≡◌, ◌↔◌, ℕ, IfOk, IfSome, List, true, false, length, map, option_map, slice_get};
 ghost use Rattle.std.specs.List.{All};
+ghost use Rattle.std.specs.Str.{str_to_ascii_lowercase};
 ghost use Rattle.tl_spec.specs.Tree.Document.{Node};
-ghost use Rattle.tl_spec.specs.Tree.Element.{children_of};
+ghost use Rattle.tl_spec.specs.Tree.Element.{children_of, name_of};
 ghost use Rattle.tl_css.specs.Meaning.{Holds, IsMet, IsNothing};
 ghost use Rattle.tl_css.specs.Selector.{Empty, Is};
 ghost use Rattle.tl_css.specs.View.{test as test_of};
 ghost use Rattle.tl_css_select.specs.Columns.{is_nothing};
+ghost use Rattle.tl_css_select.specs.Kin.{is_tag};
 
-use crate::kin::is_tag;
 use std::alloc::{AllocError, Global};
 use tl_css::selector::Test;
-use tl_table::element::Element;
 
 /// What selectors of CSS see of a node.
-pub trait Styled: Element {
+pub trait Styled {
+    /// Which node it is.
+    ghost node: { Self → Node };
+
+    /// Whether it is a tag.
+    fn is_tag(&self) -> bool
+        ensures { result ≡ is_tag (node self.now) };
+
+    /// Its name in lower case, `None` where it is no tag.
+    fn lowercase_name(&self, alloc: Global) -> Result<Option<Vec<u8>>, AllocError>
+        ensures { IfOk result (λ name. option_map (λ n. n.items) name
+            ≡ option_map str_to_ascii_lowercase (name_of (node self.now))) };
+
+    /// How many children it has.
+    fn child_count(&self) -> usize
+        ensures { result ≡ length (children_of (node self.now)) };
+
+    /// The number of the child at this place, from 0; `None` past the last one.
+    fn child(&self, place: usize) -> Option<u32>
+        ensures { result ≡ slice_get (children_of (node self.now)) place };
+
     /// Whether a test other than `Empty` passes at it.
     fn passes(&self, alloc: Global, test: &Test) -> Result<bool, AllocError>
         ensures { (nodes : List Node) → (test_of test.now ≡ Empty → ⊥) → IfOk result (λ passes.
-            (passes ≡ true) ↔ IsMet nodes (test_of test.now) (Self.node self.now)) };
+            (passes ≡ true) ↔ IsMet nodes (test_of test.now) (node self.now)) };
 
     /// Whether it is a text without a byte, or a comment.
     fn is_nothing(&self) -> bool
-        ensures { result ≡ is_nothing (Self.node self.now) };
+        ensures { result ≡ is_nothing (node self.now) };
 }
 
 // Whether there is a node of this number that counts as nothing.
@@ -80,7 +100,7 @@ pub fn is_met_at<N: Styled>(
         ↔ Holds (map N.node nodes.now) (Is (test_of test.now)) number) }
 {
     match nodes.get(number) {
-        Some(node) if is_tag(node) => is_met(alloc, nodes, node, test),
+        Some(node) if node.is_tag() => is_met(alloc, nodes, node, test),
         _ => Ok(false),
     }
 }

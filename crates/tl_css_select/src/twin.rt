@@ -1,18 +1,18 @@
 //! Links from tags to the sibling tag before of the same name.
 ghost use Rattle.std.specs.Prelude.{◌≡◌, ◌<◌, ◌^◌, IfOk, OnOk, Some, cond, length, map, option_and_then, option_map, unwrap_or};
 ghost use Rattle.std.specs.BTreeMap.{get, is_at};
-ghost use Rattle.std.specs.Option.{option_copied, option_map_or};
+ghost use Rattle.std.specs.Option.{option_map_or};
+ghost use Rattle.std.specs.Str.{str_to_ascii_lowercase};
 ghost use Rattle.tl_css.specs.declared.selector.Link.TheVariants.{Twin};
 ghost use Rattle.tl_css_select.specs.Kin.{AreLinksOf, AreSiblingGroups, name_at, twin_group};
 ghost use Rattle.tl_css_select.specs.Links.{no_link};
 ghost use Rattle.tl_css_select.specs.Twin.{parts, twin_cmp};
 ghost use Rattle.tl_css_select.specs.declared.twin.TwinGroup.{TwinGroup};
 
-use crate::letters::lowercase;
 use crate::links::{NO_LINK, link};
+use crate::styled::Styled;
 use std::alloc::{AllocError, Global};
 use std::collections::BTreeMap;
-use tl_table::element::Element;
 
 // What twins have in common: the group of siblings, and the name in lower case.
 #[derive(PartialEq, Eq, PartialOrd, Ord, Drop)]
@@ -21,18 +21,23 @@ struct TwinGroup {
     name: Vec<u8>,
 }
 
-// The name of the node of a number, if it is a tag.
-fn name_at<'n, N: Element>(nodes: &'n [N], number: usize) -> Option<&'n [u8]>
-    ensures { option_copied result ≡ name_at (map N.node nodes.entry.now) number }
+// The name of the node of a number in lower case, if it is a tag.
+fn lowercase_name_at<N: Styled>(
+    alloc: Global,
+    nodes: &[N],
+    number: usize,
+) -> Result<Option<Vec<u8>>, AllocError>
+    ensures { IfOk result (λ name. option_map (λ n. n.items) name
+        ≡ option_map str_to_ascii_lowercase (name_at (map N.node nodes.now) number)) }
 {
     match nodes.get(number) {
-        Some(node) => node.name(),
-        None => None,
+        Some(node) => node.lowercase_name(alloc),
+        None => Ok(None),
     }
 }
 
 // The group of a tag, if there is a tag of this number.
-fn twin_group<N: Element>(
+fn twin_group<N: Styled>(
     alloc: Global,
     nodes: &[N],
     siblings: &[u32],
@@ -44,10 +49,9 @@ fn twin_group<N: Element>(
     let Some(siblings) = link(siblings, number) else {
         return Ok(None);
     };
-    let Some(name) = name_at(nodes, number) else {
+    let Some(name) = lowercase_name_at(alloc, nodes, number)? else {
         return Ok(None);
     };
-    let name = lowercase(alloc, name)?;
     Ok(Some(TwinGroup { siblings, name }))
 }
 
@@ -71,7 +75,7 @@ fn replace_latest(
 }
 
 /// A link from each tag to the sibling tag before of the same name.
-pub fn twins<N: Element>(
+pub fn twins<N: Styled>(
     alloc: Global,
     nodes: &[N],
     siblings: &[u32],

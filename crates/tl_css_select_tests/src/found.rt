@@ -169,8 +169,8 @@ static ROWS: [(&str, &str, &str); 138] = [
     (LINKS, "[id]", "12 "),
 ];
 
-// Writes numbers, each with a space after it.
-fn show(numbers: &[u32], out: &mut String) -> bool {
+/// Writes numbers, each with a space after it.
+pub fn show(numbers: &[u32], out: &mut String) -> bool {
     for number in numbers {
         if write!(out, "{number} ").is_err() {
             return false;

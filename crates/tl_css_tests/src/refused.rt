@@ -181,10 +181,19 @@ fn depth_is_limited(rt: HostRuntime) {
 
 // An error, and what is said of it.
 #[rattlefmt::skip]
-static MESSAGES: [(&str, &str); 5] = [
-    ("a:hover", "at byte 2: no such pseudo-class: `hover`"),
+static MESSAGES: [(&str, &str); 14] = [
+    ("a:hover", "at byte 2: no such pseudo-class: `hover` (a page has no states)"),
+    ("a:Link", "at byte 2: no such pseudo-class: `Link` (write `[href]`)"),
+    ("fb:like", "at byte 3: no such pseudo-class: `like` (a colon in a name is written `\\:`)"),
     ("[k=v x]", "at byte 5: the only flags are `i` and `s`: `x`"),
-    ("a!", "at byte 1: this can't stand here: `!`"),
+    ("a!", "at byte 1: this can't stand here: `!` (it may stand in quotes in a value, and behind `\\` in a name)"),
+    ("[@click]", "at byte 1: a name is missing: `@` (it may stand in quotes in a value, and behind `\\` in a name)"),
+    ("[src=a.png]", "at byte 6: this can't stand here: `.` (it may stand in quotes in a value, and behind `\\` in a name)"),
+    ("[src$=.png]", "at byte 6: a value is missing: `.` (a value that is no name stands in quotes)"),
+    ("[k=]", "at byte 3: a value is missing: `]`"),
+    ("[k!=v]", "at byte 2: `=`, `~=`, `|=`, `^=`, `$=`, `*=` or `]` is missing: `!` (write `:not([key=value])`)"),
+    ("svg|a", "at byte 3: namespaces are not known here: `|` (a bar in a name is written `\\|`)"),
+    ("p::before", "at byte 1: a pseudo-element is no tag: `:`"),
     ("a,", "at byte 2: a selector is missing"),
     ("a:not(b", "at byte 5: this is opened and never closed: `(`"),
 ];

@@ -1,24 +1,89 @@
 //! What is wrong with a text, for the person who wrote it.
-use crate::error::SelectorError;
+use crate::error::{Cause, SelectorError};
 use crate::text::byte_class::is_name_byte;
 use std::fmt;
 
-/// An error with the word that stands where the text is wrong.
+const NO_STATES: &str = "a page has no states";
+
+const COLON: &str = "a colon in a name is written `\\:`";
+
+const QUOTES: &str = "a value that is no name stands in quotes";
+
+const QUOTES_OR_ESCAPE: &str = "it may stand in quotes in a value, and behind `\\` in a name";
+
+// What to do in place of pseudo-classes that browsers have.
+static PSEUDO_CLASSES: [(&str, &str); 14] = [
+    ("active", NO_STATES),
+    ("focus", NO_STATES),
+    ("focus-visible", NO_STATES),
+    ("focus-within", NO_STATES),
+    ("hover", NO_STATES),
+    ("target", NO_STATES),
+    ("visited", NO_STATES),
+    ("link", "write `[href]`"),
+    ("any-link", "write `[href]`"),
+    ("checked", "write `[checked]`"),
+    ("disabled", "write `[disabled]`"),
+    ("enabled", "write `:not([disabled])`"),
+    ("required", "write `[required]`"),
+    ("contains", "there is no test of texts"),
+];
+
+/// An error with the word that stands where the text is wrong, and what to write in its place.
 #[derive(Clone, Copy)]
 pub struct Described<'a> {
     error: SelectorError,
     word: &'a str,
+    hint: &'static str,
 }
 
 impl SelectorError {
-    /// The error, with the word of the refused text that stands at its place.
+    /// The error, with the word of the refused text that stands at its place, and a hint where
+    /// there is one.
     pub fn describe(self, text: &str) -> Described<'_> {
-        let word = match self {
-            SelectorError::Text { at, cause: _ } => word_at(text, at),
-            SelectorError::OutOfMemory => "",
+        let (word, hint) = match self {
+            SelectorError::Text { at, cause } => {
+                let word = word_at(text, at);
+                (word, hint(cause, word))
+            }
+            SelectorError::OutOfMemory => ("", ""),
         };
-        Described { error: self, word }
+        Described {
+            error: self,
+            word,
+            hint,
+        }
     }
+}
+
+// What to do in place of a pseudo-class that isn't known.
+fn pseudo_class_hint(name: &str) -> &'static str {
+    for (known, hint) in &PSEUDO_CLASSES {
+        if name.eq_ignore_ascii_case(known) {
+            return hint;
+        }
+    }
+    COLON
+}
+
+// What to do about a cause where this word stands; empty where there is nothing to say.
+fn hint(cause: Cause, word: &str) -> &'static str {
+    match cause {
+        Cause::NoPseudoClass => pseudo_class_hint(word),
+        Cause::NoOperator if word == "!" => "write `:not([key=value])`",
+        Cause::NoValue if !word.is_empty() && word != "]" => QUOTES,
+        Cause::NoName | Cause::NoFlag | Cause::Unexpected if is_in_names(word) => QUOTES_OR_ESCAPE,
+        Cause::Namespace => "a bar in a name is written `\\|`",
+        _ => "",
+    }
+}
+
+// Whether people write this character in names and values as it stands.
+fn is_in_names(word: &str) -> bool {
+    matches!(
+        word.as_bytes(),
+        [b'@' | b'$' | b'%' | b'&' | b'/' | b'!' | b'?' | b';' | b'{' | b'}' | b'.']
+    )
 }
 
 // The name that stands at a place, or else the character.
@@ -36,6 +101,10 @@ impl fmt::Display for Described<'_> {
         if self.word.is_empty() {
             return write!(f, "{}", self.error);
         }
-        write!(f, "{}: `{}`", self.error, self.word)
+        write!(f, "{}: `{}`", self.error, self.word)?;
+        if self.hint.is_empty() {
+            return Ok(());
+        }
+        write!(f, " ({})", self.hint)
     }
 }

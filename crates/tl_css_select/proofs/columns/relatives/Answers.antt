@@ -7,11 +7,11 @@ use Rattle.tl_css_select.proofs.columns.relatives.Goals as goal
 
 pub pass_marks-requires : goal.pass_marks-requires
 pass_marks-requires g c =
-    links_lower (map g.N.Element.node c.args.nodes.now) c.requires.forest c.args.relation.1 c.args.links.now c.requires.links
+    links_lower (map g.N.Styled.node c.args.nodes.now) c.requires.forest c.args.relation.1 c.args.links.now c.requires.links
 
 pub returns : goal.returns
 returns g c e are =
-    let nodes = map g.N.Element.node c.args.nodes.now in
+    let nodes = map g.N.Styled.node c.args.nodes.now in
     let links = c.args.links.now in
     let marks = c.args.marks.now in
     let passed = c.in_ok-found.found.items in

@@ -9,8 +9,8 @@ use Rattle.tl_css_select.proofs.columns.terms.Goals as goal
 
 pub counts-requires : goal.counts-requires
 counts-requires g c =
-    let nodes = map g.N.Element.node c.args.nodes.now in
-    let same = length-map c.args.nodes.now g.N.Element.node in
+    let nodes = map g.N.Styled.node c.args.nodes.now in
+    let same = length-map c.args.nodes.now g.N.Styled.node in
     let len = c.requires.links.len in
     let small = c.requires.numbered in
     record {
@@ -34,8 +34,8 @@ loop-number-preserved g c =
 
 pub returns : goal.returns
 returns g c e are =
-    let nodes = map g.N.Element.node c.args.nodes.now in
-    let same = length-map c.args.nodes.now g.N.Element.node in
+    let nodes = map g.N.Styled.node c.args.nodes.now in
+    let same = length-map c.args.nodes.now g.N.Styled.node in
     let links = c.requires.links in
     let linked = links.len in
     let all : c.loop-number.number ≡ length c.args.nodes.now = omega arith in

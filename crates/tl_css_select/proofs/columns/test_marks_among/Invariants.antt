@@ -8,5 +8,5 @@ use Rattle.tl_css_select.proofs.columns.test_marks_among.Given as goal
 abbrev pub invariant-loop-number : goal.invariant-loop-number
 invariant-loop-number g l = record {
   len : length l.marks.items ≡ l.number;
-  each : (n : ℕ) → n < l.number → (is_at l.marks.items n ≡ true) ↔ ((is_at l.among n ≡ true) × Holds (map g.N.Element.node l.nodes) (Is (test l.test)) n);
+  each : (n : ℕ) → n < l.number → (is_at l.marks.items n ≡ true) ↔ ((is_at l.among n ≡ true) × Holds (map g.N.Styled.node l.nodes) (Is (test l.test)) n);
 }

@@ -5,8 +5,8 @@ use Rattle.tl_css_select.proofs.columns.unmarked_tags.Goals as goal
 
 pub returns : goal.returns
 returns g c e are =
-    let nodes = map g.N.Element.node c.args.nodes.now in
-    let same = length-map c.args.nodes.now g.N.Element.node in
+    let nodes = map g.N.Styled.node c.args.nodes.now in
+    let same = length-map c.args.nodes.now g.N.Styled.node in
     let all : c.loop-number.number ≡ length c.args.nodes.now = omega arith in
     let len = c.loop-number.invariant.len in
     marks_not nodes e c.args.marks.now c.loop-number.found.items are (omega (arith, all, same, len))

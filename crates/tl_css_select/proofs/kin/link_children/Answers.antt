@@ -6,7 +6,7 @@ use Rattle.tl_css_select.proofs.kin.link_children.Goals as goal
 
 pub loop-place-preserved : goal.loop-place-preserved
 loop-place-preserved g c =
-    let cs = children_of (g.N.Element.node c.args.node.now) in
+    let cs = children_of (g.N.Styled.node c.args.node.now) in
     let place = c.loop-place.place in
     let links = c.loop-place.links.items in
     ap (with_children (drop (place + 1) cs) c.args.parent) c.link_child.ensures

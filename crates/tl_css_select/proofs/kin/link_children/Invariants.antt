@@ -4,4 +4,4 @@ use Rattle.tl_css_select.specs.Kin.{with_children}
 use Rattle.tl_css_select.proofs.kin.link_children.Given as goal
 
 abbrev pub invariant-loop-place : goal.invariant-loop-place
-invariant-loop-place g l = with_children (drop l.place (children_of (g.N.Element.node l.node))) l.parent l.links.items ≡ with_children (children_of (g.N.Element.node l.fn.node)) l.fn.parent l.fn.links.items
+invariant-loop-place g l = with_children (drop l.place (children_of (g.N.Styled.node l.node))) l.parent l.links.items ≡ with_children (children_of (g.N.Styled.node l.fn.node)) l.fn.parent l.fn.links.items

@@ -5,8 +5,8 @@ use Rattle.tl_css_select.proofs.kin.sibling_groups.Goals as goal
 
 pub returns : goal.returns
 returns g c =
-    let nodes = map g.N.Element.node c.args.nodes.now in
-    let same = length-map c.args.nodes.now g.N.Element.node in
+    let nodes = map g.N.Styled.node c.args.nodes.now in
+    let same = length-map c.args.nodes.now g.N.Styled.node in
     let all : c.loop-number.number ≡ length c.args.nodes.now = omega arith in
     let len = c.loop-number.invariant.len in
     let small = c.requires.numbered in

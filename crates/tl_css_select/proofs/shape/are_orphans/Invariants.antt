@@ -4,4 +4,4 @@ use Rattle.tl_css_select.specs.Shape.{are_orphans}
 use Rattle.tl_css_select.proofs.shape.are_orphans.Given as goal
 
 abbrev pub invariant-loop-place : goal.invariant-loop-place
-invariant-loop-place g l = are_orphans l.parents (drop l.place (children_of (g.N.Element.node l.node))) ≡ are_orphans l.parents (children_of (g.N.Element.node l.node))
+invariant-loop-place g l = are_orphans l.parents (drop l.place (children_of (g.N.Styled.node l.node))) ≡ are_orphans l.parents (children_of (g.N.Styled.node l.node))

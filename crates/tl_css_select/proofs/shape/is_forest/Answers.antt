@@ -7,7 +7,7 @@ use Rattle.tl_css_select.proofs.shape.is_forest.Goals as goal
 
 pub returns-then-not-fits_at : goal.returns-then-not-fits_at
 returns-then-not-fits_at g c =
-    let nodes = map g.N.Element.node c.args.nodes.now in
+    let nodes = map g.N.Styled.node c.args.nodes.now in
     let n = c.loop-number.number in
     let at : c.fits_at.result ≡ fits_at nodes c.loop-number.parents.items n = c.fits_at.ensures ∙ ap (λ (ps : List ℕ). fits_at nodes ps n) c.deref.ensures.value in
     let fails : c.fits_at.result ≡ false = search rules in
@@ -15,7 +15,7 @@ returns-then-not-fits_at g c =
 
 pub loop-number-preserved : goal.loop-number-preserved
 loop-number-preserved g c =
-    let nodes = map g.N.Element.node c.args.nodes.now in
+    let nodes = map g.N.Styled.node c.args.nodes.now in
     let n = c.loop-number.number in
     let small = c.requires in
     let at : c.fits_at.result ≡ fits_at nodes c.loop-number.parents.items n = c.fits_at.ensures ∙ ap (λ (ps : List ℕ). fits_at nodes ps n) c.deref.ensures.value in
@@ -25,6 +25,6 @@ loop-number-preserved g c =
 
 pub returns : goal.returns
 returns g c =
-    let nodes = map g.N.Element.node c.args.nodes.now in
-    let all : c.loop-number.number ≡ length nodes = omega (arith, length-map c.args.nodes.now g.N.Element.node) in
+    let nodes = map g.N.Styled.node c.args.nodes.now in
+    let all : c.loop-number.number ≡ length nodes = omega (arith, length-map c.args.nodes.now g.N.Styled.node) in
     (λ e. all_looked nodes c.loop-number.parents.items (subst (λ (number : ℕ). Looked nodes number c.loop-number.parents.items) all c.loop-number.invariant), λ forest. refl)

@@ -4,4 +4,4 @@ use Rattle.tl_css_select.specs.Shape.{rises}
 use Rattle.tl_css_select.proofs.shape.rises.Given as goal
 
 abbrev pub invariant-loop-place : goal.invariant-loop-place
-invariant-loop-place g l = rises l.last l.len (drop l.place (children_of (g.N.Element.node l.node))) ≡ rises l.number l.len (children_of (g.N.Element.node l.node))
+invariant-loop-place g l = rises l.last l.len (drop l.place (children_of (g.N.Styled.node l.node))) ≡ rises l.number l.len (children_of (g.N.Styled.node l.node))

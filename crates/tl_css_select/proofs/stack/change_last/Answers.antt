@@ -6,7 +6,7 @@ use Rattle.tl_css_select.proofs.stack.change_last.Goals as goal
 
 pub returns : goal.returns
 returns g c es are =
-    let nodes = map g.N.Element.node c.args.nodes.now in
+    let nodes = map g.N.Styled.node c.args.nodes.now in
     let l = last_is nodes es c.args.columns.items c.pop.new.self.items c.in-Some.marks c.in-Some.ensures.items are in
     let m = subst (λ (marks : List Bool). AreMarks nodes l.first marks) (sym c.deref.ensures.value) l.marked in
     put_back nodes (change (changed c.args.step.now) es) l.others (changed c.args.step.now l.first) _ _ _ (ap (change (changed c.args.step.now)) l.are)

@@ -7,15 +7,15 @@ use Rattle.tl_css_select.proofs.stack.columns.Goals as goal
 pub loop-step-init : goal.loop-step-init
 loop-step-init g c =
     let none : c.new-columns.result.items ≡ [] = search rules in
-    columns_none (map g.N.Element.node c.args.nodes.now) (columns_of c.new-columns.result.items) (ap columns_of none)
+    columns_none (map g.N.Styled.node c.args.nodes.now) (columns_of c.new-columns.result.items) (ap columns_of none)
 
 pub loop-step-preserved : goal.loop-step-preserved
 loop-step-preserved g c =
-    let nodes = map g.N.Element.node c.args.nodes.now in
+    let nodes = map g.N.Styled.node c.args.nodes.now in
     let steps = c.args.steps.now in
     let i = c.loop-step.step-index in
     columns_next nodes steps i c.step-item.result (columns_of c.in_ok-columns.columns.items) (omega arith) c.step-item.is
     (c.in_ok-columns.ensures (waiting_after (take i steps)) c.loop-step.invariant)
 
 pub returns : goal.returns
-returns g c = columns_end (map g.N.Element.node c.args.nodes.now) c.args.steps.now c.loop-step.step-index (columns_of c.loop-step.columns.items) (omega arith) c.loop-step.invariant
+returns g c = columns_end (map g.N.Styled.node c.args.nodes.now) c.args.steps.now c.loop-step.step-index (columns_of c.loop-step.columns.items) (omega arith) c.loop-step.invariant

@@ -4,7 +4,7 @@ use Rattle.tl_css_select.proofs.stack.count.Goals as goal
 
 pub terms-requires : goal.terms-requires
 terms-requires g c =
-    let nodes = map g.N.Element.node c.args.nodes.now in
+    let nodes = map g.N.Styled.node c.args.nodes.now in
     record {
       forest = c.requires.forest;
       numbered = c.requires.numbered;

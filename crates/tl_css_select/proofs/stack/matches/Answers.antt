@@ -7,7 +7,7 @@ use Rattle.tl_css_select.proofs.stack.matches.Goals as goal
 
 pub numbers-requires : goal.numbers-requires
 numbers-requires g c =
-    let same = length-map c.args.nodes.now g.N.Element.node in
+    let same = length-map c.args.nodes.now g.N.Styled.node in
     let len = c.in_ok-marks.ensures.len in
     let small = c.requires.numbered in
     let value = ap length c.deref.ensures.value in
@@ -15,7 +15,7 @@ numbers-requires g c =
 
 pub returns : goal.returns
 returns g c =
-    let nodes = map g.N.Element.node c.args.nodes.now in
+    let nodes = map g.N.Styled.node c.args.nodes.now in
     let marks = c.in_ok-marks.marks.items in
     let ns = c.in_ok-numbers.numbers.items in
     numbers_found nodes c.args.selector.now marks ns

@@ -5,4 +5,4 @@ use Rattle.tl_css.specs.Meaning.{IsNothing}
 use Rattle.tl_css_select.proofs.styled.is_empty.Given as goal
 
 abbrev pub invariant-loop-place : goal.invariant-loop-place
-invariant-loop-place g l = All (IsNothing (map g.N.Element.node l.nodes)) (take l.place (children_of (g.N.Element.node l.node)))
+invariant-loop-place g l = All (IsNothing (map g.N.Styled.node l.nodes)) (take l.place (children_of (g.N.Styled.node l.node)))

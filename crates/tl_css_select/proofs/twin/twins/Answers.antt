@@ -6,11 +6,11 @@ use Rattle.tl_css_select.proofs.twin.twins.Goals as goal
 
 pub loop-number-init : goal.loop-number-init
 loop-number-init g c =
-    none_twinned (map g.N.Element.node c.args.nodes.now) c.args.siblings.now c.in_ok-links.links.items c.new-latest.result (search rules) (search rules)
+    none_twinned (map g.N.Styled.node c.args.nodes.now) c.args.siblings.now c.in_ok-links.links.items c.new-latest.result (search rules) (search rules)
 
 pub loop-number-preserved : goal.loop-number-preserved
 loop-number-preserved g c =
-    let nodes = map g.N.Element.node c.args.nodes.now in
+    let nodes = map g.N.Styled.node c.args.nodes.now in
     let n = c.loop-number.number in
     let numbered = c.requires.numbered in
     let small : n < no_link = omega (arith, numbered) in
@@ -20,7 +20,7 @@ loop-number-preserved g c =
 
 pub returns : goal.returns
 returns g c =
-    let nodes = map g.N.Element.node c.args.nodes.now in
-    let all : c.loop-number.number ≡ length nodes = omega (arith, length-map c.args.nodes.now g.N.Element.node) in
+    let nodes = map g.N.Styled.node c.args.nodes.now in
+    let all : c.loop-number.number ≡ length nodes = omega (arith, length-map c.args.nodes.now g.N.Styled.node) in
     all_twinned nodes c.args.siblings.now c.loop-number.links.items c.loop-number.latest c.requires.siblings
     (subst (λ (number : ℕ). Twinned nodes c.args.siblings.now number c.loop-number.links.items c.loop-number.latest) all c.loop-number.invariant)

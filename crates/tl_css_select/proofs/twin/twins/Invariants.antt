@@ -3,4 +3,4 @@ use Rattle.tl_css_select.proofs.Twins.{Twinned}
 use Rattle.tl_css_select.proofs.twin.twins.Given as goal
 
 abbrev pub invariant-loop-number : goal.invariant-loop-number
-invariant-loop-number g l = Twinned (map g.N.Element.node l.nodes) l.siblings l.number l.links.items l.latest
+invariant-loop-number g l = Twinned (map g.N.Styled.node l.nodes) l.siblings l.number l.links.items l.latest
