@@ -14,11 +14,12 @@ use Rattle.tl_html_spec.specs.Balanced.{is_button_scope, is_one_of, is_scope, is
 use Rattle.tl_tree_spec.specs.Groups.{Group, a_block, a_break, a_button, a_caption, a_cell, a_column, a_column_group, a_description, a_detail, a_format, a_heading, a_mark, a_nobr, a_paragraph, a_preformatted, a_row, a_ruby_base, a_ruby_text, a_rule, a_table, a_table_body, a_void, an_anchor, an_image, an_item, an_option, any_other, block_names, elsewhere, elsewhere_names, format_names, group, misplaced}
 use Rattle.tl_tree_spec.specs.HtmlTreeBuilder.{is_rtc}
 use Rattle.tl_tree_spec.specs.Stays.{surely_ends}
-use Rattle.tl_safe.specs.Kinds
-use Rattle.tl_safe.specs.Kinds.{Named, kind_among, kind_of, names_of_1, names_of_2, names_of_3, names_of_4, names_of_5, names_of_6, names_of_7, names_of_8, names_of_10, rows_of}
-use Rattle.tl_safe.specs.Lists.{is_among, opaque_names, structural_names}
-use Rattle.tl_safe.specs.declared.kinds.Kind.{Kind}
-use Rattle.tl_safe.specs.declared.kinds.Kind.TheVariants.{Paragraph, Block, LooseBlock, Heading, Preformatted, Item, Description, Anchor, Nobr, Void, Rule, RubyBase, RubyTextContainer, RubyText, Table, Caption, ColumnGroup, Column, TableBody, Row, Cell, Other}
+use Rattle.tl_safe_fit.specs.Kinds
+use Rattle.tl_safe_fit.specs.Kinds.{Named, kind_among, kind_of, names_of_1, names_of_2, names_of_3, names_of_4, names_of_5, names_of_6, names_of_7, names_of_8, names_of_10, rows_of}
+use Rattle.tl_words.specs.Words.{is_among}
+use Rattle.tl_safe.specs.Lists.{opaque_names, structural_names}
+use Rattle.tl_safe_fit.specs.declared.kinds.Kind.{Kind}
+use Rattle.tl_safe_fit.specs.declared.kinds.Kind.TheVariants.{Paragraph, Block, LooseBlock, Heading, Preformatted, Item, Description, Anchor, Nobr, Void, Rule, RubyBase, RubyTextContainer, RubyText, Table, Caption, ColumnGroup, Column, TableBody, Row, Cell, Other}
 use Rattle.tl_safe.proofs.Listed.{other_than}
 
 -- groups that no rule here tells apart

@@ -13,20 +13,23 @@ use Rattle.tl_tree_spec.specs.Builder.{Mode, is_flow, mode_by, mode_of, within}
 use Rattle.tl_tree_spec.specs.Groups.{Group, a_format, group, is_caption_group, is_cell_group, is_column_group, is_column_group_group, is_description, is_description_group, is_heading, is_heading_group, is_implied, is_implied_group, is_item, is_item_group, is_paragraph, is_paragraph_group, is_row, is_row_group, is_table, is_table_body, is_table_body_group, is_table_group}
 use Rattle.tl_tree_spec.specs.HtmlTreeBuilder.{is_rtc}
 use Rattle.tl_tree_spec.specs.Stays.{directly_in, in_p, in_ruby, is_alone, is_mark, is_mark_group, is_preformatted, stands, surely_ends}
-use Rattle.tl_safe.specs.Fitted.{Run, ends, is_closable, is_read, most_open, names_of, part_tag, parts_added, parts_around, room_for, room_here, starts}
-use Rattle.tl_safe.specs.Kinds
-use Rattle.tl_safe.specs.Kinds.{kind_of}
+use Rattle.tl_safe_fit.specs.Levels.{most_open}
+use Rattle.tl_safe.specs.Fitted.{Run, ends, is_closable, is_read, names_of, part_tag, parts_added, parts_around, room_for, room_here, starts}
+use Rattle.tl_safe_fit.specs.Kinds
+use Rattle.tl_safe_fit.specs.Kinds.{kind_of}
 use Rattle.tl_safe.specs.KeptFitted.{adds_of}
-use Rattle.tl_safe.specs.Levels.{has_room, in_either, level_of, level_rooms, missing_parts, outermost_path, parts_of, path_inside}
-use Rattle.tl_safe.specs.Lists.{ListedWords, is_among}
+use Rattle.tl_safe_fit.specs.Levels.{has_room, in_either, level_rooms, missing_parts, outermost_path, path_inside}
+use Rattle.tl_safe.specs.Levels.{level_of, parts_of}
+use Rattle.tl_words.specs.Words.{is_among}
+use Rattle.tl_safe.specs.Lists.{ListedWords}
 use Rattle.tl_safe.specs.Refusals.{are_lawful}
 use Rattle.tl_safe.specs.Runs.{parts_run}
-use Rattle.tl_safe.specs.declared.kinds.Kind.{Kind}
-use Rattle.tl_safe.specs.declared.kinds.Kind.TheVariants.{Paragraph, Block, LooseBlock, Heading, Preformatted, Item, Description, Anchor, Nobr, Void, Rule, RubyBase, RubyTextContainer, RubyText, Ruby, Table, Caption, ColumnGroup, Column, TableBody, Row, Cell, Other}
-use Rattle.tl_safe.specs.declared.levels.Level.{Level}
-use Rattle.tl_safe.specs.declared.levels.Parts.{Parts}
-use Rattle.tl_safe.specs.declared.levels.Path.{Path}
-use Rattle.tl_safe.specs.declared.levels.Rooms.{Rooms}
+use Rattle.tl_safe_fit.specs.declared.kinds.Kind.{Kind}
+use Rattle.tl_safe_fit.specs.declared.kinds.Kind.TheVariants.{Paragraph, Block, LooseBlock, Heading, Preformatted, Item, Description, Anchor, Nobr, Void, Rule, RubyBase, RubyTextContainer, RubyText, Ruby, Table, Caption, ColumnGroup, Column, TableBody, Row, Cell, Other}
+use Rattle.tl_safe_fit.specs.declared.levels.Level.{Level}
+use Rattle.tl_safe_fit.specs.declared.levels.Parts.{Parts}
+use Rattle.tl_safe_fit.specs.declared.levels.Path.{Path}
+use Rattle.tl_safe_fit.specs.declared.levels.Rooms.{Rooms}
 use Rattle.tl_safe.proofs.KindFacts.{IsKind, group_of, kind-IsKind, plain_group}
 use Rattle.tl_safe.proofs.Listed.{listed_tag}
 

@@ -21,7 +21,8 @@ use Rattle.tl_spec.proofs.Print.Identity.{identity, not_command}
 use Rattle.tl_spec.proofs.Print.Ascii.{lossy-ascii}
 use Rattle.tl_spec.proofs.Print.Images.{image-pairs_in_order}
 use Rattle.tl_html_spec.specs.HtmlTokenizer.{Character, EndTag, HtmlToken, StartTag, data_state, tokens_in_page}
-use Rattle.tl_safe.specs.Lists.{ListedWords, is_among}
+use Rattle.tl_words.specs.Words.{is_among}
+use Rattle.tl_safe.specs.Lists.{ListedWords}
 use Rattle.tl_safe.specs.Refusals.{are_lawful}
 use Rattle.tl_safe.specs.Filter.{is_text_byte, kept, is_allowed, is_allowed_value}
 use Rattle.tl_safe.specs.IsSafe.{IsSafe, a_text, a_void_element, an_element, end_of, html_attribute, is_written, nothing, safe_pairs, start_of, text_characters, tokens_of}

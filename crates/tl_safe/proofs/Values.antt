@@ -1,7 +1,7 @@
 -- Values as they are written, with references for `<` and `>`.
 use Rattle.std.proofs.Common.{◌≡◌, ℕ, Bool, true, false, not, ◌||◌, ◌&&◌, ◌==◌, List, [], ◌∷◌, ◌++◌, map, Some, None, codes, refl, ap, ap₂, sym, ◌∙◌, inl, inr, arith, true≢false, cond, if◌then◌else◌}
 use Rattle.std.specs.List.{filter, list_all, list_any, starts_with}
-use Rattle.std.proofs.lemmas.Bool.{and_parts, and_from, cases_Bool, eqb-true, not-true}
+use Rattle.std.proofs.lemmas.Bool.{and_parts, and_from, cases_Bool, eqb-true, not-true, or_cases, or_left, or_right}
 use Rattle.std.proofs.lemmas.Bool.Decides.{nat_tests}
 use Rattle.std.proofs.lemmas.List.Folds.{list_all-append}
 use Rattle.std.specs.Str.Lossy.{utf8_lossy}
@@ -9,7 +9,8 @@ use Rattle.tl_spec.specs.Lex.Attribute.{Pair}
 use Rattle.tl_spec.specs.Print.Normal.{lossy_pair}
 use Rattle.tl_spec.proofs.Lex.Bytes.{AllPass-also, all_pass, passes}
 use Rattle.tl_spec.proofs.Print.Lossy.{lossy-AllPass}
-use Rattle.tl_safe.specs.Lists.{ListedWords, begins_link, is_among, is_beginning_byte, is_link_byte, leads_out, leaves_site}
+use Rattle.tl_words.specs.Words.{is_among}
+use Rattle.tl_safe.specs.Lists.{ListedWords, begins_link, has_no_scheme, is_beginning_byte, is_link_byte, is_relative, is_unschemed, leads_out, leaves_site}
 use Rattle.tl_safe.specs.Refusals.{are_lawful}
 use Rattle.tl_safe.specs.Filter.{is_link, is_own_byte, is_own_name, is_value_byte, naming_keys, is_allowed, is_allowed_value, written_byte, written_pair, written_pairs, written_value}
 use Rattle.tl_safe.specs.IsSafe.{is_written, is_written_byte}
@@ -120,6 +121,52 @@ any-written v (front ∷ fronts) h s =
     either true b e = refl
     either false b e = e
 
+-- relative links
+
+stop_free : (b : ℕ) → ((b == 47) || (b == 63) || (b == 35)) ≡ true → is_written_byte b ≡ true
+stop_free b h = grind (arith, nat_tests)
+
+unschemed_free : (b : ℕ) → is_unschemed b ≡ true → is_written_byte b ≡ true
+unschemed_free b h =
+    let one = and_parts (not (b == 58) && not (b == 38) && not (b == 92) && not (b == 60)) (not (b == 62)) h in
+    let two = and_parts (not (b == 58) && not (b == 38) && not (b == 92)) (not (b == 60)) one.0 in
+    and_from (not (b == 60)) (not (b == 62)) two.1 one.1
+
+-- a byte that is written as it is, at the front
+written-front : (b : ℕ) (v : List ℕ) → is_written_byte b ≡ true → written_value (b ∷ v) ≡ b ∷ written_value v
+written-front b v h =
+    let two = and_parts (not (b == 60)) (not (b == 62)) h in
+    ap₂ (λ x y. written_by x y b ++ written_value v) (not-true (b == 60) two.0) (not-true (b == 62) two.1)
+
+front-free : (b : ℕ) (v : List ℕ) → has_no_scheme (b ∷ v) ≡ true → is_written_byte b ≡ true
+front-free b v h = elim (cases_Bool ((b == 47) || (b == 63) || (b == 35))) [
+  | inl y ↦ stop_free b y
+  | inr n ↦
+      unschemed_free b (and_parts (is_unschemed b) (has_no_scheme v)
+      (sym (ap (λ z. z || (is_unschemed b && has_no_scheme v)) n) ∙ h)).0
+]
+
+no_scheme-written : (v : List ℕ) → has_no_scheme v ≡ true → has_no_scheme (written_value v) ≡ true
+no_scheme-written [] h = refl
+no_scheme-written (b ∷ v) h =
+    ap has_no_scheme (written-front b v (front-free b v h)) ∙ elim (cases_Bool ((b == 47) || (b == 63) || (b == 35))) [
+      | inl y ↦ ap (λ z. z || (is_unschemed b && has_no_scheme (written_value v))) y
+      | inr n ↦
+          (let rest = and_parts (is_unschemed b) (has_no_scheme v) (sym (ap (λ z. z || (is_unschemed b && has_no_scheme v)) n) ∙ h) in
+          ap (λ z. z || (is_unschemed b && has_no_scheme (written_value v))) n
+          ∙ and_from (is_unschemed b) (has_no_scheme (written_value v)) rest.0 (no_scheme-written v rest.1))
+    ]
+
+relative-written : (v : List ℕ) → is_relative v ≡ true → is_relative (written_value v) ≡ true
+relative-written [] h = absurd (true≢false (sym h))
+relative-written (b ∷ v) h =
+    let parts = and_parts (has_no_scheme (b ∷ v)) (not (leaves_site (b ∷ v))) h in
+    let front : written_value (b ∷ v) ≡ b ∷ written_value v = written-front b v (front-free b v parts.0) in
+    ap is_relative front
+    ∙ and_from (has_no_scheme (b ∷ written_value v)) (not (leaves_site (b ∷ written_value v)))
+    (sym (ap has_no_scheme front) ∙ no_scheme-written (b ∷ v) parts.0)
+    (ap not (sym (ap leaves_site front) ∙ leaves-written (b ∷ v)) ∙ parts.1)
+
 -- what is asked of a value is so of the value as it is written
 
 asked-written : (b : Bool) (test : List ℕ → Bool) (v : List ℕ) → (test v ≡ true → test (written_value v) ≡ true) → (not b || test v) ≡ true → (not b || test (written_value v)) ≡ true
@@ -129,8 +176,15 @@ asked-written false test v f h = refl
 module _ (p : ListedWords) (lawful : are_lawful p ≡ true) where
   link-written : (v : List ℕ) → is_link p v ≡ true → is_link p (written_value v) ≡ true
   link-written v h =
-      let parts = and_parts (list_any (begins_link v) p.link_prefixes) (list_all is_link_byte v) h in
-      and_from _ _ (any-written v p.link_prefixes (listed_beginnings p lawful) parts.0) (written-all is_link_byte refl refl v parts.1)
+      let parts = and_parts (list_any (begins_link v) p.link_prefixes || (p.relative_links && is_relative v)) (list_all is_link_byte v) h in
+      and_from (list_any (begins_link (written_value v)) p.link_prefixes || (p.relative_links && is_relative (written_value v))) (list_all is_link_byte (written_value v))
+      (elim (or_cases (list_any (begins_link v) p.link_prefixes) (p.relative_links && is_relative v) parts.0) [
+        | inl y ↦ or_left _ (p.relative_links && is_relative (written_value v)) (any-written v p.link_prefixes (listed_beginnings p lawful) y)
+        | inr y ↦
+            (let both = and_parts p.relative_links (is_relative v) y in
+            or_right (list_any (begins_link (written_value v)) p.link_prefixes) _ (and_from p.relative_links (is_relative (written_value v)) both.0 (relative-written v both.1)))
+      ])
+      (written-all is_link_byte refl refl v parts.1)
 
   own-written : (v : List ℕ) → is_own_name p v ≡ true → is_own_name p (written_value v) ≡ true
   own-written v h = ap (is_own_name p) (own-same v (and_parts _ (list_all is_own_byte v) h).1) ∙ h

@@ -15,18 +15,20 @@ use Rattle.tl_tree_spec.specs.Stays.{is_preformatted}
 use Rattle.tl_safe.specs.Filter.{kept_tag}
 use Rattle.tl_safe.specs.Fitted.{Piece, Place, Run, alone, at_top, element_run, end_tags_to, ends, first_texts, is_empty, part_tag, print_piece, print_pieces, room_for, says, starts, still, tag_run, texts_there}
 use Rattle.tl_safe.specs.KeptFitted.{adds_of}
-use Rattle.tl_safe.specs.Kinds
-use Rattle.tl_safe.specs.Kinds.{kind_of}
-use Rattle.tl_safe.specs.Levels.{has_room, level_inside, level_of, level_rooms, missing_parts, outermost_level, parts_of}
-use Rattle.tl_safe.specs.Lists.{ListedWords, is_among, opaque_names}
+use Rattle.tl_safe_fit.specs.Kinds
+use Rattle.tl_safe_fit.specs.Kinds.{kind_of}
+use Rattle.tl_safe_fit.specs.Levels.{has_room, level_inside, level_rooms, missing_parts, outermost_level}
+use Rattle.tl_safe.specs.Levels.{level_of, parts_of}
+use Rattle.tl_words.specs.Words.{is_among}
+use Rattle.tl_safe.specs.Lists.{ListedWords, opaque_names}
 use Rattle.tl_safe.specs.Policies.{lists_of}
 use Rattle.tl_safe.specs.Runs.{Written, ended, ended_in, kept_run, left, listed_run, opened_in, or_unchanged, part_start, parts_run, text_run, unchanged, unless_void, written}
 use Rattle.tl_safe.specs.Writers.{AreOpen, AreOpenIn, GoesOn, IsLevel, Writes, around_from, around_of, entered, opened_tag, place_of, words_by}
-use Rattle.tl_safe.specs.declared.kinds.Kind.{Kind}
-use Rattle.tl_safe.specs.declared.kinds.Kind.TheVariants.{Preformatted, Column, Row, Cell, Table, TableBody, Void, Rule}
-use Rattle.tl_safe.specs.declared.levels.Level.{Level}
-use Rattle.tl_safe.specs.declared.levels.Parts.{Parts}
-use Rattle.tl_safe.specs.declared.levels.Path.{Path}
+use Rattle.tl_safe_fit.specs.declared.kinds.Kind.{Kind}
+use Rattle.tl_safe_fit.specs.declared.kinds.Kind.TheVariants.{Preformatted, Column, Row, Cell, Table, TableBody, Void, Rule}
+use Rattle.tl_safe_fit.specs.declared.levels.Level.{Level}
+use Rattle.tl_safe_fit.specs.declared.levels.Parts.{Parts}
+use Rattle.tl_safe_fit.specs.declared.levels.Path.{Path}
 use Rattle.tl_safe.specs.declared.writer.Entry.{Entry}
 use Rattle.tl_safe.specs.declared.writer.Entry.TheVariants.{Passed, Opened}
 use Rattle.tl_safe.specs.declared.writer.Open.{Open}
@@ -101,7 +103,7 @@ level-by w p e h k o = record {
 }
 
 pub words-by : (w new : Writer) → new.policy ≡ w.policy → words_by w ≡ words_by new
-words-by w new e = ap (λ policy. lists_of policy.now) (sym e)
+words-by w new e = ap (λ policy. lists_of policy.now.policy.now) (sym e)
 
 place-by : (w : Writer) (p : ListedWords) (around : List PlainTag) (fresh : Bool) → p ≡ words_by w → around_of p w.open.items ≡ around → w.fresh ≡ fresh →
     place_of w ≡ record { around = around; fresh = fresh }
@@ -286,10 +288,10 @@ room-on w new n listed is on wrote here outside =
         × (length (place_of new).around < length around)
     by [] fresh out a h k b e = absurd (true≢false (sym k ∙ h))
     by (own ∷ around) fresh out a h k b e =
-        let one = room-later (words_by w) w.policy.now.lawful n listed own around a h k in (
+        let one = room-later (words_by w) w.policy.now.policy.now.lawful n listed own around a h k in (
           ap₂ (λ (s : List ℕ) (q : Place). written s (room (words_by w) n q)) b e
               ∙ room-one own fresh (record { around = around; fresh = fresh }) (record { around = own ∷ around; fresh = fresh }) out (room_for (adds_of (words_by w)) n around)
-              (sym (outside-room (words_by w) w.policy.now.lawful n listed around a.1) ∙ one.outside)
+              (sym (outside-room (words_by w) w.policy.now.policy.now.lawful n listed around a.1) ∙ one.outside)
               ∙ ap (λ (o : Option Run). written out (or_unchanged (record { around = own ∷ around; fresh = fresh }) o)) (sym one.room),
           ap (λ (q : Place). has_room (level_of (parts_of (words_by w)) q.around).outside (kind_of n)) e ∙ one.outside,
           subst (λ (q : Place). length q.around < suc (length around)) (sym e) (omega arith),
@@ -299,14 +301,14 @@ room-on w new n listed is on wrote here outside =
 pub room-parts : (w : Writer) (n : List ℕ) → is_among (words_by w).tags n ≡ true → IsLevel w → has_room w.level.here (kind_of n) ≡ true →
     room_for (adds_of (words_by w)) n (place_of w).around ≡ Some (parts_run (missing_parts (kind_of n) w.level.path.inner) (place_of w).around)
 room-parts w n listed is here =
-    room-now (words_by w) w.policy.now.lawful n listed (place_of w).around (listed-around w is) (sym (ap (λ (v : Level). has_room v.here (kind_of n)) is.level) ∙ here)
+    room-now (words_by w) w.policy.now.policy.now.lawful n listed (place_of w).around (listed-around w is) (sym (ap (λ (v : Level). has_room v.here (kind_of n)) is.level) ∙ here)
     ∙ ap (λ (v : Level). Some (parts_run (missing_parts (kind_of n) v.path.inner) (place_of w).around)) (sym is.level)
 
 -- whether there is room is what the level says
 pub room-found : (w : Writer) (n : List ℕ) → is_among (words_by w).tags n ≡ true → IsLevel w →
     has_room w.level.outside (kind_of n) ≡ is_some (room_for (adds_of (words_by w)) n (place_of w).around)
 room-found w n listed is =
-    ap (λ (v : Level). has_room v.outside (kind_of n)) is.level ∙ outside-room (words_by w) w.policy.now.lawful n listed (place_of w).around (listed-around w is)
+    ap (λ (v : Level). has_room v.outside (kind_of n)) is.level ∙ outside-room (words_by w) w.policy.now.policy.now.lawful n listed (place_of w).around (listed-around w is)
 
 no_more : (o : Option Run) → is_some o ≡ false → o ≡ None
 no_more None e = refl
@@ -384,7 +386,7 @@ parts-listed w k is h =
     let v : Level = level_of (parts_of (words_by w)) (place_of w).around in
     subst (λ (v : Level). list_all (is_among (words_by w).tags) (missing_parts k v.path.inner) ≡ true) (sym is.level)
     (rooms-listed (words_by w) v.path v.left k
-    (ap (λ r. has_room r k) (sym (here-rooms (words_by w) w.policy.now.lawful (place_of w).around)) ∙ ap (λ (v : Level). has_room v.here k) (sym is.level) ∙ h))
+    (ap (λ r. has_room r k) (sym (here-rooms (words_by w) w.policy.now.policy.now.lawful (place_of w).around)) ∙ ap (λ (v : Level). has_room v.here k) (sym is.level) ∙ h))
 
 -- A listed tag
 
@@ -478,7 +480,7 @@ void-entry w one two own found kind inside listed made some void e g f wrote =
     let r : Run = there.1.0 in
     let tag : PlainTag = kept_tag (words_by w) (plain_node own) in
     let first : Writes w one r = subst (λ (o : Option Run). Writes w one (or_unchanged (place_of w) o)) there.1.1 made.writes in
-    let is_void_name : is_void own.name ≡ true = void-kind (words_by w) w.policy.now.lawful own.name listed ∙ ap Kinds.is_void_kind there.0 ∙ void in
+    let is_void_name : is_void own.name ≡ true = void-kind (words_by w) w.policy.now.policy.now.lawful own.name listed ∙ ap Kinds.is_void_kind there.0 ∙ void in
     let place : place_of two ≡ record { around = r.after.around; fresh = false } =
     same-place one two e g ∙ ap₂ (λ (q : Place) (b : Bool). let place : Place = record { around = q.around; fresh = b } in place) first.place (f ∙ void-no-line kind void) in
     ap₂ (λ (s : List ℕ) (q : Place). written s (unchanged q)) (wrote ∙ ap (λ s. s ++ print_start tag) first.bytes) place
@@ -496,8 +498,8 @@ opened-entry w one two three own found kind count inside listed made some solid 
     let r : Run = there.1.0 in
     let tag : PlainTag = kept_tag (words_by w) (plain_node own) in
     let first : Writes w one r = subst (λ (o : Option Run). Writes w one (or_unchanged (place_of w) o)) there.1.1 made.writes in
-    let no_void : is_void own.name ≡ false = void-kind (words_by w) w.policy.now.lawful own.name listed ∙ ap Kinds.is_void_kind there.0 ∙ solid in
-    let line : two.fresh ≡ is_preformatted (group own.name) = f ∙ sym (preformatted-kind (words_by w) w.policy.now.lawful own.name listed ∙ ap Kinds.is_preformatted there.0) in
+    let no_void : is_void own.name ≡ false = void-kind (words_by w) w.policy.now.policy.now.lawful own.name listed ∙ ap Kinds.is_void_kind there.0 ∙ solid in
+    let line : two.fresh ≡ is_preformatted (group own.name) = f ∙ sym (preformatted-kind (words_by w) w.policy.now.policy.now.lawful own.name listed ∙ ap Kinds.is_preformatted there.0) in
     let around : (place_of two).around ≡ r.after.around = ap (λ (q : Place). q.around) (same-place one two e g) ∙ ap (λ (q : Place). q.around) first.place in
     let inner : Place = record { around = tag ∷ r.after.around; fresh = is_preformatted (group own.name) } in
     let place : place_of three ≡ inner =
@@ -575,7 +577,7 @@ pub texts-at : (w : Writer) → IsLevel w → (bytes : List ℕ) (flow fresh : B
     ≡ (if flow then (if fresh then first_texts bytes else bytes ∷ []) else (if fresh then [] else filter is_ascii_whitespace bytes ∷ []))
 texts-at w is bytes flow fresh e f =
     ap₂ (λ x y. if x then (if y then first_texts bytes else bytes ∷ []) else (if y then [] else filter is_ascii_whitespace bytes ∷ []))
-    (flow-level (words_by w) w.policy.now.lawful (place_of w).around (listed-around w is) ∙ sym (ap (λ (v : Level). v.path.flow) is.level) ∙ e) f
+    (flow-level (words_by w) w.policy.now.policy.now.lawful (place_of w).around (listed-around w is) ∙ sym (ap (λ (v : Level). v.path.flow) is.level) ∙ e) f
 
 -- a loop that makes room goes on
 pub record RoomFurther (first w new : Writer) (n : List ℕ) : Type 0 where

@@ -7,7 +7,8 @@ use Rattle.tl_spec.specs.Lex.AttributeList.{PlainAttributes}
 use Rattle.tl_spec.specs.Lex.ByteClass.{is_among_in_any_case, is_void}
 use Rattle.tl_spec.specs.Tree.Forest.{Forest, none, text, comment, tag, PlainTag, forest, plain}
 use Rattle.tl_spec.specs.Lex.Token.{tokens}
-use Rattle.tl_safe.specs.Lists.{ListedWords, begins_link, is_among, is_link_byte, opaque_names}
+use Rattle.tl_words.specs.Words.{is_among}
+use Rattle.tl_safe.specs.Lists.{ListedWords, begins_link, is_link_byte, is_relative, opaque_names}
 
 -- a byte that stays in a text: no `<`, and neither 0 nor 27, with which a text of another character
 -- set begins
@@ -18,9 +19,12 @@ is_text_byte b = not (b == 60) && not (b == 0) && not (b == 27)
 abbrev pub is_value_byte : ℕ → Bool
 is_value_byte b = not (b == 34) && not (b == 0) && not (b == 27)
 
--- a value that begins as the policy lets links begin, of printable ASCII alone
+-- a value that begins as the policy lets links begin, or is a relative link where it lets these
+-- stand, of printable ASCII alone
 abbrev pub is_link : ListedWords → List ℕ → Bool
-is_link p value = list_any (begins_link value) p.link_prefixes && list_all is_link_byte value
+is_link p value =
+    (list_any (begins_link value) p.link_prefixes || (p.relative_links && is_relative value))
+    && list_all is_link_byte value
 
 -- the keys whose values others refer to
 abbrev pub naming_keys : List (List ℕ)

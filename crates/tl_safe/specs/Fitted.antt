@@ -17,6 +17,7 @@ use Rattle.tl_html_spec.specs.Escapes.{escaped_text, text_escape}
 use Rattle.tl_tree_spec.specs.Builder.{is_flow, mode_of}
 use Rattle.tl_tree_spec.specs.Groups.{Group, a_cell, a_column, a_row, group, is_caption, is_cell, is_column_group, is_implied, is_row, is_table, is_table_body}
 use Rattle.tl_tree_spec.specs.Stays.{directly_in, is_alone, is_preformatted, may_stand}
+use Rattle.tl_safe_fit.specs.Levels.{most_open}
 use Rattle.tl_safe.specs.IsSafe.{text_characters}
 
 -- what is written of trees, in order
@@ -44,10 +45,6 @@ names_of [] = codes "html" ∷ []
 names_of (own ∷ around) = own.name ∷ names_of around
 
 -- Tags
-
--- the most elements that are open at once: browsers put none deeper than 512
-abbrev pub most_open : ℕ
-most_open = 400
 
 -- whether a tag is read inside elements of these names, the innermost first: it may stand there,
 -- has an end tag exactly where the standard reads one, and is not too deep

@@ -6,7 +6,6 @@ pub mod KeptFitted
 pub mod Rows
 pub mod HtmlTrees
 pub mod Names
-pub mod Kinds
 pub mod Levels
 pub mod Runs
 pub mod Writers

@@ -1,6 +1,6 @@
 -- Words as values, and what is asked of them.
-use Rattle.std.specs.Prelude.{ℕ, Bool, List, map, Option}
-use Rattle.std.specs.Borrow.{Bor}
+use Rattle.std.specs.Prelude.{ℕ, Bool, List, Option}
+pub use Rattle.tl_words.specs.Words.{words_of}
 use Rattle.tl_safe.specs.Lists.{ListedWords, is_beginning_byte, is_key_byte, is_link_byte, is_tag_byte}
 use Rattle.std.specs.Char.{is_ascii_whitespace}
 use Rattle.tl_safe.specs.Filter.{is_own_byte, is_text_byte}
@@ -13,10 +13,6 @@ use Rattle.tl_safe.specs.declared.refusal.Role.TheVariants.{Tag, Key, LinkPrefix
 use Rattle.tl_safe.specs.declared.names.ByteClass.{ByteClass}
 use Rattle.tl_safe.specs.declared.names.ByteClass.TheVariants.{TagName, AttributeKey, Link, OfBeginning, OwnName, Text, Space, WrittenAnew}
 
--- lent words as lists of bytes
-abbrev pub words_of : List (Bor (List ℕ)) → List (List ℕ)
-words_of words = map (λ w. w.now) words
-
 -- the words of lists
 abbrev pub listed_words : Lists → ListedWords
 listed_words lists = record {
@@ -24,6 +20,7 @@ listed_words lists = record {
   keys = words_of lists.keys.now;
   link_keys = words_of lists.link_keys.now;
   link_prefixes = words_of lists.link_prefixes.now;
+  relative_links = lists.relative_links;
   id_prefix = lists.id_prefix.now;
 }
 

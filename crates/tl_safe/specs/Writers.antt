@@ -6,7 +6,8 @@ use Rattle.tl.specs.View.{tag_view}
 use Rattle.tl_safe.specs.Filter.{kept_tag}
 use Rattle.tl_safe.specs.Fitted.{Place, Run, part_tag, print_pieces}
 use Rattle.tl_safe.specs.Levels.{level_of, parts_of}
-use Rattle.tl_safe.specs.Lists.{ListedWords, is_among}
+use Rattle.tl_words.specs.Words.{is_among}
+use Rattle.tl_safe.specs.Lists.{ListedWords}
 use Rattle.tl_safe.specs.Policies.{lists_of}
 use Rattle.tl_safe.specs.Runs.{Written, left, unchanged, written}
 use Rattle.tl_safe.specs.declared.writer.Entry.{Entry}
@@ -43,7 +44,7 @@ module _ (p : ListedWords) where
 
 -- the words that a writer goes by
 abbrev pub words_by : Writer → ListedWords
-words_by w = lists_of w.policy.now
+words_by w = lists_of w.policy.now.policy.now
 
 -- where what follows is written
 abbrev pub place_of : Writer → Place

@@ -5,7 +5,7 @@ ghost use Rattle.tl_safe.specs.Policies.{lists_of};
 ghost use Rattle.tl_safe.specs.Writes.{pair_of};
 
 use crate::names::{
-    ByteClass, all_have_class, begins_link, is_among, is_naming_key, is_whole_value,
+    ByteClass, all_have_class, begins_link, is_among, is_naming_key, is_relative, is_whole_value,
 };
 use crate::policy::Policy;
 use tl::Bytes;
@@ -14,7 +14,9 @@ use tl::Bytes;
 fn is_link(policy: &Policy<'_>, value: &[u8]) -> bool
     ensures { result ≡ is_link (lists_of policy.now) value.now }
 {
-    begins_link(policy.lists.link_prefixes, value) && all_have_class(ByteClass::Link, value)
+    (begins_link(policy.lists.link_prefixes, value)
+        || (policy.lists.relative_links && is_relative(value)))
+        && all_have_class(ByteClass::Link, value)
 }
 
 // Whether a value is one word with the prefix.

@@ -1,7 +1,7 @@
 //! Laws of the definitions.
 
 ghost use Rattle.std.specs.Prelude.{◌≡◌, ℕ, List, Some, true, false};
-ghost use Rattle.std.specs.List.{list_any};
+ghost use Rattle.std.specs.List.{list_all, list_any};
 ghost use Rattle.tl_spec.specs.Print.Clean.{HaveOwnKeys};
 ghost use Rattle.tl_spec.specs.Tree.Forest.{Forest, PlainTag};
 ghost use Rattle.tl_spec.specs.Print.Normal.{ReadsAs, norm};
@@ -13,7 +13,7 @@ ghost use Rattle.tl_safe.specs.HtmlTrees.{as_html};
 ghost use Rattle.tl_safe.specs.IsSafe.{IsSafe, tokens_of, value_characters};
 ghost use Rattle.tl_safe.specs.Filter.{is_link, kept, written_value};
 ghost use Rattle.tl_safe.specs.KeptFitted.{adds_of, kept_fitted};
-ghost use Rattle.tl_safe.specs.Lists.{ListedWords, leaves_site};
+ghost use Rattle.tl_safe.specs.Lists.{ListedWords, has_no_scheme, is_link_byte, is_relative, leaves_site};
 ghost use Rattle.tl_safe.specs.Refusals.{are_lawful};
 
 /// A value says the same as it is written: with references for its `<` and `>`, and with those that
@@ -32,6 +32,16 @@ pub fn links_stay_within_the_site()
         list_any leaves_site p.link_prefixes ≡ false →
         (value : List ℕ) → is_link p value ≡ true →
         leaves_site (value_characters value) ≡ false }
+{}
+
+/// A relative link is one with its references read too: no scheme stands at its front, and it does
+/// not name another host.
+#[tactic(auto, using(crate::proofs::Links::relative_said, crate::proofs::Links::relative_within))]
+pub fn relative_links_stay_beside_the_page()
+    ensures scheme { (value : List ℕ) → list_all is_link_byte value ≡ true →
+        is_relative value ≡ true → has_no_scheme (value_characters value) ≡ true }
+    ensures host { (value : List ℕ) → list_all is_link_byte value ≡ true →
+        is_relative value ≡ true → leaves_site (value_characters value) ≡ false }
 {}
 
 /// The print of what a lawful policy keeps of trees, made to stay: it is safe, `tl` reads it as

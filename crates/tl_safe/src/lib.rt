@@ -15,9 +15,8 @@ ghost use Rattle.tl_safe.specs.Policies.{kept_fitted_of, lists_of};
 
 mod filter;
 mod fitted_rows;
-mod kinds;
+mod indexed;
 pub mod laws;
-mod levels;
 mod lists;
 mod names;
 mod policy;
@@ -27,6 +26,7 @@ mod walk;
 mod write;
 mod writer;
 
+use indexed::IndexedPolicy;
 pub use lists::Lists;
 pub use policy::Policy;
 pub use refusal::{PolicyError, Reason};
@@ -42,7 +42,8 @@ fn print_kept(alloc: Global, policy: &Policy<'_>, page: &str) -> Result<String, 
         string_bytes safe ≡ print (kept_fitted_of policy.now page.now)) }
 {
     let document = parse(alloc, page, ParserOptions::new())?;
-    let mut writer = Writer::new(alloc, policy);
+    let indexed = IndexedPolicy::new(alloc, &*policy)?;
+    let mut writer = Writer::new(alloc, &indexed);
     write_row(alloc, document.nodes(), document.children(), &mut writer)?;
     let text = writer.into_text()?;
     Ok(text)

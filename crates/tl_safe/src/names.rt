@@ -4,8 +4,10 @@ ghost use Rattle.std.specs.List.{list_all, list_any};
 ghost use Rattle.tl_spec.specs.Lex.ByteClass.{is_among_in_any_case};
 ghost use Rattle.tl_safe.specs.Filter.{is_text_byte, is_value_byte, naming_keys};
 ghost use Rattle.tl_safe.specs.IsSafe.{is_written_byte};
-ghost use Rattle.tl_safe.specs.Lists.{active_keys, structural_names, begins_link, begins_path, begins_with_any, has_colon, has_scheme, is_among, is_link_byte, is_word_of, leads_out, leaves_site, opaque_names};
-ghost use Rattle.tl_safe.specs.Names.{has_class, words_of};
+ghost use Rattle.tl_words.specs.Words.{is_among};
+ghost use Rattle.tl_safe.specs.Lists.{active_keys, structural_names, begins_link, begins_path, begins_with_any, has_colon, has_no_scheme, has_scheme, is_link_byte, is_relative, is_unschemed, is_word_of, leads_out, leaves_site, opaque_names};
+ghost use Rattle.tl_words.specs.Words.{words_of};
+ghost use Rattle.tl_safe.specs.Names.{has_class};
 
 use memchr::{memchr2, memchr3};
 use tl_bytes::ascii_case::is_among_in_any_case;
@@ -241,6 +243,38 @@ pub(crate) fn begins_link(fronts: &[&str], link: &[u8]) -> bool
         }
     }
     false
+}
+
+// Whether no scheme stands at the front of a link.
+fn has_no_scheme(link: &[u8]) -> bool
+    ensures { result ≡ has_no_scheme link.now }
+{
+    for byte in link {
+        if *byte == b'/' || *byte == b'?' || *byte == b'#' {
+            return true;
+        }
+        if !is_unschemed(*byte) {
+            return false;
+        }
+    }
+    true
+}
+
+// Whether a byte at the front of a link makes no scheme of it.
+fn is_unschemed(byte: u8) -> bool
+    ensures { result ≡ is_unschemed byte }
+{
+    byte != b':' && byte != b'&' && byte != b'\\' && byte != b'<' && byte != b'>'
+}
+
+// Whether a link is looked for beside the page that it stands in.
+pub(crate) fn is_relative(link: &[u8]) -> bool
+    ensures { result ≡ is_relative link.now }
+{
+    match link {
+        [] => false,
+        _ => has_no_scheme(link) && !leaves_site(link),
+    }
 }
 
 // Whether others refer to the values of a key.

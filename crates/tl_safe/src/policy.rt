@@ -17,7 +17,7 @@ impl<'w> Policy<'w> {
     ghost use Rattle.std.specs.Prelude.{◌≡◌, IfOk};
     ghost use Rattle.std.specs.Option.{option_map};
     ghost use Rattle.std.specs.Result.{result_err};
-    ghost use Rattle.tl_safe.specs.Lists.{blog_lists};
+    ghost use Rattle.tl_safe.specs.Lists.{blog_lists, comment_lists, document_lists};
     ghost use Rattle.tl_safe.specs.Policies.{lists_of};
     ghost use Rattle.tl_safe.specs.Refusals.{first_refusal, refusal_of};
 
@@ -42,6 +42,24 @@ impl<'w> Policy<'w> {
         ensures { lists_of result ≡ blog_lists }
     {
         Policy { lists: Lists::BLOG }
+    }
+
+    /// The policy for comments of readers: that of `Lists::COMMENTS`.
+    pub fn comments() -> Policy<'static>
+        ensures { lists_of result ≡ comment_lists }
+    {
+        Policy {
+            lists: Lists::COMMENTS,
+        }
+    }
+
+    /// The policy for documents with tables and pictures: that of `Lists::DOCUMENTS`.
+    pub fn documents() -> Policy<'static>
+        ensures { lists_of result ≡ document_lists }
+    {
+        Policy {
+            lists: Lists::DOCUMENTS,
+        }
     }
 
     /// What it lists.

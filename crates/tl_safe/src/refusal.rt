@@ -2,7 +2,8 @@
 ghost use Rattle.std.specs.Prelude.{◌≡◌, ◌∷◌, []};
 ghost use Rattle.std.specs.Option.{option_map};
 ghost use Rattle.tl_safe.specs.Refusals.{first_refusal, first_refused, key_reason, link_reason, prefix_reason, refusal_of, tag_reason};
-ghost use Rattle.tl_safe.specs.Names.{listed_words, reason_in, words_of};
+ghost use Rattle.tl_words.specs.Words.{words_of};
+ghost use Rattle.tl_safe.specs.Names.{listed_words, reason_in};
 
 use crate::lists::Lists;
 use crate::names::{

@@ -53,7 +53,7 @@ fn visit_tag<'s, 'a>(
     node: &'s Node<'a>,
     tag: &'s HTMLTag<'a>,
     frames: &mut Vec<Frame<'s, 'a>>,
-    writer: &mut Writer<'_, 's, 'a>,
+    writer: &mut Writer<'_, '_, 's, 'a>,
 ) -> Result<(), AllocError>
     requires is_level { IsLevel writer.old }
     requires node { node_view node.now ≡ TagOf (tag_view tag.now) }
@@ -79,7 +79,7 @@ fn visit<'s, 'a>(
     nodes: &'s [Node<'a>],
     number: u32,
     frames: &mut Vec<Frame<'s, 'a>>,
-    writer: &mut Writer<'_, 's, 'a>,
+    writer: &mut Writer<'_, '_, 's, 'a>,
 ) -> Result<(), AllocError>
     requires { IsLevel writer.old }
     ensures goes_on { OnOk result (GoesOn writer.old writer.new) }
@@ -118,7 +118,7 @@ fn advance<'s, 'a>(
     nodes: &'s [Node<'a>],
     frame: Frame<'s, 'a>,
     frames: &mut Vec<Frame<'s, 'a>>,
-    writer: &mut Writer<'_, 's, 'a>,
+    writer: &mut Writer<'_, '_, 's, 'a>,
 ) -> Result<(), AllocError>
     requires rising { ChildrenFollowParents (map node_view nodes.now) }
     requires is_level { IsLevel writer.old }
@@ -147,7 +147,7 @@ fn finish<'s, 'a>(
     alloc: Global,
     nodes: &'s [Node<'a>],
     frames: &mut Vec<Frame<'s, 'a>>,
-    writer: &mut Writer<'_, 's, 'a>,
+    writer: &mut Writer<'_, '_, 's, 'a>,
 ) -> Result<(), AllocError>
     requires rising { ChildrenFollowParents (map node_view nodes.now) }
     requires is_level { IsLevel writer.old }
@@ -168,7 +168,7 @@ pub(crate) fn write_row<'s, 'a>(
     alloc: Global,
     nodes: &'s [Node<'a>],
     handles: &[NodeHandle],
-    writer: &mut Writer<'_, 's, 'a>,
+    writer: &mut Writer<'_, '_, 's, 'a>,
 ) -> Result<(), AllocError>
     requires rising { ChildrenFollowParents (map node_view nodes.now) }
     requires is_level { IsLevel writer.old }

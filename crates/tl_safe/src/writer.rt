@@ -4,19 +4,16 @@ ghost use Rattle.std.specs.List.{filter};
 ghost use Rattle.tl.specs.View.{tag_view};
 ghost use Rattle.tl_safe.specs.Filter.{is_text_byte};
 ghost use Rattle.tl_safe.specs.Fitted.{Place, Run, at_top, end_tags_to, print_pieces};
-ghost use Rattle.tl_safe.specs.Kinds.{kind_of};
-ghost use Rattle.tl_safe.specs.Levels.{has_room, missing_parts, parts_of};
-ghost use Rattle.tl_safe.specs.Lists.{is_among};
+ghost use Rattle.tl_safe_fit.specs.Kinds.{kind_of};
+ghost use Rattle.tl_safe_fit.specs.Levels.{has_room, missing_parts};
+ghost use Rattle.tl_safe.specs.Levels.{parts_of};
+ghost use Rattle.tl_words.specs.Words.{is_among};
 ghost use Rattle.tl_safe.specs.Policies.{lists_of};
 ghost use Rattle.tl_safe.specs.Runs.{ended, kept_run, left, listed_run, opened_in, or_unchanged, part_start, parts_run, room_at, text_run, unchanged, unless_void};
 ghost use Rattle.tl_safe.specs.Writers.{GoesOn, IsLevel, Writes, entered, opened_tag, place_of, with_more, words_by};
 
-use crate::kinds::{Kind, is_preformatted, is_void_kind, kind_of};
-use crate::levels::{
-    Level, Parts, has_room_here, has_room_outside, level_inside, missing_parts, outermost_level,
-};
-use crate::names::{is_among, is_opaque};
-use crate::policy::Policy;
+use crate::indexed::IndexedPolicy;
+use crate::names::is_opaque;
 use crate::preformatted::write_first;
 use crate::write::{
     write_end, write_name_end, write_name_start, write_spaces, write_start, write_text,
@@ -24,6 +21,10 @@ use crate::write::{
 use std::alloc::{AllocError, Global};
 use tl::HTMLTag;
 use tl_lexer::names::is_void;
+use tl_safe_fit::{
+    Kind, Level, Parts, has_room_here, has_room_outside, is_preformatted, is_void_kind, kind_of,
+    level_inside, missing_parts, outermost_level,
+};
 
 // What an element was opened for: a tag of the page, or a part of a table that was missing.
 #[derive(Clone, Copy)]
@@ -51,8 +52,8 @@ pub(crate) enum Entry {
 // The text so far, the elements that are open at its end, the innermost last, with the level inside
 // of them, and whether nothing stands yet in an innermost one that drops a line feed there.
 #[derive(Drop)]
-pub(crate) struct Writer<'p, 's, 'a> {
-    policy: &'p Policy<'p>,
+pub(crate) struct Writer<'p, 'w, 's, 'a> {
+    policy: &'p IndexedPolicy<'w>,
     parts: Parts,
     out: String,
     open: Vec<Open<'s, 'a>>,
@@ -61,14 +62,13 @@ pub(crate) struct Writer<'p, 's, 'a> {
 }
 
 // The parts of tables that a policy lists.
-fn listed_parts(policy: &Policy<'_>) -> Parts
-    ensures { result ≡ parts_of (lists_of policy.now) }
+fn listed_parts(policy: &IndexedPolicy<'_>) -> Parts
+    ensures { result ≡ parts_of (lists_of policy.now.policy.now) }
 {
-    let tags = policy.lists.tags;
     Parts {
-        column_group: is_among(tags, b"colgroup".as_slice()),
-        table_body: is_among(tags, b"tbody".as_slice()),
-        row: is_among(tags, b"tr".as_slice()),
+        column_group: policy.lists_tag(b"colgroup".as_slice()),
+        table_body: policy.lists_tag(b"tbody".as_slice()),
+        row: policy.lists_tag(b"tr".as_slice()),
     }
 }
 
@@ -84,9 +84,9 @@ fn entry_without_room(name: &[u8]) -> Entry
     }
 }
 
-impl<'p, 's, 'a> Writer<'p, 's, 'a> {
+impl<'p, 'w, 's, 'a> Writer<'p, 'w, 's, 'a> {
     // Nothing is written yet.
-    pub(crate) fn new(alloc: Global, policy: &'p Policy<'p>) -> Writer<'p, 's, 'a>
+    pub(crate) fn new(alloc: Global, policy: &'p IndexedPolicy<'w>) -> Writer<'p, 'w, 's, 'a>
         ensures policy { result.policy ≡ policy.entry }
         ensures is_level { IsLevel result }
         ensures place { place_of result ≡ at_top }
@@ -231,7 +231,7 @@ impl<'p, 's, 'a> Writer<'p, 's, 'a> {
         let Some(kind) = self.make_room(name)? else {
             return Ok(entry_without_room(name));
         };
-        write_start(alloc, self.policy, tag, &mut self.out)?;
+        write_start(alloc, self.policy.policy, tag, &mut self.out)?;
         self.fresh = is_preformatted(kind);
         if is_void_kind(kind) {
             return Ok(Entry::Passed);
@@ -253,8 +253,8 @@ impl<'p, 's, 'a> Writer<'p, 's, 'a> {
             with_more self.new (entered entry inside)
             ≡ with_more self.old (kept_run (words_by self.old) (tag_view tag.now) inside)) }
     {
-        let (name, policy) = (tag.name().as_bytes(), self.policy);
-        if is_among(policy.lists.tags, name) {
+        let name = tag.name().as_bytes();
+        if self.policy.lists_tag(name) {
             return self.open_listed(alloc, tag);
         }
         Ok(if is_opaque(name) {

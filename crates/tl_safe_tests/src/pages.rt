@@ -278,8 +278,47 @@ static TABLES_AND_VIDEOS: Lists<'static> = Lists {
     keys: &["data-x", "src", "id"],
     link_keys: &["src"],
     link_prefixes: &["ftp:", "./"],
+    relative_links: false,
     id_prefix: "v",
 };
+
+// Links beside the page, by the policy for documents.
+#[rattlefmt::skip]
+static RELATIVE_ROWS: [(&str, &str); 15] = [
+    ("<img src=x.png>", "<img src=\"x.png\">"),
+    ("<img src=\"a/b.png?c=d&amp;e#f\">", "<img src=\"a/b.png?c=d&amp;e#f\">"),
+    ("<a href=\"?q=a:b\">x</a>", "<a href=\"?q=a:b\">x</a>"),
+    ("<a href=\"x/y:z\">w</a>", "<a href=\"x/y:z\">w</a>"),
+    ("<a href=\"x/<y>\">z</a>", "<a href=\"x/&lt;y&gt;\">z</a>"),
+    ("<a href=\"x:y\">z</a>", "<a>z</a>"),
+    ("<a href=\"javascript:x()\">z</a>", "<a>z</a>"),
+    ("<a href=\"javascript&colon;x()\">z</a>", "<a>z</a>"),
+    ("<a href=\"java&Tab;script:x()\">z</a>", "<a>z</a>"),
+    ("<a href=\"//host/x\">y</a>", "<a>y</a>"),
+    ("<a href=\"/\\host\">y</a>", "<a>y</a>"),
+    ("<a href=\"\\\\host/x\">y</a>", "<a>y</a>"),
+    ("<a href=\"/&Tab;/host\">y</a>", "<a>y</a>"),
+    ("<a href=\"\">y</a>", "<a>y</a>"),
+    ("<a href=\" x\">y</a>", "<a>y</a>"),
+];
+
+// Tables and parts of documents.
+#[rattlefmt::skip]
+static DOCUMENT_ROWS: [(&str, &str); 3] = [
+    ("<section><h2>x</h2><form>y</form></section>", "<section><h2>x</h2>y</section>"),
+    ("<main><table><tr><td colspan=2>x", "<main><table><tbody><tr><td colspan=\"2\">x</td></tr></tbody></table></main>"),
+    ("<article><p>x</article>", "<article><p>x</p></article>"),
+];
+
+// Comments of readers.
+#[rattlefmt::skip]
+static READER_ROWS: [(&str, &str); 5] = [
+    ("<h1>x</h1><p>y<img src=\"https://e/x\"><em>z</em></p>", "x<p>y<em>z</em></p>"),
+    ("<a href=\"https://e/x\" class=\"user-a\" id=\"user-b\">x</a>", "<a href=\"https://e/x\">x</a>"),
+    ("<a href=\"mailto:x@e\">x</a>", "<a>x</a>"),
+    ("<a href=\"/x\">x</a>", "<a>x</a>"),
+    ("<a href=\"x\">x</a>", "<a>x</a>"),
+];
 
 // Tags that end others, and that may not stand in one another.
 #[rattlefmt::skip]
@@ -424,6 +463,22 @@ fn pages_by_another_policy(rt: HostRuntime) {
         Ok(policy) => run(&rt, &policy, &OTHER_ROWS),
         Err(error) => assert!(rt; false, "{error}"),
     }
+}
+
+#[test]
+fn links_beside_the_page(rt: HostRuntime) {
+    run(&rt, &Policy::documents(), &RELATIVE_ROWS);
+    run(&rt, &Policy::blog(), &[("<img src=x.png>", "<img>")]);
+}
+
+#[test]
+fn documents(rt: HostRuntime) {
+    run(&rt, &Policy::documents(), &DOCUMENT_ROWS);
+}
+
+#[test]
+fn comments_of_readers(rt: HostRuntime) {
+    run(&rt, &Policy::comments(), &READER_ROWS);
 }
 
 #[test]

@@ -109,4 +109,6 @@ fn lists_of_the_page(rt: HostRuntime) {
     assert!(rt; Policy::blog().lists() == Lists::BLOG);
     assert!(rt; Policy::new(Lists::BLOG) == Ok(Policy::blog()));
     assert!(rt; Lists::BLOG.tags.len() == 49);
+    assert!(rt; Policy::new(Lists::COMMENTS) == Ok(Policy::comments()));
+    assert!(rt; Policy::new(Lists::DOCUMENTS) == Ok(Policy::documents()));
 }

@@ -1,4 +1,4 @@
-use Rattle.std.proofs.Common.{map, ap, ap₂, subst}
+use Rattle.std.proofs.Common.{map, ap, ap₂, subst, ◌∙◌}
 use Rattle.tl.specs.View.{node_view}
 use Rattle.tl_safe.specs.Policies.{lists_of}
 use Rattle.tl_safe.specs.Runs.{row_run}
@@ -17,7 +17,7 @@ pub returns-clause-prints : goal.returns-clause-prints
 returns-clause-prints c =
     let first : Writer = c.new-writer.result in
     page-text c.args.policy.now c.in_ok-document.document c.args.page.now first c.write_row.new.writer _ c.in_ok-document.ensures.document
-    (ap (λ policy. lists_of policy.now) c.new-writer.ensures.policy) c.new-writer.ensures.place c.new-writer.ensures.out
+    (ap (λ q. lists_of q.now.policy.now) c.new-writer.ensures.policy ∙ ap (λ q. lists_of q.now) c.in_ok-indexed.ensures) c.new-writer.ensures.place c.new-writer.ensures.out
     (subst (λ r. Writes first c.write_row.new.writer r)
     (ap₂ (λ ns hs. row_run (words_by first) (map node_view ns) hs (place_of first)) c.nodes.ensures.value c.children.ensures)
     c.in_ok-write_row.ensures.writes)

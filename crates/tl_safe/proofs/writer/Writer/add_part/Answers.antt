@@ -1,5 +1,5 @@
 use Rattle.std.proofs.Common.{refl, ap, ◌∙◌}
-use Rattle.tl_safe.specs.Kinds.{kind_of}
+use Rattle.tl_safe_fit.specs.Kinds.{kind_of}
 use Rattle.tl_safe.specs.declared.writer.Writer.{Writer}
 use Rattle.tl_safe.proofs.WriterFacts.{goes-further, part-written, same-open}
 use Rattle.tl_safe.proofs.writer.Writer.add_part.Goals as goal

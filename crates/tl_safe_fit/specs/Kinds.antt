@@ -2,9 +2,9 @@
 use Rattle.std.specs.Prelude.{ℕ, Bool, true, false, ◌==◌, List, [], ◌∷◌, length, map, if◌then◌else◌}
 use Rattle.std.specs.Borrow.{Bor}
 use Rattle.std.specs.Str.{bytes_eq}
-use Rattle.tl_safe.specs.declared.kinds.Kind.{Kind}
-use Rattle.tl_safe.specs.declared.kinds.Kind.TheVariants.{Paragraph, Block, Heading, Preformatted, Item, Description, Anchor, Nobr, Void, Rule, RubyBase, RubyTextContainer, RubyText, Ruby, Table, Caption, ColumnGroup, Column, TableBody, Row, Cell, Other}
-use Rattle.tl_safe.specs.declared.kinds.TheConstants.{NAMES_OF_1, NAMES_OF_2, NAMES_OF_3, NAMES_OF_4, NAMES_OF_5, NAMES_OF_6, NAMES_OF_7, NAMES_OF_8, NAMES_OF_10}
+use Rattle.tl_safe_fit.specs.declared.kinds.Kind.{Kind}
+use Rattle.tl_safe_fit.specs.declared.kinds.Kind.TheVariants.{Paragraph, Block, Heading, Preformatted, Item, Description, Anchor, Nobr, Void, Rule, RubyBase, RubyTextContainer, RubyText, Ruby, Table, Caption, ColumnGroup, Column, TableBody, Row, Cell, Other}
+use Rattle.tl_safe_fit.specs.declared.kinds.TheConstants.{NAMES_OF_1, NAMES_OF_2, NAMES_OF_3, NAMES_OF_4, NAMES_OF_5, NAMES_OF_6, NAMES_OF_7, NAMES_OF_8, NAMES_OF_10}
 
 -- a name, and its kind
 abbrev pub Named : Type 0

@@ -1,50 +1,56 @@
 //! The kinds of elements: what the tree builder of the HTML standard tells apart of the names that
 //! a policy may list.
 ghost use Rattle.std.specs.Prelude.{◌≡◌};
-ghost use Rattle.tl_safe.specs.Kinds.{is_preformatted, is_void_kind, kind_among, kind_of, named, rows_of};
+ghost use Rattle.tl_safe_fit.specs.Kinds.{is_preformatted, is_void_kind, kind_among, kind_of, named, rows_of};
 
-// The kinds. A name of no other kind is `Other`.
+/// The kinds. A name of no other kind is `Other`.
 #[derive(Clone, Copy)]
-pub(crate) enum Kind {
-    // `p`
+pub enum Kind {
+    /// `p`
     Paragraph,
-    // a block that bounds the search for an open item, and one that does not
+    /// A block that bounds the search for an open item.
     Block,
+    /// A block that doesn't.
     LooseBlock,
-    // `h1` .. `h6`
+    /// `h1` to `h6`
     Heading,
-    // `pre`, `listing`
+    /// `pre`, `listing`
     Preformatted,
-    // `li`
+    /// `li`
     Item,
-    // `dd`, `dt`
+    /// `dd`, `dt`
     Description,
-    // `a`
+    /// `a`
     Anchor,
+    /// `nobr`
     Nobr,
-    // void elements that may stand anywhere
+    /// Void elements that may stand anywhere.
     Void,
-    // `hr`
+    /// `hr`
     Rule,
-    // `rb`
+    /// `rb`
     RubyBase,
-    // `rtc`
+    /// `rtc`
     RubyTextContainer,
-    // `rp`, `rt`
+    /// `rp`, `rt`
     RubyText,
+    /// `ruby`
     Ruby,
+    /// `table`
     Table,
+    /// `caption`
     Caption,
-    // `colgroup`
+    /// `colgroup`
     ColumnGroup,
-    // `col`
+    /// `col`
     Column,
-    // `tbody`, `tfoot`, `thead`
+    /// `tbody`, `tfoot`, `thead`
     TableBody,
-    // `tr`
+    /// `tr`
     Row,
-    // `td`, `th`
+    /// `td`, `th`
     Cell,
+    /// A name that no rule speaks of.
     Other,
 }
 
@@ -128,22 +134,22 @@ fn kind_among(rows: &[(&str, Kind)], name: &[u8]) -> Kind
     Kind::Other
 }
 
-// The kind of an element of a name that a policy may list.
-pub(crate) fn kind_of(name: &[u8]) -> Kind
+/// The kind of an element of a name that a policy may list.
+pub fn kind_of(name: &[u8]) -> Kind
     ensures { result ≡ kind_of name.now }
 {
     kind_among(rows_of(name.len()), name)
 }
 
-// Whether a line feed is dropped at the front of an element of a kind.
-pub(crate) fn is_preformatted(kind: Kind) -> bool
+/// Whether a line feed is dropped at the front of an element of a kind.
+pub fn is_preformatted(kind: Kind) -> bool
     ensures { result ≡ is_preformatted kind }
 {
     matches!(kind, Kind::Preformatted)
 }
 
-// Whether an element of a kind has no end tag.
-pub(crate) fn is_void_kind(kind: Kind) -> bool
+/// Whether an element of a kind has no end tag.
+pub fn is_void_kind(kind: Kind) -> bool
     ensures { result ≡ is_void_kind kind }
 {
     matches!(kind, Kind::Void | Kind::Rule | Kind::Column)

@@ -1,66 +1,67 @@
 //! What open elements say of the tags that may stand inside of them.
 ghost use Rattle.std.specs.Prelude.{◌≡◌};
-ghost use Rattle.tl_safe.specs.Kinds.{bounds_scope, ends_items, is_anchor, is_closable, is_column_group, is_description, is_flow_inside, is_heading, is_implied, is_implied_in_container, is_item, is_mark, is_nobr, is_paragraph, is_row, is_ruby, is_table, is_table_body};
-ghost use Rattle.tl_safe.specs.Levels.{has_room, in_either, level_inside, level_rooms, missing_parts, outermost_level, path_inside};
-ghost use Rattle.tl_safe.specs.Names.{words_of};
+ghost use Rattle.tl_safe_fit.specs.Kinds.{bounds_scope, ends_items, is_anchor, is_closable, is_column_group, is_description, is_flow_inside, is_heading, is_implied, is_implied_in_container, is_item, is_mark, is_nobr, is_paragraph, is_row, is_ruby, is_table, is_table_body};
+ghost use Rattle.tl_safe_fit.specs.Levels.{has_room, in_either, level_inside, level_rooms, missing_parts, outermost_level, path_inside};
+ghost use Rattle.tl_words.specs.Words.{words_of};
 
 use crate::kinds::Kind;
 
 // The most elements that are open at once: browsers put none deeper than 512.
 const MOST_OPEN: usize = 400;
 
-// Which parts of tables are added where they are missing.
+/// Which parts of tables are added where they are missing.
 #[derive(Clone, Copy)]
-pub(crate) struct Parts {
-    pub(crate) column_group: bool,
-    pub(crate) table_body: bool,
-    pub(crate) row: bool,
+pub struct Parts {
+    pub column_group: bool,
+    pub table_body: bool,
+    pub row: bool,
 }
 
-// The elements that are open, as far as tags look at them.
+/// The elements that are open, as far as tags look at them.
 #[derive(Clone, Copy)]
-pub(crate) struct Path {
-    // the kind of the innermost one
-    pub(crate) inner: Kind,
-    // whether the rules are those of "in body"
-    pub(crate) flow: bool,
-    // whether one of a kind is found before one that ends the search for it
-    paragraph: bool,
-    item: bool,
-    description: bool,
-    anchor: bool,
-    nobr: bool,
-    ruby: bool,
+pub struct Path {
+    /// The kind of the innermost one.
+    pub inner: Kind,
+    /// Whether the rules are those of "in body".
+    pub flow: bool,
+    /// Whether a `p` is found before one that ends the search for it, and so below.
+    pub paragraph: bool,
+    pub item: bool,
+    pub description: bool,
+    pub anchor: bool,
+    pub nobr: bool,
+    pub ruby: bool,
 }
 
-// Whether there is room for a tag, by its kind.
+/// Whether there is room for a tag, by its kind.
 #[derive(Clone, Copy)]
-struct Rooms {
-    flow: bool,
-    block: bool,
-    heading: bool,
-    item: bool,
-    description: bool,
-    anchor: bool,
-    nobr: bool,
-    ruby_base: bool,
-    ruby_text: bool,
-    // `caption`, `colgroup`, `tbody`
-    part: bool,
-    column: bool,
-    row: bool,
-    cell: bool,
+pub struct Rooms {
+    pub flow: bool,
+    pub block: bool,
+    pub heading: bool,
+    pub item: bool,
+    pub description: bool,
+    pub anchor: bool,
+    pub nobr: bool,
+    pub ruby_base: bool,
+    pub ruby_text: bool,
+    /// `caption`, `colgroup`, `tbody`
+    pub part: bool,
+    pub column: bool,
+    pub row: bool,
+    pub cell: bool,
 }
 
-// A place inside of open elements.
+/// A place inside of open elements.
 #[derive(Clone, Copy)]
-pub(crate) struct Level {
-    pub(crate) path: Path,
-    // how many more may be open
-    left: usize,
-    here: Rooms,
-    // the same once elements are ended whose end tags may be left out
-    outside: Rooms,
+pub struct Level {
+    pub path: Path,
+    /// How many more may be open.
+    pub left: usize,
+    /// What there is room for.
+    pub here: Rooms,
+    /// The same once elements are ended whose end tags may be left out.
+    pub outside: Rooms,
 }
 
 fn bounds_scope(kind: Kind) -> bool
@@ -230,8 +231,8 @@ fn has_room(rooms: &Rooms, kind: Kind) -> bool
     }
 }
 
-// The level outside of all elements.
-pub(crate) fn outermost_level(parts: Parts) -> Level
+/// The level outside of all elements.
+pub fn outermost_level(parts: Parts) -> Level
     ensures { result ≡ outermost_level parts }
 {
     let path = Path {
@@ -253,8 +254,8 @@ pub(crate) fn outermost_level(parts: Parts) -> Level
     }
 }
 
-// The level inside an element of a kind.
-pub(crate) fn level_inside(parts: Parts, level: &Level, kind: Kind) -> Level
+/// The level inside an element of a kind.
+pub fn level_inside(parts: Parts, level: &Level, kind: Kind) -> Level
     ensures { result ≡ level_inside parts level.now kind }
 {
     let path = path_inside(&level.path, kind);
@@ -273,9 +274,9 @@ pub(crate) fn level_inside(parts: Parts, level: &Level, kind: Kind) -> Level
     }
 }
 
-// The parts of tables that are missing around an element of a kind, inside an innermost one of
-// another: the outermost first.
-pub(crate) fn missing_parts(kind: Kind, inner: Kind) -> &'static [&'static str]
+/// The parts of tables that are missing around an element of a kind, inside an innermost one of
+/// another: the outermost first.
+pub fn missing_parts(kind: Kind, inner: Kind) -> &'static [&'static str]
     ensures { words_of result.now ≡ missing_parts kind inner }
 {
     match (kind, inner) {
@@ -287,15 +288,15 @@ pub(crate) fn missing_parts(kind: Kind, inner: Kind) -> &'static [&'static str]
     }
 }
 
-// Whether a tag of a kind may stand here.
-pub(crate) fn has_room_here(level: &Level, kind: Kind) -> bool
+/// Whether a tag of a kind may stand here.
+pub fn has_room_here(level: &Level, kind: Kind) -> bool
     ensures { result ≡ has_room level.now.here kind }
 {
     has_room(&level.here, kind)
 }
 
-// Whether it may once elements are ended whose end tags may be left out.
-pub(crate) fn has_room_outside(level: &Level, kind: Kind) -> bool
+/// Whether it may once elements are ended whose end tags may be left out.
+pub fn has_room_outside(level: &Level, kind: Kind) -> bool
     ensures { result ≡ has_room level.now.outside kind }
 {
     has_room(&level.outside, kind)

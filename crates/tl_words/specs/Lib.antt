@@ -1,0 +1,4 @@
+pub mod Words
+pub mod Linked
+pub mod Rows
+pub mod Indexed
