@@ -1,0 +1,62 @@
+-- Which encoding a page is in, and the text that its bytes stand for.
+use Rattle.std.specs.Prelude.{ℕ, Bool, ◌||◌, List, [], ◌∷◌, Option, Some, None, Result, Ok, Err, encode_utf8, flat_map, map, nat_eq, if◌then◌else◌}
+use Rattle.std.specs.List.{starts_with}
+use Rattle.std.specs.Str.{is_utf8}
+use Rattle.tl_spec.specs.Lex.ByteClass.{is_among_in_any_case}
+use Rattle.tl_html_spec.specs.References.{windows_1252}
+use Rattle.tl_encoding.specs.Charset.{charset_of}
+use Rattle.tl_encoding.specs.declared.labels.TheConstants.{UTF_8, WINDOWS_1252}
+use Rattle.tl_encoding.specs.declared.encoding.Encoding.{Encoding}
+use Rattle.tl_encoding.specs.declared.encoding.Encoding.TheVariants.{Utf8, Windows1252}
+use Rattle.tl_encoding.specs.declared.encoding.EncodingError.{EncodingError}
+use Rattle.tl_encoding.specs.declared.encoding.EncodingError.TheVariants.{Utf16, Unknown}
+
+-- the encoding of a label, by the lists of the code
+abbrev pub encoding_labelled : List ℕ → Option Encoding
+encoding_labelled label =
+    if is_among_in_any_case (map (λ own. own.now) UTF_8) label then Some Utf8
+    else if is_among_in_any_case (map (λ own. own.now) WINDOWS_1252) label then Some Windows1252
+    else None
+
+-- what there is to say of a page: its encoding, or why it is in none that is read
+pub data Answer : Type 0 where
+  known : Encoding → Answer
+  utf_16 : Answer
+  unknown : List ℕ → Answer
+
+abbrev pub answer_of : Result Encoding EncodingError → Answer
+answer_of (Ok encoding) = known encoding
+answer_of (Err Utf16) = utf_16
+answer_of (Err (Unknown label)) = unknown label.now
+
+-- the encoding of a label, or that there is none
+abbrev pub known_or : Option Encoding → List ℕ → Answer
+known_or None label = unknown label
+known_or (Some encoding) label = known encoding
+
+abbrev pub labelled : Option (List ℕ) → Answer
+labelled None = known Utf8
+labelled (Some label) = known_or (encoding_labelled label) label
+
+-- what a page says in itself, and UTF-8 if it says nothing
+abbrev pub encoding_said : List ℕ → Answer
+encoding_said page = labelled (charset_of page)
+
+abbrev pub begins : List ℕ → List ℕ → Bool
+begins mark page = starts_with nat_eq page mark
+
+abbrev pub has_utf_16_mark : List ℕ → Bool
+has_utf_16_mark page = begins (0xFE ∷ 0xFF ∷ []) page || begins (0xFF ∷ 0xFE ∷ []) page
+
+-- a byte-order mark counts first, then that the page is UTF-8, then what it says
+abbrev pub encoding_in : List ℕ → Answer
+encoding_in page =
+    if has_utf_16_mark page then utf_16
+    else if begins (0xEF ∷ 0xBB ∷ 0xBF ∷ []) page then known Utf8
+    else if is_utf8 page then known Utf8
+    else encoding_said page
+
+-- the text of bytes in an encoding
+abbrev pub decoded : Encoding → List ℕ → List ℕ
+decoded Utf8 bytes = bytes
+decoded Windows1252 bytes = flat_map (λ b. encode_utf8 (windows_1252 b)) bytes

@@ -1,0 +1,111 @@
+//! Encodings, and which one a page is in.
+ghost use Rattle.std.specs.Prelude.{◌≡◌, ◌∷◌, []};
+ghost use Rattle.std.specs.Str.{is_utf8};
+ghost use Rattle.tl_encoding.specs.Encodings.{answer_of, begins, encoding_in, encoding_labelled, encoding_said, has_utf_16_mark};
+
+use crate::charset::charset_of;
+use crate::labels::{UTF_8, WINDOWS_1252};
+use bstr::ByteSlice;
+use std::error::Error;
+use std::fmt;
+use tl_bytes::ascii_case::is_among_in_any_case;
+
+/// How bytes stand for characters.
+#[derive(Clone, Copy, PartialEq, Eq, Debug)]
+pub enum Encoding {
+    Utf8,
+    /// Also what pages mean that say ISO-8859-1, Latin-1 or US-ASCII.
+    Windows1252,
+}
+
+/// Why a page is in no encoding that is read.
+#[derive(Clone, Copy, PartialEq, Eq, Debug)]
+pub enum EncodingError<'p> {
+    /// It begins with the byte-order mark of UTF-16.
+    Utf16,
+    /// It says another one, by this label.
+    Unknown(&'p [u8]),
+}
+
+impl fmt::Display for EncodingError<'_> {
+    fn fmt<W: fmt::Write>(&self, f: &mut fmt::Formatter<W>) -> fmt::Result {
+        match self {
+            EncodingError::Utf16 => write!(f, "UTF-16 is not read"),
+            EncodingError::Unknown(label) => {
+                let label = label.as_bstr();
+                write!(f, "the encoding `{label}` is not read")
+            }
+        }
+    }
+}
+
+impl Error for EncodingError<'_> {}
+
+impl Encoding {
+    /// The encoding of a label of the encoding standard, in any case.
+    pub fn from_label(label: &[u8]) -> Option<Encoding>
+        ensures { result ≡ encoding_labelled label.now }
+    {
+        if is_among_in_any_case(&UTF_8, label) {
+            Some(Encoding::Utf8)
+        } else if is_among_in_any_case(&WINDOWS_1252, label) {
+            Some(Encoding::Windows1252)
+        } else {
+            None
+        }
+    }
+}
+
+// The encoding that a page says in itself; else it has to be UTF-8.
+fn encoding_said(page: &[u8]) -> Result<Encoding, EncodingError<'_>>
+    ensures { answer_of result ≡ encoding_said page.now }
+{
+    let Some(label) = charset_of(page) else {
+        return Ok(Encoding::Utf8);
+    };
+    match Encoding::from_label(label) {
+        Some(encoding) => Ok(encoding),
+        None => Err(EncodingError::Unknown(label)),
+    }
+}
+
+// Whether a page begins with the byte-order mark of UTF-16.
+fn has_utf_16_mark(page: &[u8]) -> bool
+    ensures { result ≡ has_utf_16_mark page.now }
+{
+    page.starts_with(b"\xFE\xFF") || page.starts_with(b"\xFF\xFE")
+}
+
+// Whether a page begins with that of UTF-8.
+fn has_utf_8_mark(page: &[u8]) -> bool
+    ensures { result ≡ begins (0xEF ∷ 0xBB ∷ 0xBF ∷ []) page.now }
+{
+    page.starts_with(b"\xEF\xBB\xBF")
+}
+
+#[tactic(auto, using(crate::proofs::Said::is_text, crate::proofs::Said::is_no_text))]
+fn is_utf_8(page: &[u8]) -> bool
+    ensures { result ≡ is_utf8 page.now }
+{
+    match simdutf8::compat::from_utf8(page) {
+        Ok(_) => true,
+        Err(_) => false,
+    }
+}
+
+/// The encoding of a page: that of its byte-order mark, else UTF-8 if it is that, else what it says
+/// in a tag `meta` among its first 1,024 bytes, and UTF-8 if it says nothing.
+pub fn encoding_of(page: &[u8]) -> Result<Encoding, EncodingError<'_>>
+    ensures { answer_of result ≡ encoding_in page.now }
+{
+    if has_utf_16_mark(page) {
+        return Err(EncodingError::Utf16);
+    }
+    if has_utf_8_mark(page) {
+        return Ok(Encoding::Utf8);
+    }
+    if is_utf_8(page) {
+        return Ok(Encoding::Utf8);
+    }
+    encoding_said(page)
+}
