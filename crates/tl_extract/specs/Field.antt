@@ -3,6 +3,7 @@ use Rattle.std.specs.Prelude.{◌≡◌, ℕ, List, [], ◌∷◌, slice_get, Op
 use Rattle.std.specs.Fmt.{decimal}
 use Rattle.std.specs.Option.{option_map_or, option_flatten}
 use Rattle.std.specs.Str.Lossy.{utf8_lossy}
+use Rattle.tl_html_spec.specs.Unescaped.{unescaped_text, unescaped_value}
 use Rattle.tl_spec.specs.Tree.Document.{Node}
 use Rattle.tl_spec.specs.Tree.Element.{attribute_of}
 use Rattle.tl_spec.specs.Print.{inner_html, outer_html}
@@ -11,7 +12,7 @@ use Rattle.tl_spec.specs.Select.Text.{IsSelectorText}
 use Rattle.tl_spec.specs.Print.Text.{inner_text}
 use Rattle.tl_page.specs.Outcome.{Outcome, not_understood, outcome_map, outcome_of, refused, success}
 use Rattle.tl_extract.specs.declared.field.Field.{Field}
-use Rattle.tl_extract.specs.declared.field.Field.TheVariants.{Number, OuterHtml, InnerHtml, InnerText, Attribute}
+use Rattle.tl_extract.specs.declared.field.Field.TheVariants.{Number, OuterHtml, InnerHtml, InnerText, Attribute, Characters, Value}
 
 -- the text stands for no selector
 abbrev pub IsNoSelector : List ℕ → Type 0
@@ -28,6 +29,12 @@ field_of InnerText nodes n node =
     outcome_map (λ text. Some text) (outcome_of (inner_text nodes node))
 field_of (Attribute key) nodes n node =
     success (option_map utf8_lossy (option_flatten (attribute_of key.now node)))
+field_of Characters nodes n node =
+    outcome_map (λ text. Some (utf8_lossy (unescaped_text text)))
+    (outcome_of (inner_text nodes node))
+field_of (Value key) nodes n node =
+    success (option_map (λ value. utf8_lossy (unescaped_value value))
+    (option_flatten (attribute_of key.now node)))
 
 -- the field of the node of a number; none past the table
 abbrev pub field_at : Field → List Node → ℕ → Outcome (Option (List ℕ))

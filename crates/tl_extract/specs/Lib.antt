@@ -4,3 +4,4 @@ pub mod Outline
 pub mod Split
 pub mod Readable
 pub mod Flow
+pub mod Spelling

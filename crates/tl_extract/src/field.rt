@@ -2,17 +2,19 @@
 ghost use Rattle.std.specs.Prelude.{◌≡◌, IfOk, ℕ, List, None, Ok, Option, Result, Some, map, option_map, string_bytes};
 ghost use Rattle.std.specs.Option.{option_flatten};
 ghost use Rattle.std.specs.Str.Lossy.{utf8_lossy};
+ghost use Rattle.tl_html_spec.specs.Unescaped.{unescaped_text};
 ghost use Rattle.tl_spec.specs.Tree.Element.{attribute_of};
 ghost use Rattle.tl_spec.specs.Walk.{TreeFault};
 ghost use Rattle.tl_table.specs.Answer.{Answers};
-ghost use Rattle.tl.specs.View.{node_view};
+ghost use Rattle.tl.specs.View.{document_of, node_view};
 ghost use Rattle.tl_page.specs.Outcome.{Gives, outcome_map, outcome_of, success};
 ghost use Rattle.tl_extract.specs.Field.{field_at, field_of};
+ghost use Rattle.tl_extract.specs.Spelling.{said_value};
 
-use crate::lossy_text::add_lossy;
+use crate::spelling::Spelling;
 use std::alloc::{AllocError, Global};
 use tl::errors::TreeError;
-use tl::{Element, Node, NodeHandle, Parser};
+use tl::{Element, Node, NodeHandle, Parser, VDom};
 use tl_page::Failure;
 
 /// What is asked of a node where a selector holds.
@@ -28,26 +30,27 @@ pub enum Field<'k> {
     InnerText,
     /// Its value at a key, where it has one.
     Attribute(&'k str),
-}
-
-// Bytes as text.
-fn text_of(alloc: Global, bytes: &[u8]) -> Result<String, AllocError>
-    ensures { IfOk result (λ text. string_bytes text ≡ utf8_lossy bytes.now) }
-{
-    let mut text = String::new(alloc);
-    add_lossy(&mut text, bytes)?;
-    Ok(text)
+    /// What the texts at or below it say.
+    Characters,
+    /// What its value at a key says, where it has one.
+    Value(&'k str),
 }
 
 // The value of a node at a key as text.
-fn value(alloc: Global, node: &Node<'_>, key: &str) -> Result<Option<String>, AllocError>
+fn value(
+    alloc: Global,
+    node: &Node<'_>,
+    key: &str,
+    spelling: Spelling,
+) -> Result<Option<String>, AllocError>
     ensures value { let value = option_flatten (attribute_of key.now (node_view node.now)) in
-        IfOk result (λ text. option_map string_bytes text ≡ option_map utf8_lossy value) }
+        IfOk result (λ text. option_map string_bytes text
+        ≡ option_map (λ bytes. utf8_lossy (said_value spelling bytes)) value) }
     ensures none { option_flatten (attribute_of key.now (node_view node.now)) ≡ None
         → result ≡ Ok None }
 {
     match node.attribute(key.as_bytes()) {
-        Some(Some(value)) => Ok(Some(text_of(alloc, value)?)),
+        Some(Some(value)) => Ok(Some(spelling.value(alloc, value)?)),
         _ => Ok(None),
     }
 }
@@ -59,6 +62,16 @@ fn optional_text(reading: Result<String, TreeError>) -> Result<Option<String>, F
         → Gives (option_map string_bytes) (outcome_map (λ text. Some text) (outcome_of of)) result }
 {
     Ok(Some(reading?))
+}
+
+// What a text says that was read.
+#[tactic(auto, using(tl_page::proofs::Outcomes::readings))]
+fn characters(alloc: Global, reading: Result<String, TreeError>) -> Result<Option<String>, Failure>
+    ensures { (of : Result (List ℕ) TreeFault) → Answers string_bytes of reading
+        → Gives (option_map string_bytes)
+        (outcome_map (λ text. Some (utf8_lossy (unescaped_text text))) (outcome_of of)) result }
+{
+    Ok(Some(Spelling::Decoded.written(alloc, reading?)?))
 }
 
 // The field of a node; none where it has no such value.
@@ -80,12 +93,14 @@ fn field_of<'a>(
         Field::OuterHtml => optional_text(node.outer_html(alloc, parser)),
         Field::InnerHtml => optional_text(node.inner_html(alloc, parser)),
         Field::InnerText => optional_text(node.inner_text(alloc, parser)),
-        Field::Attribute(key) => Ok(value(alloc, node, key)?),
+        Field::Attribute(key) => Ok(value(alloc, node, key, Spelling::Raw)?),
+        Field::Characters => characters(alloc, node.inner_text(alloc, parser)),
+        Field::Value(key) => Ok(value(alloc, node, key, Spelling::Decoded)?),
     }
 }
 
 /// The field of the node of a handle; none past the table.
-pub(crate) fn field_at(
+pub(crate) fn field_in(
     alloc: Global,
     parser: &Parser<'_>,
     handle: NodeHandle,
@@ -102,4 +117,22 @@ pub(crate) fn field_at(
         Some(node) => field_of(alloc, parser, handle, node, field),
         None => Ok(None),
     }
+}
+
+/// The field of the node of a number, as selectors of CSS give them: none where the node has no
+/// such value, and past the table.
+pub fn field_at(
+    alloc: Global,
+    document: &VDom<'_>,
+    number: u32,
+    field: &Field<'_>,
+) -> Result<Option<String>, Failure>
+    ensures gives { Gives (option_map string_bytes)
+        (field_at field.now (document_of document.now).nodes number) result }
+
+    // Where there is none it takes no memory.
+    ensures none { field_at field.now (document_of document.now).nodes number ≡ success None
+        → result ≡ Ok None }
+{
+    field_in(alloc, document.parser(), NodeHandle::new(number), field)
 }

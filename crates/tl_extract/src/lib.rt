@@ -9,12 +9,14 @@ mod listing;
 mod lossy_text;
 mod number;
 mod selection;
+mod spelling;
 mod split;
 mod text;
 
-pub use field::Field;
+pub use field::{Field, field_at};
 pub use link::links;
 pub use listing::outline;
 pub use number::count;
 pub use selection::{Selection, first, select};
+pub use spelling::Spelling;
 pub use text::readable;

@@ -1,9 +1,9 @@
 //! Bytes as text.
-ghost use Rattle.std.specs.Prelude.{◌≡◌, ◌++◌, OnOk, string_bytes};
+ghost use Rattle.std.specs.Prelude.{◌≡◌, ◌++◌, IfOk, OnOk, string_bytes};
 ghost use Rattle.std.specs.Str.Lossy.{utf8_lossy};
 
 use bstr::ByteSlice;
-use std::alloc::AllocError;
+use std::alloc::{AllocError, Global};
 
 /// Adds bytes as text, with a replacement character where they are no UTF-8.
 pub(crate) fn add_lossy(out: &mut String, bytes: &[u8]) -> Result<(), AllocError>
@@ -11,4 +11,13 @@ pub(crate) fn add_lossy(out: &mut String, bytes: &[u8]) -> Result<(), AllocError
 {
     bytes.to_str_lossy_into(out)?;
     Ok(())
+}
+
+/// Bytes as text.
+pub(crate) fn lossy_text(alloc: Global, bytes: &[u8]) -> Result<String, AllocError>
+    ensures { IfOk result (λ text. string_bytes text ≡ utf8_lossy bytes.now) }
+{
+    let mut text = String::new(alloc);
+    add_lossy(&mut text, bytes)?;
+    Ok(text)
 }

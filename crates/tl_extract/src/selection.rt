@@ -10,7 +10,7 @@ ghost use Rattle.tl_page.specs.Outcome.{Gives, YieldsOutcome, refused, success};
 ghost use Rattle.tl_page.specs.declared.failure.Failure.TheVariants.{Refused};
 ghost use Rattle.tl_extract.specs.Field.{IsNoSelector, fields, first_field};
 
-use crate::field::{Field, field_at};
+use crate::field::{Field, field_in};
 use std::alloc::Global;
 use std::iter::FusedIterator;
 use std::marker::Model;
@@ -50,7 +50,7 @@ fn next_field(
         YieldsOutcome string_bytes (left found.old) result (left found.new) }
 {
     while let Some(handle) = found.next() {
-        match field_at(alloc, parser, handle, field) {
+        match field_in(alloc, parser, handle, field) {
             Ok(Some(text)) => return Some(Ok(text)),
             Ok(None) => {}
             Err(failure) => return Some(Err(failure)),
@@ -116,7 +116,7 @@ fn first_field(
         → result ≡ Ok None }
 {
     match found.next() {
-        Some(handle) => field_at(alloc, parser, handle, field),
+        Some(handle) => field_in(alloc, parser, handle, field),
         None => Ok(None),
     }
 }

@@ -6,6 +6,8 @@ mod fields;
 #[cfg(test)]
 mod pages;
 #[cfg(test)]
+mod spellings;
+#[cfg(test)]
 mod texts;
 #[cfg(test)]
 mod walks;

@@ -1,7 +1,7 @@
 //! What is written of documents: their outline, and their text line by line.
 use std::alloc::Global;
 use tl::ParserOptions;
-use tl_extract::{outline, readable};
+use tl_extract::{Spelling, outline, readable};
 use tl_page::{Failure, read};
 
 #[rattlefmt::skip]
@@ -55,7 +55,7 @@ static OUTLINES: [(&str, &str); 5] = [
 // Whether the outline of a page is this.
 fn has_outline(alloc: Global, page: &str, lines: &str) -> Result<bool, Failure> {
     let document = read(alloc, page.as_bytes(), ParserOptions::new())?;
-    Ok(outline(alloc, &document)?.as_str() == lines)
+    Ok(outline(alloc, &document, Spelling::Raw)?.as_str() == lines)
 }
 
 #[test]

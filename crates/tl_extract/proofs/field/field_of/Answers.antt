@@ -9,3 +9,6 @@ returns-in-InnerHtml-clause-gives c = rw c.in-InnerHtml.is (c.optional_text-in-I
 
 pub returns-in-InnerText-clause-gives : goal.returns-in-InnerText-clause-gives
 returns-in-InnerText-clause-gives c = rw c.in-InnerText.is (c.optional_text-in-InnerText.ensures _ (search rules))
+
+pub returns-in-Characters-clause-gives : goal.returns-in-Characters-clause-gives
+returns-in-Characters-clause-gives c = rw c.in-Characters.is (c.characters.ensures _ (search rules))
