@@ -9,6 +9,10 @@ The first of README.md, and of docs/COMMANDS.md:
   $ printf '<p onclick=f()>x<script>y</script><a href="javascript:f()">z' | tl sanitize
   <p>x<a>z</a></p> (no-eol)
 
+  $ printf '<UL><LI><A HREF=/x>Bread &amp; butter</A><LI>3 < 4' | tl select -t li
+  Bread & butter
+  3 < 4
+
 README.md, Try it:
 
   $ printf '<nav><a href="/x">y</a></nav>' | tl select -a href 'nav a'
@@ -29,6 +33,26 @@ docs/COMMANDS.md, `tl`:
   $ printf '<p onclick="f()">x<!-- y --></p>' >comment.html
   $ tl sanitize comment.html
   <p>x</p> (no-eol)
+
+How pages are read:
+
+  $ printf '<UL><LI><A HREF=/x @click="f()">Bread &amp; butter</A><LI>3 < 4' >list.html
+  $ tl select -t li list.html
+  Bread & butter
+  3 < 4
+  $ tl select -a @click a list.html
+  f()
+  $ tl select --raw a list.html
+  <a href="/x" +40click="f()">Bread &amp; butter</a>
+
+Selectors:
+
+  $ printf '<p><img src="d.png"><img src=e.gif></p>' >shelf
+  $ tl select -a src 'p > img[src$=".png"]' shelf
+  d.png
+  $ tl select 'p:hover' none none
+  tl: no selector: at byte 2: no such pseudo-class: `hover` (a page has no states) (err)
+  [2]
 
 Safe pages:
 

@@ -32,9 +32,9 @@ Each command, and each option of `select`.
   $ tl select -1a href p <page
   [1]
   $ printf '<p id=x b a="y&" class=c>d<b>e\042</b></p>' | tl select --json 'p, b'
-  [{"attributes":{"a":"y&","b":null,"class":"c","id":"x"},"name":"p","node":0,"text":"de\""},{"attributes":{},"name":"b","node":2,"text":"e\""}]
-  $ printf a | tl select --json '*'
-  [{"attributes":{},"name":null,"node":0,"text":"a"}]
+  [{"attributes":{"a":"y&","b":"","class":"c","id":"x"},"name":"p","node":0,"text":"de\""},{"attributes":{},"name":"b","node":2,"text":"e\""}]
+  $ printf 'a<!--b--><i>' | tl select --json '*'
+  [{"attributes":{},"name":"i","node":2,"text":""}]
   $ tl links <page
   i.png
   j.png 2x
@@ -66,7 +66,7 @@ Each command, and each option of `select`.
   $ tl print
   $ tl select --json -0 b <page
   [{"attributes":{},"name":"b","node":2,"text":"y"}]\x00 (esc) (no-eol)
-  $ printf '<p =1>' | tl select -a '' p
+  $ printf '<p =1>' | tl select --as-is -a '' p
   1
   $ printf '<p>a<b> b' | tl text --no-name
   a b (no-eol)
@@ -75,9 +75,9 @@ Each command, and each option of `select`.
   $ printf '<select><option>A</option><option>B' | tl text -w
   A
   B
-  $ printf "$(printf '<!doctype html\360\237\230\2000')" | tl text -w
+  $ printf "$(printf '<!doctype html\360\237\230\2000')" | tl text --as-is -w
   ���0
-  $ printf "$(printf '<!doctype html\360\237\230\2000')" | tl outline
+  $ printf "$(printf '<!doctype html\360\237\230\2000')" | tl outline --as-is
   0 text ���0
 
 Where there is nothing, and no memory is wanted for it.
@@ -87,17 +87,64 @@ Where there is nothing, and no memory is wanted for it.
   $ tl outline
   $ tl text
   $ printf '<!-- x -->' | tl text -w
-  $ printf '<a hidden>' | tl select -a hidden a
+  $ printf '<a hidden>' | tl select --as-is -a hidden a
   [1]
-  $ printf '<a hidden>' | tl select -1a hidden a
+  $ printf '<a hidden>' | tl select --as-is -1a hidden a
   [1]
+
+Selectors are those of CSS.
+
+  $ printf '<h2>a</h2><p class="x y">b</p><ul><li>1</li><li class=odd>2</li><li>3</li></ul><p>c<img src="d.png"><img src=e.gif></p>' >shelf
+  $ tl select -t 'h2 ~ p' shelf
+  b
+  c
+  $ tl select -t h2+p shelf
+  b
+  $ tl select -a src 'p > img[src$=".png"]' shelf
+  d.png
+  $ tl select -a src 'img:not([src$=".png" i])' shelf
+  e.gif
+  $ tl select -t '[class="x y"]' shelf
+  b
+  $ tl select -n 'p:nth-child(2), p:last-child' shelf
+  2
+  11
+  $ tl select -c 'p:nth-of-type(odd)' shelf
+  1
+  $ tl select -n ':has(> li)' shelf
+  4
+  $ tl select -n 'li:empty, ul:empty' shelf
+  [1]
+  $ tl select -n 'P:IS(.x, .z)' shelf
+  2
+
+What is wrong with one is said once, before a file is read.
+
+  $ tl select 'p:hover' none none
+  tl: no selector: at byte 2: no such pseudo-class: `hover` (a page has no states) (err)
+  [2]
+  $ tl select --json 'img[src$=.png]' shelf page
+  tl: no selector: at byte 9: a value is missing: `.` (a value that is no name stands in quotes) (err)
+  [2]
+  $ tl select '' <page
+  tl: no selector: at byte 0: a selector is missing (err)
+  [2]
+  $ tl select -c ,p <page
+  tl: no selector: at byte 0: a selector is missing: `,` (err)
+  [2]
+  $ tl select -1 'li:not(p' shelf
+  tl: no selector: at byte 6: this is opened and never closed: `(` (err)
+  [2]
+  $ tl select ':nth-child(2147483648)' shelf
+  tl: no selector: at byte 11: the number is above 2147483647: `2147483648` (err)
+  [2]
+  $ tl select -n '[@click]' shelf
+  tl: no selector: at byte 1: a name is missing: `@` (it may stand in quotes in a value, and behind `\` in a name) (err)
+  [2]
 
 Nothing was found, or something is refused or not understood.
 
   $ tl select i <page
-  [1]
-  $ tl select '' <page
-  tl: -: refused (err)
   [1]
   $ tl select -a href p <page
   [1]
@@ -107,17 +154,14 @@ Nothing was found, or something is refused or not understood.
   $ tl select --json i <page
   []
   [1]
-  $ tl select ,p <page
-  tl: -: refused (err)
-  [1]
   $ printf '<a></a>' | tl edit 'push 5 0'
   tl: -: refused (err)
   [1]
   $ printf '\377' | tl print
-  tl: -: not understood (err)
+  tl: -: no UTF-8 at byte 0 (err)
   [2]
   $ printf '\377' | tl select p
-  tl: -: not understood (err)
+  tl: -: no UTF-8 at byte 0 (err)
   [2]
   $ tl
   error: 'tl' requires a subcommand but one was not provided (err)
@@ -370,6 +414,34 @@ Their lists.
   tl: no policy may list the tag `script`: what stands in it is no markup of HTML (err)
   [2]
 
+Policies for other pages, and links beside the page.
+
+  $ printf '<h1>a</h1><p>b<img src="https://e/x">' | tl sanitize --comments
+  a<p>b</p> (no-eol)
+  $ printf '<table><tr><td colspan=2>a' | tl sanitize --documents
+  <table><tbody><tr><td colspan="2">a</td></tr></tbody></table> (no-eol)
+  $ printf '<img src=x.png><img src=x:y>' | tl sanitize --documents
+  <img src="x.png"><img> (no-eol)
+  $ printf '<img src=x.png><img src=x:y>' | tl sanitize --relative-links
+  <img src="x.png"><img> (no-eol)
+  $ printf '<img src=x.png>' | tl sanitize
+  <img> (no-eol)
+  $ printf '<b>a</b><i>b</i>' | tl sanitize --comments --tags i
+  a<i>b</i> (no-eol)
+  $ tl sanitize --comments --policy
+  --tags a,b,blockquote,br,code,del,em,i,li,ol,p,pre,q,s,strong,sub,sup,u,ul
+  --keys cite,dir,href,lang,title
+  --link-keys cite,href
+  --links https://,http://
+  --prefix user-
+  $ tl sanitize --relative-links --tags b --policy
+  --tags b
+  --keys alt,cite,class,datetime,dir,height,href,id,lang,src,start,title,width
+  --link-keys cite,href,src
+  --links https://,http://,mailto:,/,#
+  --relative-links
+  --prefix user-
+
 Words that no policy may list: the first one is named, and no page is made safe.
 
   $ tl sanitize --tags b,script,form a.html
@@ -443,11 +515,11 @@ Words that no policy may list: the first one is named, and no page is made safe.
 Pages that can't be had are passed over, and the greatest status counts.
 
   $ printf '\377' | tl sanitize
-  tl: -: not understood (err)
+  tl: -: no UTF-8 at byte 0 (err)
   [2]
   $ tl sanitize --no-name a.html bytes.html b.html
   <p>a</p><b>b</b> (no-eol)
-  tl: bytes.html: not understood (err)
+  tl: bytes.html: no UTF-8 at byte 0 (err)
   [2]
   $ tl sanitize --no-name a.html none b.html
   <p>a</p><b>b</b> (no-eol)
@@ -455,10 +527,10 @@ Pages that can't be had are passed over, and the greatest status counts.
   [4]
   $ tl sanitize none bytes.html
   tl: none: read or write failed (err)
-  tl: bytes.html: not understood (err)
+  tl: bytes.html: no UTF-8 at byte 0 (err)
   [4]
   $ tl sanitize bytes.html none
-  tl: bytes.html: not understood (err)
+  tl: bytes.html: no UTF-8 at byte 0 (err)
   tl: none: read or write failed (err)
   [4]
   $ printf '<i>x</i>' | tl sanitize --no-name none -
@@ -489,8 +561,10 @@ Help names each command and each option, and words the lists.
   Usage: tl edit [OPTIONS] <STEP>... [-- [FILE]...]
   Usage: tl sanitize [OPTIONS] [FILE]...
   $ tl select --help >help && grep -oE -e '--[a-z-]+' help | sort -u
+  --as-is
   --attribute
   --count
+  --encoding
   --first
   --help
   --inside
@@ -498,8 +572,13 @@ Help names each command and each option, and words the lists.
   --no-name
   --null
   --number
+  --raw
   --text
   $ tl sanitize --help >help && grep -oE -e '--[a-z-]+' help | sort -u
+  --as-is
+  --comments
+  --documents
+  --encoding
   --help
   --keys
   --link-keys
@@ -507,6 +586,7 @@ Help names each command and each option, and words the lists.
   --no-name
   --policy
   --prefix
+  --relative-links
   --tags
   $ grep -o '^WORDS have commas between them' help
   WORDS have commas between them
@@ -514,8 +594,8 @@ Help names each command and each option, and words the lists.
   It ends with 0: all is done
   $ tl edit --help | grep -o '^A step is one word of the shell'
   A step is one word of the shell
-  $ tl select --help | grep -o '^SELECTOR is a name'
-  SELECTOR is a name
+  $ tl select --help | grep -o '^SELECTOR is one of CSS'
+  SELECTOR is one of CSS
   $ test "$(tl --version)" = "tl $VERSION"
 
 Where nothing can be written, that is said once, and no more is read.

@@ -1,3 +1,3 @@
 pub mod Commas
 mod Floats
-pub mod Selecting
+pub mod Forms

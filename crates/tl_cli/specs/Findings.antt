@@ -1,6 +1,8 @@
 -- What a task gives.
 use Rattle.std.specs.Prelude.{ℕ, Bool, true, false, List, [], ◌∷◌, ◌++◌, Option, None, Some, nat_lt, string_bytes}
 use Rattle.std.specs.Fmt.{decimal}
+use Rattle.tl_extract.specs.Spelling.{text_written}
+use Rattle.tl_extract.specs.declared.spelling.Spelling.{Spelling}
 use Rattle.tl_cli.specs.declared.output.Output.{Output}
 
 -- a text, and whether something was found
@@ -19,6 +21,10 @@ has_bytes (byte ∷ text) = true
 -- what looks for nothing finds all that it gives
 abbrev pub whole : List ℕ → Finding
 whole text = record { text = text; is_found = true }
+
+-- a text that was read, as it stands or as what it says
+abbrev pub whole_in : Spelling → List ℕ → Finding
+whole_in spelling text = whole (text_written spelling text)
 
 -- answers of which none is empty
 abbrev pub listed : List ℕ → Finding

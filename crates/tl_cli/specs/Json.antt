@@ -12,25 +12,34 @@ use Rattle.tl_spec.specs.Tree.Element.{name_of}
 use Rattle.tl_spec.specs.Print.Text.{inner_text}
 use Rattle.tl_spec.specs.Walk.{plain_attributes}
 use Rattle.tl_page.specs.Outcome.{Outcome, joined, outcome_map, outcome_of, refused}
+use Rattle.tl_extract.specs.Spelling.{said_name, said_value, text_written}
+use Rattle.tl_extract.specs.declared.spelling.Spelling.{Spelling}
 use Rattle.tl_cli.specs.Findings.{Finding}
 
--- bytes as a text; null where there are none
-abbrev pub value_data : Option (List ℕ) → Data
-value_data None = null
-value_data (Some bytes) = string (utf8_lossy bytes)
+-- a value as a text; null where there is none
+abbrev pub value_data : Spelling → Option (List ℕ) → Data
+value_data spelling None = null
+value_data spelling (Some bytes) = string (utf8_lossy (said_value spelling bytes))
+
+-- a name as a text; null where there is none
+abbrev pub name_data : Spelling → Option (List ℕ) → Data
+name_data spelling None = null
+name_data spelling (Some bytes) = string (utf8_lossy (said_name spelling bytes))
 
 -- members, and an attribute
-abbrev pub with_pair : Members → Pair → Members
-with_pair members pair = put (utf8_lossy pair.0) (value_data pair.1) members
+abbrev pub with_pair : Spelling → Members → Pair → Members
+with_pair spelling members pair =
+    put (utf8_lossy (said_name spelling pair.0)) (value_data spelling pair.1) members
 
-abbrev pub pairs_data : List Pair → Members
-pairs_data pairs = fold with_pair no_members pairs
+abbrev pub pairs_data : Spelling → List Pair → Members
+pairs_data spelling pairs = fold (with_pair spelling) no_members pairs
 
 -- the attributes of a node
-abbrev pub attributes_data : Node → Data
-attributes_data (Tag own) = object (pairs_data (printed_pairs (plain_attributes own.attributes)))
-attributes_data (Raw bytes) = object no_members
-attributes_data (Comment bytes) = object no_members
+abbrev pub attributes_data : Spelling → Node → Data
+attributes_data spelling (Tag own) =
+    object (pairs_data spelling (printed_pairs (plain_attributes own.attributes)))
+attributes_data spelling (Raw bytes) = object no_members
+attributes_data spelling (Comment bytes) = object no_members
 
 -- an object of attributes, a name, a number and a text
 abbrev pub object_of : Data → Data → ℕ → List ℕ → Data
@@ -40,21 +49,24 @@ object_of attributes name n text = object (member (codes "attributes") attribute
     (member (codes "text") (string text) no_members))))
 
 -- what is said of a node, with its number and its text
-abbrev pub node_data : ℕ → Node → List ℕ → Data
-node_data n node text = object_of (attributes_data node) (value_data (name_of node)) n text
+abbrev pub node_data : Spelling → ℕ → Node → List ℕ → Data
+node_data spelling n node text =
+    object_of (attributes_data spelling node) (name_data spelling (name_of node)) n
+    (text_written spelling text)
 
 -- what is said of the node of a number, which is refused past the table
-abbrev pub data_at : List Node → ℕ → Outcome Data
-data_at nodes n = option_map_or (λ node.
-    outcome_map (node_data n node) (outcome_of (inner_text nodes node))) (slice_get nodes n) refused
+abbrev pub data_at : Spelling → List Node → ℕ → Outcome Data
+data_at spelling nodes n = option_map_or (λ node.
+    outcome_map (node_data spelling n node) (outcome_of (inner_text nodes node)))
+    (slice_get nodes n) refused
 
 -- a list of what is said of that node, and of nothing else
-abbrev pub one_data : List Node → ℕ → Outcome (List Data)
-one_data nodes n = outcome_map (λ d. d ∷ []) (data_at nodes n)
+abbrev pub one_data : Spelling → List Node → ℕ → Outcome (List Data)
+one_data spelling nodes n = outcome_map (λ d. d ∷ []) (data_at spelling nodes n)
 
 -- what is said of the nodes of these numbers, in order
-abbrev pub list_data : List Node → List ℕ → Outcome (List Data)
-list_data nodes numbers = joined (map (one_data nodes) numbers)
+abbrev pub list_data : Spelling → List Node → List ℕ → Outcome (List Data)
+list_data spelling nodes numbers = joined (map (one_data spelling nodes) numbers)
 
 -- whether there is something
 abbrev pub has_items : {X : Type 0} → List X → Bool

@@ -1,5 +1,6 @@
 pub mod Findings
 pub mod Lines
+pub mod Selection
 pub mod Task
 pub mod Filename
 pub mod Json

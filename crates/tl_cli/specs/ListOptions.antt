@@ -1,5 +1,5 @@
 -- The lists that options say.
-use Rattle.std.specs.Prelude.{ℕ, Bool, true, false, ◌==◌, List, [], ◌∷◌, ◌++◌, Option, Some, None, codes}
+use Rattle.std.specs.Prelude.{ℕ, Bool, true, false, ◌||◌, ◌==◌, List, [], ◌∷◌, ◌++◌, Option, Some, None, codes}
 use Rattle.std.specs.Borrow.{Bor}
 use Rattle.std.specs.List.{filter, slice_split}
 use Rattle.std.specs.Option.{option_map}
@@ -35,6 +35,7 @@ pub record ListOptions : Type 0 where
   pub keys : Option (List ℕ)
   pub link_keys : Option (List ℕ)
   pub link_prefixes : Option (List ℕ)
+  pub relative_links : Bool
   pub id_prefix : Option (List ℕ)
 
 abbrev pub list_options : ListTexts → ListOptions
@@ -43,6 +44,7 @@ list_options texts = record {
   keys = text_of texts.keys;
   link_keys = text_of texts.link_keys;
   link_prefixes = text_of texts.link_prefixes;
+  relative_links = texts.relative_links;
   id_prefix = text_of texts.id_prefix;
 }
 
@@ -62,6 +64,7 @@ lists_or_default s own = record {
   keys = words_or_default s.keys own.keys;
   link_keys = words_or_default s.link_keys own.link_keys;
   link_prefixes = words_or_default s.link_prefixes own.link_prefixes;
+  relative_links = s.relative_links || own.relative_links;
   id_prefix = prefix_or_default s.id_prefix own.id_prefix;
 }
 
@@ -72,6 +75,7 @@ lists_in w = record {
   keys = words_of w.keys.items;
   link_keys = words_of w.link_keys.items;
   link_prefixes = words_of w.link_prefixes.items;
+  relative_links = w.relative_links;
   id_prefix = w.id_prefix.now;
 }
 
@@ -89,6 +93,11 @@ list_text (word ∷ words) = codes " " ++ word ++ after_commas words
 abbrev pub option_line : List ℕ → List (List ℕ) → List ℕ
 option_line option words = option ++ list_text words ++ codes "\n"
 
+-- an option alone on a line, where relative links may stand
+abbrev pub relative_line : Bool → List ℕ
+relative_line true = codes "--relative-links\n"
+relative_line false = []
+
 -- the options that say these lists, one on each line
 abbrev pub policy_text : ListedWords → List ℕ
 policy_text p =
@@ -96,4 +105,5 @@ policy_text p =
     ++ option_line (codes "--keys") p.keys
     ++ option_line (codes "--link-keys") p.link_keys
     ++ option_line (codes "--links") p.link_prefixes
+    ++ relative_line p.relative_links
     ++ option_line (codes "--prefix") (p.id_prefix ∷ [])

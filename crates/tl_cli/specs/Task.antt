@@ -1,66 +1,54 @@
 -- What is made of a page.
-use Rattle.std.specs.Prelude.{◌≡◌, ℕ, List, flat_map, length, map, Option, None, Some}
-use Rattle.tl_spec.specs.Tree.Document.{Document}
+use Rattle.std.specs.Prelude.{◌≡◌, ℕ, List, [], flat_map, if◌then◌else◌, length, nat_le}
+use Rattle.tl_spec.specs.Lex.ByteClass.{largest_u32}
+use Rattle.tl_spec.specs.Tree.Document.{Document, Node, document}
 use Rattle.tl_spec.specs.Edit.{Change, apply_changes}
 use Rattle.tl_spec.specs.Print.{document_print, print}
-use Rattle.tl_spec.specs.Select.Selector.{Selector}
 use Rattle.tl_spec.specs.Print.Text.{document_text}
-use Rattle.tl.specs.Query.{matches_in}
-use Rattle.tl_page.specs.Outcome.{Outcome, joined, outcome_map, outcome_of, refused, success}
-use Rattle.tl_page.specs.Page.{outcome_in}
-use Rattle.tl_program.specs.Action.{StandsFor}
+use Rattle.tl_css.specs.Meaning.{AreFound}
+use Rattle.tl_html_spec.specs.HtmlForm.{html_form}
+use Rattle.tl_page.specs.Outcome.{Outcome, not_understood, outcome_map, outcome_of, success}
+use Rattle.tl_page.specs.Page.{is_page, outcome_in}
 use Rattle.tl_program.specs.Output.{outcome_of_edited}
 use Rattle.tl_program.specs.Steps.{changes_in}
 use Rattle.tl_safe.specs.Filter.{trees_of}
 use Rattle.tl_safe.specs.KeptFitted.{kept_fitted}
 use Rattle.tl_safe.specs.Lists.{ListedWords}
 use Rattle.tl_safe.specs.Policies.{lists_of}
-use Rattle.tl_extract.specs.Field.{fields, first_field}
 use Rattle.tl_extract.specs.Links.{links_of}
 use Rattle.tl_extract.specs.Outline.{outline_of}
 use Rattle.tl_extract.specs.Readable.{readable_of}
-use Rattle.tl_cli.specs.Findings.{Finding, first_line, listed, number_line, whole}
-use Rattle.tl_cli.specs.Lines.{ended, link_line}
-use Rattle.tl_cli.specs.Json.{array_line, list_data}
+use Rattle.tl_extract.specs.declared.spelling.Spelling.TheVariants.{Raw}
+use Rattle.tl_cli.specs.Findings.{Finding, whole, whole_in}
+use Rattle.tl_cli.specs.Lines.{link_line}
+use Rattle.tl_cli.specs.Selection.{listing_of, nodes_read}
 use Rattle.tl_cli.specs.declared.question.Question.{Question}
-use Rattle.tl_cli.specs.declared.question.Question.TheVariants.{Select, First, Count, Objects, Links, Text, Readable, Print, Outline}
+use Rattle.tl_cli.specs.declared.question.Question.TheVariants.{Select, Links, Text, Readable, Print, Outline}
+use Rattle.tl_cli.specs.declared.reading.Reading.{Reading}
+use Rattle.tl_cli.specs.declared.reading.Reading.TheVariants.{Browser, AsIs}
 use Rattle.tl_cli.specs.declared.task.Task.{Task}
 use Rattle.tl_cli.specs.declared.task.Task.TheVariants.{Ask, Edit, Sanitize}
 
--- the selector of what is asked: that of a text, if it stands for one, and else none
-abbrev pub IsSelectorOf : Question → Option Selector → Type 0
-IsSelectorOf (Select text field) selector = StandsFor text.now selector
-IsSelectorOf (First text field) selector = StandsFor text.now selector
-IsSelectorOf (Count text) selector = StandsFor text.now selector
-IsSelectorOf (Objects text) selector = StandsFor text.now selector
-IsSelectorOf Links selector = selector ≡ None
-IsSelectorOf Text selector = selector ≡ None
-IsSelectorOf Readable selector = selector ≡ None
-IsSelectorOf Print selector = selector ≡ None
-IsSelectorOf Outline selector = selector ≡ None
+-- the numbers of the nodes where the selector of what is asked holds; where it has none, no number
+abbrev pub AreSelected : Question → List Node → List ℕ → Type 0
+AreSelected (Select selector reading listing) nodes ns =
+    AreFound (nodes_read reading nodes) selector.now ns
+AreSelected (Links spelling) nodes ns = ns ≡ []
+AreSelected (Text spelling) nodes ns = ns ≡ []
+AreSelected (Readable spelling) nodes ns = ns ≡ []
+AreSelected Print nodes ns = ns ≡ []
+AreSelected (Outline spelling) nodes ns = ns ≡ []
 
--- what is made by a selector; a text that stands for none is refused
-abbrev pub by_selector : {X : Type 0} → (Selector → Outcome X) → Option Selector → Outcome X
-by_selector make None = refused
-by_selector make (Some e) = make e
-
--- what is answered of a document by the selector, where what is listed ends with these bytes
-abbrev pub answer_of : Question → Option Selector → List ℕ → Document → Outcome Finding
-answer_of (Select text field) selector end d =
-    by_selector (λ e. outcome_map listed
-    (joined (map (ended end) (fields field d.nodes (matches_in d e))))) selector
-answer_of (First text field) selector end d =
-    by_selector (λ e. outcome_map (first_line end) (first_field field d.nodes (matches_in d e)))
-    selector
-answer_of (Count text) selector end d =
-    by_selector (λ e. success (number_line end (length (matches_in d e)))) selector
-answer_of (Objects text) selector end d =
-    by_selector (λ e. outcome_map (array_line end) (list_data d.nodes (matches_in d e))) selector
-answer_of Links selector end d = success (whole (flat_map (link_line end) (links_of d.nodes)))
-answer_of Text selector end d = outcome_map whole (outcome_of (document_text d))
-answer_of Readable selector end d = outcome_map whole (outcome_of (readable_of d))
-answer_of Print selector end d = outcome_map whole (outcome_of (document_print d))
-answer_of Outline selector end d = success (whole (outline_of d))
+-- what is answered of a document where these are selected, and what is listed ends with these bytes
+abbrev pub answer_of : Question → List ℕ → List ℕ → Document → Outcome Finding
+answer_of (Select selector reading listing) ns end d = listing_of listing end d.nodes ns
+answer_of (Links spelling) ns end d =
+    success (whole (flat_map (link_line spelling end) (links_of d.nodes)))
+answer_of (Text spelling) ns end d = outcome_map (whole_in spelling) (outcome_of (document_text d))
+answer_of (Readable spelling) ns end d =
+    outcome_map (whole_in spelling) (outcome_of (readable_of d))
+answer_of Print ns end d = outcome_map (whole_in Raw) (outcome_of (document_print d))
+answer_of (Outline spelling) ns end d = success (whole (outline_of spelling d))
 
 -- the print of a document after edits
 abbrev pub edit_of : List Change → Document → Outcome Finding
@@ -71,14 +59,29 @@ abbrev pub safe_of : ListedWords → List ℕ → Outcome Finding
 safe_of lists page =
     outcome_in (λ d. success (whole (print (kept_fitted lists (trees_of page))))) page
 
--- the selector of a task
-abbrev pub IsSelectorIn : Task → Option Selector → Type 0
-IsSelectorIn (Ask question) selector = IsSelectorOf question selector
-IsSelectorIn (Edit steps) selector = selector ≡ None
-IsSelectorIn (Sanitize policy) selector = selector ≡ None
+-- the same of a task on the bytes that are read
+abbrev pub AreSelectedIn : Task → List ℕ → List ℕ → Type 0
+AreSelectedIn (Ask question) page ns = AreSelected question (document page).nodes ns
+AreSelectedIn (Edit steps) page ns = ns ≡ []
+AreSelectedIn (Sanitize policy) page ns = ns ≡ []
 
--- what a task makes of a page; one that is no text, or too long, is not understood
-abbrev pub task_output : Task → Option Selector → List ℕ → List ℕ → Outcome Finding
-task_output (Ask question) selector end page = outcome_in (answer_of question selector end) page
-task_output (Edit steps) selector end page = outcome_in (edit_of (changes_in steps.items)) page
-task_output (Sanitize policy) selector end page = safe_of (lists_of policy) page
+-- what a task makes of bytes; those that are no text, or too long, are not understood
+abbrev pub task_output : Task → List ℕ → List ℕ → List ℕ → Outcome Finding
+task_output (Ask question) ns end page = outcome_in (answer_of question ns end) page
+task_output (Edit steps) ns end page = outcome_in (edit_of (changes_in steps.items)) page
+task_output (Sanitize policy) ns end page = safe_of (lists_of policy) page
+
+-- the bytes that are read of a page: its form, which `tl` reads as browsers read it, or itself
+abbrev pub page_of : Reading → List ℕ → List ℕ
+page_of Browser page = html_form page
+page_of AsIs page = page
+
+-- what is made of these bytes; a page that is no text, or too long, is not understood
+abbrev pub outcome_read : {X : Type 0} → Reading → (List ℕ → Outcome X) → List ℕ → Outcome X
+outcome_read reading make page =
+    if is_page page then make (page_of reading page) else not_understood
+
+-- the form of a page, where both are short enough to be read
+abbrev pub form_in : List ℕ → Outcome (List ℕ)
+form_in page = outcome_read Browser
+    (λ form. if nat_le (length form) largest_u32 then success form else not_understood) page

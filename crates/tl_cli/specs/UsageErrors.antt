@@ -1,12 +1,14 @@
 -- Why nothing is made.
 use Rattle.tl_cli.specs.declared.args.UsageError.{UsageError}
-use Rattle.tl_cli.specs.declared.args.UsageError.TheVariants.{Clap, NoCommand, EmptyStep, LinesOfSteps, NoStep, OutOfMemory}
+use Rattle.tl_cli.specs.declared.args.UsageError.TheVariants.{Clap, NoCommand, EmptyStep, LinesOfSteps, NoStep, NoSelector, NoEncoding, OutOfMemory}
 
--- a word of `edit` is not one step
-abbrev pub IsNoStep : UsageError → Type 0
-IsNoStep (Clap error) = ⊥
-IsNoStep NoCommand = ⊥
-IsNoStep EmptyStep = Unit {0}
-IsNoStep (LinesOfSteps word) = Unit {0}
-IsNoStep (NoStep word) = Unit {0}
-IsNoStep OutOfMemory = ⊥
+-- a word of `edit` is not one step, that of `select` no selector, or a label of no encoding
+abbrev pub IsWrongWord : UsageError → Type 0
+IsWrongWord (Clap error) = ⊥
+IsWrongWord NoCommand = ⊥
+IsWrongWord EmptyStep = Unit {0}
+IsWrongWord (LinesOfSteps word) = Unit {0}
+IsWrongWord (NoStep word) = Unit {0}
+IsWrongWord (NoSelector error text) = Unit {0}
+IsWrongWord (NoEncoding label) = Unit {0}
+IsWrongWord OutOfMemory = ⊥

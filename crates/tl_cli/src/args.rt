@@ -7,12 +7,17 @@ ghost use Rattle.tl_cli.specs.declared.args.UsageError.TheVariants.{OutOfMemory}
 use crate::commands::{Verb, program};
 use crate::lists::ListTexts;
 use crate::question::Question;
+use crate::reading::Reading;
+use crate::selected::{Selected, Wanted};
 use crate::task::Task;
 use clap::error::ErrorKind;
 use clap::{ArgMatches, Error};
 use std::alloc::{AllocError, AllocFailed, Global};
-use tl_extract::Field;
+use tl_css::{Selector, SelectorError, parse};
+use tl_encoding::Encoding;
+use tl_extract::Spelling;
 use tl_program::script::{Step, steps};
+use tl_safe::Lists;
 
 /// The pages, and how what is made of them is written.
 #[derive(Drop)]
@@ -23,6 +28,10 @@ pub struct Pages<'w> {
     pub ends_with_zero: bool,
     /// Whether the name of its file stands before each line, where there are several.
     pub has_names: bool,
+    /// How they are read.
+    pub reading: Reading,
+    /// What they are in, if it is said.
+    pub encoding: Option<Encoding>,
 }
 
 /// What is made of the pages.
@@ -30,6 +39,8 @@ pub struct Pages<'w> {
 pub enum Action<'w> {
     /// What a task makes.
     Task(Task<'w>),
+    /// What is selected.
+    Select(Selected<'w>),
     /// Safe pages, by the lists of these texts.
     Safe(ListTexts<'w>),
     /// The lists of these texts, and no page.
@@ -56,6 +67,10 @@ pub enum UsageError<'w> {
     LinesOfSteps(&'w str),
     /// One that says no step.
     NoStep(&'w str),
+    /// A label of no encoding that is read.
+    NoEncoding(&'w str),
+    /// A text that is no selector, and why.
+    NoSelector(SelectorError, &'w str),
     OutOfMemory,
 }
 
@@ -87,33 +102,63 @@ impl From<Error> for UsageError<'_> {
     }
 }
 
-// What is written of each node.
-fn field<'w>(matches: &ArgMatches<'w>) -> Field<'w> {
-    if let Some(key) = matches.get_str("attribute") {
-        Field::Attribute(key)
-    } else if matches.get_flag("text") {
-        Field::InnerText
-    } else if matches.get_flag("inside") {
-        Field::InnerHtml
-    } else if matches.get_flag("number") {
-        Field::Number
-    } else {
-        Field::OuterHtml
+// How a command reads pages.
+fn reading(verb: Verb, matches: &ArgMatches<'_>) -> Reading {
+    match verb {
+        Verb::Print | Verb::Edit => Reading::AsIs,
+        _ if matches.get_flag("as-is") => Reading::AsIs,
+        _ => Reading::Browser,
     }
 }
 
-// What is asked of the nodes where a selector holds.
-fn selection<'w>(matches: &ArgMatches<'w>) -> Question<'w> {
-    let selector = matches.get_str("SELECTOR").unwrap_or("");
-    if matches.get_flag("count") {
-        Question::Count(selector)
-    } else if matches.get_flag("json") {
-        Question::Objects(selector)
-    } else if matches.get_flag("first") {
-        Question::First(selector, field(matches))
+// How names, values and texts are written. What is read as it is is written so.
+fn spelling(matches: &ArgMatches<'_>) -> Spelling {
+    if matches.get_flag("as-is") || matches.get_flag("raw") {
+        Spelling::Raw
     } else {
-        Question::Select(selector, field(matches))
+        Spelling::Decoded
     }
+}
+
+// What is written of each node.
+fn wanted(matches: &ArgMatches<'_>) -> Wanted {
+    if matches.get_flag("count") {
+        Wanted::Count
+    } else if matches.get_flag("json") {
+        Wanted::Objects
+    } else if matches.get_str("attribute").is_some() {
+        Wanted::Value
+    } else if matches.get_flag("text") {
+        Wanted::Text
+    } else if matches.get_flag("inside") {
+        Wanted::InnerHtml
+    } else if matches.get_flag("number") {
+        Wanted::Number
+    } else {
+        Wanted::OuterHtml
+    }
+}
+
+// The selector that is said.
+fn selector<'w>(alloc: Global, matches: &ArgMatches<'w>) -> Result<Selector, UsageError<'w>> {
+    let text = matches.get_str("SELECTOR").unwrap_or("");
+    match parse(alloc, text) {
+        Ok(selector) => Ok(selector),
+        Err(SelectorError::OutOfMemory) => Err(UsageError::OutOfMemory),
+        Err(error) => Err(UsageError::NoSelector(error, text)),
+    }
+}
+
+// What is selected.
+fn selected<'w>(alloc: Global, matches: &ArgMatches<'w>) -> Result<Selected<'w>, UsageError<'w>> {
+    Ok(Selected {
+        selector: selector(alloc, matches)?,
+        key: matches.get_str("attribute").unwrap_or(""),
+        wanted: wanted(matches),
+        is_first: matches.get_flag("first"),
+        reading: reading(Verb::Select, matches),
+        spelling: spelling(matches),
+    })
 }
 
 // The values of an argument that may have several.
@@ -158,13 +203,26 @@ fn edit<'w>(alloc: Global, words: &[&'w str]) -> Result<Task<'w>, UsageError<'w>
     Ok(Task::Edit(all))
 }
 
+// The lists that count where none are said.
+fn own_lists(matches: &ArgMatches<'_>) -> Lists<'static> {
+    if matches.get_flag("comments") {
+        Lists::COMMENTS
+    } else if matches.get_flag("documents") {
+        Lists::DOCUMENTS
+    } else {
+        Lists::BLOG
+    }
+}
+
 // The lists that are said.
 fn lists<'w>(matches: &ArgMatches<'w>) -> ListTexts<'w> {
     ListTexts {
+        own: own_lists(matches),
         tags: matches.get_str("tags"),
         keys: matches.get_str("keys"),
         link_keys: matches.get_str("link-keys"),
         link_prefixes: matches.get_str("links"),
+        relative_links: matches.get_flag("relative-links"),
         id_prefix: matches.get_str("prefix"),
     }
 }
@@ -176,12 +234,12 @@ fn action_of<'w>(
     matches: &ArgMatches<'w>,
 ) -> Result<Action<'w>, UsageError<'w>> {
     let question = match verb {
-        Verb::Select => selection(matches),
-        Verb::Links => Question::Links,
-        Verb::Text if matches.get_flag("whitespace") => Question::Readable,
-        Verb::Text => Question::Text,
+        Verb::Select => return Ok(Action::Select(selected(alloc, matches)?)),
+        Verb::Links => Question::Links(spelling(matches)),
+        Verb::Text if matches.get_flag("whitespace") => Question::Readable(spelling(matches)),
+        Verb::Text => Question::Text(spelling(matches)),
         Verb::Print => Question::Print,
-        Verb::Outline => Question::Outline,
+        Verb::Outline => Question::Outline(spelling(matches)),
         Verb::Edit => return Ok(Action::Task(edit(alloc, &values(alloc, matches, "STEP")?)?)),
         Verb::Sanitize if matches.get_flag("policy") => return Ok(Action::Policy(lists(matches))),
         Verb::Sanitize => return Ok(Action::Safe(lists(matches))),
@@ -189,12 +247,32 @@ fn action_of<'w>(
     Ok(Action::Task(Task::Ask(question)))
 }
 
+// What pages are in, if it is said. What is edited is UTF-8.
+fn encoding<'w>(verb: Verb, matches: &ArgMatches<'w>) -> Result<Option<Encoding>, UsageError<'w>> {
+    if verb == Verb::Edit {
+        return Ok(Some(Encoding::Utf8));
+    }
+    let Some(label) = matches.get_str("encoding") else {
+        return Ok(None);
+    };
+    match Encoding::from_label(label.as_bytes()) {
+        Some(encoding) => Ok(Some(encoding)),
+        None => Err(UsageError::NoEncoding(label)),
+    }
+}
+
 // The pages of a command.
-fn pages_of<'w>(alloc: Global, matches: &ArgMatches<'w>) -> Result<Pages<'w>, AllocError> {
+fn pages_of<'w>(
+    alloc: Global,
+    verb: Verb,
+    matches: &ArgMatches<'w>,
+) -> Result<Pages<'w>, UsageError<'w>> {
     Ok(Pages {
         files: values(alloc, matches, "FILE")?,
         ends_with_zero: matches.get_flag("null"),
         has_names: !matches.get_flag("no-name"),
+        reading: reading(verb, matches),
+        encoding: encoding(verb, matches)?,
     })
 }
 
@@ -209,6 +287,6 @@ pub fn read<'w>(alloc: Global, words: &'w [String]) -> Result<Args<'w>, UsageErr
     };
     Ok(Args {
         action: action_of(alloc, verb, own)?,
-        pages: pages_of(alloc, own)?,
+        pages: pages_of(alloc, verb, own)?,
     })
 }

@@ -6,14 +6,26 @@ use tl_page::VERSION;
 const ABOUT: &str = "Reads pages of HTML, however broken";
 
 const STATUSES: &str = "\
-It ends with 0: all is done; 1: select found nothing, or a selector or a step is refused;
-2: words or a page are not understood; 3: out of memory; 4: a read or a write failed.
+Pages are read as browsers read them: names in any case, end tags that may be left out, values
+without quotes, character references. print and edit, and --as-is, read by the grammar of tl.
+Without --encoding a page is in what its byte-order mark says, else UTF-8 if it can be, else what
+its <meta charset> says. What is written is UTF-8.
+
+It ends with 0: all is done; 1: select found nothing, or a step is refused; 2: words, a
+selector or a page are not understood; 3: out of memory; 4: a read or a write failed.
 A page that can't be read is said on standard error, and those after it are done.";
 
 const SELECTORS: &str = "\
-SELECTOR is a name, #ID, .CLASS, [KEY], [KEY=VALUE], [KEY~=VALUE], [KEY^=VALUE],
-[KEY$=VALUE], [KEY*=VALUE] or *. Side by side they hold where all do; `A B` holds of B
-below A, `A > B` of B right below A, and `A, B` of either.";
+SELECTOR is one of CSS (Level 4), and holds of tags:
+  name  *  #ID  .CLASS  [KEY]  [KEY=VALUE] (also ~= |= ^= $= *=; [KEY=VALUE i] in any case)
+  A B (B below A)   A > B (right below)   A + B (next to A)   A ~ B (after A)   A, B (either)
+  :not(..) :is(..) :where(..) :has(..) :empty :root
+  :first-child :last-child :only-child :nth-child(2n+1 of S) :nth-last-child(..), and -of-type
+A value that is no name stands in quotes: 'img[src$=\".png\"]'. Behind a \\ any character is one
+of a name: '[\\@click]'. docs/COMMANDS.md says what differs from browsers.";
+
+const NUMBERS: &str = "\
+The numbers that edit takes are those that --as-is gives.";
 
 const STEPS: &str = "\
 A step is one word of the shell, as 'set 0 href /x':
@@ -22,8 +34,8 @@ A step is one word of the shell, as 'set 0 href /x':
 N and M are numbers of nodes, from 0 in the order of the page; I is a place.";
 
 const SAFE: &str = "\
-WORDS have commas between them; a list that isn't said is that for the text of a blog, as
---policy writes it.
+WORDS have commas between them; a list that isn't said is that for the text of a blog, or
+for what --comments or --documents says, as --policy writes it.
 The page is to be served as UTF-8, in the content of an ordinary element.
 docs/SAFE.md says what is proved of it.";
 
@@ -40,6 +52,27 @@ static NO_NAME: Flag = Flag {
     short: None,
     value: None,
     help: "No `FILE:` before each line, where there are several",
+};
+
+static AS_IS: Flag = Flag {
+    name: "as-is",
+    short: None,
+    value: None,
+    help: "Read by the grammar of tl, and write what stands in the page, not as browsers do",
+};
+
+static RAW: Flag = Flag {
+    name: "raw",
+    short: None,
+    value: None,
+    help: "Write names and references as they stand in the form that is read, not decoded",
+};
+
+static ENCODING: Flag = Flag {
+    name: "encoding",
+    short: None,
+    value: Some("LABEL"),
+    help: "What the pages are in: utf-8, latin1 or windows-1252",
 };
 
 static NULL: Flag = Flag {
@@ -69,13 +102,13 @@ static NODE_FLAGS: [Flag; 6] = [
         name: "attribute",
         short: Some('a'),
         value: Some("KEY"),
-        help: "The value at KEY, of nodes that have one",
+        help: "The characters of the value at KEY, of nodes that have one",
     },
     Flag {
         name: "text",
         short: Some('t'),
         value: None,
-        help: "The texts at or below the node",
+        help: "The characters of the texts at or below the node",
     },
     Flag {
         name: "inside",
@@ -87,7 +120,7 @@ static NODE_FLAGS: [Flag; 6] = [
         name: "number",
         short: Some('n'),
         value: None,
-        help: "The number of the node, from 0",
+        help: "The number of the node, from 0; edit takes those of --as-is",
     },
     Flag {
         name: "count",
@@ -109,6 +142,29 @@ static POLICY: Flag = Flag {
     value: None,
     help: "Write these lists, one on each line, and read no page",
 };
+
+static RELATIVE_LINKS: Flag = Flag {
+    name: "relative-links",
+    short: None,
+    value: None,
+    help: "Links beside the page may stand too, as x.png",
+};
+
+// The policies to begin with.
+static BASES: [Flag; 2] = [
+    Flag {
+        name: "comments",
+        short: None,
+        value: None,
+        help: "Begin with the lists for comments of readers",
+    },
+    Flag {
+        name: "documents",
+        short: None,
+        value: None,
+        help: "Begin with those for documents, with tables and relative links",
+    },
+];
 
 // The lists of a policy.
 static LISTS: [Flag; 5] = [
@@ -237,11 +293,11 @@ impl Verb {
                 "Writes the values at href, src, action, poster and srcset, node after node"
             }
             Verb::Text => "Writes the texts of the page in order, without tags and comments",
-            Verb::Print => "Writes the page as it was read, with each tag closed",
+            Verb::Print => { "Writes the page as the grammar of tl reads it, with each tag closed" }
             Verb::Outline => {
                 "Writes what each node is, by number, with the numbers of its children"
             }
-            Verb::Edit => "Prints the page after steps",
+            Verb::Edit => "Prints the page after steps, as the grammar of tl reads it",
             Verb::Sanitize => {
                 "Prints what may be shown of the page: the tags and attributes that lists let stand"
             }
@@ -264,10 +320,14 @@ impl Verb {
     fn command<'w>(self, alloc: Global) -> Result<Command<'w>, AllocError> {
         match self {
             Verb::Select => select(alloc, self.bare_command(alloc)),
-            Verb::Links => self.plain_command(alloc)?.arg(NULL.argument(alloc)),
-            Verb::Text => self.plain_command(alloc)?.arg(WHITESPACE.argument(alloc)),
-            Verb::Print => self.plain_command(alloc),
-            Verb::Outline => self.plain_command(alloc),
+            Verb::Links => with_reading(alloc, self.plain_command(alloc)?)?.arg(NULL.argument(
+                alloc,
+            )),
+            Verb::Text => with_reading(alloc, self.plain_command(alloc)?)?.arg(WHITESPACE.argument(
+                alloc,
+            )),
+            Verb::Print => { self.plain_command(alloc)?.arg(ENCODING.argument(alloc)) }
+            Verb::Outline => { with_reading(alloc, self.plain_command(alloc)?.after_help(NUMBERS)) }
             Verb::Edit => edit(alloc, self.bare_command(alloc)),
             Verb::Sanitize => { sanitize(alloc, self.plain_command(alloc)?)?.alias("sanitise") }
         }
@@ -284,6 +344,14 @@ impl Verb {
     }
 }
 
+// A command with what says how pages are read and written.
+fn with_reading<'w>(alloc: Global, command: Command<'w>) -> Result<Command<'w>, AllocError> {
+    command
+        .arg(AS_IS.argument(alloc))?
+        .arg(RAW.argument(alloc))?
+        .arg(ENCODING.argument(alloc))
+}
+
 fn select<'w>(alloc: Global, command: Command<'w>) -> Result<Command<'w>, AllocError> {
     let selector = Arg::new(alloc, "SELECTOR")
         .required(true)
@@ -292,16 +360,13 @@ fn select<'w>(alloc: Global, command: Command<'w>) -> Result<Command<'w>, AllocE
         .argument(alloc)
         .conflicts_with("count")?
         .conflicts_with("json")?;
-    with_flags(
-        alloc,
-        command.after_help(SELECTORS).arg(selector)?,
-        &NODE_FLAGS,
-    )?
-    .group(one_of(alloc, "wanted", &NODE_FLAGS)?)?
-    .arg(first)?
-    .arg(NULL.argument(alloc))?
-    .arg(NO_NAME.argument(alloc))?
-    .arg(files(alloc))
+    let command = with_reading(alloc, command.after_help(SELECTORS).arg(selector)?)?;
+    with_flags(alloc, command, &NODE_FLAGS)?
+        .group(one_of(alloc, "wanted", &NODE_FLAGS)?)?
+        .arg(first)?
+        .arg(NULL.argument(alloc))?
+        .arg(NO_NAME.argument(alloc))?
+        .arg(files(alloc))
 }
 
 fn edit<'w>(alloc: Global, command: Command<'w>) -> Result<Command<'w>, AllocError> {
@@ -317,7 +382,16 @@ fn edit<'w>(alloc: Global, command: Command<'w>) -> Result<Command<'w>, AllocErr
 }
 
 fn sanitize<'w>(alloc: Global, command: Command<'w>) -> Result<Command<'w>, AllocError> {
-    with_flags(alloc, command.after_help(SAFE), &LISTS)?.arg(POLICY.argument(alloc))
+    let command = with_flags(alloc, command.after_help(SAFE), &BASES)?;
+    with_flags(
+        alloc,
+        command.group(one_of(alloc, "base", &BASES)?)?,
+        &LISTS,
+    )?
+    .arg(RELATIVE_LINKS.argument(alloc))?
+    .arg(POLICY.argument(alloc))?
+    .arg(AS_IS.argument(alloc))?
+    .arg(ENCODING.argument(alloc))
 }
 
 /// The program.

@@ -1,43 +1,38 @@
 //! Nodes as JSON.
-ghost use Rattle.std.specs.Prelude.{◌≡◌, ◌∷◌, [], IfOk, OnOk, false, map};
+ghost use Rattle.std.specs.Prelude.{◌≡◌, ◌∷◌, [], IfOk, OnOk, false, map, string_bytes};
 ghost use Rattle.std.specs.Option.{option_copied};
-ghost use Rattle.std.specs.Str.Lossy.{utf8_lossy};
-ghost use Rattle.serde_json.specs.Data.{string};
 ghost use Rattle.serde_json.specs.View.{items_of, members_view, view};
 ghost use Rattle.serde_json.specs.Written.{items_have_float};
 ghost use Rattle.tl_spec.specs.Lex.AttributeList.{printed_pairs};
 ghost use Rattle.tl_spec.specs.Tree.Element.{name_of};
-ghost use Rattle.tl_spec.specs.Select.Selector.{Selector};
-ghost use Rattle.tl_spec.specs.Select.Text.{IsSelectorText};
 ghost use Rattle.tl_spec.specs.Print.Text.{inner_text};
 ghost use Rattle.tl_attributes.specs.AttributesView.{plain, value_view};
-ghost use Rattle.tl.specs.Query.{matches_in};
 ghost use Rattle.tl.specs.View.{document_of, node_view};
-ghost use Rattle.tl_page.specs.Outcome.{Gives, outcome_map, outcome_of, refused};
-ghost use Rattle.tl_extract.specs.Field.{IsNoSelector};
+ghost use Rattle.tl_page.specs.Outcome.{Gives, outcome_map, outcome_of};
 ghost use Rattle.tl_cli.specs.Findings.{finding_of};
-ghost use Rattle.tl_cli.specs.Json.{array_line, attributes_data, data_at, list_data, node_data, object_of, pairs_data, value_data, with_pair};
+ghost use Rattle.tl_cli.specs.Json.{array_line, attributes_data, data_at, list_data, name_data, node_data, object_of, pairs_data, value_data, with_pair};
 
 use crate::output::Output;
 use serde_json::{Map, Value, json, put};
 use std::alloc::{AllocError, Global};
-use tl::queryselector::QuerySelectorIterator;
 use tl::{Attributes, Bytes, Element, Node, NodeHandle, Parser, VDom};
+use tl_extract::Spelling;
 use tl_page::Failure;
 
-// Bytes as a text.
-fn text_value(alloc: Global, bytes: &[u8]) -> Result<Value, AllocError>
-    ensures { IfOk result (λ v. view v ≡ string (utf8_lossy bytes.now)) }
-{
-    Value::try_from_str(alloc, Bytes::from(bytes).as_utf8_str(alloc)?.as_str())
-}
-
 // The value of an attribute; null where it has none.
-fn attribute_value(alloc: Global, value: Option<&Bytes<'_>>) -> Result<Value, AllocError>
-    ensures { IfOk result (λ v. view v ≡ value_data (value_view (option_copied value.entry))) }
+fn attribute_value(
+    alloc: Global,
+    value: Option<&Bytes<'_>>,
+    spelling: Spelling,
+) -> Result<Value, AllocError>
+    ensures { IfOk result (λ v.
+        view v ≡ value_data spelling (value_view (option_copied value.entry))) }
 {
     match value {
-        Some(bytes) => text_value(alloc, bytes.as_bytes()),
+        Some(bytes) => {
+            let text = spelling.value(alloc, bytes.as_bytes())?;
+            Value::try_from_str(alloc, text.as_str())
+        }
         None => Ok(Value::Null),
     }
 }
@@ -48,43 +43,54 @@ fn insert_pair(
     members: &mut Map<String, Value>,
     key: &Bytes<'_>,
     value: Option<&Bytes<'_>>,
+    spelling: Spelling,
 ) -> Result<(), AllocError>
     ensures { OnOk result (members_view members.new.entries
-        ≡ with_pair (members_view members.old.entries)
+        ≡ with_pair spelling (members_view members.old.entries)
         (key.now.list, value_view (option_copied value.entry))) }
 {
-    let value = attribute_value(alloc, value)?;
-    put(members, alloc, key.as_utf8_str(alloc)?.as_str(), value)
+    let value = attribute_value(alloc, value, spelling)?;
+    put(
+        members,
+        alloc,
+        spelling.name(alloc, key.as_bytes())?.as_str(),
+        value,
+    )
 }
 
 // Attributes, with their members in the order of their keys.
-fn pairs_value(alloc: Global, attributes: &Attributes<'_>) -> Result<Map<String, Value>, AllocError>
+fn pairs_value(
+    alloc: Global,
+    attributes: &Attributes<'_>,
+    spelling: Spelling,
+) -> Result<Map<String, Value>, AllocError>
     ensures { IfOk result (λ members.
-        members_view members.entries ≡ pairs_data (printed_pairs (plain attributes.now))) }
+        members_view members.entries
+        ≡ pairs_data spelling (printed_pairs (plain attributes.now))) }
 {
     let mut members = Map::new(alloc);
     for pair in attributes.iter() {
-        insert_pair(alloc, &mut members, &pair.0, pair.1)?;
+        insert_pair(alloc, &mut members, &pair.0, pair.1, spelling)?;
     }
     Ok(members)
 }
 
 // The attributes of a node.
-fn attributes_value(alloc: Global, node: &Node<'_>) -> Result<Value, AllocError>
-    ensures { IfOk result (λ v. view v ≡ attributes_data (node_view node.now)) }
+fn attributes_value(alloc: Global, node: &Node<'_>, spelling: Spelling) -> Result<Value, AllocError>
+    ensures { IfOk result (λ v. view v ≡ attributes_data spelling (node_view node.now)) }
 {
     match node {
-        Node::Tag(tag) => Ok(Value::Object(pairs_value(alloc, tag.attributes())?)),
+        Node::Tag(tag) => Ok(Value::Object(pairs_value(alloc, tag.attributes(), spelling)?)),
         _ => Ok(Value::Object(Map::new(alloc))),
     }
 }
 
 // The name of a node; null of what is no tag.
-fn name_value(alloc: Global, node: &Node<'_>) -> Result<Value, AllocError>
-    ensures { IfOk result (λ v. view v ≡ value_data (name_of (node_view node.now))) }
+fn name_value(alloc: Global, node: &Node<'_>, spelling: Spelling) -> Result<Value, AllocError>
+    ensures { IfOk result (λ v. view v ≡ name_data spelling (name_of (node_view node.now))) }
 {
     match node.name() {
-        Some(name) => text_value(alloc, name),
+        Some(name) => Value::try_from_str(alloc, spelling.name(alloc, name)?.as_str()),
         None => Ok(Value::Null),
     }
 }
@@ -108,13 +114,16 @@ fn node_value(
     alloc: Global,
     handle: NodeHandle,
     node: &Node<'_>,
-    text: &str,
+    text: String,
+    spelling: Spelling,
 ) -> Result<Value, AllocError>
-    ensures { IfOk result (λ v. view v ≡ node_data handle (node_view node.now) text.now) }
+    ensures { IfOk result (λ v.
+        view v ≡ node_data spelling handle (node_view node.now) (string_bytes text)) }
 {
-    let attributes = attributes_value(alloc, node)?;
-    let name = name_value(alloc, node)?;
-    object_value(alloc, &attributes, &name, handle.get_inner(), text)
+    let attributes = attributes_value(alloc, node, spelling)?;
+    let name = name_value(alloc, node, spelling)?;
+    let text = spelling.written(alloc, text)?;
+    object_value(alloc, &attributes, &name, handle.get_inner(), text.as_str())
 }
 
 // What is said of a node.
@@ -124,38 +133,45 @@ fn object<'a>(
     parser: &Parser<'a>,
     handle: NodeHandle,
     node: &Node<'a>,
+    spelling: Spelling,
 ) -> Result<Value, Failure>
     ensures { let text = outcome_of (inner_text (map node_view parser.now.nodes)
         (node_view node.now)) in
-        Gives view (outcome_map (node_data handle (node_view node.now)) text) result }
+        Gives view (outcome_map (node_data spelling handle (node_view node.now)) text) result }
 {
     let text = node.inner_text(alloc, parser)?;
-    Ok(node_value(alloc, handle, node, text.as_str())?)
+    Ok(node_value(alloc, handle, node, text, spelling)?)
 }
 
 // What is said of the node of a handle, which is refused past the table.
-fn object_at(alloc: Global, parser: &Parser<'_>, handle: NodeHandle) -> Result<Value, Failure>
-    ensures { Gives view (data_at (map node_view parser.now.nodes) handle) result }
+fn object_at(
+    alloc: Global,
+    parser: &Parser<'_>,
+    handle: NodeHandle,
+    spelling: Spelling,
+) -> Result<Value, Failure>
+    ensures { Gives view (data_at spelling (map node_view parser.now.nodes) handle) result }
 {
     match handle.get(parser) {
-        Some(node) => object(alloc, parser, handle, node),
+        Some(node) => object(alloc, parser, handle, node, spelling),
         None => Err(Failure::Refused),
     }
 }
 
-// What is said of the nodes that are left.
+// What is said of the nodes of these numbers.
 #[tactic(auto, using(tl_page::proofs::Outcomes::followed))]
 fn objects(
     alloc: Global,
-    found: QuerySelectorIterator<'_, '_>,
     parser: &Parser<'_>,
+    numbers: &[u32],
+    spelling: Spelling,
 ) -> Result<Vec<Value>, Failure>
-    ensures { let listed = list_data (map node_view parser.now.nodes) found.entry in
+    ensures { let listed = list_data spelling (map node_view parser.now.nodes) numbers.now in
         Gives (λ values. map view values.items) listed result }
 {
     let mut list = Vec::new(alloc);
-    for handle in found {
-        let object = object_at(alloc, parser, handle)?;
+    for number in numbers {
+        let object = object_at(alloc, parser, NodeHandle::new(*number), spelling)?;
         list.push(object).map_err(AllocError::from)?;
     }
     Ok(list)
@@ -173,24 +189,18 @@ fn array_of(alloc: Global, list: Vec<Value>, end: &str) -> Result<Output, AllocE
     Ok(Output { text, is_found })
 }
 
-/// An array of JSON with an object for each node where the selector of a text holds, in order: its
-/// number, its name, its attributes and its text. A text that is no selector is refused.
+/// An array of JSON with an object for each node of these numbers, in order: its number, its name,
+/// its attributes and its text.
 pub fn array(
     alloc: Global,
     document: &VDom<'_>,
-    selector: &str,
+    numbers: &[u32],
+    spelling: Spelling,
     end: &str,
 ) -> Result<Output, Failure>
-    ensures objects { (e : Selector) → IsSelectorText selector.now e →
-        let d = document_of document.now in
-        let listed = list_data d.nodes (matches_in d e) in
+    ensures { let listed = list_data spelling (document_of document.now).nodes numbers.now in
         Gives finding_of (outcome_map (array_line end.now) listed) result }
-    ensures no_selector { IsNoSelector selector.now → Gives finding_of refused result }
 {
-    let query = document.query_selector(alloc, selector)?;
-    let Some(found) = query else {
-        return Err(Failure::Refused);
-    };
-    let list = objects(alloc, found, document.parser())?;
+    let list = objects(alloc, document.parser(), numbers, spelling)?;
     Ok(array_of(alloc, list, end)?)
 }

@@ -1,20 +1,22 @@
 //! The lists of a policy, as options say them.
 ghost use Rattle.std.specs.Prelude.{◌≡◌, ◌++◌, ◌∷◌, ◌<◌, [], length, IfOk, IfSome, OnOk, string_bytes};
 ghost use Rattle.std.specs.List.{slice_split};
-ghost use Rattle.tl_safe.specs.Lists.{blog_lists};
 ghost use Rattle.tl_safe.specs.Names.{listed_words, words_of};
-ghost use Rattle.tl_cli.specs.ListOptions.{is_comma, lists_in, lists_or_default, option_line, policy_text, prefix_or_default, list_options, text_of, words_in, remaining_words, words_or_default};
+ghost use Rattle.tl_cli.specs.ListOptions.{is_comma, lists_in, lists_or_default, option_line, policy_text, prefix_or_default, list_options, relative_line, text_of, words_in, remaining_words, words_or_default};
 
 use std::alloc::{AllocError, Global};
 use tl_safe::Lists;
 
-/// The texts of lists, where they are said: words with commas between them, and a prefix.
+/// The texts of lists, where they are said: words with commas between them, and a prefix; and the
+/// lists that count where they are not.
 #[derive(Clone, Copy)]
 pub struct ListTexts<'c> {
+    pub own: Lists<'static>,
     pub tags: Option<&'c str>,
     pub keys: Option<&'c str>,
     pub link_keys: Option<&'c str>,
     pub link_prefixes: Option<&'c str>,
+    pub relative_links: bool,
     pub id_prefix: Option<&'c str>,
 }
 
@@ -88,21 +90,23 @@ pub struct WordLists<'c> {
     keys: Vec<&'c str>,
     link_keys: Vec<&'c str>,
     link_prefixes: Vec<&'c str>,
+    relative_links: bool,
     id_prefix: &'c str,
 }
 
 impl<'c> WordLists<'c> {
-    /// Those of these texts, and where a list isn't said that for the text of a blog.
+    /// Those of these texts, and where a list isn't said that which counts then.
     pub fn new(alloc: Global, texts: &ListTexts<'c>) -> Result<WordLists<'c>, AllocError>
         ensures { IfOk result (λ words. lists_in words
-            ≡ lists_or_default (list_options texts.now) blog_lists) }
+            ≡ lists_or_default (list_options texts.now) (listed_words texts.now.own)) }
     {
-        let own = Lists::BLOG;
+        let own = texts.own;
         Ok(WordLists {
             tags: list(alloc, texts.tags, own.tags)?,
             keys: list(alloc, texts.keys, own.keys)?,
             link_keys: list(alloc, texts.link_keys, own.link_keys)?,
             link_prefixes: list(alloc, texts.link_prefixes, own.link_prefixes)?,
+            relative_links: texts.relative_links | own.relative_links,
             id_prefix: id_prefix(texts.id_prefix, own.id_prefix),
         })
     }
@@ -116,6 +120,7 @@ impl<'c> WordLists<'c> {
             keys: self.keys.as_slice(),
             link_keys: self.link_keys.as_slice(),
             link_prefixes: self.link_prefixes.as_slice(),
+            relative_links: self.relative_links,
             id_prefix: self.id_prefix,
         }
     }
@@ -138,6 +143,17 @@ fn write_line(option: &str, words: &[&str], out: &mut String) -> Result<(), Allo
     out.push('\n')
 }
 
+// Writes the option for links beside the page on a line, where they may stand.
+fn write_flag(relative_links: bool, out: &mut String) -> Result<(), AllocError>
+    ensures { OnOk result (string_bytes out.new
+        ≡ string_bytes out.old ++ relative_line relative_links) }
+{
+    if relative_links {
+        out.push_str("--relative-links\n")?;
+    }
+    Ok(())
+}
+
 /// The options that say these lists, one on each line.
 pub fn lines_of(alloc: Global, lists: &Lists<'_>) -> Result<String, AllocError>
     ensures { IfOk result (λ text. string_bytes text ≡ policy_text (listed_words lists.now)) }
@@ -147,6 +163,7 @@ pub fn lines_of(alloc: Global, lists: &Lists<'_>) -> Result<String, AllocError>
     write_line("--keys", lists.keys, &mut out)?;
     write_line("--link-keys", lists.link_keys, &mut out)?;
     write_line("--links", lists.link_prefixes, &mut out)?;
+    write_flag(lists.relative_links, &mut out)?;
     write_line("--prefix", &[lists.id_prefix], &mut out)?;
     Ok(out)
 }

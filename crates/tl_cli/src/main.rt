@@ -4,7 +4,7 @@
 ghost use Rattle.std.specs.Prelude.{◌≡◌, Err, IfErr};
 ghost use Rattle.tl_page.specs.declared.failure.Failure.TheVariants.{NotUnderstood, OutOfMemory as NoMemory};
 ghost use Rattle.tl_cli.specs.declared.args.UsageError.TheVariants.{OutOfMemory};
-ghost use Rattle.tl_cli.specs.UsageErrors.{IsNoStep};
+ghost use Rattle.tl_cli.specs.UsageErrors.{IsWrongWord};
 
 mod args;
 mod commands;
@@ -15,13 +15,17 @@ mod lists;
 mod output;
 mod pages;
 mod question;
+mod reading;
 mod reports;
+mod selected;
+mod selection;
 mod task;
 
 use args::{Action, Pages, UsageError, read};
 use clap::Error;
 use lists::{ListTexts, WordLists, lines_of};
 use pages::{STANDARD_OUTPUT, process_pages, report, write};
+use selected::Selected;
 use std::alloc::AllocError;
 use std::env;
 use std::io::ErrorKind;
@@ -72,6 +76,7 @@ fn run(rt: &HostRuntime) -> Result<u8, Failure> {
     match read(rt.alloc(), &words) {
         Ok(args) => match &args.action {
             Action::Task(task) => process_pages(rt, task, &args.pages),
+            Action::Select(selected) => select(rt, selected, &args.pages),
             Action::Safe(texts) => sanitize(rt, texts, &args.pages),
             Action::Policy(texts) => write_policy(rt, texts),
         },
@@ -100,7 +105,7 @@ fn print_clap_error(rt: &HostRuntime, error: &Error) -> Result<u8, Failure> {
 // Says why nothing is made, or what was asked for in its place.
 fn report_usage_error(rt: &HostRuntime, usage_error: &UsageError<'_>) -> Result<u8, Failure>
     ensures memory { usage_error.now ≡ OutOfMemory → result ≡ Err NoMemory }
-    ensures step { IsNoStep usage_error.now → result ≡ Err NotUnderstood }
+    ensures wrong { IsWrongWord usage_error.now → result ≡ Err NotUnderstood }
 {
     match usage_error {
         UsageError::Clap(error) => return print_clap_error(rt, error),
@@ -115,8 +120,31 @@ fn report_usage_error(rt: &HostRuntime, usage_error: &UsageError<'_>) -> Result<
         UsageError::NoStep(word) => {
             let _ = eprintln!(rt; "tl: no step: {word}");
         }
+        UsageError::NoEncoding(label) => {
+            let _ = eprintln!(rt; "tl: no encoding that is read: {label}");
+        }
+        UsageError::NoSelector(error, text) => {
+            let described = error.describe(text);
+            let _ = eprintln!(rt; "tl: no selector: {described}");
+        }
     }
     Err(Failure::NotUnderstood)
+}
+
+// The key of the values that are selected, as it stands in the pages that are read.
+fn key_of(rt: &HostRuntime, selected: &Selected<'_>) -> Result<String, Failure>
+    ensures { IfErr result (λ failure. failure ≡ NoMemory) }
+{
+    match selected.key(rt.alloc()) {
+        Ok(key) => Ok(key),
+        Err(_) => Err(report_failure(rt, "key", Failure::OutOfMemory)),
+    }
+}
+
+// Writes what is selected of pages.
+fn select(rt: &HostRuntime, selected: &Selected<'_>, pages: &Pages<'_>) -> Result<u8, Failure> {
+    let key = key_of(rt, selected)?;
+    process_pages(rt, &Task::Ask(selected.question(key.as_str())), pages)
 }
 
 // The lists that texts say.

@@ -1,8 +1,9 @@
 //! What is made of the pages in files.
 ghost use Rattle.std.specs.Prelude.{◌≡◌, IfErr, IfOk, IfSome, take};
-ghost use Rattle.tl_page.specs.declared.failure.Failure.TheVariants.{OutOfMemory};
+ghost use Rattle.tl_page.specs.declared.failure.Failure.TheVariants.{NotUnderstood, OutOfMemory};
 ghost use Rattle.tl_safe.specs.Names.{words_of};
 ghost use Rattle.tl_cli.specs.Reports.{AreReports};
+ghost use Rattle.tl_cli.specs.declared.reports.Answer.TheVariants.{Failed};
 
 use crate::args::Pages;
 use crate::filename::with_prefix;
@@ -10,8 +11,9 @@ use crate::reports::{Answer, Report, status_of};
 use crate::task::{Task, execute};
 use std::alloc::{AllocError, Global};
 use std::fs::File;
-use std::io;
 use std::io::{ErrorKind, Read, Write};
+use std::{fmt, io};
+use tl_encoding::{DecodeError, Encoding, EncodingError, decode, encoding_of};
 use tl_page::Failure;
 
 static STANDARD_INPUT: [&str; 1] = ["-"];
@@ -78,6 +80,22 @@ fn page_output(
     Ok(with_prefix(rt.alloc(), name.as_str(), end, text.as_bytes())?)
 }
 
+// What a page is in: what was said, or what it says.
+fn encoding_in<'p>(pages: &Pages<'_>, page: &'p [u8]) -> Result<Encoding, EncodingError<'p>> {
+    match pages.encoding {
+        Some(encoding) => Ok(encoding),
+        None => encoding_of(page),
+    }
+}
+
+// Says on standard error why a page is no text.
+fn not_understood<E: fmt::Display>(rt: &HostRuntime, file: &str, error: &E) -> Answer
+    ensures { result ≡ Failed NotUnderstood }
+{
+    let _ = eprintln!(rt; "tl: {file}: {error}");
+    Answer::Failed(Failure::NotUnderstood)
+}
+
 // Does a task on the page in a file.
 fn process_page(
     rt: &HostRuntime,
@@ -86,8 +104,17 @@ fn process_page(
     file: &str,
 ) -> Result<Answer, Failure> {
     let page = page_of(rt, file)?;
+    let encoding = match encoding_in(pages, &page) {
+        Ok(encoding) => encoding,
+        Err(error) => return Ok(not_understood(rt, file, &error)),
+    };
+    let text = match decode(rt.alloc(), page, encoding) {
+        Ok(text) => text,
+        Err(DecodeError::OutOfMemory) => return Err(Failure::OutOfMemory),
+        Err(error) => return Ok(not_understood(rt, file, &error)),
+    };
     let end = if pages.ends_with_zero { "\0" } else { "\n" };
-    let output = execute(rt.alloc(), task, end, &page)?;
+    let output = execute(rt.alloc(), task, pages.reading, end, text.as_bytes())?;
     let is_found = output.is_found;
     let text = page_output(rt, pages, file, output.text)?;
     match write(rt, &text) {

@@ -7,5 +7,5 @@ use Rattle.tl_cli.proofs.json.pairs_value.Goals as goal
 
 pub loop-pair-init : goal.loop-pair-init
 loop-pair-init c =
-    ap (λ members. fold with_pair (members_view members) (map pair_view c.into_iter-pair-iterator.result)) c.new-members.ensures.empty
-    ∙ ap pairs_data (ap (map pair_view) c.into_iter-pair-iterator.ensures.into_iter_gives ∙ ap (map pair_view) c.iter-pair-items.ensures.value ∙ pairs-listed c.args.attributes.now)
+    ap (λ members. fold (with_pair c.args.spelling) (members_view members) (map pair_view c.into_iter-pair-iterator.result)) c.new-members.ensures.empty
+    ∙ ap (pairs_data c.args.spelling) (ap (map pair_view) c.into_iter-pair-iterator.ensures.into_iter_gives ∙ ap (map pair_view) c.iter-pair-items.ensures.value ∙ pairs-listed c.args.attributes.now)

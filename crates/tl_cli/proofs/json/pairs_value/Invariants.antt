@@ -8,4 +8,4 @@ use Rattle.tl_cli.proofs.json.pairs_value.Given as goal
 -- what was put, and then the pairs that are left, are all
 abbrev pub invariant-loop-pair : goal.invariant-loop-pair
 invariant-loop-pair l =
-    fold with_pair (members_view l.members.entries) (map pair_view l.pair-iterator) ≡ pairs_data (printed_pairs (plain l.attributes))
+    fold (with_pair l.spelling) (members_view l.members.entries) (map pair_view l.pair-iterator) ≡ pairs_data l.spelling (printed_pairs (plain l.attributes))

@@ -1,9 +1,11 @@
-use Rattle.std.proofs.Common.{◌≡◌, map, string_bytes}
-use Rattle.tl_page.specs.Outcome.{followed_by, joined, success}
-use Rattle.tl_cli.specs.Lines.{ended}
+use Rattle.std.proofs.Common.{◌≡◌, drop, string_bytes}
+use Rattle.tl.specs.View.{document_of}
+use Rattle.tl_page.specs.Outcome.{followed_by, success}
+use Rattle.tl_cli.specs.Selection.{field_lines}
 use Rattle.tl_cli.proofs.lines.lines_of.Given as goal
 
--- what is written, and then the texts that are left, are all
-abbrev pub invariant-loop-text : goal.invariant-loop-text
-invariant-loop-text l =
-    followed_by (success (string_bytes l.lines)) (joined (map (ended l.end) l.text-iterator)) ≡ joined (map (ended l.end) l.initial.text-iterator)
+-- what is written, and then the fields of the nodes that are left, are all
+abbrev pub invariant-loop-number : goal.invariant-loop-number
+invariant-loop-number l =
+    followed_by (success (string_bytes l.lines)) (field_lines l.field l.end (document_of l.document).nodes (drop l.number-index l.numbers))
+    ≡ field_lines l.field l.end (document_of l.document).nodes l.numbers

@@ -6,4 +6,4 @@ use Rattle.tl_cli.proofs.lines.link_lines.Given as goal
 -- what is written, and then the links that are left, are all
 abbrev pub invariant-loop-link : goal.invariant-loop-link
 invariant-loop-link l =
-    string_bytes l.lines ++ flat_map (link_line l.end) (lists_of (drop l.link-index l.link-items)) ≡ flat_map (link_line l.end) (lists_of l.link-items)
+    string_bytes l.lines ++ flat_map (link_line l.spelling l.end) (lists_of (drop l.link-index l.link-items)) ≡ flat_map (link_line l.spelling l.end) (lists_of l.link-items)

@@ -1,0 +1,120 @@
+//! What is written of the nodes where a selector holds.
+ghost use Rattle.std.specs.Prelude.{◌≡◌, ℕ, Err, List, IfErr, IfOk, take};
+ghost use Rattle.tl.specs.View.{document_of};
+ghost use Rattle.tl_css.specs.Meaning.{AreFound, IsForest};
+ghost use Rattle.tl_page.specs.Outcome.{Gives};
+ghost use Rattle.tl_page.specs.declared.failure.Failure.TheVariants.{OutOfMemory};
+ghost use Rattle.tl_cli.specs.Findings.{finding_of};
+ghost use Rattle.tl_css_select.specs.declared.forest.SelectError.TheVariants.{NotForest, TooLong};
+ghost use Rattle.tl_cli.specs.Selection.{listing_of, nodes_read};
+
+use crate::json::array;
+use crate::lines::{count_line, field_lines};
+use crate::output::Output;
+use crate::reading::Reading;
+use std::alloc::Global;
+use tl::VDom;
+use tl_css::Selector;
+use tl_css_select::document::{select, select_decoded};
+use tl_css_select::forest::SelectError;
+use tl_extract::{Field, Spelling};
+use tl_page::Failure;
+
+/// What is written of the nodes where a selector holds.
+#[derive(Clone, Copy)]
+pub enum Listing<'w> {
+    /// A field of each.
+    Fields(Field<'w>),
+    /// The field of the first.
+    First(Field<'w>),
+    /// How many there are.
+    Count,
+    /// An object of JSON for each.
+    Objects(Spelling),
+}
+
+// The numbers of the nodes where a selector holds.
+fn find(
+    alloc: Global,
+    document: &VDom<'_>,
+    selector: &Selector,
+    reading: Reading,
+) -> Result<Vec<u32>, SelectError>
+    ensures found { IfOk result (λ ns.
+        AreFound (nodes_read reading (document_of document.now).nodes) selector.now ns.items) }
+    ensures not_forest { result ≡ Err NotForest → IsForest (document_of document.now).nodes → ⊥ }
+    ensures not_too_long { result ≡ Err TooLong → ⊥ }
+{
+    match reading {
+        Reading::Browser => select_decoded(alloc, document, selector),
+        Reading::AsIs => select(alloc, document, selector),
+    }
+}
+
+// The same; a table that is no forest is refused.
+fn numbers(
+    alloc: Global,
+    document: &VDom<'_>,
+    selector: &Selector,
+    reading: Reading,
+) -> Result<Vec<u32>, Failure>
+    ensures found { IfOk result (λ ns.
+        AreFound (nodes_read reading (document_of document.now).nodes) selector.now ns.items) }
+    ensures memory { IsForest (document_of document.now).nodes
+        → IfErr result (λ failure. failure ≡ OutOfMemory) }
+{
+    match find(alloc, document, selector, reading) {
+        Ok(numbers) => Ok(numbers),
+        Err(SelectError::OutOfMemory) => Err(Failure::OutOfMemory),
+        Err(SelectError::NotForest) => Err(Failure::Refused),
+        Err(SelectError::TooLong) => Err(Failure::Refused),
+    }
+}
+
+// The first number, if there is one.
+fn first(numbers: &[u32]) -> &[u32]
+    ensures { result.now ≡ take 1 numbers.now }
+{
+    if numbers.is_empty() {
+        numbers
+    } else {
+        &numbers[..1]
+    }
+}
+
+// What is written of the nodes of these numbers.
+fn list(
+    alloc: Global,
+    document: &VDom<'_>,
+    numbers: &[u32],
+    listing: &Listing<'_>,
+    end: &str,
+) -> Result<Output, Failure>
+    ensures { let nodes = (document_of document.now).nodes in
+        Gives finding_of (listing_of listing.now end.now nodes numbers.now) result }
+{
+    match listing {
+        Listing::Fields(field) => field_lines(alloc, document, numbers, field, end),
+        Listing::First(field) => field_lines(alloc, document, first(numbers), field, end),
+        Listing::Count => Ok(count_line(alloc, numbers.len(), end)?),
+        Listing::Objects(spelling) => array(alloc, document, numbers, *spelling, end),
+    }
+}
+
+/// What is written of the nodes of a document where a selector holds. Only a table that is no
+/// forest is refused, and no document that was just read has one.
+pub fn selection(
+    alloc: Global,
+    document: &VDom<'_>,
+    selector: &Selector,
+    reading: Reading,
+    form: &Listing<'_>,
+    end: &str,
+) -> Result<Output, Failure>
+    ensures { (ns : List ℕ) → let nodes = (document_of document.now).nodes in
+        IsForest nodes → AreFound (nodes_read reading nodes) selector.now ns
+        → Gives finding_of (listing_of form.now end.now nodes ns) result }
+{
+    let numbers = numbers(alloc, document, selector, reading)?;
+    list(alloc, document, &numbers, form, end)
+}

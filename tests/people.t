@@ -1,0 +1,493 @@
+Pages as people write them: what they ask of one, and forms of today's pages.
+
+A page with names in any case, bare values, end tags that are left out, `<` in texts and scripts, and references.
+
+  $ cat >blog.html <<'END'
+  > <!DOCTYPE html>
+  > <html lang=en>
+  > <head>
+  > <meta charset="utf-8">
+  > <title>Bread &amp; butter &ndash; Anna&#39;s blog</title>
+  > <meta property="og:title" content="Bread &amp; butter">
+  > <meta property="og:image" content="https://cdn.example.org/a.jpg?w=1200&amp;h=630">
+  > <meta property=og:type content=article>
+  > <meta name="viewport" content="width=device-width, initial-scale=1">
+  > <link rel="stylesheet" href="/css/site.css">
+  > <link rel="canonical" href="https://anna.example/bread">
+  > <script type="application/ld+json">
+  > {"@context":"https://schema.org","@type":"Article","headline":"Bread & butter","url":"https://anna.example/bread"}
+  > </script>
+  > <script>
+  >   if (window.innerWidth < 600 && a<b) { document.write('<img src="/small.png">'); }
+  > </script>
+  > <style>p > a { color: red } /* <b> */</style>
+  > </head>
+  > <body class="post single">
+  > <!-- navigation -->
+  > <nav><ul>
+  > <li><a href="/">Home</a>
+  > <li><a href=/about>About</a>
+  > <li><a href="https://other.example/x" class="external link" target=_blank>Elsewhere</a>
+  > <li><a href='http://third.example/?a=1&amp;b=2'>Third</a>
+  > </ul></nav>
+  > <article id="post-17">
+  > <h2 class="entry-title"><a href="/bread" rel="bookmark">Bread &amp; butter</a></h2>
+  > <p>First paragraph with <em>emphasis</em> and 3 < 4.
+  > <p>Second paragraph<br>with a break and an <a href="mailto:a@b.c">address</a>.
+  > <img src="/img/loaf.png" alt="A loaf"><IMG SRC="/img/KNIFE.PNG">
+  > <img src=img/crumb.jpg width=100 height=50>
+  > </article>
+  > <article id="post-16">
+  > <h2 class="entry-title"><a href="/cheese">Cheese</a></h2>
+  > <P CLASS="intro">Upper case</P>
+  > <img data-src="/lazy.jpg" src="data:image/gif;base64,R0lGODlhAQABAAAAACw=" alt="">
+  > </article>
+  > <table id="prices">
+  > <thead><tr><th>Item<th>Price, EUR</thead>
+  > <tbody>
+  > <tr><td>Rye</td><td>3.20</td></tr>
+  > <tr><td>White "soft"</td><td>2,10</td></tr>
+  > <tr><td>Spelt &amp; oat<td>4.50
+  > </tbody></table>
+  > <form action="/search" method=get><input name=q value="a b"><select name=s><option value=1 selected>One<option value=2>Two</select></form>
+  > <a href="/x" onclick="return f('a>b')">tricky</a>
+  > <footer>&copy; 2024 Anna</footer>
+  > </body></html>
+  > END
+
+Its table; the links; the titles of articles; what a preview takes of it.
+
+  $ tl select -t 'tr td' blog.html | paste -d, - -
+  Rye,3.20
+  White "soft",2,10
+  Spelt & oat,4.50
+  ,
+  $ tl select --json 'tr' blog.html | grep -o '"text":"[^}]*'
+  "text":"ItemPrice, EUR"
+  "text":"Rye3.20"
+  "text":"White \"soft\"2,10"
+  "text":"Spelt & oat4.50\n"
+  $ tl links blog.html
+  /css/site.css
+  https://anna.example/bread
+  /
+  /about
+  https://other.example/x
+  http://third.example/?a=1&b=2
+  /bread
+  mailto:a@b.c
+  /img/loaf.png
+  /img/KNIFE.PNG
+  img/crumb.jpg
+  /cheese
+  data:image/gif;base64,R0lGODlhAQABAAAAACw=
+  /search
+  /x
+  $ tl select -a href a blog.html
+  /
+  /about
+  https://other.example/x
+  http://third.example/?a=1&b=2
+  /bread
+  mailto:a@b.c
+  /cheese
+  /x
+  $ tl select -t 'h2.entry-title a' blog.html
+  Bread & butter
+  Cheese
+  $ tl select -1t title blog.html
+  Bread & butter – Anna's blog
+  $ tl select -a content 'meta[property^="og:"]' blog.html
+  Bread & butter
+  https://cdn.example.org/a.jpg?w=1200&h=630
+  article
+  $ tl select -a content 'meta[name=viewport]' blog.html
+  width=device-width, initial-scale=1
+
+Pictures, and how many have an `alt`; data of JSON, also with markup in it; the text of the page.
+
+  $ tl select -a src img blog.html
+  /img/loaf.png
+  /img/KNIFE.PNG
+  img/crumb.jpg
+  data:image/gif;base64,R0lGODlhAQABAAAAACw=
+  $ tl select -c img blog.html
+  4
+  $ tl select -c 'img[alt]' blog.html
+  2
+  $ tl select -t 'script[type="application/ld+json"]' blog.html
+  (empty)
+  {"@context":"https://schema.org","@type":"Article","headline":"Bread & butter","url":"https://anna.example/bread"}
+  (empty)
+  $ printf '%s' '<script type="application/ld+json">{"description":"<p>Hi <b>x</b></p> and 1 < 2","t":"a<br/>b"}</script>' | tl select -t script
+  {"description":"<p>Hi <b>x</b></p> and 1 < 2","t":"a<br/>b"}
+  $ tl text -w blog.html
+  Bread & butter – Anna's blog
+  Home
+  About
+  Elsewhere
+  Third
+  Bread & butter
+  First paragraph with emphasis and 3 < 4.
+  Second paragraph
+  with a break and an address.
+  Cheese
+  Upper case
+  Item Price, EUR
+  Rye 3.20
+  White "soft" 2,10
+  Spelt & oat 4.50
+  One
+  Two
+  tricky
+  © 2024 Anna
+  $ tl select -t article blog.html | head -3
+  (empty)
+  Bread & butter
+  First paragraph with emphasis and 3 < 4.
+
+The first match; by a beginning; one in another; several files; values and upper-case names; lists and cells.
+
+  $ tl select -1a href 'nav a' blog.html
+  /
+  $ tl select -c 'a[href^=http]' blog.html
+  2
+  $ tl select -t 'article > h2 > a' blog.html
+  Bread & butter
+  Cheese
+  $ tl select -c li blog.html blog.html
+  blog.html:4
+  blog.html:4
+  $ tl select -t p.intro blog.html
+  Upper case
+  $ tl select -a class p blog.html
+  intro
+  $ tl select -t 'ul > li > a' blog.html
+  Home
+  About
+  Elsewhere
+  Third
+  $ tl select -t 'tr > td' blog.html
+  Rye
+  3.20
+  White "soft"
+  2,10
+  Spelt & oat
+  4.50
+  (empty)
+  $ tl select -a value option blog.html
+  1
+  2
+  $ tl select -a onclick '[onclick]' blog.html
+  return f('a>b')
+  $ printf '<p\tid="t">a\r\nb' | tl select --json p
+  [{"attributes":{"id":"t"},"name":"p","node":0,"text":"a\nb"}]
+  $ printf '<!-- a --><p>b<!-- c -->' | tl select '*'
+  <p>b<!-- c --></p>
+  $ printf '<!DOCTYPE html PUBLIC "-//W3C//DTD XHTML 1.0 Transitional//EN" "http://www.w3.org/TR/xhtml1/DTD/xhtml1-transitional.dtd"><p>x' | tl text -w
+  x
+  $ printf '<?xml version="1.0"?><title>x</title\n><p>y' | tl text -w
+  x
+  y
+  $ printf 'if <script>if (1 < 2) { f(); }</script> done' | tl text
+  if if (1 < 2) { f(); } done (no-eol)
+  $ printf '%s' "<a title='say \"hi\"'>w" | tl select a
+  <a title="say &quot;hi&quot;">w</a>
+  $ printf '<p>Caf&eacute; &#8364; 5, a&nbsp;b &copy &amp;lt;' | tl text
+  Café € 5, a\xa0b © &lt; (esc) (no-eol)
+
+What people type into a comment stays as they typed it.
+
+  $ printf '%s' 'I <3 you all & me' | tl sanitize
+  I &lt;3 you all &amp; me (no-eol)
+  $ printf '%s' 'see <- here and on' | tl sanitize
+  see &lt;- here and on (no-eol)
+  $ printf '%s' 'x << 2 and y >> 1' | tl sanitize
+  x &lt;&lt; 2 and y >> 1 (no-eol)
+  $ printf '%s' 'a <= b, c >= d. Done.' | tl sanitize
+  a &lt;= b, c >= d. Done. (no-eol)
+  $ printf '%s' 'price <$5, ok?' | tl sanitize
+  price &lt;$5, ok? (no-eol)
+  $ printf '%s' '<a href=/x>y</a>' | tl sanitize
+  <a href="/x">y</a> (no-eol)
+  $ printf '%s' '<A HREF="/x">y</A>' | tl sanitize
+  <a href="/x">y</a> (no-eol)
+  $ printf '%s' '<a title='"'"'say "hi"'"'"'>w</a>' | tl sanitize
+  <a title="say &quot;hi&quot;">w</a> (no-eol)
+
+As it is, by the grammar of `tl` alone.
+
+  $ tl select --as-is -c img blog.html
+  3
+  $ tl links --as-is blog.html | head -4
+  /css/site.css
+  https://anna.example/bread
+  /small.png
+  /
+  $ printf 'I <3 you' | tl sanitize --as-is
+  I\x20 (esc) (no-eol)
+  $ printf '<p>a &amp; b</p>' | tl text --as-is
+  a &amp; b (no-eol)
+  $ printf '<P>a<p>b' | tl outline --as-is
+  0 tag P 1 2
+  1 text a
+  2 tag p 3
+  3 text b
+  $ printf '<P>a<p>b' | tl outline
+  0 tag p 1
+  1 text a
+  2 tag p 3
+  3 text b
+  $ printf '<P>a<p>b' | tl print
+  <P>a<p>b</p></P> (no-eol)
+  $ printf '<P>a<p>b' | tl edit 'set 0 id x'
+  <P id="x">a<p>b</p></P> (no-eol)
+
+Names are asked and written as the page has them; what stands in the form is another spelling.
+
+  $ printf '<a @click="f()" :Class="{a:b}" data-a.b=1>&lt;b&gt; &amp; \047c\047</a>' >names.html
+  $ tl select -a @click a names.html
+  f()
+  $ tl select -a :CLASS a names.html
+  {a:b}
+  $ tl select -a data-a.b a names.html
+  1
+  $ tl select --json a names.html
+  [{"attributes":{":class":"{a:b}","@click":"f()","data-a.b":"1"},"name":"a","node":0,"text":"<b> & 'c'"}]
+  $ tl select --raw --json a names.html
+  [{"attributes":{"+40click":"f()",":class":"{a:b}","data-a+2eb":"1"},"name":"a","node":0,"text":"&lt;b> &amp; 'c'"}]
+  $ tl select -a @click '[\@click]' names.html
+  f()
+  $ tl select -c '[data-a\.b="1"]' names.html
+  1
+  $ printf '<a title="a &amp; b">c' | tl select -t '[title="a & b"]'
+  c
+  $ printf '<a title="a &amp; b">c' | tl select --as-is -t '[title="a & b"]'
+  [1]
+  $ tl select --raw -a @click a names.html
+  f()
+  $ tl select a names.html
+  <a +40click="f()" :class="{a:b}" data-a+2eb="1">&lt;b> &amp; 'c'</a>
+  $ tl select -H a names.html
+  &lt;b> &amp; 'c'
+  $ tl select -t a names.html
+  <b> & 'c'
+  $ tl select --raw -t a names.html
+  &lt;b> &amp; 'c'
+  $ tl text names.html
+  <b> & 'c' (no-eol)
+  $ tl text --raw names.html
+  &lt;b> &amp; 'c' (no-eol)
+  $ tl text -w --raw names.html
+  &lt;b> &amp; 'c'
+  $ printf '<o:p>a &lt; b</o:p><x.y>c' | tl outline
+  0 tag o:p 1
+  1 text a < b
+  2 tag x.y 3
+  3 text c
+  $ printf '<o:p>a &lt; b</o:p><x.y>c' | tl outline --raw
+  0 tag o:p 1
+  1 text a &lt; b
+  2 tag x+2ey 3
+  3 text c
+  $ printf '<a href="?q=1&amp;r=2&lt=3">' | tl links
+  ?q=1&r=2&lt=3
+  $ printf '<a href="?q=1&amp;r=2&lt=3">' | tl links --raw
+  ?q=1&amp;r=2&amp;lt=3
+  $ printf '<a href="?q=1&amp;r=2&lt=3">' | tl links --as-is
+  ?q=1&amp;r=2&lt=3
+  $ printf '<a href="?q=1&amp;r=2">' | tl links -0
+  ?q=1&r=2\x00 (esc) (no-eol)
+
+Encodings.
+
+  $ printf '<p>caf\351 \200' >latin1.html
+  $ printf '<!doctype html><meta charset="ISO-8859-1"><p>caf\351 \200' >meta.html
+  $ printf '<meta http-equiv=Content-Type content="text/html; charset=windows-1252"><p>caf\351' >http.html
+  $ printf '\357\273\277<p>caf\303\251' >mark.html
+  $ tl text latin1.html
+  tl: latin1.html: no UTF-8 at byte 6 (err)
+  [2]
+  $ tl text --encoding latin1 latin1.html
+  café € (no-eol)
+  $ tl text --encoding=Windows-1252 latin1.html
+  café € (no-eol)
+  $ tl text --encoding utf-8 latin1.html
+  tl: latin1.html: no UTF-8 at byte 6 (err)
+  [2]
+  $ tl text meta.html
+  café € (no-eol)
+  $ tl text --encoding utf8 meta.html
+  tl: meta.html: no UTF-8 at byte 48 (err)
+  [2]
+  $ tl text http.html
+  café (no-eol)
+  $ tl text mark.html
+  café (no-eol)
+  $ tl select -t p meta.html latin1.html mark.html
+  meta.html:café €
+  mark.html:café
+  tl: latin1.html: no UTF-8 at byte 6 (err)
+  [2]
+  $ printf '<p>caf\303\251<meta charset=latin1>' | tl text
+  café (no-eol)
+  $ printf '\376\377\0<\0p' | tl text
+  tl: -: UTF-16 is not read (err)
+  [2]
+  $ printf '\377\376<\0p\0' | tl text
+  tl: -: UTF-16 is not read (err)
+  [2]
+  $ printf '<meta charset=Shift_JIS><p>\203' | tl text
+  tl: -: the encoding `Shift_JIS` is not read (err)
+  [2]
+  $ printf '<meta charset=utf-8><p>\203' | tl text
+  tl: -: no UTF-8 at byte 23 (err)
+  [2]
+  $ (head -c 1024 /dev/zero | tr '\0' a; printf '<meta charset=latin1>\351') | tl text | tail -c 3
+  tl: -: no UTF-8 at byte 1045 (err)
+  $ tl text --encoding utf-16 meta.html
+  tl: no encoding that is read: utf-16 (err)
+  [2]
+  $ tl print meta.html
+  <meta charset="ISO-8859-1"><p>café €</p> (no-eol)
+  $ tl print --encoding latin1 latin1.html
+  <p>café €</p> (no-eol)
+  $ tl sanitize meta.html
+  <p>café €</p> (no-eol)
+  $ tl sanitize --encoding latin1 latin1.html
+  <p>café €</p> (no-eol)
+  $ tl edit 'set 0 id x' -- meta.html
+  tl: meta.html: no UTF-8 at byte 48 (err)
+  [2]
+  $ tl edit --encoding latin1 'set 0 id x' -- latin1.html
+  error: unexpected argument '--encoding' found (err)
+  ...
+  [2]
+
+Forms of today's pages, one on each line; below each is what it holds.
+
+  $ cat >forms <<'END'
+  > <button @click="f()" :class="{a:b}" v-if="x">t</button>
+  > <div *ngIf="a" [value]="b" (click)="c()" #ref>t</div>
+  > <a x-on:click.prevent="f" href="/y">t</a>
+  > <a href="/x"class="y">t</a>
+  > <html ⚡ lang="en"><p>x</p></html>
+  > <!--[if lt IE 9]><script src="/h.js"></script><![endif]--><p>x</p>
+  > <![if !IE]><p>x</p><![endif]>
+  > <p>a<o:p></o:p></p>
+  > <div data-a.b="1" id=x>t</div>
+  > <a href="/x" href="/y">t</a>
+  > <a href = "/x" >t</a>
+  > <a\thref="/x"\tid="q">t</a>
+  > <input value=a/b/c name=n>
+  > <img src=/a.png alt="x">
+  > <a href=?q=1&r=2>t</a>
+  > <td width=50% nowrap>t</td>
+  > <font color=#fff>t</font>
+  > <a href=#top>t</a>
+  > <div style=color:red;top:1px>t</div>
+  > <p class="a\nb">t</p>
+  > <a title=">" href="/x">t</a>
+  > <br clear=all>t
+  > <p>x</p ><p>y</p>
+  > <A HREF="/x">t</a>
+  > <a href="/x">t</A>
+  > <option selected value=1>One
+  > <script>document.write("<a href='/w'>w</a>")</script><p>x</p>
+  > <style>a>b{c:d}</style><p>x</p>
+  > <style>@import "<x>";</style><p>x</p>
+  > <textarea><p>no</p></textarea><p>x</p>
+  > <title>a<b>c</title><p>x</p>
+  > <svg><path d="M0 0"/></svg><p>x</p>
+  > <p>1 < 2</p><p>x</p>
+  > <p>a &lt; b</p>
+  > <noscript><img src="/n.png"></noscript><p>x</p>
+  > <iframe src="/f">fallback <p></iframe><p>x</p>
+  > <ul><li>a<li>b</ul><p>x</p>
+  > <table><tr><td>1<td>2<tr><td>3</table>
+  > <p>a<div>b</div>c</p>
+  > <p>a<p>b
+  > <b><i>x</b>y</i>
+  > <a href="/1">a<a href="/2">b</a>
+  > <select><option>1<option>2</select><p>x</p>
+  > <video src=v.mp4 controls></video>
+  > <time datetime=2024-01-01T10:00>t</time>
+  > <meta name=viewport content=width=device-width>
+  > <link rel=stylesheet href=style.css>
+  > <a href=https://x.org/a>t</a>
+  > <body onload=init()>x</body>
+  > <a href="x" / id="y">t</a>
+  > END
+  $ while read -r page; do printf '%b' "$page" | tl select --json '*'; done <forms
+  [{"attributes":{":class":"{a:b}","@click":"f()","v-if":"x"},"name":"button","node":0,"text":"t"}]
+  [{"attributes":{"#ref":"","(click)":"c()","*ngif":"a","[value]":"b"},"name":"div","node":0,"text":"t"}]
+  [{"attributes":{"href":"/y","x-on:click.prevent":"f"},"name":"a","node":0,"text":"t"}]
+  [{"attributes":{"class":"y","href":"/x"},"name":"a","node":0,"text":"t"}]
+  [{"attributes":{"lang":"en","⚡":""},"name":"html","node":0,"text":"x"},{"attributes":{},"name":"p","node":1,"text":"x"}]
+  [{"attributes":{},"name":"p","node":1,"text":"x"}]
+  [{"attributes":{},"name":"p","node":1,"text":"x"}]
+  [{"attributes":{},"name":"p","node":0,"text":"a"},{"attributes":{},"name":"o:p","node":2,"text":""}]
+  [{"attributes":{"data-a.b":"1","id":"x"},"name":"div","node":0,"text":"t"}]
+  [{"attributes":{"href":"/x"},"name":"a","node":0,"text":"t"}]
+  [{"attributes":{"href":"/x"},"name":"a","node":0,"text":"t"}]
+  [{"attributes":{"href":"/x","id":"q"},"name":"a","node":0,"text":"t"}]
+  [{"attributes":{"name":"n","value":"a/b/c"},"name":"input","node":0,"text":""}]
+  [{"attributes":{"alt":"x","src":"/a.png"},"name":"img","node":0,"text":""}]
+  [{"attributes":{"href":"?q=1&r=2"},"name":"a","node":0,"text":"t"}]
+  []
+  [{"attributes":{"color":"#fff"},"name":"font","node":0,"text":"t"}]
+  [{"attributes":{"href":"#top"},"name":"a","node":0,"text":"t"}]
+  [{"attributes":{"style":"color:red;top:1px"},"name":"div","node":0,"text":"t"}]
+  [{"attributes":{"class":"a\nb"},"name":"p","node":0,"text":"t"}]
+  [{"attributes":{"href":"/x","title":">"},"name":"a","node":0,"text":"t"}]
+  [{"attributes":{"clear":"all"},"name":"br","node":0,"text":""}]
+  [{"attributes":{},"name":"p","node":0,"text":"x"},{"attributes":{},"name":"p","node":2,"text":"y"}]
+  [{"attributes":{"href":"/x"},"name":"a","node":0,"text":"t"}]
+  [{"attributes":{"href":"/x"},"name":"a","node":0,"text":"t"}]
+  [{"attributes":{"selected":"","value":"1"},"name":"option","node":0,"text":"One"}]
+  [{"attributes":{},"name":"script","node":0,"text":"document.write(\"<a href='/w'>w</a>\")"},{"attributes":{},"name":"p","node":2,"text":"x"}]
+  [{"attributes":{},"name":"style","node":0,"text":"a>b{c:d}"},{"attributes":{},"name":"p","node":2,"text":"x"}]
+  [{"attributes":{},"name":"style","node":0,"text":"@import \"<x>\";"},{"attributes":{},"name":"p","node":2,"text":"x"}]
+  [{"attributes":{},"name":"textarea","node":0,"text":"<p>no</p>"},{"attributes":{},"name":"p","node":2,"text":"x"}]
+  [{"attributes":{},"name":"title","node":0,"text":"a<b>c"},{"attributes":{},"name":"p","node":2,"text":"x"}]
+  [{"attributes":{},"name":"svg","node":0,"text":""},{"attributes":{"d":"M0 0"},"name":"path","node":1,"text":""},{"attributes":{},"name":"p","node":2,"text":"x"}]
+  [{"attributes":{},"name":"p","node":0,"text":"1 < 2"},{"attributes":{},"name":"p","node":2,"text":"x"}]
+  [{"attributes":{},"name":"p","node":0,"text":"a < b"}]
+  [{"attributes":{},"name":"noscript","node":0,"text":""},{"attributes":{"src":"/n.png"},"name":"img","node":1,"text":""},{"attributes":{},"name":"p","node":2,"text":"x"}]
+  [{"attributes":{"src":"/f"},"name":"iframe","node":0,"text":"fallback <p>"},{"attributes":{},"name":"p","node":2,"text":"x"}]
+  [{"attributes":{},"name":"ul","node":0,"text":"ab"},{"attributes":{},"name":"li","node":1,"text":"a"},{"attributes":{},"name":"li","node":3,"text":"b"},{"attributes":{},"name":"p","node":5,"text":"x"}]
+  [{"attributes":{},"name":"table","node":0,"text":"123"},{"attributes":{},"name":"tr","node":1,"text":"12"},{"attributes":{},"name":"td","node":2,"text":"1"},{"attributes":{},"name":"td","node":4,"text":"2"},{"attributes":{},"name":"tr","node":6,"text":"3"},{"attributes":{},"name":"td","node":7,"text":"3"}]
+  [{"attributes":{},"name":"p","node":0,"text":"a"},{"attributes":{},"name":"div","node":2,"text":"b"},{"attributes":{},"name":"p","node":5,"text":""}]
+  [{"attributes":{},"name":"p","node":0,"text":"a"},{"attributes":{},"name":"p","node":2,"text":"b"}]
+  [{"attributes":{},"name":"b","node":0,"text":"x"},{"attributes":{},"name":"i","node":1,"text":"x"}]
+  [{"attributes":{"href":"/1"},"name":"a","node":0,"text":"a"},{"attributes":{"href":"/2"},"name":"a","node":2,"text":"b"}]
+  [{"attributes":{},"name":"select","node":0,"text":"12"},{"attributes":{},"name":"option","node":1,"text":"1"},{"attributes":{},"name":"option","node":3,"text":"2"},{"attributes":{},"name":"p","node":5,"text":"x"}]
+  [{"attributes":{"controls":"","src":"v.mp4"},"name":"video","node":0,"text":""}]
+  [{"attributes":{"datetime":"2024-01-01T10:00"},"name":"time","node":0,"text":"t"}]
+  [{"attributes":{"content":"width=device-width","name":"viewport"},"name":"meta","node":0,"text":""}]
+  [{"attributes":{"href":"style.css","rel":"stylesheet"},"name":"link","node":0,"text":""}]
+  [{"attributes":{"href":"https://x.org/a"},"name":"a","node":0,"text":"t"}]
+  [{"attributes":{"onload":"init()"},"name":"body","node":0,"text":"x"}]
+  [{"attributes":{"href":"x","id":"y"},"name":"a","node":0,"text":"t"}]
+
+Help says how pages are read.
+
+  $ for command in select links text outline sanitize; do tl $command --help >help && grep -c -e '--as-is' help; done
+  2
+  1
+  1
+  2
+  1
+  $ for command in select links text print outline sanitize; do tl $command --help >help && grep -c -e '--encoding' help; done
+  1
+  1
+  1
+  1
+  1
+  1
+  $ tl outline --help | grep -o '^The numbers that edit takes.*'
+  The numbers that edit takes are those that --as-is gives.
+  $ tl select --help | grep -o 'edit takes those of --as-is'
+  edit takes those of --as-is
+  $ tl --help | grep -o '^Pages are read as browsers read them'
+  Pages are read as browsers read them
