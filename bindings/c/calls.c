@@ -147,6 +147,12 @@ static void of_sanitize(void) {
     RUNS_OUT("<p>x</p>", tl_sanitize(TEXT("<p>x"), OUT));
 }
 
+static void of_words(void) {
+    CHECK(strcmp(TL_VERSION, VERSION) == 0);
+    CHECK(strcmp(tl_status_text(TL_NO_ROOM), "no room") == 0);
+    CHECK(strcmp(tl_status_text(99), "no status") == 0);
+}
+
 static void of_version(void) {
     PUTS(VERSION, tl_version(OUT));
     LEAVES(TL_NO_ROOM, sizeof(VERSION) - 1, tl_version(ROOM(sizeof(VERSION) - 2)));
@@ -212,6 +218,7 @@ int main(void) {
     of_edit();
     of_select();
     of_sanitize();
+    of_words();
     of_version();
     of_large();
     size_t count;
