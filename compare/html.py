@@ -1,6 +1,8 @@
 """Compares html_tokenizer.py, a method for each state of the HTML standard's tokenizer, with the tokenizer of html5lib.
 
     ./x compare html [--runs N] [--seed N] [--page FILE..]
+    ./x compare html --form [--runs N] [--seed N] [--page FILE..] [--program FILE]
+    ./x compare html --trees FOLDER [--show N] [--program FILE]
     ./x compare html --row TEXT
 
 The inputs come of the seed: pieces of markup that are hard to read, side by side, and with --page cuts of these files with such
@@ -10,7 +12,12 @@ each before those that it begins with.
 
 Who changes a definition of `crates/tl_html_spec` changes html_tokenizer.py too. With --row it writes what it reads of a text, and the text's form, in the words of the worked rows of `crates/tl_html_spec`.
 
-Status: 0 where nothing differs, 1 where something does, 2 for words that aren't understood, 3 where html5lib isn't installed
+With --form the forms that the program `tl_form` writes of such inputs, and of tags in any order, are compared with those of
+html_form.py. With --trees what is read of the forms of the standard's own tests of tree construction is compared with the trees
+that they expect (html_trees.py): it says how many are the same, and of which kind the others are, --show N with N of each. The
+program is built unproved, unless --program names one.
+
+Status: 0 where nothing differs, but for --trees, where much does; 1 where something does, 2 for words that aren't understood, 3 where html5lib isn't installed
 (Debian: python3-html5lib).
 """
 import collections
@@ -20,6 +27,7 @@ import re
 import sys
 import warnings
 
+from . import html_program, html_trees
 from .html_form import balanced, html_form
 from .html_tokenizer import NAMES, html_tokens
 
@@ -132,13 +140,19 @@ def listed(tokens):
     return " ++ ".join(map(row_of, joined)) or "[]"
 
 
-def compared(words, tokenizer, kinds):
-    chance, counts, pages = random.Random(words.seed), collections.Counter(), []
-    for name in words.page:
+def pages_of(names):
+    """The texts of some files, but of empty ones."""
+    pages = []
+    for name in names:
         with open(name, encoding="utf-8", errors="replace", newline="") as it:
             pages.append(it.read())
+    return [page for page in pages if page]
+
+
+def compared(words, tokenizer, kinds):
+    chance, counts, pages = random.Random(words.seed), collections.Counter(), pages_of(words.page)
     for _ in range(words.runs):
-        text = made(chance, [page for page in pages if page])
+        text = made(chance, pages)
         ours, theirs = html_tokens(text), html5lib_tokens(text, tokenizer, kinds)
         if ours == theirs:
             continue
@@ -156,12 +170,20 @@ def main(parser, words):
     parser.add_argument("--seed", type=int, default=1, metavar="N")
     parser.add_argument("--page", nargs="+", default=[], metavar="FILE")
     parser.add_argument("--row", metavar="TEXT")
+    parser.add_argument("--form", action="store_true")
+    parser.add_argument("--trees", metavar="FOLDER")
+    parser.add_argument("--show", type=int, default=0, metavar="N")
+    parser.add_argument("--program", metavar="FILE")
     words = parser.parse_args(words)
     if words.row is not None:
         print(f"tokens:   {listed(html_tokens(words.row))}")
         print(f"balanced: {listed(balanced(html_tokens(words.row)))}")
         print(f"form:     {quoted(html_form(words.row))}")
         return 0
+    if words.trees is not None:
+        return html_trees.compared(words)
+    if words.form:
+        return 1 if html_program.compared(words, made, pages_of(words.page)) else 0
     try:
         from html5lib._tokenizer import HTMLTokenizer
         from html5lib.constants import tokenTypes

@@ -80,7 +80,7 @@ class Balance:
 
     def before_start(self, name):
         if name not in IN_HEAD | {"head"}:
-            self.close_innermost({"head"})
+            self.close_leading({"head"})
         if self.is_foreign():
             return
         if name == "li":
@@ -157,7 +157,7 @@ class Balance:
             if token[1] == "\0" or (dropped and token[1] == "\n"):
                 return
             if token[1] not in WHITE_SPACE:
-                self.close_innermost({"head"})
+                self.close_leading({"head"})
             self.tokens.append(token)
         elif token[0] == "start":
             self.start(*token[1:])

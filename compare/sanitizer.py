@@ -14,14 +14,20 @@ class Policy:
     """Lists of words, as bytes, by the names of the options that say them."""
 
     def __init__(self, lines):
-        words = {line.split(" ")[0]: line.split(" ", 1)[1].encode().split(b",") for line in lines}
+        words = {option: said.encode().split(b",") for option, _, said in (line.partition(" ") for line in lines)}
         self.tags, self.keys, self.link_keys = words["--tags"], words["--keys"], words["--link-keys"]
         self.links, self.prefix = words["--links"], words["--prefix"][0]
+        self.lets_relative = "--relative-links" in words
 
     def begins_link(self, value):
         """Whether a link begins as it may: where it leaves the site, what it begins with does so too."""
         leaves = re.compile(rb"/[/\\&<>]")
         return any(value.startswith(front) and (leaves.match(front) or not leaves.match(value)) for front in self.links)
+
+    def is_relative(self, value):
+        """Whether a link is a relative one, and such may stand: neither a scheme nor another host stands at its front."""
+        front = re.match(rb"[^/?#]*", value).group()
+        return self.lets_relative and value != b"" and not re.search(rb"[:&\\<>]", front) and not re.match(rb"/[/\\&<>]", value)
 
     def keeps(self, key, value):
         """Whether a key stays with its value, which may be None."""
@@ -30,7 +36,8 @@ class Policy:
         value = value or b""
         if any(byte in value for byte in b'"\0\x1b'):
             return False
-        if key in self.link_keys and not (self.begins_link(value) and all(32 < byte < 127 for byte in value)):
+        is_link = self.begins_link(value) or self.is_relative(value)
+        if key in self.link_keys and not (is_link and all(32 < byte < 127 for byte in value)):
             return False
         return key not in (b"id", b"name", b"class") or bool(value.startswith(self.prefix) and re.fullmatch(rb"[A-Za-z0-9_-]*", value))
 

@@ -4,20 +4,31 @@
     ./x bindings --over-ci    the same right after `rt ci`, as ./x library says
     ./x bindings FOLDER       of the library and the headers in FOLDER/lib and FOLDER/include, as a release has them
 
-The callers stand in bindings, and each function of the headers in include is called. What was left out, where a compiler isn't
+The callers stand in bindings, and each function of the headers in include is called. The programs of docs/LIBRARY.md are built and run
+too, as they stand there. What was left out, where a compiler isn't
 there, is said at the end; without cc nothing is called.
 """
 import glob
 import os
+import re
 import shutil
 import tempfile
 
 from ..running import must, run
-from ..workspace import ROOT, Stop, Workspace
+from ..workspace import ROOT, Stop, Workspace, put, text_of
 from . import library
+
+DOCUMENT = "docs/LIBRARY.md"
+# A program that a document shows, and what it writes.
+PROGRAM = re.compile(r"```c\n((?:(?!```).*\n)*?int main\(void\)(?:(?!```).*\n)*)```\n\nIt writes\n\n```text\n((?:(?!```).*\n)*)```\n")
 
 # How a caller in C is linked, so that it meets the library's requests for memory.
 WRAPPED = {"calls.c": ("malloc", "realloc", "free"), "documents.c": ("malloc", "realloc")}
+
+
+def programs_of(document):
+    """The programs that a document shows, each with what it writes."""
+    return [(it[1], it[2]) for it in PROGRAM.finditer(text_of(f"{ROOT}/{document}"))]
 
 
 class Callers:
@@ -35,6 +46,20 @@ class Callers:
             words += ["-D", f'VERSION="{self.version}"', file, self.archive, *wrapped, "-o", f"{self.room}/calls"]
             must(words, f"{file} does not compile")
             must([f"{self.room}/calls"], f"{file} failed")
+        self.run_shown(*options)
+
+    def run_shown(self, *options):
+        """Builds and runs each program that the document shows, and compares what it writes."""
+        shown = programs_of(DOCUMENT)
+        if not shown:
+            raise Stop(f"{DOCUMENT} shows no program")
+        for program, written in shown:
+            put(f"{self.room}/shown.c", program)
+            words = ["cc", *options, "-std=c11", "-Wall", "-Wextra", "-Werror", "-pedantic", "-I", self.include, f"{self.room}/shown.c"]
+            must([*words, self.archive, "-o", f"{self.room}/calls"], f"a program of {DOCUMENT} does not compile")
+            out = must([f"{self.room}/calls"], f"a program of {DOCUMENT} failed").out.decode()
+            if out != written:
+                raise Stop(f"a program of {DOCUMENT} writes {out!r}")
 
     def of_c(self):
         self.run_c("-O2")

@@ -1,8 +1,11 @@
-"""Compares the programs with others, on made-up pages.
+"""Compares the programs with others, on made-up pages and on pages in folders.
 
     ./x compare check ..        what `tlq` writes, and its status, with a plain reader written from docs/GRAMMAR.md alone
     ./x compare browser ..      what Chromium runs and builds of pages as they stand, and as `tl sanitize` prints them
-    ./x compare html ..         a tokenizer written from the HTML standard alone with that of html5lib; tables of names with Python's
+    ./x compare html ..         a tokenizer written from the HTML standard alone with that of html5lib; tables of names with Python's;
+                                the forms of pages with a model, and with the trees of the standard's own tests
+    ./x compare pages ..        what `tl` says of pages in a folder with what html5lib and lxml say
+    ./x compare selectors ..    what `tl select` finds with a plain reader of selectors of CSS, and with soupsieve
     ./x compare tools ..        the time that `tl` takes with that of pup, xmllint and hxselect
 
 ./x compare NAME --help says more of each. The Rust crate is compared by ./x bench --against (compare/src).
@@ -11,7 +14,7 @@ import importlib
 
 from ..main import parser_of
 
-NAMES = ("check", "browser", "html", "tools")
+NAMES = ("check", "browser", "html", "pages", "selectors", "tools")
 
 
 def main(parser, words):

@@ -38,6 +38,14 @@ NUMBERED = (
     ("", "<a%>", ""), ("", "<a%></a%>", ""), ("<p ", "a% ", ">"), ("<p ", "a%=b ", ">"), ("<p ", "a%='b'", ">"),
     ("<p class='", "k% ", "'>"), ("", "<p class=k%>", ""), ("", "<br id=i%>", ""),
 )
+# The same of pages whose forms are written.
+FORMED = (
+    ("", "&", ""), ("", "&a", ""), ("", "&#x", ""), ("<a b='", "&amp;", ""), ("", "<", ""), ("", "<a b=\"", ""),
+    ("", "<a b='", ""), ("<a b=\"", "x", ""), ("", "<li>", ""), ("", "<ul><li>", ""), ("", "<p>", ""), ("", "</p>", ""),
+    ("", "<b>", ""), ("", "<svg>", ""), ("<svg>", "<a/>", ""), ("", "<table>", ""), ("", "<td>", ""), ("", "<option>", ""),
+    ("<ruby>", "<rt>", ""), ("<p ", "a ", ">"), ("<p a=\"", "\r", "\">"), ("<!--", "-", ""), ("<script>", "<", ""),
+    ("<script>", "<!--<script>", ""), ("<title>", "</", ""), ("", "\0", ""), ("<pre>", "\n", ""), ("", "<A\0>", ""),
+)
 
 
 def show(text):
@@ -83,6 +91,19 @@ def pages():
     yield "open tags of two names by turns, then end tags of the outer", halves("<a><b>", "</a>")
     yield "open tags by numbers, then end tags from the first on", cross
     yield "open tags by numbers, then end tags from the last on", close
+
+
+def forms():
+    """The same of pages whose forms are written."""
+    for front, it, end in FORMED:
+        yield f"{show(front)}, {show(it)} again and again, {show(end)}", frame(front, it, end)
+    yield "attributes by numbers in one tag", number_between("<p ", "a% ", ">")
+    yield "values by numbers in one tag", number_between("<p ", "A%='&amp;'", ">")
+    yield "open tags, then end tags of another name", halves("<b>", "</x>")
+    yield "open tags, then their end tags", halves("<b>", "</b>")
+    yield "open svg, then paragraphs", halves("<svg>", "<p>")
+    yield "open tags, then ends of paragraphs", halves("<b>", "</p>")
+    yield "open tags by numbers, then end tags from the first on", cross
 
 
 def searches():
