@@ -4,4 +4,4 @@
 pub mod examples;
 mod links;
 
-pub use links::{Links, node_links};
+pub use links::{Links, LinksError, node_links};

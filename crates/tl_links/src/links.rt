@@ -1,6 +1,8 @@
 //! Links of the nodes of a table.
-ghost use Rattle.std.specs.Prelude.{◌≡◌, ◌<◌, ◌^◌, IfOk, length, map, slice_get};
+ghost use Rattle.std.specs.Prelude.{◌≡◌, ◌<◌, ◌≤◌, ◌^◌, Err, IfOk, length, map, slice_get};
 ghost use Rattle.tl_spec.specs.Tree.Element.{children_of};
+ghost use Rattle.tl_links.specs.Links.{AreLinks};
+ghost use Rattle.tl_links.specs.Steps.{with_child, with_row, with_top, with_top_node};
 
 use std::alloc::{AllocError, Global};
 use tl_table::element::Element;
@@ -15,8 +17,23 @@ pub struct Links {
     pub next: Option<u32>,
 }
 
-ghost use Rattle.tl_links.specs.Links.{AreLinks};
-ghost use Rattle.tl_links.specs.Steps.{with_child, with_row, with_top, with_top_node};
+/// Why there are no links.
+#[derive(Clone, Copy, PartialEq, Eq, Debug, Drop)]
+pub enum LinksError {
+    /// The table has 4294967296 nodes or more.
+    TooLong,
+    OutOfMemory,
+}
+
+impl From<AllocError> for LinksError {
+    ghost use Rattle.tl_links.specs.declared.links.LinksError.TheVariants as f;
+
+    ghost from_gives = { λ _ error. error ≡ f.OutOfMemory };
+
+    fn from(_: AllocError) -> Self {
+        LinksError::OutOfMemory
+    }
+}
 
 // Links a child to its parent and to what stands behind it. One that has a parent keeps it.
 fn link_child(links: &mut Vec<Links>, child: Option<u32>, parent: u32, next: Option<u32>)
@@ -70,9 +87,8 @@ fn link_top(links: &mut Vec<Links>, top: &[NodeHandle])
     }
 }
 
-/// The links of each node of a table. A node that is the child of two, which edits can make of it,
-/// is linked as the child of the first.
-pub fn node_links<N: Element>(
+// The links of each node of a table whose numbers have 32 bits.
+fn link_nodes<N: Element>(
     alloc: Global,
     nodes: &[N],
     top: &[NodeHandle],
@@ -89,5 +105,22 @@ pub fn node_links<N: Element>(
         link_children(&mut links, node, number as u32);
     }
     link_top(&mut links, top);
+    Ok(links)
+}
+
+/// The links of each node of a table. A node that is the child of two, which edits can make of it,
+/// is linked as the child of the first.
+pub fn node_links<N: Element>(
+    alloc: Global,
+    nodes: &[N],
+    top: &[NodeHandle],
+) -> Result<Vec<Links>, LinksError>
+    ensures links { IfOk result (λ links. AreLinks (map N.node nodes.now) top.now links.items) }
+    ensures too_long { result ≡ Err LinksError.TooLong → 2 ^ 32 ≤ length nodes.now }
+{
+    if nodes.len() > 4294967295 {
+        return Err(LinksError::TooLong);
+    }
+    let links = link_nodes(alloc, nodes, top)?;
     Ok(links)
 }

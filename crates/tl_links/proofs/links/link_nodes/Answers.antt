@@ -7,7 +7,7 @@ use Rattle.tl_links.specs.Links.{AreLinks}
 use Rattle.tl_links.specs.Steps.{with_top}
 use Rattle.tl_links.proofs.Rows.{equal_at, item_at, made_at, rows_next, with_rows}
 use Rattle.tl_links.proofs.Top.{are_links, linked_by}
-use Rattle.tl_links.proofs.links.node_links.Goals as goal
+use Rattle.tl_links.proofs.links.link_nodes.Goals as goal
 
 pub loop-number-preserved : goal.loop-number-preserved
 loop-number-preserved g c =
