@@ -1,5 +1,9 @@
 //! Where in a page the nodes of its form come from.
+ghost use Rattle.std.specs.Prelude.{◌≡◌, ◌-◌, ◌∷◌, ◌++◌, [], length, slice_get, OnOk};
+ghost use Rattle.tl_html_balance.specs.View.{open_names};
+ghost use Rattle.tl_html.specs.Noted.{no_nodes, nodes_written, noted_of, span_of, spans_of, with_node, with_nodes, with_text, with_text_after};
 
+use crate::form::Form;
 use std::alloc::{AllocError, Global};
 use tl_html_tokens::TokenKind;
 
@@ -31,12 +35,6 @@ pub(crate) struct Sources {
     pub(crate) items: Vec<Source>,
     pub(crate) in_text: bool,
 }
-
-ghost use Rattle.std.specs.Prelude.{◌≡◌, ◌-◌, ◌∷◌, ◌++◌, [], length, slice_get, OnOk};
-ghost use Rattle.tl_html_balance.specs.View.{open_names};
-ghost use Rattle.tl_html.specs.Noted.{no_nodes, nodes_written, noted_of, span_of, spans_of, with_node, with_nodes, with_text, with_text_after};
-
-use crate::form::Form;
 
 // What a token of this kind wrote behind so many bytes, before which so many tags were open. An end
 // tag that closes none puts one in.
