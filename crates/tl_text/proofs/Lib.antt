@@ -1,3 +1,4 @@
 pub mod Rows
 pub mod Digits
 pub mod Plain
+pub mod Order
