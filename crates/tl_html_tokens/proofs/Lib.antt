@@ -23,3 +23,5 @@ pub mod Telling
 pub mod Others
 pub mod Opening
 pub mod Alone
+pub mod Through
+pub mod Beginning

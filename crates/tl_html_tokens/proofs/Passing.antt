@@ -20,13 +20,13 @@ use Rattle.tl_html_tokens.specs.declared.stage.Turn.TheVariants.{Goes}
 use Rattle.tl_html_tokens.proofs.Places.{between}
 use Rattle.tl_html_tokens.proofs.Reading.{Follows, IsScan, scan_next}
 
-three : (x y z : Bool) → not (x || y || z) ≡ true → (x ≡ false) × (y ≡ false) × (z ≡ false)
+pub three : (x y z : Bool) → not (x || y || z) ≡ true → (x ≡ false) × (y ≡ false) × (z ≡ false)
 three true y z h = absurd (true≢false (sym h))
 three false true z h = absurd (true≢false (sym h))
 three false false true h = absurd (true≢false (sym h))
 three false false false h = (refl, refl, refl)
 
-ends : (x y z : Bool) → (x || y || z) ≡ false → (x ≡ false) × (y ≡ false) × (z ≡ false)
+pub ends : (x y z : Bool) → (x || y || z) ≡ false → (x ≡ false) × (y ≡ false) × (z ≡ false)
 ends true y z h = absurd (true≢false h)
 ends false true z h = absurd (true≢false h)
 ends false false true h = absurd (true≢false h)
@@ -36,7 +36,7 @@ record Stays (c : Stage) (w : List ℕ) (b : ℕ) : Type 0 where
   goes : M.turn c w (feed b) ≡ Goes c
   returns : (b == 13) ≡ false
 
-feed_is : (b : ℕ) → (b == 13) ≡ false → feed b ≡ b
+pub feed_is : (b : ℕ) → (b == 13) ≡ false → feed b ≡ b
 feed_is b h = rw h refl
 
 stays_by : (c : Stage) (w : List ℕ) (b : ℕ) → (b == 13) ≡ false → M.turn c w b ≡ Goes c → Stays c w b
@@ -49,7 +49,7 @@ name_goes is_end w b h =
     ∙ ap (λ (v : Bool). if v then Goes (stage.SelfClosing (M.named_tag is_end w)) else if b == 62 then M.tag_end (M.named_tag is_end w) else Goes (stage.TagName is_end)) p.1
     ∙ ap (λ (v : Bool). if v then M.tag_end (M.named_tag is_end w) else Goes (stage.TagName is_end)) p.2
 
-key_goes : (tag : Tag) (b : ℕ) → ends_name b ≡ false → (b == 61) ≡ false → M.key tag b ≡ Goes (stage.Key tag)
+pub key_goes : (tag : Tag) (b : ℕ) → ends_name b ≡ false → (b == 61) ≡ false → M.key tag b ≡ Goes (stage.Key tag)
 key_goes tag b h e =
     ap (λ (v : Bool). if v then M.after_key tag b else if b == 61 then Goes (stage.BeforeValue tag) else Goes (stage.Key tag)) h
     ∙ ap (λ (v : Bool). if v then Goes (stage.BeforeValue tag) else Goes (stage.Key tag)) e

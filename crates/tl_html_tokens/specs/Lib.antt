@@ -11,3 +11,5 @@ pub mod Characters
 pub mod Comments
 pub mod Said
 pub mod Whole
+pub mod Through
+pub mod Scanned

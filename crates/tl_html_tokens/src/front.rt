@@ -1,12 +1,13 @@
 //! The piece of a page that stands at a place.
 ghost use Rattle.std.specs.Prelude.{◌≡◌, ◌<◌, ◌≤◌, ◌^◌, length};
 
+use crate::attributes::attributes_in_front;
 use crate::byte_class::feed;
 use crate::first::first;
 use crate::mode::Mode;
 use crate::quiet::quiet_len;
 use crate::run::run_len;
-use crate::stage::{Stage, TokenKind, Turn};
+use crate::stage::{Stage, Tag, TokenKind, Turn};
 use crate::turn::turn;
 
 // A piece: what it is, where it ends, and how reading goes on there.
@@ -51,6 +52,11 @@ fn next_scan(scan: Scan, page: &[u8], at: usize) -> Scanned
     requires within { at < length page.now }
     ensures { result ≡ scans.next_scan scan page.now at }
 {
+    if let Stage::Whole(kind, mode) = scan.stage
+        && !scan.after_return
+    {
+        return Scanned::Before(kind, mode);
+    }
     let byte = page[at];
     let after_return = byte == b'\r';
     if scan.after_return && byte == b'\n' {
@@ -96,6 +102,94 @@ fn skip_quiet(scan: Scan, at: usize, len: usize) -> Scan
     }
 }
 
+ghost use Rattle.std.specs.Prelude.{◌-◌, Some, drop, false, take};
+ghost use Rattle.tl_html_tokens.specs.Stages.{has_word};
+ghost use Rattle.tl_html_tokens.specs.Through.{through};
+ghost use Rattle.tl_html_tokens.specs.declared.stage.Stage.TheVariants.{BeforeKey};
+
+// Past the attributes that are read at once, where the next key of a tag is awaited.
+fn pass_attributes(tag: Tag, page: &[u8], at: usize) -> Scan
+    requires { at ≤ length page.now }
+    ensures through { through (BeforeKey tag) (take (result.word - at) (drop at page.now))
+        ≡ Some result.stage }
+    ensures wordless { has_word result.stage ≡ false }
+    ensures returned { result.after_return ≡ false }
+    ensures order { at ≤ result.word }
+    ensures within { result.word ≤ length page.now }
+{
+    let passage = attributes_in_front(tag, &page[at..]);
+    Scan {
+        stage: passage.stage,
+        after_return: false,
+        word: at + passage.len,
+    }
+}
+
+// How far a piece is read.
+#[derive(Clone, Copy)]
+struct Begun {
+    scan: Scan,
+    at: usize,
+}
+
+ghost use Rattle.tl_html_tokens.specs.Scanned.{scanned};
+ghost use Rattle.tl_html_tokens.specs.declared.front.Scanned.TheVariants.{On};
+
+// Past the first byte of a piece, and up to the first letter of the name of a tag.
+fn begin(page: &[u8], start: usize, mode: Mode) -> Begun
+    requires { start < length page.now }
+    ensures read { scanned (result.at - (start + 1)) page.now (start + 1)
+        (scans.first_scan page.now start mode) ≡ On result.scan }
+    ensures order { start < result.at }
+    ensures within { result.at ≤ length page.now }
+{
+    let scan = first_scan(page, start, mode);
+    let at = start + 1;
+    let Mode::Data = mode else {
+        return Begun { scan, at };
+    };
+    if page[start] != b'<' || at == page.len() {
+        return Begun { scan, at };
+    }
+    if page[at].is_ascii_alphabetic() {
+        let scan = Scan {
+            stage: Stage::TagName(false),
+            after_return: false,
+            word: at,
+        };
+        return Begun { scan, at: at + 1 };
+    }
+    if page[at] != b'/' || at + 1 == page.len() || !page[at + 1].is_ascii_alphabetic() {
+        return Begun { scan, at };
+    }
+    let scan = Scan {
+        stage: Stage::TagName(true),
+        after_return: false,
+        word: at + 1,
+    };
+    Begun { scan, at: at + 2 }
+}
+
+ghost use Rattle.std.specs.Prelude.{true};
+ghost use Rattle.std.specs.List.{list_all};
+ghost use Rattle.tl_html_tokens.specs.Quiet.{is_quiet};
+
+// Past the bytes that leave the stage as it is.
+fn pass_quiet(begun: Begun, page: &[u8]) -> Begun
+    requires { begun.at ≤ length page.now }
+    ensures scan { result.scan ≡ skip_quiet begun.scan begun.at (result.at - begun.at) }
+    ensures quiet { list_all (is_quiet begun.scan.stage)
+        (take (result.at - begun.at) (drop begun.at page.now)) ≡ true }
+    ensures order { begun.at ≤ result.at }
+    ensures within { result.at ≤ length page.now }
+{
+    let len = quiet_len(begun.scan.stage, &page[begun.at..]);
+    Begun {
+        scan: skip_quiet(begun.scan, begun.at, len),
+        at: begun.at + len,
+    }
+}
+
 ghost use Rattle.tl_html_tokens.specs.Fronts.{IsFront};
 
 // The piece at a place, where reading is at rest.
@@ -103,15 +197,22 @@ fn read_front(page: &[u8], start: usize, mode: Mode) -> Front
     requires { start < length page.now }
     ensures { IsFront page.now start mode result }
 {
-    let mut scan = first_scan(page, start, mode);
-    let mut at = start + 1;
+    let begun = pass_quiet(begin(page, start, mode), page);
+    let mut scan = begun.scan;
+    let mut at = begun.at;
     while at < page.len() {
         match next_scan(scan, page, at) {
-            Scanned::On(next) => {
-                let len = quiet_len(next.stage, &page[at + 1..]);
-                scan = skip_quiet(next, at + 1, len);
-                at = at + 1 + len;
-            }
+            Scanned::On(next) => match next.stage {
+                Stage::BeforeKey(tag) if !next.after_return => {
+                    scan = pass_attributes(tag, page, at + 1);
+                    at = scan.word;
+                }
+                _ => {
+                    let len = quiet_len(next.stage, &page[at + 1..]);
+                    scan = skip_quiet(next, at + 1, len);
+                    at = at + 1 + len;
+                }
+            },
             Scanned::Before(kind, mode) => return Front {
                 kind,
                 end: at,

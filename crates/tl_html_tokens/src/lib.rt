@@ -1,6 +1,7 @@
 //! Pages as browsers read them: their tokens, by the HTML standard's tokenizer.
 #![tactic(auto)]
 
+mod attributes;
 mod byte_class;
 mod comment;
 mod first;

@@ -32,7 +32,8 @@ fn is_inside_name(byte: u8) -> bool
 }
 
 // How many bytes in front of a text go on with a name or a key.
-fn name_len(text: &[u8]) -> usize
+#[inline(always)]
+pub(crate) fn name_len(text: &[u8]) -> usize
     ensures quiet { list_all is_inside_name (take result text.now) ≡ true }
     ensures within { result ≤ length text.now }
 {
@@ -43,13 +44,22 @@ fn name_len(text: &[u8]) -> usize
     at
 }
 
+// How many bytes in front of a text stand for themselves in a value in double quotes.
+pub(crate) fn value_len(text: &[u8]) -> usize
+    ensures quiet { list_all (λ b. not (is_byte3 34 38 13 b)) (take result text.now) ≡ true }
+    ensures within { result ≤ length text.now }
+{
+    len_before(b'"', b'&', b'\r', text)
+}
+
 // How many bytes in front of a text leave the stage as it is.
+#[inline(always)]
 pub(crate) fn quiet_len(stage: Stage, text: &[u8]) -> usize
     ensures quiet { list_all (is_quiet stage) (take result text.now) ≡ true }
     ensures within { result ≤ length text.now }
 {
     match stage {
-        Stage::Value(Quote::Double, _) => len_before(b'"', b'&', b'\r', text),
+        Stage::Value(Quote::Double, _) => value_len(text),
         Stage::Value(Quote::Single, _) => len_before(b'\'', b'&', b'\r', text),
         Stage::Comment => len_before(b'<', b'-', b'\r', text),
         Stage::TagName(_) | Stage::Key(_) => name_len(text),

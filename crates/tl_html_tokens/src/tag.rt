@@ -6,7 +6,7 @@ use crate::byte_class::{ends_name, is_white_space};
 use crate::mode::Mode;
 use crate::stage::{Place, Quote, Stage, Tag, TokenKind, Turn};
 
-fn kind(is_end: bool) -> TokenKind
+pub(crate) fn kind(is_end: bool) -> TokenKind
     ensures { result ≡ machine.tag_kind is_end }
 {
     if is_end {
