@@ -2,3 +2,13 @@ pub mod Runs
 pub mod Numbers
 pub mod Waiting
 pub mod Items
+pub mod Freely
+pub mod Standing
+pub mod Roles
+pub mod Complete
+pub mod ItemsRead
+pub mod Sound
+pub mod Shorter
+pub mod Depth
+pub mod Simples
+pub mod Leaf

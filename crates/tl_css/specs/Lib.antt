@@ -10,6 +10,8 @@ pub mod Formula
 pub mod PseudoClass
 pub mod Item
 pub mod Reading
+pub mod SimpleGrammar
+pub mod Grammar
 pub mod FirstWrong
 pub mod Meaning
 pub mod TextView

@@ -1,9 +1,11 @@
 //! The reader of a selector text.
-ghost use Rattle.std.specs.Prelude.{◌≡◌, ℕ, MatchResult, Ok, Err, IfErr, IfOk};
+ghost use Rattle.std.specs.Prelude.{◌≡◌, ◌≢◌, ℕ, MatchResult, Ok, Err, IfErr, IfOk};
 ghost use Rattle.tl_css.specs.FirstWrong.{IsFirstWrong};
+ghost use Rattle.tl_css.specs.Grammar.{IsSelector};
 ghost use Rattle.tl_css.specs.Item.{begin_at};
 ghost use Rattle.tl_css.specs.ItemView.{item};
 ghost use Rattle.tl_css.specs.Reading.{css_at, item_at, read, read_within, start};
+ghost use Rattle.tl_css.specs.Selector.{Css};
 ghost use Rattle.tl_css.specs.StateView.{IsCause, IsFailure, open_list, state};
 ghost use Rattle.tl_css.specs.TextView.{read_as};
 
@@ -75,6 +77,11 @@ fn read(alloc: Global, text: &[u8]) -> Result<Selector, Failure>
 pub fn parse(alloc: Global, text: &str) -> Result<Selector, SelectorError>
     ensures found { IfOk result (λ e. css_at text.now ≡ Ok e) }
     ensures cause { IfErr result (IsCause (css_at text.now)) }
+
+    // The same by the grammar; a text may be a selector that is too deep.
+    ensures grammar { IfOk result (IsSelector text.now) }
+    ensures none { (at : ℕ) (cause : Cause) (e : Css) → result ≡ Err (SelectorError.Text at cause)
+        → cause ≢ Cause.TooDeep → IsSelector text.now e → ⊥ }
 
     // Memory is taken only once the first simple selector is read.
     ensures first { (at : ℕ) (cause : Cause) → IsFirstWrong text.now at cause

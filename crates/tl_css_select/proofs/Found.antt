@@ -1,5 +1,5 @@
 -- A selector is found at one list of numbers.
-use Rattle.std.proofs.Common.{◌≡◌, ◌<◌, ◌⊎◌, ℕ, zero, suc, List, [], ◌∷◌, length, ap, arith, inl, inr, refl, subst, sym, ◌∙◌}
+use Rattle.std.proofs.Common.{◌≡◌, ◌<◌, ◌⊎◌, ℕ, zero, suc, List, [], ◌∷◌, ap, arith, inl, inr, refl, subst, sym, ◌∙◌}
 use Rattle.std.specs.List.{AllPairs, Contains}
 use Rattle.tl_spec.specs.Tree.Document.{Node}
 use Rattle.tl_css.specs.Meaning.{AreFound}
@@ -8,16 +8,16 @@ use Rattle.tl_css.specs.Selector.{Css}
 abbrev Rises : List ℕ → Type 0
 Rises ns = AllPairs (λ m n. m < n) ns
 
-at_front : (n : ℕ) (ns : List ℕ) → Contains (n ∷ ns) n
+pub at_front : (n : ℕ) (ns : List ℕ) → Contains (n ∷ ns) n
 at_front n ns = (0, omega arith, refl)
 
-later : (n : ℕ) (ns : List ℕ) (m : ℕ) → Contains ns m → Contains (n ∷ ns) m
+pub later : (n : ℕ) (ns : List ℕ) (m : ℕ) → Contains ns m → Contains (n ∷ ns) m
 later n ns m h = (suc h.0, omega (arith, h.1), h.2)
 
-in_nothing : (m : ℕ) → Contains [] m → ⊥
+pub in_nothing : (m : ℕ) → Contains [] m → ⊥
 in_nothing m h = absurd (omega (arith, h.1))
 
-cases : (n : ℕ) (ns : List ℕ) (m : ℕ) → Contains (n ∷ ns) m → (n ≡ m) ⊎ Contains ns m
+pub cases : (n : ℕ) (ns : List ℕ) (m : ℕ) → Contains (n ∷ ns) m → (n ≡ m) ⊎ Contains ns m
 cases n ns m (zero, l, e) = inl e
 cases n ns m (suc k, l, e) = inr (k, omega (arith, l), e)
 

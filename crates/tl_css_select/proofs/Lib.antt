@@ -19,4 +19,5 @@ pub mod Tests
 pub mod Pairs
 pub mod Fresh
 pub mod Found
+pub mod Turned
 pub mod Spellings

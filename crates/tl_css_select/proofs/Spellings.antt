@@ -1,5 +1,5 @@
 -- What names, values, pairs and nodes say.
-use Rattle.std.proofs.Common.{◌≡◌, ◌<◌, ℕ, zero, suc, Bool, true, false, not, ◌&&◌, List, [], ◌∷◌, ◌++◌, map, length, get_or, Option, None, Some, option_map, slice_get, refl, ap, ap₂, sym, subst, ◌∙◌}
+use Rattle.std.proofs.Common.{◌≡◌, ◌<◌, ℕ, suc, Bool, true, false, not, ◌&&◌, List, [], ◌∷◌, ◌++◌, map, length, get_or, Option, None, Some, option_map, slice_get, refl, ap, ap₂, sym, subst, ◌∙◌}
 use Rattle.std.specs.Prelude.{codes}
 use Rattle.std.specs.List.{All, AllPairs, Contains, list_all}
 use Rattle.std.specs.Option.{IsSomeAnd, option_flatten, unwrap_or}

@@ -1,8 +1,8 @@
 //! Laws of the definitions.
-ghost use Rattle.std.specs.Prelude.{◌≡◌, List, ℕ};
+ghost use Rattle.std.specs.Prelude.{◌≡◌, ◌↔◌, List, ℕ};
 ghost use Rattle.tl_spec.specs.Tree.Document.{Node, document};
-ghost use Rattle.tl_css.specs.Meaning.{AreFound, IsForest};
-ghost use Rattle.tl_css.specs.Selector.{Css};
+ghost use Rattle.tl_css.specs.Meaning.{AreFound, Holds, IsForest};
+ghost use Rattle.tl_css.specs.Selector.{Css, Not};
 ghost use Rattle.tl_css_select.specs.Spelling.{decoded_nodes};
 
 /// A document that was just read is a forest.
@@ -19,4 +19,10 @@ pub fn decoded_forests_are_forests()
 pub fn selectors_find_once()
     ensures { (nodes : List Node) (e : Css) (ms ns : List ℕ) → AreFound nodes e ms
         → AreFound nodes e ns → ms ≡ ns }
+{}
+
+/// `:not(:not(e))` holds where `e` does, on a table where `e` can be found.
+pub fn selectors_turned_twice_hold_alike()
+    ensures { (nodes : List Node) (e : Css) (ns : List ℕ) → AreFound nodes e ns
+        → (n : ℕ) → Holds nodes (Not (Not e)) n ↔ Holds nodes e n }
 {}
