@@ -12,32 +12,34 @@ use Rattle.tl_tree_spec.proofs.Texts.{grown, trees_grown}
 use Rattle.tl_tree_spec.proofs.Trees.{Ran, entered, ran, stay-IsPlain}
 
 -- what holds of a builder at a place
-record Ready (b : Builder) : Type 0 where
+record Ready (counts : Bool) (b : Builder) : Type 0 where
   ordered : Ordered b.next (elements b.stack)
   sound : Sound b.active (elements b.stack)
   mode : b.mode ≡ mode_of (names b.stack)
   quiet : b.skips ≡ false
   empty : b.stack.current.children ≡ no_nodes
+  counted : b.counts_search ≡ counts
 
-ready : (tags : List HtmlTag) → Ready (placed tags)
-ready [] = record { ordered = (omega arith, tt); sound = over; mode = refl; quiet = refl; empty = refl }
-ready (own ∷ tags) =
-    let around = ready tags in
-    let b : Builder = placed tags in
+ready : (counts : Bool) (tags : List HtmlTag) → Ready counts (placed counts tags)
+ready counts [] = record { ordered = (omega arith, tt); sound = over; mode = refl; quiet = refl; empty = refl; counted = refl }
+ready counts (own ∷ tags) =
+    let around = ready counts tags in
+    let b : Builder = placed counts tags in
     record {
       ordered = (omega arith, around.ordered);
       sound = entered (group own.name) (new_element b own) b.active (elements b.stack) refl around.sound;
       mode = ap (mode_by (group own.name)) around.mode;
       quiet = around.quiet;
       empty = refl;
+      counted = around.counted;
     }
 
 -- the theorem, at a place
-pub stays_placed : (tags : List HtmlTag) (f : HtmlForest) → stay (names (placed tags).stack) f ≡ true → Puts (placed tags) (html_tokens_of f) (normal_form f)
-stays_placed tags f h =
-    let b : Builder = placed tags in
-    let at = ready tags in
-    let r : Ran b.stack b.active b.next f = ran f b.stack b.active b.next at.ordered at.sound h in
+pub stays_placed : (counts : Bool) (tags : List HtmlTag) (f : HtmlForest) → stay (names (placed counts tags).stack) f ≡ true → Puts (placed counts tags) (html_tokens_of f) (normal_form f)
+stays_placed counts tags f h =
+    let b : Builder = placed counts tags in
+    let at = ready counts tags in
+    let r : Ran counts b.stack b.active b.next f = ran counts f b.stack b.active b.next at.ordered at.sound h in
     record {
       after = record {
         stack = record b.stack { current = record b.stack.current { children = grown b.stack.current.children f } };
@@ -45,10 +47,12 @@ stays_placed tags f h =
         next = r.next;
         skips = false;
         mode = mode_of (names b.stack);
+        counts_search = counts;
       };
       outcome =
           ap₂ (λ (s : Bool) (m : Mode). run (Some (record b { skips = s; mode = m })) (html_tokens_of f)) at.quiet at.mode
-          ∙ ap (run (Some (record b { skips = false; mode = mode_of (names b.stack) }))) (sym (append-nil (html_tokens_of f)))
+          ∙ ap (λ (c : Bool). run (Some (record b { skips = false; mode = mode_of (names b.stack); counts_search = c })) (html_tokens_of f)) at.counted
+          ∙ ap (run (Some (record b { skips = false; mode = mode_of (names b.stack); counts_search = counts }))) (sym (append-nil (html_tokens_of f)))
           ∙ r.runs [];
       here = refl;
       around = refl;
@@ -57,6 +61,6 @@ stays_placed tags f h =
     }
 
 -- the names that are open there
-pub names_placed : (tags : List HtmlTag) → names (placed tags).stack ≡ map (λ (own : HtmlTag). own.name) tags ++ (codes "html" ∷ [])
-names_placed [] = refl
-names_placed (own ∷ tags) = ap (λ ns. own.name ∷ ns) (names_placed tags)
+pub names_placed : (counts : Bool) (tags : List HtmlTag) → names (placed counts tags).stack ≡ map (λ (own : HtmlTag). own.name) tags ++ (codes "html" ∷ [])
+names_placed counts [] = refl
+names_placed counts (own ∷ tags) = ap (λ ns. own.name ∷ ns) (names_placed counts tags)

@@ -6,7 +6,7 @@ use Rattle.tl_html_spec.specs.Balanced.{is_item_bound, is_one_of, is_scope}
 use Rattle.tl_tree_spec.specs.HtmlForest.{HtmlTag}
 use Rattle.tl_tree_spec.specs.Groups.{Group, a_block, a_break, a_button, a_caption, a_cell, a_column, a_column_group, a_description, a_detail, a_format, a_heading, a_mark, a_nobr, a_paragraph, a_preformatted, a_row, a_ruby_base, a_ruby_text, a_rule, a_table, a_table_body, a_void, an_anchor, an_image, an_item, an_option, any_other, elsewhere, is_body_context, is_column_group_group, is_description, is_heading, is_implied, is_item, is_paragraph, is_part, is_row_context, is_row_group, is_table_body_group, is_table_context, is_table_group, misplaced}
 use Rattle.tl_tree_spec.specs.Builder.{Builder, Element, Frame, Mode, alone, closed_into, closed_through, elements, formatted, implied_closed, in_body, in_caption, in_cell, in_column_group, in_row, in_table, in_table_body, inserted, is_flow, mode_by, mode_of, names, new_element, no_name, popped, reconstructed, with_stack, within}
-use Rattle.tl_tree_spec.specs.HtmlTreeBuilder.{adoption, anchor_ended, body_start, button_closed, caption_part_start, cell_closed, cleared, description_closed, found, heading_closed, is_rtc, item_closed, p_closed, popped_back, row_start, ruby_closed, start_tag, to_mode, with_marker}
+use Rattle.tl_tree_spec.specs.HtmlTreeBuilder.{adoption, anchor_ended, body_start, button_closed, caption_part_start, cell_closed, cleared, description_closed, found, heading_closed, is_item_bound_in, is_rtc, item_closed, p_closed, popped_back, row_start, ruby_closed, start_tag, to_mode, with_marker}
 use Rattle.tl_tree_spec.specs.Stays.{directly_in, in_p, in_ruby, is_alone, is_preformatted, stands, stands_in_flow, surely_ends}
 use Rattle.tl_tree_spec.specs.Places.{entries_after}
 use Rattle.tl_tree_spec.proofs.Active.{Sound, none_listed, reconstructed_none}
@@ -19,22 +19,24 @@ p_stays b h = ap (λ (x : Bool). if x then with_stack b (closed_through is_parag
 heading_stays : (b : Builder) → directly_in is_heading (names b.stack) ≡ false → heading_closed b ≡ b
 heading_stays b h = ap (λ (x : Bool). if x then with_stack b (popped b.stack.current b.stack.others) else b) h
 
-fewer_step : (e s : Bool) (few all : Bool) → (few ≡ false → all ≡ false) → (not (e && s) && few) ≡ false → (not e && all) ≡ false
-fewer_step true s few all f k = refl
-fewer_step false s few all f k = f k
+fewer_step : (e s c : Bool) (few all : Bool) → (few ≡ false → all ≡ false) → (not (e && s) && few) ≡ false → (not (e && (c || s)) && all) ≡ false
+fewer_step true s true few all f k = refl
+fewer_step true true false few all f k = refl
+fewer_step true false false few all f k = f k
+fewer_step false s c few all f k = f k
 
 -- fewer stops find all that more find
-fewer_stops : (test : List ℕ → Bool) (ns : List (List ℕ)) → within test surely_ends ns ≡ false → within test is_item_bound ns ≡ false
-fewer_stops test [] h = refl
-fewer_stops test (n ∷ ns) h =
+fewer_stops : (b : Builder) (test : List ℕ → Bool) (ns : List (List ℕ)) → within test surely_ends ns ≡ false → within test (is_item_bound_in b) ns ≡ false
+fewer_stops b test [] h = refl
+fewer_stops b test (n ∷ ns) h =
     let here = or_parts (test n) (not (surely_ends n) && within test surely_ends ns) h in
-    or_from (test n) (not (is_item_bound n) && within test is_item_bound ns) here.0
-    (fewer_step (is_item_bound n) (not (is_one_of (codes "search") n)) (within test surely_ends ns) (within test is_item_bound ns) (fewer_stops test ns) here.1)
+    or_from (test n) (not (is_item_bound_in b n) && within test (is_item_bound_in b) ns) here.0
+    (fewer_step (is_item_bound n) (not (is_one_of (codes "search") n)) b.counts_search (within test surely_ends ns) (within test (is_item_bound_in b) ns) (fewer_stops b test ns) here.1)
 
-item_stays : (b : Builder) → within is_item is_item_bound (names b.stack) ≡ false → item_closed b ≡ b
+item_stays : (b : Builder) → within is_item (is_item_bound_in b) (names b.stack) ≡ false → item_closed b ≡ b
 item_stays b h = ap (λ (x : Bool). if x then with_stack b (closed_through is_item is_item b.stack) else b) h
 
-description_stays : (b : Builder) → within is_description is_item_bound (names b.stack) ≡ false → description_closed b ≡ b
+description_stays : (b : Builder) → within is_description (is_item_bound_in b) (names b.stack) ≡ false → description_closed b ≡ b
 description_stays b h =
     ap (λ (x : Bool). if x then with_stack b
     (closed_through (bytes_eq (found is_description (names b.stack))) (bytes_eq (found is_description (names b.stack))) b.stack)
@@ -85,11 +87,11 @@ body-opens b own a_preformatted s h a =
     ap (λ (c : Builder). Some (record (inserted c own) { skips = true })) (p_stays b (not-true _ h))
 body-opens b own an_item s h a =
     let parts = and_parts (not (within is_item surely_ends (names b.stack))) (not (in_p (names b.stack))) h in
-    ap (λ (c : Builder). Some (inserted (p_closed c) own)) (item_stays b (fewer_stops is_item (names b.stack) (not-true _ parts.0)))
+    ap (λ (c : Builder). Some (inserted (p_closed c) own)) (item_stays b (fewer_stops b is_item (names b.stack) (not-true _ parts.0)))
     ∙ ap (λ (c : Builder). Some (inserted c own)) (p_stays b (not-true _ parts.1))
 body-opens b own a_description s h a =
     let parts = and_parts (not (within is_description surely_ends (names b.stack))) (not (in_p (names b.stack))) h in
-    ap (λ (c : Builder). Some (inserted (p_closed c) own)) (description_stays b (fewer_stops is_description (names b.stack) (not-true _ parts.0)))
+    ap (λ (c : Builder). Some (inserted (p_closed c) own)) (description_stays b (fewer_stops b is_description (names b.stack) (not-true _ parts.0)))
     ∙ ap (λ (c : Builder). Some (inserted c own)) (p_stays b (not-true _ parts.1))
 body-opens b own a_button s h a =
     ap (λ (c : Builder). Some (inserted (reconstructed c) own)) (button_stays b own.name (not-true _ h))

@@ -53,6 +53,9 @@ pub record Builder : Type 0 where
   -- whether a line feed is ignored that comes next
   pub skips : Bool
   pub mode : Mode
+  -- whether `search` is a special element: it is one by the standard (13.2.4.2), and not in all
+  -- browsers. It stays as it is
+  pub counts_search : Bool
 
 -- one of these passes the test, and none between stops the search
 abbrev pub within : {A : Type 0} → (A → Bool) → (A → Bool) → List A → Bool

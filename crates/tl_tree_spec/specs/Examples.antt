@@ -5,7 +5,7 @@ use Rattle.tl_spec.specs.Tree.Forest.{none, tag, text}
 use Rattle.tl_html_spec.specs.HtmlTokenizer.{tokens_in_page}
 use Rattle.tl_html_spec.specs.Written.{written}
 use Rattle.tl_tree_spec.specs.HtmlForest.{HtmlForest, html_tokens_of}
-use Rattle.tl_tree_spec.specs.HtmlTreeBuilder.{html_trees}
+use Rattle.tl_tree_spec.specs.HtmlTreeBuilder.{html_trees, html_trees_without_search}
 use Rattle.tl_tree_spec.specs.Stays.{stay}
 
 -- the trees of a text as the children of a `div`
@@ -18,6 +18,11 @@ written_trees f = written (html_tokens_of f)
 
 abbrev pub inner_html : String → Option (List ℕ)
 inner_html page = option_map written_trees (trees page)
+
+-- the same where `search` is no special element
+abbrev pub inner_html_without_search : String → Option (List ℕ)
+inner_html_without_search page =
+    option_map written_trees (html_trees_without_search (tokens_in_page (codes page)))
 
 -- whether trees stay as the children of a `div`
 abbrev pub stay_there : HtmlForest → Bool

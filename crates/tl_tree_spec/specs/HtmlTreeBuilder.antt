@@ -11,6 +11,9 @@
 -- - in the adoption agency algorithm what follows from its step on a furthest block; and that an
 --   `a` leaves the open elements from between others.
 --
+-- One thing is written down both ways: whether `search` is a special element (13.2.4.2), as the
+-- standard says, or not, as in Chromium 156 (`html_trees_without_search`).
+--
 -- Left out, since it shows in no tree that is made here: parse errors, the frameset-ok flag, the
 -- self-closing flag, and namespaces, as no element here is of another one than HTML's.
 use Rattle.std.specs.Prelude.{ℕ, Bool, true, false, not, ◌||◌, ◌&&◌, ◌==◌, List, [], ◌∷◌, Option, Some, None, option_map, codes, if◌then◌else◌}
@@ -22,6 +25,16 @@ use Rattle.tl_html_spec.specs.Balanced.{is_button_scope, is_item_bound, is_list_
 use Rattle.tl_tree_spec.specs.HtmlForest.{HtmlForest, HtmlTag}
 use Rattle.tl_tree_spec.specs.Groups.{Group, a_block, a_break, a_button, a_caption, a_cell, a_column, a_column_group, a_description, a_detail, a_format, a_heading, a_mark, a_nobr, a_paragraph, a_preformatted, a_row, a_ruby_base, a_ruby_text, a_rule, a_table, a_table_body, a_void, an_anchor, an_image, an_item, an_option, any_other, elsewhere, group, is_body_context, is_caption, is_cell, is_column_group, is_description, is_heading, is_item, is_paragraph, is_part, is_row, is_row_context, is_table, is_table_body, is_table_context, is_table_scope}
 use Rattle.tl_tree_spec.specs.Builder.{Builder, Element, Frame, Mode, Nodes, Stack, alone, and_element, and_text, closed_into, closed_through, elements, formatted, has_name, has_number, implied_closed, in_body, in_caption, in_cell, in_column_group, in_row, in_table, in_table_body, inserted, is_flow, is_listed, is_open, listed, marker, mode_of, names, no_name, no_nodes, popped, popped_through, reconstructed, unlisted, with_character, with_stack, within, without_last_marker}
+
+-- Special elements (13.2.4.2)
+
+-- whether a name is that of one
+abbrev pub is_special_in : Builder → List ℕ → Bool
+is_special_in b n = is_special n && (b.counts_search || not (is_one_of (codes "search") n))
+
+-- a special element but `address`, `div` and `p`
+abbrev pub is_item_bound_in : Builder → List ℕ → Bool
+is_item_bound_in b n = is_item_bound n && (b.counts_search || not (is_one_of (codes "search") n))
 
 -- "in body" (13.2.6.4.7)
 
@@ -45,7 +58,7 @@ heading_closed b =
 -- an earlier item is closed, up to a special element but `address`, `div` and `p`; so is an earlier
 -- description
 abbrev pub item_closed : Builder → Builder
-item_closed b = closed_in is_item_bound is_item is_item b
+item_closed b = closed_in (is_item_bound_in b) is_item is_item b
 
 -- the innermost name that passes a test
 abbrev pub found : (List ℕ → Bool) → List (List ℕ) → List ℕ
@@ -55,7 +68,7 @@ found test (n ∷ ns) = if test n then n else found test ns
 abbrev pub description_closed : Builder → Builder
 description_closed b =
     let is_found = bytes_eq (found is_description (names b.stack)) in
-    if within is_description is_item_bound (names b.stack) then with_stack b
+    if within is_description (is_item_bound_in b) (names b.stack) then with_stack b
     (closed_through is_found is_found b.stack) else b
 
 -- a button that is in scope is closed
@@ -71,13 +84,13 @@ ruby_closed but b =
 
 -- any other end tag
 abbrev pub other_ended : Builder → List ℕ → Builder
-other_ended b n = closed_in is_special (bytes_eq n) (bytes_eq n) b
+other_ended b n = closed_in (is_special_in b) (bytes_eq n) (bytes_eq n) b
 
 -- a special element stands further in than this one
-abbrev pub has_furthest_block : ℕ → List Element → Bool
-has_furthest_block k [] = false
-has_furthest_block k (e ∷ es) =
-    if e.number == k then false else is_special e.own.name || has_furthest_block k es
+abbrev pub has_furthest_block : (List ℕ → Bool) → ℕ → List Element → Bool
+has_furthest_block special k [] = false
+has_furthest_block special k (e ∷ es) =
+    if e.number == k then false else special e.own.name || has_furthest_block special k es
 
 -- the adoption agency algorithm, from its step on the formatting element on
 abbrev pub adopted : Builder → List ℕ → Option Element → Option Builder
@@ -86,7 +99,7 @@ adopted b n (Some e) =
     if not (is_open e.number (elements b.stack))
     then Some (record b { active = unlisted e.number b.active })
     else if not (within (has_number e.number) (has_name is_scope) (elements b.stack)) then Some b
-    else if has_furthest_block e.number (elements b.stack) then None
+    else if has_furthest_block (is_special_in b) e.number (elements b.stack) then None
     else Some (record b {
       stack = popped_through (has_number e.number) b.stack.current b.stack.others;
       active = unlisted e.number b.active;
@@ -434,8 +447,8 @@ whole f [] = f.children
 whole f (outer ∷ others) = whole (closed_into outer f) others
 
 -- the fragment algorithm (13.4), whose context is an element that the mode "in body" is for
-abbrev pub fragment : Builder
-fragment = record {
+abbrev pub fragment : Bool → Builder
+fragment counts_search = record {
   stack = record {
     current = record {
       element = record { number = 0; own = record { name = codes "html"; attributes = [] } };
@@ -447,11 +460,21 @@ fragment = record {
   next = 1;
   skips = false;
   mode = in_body;
+  counts_search = counts_search;
 }
 
 abbrev pub trees_of : Builder → HtmlForest
 trees_of b = before (whole b.stack.current b.stack.others) none
 
--- the trees that tokens make
+-- the trees that tokens make, where `search` is a special element or not
+abbrev pub html_trees_where : Bool → List HtmlToken → Option HtmlForest
+html_trees_where counts_search tokens =
+    option_map trees_of (run (Some (fragment counts_search)) tokens)
+
+-- the trees that tokens make by the standard
 abbrev pub html_trees : List HtmlToken → Option HtmlForest
-html_trees tokens = option_map trees_of (run (Some fragment) tokens)
+html_trees tokens = html_trees_where true tokens
+
+-- the same where `search` is no special element
+abbrev pub html_trees_without_search : List HtmlToken → Option HtmlForest
+html_trees_without_search tokens = html_trees_where false tokens

@@ -1,5 +1,5 @@
 -- Places in a page that is being read.
-use Rattle.std.specs.Prelude.{◌≡◌, List, [], ◌∷◌, Some}
+use Rattle.std.specs.Prelude.{◌≡◌, Bool, List, [], ◌∷◌, Some}
 use Rattle.tl_spec.specs.Tree.Forest.{none}
 use Rattle.tl_html_spec.specs.HtmlTokenizer.{HtmlToken}
 use Rattle.tl_tree_spec.specs.HtmlForest.{HtmlForest, HtmlTag}
@@ -17,11 +17,12 @@ entries_after a_format e entries = formatting e ∷ with_room e.own entries
 entries_after a_nobr e entries = formatting e ∷ with_room e.own entries
 entries_after _ e entries = entries
 
--- where elements of these tags are open, the innermost first, with nothing in them yet
-abbrev pub placed : List HtmlTag → Builder
-placed [] = fragment
-placed (own ∷ tags) =
-    let around = placed tags in
+-- where elements of these tags are open, the innermost first, with nothing in them yet; and where
+-- `search` is a special element or not
+abbrev pub placed : Bool → List HtmlTag → Builder
+placed counts_search [] = fragment counts_search
+placed counts_search (own ∷ tags) =
+    let around = placed counts_search tags in
     record (inserted around own) {
       active = entries_after (group own.name) (new_element around own) around.active;
       mode = mode_by (group own.name) around.mode;

@@ -15,8 +15,8 @@ use Rattle.tl_tree_spec.specs.HtmlTreeBuilder.{is_rtc}
 abbrev pub in_p : List (List ℕ) → Bool
 in_p names = within is_paragraph is_button_scope names
 
--- the search of a `li`, `dd` or `dt` for an earlier one ends here in browsers too: not all take
--- `search` for a special element
+-- the search of a `li`, `dd` or `dt` for an earlier one ends here whether `search` is a special
+-- element or not
 abbrev pub surely_ends : List ℕ → Bool
 surely_ends n = is_item_bound n && not (is_one_of (codes "search") n)
 

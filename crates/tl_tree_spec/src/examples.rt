@@ -1,7 +1,7 @@
 //! Worked rows: pages, and what the tree builder makes of them "in body" (13.2.6.4.7).
 
 ghost use Rattle.std.specs.Prelude.{◌≡◌, Some, None, codes};
-ghost use Rattle.tl_tree_spec.specs.Examples.{inner_html};
+ghost use Rattle.tl_tree_spec.specs.Examples.{inner_html, inner_html_without_search};
 
 /// Paragraphs, headings and rules.
 pub fn paragraphs()
@@ -35,6 +35,18 @@ pub fn items()
         ≡ Some (codes "<li><span></span></li><li>x</li>") }
     ensures description_in_div_in_term { inner_html "<dt><div><dd>x</dd></div></dt>"
         ≡ Some (codes "<dt><div></div></dt><dd>x</dd>") }
+{}
+
+/// `search`, which is a special element or not.
+pub fn search()
+    ensures standard { inner_html "<li>x<search><li>y"
+        ≡ Some (codes "<li>x<search><li>y</li></search></li>") }
+    ensures other { inner_html_without_search "<li>x<search><li>y"
+        ≡ Some (codes "<li>x<search></search></li><li>y</li>") }
+    ensures end_tag { inner_html "<span><search></span>x"
+        ≡ Some (codes "<span><search>x</search></span>") }
+    ensures other_end_tag { inner_html_without_search "<span><search></span>x"
+        ≡ Some (codes "<span><search></search></span>x") }
 {}
 
 /// Formatting elements, with the standard's example of misnested tags, and of those that are not

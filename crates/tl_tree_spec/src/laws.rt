@@ -1,28 +1,32 @@
 //! Laws of the definitions.
 
-ghost use Rattle.std.specs.Prelude.{◌≡◌, Some, true, List, [], ◌∷◌, ◌++◌, map, codes};
+ghost use Rattle.std.specs.Prelude.{◌≡◌, Bool, Some, true, List, [], ◌∷◌, ◌++◌, map, codes};
 ghost use Rattle.tl_tree_spec.specs.HtmlForest.{HtmlForest, HtmlTag, html_tokens_of, is_normal, normal_form};
 ghost use Rattle.tl_tree_spec.specs.Builder.{names};
-ghost use Rattle.tl_tree_spec.specs.HtmlTreeBuilder.{html_trees};
+ghost use Rattle.tl_tree_spec.specs.HtmlTreeBuilder.{html_trees, html_trees_without_search};
 ghost use Rattle.tl_tree_spec.specs.Places.{Puts, placed};
 ghost use Rattle.tl_tree_spec.specs.Stays.{stay};
 
-/// The tree builder makes of the tokens of trees that stay these trees, and nothing else.
-#[tactic(auto, using(crate::proofs::Trees::stays, crate::proofs::Trees::stays_exactly))]
+/// The tree builder makes of the tokens of trees that stay these trees, and nothing else, whether
+/// `search` is a special element or not.
+#[tactic(auto, using(crate::proofs::Trees::stays, crate::proofs::Trees::stays_exactly, crate::proofs::Trees::stays_without_search))]
 pub fn trees_stay()
     ensures trees { (f : HtmlForest) → stay (codes "html" ∷ []) f ≡ true →
         html_trees (html_tokens_of f) ≡ Some (normal_form f) }
     ensures exactly { (f : HtmlForest) → stay (codes "html" ∷ []) f ≡ true → is_normal f ≡ true →
         html_trees (html_tokens_of f) ≡ Some f }
+    ensures without_search { (f : HtmlForest) → stay (codes "html" ∷ []) f ≡ true →
+        html_trees_without_search (html_tokens_of f) ≡ html_trees (html_tokens_of f) }
 {}
 
 /// Such trees stay wherever they are put: where any elements are open, they go into the innermost
 /// one, and nothing around it changes.
 #[tactic(auto, using(crate::proofs::Places::names_placed, crate::proofs::Places::stays_placed))]
 pub fn trees_stay_anywhere()
-    ensures puts { (tags : List HtmlTag) (f : HtmlForest) →
-        stay (names (placed tags).stack) f ≡ true →
-        Puts (placed tags) (html_tokens_of f) (normal_form f) }
-    ensures names { (tags : List HtmlTag) →
-        names (placed tags).stack ≡ map (λ own. own.name) tags ++ (codes "html" ∷ []) }
+    ensures puts { (counts_search : Bool) (tags : List HtmlTag) (f : HtmlForest) →
+        stay (names (placed counts_search tags).stack) f ≡ true →
+        Puts (placed counts_search tags) (html_tokens_of f) (normal_form f) }
+    ensures names { (counts_search : Bool) (tags : List HtmlTag) →
+        names (placed counts_search tags).stack
+        ≡ map (λ own. own.name) tags ++ (codes "html" ∷ []) }
 {}

@@ -26,6 +26,8 @@ pub fn trees_that_move()
     ensures block_in_b_in_p { stay_there (element "p" (element "b" (element "div" none))) ≡ false }
     ensures item_in_span_in_item { stay_there (element "li" (element "span" (element "li" none)))
         ≡ false }
+    ensures item_in_search_in_item { stay_there
+        (element "li" (element "search" (element "li" none))) ≡ false }
     ensures a_in_span_in_a { stay_there (element "a" (element "span" (element "a" none)))
         ≡ false }
     ensures heading_in_heading { stay_there (element "h1" (element "h2" none)) ≡ false }
