@@ -1,0 +1,6 @@
+pub mod Stack
+pub mod Closing
+pub mod Texts
+pub mod Heads
+pub mod Tags
+pub mod Whole
