@@ -1,6 +1,10 @@
-//! Worked rows of start tags and pages with keys set and unset.
+//! Worked rows of pages: keys set and unset, their elements, and one element changed.
 #![tactic(auto)]
 
+#[cfg(test)]
+mod edits;
+#[cfg(test)]
+mod elements;
 #[cfg(test)]
 mod pages;
 #[cfg(test)]

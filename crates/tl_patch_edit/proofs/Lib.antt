@@ -1,0 +1,10 @@
+pub mod Lists
+pub mod Said
+pub mod Steps
+pub mod Names
+pub mod Plans
+pub mod Puts
+pub mod EndTags
+pub mod Splicing
+pub mod Edited
+pub mod Starts

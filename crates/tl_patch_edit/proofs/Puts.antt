@@ -1,0 +1,95 @@
+-- What is put gives the pieces that are asked for.
+use Rattle.std.proofs.Common.{◌≡◌, ℕ, true, List, [], ◌∷◌, ◌++◌, map, Some, refl, ap, sym, subst, ◌∙◌, append-nil}
+use Rattle.tl_html_spec.specs.HtmlTokenizer.{Character, EndTag, State, data_state}
+use Rattle.tl_html_spec.specs.Pieces.{Piece, bytes_of, piece, pieces_of, tokens_in}
+use Rattle.tl_html_tokens.specs.Modes.{state_of}
+use Rattle.tl_html_tokens.specs.Whole.{IsWhole}
+use Rattle.tl_html_tokens.specs.declared.mode.Mode.{Mode}
+use Rattle.tl_html_tokens.specs.declared.mode.Mode.TheVariants as mode
+use Rattle.tl_html_tokens.specs.declared.stage.TokenKind.TheVariants as kind
+use Rattle.tl_patch_edit.specs.Asks.{GivePut, IsTextPart, end_tag_bytes, is_data, text_form}
+use Rattle.tl_patch_edit.specs.Parts.{Give, Part}
+use Rattle.tl_patch_edit.proofs.Said.{pieces_both}
+use Rattle.tl_patch_spec.specs.Patches.{Content, Markup, NewContent, NewEndTag, Text, content_pieces, end_tag_piece}
+
+text_pieces : Mode → List ℕ → List Piece
+text_pieces m t = piece (state_of m) (text_form m t) (map Character t) ∷ []
+
+form_is : (m : Mode) (t : List ℕ) → content_pieces (state_of m) (Text t) ≡ Some (text_pieces m t)
+unfolding text_pieces
+form_is mode.Data t = refl
+form_is mode.Title t = refl
+form_is mode.Textarea t = refl
+form_is mode.Style t = refl
+form_is mode.Xmp t = refl
+form_is mode.Iframe t = refl
+form_is mode.Noembed t = refl
+form_is mode.Noframes t = refl
+form_is mode.Script t = refl
+form_is mode.ScriptEscaped t = refl
+form_is mode.ScriptEscapedDash t = refl
+form_is mode.ScriptEscapedDashDash t = refl
+form_is mode.Plaintext t = refl
+
+text_gives : (m : Mode) (t : List ℕ) (part : Part) → IsTextPart m t part → Give (part ∷ []) (bytes_of (text_pieces m t)) (tokens_in (text_pieces m t))
+unfolding text_pieces
+text_gives m t part h =
+    subst (λ (x : Part). Give (x ∷ []) (bytes_of (piece (state_of m) (text_form m t) (map Character t) ∷ [])) (tokens_in (piece (state_of m) (text_form m t) (map Character t) ∷ []))) (sym h.is) (record {
+      bytes = refl;
+      say = (map Character t, [], refl, ap (map Character) (sym h.said), refl);
+    })
+
+pub text_put : (t : List ℕ) (place part : Part) (parts : List Part) → IsTextPart place.mode t part → parts ≡ [] ++ part ∷ [] → GivePut (NewContent (Text t) ∷ []) place parts
+text_put t place part parts h e = λ p i.
+    let put : List Piece = text_pieces place.mode t in (
+      put,
+      (put, [], sym (append-nil put), ap (λ (s : State). content_pieces s (Text t)) i.rest ∙ form_is place.mode t, refl),
+      subst (λ (xs : List Part). Give xs (bytes_of put) (tokens_in put)) (sym e) (text_gives place.mode t part h),
+    )
+
+data_is : (m : Mode) → is_data m ≡ true → state_of m ≡ data_state
+data_is mode.Data e = refl
+data_is mode.Title e = cc
+data_is mode.Textarea e = cc
+data_is mode.Style e = cc
+data_is mode.Xmp e = cc
+data_is mode.Iframe e = cc
+data_is mode.Noembed e = cc
+data_is mode.Noframes e = cc
+data_is mode.Script e = cc
+data_is mode.ScriptEscaped e = cc
+data_is mode.ScriptEscapedDash e = cc
+data_is mode.ScriptEscapedDashDash e = cc
+data_is mode.Plaintext e = cc
+
+pub markup_put : (m : List ℕ) (place : Part) (given parts : List Part) → is_data place.mode ≡ true → Give given (bytes_of (pieces_of m)) (tokens_in (pieces_of m)) → parts ≡ [] ++ given →
+    GivePut (NewContent (Markup m) ∷ []) place parts
+markup_put m place given parts d g e = λ p i.
+    let put : List Piece = pieces_of m in (
+      put,
+      (put, [], sym (append-nil put), ap (λ (s : State). content_pieces s (Markup m)) (i.rest ∙ data_is place.mode d), refl),
+      subst (λ (xs : List Part). Give xs (bytes_of put) (tokens_in put)) (sym e) g,
+    )
+
+pub nothing_put : (place : Part) (parts : List Part) → parts ≡ [] → GivePut [] place parts
+nothing_put place parts e = λ p i. ([], refl, subst (λ (xs : List Part). Give xs [] []) (sym e) (record { bytes = refl; say = refl }))
+
+tag_gives : (name : List ℕ) (part : Part) → part ≡ record { kind = kind.EndTag; mode = mode.Data; bytes = end_tag_bytes name } → IsWhole mode.Data (end_tag_bytes name) (EndTag name ∷ []) →
+    Give (part ∷ []) (bytes_of (end_tag_piece name ∷ [])) (tokens_in (end_tag_piece name ∷ []))
+tag_gives name part e w =
+    subst (λ (x : Part). Give (x ∷ []) (bytes_of (end_tag_piece name ∷ [])) (tokens_in (end_tag_piece name ∷ []))) (sym e) (record {
+      bytes = refl;
+      say = (EndTag name ∷ [], [], refl, w, refl);
+    })
+
+pub tag_put : (name : List ℕ) (c : Content) (place part : Part) (content parts : List Part) → part ≡ record { kind = kind.EndTag; mode = mode.Data; bytes = end_tag_bytes name } →
+    IsWhole mode.Data (end_tag_bytes name) (EndTag name ∷ []) → GivePut (NewContent c ∷ []) place content → parts ≡ (part ∷ []) ++ content → GivePut (NewEndTag name ∷ NewContent c ∷ []) place parts
+tag_put name c place part content parts e w g h = λ p i.
+    let r = g p i in
+    let tag : List Piece = end_tag_piece name ∷ [] in
+    let put : List Piece = tag ++ r.0 in (
+      put,
+      (tag, r.0, refl, refl, r.1),
+      subst (λ (xs : List Part). Give xs (bytes_of put) (tokens_in put)) (sym h)
+          (pieces_both (part ∷ []) content tag r.0 (tag_gives name part e w) r.2),
+    )

@@ -1,0 +1,56 @@
+-- The tag that is meant, and the page that is written.
+use Rattle.std.specs.Prelude.{◌≡◌, ◌==◌, ℕ, Bool, true, false, List, [], ◌∷◌, Some}
+use Rattle.std.specs.List.{slice_get, starts_with}
+use Rattle.tl_html_spec.specs.HtmlTokenizer.{EndTag, HtmlToken, html_tokens, without_mark}
+use Rattle.tl_html_spec.specs.Pieces.{Piece, bytes_of, tokens_in}
+use Rattle.tl_html_tokens.specs.Kinds.{IsStartTag}
+use Rattle.tl_html_tokens.specs.Tokens.{mark_len}
+use Rattle.tl_html_tokens.specs.Whole.{IsWhole}
+use Rattle.tl_html_tokens.specs.declared.mode.Mode.{Mode}
+use Rattle.tl_html_tokens.specs.declared.mode.Mode.TheVariants as mode
+use Rattle.tl_html_tokens.specs.declared.stage.TokenKind.TheVariants as kind
+use Rattle.tl_html_tokens.specs.declared.token.Token.{Token}
+use Rattle.tl_patch_edit.specs.Asks.{end_tag_bytes}
+use Rattle.tl_patch_edit.specs.Parts.{ArePieces, Part, Say, part_bytes}
+use Rattle.tl_patch_spec.specs.Patches.{IsAsked, Put, start_name}
+use Rattle.tl_patch_spec.specs.Splices.{Splice, with_splices}
+
+-- the token of this number is a start tag at this place
+pub record IsStartAt (tokens : List Token) (place number : ℕ) (token : Token) : Type 0 where
+  pub is : slice_get tokens number ≡ Some token
+  pub start : token.start ≡ place
+  pub kind : token.kind ≡ kind.StartTag
+
+-- the name of a start tag by itself, in lower case
+pub record IsTagName (bytes name : List ℕ) : Type 0 where
+  pub named : (m : Mode) (ts : List HtmlToken) → IsWhole m bytes ts → IsStartTag ts →
+      start_name ts ≡ Some name
+
+pub record IsEndTagOf (name tag : List ℕ) : Type 0 where
+  pub is : tag ≡ end_tag_bytes name
+  pub whole : IsWhole mode.Data tag (EndTag name ∷ [])
+
+abbrev pub has_mark : List ℕ → Bool
+has_mark page = starts_with ◌==◌ page (0xEF ∷ 0xBB ∷ 0xBF ∷ [])
+
+abbrev pub mark_bytes : Bool → List ℕ
+mark_bytes true = 0xEF ∷ 0xBB ∷ 0xBF ∷ []
+mark_bytes false = []
+
+-- text is these parts, after a byte order mark exactly where the page has one, and is read so
+pub record IsReadAs (page : List ℕ) (parts : List Part) (text : List ℕ) : Type 0 where
+  pub mark : mark_len text ≡ mark_len page
+  pub bytes : without_mark text ≡ part_bytes parts
+  pub tokens : (ts : List HtmlToken) → Say parts ts → html_tokens text ≡ ts
+
+-- text is a page of these parts with the splice that is asked for, and is read so
+pub record IsSplicedPage (ask : Splice Put) (page text : List ℕ) (ps : List Piece) : Type 0 where
+  pub splice : Splice Piece
+  pub asked : IsAsked ps ask splice
+  pub mark : mark_len text ≡ mark_len page
+  pub bytes : without_mark text ≡ bytes_of (with_splices ps (splice ∷ []))
+  pub tokens : html_tokens text ≡ tokens_in (with_splices ps (splice ∷ []))
+
+abbrev pub IsSplicedPageOf : Splice Put → List Part → List ℕ → List ℕ → Type 0
+IsSplicedPageOf ask parts page text =
+    (ps : List Piece) → ArePieces parts ps → IsSplicedPage ask page text ps

@@ -1,0 +1,5 @@
+pub mod View
+pub mod Parts
+pub mod Asks
+pub mod Found
+pub mod Edited

@@ -1,0 +1,28 @@
+-- Patches of the code, as the definitions have them.
+use Rattle.tl_patch_edit.specs.declared.ask.Content.{Content as CodeContent}
+use Rattle.tl_patch_edit.specs.declared.ask.Content.TheVariants as content
+use Rattle.tl_patch_edit.specs.declared.ask.ElementPatch.{ElementPatch}
+use Rattle.tl_patch_edit.specs.declared.ask.ElementPatch.TheVariants as patch
+use Rattle.tl_patch_edit.specs.declared.ask.Extent.{Extent as CodeExtent}
+use Rattle.tl_patch_edit.specs.declared.ask.Extent.TheVariants as extent
+use Rattle.tl_patch_spec.specs.Patches.{Alone, Append, Content, Dropped, Extent, Fill, Implied, Markup, Patch, Prepend, PutAfter, PutBefore, Remove, ReplaceWith, Text, Unclosed, Whole}
+
+abbrev pub content_view : CodeContent → Content
+content_view (content.Text text) = Text text.now
+content_view (content.Markup markup) = Markup markup.now
+
+abbrev pub patch_view : ElementPatch → Patch
+patch_view patch.Remove = Remove
+patch_view (patch.ReplaceWith c) = ReplaceWith (content_view c)
+patch_view (patch.Fill c) = Fill (content_view c)
+patch_view (patch.Prepend c) = Prepend (content_view c)
+patch_view (patch.Append c) = Append (content_view c)
+patch_view (patch.PutBefore c) = PutBefore (content_view c)
+patch_view (patch.PutAfter c) = PutAfter (content_view c)
+
+abbrev pub extent_view : CodeExtent → Extent
+extent_view extent.Dropped = Dropped
+extent_view extent.Alone = Alone
+extent_view (extent.Whole end) = Whole end
+extent_view (extent.Implied end) = Implied end
+extent_view (extent.Unclosed end) = Unclosed end

@@ -1,0 +1,175 @@
+//! What a patch asks for.
+ghost use Rattle.std.specs.Prelude.{◌≡◌, ◌==◌, IfOk, IfSome, Some};
+ghost use Rattle.tl_patch_spec.specs.Patches.{extent_in, extent_of, may_lack_end_tag};
+ghost use Rattle.tl_patch_elements.specs.View.{element_view, elements_view};
+ghost use Rattle.tl_patch_edit.specs.Asks.{inner_end, inside_end, is_document_name, put_after, until_of};
+ghost use Rattle.tl_patch_edit.specs.View.{extent_view};
+
+use std::alloc::{AllocError, Global};
+use tl_html_write::lower_name;
+use tl_names::elements::{IMPLIED_ENDS, TABLE_PARTS};
+use tl_names::is_among;
+use tl_patch_elements::Element;
+
+/// What is put into a page.
+#[derive(Clone, Copy, Debug)]
+pub enum Content<'a> {
+    /// A text, which is escaped where it has to be.
+    Text { text: &'a [u8] },
+    /// Markup, as it is.
+    Markup { markup: &'a [u8] },
+}
+
+/// What is done with an element.
+#[derive(Clone, Copy, Debug)]
+pub enum ElementPatch<'a> {
+    /// It goes.
+    Remove,
+    /// Something stands in its place.
+    ReplaceWith { content: Content<'a> },
+    /// Something stands in the place of what is in it.
+    Fill { content: Content<'a> },
+    /// Something stands first in it.
+    Prepend { content: Content<'a> },
+    /// Something stands last in it.
+    Append { content: Content<'a> },
+    /// Something stands before it.
+    PutBefore { content: Content<'a> },
+    /// Something stands after it.
+    PutAfter { content: Content<'a> },
+}
+
+// How far the element of a start tag goes: the tag is dropped, is the element, or the element goes
+// up to its own end tag, or to a token before which it ends, where its end tag may be left out or
+// may not.
+#[derive(Clone, Copy)]
+pub(crate) enum Extent {
+    Dropped,
+    Alone,
+    Whole { end: usize },
+    Implied { end: usize },
+    Unclosed { end: usize },
+}
+
+// What is put: nothing, the content, or the content after an end tag.
+#[derive(Clone, Copy)]
+pub(crate) enum Put {
+    Nothing,
+    Content,
+    EndTagAndContent,
+}
+
+// What is put in the place of some tokens.
+#[derive(Clone, Copy)]
+pub(crate) struct Ask {
+    pub(crate) from: usize,
+    pub(crate) until: usize,
+    pub(crate) put: Put,
+}
+
+fn is_document_name(name: &[u8]) -> bool
+    ensures { result ≡ is_document_name name.now }
+{
+    name == b"html".as_slice() || name == b"head".as_slice() || name == b"body".as_slice()
+}
+
+// Whether the end tag of an element may be left out.
+fn may_lack_end_tag(name: &[u8]) -> bool
+    ensures { result ≡ may_lack_end_tag name.now }
+{
+    let is_implied = is_among(&IMPLIED_ENDS, name);
+    if is_implied {
+        return true;
+    }
+    let is_part = is_among(&TABLE_PARTS, name);
+    if is_part {
+        return true;
+    }
+    is_document_name(name)
+}
+
+// How far an element goes.
+fn extent_of(alloc: Global, element: &Element<'_>) -> Result<Extent, AllocError>
+    ensures { IfOk result (λ extent.
+        extent_view extent ≡ extent_of (element_view element.now)) }
+{
+    if element.end == element.start {
+        return Ok(Extent::Alone);
+    }
+    if element.has_end_tag {
+        return Ok(Extent::Whole { end: element.end });
+    }
+    let name = lower_name(alloc, element.name)?;
+    let may_lack = may_lack_end_tag(name.as_bytes());
+    if may_lack {
+        return Ok(Extent::Implied { end: element.end });
+    }
+    Ok(Extent::Unclosed { end: element.end })
+}
+
+fn begins_at(element: &Element<'_>, number: usize) -> bool
+    ensures { result ≡ (element.now.start == number) }
+{
+    element.start == number
+}
+
+// How far the element of a start tag goes.
+pub(crate) fn extent_in(
+    alloc: Global,
+    number: usize,
+    elements: &[Element<'_>],
+) -> Result<Extent, AllocError>
+    ensures { IfOk result (λ extent.
+        extent_view extent ≡ extent_in number (elements_view elements.now)) }
+{
+    for at in 0..elements.len() {
+        let is_it = begins_at(&elements[at], number);
+        if is_it {
+            let extent = extent_of(alloc, &elements[at])?;
+            return Ok(extent);
+        }
+    }
+    Ok(Extent::Dropped)
+}
+
+pub(crate) fn until_of(number: usize, extent: Extent) -> Option<usize>
+    ensures { IfSome result (λ until. until_of number (extent_view extent) ≡ Some until) }
+{
+    match extent {
+        Extent::Dropped => None,
+        Extent::Alone => number.checked_add(1),
+        Extent::Whole { end } => end.checked_add(1),
+        Extent::Implied { end } => Some(end),
+        Extent::Unclosed { .. } => None,
+    }
+}
+
+pub(crate) fn inner_end(extent: Extent) -> Option<usize>
+    ensures { result ≡ inner_end (extent_view extent) }
+{
+    match extent {
+        Extent::Whole { end } => Some(end),
+        Extent::Implied { end } => Some(end),
+        _ => None,
+    }
+}
+
+pub(crate) fn inside_end(extent: Extent) -> Option<usize>
+    ensures { result ≡ inside_end (extent_view extent) }
+{
+    match extent {
+        Extent::Whole { end } => Some(end),
+        Extent::Implied { end } => Some(end),
+        Extent::Unclosed { end } => Some(end),
+        _ => None,
+    }
+}
+
+pub(crate) fn put_after(extent: Extent) -> Put
+    ensures { result ≡ put_after (extent_view extent) }
+{
+    match extent {
+        Extent::Implied { .. } => Put::EndTagAndContent,
+        _ => Put::Content,
+    }
+}

@@ -1,0 +1,39 @@
+//! Why an element is not changed.
+ghost use Rattle.std.specs.Prelude.{◌≡◌};
+ghost use Rattle.tl_patch_edit.specs.declared.error.EditError.TheVariants.{OutOfMemory};
+
+use std::alloc::AllocError;
+use thiserror::Error;
+
+/// Why an element was not changed; the places are bytes of the page.
+#[derive(Clone, Copy, PartialEq, Eq, Debug, Error)]
+pub enum EditError {
+    /// No start tag begins at this place.
+    #[error("no start tag at {0}")]
+    NoStartTag(usize),
+    /// The element of the tag at this place can't be changed so: it is not closed, or is a tag
+    /// alone, or the tag is dropped.
+    #[error("the element at {0} can't be changed so")]
+    NotMeant(usize),
+    /// What is to be put would stand after the last byte of the page.
+    #[error("the end of the page, for the element at {0}")]
+    EndOfPage(usize),
+    /// What is to be put can't stand there, for the element at this place: markup in a raw text, or
+    /// a text that would be read otherwise.
+    #[error("what is put can't stand there, for the element at {0}")]
+    NotWritten(usize),
+    /// The page would be read otherwise than asked, for the element at this place.
+    #[error("the page would be read otherwise, for the element at {0}")]
+    ReadOtherwise(usize),
+    /// Memory ran out.
+    #[error("out of memory")]
+    OutOfMemory,
+}
+
+impl From<AllocError> for EditError {
+    ghost from_gives = { λ _ e. e ≡ OutOfMemory };
+
+    fn from(_: AllocError) -> Self {
+        EditError::OutOfMemory
+    }
+}

@@ -1,0 +1,183 @@
+//! What is put into a page.
+ghost use Rattle.std.specs.Prelude.{◌≡◌, [], ◌∷◌, IfOk, IfSome};
+ghost use Rattle.tl_html_spec.specs.Pieces.{bytes_of, pieces_of, tokens_in};
+ghost use Rattle.tl_html_tokens.specs.declared.mode.Mode.TheVariants.{Data};
+ghost use Rattle.tl_html_tokens.specs.declared.stage.TokenKind.TheVariants.{EndTag};
+ghost use Rattle.tl_patch_edit.specs.Asks.{GivePut, IsMarkupOf, IsReady, IsTextPart, is_data, puts_view, text_form, text_of};
+ghost use Rattle.tl_patch_edit.specs.Parts.{Give, part_view, parts_view};
+ghost use Rattle.tl_patch_spec.specs.Patches.{Markup, NewContent, NewEndTag, Text};
+ghost use Rattle.tl_patch_edit.specs.View.{content_view};
+ghost use Rattle.tl_patch_spec.specs.Markup.{text_markup};
+
+use crate::ask::{Content, Put};
+use crate::part::{Part, copy, push};
+use std::alloc::{AllocError, Global};
+use tl_html_texts::characters;
+use tl_html_tokens::{Mode, TokenKind};
+
+// A text as it stands where it is read in a mode.
+fn text_form<'p>(mode: Mode, text: &'p [u8], escaped: &'p [u8]) -> &'p [u8]
+    requires { escaped.now ≡ text_markup text.now }
+    ensures { result.now ≡ text_form mode text.now }
+{
+    match mode {
+        Mode::Data => escaped,
+        Mode::Title => escaped,
+        Mode::Textarea => escaped,
+        _ => text,
+    }
+}
+
+// A text as a part, if it is read as it is given.
+fn text_part<'p>(
+    alloc: Global,
+    mode: Mode,
+    text: &'p [u8],
+    escaped: &'p [u8],
+) -> Result<Option<Part<'p>>, AllocError>
+    requires { escaped.now ≡ text_markup text.now }
+    ensures { IfOk result (λ found. IfSome found (λ part.
+        IsTextPart mode text.now (part_view part))) }
+{
+    let bytes = text_form(mode, text, escaped);
+    let said = characters(alloc, mode, bytes)?;
+    let is_it = said.as_bytes() == text;
+    if !is_it {
+        return Ok(None);
+    }
+    Ok(Some(Part {
+        kind: TokenKind::Text,
+        mode,
+        bytes,
+    }))
+}
+
+pub(crate) fn is_data(mode: Mode) -> bool
+    ensures { result ≡ is_data mode }
+{
+    matches!(mode, Mode::Data)
+}
+
+// A text, where it can be put.
+fn text_parts<'p>(
+    alloc: Global,
+    place: Part<'p>,
+    text: &'p [u8],
+    escaped: &'p [u8],
+) -> Result<Option<Vec<Part<'p>>>, AllocError>
+    requires { escaped.now ≡ text_markup text.now }
+    ensures { IfOk result (λ found. IfSome found (λ parts.
+        GivePut (NewContent (Text text.now) ∷ []) (part_view place.entry)
+        (parts_view parts.items))) }
+{
+    let Some(part) = text_part(alloc, place.mode, text, escaped)? else {
+        return Ok(None);
+    };
+    let mut parts = Vec::new(alloc);
+    push(part, &mut parts)?;
+    Ok(Some(parts))
+}
+
+// Markup, which is put in markup alone.
+fn markup_parts<'p>(
+    alloc: Global,
+    place: Part<'p>,
+    markup: &[u8],
+    parts: &[Part<'p>],
+) -> Result<Option<Vec<Part<'p>>>, AllocError>
+    requires { Give (parts_view parts.now) (bytes_of (pieces_of markup.now))
+        (tokens_in (pieces_of markup.now)) }
+    ensures { IfOk result (λ found. IfSome found (λ parts.
+        GivePut (NewContent (Markup markup.now) ∷ []) (part_view place.entry)
+        (parts_view parts.items))) }
+{
+    let is_data = is_data(place.mode);
+    if !is_data {
+        return Ok(None);
+    }
+    let mut put = Vec::new(alloc);
+    copy(parts, &mut put)?;
+    Ok(Some(put))
+}
+
+// What is put, made ready: the content, a text as it stands in markup, the parts of markup, and the
+// end tag of the element.
+#[derive(Clone, Copy)]
+pub(crate) struct Ready<'r, 'p> {
+    pub(crate) content: Content<'p>,
+    pub(crate) escaped: &'p [u8],
+    pub(crate) markup: &'r [Part<'p>],
+    pub(crate) end_tag: &'p [u8],
+}
+
+fn content_parts<'p>(
+    alloc: Global,
+    place: Part<'p>,
+    ready: Ready<'_, 'p>,
+) -> Result<Option<Vec<Part<'p>>>, AllocError>
+    requires text { ready.escaped.now ≡ text_markup (text_of (content_view ready.content)) }
+    requires parts { IsMarkupOf (content_view ready.content) (parts_view ready.markup.now) }
+    ensures { IfOk result (λ found. IfSome found (λ parts.
+        GivePut (NewContent (content_view ready.entry.content) ∷ []) (part_view place.entry)
+        (parts_view parts.items))) }
+{
+    match ready.content {
+        Content::Text { text } => text_parts(alloc, place, text, ready.escaped),
+        Content::Markup { markup } => markup_parts(alloc, place, markup, ready.markup),
+    }
+}
+
+// The end tag as a part.
+fn end_tag_part(end_tag: &[u8]) -> Part<'_>
+    ensures { part_view result
+        ≡ record { kind = EndTag; mode = Data; bytes = end_tag.now } }
+{
+    Part {
+        kind: TokenKind::EndTag,
+        mode: Mode::Data,
+        bytes: end_tag,
+    }
+}
+
+// What is put where a part begins, if it can be put there.
+pub(crate) fn put_parts<'p>(
+    alloc: Global,
+    put: Put,
+    place: Part<'p>,
+    ready: Ready<'_, 'p>,
+    name: &[u8],
+) -> Result<Option<Vec<Part<'p>>>, AllocError>
+    requires { IsReady (content_view ready.content) name.now ready.escaped.now
+        (parts_view ready.markup.now) ready.end_tag.now }
+    ensures { IfOk result (λ found. IfSome found (λ parts.
+        GivePut (puts_view (content_view ready.entry.content) name.now put)
+        (part_view place.entry) (parts_view parts.items))) }
+{
+    match put {
+        Put::Nothing => Ok(Some(Vec::new(alloc))),
+        Put::Content => content_parts(alloc, place, ready),
+        Put::EndTagAndContent => tag_parts(alloc, place, ready, name),
+    }
+}
+
+// The content after the end tag.
+fn tag_parts<'p>(
+    alloc: Global,
+    place: Part<'p>,
+    ready: Ready<'_, 'p>,
+    name: &[u8],
+) -> Result<Option<Vec<Part<'p>>>, AllocError>
+    requires { IsReady (content_view ready.content) name.now ready.escaped.now
+        (parts_view ready.markup.now) ready.end_tag.now }
+    ensures { IfOk result (λ found. IfSome found (λ parts.
+        GivePut (NewEndTag name.now ∷ NewContent (content_view ready.entry.content) ∷ [])
+        (part_view place.entry) (parts_view parts.items))) }
+{
+    let Some(content) = content_parts(alloc, place, ready)? else {
+        return Ok(None);
+    };
+    let mut parts = Vec::new(alloc);
+    push(end_tag_part(ready.end_tag), &mut parts)?;
+    copy(content.as_slice(), &mut parts)?;
+    Ok(Some(parts))
+}

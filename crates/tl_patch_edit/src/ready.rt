@@ -1,0 +1,138 @@
+//! What is put, made ready.
+ghost use Rattle.std.specs.Prelude.{◌≡◌, [], ◌∷◌, IfOk, IfSome, true};
+ghost use Rattle.tl_html_spec.specs.Pieces.{bytes_of, pieces_of, tokens_in};
+ghost use Rattle.tl_html_spec.specs.HtmlTokenizer.{EndTag};
+ghost use Rattle.tl_html_tokens.specs.Whole.{IsWhole};
+ghost use Rattle.tl_html_tokens.specs.declared.mode.Mode.TheVariants as mode;
+ghost use Rattle.tl_patch_edit.specs.Asks.{IsMarkupOf, content_of, end_tag_bytes, is_data, is_one_end_tag, is_end_kind, is_whole_end_tag, text_of};
+ghost use Rattle.tl_patch_edit.specs.Found.{IsEndTagOf, has_mark};
+ghost use Rattle.tl_patch_edit.specs.Parts.{Give, parts_view};
+ghost use Rattle.tl_patch_edit.specs.View.{content_view, patch_view};
+ghost use Rattle.tl_patch_spec.specs.Markup.{text_markup};
+
+use crate::ask::{Content, ElementPatch};
+use crate::part::{Part, parts_of};
+use crate::put::is_data;
+use std::alloc::{AllocError, Global};
+use tl_html_tags::tag_parts;
+use tl_html_tokens::{Token, TokenKind, tokens};
+use tl_html_write::lower_name;
+use tl_patch::write_text;
+
+/// The content of a patch; none is a text without bytes.
+pub(crate) fn content_of<'p>(patch: ElementPatch<'p>) -> Content<'p>
+    ensures { content_view result ≡ content_of (patch_view patch.entry) }
+{
+    match patch {
+        ElementPatch::Remove => Content::Text { text: &[] },
+        ElementPatch::ReplaceWith { content } => content,
+        ElementPatch::Fill { content } => content,
+        ElementPatch::Prepend { content } => content,
+        ElementPatch::Append { content } => content,
+        ElementPatch::PutBefore { content } => content,
+        ElementPatch::PutAfter { content } => content,
+    }
+}
+
+// A text as it stands in markup.
+pub(crate) fn escaped_text(alloc: Global, content: Content<'_>) -> Result<Vec<u8>, AllocError>
+    ensures { IfOk result (λ text.
+        text.items ≡ text_markup (text_of (content_view content.entry))) }
+{
+    let mut out = Vec::new(alloc);
+    match content {
+        Content::Text { text } => {
+            write_text(text, &mut out)?;
+            Ok(out)
+        }
+        Content::Markup { .. } => Ok(out),
+    }
+}
+
+pub(crate) fn has_mark(page: &[u8]) -> bool
+    ensures { result ≡ has_mark page.now }
+{
+    page.starts_with(b"\xEF\xBB\xBF")
+}
+
+// Markup as parts; `None` where it begins with a byte order mark, which would be another character.
+fn parts_of_markup<'p>(alloc: Global, markup: &'p [u8]) -> Result<Option<Vec<Part<'p>>>, AllocError>
+    ensures { IfOk result (λ found. IfSome found (λ parts.
+        Give (parts_view parts.items) (bytes_of (pieces_of markup.now))
+        (tokens_in (pieces_of markup.now)))) }
+{
+    let has_mark = has_mark(markup);
+    if has_mark {
+        return Ok(None);
+    }
+    let tokens = tokens(alloc, markup)?;
+    let parts = parts_of(alloc, markup, tokens.as_slice())?;
+    Ok(Some(parts))
+}
+
+// The parts of a content that is markup.
+pub(crate) fn markup_parts<'p>(
+    alloc: Global,
+    content: Content<'p>,
+) -> Result<Option<Vec<Part<'p>>>, AllocError>
+    ensures { IfOk result (λ found. IfSome found (λ parts.
+        IsMarkupOf (content_view content.entry) (parts_view parts.items))) }
+{
+    match content {
+        Content::Text { .. } => Ok(Some(Vec::new(alloc))),
+        Content::Markup { markup } => parts_of_markup(alloc, markup),
+    }
+}
+
+fn is_end_kind(kind: TokenKind) -> bool
+    ensures { result ≡ is_end_kind kind }
+{
+    matches!(kind, TokenKind::EndTag)
+}
+
+// Whether a token is an end tag and stands up to an end.
+fn is_whole_end_tag(token: &Token, len: usize) -> bool
+    ensures { result ≡ is_whole_end_tag token.now len }
+{
+    is_end_kind(token.kind) && is_data(token.mode) && token.start == 0 && token.end == len
+}
+
+// Whether tokens are one such tag alone.
+fn is_one_end_tag(tokens: &[Token], len: usize) -> bool
+    ensures { result ≡ is_one_end_tag tokens.now len }
+{
+    match tokens {
+        [token] => is_whole_end_tag(token, len),
+        _ => false,
+    }
+}
+
+// Whether bytes are an end tag of this name by themselves.
+fn is_end_tag(alloc: Global, bytes: &[u8], name: &[u8]) -> Result<bool, AllocError>
+    ensures { IfOk result (λ is. is ≡ true →
+        IsWhole mode.Data bytes.now (EndTag name.now ∷ [])) }
+{
+    let all = tokens(alloc, bytes)?;
+    let is_one = is_one_end_tag(all.as_slice(), bytes.len());
+    if !is_one {
+        return Ok(false);
+    }
+    let parts = tag_parts(alloc, bytes)?;
+    let read = lower_name(alloc, parts.name)?;
+    Ok(read.as_bytes() == name)
+}
+
+// The end tag of a name, if it is read as one.
+pub(crate) fn end_tag(alloc: Global, name: &[u8]) -> Result<Option<Vec<u8>>, AllocError>
+    ensures { IfOk result (λ found. IfSome found (λ tag. IsEndTagOf name.now tag.items)) }
+{
+    let mut tag = Vec::new(alloc);
+    tag.extend_from_slice(b"</")?;
+    tag.extend_from_slice(name)?;
+    tag.extend_from_slice(b">")?;
+    let is_it = is_end_tag(alloc, tag.as_slice(), name)?;
+    if !is_it {
+        return Ok(None);
+    }
+    Ok(Some(tag))
+}
