@@ -11,8 +11,10 @@ use Rattle.tl_spec.specs.Select.Selector.{Selector}
 use Rattle.tl_spec.specs.Select.Text.{IsSelectorText}
 use Rattle.tl_spec.specs.Print.Text.{inner_text}
 use Rattle.tl_page.specs.Outcome.{Outcome, not_understood, outcome_map, outcome_of, refused, success}
+use Rattle.tl_extract.specs.Readable.{readable_inside}
+use Rattle.tl_extract.specs.Spelling.{text_written}
 use Rattle.tl_extract.specs.declared.field.Field.{Field}
-use Rattle.tl_extract.specs.declared.field.Field.TheVariants.{Number, OuterHtml, InnerHtml, InnerText, Attribute, Characters, Value}
+use Rattle.tl_extract.specs.declared.field.Field.TheVariants.{Number, OuterHtml, InnerHtml, InnerText, Attribute, Characters, Value, Lines}
 
 -- the text stands for no selector
 abbrev pub IsNoSelector : List ℕ → Type 0
@@ -35,6 +37,9 @@ field_of Characters nodes n node =
 field_of (Value key) nodes n node =
     success (option_map (λ value. utf8_lossy (unescaped_value value))
     (option_flatten (attribute_of key.now node)))
+field_of (Lines spelling) nodes n node =
+    outcome_map (λ text. Some (text_written spelling text))
+    (outcome_of (readable_inside nodes node))
 
 -- the field of the node of a number; none past the table
 abbrev pub field_at : Field → List Node → ℕ → Outcome (Option (List ℕ))

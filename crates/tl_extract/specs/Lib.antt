@@ -5,3 +5,4 @@ pub mod Split
 pub mod Readable
 pub mod Flow
 pub mod Spelling
+pub mod Table

@@ -4,7 +4,8 @@ use Rattle.std.specs.Char.{is_ascii_whitespace}
 use Rattle.std.specs.Str.Lossy.{utf8_lossy}
 use Rattle.tl_spec.specs.Lex.ByteClass.{is_among_in_any_case}
 use Rattle.tl_spec.specs.Lookup.ClassMember.{parts}
-use Rattle.tl_spec.specs.Tree.Document.{Document}
+use Rattle.tl_spec.specs.Tree.Document.{Document, Node}
+use Rattle.tl_spec.specs.Tree.Element.{children_of}
 use Rattle.tl_spec.specs.Tree.Forest.{Forest, PlainTag, none, text, comment, tag}
 use Rattle.tl_spec.specs.Walk.{TreeFault, Walk, end, all_tags, meets_comment, meets_fault, meets_tag, meets_text, earlier_fault, passes_tag, trees, fault_or, walk}
 use Rattle.std.specs.Prelude.{Result}
@@ -88,3 +89,14 @@ visible_fault (meets_fault e more) = Some e
 abbrev pub readable_of : Document → Result (List ℕ) TreeFault
 readable_of d =
     let w = walk all_tags d.nodes [] d.top in fault_or (visible_fault w) (readable (trees w))
+
+-- the text inside a node as it flows, or the first fault outside of hidden tags
+abbrev pub flow_inside : List Node → Node → Result (List ℕ) TreeFault
+flow_inside nodes node =
+    let w = walk all_tags nodes [] (children_of node) in fault_or (visible_fault w) (flow (trees w))
+
+-- the text inside a node, line by line, or the first fault outside of hidden tags
+abbrev pub readable_inside : List Node → Node → Result (List ℕ) TreeFault
+readable_inside nodes node =
+    let w = walk all_tags nodes [] (children_of node) in
+    fault_or (visible_fault w) (readable (trees w))

@@ -9,9 +9,10 @@ ghost use Rattle.tl_table.specs.Answer.{Answers};
 ghost use Rattle.tl.specs.View.{document_of, node_view};
 ghost use Rattle.tl_page.specs.Outcome.{Gives, outcome_map, outcome_of, success};
 ghost use Rattle.tl_extract.specs.Field.{field_at, field_of};
-ghost use Rattle.tl_extract.specs.Spelling.{said_value};
+ghost use Rattle.tl_extract.specs.Spelling.{said_value, text_written};
 
 use crate::spelling::Spelling;
+use crate::text::readable_inside;
 use std::alloc::{AllocError, Global};
 use tl::errors::TreeError;
 use tl::{Element, Node, NodeHandle, Parser, VDom};
@@ -34,6 +35,8 @@ pub enum Field<'k> {
     Characters,
     /// What its value at a key says, where it has one.
     Value(&'k str),
+    /// The text inside it, line by line.
+    Lines(Spelling),
 }
 
 // The value of a node at a key as text.
@@ -74,6 +77,20 @@ fn characters(alloc: Global, reading: Result<String, TreeError>) -> Result<Optio
     Ok(Some(Spelling::Decoded.written(alloc, reading?)?))
 }
 
+// The lines that were read.
+#[tactic(auto, using(tl_page::proofs::Outcomes::readings))]
+fn written_lines(
+    alloc: Global,
+    reading: Result<String, TreeError>,
+    spelling: Spelling,
+) -> Result<Option<String>, Failure>
+    ensures { (of : Result (List ℕ) TreeFault) → Answers string_bytes of reading
+        → Gives (option_map string_bytes)
+        (outcome_map (λ text. Some (text_written spelling text)) (outcome_of of)) result }
+{
+    Ok(Some(spelling.written(alloc, reading?)?))
+}
+
 // The field of a node; none where it has no such value.
 fn field_of<'a>(
     alloc: Global,
@@ -96,6 +113,9 @@ fn field_of<'a>(
         Field::Attribute(key) => Ok(value(alloc, node, key, Spelling::Raw)?),
         Field::Characters => characters(alloc, node.inner_text(alloc, parser)),
         Field::Value(key) => Ok(value(alloc, node, key, Spelling::Decoded)?),
+        Field::Lines(spelling) => {
+            written_lines(alloc, readable_inside(alloc, parser, node), *spelling)
+        }
     }
 }
 

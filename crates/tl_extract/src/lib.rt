@@ -8,15 +8,18 @@ mod link;
 mod listing;
 mod lossy_text;
 mod number;
+mod rows;
 mod selection;
 mod spelling;
 mod split;
 mod text;
 
 pub use field::{Field, field_at};
+pub use lines::lines_of;
 pub use link::links;
 pub use listing::outline;
 pub use number::count;
+pub use rows::table;
 pub use selection::{Selection, first, select};
 pub use spelling::Spelling;
 pub use text::readable;

@@ -2,6 +2,7 @@
 ghost use Rattle.std.specs.Prelude.{◌≡◌, ◌++◌, IfOk, OnOk, string_bytes};
 ghost use Rattle.tl_spec.specs.Lookup.ClassMember.{parts};
 ghost use Rattle.tl_extract.specs.Readable.{line_of, lines_of, words_after};
+ghost use Rattle.tl_extract.specs.Table.{later_words, spaced_words};
 
 use crate::lossy_text::add_lossy;
 use crate::split::split_once;
@@ -47,4 +48,31 @@ pub fn lines_of(alloc: Global, bytes: &[u8]) -> Result<String, AllocError>
         rest = more;
     }
     Ok(lines)
+}
+
+// Adds words with a space before each.
+fn add_later_words(words: &mut String, bytes: &[u8]) -> Result<(), AllocError>
+    ensures { OnOk result (string_bytes words.new
+        ≡ string_bytes words.old ++ later_words (parts bytes.now)) }
+{
+    let mut at = 0;
+    while let Some((start, end)) = next_part(bytes, at) {
+        words.push(' ')?;
+        add_lossy(words, &bytes[start..end])?;
+        at = end;
+    }
+    Ok(())
+}
+
+/// The words of bytes as text, with one space between two.
+pub fn spaced_words(alloc: Global, bytes: &[u8]) -> Result<String, AllocError>
+    ensures { IfOk result (λ words. string_bytes words ≡ spaced_words (parts bytes.now)) }
+{
+    let mut words = String::new(alloc);
+    let Some((start, end)) = next_part(bytes, 0) else {
+        return Ok(words);
+    };
+    add_lossy(&mut words, &bytes[start..end])?;
+    add_later_words(&mut words, &bytes[end..])?;
+    Ok(words)
 }

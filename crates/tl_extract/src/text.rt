@@ -6,16 +6,16 @@ ghost use Rattle.tl_spec.specs.Tree.Forest.{forest, plain};
 ghost use Rattle.tl_spec.specs.Lex.Token.{tokens};
 ghost use Rattle.tl_table.specs.Answer.{Answers};
 ghost use Rattle.tl.specs.Remaining.{remaining_of};
-ghost use Rattle.tl.specs.View.{document_of};
+ghost use Rattle.tl.specs.View.{document_of, node_view};
 ghost use Rattle.tl.specs.Walker.{event_view, Writes};
 ghost use Rattle.tl.proofs.Remaining.{IsEntered};
 ghost use Rattle.tl_extract.specs.Flow.{after_event, after_name, event_flow, remaining_fault, remaining_flow, visible_edge};
-ghost use Rattle.tl_extract.specs.Readable.{block_names, cell_names, edge, is_hidden, readable, readable_of, spaced_byte};
+ghost use Rattle.tl_extract.specs.Readable.{block_names, cell_names, edge, flow_inside, is_hidden, readable, readable_inside, readable_of, spaced_byte};
 
 use crate::lines::lines_of;
 use std::alloc::{AllocError, Global};
 use tl::errors::TreeError;
-use tl::{Node, VDom, Walk, WalkEvent};
+use tl::{Node, Parser, VDom, Walk, WalkEvent};
 use tl_bytes::ascii_case::is_among_in_any_case;
 
 static HIDDEN_NAMES: [&str; 2] = ["script", "style"];
@@ -159,4 +159,36 @@ pub fn readable(alloc: Global, document: &VDom<'_>) -> Result<String, TreeError>
     let mut text = Vec::new(alloc);
     finish(&mut walk, &mut text)?;
     Ok(lines_of(alloc, text.as_slice())?)
+}
+
+/// The text inside a node as it flows, with a line feed at either end of a block and a space at
+/// either end of a cell.
+pub(crate) fn flow_inside<'a>(
+    alloc: Global,
+    parser: &Parser<'a>,
+    node: &Node<'a>,
+) -> Result<Vec<u8>, TreeError>
+    ensures { Answers (λ text. text.items)
+        (flow_inside (map node_view parser.now.nodes) (node_view node.now)) result }
+{
+    let mut walk = node.walk(alloc, parser);
+    let mut text = Vec::new(alloc);
+    finish(&mut walk, &mut text)?;
+    Ok(text)
+}
+
+/// The text inside a node, line by line, as `readable` gives that of a document.
+pub(crate) fn readable_inside<'a>(
+    alloc: Global,
+    parser: &Parser<'a>,
+    node: &Node<'a>,
+) -> Result<String, TreeError>
+    ensures { Answers string_bytes
+        (readable_inside (map node_view parser.now.nodes) (node_view node.now)) result }
+{
+    let mut walk = node.walk(alloc, parser);
+    let mut text = Vec::new(alloc);
+    finish(&mut walk, &mut text)?;
+    let lines = lines_of(alloc, text.as_slice())?;
+    Ok(lines)
 }

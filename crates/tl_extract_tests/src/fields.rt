@@ -1,7 +1,7 @@
 //! What is asked of the nodes where a selector holds: rows of pages.
 use std::alloc::Global;
 use tl::{ParserOptions, VDom};
-use tl_extract::{Field, count, first, links, select};
+use tl_extract::{Field, Spelling, count, first, links, select};
 use tl_page::{Failure, read};
 
 static PAGE: &str =
@@ -15,7 +15,7 @@ struct Selected {
 }
 
 #[rattlefmt::skip]
-static SELECTED: [Selected; 12] = [
+static SELECTED: [Selected; 14] = [
     Selected { selector: "p", field: Field::Number, texts: "0\n5\n" },
     Selected { selector: "b", field: Field::OuterHtml, texts: "<b>y</b>\n" },
     Selected { selector: "p", field: Field::InnerHtml, texts: "x<b>y</b>\nz<img src=\"i.png\" srcset=\"j.png 2x\"><a href=\"/q\"></a>\n" },
@@ -28,6 +28,8 @@ static SELECTED: [Selected; 12] = [
     Selected { selector: "#a > b", field: Field::InnerText, texts: "y\n" },
     Selected { selector: "p, b", field: Field::Number, texts: "0\n2\n5\n" },
     Selected { selector: "b", field: Field::InnerText, texts: "y\n" },
+    Selected { selector: "p", field: Field::Lines(Spelling::Raw), texts: "xy\n\nz\n\n" },
+    Selected { selector: "img", field: Field::Lines(Spelling::Decoded), texts: "\n" },
 ];
 
 // Whether a selection is these texts.

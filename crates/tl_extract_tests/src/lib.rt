@@ -8,6 +8,8 @@ mod pages;
 #[cfg(test)]
 mod spellings;
 #[cfg(test)]
+mod tables;
+#[cfg(test)]
 mod texts;
 #[cfg(test)]
 mod walks;

@@ -12,3 +12,6 @@ returns-in-InnerText-clause-gives c = rw c.in-InnerText.is (c.optional_text-in-I
 
 pub returns-in-Characters-clause-gives : goal.returns-in-Characters-clause-gives
 returns-in-Characters-clause-gives c = rw c.in-Characters.is (c.characters.ensures _ (search rules))
+
+pub returns-in-Lines-clause-gives : goal.returns-in-Lines-clause-gives
+returns-in-Lines-clause-gives c = rw c.in-Lines.is (c.written_lines.ensures _ (search rules))
