@@ -22,5 +22,42 @@ The callers of `crates/uses`.
   Error: no UTF-8 at byte 0 (err)
   [1]
   $ printf '<p>' | uses value p href
-  Error: usage: uses values SELECTOR KEY | fill NAME=VALUE .. < page (err)
+  Error: usage: uses values SELECTOR KEY | links URL | titles | text | fill NAME=VALUE .. < page (err)
+  [1]
+  $ printf '<base href=/d/><A HREF=x?a=1&amp;b>y</A><img src=a.png srcset="b.png 1x, c.png 2x,d"><form action="#"><video poster=p>' | uses links http://e.org/p
+  http://e.org/d/
+  http://e.org/d/x?a=1&b
+  http://e.org/d/a.png
+  http://e.org/d/b.png
+  http://e.org/d/c.png
+  http://e.org/d/d
+  http://e.org/d/#
+  http://e.org/d/p
+  $ printf '<a href="http://[">x</a><a href=//q.org/>y</a><script>"<a href=z>"</script><img srcset=" ,a, (x,y)b (1,2) 3x,, c,d e,">' | uses links http://e.org/p
+  http://[
+  http://q.org/
+  http://e.org/a
+  http://e.org/(x,y)b
+  http://e.org/c,d
+  $ printf '<base><base href="http://["><base href=/q/><a href=x>' | uses links http://e.org/p
+  http://[
+  http://e.org/q/
+  http://e.org/x
+  $ uses links /p < /dev/null
+  Error: relative URL without a base (err)
+  [1]
+  $ printf '\377' | uses links http://e.org/
+  Error: no UTF-8 at byte 0 (err)
+  [1]
+  $ printf '<!doctype html PUBLIC "x"><TITLE>A &amp;\n B</TITLE><h1> C <b>d</b></h1><p>e<h2></h2><h2>f<script>"<h3>g</h3>"</script>' | uses titles
+  A & B
+  C d
+  f"<h3>g</h3>"
+  $ printf '<!doctype html PUBLIC "x"><TITLE>A &lt;</TITLE><p>b<p>c&amp;<script>"<p>"</script><table><td>d<td>e' | uses text
+  A <
+  b
+  c&
+  d e
+  $ printf '\377' | uses text
+  Error: no UTF-8 at byte 0 (err)
   [1]
