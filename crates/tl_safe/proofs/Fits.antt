@@ -16,13 +16,14 @@ use Rattle.tl_html_spec.specs.Escapes.{escaped_text, text_escape}
 use Rattle.tl_tree_spec.specs.Builder.{is_flow, mode_of}
 use Rattle.tl_tree_spec.specs.Groups.{group}
 use Rattle.tl_tree_spec.specs.Stays.{is_preformatted}
-use Rattle.tl_safe.specs.IsSafe.{is_written, text_characters}
+use Rattle.tl_safe.specs.IsSafe.{are_written, text_characters}
 use Rattle.tl_safe.specs.Filter.{is_text_byte}
 use Rattle.tl_words.specs.Words.{is_among}
 use Rattle.tl_safe.specs.Lists.{ListedWords}
 use Rattle.tl_safe.specs.Fitted.{Levels, Piece, Place, Run, alone, as_texts, at_top, element_run, end_tags_to, ends, first_texts, fit, fitted, is_closable, is_empty, is_read, is_written_anew, levels_of, may_begin_line, names_of, part_tag, parts_added, parts_around, past_lines, room_for, room_here, says, sequence, starts, still, tag_run, texts_there, with_element, with_piece}
 use Rattle.tl_spec.proofs.Print.Ascii.{are_ascii}
 use Rattle.tl_safe.specs.KeptFitted.{adds_of}
+use Rattle.tl_safe.proofs.Marks.{unmarked}
 use Rattle.tl_safe.proofs.Trees.{AreKept}
 
 -- Texts
@@ -215,7 +216,7 @@ module _ (p : ListedWords) where
   -- a tag that is kept
   pub record IsOwn (own : PlainTag) : Type 0 where
     pub listed : is_among p.tags own.name ≡ true
-    pub pairs : list_all (is_written p) (printed_pairs own.attributes) ≡ true
+    pub pairs : are_written p own.name (printed_pairs own.attributes) ≡ true
     pub keys : HasOwnKeys own.attributes
 
   -- trees that stay inside elements of these names, the innermost first
@@ -338,7 +339,7 @@ module _ (p : ListedWords) where
   no_keys = record { distinct = tt; others = tt }
 
   pub part-own : (w : List ℕ) → is_among p.tags w ≡ true → IsOwn (part_tag w)
-  part-own w h = record { listed = h; pairs = refl; keys = no_keys }
+  part-own w h = record { listed = h; pairs = unmarked p w; keys = no_keys }
 
   pub record Adds (w : List ℕ) (around : List PlainTag) : Type 0 where
     pub own : IsOwn (part_tag w)

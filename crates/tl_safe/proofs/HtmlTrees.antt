@@ -7,8 +7,8 @@ use Rattle.tl_html_spec.specs.HtmlTokenizer.{HtmlToken, Character, StartTag, End
 use Rattle.tl_html_spec.specs.Written.{inside}
 use Rattle.tl_spec.specs.Print.Normal.{norm}
 use Rattle.tl_tree_spec.specs.HtmlForest.{html_tokens_of}
-use Rattle.tl_tree_spec.specs.HtmlTreeBuilder.{html_trees}
-use Rattle.tl_tree_spec.proofs.Trees.{stays_exactly}
+use Rattle.tl_tree_spec.specs.HtmlTreeBuilder.{html_trees, html_trees_without_search}
+use Rattle.tl_tree_spec.proofs.Trees.{stays_exactly, stays_without_search}
 use Rattle.tl_safe.specs.HtmlTrees.{as_html, stays}
 use Rattle.tl_safe.specs.IsSafe.{html_attribute, text_characters, tokens_of}
 use Rattle.tl_safe.proofs.HtmlNormal.{norm-normal}
@@ -28,3 +28,10 @@ as_html-tokens (tag own children more) =
 pub norm-stays : (f : Forest PlainTag) → stays (as_html (norm f)) ≡ true →
     html_trees (tokens_of (norm f)) ≡ Some (as_html (norm f))
 norm-stays f h = ap html_trees (as_html-tokens (norm f)) ∙ stays_exactly (as_html (norm f)) h (norm-normal f)
+
+-- and so does one in which `search` is no special element
+pub norm-stays_without_search : (f : Forest PlainTag) → stays (as_html (norm f)) ≡ true →
+    html_trees_without_search (tokens_of (norm f)) ≡ Some (as_html (norm f))
+norm-stays_without_search f h =
+    ap html_trees_without_search (as_html-tokens (norm f)) ∙ stays_without_search (as_html (norm f)) h
+    ∙ stays_exactly (as_html (norm f)) h (norm-normal f)

@@ -5,7 +5,7 @@ use Rattle.tl_spec.specs.Tree.Forest.{Forest, PlainTag}
 use Rattle.tl_spec.specs.Print.Normal.{ReadsAs, norm}
 use Rattle.tl_spec.specs.Print.{print}
 use Rattle.tl_html_spec.specs.HtmlTokenizer.{tokens_in_page}
-use Rattle.tl_tree_spec.specs.HtmlTreeBuilder.{html_trees}
+use Rattle.tl_tree_spec.specs.HtmlTreeBuilder.{html_trees, html_trees_without_search}
 use Rattle.tl_safe.specs.Fitted.{pieces_of, print_pieces}
 use Rattle.tl_safe.specs.HtmlTrees.{as_html, stays}
 use Rattle.tl_safe.specs.IsSafe.{IsSafe, tokens_of}
@@ -15,7 +15,7 @@ use Rattle.tl_safe.specs.Lists.{ListedWords}
 use Rattle.tl_safe.specs.Refusals.{are_lawful}
 use Rattle.tl_safe.proofs.Fits.{fitted-AreKept, fitted-Fits, fitted-own}
 use Rattle.tl_safe.proofs.FitsStay.{fits-stay}
-use Rattle.tl_safe.proofs.HtmlTrees.{norm-stays}
+use Rattle.tl_safe.proofs.HtmlTrees.{norm-stays, norm-stays_without_search}
 use Rattle.tl_safe.proofs.PiecesPrint.{fitted-print}
 use Rattle.tl_safe.proofs.Printed.{form_of, reads_of, standard_of}
 use Rattle.tl_safe.proofs.Trees.{AreKept, kept-AreKept, kept-own}
@@ -44,3 +44,6 @@ module _ (p : ListedWords) (lawful : are_lawful p ≡ true) (f : Forest PlainTag
 
   pub browser : html_trees (tokens_in_page (print (kept_fitted p f))) ≡ Some (as_html (norm (kept_fitted p f)))
   browser = ap html_trees standard ∙ norm-stays (kept_fitted p f) stay
+
+  pub without_search : html_trees_without_search (tokens_in_page (print (kept_fitted p f))) ≡ Some (as_html (norm (kept_fitted p f)))
+  without_search = ap html_trees_without_search standard ∙ norm-stays_without_search (kept_fitted p f) stay

@@ -2,6 +2,7 @@ pub mod Listed
 pub mod Values
 pub mod Says
 pub mod Links
+pub mod Marks
 pub mod Writes
 pub mod Whole
 pub mod Tokenizer
@@ -10,10 +11,12 @@ pub mod Printed
 pub mod HtmlTrees
 pub mod Characters
 pub mod HtmlNormal
+pub mod Settled
 pub mod Fits
 pub mod FitsStay
 pub mod KeptFitted
 pub mod PiecesPrint
+pub mod Shown
 pub mod KindFacts
 pub mod LevelFacts
 pub mod RowRuns

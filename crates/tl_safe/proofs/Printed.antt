@@ -25,10 +25,11 @@ use Rattle.tl_words.specs.Words.{is_among}
 use Rattle.tl_safe.specs.Lists.{ListedWords}
 use Rattle.tl_safe.specs.Refusals.{are_lawful}
 use Rattle.tl_safe.specs.Filter.{is_text_byte, kept, is_allowed, is_allowed_value}
-use Rattle.tl_safe.specs.IsSafe.{IsSafe, a_text, a_void_element, an_element, end_of, html_attribute, is_written, nothing, safe_pairs, start_of, text_characters, tokens_of}
+use Rattle.tl_safe.specs.IsSafe.{IsSafe, are_written, a_text, a_void_element, an_element, end_of, html_attribute, is_written, nothing, safe_pairs, start_of, text_characters, tokens_of}
 use Rattle.tl_safe.proofs.Tokenizer.{AreNew, end-read, read, start-read, text-last, text-run}
 use Rattle.tl_safe.proofs.Trees.{AreKept, kept-AreKept, kept-clean, kept-own}
 use Rattle.tl_safe.proofs.Listed.{listed_key, listed_tag, text-lossy}
+use Rattle.tl_safe.proofs.Marks.{marks-lossy}
 use Rattle.tl_safe.proofs.Values.{all-stay, written-lossy}
 
 pairs-print : (ps : List Pair) → print_pairs ps ≡ safe_pairs (map lossy_pair ps)
@@ -170,22 +171,6 @@ module _ (p : ListedWords) (lawful : are_lawful p ≡ true) where
       ∙ ap₂ (λ x y. x ++ y) (start-print own name.lossy)
       (append_assoc (print children) (print_end own) (print more) ∙ ap (λ x. print children ++ (x ++ print more)) (end-print own name.lossy))
 
-  -- the form
-
-  pub kept-safe : (f : Forest PlainTag) → AreKept p f → IsSafe p (print f)
-  kept-safe none h = nothing
-  kept-safe (text bytes more) h = a_text (utf8_lossy bytes) (text-lossy bytes h.0) (kept-safe more h.1)
-  kept-safe (comment bytes more) h = absurd h
-  kept-safe (tag own children more) h =
-      let ps = map lossy_pair (printed_pairs own.attributes) in
-      let stay = lossy-stay (printed_pairs own.attributes) h.1 in
-      let below = kept-safe children h.3 in
-      let after = kept-safe more h.4 in
-      elim (cases_Bool (is_void own.name)) [
-        | inl v ↦ subst (IsSafe p) (sym (void-print own children more h.0 v)) (a_void_element own.name ps h.0 v stay after)
-        | inr v ↦ subst (IsSafe p) (sym (element-print own children more h.0 v)) (an_element own.name ps h.0 v stay below after)
-      ]
-
   -- keys
 
   key-lossy : (q : Pair) → is_allowed p q ≡ true → utf8_lossy q.0 ≡ q.0
@@ -197,6 +182,32 @@ module _ (p : ListedWords) (lawful : are_lawful p ≡ true) where
   keys-lossy (q ∷ ps) h =
       let here = and_parts (is_allowed p q) (list_all (is_allowed p) ps) h in
       ap₂ (λ k ks. k ∷ ks) (key-lossy q here.0) (keys-lossy ps here.1)
+
+  -- the pairs of a tag, and that they are written so when they are made text
+  stays-of : (own : PlainTag) → are_written p own.name (printed_pairs own.attributes) ≡ true → list_all (is_written p) (printed_pairs own.attributes) ≡ true
+  stays-of own h = (and_parts (list_all (is_written p) (printed_pairs own.attributes)) _ h).0
+
+  written-own : (own : PlainTag) → are_written p own.name (printed_pairs own.attributes) ≡ true → are_written p own.name (map lossy_pair (printed_pairs own.attributes)) ≡ true
+  written-own own h =
+      let ps : List Pair = printed_pairs own.attributes in
+      let parts = and_parts (list_all (is_written p) ps) _ h in
+      and_from _ _ (lossy-stay ps parts.0) (marks-lossy p own.name ps (keys-lossy ps (all-stay p ps parts.0)) parts.1)
+
+  -- the form
+
+  pub kept-safe : (f : Forest PlainTag) → AreKept p f → IsSafe p (print f)
+  kept-safe none h = nothing
+  kept-safe (text bytes more) h = a_text (utf8_lossy bytes) (text-lossy bytes h.0) (kept-safe more h.1)
+  kept-safe (comment bytes more) h = absurd h
+  kept-safe (tag own children more) h =
+      let ps = map lossy_pair (printed_pairs own.attributes) in
+      let stay = written-own own h.1 in
+      let below = kept-safe children h.3 in
+      let after = kept-safe more h.4 in
+      elim (cases_Bool (is_void own.name)) [
+        | inl v ↦ subst (IsSafe p) (sym (void-print own children more h.0 v)) (a_void_element own.name ps h.0 v stay after)
+        | inr v ↦ subst (IsSafe p) (sym (element-print own children more h.0 v)) (an_element own.name ps h.0 v stay below after)
+      ]
 
   new-keys : (a : PlainAttributes) → HasOwnKeys a → list_all (is_allowed p) (printed_pairs a) ≡ true → AreNew [] (map lossy_pair (printed_pairs a))
   new-keys a own h =
@@ -237,9 +248,9 @@ module _ (p : ListedWords) (lawful : are_lawful p ≡ true) where
   read_before (comment bytes more) t r plain h own follows = absurd h
   read_before (tag own children more) t r plain h keys follows =
       let ps = map lossy_pair (printed_pairs own.attributes) in
-      let stay = all-stay p ps (lossy-stay (printed_pairs own.attributes) h.1) in
+      let stay = all-stay p ps (lossy-stay (printed_pairs own.attributes) (stays-of own h.1)) in
       let name = listed_tag p lawful own.name h.0 in
-      let new = new-keys own.attributes keys.0 (all-stay p (printed_pairs own.attributes) h.1) in
+      let new = new-keys own.attributes keys.0 (all-stay p (printed_pairs own.attributes) (stays-of own h.1)) in
       let below = read_before children [] (end_of own.name ++ (print more ++ r)) refl h.3 keys.1 refl in
       let after = read_before more [] r refl h.4 keys.2 follows in
       let start : HtmlToken = StartTag own.name (map html_attribute ps) false in

@@ -16,9 +16,10 @@ use Rattle.tl_spec.specs.Tree.Forest.{Forest, none, text, comment, tag, PlainTag
 use Rattle.tl_words.specs.Words.{is_among}
 use Rattle.tl_safe.specs.Lists.{ListedWords, opaque_names}
 use Rattle.tl_safe.specs.Refusals.{are_lawful}
-use Rattle.tl_safe.specs.Filter.{is_text_byte, is_value_byte, joined, kept, kept_attributes, kept_value, is_allowed, is_allowed_value, written_pair, written_pairs, written_value}
-use Rattle.tl_safe.specs.IsSafe.{is_written}
+use Rattle.tl_safe.specs.Filter.{is_text_byte, is_value_byte, is_marked_link, joined, kept, kept_attributes, kept_tag, kept_value, is_allowed, is_allowed_value, written_pair, written_pairs, written_value}
+use Rattle.tl_safe.specs.IsSafe.{are_written, is_written}
 use Rattle.tl_safe.proofs.Listed.{listed_key, listed_tag}
+use Rattle.tl_safe.proofs.Marks.{marked-written, own-if_marked, written-key}
 use Rattle.tl_safe.proofs.Values.{all-stay, pairs-written}
 
 -- what holds of both of two trees holds of the chosen one
@@ -33,7 +34,7 @@ module _ (p : ListedWords) where
   AreKept (text bytes more) = (list_all is_text_byte bytes ≡ true) × AreKept more
   AreKept (comment bytes more) = ⊥
   AreKept (tag own children more) =
-      (is_among p.tags own.name ≡ true) × (list_all (is_written p) (printed_pairs own.attributes) ≡ true) × (is_void own.name ≡ true → children ≡ none)
+      (is_among p.tags own.name ≡ true) × (are_written p own.name (printed_pairs own.attributes) ≡ true) × (is_void own.name ≡ true → children ≡ none)
       × AreKept children × AreKept more
 
   joined-AreKept : (f g : Forest PlainTag) → AreKept f → AreKept g → AreKept (joined f g)
@@ -85,7 +86,8 @@ module _ (p : ListedWords) where
       choose AreKept (is_among p.tags own.name) _ _
       (λ listed. (
         listed,
-        ap (list_all (is_written p)) (kept-printed own.attributes) ∙ pairs-written p lawful (printed_pairs own.attributes),
+        marked-written p lawful own.name (kept_attributes p own.attributes)
+            (ap (list_all (is_written p)) (kept-printed own.attributes) ∙ pairs-written p lawful (printed_pairs own.attributes)),
         void_children (is_void own.name) (kept p children),
         choose AreKept (is_void own.name) none (kept p children) (λ _. tt) (λ _. below),
         after,
@@ -102,10 +104,6 @@ module _ (p : ListedWords) where
       here : (b : Bool) → AreOthers (λ key. key) (filter (is_allowed p) es) → AreOthers (λ key. key) (cond b (e ∷ filter (is_allowed p) es) (filter (is_allowed p) es))
       here true rest = (h.0, rest)
       here false rest = rest
-
-  written-key : (q : Pair) → (written_pair q).0 ≡ q.0
-  written-key (key, None) = refl
-  written-key (key, Some value) = refl
 
   keys-written : (ps : List Pair) → keys_of (map written_pair ps) ≡ keys_of ps
   keys-written [] = refl
@@ -135,7 +133,7 @@ module _ (p : ListedWords) where
       let below = kept-own children h.1 in
       let after = kept-own more h.2 in
       choose HaveOwnKeys (is_among p.tags own.name) _ _
-      (λ _. (own-kept own.attributes h.0, choose HaveOwnKeys (is_void own.name) none (kept p children) (λ _. tt) (λ _. below), after))
+      (λ _. (own-if_marked (is_marked_link p own.name (printed_pairs (kept_attributes p own.attributes))) (kept_attributes p own.attributes) (own-kept own.attributes h.0), choose HaveOwnKeys (is_void own.name) none (kept p children) (λ _. tt) (λ _. below), after))
       (λ _. choose HaveOwnKeys (is_among_in_any_case opaque_names own.name) (kept p more) (joined (kept p children) (kept p more))
       (λ _. after) (λ _. joined-own (kept p children) (kept p more) below after))
 
@@ -175,7 +173,7 @@ module _ (p : ListedWords) where
     kept-clean (tag own children more) h =
         let name = listed_tag p lawful own.name h.0 in
         let ps = printed_pairs own.attributes in (
-          record { start = clean_start own.name name.name ps (clean-pairs ps (all-stay p ps h.1)); no_command = name.no_command },
+          record { start = clean_start own.name name.name ps (clean-pairs ps (all-stay p ps (and_parts (list_all (is_written p) ps) _ h.1).0)); no_command = name.no_command },
           h.2,
           kept-clean children h.3,
           kept-clean more h.4,

@@ -2,8 +2,9 @@
 use Rattle.std.specs.Prelude.{ℕ, Bool, not, ◌||◌, ◌&&◌, ◌==◌, List, [], ◌∷◌, map, flat_map, Option, Some, None, codes, if◌then◌else◌}
 use Rattle.std.specs.Char.{is_ascii_alphanumeric}
 use Rattle.std.specs.List.{filter, list_all, list_any, starts_with}
+use Rattle.std.specs.Str.{bytes_eq}
 use Rattle.tl_spec.specs.Lex.Attribute.{Pair}
-use Rattle.tl_spec.specs.Lex.AttributeList.{PlainAttributes}
+use Rattle.tl_spec.specs.Lex.AttributeList.{PlainAttributes, printed_pairs}
 use Rattle.tl_spec.specs.Lex.ByteClass.{is_among_in_any_case, is_void}
 use Rattle.tl_spec.specs.Tree.Forest.{Forest, none, text, comment, tag, PlainTag, forest, plain}
 use Rattle.tl_spec.specs.Lex.Token.{tokens}
@@ -81,8 +82,46 @@ kept_attributes p a =
       class = kept_value p (codes "class") a.class;
     }
 
+-- whether a pair has this key
+abbrev pub has_key : List ℕ → Pair → Bool
+has_key key pair = bytes_eq pair.0 key
+
+-- the mark of a link: who shows the page doesn't vouch for where it leads, and what it leads to
+-- gets no hold of the page
+abbrev pub rel_key : List ℕ
+rel_key = codes "rel"
+
+abbrev pub rel_value : List ℕ
+rel_value = codes "nofollow noopener"
+
+abbrev pub mark : Pair
+mark = (rel_key, Some rel_value)
+
+-- the elements whose links a reader follows
+abbrev pub linking_names : List (List ℕ)
+linking_names = codes "a" ∷ codes "area" ∷ []
+
+-- whether a tag with these pairs is a link that a policy marks
+abbrev pub is_marked_link : ListedWords → List ℕ → List Pair → Bool
+is_marked_link p name ps =
+    p.nofollow_links && is_among linking_names name && list_any (has_key (codes "href")) ps
+
+-- the mark, and then what stands beside it: no other `rel`
+abbrev pub is_beside_mark : Pair → Bool
+is_beside_mark pair = not (has_key rel_key pair)
+
+abbrev pub marked_attributes : PlainAttributes → PlainAttributes
+marked_attributes a = record a { others = mark ∷ filter is_beside_mark a.others }
+
+-- what is kept of a tag: a link whose target stays has the mark, where the policy wants it
 abbrev pub kept_tag : ListedWords → PlainTag → PlainTag
-kept_tag p own = record { name = own.name; attributes = kept_attributes p own.attributes }
+kept_tag p own =
+    let stay = kept_attributes p own.attributes in
+    record {
+      name = own.name;
+      attributes =
+          if is_marked_link p own.name (printed_pairs stay) then marked_attributes stay else stay;
+    }
 
 -- these trees and those
 abbrev pub joined : Forest PlainTag → Forest PlainTag → Forest PlainTag

@@ -3,6 +3,8 @@ pub mod Filter
 pub mod IsSafe
 pub mod Fitted
 pub mod KeptFitted
+pub mod Settled
+pub mod Shown
 pub mod Rows
 pub mod HtmlTrees
 pub mod Names

@@ -21,6 +21,7 @@ listed_words lists = record {
   link_keys = words_of lists.link_keys.now;
   link_prefixes = words_of lists.link_prefixes.now;
   relative_links = lists.relative_links;
+  nofollow_links = lists.nofollow_links;
   id_prefix = lists.id_prefix.now;
 }
 

@@ -3,10 +3,11 @@ use Rattle.std.specs.Prelude.{ℕ, Bool, not, ◌&&◌, ◌==◌, List, [], ◌�
 use Rattle.std.specs.List.{list_all, starts_with}
 use Rattle.std.specs.Option.{option_map, option_or}
 use Rattle.tl_words.specs.Words.{is_among}
+use Rattle.tl_safe.specs.Filter.{rel_key}
 use Rattle.tl_safe.specs.Lists.{ListedWords, active_keys, active_schemes, begins_path, begins_with_any, structural_names, has_scheme, is_beginning_byte, is_key_byte, is_tag_byte, is_word_of, known_link_keys, opaque_names}
 use Rattle.tl_safe.specs.declared.refusal.PolicyError.{PolicyError}
 use Rattle.tl_safe.specs.declared.refusal.Reason.{Reason}
-use Rattle.tl_safe.specs.declared.refusal.Reason.TheVariants.{MalformedTag, OpaqueTag, StructuralTag, MalformedKey, ScriptKey, ActiveKey, LinkKey, MalformedLink, ActiveScheme, NoScheme, MalformedPrefix}
+use Rattle.tl_safe.specs.declared.refusal.Reason.TheVariants.{MalformedTag, OpaqueTag, StructuralTag, MalformedKey, ScriptKey, ActiveKey, LinkKey, MalformedLink, ActiveScheme, NoScheme, MalformedPrefix, UnlistedMark}
 
 -- why no policy may list a name of a tag, if none may
 abbrev pub tag_reason : List ℕ → Option Reason
@@ -39,6 +40,10 @@ abbrev pub prefix_reason : List ℕ → Option Reason
 prefix_reason id_prefix =
     if is_word_of is_key_byte id_prefix then None else Some MalformedPrefix
 
+-- the mark of links stays at its key: the key is listed, and holds no links
+abbrev pub may_mark : ListedWords → Bool
+may_mark p = is_among p.keys rel_key && not (is_among p.link_keys rel_key)
+
 -- a word, and why no policy may list it
 abbrev pub Refusal : Type 0
 Refusal = List ℕ × Reason
@@ -53,15 +58,21 @@ first_refused reason [] = None
 first_refused reason (word ∷ words) =
     option_or (option_map (λ r. (word, r)) (reason word)) (first_refused reason words)
 
--- the first word that is refused, in the order of the lists and of the words in each; any word may
--- be a link key
+-- the key of the mark, where a policy marks links and may not
+abbrev pub refused_mark : ListedWords → Option Refusal
+refused_mark p =
+    if p.nofollow_links && not (may_mark p) then Some (rel_key, UnlistedMark) else None
+
+-- the first word that is refused, in the order of the lists and of the words in each, and then the
+-- key of the mark; any word may be a link key, but for that one
 abbrev pub first_refusal : ListedWords → Option Refusal
 first_refusal p =
-    option_or (option_or (option_or
+    option_or (option_or (option_or (option_or
     (first_refused tag_reason p.tags)
     (first_refused (key_reason p.link_keys) p.keys))
     (first_refused link_reason p.link_prefixes))
-    (first_refused prefix_reason (p.id_prefix ∷ []))
+    (first_refused prefix_reason (p.id_prefix ∷ [])))
+    (refused_mark p)
 
 -- a policy of these lists is one
 abbrev pub are_lawful : ListedWords → Bool

@@ -1,6 +1,6 @@
 -- Words for worked rows. No contract cites them.
 use Prim.Native.String.{String}
-use Rattle.std.specs.Prelude.{ℕ, List, codes}
+use Rattle.std.specs.Prelude.{ℕ, true, List, [], ◌∷◌, codes}
 use Rattle.tl_html_spec.specs.Written.{written}
 use Rattle.tl_tree_spec.specs.HtmlForest.{html_tokens_of}
 use Rattle.tl_safe.specs.HtmlTrees.{as_html}
@@ -16,3 +16,15 @@ lists_with tags = record blog_lists { tags = tags }
 abbrev pub fitted_with : List (List ℕ) → String → List ℕ
 fitted_with tags page =
     written (html_tokens_of (as_html (kept_fitted (lists_with tags) (trees_of (codes page)))))
+
+-- the lists of the page, where links are marked
+abbrev pub marking_lists : ListedWords
+marking_lists = record blog_lists {
+  tags = codes "a" ∷ codes "q" ∷ [];
+  keys = codes "href" ∷ codes "rel" ∷ codes "title" ∷ [];
+  nofollow_links = true;
+}
+
+abbrev pub marked_in : String → List ℕ
+marked_in page =
+    written (html_tokens_of (as_html (kept_fitted marking_lists (trees_of (codes page)))))

@@ -1,7 +1,7 @@
 //! Worked rows: pages, and what is kept of them and made to stay.
 
 ghost use Rattle.std.specs.Prelude.{◌≡◌, ◌∷◌, [], codes};
-ghost use Rattle.tl_safe.specs.Rows.{fitted_with};
+ghost use Rattle.tl_safe.specs.Rows.{fitted_with, marked_in};
 
 /// End tags that may be left out.
 pub fn end_tags_left_out()
@@ -45,4 +45,14 @@ pub fn lines()
         ≡ codes "<pre>x\n</pre>" }
     ensures after_a_tag { fitted_with (codes "pre" ∷ codes "b" ∷ []) "<pre><b></b>\nx</pre>"
         ≡ codes "<pre><b></b>\nx</pre>" }
+{}
+
+/// Links that are marked: those whose target stays.
+pub fn marked_links()
+    ensures target { marked_in "<a title=x href='/y'>z"
+        ≡ codes "<a rel=\"nofollow noopener\" title=\"x\" href=\"/y\">z</a>" }
+    ensures other_mark { marked_in "<a rel=x href='/y'>z"
+        ≡ codes "<a rel=\"nofollow noopener\" href=\"/y\">z</a>" }
+    ensures no_target { marked_in "<a rel=x href='x:y'>z" ≡ codes "<a rel=\"x\">z</a>" }
+    ensures no_link { marked_in "<q href='/y'>z" ≡ codes "<q href=\"/y\">z</q>" }
 {}

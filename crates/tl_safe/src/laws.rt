@@ -1,14 +1,16 @@
 //! Laws of the definitions.
 
-ghost use Rattle.std.specs.Prelude.{◌≡◌, ℕ, List, Some, true, false};
+ghost use Rattle.std.specs.Prelude.{◌≡◌, ℕ, Bool, List, Some, true, false};
 ghost use Rattle.std.specs.List.{list_all, list_any};
 ghost use Rattle.tl_spec.specs.Print.Clean.{HaveOwnKeys};
 ghost use Rattle.tl_spec.specs.Tree.Forest.{Forest, PlainTag};
 ghost use Rattle.tl_spec.specs.Print.Normal.{ReadsAs, norm};
 ghost use Rattle.tl_spec.specs.Print.{print};
 ghost use Rattle.tl_html_spec.specs.HtmlTokenizer.{tokens_in_page};
-ghost use Rattle.tl_tree_spec.specs.HtmlTreeBuilder.{html_trees};
-ghost use Rattle.tl_safe.specs.Fitted.{pieces_of, print_pieces};
+ghost use Rattle.tl_tree_spec.specs.HtmlTreeBuilder.{html_trees, html_trees_without_search};
+ghost use Rattle.tl_safe.specs.Fitted.{at_top, fitted, pieces_of, print_pieces};
+ghost use Rattle.tl_safe.specs.Settled.{settled};
+ghost use Rattle.tl_safe.specs.Shown.{lists_no_table, shown_characters};
 ghost use Rattle.tl_safe.specs.HtmlTrees.{as_html};
 ghost use Rattle.tl_safe.specs.IsSafe.{IsSafe, tokens_of, value_characters};
 ghost use Rattle.tl_safe.specs.Filter.{is_link, kept, written_value};
@@ -44,9 +46,26 @@ pub fn relative_links_stay_beside_the_page()
         is_relative value ≡ true → leaves_site (value_characters value) ≡ false }
 {}
 
+/// Trees in which each tag may stand where it is, up to the depth, and each text too, come out as
+/// they were, whatever parts of tables may be added.
+#[tactic(auto, using(crate::proofs::Settled::fitted_same))]
+pub fn settled_trees_stay_as_they_are()
+    ensures { (adds : List ℕ → Bool) (f : Forest PlainTag) → settled at_top f ≡ true →
+        fitted adds f ≡ f }
+{}
+
+/// Where a policy lists no part of a table, no character of a kept text is lost that is shown: all
+/// but ends of lines, 0 and 27, in order, with references read.
+#[tactic(auto, using(crate::proofs::Shown::kept_shown))]
+pub fn kept_texts_stay()
+    ensures { (p : ListedWords) → are_lawful p ≡ true → lists_no_table p ≡ true →
+        (f : Forest PlainTag) → HaveOwnKeys f →
+        shown_characters (kept_fitted p f) ≡ shown_characters (kept p f) }
+{}
+
 /// The print of what a lawful policy keeps of trees, made to stay: it is safe, `tl` reads it as
 /// these trees, and so do the tokenizer and the tree builder of the HTML standard.
-#[tactic(auto, using(crate::proofs::KeptFitted::form, crate::proofs::KeptFitted::pieces, crate::proofs::KeptFitted::reads, crate::proofs::KeptFitted::standard, crate::proofs::KeptFitted::browser))]
+#[tactic(auto, using(crate::proofs::KeptFitted::form, crate::proofs::KeptFitted::pieces, crate::proofs::KeptFitted::reads, crate::proofs::KeptFitted::standard, crate::proofs::KeptFitted::browser, crate::proofs::KeptFitted::without_search))]
 pub fn kept_trees_that_are_fitted_stay()
     ensures form { (p : ListedWords) → are_lawful p ≡ true → (f : Forest PlainTag) →
         HaveOwnKeys f → IsSafe p (print (kept_fitted p f)) }
@@ -61,5 +80,8 @@ pub fn kept_trees_that_are_fitted_stay()
         ≡ tokens_of (norm (kept_fitted p f)) }
     ensures browser { (p : ListedWords) → are_lawful p ≡ true → (f : Forest PlainTag) →
         HaveOwnKeys f → html_trees (tokens_in_page (print (kept_fitted p f)))
+        ≡ Some (as_html (norm (kept_fitted p f))) }
+    ensures without_search { (p : ListedWords) → are_lawful p ≡ true → (f : Forest PlainTag) →
+        HaveOwnKeys f → html_trees_without_search (tokens_in_page (print (kept_fitted p f)))
         ≡ Some (as_html (norm (kept_fitted p f))) }
 {}

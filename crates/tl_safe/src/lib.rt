@@ -7,7 +7,7 @@ ghost use Rattle.tl_spec.specs.Print.Normal.{norm};
 ghost use Rattle.tl_spec.specs.Print.{print};
 ghost use Rattle.tl.specs.declared.errors.ParseError.TheVariants.{InvalidLength};
 ghost use Rattle.tl_html_spec.specs.HtmlTokenizer.{tokens_in_page};
-ghost use Rattle.tl_tree_spec.specs.HtmlTreeBuilder.{html_trees};
+ghost use Rattle.tl_tree_spec.specs.HtmlTreeBuilder.{html_trees, html_trees_without_search};
 ghost use Rattle.tl_safe.specs.HtmlTrees.{as_html};
 ghost use Rattle.tl_safe.specs.IsSafe.{IsSafe, tokens_of};
 ghost use Rattle.tl_safe.specs.Filter.{trees_of};
@@ -81,6 +81,11 @@ pub fn sanitize(alloc: Global, policy: &Policy<'_>, page: &str) -> Result<String
 
     // And its tree builder makes of it just these trees.
     ensures browser { IfOk result (λ safe. html_trees (tokens_in_page (string_bytes safe))
+        ≡ Some (as_html (norm (kept_fitted_of policy.now page.now)))) }
+
+    // So does that of a browser in which `search` is no special element.
+    ensures without_search { IfOk result (λ safe.
+        html_trees_without_search (tokens_in_page (string_bytes safe))
         ≡ Some (as_html (norm (kept_fitted_of policy.now page.now)))) }
 {
     let safe = print_kept(alloc, policy, page)?;

@@ -15,6 +15,9 @@ pub struct Lists<'w> {
     /// Whether links beside the page may stand too, as `x.png`: those that begin with no scheme
     /// and name no host.
     pub relative_links: bool,
+    /// Whether `rel="nofollow noopener"` is put on each link of `a` and `area`, in place of another
+    /// `rel`. The key `rel` has to be listed then, and not as one that holds links.
+    pub nofollow_links: bool,
     /// What the values of `id`, `name` and `class` begin with.
     pub id_prefix: &'w str,
 }
@@ -81,6 +84,7 @@ impl Lists<'static> {
         link_keys: &["cite", "href", "src"],
         link_prefixes: &["https://", "http://", "mailto:", "/", "#"],
         relative_links: false,
+        nofollow_links: false,
         id_prefix: "user-",
     };
 
@@ -112,6 +116,7 @@ impl Lists<'static> {
         link_keys: &["cite", "href"],
         link_prefixes: &["https://", "http://"],
         relative_links: false,
+        nofollow_links: false,
         id_prefix: "user-",
     };
 
@@ -193,6 +198,7 @@ impl Lists<'static> {
         link_keys: &["cite", "href", "src"],
         link_prefixes: &["https://", "http://", "mailto:", "/", "#"],
         relative_links: true,
+        nofollow_links: false,
         id_prefix: "user-",
     };
 }

@@ -2,7 +2,7 @@
 ghost use Rattle.std.specs.Prelude.{◌≡◌};
 ghost use Rattle.std.specs.List.{list_all, list_any};
 ghost use Rattle.tl_spec.specs.Lex.ByteClass.{is_among_in_any_case};
-ghost use Rattle.tl_safe.specs.Filter.{is_text_byte, is_value_byte, naming_keys};
+ghost use Rattle.tl_safe.specs.Filter.{is_text_byte, is_value_byte, linking_names, naming_keys};
 ghost use Rattle.tl_safe.specs.IsSafe.{is_written_byte};
 ghost use Rattle.tl_words.specs.Words.{is_among};
 ghost use Rattle.tl_safe.specs.Lists.{active_keys, structural_names, begins_link, begins_path, begins_with_any, has_colon, has_no_scheme, has_scheme, is_link_byte, is_relative, is_unschemed, is_word_of, leads_out, leaves_site, opaque_names};
@@ -102,6 +102,9 @@ pub(crate) static KNOWN_LINK_KEYS: [&str; 17] = [
     "dynsrc",
     "icon",
 ];
+
+// The key at which links are marked.
+pub(crate) const REL_KEY: &str = "rel";
 
 pub(crate) static ACTIVE_SCHEMES: [&str; 7] = [
     "javascript:",
@@ -282,6 +285,13 @@ pub(crate) fn is_naming_key(key: &[u8]) -> bool
     ensures { result ≡ is_among naming_keys key.now }
 {
     key == b"id".as_slice() || key == b"name".as_slice() || key == b"class".as_slice()
+}
+
+// Whether links of tags of this name are followed by readers.
+pub(crate) fn is_linking(name: &[u8]) -> bool
+    ensures { result ≡ is_among linking_names name.now }
+{
+    name == b"a".as_slice() || name == b"area".as_slice()
 }
 
 // Whether a word is a letter and then bytes of a class.

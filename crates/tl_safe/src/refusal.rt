@@ -1,14 +1,15 @@
 //! Which words no policy may list, and why.
 ghost use Rattle.std.specs.Prelude.{◌≡◌, ◌∷◌, []};
-ghost use Rattle.std.specs.Option.{option_map};
-ghost use Rattle.tl_safe.specs.Refusals.{first_refusal, first_refused, key_reason, link_reason, prefix_reason, refusal_of, tag_reason};
+ghost use Rattle.std.specs.Option.{option_map, option_or};
+ghost use Rattle.tl_safe.specs.Refusals.{first_refusal, first_refused, key_reason, link_reason, prefix_reason, refusal_of, refused_mark, tag_reason};
 ghost use Rattle.tl_words.specs.Words.{words_of};
 ghost use Rattle.tl_safe.specs.Names.{listed_words, reason_in};
 
 use crate::lists::Lists;
 use crate::names::{
-    ACTIVE_SCHEMES, ByteClass, KNOWN_LINK_KEYS, all_have_class, begins_path, begins_with_any,
-    has_scheme, is_active_key, is_among, is_opaque_in_lowercase, is_structural, is_word_of,
+    ACTIVE_SCHEMES, ByteClass, KNOWN_LINK_KEYS, REL_KEY, all_have_class, begins_path,
+    begins_with_any, has_scheme, is_active_key, is_among, is_opaque_in_lowercase, is_structural,
+    is_word_of,
 };
 use std::error::Error;
 use std::fmt;
@@ -38,6 +39,8 @@ pub enum Reason {
     NoScheme,
     /// A prefix is a letter of a-z, and then letters and `-`.
     MalformedPrefix,
+    /// Links are marked at this key, so it has to be listed, and not as one that holds links.
+    UnlistedMark,
 }
 
 impl Reason {
@@ -54,6 +57,7 @@ impl Reason {
                 "no policy may let links begin with"
             }
             Reason::MalformedPrefix => "no prefix of names:",
+            Reason::UnlistedMark => "no policy may mark links at",
         }
     }
 }
@@ -76,6 +80,7 @@ impl fmt::Display for Reason {
                 "it is no scheme with its `:`, and no `/`, `#`, `?` or `.` stands first"
             }
             Reason::MalformedPrefix => "a prefix is a letter of a-z, and then letters and `-`",
+            Reason::UnlistedMark => "it is no listed key, or a link key",
         })
     }
 }
@@ -205,14 +210,41 @@ fn refused_prefix(id_prefix: &str) -> Option<PolicyError<'_>>
     })
 }
 
-// The first word for which lists are no policy: by the order of the lists, and of the words in
-// each.
-pub(crate) fn first_refusal<'w>(lists: &Lists<'w>) -> Option<PolicyError<'w>>
-    ensures { option_map refusal_of result ≡ first_refusal (listed_words lists.now) }
+// The key of the mark, where lists mark links and may not.
+fn refused_mark<'w>(lists: &Lists<'w>) -> Option<PolicyError<'w>>
+    ensures { option_map refusal_of result ≡ refused_mark (listed_words lists.now) }
+{
+    let key = REL_KEY.as_bytes();
+    if lists.nofollow_links && !(is_among(lists.keys, key) && !is_among(lists.link_keys, key)) {
+        return Some(PolicyError {
+            word: REL_KEY,
+            reason: Reason::UnlistedMark,
+        });
+    }
+    None
+}
+
+// The first word that is refused: by the order of the lists, and of the words in each.
+fn first_refused_word<'w>(lists: &Lists<'w>) -> Option<PolicyError<'w>>
+    ensures { let p = listed_words lists.now in option_map refusal_of result
+        ≡ option_or (option_or (option_or
+        (first_refused tag_reason p.tags) (first_refused (key_reason p.link_keys) p.keys))
+        (first_refused link_reason p.link_prefixes))
+        (first_refused prefix_reason (p.id_prefix ∷ [])) }
 {
     let link_keys = lists.link_keys;
     first_refused(Role::Tag, link_keys, lists.tags)
         .or_else(|| first_refused(Role::Key, link_keys, lists.keys))
         .or_else(|| first_refused(Role::LinkPrefix, link_keys, lists.link_prefixes))
         .or_else(|| refused_prefix(lists.id_prefix))
+}
+
+// The first word for which lists are no policy, or else the key of the mark.
+pub(crate) fn first_refusal<'w>(lists: &Lists<'w>) -> Option<PolicyError<'w>>
+    ensures { option_map refusal_of result ≡ first_refusal (listed_words lists.now) }
+{
+    match first_refused_word(lists) {
+        Some(error) => Some(error),
+        None => refused_mark(lists),
+    }
 }

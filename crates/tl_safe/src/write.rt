@@ -11,9 +11,9 @@ ghost use Rattle.tl.specs.View.{tag_view};
 ghost use Rattle.tl_safe.specs.Filter.{is_text_byte, written_byte, written_pair, written_value};
 ghost use Rattle.tl_safe.specs.Fitted.{part_tag};
 ghost use Rattle.tl_safe.specs.Names.{has_class};
-ghost use Rattle.tl_safe.specs.Writes.{Adds, kept_pairs, kept_start, pair_of, print_pair};
+ghost use Rattle.tl_safe.specs.Writes.{Adds, kept_pairs, kept_start, mark_print, pair_of, print_pair};
 
-use crate::filter::is_allowed;
+use crate::filter::{is_marked_link, stays_beside};
 use crate::names::{ByteClass, all_have_class, has_class, is_whole_text, is_written_value};
 use crate::policy::Policy;
 use bstr::ByteSlice;
@@ -126,41 +126,52 @@ fn write_pair(
     }
 }
 
-// Writes a pair where it stays.
+// Writes a pair where it stays, at a marked link or another tag.
 fn write_kept_pair(
     alloc: Global,
     policy: &Policy<'_>,
+    marked: bool,
     key: &[u8],
     value: Option<&Bytes<'_>>,
     out: &mut String,
 ) -> Result<(), AllocError>
     ensures { OnOk result (Adds out.old out.new
-        (kept_pairs policy.now (pair_of key.now value.entry ∷ []))) }
+        (kept_pairs policy.now marked (pair_of key.now value.entry ∷ []))) }
 {
-    if is_allowed(policy, key, value) {
+    if stays_beside(policy, marked, key, value) {
         write_pair(alloc, key, value, out)?;
     }
     Ok(())
 }
 
-// Writes the pairs that stay, in order.
+// Writes the pairs that stay, in order, at a marked link or another tag.
 fn write_pairs(
     alloc: Global,
     policy: &Policy<'_>,
+    marked: bool,
     attributes: &Attributes<'_>,
     out: &mut String,
 ) -> Result<(), AllocError>
     ensures { OnOk result (Adds out.old out.new
-        (kept_pairs policy.now (printed_pairs (plain attributes.now)))) }
+        (kept_pairs policy.now marked (printed_pairs (plain attributes.now)))) }
 {
     for pair in attributes.iter() {
-        write_kept_pair(alloc, policy, pair.0.as_bytes(), pair.1, out)?;
+        write_kept_pair(alloc, policy, marked, pair.0.as_bytes(), pair.1, out)?;
+    }
+    Ok(())
+}
+
+// Writes the mark of a link.
+fn write_mark(marked: bool, out: &mut String) -> Result<(), AllocError>
+    ensures { OnOk result (Adds out.old out.new (mark_print marked)) }
+{
+    if marked {
+        out.push_str(" rel=\"nofollow noopener\"")?;
     }
     Ok(())
 }
 
 // Writes a start tag.
-#[tactic(auto, using(crate::proofs::Writes::kept_start))]
 pub(crate) fn write_start(
     alloc: Global,
     policy: &Policy<'_>,
@@ -171,7 +182,9 @@ pub(crate) fn write_start(
 {
     out.push('<')?;
     write_lossy(tag.name().as_bytes(), out)?;
-    write_pairs(alloc, policy, tag.attributes(), out)?;
+    let marked = is_marked_link(policy, tag);
+    write_mark(marked, out)?;
+    write_pairs(alloc, policy, marked, tag.attributes(), out)?;
     out.push('>')?;
     Ok(())
 }

@@ -279,6 +279,7 @@ static TABLES_AND_VIDEOS: Lists<'static> = Lists {
     link_keys: &["src"],
     link_prefixes: &["ftp:", "./"],
     relative_links: false,
+    nofollow_links: false,
     id_prefix: "v",
 };
 
@@ -301,6 +302,32 @@ static RELATIVE_ROWS: [(&str, &str); 15] = [
     ("<a href=\"\">y</a>", "<a>y</a>"),
     ("<a href=\" x\">y</a>", "<a>y</a>"),
 ];
+
+// Links that are marked.
+#[rattlefmt::skip]
+static MARKED_ROWS: [(&str, &str); 14] = [
+    ("<a href=\"https://e/x\">y</a>", "<a rel=\"nofollow noopener\" href=\"https://e/x\">y</a>"),
+    ("<a title=z href=\"https://e/x\" class=user-y id=user-z>y</a>", "<a rel=\"nofollow noopener\" title=\"z\" href=\"https://e/x\" id=\"user-z\" class=\"user-y\">y</a>"),
+    ("<a rel=\"follow\" href=\"/x\">y</a>", "<a rel=\"nofollow noopener\" href=\"/x\">y</a>"),
+    ("<a href=\"/x\" rel>y</a>", "<a rel=\"nofollow noopener\" href=\"/x\">y</a>"),
+    ("<a rel=\"x\" href=\"/x\" rel=\"y\">y</a>", "<a rel=\"nofollow noopener\" href=\"/x\">y</a>"),
+    ("<a href=\"#x\">y</a>", "<a rel=\"nofollow noopener\" href=\"#x\">y</a>"),
+    ("<a href=\"javascript:x()\" rel=\"x\">y</a>", "<a rel=\"x\">y</a>"),
+    ("<a href rel=x>y</a>", "<a rel=\"x\">y</a>"),
+    ("<a rel=\"x\">y</a>", "<a rel=\"x\">y</a>"),
+    ("<a>y</a>", "<a>y</a>"),
+    ("<area href=\"/x\" alt=y>", "<area rel=\"nofollow noopener\" href=\"/x\" alt=\"y\">"),
+    ("<img src=\"/x\" rel=x>", "<img src=\"/x\" rel=\"x\">"),
+    ("<q cite=\"/x\" href=\"/y\">z</q>", "<q cite=\"/x\" href=\"/y\">z</q>"),
+    ("<A HREF=\"/x\">y</A>", "y"),
+];
+
+static MARKED_LINKS: Lists<'static> = Lists {
+    tags: &["a", "area", "img", "q"],
+    keys: &["alt", "cite", "class", "href", "id", "rel", "src", "title"],
+    nofollow_links: true,
+    ..Lists::BLOG
+};
 
 // Tables and parts of documents.
 #[rattlefmt::skip]
@@ -413,6 +440,14 @@ fn links_within_the_site(rt: HostRuntime) {
 fn links_to_any_host(rt: HostRuntime) {
     match Policy::new(ANY_HOST) {
         Ok(policy) => run(&rt, &policy, &HOST_ROWS),
+        Err(error) => assert!(rt; false, "{error}"),
+    }
+}
+
+#[test]
+fn marked_links(rt: HostRuntime) {
+    match Policy::new(MARKED_LINKS) {
+        Ok(policy) => run(&rt, &policy, &MARKED_ROWS),
         Err(error) => assert!(rt; false, "{error}"),
     }
 }

@@ -13,7 +13,7 @@ struct Row {
 
 // One word is refused.
 #[rattlefmt::skip]
-static REFUSED_ROWS: [Row; 15] = [
+static REFUSED_ROWS: [Row; 17] = [
     Row { lists: Lists { tags: &["p", "P"], ..Lists::BLOG }, word: "P", reason: Reason::MalformedTag },
     Row { lists: Lists { tags: &[""], ..Lists::BLOG }, word: "", reason: Reason::MalformedTag },
     Row { lists: Lists { tags: &["p", "style"], ..Lists::BLOG }, word: "style", reason: Reason::OpaqueTag },
@@ -29,21 +29,24 @@ static REFUSED_ROWS: [Row; 15] = [
     Row { lists: Lists { link_prefixes: &["java"], ..Lists::BLOG }, word: "java", reason: Reason::NoScheme },
     Row { lists: Lists { id_prefix: "1", ..Lists::BLOG }, word: "1", reason: Reason::MalformedPrefix },
     Row { lists: Lists { id_prefix: "", ..Lists::BLOG }, word: "", reason: Reason::MalformedPrefix },
+    Row { lists: Lists { nofollow_links: true, ..Lists::BLOG }, word: "rel", reason: Reason::UnlistedMark },
+    Row { lists: Lists { keys: &["href", "rel"], link_keys: &["href", "rel"], nofollow_links: true, ..Lists::BLOG }, word: "rel", reason: Reason::UnlistedMark },
 ];
 
 // Several are, and the first of them is named.
 #[rattlefmt::skip]
-static FIRST_ROWS: [Row; 5] = [
+static FIRST_ROWS: [Row; 6] = [
     Row { lists: Lists { tags: &["script", "style"], ..Lists::BLOG }, word: "script", reason: Reason::OpaqueTag },
     Row { lists: Lists { tags: &["script"], keys: &["onclick"], ..Lists::BLOG }, word: "script", reason: Reason::OpaqueTag },
     Row { lists: Lists { keys: &["onclick"], link_prefixes: &["java"], ..Lists::BLOG }, word: "onclick", reason: Reason::ScriptKey },
     Row { lists: Lists { link_prefixes: &["java"], id_prefix: "1", ..Lists::BLOG }, word: "java", reason: Reason::NoScheme },
     Row { lists: Lists { tags: &["script"], id_prefix: "1", ..Lists::BLOG }, word: "script", reason: Reason::OpaqueTag },
+    Row { lists: Lists { id_prefix: "1", nofollow_links: true, ..Lists::BLOG }, word: "1", reason: Reason::MalformedPrefix },
 ];
 
 // A reason, a word, and what is said.
 #[rattlefmt::skip]
-static TEXT_ROWS: [(Reason, &str, &str); 11] = [
+static TEXT_ROWS: [(Reason, &str, &str); 12] = [
     (Reason::MalformedTag, "B", "no policy may list the tag `B`: a name is a letter of a-z, and then letters and digits"),
     (Reason::OpaqueTag, "svg", "no policy may list the tag `svg`: what stands in it is no markup of HTML"),
     (Reason::StructuralTag, "form", "no policy may list the tag `form`: it changes what is around it, or loads what is no page"),
@@ -55,6 +58,7 @@ static TEXT_ROWS: [(Reason, &str, &str); 11] = [
     (Reason::ActiveScheme, "data:", "no policy may let links begin with `data:`: such links are programs or documents"),
     (Reason::NoScheme, "http", "no policy may let links begin with `http`: it is no scheme with its `:`, and no `/`, `#`, `?` or `.` stands first"),
     (Reason::MalformedPrefix, "1", "no prefix of names: `1`: a prefix is a letter of a-z, and then letters and `-`"),
+    (Reason::UnlistedMark, "rel", "no policy may mark links at `rel`: it is no listed key, or a link key"),
 ];
 
 // Looks whether the lists of each row are refused as it says.
@@ -100,6 +104,16 @@ fn any_word_may_be_a_link_key(rt: HostRuntime) {
     let lists = Lists {
         link_keys: &["cite", "href", "src", "script", ""],
         ..Lists::BLOG
+    };
+    assert!(rt; Policy::new(lists).is_ok());
+}
+
+#[test]
+fn links_are_marked_at_a_listed_key(rt: HostRuntime) {
+    let lists = Lists {
+        keys: &["href", "rel"],
+        nofollow_links: true,
+        ..Lists::COMMENTS
     };
     assert!(rt; Policy::new(lists).is_ok());
 }

@@ -3,11 +3,11 @@ use Rattle.tl_spec.specs.Tree.Forest.{Forest, PlainTag, forest, plain}
 use Rattle.tl_spec.specs.Lex.Token.{tokens}
 use Rattle.tl_spec.proofs.Print.Fresh.{fresh_has_own_keys}
 use Rattle.tl_html_spec.specs.HtmlTokenizer.{tokens_in_page}
-use Rattle.tl_tree_spec.specs.HtmlTreeBuilder.{html_trees}
+use Rattle.tl_tree_spec.specs.HtmlTreeBuilder.{html_trees, html_trees_without_search}
 use Rattle.tl_safe.specs.IsSafe.{IsSafe}
 use Rattle.tl_safe.specs.Lists.{ListedWords}
 use Rattle.tl_safe.specs.Policies.{lists_of}
-use Rattle.tl_safe.proofs.KeptFitted.{browser, form, reads, standard}
+use Rattle.tl_safe.proofs.KeptFitted.{browser, form, reads, standard, without_search}
 use Rattle.tl_safe.proofs.sanitize.Goals as goal
 
 pub returns-clause-trees : goal.returns-clause-trees
@@ -33,3 +33,9 @@ returns-clause-browser c =
     let p : ListedWords = lists_of c.args.policy.now in
     let f : Forest PlainTag = plain (forest (tokens c.args.page.now)) in
     ap (λ s. html_trees (tokens_in_page s)) c.in_ok-safe.ensures.prints ∙ browser p c.args.policy.now.lawful f (fresh_has_own_keys c.args.page.now)
+
+pub returns-clause-without_search : goal.returns-clause-without_search
+returns-clause-without_search c =
+    let p : ListedWords = lists_of c.args.policy.now in
+    let f : Forest PlainTag = plain (forest (tokens c.args.page.now)) in
+    ap (λ s. html_trees_without_search (tokens_in_page s)) c.in_ok-safe.ensures.prints ∙ without_search p c.args.policy.now.lawful f (fresh_has_own_keys c.args.page.now)

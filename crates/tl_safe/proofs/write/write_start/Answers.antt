@@ -2,18 +2,18 @@ use Rattle.std.proofs.Common.{◌≡◌, ◌++◌, List, ℕ, codes, ap, sym, �
 use Rattle.std.proofs.lemmas.Grind.{common_steps}
 use Rattle.std.specs.Str.Lossy.{utf8_lossy}
 use Rattle.tl_spec.specs.Lex.AttributeList.{printed_pairs}
-use Rattle.tl_spec.specs.Print.{print_pairs}
 use Rattle.tl_spec.specs.Walk.{plain_node}
 use Rattle.tl_attributes.specs.AttributesView.{plain}
 use Rattle.tl.specs.View.{tag_view}
-use Rattle.tl_safe.specs.Filter.{written_pairs}
 use Rattle.tl_safe.specs.Policies.{lists_of}
+use Rattle.tl_safe.specs.Writes.{kept_pairs, mark_print}
 use Rattle.tl_safe.proofs.Writes.{kept_start}
 use Rattle.tl_safe.proofs.write.write_start.Goals as goal
 
 pub returns : goal.returns
 returns c =
     let out : List ℕ = string_bytes c.args.out.now in
-    let written : string_bytes c.push-2.new.self ≡ out ++ (codes "<" ++ utf8_lossy c.args.tag.now.name.list
-    ++ print_pairs (written_pairs (lists_of c.args.policy.now) (printed_pairs (plain c.args.tag.now.attributes))) ++ codes ">") = grind (arith, common_steps) in
-    written ∙ ap (λ s. out ++ s) (sym (kept_start (lists_of c.args.policy.now) (plain_node (tag_view c.args.tag.now))))
+    let marked : List ℕ = mark_print c.is_marked_link-marked.result in
+    let pairs : List ℕ = kept_pairs c.args.policy.now c.is_marked_link-marked.result (printed_pairs (plain c.args.tag.now.attributes)) in
+    let written : string_bytes c.push-2.new.self ≡ out ++ (codes "<" ++ utf8_lossy c.args.tag.now.name.list ++ (marked ++ pairs) ++ codes ">") = grind (arith, common_steps) in
+    written ∙ ap (λ s. out ++ s) (sym (kept_start (lists_of c.args.policy.now) (plain_node (tag_view c.args.tag.now)) c.is_marked_link-marked.result (sym c.is_marked_link-marked.ensures)))
