@@ -1,0 +1,243 @@
+//! The options of commands.
+use clap::{Arg, ArgAction};
+use std::alloc::Global;
+
+/// An option.
+pub struct Flag {
+    pub name: &'static str,
+    pub short: Option<char>,
+    pub value: Option<&'static str>,
+    pub help: &'static str,
+}
+
+pub static NO_NAME: Flag = Flag {
+    name: "no-name",
+    short: None,
+    value: None,
+    help: "No `FILE:` before each line, where there are several",
+};
+
+pub static AS_IS: Flag = Flag {
+    name: "as-is",
+    short: None,
+    value: None,
+    help: "Read by the grammar of tl, and write what stands in the page",
+};
+
+pub static RAW: Flag = Flag {
+    name: "raw",
+    short: None,
+    value: None,
+    help: "Write names and references as they stand in the form that is read",
+};
+
+pub static ENCODING: Flag = Flag {
+    name: "encoding",
+    short: None,
+    value: Some("LABEL"),
+    help: "What the pages are in: utf-8, latin1 or windows-1252",
+};
+
+pub static NULL: Flag = Flag {
+    name: "null",
+    short: Some('0'),
+    value: None,
+    help: "End each answer with a byte 0, and not with a line feed",
+};
+
+pub static FIRST: Flag = Flag {
+    name: "first",
+    short: Some('1'),
+    value: None,
+    help: "The first node of each page alone",
+};
+
+pub static QUIET: Flag = Flag {
+    name: "quiet",
+    short: Some('q'),
+    value: None,
+    help: "Write nothing: the status says whether something is found",
+};
+
+pub static NAMES: Flag = Flag {
+    name: "files-with-matches",
+    short: Some('l'),
+    value: None,
+    help: "Write the names of the files where something is found, and nothing else",
+};
+
+pub static MAX_COUNT: Flag = Flag {
+    name: "max-count",
+    short: Some('m'),
+    value: Some("N"),
+    help: "The first N nodes of each page alone",
+};
+
+pub static WHITESPACE: Flag = Flag {
+    name: "whitespace",
+    short: Some('w'),
+    value: None,
+    help: "Blocks on lines of their own, one space between words, no scripts",
+};
+
+pub static INSIDE: Flag = Flag {
+    name: "in",
+    short: None,
+    value: Some("SELECTOR"),
+    help: "Of what is inside each node where the selector holds",
+};
+
+pub static TABLE_NUMBER: Flag = Flag {
+    name: "number",
+    short: Some('n'),
+    value: Some("N"),
+    help: "The Nth table of each page, from 1, which is the one without it",
+};
+
+// What may be written of a node; without one of these its print.
+pub static NODE_FLAGS: [Flag; 6] = [
+    Flag {
+        name: "attribute",
+        short: Some('a'),
+        value: Some("KEY"),
+        help: "The characters of the value at KEY, of nodes that have one",
+    },
+    Flag {
+        name: "text",
+        short: Some('t'),
+        value: None,
+        help: "The characters of the texts at or below the node",
+    },
+    Flag {
+        name: "inside",
+        short: Some('H'),
+        value: None,
+        help: "The print of what is inside",
+    },
+    Flag {
+        name: "number",
+        short: Some('n'),
+        value: None,
+        help: "The number of the node, from 0; edit takes those of --as-is",
+    },
+    Flag {
+        name: "count",
+        short: Some('c'),
+        value: None,
+        help: "How many nodes there are, once for each page",
+    },
+    Flag {
+        name: "json",
+        short: None,
+        value: None,
+        help: "JSON with the number, name, attributes and text of each node",
+    },
+];
+
+pub static POLICY: Flag = Flag {
+    name: "policy",
+    short: None,
+    value: None,
+    help: "Write these lists, one on each line, and read no page",
+};
+
+// Where pages with changes go; without one of these to standard output.
+pub static TARGETS: [Flag; 3] = [
+    Flag {
+        name: "in-place",
+        short: Some('i'),
+        value: None,
+        help: "Into their files, each of which is replaced at once",
+    },
+    Flag {
+        name: "backup",
+        short: None,
+        value: Some("SUFFIX"),
+        help: "So too, and the old page stays in FILESUFFIX",
+    },
+    Flag {
+        name: "dry-run",
+        short: None,
+        value: None,
+        help: "Nowhere: write FILE:LINE:COLUMN of each tag that would change, in bytes",
+    },
+];
+
+pub static RELATIVE_LINKS: Flag = Flag {
+    name: "relative-links",
+    short: None,
+    value: None,
+    help: "Links beside the page may stand too, as x.png",
+};
+
+pub static NOFOLLOW_LINKS: Flag = Flag {
+    name: "nofollow-links",
+    short: None,
+    value: None,
+    help: "Links get rel=\"nofollow noopener\", and the key rel stands",
+};
+
+// The policies to begin with.
+pub static BASES: [Flag; 2] = [
+    Flag {
+        name: "comments",
+        short: None,
+        value: None,
+        help: "Begin with the lists for comments of readers",
+    },
+    Flag {
+        name: "documents",
+        short: None,
+        value: None,
+        help: "Begin with those for documents, with tables and relative links",
+    },
+];
+
+// The lists of a policy.
+pub static LISTS: [Flag; 5] = [
+    Flag {
+        name: "tags",
+        short: None,
+        value: Some("WORDS"),
+        help: "The tags that stand, as a,p",
+    },
+    Flag {
+        name: "keys",
+        short: None,
+        value: Some("WORDS"),
+        help: "The keys of attributes that stand",
+    },
+    Flag {
+        name: "link-keys",
+        short: None,
+        value: Some("WORDS"),
+        help: "Those of them whose values are links",
+    },
+    Flag {
+        name: "links",
+        short: None,
+        value: Some("WORDS"),
+        help: "What links begin with, as https:,/",
+    },
+    Flag {
+        name: "prefix",
+        short: None,
+        value: Some("WORD"),
+        help: "What the values of id, name and class that stand begin with",
+    },
+];
+
+impl Flag {
+    /// It as an argument.
+    pub fn argument<'w>(&self, alloc: Global) -> Arg<'w> {
+        let argument = Arg::new(alloc, self.name).long(self.name).help(self.help);
+        let argument = match self.value {
+            Some(value) => argument.value_name(value).action(ArgAction::Set),
+            None => argument.action(ArgAction::SetTrue),
+        };
+        match self.short {
+            Some(short) => argument.short(short),
+            None => argument,
+        }
+    }
+}

@@ -1,0 +1,8 @@
+//! The commands of `tl` and their options, as `clap` reads them, with their help.
+#![tactic(auto)]
+
+mod flag;
+mod help;
+mod verb;
+
+pub use verb::{Verb, program};

@@ -1,0 +1,296 @@
+//! The commands.
+use crate::flag::{
+    AS_IS, BASES, ENCODING, FIRST, Flag, INSIDE, LISTS, MAX_COUNT, NAMES, NO_NAME, NODE_FLAGS,
+    NOFOLLOW_LINKS, NULL, POLICY, QUIET, RAW, RELATIVE_LINKS, TABLE_NUMBER, TARGETS, WHITESPACE,
+};
+use crate::help::{
+    ABOUT, LINKS, NUMBERS, PRINTS, PROGRAM, SAFE, SELECTORS, SETTINGS, STEPS, TABLES, TEXTS,
+    UNSETTINGS,
+};
+use clap::{Arg, ArgGroup, Command};
+use std::alloc::{AllocError, Global};
+
+// The files at the end of the words.
+fn files<'w>(alloc: Global) -> Arg<'w> {
+    Arg::new(alloc, "FILE")
+        .num_args(0..)
+        .help("The pages; - is standard input, and so is no FILE")
+}
+
+// A command with these options.
+fn with_flags<'w>(
+    alloc: Global,
+    command: Command<'w>,
+    flags: &[Flag],
+) -> Result<Command<'w>, AllocError> {
+    let mut all = command;
+    for flag in flags {
+        all = all.arg(flag.argument(alloc))?;
+    }
+    Ok(all)
+}
+
+// A group of options of which one at most may be used.
+fn one_of<'w>(
+    alloc: Global,
+    name: &'static str,
+    flags: &[Flag],
+) -> Result<ArgGroup<'w>, AllocError> {
+    let mut group = ArgGroup::new(alloc, name);
+    for flag in flags {
+        group = group.arg(flag.name)?;
+    }
+    Ok(group)
+}
+
+/// A command.
+#[derive(Clone, Copy, PartialEq, Eq)]
+pub enum Verb {
+    Select,
+    Links,
+    Text,
+    Table,
+    Print,
+    Outline,
+    Edit,
+    Set,
+    Unset,
+    Sanitize,
+}
+
+// All commands, in the order of the help. No other one is read.
+static VERBS: [Verb; 10] = [
+    Verb::Select,
+    Verb::Links,
+    Verb::Text,
+    Verb::Table,
+    Verb::Print,
+    Verb::Outline,
+    Verb::Edit,
+    Verb::Set,
+    Verb::Unset,
+    Verb::Sanitize,
+];
+
+impl Verb {
+    // Its word.
+    fn word<'w>(self) -> &'w str {
+        match self {
+            Verb::Select => "select",
+            Verb::Links => "links",
+            Verb::Text => "text",
+            Verb::Table => "table",
+            Verb::Print => "print",
+            Verb::Outline => "outline",
+            Verb::Edit => "edit",
+            Verb::Set => "set",
+            Verb::Unset => "unset",
+            Verb::Sanitize => "sanitize",
+        }
+    }
+
+    // What it does.
+    fn about<'w>(self) -> &'w str {
+        match self {
+            Verb::Select => "Writes each node where a selector holds, in the order of the page",
+            Verb::Links => {
+                "Writes the values at href, src, action, poster and srcset, node after node"
+            }
+            Verb::Text => "Writes the texts of the page in order, without tags and comments",
+            Verb::Table => "Writes a table as CSV, the words of each cell with one space between",
+            Verb::Print => { "Writes the page as the grammar of tl reads it, with each tag closed" }
+            Verb::Outline => {
+                "Writes what each node is, by number, with the numbers of its children"
+            }
+            Verb::Edit => "Prints the page after steps, as the grammar of tl reads it",
+            Verb::Set => {
+                "Gives each tag where a selector holds a value at a key; no other byte changes"
+            }
+            Verb::Unset => {
+                "Takes a key from each tag where a selector holds; no other byte changes"
+            }
+            Verb::Sanitize => {
+                "Prints what may be shown of the page: the tags and attributes that lists let stand"
+            }
+        }
+    }
+
+    // What stands below its options in its help.
+    fn notes<'w>(self) -> &'w str {
+        match self {
+            Verb::Select => SELECTORS,
+            Verb::Links => LINKS,
+            Verb::Text => TEXTS,
+            Verb::Table => TABLES,
+            Verb::Print => PRINTS,
+            Verb::Outline => NUMBERS,
+            Verb::Edit => STEPS,
+            Verb::Set => SETTINGS,
+            Verb::Unset => UNSETTINGS,
+            Verb::Sanitize => SAFE,
+        }
+    }
+
+    // It without words of its own.
+    fn bare_command<'w>(self, alloc: Global) -> Command<'w> {
+        Command::new(alloc, self.word())
+            .about(self.about())
+            .after_help(self.notes())
+    }
+
+    // It over files, without options of its own.
+    fn plain_command<'w>(self, alloc: Global) -> Result<Command<'w>, AllocError> {
+        self.bare_command(alloc)
+            .arg(NO_NAME.argument(alloc))?
+            .arg(files(alloc))
+    }
+
+    // It over files, with what says how pages are read and written.
+    fn reading_command<'w>(self, alloc: Global) -> Result<Command<'w>, AllocError> {
+        with_reading(alloc, self.plain_command(alloc)?)
+    }
+
+    // It with all its words.
+    fn command<'w>(self, alloc: Global) -> Result<Command<'w>, AllocError> {
+        match self {
+            Verb::Select => select(alloc, self.bare_command(alloc)),
+            Verb::Links => with_search(alloc, self.reading_command(alloc)?),
+            Verb::Text => text(alloc, self.reading_command(alloc)?),
+            Verb::Table => self
+                .reading_command(alloc)?
+                .arg(TABLE_NUMBER.argument(alloc)),
+            Verb::Print => self.plain_command(alloc)?.arg(ENCODING.argument(alloc)),
+            Verb::Outline => self.reading_command(alloc),
+            Verb::Edit => edit(alloc, self.bare_command(alloc)),
+            Verb::Set => set(alloc, self.bare_command(alloc)),
+            Verb::Unset => unset(alloc, self.bare_command(alloc)),
+            Verb::Sanitize => sanitize(alloc, self.plain_command(alloc)?)?.alias("sanitise"),
+        }
+    }
+
+    /// The command of a word.
+    pub fn from_word(word: &str) -> Option<Verb> {
+        for verb in &VERBS {
+            if verb.word() == word {
+                return Some(*verb);
+            }
+        }
+        None
+    }
+}
+
+// A command with what says how pages are read and written.
+fn with_reading<'w>(alloc: Global, command: Command<'w>) -> Result<Command<'w>, AllocError> {
+    command
+        .arg(AS_IS.argument(alloc))?
+        .arg(RAW.argument(alloc))?
+        .arg(ENCODING.argument(alloc))
+}
+
+// A command with what asks whether something is found.
+fn with_search<'w>(alloc: Global, command: Command<'w>) -> Result<Command<'w>, AllocError> {
+    let names = NAMES.argument(alloc).conflicts_with("quiet")?;
+    command
+        .arg(QUIET.argument(alloc))?
+        .arg(names)?
+        .arg(NULL.argument(alloc))
+}
+
+// `select` with what says which nodes of those where its selector holds are meant.
+fn with_selection<'w>(alloc: Global, command: Command<'w>) -> Result<Command<'w>, AllocError> {
+    let selector = Arg::new(alloc, "SELECTOR")
+        .required(true)
+        .help("What holds of the nodes");
+    let first = FIRST
+        .argument(alloc)
+        .conflicts_with("count")?
+        .conflicts_with("json")?
+        .conflicts_with("max-count")?;
+    command
+        .arg(selector)?
+        .arg(first)?
+        .arg(MAX_COUNT.argument(alloc))
+}
+
+fn select<'w>(alloc: Global, command: Command<'w>) -> Result<Command<'w>, AllocError> {
+    let command = with_reading(alloc, with_selection(alloc, command)?)?;
+    let command = with_flags(alloc, with_search(alloc, command)?, &NODE_FLAGS)?;
+    command
+        .group(one_of(alloc, "wanted", &NODE_FLAGS)?)?
+        .arg(NO_NAME.argument(alloc))?
+        .arg(files(alloc))
+}
+
+fn text<'w>(alloc: Global, command: Command<'w>) -> Result<Command<'w>, AllocError> {
+    command
+        .arg(WHITESPACE.argument(alloc))?
+        .arg(INSIDE.argument(alloc))
+}
+
+fn edit<'w>(alloc: Global, command: Command<'w>) -> Result<Command<'w>, AllocError> {
+    let steps = Arg::new(alloc, "STEP")
+        .required(true)
+        .num_args(1..)
+        .help("What is done with the page, one step after the other");
+    command
+        .arg(steps)?
+        .arg(NO_NAME.argument(alloc))?
+        .arg(files(alloc).last(true))
+}
+
+// A command that changes tags where a selector holds.
+fn with_targets<'w>(alloc: Global, command: Command<'w>) -> Result<Command<'w>, AllocError> {
+    with_flags(alloc, command, &TARGETS)?
+        .group(one_of(alloc, "target", &TARGETS)?)?
+        .arg(files(alloc))
+}
+
+// The words SELECTOR and KEY.
+fn with_tags<'w>(alloc: Global, command: Command<'w>) -> Result<Command<'w>, AllocError> {
+    let selector = Arg::new(alloc, "SELECTOR")
+        .required(true)
+        .help("What holds of the tags, as for select");
+    let key = Arg::new(alloc, "KEY")
+        .required(true)
+        .help("The key, in any case");
+    command.arg(selector)?.arg(key)
+}
+
+fn set<'w>(alloc: Global, command: Command<'w>) -> Result<Command<'w>, AllocError> {
+    let value = Arg::new(alloc, "VALUE")
+        .required(true)
+        .help("Its value, as characters");
+    with_targets(alloc, with_tags(alloc, command)?.arg(value)?)
+}
+
+fn unset<'w>(alloc: Global, command: Command<'w>) -> Result<Command<'w>, AllocError> {
+    with_targets(alloc, with_tags(alloc, command)?)
+}
+
+fn sanitize<'w>(alloc: Global, command: Command<'w>) -> Result<Command<'w>, AllocError> {
+    let command = with_flags(alloc, command, &BASES)?;
+    with_flags(
+        alloc,
+        command.group(one_of(alloc, "base", &BASES)?)?,
+        &LISTS,
+    )?
+    .arg(RELATIVE_LINKS.argument(alloc))?
+    .arg(NOFOLLOW_LINKS.argument(alloc))?
+    .arg(POLICY.argument(alloc))?
+    .arg(AS_IS.argument(alloc))?
+    .arg(ENCODING.argument(alloc))
+}
+
+/// The program of a version.
+pub fn program<'w>(alloc: Global, version: &'w str) -> Result<Command<'w>, AllocError> {
+    let mut program = Command::new(alloc, "tl")
+        .bin_name("tl")?
+        .about(ABOUT)
+        .version(version)
+        .after_help(PROGRAM)
+        .subcommand_required(true);
+    for verb in &VERBS {
+        program = program.subcommand(verb.command(alloc)?)?;
+    }
+    Ok(program)
+}
