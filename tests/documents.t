@@ -34,6 +34,14 @@ docs/COMMANDS.md, `tl`:
   $ tl sanitize comment.html
   <p>x</p> (no-eol)
 
+  $ tl select -l 'img:not([alt])' x.html a.html
+  a.html
+  $ tl select -q form x.html || echo 'no form'
+  no form
+  $ tl select --json -m1 p a.html b.html
+  {"attributes":{},"file":"a.html","name":"p","node":0,"text":""}
+  {"attributes":{},"file":"b.html","name":"p","node":0,"text":"y"}
+
 How pages are read:
 
   $ printf '<UL><LI><A HREF=/x @click="f()">Bread &amp; butter</A><LI>3 < 4' >list.html
@@ -53,6 +61,25 @@ Selectors:
   $ tl select 'p:hover' none none
   tl: no selector: at byte 2: no such pseudo-class: `hover` (a page has no states) (err)
   [2]
+
+README's edit:
+
+  $ printf '<!DOCTYPE HTML PUBLIC "x">\n<IMG SRC=a.png><p>3 < 4' | tl set img loading lazy
+  <!DOCTYPE HTML PUBLIC "x">
+  <IMG loading="lazy" SRC=a.png><p>3 < 4 (no-eol)
+
+Edits in a page's own bytes:
+
+  $ printf '<!doctype html PUBLIC "x">\n<IMG SRC=a.png><img src="b.png"  >' >album.html
+  $ tl set img loading lazy album.html
+  <!doctype html PUBLIC "x">
+  <IMG loading="lazy" SRC=a.png><img loading="lazy" src="b.png"  > (no-eol)
+  $ tl set --dry-run '[src^=b]' src c.png album.html
+  album.html:2:16
+  $ tl set -i '[src^=b]' src c.png album.html
+  $ tl unset img src album.html
+  <!doctype html PUBLIC "x">
+  <IMG><img  > (no-eol)
 
 Safe pages:
 
@@ -75,3 +102,19 @@ Safe pages:
   <a><b></b></a> (no-eol)
   $ printf '<div><p>x</p></div>' | tlq select 'div > p'
   1
+
+Tables, and statuses of `tl`:
+
+  $ printf '<table><thead><tr><th>Item<th>Price, EUR</thead><tr><td>Rye<td>3.20<tr><td>White "soft"<td> 2,10\n</table>' >prices.html
+  $ tl table prices.html
+  Item,"Price, EUR"
+  Rye,3.20
+  "White ""soft""","2,10"
+  $ tl table --number 2 prices.html
+  [1]
+  $ tl print none
+  tl: none: No such file or directory (os error 2) (err)
+  [4]
+  $ tl edit 'push 5 0' -- b.html
+  tl: b.html: step 1 is refused: no node has this number (err)
+  [2]

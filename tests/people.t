@@ -476,7 +476,7 @@ Help says how pages are read.
   2
   1
   1
-  2
+  3
   1
   $ for command in select links text print outline sanitize; do tl $command --help >help && grep -c -e '--encoding' help; done
   1

@@ -83,7 +83,9 @@ Each command, and each option of `select`.
 Where there is nothing, and no memory is wanted for it.
 
   $ printf '<p>' | tl links
+  [1]
   $ tl links
+  [1]
   $ tl outline
   $ tl text
   $ printf '<!-- x -->' | tl text -w
@@ -118,6 +120,71 @@ Selectors are those of CSS.
   $ tl select -n 'P:IS(.x, .z)' shelf
   2
 
+Of each page the first nodes alone; whether there are some; the files that have some.
+
+  $ tl select -m 2 -t li shelf
+  1
+  2
+  $ tl select -m2 -n 'li, img' shelf
+  5
+  7
+  $ tl select --max-count=1 --json li shelf
+  [{"attributes":{},"name":"li","node":5,"text":"1"}]
+  $ tl select -m 9 -c li shelf
+  3
+  $ tl select -m 2 -c li shelf page
+  shelf:2
+  page:0
+  $ tl select -m 0 li shelf
+  [1]
+  $ tl select -m 1 -a class li shelf
+  [1]
+  $ tl select -q li shelf
+  $ tl select -q b shelf
+  [1]
+  $ tl select --quiet -a class li none shelf none
+  tl: none: No such file or directory (os error 2) (err)
+  $ tl select -q b page none
+  $ tl select -q dd page none
+  tl: none: No such file or directory (os error 2) (err)
+  [4]
+  $ tl select -l li page shelf
+  shelf
+  $ tl select --files-with-matches p page - shelf <page
+  page
+  -
+  shelf
+  $ tl select -l0 p page
+  page\x00 (esc) (no-eol)
+  $ tl select -l -a id p page shelf
+  page
+  $ tl select -l dd page shelf
+  [1]
+  $ tl links -q page
+  $ tl links -q shelf
+  $ printf '<p>' | tl links -q
+  [1]
+  $ printf '<p>' | tl links -l - page
+  page
+  $ tl select -ql p page
+  error: the argument '--quiet' cannot be used with '--files-with-matches' (err)
+  ...
+  [2]
+  $ tl select -1 -m 2 p page
+  error: the argument '--first' cannot be used with '--max-count <N>' (err)
+  ...
+  [2]
+  $ tl select -m x p none
+  tl: no number of nodes: x (err)
+  [2]
+  $ tl select -m -1 p none
+  error: a value is required for '--max-count <N>' but none was supplied (err)
+  ...
+  [2]
+  $ tl select -m 4294967296 p none
+  tl: no number of nodes: 4294967296 (err)
+  [2]
+
 What is wrong with one is said once, before a file is read.
 
   $ tl select 'p:hover' none none
@@ -142,6 +209,80 @@ What is wrong with one is said once, before a file is read.
   tl: no selector: at byte 1: a name is missing: `@` (it may stand in quotes in a value, and behind `\` in a name) (err)
   [2]
 
+Tables as CSV.
+
+  $ printf '<table><caption>c</caption><tr><th>a<th>b, c</tr><tbody><tr><td>1<td colspan=2> d\n <b>e</b> &amp; f</tbody><tfoot><tr><td>"x"</tfoot></table>' >table
+  $ tl table table
+  a,"b, c"
+  1,d e & f
+  """x"""
+  $ tl table --raw table
+  a,"b, c"
+  1,d e &amp; f
+  """x"""
+  $ tl table -n 1 table
+  a,"b, c"
+  1,d e & f
+  """x"""
+  $ tl table --number=2 table
+  [1]
+  $ printf '<table><tr><td>o<table><tr><td>i<td>j</table>p<td>q<tr></table><table><tr><td>z' | tl table
+  o i j p,q
+  ""
+  $ printf '<table><tr><td>o<table><tr><td>i<td>j</table>p<td>q<tr></table><table><tr><td>z' | tl table -n 2
+  i,j
+  $ printf '<table><tr><td>o<table><tr><td>i<td>j</table>p<td>q<tr></table><table><tr><td>z' | tl table -n 3
+  z
+  $ printf '<table><tr><td>o<table><tr><td>i<td>j</table>p<td>q<tr></table><table><tr><td>z' | tl table -n 4
+  [1]
+  $ printf '<TABLE><TR><TD>a<br>b<TD><script>f()</script>c&nbsp;d' | tl table
+  a b,c\xa0d (esc)
+  $ printf '<table><tr><td>a</td><p><tr><td>b</table>' | tl table --as-is
+  a
+  $ printf '<table></table>' | tl table
+  $ tl table <page
+  [1]
+  $ tl table --number 0 table
+  tl: no number of a table: 0 (err)
+  [2]
+  $ tl table --number x table
+  tl: no number of a table: x (err)
+  [2]
+  $ tl table table page table
+  table:a,"b, c"
+  table:1,d e & f
+  table:"""x"""
+  table:a,"b, c"
+  table:1,d e & f
+  table:"""x"""
+
+The text inside of nodes.
+
+  $ printf '<article><p>a<p>b <i>c</i></article><p>d<article>e</article><article></article>' >articles
+  $ tl text --in article articles
+  ab c
+  e
+  (empty)
+  $ tl text -w --in article articles
+  a
+  b c
+  e
+  $ tl text -w --in p articles
+  a
+  b c
+  d
+  $ tl text -w --in nav articles
+  [1]
+  $ tl text --in nav articles
+  [1]
+  $ tl text --in nav: none
+  tl: no selector: at byte 4: a name is missing (err)
+  [2]
+  $ tl text -w --in article articles page
+  articles:a
+  articles:b c
+  articles:e
+
 Nothing was found, or something is refused or not understood.
 
   $ tl select i <page
@@ -155,8 +296,20 @@ Nothing was found, or something is refused or not understood.
   []
   [1]
   $ printf '<a></a>' | tl edit 'push 5 0'
-  tl: -: refused (err)
-  [1]
+  tl: -: step 1 is refused: no node has this number (err)
+  [2]
+  $ printf '<p>a' | tl edit 'name 0 b' 'set 1 href /x'
+  tl: -: step 2 is refused: the node is no tag (err)
+  [2]
+  $ printf '<p>a' | tl edit 'pull 0 1'
+  tl: -: step 1 is refused: there is no such place (err)
+  [2]
+  $ printf '<p>a' | tl edit 'push 0 9'
+  tl: -: refused: a child is no node, or stands in itself (err)
+  [2]
+  $ printf '<p>a' | tl edit 'push 0 0'
+  tl: -: refused: a child is no node, or stands in itself (err)
+  [2]
   $ printf '\377' | tl print
   tl: -: no UTF-8 at byte 0 (err)
   [2]
@@ -236,6 +389,9 @@ Nothing was found, or something is refused or not understood.
   $ tl print "$(printf '\377')"
   tl: words: no UTF-8 (err)
   [2]
+  $ mkdir folder && tl print folder
+  tl: folder: Is a directory (os error 21) (err)
+  [4]
   $ tl print one "$(printf 'caf\351')"
   tl: words: no UTF-8 (err)
   [2]
@@ -291,17 +447,28 @@ Pages in files.
   $ tl select i one two
   [1]
   $ tl select --json i one two
-  one:[]
-  two:[]
   [1]
   $ tl text -w one
   one
   $ tl select --no-name -t0 p one two
   one\x00two (esc)
   \x00 (esc) (no-eol)
+  $ tl select --json p one two
+  {"attributes":{},"file":"one","name":"p","node":0,"text":"one"}
+  {"attributes":{},"file":"two","name":"p","node":0,"text":"two\n"}
+  $ tl select --json --no-name p one two
+  [{"attributes":{},"name":"p","node":0,"text":"one"}]
+  [{"attributes":{},"name":"p","node":0,"text":"two\n"}]
+  $ tl select --json -m1 'p, b' one two -
+  {"attributes":{},"file":"one","name":"p","node":0,"text":"one"}
+  {"attributes":{},"file":"two","name":"p","node":0,"text":"two\n"}
+  $ tl select --json -0 p one two
+  {"attributes":{},"file":"one","name":"p","node":0,"text":"one"}\x00{"attributes":{},"file":"two","name":"p","node":0,"text":"two\x5cn"}\x00 (esc) (no-eol)
+  $ cp one 'a "b"' && tl select --json p one 'a "b"' && rm 'a "b"'
+  {"attributes":{},"file":"one","name":"p","node":0,"text":"one"}
+  {"attributes":{},"file":"a \"b\"","name":"p","node":0,"text":"one"}
   $ tl select --json b one two
-  one:[]
-  two:[{"attributes":{},"name":"b","node":2,"text":""}]
+  {"attributes":{},"file":"two","name":"b","node":2,"text":""}
   $ tl select -t0 p one two
   one:one\x00two:two (esc)
   \x00 (esc) (no-eol)
@@ -317,13 +484,13 @@ Pages in files.
   one:<p>one</p>
   two:<p>two
   two:<b></b></p>
-  tl: none: read or write failed (err)
+  tl: none: No such file or directory (os error 2) (err)
   [4]
   $ tl print none
-  tl: none: read or write failed (err)
+  tl: none: No such file or directory (os error 2) (err)
   [4]
   $ tl print ''
-  tl: : read or write failed (err)
+  tl: : No such file or directory (os error 2) (err)
   [4]
 
 Pages made safe.
@@ -441,6 +608,18 @@ Policies for other pages, and links beside the page.
   --links https://,http://,mailto:,/,#
   --relative-links
   --prefix user-
+  $ printf '<a rel=x href="/y">a</a><a href="z">b</a><q cite="/z">c</q>' | tl sanitize --nofollow-links
+  <a rel="nofollow noopener" href="/y">a</a><a>b</a><q cite="/z">c</q> (no-eol)
+  $ tl sanitize --nofollow-links --comments --tags a --policy
+  --tags a
+  --keys cite,dir,href,lang,title,rel
+  --link-keys cite,href
+  --links https://,http://
+  --nofollow-links
+  --prefix user-
+  $ tl sanitize --nofollow-links --keys rel,href --link-keys href,rel
+  tl: no policy may mark links at `rel`: it is no listed key, or a link key (err)
+  [2]
 
 Words that no policy may list: the first one is named, and no page is made safe.
 
@@ -523,22 +702,22 @@ Pages that can't be had are passed over, and the greatest status counts.
   [2]
   $ tl sanitize --no-name a.html none b.html
   <p>a</p><b>b</b> (no-eol)
-  tl: none: read or write failed (err)
+  tl: none: No such file or directory (os error 2) (err)
   [4]
   $ tl sanitize none bytes.html
-  tl: none: read or write failed (err)
+  tl: none: No such file or directory (os error 2) (err)
   tl: bytes.html: no UTF-8 at byte 0 (err)
   [4]
   $ tl sanitize bytes.html none
   tl: bytes.html: no UTF-8 at byte 0 (err)
-  tl: none: read or write failed (err)
+  tl: none: No such file or directory (os error 2) (err)
   [4]
   $ printf '<i>x</i>' | tl sanitize --no-name none -
   <i>x</i> (no-eol)
-  tl: none: read or write failed (err)
+  tl: none: No such file or directory (os error 2) (err)
   [4]
   $ tl sanitize .
-  tl: .: read or write failed (err)
+  tl: .: Is a directory (os error 21) (err)
   [4]
 
 Help names each command and each option, and words the lists.
@@ -547,31 +726,40 @@ Help names each command and each option, and words the lists.
   select
   links
   text
+  table
   print
   outline
   edit
+  set
+  unset
   sanitize
   help
-  $ for command in select links text print outline edit sanitize; do tl $command --help >help && grep '^Usage: ' help; done
+  $ for command in select links text table print outline edit set unset sanitize; do tl $command --help >help && grep '^Usage: ' help; done
   Usage: tl select [OPTIONS] <SELECTOR> [FILE]...
   Usage: tl links [OPTIONS] [FILE]...
   Usage: tl text [OPTIONS] [FILE]...
+  Usage: tl table [OPTIONS] [FILE]...
   Usage: tl print [OPTIONS] [FILE]...
   Usage: tl outline [OPTIONS] [FILE]...
   Usage: tl edit [OPTIONS] <STEP>... [-- [FILE]...]
+  Usage: tl set [OPTIONS] <SELECTOR> <KEY> <VALUE> [FILE]...
+  Usage: tl unset [OPTIONS] <SELECTOR> <KEY> [FILE]...
   Usage: tl sanitize [OPTIONS] [FILE]...
   $ tl select --help >help && grep -oE -e '--[a-z-]+' help | sort -u
   --as-is
   --attribute
   --count
   --encoding
+  --files-with-matches
   --first
   --help
   --inside
   --json
+  --max-count
   --no-name
   --null
   --number
+  --quiet
   --raw
   --text
   $ tl sanitize --help >help && grep -oE -e '--[a-z-]+' help | sort -u
@@ -584,10 +772,16 @@ Help names each command and each option, and words the lists.
   --link-keys
   --links
   --no-name
+  --nofollow-links
   --policy
   --prefix
   --relative-links
   --tags
+  $ for command in set unset; do tl $command --help; done | grep -oE -e '--[a-z-]+' | sort -u
+  --backup
+  --dry-run
+  --help
+  --in-place
   $ grep -o '^WORDS have commas between them' help
   WORDS have commas between them
   $ tl --help | grep -o '^It ends with 0: all is done'
@@ -596,31 +790,63 @@ Help names each command and each option, and words the lists.
   A step is one word of the shell
   $ tl select --help | grep -o '^SELECTOR is one of CSS'
   SELECTOR is one of CSS
+  $ tl --help | grep -A3 '^Examples:'
+  Examples:
+    tl select -a href 'nav a' index.html    where the links of the navigation lead
+    tl text -w index.html                   the text of a page, a block on a line
+    tl sanitize comment.html                what of a page may be shown to others
+  $ for command in select links text table print outline edit set unset sanitize; do tl $command --help | grep -A1 '^Example:' | tail -1; done
+    tl select -l 'img:not([alt])' *.html    the pages with a picture that says nothing
+    tl links index.html | grep '^http:'     links that are not encrypted
+    tl text -w --in article index.html      what an article says, a block on a line
+    tl table --number 2 index.html          the second table of a page
+    tl print index.html                     the page with each tag closed
+    tl outline --as-is index.html           which number each node has for edit
+    tl edit 'set 0 lang en' -- index.html   the page with a key at its first node
+    tl set -i img loading lazy *.html       pictures that are loaded when they are seen
+    tl unset -i '[style]' style *.html      pages without styles of their own
+    tl sanitize --comments comment.html     what of a reader's comment may be shown
+  $ for command in select links text table print outline edit set unset sanitize; do tl $command --help; done | awk 'length > 100'
   $ test "$(tl --version)" = "tl $VERSION"
 
 Where nothing can be written, that is said once, and no more is read.
 
   $ tl --help >/dev/full
-  tl: standard output: read or write failed (err)
+  tl: standard output: No space left on device (os error 28) (err)
   [4]
   $ tl --version >/dev/full
-  tl: standard output: read or write failed (err)
+  tl: standard output: No space left on device (os error 28) (err)
   [4]
   $ tl sanitize --policy >/dev/full
-  tl: standard output: read or write failed (err)
+  tl: standard output: No space left on device (os error 28) (err)
   [4]
   $ printf '<p>' | tl print >/dev/full
-  tl: standard output: read or write failed (err)
+  tl: standard output: No space left on device (os error 28) (err)
   [4]
   $ printf '<p>' | { tl select p one - two >/dev/full; cat; }
   <p> (no-eol)
-  tl: standard output: read or write failed (err)
+  tl: standard output: No space left on device (os error 28) (err)
   $ tl sanitize a.html none >/dev/full
-  tl: standard output: read or write failed (err)
+  tl: standard output: No space left on device (os error 28) (err)
   [4]
   $ tl print one two >&-
-  tl: standard output: read or write failed (err)
+  tl: standard output: Bad file descriptor (os error 9) (err)
   [4]
+
+Where what is written is read no more, nothing is said, and the status is that of a closed pipe.
+
+  $ head -c 99000 /dev/zero | tr '\0' a >pipe
+  $ (tl text pipe; echo $? >status) | head -c 3
+  aaa (no-eol)
+  $ cat status
+  141
+  $ (tl text pipe none pipe; echo $? >status) | head -c 6
+  pipe:a (no-eol)
+  $ cat status
+  141
+  $ (sleep 1; tl --help; echo $? >status) | :
+  $ cat status
+  141
 
 A page longer than the memory, and pages that are long or deep.
 

@@ -2,11 +2,11 @@
 
     ./x release VERSION
 
-It has the programs, the library for C with its headers, the licence, the README, and a note that says what they were proved and
-built with. First the gate and ./x mutants --all have to pass. VERSION is that of the sources (`VERSION` of crates/tl_page) and of a
-heading of CHANGELOG.md, and what is packed is a commit, without times, owners and an order of files of its own. It is tried as it is
-packed; where root runs it, each program too where there is nothing but the C library. The same commit and the same kit give the
-same bytes. It takes strip and readelf (Debian: binutils).
+It has the programs, their manual page and completions, the library for C with its headers, the licence, the README, and a note that
+says what they were proved and built with. First the gate and ./x mutants --all have to pass. VERSION is that of the sources
+(`VERSION` of crates/tl_page) and of a heading of CHANGELOG.md, and what is packed is a commit, without times, owners and an order of
+files of its own. It is tried as it is packed; where root runs it, each program too where there is nothing but the C library. The same
+commit and the same kit give the same bytes. It takes strip and readelf (Debian: binutils).
 """
 import glob
 import gzip
@@ -114,6 +114,7 @@ def main(parser, words):
             pack_program(workspace, it, packed)
         library.make(f"{packed}/lib/libtl.a")
         shutil.copytree(f"{ROOT}/include", f"{packed}/include")
+        shutil.copytree(f"{ROOT}/share", f"{packed}/share")
         for it in ("LICENSE", "README.md", "CHANGELOG.md"):
             shutil.copy(f"{ROOT}/{it}", packed)
         note = [f"tl {version}, commit {git('rev-parse', 'HEAD')}", f"proved and built with {rt('version').splitlines()[0]}"]

@@ -8,8 +8,9 @@ files, are run first.
 
 With no words it also looks whether each command that README.md, docs/*.md and other documents show after a `$` stands in a
 transcript with the output that is shown (`./x tlq` for `tlq`, `./x try NAME` for NAME), or in tests/by_hand.list, with the reason
-why nothing runs it; whether the code that documents show stands in a source; and whether the paths, commands and names between
-backticks are there. A new row of a document goes into tests/documents.t; --write fills in what is written.
+why nothing runs it; whether the code that documents show stands in a source; whether the paths, commands and names between
+backticks are there; and whether the manual page and the completions are what `tl --help` says (./x help manual). A new row of a
+document goes into tests/documents.t; --write fills in what is written.
 """
 import os
 import re
@@ -19,6 +20,7 @@ from .. import documents, programs
 from ..running import count, short_path
 from ..transcripts import output_of, rewrite, rows_of
 from ..workspace import ROOT, Stop, Workspace, put, text_of
+from . import manual
 
 PROGRAMS = ("tl", "tlq", "uses")
 # A build with checks takes more memory than that.
@@ -82,7 +84,7 @@ def environment(folder):
 
 def check(words=(), find=None, folder=None, **how):
     """Runs rows with the programs of a folder, or with those that are found, and says what is wrong. Whether nothing is."""
-    files = list(files_of(words))
+    files, is_alone = list(files_of(words)), bool(words or how.get("is_turned") or how.get("writes"))
     with tempfile.TemporaryDirectory(prefix="x-programs-") as room:
         if not folder:
             hint = ", or take builds that prove nothing: ./x runs --unproved"
@@ -90,12 +92,12 @@ def check(words=(), find=None, folder=None, **how):
         tally = Tally(environment(folder or room))
         for file, line in files:
             tally.add(file, line, **how)
+        is_manual = is_alone or manual.check(f"{folder or room}/tl")
     left = f", {tally.left_out} that limit memory were left out" if tally.left_out else ""
     says = "is found wrong once it is turned" if how.get("is_turned") else "writes what it should"
     where = count(len(files), "file")
     print(f"runs: {tally.made - tally.wrong} of {count(tally.made, 'command')} in {where}: each {says}{left}", flush=True)
-    are_right = bool(words or how.get("is_turned") or how.get("writes")) or documents.check()
-    return are_right and not tally.wrong
+    return is_manual and (is_alone or documents.check()) and not tally.wrong
 
 
 def main(parser, words):

@@ -107,6 +107,8 @@ def questions(tlq, tl, form):
         yield tlq, name, [["select", selector]], made
     for name, made in pages.walks():
         yield tl, name, WALKS, made
+    for name, made in pages.tables():
+        yield tl, name, [["table"]], made
 
 
 def growths(tlq, tl, form, sizes, workers):

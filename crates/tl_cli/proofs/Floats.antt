@@ -3,7 +3,7 @@ use Rattle.std.proofs.Common.{◌≡◌, ℕ, Bool, true, false, ◌||◌, List,
 use Rattle.std.specs.Cmp.Lexicographic.{slice_cmp}
 use Rattle.std.specs.Option.{option_map_or}
 use Rattle.std.specs.Ordering.{match_ordering}
-use Rattle.serde_json.specs.Data.{Data, Members, no_members, member, put}
+use Rattle.serde_json.specs.Data.{Data, Members, array, boolean, member, no_members, null, number, object, put, string}
 use Rattle.serde_json.specs.View.{items_of}
 use Rattle.serde_json.specs.Written.{has_float, items_have_float, members_have_float}
 use Rattle.tl_spec.specs.Lex.Attribute.{Pair}
@@ -15,7 +15,7 @@ use Rattle.tl_spec.specs.Walk.{plain_attributes}
 use Rattle.tl_page.specs.Outcome.{Outcome, followed_by, not_understood, outcome_map, outcome_of, refused, success}
 use Rattle.tl_extract.specs.Spelling.{text_written}
 use Rattle.tl_extract.specs.declared.spelling.Spelling.{Spelling}
-use Rattle.tl_cli.specs.Json.{attributes_data, data_at, list_data, name_data, node_data, value_data, with_pair}
+use Rattle.tl_cli.specs.Json.{attributes_data, data_at, list_data, name_data, node_data, value_data, with_file, with_pair}
 
 in_order : (o : Ordering) (a b c : Members) → members_have_float a ≡ false → members_have_float b ≡ false → members_have_float c ≡ false
     → members_have_float (match_ordering o a b c) ≡ false
@@ -41,6 +41,14 @@ put_none k d (member l e ms) hd h =
     (neither _ _ hd h)
     (neither _ _ hd (second_of (has_float e) _ h))
     (neither _ _ (first_of (has_float e) _ h) (put_none k d ms hd (second_of (has_float e) _ h)))
+
+named_none : (file : List ℕ) (d : Data) → has_float d ≡ false → has_float (with_file file d) ≡ false
+named_none file null h = h
+named_none file (boolean b) h = h
+named_none file (number n) h = h
+named_none file (string text) h = h
+named_none file (array items) h = h
+named_none file (object members) h = put_none _ (string file) members refl h
 
 followed_none : (first : Outcome Data) (later : Outcome (List Data)) (ds : List Data)
     → ((d : Data) → first ≡ success d → has_float d ≡ false) → ((es : List Data) → later ≡ success es → items_have_float (items_of es) ≡ false)
@@ -87,3 +95,7 @@ module _ (spelling : Spelling) where
   list_none nodes [] ds e = let none : ds ≡ [] = cc in rw none refl
   list_none nodes (n ∷ numbers) ds e =
       followed_none (data_at spelling nodes n) (list_data spelling nodes numbers) ds (at_none nodes n (slice_get nodes n)) (list_none nodes numbers) e
+
+  -- neither has what is said of the node of a number, with the name of its file
+  pub line_none : (nodes : List Node) (n : ℕ) (file : List ℕ) (d : Data) → data_at spelling nodes n ≡ success d → has_float (with_file file d) ≡ false
+  line_none nodes n file d e = named_none file d (at_none nodes n (slice_get nodes n) d e)

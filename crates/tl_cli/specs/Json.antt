@@ -2,7 +2,7 @@
 use Rattle.std.specs.Prelude.{ℕ, Bool, true, false, List, [], ◌∷◌, ◌++◌, codes, fold, map, Option, None, Some, slice_get}
 use Rattle.std.specs.Option.{option_map_or}
 use Rattle.std.specs.Str.Lossy.{utf8_lossy}
-use Rattle.serde_json.specs.Data.{Data, null, string, number, unsigned, array, object, Members, no_members, member, put}
+use Rattle.serde_json.specs.Data.{Data, null, boolean, string, number, unsigned, array, object, Members, no_members, member, put}
 use Rattle.serde_json.specs.View.{items_of}
 use Rattle.serde_json.specs.Written.{compact_text}
 use Rattle.tl_spec.specs.Lex.Attribute.{Pair}
@@ -79,3 +79,21 @@ array_line end list = record {
   text = compact_text (array (items_of list)) ++ end;
   is_found = has_items list;
 }
+
+-- an object with the name of its file; what is no object stays
+abbrev pub with_file : List ℕ → Data → Data
+with_file file (object members) = object (put (codes "file") (string file) members)
+with_file file null = null
+with_file file (boolean b) = boolean b
+with_file file (number n) = number n
+with_file file (string text) = string text
+with_file file (array items) = array items
+
+-- it on a line
+abbrev pub object_line : List ℕ → List ℕ → Data → List ℕ
+object_line file end own = compact_text (with_file file own) ++ end
+
+-- what is said of the nodes of these numbers of a file, each on a line
+abbrev pub object_lines : Spelling → List ℕ → List ℕ → List Node → List ℕ → Outcome (List ℕ)
+object_lines spelling file end nodes numbers =
+    joined (map (λ n. outcome_map (object_line file end) (data_at spelling nodes n)) numbers)

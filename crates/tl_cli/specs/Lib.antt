@@ -7,3 +7,4 @@ pub mod Json
 pub mod Reports
 pub mod ListOptions
 pub mod UsageErrors
+pub mod CsvLines

@@ -1,8 +1,9 @@
 -- The lists that options say.
-use Rattle.std.specs.Prelude.{ℕ, Bool, true, false, ◌||◌, ◌==◌, List, [], ◌∷◌, ◌++◌, Option, Some, None, codes}
+use Rattle.std.specs.Prelude.{ℕ, Bool, true, false, not, ◌||◌, ◌&&◌, ◌==◌, List, [], ◌∷◌, ◌++◌, Option, Some, None, codes, if◌then◌else◌}
 use Rattle.std.specs.Borrow.{Bor}
-use Rattle.std.specs.List.{filter, slice_split}
+use Rattle.std.specs.List.{filter, list_any, slice_split}
 use Rattle.std.specs.Option.{option_map}
+use Rattle.std.specs.Str.{bytes_eq}
 use Rattle.tl_safe.specs.Lists.{ListedWords}
 use Rattle.tl_safe.specs.Names.{words_of}
 use Rattle.tl_cli.specs.declared.lists.ListTexts.{ListTexts}
@@ -36,6 +37,7 @@ pub record ListOptions : Type 0 where
   pub link_keys : Option (List ℕ)
   pub link_prefixes : Option (List ℕ)
   pub relative_links : Bool
+  pub nofollow_links : Bool
   pub id_prefix : Option (List ℕ)
 
 abbrev pub list_options : ListTexts → ListOptions
@@ -45,6 +47,7 @@ list_options texts = record {
   link_keys = text_of texts.link_keys;
   link_prefixes = text_of texts.link_prefixes;
   relative_links = texts.relative_links;
+  nofollow_links = texts.nofollow_links;
   id_prefix = text_of texts.id_prefix;
 }
 
@@ -57,14 +60,25 @@ abbrev pub prefix_or_default : Option (List ℕ) → List ℕ → List ℕ
 prefix_or_default None own = own
 prefix_or_default (Some text) own = text
 
+-- whether the key at which links are marked is one of these
+abbrev pub has_rel : List (List ℕ) → Bool
+has_rel keys = list_any (bytes_eq (codes "rel")) keys
+
+-- keys, with that one among them where links are marked
+abbrev pub with_rel : Bool → List (List ℕ) → List (List ℕ)
+with_rel nofollow_links keys =
+    if nofollow_links && not (has_rel keys) then keys ++ codes "rel" ∷ [] else keys
+
 -- the lists that are said, and those of a policy for the others
 abbrev pub lists_or_default : ListOptions → ListedWords → ListedWords
 lists_or_default s own = record {
   tags = words_or_default s.tags own.tags;
-  keys = words_or_default s.keys own.keys;
+  keys =
+      with_rel (s.nofollow_links || own.nofollow_links) (words_or_default s.keys own.keys);
   link_keys = words_or_default s.link_keys own.link_keys;
   link_prefixes = words_or_default s.link_prefixes own.link_prefixes;
   relative_links = s.relative_links || own.relative_links;
+  nofollow_links = s.nofollow_links || own.nofollow_links;
   id_prefix = prefix_or_default s.id_prefix own.id_prefix;
 }
 
@@ -76,6 +90,7 @@ lists_in w = record {
   link_keys = words_of w.link_keys.items;
   link_prefixes = words_of w.link_prefixes.items;
   relative_links = w.relative_links;
+  nofollow_links = w.nofollow_links;
   id_prefix = w.id_prefix.now;
 }
 
@@ -98,6 +113,11 @@ abbrev pub relative_line : Bool → List ℕ
 relative_line true = codes "--relative-links\n"
 relative_line false = []
 
+-- an option alone on a line, where links are marked
+abbrev pub nofollow_line : Bool → List ℕ
+nofollow_line true = codes "--nofollow-links\n"
+nofollow_line false = []
+
 -- the options that say these lists, one on each line
 abbrev pub policy_text : ListedWords → List ℕ
 policy_text p =
@@ -106,4 +126,5 @@ policy_text p =
     ++ option_line (codes "--link-keys") p.link_keys
     ++ option_line (codes "--links") p.link_prefixes
     ++ relative_line p.relative_links
+    ++ nofollow_line p.nofollow_links
     ++ option_line (codes "--prefix") (p.id_prefix ∷ [])

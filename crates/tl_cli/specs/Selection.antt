@@ -1,17 +1,17 @@
 -- What is written of the nodes of some numbers.
-use Rattle.std.specs.Prelude.{ℕ, List, [], ◌++◌, length, map, take, Option}
+use Rattle.std.specs.Prelude.{ℕ, List, [], ◌++◌, length, map, take, Option, None, Some}
 use Rattle.std.specs.Option.{option_map_or}
 use Rattle.tl_spec.specs.Tree.Document.{Node}
 use Rattle.tl_page.specs.Outcome.{Outcome, joined, outcome_map, success}
 use Rattle.tl_extract.specs.declared.field.Field.{Field}
 use Rattle.tl_extract.specs.Field.{field_at}
 use Rattle.tl_cli.specs.Findings.{Finding, listed, number_line}
-use Rattle.tl_cli.specs.Json.{array_line, list_data}
+use Rattle.tl_cli.specs.Json.{array_line, list_data, object_lines}
 use Rattle.tl_css_select.specs.Spelling.{decoded_nodes}
 use Rattle.tl_cli.specs.declared.reading.Reading.{Reading}
 use Rattle.tl_cli.specs.declared.reading.Reading.TheVariants.{Browser, AsIs}
 use Rattle.tl_cli.specs.declared.selection.Listing.{Listing}
-use Rattle.tl_cli.specs.declared.selection.Listing.TheVariants.{Fields, First, Count, Objects}
+use Rattle.tl_cli.specs.declared.selection.Listing.TheVariants.{Fields, Count, Objects, Lines}
 
 -- the nodes of a document as selectors see them: in the form of a page names and values are seen as
 -- what they say
@@ -31,12 +31,17 @@ field_line field end nodes n = outcome_map (ended end) (field_at field nodes n)
 abbrev pub field_lines : Field → List ℕ → List Node → List ℕ → Outcome (List ℕ)
 field_lines field end nodes numbers = joined (map (field_line field end nodes) numbers)
 
+-- the first of a list, at most so many; all where that isn't said
+abbrev pub front : Option ℕ → List ℕ → List ℕ
+front None numbers = numbers
+front (Some most) numbers = take most numbers
+
 -- what is written of the nodes of these numbers, where what is listed ends with these bytes
 abbrev pub listing_of : Listing → List ℕ → List Node → List ℕ → Outcome Finding
 listing_of (Fields field) end nodes numbers =
     outcome_map listed (field_lines field end nodes numbers)
-listing_of (First field) end nodes numbers =
-    outcome_map listed (field_lines field end nodes (take 1 numbers))
 listing_of Count end nodes numbers = success (number_line end (length numbers))
 listing_of (Objects spelling) end nodes numbers =
     outcome_map (array_line end) (list_data spelling nodes numbers)
+listing_of (Lines spelling file) end nodes numbers =
+    outcome_map listed (object_lines spelling file.now end nodes numbers)

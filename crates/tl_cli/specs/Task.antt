@@ -18,12 +18,14 @@ use Rattle.tl_safe.specs.Policies.{lists_of}
 use Rattle.tl_extract.specs.Links.{links_of}
 use Rattle.tl_extract.specs.Outline.{outline_of}
 use Rattle.tl_extract.specs.Readable.{readable_of}
+use Rattle.tl_extract.specs.Table.{numbered_table}
 use Rattle.tl_extract.specs.declared.spelling.Spelling.TheVariants.{Raw}
-use Rattle.tl_cli.specs.Findings.{Finding, whole, whole_in}
+use Rattle.tl_cli.specs.CsvLines.{table_finding}
+use Rattle.tl_cli.specs.Findings.{Finding, listed, whole, whole_in}
 use Rattle.tl_cli.specs.Lines.{link_line}
-use Rattle.tl_cli.specs.Selection.{listing_of, nodes_read}
+use Rattle.tl_cli.specs.Selection.{front, listing_of, nodes_read}
 use Rattle.tl_cli.specs.declared.question.Question.{Question}
-use Rattle.tl_cli.specs.declared.question.Question.TheVariants.{Select, Links, Text, Readable, Print, Outline}
+use Rattle.tl_cli.specs.declared.question.Question.TheVariants.{Select, Links, Text, Readable, Table, Print, Outline}
 use Rattle.tl_cli.specs.declared.reading.Reading.{Reading}
 use Rattle.tl_cli.specs.declared.reading.Reading.TheVariants.{Browser, AsIs}
 use Rattle.tl_cli.specs.declared.task.Task.{Task}
@@ -31,22 +33,26 @@ use Rattle.tl_cli.specs.declared.task.Task.TheVariants.{Ask, Edit, Sanitize}
 
 -- the numbers of the nodes where the selector of what is asked holds; where it has none, no number
 abbrev pub AreSelected : Question → List Node → List ℕ → Type 0
-AreSelected (Select selector reading listing) nodes ns =
-    AreFound (nodes_read reading nodes) selector.now ns
+AreSelected (Select query) nodes ns =
+    AreFound (nodes_read query.reading nodes) query.selector.now ns
 AreSelected (Links spelling) nodes ns = ns ≡ []
 AreSelected (Text spelling) nodes ns = ns ≡ []
 AreSelected (Readable spelling) nodes ns = ns ≡ []
+AreSelected (Table number spelling) nodes ns = ns ≡ []
 AreSelected Print nodes ns = ns ≡ []
 AreSelected (Outline spelling) nodes ns = ns ≡ []
 
 -- what is answered of a document where these are selected, and what is listed ends with these bytes
 abbrev pub answer_of : Question → List ℕ → List ℕ → Document → Outcome Finding
-answer_of (Select selector reading listing) ns end d = listing_of listing end d.nodes ns
+answer_of (Select query) ns end d =
+    listing_of query.listing end d.nodes (front query.most ns)
 answer_of (Links spelling) ns end d =
-    success (whole (flat_map (link_line spelling end) (links_of d.nodes)))
+    success (listed (flat_map (link_line spelling end) (links_of d.nodes)))
 answer_of (Text spelling) ns end d = outcome_map (whole_in spelling) (outcome_of (document_text d))
 answer_of (Readable spelling) ns end d =
     outcome_map (whole_in spelling) (outcome_of (readable_of d))
+answer_of (Table number spelling) ns end d =
+    outcome_map table_finding (numbered_table spelling d.nodes number)
 answer_of Print ns end d = outcome_map (whole_in Raw) (outcome_of (document_print d))
 answer_of (Outline spelling) ns end d = success (whole (outline_of spelling d))
 

@@ -1,14 +1,19 @@
 -- Why nothing is made.
 use Rattle.tl_cli.specs.declared.args.UsageError.{UsageError}
-use Rattle.tl_cli.specs.declared.args.UsageError.TheVariants.{Clap, NoCommand, EmptyStep, LinesOfSteps, NoStep, NoSelector, NoEncoding, OutOfMemory}
+use Rattle.tl_cli.specs.declared.args.UsageError.TheVariants.{Clap, NoCommand, EmptyStep, LinesOfSteps, NoStep, NoNumber, NoTable, NoSelector, NoKey, NoFile, NoEncoding, OutOfMemory}
 
--- a word of `edit` is not one step, that of `select` no selector, or a label of no encoding
+-- a word of `edit` is not one step, that of `select` no selector or number, a key can't be written,
+-- standard input has no file, or a label is of no encoding
 abbrev pub IsWrongWord : UsageError → Type 0
 IsWrongWord (Clap error) = ⊥
 IsWrongWord NoCommand = ⊥
 IsWrongWord EmptyStep = Unit {0}
 IsWrongWord (LinesOfSteps word) = Unit {0}
 IsWrongWord (NoStep word) = Unit {0}
+IsWrongWord (NoNumber word) = Unit {0}
+IsWrongWord (NoTable word) = Unit {0}
 IsWrongWord (NoSelector error text) = Unit {0}
+IsWrongWord (NoKey key) = Unit {0}
+IsWrongWord NoFile = Unit {0}
 IsWrongWord (NoEncoding label) = Unit {0}
 IsWrongWord OutOfMemory = ⊥

@@ -4,8 +4,8 @@ ghost use Rattle.clap.specs.Values.{kind_of};
 ghost use Rattle.clap.specs.declared.error.kind.ErrorKind.TheVariants.{OutOfMemory as NoMemory};
 ghost use Rattle.tl_cli.specs.declared.args.UsageError.TheVariants.{OutOfMemory};
 
-use crate::commands::{Verb, program};
 use crate::lists::ListTexts;
+use crate::patching::{Patching, TagEdit, Target};
 use crate::question::Question;
 use crate::reading::Reading;
 use crate::selected::{Selected, Wanted};
@@ -13,11 +13,25 @@ use crate::task::Task;
 use clap::error::ErrorKind;
 use clap::{ArgMatches, Error};
 use std::alloc::{AllocError, AllocFailed, Global};
+use tl_commands::{Verb, program};
 use tl_css::{Selector, SelectorError, parse};
 use tl_encoding::Encoding;
 use tl_extract::Spelling;
+use tl_page::VERSION;
+use tl_patch::is_key;
 use tl_program::script::{Step, steps};
 use tl_safe::Lists;
+
+/// What is written of pages.
+#[derive(Clone, Copy, PartialEq, Eq)]
+pub enum Writing {
+    /// What is made of each.
+    Answers,
+    /// The name of the file of each where something is found.
+    Names,
+    /// Nothing: the first where something is found ends it.
+    Nothing,
+}
 
 /// The pages, and how what is made of them is written.
 #[derive(Drop)]
@@ -28,10 +42,24 @@ pub struct Pages<'w> {
     pub ends_with_zero: bool,
     /// Whether the name of its file stands before each line, where there are several.
     pub has_names: bool,
+    /// What is written of them.
+    pub writing: Writing,
     /// How they are read.
     pub reading: Reading,
     /// What they are in, if it is said.
     pub encoding: Option<Encoding>,
+}
+
+impl Pages<'_> {
+    /// Whether the names of files are said beside what is made of them.
+    pub fn are_named(&self) -> bool {
+        self.has_names && self.files.len() > 1
+    }
+
+    /// What ends each answer.
+    pub fn end(&self) -> &'static str {
+        if self.ends_with_zero { "\0" } else { "\n" }
+    }
 }
 
 /// What is made of the pages.
@@ -41,6 +69,8 @@ pub enum Action<'w> {
     Task(Task<'w>),
     /// What is selected.
     Select(Selected<'w>),
+    /// What is changed where a selector holds.
+    Patch(Patching<'w>),
     /// Safe pages, by the lists of these texts.
     Safe(ListTexts<'w>),
     /// The lists of these texts, and no page.
@@ -67,8 +97,16 @@ pub enum UsageError<'w> {
     LinesOfSteps(&'w str),
     /// One that says no step.
     NoStep(&'w str),
+    /// A text that can be written as no key of a tag.
+    NoKey(&'w str),
+    /// Standard input is to be changed in its file.
+    NoFile,
     /// A label of no encoding that is read.
     NoEncoding(&'w str),
+    /// A word that is no number of nodes.
+    NoNumber(&'w str),
+    /// One that is no number of a table.
+    NoTable(&'w str),
     /// A text that is no selector, and why.
     NoSelector(SelectorError, &'w str),
     OutOfMemory,
@@ -120,8 +158,19 @@ fn spelling(matches: &ArgMatches<'_>) -> Spelling {
     }
 }
 
-// What is written of each node.
-fn wanted(matches: &ArgMatches<'_>) -> Wanted {
+// What is written of pages.
+fn writing_of(matches: &ArgMatches<'_>) -> Writing {
+    if matches.get_flag("quiet") {
+        Writing::Nothing
+    } else if matches.get_flag("files-with-matches") {
+        Writing::Names
+    } else {
+        Writing::Answers
+    }
+}
+
+// What is written of each node where the nodes themselves are.
+fn wanted_answers(matches: &ArgMatches<'_>) -> Wanted {
     if matches.get_flag("count") {
         Wanted::Count
     } else if matches.get_flag("json") {
@@ -139,9 +188,31 @@ fn wanted(matches: &ArgMatches<'_>) -> Wanted {
     }
 }
 
-// The selector that is said.
-fn selector<'w>(alloc: Global, matches: &ArgMatches<'w>) -> Result<Selector, UsageError<'w>> {
-    let text = matches.get_str("SELECTOR").unwrap_or("");
+// What is looked for of each node. Where no node is written it is what takes least.
+fn wanted(matches: &ArgMatches<'_>) -> Wanted {
+    match (writing_of(matches), matches.get_str("attribute")) {
+        (Writing::Answers, _) => wanted_answers(matches),
+        (_, Some(_)) => Wanted::Value,
+        (_, None) => Wanted::Count,
+    }
+}
+
+// How many nodes at most are meant of each page.
+fn most<'w>(matches: &ArgMatches<'w>) -> Result<Option<u32>, UsageError<'w>> {
+    if matches.get_flag("first") {
+        return Ok(Some(1));
+    }
+    let Some(word) = matches.get_str("max-count") else {
+        return Ok(None);
+    };
+    match word.parse::<u32>() {
+        Ok(number) => Ok(Some(number)),
+        Err(_) => Err(UsageError::NoNumber(word)),
+    }
+}
+
+// The selector that a text says.
+fn selector<'w>(alloc: Global, text: &'w str) -> Result<Selector, UsageError<'w>> {
     match parse(alloc, text) {
         Ok(selector) => Ok(selector),
         Err(SelectorError::OutOfMemory) => Err(UsageError::OutOfMemory),
@@ -152,13 +223,58 @@ fn selector<'w>(alloc: Global, matches: &ArgMatches<'w>) -> Result<Selector, Usa
 // What is selected.
 fn selected<'w>(alloc: Global, matches: &ArgMatches<'w>) -> Result<Selected<'w>, UsageError<'w>> {
     Ok(Selected {
-        selector: selector(alloc, matches)?,
+        selector: selector(alloc, matches.get_str("SELECTOR").unwrap_or(""))?,
         key: matches.get_str("attribute").unwrap_or(""),
         wanted: wanted(matches),
-        is_first: matches.get_flag("first"),
+        most: most(matches)?,
         reading: reading(Verb::Select, matches),
         spelling: spelling(matches),
     })
+}
+
+// The texts inside what is selected.
+fn text_inside<'w>(
+    alloc: Global,
+    text: &'w str,
+    matches: &ArgMatches<'w>,
+) -> Result<Selected<'w>, UsageError<'w>> {
+    let wanted = if matches.get_flag("whitespace") {
+        Wanted::Lines
+    } else {
+        Wanted::Text
+    };
+    Ok(Selected {
+        selector: selector(alloc, text)?,
+        key: "",
+        wanted,
+        most: None,
+        reading: reading(Verb::Text, matches),
+        spelling: spelling(matches),
+    })
+}
+
+// What a command of texts makes of pages.
+fn text<'w>(alloc: Global, matches: &ArgMatches<'w>) -> Result<Action<'w>, UsageError<'w>> {
+    if let Some(text) = matches.get_str("in") {
+        return Ok(Action::Select(text_inside(alloc, text, matches)?));
+    }
+    let question = if matches.get_flag("whitespace") {
+        Question::Readable(spelling(matches))
+    } else {
+        Question::Text(spelling(matches))
+    };
+    Ok(Action::Task(Task::Ask(question)))
+}
+
+// Which table is meant, from 0.
+fn table_number<'w>(matches: &ArgMatches<'w>) -> Result<usize, UsageError<'w>> {
+    let Some(word) = matches.get_str("number") else {
+        return Ok(0);
+    };
+    match word.parse::<u32>() {
+        Ok(number) if number > 0 => Ok(number as usize - 1),
+        _ => Err(UsageError::NoTable(word)),
+    }
 }
 
 // The values of an argument that may have several.
@@ -223,8 +339,56 @@ fn lists<'w>(matches: &ArgMatches<'w>) -> ListTexts<'w> {
         link_keys: matches.get_str("link-keys"),
         link_prefixes: matches.get_str("links"),
         relative_links: matches.get_flag("relative-links"),
+        nofollow_links: matches.get_flag("nofollow-links"),
         id_prefix: matches.get_str("prefix"),
     }
+}
+
+// The key that is said, in lower case.
+fn key<'w>(alloc: Global, matches: &ArgMatches<'w>) -> Result<String, UsageError<'w>> {
+    let said = matches.get_str("KEY").unwrap_or("");
+    let key = said.to_ascii_lowercase(alloc)?;
+    if !is_key(key.as_bytes()) {
+        return Err(UsageError::NoKey(said));
+    }
+    Ok(key)
+}
+
+// Whether a page comes from standard input.
+fn has_standard_input(matches: &ArgMatches<'_>) -> bool {
+    match matches.get_strs("FILE") {
+        Some(files) => files.is_empty() || files.contains(&"-"),
+        None => true,
+    }
+}
+
+// Where pages with changes go.
+fn target<'w>(matches: &ArgMatches<'w>) -> Result<Target<'w>, UsageError<'w>> {
+    if matches.get_flag("dry-run") {
+        return Ok(Target::Nowhere);
+    }
+    let suffix = matches.get_str("backup");
+    if suffix.is_none() && !matches.get_flag("in-place") {
+        return Ok(Target::Output);
+    }
+    if has_standard_input(matches) {
+        return Err(UsageError::NoFile);
+    }
+    Ok(Target::Files(suffix))
+}
+
+// What is changed where a selector holds.
+fn patching<'w>(
+    alloc: Global,
+    edit: TagEdit<'w>,
+    matches: &ArgMatches<'w>,
+) -> Result<Patching<'w>, UsageError<'w>> {
+    Ok(Patching {
+        selector: selector(alloc, matches.get_str("SELECTOR").unwrap_or(""))?,
+        key: key(alloc, matches)?,
+        edit,
+        target: target(matches)?,
+    })
 }
 
 // What a command makes of pages.
@@ -236,10 +400,15 @@ fn action_of<'w>(
     let question = match verb {
         Verb::Select => return Ok(Action::Select(selected(alloc, matches)?)),
         Verb::Links => Question::Links(spelling(matches)),
-        Verb::Text if matches.get_flag("whitespace") => Question::Readable(spelling(matches)),
-        Verb::Text => Question::Text(spelling(matches)),
+        Verb::Text => return text(alloc, matches),
+        Verb::Table => Question::Table(table_number(matches)?, spelling(matches)),
         Verb::Print => Question::Print,
         Verb::Outline => Question::Outline(spelling(matches)),
+        Verb::Set => {
+            let edit = TagEdit::Set(matches.get_str("VALUE").unwrap_or(""));
+            return Ok(Action::Patch(patching(alloc, edit, matches)?));
+        }
+        Verb::Unset => return Ok(Action::Patch(patching(alloc, TagEdit::Unset, matches)?)),
         Verb::Edit => return Ok(Action::Task(edit(alloc, &values(alloc, matches, "STEP")?)?)),
         Verb::Sanitize if matches.get_flag("policy") => return Ok(Action::Policy(lists(matches))),
         Verb::Sanitize => return Ok(Action::Safe(lists(matches))),
@@ -271,6 +440,7 @@ fn pages_of<'w>(
         files: values(alloc, matches, "FILE")?,
         ends_with_zero: matches.get_flag("null"),
         has_names: !matches.get_flag("no-name"),
+        writing: writing_of(matches),
         reading: reading(verb, matches),
         encoding: encoding(verb, matches)?,
     })
@@ -278,7 +448,7 @@ fn pages_of<'w>(
 
 /// What words ask for; the first is the name of the program.
 pub fn read<'w>(alloc: Global, words: &'w [String]) -> Result<Args<'w>, UsageError<'w>> {
-    let matches = program(alloc)?.try_get_matches_from(words)?;
+    let matches = program(alloc, VERSION)?.try_get_matches_from(words)?;
     let Some((word, own)) = matches.subcommand() else {
         return Err(UsageError::NoCommand);
     };

@@ -2,15 +2,15 @@
 ghost use Rattle.std.specs.Prelude.{◌≡◌, ◌∷◌, [], IfOk, OnOk, false, map, string_bytes};
 ghost use Rattle.std.specs.Option.{option_copied};
 ghost use Rattle.serde_json.specs.View.{items_of, members_view, view};
-ghost use Rattle.serde_json.specs.Written.{items_have_float};
+ghost use Rattle.serde_json.specs.Written.{has_float, items_have_float};
 ghost use Rattle.tl_spec.specs.Lex.AttributeList.{printed_pairs};
 ghost use Rattle.tl_spec.specs.Tree.Element.{name_of};
 ghost use Rattle.tl_spec.specs.Print.Text.{inner_text};
 ghost use Rattle.tl_attributes.specs.AttributesView.{plain, value_view};
 ghost use Rattle.tl.specs.View.{document_of, node_view};
 ghost use Rattle.tl_page.specs.Outcome.{Gives, outcome_map, outcome_of};
-ghost use Rattle.tl_cli.specs.Findings.{finding_of};
-ghost use Rattle.tl_cli.specs.Json.{array_line, attributes_data, data_at, list_data, name_data, node_data, object_of, pairs_data, value_data, with_pair};
+ghost use Rattle.tl_cli.specs.Findings.{finding_of, listed};
+ghost use Rattle.tl_cli.specs.Json.{array_line, attributes_data, data_at, list_data, name_data, node_data, object_line, object_lines, object_of, pairs_data, value_data, with_file, with_pair};
 
 use crate::output::Output;
 use serde_json::{Map, Value, json, put};
@@ -203,4 +203,96 @@ pub fn array(
 {
     let list = objects(alloc, document.parser(), numbers, spelling)?;
     Ok(array_of(alloc, list, end)?)
+}
+
+// An object with the name of its file.
+fn with_file(alloc: Global, object: Value, file: &str) -> Result<Value, AllocError>
+    ensures { IfOk result (λ v. view v ≡ with_file file.now (view object)) }
+{
+    match object {
+        Value::Object(mut members) => {
+            let name = Value::try_from_str(alloc, file)?;
+            put(&mut members, alloc, "file", name)?;
+            Ok(Value::Object(members))
+        }
+        other => Ok(other),
+    }
+}
+
+// The text of an object with the name of its file, and what ends it.
+fn line_of(alloc: Global, object: Value, file: &str, end: &str) -> Result<String, AllocError>
+    ensures { IfOk result (λ line. has_float (with_file file.now (view object)) ≡ false
+        → string_bytes line ≡ object_line file.now end.now (view object)) }
+{
+    let named = with_file(alloc, object, file)?;
+    let mut line = named.to_string(alloc)?;
+    line.push_str(end)?;
+    Ok(line)
+}
+
+// What is said of the node of a number, which is refused past the table.
+fn object_in(
+    alloc: Global,
+    document: &VDom<'_>,
+    number: u32,
+    spelling: Spelling,
+) -> Result<Value, Failure>
+    ensures { Gives view (data_at spelling (document_of document.now).nodes number) result }
+{
+    object_at(alloc, document.parser(), NodeHandle::new(number), spelling)
+}
+
+// What is said of the node of a number of a file, on a line.
+fn line_at(
+    alloc: Global,
+    document: &VDom<'_>,
+    number: u32,
+    spelling: Spelling,
+    file: &str,
+    end: &str,
+) -> Result<String, Failure>
+    ensures { let said = data_at spelling (document_of document.now).nodes number in
+        Gives string_bytes (outcome_map (object_line file.now end.now) said) result }
+{
+    let object = object_in(alloc, document, number, spelling)?;
+    Ok(line_of(alloc, object, file, end)?)
+}
+
+// What is said of the nodes of these numbers of a file, each on a line.
+#[tactic(auto, using(tl_page::proofs::Outcomes::followed))]
+fn lines_of(
+    alloc: Global,
+    document: &VDom<'_>,
+    numbers: &[u32],
+    spelling: Spelling,
+    file: &str,
+    end: &str,
+) -> Result<String, Failure>
+    ensures { let nodes = (document_of document.now).nodes in
+        Gives string_bytes (object_lines spelling file.now end.now nodes numbers.now) result }
+{
+    let mut lines = String::new(alloc);
+    for number in numbers {
+        let line = line_at(alloc, document, *number, spelling, file, end)?;
+        lines.push_str(line.as_str())?;
+    }
+    Ok(lines)
+}
+
+/// An object of JSON on a line for each node of these numbers, in order: the name of its file, and
+/// its number, its name, its attributes and its text.
+pub fn object_lines(
+    alloc: Global,
+    document: &VDom<'_>,
+    numbers: &[u32],
+    spelling: Spelling,
+    file: &str,
+    end: &str,
+) -> Result<Output, Failure>
+    ensures { let nodes = (document_of document.now).nodes in
+        let lines = object_lines spelling file.now end.now nodes numbers.now in
+        Gives finding_of (outcome_map listed lines) result }
+{
+    let lines = lines_of(alloc, document, numbers, spelling, file, end)?;
+    Ok(Output::from_lines(lines))
 }

@@ -3,7 +3,7 @@ ghost use Rattle.std.specs.Prelude.{◌≡◌, ◌++◌, IfOk, OnOk, flat_map, o
 ghost use Rattle.tl.specs.View.{document_of};
 ghost use Rattle.tl_page.specs.Outcome.{Gives, outcome_map};
 ghost use Rattle.tl_extract.specs.Links.{links_of};
-ghost use Rattle.tl_cli.specs.Findings.{finding_of, listed, number_line, whole};
+ghost use Rattle.tl_cli.specs.Findings.{finding_of, listed, number_line};
 ghost use Rattle.tl_cli.specs.Lines.{link_line};
 ghost use Rattle.tl_cli.specs.Selection.{ended, field_line, field_lines};
 
@@ -81,12 +81,12 @@ pub fn link_lines(
 ) -> Result<Output, AllocError>
     ensures { let links = links_of (document_of document.now).nodes in
         IfOk result (λ lines.
-        finding_of lines ≡ whole (flat_map (link_line spelling end.now) links)) }
+        finding_of lines ≡ listed (flat_map (link_line spelling end.now) links)) }
 {
     let mut lines = String::new(alloc);
     for link in links(alloc, document)?.iter() {
         lines.push_str(spelling.value(alloc, link)?.as_str())?;
         lines.push_str(end)?;
     }
-    Ok(Output::whole(lines))
+    Ok(Output::from_lines(lines))
 }

@@ -2,7 +2,7 @@
 ghost use Rattle.std.specs.Prelude.{◌≡◌, ◌++◌, ◌∷◌, ◌<◌, [], length, IfOk, IfSome, OnOk, string_bytes};
 ghost use Rattle.std.specs.List.{slice_split};
 ghost use Rattle.tl_safe.specs.Names.{listed_words, words_of};
-ghost use Rattle.tl_cli.specs.ListOptions.{is_comma, lists_in, lists_or_default, option_line, policy_text, prefix_or_default, list_options, relative_line, text_of, words_in, remaining_words, words_or_default};
+ghost use Rattle.tl_cli.specs.ListOptions.{has_rel, is_comma, lists_in, lists_or_default, nofollow_line, option_line, policy_text, prefix_or_default, list_options, relative_line, text_of, with_rel, words_in, remaining_words, words_or_default};
 
 use std::alloc::{AllocError, Global};
 use tl_safe::Lists;
@@ -17,6 +17,7 @@ pub struct ListTexts<'c> {
     pub link_keys: Option<&'c str>,
     pub link_prefixes: Option<&'c str>,
     pub relative_links: bool,
+    pub nofollow_links: bool,
     pub id_prefix: Option<&'c str>,
 }
 
@@ -73,6 +74,35 @@ fn list<'c>(
     }
 }
 
+// Whether `rel` is one of these keys.
+fn has_rel(keys: &[&str]) -> bool
+    ensures { result ≡ has_rel (words_of keys.now) }
+{
+    for key in keys {
+        if b"rel".as_slice() == key.as_bytes() {
+            return true;
+        }
+    }
+    false
+}
+
+// The keys that are said, or else the policy's own; with `rel`, where links are marked there.
+fn keys<'c>(
+    alloc: Global,
+    text: Option<&'c str>,
+    own: &[&'c str],
+    nofollow_links: bool,
+) -> Result<Vec<&'c str>, AllocError>
+    ensures { IfOk result (λ found. words_of found.items ≡ with_rel nofollow_links
+        (words_or_default (text_of text.entry) (words_of own.now))) }
+{
+    let mut found = list(alloc, text, own)?;
+    if nofollow_links && !has_rel(found.as_slice()) {
+        found.push("rel")?;
+    }
+    Ok(found)
+}
+
 // The prefix that is said, or else the policy's own.
 fn id_prefix<'c>(text: Option<&'c str>, own: &'c str) -> &'c str
     ensures { result.now ≡ prefix_or_default (text_of text.entry) own.entry.now }
@@ -91,6 +121,7 @@ pub struct WordLists<'c> {
     link_keys: Vec<&'c str>,
     link_prefixes: Vec<&'c str>,
     relative_links: bool,
+    nofollow_links: bool,
     id_prefix: &'c str,
 }
 
@@ -101,12 +132,14 @@ impl<'c> WordLists<'c> {
             ≡ lists_or_default (list_options texts.now) (listed_words texts.now.own)) }
     {
         let own = texts.own;
+        let nofollow_links = texts.nofollow_links | own.nofollow_links;
         Ok(WordLists {
             tags: list(alloc, texts.tags, own.tags)?,
-            keys: list(alloc, texts.keys, own.keys)?,
+            keys: keys(alloc, texts.keys, own.keys, nofollow_links)?,
             link_keys: list(alloc, texts.link_keys, own.link_keys)?,
             link_prefixes: list(alloc, texts.link_prefixes, own.link_prefixes)?,
             relative_links: texts.relative_links | own.relative_links,
+            nofollow_links,
             id_prefix: id_prefix(texts.id_prefix, own.id_prefix),
         })
     }
@@ -121,6 +154,7 @@ impl<'c> WordLists<'c> {
             link_keys: self.link_keys.as_slice(),
             link_prefixes: self.link_prefixes.as_slice(),
             relative_links: self.relative_links,
+            nofollow_links: self.nofollow_links,
             id_prefix: self.id_prefix,
         }
     }
@@ -154,6 +188,17 @@ fn write_flag(relative_links: bool, out: &mut String) -> Result<(), AllocError>
     Ok(())
 }
 
+// Writes the option for marked links on a line, where links are marked.
+fn write_mark_flag(nofollow_links: bool, out: &mut String) -> Result<(), AllocError>
+    ensures { OnOk result (string_bytes out.new
+        ≡ string_bytes out.old ++ nofollow_line nofollow_links) }
+{
+    if nofollow_links {
+        out.push_str("--nofollow-links\n")?;
+    }
+    Ok(())
+}
+
 /// The options that say these lists, one on each line.
 pub fn lines_of(alloc: Global, lists: &Lists<'_>) -> Result<String, AllocError>
     ensures { IfOk result (λ text. string_bytes text ≡ policy_text (listed_words lists.now)) }
@@ -164,6 +209,7 @@ pub fn lines_of(alloc: Global, lists: &Lists<'_>) -> Result<String, AllocError>
     write_line("--link-keys", lists.link_keys, &mut out)?;
     write_line("--links", lists.link_prefixes, &mut out)?;
     write_flag(lists.relative_links, &mut out)?;
+    write_mark_flag(lists.nofollow_links, &mut out)?;
     write_line("--prefix", &[lists.id_prefix], &mut out)?;
     Ok(out)
 }

@@ -7,15 +7,18 @@ ghost use Rattle.tl_cli.specs.declared.args.UsageError.TheVariants.{OutOfMemory}
 ghost use Rattle.tl_cli.specs.UsageErrors.{IsWrongWord};
 
 mod args;
-mod commands;
+mod csv_lines;
 mod filename;
+mod job;
 mod json;
 mod lines;
 mod lists;
 mod output;
 mod pages;
+mod patching;
 mod question;
 mod reading;
+mod refusal;
 mod reports;
 mod selected;
 mod selection;
@@ -23,8 +26,11 @@ mod task;
 
 use args::{Action, Pages, UsageError, read};
 use clap::Error;
+use job::Job;
 use lists::{ListTexts, WordLists, lines_of};
-use pages::{STANDARD_OUTPUT, process_pages, report, write};
+use pages::{process_pages, report, unwritten_status, write};
+use patching::patch_pages;
+use reports::exit_status;
 use selected::Selected;
 use std::alloc::AllocError;
 use std::env;
@@ -37,7 +43,7 @@ use tl_safe::{Lists, Policy};
 fn main(rt: HostRuntime) -> ExitCode {
     match run(&rt) {
         Ok(status) => ExitCode::from(status),
-        Err(failure) => ExitCode::from(failure as u8),
+        Err(failure) => ExitCode::from(exit_status(failure)),
     }
 }
 
@@ -75,8 +81,9 @@ fn run(rt: &HostRuntime) -> Result<u8, Failure> {
     };
     match read(rt.alloc(), &words) {
         Ok(args) => match &args.action {
-            Action::Task(task) => process_pages(rt, task, &args.pages),
+            Action::Task(task) => process(rt, task, &args.pages),
             Action::Select(selected) => select(rt, selected, &args.pages),
+            Action::Patch(patching) => patch_pages(rt, patching, &args.pages),
             Action::Safe(texts) => sanitize(rt, texts, &args.pages),
             Action::Policy(texts) => write_policy(rt, texts),
         },
@@ -98,7 +105,7 @@ fn print_clap_error(rt: &HostRuntime, error: &Error) -> Result<u8, Failure> {
         Ok(()) if error.use_stderr() => Err(Failure::NotUnderstood),
         Ok(()) => Ok(0),
         Err(_) if error.use_stderr() => Err(Failure::Fault),
-        Err(_) => Err(report_failure(rt, STANDARD_OUTPUT, Failure::Fault)),
+        Err(failed) => Ok(unwritten_status(rt, &failed)),
     }
 }
 
@@ -119,6 +126,18 @@ fn report_usage_error(rt: &HostRuntime, usage_error: &UsageError<'_>) -> Result<
         }
         UsageError::NoStep(word) => {
             let _ = eprintln!(rt; "tl: no step: {word}");
+        }
+        UsageError::NoNumber(word) => {
+            let _ = eprintln!(rt; "tl: no number of nodes: {word}");
+        }
+        UsageError::NoKey(key) => {
+            let _ = eprintln!(rt; "tl: no key: {key}");
+        }
+        UsageError::NoFile => {
+            let _ = eprintln!(rt; "tl: standard input has no file to be written");
+        }
+        UsageError::NoTable(word) => {
+            let _ = eprintln!(rt; "tl: no number of a table: {word}");
         }
         UsageError::NoEncoding(label) => {
             let _ = eprintln!(rt; "tl: no encoding that is read: {label}");
@@ -141,10 +160,17 @@ fn key_of(rt: &HostRuntime, selected: &Selected<'_>) -> Result<String, Failure>
     }
 }
 
+// Does a task on pages.
+fn process(rt: &HostRuntime, task: &Task<'_>, pages: &Pages<'_>) -> Result<u8, Failure> {
+    let job = Job::Task(task);
+    process_pages(rt, &job, pages)
+}
+
 // Writes what is selected of pages.
 fn select(rt: &HostRuntime, selected: &Selected<'_>, pages: &Pages<'_>) -> Result<u8, Failure> {
     let key = key_of(rt, selected)?;
-    process_pages(rt, &Task::Ask(selected.question(key.as_str())), pages)
+    let job = Job::Select(selected, key.as_str());
+    process_pages(rt, &job, pages)
 }
 
 // The lists that texts say.
@@ -174,7 +200,7 @@ fn policy_of<'w>(rt: &HostRuntime, lists: Lists<'w>) -> Result<Policy<'w>, Failu
 fn sanitize(rt: &HostRuntime, texts: &ListTexts<'_>, pages: &Pages<'_>) -> Result<u8, Failure> {
     let lists = lists_of(rt, texts)?;
     let policy = policy_of(rt, lists.lists())?;
-    process_pages(rt, &Task::Sanitize(policy), pages)
+    process(rt, &Task::Sanitize(policy), pages)
 }
 
 // Writes the lists of these texts as options that say them.
@@ -187,6 +213,6 @@ fn write_policy(rt: &HostRuntime, texts: &ListTexts<'_>) -> Result<u8, Failure> 
     };
     match write(rt, text.as_bytes()) {
         Ok(()) => Ok(0),
-        Err(failure) => Err(report_failure(rt, STANDARD_OUTPUT, failure)),
+        Err(error) => Ok(unwritten_status(rt, &error)),
     }
 }

@@ -5,10 +5,12 @@ ghost use Rattle.tl_safe.specs.Names.{words_of};
 ghost use Rattle.tl_cli.specs.Reports.{AreReports};
 ghost use Rattle.tl_cli.specs.declared.reports.Answer.TheVariants.{Failed};
 
-use crate::args::Pages;
+use crate::args::{Pages, Writing};
 use crate::filename::with_prefix;
-use crate::reports::{Answer, Report, status_of};
-use crate::task::{Task, execute};
+use crate::job::Job;
+use crate::output::Output;
+use crate::refusal::report_refusal;
+use crate::reports::{Answer, Report, Tally, status_of};
 use std::alloc::{AllocError, Global};
 use std::fs::File;
 use std::io::{ErrorKind, Read, Write};
@@ -16,13 +18,11 @@ use std::{fmt, io};
 use tl_encoding::{DecodeError, Encoding, EncodingError, decode, encoding_of};
 use tl_page::Failure;
 
-static STANDARD_INPUT: [&str; 1] = ["-"];
+/// The files where none are said.
+pub static STANDARD_INPUT: [&str; 1] = ["-"];
 
 // One byte more than a page may have.
 const TOO_LONG: u64 = 4294967296;
-
-/// What is said to have failed where nothing can be written.
-pub const STANDARD_OUTPUT: &str = "standard output";
 
 // The failure of an error of a read or a write.
 fn failure_of(error: &io::Error) -> Failure {
@@ -38,6 +38,17 @@ pub fn report(rt: &HostRuntime, name: &str, failure: Failure) {
     let _ = eprintln!(rt; "tl: {name}: {failure}");
 }
 
+/// Says on standard error why a read or a write of what is named failed, in the system's words.
+pub fn report_error(rt: &HostRuntime, name: &str, error: &io::Error) -> Failure {
+    let failure = failure_of(error);
+    if failure == Failure::OutOfMemory {
+        report(rt, name, failure);
+    } else {
+        let _ = eprintln!(rt; "tl: {name}: {error}");
+    }
+    failure
+}
+
 // What a reader has left. Of a page that is too long no more is read than shows it.
 fn page_in<R: Read + Drop>(alloc: Global, reader: R) -> io::Result<Vec<u8>>
     ensures { IfOk result (λ page. IfSome (R.remaining reader)
@@ -48,36 +59,67 @@ fn page_in<R: Read + Drop>(alloc: Global, reader: R) -> io::Result<Vec<u8>>
     Ok(page)
 }
 
-// The page in a file, or on standard input.
-fn page_of(rt: &HostRuntime, file: &str) -> Result<Vec<u8>, Failure> {
-    let page = if file == "-" {
+/// The page in a file, or on standard input.
+pub fn page_of(rt: &HostRuntime, file: &str) -> io::Result<Vec<u8>> {
+    if file == "-" {
         page_in(rt.alloc(), rt.stdin())
     } else {
         File::open(rt, file).and_then(|opened| page_in(rt.alloc(), opened))
-    };
-    page.map_err(|error| failure_of(&error))
+    }
 }
 
 /// Writes to standard output.
-pub fn write(rt: &HostRuntime, bytes: &[u8]) -> Result<(), Failure> {
+pub fn write(rt: &HostRuntime, bytes: &[u8]) -> io::Result<()> {
     let mut out = rt.stdout();
-    let written = out.write_all(bytes).and_then(|()| out.flush());
-    written.map_err(|error| failure_of(&error))
+    out.write_all(bytes).and_then(|()| out.flush())
 }
 
-// What is written of a page: with its file's name before each line where there are several.
-fn page_output(
+/// What comes of a page that can't be written. Where nobody reads what is written, nothing is said.
+pub fn unwritten(rt: &HostRuntime, error: &io::Error) -> Answer {
+    if error.kind() == ErrorKind::BrokenPipe {
+        Answer::Unread
+    } else {
+        Answer::Unwritten(report_error(rt, "standard output", error))
+    }
+}
+
+/// The status where what was asked for in place of pages can't be written, once that is said.
+pub fn unwritten_status(rt: &HostRuntime, error: &io::Error) -> u8 {
+    Tally::new().with_answer(unwritten(rt, error)).status(false)
+}
+
+// A text with the name of its file before each line, where there are several.
+fn named_text(
     rt: &HostRuntime,
+    job: &Job<'_, '_>,
     pages: &Pages<'_>,
     file: &str,
     text: String,
 ) -> Result<Vec<u8>, Failure> {
-    if pages.files.len() < 2 || !pages.has_names {
+    if !pages.are_named() || job.says_names() {
         return Ok(text.into_bytes());
     }
     let name = format!(in rt.alloc(); "{file}:")?;
     let end = if pages.ends_with_zero { 0 } else { b'\n' };
     Ok(with_prefix(rt.alloc(), name.as_str(), end, text.as_bytes())?)
+}
+
+// What is written of a page.
+fn page_output(
+    rt: &HostRuntime,
+    job: &Job<'_, '_>,
+    pages: &Pages<'_>,
+    file: &str,
+    output: Output,
+) -> Result<Vec<u8>, Failure> {
+    match pages.writing {
+        Writing::Answers => named_text(rt, job, pages, file, output.text),
+        Writing::Names if output.is_found => {
+            let end = pages.end();
+            Ok(format!(in rt.alloc(); "{file}{end}")?.into_bytes())
+        }
+        Writing::Names | Writing::Nothing => Ok(Vec::new(rt.alloc())),
+    }
 }
 
 // What a page is in: what was said, or what it says.
@@ -88,22 +130,58 @@ fn encoding_in<'p>(pages: &Pages<'_>, page: &'p [u8]) -> Result<Encoding, Encodi
     }
 }
 
-// Says on standard error why a page is no text.
-fn not_understood<E: fmt::Display>(rt: &HostRuntime, file: &str, error: &E) -> Answer
+/// Says on standard error why there is nothing of a page.
+pub fn not_understood<E: fmt::Display>(rt: &HostRuntime, file: &str, error: &E) -> Answer
     ensures { result ≡ Failed NotUnderstood }
 {
     let _ = eprintln!(rt; "tl: {file}: {error}");
     Answer::Failed(Failure::NotUnderstood)
 }
 
-// Does a task on the page in a file.
+// Says on standard error why the text of a page is refused.
+fn refused(rt: &HostRuntime, job: &Job<'_, '_>, file: &str, text: &[u8]) {
+    match job.steps() {
+        Some(steps) => report_refusal(rt, file, steps, text),
+        None => report(rt, file, Failure::Refused),
+    }
+}
+
+// What comes of the text of a page.
+fn process_text(
+    rt: &HostRuntime,
+    job: &Job<'_, '_>,
+    pages: &Pages<'_>,
+    file: &str,
+    text: &[u8],
+) -> Result<Answer, Failure> {
+    let output = match job.execute(rt.alloc(), pages, file, text) {
+        Ok(output) => output,
+        Err(Failure::Refused) => {
+            refused(rt, job, file, text);
+            return Ok(Answer::Failed(Failure::Refused));
+        }
+        Err(failure) => return Err(failure),
+    };
+    let is_found = output.is_found;
+    let written = page_output(rt, job, pages, file, output)?;
+    match write(rt, &written) {
+        Ok(()) if is_found => Ok(Answer::Found),
+        Ok(()) => Ok(Answer::Nothing),
+        Err(error) => Ok(unwritten(rt, &error)),
+    }
+}
+
+// What comes of the page in a file.
 fn process_page(
     rt: &HostRuntime,
-    task: &Task<'_>,
+    job: &Job<'_, '_>,
     pages: &Pages<'_>,
     file: &str,
 ) -> Result<Answer, Failure> {
-    let page = page_of(rt, file)?;
+    let page = match page_of(rt, file) {
+        Ok(page) => page,
+        Err(error) => return Ok(Answer::Failed(report_error(rt, file, &error))),
+    };
     let encoding = match encoding_in(pages, &page) {
         Ok(encoding) => encoding,
         Err(error) => return Ok(not_understood(rt, file, &error)),
@@ -113,26 +191,13 @@ fn process_page(
         Err(DecodeError::OutOfMemory) => return Err(Failure::OutOfMemory),
         Err(error) => return Ok(not_understood(rt, file, &error)),
     };
-    let end = if pages.ends_with_zero { "\0" } else { "\n" };
-    let output = execute(rt.alloc(), task, pages.reading, end, text.as_bytes())?;
-    let is_found = output.is_found;
-    let text = page_output(rt, pages, file, output.text)?;
-    match write(rt, &text) {
-        Ok(()) if is_found => Ok(Answer::Found),
-        Ok(()) => Ok(Answer::Nothing),
-        Err(failure) => Ok(Answer::Unwritten(failure)),
-    }
+    process_text(rt, job, pages, file, text.as_bytes())
 }
 
 // What comes of the page in a file; a failure is said on standard error.
-fn answer(rt: &HostRuntime, task: &Task<'_>, pages: &Pages<'_>, file: &str) -> Answer {
-    match process_page(rt, task, pages, file) {
-        Ok(answer) => {
-            if let Answer::Unwritten(failure) = answer {
-                report(rt, STANDARD_OUTPUT, failure);
-            }
-            answer
-        }
+fn answer(rt: &HostRuntime, job: &Job<'_, '_>, pages: &Pages<'_>, file: &str) -> Answer {
+    match process_page(rt, job, pages, file) {
+        Ok(answer) => answer,
         Err(failure) => {
             report(rt, file, failure);
             Answer::Failed(failure)
@@ -140,30 +205,32 @@ fn answer(rt: &HostRuntime, task: &Task<'_>, pages: &Pages<'_>, file: &str) -> A
     }
 }
 
-// What comes of the pages in files, one after the other, up to the first that can't be written.
+// What comes of the pages in files, one after the other, up to the first that can't be written;
+// where it is only asked whether something is found, up to the first where it is.
 fn process_files<'f>(
     rt: &HostRuntime,
-    task: &Task<'_>,
+    job: &Job<'_, '_>,
     pages: &Pages<'_>,
+    is_quiet: bool,
     files: &[&'f str],
 ) -> Result<Vec<Report<'f>>, AllocError>
-    ensures { IfOk result (λ reports. AreReports (words_of files.now) reports.items) }
+    ensures { IfOk result (λ reports. AreReports is_quiet (words_of files.now) reports.items) }
 {
     let mut reports = Vec::new(rt.alloc());
     for file in files {
-        let answer = answer(rt, task, pages, file);
+        let answer = answer(rt, job, pages, file);
         reports.push(Report { file, answer })?;
-        if answer.is_unwritten() {
+        if answer.is_last(is_quiet) {
             return Ok(reports);
         }
     }
     Ok(reports)
 }
 
-/// Does a task on each page in order, and answers the status of all. A page that can't be read or
-/// fails is said on standard error, and those after it are done; where nothing can be written, that
-/// is said once, and none is.
-pub fn process_pages(rt: &HostRuntime, task: &Task<'_>, pages: &Pages<'_>) -> Result<u8, Failure>
+/// Does what is asked with each page in order, and answers the status of all. A page that can't be
+/// read or fails is said on standard error, and those after it are done; where nothing can be
+/// written, that is said once, and none is.
+pub fn process_pages(rt: &HostRuntime, job: &Job<'_, '_>, pages: &Pages<'_>) -> Result<u8, Failure>
     ensures { IfErr result (λ failure. failure ≡ OutOfMemory) }
 {
     let files = if pages.files.is_empty() {
@@ -171,5 +238,7 @@ pub fn process_pages(rt: &HostRuntime, task: &Task<'_>, pages: &Pages<'_>) -> Re
     } else {
         pages.files.as_slice()
     };
-    Ok(status_of(&process_files(rt, task, pages, files)?))
+    let is_quiet = pages.writing == Writing::Nothing;
+    let reports = process_files(rt, job, pages, is_quiet, files)?;
+    Ok(status_of(is_quiet, &reports))
 }

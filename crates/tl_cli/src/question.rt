@@ -8,28 +8,29 @@ ghost use Rattle.tl_page.specs.Outcome.{Gives, outcome_map, outcome_of};
 ghost use Rattle.tl_cli.specs.Findings.{finding_of, whole_in};
 ghost use Rattle.tl_cli.specs.Task.{AreSelected, answer_of};
 
+use crate::csv_lines::table_lines;
 use crate::lines::link_lines;
 use crate::output::Output;
-use crate::reading::Reading;
-use crate::selection::{Listing, selection};
+use crate::selection::{Query, selection};
 use std::alloc::Global;
 use tl::VDom;
 use tl::errors::TreeError;
-use tl_css::Selector;
 use tl_extract::{Spelling, outline, readable};
 use tl_page::Failure;
 
 /// What is asked of a document.
 #[derive(Drop)]
 pub enum Question<'w> {
-    /// What is written of the nodes where a selector holds, which are seen as they are read.
-    Select(&'w Selector, Reading, Listing<'w>),
+    /// What is written of the nodes where a selector holds.
+    Select(Query<'w>),
     /// Its links.
     Links(Spelling),
     /// Its texts.
     Text(Spelling),
     /// Its text, line by line.
     Readable(Spelling),
+    /// The table of a number, from 0, as CSV.
+    Table(usize, Spelling),
     /// Its print.
     Print,
     /// What its nodes are, by number.
@@ -61,12 +62,11 @@ pub fn answer(
         → Gives finding_of (answer_of question.now ns end.now d) result }
 {
     match question {
-        Question::Select(selector, reading, form) => {
-            selection(alloc, document, selector, *reading, form, end)
-        }
+        Question::Select(query) => selection(alloc, document, query, end),
         Question::Links(spelling) => Ok(link_lines(alloc, document, *spelling, end)?),
         Question::Text(spelling) => whole_text(alloc, document.inner_text(alloc), *spelling),
         Question::Readable(spelling) => whole_text(alloc, readable(alloc, document), *spelling),
+        Question::Table(number, spelling) => table_lines(alloc, document, *number, *spelling),
         Question::Print => whole_text(alloc, document.outer_html(alloc), Spelling::Raw),
         Question::Outline(spelling) => { Ok(Output::whole(outline(alloc, document, *spelling)?)) }
     }

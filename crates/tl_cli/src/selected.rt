@@ -1,7 +1,7 @@
 //! What the words of `select` say.
 use crate::question::Question;
 use crate::reading::Reading;
-use crate::selection::Listing;
+use crate::selection::{Listing, Query};
 use std::alloc::{AllocError, Global};
 use tl_css::Selector;
 use tl_extract::{Field, Spelling};
@@ -22,6 +22,8 @@ pub enum Wanted {
     InnerHtml,
     /// The texts at or below each.
     Text,
+    /// The text inside each, line by line.
+    Lines,
     /// The value of each at a key.
     Value,
 }
@@ -33,8 +35,8 @@ pub struct Selected<'w> {
     /// The key of the values that are wanted, as it was typed; empty where none are.
     pub key: &'w str,
     pub wanted: Wanted,
-    /// Whether the first node alone is meant.
-    pub is_first: bool,
+    /// How many nodes at most are meant, the first of each page; all where it isn't said.
+    pub most: Option<u32>,
     /// How pages are read; names are coded in their form.
     pub reading: Reading,
     pub spelling: Spelling,
@@ -59,24 +61,38 @@ impl Selected<'_> {
             (Wanted::InnerHtml, _) => Field::InnerHtml,
             (Wanted::Text, Spelling::Raw) => Field::InnerText,
             (Wanted::Text, Spelling::Decoded) => Field::Characters,
+            (Wanted::Lines, spelling) => Field::Lines(spelling),
             (Wanted::Value, Spelling::Raw) => Field::Attribute(key),
             (Wanted::Value, Spelling::Decoded) => Field::Value(key),
             _ => Field::OuterHtml,
         }
     }
 
-    // What is written of the nodes, where the key stands so.
-    fn listing<'k>(&self, key: &'k str) -> Listing<'k> {
-        match self.wanted {
-            Wanted::Count => Listing::Count,
-            Wanted::Objects => Listing::Objects(self.spelling),
-            _ if self.is_first => Listing::First(self.field(key)),
+    // What is written of the nodes of a file, where the key stands so.
+    fn listing<'k>(&self, key: &'k str, file: Option<&'k str>) -> Listing<'k> {
+        match (self.wanted, file) {
+            (Wanted::Count, _) => Listing::Count,
+            (Wanted::Objects, None) => Listing::Objects(self.spelling),
+            (Wanted::Objects, Some(file)) => Listing::Lines(self.spelling, file),
             _ => Listing::Fields(self.field(key)),
         }
     }
 
-    /// What is asked, where the key stands so.
-    pub fn question<'k>(&'k self, key: &'k str) -> Question<'k> {
-        Question::Select(&self.selector, self.reading, self.listing(key))
+    /// What ends each answer, where lines end so: a text that is lines has their ends.
+    pub fn end(&self, end: &'static str) -> &'static str {
+        match self.wanted {
+            Wanted::Lines => "",
+            _ => end,
+        }
+    }
+
+    /// What is asked, where the key stands so. An object of a file that is named says its name.
+    pub fn question<'k>(&'k self, key: &'k str, file: Option<&'k str>) -> Question<'k> {
+        Question::Select(Query {
+            selector: &self.selector,
+            reading: self.reading,
+            most: self.most,
+            listing: self.listing(key, file),
+        })
     }
 }

@@ -1,14 +1,14 @@
 //! What is written of the nodes where a selector holds.
-ghost use Rattle.std.specs.Prelude.{◌≡◌, ℕ, Err, List, IfErr, IfOk, take};
+ghost use Rattle.std.specs.Prelude.{◌≡◌, ℕ, Err, List, IfErr, IfOk};
 ghost use Rattle.tl.specs.View.{document_of};
 ghost use Rattle.tl_css.specs.Meaning.{AreFound, IsForest};
 ghost use Rattle.tl_page.specs.Outcome.{Gives};
 ghost use Rattle.tl_page.specs.declared.failure.Failure.TheVariants.{OutOfMemory};
 ghost use Rattle.tl_cli.specs.Findings.{finding_of};
 ghost use Rattle.tl_css_select.specs.declared.forest.SelectError.TheVariants.{NotForest, TooLong};
-ghost use Rattle.tl_cli.specs.Selection.{listing_of, nodes_read};
+ghost use Rattle.tl_cli.specs.Selection.{front, listing_of, nodes_read};
 
-use crate::json::array;
+use crate::json::{array, object_lines};
 use crate::lines::{count_line, field_lines};
 use crate::output::Output;
 use crate::reading::Reading;
@@ -25,12 +25,23 @@ use tl_page::Failure;
 pub enum Listing<'w> {
     /// A field of each.
     Fields(Field<'w>),
-    /// The field of the first.
-    First(Field<'w>),
     /// How many there are.
     Count,
-    /// An object of JSON for each.
+    /// An array of JSON, with an object for each.
     Objects(Spelling),
+    /// An object of JSON for each, with the name of the file.
+    Lines(Spelling, &'w str),
+}
+
+/// Which nodes are looked for, and what is written of them.
+#[derive(Clone, Copy)]
+pub struct Query<'w> {
+    pub selector: &'w Selector,
+    /// How pages are read, and so how selectors see their nodes.
+    pub reading: Reading,
+    /// How many nodes at most are meant, the first; all where it isn't said.
+    pub most: Option<u32>,
+    pub listing: Listing<'w>,
 }
 
 // The numbers of the nodes where a selector holds.
@@ -71,14 +82,14 @@ fn numbers(
     }
 }
 
-// The first number, if there is one.
-fn first(numbers: &[u32]) -> &[u32]
-    ensures { result.now ≡ take 1 numbers.now }
+// The first of these numbers, at most so many.
+#[tactic(auto, using(std::proofs::lemmas::List::take_all))]
+fn front(numbers: &[u32], most: Option<u32>) -> &[u32]
+    ensures { result.now ≡ front most numbers.now }
 {
-    if numbers.is_empty() {
-        numbers
-    } else {
-        &numbers[..1]
+    match most {
+        Some(most) if (most as usize) < numbers.len() => &numbers[..most as usize],
+        _ => numbers,
     }
 }
 
@@ -95,9 +106,11 @@ fn list(
 {
     match listing {
         Listing::Fields(field) => field_lines(alloc, document, numbers, field, end),
-        Listing::First(field) => field_lines(alloc, document, first(numbers), field, end),
         Listing::Count => Ok(count_line(alloc, numbers.len(), end)?),
         Listing::Objects(spelling) => array(alloc, document, numbers, *spelling, end),
+        Listing::Lines(spelling, file) => {
+            object_lines(alloc, document, numbers, *spelling, file, end)
+        }
     }
 }
 
@@ -106,15 +119,15 @@ fn list(
 pub fn selection(
     alloc: Global,
     document: &VDom<'_>,
-    selector: &Selector,
-    reading: Reading,
-    form: &Listing<'_>,
+    query: &Query<'_>,
     end: &str,
 ) -> Result<Output, Failure>
     ensures { (ns : List ℕ) → let nodes = (document_of document.now).nodes in
-        IsForest nodes → AreFound (nodes_read reading nodes) selector.now ns
-        → Gives finding_of (listing_of form.now end.now nodes ns) result }
+        let query = query.now in
+        IsForest nodes → AreFound (nodes_read query.reading nodes) query.selector.now ns
+        → Gives finding_of (listing_of query.listing end.now nodes (front query.most ns)) result }
 {
-    let numbers = numbers(alloc, document, selector, reading)?;
-    list(alloc, document, &numbers, form, end)
+    let numbers = numbers(alloc, document, query.selector, query.reading)?;
+    let meant = front(&numbers, query.most);
+    list(alloc, document, meant, &query.listing, end)
 }

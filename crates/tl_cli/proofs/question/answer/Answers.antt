@@ -31,3 +31,9 @@ returns-in-Select c =
     let d : Document = document_of c.args.document.now in
     subst (λ (q : Question). (ns : List ℕ) → IsForest d.nodes → AreSelected q d.nodes ns → Gives finding_of (answer_of q ns c.args.end.now d) c.selection.result) (sym c.in-Select.is)
     (λ ns forest found. c.selection.ensures ns forest found)
+
+pub returns-in-Table : goal.returns-in-Table
+returns-in-Table c =
+    let d : Document = document_of c.args.document.now in
+    subst (λ (q : Question). (ns : List ℕ) → IsForest d.nodes → AreSelected q d.nodes ns → Gives finding_of (answer_of q ns c.args.end.now d) c.table_lines.result) (sym c.in-Table.is)
+    (λ ns forest none. c.table_lines.ensures)

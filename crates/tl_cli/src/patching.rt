@@ -1,0 +1,213 @@
+//! Tags changed where a selector holds, each other byte as it is.
+ghost use Rattle.std.specs.Prelude.{◌≡◌, IfErr};
+ghost use Rattle.tl_page.specs.declared.failure.Failure.TheVariants.{OutOfMemory};
+
+use crate::args::Pages;
+use crate::pages::{
+    STANDARD_INPUT, not_understood, page_of, report, report_error, unwritten, write,
+};
+use crate::reports::{Answer, Report, status_of};
+use std::alloc::{AllocError, Global};
+use tl_css::Selector;
+use tl_in_place::replace;
+use tl_page::{Failure, text};
+use tl_patch_page::Change;
+use tl_patch_select::{Patched, SelectionPatchError, patch_selected};
+
+/// What is done with the tags.
+#[derive(Clone, Copy)]
+pub enum TagEdit<'w> {
+    /// The key gets this value.
+    Set(&'w str),
+    /// The key goes.
+    Unset,
+}
+
+/// Where pages with changes go.
+#[derive(Clone, Copy)]
+pub enum Target<'w> {
+    /// To standard output, as those without.
+    Output,
+    /// Into their files, whose old bytes stay in files of their names and this suffix, if it is
+    /// said.
+    Files(Option<&'w str>),
+    /// Nowhere: the places of the tags are written.
+    Nowhere,
+}
+
+/// What is changed.
+#[derive(Drop)]
+pub struct Patching<'w> {
+    pub selector: Selector,
+    /// A key in lower case.
+    pub key: String,
+    pub edit: TagEdit<'w>,
+    pub target: Target<'w>,
+}
+
+impl Patching<'_> {
+    // What is done with each tag.
+    fn change(&self) -> Change<'_> {
+        let key = self.key.as_bytes();
+        match self.edit {
+            TagEdit::Set(value) => Change::Set {
+                key,
+                value: value.as_bytes(),
+            },
+            TagEdit::Unset => Change::Unset { key },
+        }
+    }
+}
+
+// The line of a byte, and where that begins.
+#[derive(Clone, Copy)]
+struct Position {
+    line: usize,
+    start: usize,
+}
+
+impl Position {
+    // That of the first byte.
+    fn new() -> Self {
+        Position { line: 1, start: 0 }
+    }
+
+    // That behind a byte.
+    fn pass(&mut self, at: usize, byte: u8) {
+        if byte == b'\n' {
+            self.line = self.line.saturating_add(1);
+            self.start = at.saturating_add(1);
+        }
+    }
+
+    // The column of a byte on its line, from 1.
+    fn column(&self, at: usize) -> usize {
+        at.saturating_sub(self.start).saturating_add(1)
+    }
+}
+
+// The lines that say where tags begin: the file, the line and the column, both from 1, in bytes.
+fn place_lines(
+    alloc: Global,
+    file: &str,
+    page: &str,
+    places: &[usize],
+) -> Result<String, AllocError> {
+    let mut lines = String::new(alloc);
+    let mut position = Position::new();
+    let mut left = places;
+    for (at, byte) in page.as_bytes().iter().enumerate() {
+        if let [place, later @ ..] = left {
+            if *place == at {
+                let line = position.line;
+                let column = position.column(at);
+                let said = format!(in alloc; "{file}:{line}:{column}\n")?;
+                lines.push_str(said.as_str())?;
+                left = later;
+            }
+        }
+        position.pass(at, *byte);
+    }
+    Ok(lines)
+}
+
+// Writes to standard output what comes of a page.
+fn write_answer(rt: &HostRuntime, is_found: bool, bytes: &[u8]) -> Answer {
+    match write(rt, bytes) {
+        Ok(()) if is_found => Answer::Found,
+        Ok(()) => Answer::Nothing,
+        Err(error) => unwritten(rt, &error),
+    }
+}
+
+// Puts a page with changes into its file. Without one the file isn't touched.
+fn write_file(rt: &HostRuntime, file: &str, suffix: Option<&str>, patched: &Patched) -> Answer {
+    if patched.places.is_empty() {
+        return Answer::Nothing;
+    }
+    match replace(rt, file, suffix, patched.bytes.as_slice()) {
+        Ok(()) => Answer::Found,
+        Err(error) => Answer::Failed(report_error(rt, file, &error)),
+    }
+}
+
+// Does with a page that has changes what is asked.
+fn put(
+    rt: &HostRuntime,
+    target: &Target<'_>,
+    file: &str,
+    page: &str,
+    patched: &Patched,
+) -> Result<Answer, AllocError> {
+    let is_found = !patched.places.is_empty();
+    match target {
+        Target::Output => Ok(write_answer(rt, is_found, patched.bytes.as_slice())),
+        Target::Files(suffix) => Ok(write_file(rt, file, *suffix, patched)),
+        Target::Nowhere => {
+            let lines = place_lines(rt.alloc(), file, page, patched.places.as_slice())?;
+            Ok(write_answer(rt, is_found, lines.as_bytes()))
+        }
+    }
+}
+
+// Changes the page in a file.
+fn patch_page(rt: &HostRuntime, patching: &Patching<'_>, file: &str) -> Result<Answer, Failure> {
+    let bytes = match page_of(rt, file) {
+        Ok(bytes) => bytes,
+        Err(error) => return Ok(Answer::Failed(report_error(rt, file, &error))),
+    };
+    let page = match text(bytes.as_slice()) {
+        Ok(page) => page,
+        Err(error) => return Ok(not_understood(rt, file, &error)),
+    };
+    match patch_selected(rt.alloc(), page, &patching.selector, patching.change()) {
+        Ok(patched) => Ok(put(rt, &patching.target, file, page, &patched)?),
+        Err(SelectionPatchError::OutOfMemory) => Err(Failure::OutOfMemory),
+        Err(error) => Ok(not_understood(rt, file, &error)),
+    }
+}
+
+// What comes of the page in a file; a failure is said on standard error.
+fn answer(rt: &HostRuntime, patching: &Patching<'_>, file: &str) -> Answer {
+    match patch_page(rt, patching, file) {
+        Ok(answer) => answer,
+        Err(failure) => {
+            report(rt, file, failure);
+            Answer::Failed(failure)
+        }
+    }
+}
+
+// What comes of the pages in files, one after the other, up to the first that can't be written.
+fn patch_files<'f>(
+    rt: &HostRuntime,
+    patching: &Patching<'_>,
+    files: &[&'f str],
+) -> Result<Vec<Report<'f>>, AllocError> {
+    let mut reports = Vec::new(rt.alloc());
+    for file in files {
+        let answer = answer(rt, patching, file);
+        reports.push(Report { file, answer })?;
+        if answer.is_last(false) {
+            return Ok(reports);
+        }
+    }
+    Ok(reports)
+}
+
+/// Changes the page in each file in order, and answers the status of all. A page that can't be
+/// read, or changed so, is said on standard error and stays, and those after it are done.
+pub fn patch_pages(
+    rt: &HostRuntime,
+    patching: &Patching<'_>,
+    pages: &Pages<'_>,
+) -> Result<u8, Failure>
+    ensures { IfErr result (λ failure. failure ≡ OutOfMemory) }
+{
+    let files = if pages.files.is_empty() {
+        STANDARD_INPUT.as_slice()
+    } else {
+        pages.files.as_slice()
+    };
+    Ok(status_of(false, &patch_files(rt, patching, files)?))
+}

@@ -1,0 +1,30 @@
+# Made by ./x manual of what tl --help says.
+_tl() {
+    local word=${COMP_WORDS[COMP_CWORD]} before=${COMP_WORDS[COMP_CWORD - 1]} options=
+    if [ "$COMP_CWORD" -eq 1 ]; then
+        COMPREPLY=($(compgen -W 'select links text table print outline edit set unset sanitize help -h --help -V --version' -- "$word"))
+        return
+    fi
+    case $before in
+        --encoding) COMPREPLY=($(compgen -W 'utf-8 windows-1252 latin1' -- "$word")); return ;;
+        --attribute|--backup|--in|--keys|--link-keys|--links|--max-count|--number|--prefix|--tags|-a|-m|-n) COMPREPLY=(); return ;;
+    esac
+    case ${COMP_WORDS[1]} in
+        select) options='-1 --first -m --max-count --as-is --raw --encoding -q --quiet -l --files-with-matches -0 --null -a --attribute -t --text -H --inside -n --number -c --count --json --no-name -h --help' ;;
+        links) options='--no-name --as-is --raw --encoding -q --quiet -l --files-with-matches -0 --null -h --help' ;;
+        text) options='--no-name --as-is --raw --encoding -w --whitespace --in -h --help' ;;
+        table) options='--no-name --as-is --raw --encoding -n --number -h --help' ;;
+        print) options='--no-name --encoding -h --help' ;;
+        outline) options='--no-name --as-is --raw --encoding -h --help' ;;
+        edit) options='--no-name -h --help' ;;
+        set) options='-i --in-place --backup --dry-run -h --help' ;;
+        unset) options='-i --in-place --backup --dry-run -h --help' ;;
+        sanitize) options='--no-name --comments --documents --tags --keys --link-keys --links --prefix --relative-links --nofollow-links --policy --as-is --encoding -h --help' ;;
+        help) COMPREPLY=($(compgen -W 'select links text table print outline edit set unset sanitize' -- "$word")); return ;;
+    esac
+    case $word in
+        -*) COMPREPLY=($(compgen -W "$options" -- "$word")) ;;
+        *) COMPREPLY=($(compgen -f -- "$word")) ;;
+    esac
+}
+complete -o filenames -F _tl tl
