@@ -30,8 +30,9 @@
  *   - each pointer is not null, also where its length is 0, and leads to as many items as its length says, for writing where it isn't
  *     `const`;
  *   - no length is above PTRDIFF_MAX bytes;
- *   - what is written (`out`, `*needed` and the like, `*document`) lies apart from each other and from all that is read (what is read
- *     may overlap), and no other thread writes to what the call is lent, or reads what it writes, until the call returns;
+ *   - what is written (`out`, `*needed`, `*place`, `*cause` and the like, `*document`) lies apart from each other and from all that is
+ *     read (what is read may overlap), and no other thread writes to what the call is lent, or reads what it writes, until the call
+ *     returns;
  *   - a `tl_document` is TL_NO_DOCUMENT before its first call, and after that only these calls write it. It may be moved, and isn't
  *     copied: of two copies that are freed the second frees memory again that is no longer the document's;
  *   - one call at a time uses a document, and all calls with it come from one thread. Calls that only ask write to it too: while they
@@ -111,14 +112,32 @@ tl_status tl_select(const uint8_t *selector, size_t selector_len,
 tl_status tl_sanitize(const uint8_t *page, size_t page_len,
                       uint8_t *out, size_t room, size_t *needed);
 
+/* The same of a page that is read as browsers read it: end tags that are left out, names in upper case, values without quotes and
+ * references mean there what they mean to a browser, and a `<` that begins no tag stays a text. For pages that people write, and for
+ * what they type into a form. A page whose form has more than 4294967295 bytes isn't understood. */
+tl_status tl_sanitize_html(const uint8_t *page, size_t page_len,
+                           uint8_t *out, size_t room, size_t *needed);
+
+/* What stands in a document of tl_parse_html is written for markup. These read it back: the characters that a text says (`&lt;` is
+ * `<`), those that a value says, and the name that a name or a key was written of (`+40click` is `@click`). The last writes a name
+ * so, to ask for its key: in lower case, and coded. They take any bytes; of what stands in such a document they make UTF-8. */
+tl_status tl_decode_text(const uint8_t *text, size_t text_len,
+                         uint8_t *out, size_t room, size_t *needed);
+tl_status tl_decode_value(const uint8_t *value, size_t value_len,
+                          uint8_t *out, size_t room, size_t *needed);
+tl_status tl_decode_name(const uint8_t *name, size_t name_len,
+                         uint8_t *out, size_t room, size_t *needed);
+tl_status tl_code_name(const uint8_t *name, size_t name_len,
+                       uint8_t *out, size_t room, size_t *needed);
+
 /* The version, as "0.1.0". It takes no memory. */
 tl_status tl_version(uint8_t *out, size_t room, size_t *needed);
 
 /* Documents.
  *
  *     tl_document document = TL_NO_DOCUMENT;
- *     if (tl_parse(page, page_len, &document) == TL_DONE) {
- *         status = tl_find(&document, selector, selector_len, numbers, room, &needed);
+ *     if (tl_parse_html(page, page_len, &document) == TL_DONE) {
+ *         status = tl_select_css(&document, selector, selector_len, numbers, room, &needed, &place, &cause);
  *         ..
  *     }
  *     tl_free(&document);
@@ -136,6 +155,12 @@ typedef struct {
  * TL_DONE it holds that still. */
 tl_status tl_parse(const uint8_t *page, size_t page_len, tl_document *document);
 
+/* The same of a page that is read as browsers read it, by way of its form: tags are ended, names are in lower case and values in
+ * double quotes, and what the document holds is that form. In it texts and values are escaped (`&amp;`), and a name is coded that has
+ * bytes which the grammar of `tl` doesn't let stand: `@click` is `+40click`. A page whose form has more than 4294967295 bytes isn't
+ * understood. */
+tl_status tl_parse_html(const uint8_t *page, size_t page_len, tl_document *document);
+
 /* Gives a document's memory back, and leaves TL_NO_DOCUMENT there. On TL_NO_DOCUMENT, so when called again, it does nothing. */
 void tl_free(tl_document *document);
 
@@ -143,7 +168,103 @@ void tl_free(tl_document *document);
 tl_status tl_find(tl_document *document, const uint8_t *selector, size_t selector_len,
                   uint32_t *numbers, size_t room, size_t *needed);
 
-/* Of a node. Where there is no such node, all of these are refused. */
+/* What is wrong with a selector of CSS. */
+enum {
+    TL_NO_CAUSE = 0,
+    TL_UNCLOSED = 1,         /* a bracket, a string or a comment that begins here isn't closed */
+    TL_NO_SELECTOR = 2,      /* a selector has to stand here */
+    TL_NO_NAME = 3,          /* a name has to stand here */
+    TL_NO_OPERATOR = 4,      /* `=` or one of `~= |= ^= $= *=` has to stand here, or a `]` */
+    TL_NO_VALUE = 5,         /* a name or a string has to stand here */
+    TL_NO_FLAG = 6,          /* this flag is neither `i` nor `s` */
+    TL_NO_FORMULA = 7,       /* what stands here is no formula `an+b`, or doesn't end one */
+    TL_LARGE_NUMBER = 8,     /* this number is above 2147483647 */
+    TL_NO_PSEUDO_CLASS = 9,  /* no pseudo-class has this name */
+    TL_PSEUDO_ELEMENT = 10,  /* pseudo-elements are no tags */
+    TL_NAMESPACE = 11,       /* namespaces aren't known */
+    TL_NEEDS_ARGUMENT = 12,  /* the pseudo-class needs an argument in brackets */
+    TL_TAKES_NONE = 13,      /* the pseudo-class takes no argument */
+    TL_TOO_DEEP = 14,        /* so many selectors wait here for those inside them that this one is too much */
+    TL_UNEXPECTED = 15       /* this byte can't stand here */
+};
+
+/* A cause in words. */
+static inline const char *tl_cause_text(uint8_t cause) {
+    switch (cause) {
+    case TL_UNCLOSED: return "this is opened and never closed";
+    case TL_NO_SELECTOR: return "a selector is missing";
+    case TL_NO_NAME: return "a name is missing";
+    case TL_NO_OPERATOR: return "`=`, `~=`, `|=`, `^=`, `$=`, `*=` or `]` is missing";
+    case TL_NO_VALUE: return "a value is missing";
+    case TL_NO_FLAG: return "the only flags are `i` and `s`";
+    case TL_NO_FORMULA: return "this is no formula such as `2n+1`, `odd` or `3`";
+    case TL_LARGE_NUMBER: return "the number is above 2147483647";
+    case TL_NO_PSEUDO_CLASS: return "no such pseudo-class";
+    case TL_PSEUDO_ELEMENT: return "a pseudo-element is no tag";
+    case TL_NAMESPACE: return "namespaces are not known here";
+    case TL_NEEDS_ARGUMENT: return "an argument in brackets is missing";
+    case TL_TAKES_NONE: return "this pseudo-class takes no argument";
+    case TL_TOO_DEEP: return "too many selectors inside one another";
+    case TL_UNEXPECTED: return "this can't stand here";
+    default: return "no cause";
+    }
+}
+
+/* The numbers of the tags where a selector of CSS holds (docs/COMMANDS.md says which are read), in the order of the text. Names and
+ * values are compared decoded, so `[\@click]` and `[href="?a=1&b=2"]` find what they name in a document of tl_parse_html. Where the
+ * bytes are no selector, which is refused, `*place` is the first byte that is wrong and `*cause` says why; else both are 0. */
+tl_status tl_select_css(tl_document *document, const uint8_t *selector, size_t selector_len,
+                        uint32_t *numbers, size_t room, size_t *needed, size_t *place, uint8_t *cause);
+
+/* What stands where there is no node. */
+#define TL_NO_NODE UINT32_MAX
+
+/* Where a node stands: its parent, and the sibling behind it; TL_NO_NODE where there is none. */
+typedef struct {
+    uint32_t parent;
+    uint32_t next;
+} tl_node_links;
+
+/* The links of each node in the order of their numbers, of those at the top too: as many as the document has nodes. All come at once,
+ * in a time linear in the document. */
+tl_status tl_links(tl_document *document, tl_node_links *links, size_t room, size_t *needed);
+
+/* Of a node. Where there is no such node, all that answer a status are refused. */
+
+/* What a node is. */
+enum {
+    TL_NONE = 0, /* there is no such node */
+    TL_TAG = 1,
+    TL_TEXT = 2,
+    TL_COMMENT = 3
+};
+
+/* It takes no memory. */
+uint8_t tl_node_kind(tl_document *document, uint32_t node);
+
+/* The number of its first child; TL_NO_NODE where it has none. It takes no memory. */
+uint32_t tl_node_child(tl_document *document, uint32_t node);
+
+/* What stands at a key. */
+enum {
+    TL_NO_KEY = 0,    /* there is no such key, or no such node */
+    TL_KEY_ALONE = 1, /* the key has no value, as `hidden`; tl_parse_html gives each key one, here the empty one */
+    TL_VALUE = 2
+};
+
+/* It takes no memory. */
+uint8_t tl_node_key(tl_document *document, uint32_t node, const uint8_t *key, size_t key_len);
+
+/* The name of a tag. It is refused where the node is none. It takes no memory. */
+tl_status tl_node_name(tl_document *document, uint32_t node, uint8_t *out, size_t room, size_t *needed);
+
+/* Its keys, with and without values, in the order of its print, with a byte 0 after each. All come at once: keys that are asked one by
+ * one take square time on a tag of many. */
+tl_status tl_node_keys(tl_document *document, uint32_t node, uint8_t *out, size_t room, size_t *needed);
+
+/* It as markup, and what is inside; the inside of a text or a comment is its own markup. */
+tl_status tl_node_html(tl_document *document, uint32_t node, uint8_t *out, size_t room, size_t *needed);
+tl_status tl_node_inner_html(tl_document *document, uint32_t node, uint8_t *out, size_t room, size_t *needed);
 
 /* The value of a node at a key. It is refused where the node has no such key, or the key no value. It takes no memory. */
 tl_status tl_attribute(tl_document *document, uint32_t node, const uint8_t *key, size_t key_len,

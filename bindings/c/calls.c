@@ -147,10 +147,38 @@ static void of_sanitize(void) {
     RUNS_OUT("<p>x</p>", tl_sanitize(TEXT("<p>x"), OUT));
 }
 
+static void of_sanitize_html(void) {
+    PUTS("I &lt;3 you", tl_sanitize_html(TEXT("I <3 you"), OUT));
+    PUTS("<a href=\"/x\">y</a>", tl_sanitize_html(TEXT("<A HREF=/x onclick=f()>y<script>z"), OUT));
+    PUTS("<ul><li>a</li><li>b</li></ul>", tl_sanitize_html(TEXT("<ul><li>a<li>b</ul>"), OUT));
+    LEAVES(TL_NO_ROOM, 8, tl_sanitize_html(TEXT("<P>x"), ROOM(7)));
+    LEAVES(TL_NOT_UNDERSTOOD, 0, tl_sanitize_html(TEXT("\xff"), OUT));
+    PUTS("", tl_sanitize_html(TEXT(""), OUT));
+    RUNS_OUT("<p>x</p>", tl_sanitize_html(TEXT("<P>x"), OUT));
+}
+
+static void of_decode(void) {
+    PUTS("a<b &", tl_decode_text(TEXT("a&lt;b &amp;"), OUT));
+    PUTS("a\xc2\xa0" "b", tl_decode_text(TEXT("a&nbsp;b"), OUT));
+    PUTS("?a=1&b=2", tl_decode_value(TEXT("?a=1&amp;b=2"), OUT));
+    PUTS("&copy=1", tl_decode_value(TEXT("&copy=1"), OUT));
+    PUTS("\xc2\xa9=1", tl_decode_text(TEXT("&copy=1"), OUT));
+    PUTS("@click", tl_decode_name(TEXT("+40click"), OUT));
+    PUTS("+40click", tl_code_name(TEXT("@Click"), OUT));
+    PUTS("href", tl_code_name(TEXT("HREF"), OUT));
+    LEAVES(TL_NO_ROOM, 3, tl_decode_text(TEXT("a&lt;b"), ROOM(2)));
+    RUNS_OUT("a<b", tl_decode_text(TEXT("a&lt;b"), OUT));
+    RUNS_OUT("a&b", tl_decode_value(TEXT("a&amp;b"), OUT));
+    RUNS_OUT("@a", tl_decode_name(TEXT("+40a"), OUT));
+    RUNS_OUT("+40a", tl_code_name(TEXT("@a"), OUT));
+}
+
 static void of_words(void) {
     CHECK(strcmp(TL_VERSION, VERSION) == 0);
     CHECK(strcmp(tl_status_text(TL_NO_ROOM), "no room") == 0);
     CHECK(strcmp(tl_status_text(99), "no status") == 0);
+    CHECK(strcmp(tl_cause_text(TL_UNCLOSED), "this is opened and never closed") == 0);
+    CHECK(strcmp(tl_cause_text(TL_NO_CAUSE), "no cause") == 0);
 }
 
 static void of_version(void) {
@@ -203,6 +231,7 @@ static int makes(page_call *call, size_t times, const uint8_t *text, size_t len,
 static void of_large(void) {
     CHECK(makes(tl_print, 1000000, TEXT("<b>xyz</b>"), 1000000, TEXT("<b>xyz</b>")));
     CHECK(makes(tl_sanitize, 1000000, TEXT("<b>xyz</b>"), 1000000, TEXT("<b>xyz</b>")));
+    CHECK(makes(tl_sanitize_html, 1000000, TEXT("<B>xyz</B>"), 1000000, TEXT("<b>xyz</b>")));
     CHECK(makes(tl_text, 1000000, TEXT("<b>xyz</b>"), 1000000, TEXT("xyz")));
     CHECK(makes(texts_of_b, 2000000, TEXT("<b>xyz</b>"), 2000000, TEXT("xyz\0")));
     CHECK(makes(texts_of_b, 1000000, TEXT("<br>"), 0, TEXT("")));
@@ -218,6 +247,8 @@ int main(void) {
     of_edit();
     of_select();
     of_sanitize();
+    of_sanitize_html();
+    of_decode();
     of_words();
     of_version();
     of_large();

@@ -102,6 +102,106 @@ static void asked(tl_document *document) {
     LEAVES(tl_node_text(document, 1000, OUT), TL_REFUSED, 0);
 }
 
+/* What stands at a selector of CSS, and whether place and cause are told. */
+#define WRONG(document, selector, at, why) \
+    do { \
+        size_t place = 99; \
+        uint8_t cause = 99; \
+        LEAVES(tl_select_css((document), BYTES(selector), NUMBERS, &place, &cause), TL_REFUSED, 0); \
+        CHECK(place == (at) && cause == (why)); \
+    } while (0)
+#define SELECTS(document, selector, ...) \
+    do { \
+        size_t place = 99; \
+        uint8_t cause = 99; \
+        FINDS(tl_select_css((document), BYTES(selector), NUMBERS, &place, &cause), __VA_ARGS__); \
+        CHECK(place == 0 && cause == TL_NO_CAUSE); \
+    } while (0)
+
+/* The same page as people write it: 0 is the nav, 1 and 3 are links, 2 and 4 their texts, 5 a paragraph with a text (6), a comment (7)
+ * and a text in a tag (9 in 8). */
+static const char written[] = "<NAV><a href='?a=1&b=2' hidden @click=f()>y</a><A>z</A></NAV><p>one<!-- no --><b>two";
+
+static void asked_of_nodes(tl_document *document) {
+    static const uint8_t kinds[] = {TL_TAG, TL_TAG, TL_TEXT, TL_TAG, TL_TEXT, TL_TAG, TL_TEXT, TL_COMMENT, TL_TAG, TL_TEXT, TL_NONE};
+    static const uint32_t children[] = {1, 2, TL_NO_NODE, 4, TL_NO_NODE, 6, TL_NO_NODE, TL_NO_NODE, 9, TL_NO_NODE, TL_NO_NODE};
+    static const tl_node_links wanted[] = {
+        {TL_NO_NODE, 5}, {0, 3}, {1, TL_NO_NODE}, {0, TL_NO_NODE}, {3, TL_NO_NODE},
+        {TL_NO_NODE, TL_NO_NODE}, {5, 7}, {5, 8}, {5, TL_NO_NODE}, {8, TL_NO_NODE},
+    };
+    for (uint32_t node = 0; node < 11; node++) {
+        CHECK(tl_node_kind(document, node) == kinds[node]);
+        CHECK(tl_node_child(document, node) == children[node]);
+    }
+    CHECK(tl_node_key(document, 1, BYTES("href")) == TL_VALUE);
+    /* In a form each key has a value. */
+    CHECK(tl_node_key(document, 1, BYTES("hidden")) == TL_VALUE);
+    CHECK(tl_node_key(document, 3, BYTES("hidden")) == TL_NO_KEY);
+    CHECK(tl_node_key(document, 2, BYTES("hidden")) == TL_NO_KEY);
+    CHECK(tl_node_key(document, 1000, BYTES("hidden")) == TL_NO_KEY);
+    PUTS(tl_node_name(document, 0, OUT), "nav");
+    LEAVES(tl_node_name(document, 0, out, 2, &needed), TL_NO_ROOM, 3);
+    LEAVES(tl_node_name(document, 2, OUT), TL_REFUSED, 0);
+    LEAVES(tl_node_name(document, 1000, OUT), TL_REFUSED, 0);
+    PUTS(tl_node_keys(document, 3, OUT), "");
+    PUTS(tl_node_keys(document, 2, OUT), "");
+    LEAVES(tl_node_keys(document, 1000, OUT), TL_REFUSED, 0);
+    PUTS(tl_node_html(document, 3, OUT), "<a>z</a>");
+    PUTS(tl_node_html(document, 7, OUT), "<!-- no -->");
+    LEAVES(tl_node_html(document, 3, out, 7, &needed), TL_NO_ROOM, 8);
+    LEAVES(tl_node_html(document, 1000, OUT), TL_REFUSED, 0);
+    PUTS(tl_node_inner_html(document, 5, OUT), "one<!-- no --><b>two</b>");
+    PUTS(tl_node_inner_html(document, 6, OUT), "one");
+    LEAVES(tl_node_inner_html(document, 1000, OUT), TL_REFUSED, 0);
+
+    tl_node_links links[10];
+    CHECK(tl_links(document, links, 9, &needed) == TL_NO_ROOM && needed == 10);
+    CHECK(tl_links(document, links, 10, &needed) == TL_DONE && needed == 10);
+    for (size_t node = 0; node < 10; node++)
+        CHECK(links[node].parent == wanted[node].parent && links[node].next == wanted[node].next);
+}
+
+/* The calls with a page that is read as browsers read it. */
+static void of_html(void) {
+    tl_document document = TL_NO_DOCUMENT;
+    WRONG(&document, "a[", 2, TL_NO_NAME);
+    WRONG(&document, "a", 0, TL_NO_CAUSE);
+    CHECK(tl_node_kind(&document, 0) == TL_NONE && tl_node_child(&document, 0) == TL_NO_NODE);
+    CHECK(tl_node_key(&document, 0, BYTES("a")) == TL_NO_KEY);
+    LEAVES(tl_node_name(&document, 0, OUT), TL_REFUSED, 0);
+    LEAVES(tl_node_keys(&document, 0, OUT), TL_REFUSED, 0);
+    LEAVES(tl_node_html(&document, 0, OUT), TL_REFUSED, 0);
+    LEAVES(tl_node_inner_html(&document, 0, OUT), TL_REFUSED, 0);
+    CHECK(tl_links(&document, (tl_node_links[1]){{0, 0}}, 1, &needed) == TL_REFUSED && needed == 0);
+    CHECK(tl_parse_html(BYTES("\xff"), &document) == TL_NOT_UNDERSTOOD && document.at == NULL);
+
+    CHECK(tl_parse_html(BYTES(written), &document) == TL_DONE);
+    asked_of_nodes(&document);
+    PUTS(tl_node_keys(&document, 1, OUT), "href\0" "hidden\0" "+40click\0");
+    PUTS(tl_attribute(&document, 1, BYTES("href"), OUT), "?a=1&amp;b=2");
+    SELECTS(&document, "a", 1, 3);
+    SELECTS(&document, "A + a", 3);
+    SELECTS(&document, "nav:has(a), b", 0, 8);
+    SELECTS(&document, "[href='?a=1&b=2']", 1);
+    SELECTS(&document, "[\\@click]", 1);
+    WRONG(&document, "p:hover", 2, TL_NO_PSEUDO_CLASS);
+    WRONG(&document, "a,", 2, TL_NO_SELECTOR);
+    WRONG(&document, "p:nth-child(9999999999)", 12, TL_LARGE_NUMBER);
+    size_t place = 99;
+    uint8_t cause = 99;
+    LEAVES(tl_select_css(&document, BYTES("\xff"), NUMBERS, &place, &cause), TL_NOT_UNDERSTOOD, 0);
+    CHECK(place == 0 && cause == TL_NO_CAUSE);
+    LEAVES(tl_select_css(&document, BYTES("a"), numbers, 1, &needed, &place, &cause), TL_NO_ROOM, 2);
+
+    /* A page that isn't understood leaves the document as it was. */
+    CHECK(tl_parse_html(BYTES("\xff"), &document) == TL_NOT_UNDERSTOOD);
+    asked_of_nodes(&document);
+    CHECK(tl_parse(BYTES("<b hidden>c"), &document) == TL_DONE);
+    CHECK(tl_node_key(&document, 0, BYTES("hidden")) == TL_KEY_ALONE);
+    SELECTS(&document, "b", 0);
+    tl_free(&document);
+}
+
 static void calls(void) {
     tl_document document = TL_NO_DOCUMENT;
     LEAVES(tl_find(&document, BYTES("a"), NUMBERS), TL_REFUSED, 0);
@@ -164,6 +264,34 @@ static void refusals(void) {
     }
     CHECK(put(TL_DONE, "yz", 2));
 
+    /* Of what browsers read: the document stays as it was. */
+    for (long number = 0;; number++) {
+        REFUSES(number, tl_parse_html(BYTES(written), &document), PUTS(tl_node_text(&document, 0, OUT), "yz"));
+    }
+    asked_of_nodes(&document);
+    for (long number = 0;; number++) {
+        size_t place = 99;
+        uint8_t cause = 99;
+        REFUSES(number, tl_select_css(&document, BYTES("nav > a"), NUMBERS, &place, &cause), CHECK(left(status, TL_OUT_OF_MEMORY, 0));
+                CHECK(place == 0 && cause == TL_NO_CAUSE));
+    }
+    CHECK(found(TL_DONE, (const uint32_t[]){1, 3}, 2));
+    for (long number = 0;; number++) {
+        REFUSES(number, tl_node_html(&document, 3, OUT), CHECK(left(status, TL_OUT_OF_MEMORY, 0)));
+    }
+    CHECK(put(TL_DONE, "<a>z</a>", 8));
+    for (long number = 0;; number++) {
+        /* One of the requests is one that the call can do without. */
+        tl_node_links links[10];
+        refused = number;
+        tl_status status = tl_links(&document, links, 10, &needed);
+        int is_done = refused >= 0;
+        refused = -1;
+        CHECK(status == TL_DONE ? needed == 10 : !is_done && status == TL_OUT_OF_MEMORY && needed == 0);
+        if (is_done) break;
+    }
+    CHECK(tl_parse(BYTES(page), &document) == TL_DONE);
+
     /* What takes no memory is answered though the first request would be refused. */
     refused = 0;
     PUTS(tl_attribute(&document, 1, BYTES("href"), OUT), "/x");
@@ -182,7 +310,10 @@ int main(void) {
     memset(out, '.', sizeof out);
     for (size_t at = 0; at < 8; at++) numbers[at] = NO_NUMBER;
     /* Many times, so that memory that isn't given back would be seen. */
-    for (int turn = 0; turn < 100; turn++) calls();
+    for (int turn = 0; turn < 100; turn++) {
+        calls();
+        of_html();
+    }
     refusals();
     return 0;
 }

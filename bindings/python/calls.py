@@ -39,3 +39,27 @@ assert fails(tl.Refused, document.attribute, 2, "href")
 assert document.text(2) == "z"
 assert fails(tl.Refused, document.text, 4)
 assert tl.Document("<b></b>" * 5000).find("b") == list(range(5000))
+
+assert tl.sanitize_html("I <3 <A HREF=/x>é") == 'I &lt;3 <a href="/x">é</a>'
+document = tl.Document.of_html("<UL><LI hidden class=a @click=f()>x<LI>y</UL>")
+assert document.select_css("li + li") == [3]
+assert document.select_css("[\\@click]") == [1]
+try:
+    document.select_css("li:hover")
+    raise AssertionError("a state is a selector")
+except tl.NoSelector as error:
+    assert (error.place, error.cause) == (3, 9)
+assert [document.kind(node) for node in (0, 2, 5)] == ["tag", "text", None]
+assert [document.child(node) for node in (0, 2)] == [1, None]
+assert document.name(0) == "ul"
+assert fails(tl.Refused, document.name, 2)
+assert document.has_key(1, "hidden") and not document.has_key(3, "hidden")
+assert sorted(document.keys(1)) == ["+40click", "class", "hidden"]
+assert document.attribute(1, tl.code_name("@click")) == "f()"
+assert tl.decode_name("+40click") == "@click"
+assert tl.decode_text("a&lt;b") == "a<b"
+assert tl.decode_value("&copy=1&amp;b") == "&copy=1&b"
+assert document.html(3) == "<li>y</li>"
+assert document.inner_html(3) == "y"
+assert [(it.parent, it.next) for it in document.links()][:2] == [(tl.NO_NODE, tl.NO_NODE), (0, 3)]
+assert tl.Document.of_html("<b>x" * 3000).select_css("b b") == list(range(2, 6000, 2))

@@ -20,7 +20,7 @@ from ..workspace import ROOT, Stop, Workspace, put, text_of
 def functions_of_headers():
     """The names of the functions that the headers declare."""
     texts = "".join(map(text_of, sorted(glob.glob(f"{ROOT}/include/*.h"))))
-    return sorted(re.findall(r"(?m)^(?:tl_status|void) (tl_[a-z_]*)\(", texts))
+    return sorted(re.findall(r"(?m)^(?:tl_status|uint8_t|uint32_t|void) (tl_[a-z_]*)\(", texts))
 
 
 def words_over_ci(workspace, crate):

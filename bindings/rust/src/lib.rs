@@ -37,9 +37,33 @@ mod c {
             needed: *mut usize,
         ) -> u8;
         pub fn tl_sanitize(page: *const u8, page_len: usize, out: *mut u8, room: usize, needed: *mut usize) -> u8;
+        pub fn tl_sanitize_html(page: *const u8, page_len: usize, out: *mut u8, room: usize, needed: *mut usize) -> u8;
+        pub fn tl_decode_text(bytes: *const u8, len: usize, out: *mut u8, room: usize, needed: *mut usize) -> u8;
+        pub fn tl_decode_value(bytes: *const u8, len: usize, out: *mut u8, room: usize, needed: *mut usize) -> u8;
+        pub fn tl_decode_name(bytes: *const u8, len: usize, out: *mut u8, room: usize, needed: *mut usize) -> u8;
+        pub fn tl_code_name(bytes: *const u8, len: usize, out: *mut u8, room: usize, needed: *mut usize) -> u8;
         pub fn tl_version(out: *mut u8, room: usize, needed: *mut usize) -> u8;
         pub fn tl_parse(page: *const u8, page_len: usize, document: *mut Document) -> u8;
+        pub fn tl_parse_html(page: *const u8, page_len: usize, document: *mut Document) -> u8;
         pub fn tl_free(document: *mut Document);
+        pub fn tl_select_css(
+            document: *mut Document,
+            selector: *const u8,
+            selector_len: usize,
+            numbers: *mut u32,
+            room: usize,
+            needed: *mut usize,
+            place: *mut usize,
+            cause: *mut u8,
+        ) -> u8;
+        pub fn tl_links(document: *mut Document, links: *mut super::Links, room: usize, needed: *mut usize) -> u8;
+        pub fn tl_node_kind(document: *mut Document, node: u32) -> u8;
+        pub fn tl_node_child(document: *mut Document, node: u32) -> u32;
+        pub fn tl_node_key(document: *mut Document, node: u32, key: *const u8, key_len: usize) -> u8;
+        pub fn tl_node_name(document: *mut Document, node: u32, out: *mut u8, room: usize, needed: *mut usize) -> u8;
+        pub fn tl_node_keys(document: *mut Document, node: u32, out: *mut u8, room: usize, needed: *mut usize) -> u8;
+        pub fn tl_node_html(document: *mut Document, node: u32, out: *mut u8, room: usize, needed: *mut usize) -> u8;
+        pub fn tl_node_inner_html(document: *mut Document, node: u32, out: *mut u8, room: usize, needed: *mut usize) -> u8;
         pub fn tl_find(
             document: *mut Document,
             selector: *const u8,
@@ -196,9 +220,71 @@ pub fn sanitize(page: &str) -> Result<String, Error> {
     })
 }
 
+/// The same of a page that is read as browsers read it.
+pub fn sanitize_html(page: &str) -> Result<String, Error> {
+    answer(page.len() + 64, |out, needed| unsafe {
+        c::tl_sanitize_html(page.as_ptr(), page.len(), out.as_mut_ptr(), out.len(), needed)
+    })
+}
+
+/// The characters that a text of [`Document::parse_html`] says.
+pub fn decode_text(text: &str) -> Result<String, Error> {
+    answer(text.len() + 64, |out, needed| unsafe {
+        c::tl_decode_text(text.as_ptr(), text.len(), out.as_mut_ptr(), out.len(), needed)
+    })
+}
+
+/// And those that a value says.
+pub fn decode_value(value: &str) -> Result<String, Error> {
+    answer(value.len() + 64, |out, needed| unsafe {
+        c::tl_decode_value(value.as_ptr(), value.len(), out.as_mut_ptr(), out.len(), needed)
+    })
+}
+
+/// The name that a name or a key there was written of.
+pub fn decode_name(name: &str) -> Result<String, Error> {
+    answer(name.len() + 64, |out, needed| unsafe {
+        c::tl_decode_name(name.as_ptr(), name.len(), out.as_mut_ptr(), out.len(), needed)
+    })
+}
+
+/// A name as it stands there.
+pub fn code_name(name: &str) -> Result<String, Error> {
+    answer(name.len() + 64, |out, needed| unsafe {
+        c::tl_code_name(name.as_ptr(), name.len(), out.as_mut_ptr(), out.len(), needed)
+    })
+}
+
 /// The version of the library.
 pub fn version() -> Result<String, Error> {
     answer(0, |out, needed| unsafe { c::tl_version(out.as_mut_ptr(), out.len(), needed) })
+}
+
+/// The number where there is no node.
+pub const NO_NODE: u32 = u32::MAX;
+
+/// Where a node stands: its parent and the sibling behind it, or `NO_NODE`. `tl_node_links`.
+#[repr(C)]
+#[derive(Clone, Copy, Debug, Default, PartialEq, Eq)]
+pub struct Links {
+    pub parent: u32,
+    pub next: u32,
+}
+
+/// What a node is.
+#[derive(Clone, Copy, Debug, PartialEq, Eq)]
+pub enum Kind {
+    Tag,
+    Text,
+    Comment,
+}
+
+/// Why a selector of CSS finds nothing.
+#[derive(Clone, Copy, Debug, PartialEq, Eq)]
+pub enum SelectError {
+    /// It is none: the first byte that is wrong, and the number of the cause in `tl.h`.
+    NoSelector { place: usize, cause: u8 },
+    Other(Error),
 }
 
 /// A page that was read, for any number of questions. It keeps a copy of the page, and stays on its thread.
@@ -212,6 +298,92 @@ impl Document {
             0 => Ok(document),
             status => Err(error_of(status)),
         }
+    }
+
+    /// Reads a page as browsers read it.
+    pub fn parse_html(page: &str) -> Result<Document, Error> {
+        let mut document = Document(c::Document { at: ptr::null_mut() });
+        match unsafe { c::tl_parse_html(page.as_ptr(), page.len(), &mut document.0) } {
+            0 => Ok(document),
+            status => Err(error_of(status)),
+        }
+    }
+
+    /// The numbers of the tags where a selector of CSS holds, in the order of the text.
+    pub fn select_css(&mut self, selector: &str) -> Result<Vec<u32>, SelectError> {
+        let (mut place, mut cause) = (0, 0);
+        let found = items(16, |numbers, needed| unsafe {
+            c::tl_select_css(
+                &mut self.0,
+                selector.as_ptr(),
+                selector.len(),
+                numbers.as_mut_ptr(),
+                numbers.len(),
+                needed,
+                &mut place,
+                &mut cause,
+            )
+        });
+        found.map_err(|error| match cause {
+            0 => SelectError::Other(error),
+            cause => SelectError::NoSelector { place, cause },
+        })
+    }
+
+    /// The links of each node, in the order of their numbers.
+    pub fn links(&mut self) -> Result<Vec<Links>, Error> {
+        items(16, |links, needed| unsafe {
+            c::tl_links(&mut self.0, links.as_mut_ptr(), links.len(), needed)
+        })
+    }
+
+    /// What a node is, if there is one.
+    pub fn kind(&mut self, node: u32) -> Option<Kind> {
+        match unsafe { c::tl_node_kind(&mut self.0, node) } {
+            1 => Some(Kind::Tag),
+            2 => Some(Kind::Text),
+            3 => Some(Kind::Comment),
+            _ => None,
+        }
+    }
+
+    /// The first child of a node, if it has one.
+    pub fn child(&mut self, node: u32) -> Option<u32> {
+        Some(unsafe { c::tl_node_child(&mut self.0, node) }).filter(|child| *child != NO_NODE)
+    }
+
+    /// Whether a key stands at a node, with a value or without one.
+    pub fn has_key(&mut self, node: u32, key: &str) -> bool {
+        unsafe { c::tl_node_key(&mut self.0, node, key.as_ptr(), key.len()) != 0 }
+    }
+
+    /// The name of a tag.
+    pub fn name(&mut self, node: u32) -> Result<String, Error> {
+        answer(64, |out, needed| unsafe {
+            c::tl_node_name(&mut self.0, node, out.as_mut_ptr(), out.len(), needed)
+        })
+    }
+
+    /// The keys of a node, in the order of its print.
+    pub fn keys(&mut self, node: u32) -> Result<Vec<String>, Error> {
+        let keys = answer(64, |out, needed| unsafe {
+            c::tl_node_keys(&mut self.0, node, out.as_mut_ptr(), out.len(), needed)
+        })?;
+        Ok(keys.split_terminator('\0').map(String::from).collect())
+    }
+
+    /// A node as markup.
+    pub fn html(&mut self, node: u32) -> Result<String, Error> {
+        answer(64, |out, needed| unsafe {
+            c::tl_node_html(&mut self.0, node, out.as_mut_ptr(), out.len(), needed)
+        })
+    }
+
+    /// What is inside of a node as markup.
+    pub fn inner_html(&mut self, node: u32) -> Result<String, Error> {
+        answer(64, |out, needed| unsafe {
+            c::tl_node_inner_html(&mut self.0, node, out.as_mut_ptr(), out.len(), needed)
+        })
     }
 
     /// The numbers of the nodes where the selector holds, in the order of the text.
@@ -290,6 +462,34 @@ mod tests {
         assert_eq!(document.text(4), Err(Error::Refused));
         let mut many = Document::parse(&"<b></b>".repeat(100)).unwrap();
         assert_eq!(many.find("b"), Ok((0..100).collect()));
+    }
+
+    #[test]
+    fn a_page_as_browsers_read_it() {
+        assert_eq!(sanitize_html("I <3 <A HREF=/x>é").as_deref(), Ok("I &lt;3 <a href=\"/x\">é</a>"));
+        let mut document = Document::parse_html("<UL><LI hidden class=a @click=f()>x<LI>y</UL>").unwrap();
+        assert_eq!(document.select_css("li + li"), Ok(vec![3]));
+        assert_eq!(document.select_css("[\\@click]"), Ok(vec![1]));
+        assert_eq!(document.select_css("li:hover"), Err(SelectError::NoSelector { place: 3, cause: 9 }));
+        assert_eq!(document.kind(2), Some(Kind::Text));
+        assert_eq!(document.kind(5), None);
+        assert_eq!(document.child(0), Some(1));
+        assert_eq!(document.child(2), None);
+        assert_eq!(document.name(0).as_deref(), Ok("ul"));
+        assert_eq!(document.name(2), Err(Error::Refused));
+        assert!(document.has_key(1, "hidden") && !document.has_key(3, "hidden"));
+        let keys = document.keys(1).unwrap();
+        assert!(keys.len() == 3 && keys.contains(&String::from("hidden")));
+        assert_eq!(document.attribute(1, &code_name("@click").unwrap()).as_deref(), Ok("f()"));
+        assert_eq!(decode_name("+40click").as_deref(), Ok("@click"));
+        assert_eq!(decode_text("a&lt;b").as_deref(), Ok("a<b"));
+        assert_eq!(decode_value("&copy=1&amp;b").as_deref(), Ok("&copy=1&b"));
+        assert_eq!(document.html(3).as_deref(), Ok("<li>y</li>"));
+        assert_eq!(document.inner_html(3).as_deref(), Ok("y"));
+        let links = document.links().unwrap();
+        assert_eq!(links.len(), 5);
+        assert_eq!(links[1], Links { parent: 0, next: 3 });
+        assert_eq!(links[0], Links { parent: NO_NODE, next: NO_NODE });
     }
 
     #[test]

@@ -1,4 +1,8 @@
+pub mod Forms
+pub mod LinkLemmas
 pub mod Queries
+pub mod Readings
 pub mod Room
+pub mod Selectors
 mod Texts
 mod Values

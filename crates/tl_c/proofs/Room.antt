@@ -1,6 +1,6 @@
 -- What is put into room.
 use denote.Enum.Declared.{tag_of}
-use Rattle.std.proofs.Common.{◌≡◌, ◌≢◌, ◌+◌, ◌++◌, ℕ, Bool, true, false, List, [], length, take, drop, refl, sym, ap₂, ◌∙◌, subst, if◌then◌else◌, arith}
+use Rattle.std.proofs.Common.{◌≡◌, ◌≢◌, ◌↔◌, ◌+◌, ◌++◌, ℕ, Bool, true, false, List, [], length, take, drop, refl, sym, ap₂, ◌∙◌, subst, if◌then◌else◌, arith}
 use Rattle.std.proofs.Math.Seq.{take-append_seam}
 use Rattle.std.proofs.lemmas.Bool.{le-ltb}
 use Rattle.std.specs.Global.{Global}
@@ -15,6 +15,13 @@ use Rattle.tl_c.specs.Puts.{Puts, is_too_long}
 -- the number of a failure
 abbrev pub number_of : Failure → ℕ
 number_of failure = tag_of the_type failure + 1
+
+-- 3 is the number of want of memory alone
+pub number_of-memory : (failure : Failure) → (number_of failure ≡ 3) ↔ (failure ≡ OutOfMemory)
+number_of-memory Refused = (λ e. absurd (omega (arith, e)), λ e. absurd (cc))
+number_of-memory NotUnderstood = (λ e. absurd (omega (arith, e)), λ e. absurd (cc))
+number_of-memory OutOfMemory = (λ e. refl, λ e. refl)
+number_of-memory Fault = (λ e. absurd (omega (arith, e)), λ e. absurd (cc))
 
 module _ {X : Type 0} where
   has_room : (out : List X) → is_too_long [] out ≡ false

@@ -1,7 +1,7 @@
 //! What is put into the room that a caller lends.
-ghost use Rattle.std.specs.Prelude.{◌≡◌, ◌≢◌, ℕ, List, Err, IsOkAnd, option_copied, string_bytes, take};
+ghost use Rattle.std.specs.Prelude.{◌≡◌, ◌≢◌, ◌↔◌, ℕ, List, Err, IsOkAnd, option_copied, string_bytes, take};
 ghost use Rattle.tl_page.specs.Outcome.{Fails, Gives, Outcome, success};
-ghost use Rattle.tl_page.specs.declared.failure.Failure.TheVariants.{NotUnderstood, Refused};
+ghost use Rattle.tl_page.specs.declared.failure.Failure.TheVariants.{NotUnderstood, OutOfMemory, Refused};
 ghost use Rattle.tl_c.specs.Puts.{Puts};
 ghost use Rattle.tl_c.specs.Queries.{outcome_of_some};
 
@@ -30,6 +30,7 @@ fn report_failure<T: Copy>(failure: Failure, out: &mut [T], needed: &mut usize) 
     ensures failed { result ≢ 0 }
     ensures refused { failure ≡ Refused → result ≡ 1 }
     ensures not_understood { failure ≡ NotUnderstood → result ≡ 2 }
+    ensures memory { (result ≡ 3) ↔ (failure ≡ OutOfMemory) }
 {
     *needed = 0;
     failure as u8
@@ -57,6 +58,7 @@ pub(crate) fn copy_result<T: Copy + Drop>(
         → Puts outcome out.old out.new needed.new result }
     ensures refused { given ≡ Err Refused → result ≡ 1 }
     ensures not_understood { given ≡ Err NotUnderstood → result ≡ 2 }
+    ensures memory { (result ≡ 3) ↔ (given ≡ Err OutOfMemory) }
 {
     match given {
         Ok(items) => copy_items(items.as_slice(), out, needed),
@@ -68,6 +70,7 @@ pub(crate) fn copy_result<T: Copy + Drop>(
 pub(crate) fn copy_text(given: Result<String, Failure>, out: &mut [u8], needed: &mut usize) -> u8
     ensures put { (outcome : Outcome (List ℕ)) → Gives string_bytes outcome given
         → Puts outcome out.old out.new needed.new result }
+    ensures refused { given ≡ Err Refused → result ≡ 1 }
     ensures not_understood { given ≡ Err NotUnderstood → result ≡ 2 }
     ensures text { result ≡ 0
         → IsOkAnd given (λ text. take needed.new out.new ≡ string_bytes text) }

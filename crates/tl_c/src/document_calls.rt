@@ -1,16 +1,19 @@
 //! The calls with a document.
-ghost use Rattle.std.specs.Prelude.{◌≡◌, ◌≢◌, IsSome, IsUtf8, None, Some};
+ghost use Rattle.std.specs.Prelude.{◌≡◌, ◌≢◌, ◌<◌, ℕ, IsSome, IsUtf8, List, None, Some, length};
 ghost use Rattle.tl_spec.specs.Select.Selector.{Selector};
 ghost use Rattle.tl_spec.specs.Select.Text.{IsSelectorText};
 ghost use Rattle.tl_page.specs.Outcome.{not_understood, success};
 ghost use Rattle.tl_page.specs.Page.{document_in};
 ghost use Rattle.tl_extract.specs.Field.{IsNoSelector};
+ghost use Rattle.tl_c.specs.Css.{AreFoundBy, IsTold, css_in, found_by, wrong_in};
+ghost use Rattle.tl_c.specs.Forms.{of_form};
 ghost use Rattle.tl_c.specs.Puts.{Puts, Reads};
 ghost use Rattle.tl_c.specs.Queries.{node_in, numbers_in, outcome_of_some, text_in, value_in};
 
 use crate::copy_out::{copy_result, copy_value};
+use crate::css::find_css;
 use crate::document::Document;
-use crate::page::parse;
+use crate::page::{parse, parse_html};
 use crate::query::{find, text, value};
 use std::alloc::Global;
 
@@ -25,6 +28,26 @@ pub extern "C" fn tl_parse(alloc: Global, page: &[u8], document: &mut Document) 
     match parse(alloc, page) {
         Ok(read) => {
             let _before = document.replace(alloc, Some(read));
+            0
+        }
+        Err(failure) => failure as u8,
+    }
+}
+
+/// Reads a page into a document as browsers read it, by way of its form. What the document held
+/// before is given back.
+#[unsafe(no_mangle)]
+pub extern "C" fn tl_parse_html(alloc: Global, page: &[u8], document: &mut Document) -> u8
+    ensures reads { let read = of_form document_in page.now in
+        Reads read document.old.held document.new.held result }
+
+    // No want of memory hides that a page is no text, or too long.
+    ensures no_text { ¬ (IsUtf8 page.now) → result ≡ 2 }
+    ensures long { u32.MAX < length page.now → result ≡ 2 }
+{
+    match parse_html(alloc, page) {
+        Ok(html) => {
+            let _before = document.replace(alloc, Some(html));
             0
         }
         Err(failure) => failure as u8,
@@ -63,6 +86,35 @@ pub extern "C" fn tl_find(
 {
     let held = document.replace(alloc, None);
     let found = find(alloc, &held, selector);
+    let _nothing = document.replace(alloc, held);
+    copy_result(found, numbers, needed)
+}
+
+/// Finds the tags of a document where a selector of CSS holds: their numbers, in the order of the
+/// text. Names and values are compared decoded, as those of a page that was read by way of its
+/// form. A text that is no selector is refused: `place` is its first byte that is wrong, and
+/// `cause` the number of the cause in `tl.h`; else both are 0.
+#[unsafe(no_mangle)]
+pub extern "C" fn tl_select_css(
+    alloc: Global,
+    document: &mut Document,
+    selector: &[u8],
+    numbers: &mut [u32],
+    needed: &mut usize,
+    place: &mut usize,
+    cause: &mut u8,
+) -> u8
+    ensures same { document.new.held ≡ document.old.held }
+
+    // By the numbers of the tags where it holds: these are one list.
+    ensures finds { (ns : List ℕ) → let css = css_in selector.now in
+        AreFoundBy css document.old.held ns →
+        Puts (found_by css document.old.held ns) numbers.old numbers.new needed.new result }
+    ensures told { result ≢ 3 → IsTold (wrong_in selector.now) place.new cause.new }
+    ensures lost { result ≡ 3 → IsTold None place.new cause.new }
+{
+    let held = document.replace(alloc, None);
+    let found = find_css(alloc, &held, selector, place, cause);
     let _nothing = document.replace(alloc, held);
     copy_result(found, numbers, needed)
 }

@@ -3,8 +3,14 @@
 #![tactic(auto)]
 
 mod copy_out;
+mod css;
+mod decode;
+mod decode_calls;
 mod document;
 mod document_calls;
+mod node;
+mod node_calls;
+mod node_links;
 mod page;
 mod page_calls;
 mod parsed_page;

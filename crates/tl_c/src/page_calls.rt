@@ -3,6 +3,7 @@ ghost use Rattle.std.specs.Prelude.{◌≡◌, ◌≢◌, ◌<◌, length, None,
 ghost use Rattle.tl_spec.specs.Print.Normal.{norm};
 ghost use Rattle.tl_spec.specs.Select.Selector.{Selector};
 ghost use Rattle.tl_spec.specs.Select.Text.{IsSelectorText};
+ghost use Rattle.tl_html_spec.specs.HtmlForm.{html_form};
 ghost use Rattle.tl_html_spec.specs.HtmlTokenizer.{tokens_in_page};
 ghost use Rattle.tl_safe.specs.IsSafe.{IsSafe, tokens_of};
 ghost use Rattle.tl_safe.specs.Filter.{trees_of};
@@ -12,11 +13,12 @@ ghost use Rattle.tl_page.specs.Outcome.{success};
 ghost use Rattle.tl_extract.specs.Field.{IsNoSelector};
 ghost use Rattle.tl_program.specs.Action.{Prints, Texts};
 ghost use Rattle.tl_program.specs.Output.{output_of};
+ghost use Rattle.tl_c.specs.Forms.{of_form};
 ghost use Rattle.tl_c.specs.Pages.{edited_page, safe_page, selection};
 ghost use Rattle.tl_c.specs.Puts.{Puts};
 
 use crate::copy_out::{copy_items, copy_text};
-use crate::page::{edit, safe_page};
+use crate::page::{edit, safe_html_page, safe_page};
 use crate::selection::select;
 use std::alloc::Global;
 use tl_page::VERSION;
@@ -100,6 +102,29 @@ pub extern "C" fn tl_sanitize(alloc: Global, page: &[u8], out: &mut [u8], needed
     ensures long { u32.MAX < length page.now → result ≡ 2 }
 {
     copy_text(safe_page(alloc, page), out, needed)
+}
+
+/// Prints what the policy for the text of a blog keeps of a page that is read as browsers read it,
+/// by way of its form.
+#[unsafe(no_mangle)]
+pub extern "C" fn tl_sanitize_html(
+    alloc: Global,
+    page: &[u8],
+    out: &mut [u8],
+    needed: &mut usize,
+) -> u8
+    ensures put { Puts (of_form safe_page page.now) out.old out.new needed.new result }
+
+    // As `sanitize` says of what it prints.
+    ensures form { result ≡ 0 → IsSafe blog_lists (take needed.new out.new) }
+    ensures standard { result ≡ 0 → tokens_in_page (take needed.new out.new)
+        ≡ tokens_of (norm (kept_fitted blog_lists (trees_of (html_form page.now)))) }
+
+    // No want of memory hides that a page is no text, or too long.
+    ensures no_text { ¬ (IsUtf8 page.now) → result ≡ 2 }
+    ensures long { u32.MAX < length page.now → result ≡ 2 }
+{
+    copy_text(safe_html_page(alloc, page), out, needed)
 }
 
 /// Writes the version. That takes no memory.

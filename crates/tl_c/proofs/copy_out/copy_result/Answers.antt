@@ -1,5 +1,6 @@
-use Rattle.std.proofs.Common.{ap, subst, sym, ◌∙◌}
+use Rattle.std.proofs.Common.{◌≡◌, Err, ap, subst, sym, ◌∙◌}
 use Rattle.tl_page.specs.Outcome.{success}
+use Rattle.tl_page.specs.declared.failure.Failure.TheVariants.{OutOfMemory}
 use Rattle.tl_c.specs.Puts.{Puts}
 use Rattle.tl_c.proofs.copy_out.copy_result.Goals as goal
 
@@ -13,3 +14,16 @@ returns-in-Ok-clause-put g c = λ outcome is.
 pub returns-in-Err-clause-put : goal.returns-in-Err-clause-put
 returns-in-Err-clause-put g c = λ outcome is.
     let fails = rw c.in-Err.is at is in c.report_failure.ensures.put outcome fails
+
+pub returns-in-Ok-clause-memory : goal.returns-in-Ok-clause-memory
+returns-in-Ok-clause-memory g c =
+    (λ three. absurd (c.copy_items.ensures.memory three), λ lost. let is = c.in-Ok.is in absurd (cc))
+
+pub returns-in-Err-clause-memory : goal.returns-in-Err-clause-memory
+returns-in-Err-clause-memory g c = (
+  λ three. c.in-Err.is ∙ ap Err (c.report_failure.ensures.memory.0 three),
+  λ lost.
+      let is = c.in-Err.is in
+      let same : c.in-Err.failure ≡ OutOfMemory = cc in
+      c.report_failure.ensures.memory.1 same,
+)
