@@ -5,13 +5,15 @@
 The pages are those of `crates/tl_safe_tests/src/pages.rt`, which attack a browser, and N made up of pieces of such pages.
 Each is handed to Chromium as it stands and once it is sanitized: as a document in a frame, put into a live element, and put
 there once more as the browser writes it. It says of how many pages a script ran, and of how many a link would run one.
-Of what is sanitized it says too which elements, keys and comments there are beyond the policy's lists, whether html5lib's
-tokenizer reads the tags and keys that were written, and whether sanitizer.py, written from docs/SAFE.md alone, prints the same.
+It is sanitized by the policy of a blog, as browsers read the page and as it is, and with links marked. Of that it says too which
+elements, keys and comments there are beyond the policy's lists, whether html5lib's tokenizer reads the tags and keys that were
+written, and whether sanitizer.py, written from docs/SAFE.md alone, prints the same of the page as it is.
 
-With --trees it looks instead at N pages for each of five policies whose tags are nested wrongly (misnested.py): whether the
-plain sanitizer prints the same, and whether the trees that Chromium builds of the print are those that it was printed of: put
-into `div`, `body`, `td` and `li`, and as a document, each of them once more as the browser writes it. The same pages go through
-the Rust crate ammonia where its program is named, which `cargo build --release` makes in compare/ammonia.
+With --trees it looks instead at N pages for each of five policies whose tags are nested wrongly (misnested.py), as they are: whether
+the plain sanitizer prints the same, and whether the trees that Chromium builds of the print are those that it was printed of: put
+into twelve elements, from `div` to `template`, and as a document, with a doctype and without, each of them once more as the browser
+writes it. The same pages go through the Rust crate ammonia where its program is named, which `cargo build --release` makes in
+compare/ammonia.
 
 Status: 0 where nothing is wrong, 1 where something is, 2 for words that aren't understood, 3 where Chromium or html5lib isn't
 installed (Debian: chromium, python3-html5lib).
@@ -31,6 +33,8 @@ from .markup import tags_read, tags_written, tree_said, tree_with_values_as_text
 from .misnested import POLICIES, misnested
 from .sanitizer import Policy, safe_print
 
+# How pages are read of which the plain sanitizer prints what is kept.
+AS_IS = "--as-is"
 BATCH = 100
 MANY = 1000
 TREES = 4000
@@ -52,7 +56,7 @@ PIECES = [
     "<?x", "<![CDATA[", "]]>", "<!DOCTYPE html>", "javascript:steal()", "JAVASCRIPT:steal()", "java\tscript:steal()", "&#106;avascript:steal()",
     "&#x6A;avascript&colon;steal()", "java&Tab;script:steal()", "java&NewLine;script:steal()", "\x01javascript:steal()", "data:text/html,x",
     "https://e/", "//e/", "/x", "#x", "&lt;", "&gt;", "&quot;", "&amp;", "&#0;", "&lt;img src=x onerror=steal()&gt;", " onerror=steal() ",
-    " onclick=\"steal()\"", " href=javascript:steal()", " style=x", " id=body", " class=user-x", " id=\"user-y\"", " title=z", " src=/y",
+    " onclick=\"steal()\"", " href=javascript:steal()", " style=x", " rel=x", " id=body", " class=user-x", " id=\"user-y\"", " title=z", " src=/y",
     "x", "text", "é", "東", "\u2028", "</p title=\">", "<p<img>", "< img src=x onerror=steal()>", "<li>", "<ul>", "</ul>", "<h1>", "</h1>",
 ]
 
@@ -139,7 +143,7 @@ def changes(tree, seen):
 def look_at_trees(given, browser, called):
     """Misnested pages of a policy's names: the plain sanitizer's print, and Chromium's trees of it."""
     tags = POLICIES[called]
-    words = ["--tags", tags.replace(" ", ",")] if tags else []
+    words = [AS_IS, *(["--tags", tags.replace(" ", ",")] if tags else [])]
     lists = policy(given.program, words)
     names = sorted(name.decode() for name in lists.tags)
     chance = random.Random(f"{called} {given.seed}")
@@ -168,13 +172,14 @@ def look_at_trees(given, browser, called):
     return len(wrong)
 
 
-def look_at_pages(program, browser, pages):
-    lists = policy(program)
-    elements, keys = ({word.decode() for word in words} for words in (lists.tags, lists.keys))
-    prints = sanitized(program, pages)
+def look_at_pages(program, browser, pages, words):
+    """What Chromium runs and builds of pages, as they stand and as they are printed by a policy that these words say."""
+    lists = policy(program, words)
+    elements, keys = ({word.decode() for word in listed} for listed in (lists.tags, lists.keys))
+    prints = sanitized(program, pages, words)
     wrong = 0
     for page, text in zip(pages, prints):
-        if text.encode() != safe_print(page.encode(), lists):
+        if AS_IS in words and text.encode() != safe_print(page.encode(), lists):
             print(f"browser: the plain sanitizer prints another page: {page!r} is printed as {text!r}")
             wrong += 1
         tags = tags_written(text)
@@ -189,7 +194,7 @@ def look_at_pages(program, browser, pages):
             wrong += 1
     for said, all_seen in (("as they stand", before), ("sanitized", after)):
         scripts, links = (sum(1 for seen in all_seen if seen[what]) for what in ("script", "link"))
-        print(f"browser: {len(pages)} pages {said}: a script ran of {scripts}, a link would run one of {links}")
+        print(f"browser: {len(pages)} pages {' '.join([said, *words])}: a script ran of {scripts}, a link would run one of {links}", flush=True)
     return wrong
 
 
@@ -217,7 +222,7 @@ def main(parser, words):
     else:
         chance = random.Random(given.seed)
         pages = written_pages() + [made_up(chance) for _ in range(given.runs)]
-        wrong = look_at_pages(given.program, browser, pages)
+        wrong = sum(look_at_pages(given.program, browser, pages, words) for words in ([], [AS_IS], [AS_IS, "--nofollow-links"]))
     print(f"browser: {wrong} pages wrong" if wrong else "browser: nothing wrong")
     return 1 if wrong else 0
 

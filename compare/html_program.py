@@ -4,6 +4,7 @@ import sys
 
 from tools import programs
 from tools.running import must
+from tools.stress import pages as stress
 
 from .html_form import html_form
 
@@ -11,6 +12,8 @@ from .html_form import html_form
 SEPARATOR = "\x1e"
 # So many pages a run: a run costs more than a page.
 BATCH = 2000
+# So many characters of a page of `./x stress` are cut at each.
+CUT = 160
 TAGS = (
     """a abbr address applet article b body br button caption col colgroup dd div dl dt em fieldset font foreignobject form frame h1
     h2 h3 head header hr html i iframe img input li link listing main math menu meta nobr object ol optgroup option p path
@@ -46,10 +49,22 @@ def differing(program, pages):
     return [it for it in found if it[1] != it[2]]
 
 
+def cut_pages():
+    """The pages that `./x stress` makes, cut at every character."""
+    made = [make(CUT) for _, make in stress.forms()]
+    return [page[:end] for page in made for end in range(len(page) + 1)]
+
+
 def compared(words, made, pages):
-    """How many of the inputs that the seed gives have another form by the program than by the model."""
+    """How many of the cut pages, and of the inputs that the seed gives, have another form by the program than by the model."""
     program = words.program or programs.unproved_build("tl_form")
-    chance, left, wrong = random.Random(words.seed), words.runs, 0
+    cuts = cut_pages()
+    wrong = 0
+    for page, ours, model in differing(program, cuts):
+        wrong += 1
+        print(f"{page!r}\n  program {ours!r}\n  model   {model!r}", flush=True)
+    print(f"{len(cuts)} cuts of pages, {wrong} forms differ", flush=True)
+    chance, left = random.Random(words.seed), words.runs
     while left:
         batch = [tag_soup(chance) if chance.random() < 0.4 else made(chance, pages) for _ in range(min(BATCH, left))]
         batch = [it.replace(SEPARATOR, "") for it in batch]

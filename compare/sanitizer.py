@@ -18,6 +18,7 @@ class Policy:
         self.tags, self.keys, self.link_keys = words["--tags"], words["--keys"], words["--link-keys"]
         self.links, self.prefix = words["--links"], words["--prefix"][0]
         self.lets_relative = "--relative-links" in words
+        self.marks_links = "--nofollow-links" in words
 
     def begins_link(self, value):
         """Whether a link begins as it may: where it leaves the site, what it begins with does so too."""
@@ -48,12 +49,11 @@ def written(value):
 
 
 def start_of(node, policy):
-    """The start tag of a tag, with the keys that stay."""
-    out = b"<" + node[1]
-    for key, value in node[2].pairs():
-        if policy.keeps(key, value):
-            out += b" " + key + (b"" if value is None else b'="' + written(value) + b'"')
-    return out + b">"
+    """The start tag of a tag, with the keys that stay; those of a link after the mark, where the policy wants it."""
+    kept = [(key, value) for key, value in node[2].pairs() if policy.keeps(key, value)]
+    if policy.marks_links and node[1] in (b"a", b"area") and any(key == b"href" for key, _ in kept):
+        kept = [(b"rel", b"nofollow noopener")] + [pair for pair in kept if pair[0] != b"rel"]
+    return b"<" + node[1] + b"".join(b" " + key + (b"" if value is None else b'="' + written(value) + b'"') for key, value in kept) + b">"
 
 
 def safe_print(page, policy, how=Writer):

@@ -1,11 +1,14 @@
 """Compares what `tl select` finds with a plain reader of selectors of CSS, and with soupsieve, on made-up pages and selectors.
 
-    ./x compare selectors [--program FILE] [--selectors N] [--pages N] [--broken N] [--seed N] [--soupsieve]
+    ./x compare selectors [--program FILE] [--selectors N] [--pages N] [--broken N] [--seed N]
+                          [--chromium] [--soupsieve] [--plain]
 
 Each selector is asked of all pages at once, so a pair costs some microseconds of the program. The plain reader is css/definition.py,
 written from Selectors Level 4. So many of a hundred selectors are broken at random; of these the byte that is wrong is compared,
-too. soupsieve (python3-soupsieve) reads less, and is asked where it reads; its faults are in docs/DIFFERENCES.md's section of
-selectors. The program is the `tl` that the gate built unless another is named. Ends with 1 where the plain reader differs.
+too. --chromium asks querySelectorAll (chromium), --soupsieve soupsieve (python3-soupsieve, python3-bs4), each of what it reads; with
+both, it is said of how many pairs where soupsieve differs Chromium answers as the plain reader. Pages are read as browsers read
+them, so the keys `id` and `class` count in any case. The program is the `tl` that the gate built unless another is named; --plain
+asks none, and compares the others with the plain reader. Ends with 1 where the program or Chromium differs from it.
 """
 import os
 import random
@@ -14,7 +17,9 @@ import subprocess
 import tempfile
 
 from tools.programs import gate_build
+from tools.workspace import Stop
 
+from .chromium import Missing, answers, chromium, version
 from .css import definition, made
 from .reader import Document
 
@@ -72,12 +77,47 @@ def wanted(selector, pages):
     return [definition.select(page.nodes, read) for page in pages]
 
 
-def folding(selector, pages):
-    """What is found where the keys `id` and `class` count in any case."""
-    definition.FOLD_KEYS = True
-    found = wanted(selector, pages)
-    definition.FOLD_KEYS = False
-    return found
+def ask_chromium(texts, selectors, size=200):
+    """What Chromium finds: a row a selector, or None where it reads none."""
+    try:
+        browser = chromium()
+    except Missing as missing:
+        raise Stop(f"{missing} isn't installed") from missing
+    print(f"asking {version(browser)}", flush=True)
+    batches = [{"pages": texts, "selectors": selectors[at : at + size]} for at in range(0, len(selectors), size)]
+    return [row for batch in batches for row in answers(browser, "selectors.html", batch)]
+
+
+def compare_chromium(own, theirs):
+    """Compares what Chromium finds with the plain reader's rows. How many pairs differ."""
+    pairs = differ = 0
+    for selector, rows in own.items():
+        for place, (is_, should) in enumerate(zip(theirs[selector] or [], rows)):
+            pairs += 1
+            if is_ != should:
+                differ += 1
+                print(f"Chromium differs: {selector!r} on page {place}: {is_}, not {should}")
+    print(f"{pairs} pairs that Chromium reads: {differ} differ")
+    return differ
+
+
+def compare_soupsieve(soup, own, browser):
+    """Compares what soupsieve finds with the plain reader's rows, and sorts what differs."""
+    pairs = faults = unread = other = 0
+    for selector, rows in own.items():
+        for place, is_ in enumerate(soup.found(selector) or []):
+            pairs += 1
+            if is_ == rows[place]:
+                continue
+            if browser and browser[selector] is None:
+                unread += 1
+            elif browser and browser[selector][place] == rows[place]:
+                faults += 1
+            else:
+                other += 1
+                print(f"soupsieve differs: {selector!r} on page {place}: {is_}, not {rows[place]}")
+    print(f"{pairs} pairs that soupsieve reads: {faults + unread + other} differ, {faults} of them where Chromium answers as the plain "
+          f"reader, {unread} where it reads none (the flag `s`), {other} else")
 
 
 def main(parser, words):
@@ -86,12 +126,14 @@ def main(parser, words):
     parser.add_argument("--pages", type=int, default=30, metavar="N")
     parser.add_argument("--broken", type=int, default=20, metavar="N")
     parser.add_argument("--seed", type=int, default=1, metavar="N")
+    parser.add_argument("--chromium", action="store_true")
     parser.add_argument("--soupsieve", action="store_true")
+    parser.add_argument("--plain", action="store_true")
     given = parser.parse_args(words)
-    program = os.path.abspath(given.program or gate_build("tl"))
-    definition.FOLD_KEYS = False
+    program = None if given.plain else os.path.abspath(given.program or gate_build("tl"))
     chance = random.Random(given.seed)
-    pairs = hits = refused = differ = both = other = by_keys = 0
+    pairs = hits = refused = differ = 0
+    own = {}
     with tempfile.TemporaryDirectory() as room:
         texts = [made.page(chance) for _ in range(given.pages)]
         files = [f"{room}/{number}" for number in range(given.pages)]
@@ -99,30 +141,25 @@ def main(parser, words):
             with open(file, "w", encoding="utf-8") as page:
                 page.write(text)
         pages = [Document(text.encode()) for text in texts]
-        soup = Soup(texts) if given.soupsieve else None
         for _ in range(given.selectors):
             selector = made.selector(chance)
             if chance.randrange(100) < given.broken:
                 selector = broken(chance, selector)
-            is_, should = answered(program, selector, files), wanted(selector, pages)
+            should = wanted(selector, pages)
+            is_ = answered(program, selector, files) if program else should
             if isinstance(should, int):
                 refused += 1
             else:
+                own[selector] = should
                 pairs += len(pages)
                 hits += sum(bool(it) for it in should)
             if is_ != should:
                 differ += 1
                 print(f"differs: {selector!r}: {is_ if isinstance(is_, (int, bytes)) else ''} {should if isinstance(should, int) else ''}")
-            found = soup.found(selector) if soup and not isinstance(should, int) else None
-            if found is not None:
-                both += len(pages)
-                folded = folding(selector, pages)
-                for theirs, own, in_any_case in zip(found, should, folded):
-                    if theirs != own:
-                        other += 1
-                        by_keys += theirs == in_any_case
     print(f"{pairs} pairs of a page and a selector, of which {hits} find something, and {refused} texts that are none: "
-          f"{differ} selectors differ from the plain reader")
-    if soup:
-        print(f"{both} pairs that soupsieve reads: {other} differ, {by_keys} of them since it takes the keys `id` and `class` in any case")
-    return 1 if differ else 0
+          f"{differ} selectors differ from the plain reader" if program else "no program is asked", flush=True)
+    browser = dict(zip(own, ask_chromium(texts, list(own)))) if given.chromium else {}
+    other = compare_chromium(own, browser) if given.chromium else 0
+    if given.soupsieve:
+        compare_soupsieve(Soup(texts), own, browser)
+    return 1 if differ or other else 0

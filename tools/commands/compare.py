@@ -5,7 +5,7 @@
     ./x compare html ..         a tokenizer written from the HTML standard alone with that of html5lib; tables of names with Python's;
                                 the forms of pages with a model, and with the trees of the standard's own tests
     ./x compare pages ..        what `tl` says of pages in a folder with what html5lib and lxml say
-    ./x compare selectors ..    what `tl select` finds with a plain reader of selectors of CSS, and with soupsieve
+    ./x compare selectors ..    what `tl select` finds with a plain reader of selectors of CSS, Chromium and soupsieve
     ./x compare tools ..        the time that `tl` takes with that of pup, xmllint and hxselect
 
 ./x compare NAME --help says more of each. The Rust crate is compared by ./x bench --against (compare/src).

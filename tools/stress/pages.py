@@ -40,11 +40,12 @@ NUMBERED = (
 )
 # The same of pages whose forms are written.
 FORMED = (
-    ("", "&", ""), ("", "&a", ""), ("", "&#x", ""), ("<a b='", "&amp;", ""), ("", "<", ""), ("", "<a b=\"", ""),
-    ("", "<a b='", ""), ("<a b=\"", "x", ""), ("", "<li>", ""), ("", "<ul><li>", ""), ("", "<p>", ""), ("", "</p>", ""),
-    ("", "<b>", ""), ("", "<svg>", ""), ("<svg>", "<a/>", ""), ("", "<table>", ""), ("", "<td>", ""), ("", "<option>", ""),
-    ("<ruby>", "<rt>", ""), ("<p ", "a ", ">"), ("<p a=\"", "\r", "\">"), ("<!--", "-", ""), ("<script>", "<", ""),
-    ("<script>", "<!--<script>", ""), ("<title>", "</", ""), ("", "\0", ""), ("<pre>", "\n", ""), ("", "<A\0>", ""),
+    ("", "&", ""), ("", "&a", ""), ("", "&nz", ""), ("", "&Nou", ""), ("", "&#x", ""), ("<a b='", "&amp;", ""),
+    ("", "<", ""), ("", "<a b=\"", ""), ("", "<a b='", ""), ("<a b=\"", "x", ""), ("", "<li>", ""), ("", "<ul><li>", ""),
+    ("", "<p>", ""), ("", "</p>", ""), ("", "<b>", ""), ("", "<svg>", ""), ("<svg>", "<a/>", ""), ("", "<table>", ""),
+    ("", "<td>", ""), ("", "<option>", ""), ("<ruby>", "<rt>", ""), ("<p ", "a ", ">"), ("<p a=\"", "\r", "\">"),
+    ("<!--", "-", ""), ("<script>", "<", ""), ("<script>", "<!--<script>", ""), ("<title>", "</", ""), ("", "\0", ""),
+    ("<pre>", "\n", ""), ("", "<A\0>", ""),
 )
 
 
@@ -119,13 +120,25 @@ def searches():
     yield "'q,q, .. q' in open tags", "q," * 30 + "q", frame("", "<a>", "")
 
 
+# What each page that is walked ends in, so that each walk finds something.
+LINK = "<a href='/q'><i>x</i></a>"
+
+
 def walks():
     """Pages for commands that walk: what one is, and how it is made at a size."""
-    yield "tags in one another", frame("", "<b>", "<i>x</i>")
-    yield "tags in one another that no policy lists", frame("", "<q0>", "<i>x</i>")
-    yield "a tag with many children", frame("<b>", "<u></u>", "<i>x</i>")
+    yield "tags in one another", frame("", "<b>", LINK)
+    yield "tags in one another that no policy lists", frame("", "<q0>", LINK)
+    yield "a tag with many children", frame("<b>", "<u></u>", LINK)
     paragraph = "<p>x y <b class=k>z</b><br><a href='/q'>w</a></p>\n"
-    yield "a page of paragraphs", frame("", paragraph, "<i>x</i>")
+    yield "a page of paragraphs", frame("", paragraph, LINK)
+
+
+def tables():
+    """Pages for commands that ask for a table."""
+    yield "tables in one another", frame("", "<table><tr><td>", LINK)
+    yield "a table of many rows", frame("<table>", "<tr><td>a<td>b</tr>", LINK)
+    yield "a row of many cells", frame("<table><tr>", "<td>a", LINK)
+    yield "a table of many sections", frame("<table>", "<tbody><tr><td>a</tbody>", LINK)
 
 
 def size_of(word):
