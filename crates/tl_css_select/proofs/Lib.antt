@@ -21,3 +21,7 @@ pub mod Fresh
 pub mod Found
 pub mod Turned
 pub mod Spellings
+pub mod PlainWords
+pub mod Plain
+pub mod Compounds
+pub mod Seen

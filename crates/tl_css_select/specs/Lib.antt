@@ -7,3 +7,6 @@ pub mod Shape
 pub mod Pair
 pub mod Spelling
 pub mod Decoded
+pub mod Plain
+pub mod Compound
+pub mod Seen

@@ -4,8 +4,8 @@ ghost use Rattle.tl_css.specs.Meaning.{AreFound, IsForest};
 ghost use Rattle.tl.specs.View.{document_of};
 ghost use Rattle.tl_css_select.specs.Spelling.{decoded_nodes};
 
-use crate::decoded::decoded;
-use crate::forest::{self, SelectError};
+use crate::forest::SelectError;
+use crate::known_forest::Forest;
 use std::alloc::Global;
 use tl::VDom;
 use tl_css::Selector;
@@ -24,7 +24,9 @@ pub fn select(
         → IsForest (document_of document.now).nodes → ⊥ }
     ensures not_too_long { result ≡ Err SelectError.TooLong → ⊥ }
 {
-    forest::select(alloc, document.nodes(), selector)
+    let forest = Forest::new(alloc, document)?;
+    let numbers = forest.select(alloc, selector)?;
+    Ok(numbers)
 }
 
 /// The same of a document of a page in its form, as `tl_html::normalize_bytes` writes it: names are
@@ -42,6 +44,7 @@ pub fn select_decoded(
         → IsForest (document_of document.now).nodes → ⊥ }
     ensures not_too_long { result ≡ Err SelectError.TooLong → ⊥ }
 {
-    let nodes = decoded(alloc, document.nodes())?;
-    forest::select(alloc, &nodes, selector)
+    let forest = Forest::new(alloc, document)?;
+    let numbers = forest.select_decoded(alloc, selector)?;
+    Ok(numbers)
 }

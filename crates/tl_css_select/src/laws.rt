@@ -1,8 +1,12 @@
 //! Laws of the definitions.
 ghost use Rattle.std.specs.Prelude.{◌≡◌, ◌↔◌, List, ℕ};
+ghost use Rattle.std.specs.List.{All};
+ghost use Rattle.tl_spec.specs.Select.Meaning.{Holds as CrateHolds};
+ghost use Rattle.tl_spec.specs.Select.Selector.{Selector as CrateSelector};
 ghost use Rattle.tl_spec.specs.Tree.Document.{Node, document};
-ghost use Rattle.tl_css.specs.Meaning.{AreFound, Holds, IsForest};
+ghost use Rattle.tl_css.specs.Meaning.{AreFound, Holds, IsForest, IsTag};
 ghost use Rattle.tl_css.specs.Selector.{Css, Not};
+ghost use Rattle.tl_css_select.specs.Plain.{IsPlain, IsTame, css_of};
 ghost use Rattle.tl_css_select.specs.Spelling.{decoded_nodes};
 
 /// A document that was just read is a forest.
@@ -25,4 +29,11 @@ pub fn selectors_find_once()
 pub fn selectors_turned_twice_hold_alike()
     ensures { (nodes : List Node) (e : Css) (ns : List ℕ) → AreFound nodes e ns
         → (n : ℕ) → Holds nodes (Not (Not e)) n ↔ Holds nodes e n }
+{}
+
+/// On a tame forest a plain selector of the Rust crate holds in CSS at the tags where it does.
+pub fn plain_selectors_hold_alike()
+    ensures { (nodes : List Node) (e : CrateSelector) → IsForest nodes → All IsTame nodes
+        → IsPlain e → (n : ℕ)
+        → Holds nodes (css_of e) n ↔ IsTag nodes n × CrateHolds nodes e n }
 {}

@@ -2,11 +2,13 @@
 #![tactic(auto)]
 
 mod columns;
+mod compound;
 mod decoded;
 pub mod document;
 pub mod forest;
 mod group;
 mod kin;
+pub mod known_forest;
 pub mod laws;
 mod letters;
 mod links;

@@ -22,8 +22,8 @@ use tl_attributes::class_iter::has_member;
 use tl_css::selector::Test;
 use tl_table::element::Element;
 
-// Whether a node is a tag of this name; the name is in lower case.
-fn is_named(
+/// Whether a node is a tag of this name; the name is in lower case.
+pub fn is_named(
     alloc: Global,
     spelling: Spelling,
     node: &Node<'_>,
@@ -80,8 +80,13 @@ fn is_in_decoded_class(alloc: Global, node: &Node<'_>, class: &[u8]) -> Result<b
     }
 }
 
-// Whether the `id` of a node says this one.
-fn has_id(alloc: Global, spelling: Spelling, node: &Node<'_>, id: &[u8]) -> Result<bool, AllocError>
+/// Whether the `id` of a node says this one.
+pub fn has_id(
+    alloc: Global,
+    spelling: Spelling,
+    node: &Node<'_>,
+    id: &[u8],
+) -> Result<bool, AllocError>
     ensures { IfOk result (λ has. (has ≡ true)
         ↔ (has_id id.now (node_as spelling (node_view node.now)) ≡ true)) }
 {
@@ -91,8 +96,8 @@ fn has_id(alloc: Global, spelling: Spelling, node: &Node<'_>, id: &[u8]) -> Resu
     }
 }
 
-// Whether this is a member of what the class of a node says.
-fn is_in_class(
+/// Whether this is a member of what the class of a node says.
+pub fn is_in_class(
     alloc: Global,
     spelling: Spelling,
     node: &Node<'_>,
