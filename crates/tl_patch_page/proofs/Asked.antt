@@ -11,9 +11,9 @@ use Rattle.tl_patch_page.specs.Asked.{IsAsAsked, IsOfAttribute, patch_of}
 use Rattle.tl_patch_page.specs.Pages.{AreChanged, AreMade, IsChangedPiece, IsPatched}
 use Rattle.tl_patch_page.specs.View.{PlacedChange, change_of}
 use Rattle.tl_patch_spec.specs.Elements.{elements}
-use Rattle.tl_patch_spec.specs.Patches.{AreAsked, Extent, Patch, asked_by_name, change_tag, extent_in, start_name, tokens_of_piece}
+use Rattle.tl_patch_spec.specs.Patches.{AreAsked, Changed, Extent, IsPut, Patch, asked_by_name, change_tag, extent_in, start_name, tokens_of_piece}
 use Rattle.tl_patch_spec.specs.Splices.{Splice, with_splices}
-use Rattle.tl_patch_spec.specs.TagChanges.{Rename, Set, TagChange, Unset}
+use Rattle.tl_patch_spec.specs.TagChanges.{Rename, Set, TagChange, Unset, changed_token}
 
 record AreNone (xs ys : List PlacedChange) : Type 0 where
   first : xs ≡ []
@@ -117,6 +117,11 @@ spliced_is n q ps =
     let b : suc n - 0 ≡ suc n = omega arith in
     ap₂ (λ i j. take i ps ++ q ∷ drop j ps) a b
 
+is_put : (change : TagChange) (p q : Piece) → IsOfAttribute change → q.rest ≡ p.rest → q.tokens ≡ map (changed_token change) p.tokens → IsPut p (Changed change) (q ∷ [])
+is_put (Set key value) p q a r t = (q, refl, r, t)
+is_put (Unset key) p q a r t = (q, refl, r, t)
+is_put (Rename new) p q a r t = absurd a
+
 is_asked : (c : PlacedChange) (place : ℕ) (ps qs : List Piece) → IsOfAttribute c.change → (o : IsOne c place ps qs) →
     AreAsked ps o.number (patch_of c.change) (record { from = o.number; until = suc o.number; put = o.new ∷ [] } ∷ [])
 is_asked c place ps qs a o =
@@ -135,7 +140,7 @@ is_asked c place ps qs a o =
           place = o.piece;
           stands = o.stands;
           put = o.new ∷ [];
-          are_put = (o.new ∷ [], [], refl, (o.new, refl, (o.made).rest, (o.made).tokens), refl);
+          are_put = (o.new ∷ [], [], refl, is_put c.change o.piece o.new a (o.made).rest (o.made).tokens, refl);
           before = false;
           after = false;
           is = refl;

@@ -6,6 +6,7 @@ use Rattle.tl_html_spec.specs.Pieces.{Piece, pieces, runs}
 use Rattle.tl_patch_spec.specs.Elements.{Element, elements}
 use Rattle.tl_patch_spec.specs.Patches.{Content, NewContent, Patch, Put, Text, asked_of, tokens_asked}
 use Rattle.tl_patch_spec.specs.Splices.{Splice}
+use Rattle.tl_patch_spec.specs.Together.{Asked, asked_each}
 
 -- the pieces of a page, where characters are joined
 abbrev pub cut_page : String → List Piece
@@ -60,3 +61,7 @@ put_words bytes = NewContent (words bytes) ∷ []
 -- the tokens that a patch asks for
 abbrev pub with_patch : String → ℕ → Patch → Option (List HtmlToken)
 with_patch page place patch = tokens_asked (cut_page page) place patch
+
+-- what a patch asks for of the elements that begin at these pieces
+abbrev pub each_asked : String → Patch → List ℕ → Option (List Asked)
+each_asked page patch numbers = asked_each (cut_page page) patch 0 numbers

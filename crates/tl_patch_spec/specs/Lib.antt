@@ -4,4 +4,5 @@ pub mod Markup
 pub mod PieceChanges
 pub mod Elements
 pub mod Patches
+pub mod Together
 pub mod Examples

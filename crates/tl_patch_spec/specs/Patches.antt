@@ -153,8 +153,15 @@ content_pieces (raw r) (Text text) = Some (piece (raw r) text (map Character tex
 content_pieces plaintext (Text text) = Some (piece plaintext text (map Character text) ∷ [])
 content_pieces _ _ = None
 
+-- a tag with another name, and each other byte as it is
+abbrev pub IsNamed : List ℕ → List ℕ → List ℕ → Type 0
+IsNamed name tag new = (s : Splice ℕ) × (s.put ≡ name) × (new ≡ with_splices tag (s ∷ []))
+
 -- these pieces are what is put before a piece, or in its place
 abbrev pub IsPut : Piece → Put → List Piece → Type 0
+IsPut p (Changed (Rename name)) put =
+    (q : Piece) × (put ≡ q ∷ []) × (q.rest ≡ p.rest)
+    × (q.tokens ≡ map (changed_token (Rename name)) p.tokens) × IsNamed name p.bytes q.bytes
 IsPut p (Changed change) put =
     (q : Piece) × (put ≡ q ∷ []) × (q.rest ≡ p.rest)
     × (q.tokens ≡ map (changed_token change) p.tokens)

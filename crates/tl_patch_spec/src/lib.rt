@@ -4,3 +4,4 @@
 mod examples;
 pub mod laws;
 mod patch_examples;
+mod together_examples;

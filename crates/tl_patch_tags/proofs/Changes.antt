@@ -9,10 +9,11 @@ use Rattle.tl_html_tokens.specs.declared.mode.Mode.TheVariants as mode
 use Rattle.tl_html_tags.specs.Parts.{Parts, attributes_of, name_of, start_tag}
 use Rattle.std.specs.List.{All}
 use Rattle.tl_patch_spec.specs.Splices.{Splice}
-use Rattle.tl_patch_spec.specs.Markup.{is_key, is_without_nul, value_markup}
-use Rattle.tl_patch_spec.specs.TagChanges.{Set, TagChange, Unset, changed_token}
-use Rattle.tl_patch_tags.specs.StartTags.{IsChanged, IsFirst, IsPut, IsSpliced, IsStartTagOf, have_key, with_other_keys, with_value_at}
-use Rattle.tl_patch_tags.proofs.Keys.{first_set, fresh_set, key_is, others_left}
+use Rattle.tl_patch_spec.specs.Markup.{is_key, is_name, is_without_nul, value_markup}
+use Rattle.tl_patch_spec.specs.Patches.{IsNamed}
+use Rattle.tl_patch_spec.specs.TagChanges.{Rename, Set, TagChange, Unset, changed_token}
+use Rattle.tl_patch_tags.specs.StartTags.{IsChanged, IsFirst, IsPut, IsRenamed, IsSpliced, IsStartTagOf, have_key, with_other_keys, with_value_at}
+use Rattle.tl_patch_tags.proofs.Keys.{first_set, fresh_set, key_is, name_is, others_left}
 use Rattle.tl_patch_tags.proofs.Values.{value_is}
 
 first_tokens : List Piece → List HtmlToken
@@ -59,4 +60,14 @@ made change tag new splices old wanted r p a e = record {
   bytes = r.bytes;
   put = p;
   tokens = changed change tag new old wanted a r.read e;
+}
+
+-- a tag with another name
+
+pub renamed : (name tag new : List ℕ) (s : Splice ℕ) (old : List ℕ) (ps : List (List ℕ × List ℕ)) (closes : Bool) → s.put ≡ name → is_name name ≡ true →
+    IsStartTagOf tag (parts_of old ps closes) → IsSpliced tag (s ∷ []) (parts_of name ps closes) new → IsRenamed name tag new
+renamed name tag new s old ps closes p n a r = record {
+  named = (s, p, r.bytes);
+  tokens = changed (Rename name) tag new (parts_of old ps closes) (parts_of name ps closes) a r.read
+      (ap (λ u. StartTag u (attributes_of ps) closes) (name_is name n));
 }

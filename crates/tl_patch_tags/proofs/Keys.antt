@@ -10,7 +10,8 @@ use Rattle.std.proofs.lemmas.List.Folds.{list_any-append}
 use Rattle.std.proofs.lemmas.Slice.Eq.{bytes_eq-Decides}
 use Rattle.tl_html_spec.specs.HtmlTokenizer.{HtmlAttribute, OpenTag, char_of, ends_name, new_tag, replacement, with_attribute}
 use Rattle.tl_html_tags.specs.Parts.{attribute_of, attributes_of, name_of, value_of, with_attributes}
-use Rattle.tl_patch_spec.specs.Markup.{is_key, is_key_byte}
+use Rattle.std.specs.Char.{is_ascii_alphabetic}
+use Rattle.tl_patch_spec.specs.Markup.{is_key, is_key_byte, is_name, is_name_byte}
 use Rattle.tl_patch_spec.specs.TagChanges.{has_attribute, has_key, with_key, without_key}
 use Rattle.tl_patch_spec.proofs.Inside.{with_all}
 use Rattle.tl_patch_spec.proofs.Sets.{adding_if, attribute_is, fresh, has_all, has_fresh, neither, revalue_all, revalued, with_key_is}
@@ -157,3 +158,22 @@ key_bytes (b ∷ key) h =
 pub key_is : (key : List ℕ) → is_key key ≡ true → name_of key ≡ key
 key_is [] h = refl
 key_is (b ∷ key) h = key_bytes (b ∷ key) h
+
+-- and so is a name
+
+name_byte : (b : ℕ) → is_name_byte b ≡ true → char_of (to_ascii_lowercase b) ≡ b ∷ []
+name_byte b h =
+    let p = and_parts (not (b == 13)) (not (ends_name b) && (not (b == 0) && (to_ascii_lowercase b == b))) h in
+    let q = and_parts (not (ends_name b)) (not (b == 0) && (to_ascii_lowercase b == b)) p.1 in
+    let l = and_parts (not (b == 0)) (to_ascii_lowercase b == b) q.1 in
+    ap char_of (eqb-true (to_ascii_lowercase b) b l.1) ∙ ap (λ (c : Bool). if c then replacement else b ∷ []) (not-true (b == 0) l.0)
+
+name_bytes : (name : List ℕ) → list_all is_name_byte name ≡ true → name_of name ≡ name
+name_bytes [] h = refl
+name_bytes (b ∷ name) h =
+    let c = and_parts (is_name_byte b) (list_all is_name_byte name) h in
+    ap₂ (λ (x y : List ℕ). x ++ y) (name_byte b c.0) (name_bytes name c.1)
+
+pub name_is : (name : List ℕ) → is_name name ≡ true → name_of name ≡ name
+name_is [] h = refl
+name_is (b ∷ name) h = name_bytes (b ∷ name) (and_parts (is_ascii_alphabetic b) (list_all is_name_byte (b ∷ name)) h).1

@@ -13,7 +13,8 @@ use Rattle.tl_html_tokens.specs.declared.token.Token.{Token}
 use Rattle.tl_html_tags.specs.Parts.{Parts, name_of, start_tag}
 use Rattle.tl_patch_spec.specs.Markup.{attribute_markup, quoted_value}
 use Rattle.tl_patch_spec.specs.Splices.{Splice, with_splices}
-use Rattle.tl_patch_spec.specs.TagChanges.{Set, TagChange, Unset, changed_token}
+use Rattle.tl_patch_spec.specs.Patches.{IsNamed}
+use Rattle.tl_patch_spec.specs.TagChanges.{Rename, Set, TagChange, Unset, changed_token}
 
 -- bytes are a start tag by themselves, which says this
 pub record IsStartTagOf (bytes : List ℕ) (parts : Parts) : Type 0 where
@@ -98,3 +99,10 @@ pub record IsChanged (change : TagChange) (tag new : List ℕ) : Type 0 where
   pub put : All (IsPut change) splices
   pub tokens : (tokens : List HtmlToken) → IsWhole mode.Data tag tokens → IsStartTag tokens →
       IsWhole mode.Data new (map (changed_token change) tokens)
+
+-- new is the tag with this name and each other byte as it was; where the tag is a start tag by
+-- itself, so is new, with the token renamed
+pub record IsRenamed (name tag new : List ℕ) : Type 0 where
+  pub named : IsNamed name tag new
+  pub tokens : (tokens : List HtmlToken) → IsWhole mode.Data tag tokens → IsStartTag tokens →
+      IsWhole mode.Data new (map (changed_token (Rename name)) tokens)

@@ -15,7 +15,7 @@ use tl_html_tags::{AttributeParts, TagParts};
 use tl_patch::{Splice, is_key, is_value, with_splices, write_attribute, write_value};
 
 // A tag with splices, if it is read with just these parts.
-fn spliced(
+pub(crate) fn spliced(
     alloc: Global,
     tag: &[u8],
     splices: &[Splice<'_>],

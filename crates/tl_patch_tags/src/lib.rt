@@ -1,4 +1,4 @@
-//! Start tags with a key set or unset, in their own bytes, read again.
+//! Start tags with a key set or unset, or another name, in their own bytes, read again.
 #![tactic(auto)]
 
 mod alike;
@@ -7,5 +7,7 @@ mod cut;
 mod key;
 mod parts;
 mod place;
+mod rename;
 
 pub use change::{with_value, without_key};
+pub use rename::with_name;
