@@ -1,5 +1,5 @@
 -- A page that is read again.
-use Rattle.std.proofs.Common.{◌≡◌, ℕ, zero, suc, ◌+◌, Bool, true, false, List, [], ◌∷◌, ◌++◌, length, drop, Option, Some, slice_get, refl, ap, ap₂, sym, subst, ◌∙◌, if◌then◌else◌}
+use Rattle.std.proofs.Common.{◌≡◌, ℕ, zero, suc, ◌+◌, Bool, true, false, List, [], ◌∷◌, ◌++◌, length, drop, map, Option, Some, None, slice_get, refl, ap, ap₂, sym, subst, ◌∙◌, if◌then◌else◌}
 use Rattle.tl_html_spec.specs.HtmlTokenizer.{HtmlToken, html_tokens, without_mark}
 use Rattle.tl_html_spec.specs.Pieces.{Piece, pieces, placed, runs, tokens_in}
 use Rattle.tl_html_spec.proofs.Cutting.{runs_tokens, tokens_are}
@@ -9,14 +9,17 @@ use Rattle.tl_html_tokens.specs.Whole.{AreWholeTags, IsWhole, bytes_at, is_tag_k
 use Rattle.tl_html_tokens.specs.declared.stage.TokenKind.{TokenKind}
 use Rattle.tl_html_tokens.specs.declared.token.Token.{Token}
 use Rattle.tl_html_tokens.proofs.Alone.{tags_are_whole}
-use Rattle.tl_patch_edit.specs.Asks.{ask_view, IsWanted}
-use Rattle.tl_patch_edit.specs.Edited.{IsEdited}
-use Rattle.tl_patch_edit.specs.Found.{IsReadAs, IsSplicedPage, IsSplicedPageOf, IsStartAt, IsTagName, has_mark, mark_bytes}
-use Rattle.tl_patch_edit.specs.Parts.{ArePieces, Part, Say, SaySame, part_bytes}
+use Rattle.std.specs.Option.{option_to_list}
+use Rattle.tl_patch_edit.specs.Asks.{IsWanted, ask_view, asks_view, placed_at, placed_view, planned_view}
 use Rattle.tl_patch_edit.specs.declared.ask.Ask.{Ask}
+use Rattle.tl_patch_edit.specs.declared.ask.Planned.{Planned}
+use Rattle.tl_patch_edit.specs.declared.ask.Start.{Start}
+use Rattle.tl_patch_edit.specs.Edited.{IsEdited}
+use Rattle.tl_patch_edit.specs.Found.{IsReadAs, IsSplicedPage, IsSplicedPageOf, IsStartAt, IsStartOf, IsTagName, has_mark, mark_bytes}
+use Rattle.tl_patch_edit.specs.Parts.{ArePieces, Part, Say, SaySame, part_bytes}
 use Rattle.tl_patch_edit.proofs.Said.{pieces_give}
 use Rattle.tl_patch_spec.specs.Elements.{elements}
-use Rattle.tl_patch_spec.specs.Patches.{Content, Extent, Patch, Put, asked, asked_by_name, extent_in, start_name, tokens_of_piece}
+use Rattle.tl_patch_spec.specs.Patches.{Content, Extent, Patch, Put, asked, asked_by_name, asked_of, extent_in, start_name, tokens_of_piece}
 use Rattle.tl_patch_spec.specs.Splices.{Splice, with_splices}
 
 pub read_is : (text : List ℕ) (wanted others : List Part) → SaySame wanted others → ArePieces others (runs (pieces text)) → (ts : List HtmlToken) → Say wanted ts → html_tokens text ≡ ts
@@ -37,15 +40,16 @@ read_as b page text wanted p e h r = record {
   tokens = r;
 }
 
-pub spliced : (ask : Splice Put) (parts wanted : List Part) (page text : List ℕ) → IsWanted ask parts wanted → IsReadAs page wanted text → IsSplicedPageOf ask parts page text
-spliced ask parts wanted page text w r = λ ps h.
+pub spliced : (asks : List (Splice Put)) (parts wanted : List Part) (page text : List ℕ) → IsWanted asks parts wanted → IsReadAs page wanted text → IsSplicedPageOf asks parts page text
+spliced asks parts wanted page text w r = λ ps h.
     let s = w ps h in
     record {
-      splice = s.0;
-      asked = s.1;
+      splices = s.splices;
+      ordered = s.ordered;
+      asked = s.asked;
       mark = r.mark;
-      bytes = r.bytes ∙ sym (s.2).bytes;
-      tokens = r.tokens (tokens_in (with_splices ps (s.0 ∷ []))) (s.2).say;
+      bytes = r.bytes ∙ sym (s.gives).bytes;
+      tokens = r.tokens (tokens_in (with_splices ps s.splices)) (s.gives).say;
     }
 
 -- the piece of a token
@@ -74,29 +78,45 @@ meant page (u ∷ ts) place (p ∷ ps) (suc number) t h w e =
     let r = meant page ts (place + length p.bytes) ps number t h.1 w.1 e in
     record { piece = r.piece; begins = r.begins; stands = r.stands; whole = r.whole; kind = r.kind }
 
-pub edited : (patch : Patch) (place number : ℕ) (page text : List ℕ) (ts : List Token) (t : Token) (extent : Extent) (c : Content) (ask : Ask) (name : List ℕ) (parts : List Part) →
-    AreTokensOf page ts → IsStartAt ts place number t → extent ≡ extent_in number (elements (runs (pieces page))) →
-    asked patch number extent name ≡ Some (ask_view c name ask ∷ []) → IsTagName (bytes_at page t) name → ArePieces parts (runs (pieces page)) →
-    IsSplicedPageOf (ask_view c name ask) parts page text → IsEdited patch place page text
-edited patch place number page text ts t extent c ask name parts h s x a n g r =
+pub start_of : (page : List ℕ) (ts : List Token) (place number : ℕ) (t : Token) → AreTokensOf page ts → IsStartAt ts place number t → IsStartOf page number t
+start_of page ts place number t h s =
+    let m : Meant page t (mark_len page) number (runs (pieces page)) = meant page ts (mark_len page) (runs (pieces page)) number t h (tags_are_whole page ts h) s.is in
+    record {
+      piece = m.piece;
+      begins = m.begins;
+      stands = m.stands;
+      whole = m.whole (ap is_tag_kind s.kind);
+      start = subst (λ (k : TokenKind). IsKind k m.piece.tokens) s.kind m.kind;
+    }
+
+pub asked_is : (patch : Patch) (page : List ℕ) (number : ℕ) (t : Token) (extent : Extent) (name : List ℕ) (asks : List (Splice Put)) → IsStartOf page number t →
+    extent ≡ extent_in number (elements (runs (pieces page))) → IsTagName (bytes_at page t) name → asked patch number extent name ≡ Some asks →
+    asked_of (runs (pieces page)) number patch ≡ Some asks
+asked_is patch page number t extent name asks s x n a =
     let ps : List Piece = runs (pieces page) in
-    let m : Meant page t (mark_len page) number ps = meant page ts (mark_len page) ps number t h (tags_are_whole page ts h) s.is in
-    let start : IsStartTag m.piece.tokens = subst (λ (k : TokenKind). IsKind k m.piece.tokens) s.kind m.kind in
-    let named : start_name m.piece.tokens ≡ Some name = n.named t.mode m.piece.tokens (m.whole (ap is_tag_kind s.kind)) start in
-    let page_with : IsSplicedPage (ask_view c name ask) page text ps = r ps g in
+    let named : start_name (s.piece).tokens ≡ Some name = n.named t.mode (s.piece).tokens s.whole s.start in
+    ap (λ (o : Option Piece). asked_by_name patch number (extent_in number (elements ps)) (start_name (tokens_of_piece o))) s.stands
+    ∙ ap₂ (λ (e : Extent) (o : Option (List ℕ)). asked_by_name patch number e o) (sym x) named
+    ∙ a
+
+pub edited : (patch : Patch) (place number : ℕ) (page text : List ℕ) (t : Token) (asks : List (Splice Put)) (parts : List Part) → IsStartOf page number t → t.start ≡ place →
+    asked_of (runs (pieces page)) number patch ≡ Some asks → ArePieces parts (runs (pieces page)) → IsSplicedPageOf asks parts page text → IsEdited patch place page text
+edited patch place number page text t asks parts s e a g r =
+    let page_with : IsSplicedPage asks page text (runs (pieces page)) = r (runs (pieces page)) g in
     record {
       number = number;
-      piece = m.piece;
-      begins = m.begins ∙ ap (λ n. Some (n, m.piece)) s.start;
-      splices = page_with.splice ∷ [];
-      asked = (
-        ask_view c name ask ∷ [],
-        ap (λ (o : Option Piece). asked_by_name patch number (extent_in number (elements ps)) (start_name (tokens_of_piece o))) m.stands
-            ∙ ap₂ (λ (e : Extent) (o : Option (List ℕ)). asked_by_name patch number e o) (sym x) named
-            ∙ a,
-        (page_with.asked, tt),
-      );
+      piece = s.piece;
+      begins = s.begins ∙ ap (λ n. Some (n, s.piece)) e;
+      splices = page_with.splices;
+      asked = (asks, a, page_with.asked);
       mark = page_with.mark;
       bytes = page_with.bytes;
       tokens = page_with.tokens;
     }
+
+second_is : (c : Content) (s : Start) (o : Option Ask) → asks_view c (map (placed_at s) (option_to_list o)) ≡ map (ask_view c) (option_to_list o)
+second_is c s None = refl
+second_is c s (Some a) = refl
+
+pub planned_is : (c : Content) (s : Start) (p : Planned) → asks_view c (placed_view s p) ≡ planned_view c p
+planned_is c s p = ap (λ (xs : List (Splice Put)). ask_view c p.first ∷ xs) (second_is c s p.second)

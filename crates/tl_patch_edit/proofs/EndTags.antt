@@ -14,8 +14,8 @@ use Rattle.tl_html_tokens.specs.declared.stage.TokenKind.TheVariants as kind
 use Rattle.tl_html_tokens.specs.declared.token.Token.{Token}
 use Rattle.tl_html_tokens.proofs.Alone.{tags_are_whole}
 use Rattle.tl_html_tags.specs.Parts.{Parts, end_tag, name_of}
-use Rattle.tl_patch_edit.specs.Asks.{is_data, is_end_kind, is_one_end_tag, is_whole_end_tag}
-use Rattle.tl_patch_edit.specs.Found.{IsEndTagOf, has_mark}
+use Rattle.tl_patch_edit.specs.Asks.{IsEndTagOf, is_data, is_end_kind, is_one_end_tag, is_whole_end_tag}
+use Rattle.tl_patch_edit.specs.Found.{has_mark}
 use Rattle.tl_patch_edit.specs.Parts.{ArePieces, Give, Part}
 use Rattle.tl_patch_edit.proofs.Said.{pieces_give}
 
@@ -23,7 +23,7 @@ kind_is : (k : TokenKind) → is_end_kind k ≡ true → k ≡ kind.EndTag
 kind_is kind.EndTag h = refl
 kind_is _ h = absurd (true≢false (sym h))
 
-mode_is : (m : Mode) → is_data m ≡ true → m ≡ mode.Data
+pub mode_is : (m : Mode) → is_data m ≡ true → m ≡ mode.Data
 mode_is mode.Data h = refl
 mode_is _ h = absurd (true≢false (sym h))
 

@@ -8,3 +8,4 @@ pub mod EndTags
 pub mod Splicing
 pub mod Edited
 pub mod Starts
+pub mod Together

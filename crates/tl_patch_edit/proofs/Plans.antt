@@ -1,10 +1,14 @@
 -- What each patch asks for, by how far its element goes.
-use Rattle.std.proofs.Common.{◌≡◌, ℕ, suc, ◌+◌, List, [], ◌∷◌, Option, Some, None, IfSome, refl, ap, sym, ◌∙◌, add-one}
+use Rattle.std.proofs.Common.{◌≡◌, ℕ, suc, Bool, true, false, List, [], ◌∷◌, Option, Some, None, refl, ap, sym, ◌∙◌, if◌then◌else◌}
 use Rattle.std.specs.Prelude.{option_map}
-use Rattle.tl_patch_spec.specs.Patches.{Alone, Append, Content, Dropped, Extent, Fill, Implied, NewContent, Prepend, PutAfter, PutBefore, Remove, ReplaceWith, Unclosed, Whole, asked, cut_out, put_at, put_instead}
-use Rattle.tl_patch_edit.specs.Asks.{ask_view, inner_end, inside_end, put_after, puts_view, until_of}
-use Rattle.tl_patch_edit.specs.declared.ask.Ask.{Ask}
-use Rattle.tl_patch_edit.specs.declared.ask.Put.TheVariants as put
+use Rattle.tl_patch_spec.specs.Patches.{Alone, Append, Changed, Content, Dropped, Extent, Fill, Implied, NewContent, NewEndTag, Prepend, Put, PutAfter, PutBefore, Remove, RenameElement, ReplaceWith, Unclosed, Unwrap, Whole, asked, cut_out, may_be_renamed, put_at, put_instead}
+use Rattle.tl_patch_spec.specs.Splices.{Splice}
+use Rattle.tl_patch_spec.specs.TagChanges.{Rename}
+use Rattle.tl_patch_edit.specs.Asks.{inner_end, inside_end, put_after, tags_asked, until_of}
+
+abbrev pub is_implied : Extent → Bool
+is_implied (Implied m) = true
+is_implied _ = false
 
 remove_is : (e : Extent) (n : ℕ) (name : List ℕ) → asked Remove n e name ≡ option_map (λ u. cut_out n u ∷ []) (until_of n e)
 remove_is Dropped n name = refl
@@ -41,7 +45,7 @@ before_is (Whole m) n c name = refl
 before_is (Implied m) n c name = refl
 before_is (Unclosed m) n c name = refl
 
-after_is : (e : Extent) (n : ℕ) (c : Content) (name : List ℕ) → asked (PutAfter c) n e name ≡ option_map (λ u. put_at u (puts_view c name (put_after e)) ∷ []) (until_of n e)
+after_is : (e : Extent) (n : ℕ) (c : Content) (name : List ℕ) → asked (PutAfter c) n e name ≡ option_map (λ u. put_at u (put_after e name c) ∷ []) (until_of n e)
 after_is Dropped n c name = refl
 after_is Alone n c name = refl
 after_is (Whole m) n c name = refl
@@ -55,48 +59,57 @@ prepend_is (Whole m) n c name = refl
 prepend_is (Implied m) n c name = refl
 prepend_is (Unclosed m) n c name = refl
 
+pub unwrap_is : (e : Extent) (n : ℕ) (name : List ℕ) → asked Unwrap n e name ≡ tags_asked n e []
+unwrap_is Dropped n name = refl
+unwrap_is Alone n name = refl
+unwrap_is (Whole m) n name = refl
+unwrap_is (Implied m) n name = refl
+unwrap_is (Unclosed m) n name = refl
+
 -- the splice that the code makes
 
-pub removes : (e : Extent) (n u : ℕ) (c : Content) (name : List ℕ) → until_of n e ≡ Some u →
-    asked Remove n e name ≡ Some (ask_view c name (record { from = n; until = u; put = put.Nothing }) ∷ [])
-removes e n u c name h = remove_is e n name ∙ ap (option_map (λ v. cut_out n v ∷ [])) h
+pub removes : (e : Extent) (n u : ℕ) (name : List ℕ) → until_of n e ≡ Some u → asked Remove n e name ≡ Some (cut_out n u ∷ [])
+removes e n u name h = remove_is e n name ∙ ap (option_map (λ v. cut_out n v ∷ [])) h
 
-pub replaces : (e : Extent) (n u : ℕ) (c : Content) (name : List ℕ) → until_of n e ≡ Some u →
-    asked (ReplaceWith c) n e name ≡ Some (ask_view c name (record { from = n; until = u; put = put.Content }) ∷ [])
+pub replaces : (e : Extent) (n u : ℕ) (c : Content) (name : List ℕ) → until_of n e ≡ Some u → asked (ReplaceWith c) n e name ≡ Some (put_instead n u (NewContent c ∷ []) ∷ [])
 replaces e n u c name h = replace_is e n c name ∙ ap (option_map (λ v. put_instead n v (NewContent c ∷ []) ∷ [])) h
 
-pub fills : (e : Extent) (n m : ℕ) (a : Ask) (c : Content) (name : List ℕ) → inner_end e ≡ Some m → a ≡ record { from = n + 1; until = m; put = put.Content } →
-    asked (Fill c) n e name ≡ Some (ask_view c name a ∷ [])
-fills e n m a c name h i =
-    let next : suc n ≡ n + 1 = sym (add-one n) in
-    fill_is e n c name ∙ ap (option_map (λ v. put_instead (suc n) v (NewContent c ∷ []) ∷ [])) h ∙ ap (λ x. Some (put_instead x m (NewContent c ∷ []) ∷ [])) next
-    ∙ ap (λ (x : Ask). Some (ask_view c name x ∷ [])) (sym i)
+pub fills : (e : Extent) (n m k : ℕ) (c : Content) (name : List ℕ) → inner_end e ≡ Some m → suc n ≡ k → asked (Fill c) n e name ≡ Some (put_instead k m (NewContent c ∷ []) ∷ [])
+fills e n m k c name h i =
+    fill_is e n c name ∙ ap (option_map (λ v. put_instead (suc n) v (NewContent c ∷ []) ∷ [])) h ∙ ap (λ x. Some (put_instead x m (NewContent c ∷ []) ∷ [])) i
 
-pub prepends : (e : Extent) (n m : ℕ) (a : Ask) (c : Content) (name : List ℕ) → inside_end e ≡ Some m → a ≡ record { from = n + 1; until = n + 1; put = put.Content } →
-    asked (Prepend c) n e name ≡ Some (ask_view c name a ∷ [])
-prepends e n m a c name h i =
-    let next : suc n ≡ n + 1 = sym (add-one n) in
-    prepend_is e n c name ∙ ap (option_map (λ v. put_at (suc n) (NewContent c ∷ []) ∷ [])) h ∙ ap (λ x. Some (put_at x (NewContent c ∷ []) ∷ [])) next
-    ∙ ap (λ (x : Ask). Some (ask_view c name x ∷ [])) (sym i)
+pub prepends : (e : Extent) (n m k : ℕ) (c : Content) (name : List ℕ) → inside_end e ≡ Some m → suc n ≡ k → asked (Prepend c) n e name ≡ Some (put_at k (NewContent c ∷ []) ∷ [])
+prepends e n m k c name h i =
+    prepend_is e n c name ∙ ap (option_map (λ v. put_at (suc n) (NewContent c ∷ []) ∷ [])) h ∙ ap (λ x. Some (put_at x (NewContent c ∷ []) ∷ [])) i
 
-pub fills_some : (e : Extent) (n m : ℕ) (o : Option Ask) → inner_end e ≡ Some m → IfSome o (λ a. a ≡ record { from = n + 1; until = m; put = put.Content }) →
-    IfSome o (λ a. (c : Content) (name : List ℕ) → asked (Fill c) n e name ≡ Some (ask_view c name a ∷ []))
-fills_some e n m None h i = i
-fills_some e n m (Some a) h i = λ c name. fills e n m a c name h i
-
-pub prepends_some : (e : Extent) (n m : ℕ) (o : Option Ask) → inside_end e ≡ Some m → IfSome o (λ a. a ≡ record { from = n + 1; until = n + 1; put = put.Content }) →
-    IfSome o (λ a. (c : Content) (name : List ℕ) → asked (Prepend c) n e name ≡ Some (ask_view c name a ∷ []))
-prepends_some e n m None h i = i
-prepends_some e n m (Some a) h i = λ c name. prepends e n m a c name h i
-
-pub appends : (e : Extent) (n m : ℕ) (c : Content) (name : List ℕ) → inner_end e ≡ Some m →
-    asked (Append c) n e name ≡ Some (ask_view c name (record { from = m; until = m; put = put.Content }) ∷ [])
+pub appends : (e : Extent) (n m : ℕ) (c : Content) (name : List ℕ) → inner_end e ≡ Some m → asked (Append c) n e name ≡ Some (put_at m (NewContent c ∷ []) ∷ [])
 appends e n m c name h = append_is e n c name ∙ ap (option_map (λ v. put_at v (NewContent c ∷ []) ∷ [])) h
 
-pub puts_before : (e : Extent) (n : ℕ) (c : Content) (name : List ℕ) →
-    asked (PutBefore c) n e name ≡ Some (ask_view c name (record { from = n; until = n; put = put.Content }) ∷ [])
+pub puts_before : (e : Extent) (n : ℕ) (c : Content) (name : List ℕ) → asked (PutBefore c) n e name ≡ Some (put_at n (NewContent c ∷ []) ∷ [])
 puts_before e n c name = before_is e n c name
 
-pub puts_behind : (e : Extent) (n u : ℕ) (c : Content) (name : List ℕ) → until_of n e ≡ Some u →
-    asked (PutAfter c) n e name ≡ Some (ask_view c name (record { from = u; until = u; put = put_after e }) ∷ [])
-puts_behind e n u c name h = after_is e n c name ∙ ap (option_map (λ v. put_at v (puts_view c name (put_after e)) ∷ [])) h
+pub puts_behind : (e : Extent) (n u : ℕ) (c : Content) (name : List ℕ) (put : List Put) → until_of n e ≡ Some u → put ≡ put_after e name c →
+    asked (PutAfter c) n e name ≡ Some (put_at u put ∷ [])
+puts_behind e n u c name put h p =
+    after_is e n c name ∙ ap (option_map (λ v. put_at v (put_after e name c) ∷ [])) h ∙ ap (λ x. Some (put_at u x ∷ [])) (sym p)
+
+-- names
+
+abbrev renamed_if : Bool → List (Splice Put) → Option (List (Splice Put))
+renamed_if may splices = if may then Some splices else None
+
+pub rename_implied : (n m k : ℕ) (old new : List ℕ) → may_be_renamed old new ≡ true → suc n ≡ k →
+    asked (RenameElement new) n (Implied m) old ≡ Some (put_instead n k (Changed (Rename new) ∷ []) ∷ put_at m (NewEndTag new ∷ []) ∷ [])
+rename_implied n m k old new h e =
+    ap (λ v. renamed_if v (put_instead n (suc n) (Changed (Rename new) ∷ []) ∷ put_at m (NewEndTag new ∷ []) ∷ [])) h
+    ∙ ap (λ x. Some (put_instead n x (Changed (Rename new) ∷ []) ∷ put_at m (NewEndTag new ∷ []) ∷ [])) e
+
+-- of an element whose end tag is not left out
+pub rename_is : (e : Extent) (n : ℕ) (old new : List ℕ) (splices : List (Splice Put)) → may_be_renamed old new ≡ true → is_implied e ≡ false →
+    tags_asked n e (Changed (Rename new) ∷ []) ≡ Some splices → asked (RenameElement new) n e old ≡ Some splices
+rename_is Dropped n old new splices h i e = cc
+rename_is Alone n old new splices h i e = ap (λ v. renamed_if v (put_instead n (suc n) (Changed (Rename new) ∷ []) ∷ [])) h ∙ e
+rename_is (Whole m) n old new splices h i e =
+    ap (λ v. renamed_if v (put_instead n (suc n) (Changed (Rename new) ∷ []) ∷ put_instead m (suc m) (Changed (Rename new) ∷ []) ∷ [])) h ∙ e
+rename_is (Implied m) n old new splices h i e = cc
+rename_is (Unclosed m) n old new splices h i e = cc

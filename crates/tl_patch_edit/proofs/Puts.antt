@@ -1,16 +1,19 @@
 -- What is put gives the pieces that are asked for.
 use Rattle.std.proofs.Common.{◌≡◌, ℕ, true, List, [], ◌∷◌, ◌++◌, map, Some, refl, ap, sym, subst, ◌∙◌, append-nil}
-use Rattle.tl_html_spec.specs.HtmlTokenizer.{Character, EndTag, State, data_state}
+use Rattle.tl_html_spec.specs.HtmlTokenizer.{Character, CommentToken, DoctypeToken, EndTag, HtmlToken, StartTag, State, data_state}
 use Rattle.tl_html_spec.specs.Pieces.{Piece, bytes_of, piece, pieces_of, tokens_in}
 use Rattle.tl_html_tokens.specs.Modes.{state_of}
+use Rattle.tl_html_tokens.specs.Kinds.{IsEndTag}
 use Rattle.tl_html_tokens.specs.Whole.{IsWhole}
 use Rattle.tl_html_tokens.specs.declared.mode.Mode.{Mode}
 use Rattle.tl_html_tokens.specs.declared.mode.Mode.TheVariants as mode
 use Rattle.tl_html_tokens.specs.declared.stage.TokenKind.TheVariants as kind
-use Rattle.tl_patch_edit.specs.Asks.{GivePut, IsTextPart, end_tag_bytes, is_data, text_form}
-use Rattle.tl_patch_edit.specs.Parts.{Give, Part}
+use Rattle.tl_patch_edit.specs.Asks.{GivePut, IsRenamedEnd, IsRenamedTag, IsTextPart, end_tag_bytes, is_data, text_form}
+use Rattle.tl_patch_edit.specs.Parts.{Give, Part, Says}
 use Rattle.tl_patch_edit.proofs.Said.{pieces_both}
-use Rattle.tl_patch_spec.specs.Patches.{Content, Markup, NewContent, NewEndTag, Text, content_pieces, end_tag_piece}
+use Rattle.tl_patch_spec.specs.Patches.{Changed, Content, IsNamed, Markup, NewContent, NewEndTag, Text, content_pieces, end_tag_piece}
+use Rattle.tl_patch_spec.specs.TagChanges.{Rename, changed_token}
+use Rattle.tl_patch_tags.specs.StartTags.{IsRenamed}
 
 text_pieces : Mode → List ℕ → List Piece
 text_pieces m t = piece (state_of m) (text_form m t) (map Character t) ∷ []
@@ -93,3 +96,48 @@ tag_put name c place part content parts e w g h = λ p i.
       subst (λ (xs : List Part). Give xs (bytes_of put) (tokens_in put)) (sym h)
           (pieces_both (part ∷ []) content tag r.0 (tag_gives name part e w) r.2),
     )
+
+-- an end tag alone, and a tag with another name
+
+pub end_tag_put : (name : List ℕ) (place part : Part) (parts : List Part) → part ≡ record { kind = kind.EndTag; mode = mode.Data; bytes = end_tag_bytes name } →
+    IsWhole mode.Data (end_tag_bytes name) (EndTag name ∷ []) → parts ≡ [] ++ part ∷ [] → GivePut (NewEndTag name ∷ []) place parts
+end_tag_put name place part parts e w h = λ p i.
+    let put : List Piece = end_tag_piece name ∷ [] in (
+      put,
+      (put, [], sym (append-nil put), refl, refl),
+      subst (λ (xs : List Part). Give xs (bytes_of put) (tokens_in put)) (sym h) (tag_gives name part e w),
+    )
+
+pub renamed_put : (name : List ℕ) (place : Part) (tag : List ℕ) (parts : List Part) → IsRenamedTag name place tag →
+    parts ≡ [] ++ record { kind = place.kind; mode = place.mode; bytes = tag } ∷ [] → GivePut (Changed (Rename name) ∷ []) place parts
+renamed_put name place tag parts r e = λ p i.
+    let new : List HtmlToken = map (changed_token (Rename name)) p.tokens in
+    let put : List Piece = piece p.rest tag new ∷ [] in
+    let said : Says place.kind place.mode tag new = subst (λ (m : Mode). Says place.kind m tag new) (sym r.in_data) (r.says p.tokens i.kind i.says) in (
+      put,
+      (put, [], sym (append-nil put), (piece p.rest tag new, refl, refl, refl, subst (λ (b : List ℕ). IsNamed name b tag) (sym i.bytes) r.named), refl),
+      subst (λ (xs : List Part). Give xs (bytes_of put) (tokens_in put)) (sym e) (record { bytes = refl; say = (new, [], refl, said, refl) }),
+    )
+
+pub start_renamed : (name : List ℕ) (m : Mode) (b new : List ℕ) → m ≡ mode.Data → IsRenamed name b new → IsRenamedTag name (record { kind = kind.StartTag; mode = m; bytes = b }) new
+start_renamed name m b new d r = record {
+  named = r.named;
+  in_data = d;
+  says = λ ts k w. r.tokens ts (subst (λ (n : Mode). IsWhole n b ts) d w) k;
+}
+
+renamed_end : (name : List ℕ) (new : List ℕ) (ts : List HtmlToken) → IsEndTag ts → IsWhole mode.Data new (EndTag name ∷ []) → IsWhole mode.Data new (map (changed_token (Rename name)) ts)
+renamed_end name new (EndTag n ∷ []) k w = w
+renamed_end name new [] k w = absurd k
+renamed_end name new (EndTag n ∷ t ∷ ts) k w = absurd k
+renamed_end name new (StartTag n a v ∷ ts) k w = absurd k
+renamed_end name new (Character b ∷ ts) k w = absurd k
+renamed_end name new (CommentToken n ∷ ts) k w = absurd k
+renamed_end name new (DoctypeToken ∷ ts) k w = absurd k
+
+pub end_renamed : (name : List ℕ) (m : Mode) (b new : List ℕ) → m ≡ mode.Data → IsRenamedEnd name b new → IsRenamedTag name (record { kind = kind.EndTag; mode = m; bytes = b }) new
+end_renamed name m b new d r = record {
+  named = r.named;
+  in_data = d;
+  says = λ ts k w. renamed_end name new ts k r.whole;
+}

@@ -41,6 +41,7 @@ piece_is : (text : List ℕ) (t : Token) (place : ℕ) (p : Piece) → IsToken t
 piece_is text t place p h s = record {
   rest = h.rest;
   bytes = h.bytes;
+  kind = h.kind;
   says = subst (λ b. Says t.kind t.mode b p.tokens) h.bytes (of_page t.kind t.mode p.bytes p.tokens s);
 }
 

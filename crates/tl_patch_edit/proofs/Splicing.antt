@@ -1,14 +1,17 @@
--- The parts of a page with a splice.
-use Rattle.std.proofs.Common.{◌≡◌, ◌<◌, ℕ, zero, suc, ◌-◌, Bool, true, false, List, [], ◌∷◌, ◌++◌, length, take, drop, get_or, Some, slice_get, refl, ap, sym, subst, ◌∙◌, append_assoc, arith}
-use Rattle.std.proofs.lemmas.List.{drop-map, get_or-map, take-map}
+-- The parts of a page with splices.
+use Rattle.std.proofs.Common.{◌≡◌, ◌<◌, ◌≤◌, ℕ, zero, suc, ◌+◌, ◌-◌, Bool, true, false, ◌&&◌, List, [], ◌∷◌, ◌++◌, length, take, drop, get_or, Some, slice_get, refl, ap, ap₂, sym, subst, ◌∙◌, append_assoc, arith}
+use Rattle.std.specs.Prelude.{nat_le}
+use Rattle.std.proofs.lemmas.Bool.{le-leb}
+use Rattle.std.proofs.lemmas.List.{drop-drop, drop-map, take-map}
+use Rattle.std.proofs.lemmas.Option.{slice_get-get_or}
 use Rattle.tl_html_spec.specs.Pieces.{Piece}
-use Rattle.tl_patch_edit.specs.Asks.{GivePut, IsWanted}
+use Rattle.tl_patch_edit.specs.Asks.{GivePut, IsWantedFrom}
 use Rattle.tl_patch_edit.specs.Parts.{ArePieces, IsPieceOf, Part, part_view, parts_view, separator_parts}
 use Rattle.tl_patch_edit.specs.declared.part.Part.{Part as CodePart}
 use Rattle.tl_patch_edit.proofs.Lists.{length_view}
 use Rattle.tl_patch_edit.proofs.Said.{GivePieces, pieces_both, pieces_give}
 use Rattle.tl_patch_spec.specs.Patches.{Put, separator_if}
-use Rattle.tl_patch_spec.specs.Splices.{Splice, with_splices}
+use Rattle.tl_patch_spec.specs.Splices.{Splice, are_ordered, with_splices_from}
 
 separator_gives : (b : Bool) → GivePieces (separator_parts b) (separator_if b)
 separator_gives true = record { bytes = refl; say = ([], [], refl, refl, refl) }
@@ -41,55 +44,96 @@ piece_at (x ∷ xs) (p ∷ ps) (suc n) d h l =
     let r = piece_at xs ps n d h.1 (omega arith) in
     record { piece = r.piece; stands = r.stands; is = r.is }
 
-regrouped : (t b p a d : List Part) → (((t ++ b) ++ p) ++ a) ++ d ≡ t ++ ((b ++ (p ++ a)) ++ d)
-regrouped t b p a d =
-    ap (λ u. u ++ d) (append_assoc (t ++ b) p a ∙ append_assoc t b (p ++ a)) ∙ append_assoc t (b ++ (p ++ a)) d
+pub length_pieces : (xs : List Part) (ps : List Piece) → ArePieces xs ps → length ps ≡ length xs
+length_pieces [] [] h = refl
+length_pieces [] (p ∷ ps) h = absurd h
+length_pieces (x ∷ xs) [] h = absurd h
+length_pieces (x ∷ xs) (p ∷ ps) h = ap suc (length_pieces xs ps h.1)
 
-pub wanted_is : (xs : List CodePart) (ask : Splice Put) (d : CodePart) (put wanted : List Part) (b a : Bool) → ask.from < length xs →
-    GivePut ask.put (part_view (get_or xs ask.from d)) put →
-    wanted ≡ (((parts_view (take ask.from xs) ++ separator_parts b) ++ put) ++ separator_parts a) ++ parts_view (drop ask.until xs) → IsWanted ask (parts_view xs) wanted
-wanted_is xs ask d put wanted b a l g e = λ ps h.
+in_order : (d f u e : ℕ) (rest : Bool) → d ≤ f → f ≤ u → u ≤ e → rest ≡ true → (nat_le d f && nat_le f u && nat_le u e && rest) ≡ true
+in_order d f u e rest h i j k =
+    ap₂ (λ (v w : Bool). v && w) (ap₂ (λ (v w : Bool). v && w) (ap₂ (λ (v w : Bool). v && w) (le-leb d f h) (le-leb f u i)) (le-leb u e j)) k
+
+-- parts up to a splice and what is put there, before the parts of what follows
+pub step_wanted : (X : List Part) (done : ℕ) (ask : Splice Put) (asks : List (Splice Put)) (d : Part) (put rest : List Part) (b a : Bool) →
+    done ≤ ask.from → ask.from < length X → ask.from ≤ ask.until → ask.until ≤ length X → GivePut ask.put (get_or X ask.from d) put →
+    IsWantedFrom ask.until asks X rest →
+    IsWantedFrom done (ask ∷ asks) X (take (ask.from - done) (drop done X) ++ ((separator_parts b ++ (put ++ separator_parts a)) ++ rest))
+step_wanted X done ask asks d put rest b a l i o u g w = λ ps h.
     let from : ℕ = ask.from in
     let until : ℕ = ask.until in
-    let X : List Part = parts_view xs in
-    let inside : from < length X = omega (arith, length_view xs) in
-    let s : Stands (get_or X from (part_view d)) ps from = piece_at X ps from (part_view d) h inside in
-    let same : get_or X from (part_view d) ≡ part_view (get_or xs from d) = get_or-map part_view xs from d (part_view d) l in
-    let r = g s.piece (subst (λ (x : Part). IsPieceOf x s.piece) same s.is) in
+    let s : Stands (get_or X from d) ps from = piece_at X ps from d h i in
+    let r = g s.piece s.is in
+    let later = w ps h in
     let splice : Splice Piece = record { from = from; until = until; put = separator_if b ++ (r.0 ++ separator_if a) } in
-    let front : ArePieces (parts_view (take (from - 0) xs)) (take (from - 0) ps) =
-    subst (λ (zs : List Part). ArePieces zs (take (from - 0) ps)) (take-map part_view (from - 0) xs) (take_pieces (from - 0) X ps h) in
-    let none : until - 0 ≡ until = omega arith in
-    let same_from : from - 0 ≡ from = omega arith in
-    let back : ArePieces (parts_view (drop until xs)) (drop (until - 0) ps) =
-    subst (λ n. ArePieces (parts_view (drop until xs)) (drop n ps)) (sym none)
-    (subst (λ (zs : List Part). ArePieces zs (drop until ps)) (drop-map part_view until xs) (drop_pieces until X ps h)) in
+    let front : ArePieces (take (from - done) (drop done X)) (take (from - done) (drop done ps)) =
+    take_pieces (from - done) (drop done X) (drop done ps) (drop_pieces done X ps h) in
     let middle : GivePieces (separator_parts b ++ (put ++ separator_parts a)) splice.put =
     pieces_both (separator_parts b) (put ++ separator_parts a) (separator_if b) (r.0 ++ separator_if a) (separator_gives b)
     (pieces_both put (separator_parts a) r.0 (separator_if a) r.2 (separator_gives a)) in
-    let later : GivePieces ((separator_parts b ++ (put ++ separator_parts a)) ++ parts_view (drop until xs)) (splice.put ++ drop (until - 0) ps) =
-    pieces_both (separator_parts b ++ (put ++ separator_parts a)) (parts_view (drop until xs)) splice.put (drop (until - 0) ps) middle
-    (pieces_give (parts_view (drop until xs)) (drop (until - 0) ps) back) in
-    let all : GivePieces (parts_view (take (from - 0) xs) ++ ((separator_parts b ++ (put ++ separator_parts a)) ++ parts_view (drop until xs))) (with_splices ps (splice ∷ [])) =
-    pieces_both (parts_view (take (from - 0) xs)) ((separator_parts b ++ (put ++ separator_parts a)) ++ parts_view (drop until xs)) (take (from - 0) ps) (splice.put ++ drop (until - 0) ps)
-    (pieces_give (parts_view (take (from - 0) xs)) (take (from - 0) ps) front) later in (
-      splice,
-      record {
-        from = refl;
-        until = refl;
-        place = s.piece;
-        stands = s.stands;
-        put = r.0;
-        are_put = r.1;
-        before = b;
-        after = a;
-        is = refl;
-      },
-      subst (λ (zs : List Part). GivePieces zs (with_splices ps (splice ∷ [])))
-          (sym (e ∙ ap (λ n. (((parts_view (take n xs) ++ separator_parts b) ++ put) ++ separator_parts a) ++ parts_view (drop until xs)) (sym same_from) ∙ regrouped (parts_view (take (from - 0) xs)) (separator_parts b) put (separator_parts a) (parts_view (drop until xs)))) all,
-    )
+    let sum : done + (until - done) ≡ until = omega arith in
+    let same : drop (until - done) (drop done ps) ≡ drop until ps = drop-drop (until - done) done ps ∙ ap (λ n. drop n ps) sum in
+    let back : GivePieces rest (with_splices_from until (drop (until - done) (drop done ps)) later.splices) =
+    subst (λ (qs : List Piece). GivePieces rest (with_splices_from until qs later.splices)) (sym same) later.gives in
+    record {
+      splices = splice ∷ later.splices;
+      ordered = in_order done from until (length ps) (are_ordered until (length ps) asks) l o (subst (λ n. until ≤ n) (sym (length_pieces X ps h)) u) later.ordered;
+      asked = (
+        record {
+          from = refl;
+          until = refl;
+          place = s.piece;
+          stands = s.stands;
+          put = r.0;
+          are_put = r.1;
+          before = b;
+          after = a;
+          is = refl;
+        },
+        later.asked,
+      );
+      gives = pieces_both (take (from - done) (drop done X)) ((separator_parts b ++ (put ++ separator_parts a)) ++ rest) (take (from - done) (drop done ps)) (splice.put ++ with_splices_from until (drop (until - done) (drop done ps)) later.splices)
+          (pieces_give (take (from - done) (drop done X)) (take (from - done) (drop done ps)) front)
+          (pieces_both (separator_parts b ++ (put ++ separator_parts a)) rest splice.put (with_splices_from until (drop (until - done) (drop done ps)) later.splices) middle back);
+    }
 
-pub all_joined : (none one two three four five a b c d e : List Part) → none ≡ [] → one ≡ none ++ a → two ≡ one ++ b → three ≡ two ++ c → four ≡ three ++ d → five ≡ four ++ e →
-    five ≡ (((a ++ b) ++ c) ++ d) ++ e
-all_joined none one two three four five a b c d e n h i j k l =
-    l ∙ ap (λ u. u ++ e) (k ∙ ap (λ u. u ++ d) (j ∙ ap (λ u. u ++ c) (i ∙ ap (λ u. u ++ b) (h ∙ ap (λ u. u ++ a) n))))
+-- nothing more is asked for
+pub end_wanted : (X : List Part) (done : ℕ) → IsWantedFrom done [] X (drop done X)
+end_wanted X done = λ ps h. record {
+  splices = [];
+  ordered = refl;
+  asked = tt;
+  gives = pieces_give (drop done X) (drop done ps) (drop_pieces done X ps h);
+}
+
+regrouped : (old t b p a rest : List Part) → ((((old ++ t) ++ b) ++ p) ++ a) ++ rest ≡ old ++ (t ++ ((b ++ (p ++ a)) ++ rest))
+regrouped old t b p a rest = simp append_assoc
+
+pub first_of : (xs : List CodePart) (n : ℕ) → n < length xs → CodePart
+first_of [] n l = absurd (omega arith)
+first_of (x ∷ xs) n l = x
+
+-- the same of the parts that the code has
+pub step_more : (xs : List CodePart) (done : ℕ) (ask : Splice Put) (asks all : List (Splice Put)) (d : CodePart) (put old now : List Part) (b a : Bool) →
+    done ≤ ask.from → ask.from < length xs → ask.from ≤ ask.until → ask.until ≤ length xs →
+    ((place : Part) → slice_get (parts_view xs) ask.from ≡ Some place → GivePut ask.put place put) →
+    now ≡ (((old ++ parts_view (take (ask.from - done) (drop done xs))) ++ separator_parts b) ++ put) ++ separator_parts a →
+    ((rest : List Part) → IsWantedFrom done (ask ∷ asks) (parts_view xs) rest → IsWantedFrom 0 all (parts_view xs) (old ++ rest)) →
+    (rest : List Part) → IsWantedFrom ask.until asks (parts_view xs) rest → IsWantedFrom 0 all (parts_view xs) (now ++ rest)
+step_more xs done ask asks all d put old now b a l i o u g e h rest w =
+    let X : List Part = parts_view xs in
+    let k : ℕ = ask.from - done in
+    let inside : ask.from < length X = omega (arith, length_view xs) in
+    let ends : ask.until ≤ length X = omega (arith, length_view xs) in
+    let viewed : take k (drop done X) ≡ parts_view (take k (drop done xs)) = ap (take k) (drop-map part_view done xs) ∙ take-map part_view k (drop done xs) in
+    let here : GivePut ask.put (get_or X ask.from (part_view d)) put = g (get_or X ask.from (part_view d)) (slice_get-get_or X ask.from (part_view d) inside) in
+    let step = h (take k (drop done X) ++ ((separator_parts b ++ (put ++ separator_parts a)) ++ rest)) (step_wanted X done ask asks (part_view d) put rest b a l inside o ends here w) in
+    subst (λ (zs : List Part). IsWantedFrom 0 all X zs)
+    (ap (λ (t : List Part). old ++ (t ++ ((separator_parts b ++ (put ++ separator_parts a)) ++ rest))) viewed
+    ∙ sym (ap (λ (zs : List Part). zs ++ rest) e ∙ regrouped old (parts_view (take k (drop done xs))) (separator_parts b) put (separator_parts a) rest)) step
+
+pub all_wanted : (xs : List CodePart) (done : ℕ) (all : List (Splice Put)) (old now : List Part) → now ≡ old ++ parts_view (drop done xs) →
+    ((rest : List Part) → IsWantedFrom done [] (parts_view xs) rest → IsWantedFrom 0 all (parts_view xs) (old ++ rest)) → IsWantedFrom 0 all (parts_view xs) now
+all_wanted xs done all old now e h =
+    subst (λ (zs : List Part). IsWantedFrom 0 all (parts_view xs) zs) (ap (λ (zs : List Part). old ++ zs) (drop-map part_view done xs) ∙ sym e)
+    (h (drop done (parts_view xs)) (end_wanted (parts_view xs) done))

@@ -1,9 +1,13 @@
 -- What the code asks for, as the definitions have it.
-use Rattle.std.specs.Prelude.{◌≡◌, ℕ, suc, ◌==◌, ◌&&◌, ◌||◌, Bool, true, false, List, [], ◌∷◌, ◌++◌, codes, Option, Some, None, ⊤}
+use Rattle.std.specs.Prelude.{◌≡◌, ℕ, suc, ◌==◌, ◌&&◌, ◌||◌, Bool, true, false, List, [], ◌∷◌, ◌++◌, length, drop, map, codes, Option, Some, None, ⊤}
+use Rattle.std.specs.List.{slice_get}
+use Rattle.std.specs.Option.{option_to_list}
 use Rattle.std.specs.Str.{bytes_eq}
-use Rattle.tl_html_spec.specs.HtmlTokenizer.{EndTag}
+use Rattle.tl_html_spec.specs.HtmlTokenizer.{EndTag, HtmlToken}
 use Rattle.tl_html_spec.specs.Pieces.{Piece, bytes_of, pieces_of, tokens_in}
+use Rattle.tl_html_tags.specs.Parts.{name_of}
 use Rattle.tl_html_tokens.specs.Characters.{characters_of}
+use Rattle.tl_html_tokens.specs.Kinds.{IsKind}
 use Rattle.tl_html_tokens.specs.Whole.{IsWhole}
 use Rattle.tl_html_tokens.specs.declared.stage.TokenKind.{TokenKind}
 use Rattle.tl_html_tokens.specs.declared.stage.TokenKind.TheVariants as kind
@@ -11,21 +15,42 @@ use Rattle.tl_html_tokens.specs.declared.token.Token.{Token}
 use Rattle.tl_html_tokens.specs.declared.mode.Mode.{Mode}
 use Rattle.tl_html_tokens.specs.declared.mode.Mode.TheVariants as mode
 use Rattle.tl_patch_edit.specs.declared.ask.Ask.{Ask}
+use Rattle.tl_patch_edit.specs.declared.ask.PlacedAsk.{PlacedAsk}
+use Rattle.tl_patch_edit.specs.declared.ask.Planned.{Planned}
+use Rattle.tl_patch_edit.specs.declared.ask.Start.{Start}
 use Rattle.tl_patch_edit.specs.declared.ask.Put.{Put as CodePut}
 use Rattle.tl_patch_edit.specs.declared.ask.Put.TheVariants as put
-use Rattle.tl_patch_edit.specs.Parts.{ArePieces, Give, IsPieceOf, Part}
+use Rattle.tl_patch_edit.specs.declared.tag.ReadyAsk.{ReadyAsk}
+use Rattle.tl_patch_edit.specs.Parts.{ArePieces, Give, IsPieceOf, Part, Says}
 use Rattle.tl_patch_spec.specs.Markup.{text_markup}
-use Rattle.tl_patch_spec.specs.Patches.{ArePut, Alone, Content, Dropped, Extent, Implied, IsAsked, Markup, NewContent, NewEndTag, Patch, Append, Fill, Prepend, PutAfter, PutBefore, Put, ReplaceWith, Text, Unclosed, Whole}
-use Rattle.tl_patch_spec.specs.Splices.{Splice, with_splices}
+use Rattle.tl_patch_spec.specs.Patches.{ArePut, Alone, AreAskedOne, Changed, Content, Dropped, Extent, Implied, IsNamed, Markup, NewContent, NewEndTag, Patch, Append, Fill, Prepend, PutAfter, PutBefore, Put, ReplaceWith, Text, Unclosed, Whole, put_instead}
+use Rattle.tl_patch_spec.specs.Splices.{Splice, are_ordered, with_splices_from}
+use Rattle.tl_patch_spec.specs.TagChanges.{Rename, changed_token}
 
--- what is put by a patch with this content on an element of this name
-abbrev pub puts_view : Content → List ℕ → CodePut → List Put
-puts_view c name put.Nothing = []
-puts_view c name put.Content = NewContent c ∷ []
-puts_view c name put.EndTagAndContent = NewEndTag name ∷ NewContent c ∷ []
+-- what is put by a patch with this content
+abbrev pub puts_view : Content → CodePut → List Put
+puts_view c put.Nothing = []
+puts_view c put.Content = NewContent c ∷ []
+puts_view c (put.EndTagAndContent raw) = NewEndTag (name_of raw.now) ∷ NewContent c ∷ []
+puts_view c (put.EndTag name) = NewEndTag name.now ∷ []
+puts_view c (put.Renamed name) = Changed (Rename name.now) ∷ []
 
-abbrev pub ask_view : Content → List ℕ → Ask → Splice Put
-ask_view c name a = record { from = a.from; until = a.until; put = puts_view c name a.put }
+abbrev pub ask_view : Content → Ask → Splice Put
+ask_view c a = record { from = a.from; until = a.until; put = puts_view c a.put }
+
+abbrev pub planned_view : Content → Planned → List (Splice Put)
+planned_view c p = ask_view c p.first ∷ map (ask_view c) (option_to_list p.second)
+
+-- what is asked of elements, without them
+abbrev pub asks_view : Content → List PlacedAsk → List (Splice Put)
+asks_view c asks = map (λ (p : PlacedAsk). ask_view c p.ask) asks
+
+abbrev pub placed_at : Start → Ask → PlacedAsk
+placed_at start ask = record { start = start; ask = ask }
+
+-- of the element of this start tag
+abbrev pub placed_view : Start → Planned → List PlacedAsk
+placed_view start p = placed_at start p.first ∷ map (placed_at start) (option_to_list p.second)
 
 -- the content of a patch; none is a text without bytes
 abbrev pub content_of : Patch → Content
@@ -76,9 +101,17 @@ inside_end (Unclosed m) = Some m
 inside_end _ = None
 
 -- an end tag is put in where one is left out
-abbrev pub put_after : Extent → CodePut
-put_after (Implied m) = put.EndTagAndContent
-put_after _ = put.Content
+abbrev pub put_after : Extent → List ℕ → Content → List Put
+put_after (Implied m) name c = NewEndTag name ∷ NewContent c ∷ []
+put_after _ name c = NewContent c ∷ []
+
+-- the same in the place of the start tag, and of its own end tag
+abbrev pub tags_asked : ℕ → Extent → List Put → Option (List (Splice Put))
+tags_asked n Alone put = Some (put_instead n (suc n) put ∷ [])
+tags_asked n (Whole m) put =
+    Some (put_instead n (suc n) put ∷ put_instead m (suc m) put ∷ [])
+tags_asked n (Implied m) put = Some (put_instead n (suc n) put ∷ [])
+tags_asked n _ put = None
 
 abbrev pub text_of : Content → List ℕ
 text_of (Text text) = text
@@ -94,26 +127,72 @@ IsMarkupOf (Markup markup) parts =
 abbrev pub end_tag_bytes : List ℕ → List ℕ
 end_tag_bytes name = codes "</" ++ (name ++ codes ">")
 
--- what is put is made ready: a text as it stands in markup, the parts of markup, and an end tag
-pub record IsReady (c : Content) (name escaped : List ℕ) (markup : List Part) (end_tag : List ℕ) :
-    Type 0 where
+pub record IsEndTagOf (name tag : List ℕ) : Type 0 where
+  pub is : tag ≡ end_tag_bytes name
+  pub whole : IsWhole mode.Data tag (EndTag name ∷ [])
+
+-- an end tag with another name
+pub record IsRenamedEnd (name tag new : List ℕ) : Type 0 where
+  pub named : IsNamed name tag new
+  pub whole : IsWhole mode.Data new (EndTag name ∷ [])
+
+-- a tag of a page with another name: it says what it said but for that
+pub record IsRenamedTag (name : List ℕ) (place : Part) (new : List ℕ) : Type 0 where
+  pub named : IsNamed name place.bytes new
+  pub in_data : place.mode ≡ mode.Data
+  pub says : (ts : List HtmlToken) → IsKind place.kind ts →
+      Says place.kind place.mode place.bytes ts →
+      Says place.kind mode.Data new (map (changed_token (Rename name)) ts)
+
+-- the tag that is put at a part, by itself
+abbrev pub IsTagFor : CodePut → Part → List ℕ → Type 0
+IsTagFor put.Nothing place tag = ⊤
+IsTagFor put.Content place tag = ⊤
+IsTagFor (put.EndTagAndContent raw) place tag = IsEndTagOf (name_of raw.now) tag
+IsTagFor (put.EndTag name) place tag = IsEndTagOf name.now tag
+IsTagFor (put.Renamed name) place tag = IsRenamedTag name.now place tag
+
+abbrev pub IsTagAt : List Part → Ask → List ℕ → Type 0
+IsTagAt parts ask tag =
+    (place : Part) → slice_get parts ask.from ≡ Some place → IsTagFor ask.put place tag
+
+-- parts are what is put for an ask
+abbrev pub GivePutFor : Content → Ask → List Part → List Part → Type 0
+GivePutFor c ask parts put = (place : Part) → slice_get parts ask.from ≡ Some place →
+    GivePut (puts_view c ask.put) place put
+
+abbrev pub IsTagged : List Part → ReadyAsk → Type 0
+IsTagged parts ready = IsTagAt parts ready.placed.ask ready.tag.items
+
+abbrev pub placed_of : List ReadyAsk → List PlacedAsk
+placed_of ready = map (λ (r : ReadyAsk). r.placed) ready
+
+-- the content is made ready: a text as it stands in markup, and the parts of markup
+pub record IsReady (c : Content) (escaped : List ℕ) (markup : List Part) : Type 0 where
   pub text : escaped ≡ text_markup (text_of c)
   pub parts : IsMarkupOf c markup
-  pub tag : end_tag ≡ end_tag_bytes name
-  pub whole : IsWhole mode.Data end_tag (EndTag name ∷ [])
 
 -- a text that is read as it was given
 pub record IsTextPart (m : Mode) (text : List ℕ) (part : Part) : Type 0 where
   pub is : part ≡ record { kind = kind.Text; mode = m; bytes = text_form m text }
   pub said : characters_of m (text_form m text) ≡ text
 
--- parts are a page with the splice that is asked for
-abbrev pub IsWanted : Splice Put → List Part → List Part → Type 0
-IsWanted ask parts wanted =
-    (ps : List Piece) → ArePieces parts ps →
-    (splice : Splice Piece) × IsAsked ps ask splice
-    × Give wanted (bytes_of (with_splices ps (splice ∷ [])))
-    (tokens_in (with_splices ps (splice ∷ [])))
+-- parts are pieces from a place on, with the splices that are asked for
+pub record IsSplicedFrom (done : ℕ) (asks : List (Splice Put)) (ps : List Piece)
+    (wanted : List Part) : Type 0 where
+  pub splices : List (Splice Piece)
+  pub ordered : are_ordered done (length ps) asks ≡ true
+  pub asked : AreAskedOne ps asks splices
+  pub gives : Give wanted (bytes_of (with_splices_from done (drop done ps) splices))
+      (tokens_in (with_splices_from done (drop done ps) splices))
+
+abbrev pub IsWantedFrom : ℕ → List (Splice Put) → List Part → List Part → Type 0
+IsWantedFrom done asks parts wanted =
+    (ps : List Piece) → ArePieces parts ps → IsSplicedFrom done asks ps wanted
+
+-- parts are a page with the splices that are asked for
+abbrev pub IsWanted : List (Splice Put) → List Part → List Part → Type 0
+IsWanted asks parts wanted = IsWantedFrom 0 asks parts wanted
 
 abbrev pub is_end_kind : TokenKind → Bool
 is_end_kind kind.EndTag = true
@@ -132,3 +211,6 @@ is_one_end_tag _ len = false
 abbrev pub is_document_name : List ℕ → Bool
 is_document_name name =
     bytes_eq name (codes "html") || bytes_eq name (codes "head") || bytes_eq name (codes "body")
+
+abbrev pub is_script_name : List ℕ → Bool
+is_script_name name = bytes_eq name (codes "script") || bytes_eq name (codes "plaintext")

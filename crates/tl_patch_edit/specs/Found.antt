@@ -1,19 +1,17 @@
 -- The tag that is meant, and the page that is written.
-use Rattle.std.specs.Prelude.{◌≡◌, ◌==◌, ℕ, Bool, true, false, List, [], ◌∷◌, Some}
+use Rattle.std.specs.Prelude.{◌≡◌, ◌==◌, ℕ, Bool, true, false, List, [], ◌∷◌, length, Some}
 use Rattle.std.specs.List.{slice_get, starts_with}
-use Rattle.tl_html_spec.specs.HtmlTokenizer.{EndTag, HtmlToken, html_tokens, without_mark}
-use Rattle.tl_html_spec.specs.Pieces.{Piece, bytes_of, tokens_in}
+use Rattle.tl_html_spec.specs.HtmlTokenizer.{HtmlToken, html_tokens, without_mark}
+use Rattle.tl_html_spec.specs.Pieces.{Piece, bytes_of, pieces, placed, runs, tokens_in}
 use Rattle.tl_html_tokens.specs.Kinds.{IsStartTag}
 use Rattle.tl_html_tokens.specs.Tokens.{mark_len}
-use Rattle.tl_html_tokens.specs.Whole.{IsWhole}
+use Rattle.tl_html_tokens.specs.Whole.{IsWhole, bytes_at}
 use Rattle.tl_html_tokens.specs.declared.mode.Mode.{Mode}
-use Rattle.tl_html_tokens.specs.declared.mode.Mode.TheVariants as mode
 use Rattle.tl_html_tokens.specs.declared.stage.TokenKind.TheVariants as kind
 use Rattle.tl_html_tokens.specs.declared.token.Token.{Token}
-use Rattle.tl_patch_edit.specs.Asks.{end_tag_bytes}
 use Rattle.tl_patch_edit.specs.Parts.{ArePieces, Part, Say, part_bytes}
-use Rattle.tl_patch_spec.specs.Patches.{IsAsked, Put, start_name}
-use Rattle.tl_patch_spec.specs.Splices.{Splice, with_splices}
+use Rattle.tl_patch_spec.specs.Patches.{AreAskedOne, Put, start_name}
+use Rattle.tl_patch_spec.specs.Splices.{Splice, are_ordered, with_splices}
 
 -- the token of this number is a start tag at this place
 pub record IsStartAt (tokens : List Token) (place number : ℕ) (token : Token) : Type 0 where
@@ -21,14 +19,19 @@ pub record IsStartAt (tokens : List Token) (place number : ℕ) (token : Token) 
   pub start : token.start ≡ place
   pub kind : token.kind ≡ kind.StartTag
 
+-- a start tag of a page, with its piece
+pub record IsStartOf (page : List ℕ) (number : ℕ) (token : Token) : Type 0 where
+  pub piece : Piece
+  pub begins : slice_get (placed (mark_len page) (runs (pieces page))) number
+      ≡ Some (token.start, piece)
+  pub stands : slice_get (runs (pieces page)) number ≡ Some piece
+  pub whole : IsWhole token.mode (bytes_at page token) piece.tokens
+  pub start : IsStartTag piece.tokens
+
 -- the name of a start tag by itself, in lower case
 pub record IsTagName (bytes name : List ℕ) : Type 0 where
   pub named : (m : Mode) (ts : List HtmlToken) → IsWhole m bytes ts → IsStartTag ts →
       start_name ts ≡ Some name
-
-pub record IsEndTagOf (name tag : List ℕ) : Type 0 where
-  pub is : tag ≡ end_tag_bytes name
-  pub whole : IsWhole mode.Data tag (EndTag name ∷ [])
 
 abbrev pub has_mark : List ℕ → Bool
 has_mark page = starts_with ◌==◌ page (0xEF ∷ 0xBB ∷ 0xBF ∷ [])
@@ -43,14 +46,16 @@ pub record IsReadAs (page : List ℕ) (parts : List Part) (text : List ℕ) : Ty
   pub bytes : without_mark text ≡ part_bytes parts
   pub tokens : (ts : List HtmlToken) → Say parts ts → html_tokens text ≡ ts
 
--- text is a page of these parts with the splice that is asked for, and is read so
-pub record IsSplicedPage (ask : Splice Put) (page text : List ℕ) (ps : List Piece) : Type 0 where
-  pub splice : Splice Piece
-  pub asked : IsAsked ps ask splice
+-- text is a page of these parts with the splices that are asked for, in order, and is read so
+pub record IsSplicedPage (asks : List (Splice Put)) (page text : List ℕ) (ps : List Piece) :
+    Type 0 where
+  pub splices : List (Splice Piece)
+  pub ordered : are_ordered 0 (length ps) asks ≡ true
+  pub asked : AreAskedOne ps asks splices
   pub mark : mark_len text ≡ mark_len page
-  pub bytes : without_mark text ≡ bytes_of (with_splices ps (splice ∷ []))
-  pub tokens : html_tokens text ≡ tokens_in (with_splices ps (splice ∷ []))
+  pub bytes : without_mark text ≡ bytes_of (with_splices ps splices)
+  pub tokens : html_tokens text ≡ tokens_in (with_splices ps splices)
 
-abbrev pub IsSplicedPageOf : Splice Put → List Part → List ℕ → List ℕ → Type 0
-IsSplicedPageOf ask parts page text =
-    (ps : List Piece) → ArePieces parts ps → IsSplicedPage ask page text ps
+abbrev pub IsSplicedPageOf : List (Splice Put) → List Part → List ℕ → List ℕ → Type 0
+IsSplicedPageOf asks parts page text =
+    (ps : List Piece) → ArePieces parts ps → IsSplicedPage asks page text ps

@@ -3,3 +3,4 @@ pub mod Parts
 pub mod Asks
 pub mod Found
 pub mod Edited
+pub mod Several

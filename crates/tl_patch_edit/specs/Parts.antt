@@ -4,6 +4,7 @@ use Rattle.tl_html_spec.specs.HtmlTokenizer.{Character, CommentToken, DoctypeTok
 use Rattle.tl_html_spec.specs.Pieces.{Piece}
 use Rattle.tl_html_tokens.specs.Characters.{characters_of}
 use Rattle.tl_html_tokens.specs.Comments.{comment_of}
+use Rattle.tl_html_tokens.specs.Kinds.{IsKind}
 use Rattle.tl_html_tokens.specs.Modes.{state_of}
 use Rattle.tl_html_tokens.specs.Whole.{IsWhole, bytes_at}
 use Rattle.tl_html_tokens.specs.declared.mode.Mode.{Mode}
@@ -42,6 +43,7 @@ Says kind.EndTag mode bytes ts = IsWhole mode bytes ts
 pub record IsPieceOf (part : Part) (p : Piece) : Type 0 where
   pub rest : p.rest ≡ state_of part.mode
   pub bytes : p.bytes ≡ part.bytes
+  pub kind : IsKind part.kind p.tokens
   pub says : Says part.kind part.mode part.bytes p.tokens
 
 -- one by one

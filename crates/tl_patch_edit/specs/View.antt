@@ -5,14 +5,16 @@ use Rattle.tl_patch_edit.specs.declared.ask.ElementPatch.{ElementPatch}
 use Rattle.tl_patch_edit.specs.declared.ask.ElementPatch.TheVariants as patch
 use Rattle.tl_patch_edit.specs.declared.ask.Extent.{Extent as CodeExtent}
 use Rattle.tl_patch_edit.specs.declared.ask.Extent.TheVariants as extent
-use Rattle.tl_patch_spec.specs.Patches.{Alone, Append, Content, Dropped, Extent, Fill, Implied, Markup, Patch, Prepend, PutAfter, PutBefore, Remove, ReplaceWith, Text, Unclosed, Whole}
+use Rattle.tl_patch_spec.specs.Patches.{Alone, Append, Content, Dropped, Extent, Fill, Implied, Markup, Patch, Prepend, PutAfter, PutBefore, Remove, RenameElement, ReplaceWith, Text, Unclosed, Unwrap, Whole}
 
 abbrev pub content_view : CodeContent → Content
 content_view (content.Text text) = Text text.now
 content_view (content.Markup markup) = Markup markup.now
 
 abbrev pub patch_view : ElementPatch → Patch
+patch_view (patch.Rename name) = RenameElement name.now
 patch_view patch.Remove = Remove
+patch_view patch.Unwrap = Unwrap
 patch_view (patch.ReplaceWith c) = ReplaceWith (content_view c)
 patch_view (patch.Fill c) = Fill (content_view c)
 patch_view (patch.Prepend c) = Prepend (content_view c)

@@ -1,14 +1,14 @@
 //! What a patch asks for.
 ghost use Rattle.std.specs.Prelude.{◌≡◌, ◌==◌, IfOk, IfSome, Some};
-ghost use Rattle.tl_patch_spec.specs.Patches.{extent_in, extent_of, may_lack_end_tag};
+ghost use Rattle.tl_patch_spec.specs.Patches.{extent_in, extent_of};
 ghost use Rattle.tl_patch_elements.specs.View.{element_view, elements_view};
-ghost use Rattle.tl_patch_edit.specs.Asks.{inner_end, inside_end, is_document_name, put_after, until_of};
+ghost use Rattle.tl_patch_edit.specs.Asks.{inner_end, inside_end, until_of};
 ghost use Rattle.tl_patch_edit.specs.View.{extent_view};
 
+use crate::element_name::may_lack_end_tag;
 use std::alloc::{AllocError, Global};
+use tl_html_tokens::Token;
 use tl_html_write::lower_name;
-use tl_names::elements::{IMPLIED_ENDS, TABLE_PARTS};
-use tl_names::is_among;
 use tl_patch_elements::Element;
 
 /// What is put into a page.
@@ -23,8 +23,12 @@ pub enum Content<'a> {
 /// What is done with an element.
 #[derive(Clone, Copy, Debug)]
 pub enum ElementPatch<'a> {
+    /// It gets another name; its attributes stay as they stand.
+    Rename { name: &'a [u8] },
     /// It goes.
     Remove,
+    /// Its tags go, and what is in it stays.
+    Unwrap,
     /// Something stands in its place.
     ReplaceWith { content: Content<'a> },
     /// Something stands in the place of what is in it.
@@ -51,45 +55,48 @@ pub(crate) enum Extent {
     Unclosed { end: usize },
 }
 
-// What is put: nothing, the content, or the content after an end tag.
+// A start tag, by its number among the tokens.
 #[derive(Clone, Copy)]
-pub(crate) enum Put {
+pub(crate) struct Start {
+    pub(crate) number: usize,
+    pub(crate) token: Token,
+}
+
+// What is put: nothing, the content, the content after an end tag of a name as it stands in a start
+// tag, an end tag of a name, or the tag that stood there with another name.
+#[derive(Clone, Copy)]
+pub(crate) enum Put<'n> {
     Nothing,
     Content,
-    EndTagAndContent,
+    EndTagAndContent { raw: &'n [u8] },
+    EndTag { name: &'n [u8] },
+    Renamed { name: &'n [u8] },
 }
 
 // What is put in the place of some tokens.
 #[derive(Clone, Copy)]
-pub(crate) struct Ask {
+pub(crate) struct Ask<'n> {
     pub(crate) from: usize,
     pub(crate) until: usize,
-    pub(crate) put: Put,
+    pub(crate) put: Put<'n>,
 }
 
-fn is_document_name(name: &[u8]) -> bool
-    ensures { result ≡ is_document_name name.now }
-{
-    name == b"html".as_slice() || name == b"head".as_slice() || name == b"body".as_slice()
+// An ask of the element of a start tag.
+#[derive(Clone, Copy)]
+pub(crate) struct PlacedAsk<'n> {
+    pub(crate) start: Start,
+    pub(crate) ask: Ask<'n>,
 }
 
-// Whether the end tag of an element may be left out.
-fn may_lack_end_tag(name: &[u8]) -> bool
-    ensures { result ≡ may_lack_end_tag name.now }
-{
-    let is_implied = is_among(&IMPLIED_ENDS, name);
-    if is_implied {
-        return true;
-    }
-    let is_part = is_among(&TABLE_PARTS, name);
-    if is_part {
-        return true;
-    }
-    is_document_name(name)
+// What a patch asks for of one element.
+#[derive(Clone, Copy)]
+pub(crate) struct Planned<'n> {
+    pub(crate) first: Ask<'n>,
+    pub(crate) second: Option<Ask<'n>>,
 }
 
 // How far an element goes.
-fn extent_of(alloc: Global, element: &Element<'_>) -> Result<Extent, AllocError>
+pub(crate) fn extent_of(alloc: Global, element: &Element<'_>) -> Result<Extent, AllocError>
     ensures { IfOk result (λ extent.
         extent_view extent ≡ extent_of (element_view element.now)) }
 {
@@ -162,14 +169,5 @@ pub(crate) fn inside_end(extent: Extent) -> Option<usize>
         Extent::Implied { end } => Some(end),
         Extent::Unclosed { end } => Some(end),
         _ => None,
-    }
-}
-
-pub(crate) fn put_after(extent: Extent) -> Put
-    ensures { result ≡ put_after (extent_view extent) }
-{
-    match extent {
-        Extent::Implied { .. } => Put::EndTagAndContent,
-        _ => Put::Content,
     }
 }

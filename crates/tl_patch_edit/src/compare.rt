@@ -155,6 +155,14 @@ fn first_step(parts: &[Part<'_>], others: &[Part<'_>]) -> Option<(usize, usize)>
     Some((1, 1))
 }
 
+// Whether so many texts have to be joined, to be compared with so many others: some are several, or
+// a text has no bytes.
+fn are_joined(count: usize, other_count: usize) -> bool
+    ensures { result ≡ true → 0 < count + other_count }
+{
+    count != other_count || count > 1
+}
+
 // How many parts say what so many others say, if some do.
 fn step(
     alloc: Global,
@@ -174,7 +182,8 @@ fn step(
     }
     let count = texts(parts);
     let other_count = texts(others);
-    if count.max(other_count) > 1 {
+    let are_joined = are_joined(count, other_count);
+    if are_joined {
         return text_step(alloc, parts, others, count, other_count);
     }
     Ok(first_step(parts, others))

@@ -1,35 +1,30 @@
 //! A page with one element changed.
-ghost use Rattle.std.specs.Prelude.{◌≡◌, ◌<◌, ◌≤◌, ◌++◌, ◌∷◌, [], ℕ, List, IfOk, IfSome, OnOk, Some, length, true};
+ghost use Rattle.std.specs.Prelude.{◌≡◌, ◌≤◌, ◌++◌, List, IfOk, IfSome, OnOk, Some, true};
 ghost use Rattle.tl_html_spec.specs.HtmlTokenizer.{HtmlToken, html_tokens};
+ghost use Rattle.tl_html_tags.specs.Parts.{name_of};
 ghost use Rattle.tl_html_tokens.specs.declared.stage.TokenKind.TheVariants.{StartTag};
-ghost use Rattle.tl_html_write.specs.Names.{name_view};
-ghost use Rattle.tl_patch_edit.specs.Asks.{IsMarkupOf, IsReady, IsWanted, ask_view, content_of};
+ghost use Rattle.tl_patch_edit.specs.Asks.{IsMarkupOf, asks_view, content_of, placed_view, planned_view};
 ghost use Rattle.tl_patch_edit.specs.Edited.{IsEdited};
-ghost use Rattle.tl_patch_edit.specs.Found.{IsEndTagOf, IsReadAs, IsSplicedPageOf, IsStartAt, IsTagName, has_mark, mark_bytes};
+ghost use Rattle.tl_patch_edit.specs.Found.{IsReadAs, IsSplicedPageOf, IsStartAt, IsStartOf, IsTagName, has_mark, mark_bytes};
 ghost use Rattle.tl_patch_edit.specs.Parts.{Say, part_bytes, parts_view};
 ghost use Rattle.tl_patch_edit.specs.View.{content_view, extent_view, patch_view};
-ghost use Rattle.tl_patch_spec.specs.Patches.{asked};
+ghost use Rattle.tl_html_spec.specs.Pieces.{pieces, runs};
+ghost use Rattle.tl_patch_spec.specs.Elements.{elements};
+ghost use Rattle.tl_patch_spec.specs.Patches.{asked, asked_of, extent_in};
 
-use crate::ask::{Ask, Content, ElementPatch, Extent, extent_in};
+use crate::ask::{Content, ElementPatch, Extent, PlacedAsk, Planned, Start, extent_in};
 use crate::compare::are_same;
 use crate::error::EditError;
 use crate::part::{Part, parts_of, token_bytes, write};
 use crate::plan::plan;
 use crate::put::Ready;
-use crate::ready::{content_of, end_tag, escaped_text, has_mark, markup_parts};
+use crate::ready::{content_of, escaped_text, has_mark, markup_parts};
+use crate::tag::ready_asks;
 use crate::wanted::wanted_parts;
 use std::alloc::{AllocError, Global};
 use tl_html_tags::tag_parts;
 use tl_html_tokens::{Token, TokenKind, tokens};
-use tl_html_write::{LowerName, lower_name};
 use tl_patch_elements::elements;
-
-// A start tag, by its number among the tokens.
-#[derive(Clone, Copy)]
-struct Start {
-    number: usize,
-    token: Token,
-}
 
 // Whether a token is a start tag at a place.
 fn is_start_at(token: &Token, place: usize) -> bool
@@ -39,11 +34,13 @@ fn is_start_at(token: &Token, place: usize) -> bool
     token.start == place && matches!(token.kind, TokenKind::StartTag)
 }
 
-// The start tag that begins at a place.
-fn start_at(tokens: &[Token], place: usize) -> Option<Start>
-    ensures { IfSome result (λ start. IsStartAt tokens.now place start.number start.token) }
+// The start tag that begins at a place, sought from a number on.
+fn start_from(tokens: &[Token], from: usize, place: usize) -> Option<Start>
+    ensures start { IfSome result (λ start.
+        IsStartAt tokens.now place start.number start.token) }
+    ensures order { IfSome result (λ start. from ≤ start.number) }
 {
-    for at in 0..tokens.len() {
+    for at in from..tokens.len() {
         let is_it = is_start_at(&tokens[at], place);
         if is_it {
             return Some(Start {
@@ -55,13 +52,12 @@ fn start_at(tokens: &[Token], place: usize) -> Option<Start>
     None
 }
 
-// The name of a start tag.
-fn tag_name<'p>(alloc: Global, bytes: &'p [u8]) -> Result<LowerName<'p>, AllocError>
-    ensures { IfOk result (λ name. IsTagName bytes.now (name_view name)) }
+// The name of a start tag, as it stands there.
+fn tag_name<'p>(alloc: Global, bytes: &'p [u8]) -> Result<&'p [u8], AllocError>
+    ensures { IfOk result (λ name. IsTagName bytes.now (name_of name.now)) }
 {
     let parts = tag_parts(alloc, bytes)?;
-    let name = lower_name(alloc, parts.name)?;
-    Ok(name)
+    Ok(parts.name)
 }
 
 // Whether a text is read as these parts.
@@ -124,15 +120,6 @@ fn read_again(
     Ok(text)
 }
 
-fn written_tag(alloc: Global, name: &[u8], place: usize) -> Result<Vec<u8>, EditError>
-    ensures { IfOk result (λ tag. IsEndTagOf name.now tag.items) }
-{
-    let Some(tag) = end_tag(alloc, name)? else {
-        return Err(EditError::NotWritten(place));
-    };
-    Ok(tag)
-}
-
 fn written_markup<'p>(
     alloc: Global,
     content: Content<'p>,
@@ -147,91 +134,96 @@ fn written_markup<'p>(
     Ok(parts)
 }
 
-fn written_parts<'p>(
-    alloc: Global,
-    parts: &[Part<'p>],
-    ask: Ask,
-    ready: Ready<'_, 'p>,
-    name: &[u8],
-    place: usize,
-) -> Result<Vec<Part<'p>>, EditError>
-    requires ready { IsReady (content_view ready.content) name.now ready.escaped.now
-        (parts_view ready.markup.now) ready.end_tag.now }
-    requires from { ask.from < length parts.now }
-    requires order { ask.from ≤ ask.until }
-    requires until { ask.until ≤ length parts.now }
-    ensures { IfOk result (λ wanted.
-        IsWanted (ask_view (content_view ready.entry.content) name.now ask)
-        (parts_view parts.now) (parts_view wanted.items)) }
-{
-    let Some(wanted) = wanted_parts(alloc, parts, ask, ready, name)? else {
-        return Err(EditError::NotWritten(place));
-    };
-    Ok(wanted)
-}
-
-// The page with what is asked for.
-fn spliced_page(
+// The page with what is asked for, in order.
+pub(crate) fn spliced_page(
     alloc: Global,
     page: &[u8],
     parts: &[Part<'_>],
-    ask: Ask,
+    asks: &[PlacedAsk<'_>],
     content: Content<'_>,
-    name: &[u8],
     place: usize,
 ) -> Result<Vec<u8>, EditError>
-    requires from { ask.from < length parts.now }
-    requires order { ask.from ≤ ask.until }
-    requires until { ask.until ≤ length parts.now }
     ensures { IfOk result (λ text.
-        IsSplicedPageOf (ask_view (content_view content.entry) name.now ask)
+        IsSplicedPageOf (asks_view (content_view content.entry) asks.now)
         (parts_view parts.now) page.now text.items) }
 {
     let escaped = escaped_text(alloc, content)?;
-    let tag = written_tag(alloc, name, place)?;
     let markup = written_markup(alloc, content, place)?;
+    let asks_ready = ready_asks(alloc, parts, asks)?;
     let ready = Ready {
         content,
         escaped: escaped.as_slice(),
         markup: markup.as_slice(),
-        end_tag: tag.as_slice(),
     };
-    let wanted = written_parts(alloc, parts, ask, ready, name, place)?;
+    let wanted = wanted_parts(alloc, parts, asks_ready.as_slice(), ready)?;
     let text = read_again(alloc, page, wanted.as_slice(), place)?;
     Ok(text)
 }
 
-fn meant_start(tokens: &[Token], place: usize) -> Result<Start, EditError>
-    ensures { IfOk result (λ start. IsStartAt tokens.now place start.number start.token) }
+pub(crate) fn meant_start(tokens: &[Token], from: usize, place: usize) -> Result<Start, EditError>
+    ensures start { IfOk result (λ start.
+        IsStartAt tokens.now place start.number start.token) }
+    ensures order { IfOk result (λ start. from ≤ start.number) }
 {
-    match start_at(tokens, place) {
+    match start_from(tokens, from, place) {
         Some(start) => Ok(start),
         None => Err(EditError::NoStartTag(place)),
     }
 }
 
-fn meant_ask(
-    patch: ElementPatch<'_>,
-    number: usize,
+fn meant<'n>(
+    alloc: Global,
+    patch: ElementPatch<'n>,
+    start: Start,
     extent: Extent,
-    place: usize,
-) -> Result<Ask, EditError>
-    ensures { IfOk result (λ ask. (name : List ℕ) →
-        asked (patch_view patch.entry) number (extent_view extent) name
-        ≡ Some (ask_view (content_of (patch_view patch.entry)) name ask ∷ [])) }
+    raw: &'n [u8],
+) -> Result<Planned<'n>, EditError>
+    ensures { IfOk result (λ planned.
+        asked (patch_view patch.entry) start.number (extent_view extent) (name_of raw.now)
+        ≡ Some (planned_view (content_of (patch_view patch.entry)) planned)) }
 {
-    match plan(patch, number, extent) {
-        Some(ask) => Ok(ask),
-        None => Err(EditError::NotMeant(place)),
+    match plan(alloc, patch, start.number, extent, raw)? {
+        Some(planned) => Ok(planned),
+        None => Err(EditError::NotMeant(start.token.start)),
     }
 }
 
-fn is_within(ask: Ask, len: usize) -> bool
-    ensures from { result ≡ true → ask.from < len }
-    ensures order { result ≡ true → ask.from ≤ ask.until }
-    ensures until { result ≡ true → ask.until ≤ len }
+// What is asked for of the element of a start tag that goes so far.
+pub(crate) fn planned_for<'n>(
+    alloc: Global,
+    page: &'n [u8],
+    start: Start,
+    extent: Extent,
+    patch: ElementPatch<'n>,
+) -> Result<Planned<'n>, EditError>
+    requires start { IsStartOf page.now start.number start.token }
+    requires extent { extent_view extent
+        ≡ extent_in start.number (elements (runs (pieces page.now))) }
+    ensures { IfOk result (λ planned.
+        asked_of (runs (pieces page.now)) start.number (patch_view patch.entry)
+        ≡ Some (planned_view (content_of (patch_view patch.entry)) planned)) }
 {
-    ask.from < len && ask.from <= ask.until && ask.until <= len
+    let raw = tag_name(alloc, token_bytes(page, start.token))?;
+    let planned = meant(alloc, patch, start, extent, raw)?;
+    Ok(planned)
+}
+
+// Adds what is asked for of the element of a start tag.
+pub(crate) fn push_asks<'n>(
+    start: Start,
+    planned: Planned<'n>,
+    out: &mut Vec<PlacedAsk<'n>>,
+) -> Result<(), AllocError>
+    ensures { OnOk result (out.new.items ≡ out.old.items ++ placed_view start planned.entry) }
+{
+    out.push(PlacedAsk {
+        start,
+        ask: planned.first,
+    })?;
+    if let Some(ask) = planned.second {
+        out.push(PlacedAsk { start, ask })?;
+    }
+    Ok(())
 }
 
 /// The page with one element changed, whose start tag begins at a byte of the page; no other byte
@@ -248,22 +240,18 @@ pub fn patch_element(
 {
     let found = elements(alloc, page)?;
     let parts = parts_of(alloc, page, found.tokens.as_slice())?;
-    let start = meant_start(found.tokens.as_slice(), place)?;
+    let start = meant_start(found.tokens.as_slice(), 0, place)?;
     let extent = extent_in(alloc, start.number, found.elements.as_slice())?;
-    let ask = meant_ask(patch, start.number, extent, place)?;
-    let is_within = is_within(ask, parts.len());
-    if !is_within {
-        return Err(EditError::EndOfPage(place));
-    }
-    let name = tag_name(alloc, token_bytes(page, start.token))?;
+    let planned = planned_for(alloc, page, start, extent, patch)?;
+    let mut asks = Vec::new(alloc);
+    push_asks(start, planned, &mut asks)?;
     let content = content_of(patch);
     let text = spliced_page(
         alloc,
         page,
         parts.as_slice(),
-        ask,
+        asks.as_slice(),
         content,
-        name.as_bytes(),
         place,
     )?;
     Ok(text)

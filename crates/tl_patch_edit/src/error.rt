@@ -9,21 +9,24 @@ use thiserror::Error;
 #[derive(Clone, Copy, PartialEq, Eq, Debug, Error)]
 pub enum EditError {
     /// No start tag begins at this place.
-    #[error("no start tag at {0}")]
+    #[error("no start tag at byte {0}")]
     NoStartTag(usize),
     /// The element of the tag at this place can't be changed so: it is not closed, or is a tag
     /// alone, or the tag is dropped.
-    #[error("the element at {0} can't be changed so")]
+    #[error("the element at byte {0} can't be changed so")]
     NotMeant(usize),
+    /// The changes of the element at this place and of another cut across each other.
+    #[error("the change of the element at byte {0} cuts across another")]
+    Across(usize),
     /// What is to be put would stand after the last byte of the page.
-    #[error("the end of the page, for the element at {0}")]
+    #[error("the end of the page, for the element at byte {0}")]
     EndOfPage(usize),
     /// What is to be put can't stand there, for the element at this place: markup in a raw text, or
     /// a text that would be read otherwise.
-    #[error("what is put can't stand there, for the element at {0}")]
+    #[error("what is put can't stand there, for the element at byte {0}")]
     NotWritten(usize),
     /// The page would be read otherwise than asked, for the element at this place.
-    #[error("the page would be read otherwise, for the element at {0}")]
+    #[error("the page would be read otherwise, for the element at byte {0}")]
     ReadOtherwise(usize),
     /// Memory ran out.
     #[error("out of memory")]

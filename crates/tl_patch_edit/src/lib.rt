@@ -1,16 +1,21 @@
-//! Pages with one element changed, each other byte as it is.
+//! Pages with elements changed, each other byte as it is.
 #![tactic(auto)]
 
 mod ask;
 mod compare;
 mod edit;
+mod element_name;
 mod error;
+mod extent;
 mod part;
 mod plan;
 mod put;
 mod ready;
+mod several;
+mod tag;
 mod wanted;
 
 pub use ask::{Content, ElementPatch};
 pub use edit::patch_element;
 pub use error::EditError;
+pub use several::patch_elements;

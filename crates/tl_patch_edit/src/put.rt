@@ -3,9 +3,11 @@ ghost use Rattle.std.specs.Prelude.{◌≡◌, [], ◌∷◌, IfOk, IfSome};
 ghost use Rattle.tl_html_spec.specs.Pieces.{bytes_of, pieces_of, tokens_in};
 ghost use Rattle.tl_html_tokens.specs.declared.mode.Mode.TheVariants.{Data};
 ghost use Rattle.tl_html_tokens.specs.declared.stage.TokenKind.TheVariants.{EndTag};
-ghost use Rattle.tl_patch_edit.specs.Asks.{GivePut, IsMarkupOf, IsReady, IsTextPart, is_data, puts_view, text_form, text_of};
+ghost use Rattle.tl_patch_edit.specs.Asks.{GivePut, IsEndTagOf, IsReady, IsRenamedTag, IsTagFor, IsTextPart, is_data, puts_view, text_form};
 ghost use Rattle.tl_patch_edit.specs.Parts.{Give, part_view, parts_view};
-ghost use Rattle.tl_patch_spec.specs.Patches.{Markup, NewContent, NewEndTag, Text};
+ghost use Rattle.tl_patch_spec.specs.Patches.{Changed, Markup, NewContent, NewEndTag, Text};
+ghost use Rattle.tl_patch_spec.specs.TagChanges.{Rename};
+ghost use Rattle.tl_html_tags.specs.Parts.{name_of};
 ghost use Rattle.tl_patch_edit.specs.View.{content_view};
 ghost use Rattle.tl_patch_spec.specs.Markup.{text_markup};
 
@@ -100,14 +102,12 @@ fn markup_parts<'p>(
     Ok(Some(put))
 }
 
-// What is put, made ready: the content, a text as it stands in markup, the parts of markup, and the
-// end tag of the element.
+// The content, made ready: a text as it stands in markup, and the parts of markup.
 #[derive(Clone, Copy)]
 pub(crate) struct Ready<'r, 'p> {
     pub(crate) content: Content<'p>,
     pub(crate) escaped: &'p [u8],
     pub(crate) markup: &'r [Part<'p>],
-    pub(crate) end_tag: &'p [u8],
 }
 
 fn content_parts<'p>(
@@ -115,8 +115,8 @@ fn content_parts<'p>(
     place: Part<'p>,
     ready: Ready<'_, 'p>,
 ) -> Result<Option<Vec<Part<'p>>>, AllocError>
-    requires text { ready.escaped.now ≡ text_markup (text_of (content_view ready.content)) }
-    requires parts { IsMarkupOf (content_view ready.content) (parts_view ready.markup.now) }
+    requires { IsReady (content_view ready.content) ready.escaped.now
+        (parts_view ready.markup.now) }
     ensures { IfOk result (λ found. IfSome found (λ parts.
         GivePut (NewContent (content_view ready.entry.content) ∷ []) (part_view place.entry)
         (parts_view parts.items))) }
@@ -127,7 +127,7 @@ fn content_parts<'p>(
     }
 }
 
-// The end tag as a part.
+// An end tag as a part.
 fn end_tag_part(end_tag: &[u8]) -> Part<'_>
     ensures { part_view result
         ≡ record { kind = EndTag; mode = Data; bytes = end_tag.now } }
@@ -142,42 +142,86 @@ fn end_tag_part(end_tag: &[u8]) -> Part<'_>
 // What is put where a part begins, if it can be put there.
 pub(crate) fn put_parts<'p>(
     alloc: Global,
-    put: Put,
+    put: Put<'_>,
     place: Part<'p>,
     ready: Ready<'_, 'p>,
-    name: &[u8],
+    tag: &'p [u8],
 ) -> Result<Option<Vec<Part<'p>>>, AllocError>
-    requires { IsReady (content_view ready.content) name.now ready.escaped.now
-        (parts_view ready.markup.now) ready.end_tag.now }
+    requires ready { IsReady (content_view ready.content) ready.escaped.now
+        (parts_view ready.markup.now) }
+    requires tag { IsTagFor put (part_view place) tag.now }
     ensures { IfOk result (λ found. IfSome found (λ parts.
-        GivePut (puts_view (content_view ready.entry.content) name.now put)
+        GivePut (puts_view (content_view ready.entry.content) put.entry)
         (part_view place.entry) (parts_view parts.items))) }
 {
     match put {
         Put::Nothing => Ok(Some(Vec::new(alloc))),
         Put::Content => content_parts(alloc, place, ready),
-        Put::EndTagAndContent => tag_parts(alloc, place, ready, name),
+        Put::EndTagAndContent { raw } => tag_and_content(alloc, place, ready, raw, tag),
+        Put::EndTag { name } => end_tag_alone(alloc, place, name, tag),
+        Put::Renamed { name } => renamed_tag(alloc, place, name, tag),
     }
 }
 
-// The content after the end tag.
-fn tag_parts<'p>(
+// The content after an end tag.
+fn tag_and_content<'p>(
     alloc: Global,
     place: Part<'p>,
     ready: Ready<'_, 'p>,
-    name: &[u8],
+    raw: &[u8],
+    tag: &'p [u8],
 ) -> Result<Option<Vec<Part<'p>>>, AllocError>
-    requires { IsReady (content_view ready.content) name.now ready.escaped.now
-        (parts_view ready.markup.now) ready.end_tag.now }
+    requires ready { IsReady (content_view ready.content) ready.escaped.now
+        (parts_view ready.markup.now) }
+    requires tag { IsEndTagOf (name_of raw.now) tag.now }
     ensures { IfOk result (λ found. IfSome found (λ parts.
-        GivePut (NewEndTag name.now ∷ NewContent (content_view ready.entry.content) ∷ [])
+        GivePut (NewEndTag (name_of raw.now) ∷ NewContent (content_view ready.entry.content) ∷ [])
         (part_view place.entry) (parts_view parts.items))) }
 {
     let Some(content) = content_parts(alloc, place, ready)? else {
         return Ok(None);
     };
     let mut parts = Vec::new(alloc);
-    push(end_tag_part(ready.end_tag), &mut parts)?;
+    push(end_tag_part(tag), &mut parts)?;
     copy(content.as_slice(), &mut parts)?;
+    Ok(Some(parts))
+}
+
+fn end_tag_alone<'p>(
+    alloc: Global,
+    place: Part<'p>,
+    name: &[u8],
+    tag: &'p [u8],
+) -> Result<Option<Vec<Part<'p>>>, AllocError>
+    requires { IsEndTagOf name.now tag.now }
+    ensures { IfOk result (λ found. IfSome found (λ parts.
+        GivePut (NewEndTag name.now ∷ []) (part_view place.entry) (parts_view parts.items))) }
+{
+    let mut parts = Vec::new(alloc);
+    push(end_tag_part(tag), &mut parts)?;
+    Ok(Some(parts))
+}
+
+// The tag that stood there, with another name.
+fn renamed_tag<'p>(
+    alloc: Global,
+    place: Part<'p>,
+    name: &[u8],
+    tag: &'p [u8],
+) -> Result<Option<Vec<Part<'p>>>, AllocError>
+    requires { IsRenamedTag name.now (part_view place) tag.now }
+    ensures { IfOk result (λ found. IfSome found (λ parts.
+        GivePut (Changed (Rename name.now) ∷ []) (part_view place.entry)
+        (parts_view parts.items))) }
+{
+    let mut parts = Vec::new(alloc);
+    push(
+        Part {
+            kind: place.kind,
+            mode: place.mode,
+            bytes: tag,
+        },
+        &mut parts,
+    )?;
     Ok(Some(parts))
 }

@@ -1,22 +1,21 @@
 //! What is put, made ready.
 ghost use Rattle.std.specs.Prelude.{◌≡◌, [], ◌∷◌, IfOk, IfSome, true};
+ghost use Rattle.std.specs.List.{All};
 ghost use Rattle.tl_html_spec.specs.Pieces.{bytes_of, pieces_of, tokens_in};
 ghost use Rattle.tl_html_spec.specs.HtmlTokenizer.{EndTag};
+ghost use Rattle.tl_html_tags.specs.Parts.{name_of};
 ghost use Rattle.tl_html_tokens.specs.Whole.{IsWhole};
 ghost use Rattle.tl_html_tokens.specs.declared.mode.Mode.TheVariants as mode;
-ghost use Rattle.tl_patch_edit.specs.Asks.{IsMarkupOf, content_of, end_tag_bytes, is_data, is_one_end_tag, is_end_kind, is_whole_end_tag, text_of};
-ghost use Rattle.tl_patch_edit.specs.Found.{IsEndTagOf, has_mark};
+ghost use Rattle.tl_patch_edit.specs.Asks.{IsMarkupOf, content_of, text_of};
+ghost use Rattle.tl_patch_edit.specs.Found.{has_mark};
 ghost use Rattle.tl_patch_edit.specs.Parts.{Give, parts_view};
 ghost use Rattle.tl_patch_edit.specs.View.{content_view, patch_view};
 ghost use Rattle.tl_patch_spec.specs.Markup.{text_markup};
 
 use crate::ask::{Content, ElementPatch};
 use crate::part::{Part, parts_of};
-use crate::put::is_data;
 use std::alloc::{AllocError, Global};
-use tl_html_tags::tag_parts;
-use tl_html_tokens::{Token, TokenKind, tokens};
-use tl_html_write::lower_name;
+use tl_html_tokens::tokens;
 use tl_patch::write_text;
 
 /// The content of a patch; none is a text without bytes.
@@ -24,7 +23,9 @@ pub(crate) fn content_of<'p>(patch: ElementPatch<'p>) -> Content<'p>
     ensures { content_view result ≡ content_of (patch_view patch.entry) }
 {
     match patch {
+        ElementPatch::Rename { .. } => Content::Text { text: &[] },
         ElementPatch::Remove => Content::Text { text: &[] },
+        ElementPatch::Unwrap => Content::Text { text: &[] },
         ElementPatch::ReplaceWith { content } => content,
         ElementPatch::Fill { content } => content,
         ElementPatch::Prepend { content } => content,
@@ -82,57 +83,4 @@ pub(crate) fn markup_parts<'p>(
         Content::Text { .. } => Ok(Some(Vec::new(alloc))),
         Content::Markup { markup } => parts_of_markup(alloc, markup),
     }
-}
-
-fn is_end_kind(kind: TokenKind) -> bool
-    ensures { result ≡ is_end_kind kind }
-{
-    matches!(kind, TokenKind::EndTag)
-}
-
-// Whether a token is an end tag and stands up to an end.
-fn is_whole_end_tag(token: &Token, len: usize) -> bool
-    ensures { result ≡ is_whole_end_tag token.now len }
-{
-    is_end_kind(token.kind) && is_data(token.mode) && token.start == 0 && token.end == len
-}
-
-// Whether tokens are one such tag alone.
-fn is_one_end_tag(tokens: &[Token], len: usize) -> bool
-    ensures { result ≡ is_one_end_tag tokens.now len }
-{
-    match tokens {
-        [token] => is_whole_end_tag(token, len),
-        _ => false,
-    }
-}
-
-// Whether bytes are an end tag of this name by themselves.
-fn is_end_tag(alloc: Global, bytes: &[u8], name: &[u8]) -> Result<bool, AllocError>
-    ensures { IfOk result (λ is. is ≡ true →
-        IsWhole mode.Data bytes.now (EndTag name.now ∷ [])) }
-{
-    let all = tokens(alloc, bytes)?;
-    let is_one = is_one_end_tag(all.as_slice(), bytes.len());
-    if !is_one {
-        return Ok(false);
-    }
-    let parts = tag_parts(alloc, bytes)?;
-    let read = lower_name(alloc, parts.name)?;
-    Ok(read.as_bytes() == name)
-}
-
-// The end tag of a name, if it is read as one.
-pub(crate) fn end_tag(alloc: Global, name: &[u8]) -> Result<Option<Vec<u8>>, AllocError>
-    ensures { IfOk result (λ found. IfSome found (λ tag. IsEndTagOf name.now tag.items)) }
-{
-    let mut tag = Vec::new(alloc);
-    tag.extend_from_slice(b"</")?;
-    tag.extend_from_slice(name)?;
-    tag.extend_from_slice(b">")?;
-    let is_it = is_end_tag(alloc, tag.as_slice(), name)?;
-    if !is_it {
-        return Ok(None);
-    }
-    Ok(Some(tag))
 }

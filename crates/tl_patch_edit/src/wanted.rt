@@ -1,12 +1,15 @@
-//! The parts of a page with what a patch asks for.
-ghost use Rattle.std.specs.Prelude.{◌≡◌, ◌<◌, ◌≤◌, ◌++◌, IfOk, IfSome, OnOk, drop, length, take};
-ghost use Rattle.tl_patch_edit.specs.Asks.{IsReady, IsWanted, ask_view};
+//! The parts of a page with what patches ask for.
+ghost use Rattle.std.specs.Prelude.{◌≡◌, ◌<◌, ◌≤◌, ◌-◌, ◌++◌, IfOk, OnOk, drop, length, take, true};
+ghost use Rattle.std.specs.List.{All};
+ghost use Rattle.tl_patch_edit.specs.Asks.{GivePutFor, IsReady, IsTagged, IsWanted, asks_view, placed_of};
 ghost use Rattle.tl_patch_edit.specs.Parts.{parts_view, separator_parts};
 ghost use Rattle.tl_patch_edit.specs.View.{content_view};
 
 use crate::ask::Ask;
+use crate::error::EditError;
 use crate::part::{Part, copy, push};
 use crate::put::{Ready, put_parts};
+use crate::tag::ReadyAsk;
 use std::alloc::{AllocError, Global};
 use tl_html_tokens::{Mode, TokenKind};
 
@@ -55,9 +58,9 @@ fn is_apart(before: Option<&Part<'_>>, after: Option<&Part<'_>>) -> bool {
 }
 
 // Whether a byte order mark would come to the front of a page.
-fn is_mark_in_front(from: usize, first: Option<&Part<'_>>) -> bool {
+fn is_mark_in_front(before: Option<&Part<'_>>, first: Option<&Part<'_>>) -> bool {
     match first {
-        Some(part) => from == 0 && part.bytes.starts_with(b"\xEF\xBB\xBF"),
+        Some(part) => before.is_none() && part.bytes.starts_with(b"\xEF\xBB\xBF"),
         None => false,
     }
 }
@@ -80,36 +83,6 @@ fn push_separator_if<'p>(is_it: bool, out: &mut Vec<Part<'p>>) -> Result<(), All
     Ok(())
 }
 
-// The last part before a place.
-fn last_before<'r, 'p>(parts: &'r [Part<'p>], at: usize) -> Option<&'r Part<'p>> {
-    if at == 0 {
-        return None;
-    }
-    parts.get(at - 1)
-}
-
-// What stands in front, what is put, and what stands behind, with separators where they are needed.
-fn joined<'p>(
-    alloc: Global,
-    front: &[Part<'p>],
-    is_before: bool,
-    put: &[Part<'p>],
-    is_after: bool,
-    back: &[Part<'p>],
-) -> Result<Vec<Part<'p>>, AllocError>
-    ensures { IfOk result (λ all. parts_view all.items
-        ≡ parts_view front.now ++ separator_parts is_before ++ parts_view put.now
-        ++ separator_parts is_after ++ parts_view back.now) }
-{
-    let mut all = Vec::new(alloc);
-    copy(front, &mut all)?;
-    push_separator_if(is_before, &mut all)?;
-    copy(put, &mut all)?;
-    push_separator_if(is_after, &mut all)?;
-    copy(back, &mut all)?;
-    Ok(all)
-}
-
 // Whether separators stand before and after what is put.
 #[derive(Clone, Copy)]
 struct Seams {
@@ -117,59 +90,133 @@ struct Seams {
     is_after: bool,
 }
 
-fn seams_of(parts: &[Part<'_>], ask: Ask, put: &[Part<'_>]) -> Seams {
-    let next = put.first().or(parts.get(ask.until));
-    let is_before = is_apart(last_before(parts, ask.from), next)
-        || is_mark_in_front(ask.from, next);
-    let is_after = !put.is_empty() && is_apart(put.last(), parts.get(ask.until));
+// What stands before and after what is put.
+fn seams_of(before: Option<&Part<'_>>, put: &[Part<'_>], after: Option<&Part<'_>>) -> Seams {
+    let next = put.first().or(after);
+    let is_before = is_apart(before, next) || is_mark_in_front(before, next);
+    let is_after = !put.is_empty() && is_apart(put.last(), after);
     Seams {
         is_before,
         is_after,
     }
 }
 
-// The parts of a page with others in the place of some.
-fn spliced<'p>(
-    alloc: Global,
-    parts: &[Part<'p>],
-    ask: Ask,
-    seams: Seams,
-    put: &[Part<'p>],
-) -> Result<Vec<Part<'p>>, AllocError>
-    requires from { ask.from ≤ length parts.now }
-    requires until { ask.until ≤ length parts.now }
-    ensures { IfOk result (λ all. parts_view all.items
-        ≡ parts_view (take ask.from parts.now) ++ separator_parts seams.is_before
-        ++ parts_view put.now ++ separator_parts seams.is_after
-        ++ parts_view (drop ask.until parts.now)) }
-{
-    let front = &parts[..ask.from];
-    let back = &parts[ask.until..];
-    let all = joined(alloc, front, seams.is_before, put, seams.is_after, back)?;
-    Ok(all)
+// Whether the ask behind one begins at a place.
+fn is_next_at(asks: &[ReadyAsk<'_>], at: usize, place: usize) -> bool {
+    let next = at.saturating_add(1);
+    if next >= asks.len() {
+        return false;
+    }
+    asks[next].placed.ask.from == place
 }
 
-// The parts of a page with a splice; `None` where what is asked for can't be put there.
+// The part behind a splice, if the next splice doesn't begin there.
+fn first_after<'r, 'p>(parts: &'r [Part<'p>], until: usize, is_next: bool) -> Option<&'r Part<'p>> {
+    if is_next {
+        return None;
+    }
+    parts.get(until)
+}
+
+// The seams of a splice, where the parts until a place are written.
+fn seams_at(
+    written: &[Part<'_>],
+    parts: &[Part<'_>],
+    done: usize,
+    ask: Ask<'_>,
+    put: &[Part<'_>],
+    is_next: bool,
+) -> Seams {
+    let after = first_after(parts, ask.until, is_next);
+    if done < ask.from {
+        return seams_of(parts.get(ask.from - 1), put, after);
+    }
+    seams_of(written.last(), put, after)
+}
+
+// Adds the parts from one place until another, and what is put there.
+fn push_splice<'p>(
+    parts: &[Part<'p>],
+    done: usize,
+    from: usize,
+    seams: Seams,
+    put: &[Part<'p>],
+    out: &mut Vec<Part<'p>>,
+) -> Result<(), AllocError>
+    requires order { done ≤ from }
+    requires within { from ≤ length parts.now }
+    ensures { OnOk result (parts_view out.new.items ≡ parts_view out.old.items
+        ++ parts_view (take (from - done) (drop done parts.now)) ++ separator_parts seams.is_before
+        ++ parts_view put.now ++ separator_parts seams.is_after) }
+{
+    copy(&parts[done..from], out)?;
+    push_separator_if(seams.is_before, out)?;
+    copy(put, out)?;
+    push_separator_if(seams.is_after, out)?;
+    Ok(())
+}
+
+// Whether an ask follows a place, and begins before the end.
+fn follows(ask: Ask<'_>, done: usize, len: usize) -> bool
+    ensures done { result ≡ true → done ≤ ask.entry.from }
+    ensures from { result ≡ true → ask.entry.from < len }
+    ensures order { result ≡ true → ask.entry.from ≤ ask.entry.until }
+    ensures until { result ≡ true → ask.entry.until ≤ len }
+{
+    done <= ask.from && ask.from < len && ask.from <= ask.until && ask.until <= len
+}
+
+// What is put for an ask.
+fn put_of<'p>(
+    alloc: Global,
+    parts: &[Part<'p>],
+    one: &'p ReadyAsk<'_>,
+    ready: Ready<'_, 'p>,
+) -> Result<Vec<Part<'p>>, EditError>
+    requires ready { IsReady (content_view ready.content) ready.escaped.now
+        (parts_view ready.markup.now) }
+    requires tag { IsTagged (parts_view parts.now) one.now }
+    requires from { one.now.placed.ask.from < length parts.now }
+    ensures { IfOk result (λ put.
+        GivePutFor (content_view ready.entry.content) one.now.placed.ask
+        (parts_view parts.now) (parts_view put.items)) }
+{
+    let place = parts[one.placed.ask.from];
+    let Some(put) = put_parts(alloc, one.placed.ask.put, place, ready, one.tag.as_slice())? else {
+        return Err(EditError::NotWritten(one.placed.start.token.start));
+    };
+    Ok(put)
+}
+
+// The parts of a page with what is asked for, in order.
 pub(crate) fn wanted_parts<'p>(
     alloc: Global,
     parts: &[Part<'p>],
-    ask: Ask,
+    asks: &'p [ReadyAsk<'_>],
     ready: Ready<'_, 'p>,
-    name: &[u8],
-) -> Result<Option<Vec<Part<'p>>>, AllocError>
-    requires ready { IsReady (content_view ready.content) name.now ready.escaped.now
-        (parts_view ready.markup.now) ready.end_tag.now }
-    requires from { ask.from < length parts.now }
-    requires order { ask.from ≤ ask.until }
-    requires until { ask.until ≤ length parts.now }
-    ensures { IfOk result (λ found. IfSome found (λ wanted.
-        IsWanted (ask_view (content_view ready.entry.content) name.now ask)
-        (parts_view parts.now) (parts_view wanted.items))) }
+) -> Result<Vec<Part<'p>>, EditError>
+    requires ready { IsReady (content_view ready.content) ready.escaped.now
+        (parts_view ready.markup.now) }
+    requires tags { All (IsTagged (parts_view parts.now)) asks.now }
+    ensures { IfOk result (λ wanted.
+        IsWanted (asks_view (content_view ready.entry.content) (placed_of asks.now))
+        (parts_view parts.now) (parts_view wanted.items)) }
 {
-    let Some(put) = put_parts(alloc, ask.put, parts[ask.from], ready, name)? else {
-        return Ok(None);
-    };
-    let seams = seams_of(parts, ask, put.as_slice());
-    let wanted = spliced(alloc, parts, ask, seams, put.as_slice())?;
-    Ok(Some(wanted))
+    let mut wanted = Vec::with_capacity(alloc, parts.len())?;
+    let mut done = 0usize;
+    for at in 0..asks.len() {
+        let one = &asks[at];
+        let ask = one.placed.ask;
+        let follows = follows(ask, done, parts.len());
+        if !follows {
+            return Err(EditError::Across(one.placed.start.token.start));
+        }
+        let put = put_of(alloc, parts, one, ready)?;
+        let is_next = is_next_at(asks, at, ask.until);
+        let seams = seams_at(wanted.as_slice(), parts, done, ask, put.as_slice(), is_next);
+        push_splice(parts, done, ask.from, seams, put.as_slice(), &mut wanted)?;
+        done = ask.until;
+    }
+    copy(&parts[done..], &mut wanted)?;
+    Ok(wanted)
 }

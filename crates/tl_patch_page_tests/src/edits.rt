@@ -1,7 +1,7 @@
-//! Pages with one element changed.
+//! Pages with one element changed, and with several.
 
 use std::alloc::Global;
-use tl_patch_edit::{Content, EditError, ElementPatch, patch_element};
+use tl_patch_edit::{Content, EditError, ElementPatch, patch_element, patch_elements};
 
 const TEXT: Content<'static> = Content::Text { text: b"1 < 2 & 3" };
 
@@ -16,7 +16,7 @@ type Row = (
 );
 
 #[rattlefmt::skip]
-static PAGE_ROWS: [Row; 34] = [
+static PAGE_ROWS: [Row; 60] = [
     (ElementPatch::Remove, 1, b"a<b>x</b>c", Ok(b"ac")),
     (ElementPatch::Remove, 4, b"<ul><li>a<li>b</ul>", Ok(b"<ul><li>b</ul>")),
     (ElementPatch::Remove, 9, b"<ul><li>a<li>b</ul>", Ok(b"<ul><li>a</ul>")),
@@ -51,6 +51,75 @@ static PAGE_ROWS: [Row; 34] = [
     (ElementPatch::PutAfter { content: Content::Markup { markup: b"x &am" } }, 0, b"<p></p>p;", Ok(b"<p></p>x &am</>p;")),
     (ElementPatch::PutAfter { content: TEXT }, 0, b"<b>x</b>", Err(EditError::EndOfPage(0))),
     (ElementPatch::PutAfter { content: TEXT }, 1, b"a<br>b", Ok(b"a<br>1 &lt; 2 &amp; 3b")),
+    (ElementPatch::Fill { content: Content::Text { text: b"" } }, 0, b"<p>a</p>", Ok(b"<p></p>")),
+    (ElementPatch::Fill { content: Content::Text { text: b"" } }, 0, b"<title>a</title>", Ok(b"<title></title>")),
+    (ElementPatch::Fill { content: Content::Markup { markup: b"" } }, 0, b"<p>a</p>", Ok(b"<p></p>")),
+    (ElementPatch::PutBefore { content: Content::Text { text: b"" } }, 0, b"<b>", Ok(b"<b>")),
+    (ElementPatch::Unwrap, 1, b"a<b k>x</b>c", Ok(b"axc")),
+    (ElementPatch::Unwrap, 4, b"<ul><li>a<li>b</ul>", Ok(b"<ul>a<li>b</ul>")),
+    (ElementPatch::Unwrap, 1, b"a<br>b", Ok(b"ab")),
+    (ElementPatch::Unwrap, 5, b"AT&am<b>p;</b>x", Ok(b"AT&am</>p;x")),
+    (ElementPatch::Unwrap, 0, b"<b>&am</b>p;", Ok(b"&am</>p;")),
+    (ElementPatch::Unwrap, 5, b"AT&am<b></b>p;", Ok(b"AT&am</>p;")),
+    (ElementPatch::Unwrap, 5, b"<div><b>x</div>y", Err(EditError::NotMeant(5))),
+    (ElementPatch::Unwrap, 0, b"<script>a</script>", Err(EditError::ReadOtherwise(0))),
+    (ElementPatch::Unwrap, 0, b"<script></script>x", Ok(b"x")),
+    (ElementPatch::Rename { name: b"i" }, 1, b"a<B K=v>x</b\n>c", Ok(b"a<i K=v>x</i\n>c")),
+    (ElementPatch::Rename { name: b"dd" }, 4, b"<ul><li a>a<li>b</ul>", Ok(b"<ul><dd a>a</dd><li>b</ul>")),
+    (ElementPatch::Rename { name: b"div" }, 0, b"<p>a<p>b", Ok(b"<div>a</div><p>b")),
+    (ElementPatch::Rename { name: b"hr" }, 1, b"a<br/>b", Ok(b"a<hr/>b")),
+    (ElementPatch::Rename { name: b"i" }, 1, b"a<br>b", Err(EditError::NotMeant(1))),
+    (ElementPatch::Rename { name: b"br" }, 1, b"a<b>b</b>", Err(EditError::NotMeant(1))),
+    (ElementPatch::Rename { name: b"title" }, 0, b"<b>x</b>", Err(EditError::NotMeant(0))),
+    (ElementPatch::Rename { name: b"b" }, 0, b"<title>x</title>", Err(EditError::NotMeant(0))),
+    (ElementPatch::Rename { name: b"I" }, 0, b"<b>x</b>", Err(EditError::NotWritten(0))),
+    (ElementPatch::Rename { name: b"i k" }, 0, b"<b>x</b>", Err(EditError::NotWritten(0))),
+    (ElementPatch::Rename { name: b"" }, 0, b"<b>x</b>", Err(EditError::NotWritten(0))),
+    (ElementPatch::Rename { name: b"i" }, 5, b"<div><b>x</div>y", Err(EditError::NotMeant(5))),
+    (ElementPatch::Rename { name: b"i" }, 0, b"<p>a", Err(EditError::EndOfPage(0))),
+];
+
+// What is done, the bytes where the start tags begin, the page, and what comes of it.
+type SeveralRow = (
+    ElementPatch<'static>,
+    &'static [usize],
+    &'static [u8],
+    Result<&'static [u8], EditError>,
+);
+
+#[rattlefmt::skip]
+static SEVERAL_ROWS: [SeveralRow; 31] = [
+    (ElementPatch::Remove, &[], b"a<b>x</b>c", Ok(b"a<b>x</b>c")),
+    (ElementPatch::Remove, &[1, 10], b"a<b>x</b>c<i>y</i>d", Ok(b"acd")),
+    (ElementPatch::Remove, &[1, 1, 1], b"a<b>x</b>c", Ok(b"ac")),
+    (ElementPatch::Remove, &[4, 9], b"<ul><li>a<li>b</ul>", Ok(b"<ul></ul>")),
+    (ElementPatch::Remove, &[0, 5], b"<div><b>x</div>y", Ok(b"y")),
+    (ElementPatch::Remove, &[0, 3, 6], b"<b><i><u>x</u></i></b>y", Ok(b"y")),
+    (ElementPatch::Remove, &[5, 12], b"AT&am<b></b><i></i>p;", Ok(b"AT&am</>p;")),
+    (ElementPatch::Remove, &[0, 7], b"<b></b><i></i>\xEF\xBB\xBFy", Ok(b"</>\xEF\xBB\xBFy")),
+    (ElementPatch::Remove, &[9, 1], b"a<b>x</b><i>y</i>", Err(EditError::NoStartTag(1))),
+    (ElementPatch::Remove, &[1, 2], b"a<b>x</b>", Err(EditError::NoStartTag(2))),
+    (ElementPatch::Remove, &[1, 10], b"a<b>x</b><p><i>", Err(EditError::NoStartTag(10))),
+    (ElementPatch::Unwrap, &[0, 3], b"<b><i>x</i></b>y", Ok(b"xy")),
+    (ElementPatch::Unwrap, &[4, 9], b"<ul><li>a<li>b</ul>", Ok(b"<ul>ab</ul>")),
+    (ElementPatch::Unwrap, &[0, 6], b"<b>&am<i>p;</i></b>", Ok(b"&am</>p;")),
+    (ElementPatch::Rename { name: b"div" }, &[4, 9], b"<ul><li>a<li>b</ul>", Ok(b"<ul><div>a</div><div>b</div></ul>")),
+    (ElementPatch::Rename { name: b"x" }, &[4, 8], b"<ul><li><p>a</ul>", Ok(b"<ul><x><x>a</x></x></ul>")),
+    (ElementPatch::Rename { name: b"u" }, &[0, 3, 6], b"<b><i><b>x</b></i></b>", Ok(b"<u><u><u>x</u></u></u>")),
+    (ElementPatch::Fill { content: TEXT }, &[0, 4], b"<ul><li></ul>", Ok(b"<ul>1 &lt; 2 &amp; 3</ul>")),
+    (ElementPatch::Fill { content: TEXT }, &[0, 8], b"<i>a</i><i>b</i>", Ok(b"<i>1 &lt; 2 &amp; 3</i><i>1 &lt; 2 &amp; 3</i>")),
+    (ElementPatch::ReplaceWith { content: MARKUP }, &[0, 3], b"<b><i>x</i></b>y", Ok(b"<hr>p;y")),
+    (ElementPatch::ReplaceWith { content: Content::Text { text: b"&am" } }, &[0, 4], b"<br><br>p;", Ok(b"&amp;am&amp;amp;")),
+    (ElementPatch::Prepend { content: MARKUP }, &[0, 3], b"<b><i>x</i></b>", Ok(b"<b><hr>p;<i><hr>p;x</i></b>")),
+    (ElementPatch::Append { content: MARKUP }, &[0, 3], b"<b><i>x</i></b>", Ok(b"<b><i>x<hr>p;</i><hr>p;</b>")),
+    (ElementPatch::Append { content: Content::Markup { markup: b"&am" } }, &[0, 3], b"<b><i>x</i></b>", Ok(b"<b><i>x&am</i>&am</b>")),
+    (ElementPatch::PutBefore { content: TEXT }, &[0, 3], b"<b><i>x</i></b>", Ok(b"1 &lt; 2 &amp; 3<b>1 &lt; 2 &amp; 3<i>x</i></b>")),
+    (ElementPatch::PutAfter { content: Content::Text { text: b"y" } }, &[4, 8], b"<ul><li><b>x</b></ul>", Ok(b"<ul><li><b>x</b>y</li>y</ul>")),
+    (ElementPatch::PutAfter { content: Content::Text { text: b"y" } }, &[0, 4], b"<br><br>z", Ok(b"<br>y<br>yz")),
+    (ElementPatch::PutAfter { content: TEXT }, &[0, 8], b"<b>x</b><b>y</b>", Err(EditError::EndOfPage(8))),
+    (ElementPatch::Fill { content: TEXT }, &[0, 8], b"<i>a</i><br>z", Err(EditError::NotMeant(8))),
+    (ElementPatch::Fill { content: MARKUP }, &[0, 8], b"<i>a</i><title>b</title>", Err(EditError::NotWritten(8))),
+    (ElementPatch::Append { content: Content::Markup { markup: b"<!-- " } }, &[0, 8], b"<i>a</i><i>b</i>", Err(EditError::ReadOtherwise(0))),
 ];
 
 fn is_wanted(found: Result<Vec<u8>, EditError>, wanted: Result<&[u8], EditError>) -> bool {
@@ -70,5 +139,13 @@ fn is_wanted(found: Result<Vec<u8>, EditError>, wanted: Result<&[u8], EditError>
 fn elements_are_changed(rt: HostRuntime) {
     for (patch, place, page, wanted) in &PAGE_ROWS {
         assert!(rt; is_wanted(patch_element(rt.alloc(), page, *place, *patch), *wanted));
+    }
+}
+
+#[test]
+fn several_elements_are_changed(rt: HostRuntime) {
+    for (patch, places, page, wanted) in &SEVERAL_ROWS {
+        let found = patch_elements(rt.alloc(), page, places, *patch);
+        assert!(rt; is_wanted(found, *wanted));
     }
 }

@@ -1,4 +1,4 @@
-//! Worked rows of pages: keys set and unset, their elements, and one element changed.
+//! Worked rows of pages: keys set and unset, their elements, and elements changed.
 #![tactic(auto)]
 
 #[cfg(test)]

@@ -1,25 +1,32 @@
-use Rattle.std.proofs.Common.{ℕ, List, [], ◌∷◌, sym, subst, ◌∙◌}
-use Rattle.tl_html_spec.specs.HtmlTokenizer.{EndTag}
-use Rattle.tl_html_tokens.specs.Whole.{IsWhole}
-use Rattle.tl_html_tokens.specs.declared.mode.Mode.TheVariants as mode
-use Rattle.tl_patch_edit.specs.Asks.{IsMarkupOf, ask_view}
+use Rattle.std.proofs.Common.{◌≡◌, ℕ, List, sym, subst, ◌∙◌, ap}
+use Rattle.std.specs.List.{All}
+use Rattle.tl_patch_edit.specs.Asks.{IsMarkupOf, IsTagged, IsWanted, asks_view, placed_of}
 use Rattle.tl_patch_edit.specs.Found.{IsReadAs}
 use Rattle.tl_patch_edit.specs.Parts.{parts_view}
 use Rattle.tl_patch_edit.specs.View.{content_view}
 use Rattle.tl_patch_edit.specs.declared.part.Part.{Part}
+use Rattle.tl_patch_edit.specs.declared.tag.ReadyAsk.{ReadyAsk}
+use Rattle.tl_patch_spec.specs.Patches.{Content, Put}
+use Rattle.tl_patch_spec.specs.Splices.{Splice}
 use Rattle.tl_patch_edit.proofs.Edited.{spliced}
 use Rattle.tl_patch_edit.proofs.edit.spliced_page.Goals as goal
 
-pub written_parts-requires-clause-ready : goal.written_parts-requires-clause-ready
-written_parts-requires-clause-ready c = record {
+pub wanted_parts-requires-clause-ready : goal.wanted_parts-requires-clause-ready
+wanted_parts-requires-clause-ready c = record {
   text = c.as_slice.ensures.value ∙ c.in_ok-escaped.ensures;
   parts = subst (λ (xs : List Part). IsMarkupOf (content_view c.args.content) (parts_view xs)) (sym c.as_slice-2.ensures.value) c.in_ok-markup.ensures;
-  tag = c.as_slice-3.ensures.value ∙ c.in_ok-tag.ensures.is;
-  whole = subst (λ (b : List ℕ). IsWhole mode.Data b (EndTag c.args.name.now ∷ [])) (sym c.as_slice-3.ensures.value) c.in_ok-tag.ensures.whole;
 }
+
+pub wanted_parts-requires-clause-tags : goal.wanted_parts-requires-clause-tags
+wanted_parts-requires-clause-tags c =
+    subst (λ (xs : List ReadyAsk). All (IsTagged (parts_view c.args.parts.now)) xs) (sym c.as_slice-3.ensures.value) c.in_ok-asks_ready.ensures.tags
 
 pub returns : goal.returns
 returns c =
-    spliced (ask_view (content_view c.args.content) c.args.name.now c.args.ask) (parts_view c.args.parts.now) (parts_view c.in_ok-wanted.wanted.items) c.args.page.now c.in_ok-text.text.items
-    c.in_ok-wanted.ensures
+    let content : Content = content_view c.args.content in
+    let parts : List Part = c.args.parts.now in
+    let same : asks_view content (placed_of c.as_slice-3.result.now) ≡ asks_view content c.args.asks.now =
+    ap (λ (rs : List ReadyAsk). asks_view content (placed_of rs)) c.as_slice-3.ensures.value ∙ ap (asks_view content) c.in_ok-asks_ready.ensures.asks in
+    spliced (asks_view content c.args.asks.now) (parts_view parts) (parts_view c.in_ok-wanted.wanted.items) c.args.page.now c.in_ok-text.text.items
+    (subst (λ (bs : List (Splice Put)). IsWanted bs (parts_view parts) (parts_view c.in_ok-wanted.wanted.items)) same c.in_ok-wanted.ensures)
     (subst (λ (xs : List Part). IsReadAs c.args.page.now (parts_view xs) c.in_ok-text.text.items) c.as_slice-4.ensures.value c.in_ok-text.ensures)

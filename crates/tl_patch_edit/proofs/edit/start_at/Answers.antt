@@ -1,6 +1,0 @@
-use Rattle.tl_patch_edit.proofs.Starts.{start_is}
-use Rattle.tl_patch_edit.proofs.edit.start_at.Goals as goal
-
-pub returns-then-is_it : goal.returns-then-is_it
-returns-then-is_it c =
-    start_is c.args.tokens.now c.args.place c.loop-at.at _ c.loop-at-test.true (c.is_start_at-is_it.ensures.start c.if-is_it.true) (c.is_start_at-is_it.ensures.kind c.if-is_it.true)

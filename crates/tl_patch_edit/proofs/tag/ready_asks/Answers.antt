@@ -1,0 +1,27 @@
+use Rattle.std.proofs.Common.{◌≡◌, List, [], ◌∷◌, ◌++◌, take, ap, sym, subst, ◌∙◌}
+use Rattle.std.specs.List.{All}
+use Rattle.std.proofs.lemmas.List.{map-append, take_all, take_more}
+use Rattle.std.proofs.lemmas.List.Elements.{All-push}
+use Rattle.tl_patch_edit.specs.Asks.{IsTagged, placed_of}
+use Rattle.tl_patch_edit.specs.Parts.{parts_view}
+use Rattle.tl_patch_edit.specs.declared.ask.PlacedAsk.{PlacedAsk}
+use Rattle.tl_patch_edit.specs.declared.tag.ReadyAsk.{ReadyAsk}
+use Rattle.tl_patch_edit.proofs.tag.ready_asks.Goals as goal
+
+pub loop-at-preserved : goal.loop-at-preserved
+loop-at-preserved c =
+    let asks : List PlacedAsk = c.args.asks.now in
+    let old : List ReadyAsk = c.loop-at.ready.items in
+    let one : ReadyAsk = c.in_ok-one.one in
+    record {
+      asks = ap placed_of c.in_ok-push_ready.ensures
+          ∙ map-append (λ (r : ReadyAsk). r.placed) old (one ∷ [])
+          ∙ ap (λ (xs : List PlacedAsk). xs ++ one.placed ∷ []) c.loop-at.invariant.asks
+          ∙ ap (λ (x : PlacedAsk). take c.loop-at.at asks ++ x ∷ []) c.in_ok-one.ensures.ask
+          ∙ sym (take_more asks c.loop-at.at _ c.loop-at-test.true);
+      tags = subst (All (IsTagged (parts_view c.args.parts.now))) (sym c.in_ok-push_ready.ensures)
+          (All-push (IsTagged (parts_view c.args.parts.now)) old one c.loop-at.invariant.tags c.in_ok-one.ensures.tag);
+    }
+
+pub returns-clause-asks : goal.returns-clause-asks
+returns-clause-asks c = c.loop-at.invariant.asks ∙ take_all c.loop-at.at c.args.asks.now c.loop-at-test.false
