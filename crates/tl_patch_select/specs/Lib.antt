@@ -1,2 +1,4 @@
 pub mod Errors
+pub mod Selected
 pub mod Patched
+pub mod Edited

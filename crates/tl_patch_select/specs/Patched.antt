@@ -1,24 +1,15 @@
 -- A page with the tags changed where a selector holds.
-use Rattle.std.specs.Prelude.{◌≡◌, ℕ, List, Option, flat_map, map}
-use Rattle.std.specs.List.{slice_get}
-use Rattle.std.specs.Option.{option_to_list, option_map}
+use Rattle.std.specs.Prelude.{◌≡◌, ℕ, List, map}
 use Rattle.tl_spec.specs.Tree.Document.{document}
 use Rattle.tl_css.specs.Meaning.{AreFound}
 use Rattle.tl_css.specs.Selector.{Css}
 use Rattle.tl_css_select.specs.Spelling.{decoded_nodes}
 use Rattle.tl_html_spec.specs.HtmlForm.{html_form}
-use Rattle.tl_html_spec.specs.Nodes.{Span, sources}
+use Rattle.tl_html_spec.specs.Nodes.{sources}
 use Rattle.tl_patch_page.specs.Pages.{IsPatched}
 use Rattle.tl_patch_page.specs.View.{PlacedChange}
 use Rattle.tl_patch_spec.specs.TagChanges.{TagChange}
-
--- where in the page the node of its form begins that has this number
-abbrev pub place_of : List Span → ℕ → Option ℕ
-place_of spans n = option_map (λ (span : Span). span.0) (slice_get spans n)
-
--- and those of these numbers
-abbrev pub places_of : List Span → List ℕ → List ℕ
-places_of spans numbers = flat_map (λ n. option_to_list (place_of spans n)) numbers
+use Rattle.tl_patch_select.specs.Selected.{places_of}
 
 -- a change at each of these places
 abbrev pub changes_at : TagChange → List ℕ → List PlacedChange

@@ -1,8 +1,13 @@
-//! Changes of the tags where a selector of CSS holds, in the bytes of the page.
+//! Changes of the tags and elements where a selector of CSS holds, in the bytes of the page.
 #![tactic(auto)]
 
+mod edit_error;
+mod edited;
 mod error;
 mod patched;
+mod selected;
 
+pub use edit_error::SelectionEditError;
+pub use edited::edit_selected;
 pub use error::SelectionPatchError;
 pub use patched::{Patched, patch_selected};
