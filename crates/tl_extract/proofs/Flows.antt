@@ -1,5 +1,5 @@
 -- What the walk adds, event by event.
-use Rattle.std.proofs.Common.{◌≡◌, ◌<◌, ◌≤◌, ℕ, Bool, true, false, List, [], ◌∷◌, ◌++◌, map, Option, Some, None, Result, Ok, Err, length, refl, ap, sym, ◌∙◌, subst, append_assoc, append-nil, length-append, true≢false, arith, if◌then◌else◌}
+use Rattle.std.proofs.Common.{◌≡◌, ◌<◌, ◌≤◌, ℕ, Bool, true, false, List, [], ◌∷◌, ◌++◌, map, Option, Some, None, Ok, length, refl, ap, sym, ◌∙◌, subst, append_assoc, append-nil, length-append, true≢false, arith, if◌then◌else◌}
 use Rattle.std.specs.Result.{result_err}
 use Rattle.tl_spec.specs.Tree.Document.{Document, document, Tag, Raw, Comment, TagNode}
 use Rattle.tl_spec.specs.Tree.Forest.{forest, plain}

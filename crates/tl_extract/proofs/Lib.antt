@@ -1,2 +1,4 @@
 pub mod Splits
 pub mod Flows
+pub mod Steps
+pub mod Outlines

@@ -1,6 +1,8 @@
 pub mod Field
 pub mod Links
+pub mod Notation
 pub mod Outline
+pub mod Events
 pub mod Split
 pub mod Readable
 pub mod Flow

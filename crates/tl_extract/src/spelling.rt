@@ -1,5 +1,5 @@
 //! Names, values and texts as they stand, or as what they say.
-ghost use Rattle.std.specs.Prelude.{◌≡◌, ◌++◌, IfOk, OnOk, string_bytes};
+ghost use Rattle.std.specs.Prelude.{◌≡◌, IfOk, string_bytes};
 ghost use Rattle.std.specs.Str.Lossy.{utf8_lossy};
 ghost use Rattle.tl_extract.specs.Spelling.{said_name, said_text, said_value, text_written};
 
@@ -46,6 +46,36 @@ impl Spelling {
         match self {
             Spelling::Raw => lossy_text(alloc, bytes),
             Spelling::Decoded => lossy_text(alloc, uncoded_name(alloc, bytes)?.as_slice()),
+        }
+    }
+
+    /// What a text says.
+    pub(crate) fn text_bytes(self, alloc: Global, bytes: &[u8]) -> Result<Vec<u8>, AllocError>
+        ensures { IfOk result (λ said. said.items ≡ said_text self bytes.now) }
+    {
+        match self {
+            Spelling::Raw => Vec::from_slice(alloc, bytes),
+            Spelling::Decoded => Ok(unescape_text(alloc, bytes)?),
+        }
+    }
+
+    /// What the value of an attribute says.
+    pub(crate) fn value_bytes(self, alloc: Global, bytes: &[u8]) -> Result<Vec<u8>, AllocError>
+        ensures { IfOk result (λ said. said.items ≡ said_value self bytes.now) }
+    {
+        match self {
+            Spelling::Raw => Vec::from_slice(alloc, bytes),
+            Spelling::Decoded => Ok(unescape_value(alloc, bytes)?),
+        }
+    }
+
+    /// What the name of a tag says.
+    pub(crate) fn name_bytes(self, alloc: Global, bytes: &[u8]) -> Result<Vec<u8>, AllocError>
+        ensures { IfOk result (λ said. said.items ≡ said_name self bytes.now) }
+    {
+        match self {
+            Spelling::Raw => Vec::from_slice(alloc, bytes),
+            Spelling::Decoded => Ok(uncoded_name(alloc, bytes)?),
         }
     }
 

@@ -1,7 +1,7 @@
 //! Names, values and texts as they stand, and as what they say.
 use std::alloc::Global;
 use tl::ParserOptions;
-use tl_extract::{Field, Spelling, first, outline};
+use tl_extract::{Field, OutlineFormat, Spelling, first, outline};
 use tl_page::{Failure, read};
 
 // A field of a page's first tag `a`, and what it is.
@@ -37,15 +37,19 @@ fn values_and_texts_say_characters(rt: HostRuntime) {
 
 #[rattlefmt::skip]
 static OUTLINES: [(Spelling, &str); 2] = [
-    (Spelling::Raw, "0 tag x+2ey 1\n1 text a &lt; b\n2 comment <!--&amp;-->\n"),
-    (Spelling::Decoded, "0 tag x.y 1\n1 text a < b\n2 comment <!--&amp;-->\n"),
+    (Spelling::Raw, "x\\+2ey[href=\"/?a&amp;b\"]\n  \"a &lt; b\"\n<!--&amp;-->\n"),
+    (Spelling::Decoded, "x\\.y[href=\"/?a&b\"]\n  \"a < b\"\n<!--&amp;-->\n"),
 ];
 
 // Whether the outline of a page is this.
 fn is_outline(alloc: Global, spelling: Spelling, lines: &str) -> Result<bool, Failure> {
-    let page = "<x+2ey>a &lt; b</x+2ey><!--&amp;-->";
+    let page = "<x+2ey href=\"/?a&amp;b\">a &lt; b</x+2ey><!--&amp;-->";
     let document = read(alloc, page.as_bytes(), ParserOptions::new())?;
-    Ok(outline(alloc, &document, spelling)?.as_str() == lines)
+    let format = OutlineFormat {
+        spelling,
+        has_numbers: false,
+    };
+    Ok(outline(alloc, &document, format)?.as_str() == lines)
 }
 
 #[test]

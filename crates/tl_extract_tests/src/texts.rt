@@ -1,7 +1,7 @@
 //! What is written of documents: their outline, and their text line by line.
 use std::alloc::Global;
 use tl::ParserOptions;
-use tl_extract::{Spelling, outline, readable};
+use tl_extract::{OutlineFormat, Spelling, outline, readable};
 use tl_page::{Failure, read};
 
 #[rattlefmt::skip]
@@ -44,23 +44,70 @@ fn text_of_a_page_stands_line_by_line(rt: HostRuntime) {
 }
 
 #[rattlefmt::skip]
-static OUTLINES: [(&str, &str); 5] = [
+static OUTLINES: [(&str, &str); 14] = [
     ("", ""),
-    ("<p>a<br></p>\n", "0 tag p 1 2\n1 text a\n2 tag br\n3 text \n"),
-    ("<!--a\nb-->", "0 comment <!--a\n"),
-    ("a\nb", "0 text a\n"),
-    ("<p><b></b></p>", "0 tag p 1\n1 tag b\n"),
+    ("<p>a<br></p>\n", "p\n  \"a\"\n  br\n"),
+    ("<!--a\nb-->", "<!--a\n"),
+    ("\n  a  b \nc", "\"a b\"\n"),
+    ("<p><b></b><i></i></p>c", "p\n  b\n  i\n\"c\"\n"),
+    ("<p><b><i></i></b></p><u></u>", "p\n  b\n    i\nu\n"),
+    ("<a id=\"x\" class=\" y  z \" href=\"/q\">", "a#x.y.z[href=\"/q\"]\n"),
+    ("<a href=\"/q\" name=\"n\" title=\"t\">", "a[name=\"n\"][href=\"/q\"]\n"),
+    ("<a id=\"\" class=\"\" href=\"\">", "a[href=\"\"]\n"),
+    ("<input type name=\"a\\b\">", "input[name=\"a\\\\b\"][type]\n"),
+    ("<p id=\"a:b\" class=\"1x -y \u{e9} w/2\">", "p#a\\:b.\\31 x.\\-y.\u{e9}.w\\/2\n"),
+    ("<p id=\"a\tb\"><o:p>", "p#a\\09 b\n  o\\:p\n"),
+    ("<a href=\"\u{7f}\n\">", "a[href=\"\\7f \\0a \"]\n"),
+    ("<?a name=\"b\">c", "*[name=\"b\"]\n  \"c\"\n"),
+];
+
+#[rattlefmt::skip]
+static NUMBERED: [(&str, &str); 2] = [
+    ("<p>a<br></p>\n", "0\tp\n1\t  \"a\"\n2\t  br\n3\t\"\"\n"),
+    ("<p>\n<b>", "0\tp\n1\t  \"\"\n2\t  b\n"),
 ];
 
 // Whether the outline of a page is this.
-fn has_outline(alloc: Global, page: &str, lines: &str) -> Result<bool, Failure> {
+fn has_outline(alloc: Global, page: &str, has_numbers: bool, lines: &str) -> Result<bool, Failure> {
     let document = read(alloc, page.as_bytes(), ParserOptions::new())?;
-    Ok(outline(alloc, &document, Spelling::Raw)?.as_str() == lines)
+    let format = OutlineFormat {
+        spelling: Spelling::Raw,
+        has_numbers,
+    };
+    Ok(outline(alloc, &document, format)?.as_str() == lines)
 }
 
 #[test]
-fn outline_has_a_line_for_each_node(rt: HostRuntime) {
+fn outline_is_a_tree_of_selectors(rt: HostRuntime) {
     for (page, lines) in &OUTLINES {
-        assert!(rt; has_outline(rt.alloc(), page, lines) == Ok(true));
+        assert!(rt; has_outline(rt.alloc(), page, false, lines) == Ok(true));
     }
+}
+
+#[test]
+fn outline_has_each_node_with_its_number(rt: HostRuntime) {
+    for (page, lines) in &NUMBERED {
+        assert!(rt; has_outline(rt.alloc(), page, true, lines) == Ok(true));
+    }
+}
+
+// Whether the last line of the outline of a tag in so many others is this.
+fn ends_deep(alloc: Global, depth: usize, line: &str) -> Result<bool, Failure> {
+    let page = "<b>".repeat(alloc, depth)?;
+    let document = read(alloc, page.as_bytes(), ParserOptions::new())?;
+    let format = OutlineFormat {
+        spelling: Spelling::Raw,
+        has_numbers: false,
+    };
+    let lines = outline(alloc, &document, format)?;
+    let mut wanted = "  ".repeat(alloc, 64)?;
+    wanted.push_str(line)?;
+    Ok(lines.as_str().ends_with(wanted.as_str()))
+}
+
+#[test]
+fn outline_says_how_deep_a_node_is(rt: HostRuntime) {
+    assert!(rt; ends_deep(rt.alloc(), 65, "b\n") == Ok(true));
+    assert!(rt; ends_deep(rt.alloc(), 66, "(65) b\n") == Ok(true));
+    assert!(rt; ends_deep(rt.alloc(), 1001, "(1000) b\n") == Ok(true));
 }

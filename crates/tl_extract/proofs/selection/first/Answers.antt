@@ -1,4 +1,4 @@
-use Rattle.std.proofs.Common.{◌≡◌, map, ap, subst, sym, ◌∙◌, option_map, string_bytes}
+use Rattle.std.proofs.Common.{◌≡◌, map, ap, subst, ◌∙◌, option_map, string_bytes}
 use Rattle.tl.specs.Query.{matches_in}
 use Rattle.tl.specs.View.{HTMLTable, document_of, node_view}
 use Rattle.tl.proofs.Queries.{query-some}
