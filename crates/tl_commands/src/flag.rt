@@ -21,14 +21,14 @@ pub static AS_IS: Flag = Flag {
     name: "as-is",
     short: None,
     value: None,
-    help: "Read by the grammar of tl, and write what stands in the page",
+    help: "Read by the grammar of tl, and write what stands",
 };
 
 pub static RAW: Flag = Flag {
     name: "raw",
     short: None,
     value: None,
-    help: "Write names and references as they stand in the form that is read",
+    help: "Write names and references as the form has them",
 };
 
 pub static ENCODING: Flag = Flag {
@@ -42,7 +42,7 @@ pub static NULL: Flag = Flag {
     name: "null",
     short: Some('0'),
     value: None,
-    help: "End each answer with a byte 0, and not with a line feed",
+    help: "End answers with a byte 0, not with a line feed",
 };
 
 pub static FIRST: Flag = Flag {
@@ -56,14 +56,14 @@ pub static QUIET: Flag = Flag {
     name: "quiet",
     short: Some('q'),
     value: None,
-    help: "Write nothing: the status says whether something is found",
+    help: "Write nothing: the status says what is found",
 };
 
 pub static NAMES: Flag = Flag {
     name: "files-with-matches",
     short: Some('l'),
     value: None,
-    help: "Write the names of the files where something is found, and nothing else",
+    help: "Write the names of files where something is found",
 };
 
 pub static MAX_COUNT: Flag = Flag {
@@ -77,7 +77,7 @@ pub static WHITESPACE: Flag = Flag {
     name: "whitespace",
     short: Some('w'),
     value: None,
-    help: "Blocks on lines of their own, one space between words, no scripts",
+    help: "Blocks on lines, one space between words, no scripts",
 };
 
 pub static INSIDE: Flag = Flag {
@@ -91,7 +91,14 @@ pub static TABLE_NUMBER: Flag = Flag {
     name: "number",
     short: Some('n'),
     value: Some("N"),
-    help: "The Nth table of each page, from 1, which is the one without it",
+    help: "The Nth table of each page; without it the first",
+};
+
+pub static NODE_NUMBERS: Flag = Flag {
+    name: "number",
+    short: Some('n'),
+    value: None,
+    help: "Its number before each node, and no node left out",
 };
 
 // What may be written of a node; without one of these its print.
@@ -100,7 +107,7 @@ pub static NODE_FLAGS: [Flag; 6] = [
         name: "attribute",
         short: Some('a'),
         value: Some("KEY"),
-        help: "The characters of the value at KEY, of nodes that have one",
+        help: "The value at KEY, of nodes that have one",
     },
     Flag {
         name: "text",
@@ -118,7 +125,7 @@ pub static NODE_FLAGS: [Flag; 6] = [
         name: "number",
         short: Some('n'),
         value: None,
-        help: "The number of the node, from 0; edit takes those of --as-is",
+        help: "Its number, from 0; edit takes those of --as-is",
     },
     Flag {
         name: "count",
@@ -130,7 +137,7 @@ pub static NODE_FLAGS: [Flag; 6] = [
         name: "json",
         short: None,
         value: None,
-        help: "JSON with the number, name, attributes and text of each node",
+        help: "JSON: its number, name, attributes and text",
     },
 ];
 
@@ -159,9 +166,16 @@ pub static TARGETS: [Flag; 3] = [
         name: "dry-run",
         short: None,
         value: None,
-        help: "Nowhere: write FILE:LINE:COLUMN of each tag that would change, in bytes",
+        help: "Nowhere: write FILE:LINE:COLUMN of what would change",
     },
 ];
+
+pub static HTML: Flag = Flag {
+    name: "html",
+    short: None,
+    value: None,
+    help: "TEXT is markup, and stands as it is",
+};
 
 pub static RELATIVE_LINKS: Flag = Flag {
     name: "relative-links",
@@ -174,7 +188,7 @@ pub static NOFOLLOW_LINKS: Flag = Flag {
     name: "nofollow-links",
     short: None,
     value: None,
-    help: "Links get rel=\"nofollow noopener\", and the key rel stands",
+    help: "Links get rel=\"nofollow noopener\"",
 };
 
 // The policies to begin with.
@@ -189,7 +203,7 @@ pub static BASES: [Flag; 2] = [
         name: "documents",
         short: None,
         value: None,
-        help: "Begin with those for documents, with tables and relative links",
+        help: "Begin with those for documents, as with tables",
     },
 ];
 
@@ -223,7 +237,7 @@ pub static LISTS: [Flag; 5] = [
         name: "prefix",
         short: None,
         value: Some("WORD"),
-        help: "What the values of id, name and class that stand begin with",
+        help: "What values of id, name and class begin with",
     },
 ];
 

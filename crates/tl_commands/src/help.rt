@@ -8,30 +8,38 @@ Examples:
   tl text -w index.html                   the text of a page, a block on a line
   tl sanitize comment.html                what of a page may be shown to others
 
-Pages are read as browsers read them: names in any case, end tags that may be left out, values
-without quotes, character references. print and edit, and --as-is, read by the grammar of tl.
-Without --encoding a page is in what its byte-order mark says, else UTF-8 if it can be, else what
-its <meta charset> says. What is written is UTF-8.
+Pages are read as browsers read them: names in any case, end tags that may be
+left out, values without quotes, character references. print and edit, and
+--as-is, read by the grammar of tl. Without --encoding a page is in what its
+byte-order mark says, else UTF-8 if it can be, else what its <meta charset>
+says. What is written is UTF-8.
 
-It ends with 0: all is done; 1: nothing is found, of select, links, table
-and text --in; 2: words, a selector, a page or a step are not understood, or a step is refused;
-3: out of memory; 4: a read or a write failed; 141: what is written is read no more.
-A page that can't be read is said on standard error, and those after it are done.";
+It ends with 0: all is done; 1: nothing is found, of select, links, table and
+text --in; 2: words, a selector, a page or a step are not understood, or a step
+is refused; 3: out of memory; 4: a read or a write failed; 141: what is written
+is read no more. A page that can't be read is said on standard error, and those
+after it are done.
+
+On a terminal names of files have colours, unless NO_COLOR is set, and where
+there are many files, or they take long, standard error says how far it is.";
 
 pub const SELECTORS: &str = "\
 Example:
-  tl select -l 'img:not([alt])' *.html    the pages with a picture that says nothing
+  tl select -l 'img:not([alt])' *.html    pages with a picture that says nothing
 
 SELECTOR is one of CSS (Level 4), and holds of tags:
-  name  *  #ID  .CLASS  [KEY]  [KEY=VALUE] (also ~= |= ^= $= *=; [KEY=VALUE i] in any case)
-  A B (B below A)   A > B (right below)   A + B (next to A)   A ~ B (after A)   A, B (either)
-  :not(..) :is(..) :where(..) :has(..) :empty :root
-  :first-child :last-child :only-child :nth-child(2n+1 of S) :nth-last-child(..), and -of-type
-A value that is no name stands in quotes: 'img[src$=\".png\"]'. Behind a \\ any character is one
-of a name: '[\\@click]'. docs/COMMANDS.md says what differs from browsers.
+  name  *  #ID  .CLASS  [KEY]  [KEY=VALUE]  also ~= |= ^= $= *=
+  [KEY=VALUE i] (in any case)  A, B (either)
+  A B (B below A)  A > B (right below)  A + B (next to A)  A ~ B (after A)
+  :not(..) :is(..) :where(..) :has(..) :empty :root :first-child :last-child
+  :only-child :nth-child(2n+1 of S) :nth-last-child(..), and -of-type
+A value that is no name stands in quotes: 'img[src$=\".png\"]'. Behind a \\ any
+character is one of a name: '[\\@click]'. docs/COMMANDS.md says what differs
+from browsers.
 
-Of several files each line has the name of its file and a colon before it; with --json each node
-is an object on a line that has its file, where one file alone gives an array.";
+Of several files each line has the name of its file and a colon before it; with
+--json each node is an object on a line that has its file, where one file alone
+gives an array.";
 
 pub const LINKS: &str = "\
 Example:
@@ -39,55 +47,62 @@ Example:
 
 pub const TEXTS: &str = "\
 Example:
-  tl text -w --in article index.html      what an article says, a block on a line";
+  tl text -w --in article index.html      what an article says, block by block";
 
 pub const TABLES: &str = "\
 Example:
   tl table --number 2 index.html          the second table of a page
 
-A line for each row, as it stands in the page: its cells in order, each once, however many places
-it spans. Rows of a table in a cell are no rows of it; their words are words of the cell.";
+A line for each row, as it stands in the page: its cells in order, each once,
+however many places it spans. Rows of a table in a cell are no rows of it; their
+words are words of the cell.";
 
 pub const PRINTS: &str = "\
 Example:
   tl print index.html                     the page with each tag closed";
 
-pub const NUMBERS: &str = "\
+pub const OUTLINES: &str = "\
 Example:
-  tl outline --as-is index.html           which number each node has for edit
+  tl outline index.html                   what a page is made of
 
-The numbers that edit takes are those that --as-is gives.";
+Two spaces stand for each tag around a node, up to 64; past that, how many there
+are. A tag has its id, its class, and the keys name, property, type, rel, for,
+role, href, src and action; what is written selects it: a.next[href=\"/2\"]. Of a
+text and a comment it is the first line that has words. Texts of white space
+alone are left out, but with -n.
+The numbers that edit takes are those that -n gives with --as-is.";
 
 pub const STEPS: &str = "\
 Example:
   tl edit 'set 0 lang en' -- index.html   the page with a key at its first node
 
 A step is one word of the shell, as 'set 0 href /x':
-  name N TEXT, text N TEXT, comment N TEXT, set N KEY VALUE, flag N KEY, unset N KEY,
-  bare N KEY, push N M, pull N I, root I M
+  name N TEXT, text N TEXT, comment N TEXT, set N KEY VALUE, flag N KEY,
+  unset N KEY, bare N KEY, push N M, pull N I, root I M
 N and M are numbers of nodes, from 0 in the order of the page; I is a place.";
 
 pub const SETTINGS: &str = "\
 Example:
-  tl set -i img loading lazy *.html       pictures that are loaded when they are seen
+  tl set -i img loading lazy *.html       pictures that are loaded when seen
 
-Pages are UTF-8, and are read as browsers read them. No byte changes but in these tags: the
-value of the key, or the key. A page that can't be changed so stays, and is said. Where
-nothing is found, no file is touched, and the status is 1.";
+Pages are UTF-8, and are read as browsers read them. No byte changes but in
+these tags: the value of the key, or the key. A page that can't be changed so
+stays, and is said. Where nothing is found, no file is touched, and the status
+is 1.";
 
 pub const UNSETTINGS: &str = "\
 Example:
   tl unset -i '[style]' style *.html      pages without styles of their own
 
-Pages are UTF-8, and are read as browsers read them. No byte changes but in these tags: the
-key goes. A page that can't be changed so stays, and is said. Where nothing is found, no
-file is touched, and the status is 1.";
+Pages are UTF-8, and are read as browsers read them. No byte changes but in
+these tags: the key goes. A page that can't be changed so stays, and is said.
+Where nothing is found, no file is touched, and the status is 1.";
 
 pub const SAFE: &str = "\
 Example:
-  tl sanitize --comments comment.html     what of a reader's comment may be shown
+  tl sanitize --comments comment.html     what of a comment may be shown
 
-WORDS have commas between them; a list that isn't said is that for the text of a blog, or
-for what --comments or --documents says, as --policy writes it.
+WORDS have commas between them; a list that isn't said is that for the text of a
+blog, or for what --comments or --documents says, as --policy writes it.
 The page is to be served as UTF-8, in the content of an ordinary element.
 docs/SAFE.md says what is proved of it.";

@@ -1,10 +1,12 @@
 //! The commands.
+use crate::element::ElementVerb;
 use crate::flag::{
     AS_IS, BASES, ENCODING, FIRST, Flag, INSIDE, LISTS, MAX_COUNT, NAMES, NO_NAME, NODE_FLAGS,
-    NOFOLLOW_LINKS, NULL, POLICY, QUIET, RAW, RELATIVE_LINKS, TABLE_NUMBER, TARGETS, WHITESPACE,
+    NODE_NUMBERS, NOFOLLOW_LINKS, NULL, POLICY, QUIET, RAW, RELATIVE_LINKS, TABLE_NUMBER, TARGETS,
+    WHITESPACE,
 };
 use crate::help::{
-    ABOUT, LINKS, NUMBERS, PRINTS, PROGRAM, SAFE, SELECTORS, SETTINGS, STEPS, TABLES, TEXTS,
+    ABOUT, LINKS, OUTLINES, PRINTS, PROGRAM, SAFE, SELECTORS, SETTINGS, STEPS, TABLES, TEXTS,
     UNSETTINGS,
 };
 use clap::{Arg, ArgGroup, Command};
@@ -55,11 +57,12 @@ pub enum Verb {
     Edit,
     Set,
     Unset,
+    Element(ElementVerb),
     Sanitize,
 }
 
 // All commands, in the order of the help. No other one is read.
-static VERBS: [Verb; 10] = [
+static VERBS: [Verb; 19] = [
     Verb::Select,
     Verb::Links,
     Verb::Text,
@@ -69,6 +72,15 @@ static VERBS: [Verb; 10] = [
     Verb::Edit,
     Verb::Set,
     Verb::Unset,
+    Verb::Element(ElementVerb::Rename),
+    Verb::Element(ElementVerb::Remove),
+    Verb::Element(ElementVerb::Unwrap),
+    Verb::Element(ElementVerb::Replace),
+    Verb::Element(ElementVerb::Fill),
+    Verb::Element(ElementVerb::Prepend),
+    Verb::Element(ElementVerb::Append),
+    Verb::Element(ElementVerb::Before),
+    Verb::Element(ElementVerb::After),
     Verb::Sanitize,
 ];
 
@@ -85,6 +97,7 @@ impl Verb {
             Verb::Edit => "edit",
             Verb::Set => "set",
             Verb::Unset => "unset",
+            Verb::Element(verb) => verb.word(),
             Verb::Sanitize => "sanitize",
         }
     }
@@ -93,25 +106,16 @@ impl Verb {
     fn about<'w>(self) -> &'w str {
         match self {
             Verb::Select => "Writes each node where a selector holds, in the order of the page",
-            Verb::Links => {
-                "Writes the values at href, src, action, poster and srcset, node after node"
-            }
+            Verb::Links => { "Writes the values at href, src, action, poster and srcset" }
             Verb::Text => "Writes the texts of the page in order, without tags and comments",
             Verb::Table => "Writes a table as CSV, the words of each cell with one space between",
             Verb::Print => { "Writes the page as the grammar of tl reads it, with each tag closed" }
-            Verb::Outline => {
-                "Writes what each node is, by number, with the numbers of its children"
-            }
+            Verb::Outline => { "Writes the page as a tree, a line for each node, as CSS names it" }
             Verb::Edit => "Prints the page after steps, as the grammar of tl reads it",
-            Verb::Set => {
-                "Gives each tag where a selector holds a value at a key; no other byte changes"
-            }
-            Verb::Unset => {
-                "Takes a key from each tag where a selector holds; no other byte changes"
-            }
-            Verb::Sanitize => {
-                "Prints what may be shown of the page: the tags and attributes that lists let stand"
-            }
+            Verb::Set => { "Gives tags where a selector holds a value; each other byte stays" }
+            Verb::Unset => { "Takes a key from tags where a selector holds; all else stays" }
+            Verb::Element(verb) => verb.about(),
+            Verb::Sanitize => { "Prints what may be shown of the page, by lists of what may stand" }
         }
     }
 
@@ -123,10 +127,11 @@ impl Verb {
             Verb::Text => TEXTS,
             Verb::Table => TABLES,
             Verb::Print => PRINTS,
-            Verb::Outline => NUMBERS,
+            Verb::Outline => OUTLINES,
             Verb::Edit => STEPS,
             Verb::Set => SETTINGS,
             Verb::Unset => UNSETTINGS,
+            Verb::Element(verb) => verb.notes(),
             Verb::Sanitize => SAFE,
         }
     }
@@ -160,10 +165,13 @@ impl Verb {
                 .reading_command(alloc)?
                 .arg(TABLE_NUMBER.argument(alloc)),
             Verb::Print => self.plain_command(alloc)?.arg(ENCODING.argument(alloc)),
-            Verb::Outline => self.reading_command(alloc),
+            Verb::Outline => outline(alloc, self.reading_command(alloc)?),
             Verb::Edit => edit(alloc, self.bare_command(alloc)),
             Verb::Set => set(alloc, self.bare_command(alloc)),
             Verb::Unset => unset(alloc, self.bare_command(alloc)),
+            Verb::Element(verb) => {
+                with_targets(alloc, verb.with_words(alloc, self.bare_command(alloc))?)
+            }
             Verb::Sanitize => sanitize(alloc, self.plain_command(alloc)?)?.alias("sanitise"),
         }
     }
@@ -227,6 +235,10 @@ fn text<'w>(alloc: Global, command: Command<'w>) -> Result<Command<'w>, AllocErr
         .arg(INSIDE.argument(alloc))
 }
 
+fn outline<'w>(alloc: Global, command: Command<'w>) -> Result<Command<'w>, AllocError> {
+    command.arg(NODE_NUMBERS.argument(alloc))
+}
+
 fn edit<'w>(alloc: Global, command: Command<'w>) -> Result<Command<'w>, AllocError> {
     let steps = Arg::new(alloc, "STEP")
         .required(true)
@@ -238,7 +250,7 @@ fn edit<'w>(alloc: Global, command: Command<'w>) -> Result<Command<'w>, AllocErr
         .arg(files(alloc).last(true))
 }
 
-// A command that changes tags where a selector holds.
+// A command that changes tags or elements where a selector holds.
 fn with_targets<'w>(alloc: Global, command: Command<'w>) -> Result<Command<'w>, AllocError> {
     with_flags(alloc, command, &TARGETS)?
         .group(one_of(alloc, "target", &TARGETS)?)?
