@@ -53,6 +53,18 @@ How pages are read:
   $ tl select --raw a list.html
   <a href="/x" +40click="f()">Bread &amp; butter</a>
 
+Trees:
+
+  $ printf '<nav id=top>\n<a class="next big" href=/2 title=t>Bread\n &amp; butter</a><input name=q required></nav><!-- end -->' >tree.html
+  $ tl outline tree.html
+  nav#top
+    a.next.big[href="/2"]
+      "Bread"
+    input[name="q"]
+  <!-- end -->
+  $ tl select -n 'a.next.big[href="/2"]' tree.html
+  2
+
 Selectors:
 
   $ printf '<p><img src="d.png"><img src=e.gif></p>' >shelf
@@ -80,6 +92,27 @@ Edits in a page's own bytes:
   $ tl unset img src album.html
   <!doctype html PUBLIC "x">
   <IMG><img  > (no-eol)
+  $ printf '<ul>\n<LI>Tea & milk\n<li>Bread</ul><CENTER><img src=a.png></CENTER>\n' >list.html
+  $ tl rename center div list.html
+  <ul>
+  <LI>Tea & milk
+  <li>Bread</ul><div><img src=a.png></div>
+  $ tl remove 'li:first-child' list.html
+  <ul>
+  <li>Bread</ul><CENTER><img src=a.png></CENTER>
+  $ tl append li ', 2 < 3' list.html
+  <ul>
+  <LI>Tea & milk
+  , 2 &lt; 3<li>Bread, 2 &lt; 3</ul><CENTER><img src=a.png></CENTER>
+  $ tl after --html 'li:last-child' '<li>Jam' list.html
+  <ul>
+  <LI>Tea & milk
+  <li>Bread</li><li>Jam</ul><CENTER><img src=a.png></CENTER>
+  $ tl fill -i center Closed list.html
+  $ tl unwrap center list.html
+  <ul>
+  <LI>Tea & milk
+  <li>Bread</ul>Closed
 
 Safe pages:
 

@@ -1,4 +1,4 @@
-Edits of pages in their own bytes: what `tl set` and `tl unset` write, where, and with which status.
+Edits of pages in their own bytes: what `tl set` and its like write, where, and with which status.
 
   $ printf '<UL>\n<LI><A HREF=/x>a</a> &am<b CLASS=k>p;' >page
   $ tl set a href /y page
@@ -77,7 +77,217 @@ A failed write leaves the old page, and nothing beside it.
   tl: folder: Is a directory (os error 21) (err)
   [4]
 
+Elements get another name, or go, or their tags alone.
+
+  $ printf '<ul>\n<LI a=1>one\n<li>two</ul>\n<CENTER>x</center >\n' >list
+  $ tl rename center DIV list
+  <ul>
+  <LI a=1>one
+  <li>two</ul>
+  <div>x</div >
+  $ tl rename li dd <list
+  <ul>
+  <dd a=1>one
+  </dd><dd>two</dd></ul>
+  <CENTER>x</center >
+  $ tl remove li list
+  <ul>
+  </ul>
+  <CENTER>x</center >
+  $ tl remove 'li:first-child' list
+  <ul>
+  <li>two</ul>
+  <CENTER>x</center >
+  $ tl unwrap 'center, li' list
+  <ul>
+  one
+  two</ul>
+  x
+  $ tl remove 'ul, li' list
+  (empty)
+  <CENTER>x</center >
+  $ tl remove b list | cmp - list
+  $ tl remove b list >/dev/null
+  [1]
+  $ tl rename center h1 --dry-run list
+  list:4:1
+  $ tl remove li --dry-run list list
+  list:2:1
+  list:3:1
+  list:2:1
+  list:3:1
+  $ tl rename --dry-run b i list
+  [1]
+
+Something stands in their place, in them, before or after them: a text, or markup with `--html`.
+
+  $ tl replace center '<hr> & more' list
+  <ul>
+  <LI a=1>one
+  <li>two</ul>
+  &lt;hr> &amp; more
+  $ tl replace --html center '<hr> & more' list
+  <ul>
+  <LI a=1>one
+  <li>two</ul>
+  <hr> & more
+  $ tl fill li 'x < y' list
+  <ul>
+  <LI a=1>x &lt; y<li>x &lt; y</ul>
+  <CENTER>x</center >
+  $ tl fill --html center '<b>x</b>' list
+  <ul>
+  <LI a=1>one
+  <li>two</ul>
+  <CENTER><b>x</b></center >
+  $ tl prepend center '1 ' list
+  <ul>
+  <LI a=1>one
+  <li>two</ul>
+  <CENTER>1 x</center >
+  $ tl prepend --html ul '<!-- -->' list
+  <ul><!-- -->
+  <LI a=1>one
+  <li>two</ul>
+  <CENTER>x</center >
+  $ tl append center '&' list
+  <ul>
+  <LI a=1>one
+  <li>two</ul>
+  <CENTER>x&amp;</center >
+  $ tl append --html li '<br>' list
+  <ul>
+  <LI a=1>one
+  <br><li>two<br></ul>
+  <CENTER>x</center >
+  $ tl before center '&' list
+  <ul>
+  <LI a=1>one
+  <li>two</ul>
+  &amp;<CENTER>x</center >
+  $ tl before --html li '<hr>' list
+  <ul>
+  <hr><LI a=1>one
+  <hr><li>two</ul>
+  <CENTER>x</center >
+  $ tl after li '&' list
+  <ul>
+  <LI a=1>one
+  </li>&amp;<li>two</li>&amp;</ul>
+  <CENTER>x</center >
+  $ tl after --html center '<hr>' list
+  <ul>
+  <LI a=1>one
+  <li>two</ul>
+  <CENTER>x</center ><hr>
+  $ printf '<p>a</p>b' | tl fill p ''
+  <p></p>b (no-eol)
+  $ printf 'AT&am<b>x</b>p;' | tl remove b
+  AT&am</>p; (no-eol)
+  $ printf '<title>a</title>b' | tl fill title '</title>'
+  <title>&lt;/title></title>b (no-eol)
+  $ printf '<script>a</script>b' | tl fill script '1 < 2'
+  <script>1 < 2</script>b (no-eol)
+
+In their files.
+
+  $ cp list copy
+  $ tl unwrap -i center copy
+  $ diff list copy
+  4c4
+  < <CENTER>x</center >
+  ---
+  \x3e x (esc)
+  [1]
+  $ tl append --backup .old li '!' copy
+  $ diff copy.old copy
+  3c3
+  < <li>two</ul>
+  ---
+  \x3e !<li>two!</ul> (esc)
+  [1]
+  $ touch -d 2001-01-01 copy
+  $ tl remove -i b copy
+  [1]
+  $ stat -c %y copy | cut -c 1-4
+  2001
+  $ cp list third
+  $ tl fill -i li n copy missing third
+  tl: missing: No such file or directory (os error 2) (err)
+  [4]
+  $ grep -c '<li>n' copy third
+  copy:1
+  third:1
+  $ (trap '' XFSZ; ulimit -f 0; tl remove -i li third 2>&1; echo $?) | cat
+  tl: third: File too large (os error 27)
+  4
+  $ grep -c '<li>n' third
+  1
+
 What is refused.
+
+  $ printf '<div><b>x</div>y' >open
+  $ tl remove b open
+  tl: open: the element at byte 5 can't be changed so (err)
+  [2]
+  $ tl unwrap -i b open
+  tl: open: the element at byte 5 can't be changed so (err)
+  [2]
+  $ tl append b x open
+  tl: open: the element at byte 5 can't be changed so (err)
+  [2]
+  $ tl prepend b 'x' open
+  <div><b>xx</div>y (no-eol)
+  $ tl before b 'x' open
+  <div>x<b>x</div>y (no-eol)
+  $ tl after b 'x' open
+  tl: open: the element at byte 5 can't be changed so (err)
+  [2]
+  $ printf '<p>a<br>b</p>' >break
+  $ tl fill br x break
+  tl: break: the element at byte 4 can't be changed so (err)
+  [2]
+  $ tl rename br b break
+  tl: break: the element at byte 4 can't be changed so (err)
+  [2]
+  $ tl rename p br break
+  tl: break: the element at byte 0 can't be changed so (err)
+  [2]
+  $ tl rename p title break
+  tl: break: the element at byte 0 can't be changed so (err)
+  [2]
+  $ tl rename p 'a b' break
+  tl: no name: a b (err)
+  [2]
+  $ tl rename p '' break
+  tl: no name:\x20 (esc) (err)
+  [2]
+  $ tl after p x break
+  tl: break: the end of the page, for the element at byte 0 (err)
+  [2]
+  $ tl append --html p '<!-- ' break
+  tl: break: the page would be read otherwise, for the element at byte 0 (err)
+  [2]
+  $ tl append --html p '<i t="' break
+  tl: break: the page would be read otherwise, for the element at byte 0 (err)
+  [2]
+  $ printf '<title>a</title>' | tl fill --html title '<b>'
+  tl: -: what is put can't stand there, for the element at byte 0 (err)
+  [2]
+  $ printf '<script>a</script>' | tl fill script '</script>'
+  tl: -: the page would be read otherwise, for the element at byte 0 (err)
+  [2]
+  $ printf '<p>a</p></p>' | tl remove p
+  tl: -: no start tag at byte 8 (err)
+  [2]
+  $ tl remove 'b[' break
+  tl: no selector: at byte 2: a name is missing (err)
+  [2]
+  $ tl remove -i b <break
+  tl: standard input has no file to be written (err)
+  [2]
+  $ cat open
+  <div><b>x</div>y (no-eol)
 
   $ tl set -i a k v <page
   tl: standard input has no file to be written (err)

@@ -229,15 +229,15 @@ As it is, by the grammar of `tl` alone.
   $ printf '<p>a &amp; b</p>' | tl text --as-is
   a &amp; b (no-eol)
   $ printf '<P>a<p>b' | tl outline --as-is
-  0 tag P 1 2
-  1 text a
-  2 tag p 3
-  3 text b
+  P
+    "a"
+    p
+      "b"
   $ printf '<P>a<p>b' | tl outline
-  0 tag p 1
-  1 text a
-  2 tag p 3
-  3 text b
+  p
+    "a"
+  p
+    "b"
   $ printf '<P>a<p>b' | tl print
   <P>a<p>b</p></P> (no-eol)
   $ printf '<P>a<p>b' | tl edit 'set 0 id x'
@@ -281,15 +281,15 @@ Names are asked and written as the page has them; what stands in the form is ano
   $ tl text -w --raw names.html
   &lt;b> &amp; 'c'
   $ printf '<o:p>a &lt; b</o:p><x.y>c' | tl outline
-  0 tag o:p 1
-  1 text a < b
-  2 tag x.y 3
-  3 text c
+  o\:p
+    "a < b"
+  x\.y
+    "c"
   $ printf '<o:p>a &lt; b</o:p><x.y>c' | tl outline --raw
-  0 tag o:p 1
-  1 text a &lt; b
-  2 tag x+2ey 3
-  3 text c
+  o\:p
+    "a &lt; b"
+  x\+2ey
+    "c"
   $ printf '<a href="?q=1&amp;r=2&lt=3">' | tl links
   ?q=1&r=2&lt=3
   $ printf '<a href="?q=1&amp;r=2&lt=3">' | tl links --raw
@@ -476,7 +476,7 @@ Help says how pages are read.
   2
   1
   1
-  3
+  2
   1
   $ for command in select links text print outline sanitize; do tl $command --help >help && grep -c -e '--encoding' help; done
   1
@@ -486,7 +486,7 @@ Help says how pages are read.
   1
   1
   $ tl outline --help | grep -o '^The numbers that edit takes.*'
-  The numbers that edit takes are those that --as-is gives.
+  The numbers that edit takes are those that -n gives with --as-is.
   $ tl select --help | grep -o 'edit takes those of --as-is'
   edit takes those of --as-is
   $ tl --help | grep -o '^Pages are read as browsers read them'

@@ -51,10 +51,14 @@ Each command, and each option of `select`.
   $ tl print <page
   <p id="a">x<b>y</b></p><p>z<img src="i.png" srcset="j.png 2x"><a href="/q"></a></p> (no-eol)
   $ printf '<p>a<br></p>\n' | tl outline
-  0 tag p 1 2
-  1 text a
-  2 tag br
-  3 text\x20 (esc)
+  p
+    "a"
+    br
+  $ printf '<p>a<br></p>\n' | tl outline -n
+  0\x09p (esc)
+  1\x09  "a" (esc)
+  2\x09  br (esc)
+  3\x09"" (esc)
   $ printf '<a>y</a>' | tl edit 'set 0 href /x y' 'name 0 b'
   <b href="/x y">y</b> (no-eol)
   $ printf '<p onclick=f()>x<script>y</script><a href="javascript:f()">z' | tl sanitize
@@ -78,7 +82,7 @@ Each command, and each option of `select`.
   $ printf "$(printf '<!doctype html\360\237\230\2000')" | tl text --as-is -w
   ���0
   $ printf "$(printf '<!doctype html\360\237\230\2000')" | tl outline --as-is
-  0 text ���0
+  "���0"
 
 Where there is nothing, and no memory is wanted for it.
 
@@ -732,9 +736,18 @@ Help names each command and each option, and words the lists.
   edit
   set
   unset
+  rename
+  remove
+  unwrap
+  replace
+  fill
+  prepend
+  append
+  before
+  after
   sanitize
   help
-  $ for command in select links text table print outline edit set unset sanitize; do tl $command --help >help && grep '^Usage: ' help; done
+  $ for command in select links text table print outline edit set unset rename remove unwrap replace fill prepend append before after sanitize; do tl $command --help >help && grep '^Usage: ' help; done
   Usage: tl select [OPTIONS] <SELECTOR> [FILE]...
   Usage: tl links [OPTIONS] [FILE]...
   Usage: tl text [OPTIONS] [FILE]...
@@ -744,6 +757,15 @@ Help names each command and each option, and words the lists.
   Usage: tl edit [OPTIONS] <STEP>... [-- [FILE]...]
   Usage: tl set [OPTIONS] <SELECTOR> <KEY> <VALUE> [FILE]...
   Usage: tl unset [OPTIONS] <SELECTOR> <KEY> [FILE]...
+  Usage: tl rename [OPTIONS] <SELECTOR> <NAME> [FILE]...
+  Usage: tl remove [OPTIONS] <SELECTOR> [FILE]...
+  Usage: tl unwrap [OPTIONS] <SELECTOR> [FILE]...
+  Usage: tl replace [OPTIONS] <SELECTOR> <TEXT> [FILE]...
+  Usage: tl fill [OPTIONS] <SELECTOR> <TEXT> [FILE]...
+  Usage: tl prepend [OPTIONS] <SELECTOR> <TEXT> [FILE]...
+  Usage: tl append [OPTIONS] <SELECTOR> <TEXT> [FILE]...
+  Usage: tl before [OPTIONS] <SELECTOR> <TEXT> [FILE]...
+  Usage: tl after [OPTIONS] <SELECTOR> <TEXT> [FILE]...
   Usage: tl sanitize [OPTIONS] [FILE]...
   $ tl select --help >help && grep -oE -e '--[a-z-]+' help | sort -u
   --as-is
@@ -777,10 +799,11 @@ Help names each command and each option, and words the lists.
   --prefix
   --relative-links
   --tags
-  $ for command in set unset; do tl $command --help; done | grep -oE -e '--[a-z-]+' | sort -u
+  $ for command in set unset rename remove unwrap replace fill prepend append before after; do tl $command --help; done | grep -oE -e '--[a-z-]+' | sort -u
   --backup
   --dry-run
   --help
+  --html
   --in-place
   $ grep -o '^WORDS have commas between them' help
   WORDS have commas between them
@@ -795,18 +818,27 @@ Help names each command and each option, and words the lists.
     tl select -a href 'nav a' index.html    where the links of the navigation lead
     tl text -w index.html                   the text of a page, a block on a line
     tl sanitize comment.html                what of a page may be shown to others
-  $ for command in select links text table print outline edit set unset sanitize; do tl $command --help | grep -A1 '^Example:' | tail -1; done
-    tl select -l 'img:not([alt])' *.html    the pages with a picture that says nothing
+  $ for command in select links text table print outline edit set unset rename remove unwrap replace fill prepend append before after sanitize; do tl $command --help | grep -A1 '^Example:' | tail -1; done
+    tl select -l 'img:not([alt])' *.html    pages with a picture that says nothing
     tl links index.html | grep '^http:'     links that are not encrypted
-    tl text -w --in article index.html      what an article says, a block on a line
+    tl text -w --in article index.html      what an article says, block by block
     tl table --number 2 index.html          the second table of a page
     tl print index.html                     the page with each tag closed
-    tl outline --as-is index.html           which number each node has for edit
+    tl outline index.html                   what a page is made of
     tl edit 'set 0 lang en' -- index.html   the page with a key at its first node
-    tl set -i img loading lazy *.html       pictures that are loaded when they are seen
+    tl set -i img loading lazy *.html       pictures that are loaded when seen
     tl unset -i '[style]' style *.html      pages without styles of their own
-    tl sanitize --comments comment.html     what of a reader's comment may be shown
-  $ for command in select links text table print outline edit set unset sanitize; do tl $command --help; done | awk 'length > 100'
+    tl rename -i center div *.html          elements by a name of today
+    tl remove -i script *.html              pages without scripts
+    tl unwrap -i font *.html                elements gone, what is in them stays
+    tl replace --html 'br + br' '<hr>' a.html    a rule for a second break
+    tl fill -i title 'News & more' *.html   pages with another title
+    tl prepend --html -i head '<meta charset=utf-8>' *.html    their encoding
+    tl append --html -i body '<hr>' *.html  a rule at the end of each page
+    tl before --html h1 '<p>Draft</p>' a.html    a note before the title of a page
+    tl after 'a[href^=http]' ' (elsewhere)' a.html    where links lead out
+    tl sanitize --comments comment.html     what of a comment may be shown
+  $ for command in select links text table print outline edit set unset rename remove unwrap replace fill prepend append before after sanitize; do tl $command --help; done | awk 'length > 80'
   $ test "$(tl --version)" = "tl $VERSION"
 
 Where nothing can be written, that is said once, and no more is read.

@@ -2,7 +2,7 @@
 _tl() {
     local word=${COMP_WORDS[COMP_CWORD]} before=${COMP_WORDS[COMP_CWORD - 1]} options=
     if [ "$COMP_CWORD" -eq 1 ]; then
-        COMPREPLY=($(compgen -W 'select links text table print outline edit set unset sanitize help -h --help -V --version' -- "$word"))
+        COMPREPLY=($(compgen -W 'select links text table print outline edit set unset rename remove unwrap replace fill prepend append before after sanitize help -h --help -V --version' -- "$word"))
         return
     fi
     case $before in
@@ -15,12 +15,21 @@ _tl() {
         text) options='--no-name --as-is --raw --encoding -w --whitespace --in -h --help' ;;
         table) options='--no-name --as-is --raw --encoding -n --number -h --help' ;;
         print) options='--no-name --encoding -h --help' ;;
-        outline) options='--no-name --as-is --raw --encoding -h --help' ;;
+        outline) options='--no-name --as-is --raw --encoding -n --number -h --help' ;;
         edit) options='--no-name -h --help' ;;
         set) options='-i --in-place --backup --dry-run -h --help' ;;
         unset) options='-i --in-place --backup --dry-run -h --help' ;;
+        rename) options='-i --in-place --backup --dry-run -h --help' ;;
+        remove) options='-i --in-place --backup --dry-run -h --help' ;;
+        unwrap) options='-i --in-place --backup --dry-run -h --help' ;;
+        replace) options='--html -i --in-place --backup --dry-run -h --help' ;;
+        fill) options='--html -i --in-place --backup --dry-run -h --help' ;;
+        prepend) options='--html -i --in-place --backup --dry-run -h --help' ;;
+        append) options='--html -i --in-place --backup --dry-run -h --help' ;;
+        before) options='--html -i --in-place --backup --dry-run -h --help' ;;
+        after) options='--html -i --in-place --backup --dry-run -h --help' ;;
         sanitize) options='--no-name --comments --documents --tags --keys --link-keys --links --prefix --relative-links --nofollow-links --policy --as-is --encoding -h --help' ;;
-        help) COMPREPLY=($(compgen -W 'select links text table print outline edit set unset sanitize' -- "$word")); return ;;
+        help) COMPREPLY=($(compgen -W 'select links text table print outline edit set unset rename remove unwrap replace fill prepend append before after sanitize' -- "$word")); return ;;
     esac
     case $word in
         -*) COMPREPLY=($(compgen -W "$options" -- "$word")) ;;

@@ -40,7 +40,7 @@ AreSelected (Text spelling) nodes ns = ns ≡ []
 AreSelected (Readable spelling) nodes ns = ns ≡ []
 AreSelected (Table number spelling) nodes ns = ns ≡ []
 AreSelected Print nodes ns = ns ≡ []
-AreSelected (Outline spelling) nodes ns = ns ≡ []
+AreSelected (Outline format) nodes ns = ns ≡ []
 
 -- what is answered of a document where these are selected, and what is listed ends with these bytes
 abbrev pub answer_of : Question → List ℕ → List ℕ → Document → Outcome Finding
@@ -54,7 +54,8 @@ answer_of (Readable spelling) ns end d =
 answer_of (Table number spelling) ns end d =
     outcome_map table_finding (numbered_table spelling d.nodes number)
 answer_of Print ns end d = outcome_map (whole_in Raw) (outcome_of (document_print d))
-answer_of (Outline spelling) ns end d = success (whole (outline_of spelling d))
+answer_of (Outline format) ns end d =
+    outcome_map (whole_in Raw) (outcome_of (outline_of format d))
 
 -- the print of a document after edits
 abbrev pub edit_of : List Change → Document → Outcome Finding

@@ -1,9 +1,9 @@
 -- Why nothing is made.
 use Rattle.tl_cli.specs.declared.args.UsageError.{UsageError}
-use Rattle.tl_cli.specs.declared.args.UsageError.TheVariants.{Clap, NoCommand, EmptyStep, LinesOfSteps, NoStep, NoNumber, NoTable, NoSelector, NoKey, NoFile, NoEncoding, OutOfMemory}
+use Rattle.tl_cli.specs.declared.args.UsageError.TheVariants.{Clap, NoCommand, EmptyStep, LinesOfSteps, NoStep, NoNumber, NoTable, NoSelector, NoKey, NoName, NoFile, NoEncoding, OutOfMemory}
 
--- a word of `edit` is not one step, that of `select` no selector or number, a key can't be written,
--- standard input has no file, or a label is of no encoding
+-- a word of `edit` is not one step, that of `select` no selector or number, a key or a name can't
+-- be written, standard input has no file, or a label is of no encoding
 abbrev pub IsWrongWord : UsageError → Type 0
 IsWrongWord (Clap error) = ⊥
 IsWrongWord NoCommand = ⊥
@@ -14,6 +14,7 @@ IsWrongWord (NoNumber word) = Unit {0}
 IsWrongWord (NoTable word) = Unit {0}
 IsWrongWord (NoSelector error text) = Unit {0}
 IsWrongWord (NoKey key) = Unit {0}
+IsWrongWord (NoName name) = Unit {0}
 IsWrongWord NoFile = Unit {0}
 IsWrongWord (NoEncoding label) = Unit {0}
 IsWrongWord OutOfMemory = ⊥

@@ -4,21 +4,23 @@ ghost use Rattle.clap.specs.Values.{kind_of};
 ghost use Rattle.clap.specs.declared.error.kind.ErrorKind.TheVariants.{OutOfMemory as NoMemory};
 ghost use Rattle.tl_cli.specs.declared.args.UsageError.TheVariants.{OutOfMemory};
 
+use crate::edit_words;
+use crate::edit_words::patching;
 use crate::lists::ListTexts;
-use crate::patching::{Patching, TagEdit, Target};
+use crate::patching::Patching;
 use crate::question::Question;
 use crate::reading::Reading;
 use crate::selected::{Selected, Wanted};
 use crate::task::Task;
+use crate::terminal::Terminal;
 use clap::error::ErrorKind;
 use clap::{ArgMatches, Error};
 use std::alloc::{AllocError, AllocFailed, Global};
 use tl_commands::{Verb, program};
 use tl_css::{Selector, SelectorError, parse};
 use tl_encoding::Encoding;
-use tl_extract::Spelling;
+use tl_extract::{OutlineFormat, Spelling};
 use tl_page::VERSION;
-use tl_patch::is_key;
 use tl_program::script::{Step, steps};
 use tl_safe::Lists;
 
@@ -48,6 +50,7 @@ pub struct Pages<'w> {
     pub reading: Reading,
     /// What they are in, if it is said.
     pub encoding: Option<Encoding>,
+    pub terminal: Terminal,
 }
 
 impl Pages<'_> {
@@ -99,6 +102,8 @@ pub enum UsageError<'w> {
     NoStep(&'w str),
     /// A text that can be written as no key of a tag.
     NoKey(&'w str),
+    /// One that can be written as no name of a tag.
+    NoName(&'w str),
     /// Standard input is to be changed in its file.
     NoFile,
     /// A label of no encoding that is read.
@@ -211,8 +216,8 @@ fn most<'w>(matches: &ArgMatches<'w>) -> Result<Option<u32>, UsageError<'w>> {
     }
 }
 
-// The selector that a text says.
-fn selector<'w>(alloc: Global, text: &'w str) -> Result<Selector, UsageError<'w>> {
+/// The selector that a text says.
+pub fn selector<'w>(alloc: Global, text: &'w str) -> Result<Selector, UsageError<'w>> {
     match parse(alloc, text) {
         Ok(selector) => Ok(selector),
         Err(SelectorError::OutOfMemory) => Err(UsageError::OutOfMemory),
@@ -264,6 +269,14 @@ fn text<'w>(alloc: Global, matches: &ArgMatches<'w>) -> Result<Action<'w>, Usage
         Question::Text(spelling(matches))
     };
     Ok(Action::Task(Task::Ask(question)))
+}
+
+// How an outline is written.
+fn outline_format(matches: &ArgMatches<'_>) -> OutlineFormat {
+    OutlineFormat {
+        spelling: spelling(matches),
+        has_numbers: matches.get_flag("number"),
+    }
 }
 
 // Which table is meant, from 0.
@@ -344,53 +357,6 @@ fn lists<'w>(matches: &ArgMatches<'w>) -> ListTexts<'w> {
     }
 }
 
-// The key that is said, in lower case.
-fn key<'w>(alloc: Global, matches: &ArgMatches<'w>) -> Result<String, UsageError<'w>> {
-    let said = matches.get_str("KEY").unwrap_or("");
-    let key = said.to_ascii_lowercase(alloc)?;
-    if !is_key(key.as_bytes()) {
-        return Err(UsageError::NoKey(said));
-    }
-    Ok(key)
-}
-
-// Whether a page comes from standard input.
-fn has_standard_input(matches: &ArgMatches<'_>) -> bool {
-    match matches.get_strs("FILE") {
-        Some(files) => files.is_empty() || files.contains(&"-"),
-        None => true,
-    }
-}
-
-// Where pages with changes go.
-fn target<'w>(matches: &ArgMatches<'w>) -> Result<Target<'w>, UsageError<'w>> {
-    if matches.get_flag("dry-run") {
-        return Ok(Target::Nowhere);
-    }
-    let suffix = matches.get_str("backup");
-    if suffix.is_none() && !matches.get_flag("in-place") {
-        return Ok(Target::Output);
-    }
-    if has_standard_input(matches) {
-        return Err(UsageError::NoFile);
-    }
-    Ok(Target::Files(suffix))
-}
-
-// What is changed where a selector holds.
-fn patching<'w>(
-    alloc: Global,
-    edit: TagEdit<'w>,
-    matches: &ArgMatches<'w>,
-) -> Result<Patching<'w>, UsageError<'w>> {
-    Ok(Patching {
-        selector: selector(alloc, matches.get_str("SELECTOR").unwrap_or(""))?,
-        key: key(alloc, matches)?,
-        edit,
-        target: target(matches)?,
-    })
-}
-
 // What a command makes of pages.
 fn action_of<'w>(
     alloc: Global,
@@ -403,12 +369,19 @@ fn action_of<'w>(
         Verb::Text => return text(alloc, matches),
         Verb::Table => Question::Table(table_number(matches)?, spelling(matches)),
         Verb::Print => Question::Print,
-        Verb::Outline => Question::Outline(spelling(matches)),
+        Verb::Outline => Question::Outline(outline_format(matches)),
         Verb::Set => {
-            let edit = TagEdit::Set(matches.get_str("VALUE").unwrap_or(""));
+            let edit = edit_words::set(alloc, matches)?;
             return Ok(Action::Patch(patching(alloc, edit, matches)?));
         }
-        Verb::Unset => return Ok(Action::Patch(patching(alloc, TagEdit::Unset, matches)?)),
+        Verb::Unset => {
+            let edit = edit_words::unset(alloc, matches)?;
+            return Ok(Action::Patch(patching(alloc, edit, matches)?));
+        }
+        Verb::Element(own) => {
+            let edit = edit_words::element(alloc, own, matches)?;
+            return Ok(Action::Patch(patching(alloc, edit, matches)?));
+        }
         Verb::Edit => return Ok(Action::Task(edit(alloc, &values(alloc, matches, "STEP")?)?)),
         Verb::Sanitize if matches.get_flag("policy") => return Ok(Action::Policy(lists(matches))),
         Verb::Sanitize => return Ok(Action::Safe(lists(matches))),
@@ -435,6 +408,7 @@ fn pages_of<'w>(
     alloc: Global,
     verb: Verb,
     matches: &ArgMatches<'w>,
+    terminal: Terminal,
 ) -> Result<Pages<'w>, UsageError<'w>> {
     Ok(Pages {
         files: values(alloc, matches, "FILE")?,
@@ -443,11 +417,16 @@ fn pages_of<'w>(
         writing: writing_of(matches),
         reading: reading(verb, matches),
         encoding: encoding(verb, matches)?,
+        terminal,
     })
 }
 
 /// What words ask for; the first is the name of the program.
-pub fn read<'w>(alloc: Global, words: &'w [String]) -> Result<Args<'w>, UsageError<'w>> {
+pub fn read<'w>(
+    alloc: Global,
+    words: &'w [String],
+    terminal: Terminal,
+) -> Result<Args<'w>, UsageError<'w>> {
     let matches = program(alloc, VERSION)?.try_get_matches_from(words)?;
     let Some((word, own)) = matches.subcommand() else {
         return Err(UsageError::NoCommand);
@@ -457,6 +436,6 @@ pub fn read<'w>(alloc: Global, words: &'w [String]) -> Result<Args<'w>, UsageErr
     };
     Ok(Args {
         action: action_of(alloc, verb, own)?,
-        pages: pages_of(alloc, verb, own)?,
+        pages: pages_of(alloc, verb, own, terminal)?,
     })
 }

@@ -8,6 +8,8 @@ ghost use Rattle.tl_cli.specs.UsageErrors.{IsWrongWord};
 
 mod args;
 mod csv_lines;
+mod edit_words;
+mod edits;
 mod filename;
 mod job;
 mod json;
@@ -23,6 +25,7 @@ mod reports;
 mod selected;
 mod selection;
 mod task;
+mod terminal;
 
 use args::{Action, Pages, UsageError, read};
 use clap::Error;
@@ -37,6 +40,7 @@ use std::env;
 use std::io::ErrorKind;
 use std::process::ExitCode;
 use task::Task;
+use terminal::Terminal;
 use tl_page::{Cause, Failure};
 use tl_safe::{Lists, Policy};
 
@@ -79,7 +83,7 @@ fn run(rt: &HostRuntime) -> Result<u8, Failure> {
         Ok(words) => words,
         Err(failure) => return Err(no_words(rt, failure)),
     };
-    match read(rt.alloc(), &words) {
+    match read(rt.alloc(), &words, Terminal::new(rt)) {
         Ok(args) => match &args.action {
             Action::Task(task) => process(rt, task, &args.pages),
             Action::Select(selected) => select(rt, selected, &args.pages),
@@ -132,6 +136,9 @@ fn report_usage_error(rt: &HostRuntime, usage_error: &UsageError<'_>) -> Result<
         }
         UsageError::NoKey(key) => {
             let _ = eprintln!(rt; "tl: no key: {key}");
+        }
+        UsageError::NoName(name) => {
+            let _ = eprintln!(rt; "tl: no name: {name}");
         }
         UsageError::NoFile => {
             let _ = eprintln!(rt; "tl: standard input has no file to be written");

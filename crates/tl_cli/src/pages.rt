@@ -99,7 +99,8 @@ fn named_text(
     if !pages.are_named() || job.says_names() {
         return Ok(text.into_bytes());
     }
-    let name = format!(in rt.alloc(); "{file}:")?;
+    let [start, middle, end_of_name] = pages.terminal.name_colors();
+    let name = format!(in rt.alloc(); "{start}{file}{middle}:{end_of_name}")?;
     let end = if pages.ends_with_zero { 0 } else { b'\n' };
     Ok(with_prefix(rt.alloc(), name.as_str(), end, text.as_bytes())?)
 }
@@ -116,7 +117,8 @@ fn page_output(
         Writing::Answers => named_text(rt, job, pages, file, output.text),
         Writing::Names if output.is_found => {
             let end = pages.end();
-            Ok(format!(in rt.alloc(); "{file}{end}")?.into_bytes())
+            let [start, _, end_of_name] = pages.terminal.name_colors();
+            Ok(format!(in rt.alloc(); "{start}{file}{end_of_name}{end}")?.into_bytes())
         }
         Writing::Names | Writing::Nothing => Ok(Vec::new(rt.alloc())),
     }
@@ -157,6 +159,7 @@ fn process_text(
     let output = match job.execute(rt.alloc(), pages, file, text) {
         Ok(output) => output,
         Err(Failure::Refused) => {
+            pages.terminal.clear(rt);
             refused(rt, job, file, text);
             return Ok(Answer::Failed(Failure::Refused));
         }
@@ -164,11 +167,38 @@ fn process_text(
     };
     let is_found = output.is_found;
     let written = page_output(rt, job, pages, file, output)?;
+    pages.terminal.clear(rt);
     match write(rt, &written) {
         Ok(()) if is_found => Ok(Answer::Found),
         Ok(()) => Ok(Answer::Nothing),
         Err(error) => Ok(unwritten(rt, &error)),
     }
+}
+
+// What comes of the bytes of a page.
+fn process_bytes(
+    rt: &HostRuntime,
+    job: &Job<'_, '_>,
+    pages: &Pages<'_>,
+    file: &str,
+    page: Vec<u8>,
+) -> Result<Answer, Failure> {
+    let encoding = match encoding_in(pages, &page) {
+        Ok(encoding) => encoding,
+        Err(error) => {
+            pages.terminal.clear(rt);
+            return Ok(not_understood(rt, file, &error));
+        }
+    };
+    let text = match decode(rt.alloc(), page, encoding) {
+        Ok(text) => text,
+        Err(DecodeError::OutOfMemory) => return Err(Failure::OutOfMemory),
+        Err(error) => {
+            pages.terminal.clear(rt);
+            return Ok(not_understood(rt, file, &error));
+        }
+    };
+    process_text(rt, job, pages, file, text.as_bytes())
 }
 
 // What comes of the page in a file.
@@ -178,20 +208,16 @@ fn process_page(
     pages: &Pages<'_>,
     file: &str,
 ) -> Result<Answer, Failure> {
-    let page = match page_of(rt, file) {
-        Ok(page) => page,
-        Err(error) => return Ok(Answer::Failed(report_error(rt, file, &error))),
-    };
-    let encoding = match encoding_in(pages, &page) {
-        Ok(encoding) => encoding,
-        Err(error) => return Ok(not_understood(rt, file, &error)),
-    };
-    let text = match decode(rt.alloc(), page, encoding) {
-        Ok(text) => text,
-        Err(DecodeError::OutOfMemory) => return Err(Failure::OutOfMemory),
-        Err(error) => return Ok(not_understood(rt, file, &error)),
-    };
-    process_text(rt, job, pages, file, text.as_bytes())
+    match page_of(rt, file) {
+        Ok(page) => {
+            pages.terminal.show_page(rt, page.len());
+            process_bytes(rt, job, pages, file, page)
+        }
+        Err(error) => {
+            pages.terminal.clear(rt);
+            Ok(Answer::Failed(report_error(rt, file, &error)))
+        }
+    }
 }
 
 // What comes of the page in a file; a failure is said on standard error.
@@ -199,6 +225,7 @@ fn answer(rt: &HostRuntime, job: &Job<'_, '_>, pages: &Pages<'_>, file: &str) ->
     match process_page(rt, job, pages, file) {
         Ok(answer) => answer,
         Err(failure) => {
+            pages.terminal.clear(rt);
             report(rt, file, failure);
             Answer::Failed(failure)
         }
@@ -218,6 +245,7 @@ fn process_files<'f>(
 {
     let mut reports = Vec::new(rt.alloc());
     for file in files {
+        pages.terminal.show_file(rt, reports.len(), files.len());
         let answer = answer(rt, job, pages, file);
         reports.push(Report { file, answer })?;
         if answer.is_last(is_quiet) {

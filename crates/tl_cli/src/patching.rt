@@ -1,8 +1,9 @@
-//! Tags changed where a selector holds, each other byte as it is.
+//! Tags and elements changed where a selector holds, each other byte as it is.
 ghost use Rattle.std.specs.Prelude.{◌≡◌, IfErr};
 ghost use Rattle.tl_page.specs.declared.failure.Failure.TheVariants.{OutOfMemory};
 
 use crate::args::Pages;
+use crate::edits::{Edit, Refusal};
 use crate::pages::{
     STANDARD_INPUT, not_understood, page_of, report, report_error, unwritten, write,
 };
@@ -11,17 +12,7 @@ use std::alloc::{AllocError, Global};
 use tl_css::Selector;
 use tl_in_place::replace;
 use tl_page::{Failure, text};
-use tl_patch_page::Change;
-use tl_patch_select::{Patched, SelectionPatchError, patch_selected};
-
-/// What is done with the tags.
-#[derive(Clone, Copy)]
-pub enum TagEdit<'w> {
-    /// The key gets this value.
-    Set(&'w str),
-    /// The key goes.
-    Unset,
-}
+use tl_patch_select::Patched;
 
 /// Where pages with changes go.
 #[derive(Clone, Copy)]
@@ -39,24 +30,8 @@ pub enum Target<'w> {
 #[derive(Drop)]
 pub struct Patching<'w> {
     pub selector: Selector,
-    /// A key in lower case.
-    pub key: String,
-    pub edit: TagEdit<'w>,
+    pub edit: Edit<'w>,
     pub target: Target<'w>,
-}
-
-impl Patching<'_> {
-    // What is done with each tag.
-    fn change(&self) -> Change<'_> {
-        let key = self.key.as_bytes();
-        match self.edit {
-            TagEdit::Set(value) => Change::Set {
-                key,
-                value: value.as_bytes(),
-            },
-            TagEdit::Unset => Change::Unset { key },
-        }
-    }
 }
 
 // The line of a byte, and where that begins.
@@ -160,10 +135,12 @@ fn patch_page(rt: &HostRuntime, patching: &Patching<'_>, file: &str) -> Result<A
         Ok(page) => page,
         Err(error) => return Ok(not_understood(rt, file, &error)),
     };
-    match patch_selected(rt.alloc(), page, &patching.selector, patching.change()) {
+    let edit = &patching.edit;
+    match edit.patched(rt.alloc(), page, &patching.selector) {
         Ok(patched) => Ok(put(rt, &patching.target, file, page, &patched)?),
-        Err(SelectionPatchError::OutOfMemory) => Err(Failure::OutOfMemory),
-        Err(error) => Ok(not_understood(rt, file, &error)),
+        Err(Refusal::OutOfMemory) => Err(Failure::OutOfMemory),
+        Err(Refusal::Tag(error)) => Ok(not_understood(rt, file, &error)),
+        Err(Refusal::Element(error)) => Ok(not_understood(rt, file, &error)),
     }
 }
 

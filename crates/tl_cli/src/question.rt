@@ -15,7 +15,7 @@ use crate::selection::{Query, selection};
 use std::alloc::Global;
 use tl::VDom;
 use tl::errors::TreeError;
-use tl_extract::{Spelling, outline, readable};
+use tl_extract::{OutlineFormat, Spelling, outline, readable};
 use tl_page::Failure;
 
 /// What is asked of a document.
@@ -33,8 +33,8 @@ pub enum Question<'w> {
     Table(usize, Spelling),
     /// Its print.
     Print,
-    /// What its nodes are, by number.
-    Outline(Spelling),
+    /// What its nodes are, as a tree.
+    Outline(OutlineFormat),
 }
 
 // A text that was read.
@@ -68,6 +68,8 @@ pub fn answer(
         Question::Readable(spelling) => whole_text(alloc, readable(alloc, document), *spelling),
         Question::Table(number, spelling) => table_lines(alloc, document, *number, *spelling),
         Question::Print => whole_text(alloc, document.outer_html(alloc), Spelling::Raw),
-        Question::Outline(spelling) => { Ok(Output::whole(outline(alloc, document, *spelling)?)) }
+        Question::Outline(format) => {
+            whole_text(alloc, outline(alloc, document, *format), Spelling::Raw)
+        }
     }
 }

@@ -26,6 +26,12 @@ returns-in-Print c =
     subst (λ (q : Question). (ns : List ℕ) → IsForest d.nodes → AreSelected q d.nodes ns → Gives finding_of (answer_of q ns c.args.end.now d) c.whole_text-in-Print.result) (sym c.in-Print.is)
     (λ ns forest none. c.whole_text-in-Print.ensures _ (search rules))
 
+pub returns-in-Outline : goal.returns-in-Outline
+returns-in-Outline c =
+    let d : Document = document_of c.args.document.now in
+    subst (λ (q : Question). (ns : List ℕ) → IsForest d.nodes → AreSelected q d.nodes ns → Gives finding_of (answer_of q ns c.args.end.now d) c.whole_text-in-Outline.result) (sym c.in-Outline.is)
+    (λ ns forest none. c.whole_text-in-Outline.ensures _ (search rules))
+
 pub returns-in-Select : goal.returns-in-Select
 returns-in-Select c =
     let d : Document = document_of c.args.document.now in

@@ -1,0 +1,90 @@
+//! Changes of tags and elements.
+use std::alloc::Global;
+use tl_css::Selector;
+use tl_patch_edit::ElementPatch;
+use tl_patch_page::Change;
+use tl_patch_select::{
+    Patched, SelectionEditError, SelectionPatchError, edit_selected, patch_selected,
+};
+
+/// What is done where a selector holds. Keys and names are in lower case.
+#[derive(Drop)]
+pub enum Edit<'w> {
+    /// The key of the tags gets this value.
+    Set(String, &'w str),
+    /// The key goes.
+    Unset(String),
+    /// The elements get this name.
+    Rename(String),
+    /// Something else is done with the elements.
+    Element(ElementPatch<'w>),
+}
+
+/// Why a page is not changed so.
+#[derive(Drop)]
+pub enum Refusal {
+    Tag(SelectionPatchError),
+    Element(SelectionEditError),
+    OutOfMemory,
+}
+
+// A page with the tags changed where a selector holds.
+fn with_tags(
+    alloc: Global,
+    page: &str,
+    selector: &Selector,
+    change: Change<'_>,
+) -> Result<Patched, Refusal> {
+    match patch_selected(alloc, page, selector, change) {
+        Ok(patched) => Ok(patched),
+        Err(SelectionPatchError::OutOfMemory) => Err(Refusal::OutOfMemory),
+        Err(error) => Err(Refusal::Tag(error)),
+    }
+}
+
+// A page with the elements changed where a selector holds.
+fn with_elements(
+    alloc: Global,
+    page: &str,
+    selector: &Selector,
+    patch: ElementPatch<'_>,
+) -> Result<Patched, Refusal> {
+    match edit_selected(alloc, page, selector, patch) {
+        Ok(patched) => Ok(patched),
+        Err(SelectionEditError::OutOfMemory) => Err(Refusal::OutOfMemory),
+        Err(error) => Err(Refusal::Element(error)),
+    }
+}
+
+impl Edit<'_> {
+    /// A page with this done where a selector holds.
+    pub fn patched(
+        &self,
+        alloc: Global,
+        page: &str,
+        selector: &Selector,
+    ) -> Result<Patched, Refusal> {
+        match self {
+            Edit::Set(key, value) => {
+                let change = Change::Set {
+                    key: key.as_bytes(),
+                    value: value.as_bytes(),
+                };
+                with_tags(alloc, page, selector, change)
+            }
+            Edit::Unset(key) => {
+                let change = Change::Unset {
+                    key: key.as_bytes(),
+                };
+                with_tags(alloc, page, selector, change)
+            }
+            Edit::Rename(name) => {
+                let patch = ElementPatch::Rename {
+                    name: name.as_bytes(),
+                };
+                with_elements(alloc, page, selector, patch)
+            }
+            Edit::Element(patch) => with_elements(alloc, page, selector, *patch),
+        }
+    }
+}
