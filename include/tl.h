@@ -24,7 +24,7 @@
  * Numbers     The nodes of a document are counted from 0 in the order of the text. Node 0 is the first at the top.
  * Memory      A call keeps no pointer. The calls with a page give back all memory that they took before they return; a document
  *             keeps its own until `tl_free`.
- * Threads     There is no state between calls with a page: any number of threads may call at once. A document is of one thread.
+ * Threads     There is no state between calls with a page: any number of threads may call at once. Threads take turns with a document.
  *
  * What a caller owes, and nothing checks:
  *   - each pointer is not null, also where its length is 0, and leads to as many items as its length says, for writing where it isn't
@@ -35,8 +35,8 @@
  *     returns;
  *   - a `tl_document` is TL_NO_DOCUMENT before its first call, and after that only these calls write it. It may be moved, and isn't
  *     copied: of two copies that are freed the second frees memory again that is no longer the document's;
- *   - one call at a time uses a document, and all calls with it come from one thread. Calls that only ask write to it too: while they
- *     last it is TL_NO_DOCUMENT. So no call takes a `const tl_document *`;
+ *   - one call at a time uses a document, and where another thread calls next, a lock or the like stands between. Calls that only ask
+ *     write to it too: while they last it is TL_NO_DOCUMENT. So no call takes a `const tl_document *`;
  *   - no call comes from a signal handler, or from the forked child of a process with threads.
  *
  * `./x library` compares the names of this header with those of the library, and `./x bindings` calls each function.
@@ -117,6 +117,18 @@ tl_status tl_sanitize(const uint8_t *page, size_t page_len,
  * what they type into a form. A page whose form has more than 4294967295 bytes isn't understood. */
 tl_status tl_sanitize_html(const uint8_t *page, size_t page_len,
                            uint8_t *out, size_t room, size_t *needed);
+
+/* The policies: for the text of a blog, as above; for comments of readers, with emphasis, quotes, lists, code and links to the web; and
+ * for documents, with tables, the parts of a document, and pictures and links beside the page. docs/SAFE.md has their lists. */
+enum {
+    TL_BLOG = 0,
+    TL_COMMENTS = 1,
+    TL_DOCUMENTS = 2
+};
+
+/* The same by one of these policies. Another number is not understood. */
+tl_status tl_sanitize_html_by(uint8_t policy, const uint8_t *page, size_t page_len,
+                              uint8_t *out, size_t room, size_t *needed);
 
 /* What stands in a document of tl_parse_html is written for markup. These read it back: the characters that a text says (`&lt;` is
  * `<`), those that a value says, and the name that a name or a key was written of (`+40click` is `@click`). The last writes a name
@@ -206,6 +218,9 @@ static inline const char *tl_cause_text(uint8_t cause) {
     case TL_TAKES_NONE: return "this pseudo-class takes no argument";
     case TL_TOO_DEEP: return "too many selectors inside one another";
     case TL_UNEXPECTED: return "this can't stand here";
+    case 16: return "this element has no start tag";
+    case 17: return "this tag can't be changed so";
+    case 18: return "the page would be read otherwise than asked";
     default: return "no cause";
     }
 }
@@ -215,6 +230,27 @@ static inline const char *tl_cause_text(uint8_t cause) {
  * bytes are no selector, which is refused, `*place` is the first byte that is wrong and `*cause` says why; else both are 0. */
 tl_status tl_select_css(tl_document *document, const uint8_t *selector, size_t selector_len,
                         uint32_t *numbers, size_t room, size_t *needed, size_t *place, uint8_t *cause);
+
+/* What is done with the tags where a selector holds. */
+enum {
+    TL_SET = 0,  /* the key gets the value */
+    TL_UNSET = 1 /* the key goes; the value isn't read, and its length may be 0 */
+};
+
+/* Why tags can't be changed so, beside the causes above; then the place is one of the page. */
+enum {
+    TL_NO_START_TAG = 16,  /* the selector holds at an element that comes of an end tag here, as of `</p>` alone */
+    TL_NOT_WRITTEN = 17,   /* this key or this value can't be written in the tag that begins here; keys are in lower case */
+    TL_READ_OTHERWISE = 18 /* the page would be read otherwise than asked; the place is 0 */
+};
+
+/* The page with a key set or unset in the start tag of each element where a selector of CSS holds, and with each other byte as it was:
+ * it isn't printed anew. It is read as browsers read it. Where the selector holds nowhere the answer is the page. Where the bytes are no
+ * selector, or a tag can't be changed, that is refused, and `*place` and `*cause` say why; else both are 0. */
+tl_status tl_patch_css(uint8_t edit, const uint8_t *selector, size_t selector_len,
+                       const uint8_t *key, size_t key_len, const uint8_t *value, size_t value_len,
+                       const uint8_t *page, size_t page_len,
+                       uint8_t *out, size_t room, size_t *needed, size_t *place, uint8_t *cause);
 
 /* What stands where there is no node. */
 #define TL_NO_NODE UINT32_MAX

@@ -157,6 +157,47 @@ static void of_sanitize_html(void) {
     RUNS_OUT("<p>x</p>", tl_sanitize_html(TEXT("<P>x"), OUT));
 }
 
+static void of_policies(void) {
+    static const char page[] = "<h1>a</h1><table><tr><td>b";
+    PUTS("<h1>a</h1>b", tl_sanitize_html_by(TL_BLOG, TEXT(page), OUT));
+    PUTS("ab", tl_sanitize_html_by(TL_COMMENTS, TEXT(page), OUT));
+    PUTS("<h1>a</h1><table><tbody><tr><td>b</td></tr></tbody></table>", tl_sanitize_html_by(TL_DOCUMENTS, TEXT(page), OUT));
+    PUTS("<img src=\"x.png\">", tl_sanitize_html_by(TL_DOCUMENTS, TEXT("<IMG SRC=x.png>"), OUT));
+    LEAVES(TL_NOT_UNDERSTOOD, 0, tl_sanitize_html_by(3, TEXT(page), OUT));
+    LEAVES(TL_NOT_UNDERSTOOD, 0, tl_sanitize_html_by(255, TEXT(page), OUT));
+    LEAVES(TL_NOT_UNDERSTOOD, 0, tl_sanitize_html_by(TL_BLOG, TEXT("\xff"), OUT));
+    LEAVES(TL_NO_ROOM, 2, tl_sanitize_html_by(TL_COMMENTS, TEXT(page), ROOM(1)));
+    RUNS_OUT("<p>x</p>", tl_sanitize_html_by(TL_COMMENTS, TEXT("<P>x"), OUT));
+}
+
+static size_t place;
+static uint8_t cause;
+
+static int is_told(size_t at, uint8_t why) {
+    return place == at && cause == why;
+}
+
+static void of_patch(void) {
+#define PATCH(edit, selector, key, value, page) tl_patch_css(edit, TEXT(selector), TEXT(key), TEXT(value), TEXT(page), OUT, &place, &cause)
+    PUTS("<!DOCTYPE X><P><IMG a=\"b&amp;\" SRC=x>3 < 4", PATCH(TL_SET, "p > img", "a", "b&", "<!DOCTYPE X><P><IMG SRC=x>3 < 4"));
+    CHECK(is_told(0, TL_NO_CAUSE));
+    PUTS("<P>x</P>", PATCH(TL_UNSET, "p", "onclick", "", "<P ONCLICK=f()>x</P>"));
+    PUTS("<P>x", PATCH(TL_SET, "i", "a", "b", "<P>x"));
+    LEAVES(TL_REFUSED, 0, PATCH(TL_SET, "p:hover", "a", "b", "<P>x"));
+    CHECK(is_told(2, TL_NO_PSEUDO_CLASS));
+    LEAVES(TL_REFUSED, 0, PATCH(TL_SET, "p", "a b", "c", "x<P>y"));
+    CHECK(is_told(1, TL_NOT_WRITTEN));
+    LEAVES(TL_REFUSED, 0, PATCH(TL_SET, "p", "a", "c", "x</p>"));
+    CHECK(is_told(1, TL_NO_START_TAG));
+    LEAVES(TL_NOT_UNDERSTOOD, 0, PATCH(2, "p", "a", "b", "<P>x"));
+    LEAVES(TL_NOT_UNDERSTOOD, 0, PATCH(TL_SET, "\xff", "a", "b", "<P>x"));
+    LEAVES(TL_NOT_UNDERSTOOD, 0, PATCH(TL_SET, "p", "a", "b", "\xff"));
+    CHECK(is_told(0, TL_NO_CAUSE));
+    LEAVES(TL_NO_ROOM, 10, tl_patch_css(TL_SET, TEXT("p"), TEXT("a"), TEXT("b"), TEXT("<p>x"), ROOM(9), &place, &cause));
+    RUNS_OUT("<p a=\"b\">x", PATCH(TL_SET, "p", "a", "b", "<p>x"));
+#undef PATCH
+}
+
 static void of_decode(void) {
     PUTS("a<b &", tl_decode_text(TEXT("a&lt;b &amp;"), OUT));
     PUTS("a\xc2\xa0" "b", tl_decode_text(TEXT("a&nbsp;b"), OUT));
@@ -248,6 +289,8 @@ int main(void) {
     of_select();
     of_sanitize();
     of_sanitize_html();
+    of_policies();
+    of_patch();
     of_decode();
     of_words();
     of_version();

@@ -1,4 +1,5 @@
 pub mod Forms
+pub mod Given
 pub mod LinkLemmas
 pub mod Queries
 pub mod Readings

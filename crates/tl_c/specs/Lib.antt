@@ -4,5 +4,7 @@ pub mod Links
 pub mod Nodes
 pub mod Owned
 pub mod Pages
+pub mod Patches
+pub mod Policies
 pub mod Puts
 pub mod Queries

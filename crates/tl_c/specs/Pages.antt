@@ -18,7 +18,7 @@ use Rattle.tl_program.specs.Action.{Edits}
 use Rattle.tl_program.specs.Output.{output_of}
 use Rattle.tl_safe.specs.Filter.{trees_of}
 use Rattle.tl_safe.specs.KeptFitted.{kept_fitted}
-use Rattle.tl_safe.specs.Lists.{blog_lists}
+use Rattle.tl_safe.specs.Lists.{ListedWords, blog_lists}
 
 -- the print of a page after edits
 abbrev pub edited_print : List ℕ → List Change → Outcome (List ℕ)
@@ -70,8 +70,12 @@ selection text selector number key page =
     else not_understood
     else not_understood
 
+-- what a policy of these lists keeps of a page
+abbrev pub kept_page : ListedWords → List ℕ → Outcome (List ℕ)
+kept_page lists page =
+    if is_page page then success (print (kept_fitted lists (trees_of page)))
+    else not_understood
+
 -- what the policy for the text of a blog keeps of a page
 abbrev pub safe_page : List ℕ → Outcome (List ℕ)
-safe_page page =
-    if is_page page then success (print (kept_fitted blog_lists (trees_of page)))
-    else not_understood
+safe_page page = kept_page blog_lists page

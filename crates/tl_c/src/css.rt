@@ -39,7 +39,7 @@ fn number_of_cause(cause: Cause) -> u8
 
 // The selector that bytes are. Where they are none, it says the first byte that is wrong, and the
 // number of the cause.
-fn read_selector(
+pub(crate) fn read_selector(
     alloc: Global,
     selector: &[u8],
     place: &mut usize,

@@ -14,6 +14,8 @@ mod node_links;
 mod page;
 mod page_calls;
 mod parsed_page;
+mod patch;
+mod policy;
 mod query;
 mod raw_box;
 mod selection;

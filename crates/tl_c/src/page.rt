@@ -6,13 +6,13 @@ ghost use Rattle.tl_html_spec.specs.HtmlTokenizer.{tokens_in_page};
 ghost use Rattle.tl_safe.specs.IsSafe.{IsSafe, tokens_of};
 ghost use Rattle.tl_safe.specs.Filter.{trees_of};
 ghost use Rattle.tl_safe.specs.KeptFitted.{kept_fitted};
-ghost use Rattle.tl_safe.specs.Lists.{blog_lists};
+ghost use Rattle.tl_safe.specs.Policies.{lists_of};
 ghost use Rattle.tl_page.specs.Outcome.{Gives, not_understood};
 ghost use Rattle.tl_page.specs.Page.{document_in};
 ghost use Rattle.tl_page.specs.declared.failure.Failure.TheVariants.{NotUnderstood};
 ghost use Rattle.tl_html_spec.specs.HtmlForm.{html_form};
 ghost use Rattle.tl_c.specs.Forms.{form_in, of_form};
-ghost use Rattle.tl_c.specs.Pages.{edited_page, safe_page};
+ghost use Rattle.tl_c.specs.Pages.{edited_page, kept_page};
 
 use crate::parsed_page::ParsedPage;
 use crate::text::text_of;
@@ -34,19 +34,19 @@ pub(crate) fn edit(alloc: Global, lines: &[u8], page: &[u8]) -> Result<String, F
     output(alloc, &Command::Edit(steps), page)
 }
 
-/// What the policy for the text of a blog keeps of a page, printed.
-pub(crate) fn safe_page(alloc: Global, page: &[u8]) -> Result<String, Failure>
-    ensures gives { Gives string_bytes (safe_page page.now) result }
+/// What a policy keeps of a page, printed.
+pub(crate) fn safe_page(alloc: Global, policy: &Policy<'_>, page: &[u8]) -> Result<String, Failure>
+    ensures gives { Gives string_bytes (kept_page (lists_of policy.now) page.now) result }
     ensures no_text { ¬ (IsUtf8 page.now) → result ≡ Err NotUnderstood }
     ensures long { u32.MAX < length page.now → result ≡ Err NotUnderstood }
 
     // As `sanitize` says of a text.
-    ensures form { IfOk result (λ safe. IsSafe blog_lists (string_bytes safe)) }
+    ensures form { IfOk result (λ safe. IsSafe (lists_of policy.now) (string_bytes safe)) }
     ensures standard { IfOk result (λ safe. tokens_in_page (string_bytes safe)
-        ≡ tokens_of (norm (kept_fitted blog_lists (trees_of page.now)))) }
+        ≡ tokens_of (norm (kept_fitted (lists_of policy.now) (trees_of page.now)))) }
 {
     let text = text(page)?;
-    Ok(sanitize(alloc, &Policy::blog(), text)?)
+    Ok(sanitize(alloc, policy, text)?)
 }
 
 /// The document of a copy of a page.
@@ -89,17 +89,22 @@ pub(crate) fn parse_html(alloc: Global, page: &[u8]) -> Result<Box<ParsedPage>, 
     Ok(Box::new(alloc, ParsedPage { document }).map_err(AllocError::from)?)
 }
 
-/// What the policy for the text of a blog keeps of the form of a page, printed.
-pub(crate) fn safe_html_page(alloc: Global, page: &[u8]) -> Result<String, Failure>
-    ensures gives { Gives string_bytes (of_form safe_page page.now) result }
+/// What a policy keeps of the form of a page, printed.
+pub(crate) fn safe_html_page(
+    alloc: Global,
+    policy: &Policy<'_>,
+    page: &[u8],
+) -> Result<String, Failure>
+    ensures gives { let kept = of_form (kept_page (lists_of policy.now)) page.now in
+        Gives string_bytes kept result }
     ensures no_text { ¬ (IsUtf8 page.now) → result ≡ Err NotUnderstood }
     ensures long { u32.MAX < length page.now → result ≡ Err NotUnderstood }
 
     // As `sanitize` says of a text.
-    ensures form { IfOk result (λ safe. IsSafe blog_lists (string_bytes safe)) }
+    ensures form { IfOk result (λ safe. IsSafe (lists_of policy.now) (string_bytes safe)) }
     ensures standard { IfOk result (λ safe. tokens_in_page (string_bytes safe)
-        ≡ tokens_of (norm (kept_fitted blog_lists (trees_of (html_form page.now))))) }
+        ≡ tokens_of (norm (kept_fitted (lists_of policy.now) (trees_of (html_form page.now))))) }
 {
     let form = form(alloc, page)?;
-    safe_page(alloc, form.as_bytes())
+    safe_page(alloc, policy, form.as_bytes())
 }

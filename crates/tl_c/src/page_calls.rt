@@ -8,21 +8,26 @@ ghost use Rattle.tl_html_spec.specs.HtmlTokenizer.{tokens_in_page};
 ghost use Rattle.tl_safe.specs.IsSafe.{IsSafe, tokens_of};
 ghost use Rattle.tl_safe.specs.Filter.{trees_of};
 ghost use Rattle.tl_safe.specs.KeptFitted.{kept_fitted};
-ghost use Rattle.tl_safe.specs.Lists.{blog_lists};
+ghost use Rattle.tl_safe.specs.Lists.{ListedWords, blog_lists};
 ghost use Rattle.tl_page.specs.Outcome.{success};
 ghost use Rattle.tl_extract.specs.Field.{IsNoSelector};
 ghost use Rattle.tl_program.specs.Action.{Prints, Texts};
 ghost use Rattle.tl_program.specs.Output.{output_of};
 ghost use Rattle.tl_c.specs.Forms.{of_form};
 ghost use Rattle.tl_c.specs.Pages.{edited_page, safe_page, selection};
+ghost use Rattle.tl_c.specs.Patches.{PutsPatched, change_of_number};
+ghost use Rattle.tl_c.specs.Policies.{kept_by, lists_of_number};
 ghost use Rattle.tl_c.specs.Puts.{Puts};
 
-use crate::copy_out::{copy_items, copy_text};
+use crate::copy_out::{copy_items, copy_result, copy_text};
 use crate::page::{edit, safe_html_page, safe_page};
+use crate::patch::patch;
+use crate::policy::html_page_by;
 use crate::selection::select;
 use std::alloc::Global;
 use tl_page::VERSION;
 use tl_program::program::{Command, output};
+use tl_safe::Policy;
 
 /// Prints a page as it was read, as `tlq print` does.
 #[unsafe(no_mangle)]
@@ -101,7 +106,7 @@ pub extern "C" fn tl_sanitize(alloc: Global, page: &[u8], out: &mut [u8], needed
     ensures no_text { ¬ (IsUtf8 page.now) → result ≡ 2 }
     ensures long { u32.MAX < length page.now → result ≡ 2 }
 {
-    copy_text(safe_page(alloc, page), out, needed)
+    copy_text(safe_page(alloc, &Policy::blog(), page), out, needed)
 }
 
 /// Prints what the policy for the text of a blog keeps of a page that is read as browsers read it,
@@ -124,7 +129,62 @@ pub extern "C" fn tl_sanitize_html(
     ensures no_text { ¬ (IsUtf8 page.now) → result ≡ 2 }
     ensures long { u32.MAX < length page.now → result ≡ 2 }
 {
-    copy_text(safe_html_page(alloc, page), out, needed)
+    copy_text(safe_html_page(alloc, &Policy::blog(), page), out, needed)
+}
+
+/// Prints what the policy of a number keeps of a page that is read as browsers read it: that for
+/// the text of a blog (0), for comments of readers (1), or for documents (2). Another number is not
+/// understood.
+#[unsafe(no_mangle)]
+pub extern "C" fn tl_sanitize_html_by(
+    alloc: Global,
+    policy: u8,
+    page: &[u8],
+    out: &mut [u8],
+    needed: &mut usize,
+) -> u8
+    ensures put { let kept = kept_by (lists_of_number policy) page.now in
+        Puts kept out.old out.new needed.new result }
+
+    // As `sanitize` says of what it prints.
+    ensures form { (p : ListedWords) → lists_of_number policy ≡ Some p → result ≡ 0
+        → IsSafe p (take needed.new out.new) }
+    ensures standard { (p : ListedWords) → lists_of_number policy ≡ Some p → result ≡ 0
+        → tokens_in_page (take needed.new out.new)
+        ≡ tokens_of (norm (kept_fitted p (trees_of (html_form page.now)))) }
+
+    // No want of memory hides that there is no such policy, or that a page is no text, or too long.
+    ensures no_policy { lists_of_number policy ≡ None → result ≡ 2 }
+    ensures no_text { ¬ (IsUtf8 page.now) → result ≡ 2 }
+    ensures long { u32.MAX < length page.now → result ≡ 2 }
+{
+    copy_text(html_page_by(alloc, policy, page), out, needed)
+}
+
+/// Prints a page with a key set (0) or unset (1) in the start tag of each element where a selector
+/// of CSS holds, and with each other byte as it was. Another number is not understood. A text that
+/// is no selector is refused: `place` is its first byte that is wrong, and `cause` the number of
+/// the cause in `tl.h`. Where a tag can't be changed so that the page is read as asked, that is
+/// refused with its place in the page. Else both are 0.
+#[unsafe(no_mangle)]
+pub extern "C" fn tl_patch_css(
+    alloc: Global,
+    edit: u8,
+    selector: &[u8],
+    key: &[u8],
+    value: &[u8],
+    page: &[u8],
+    out: &mut [u8],
+    needed: &mut usize,
+    place: &mut usize,
+    cause: &mut u8,
+) -> u8
+    ensures patched { let change = change_of_number edit key.now value.now in
+        PutsPatched selector.now change page.now out.old out.new needed.new result }
+    ensures done { result ≡ 0 → (place.new ≡ 0) × (cause.new ≡ 0) }
+{
+    let patched = patch(alloc, edit, selector, key, value, page, place, cause);
+    copy_result(patched, out, needed)
 }
 
 /// Writes the version. That takes no memory.

@@ -1,0 +1,20 @@
+use Rattle.std.proofs.Common.{◌≡◌, ℕ}
+use Rattle.tl_c.specs.Patches.{IsPatchedIf, change_of_number}
+use Rattle.tl_c.proofs.Given.{given-done, given-gives, given-success, outcome_given}
+use Rattle.tl_c.proofs.page_calls.tl_patch_css.Goals as goal
+
+pub returns-clause-patched : goal.returns-clause-patched
+returns-clause-patched c =
+    let given = c.patch-patched.result in
+    let change = change_of_number c.args.edit c.args.key.now c.args.value.now in
+    record {
+      outcome = outcome_given (λ text. text.items) given;
+      put = c.copy_result.ensures.put _ (given-gives (λ text. text.items) given c.patch-patched.ensures.failure);
+      patched = given-success (λ text. text.items) given (IsPatchedIf c.args.selector.now change c.args.page.now) c.patch-patched.ensures.patched;
+    }
+
+pub returns-clause-done : goal.returns-clause-done
+returns-clause-done c = λ is_done.
+    let given = c.patch-patched.result in
+    let put = c.copy_result.ensures.put _ (given-gives (λ text. text.items) given c.patch-patched.ensures.failure) in
+    given-done (λ text. text.items) given _ _ _ _ put is_done _ c.patch-patched.ensures.done
