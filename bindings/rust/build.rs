@@ -1,8 +1,34 @@
-//! Links libtl.a, which lies in the folder that TL_LIB names.
+//! Links libtl.a from the folder that TL_LIB names, or, where that isn't set, what pkg-config says of `libtl`. Where there is neither,
+//! the crate is still checked and documented; only a program isn't linked.
+use std::process::Command;
+
 fn main() {
     println!("cargo:rerun-if-env-changed=TL_LIB");
-    let folder = std::env::var("TL_LIB").expect("TL_LIB: the folder of libtl.a");
-    println!("cargo:rerun-if-changed={folder}/libtl.a");
-    println!("cargo:rustc-link-search=native={folder}");
-    println!("cargo:rustc-link-lib=static=tl");
+    println!("cargo:rerun-if-env-changed=PKG_CONFIG_PATH");
+    println!("cargo:rerun-if-env-changed=TL_REFUSALS");
+    println!("cargo:rustc-check-cfg=cfg(tl_refusals)");
+    if std::env::var_os("TL_REFUSALS").is_some() {
+        println!("cargo:rustc-cfg=tl_refusals");
+    }
+    if let Ok(folder) = std::env::var("TL_LIB") {
+        println!("cargo:rerun-if-changed={folder}/libtl.a");
+        println!("cargo:rustc-link-search=native={folder}");
+        println!("cargo:rustc-link-lib=static=tl");
+        return;
+    }
+    match installed_folder() {
+        Some(folder) => println!("cargo:rustc-link-search=native={folder}"),
+        None => println!("cargo:warning=libtl is not found: set TL_LIB to the folder of libtl.a"),
+    }
+    println!("cargo:rustc-link-lib=tl");
+}
+
+// The folder that pkg-config says the library is in.
+fn installed_folder() -> Option<String> {
+    let ran = Command::new("pkg-config")
+        .args(["--variable=libdir", "libtl"])
+        .output()
+        .ok()?;
+    let folder = String::from_utf8(ran.stdout).ok()?.trim().to_owned();
+    Some(folder).filter(|it| ran.status.success() && !it.is_empty())
 }

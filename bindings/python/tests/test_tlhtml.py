@@ -1,0 +1,174 @@
+"""Each call once and more, with what comes of pages that people write. `python3 -m pytest` runs them, and so does `-m unittest`."""
+import os
+import threading
+import unittest
+
+import tlhtml
+from tlhtml import ChangeError, Document, NoSteps, Policy, Refused, SelectorError, as_is, sanitize, set_attribute, unset_attribute
+
+PAGE = "<UL><LI hidden class=a @click=f() href='?a=1&b=2&lt;'>x &amp; y<LI>3 < 4</UL><!-- c --><p>z"
+
+
+class Selectors(unittest.TestCase):
+    def setUp(self):
+        self.document = Document(PAGE)
+
+    def test_tags_in_order(self):
+        self.assertEqual([it.name for it in self.document.select("li, p")], ["li", "li", "p"])
+        self.assertEqual(self.document.select("i"), [])
+        self.assertIsNone(self.document.select_one("i"))
+        self.assertEqual(self.document.select_one("li + li").text, "3 < 4")
+        self.assertEqual(len(self.document.select(r"[\@click]")), 1)
+
+    def test_a_wrong_one(self):
+        with self.assertRaises(SelectorError) as it:
+            self.document.select("é li:hover")
+        self.assertEqual((it.exception.place, it.exception.cause), (5, 9))
+        self.assertEqual(str(it.exception), "no selector: 'é li:hover': at 5: no such pseudo-class")
+
+    def test_below_a_node(self):
+        items, _, last = self.document.children
+        self.assertEqual(len(items.select("li")), 2)
+        self.assertEqual(items.select_one("li").next.select("*"), [])
+        self.assertIsNone(last.select_one("li"))
+
+
+class Nodes(unittest.TestCase):
+    def test_kinds_and_places(self):
+        document = Document(PAGE)
+        items, comment, last = document.children
+        self.assertEqual([it.kind for it in (items, comment, last)], ["tag", "comment", "tag"])
+        item = next(items.children)
+        self.assertEqual((item.parent, items.parent, last.next), (items, None, None))
+        self.assertEqual((item.next.html, item.next.inner_html), ("<li>3 &lt; 4</li>", "3 &lt; 4"))
+        self.assertEqual((comment.name, comment.html, comment.text), (None, "<!-- c -->", ""))
+        self.assertEqual((item.text, document.text), ("x & y", "x & y3 < 4z"))
+        self.assertEqual([it.number for it in document.nodes], list(range(8)))
+        self.assertEqual(list(Document("").children), [])
+        self.assertEqual({item, document.select_one("li")}, {item})
+        self.assertEqual(repr(item), "<tlhtml.Node 1: tag li>")
+
+    def test_attributes(self):
+        item = Document(PAGE).select_one("li")
+        self.assertEqual(item["HREF"], "?a=1&b=2<")
+        self.assertEqual((item.get("@click"), item.get("hidden"), item.get("id")), ("f()", "", None))
+        self.assertEqual(item.get("id", "none"), "none")
+        self.assertTrue("hidden" in item and "id" not in item)
+        self.assertEqual(item.attributes, {"@click": "f()", "class": "a", "hidden": "", "href": "?a=1&b=2<"})
+        with self.assertRaises(KeyError):
+            item["id"]
+        text = next(item.children)
+        self.assertEqual((text.attributes, text.get("id")), ({}, None))
+
+    def test_bytes_0_and_long_answers(self):
+        long = "é" * 100_000
+        document = Document(f"<b>{long}</b>" + "<i>&lt;" * 1000)
+        self.assertEqual(document.select_one("b").text, long)
+        self.assertEqual(document.select_one("i").text, "<" * 1000)
+        self.assertEqual(len(Document("<b></b>" * 5000).select("b")), 5000)
+
+
+class Closing(unittest.TestCase):
+    def test_a_closed_document(self):
+        with Document(PAGE) as document:
+            item = document.select_one("li")
+        document.close()
+        for ask in (lambda: document.select("li"), lambda: item.text, lambda: item.attributes, lambda: item.kind):
+            with self.assertRaisesRegex(ValueError, "closed"):
+                ask()
+
+    def test_pages_that_are_no_text(self):
+        with self.assertRaises(UnicodeDecodeError):
+            Document(b"caf\xe9")
+        with self.assertRaises(UnicodeEncodeError):
+            Document("\ud800")
+        self.assertEqual(Document("é".encode()).text, "é")
+
+
+class SafePages(unittest.TestCase):
+    def test_what_people_type(self):
+        self.assertEqual(sanitize("I <3 <A HREF=/x>é"), 'I &lt;3 <a href="/x">é</a>')
+        self.assertEqual(sanitize("<" * 5000), "&lt;" * 5000)
+        self.assertEqual(as_is.sanitize("<p onclick=f()>é<script>y</script>"), "<p>é</p>")
+        self.assertEqual(sanitize(""), "")
+
+    def test_policies(self):
+        page = "<h1>a</h1><table><tr><td>b"
+        self.assertEqual(sanitize(page), "<h1>a</h1>b")
+        self.assertEqual(sanitize(page, Policy.COMMENTS), "ab")
+        self.assertEqual(sanitize(page, Policy.DOCUMENTS), "<h1>a</h1><table><tbody><tr><td>b</td></tr></tbody></table>")
+        with self.assertRaises(ValueError):
+            sanitize(page, 3)
+
+    @unittest.skipUnless("TL_VERSION" in os.environ, "TL_VERSION says which is wanted")
+    def test_version(self):
+        self.assertEqual(tlhtml.version(), os.environ["TL_VERSION"])
+
+
+class Changes(unittest.TestCase):
+    page = "<!DOCTYPE é><P onclick=f()><IMG SRC=x>3 < 4</p></p>"
+
+    def test_keys(self):
+        wanted = self.page.replace("<IMG", '<IMG alt="a&quot;&amp;b"')
+        self.assertEqual(set_attribute(self.page, "p > img", "ALT", 'a"&b'), wanted)
+        self.assertEqual(unset_attribute(self.page, "p:not(:empty)", "onclick"), self.page.replace(" onclick=f()", ""))
+        self.assertEqual(set_attribute(self.page, "i", "a", "b"), self.page)
+
+    def test_what_is_refused(self):
+        with self.assertRaises(SelectorError) as it:
+            set_attribute(self.page, "p:hover", "a", "b")
+        self.assertEqual((it.exception.place, it.exception.cause), (2, 9))
+        with self.assertRaises(ChangeError) as it:
+            set_attribute(self.page, "p", "a", "b")
+        self.assertEqual((self.page[it.exception.place :], str(it.exception)), ("</p>", "at 47: this element has no start tag"))
+
+
+class AsIs(unittest.TestCase):
+    def test_calls_with_a_page(self):
+        self.assertEqual(as_is.print_page("<p a>x\0é"), "<p a>x\0é</p>")
+        self.assertEqual(as_is.text("a<p>b<br>c</p><!-- d -->"), "abc")
+        self.assertEqual(as_is.edit("set 0 href /x", "<a>y</a>"), '<a href="/x">y</a>')
+        self.assertEqual(as_is.select("p", as_is.INNER_TEXT, "<p>x<b>y</b></p><p>z"), ["xy", "z"])
+        self.assertEqual(as_is.select("a", as_is.ATTRIBUTE, '<a href="/x"><a>', "href"), ["/x"])
+
+    def test_what_is_refused(self):
+        for error, call, words in (
+            (Refused, as_is.edit, ("push 5 0", "<a></a>")),
+            (Refused, as_is.edit, ("push 0 0", "<a></a>")),
+            (NoSteps, as_is.edit, ("push 0", "<a></a>")),
+            (Refused, as_is.select, (",", as_is.NUMBER, "")),
+            (ValueError, as_is.select, ("p", 5, "<p>")),
+        ):
+            with self.assertRaises(error):
+                call(*words)
+
+    def test_a_document(self):
+        document = as_is.parse("<A b>&amp;</A>")
+        (tag,) = as_is.find(document, "A")
+        self.assertEqual((tag.text, tag.get("b"), tag.get("c"), tag.attributes), ("&amp;", "", None, {"b": ""}))
+        with self.assertRaises(Refused):
+            as_is.find(document, ",")
+
+
+class Threads(unittest.TestCase):
+    def test_one_document_in_eight_threads(self):
+        """The calls themselves take turns, and each thread gets its own answer."""
+        document = Document("".join(f"<p id=user-{it}>{'x' * it}</p>" for it in range(200)))
+        wrong = []
+
+        def ask(first):
+            for number in list(range(first, 200)) * 3:
+                node = document.select_one(f"#user-{number}")
+                if node.text != "x" * number or node["id"] != f"user-{number}":
+                    wrong.append(number)
+
+        threads = [threading.Thread(target=ask, args=(it,)) for it in range(8)]
+        for it in threads:
+            it.start()
+        for it in threads:
+            it.join()
+        self.assertEqual(wrong, [])
+
+
+if __name__ == "__main__":
+    unittest.main()

@@ -1,0 +1,138 @@
+"""Times tlhtml beside lxml, BeautifulSoup and bleach, where they are there: milliseconds, the least of some rounds, as a table.
+
+    python3 timing.py PAGE..             as python3 timing.py pages/*.html
+    python3 timing.py --crawl FOLDER     pages a second and a core of examples/crawl.py in a cluster of two workers, read by each of them
+"""
+import functools
+import importlib.util
+import os
+import sys
+import time
+
+import tlhtml
+
+# What each is asked, as a program of its own would write it.
+
+
+def tlhtml_links(page):
+    with tlhtml.Document(page) as document:
+        return [it["href"] for it in document.select("a[href]")]
+
+
+def tlhtml_text(page):
+    with tlhtml.Document(page) as document:
+        return document.text
+
+
+def lxml_links(page):
+    import lxml.html
+
+    return [it.get("href") for it in lxml.html.fromstring(page).iterfind(".//a[@href]")]
+
+
+def lxml_text(page):
+    import lxml.html
+
+    return lxml.html.fromstring(page).text_content()
+
+
+def soup_links(page):
+    import bs4
+
+    return [it["href"] for it in bs4.BeautifulSoup(page, "lxml").select("a[href]")]
+
+
+def soup_text(page):
+    import bs4
+
+    return bs4.BeautifulSoup(page, "lxml").get_text()
+
+
+def html5lib_links(page):
+    import bs4
+
+    return [it["href"] for it in bs4.BeautifulSoup(page, "html5lib").select("a[href]")]
+
+
+def bleach_safe(page):
+    import bleach
+
+    return bleach.clean(page)
+
+
+# The work, whose it is, the modules that it takes, and the call.
+WORKS = [
+    ("links", "tlhtml", (), tlhtml_links),
+    ("links", "lxml", ("lxml",), lxml_links),
+    ("links", "BeautifulSoup, lxml", ("bs4", "lxml"), soup_links),
+    ("links", "BeautifulSoup, html5lib", ("bs4", "html5lib"), html5lib_links),
+    ("text", "tlhtml", (), tlhtml_text),
+    ("text", "lxml", ("lxml",), lxml_text),
+    ("text", "BeautifulSoup, lxml", ("bs4", "lxml"), soup_text),
+    ("sanitize", "tlhtml", (), tlhtml.sanitize),
+    ("sanitize", "bleach", ("bleach",), bleach_safe),
+]
+
+
+def least(call, page, rounds=5, enough=1.0):
+    """The least milliseconds of the processor of some rounds, fewer where they take long."""
+    best, begun = float("inf"), time.perf_counter()
+    for _ in range(rounds):
+        start = time.process_time()
+        call(page)
+        best = min(best, 1000 * (time.process_time() - start))
+        if time.perf_counter() - begun > enough:
+            break
+    return best
+
+
+def crawl_lxml(page):
+    import lxml.html
+
+    tree = lxml.html.fromstring(page)
+    links, title = [it.get("href") for it in tree.iterfind(".//a[@href]")], tree.findtext(".//title")
+    lxml.etree.strip_elements(tree, "script", "style", "title", "template", "noscript", with_tail=False)
+    return {"title": title, "links": links, "text": " ".join(tree.text_content().split())}
+
+
+def crawl_soup(page):
+    import bs4
+
+    tree = bs4.BeautifulSoup(page, "lxml")
+    links, title = [it["href"] for it in tree.select("a[href]")], tree.title and tree.title.get_text()
+    for it in tree(["script", "style", "title", "template", "noscript"]):
+        it.decompose()
+    return {"title": title, "links": links, "text": " ".join(tree.get_text().split())}
+
+
+def main_crawl(folder):
+    """Reads all pages of a folder by each in one cluster, and prints how many a second of the workers' processor that is."""
+    examples = os.path.join(os.path.dirname(os.path.abspath(__file__)), "examples")
+    os.environ["PYTHONPATH"] = os.pathsep.join(filter(None, [examples, os.environ.get("PYTHONPATH")]))
+    sys.path.insert(0, examples)
+    import crawl
+    from distributed import Client, LocalCluster
+
+    found = crawl.sources(folder)
+    with LocalCluster(n_workers=2, threads_per_worker=1, dashboard_address=None) as cluster, Client(cluster) as client:
+        for whose, modules, ask in [("tlhtml", (), crawl.asked), ("lxml", ("lxml",), crawl_lxml), ("BeautifulSoup, lxml", ("bs4", "lxml"), crawl_soup)]:
+            if all(map(importlib.util.find_spec, modules)):
+                before = sum(client.run(time.process_time).values())
+                rows = list(crawl.crawl(client, found, 32, functools.partial(crawl.rows_of, ask=ask)))
+                used = sum(client.run(time.process_time).values()) - before
+                print(f"{whose}: {len(rows)} pages, {sum(it['error'] is not None for it in rows)} not read, {len(rows) / used:.0f} a second")
+
+
+def main(files):
+    works = [it for it in WORKS if all(importlib.util.find_spec(module) for module in it[2])]
+    print("| Page | KB | " + " | ".join(f"{work}: {whose}" for work, whose, _, _ in works) + " |")
+    print("|---|---|" + "---|" * len(works))
+    for file in files:
+        with open(file, encoding="utf-8", errors="replace") as it:
+            page = it.read()
+        figures = [f"{least(call, page):.1f}" for _, _, _, call in works]
+        print(f"| {os.path.basename(file)} | {len(page.encode()) // 1024} | " + " | ".join(figures) + " |", flush=True)
+
+
+if __name__ == "__main__":
+    main_crawl(sys.argv[2]) if sys.argv[1:2] == ["--crawl"] else main(sys.argv[1:])

@@ -1,0 +1,29 @@
+"""Pages of HTML, however broken: read as browsers read them, searched by selectors of CSS, and made safe to show.
+
+>>> document = Document("<ul><LI><A HREF=/x?a=1&b>Bread &amp; butter</A><li>3 < 4")
+>>> [(link["href"], link.text) for link in document.select("li > a")]
+[('/x?a=1&b', 'Bread & butter')]
+>>> sanitize("<p onclick=f()>I <3 <script>y</script>it")
+'<p>I &lt;3 it</p>'
+"""
+from . import as_is
+from ._calls import version
+from ._document import Document, Node, Policy, sanitize, set_attribute, unset_attribute
+from ._errors import ChangeError, Error, NoSteps, Refused, SelectorError, TooLong
+
+__all__ = [
+    "ChangeError",
+    "Document",
+    "Error",
+    "NoSteps",
+    "Node",
+    "Policy",
+    "Refused",
+    "SelectorError",
+    "TooLong",
+    "as_is",
+    "sanitize",
+    "set_attribute",
+    "unset_attribute",
+    "version",
+]

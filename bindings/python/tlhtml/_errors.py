@@ -1,0 +1,61 @@
+"""Why there is no answer. Where memory runs out that is a MemoryError."""
+from __future__ import annotations
+
+CAUSES = {
+    1: "this is opened and never closed",
+    2: "a selector is missing",
+    3: "a name is missing",
+    4: "`=`, `~=`, `|=`, `^=`, `$=`, `*=` or `]` is missing",
+    5: "a value is missing",
+    6: "the only flags are `i` and `s`",
+    7: "this is no formula such as `2n+1`, `odd` or `3`",
+    8: "the number is above 2147483647",
+    9: "no such pseudo-class",
+    10: "a pseudo-element is no tag",
+    11: "namespaces are not known here",
+    12: "an argument in brackets is missing",
+    13: "this pseudo-class takes no argument",
+    14: "too many selectors inside one another",
+    15: "this can't stand here",
+    16: "this element has no start tag",
+    17: "this tag can't be changed so",
+    18: "the page would be read otherwise than asked",
+}
+
+
+class Error(Exception):
+    """There is no answer."""
+
+
+class TooLong(Error, ValueError):
+    """The page, or what it is written down as while it is read, has more than 4294967295 bytes."""
+
+
+class SelectorError(Error, ValueError):
+    """A text is no selector: the place of the first character that is wrong, and why."""
+
+    def __init__(self, selector: str, place: int, cause: int) -> None:
+        self.selector, self.place, self.cause = selector, place, cause
+        super().__init__(selector, place, cause)
+
+    def __str__(self) -> str:
+        return f"no selector: {self.selector!r}: at {self.place}: {CAUSES.get(self.cause, f'cause {self.cause}')}"
+
+
+class ChangeError(Error, ValueError):
+    """A tag can't be changed so: the place in the page where it begins, and why."""
+
+    def __init__(self, place: int, cause: int) -> None:
+        self.place, self.cause = place, cause
+        super().__init__(place, cause)
+
+    def __str__(self) -> str:
+        return f"at {self.place}: {CAUSES.get(self.cause, f'cause {self.cause}')}"
+
+
+class Refused(Error, ValueError):
+    """Of `as_is` alone: a step asks for a node or a place that isn't there or makes a circle, or a selector is none."""
+
+
+class NoSteps(Error, ValueError):
+    """Of `as_is` alone: lines say no steps."""

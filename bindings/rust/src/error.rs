@@ -1,0 +1,116 @@
+//! Why there is no answer.
+use std::fmt;
+
+/// Why there is no answer.
+#[derive(Clone, Copy, Debug, PartialEq, Eq)]
+pub enum Error {
+    /// The text is no selector.
+    NoSelector {
+        /// The first byte that is wrong.
+        place: usize,
+        /// What is wrong with it.
+        cause: Cause,
+    },
+    /// A tag can't be changed so.
+    NotChanged {
+        /// Where it begins in the page.
+        place: usize,
+        /// Why.
+        cause: Cause,
+    },
+    /// The page, or what it is written down as while it is read, has more than 4294967295 bytes.
+    TooLong,
+    /// Memory ran out.
+    OutOfMemory,
+    /// Of [`as_is`](crate::as_is) alone: lines say no steps.
+    NoSteps,
+    /// Of [`as_is`](crate::as_is) alone: a step asks for a node or a place that isn't there or makes a circle, or a selector is none.
+    Refused,
+}
+
+impl fmt::Display for Error {
+    fn fmt(&self, f: &mut fmt::Formatter<'_>) -> fmt::Result {
+        match self {
+            Error::NoSelector { place, cause } => {
+                write!(f, "no selector: at byte {place}: {cause}")
+            }
+            Error::NotChanged { place, cause } => write!(f, "at byte {place}: {cause}"),
+            Error::TooLong => f.write_str("the page is too long"),
+            Error::OutOfMemory => f.write_str("out of memory"),
+            Error::NoSteps => f.write_str("these lines are no steps"),
+            Error::Refused => f.write_str("refused"),
+        }
+    }
+}
+
+impl std::error::Error for Error {}
+
+macro_rules! causes {
+    ($($(#[$doc:meta])* $name:ident = $number:literal, $words:literal;)*) => {
+        /// What is wrong with a selector, or with a change of a tag.
+        #[derive(Clone, Copy, Debug, PartialEq, Eq)]
+        #[non_exhaustive]
+        pub enum Cause {
+            $($(#[$doc])* $name,)*
+            /// A cause that the library knows and this crate doesn't.
+            Other(u8),
+        }
+
+        impl Cause {
+            pub(crate) fn of_number(number: u8) -> Cause {
+                match number {
+                    $($number => Cause::$name,)*
+                    other => Cause::Other(other),
+                }
+            }
+        }
+
+        impl fmt::Display for Cause {
+            fn fmt(&self, f: &mut fmt::Formatter<'_>) -> fmt::Result {
+                match self {
+                    $(Cause::$name => f.write_str($words),)*
+                    Cause::Other(number) => write!(f, "cause {number}"),
+                }
+            }
+        }
+    };
+}
+
+causes! {
+    /// A bracket, a string or a comment that begins here isn't closed.
+    Unclosed = 1, "this is opened and never closed";
+    /// A selector has to stand here.
+    NoSelector = 2, "a selector is missing";
+    /// A name has to stand here.
+    NoName = 3, "a name is missing";
+    /// `=` or one of `~= |= ^= $= *=` has to stand here, or a `]`.
+    NoOperator = 4, "`=`, `~=`, `|=`, `^=`, `$=`, `*=` or `]` is missing";
+    /// A name or a string has to stand here.
+    NoValue = 5, "a value is missing";
+    /// This flag is neither `i` nor `s`.
+    NoFlag = 6, "the only flags are `i` and `s`";
+    /// What stands here is no formula `an+b`, or doesn't end one.
+    NoFormula = 7, "this is no formula such as `2n+1`, `odd` or `3`";
+    /// This number is above 2147483647.
+    LargeNumber = 8, "the number is above 2147483647";
+    /// No pseudo-class has this name.
+    NoPseudoClass = 9, "no such pseudo-class";
+    /// Pseudo-elements are no tags.
+    PseudoElement = 10, "a pseudo-element is no tag";
+    /// Namespaces aren't known.
+    Namespace = 11, "namespaces are not known here";
+    /// The pseudo-class needs an argument in brackets.
+    NeedsArgument = 12, "an argument in brackets is missing";
+    /// The pseudo-class takes no argument.
+    TakesNone = 13, "this pseudo-class takes no argument";
+    /// So many selectors wait here for those inside them that this one is too much.
+    TooDeep = 14, "too many selectors inside one another";
+    /// This byte can't stand here.
+    Unexpected = 15, "this can't stand here";
+    /// The selector holds at an element that comes of an end tag here, as of `</p>` alone.
+    NoStartTag = 16, "this element has no start tag";
+    /// This key or this value can't be written in the tag that begins here.
+    NotWritten = 17, "this tag can't be changed so";
+    /// The page would be read otherwise than asked.
+    ReadOtherwise = 18, "the page would be read otherwise than asked";
+}

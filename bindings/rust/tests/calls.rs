@@ -1,0 +1,263 @@
+//! Each call once and more, with what comes of pages that people write.
+use std::thread;
+use tlhtml::as_is::{self, Field};
+use tlhtml::{
+    Cause, Document, Error, Kind, Policy, sanitize, sanitize_by, set_attribute, unset_attribute,
+    version,
+};
+
+const PAGE: &str =
+    "<UL><LI hidden class=a @click=f() href='?a=1&b=2&lt;'>x &amp; y<LI>3 < 4</UL><!-- c --><p>z";
+
+fn names(document: &Document, selector: &str) -> Vec<Option<String>> {
+    document
+        .select(selector)
+        .unwrap()
+        .into_iter()
+        .map(|it| it.name().unwrap())
+        .collect()
+}
+
+#[test]
+fn selectors() {
+    let document = Document::parse(PAGE).unwrap();
+    assert_eq!(
+        names(&document, "li, p"),
+        [Some("li".into()), Some("li".into()), Some("p".into())]
+    );
+    assert!(document.select("i").unwrap().is_empty());
+    assert_eq!(document.select_first("i"), Ok(None));
+    assert_eq!(
+        document
+            .select_first("li + li")
+            .unwrap()
+            .unwrap()
+            .text()
+            .as_deref(),
+        Ok("3 < 4")
+    );
+    assert_eq!(document.select("[\\@click]").unwrap().len(), 1);
+    let wrong = Error::NoSelector {
+        place: 3,
+        cause: Cause::NoPseudoClass,
+    };
+    assert_eq!(document.select("li:hover"), Err(wrong));
+    assert_eq!(
+        wrong.to_string(),
+        "no selector: at byte 3: no such pseudo-class"
+    );
+}
+
+#[test]
+fn nodes() {
+    let document = Document::parse(PAGE).unwrap();
+    let top: Vec<_> = document.children().unwrap().collect();
+    assert_eq!(
+        top.iter().map(|it| it.kind()).collect::<Vec<_>>(),
+        [Kind::Tag, Kind::Comment, Kind::Tag]
+    );
+    assert_eq!(top[1].name(), Ok(None));
+    assert_eq!(top[1].html().as_deref(), Ok("<!-- c -->"));
+    let item = top[0].children().unwrap().next().unwrap();
+    assert_eq!(item.parent(), Ok(Some(top[0])));
+    assert_eq!(top[0].parent(), Ok(None));
+    assert_eq!(
+        item.next_sibling().unwrap().unwrap().html().as_deref(),
+        Ok("<li>3 &lt; 4</li>")
+    );
+    assert_eq!(
+        item.next_sibling()
+            .unwrap()
+            .unwrap()
+            .inner_html()
+            .as_deref(),
+        Ok("3 &lt; 4")
+    );
+    assert_eq!(item.text().as_deref(), Ok("x & y"));
+    assert_eq!(document.text().as_deref(), Ok("x & y3 < 4z"));
+    assert_eq!(top[0].select("li").unwrap().len(), 2);
+    assert!(item.select("li").unwrap().is_empty());
+    assert!(top[2].select("li").unwrap().is_empty());
+    assert_eq!(document.nodes().unwrap().count(), 8);
+    assert_eq!(document.nodes().unwrap().nth(2).unwrap().number(), 2);
+    assert_eq!(Document::parse("").unwrap().children().unwrap().count(), 0);
+}
+
+#[test]
+fn attributes() {
+    let document = Document::parse(PAGE).unwrap();
+    let item = document.select_first("li").unwrap().unwrap();
+    assert_eq!(
+        item.attribute("HREF").unwrap().as_deref(),
+        Some("?a=1&b=2<")
+    );
+    assert_eq!(item.attribute("@click").unwrap().as_deref(), Some("f()"));
+    assert_eq!(item.attribute("hidden").unwrap().as_deref(), Some(""));
+    assert_eq!(item.attribute("id"), Ok(None));
+    assert_eq!(
+        (item.has_attribute("hidden"), item.has_attribute("id")),
+        (Ok(true), Ok(false))
+    );
+    let mut keys: Vec<_> = item
+        .attributes()
+        .unwrap()
+        .into_iter()
+        .map(|it| (it.key, it.value))
+        .collect();
+    keys.sort();
+    let wanted = [
+        ("@click", "f()"),
+        ("class", "a"),
+        ("hidden", ""),
+        ("href", "?a=1&b=2<"),
+    ];
+    assert_eq!(
+        keys,
+        wanted.map(|(key, value)| (key.to_string(), value.to_string()))
+    );
+    let text = item.children().unwrap().next().unwrap();
+    assert_eq!(
+        (text.attribute("id"), text.attributes().unwrap().len()),
+        (Ok(None), 0)
+    );
+}
+
+#[test]
+fn safe_pages() {
+    assert_eq!(
+        sanitize("I <3 <A HREF=/x>é").as_deref(),
+        Ok("I &lt;3 <a href=\"/x\">é</a>")
+    );
+    assert_eq!(
+        as_is::sanitize("<p onclick=f()>é<script>y</script>").as_deref(),
+        Ok("<p>é</p>")
+    );
+    assert_eq!(sanitize(&"<".repeat(5000)).map(|it| it.len()), Ok(20000));
+    let page = "<h1>a</h1><table><tr><td>b";
+    for (policy, wanted) in [
+        (Policy::Blog, "<h1>a</h1>b"),
+        (Policy::Comments, "ab"),
+        (
+            Policy::Documents,
+            "<h1>a</h1><table><tbody><tr><td>b</td></tr></tbody></table>",
+        ),
+    ] {
+        assert_eq!(sanitize_by(policy, page).as_deref(), Ok(wanted));
+    }
+    assert_eq!(version().as_deref(), Ok(env!("TL_VERSION")));
+}
+
+#[test]
+fn changes() {
+    let page = "<!DOCTYPE X><P onclick=f()><IMG SRC=x>3 < 4</p></p>";
+    assert_eq!(
+        set_attribute(page, "p > img", "ALT", "a\"&b").as_deref(),
+        Ok("<!DOCTYPE X><P onclick=f()><IMG alt=\"a&quot;&amp;b\" SRC=x>3 < 4</p></p>")
+    );
+    assert_eq!(
+        unset_attribute(page, "p:not(:empty)", "onclick").as_deref(),
+        Ok("<!DOCTYPE X><P><IMG SRC=x>3 < 4</p></p>")
+    );
+    assert_eq!(set_attribute(page, "i", "a", "b").as_deref(), Ok(page));
+    let (place, cause) = (2, Cause::NoPseudoClass);
+    assert_eq!(
+        set_attribute(page, "p:hover", "a", "b"),
+        Err(Error::NoSelector { place, cause })
+    );
+    let (place, cause) = (47, Cause::NoStartTag);
+    assert_eq!(
+        set_attribute(page, "p", "a", "b"),
+        Err(Error::NotChanged { place, cause })
+    );
+}
+
+#[test]
+fn pages_as_they_are() {
+    assert_eq!(
+        as_is::print("abc <p>test<span>a</p>").as_deref(),
+        Ok("abc <p>test<span>a</span></p>")
+    );
+    assert_eq!(as_is::print("").as_deref(), Ok(""));
+    assert_eq!(as_is::text("a<p>b<br>c</p>").as_deref(), Ok("abc"));
+    assert_eq!(
+        as_is::edit("set 0 href /x", "<a>y</a>").as_deref(),
+        Ok("<a href=\"/x\">y</a>")
+    );
+    assert_eq!(as_is::edit("push 0 0", "<a></a>"), Err(Error::Refused));
+    assert_eq!(as_is::edit("push 0", "<a></a>"), Err(Error::NoSteps));
+    let page = "<p>x<b a=\"/x\">y</b></p><p>z";
+    for (selector, field, wanted) in [
+        ("p", Field::InnerText, vec!["xy", "z"]),
+        ("p", Field::Number, vec!["0", "4"]),
+        ("b", Field::OuterHtml, vec!["<b a=\"/x\">y</b>"]),
+        ("b", Field::InnerHtml, vec!["y"]),
+        ("b", Field::Attribute("a"), vec!["/x"]),
+    ] {
+        assert_eq!(
+            as_is::select(selector, field, page),
+            Ok(wanted.into_iter().map(String::from).collect())
+        );
+    }
+    assert_eq!(as_is::select(",", Field::Number, ""), Err(Error::Refused));
+    let document = as_is::parse("<A b>&amp;</A>").unwrap();
+    assert_eq!(as_is::find(&document, "A"), Ok(vec![0]));
+    assert_eq!(as_is::find(&document, ","), Err(Error::Refused));
+    let tag = document.nodes().unwrap().next().unwrap();
+    assert_eq!(tag.text().as_deref(), Ok("&amp;"));
+    assert_eq!(
+        (tag.attribute("b"), tag.attribute("c")),
+        (Ok(Some(String::new())), Ok(None))
+    );
+}
+
+#[test]
+fn long_answers() {
+    let long = "z".repeat(100_000);
+    let document = Document::parse(&format!("<b>{long}</b>{}", "<i>&lt;".repeat(1000))).unwrap();
+    assert_eq!(document.select("b").unwrap()[0].text(), Ok(long));
+    assert_eq!(document.select("i").unwrap().len(), 1000);
+    assert_eq!(
+        document.select("i").unwrap()[0].text(),
+        Ok("<".repeat(1000))
+    );
+    assert_eq!(
+        as_is::edit(&format!("text 0 {}", "y".repeat(5000)), "x").map(|page| page.len()),
+        Ok(5000)
+    );
+}
+
+#[test]
+fn threads() {
+    thread::scope(|scope| {
+        for number in 0..8 {
+            scope.spawn(move || {
+                for turn in 0..200 {
+                    let page = format!("<p id=user-{number}>{turn}");
+                    let document = Document::parse(&page).unwrap();
+                    assert_eq!(
+                        document.select("p").unwrap()[0].attribute("id").unwrap(),
+                        Some(format!("user-{number}"))
+                    );
+                    assert_eq!(
+                        sanitize(&page),
+                        Ok(format!("<p id=\"user-{number}\">{turn}</p>"))
+                    );
+                }
+            });
+        }
+    });
+}
+
+/// A document is read in one thread, asked in others and dropped in the last.
+#[test]
+fn a_document_that_moves() {
+    let mut document = Document::parse(PAGE).unwrap();
+    for _ in 0..8 {
+        document = thread::spawn(move || {
+            assert_eq!(document.select("li").unwrap().len(), 2);
+            document
+        })
+        .join()
+        .unwrap();
+    }
+}
