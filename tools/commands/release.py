@@ -2,8 +2,9 @@
 
     ./x release VERSION
 
-It has the programs, their manual page and completions, the library for C with its headers, the licence, the README, and a note that
-says what they were proved and built with. First the gate and ./x mutants --all have to pass. VERSION is that of the sources
+It has the programs, their manual page and completions, the library for C, static and shared, with its headers and libtl.pc, the
+packages for Rust and Python and the callers in C, the documents, the licence, the README, and a note that says what they were proved
+and built with. First the gate and ./x mutants --all have to pass. VERSION is that of the sources
 (`VERSION` of crates/tl_page) and of a heading of CHANGELOG.md, and what is packed is a commit, without times, owners and an order of
 files of its own. It is tried as it is packed; where root runs it, each program too where there is nothing but the C library. The same
 commit and the same kit give the same bytes. It takes strip and readelf (Debian: binutils).
@@ -50,6 +51,14 @@ def pack_program(workspace, program, to):
     folder = workspace.folder(crate)
     must(["rt", "run", "--", "print"], f"{program} is not built", cwd=folder)
     must(["strip", "-o", f"{to}/bin/{program}", f"{folder}/out/{crate}"], "no strip")
+
+
+def pack_tracked(folder, to):
+    """Puts the files of a folder of the commit into the package."""
+    for file in git("ls-files", "-z", folder).split("\0"):
+        if file:
+            os.makedirs(os.path.dirname(f"{to}/{file}"), exist_ok=True)
+            shutil.copy(f"{ROOT}/{file}", f"{to}/{file}")
 
 
 def least_c_library(packed):
@@ -112,9 +121,9 @@ def main(parser, words):
             os.makedirs(f"{packed}/{it}")
         for it in PROGRAMS:
             pack_program(workspace, it, packed)
-        library.make(f"{packed}/lib/libtl.a")
-        shutil.copytree(f"{ROOT}/include", f"{packed}/include")
-        shutil.copytree(f"{ROOT}/share", f"{packed}/share")
+        library.install(packed)
+        for it in ("share", "docs", "bindings"):
+            pack_tracked(it, packed)
         for it in ("LICENSE", "README.md", "CHANGELOG.md"):
             shutil.copy(f"{ROOT}/{it}", packed)
         note = [f"tl {version}, commit {git('rev-parse', 'HEAD')}", f"proved and built with {rt('version').splitlines()[0]}"]
