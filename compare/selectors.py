@@ -2,6 +2,7 @@
 
     ./x compare selectors [--program FILE] [--selectors N] [--pages N] [--broken N] [--seed N]
                           [--chromium] [--soupsieve] [--plain]
+    ./x compare selectors --cascadia FILE [--program FILE]
 
 Each selector is asked of all pages at once, so a pair costs some microseconds of the program. The plain reader is css/definition.py,
 written from Selectors Level 4. So many of a hundred selectors are broken at random; of these the byte that is wrong is compared,
@@ -9,6 +10,9 @@ too. --chromium asks querySelectorAll (chromium), --soupsieve soupsieve (python3
 both, it is said of how many pairs where soupsieve differs Chromium answers as the plain reader. Pages are read as browsers read
 them, so the keys `id` and `class` count in any case. The program is the `tl` that the gate built unless another is named; --plain
 asks none, and compares the others with the plain reader. Ends with 1 where the program or Chromium differs from it.
+
+The second form asks the rows of cascadia's selector_test.go (golang-github-andybalholm-cascadia-dev, below /usr/share/gocode), and
+wants python3-html5lib. It says which rows differ; the reasons stand in docs/DIFFERENCES.md.
 """
 import os
 import random
@@ -19,6 +23,7 @@ import tempfile
 from tools.programs import gate_build
 from tools.workspace import Stop
 
+from .cascadia import compare_table
 from .chromium import Missing, answers, chromium, version
 from .css import definition, made
 from .reader import Document
@@ -129,8 +134,11 @@ def main(parser, words):
     parser.add_argument("--chromium", action="store_true")
     parser.add_argument("--soupsieve", action="store_true")
     parser.add_argument("--plain", action="store_true")
+    parser.add_argument("--cascadia", metavar="FILE")
     given = parser.parse_args(words)
     program = None if given.plain else os.path.abspath(given.program or gate_build("tl"))
+    if given.cascadia:
+        return compare_table(program, given.cascadia)
     chance = random.Random(given.seed)
     pairs = hits = refused = differ = 0
     own = {}

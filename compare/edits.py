@@ -1,0 +1,217 @@
+"""Compares what the words of `tl` that edit a page in its own bytes make of made-up pages, most of them broken, with a plain reader.
+
+    ./x compare edits [--program FILE] [--edits N] [--seed N] [--words set,remove] [FOLDER ..]
+
+Of each page the plain reader (edit_model.py) says which tags a selector finds, where they and their elements stand, and what comes of
+the page. Each byte outside of these places has to be as it was; html5lib's tokenizer has to read the tokens that are asked for, where
+it reads the page itself as the plain reader does. What is refused is counted by what is said; of keys that are set or unset the plain
+reader knows it: a tag is found that no start tag begins (`</p>` alone).
+
+With folders the pages in them are edited too, and html5lib's trees compared: with a key set or unset at all tags of a name, or with
+such elements gone, it has to be the tree of the page with just that done.
+
+The program is the `tl` that the gate built unless another is named. Ends with 1 where something differs. Of a Debian: apt-get install
+python3-html5lib.
+"""
+import os
+import random
+import re
+import subprocess
+import tempfile
+from collections import Counter
+
+from tools.programs import gate_build
+
+from . import html_program, markup, misnested
+from .css import definition
+from .edit_model import NotMeant, Page, Unknown, asked_of, changed, spliced
+from .edit_trees import compared_trees
+from .html_tokenizer import lower
+
+# So many pages a run of the program.
+BATCH = 200
+WORDS = ("set", "unset", "remove", "replace", "fill", "prepend", "append", "before", "after", "unwrap", "rename")
+SELECTORS = (
+    ["*", "*", "*", "body *", "a", "p", "li", "b", "td", "svg *", "div > *", "p + *", "[title]", "[class]", ":first-child", ":empty", "p, a"]
+    + [":not(:root)", "table td", "x-y", "option", "br", "a[href]", "[id=x]", ".k", "#x", "li:nth-child(2n)", "title", "script", "z"]
+)
+KEYS = ["title", "class", "ID", "href", "onclick", "data-x", "a:b", "é", "x", "y"]
+VALUES = ["", "v", "a b", '"', "'", "&", "&amp;", "&copy", "<i>", "a>b", "\n", "é", "=", "`", "/", "&#10;", "&notit;"]
+NAMES = ["div", "b", "x-y", "h1", "li", "td", "br", "title"]
+MARKUP = ["<i>x</i>", "<hr>", "<!--c-->", "a&lt;b", "</b>", "<li>", "&am", "<", "<i", "<!--", "<script>", "é<br/>", "</>"]
+PAIRS = (
+    ["", "", "", " ", " title=v", ' title="a b"', " TITLE='x'", " class=k", " class", ' class = "k"', " id=x ID='y'", " href=/x/", "/", " /"]
+    + [' title="&quot;"', " title='>'", ' a="b"c=d', " x =", " =y", " class=k\n\t id=x ", ' href="', "\0", " é=1"]
+)
+TEXTS = (
+    ["x", " ", "\n", "&am", "&amp", "&#1", "&#x", "&", "<", "</", "<!", "</>", "\r", "\r\n", "é", "\0", "<!--c-->", "<!-->", "<!--", "<?x>"]
+    + ["]]>", "&copy;"]
+)
+
+
+def html5lib_tokens(text):
+    """What html5lib's tokenizer reads, as the tokens of the plain reader."""
+    out = []
+    for kind, token in markup.tokens(text):
+        if kind in ("Characters", "SpaceCharacters"):
+            if out and out[-1][0] == "text":
+                out[-1] = ("text", out[-1][1] + token["data"])
+            else:
+                out.append(("text", token["data"]))
+        elif kind == "StartTag":
+            out.append(("start", token["name"], tuple(token["data"].items()), token["selfClosing"]))
+        elif kind == "EndTag":
+            out.append(("end", token["name"]))
+        elif kind == "Comment":
+            out.append(("comment", token["data"]))
+        elif kind == "Doctype":
+            out.append(("doctype",))
+    return out
+
+
+def made_page(chance):
+    """A page: tags in any order with odd pairs, and texts between them that are cut anywhere."""
+    if chance.random() < 0.2:
+        return html_program.tag_soup(chance)
+    if chance.random() < 0.2:
+        return misnested.misnested(chance, misnested.POLICIES["all"].split())
+    out = ["\ufeff"] if chance.random() < 0.03 else []
+    for _ in range(chance.randrange(1, 14)):
+        kind, name = chance.random(), chance.choice(html_program.TAGS)
+        if kind < 0.5:
+            out.append(f"<{name.upper() if chance.random() < 0.2 else name}{chance.choice(PAIRS)}{chance.choice(PAIRS)}>")
+        elif kind < 0.7:
+            out.append(f"</{name}>")
+        else:
+            out.append(chance.choice(TEXTS))
+    return "".join(out)
+
+
+class Edit:
+    """Words for the program, and what they mean."""
+
+    def __init__(self, chance, words):
+        self.word, self.selector = chance.choice(words), chance.choice(SELECTORS)
+        self.is_tag = self.word in ("set", "unset")
+        self.key, self.value = chance.choice(KEYS), chance.choice(VALUES) if self.word != "unset" else None
+        is_markup = chance.random() < 0.4
+        self.content = ("markup", chance.choice(MARKUP)) if is_markup else ("text", chance.choice(VALUES))
+        if self.word == "rename":
+            self.content = ("name", chance.choice(NAMES))
+        self.read = definition.parse(self.selector)
+
+    def words(self):
+        options = ["--html"] if self.content[0] == "markup" and self.word not in ("set", "unset", "remove", "unwrap") else []
+        if self.is_tag:
+            given = [self.key] if self.value is None else [self.key, self.value]
+        else:
+            given = [] if self.word in ("remove", "unwrap") else [self.content[1]]
+        return [self.word, "-i", *options, "--", self.selector, *given]
+
+    def is_refused(self, page, found, why):
+        """Whether that may be said of a page. That it ends there, that it would be read otherwise, and which content a raw text
+        can't hold isn't looked at."""
+        if not all(page.tokens[it][0] == "start" for it in found):
+            return "no start tag" in why
+        try:
+            asked = [] if self.is_tag else asked_of(page, found, self.word, self.content)
+        except NotMeant:
+            return "can't be changed so" in why
+        except Unknown:
+            return True
+        if "can't stand there" in why:
+            return any(page.raw_name(sum(begin)) for begin, _, _ in asked)
+        return bool(asked) and ("the end of the page" in why or "would be read otherwise" in why)
+
+    def is_done(self, page, written, found):
+        """Whether that was written of a page which has to be."""
+        return self.has_tags(page, written, found) if self.is_tag else self.has_splices(page, written, found)
+
+    def has_tags(self, page, written, found):
+        new = Page(written)
+        should = [changed(token, lower(self.key), self.value) if at in found else token for at, token in enumerate(page.tokens)]
+        if new.tokens != should:
+            return False
+        form, at = [], 0
+        for token in sorted(found):
+            begin, end = page.places[token]
+            new_begin, new_end = new.places[token]
+            form.append(re.escape(page.text[at:begin] + written[new_begin:new_end]))
+            at = end
+        is_read = html5lib_tokens(page.text) != page.tokens or html5lib_tokens(written) == should
+        return is_read and re.fullmatch("".join(form) + re.escape(page.text[at:]), written, re.DOTALL) is not None
+
+    def has_splices(self, page, written, found):
+        should, form = spliced(page, asked_of(page, found, self.word, self.content))
+        if Page(written).tokens != should or not form.fullmatch(written):
+            return False
+        return html5lib_tokens(page.text) != page.tokens or html5lib_tokens(written) == should
+
+
+def asked(program, words, room, pages):
+    """What is in the files of some pages after a run of the program, and what it said of each that it refused."""
+    files = [f"{room}/{number}" for number in range(len(pages))]
+    for file, page in zip(files, pages):
+        with open(file, "wb") as it:
+            it.write(page.encode())
+    run = subprocess.run([program, *words, *files], stdout=subprocess.PIPE, stderr=subprocess.PIPE, check=False)
+    refused = dict(re.findall(r"^tl: [^\n]*?/(\d+): ([^\n]*)$", run.stderr.decode(), re.MULTILINE))
+    written = []
+    for file in files:
+        with open(file, "rb") as it:
+            written.append(it.read().decode())
+    return written, {int(number): why for number, why in refused.items()}
+
+
+def judged(edit, text, written, why, tally):
+    """What is wrong with what was made of a page, or None."""
+    page = Page(text)
+    found = page.found(edit.read)
+    is_tagged = all(page.tokens[it][0] == "start" for it in found)
+    tally["edits"] += 1
+    tally["edits of what is found"] += bool(found)
+    if why:
+        tally[f"{edit.word}: refused: " + re.sub(r"\d+", "N", why)] += 1
+        return None if written == text and edit.is_refused(page, found, why) else f"refused: {why}"
+    if not is_tagged:
+        return "not refused"
+    try:
+        return None if edit.is_done(page, written, found) else "something else is written"
+    except Unknown:
+        tally["edits that the plain reader doesn't know"] += 1
+        return None
+    except NotMeant:
+        return "not refused"
+
+
+def compared(program, edit, pages, room, tally):
+    """Compares an edit of some pages. How many differ."""
+    written, refused = asked(program, edit.words(), room, pages)
+    differ = 0
+    for number, text in enumerate(pages):
+        why = judged(edit, text, written[number], refused.get(number), tally)
+        if why:
+            differ += 1
+            print(f"differs: {edit.words()!r} of {text!r}: {why}: {written[number]!r}", flush=True)
+    return differ
+
+
+def main(parser, words):
+    parser.add_argument("folders", nargs="*", metavar="FOLDER")
+    parser.add_argument("--program", metavar="FILE")
+    parser.add_argument("--edits", type=int, default=10000, metavar="N")
+    parser.add_argument("--words", default=",".join(WORDS))
+    parser.add_argument("--limit", type=int, default=200, metavar="N", help="so many pages of folders at most")
+    parser.add_argument("--seed", type=int, default=1, metavar="N")
+    given = parser.parse_args(words)
+    program = os.path.abspath(given.program or gate_build("tl"))
+    chance, tally, differ = random.Random(given.seed), Counter(), 0
+    with tempfile.TemporaryDirectory() as room:
+        while tally["edits"] < given.edits:
+            pages = [made_page(chance) for _ in range(BATCH)]
+            differ += compared(program, Edit(chance, given.words.split(",")), pages, room, tally)
+        differ += compared_trees(program, given.folders, given.words.split(","), given.limit, room, tally)
+    for what, count in sorted(tally.items()):
+        print(f"{count} {what}")
+    print(f"{differ} differ")
+    return 1 if differ else 0
