@@ -26,6 +26,7 @@ from . import html_program, markup, misnested
 from .css import definition
 from .edit_model import NotMeant, Page, Unknown, asked_of, changed, spliced
 from .edit_trees import compared_trees
+from .html_form import RAW
 from .html_tokenizer import lower
 
 # So many pages a run of the program.
@@ -67,6 +68,13 @@ def html5lib_tokens(text):
         elif kind == "Doctype":
             out.append(("doctype",))
     return out
+
+
+def is_read_so(page, written, tokens):
+    """Whether html5lib reads these tokens, where it reads the page as the plain reader does. Its tokenizer alone knows no raw texts."""
+    if any(it[0] == "start" and it[1] in RAW for it in [*page.tokens, *tokens]):
+        return True
+    return html5lib_tokens(page.text) != page.tokens or html5lib_tokens(written) == tokens
 
 
 def made_page(chance):
@@ -138,14 +146,14 @@ class Edit:
             new_begin, new_end = new.places[token]
             form.append(re.escape(page.text[at:begin] + written[new_begin:new_end]))
             at = end
-        is_read = html5lib_tokens(page.text) != page.tokens or html5lib_tokens(written) == should
-        return is_read and re.fullmatch("".join(form) + re.escape(page.text[at:]), written, re.DOTALL) is not None
+        form.append(re.escape(page.text[at:]))
+        return re.fullmatch("".join(form), written, re.DOTALL) is not None and is_read_so(page, written, should)
 
     def has_splices(self, page, written, found):
         should, form = spliced(page, asked_of(page, found, self.word, self.content))
         if Page(written).tokens != should or not form.fullmatch(written):
             return False
-        return html5lib_tokens(page.text) != page.tokens or html5lib_tokens(written) == should
+        return is_read_so(page, written, should)
 
 
 def asked(program, words, room, pages):
