@@ -17,7 +17,7 @@
  *   TL_NO_ROOM         the answer has `*needed` items, which is more than `room`: lend as many and call again
  *
  * With all but TL_DONE `out` is as it was. But for TL_OUT_OF_MEMORY what is lent, `room` and the document determine all of it: this is proved,
- * for all bytes and each document that the calls made.
+ * for all bytes and each document that the calls made, but for when `tl_patch_css` is refused.
  *
  * Lengths     are in bytes, also of texts. Nothing ends with a byte 0, and texts may hold some.
  * Texts       are UTF-8, those that come out too.

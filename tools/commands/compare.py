@@ -1,7 +1,7 @@
 """Compares the programs with others, on made-up pages and on pages in folders.
 
     ./x compare check ..        what `tlq` writes, and its status, with a plain reader written from docs/GRAMMAR.md alone
-    ./x compare edits ..        what `tl set` and `tl unset` make of pages with what a plain reader, and html5lib, expect of them
+    ./x compare edits ..        what the words of `tl` that edit pages make of them with what a plain reader expects, and html5lib
     ./x compare browser ..      what Chromium runs and builds of pages as they stand, and as `tl sanitize` prints them
     ./x compare html ..         a tokenizer written from the HTML standard alone with that of html5lib; tables of names with Python's;
                                 the forms of pages with a model, and with the trees of the standard's own tests
