@@ -5,6 +5,7 @@ use tl::{NodeHandle, ParserOptions, SummaryOf, TagOf, VDom};
 use tl_css::parse;
 use tl_css_select::document::select;
 use tl_css_select::forest::SelectError;
+use tl_css_select::known_forest::{Forest, FreshDocument};
 
 static PAGE: &str = "<a></a><b></b><i></i>";
 
@@ -44,10 +45,22 @@ fn failure(alloc: Global, document: &VDom<'static>) -> Option<SelectError> {
     }
 }
 
+// The same of a look alone.
+fn look(alloc: Global, document: &VDom<'static>) -> Option<SelectError> {
+    match Forest::new(alloc, document) {
+        Ok(_) => None,
+        Err(error) => Some(error),
+    }
+}
+
 fn answer(alloc: Global, number: u32, child: u32) -> Result<Option<SelectError>, Fail> {
     let mut document = tl::parse(alloc, PAGE, ParserOptions::new())?;
     push(&mut document, number, child)?;
-    Ok(failure(alloc, &document))
+    let failure = failure(alloc, &document);
+    if look(alloc, &document) != failure {
+        return Err(Fail::from("the look answers otherwise"));
+    }
+    Ok(failure)
 }
 
 // A node that is put under two.
@@ -66,5 +79,26 @@ fn tables_are_looked_at(rt: HostRuntime) -> Result<(), Fail> {
     }
     let twice = answer_twice(rt.alloc())?;
     assert!(rt; twice == Some(SelectError::NotForest));
+    Ok(())
+}
+
+// How many tags a selector finds in a page that was just read, and again.
+fn count_fresh(alloc: Global, selector: &str) -> Result<(usize, usize), Fail> {
+    let Ok(selector) = parse(alloc, selector) else {
+        return Err(Fail::from("no selector"));
+    };
+    let document = FreshDocument::parse(alloc, PAGE, ParserOptions::new())?;
+    let forest = document.forest();
+    let found = forest.select(alloc, &selector)?;
+    let decoded = forest.select_decoded(alloc, &selector)?;
+    Ok((found.len(), decoded.len()))
+}
+
+#[test]
+fn fresh_documents_are_forests(rt: HostRuntime) -> Result<(), Fail> {
+    for (selector, wanted) in &[("*", 3usize), ("b", 1), ("b ~ i", 1), ("i ~ b", 0)] {
+        let counts = count_fresh(rt.alloc(), selector)?;
+        assert!(rt; counts == (*wanted, *wanted), "{selector}");
+    }
     Ok(())
 }
