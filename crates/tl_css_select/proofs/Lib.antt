@@ -24,4 +24,5 @@ pub mod Spellings
 pub mod PlainWords
 pub mod Plain
 pub mod Compounds
+pub mod Narrowed
 pub mod Seen

@@ -9,4 +9,5 @@ pub mod Spelling
 pub mod Decoded
 pub mod Plain
 pub mod Compound
+pub mod Complex
 pub mod Seen

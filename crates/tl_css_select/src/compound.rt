@@ -68,7 +68,8 @@ pub fn is_compound(steps: &[Step]) -> bool
     !steps.is_empty()
 }
 
-fn test_in(step: &Step) -> Option<&Test>
+/// The test of a step that is one.
+pub fn test_in(step: &Step) -> Option<&Test>
     ensures { option_copied result ≡ test_in step.now }
 {
     match step {

@@ -2,6 +2,7 @@
 #![tactic(auto)]
 
 mod columns;
+mod complex;
 mod compound;
 mod decoded;
 pub mod document;

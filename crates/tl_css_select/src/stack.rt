@@ -9,6 +9,7 @@ ghost use Rattle.tl_css_select.specs.Columns.{AreColumns, AreMarks, AreNumbers, 
 ghost use Rattle.tl_css_select.specs.Kin.{AreKin, AreLinksOf, HasLinks, links_of};
 
 use crate::columns::{meet, relatives, terms, test_marks, test_marks_among, unite, unmarked_tags};
+use crate::complex::has_unmet_test;
 use crate::kin::Kin;
 use crate::links::is_marked;
 use crate::styled::Styled;
@@ -261,6 +262,10 @@ pub fn matches<N: Styled>(
     ensures { IfOk result (λ ns. AreFound (map N.node nodes.now) selector.now ns.items) }
 {
     let steps = selector.steps();
+    let unmet = has_unmet_test(alloc, nodes, steps)?;
+    if unmet {
+        return Ok(Vec::new(alloc));
+    }
     let kin = Kin::new(alloc, nodes, steps)?;
     let marks = marks(alloc, nodes, &kin, steps)?;
     let numbers = numbers(alloc, &marks)?;

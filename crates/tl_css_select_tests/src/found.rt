@@ -20,7 +20,7 @@ const LINKS: &str = "<a href=\"http://x.y/a.png\" title=\"One Two\">1</a><a HREF
 // A page, a selector, and the numbers of the tags where it holds. Texts and comments have numbers
 // too.
 #[rattlefmt::skip]
-static ROWS: [(&str, &str, &str); 138] = [
+static ROWS: [(&str, &str, &str); 144] = [
     // Names, ids and classes.
     (LIST, "*", "0 1 3 5 7 9 "),
     (LIST, "LI", "1 3 5 7 9 "),
@@ -56,6 +56,13 @@ static ROWS: [(&str, &str, &str); 138] = [
     (MIXED, "p > p", ""),
     (MIXED, "div + div", "17 "),
     (MIXED, "* > *", "1 3 6 8 10 12 13 15 "),
+    // A part that holds nowhere.
+    (DEEP, "ol p", ""),
+    (DEEP, "section ol", ""),
+    (DEEP, "ol, p", "3 7 10 "),
+    (DEEP, "p:not(ol p)", "3 7 10 "),
+    (DEEP, "p:not(ol)", "3 7 10 "),
+    (DEEP, ":is(ol, div) > p", "3 10 "),
     // Lists, and pseudo-classes that hold lists.
     (LIST, ".b, ul", "0 3 "),
     (MIXED, "h1, h2, span", "1 8 12 15 "),

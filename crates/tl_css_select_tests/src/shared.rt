@@ -82,6 +82,21 @@ fn tables_are_looked_at(rt: HostRuntime) -> Result<(), Fail> {
     Ok(())
 }
 
+// A document as it was read, with a handle pushed.
+fn answer_edited(alloc: Global) -> Result<Option<SelectError>, Fail> {
+    let fresh = FreshDocument::parse(alloc, PAGE, ParserOptions::new())?;
+    let mut document = fresh.into_document();
+    push(&mut document, 1, 0)?;
+    Ok(look(alloc, &document))
+}
+
+#[test]
+fn fresh_documents_are_edited(rt: HostRuntime) -> Result<(), Fail> {
+    let answer = answer_edited(rt.alloc())?;
+    assert!(rt; answer == Some(SelectError::NotForest));
+    Ok(())
+}
+
 // How many tags a selector finds in a page that was just read, and again.
 fn count_fresh(alloc: Global, selector: &str) -> Result<(usize, usize), Fail> {
     let Ok(selector) = parse(alloc, selector) else {
