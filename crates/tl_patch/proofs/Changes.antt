@@ -39,6 +39,7 @@ added : (tag key value : List ℕ) (n : ℕ) → IsNameEnd false n tag → is_ke
     IsAdded tag (take n tag ++ (attribute_markup key value ++ drop n tag)) key value
 added tag key value n p k v = record {
   place = n;
+  name = p;
   bytes = refl;
   tokens = λ more lacks.
       let b : ℕ = get_or tag n 0 in

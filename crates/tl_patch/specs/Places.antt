@@ -39,10 +39,12 @@ begins_end_tag (a ∷ b ∷ c ∷ text) =
     (a == 60) && ((b == 47) && (is_ascii_alphabetic c && has_name_end text))
 begins_end_tag _ = false
 
--- new is the tag with one attribute more and each other byte as it is; where the tag lacks the key,
--- its token has the attribute in front, and all that follows is read as before
+-- new is the tag with one attribute more, right after its name, and each other byte as it is; where
+-- the tag lacks the key, its token has the attribute in front, and all that follows is read as
+-- before
 pub record IsAdded (tag new key value : List ℕ) : Type 0 where
   pub place : ℕ
+  pub name : IsNameEnd false place tag
   pub bytes : new ≡ take place tag ++ (attribute_markup key value ++ drop place tag)
   pub tokens : (more : List ℕ) → FirstLacks key (emitted (at data_state) (tag ++ more)) →
       emitted (at data_state) (new ++ more)

@@ -25,7 +25,7 @@ value_is (double_quotes key value) tag = refl
 value_is (single_quotes key value) tag = refl
 value_is (no_quotes key value) tag = refl
 
-inner_is : (i : Inside) (tag : OpenTag) (b : ℕ) → step (fill i tag) b ≡ applied tag (inner i b)
+pub inner_is : (i : Inside) (tag : OpenTag) (b : ℕ) → step (fill i tag) b ≡ applied tag (inner i b)
 inner_is before_key tag b =
     pick tag (is_white_space b) _ _ _ _ refl (pick tag (b == 47) _ _ _ _ refl (pick tag (b == 62) _ _ _ _ refl (pick tag (b == 61) _ _ _ _ refl refl)))
 inner_is (key_of key) tag b = pick tag (ends_name b) _ _ _ _ refl (pick tag (b == 61) _ _ _ _ refl refl)
@@ -55,7 +55,7 @@ inner_is (decimal_number v code) tag b = pick tag (is_ascii_digit b) _ _ _ _ ref
 
 -- with its reconsumes
 
-all_append : (tag : OpenTag) (xs ys : List HtmlAttribute) → with_all (with_all tag xs) ys ≡ with_all tag (xs ++ ys)
+pub all_append : (tag : OpenTag) (xs ys : List HtmlAttribute) → with_all (with_all tag xs) ys ≡ with_all tag (xs ++ ys)
 all_append tag [] ys = refl
 all_append tag (x ∷ xs) ys = all_append (with_attribute tag x.0 x.1) xs ys
 
@@ -78,7 +78,7 @@ settled_inner (suc n) tag (stays true i more) b =
 settled_inner (suc n) tag (stays false i more) b = refl
 settled_inner (suc n) tag (ends closes more) b = settled_at_once (suc n) (tag_emitted (with_all tag more) closes) b (emitted_at_once (with_all tag more) closes)
 
-byte_is : (passed : Bool) (i : Inside) (tag : OpenTag) (b : ℕ) → byte_step passed (fill i tag) b ≡ applied tag (byte_inner passed i b)
+pub byte_is : (passed : Bool) (i : Inside) (tag : OpenTag) (b : ℕ) → byte_step passed (fill i tag) b ≡ applied tag (byte_inner passed i b)
 byte_is true i tag b = refl
 byte_is false i tag b = ap (λ (y : Step). settled 3 y (feed b)) (inner_is i tag (feed b)) ∙ settled_inner 3 tag (inner i (feed b)) (feed b)
 
@@ -106,9 +106,9 @@ reader_adding : (tag : OpenTag) (xs : List HtmlAttribute) (o : Outcome) → read
 reader_adding tag xs (still i returned more) = ap (λ (t : OpenTag). in_tag i t returned) (all_append tag xs more)
 reader_adding tag xs (ended closes more returned rest) = ap (λ (t : OpenTag). after (past t closes returned) rest) (all_append tag xs more)
 
-record IsOutcome (i : Inside) (returned : Bool) (text : List ℕ) : Type 0 where
-  tokens_are : (tag : OpenTag) → emitted (in_tag i tag returned) text ≡ emits_of tag (inner_text i returned text)
-  reader_is : (tag : OpenTag) → after (in_tag i tag returned) text ≡ reader_of tag (inner_text i returned text)
+pub record IsOutcome (i : Inside) (returned : Bool) (text : List ℕ) : Type 0 where
+  pub tokens_are : (tag : OpenTag) → emitted (in_tag i tag returned) text ≡ emits_of tag (inner_text i returned text)
+  pub reader_is : (tag : OpenTag) → after (in_tag i tag returned) text ≡ reader_of tag (inner_text i returned text)
 
 tokens_continue : (x : Inner) (returned : Bool) (text : List ℕ) → ((j : Inside) → IsOutcome j returned text) → (tag : OpenTag) →
     (applied tag x).emits ++ emitted (record { state = (applied tag x).next; after_return = returned }) text ≡ emits_of tag (continued x (λ j. inner_text j returned text) returned text)
@@ -120,7 +120,7 @@ reader_continues : (x : Inner) (returned : Bool) (text : List ℕ) → ((j : Ins
 reader_continues (stays again j more) returned text later tag = (later j).reader_is (with_all tag more) ∙ reader_adding tag more (inner_text j returned text)
 reader_continues (ends closes more) returned text later tag = refl
 
-outcome_is : (text : List ℕ) (i : Inside) (returned : Bool) → IsOutcome i returned text
+pub outcome_is : (text : List ℕ) (i : Inside) (returned : Bool) → IsOutcome i returned text
 unfolding read
 outcome_is [] i returned = record { tokens_are = λ tag. refl; reader_is = λ tag. refl }
 outcome_is (b ∷ text) i returned = record {

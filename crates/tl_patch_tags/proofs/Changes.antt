@@ -1,5 +1,5 @@
 -- A tag with a change, by what both say.
-use Rattle.std.proofs.Common.{◌≡◌, ℕ, List, [], ◌∷◌, Bool, true, false, map, ap, sym, subst, ◌∙◌}
+use Rattle.std.proofs.Common.{◌≡◌, ℕ, List, [], ◌∷◌, Bool, true, map, ap, sym, subst, ◌∙◌}
 use Rattle.tl_html_spec.specs.HtmlTokenizer.{HtmlToken, StartTag}
 use Rattle.tl_html_spec.specs.Pieces.{Piece}
 use Rattle.tl_html_tokens.specs.Kinds.{IsStartTag}
@@ -9,11 +9,10 @@ use Rattle.tl_html_tokens.specs.declared.mode.Mode.TheVariants as mode
 use Rattle.tl_html_tags.specs.Parts.{Parts, attributes_of, name_of, start_tag}
 use Rattle.std.specs.List.{All}
 use Rattle.tl_patch_spec.specs.Splices.{Splice}
-use Rattle.tl_patch_spec.specs.Markup.{is_key, is_name, is_without_nul, value_markup}
-use Rattle.tl_patch_spec.specs.Patches.{IsNamed}
+use Rattle.tl_patch_spec.specs.Markup.{is_name, is_without_nul, value_markup}
 use Rattle.tl_patch_spec.specs.TagChanges.{Rename, Set, TagChange, Unset, changed_token}
-use Rattle.tl_patch_tags.specs.StartTags.{IsChanged, IsFirst, IsPut, IsRenamed, IsSpliced, IsStartTagOf, have_key, with_other_keys, with_value_at}
-use Rattle.tl_patch_tags.proofs.Keys.{first_set, fresh_set, key_is, name_is, others_left}
+use Rattle.tl_patch_tags.specs.StartTags.{IsChanged, IsFirst, IsPut, IsRenamed, IsSpliced, IsStartTagOf, with_other_keys, with_value_at}
+use Rattle.tl_patch_tags.proofs.Keys.{first_set, name_is, others_left}
 use Rattle.tl_patch_tags.proofs.Values.{value_is}
 
 first_tokens : List Piece → List HtmlToken
@@ -41,12 +40,6 @@ pub set_at : (name key value : List ℕ) (ps ws : List (List ℕ × List ℕ)) (
     start_tag (parts_of name ws closes) ≡ changed_token (Set key value) (start_tag (parts_of name ps closes))
 set_at name key value ps ws closes n e f v =
     ap (λ xs. StartTag (name_of name) xs closes) (ap attributes_of e ∙ first_set ps n key value (value_markup value) f (value_is value v))
-
-pub set_first : (name key value : List ℕ) (ps ws : List (List ℕ × List ℕ)) (closes : Bool) → ws ≡ (key, value_markup value) ∷ ps →
-    have_key key ps ≡ false → is_key key ≡ true → is_without_nul value ≡ true →
-    start_tag (parts_of name ws closes) ≡ changed_token (Set key value) (start_tag (parts_of name ps closes))
-set_first name key value ps ws closes e n k v =
-    ap (λ xs. StartTag (name_of name) xs closes) (ap attributes_of e ∙ fresh_set ps key value (value_markup value) n (key_is key k) (value_is value v))
 
 pub unset_all : (name key : List ℕ) (ps ws : List (List ℕ × List ℕ)) (closes : Bool) → ws ≡ with_other_keys key ps →
     start_tag (parts_of name ws closes) ≡ changed_token (Unset key) (start_tag (parts_of name ps closes))

@@ -1,21 +1,21 @@
 -- The attributes of a token with a change, where those that stand in the tag have it.
-use Rattle.std.proofs.Common.{◌≡◌, ℕ, suc, ◌+◌, Bool, true, false, not, ◌||◌, ◌&&◌, ◌==◌, List, [], ◌∷◌, ◌++◌, take, drop, map, refl, ap, ap₂, sym, ◌∙◌, inl, inr, arith, if◌then◌else◌}
+use Rattle.std.proofs.Common.{◌≡◌, ℕ, zero, suc, ◌+◌, ◌<◌, length, true≢false, Bool, true, false, not, ◌||◌, ◌&&◌, ◌==◌, List, [], ◌∷◌, ◌++◌, take, drop, map, refl, ap, ap₂, sym, ◌∙◌, inl, inr, arith, if◌then◌else◌}
 use Rattle.std.specs.Char.{to_ascii_lowercase}
 use Rattle.std.specs.List.{filter, list_any, list_all}
 use Rattle.std.specs.Str.{bytes_eq}
 use Rattle.std.proofs.Math.Seq.{split_at}
-use Rattle.std.proofs.lemmas.Bool.{and_parts, cases_Bool, eqb-true, not-true}
+use Rattle.std.proofs.lemmas.Bool.{and_parts, cases_Bool, eqb-true, not-true, or_left, or_right}
 use Rattle.std.proofs.lemmas.List.{map-append}
 use Rattle.std.proofs.lemmas.List.Folds.{list_any-append}
 use Rattle.std.proofs.lemmas.Slice.Eq.{bytes_eq-Decides}
 use Rattle.tl_html_spec.specs.HtmlTokenizer.{HtmlAttribute, OpenTag, char_of, ends_name, new_tag, replacement, with_attribute}
 use Rattle.tl_html_tags.specs.Parts.{attribute_of, attributes_of, name_of, value_of, with_attributes}
 use Rattle.std.specs.Char.{is_ascii_alphabetic}
-use Rattle.tl_patch_spec.specs.Markup.{is_key, is_key_byte, is_name, is_name_byte}
+use Rattle.tl_patch_spec.specs.Markup.{is_name, is_name_byte}
 use Rattle.tl_patch_spec.specs.TagChanges.{has_attribute, has_key, with_key, without_key}
 use Rattle.tl_patch_spec.proofs.Inside.{with_all}
-use Rattle.tl_patch_spec.proofs.Sets.{adding_if, attribute_is, fresh, has_all, has_fresh, neither, revalue_all, revalued, with_key_is}
-use Rattle.tl_patch_spec.proofs.Added.{front_all, fronted_first, other_way, with_key_first}
+use Rattle.tl_patch_spec.proofs.Sets.{adding_if, attribute_is, fresh, has_all, has_fresh, has_kept, neither, revalue_all, revalued, with_key_is}
+use Rattle.tl_patch_spec.proofs.Added.{other_way}
 use Rattle.tl_patch_spec.proofs.Unset.{drop_attribute, dropped, dropped_same}
 use Rattle.tl_patch_tags.specs.StartTags.{IsFirst, have_key, pair_at, with_other_keys, with_value_at}
 use Rattle.tl_patch_tags.specs.StartTags.{has_key as has_raw_key}
@@ -63,16 +63,6 @@ set_made : (key old new : List ℕ) (front back : List HtmlAttribute) → list_a
 set_made key old new front back n =
     ap (λ (t : OpenTag). t.attributes) (set_all key old new (new_tag false) front back refl n)
     ∙ sym (with_key_is key new (made (front ++ (key, old) ∷ back)) (set_has key old (new_tag false) front back refl n))
-
--- one more in front
-
-added_made : (key value : List ℕ) (xs : List HtmlAttribute) → list_any (has_key key) xs ≡ false → made ((key, value) ∷ xs) ≡ with_key key value (made xs)
-added_made key value xs n =
-    let t : OpenTag = new_tag false in
-    let lacks : has_attribute key (with_all t xs) ≡ false = all_lack key t xs refl n in
-    ap (λ (u : OpenTag). (with_all u xs).attributes) (fronted_first t key value refl)
-    ∙ ap (λ (u : OpenTag). u.attributes) (front_all (key, value) t xs lacks)
-    ∙ sym (with_key_first key value (made xs) lacks)
 
 -- those with a key gone
 
@@ -127,39 +117,11 @@ first_set ps n key value markup f e =
     ∙ ap (λ xs. with_key key value (made xs)) (sym was)
     ∙ ap (with_key key value) (sym (made_is ps))
 
-pub fresh_set : (ps : List Pair) (key value markup : List ℕ) → have_key key ps ≡ false → name_of key ≡ key → value_of markup ≡ value →
-    attributes_of ((key, markup) ∷ ps) ≡ with_key key value (attributes_of ps)
-fresh_set ps key value markup n k e =
-    made_is ((key, markup) ∷ ps)
-    ∙ ap₂ (λ (u v : List ℕ). made ((u, v) ∷ map attribute_of ps)) k e
-    ∙ added_made key value (map attribute_of ps) (keys_are key ps ∙ n)
-    ∙ ap (with_key key value) (sym (made_is ps))
-
 pub others_left : (ps : List Pair) (key : List ℕ) → attributes_of (with_other_keys key ps) ≡ without_key key (attributes_of ps)
 others_left ps key =
     made_is (with_other_keys key ps) ∙ ap made (others_are key ps) ∙ unset_made key (map attribute_of ps) ∙ ap (without_key key) (sym (made_is ps))
 
--- a key that is written is itself
-
-key_byte : (b : ℕ) → is_key_byte b ≡ true → char_of (to_ascii_lowercase b) ≡ b ∷ []
-key_byte b h =
-    let p = and_parts (not (b == 13)) (not (ends_name b) && (not (b == 61) && (not (b == 0) && (to_ascii_lowercase b == b)))) h in
-    let q = and_parts (not (ends_name b)) (not (b == 61) && (not (b == 0) && (to_ascii_lowercase b == b))) p.1 in
-    let r = and_parts (not (b == 61)) (not (b == 0) && (to_ascii_lowercase b == b)) q.1 in
-    let l = and_parts (not (b == 0)) (to_ascii_lowercase b == b) r.1 in
-    ap char_of (eqb-true (to_ascii_lowercase b) b l.1) ∙ ap (λ (c : Bool). if c then replacement else b ∷ []) (not-true (b == 0) l.0)
-
-key_bytes : (key : List ℕ) → list_all is_key_byte key ≡ true → name_of key ≡ key
-key_bytes [] h = refl
-key_bytes (b ∷ key) h =
-    let c = and_parts (is_key_byte b) (list_all is_key_byte key) h in
-    ap₂ (λ (x y : List ℕ). x ++ y) (key_byte b c.0) (key_bytes key c.1)
-
-pub key_is : (key : List ℕ) → is_key key ≡ true → name_of key ≡ key
-key_is [] h = refl
-key_is (b ∷ key) h = key_bytes (b ∷ key) h
-
--- and so is a name
+-- a name that is written is itself
 
 name_byte : (b : ℕ) → is_name_byte b ≡ true → char_of (to_ascii_lowercase b) ≡ b ∷ []
 name_byte b h =
@@ -177,3 +139,35 @@ name_bytes (b ∷ name) h =
 pub name_is : (name : List ℕ) → is_name name ≡ true → name_of name ≡ name
 name_is [] h = refl
 name_is (b ∷ name) h = name_bytes (b ∷ name) (and_parts (is_ascii_alphabetic b) (list_all is_name_byte (b ∷ name)) h).1
+
+-- a token lacks a key that doesn't stand in its tag
+pub lacks_parts : (key : List ℕ) (ps : List Pair) → have_key key ps ≡ false → list_any (has_key key) (attributes_of ps) ≡ false
+lacks_parts key ps n = ap (list_any (has_key key)) (made_is ps) ∙ all_lack key (new_tag false) (map attribute_of ps) refl (keys_are key ps ∙ n)
+
+-- and has one that does
+
+has_added : (key : List ℕ) (t : OpenTag) (k v : List ℕ) → bytes_eq k key ≡ true → has_attribute key (with_attribute t k v) ≡ true
+has_added key t k v e =
+    let same : k ≡ key = (bytes_eq-Decides k key).0 e in
+    elim (cases_Bool (has_attribute key t)) [
+      | inl y ↦ has_kept key t k v y
+      | inr n ↦ ap (λ q. has_attribute key (with_attribute t q v)) same ∙ has_fresh key v t n
+    ]
+
+all_have : (key : List ℕ) (t : OpenTag) (xs : List HtmlAttribute) → list_any (has_key key) xs ≡ true → has_attribute key (with_all t xs) ≡ true
+all_have key t [] h = absurd (true≢false (sym h))
+all_have key t (a ∷ xs) h = elim (cases_Bool (has_key key a)) [
+  | inl y ↦ has_all key (with_attribute t a.0 a.1) xs (has_added key t a.0 a.1 y)
+  | inr n ↦ all_have key (with_attribute t a.0 a.1) xs (sym (ap (λ (c : Bool). c || list_any (has_key key) xs) n) ∙ h)
+]
+
+pub has_parts : (key : List ℕ) (ps : List Pair) → have_key key ps ≡ true → list_any (has_key key) (attributes_of ps) ≡ true
+has_parts key ps y = ap (list_any (has_key key)) (made_is ps) ∙ all_have key (new_tag false) (map attribute_of ps) (keys_are key ps ∙ y)
+
+any_at : (key : List ℕ) (ps : List Pair) (n : ℕ) → n < length ps → has_raw_key key (pair_at n ps) ≡ true → have_key key ps ≡ true
+any_at key [] n l h = absurd (omega arith)
+any_at key (a ∷ ps) zero l h = or_left (has_raw_key key a) (have_key key ps) h
+any_at key (a ∷ ps) (suc n) l h = or_right (has_raw_key key a) (have_key key ps) (any_at key ps n (omega arith) h)
+
+pub first_there : (key : List ℕ) (n : ℕ) (ps : List Pair) → IsFirst key n ps → have_key key ps ≡ true
+first_there key n ps f = any_at key ps n f.within f.is

@@ -4,3 +4,8 @@ pub mod Keys
 pub mod Values
 pub mod Changes
 pub mod Puts
+pub mod Ended
+pub mod Starts
+pub mod Begins
+pub mod Fresh
+pub mod Stands

@@ -2,7 +2,8 @@
 use Rattle.std.specs.Prelude.{◌≡◌, ◌<◌, ◌⊎◌, ℕ, ◌+◌, ◌==◌, ◌&&◌, Bool, true, false, not, List, [], ◌∷◌, ◌++◌, length, take, drop, map, codes, slice_index_or, ⊤}
 use Rattle.std.specs.List.{All, filter, list_any}
 use Rattle.std.specs.Str.{bytes_eq}
-use Rattle.tl_html_spec.specs.HtmlTokenizer.{HtmlToken}
+use Rattle.tl_html_spec.specs.HtmlTokenizer.{HtmlToken, StartTag}
+use Rattle.tl_html_spec.specs.Pieces.{Piece, pieces_of}
 use Rattle.tl_html_tokens.specs.Kinds.{IsStartTag}
 use Rattle.tl_html_tokens.specs.Whole.{IsWhole}
 use Rattle.tl_html_tokens.specs.declared.mode.Mode.{Mode}
@@ -15,10 +16,39 @@ use Rattle.tl_patch_spec.specs.Markup.{attribute_markup, quoted_value}
 use Rattle.tl_patch_spec.specs.Splices.{Splice, with_splices}
 use Rattle.tl_patch_spec.specs.Patches.{IsNamed}
 use Rattle.tl_patch_spec.specs.TagChanges.{Rename, Set, TagChange, Unset, changed_token}
+use Rattle.tl_patch_spec.specs.TagChanges as Said
 
 -- bytes are a start tag by themselves, which says this
 pub record IsStartTagOf (bytes : List ℕ) (parts : Parts) : Type 0 where
   pub whole : IsWhole mode.Data bytes (start_tag parts ∷ [])
+
+-- whether tokens are one start tag
+abbrev pub is_start : List HtmlToken → Bool
+is_start (StartTag name attributes closes ∷ []) = true
+is_start _ = false
+
+-- whether a text is one piece, which is a start tag
+abbrev pub are_one_start : List Piece → Bool
+are_one_start (p ∷ []) = is_start p.tokens
+are_one_start _ = false
+
+-- whether bytes are a start tag by themselves
+abbrev pub is_start_tag : List ℕ → Bool
+is_start_tag bytes = are_one_start (pieces_of bytes)
+
+-- whether tokens are one start tag without this key
+abbrev pub lacks : List ℕ → List HtmlToken → Bool
+lacks key (StartTag name attributes closes ∷ []) = not (list_any (Said.has_key key) attributes)
+lacks key _ = false
+
+-- whether a text is one piece, which is so
+abbrev pub is_one_without : List ℕ → List Piece → Bool
+is_one_without key (p ∷ []) = lacks key p.tokens
+is_one_without key _ = false
+
+-- whether bytes are a start tag by themselves that lacks a key
+abbrev pub is_tag_without : List ℕ → List ℕ → Bool
+is_tag_without key bytes = is_one_without key (pieces_of bytes)
 
 pub record IsStartTagAlone (bytes : List ℕ) : Type 0 where
   pub tokens : List HtmlToken

@@ -1,18 +1,18 @@
 //! Start tags with a key set or unset.
-ghost use Rattle.std.specs.Prelude.{◌≡◌, ◌++◌, IfOk, IfSome, OnOk, false, map, true};
+ghost use Rattle.std.specs.Prelude.{◌≡◌, ◌&&◌, ◌++◌, IfOk, IfSome, OnOk, false, is_some, map, true};
 ghost use Rattle.tl_html_tags.specs.Parts.{parts_view};
 ghost use Rattle.tl_patch.specs.View.{splice_view};
 ghost use Rattle.tl_patch_spec.specs.Markup.{attribute_markup, is_key, is_without_nul, quoted_value};
 ghost use Rattle.tl_patch_spec.specs.TagChanges.{Set, Unset};
-ghost use Rattle.tl_patch_tags.specs.StartTags.{IsChanged, IsFirst, IsSpliced, IsStartTagOf, IsValuePut, have_key};
+ghost use Rattle.tl_patch_tags.specs.StartTags.{IsChanged, IsFirst, IsSpliced, IsStartTagOf, IsValuePut, have_key, is_tag_without};
 
 use crate::cut::cuts;
-use crate::key::{first_with_key, fronted, others, revalued};
+use crate::key::{first_with_key, others, revalued};
 use crate::parts::{is_read_as, start_tag_parts};
-use crate::place::{name_end, place_at};
+use crate::place::place_at;
 use std::alloc::{AllocError, Global};
 use tl_html_tags::{AttributeParts, TagParts};
-use tl_patch::{Splice, is_key, is_value, with_splices, write_attribute, write_value};
+use tl_patch::{Splice, is_key, is_value, with_attribute, with_splices, write_value};
 
 // A tag with splices, if it is read with just these parts.
 pub(crate) fn spliced(
@@ -108,30 +108,11 @@ fn with_new_key(
     requires absent { have_key key.now (parts_view parts.now).attributes ≡ false }
     requires key { is_key key.now ≡ true }
     requires value { is_without_nul value.now ≡ true }
-    ensures { IfOk result (λ found. IfSome found (λ new.
+    ensures changed { IfOk result (λ found. IfSome found (λ new.
         IsChanged (Set key.now value.now) tag.now new.items)) }
+    ensures some { IfOk result (λ found. is_some found ≡ true) }
 {
-    let mut put = Vec::new(alloc);
-    write_attribute(key, value, &mut put)?;
-    let mut markup = Vec::new(alloc);
-    write_value(value, &mut markup)?;
-    let attribute = AttributeParts {
-        key,
-        value: markup.as_slice(),
-    };
-    let attributes = fronted(alloc, attribute, parts.attributes.as_slice())?;
-    let wanted = TagParts {
-        name: parts.name,
-        attributes,
-        closes: parts.closes,
-    };
-    let place = name_end(parts);
-    let splice = Splice {
-        from: place,
-        until: place,
-        put: put.as_slice(),
-    };
-    spliced(alloc, tag, &[splice], &wanted)
+    with_attribute(alloc, tag, key, value)
 }
 
 /// A start tag with this value at a key: in the place of the value that the first such attribute
@@ -143,8 +124,11 @@ pub fn with_value(
     key: &[u8],
     value: &[u8],
 ) -> Result<Option<Vec<u8>>, AllocError>
-    ensures { IfOk result (λ found. IfSome found (λ new.
+    ensures changed { IfOk result (λ found. IfSome found (λ new.
         IsChanged (Set key.now value.now) tag.now new.items)) }
+    // a start tag that lacks the key gets it exactly where the key and the value can be written
+    ensures fresh { is_tag_without key.now tag.now ≡ true → IfOk result (λ found.
+        is_some found ≡ (is_key key.now && is_without_nul value.now)) }
 {
     let is_key = is_key(key);
     if !is_key {

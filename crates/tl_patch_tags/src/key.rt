@@ -103,18 +103,3 @@ pub(crate) fn revalued<'p>(
     copy(&attributes[number + 1..], &mut new)?;
     Ok(new)
 }
-
-// Attributes with one more, in front.
-pub(crate) fn fronted<'p>(
-    alloc: Global,
-    attribute: AttributeParts<'p>,
-    attributes: &[AttributeParts<'p>],
-) -> Result<Vec<AttributeParts<'p>>, AllocError>
-    ensures { IfOk result (λ new. map attribute_view new.items
-        ≡ attribute_view attribute.entry ∷ map attribute_view attributes.now) }
-{
-    let mut new = Vec::new(alloc);
-    new.push(attribute)?;
-    copy(attributes, &mut new)?;
-    Ok(new)
-}

@@ -1,7 +1,7 @@
 //! What a start tag says, by its own bytes.
-ghost use Rattle.std.specs.Prelude.{◌≡◌, IfOk, IfSome, true};
+ghost use Rattle.std.specs.Prelude.{◌≡◌, IfOk, IfSome, is_some, true};
 ghost use Rattle.tl_html_tags.specs.Parts.{parts_view};
-ghost use Rattle.tl_patch_tags.specs.StartTags.{IsStartTagAlone, IsStartTagOf, is_data, is_one_tag, is_start_kind, is_whole_tag};
+ghost use Rattle.tl_patch_tags.specs.StartTags.{IsStartTagOf, is_data, is_one_tag, is_start_kind, is_start_tag, is_whole_tag};
 
 use crate::alike::are_alike;
 use std::alloc::{AllocError, Global};
@@ -38,9 +38,9 @@ fn is_one_tag(tokens: &[Token], len: usize) -> bool
 }
 
 // Whether bytes are a start tag by themselves.
-#[tactic(auto, using(crate::proofs::Alone::alone))]
+#[tactic(auto, using(crate::proofs::Begins::decides))]
 fn is_start_tag(alloc: Global, bytes: &[u8]) -> Result<bool, AllocError>
-    ensures { IfOk result (λ is. is ≡ true → IsStartTagAlone bytes.now) }
+    ensures { IfOk result (λ is. is ≡ is_start_tag bytes.now) }
 {
     let all = tokens(alloc, bytes)?;
     Ok(is_one_tag(all.as_slice(), bytes.len()))
@@ -51,8 +51,9 @@ pub(crate) fn start_tag_parts(
     alloc: Global,
     bytes: &[u8],
 ) -> Result<Option<TagParts<'_>>, AllocError>
-    ensures { IfOk result (λ found. IfSome found (λ parts.
+    ensures parts { IfOk result (λ found. IfSome found (λ parts.
         IsStartTagOf bytes.now (parts_view parts))) }
+    ensures some { IfOk result (λ found. is_some found ≡ is_start_tag bytes.now) }
 {
     let is_alone = is_start_tag(alloc, bytes)?;
     if !is_alone {

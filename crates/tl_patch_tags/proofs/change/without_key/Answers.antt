@@ -19,7 +19,7 @@ returns c =
     let ps : List (List ℕ × List ℕ) = map attribute_view parts.attributes.items in
     let ws : List (List ℕ × List ℕ) = map attribute_view c.in_ok-attributes.attributes.items in
     let told : IsStartTagOf tag (parts_view parts) =
-    subst (λ (f : Option TagParts). IfSome f (λ p. IsStartTagOf tag (parts_view p))) c.in-Some.is c.in_ok-parts.ensures in
+    subst (λ (f : Option TagParts). IfSome f (λ p. IsStartTagOf tag (parts_view p))) c.in-Some.is c.in_ok-parts.ensures.parts in
     let e : ws ≡ with_other_keys key ps =
     c.in_ok-attributes.ensures ∙ ap (λ (xs : List AttributeParts). with_other_keys key (map attribute_view xs)) c.as_slice.ensures.value in
     let put : All IsCut (map splice_view c.as_slice-2.result.now) =

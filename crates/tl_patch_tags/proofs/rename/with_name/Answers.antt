@@ -13,7 +13,7 @@ returns c =
     let name : List ℕ = c.args.name.now in
     let parts : TagParts = c.in-Some.parts in
     let told : IsStartTagOf tag (parts_view parts) =
-    subst (λ (f : Option TagParts). IfSome f (λ p. IsStartTagOf tag (parts_view p))) c.in-Some.is c.in_ok-parts.ensures in
+    subst (λ (f : Option TagParts). IfSome f (λ p. IsStartTagOf tag (parts_view p))) c.in-Some.is c.in_ok-parts.ensures.parts in
     let is : is_name name ≡ true = sym c.is_name-is_name.ensures ∙ c.if-not-is_name.false in
     found c.spliced.result _ _
     (λ new r. renamed name tag new.items _ parts.name.now (map attribute_view parts.attributes.items) parts.closes refl is told r)
