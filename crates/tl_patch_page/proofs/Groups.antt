@@ -1,8 +1,9 @@
 -- Patches of one place, one by one.
 use Rattle.std.proofs.Common.{◌≡◌, ℕ, ◌+◌, ◌-◌, ◌<◌, ◌≤◌, List, [], ◌∷◌, ◌++◌, length, take, drop, get_or, map, ap, sym, subst, ◌∙◌, arith}
 use Rattle.std.specs.List.{All}
-use Rattle.std.proofs.lemmas.List.{get_or-drop, length-drop, map-append, take_more}
+use Rattle.std.proofs.lemmas.List.{drop_all, drop_more, get_or-drop, length-drop, map-append, take_more}
 use Rattle.std.proofs.lemmas.List.Elements.{All-push}
+use Rattle.tl_patch_page.specs.Steps.{BeginElsewhere}
 use Rattle.tl_patch_page.specs.View.{PlacedChange, patch_view}
 use Rattle.tl_patch_page.specs.declared.change.TagPatch.{TagPatch}
 
@@ -23,3 +24,9 @@ group_more xs from end place d o l h e =
     subst (λ (ys : List TagPatch). All (IsAt place) (map patch_view ys)) (sym all)
     (subst (All (IsAt place)) (sym (map-append patch_view (take k (drop from xs)) (get_or xs end d ∷ [])))
     (All-push (IsAt place) (map patch_view (take k (drop from xs))) (patch_view (get_or xs end d)) h e))
+
+pub group_ends : (xs : List TagPatch) (end place : ℕ) → length xs ≤ end → BeginElsewhere place (map patch_view (drop end xs))
+group_ends xs end place l = subst (λ (ys : List TagPatch). BeginElsewhere place (map patch_view ys)) (sym (drop_all end xs l)) tt
+
+pub group_stops : (xs : List TagPatch) (end place : ℕ) (d : TagPatch) → end < length xs → ((get_or xs end d).start ≡ place → ⊥) → BeginElsewhere place (map patch_view (drop end xs))
+group_stops xs end place d l h = subst (λ (ys : List TagPatch). BeginElsewhere place (map patch_view ys)) (sym (drop_more xs end d l)) h

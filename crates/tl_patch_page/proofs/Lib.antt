@@ -3,5 +3,9 @@ pub mod Made
 pub mod Index
 pub mod Groups
 pub mod Tags
+pub mod Runs
 pub mod Patched
 pub mod Asked
+pub mod Written
+pub mod Reasons
+pub mod Same

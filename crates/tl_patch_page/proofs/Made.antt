@@ -1,27 +1,21 @@
 -- What becomes of one piece.
-use Rattle.std.proofs.Common.{◌≡◌, ℕ, Bool, List, [], ◌∷◌, map, refl, ap, ap₂, sym, subst, ◌∙◌, inl, inr}
-use Rattle.tl_html_spec.specs.HtmlTokenizer.{Character, CommentToken, DoctypeToken, EndTag, HtmlToken, StartTag, State, data_state}
-use Rattle.tl_html_spec.specs.Pieces.{Piece, piece}
-use Rattle.tl_html_tokens.specs.Kinds.{IsKind, IsStartTag}
-use Rattle.tl_html_tokens.specs.Modes.{state_of}
-use Rattle.tl_html_tokens.specs.Tokens.{IsToken}
-use Rattle.tl_html_tokens.specs.Whole.{IsWhole, bytes_at}
-use Rattle.tl_html_tokens.specs.declared.mode.Mode.{Mode}
+use Rattle.std.proofs.Common.{◌≡◌, ℕ, Bool, List, [], ◌∷◌, map, refl, ap₂, sym, subst, ◌∙◌}
+use Rattle.tl_html_spec.specs.HtmlTokenizer.{Character, CommentToken, DoctypeToken, EndTag, HtmlToken, StartTag, data_state}
+use Rattle.tl_html_spec.specs.Pieces.{piece}
+use Rattle.tl_html_tokens.specs.Kinds.{IsStartTag}
+use Rattle.tl_html_tokens.specs.Whole.{IsWhole}
 use Rattle.tl_html_tokens.specs.declared.mode.Mode.TheVariants as mode
-use Rattle.tl_html_tokens.specs.declared.stage.TokenKind.{TokenKind}
-use Rattle.tl_html_tokens.specs.declared.stage.TokenKind.TheVariants as kind
-use Rattle.tl_html_tokens.specs.declared.token.Token.{Token}
 use Rattle.tl_patch_page.specs.Pages.{AreMade}
-use Rattle.tl_patch_page.specs.Steps.{AreTagChanges, IsStep, kind_number, mode_number}
-use Rattle.tl_patch_page.specs.View.{PlacedChange, change_of}
-use Rattle.tl_patch_page.proofs.Says.{Says, kind_same, mode_same, same_says}
+use Rattle.tl_patch_page.specs.Asked.{IsOfAttribute}
+use Rattle.tl_patch_page.specs.Steps.{AreOfAttributes, AreTagChanges}
 use Rattle.tl_patch_spec.specs.TagChanges.{Rename, Set, TagChange, Unset, changed_token}
 use Rattle.tl_patch_tags.specs.StartTags.{IsChanged}
 use Rattle.tl_patch_tags.proofs.Changes.{whole_same}
 
-piece_is : (p q : Piece) → q.rest ≡ p.rest → q.bytes ≡ p.bytes → q.tokens ≡ p.tokens → q ≡ p
-piece_is p q r b t =
-    ap₂ (λ (x : State) (y : List ℕ). piece x y q.tokens) r b ∙ ap (λ (ts : List HtmlToken). piece p.rest p.bytes ts) t
+-- the name of a start tag
+abbrev pub name_in : List HtmlToken → List ℕ
+name_in (StartTag name attributes closes ∷ ts) = name
+name_in _ = []
 
 -- a start tag stays one
 
@@ -52,42 +46,41 @@ tag_made (c ∷ cs) a b ts us m h s k =
       tag_made cs n b vs us m.2 (ch.tokens ts h s) (start_stays c ts s) k,
     )
 
-pub step_made : (here : List PlacedChange) (page text : List ℕ) (t u : Token) (pl ql : ℕ) (p q : Piece) → IsToken page t pl p → Says t.kind t.mode p.bytes p.tokens →
-    IsToken text u ql q → Says u.kind u.mode q.bytes q.tokens → IsStep here page t text u → AreMade (map change_of here) p q
-step_made here page text t u pl ql p q h s k v x =
-    let kinds : u.kind ≡ t.kind = kind_same u.kind t.kind x.kind in
-    let modes : u.mode ≡ t.mode = mode_same u.mode t.mode x.mode in
-    let rests : q.rest ≡ p.rest = k.rest ∙ ap state_of modes ∙ sym h.rest in
-    let says : Says t.kind t.mode q.bytes q.tokens =
-    subst (λ (m : Mode). Says t.kind m q.bytes q.tokens) modes (subst (λ (n : TokenKind). Says n u.mode q.bytes q.tokens) kinds v) in
-    let made : AreTagChanges (map change_of here) p.bytes q.bytes =
-    subst (λ bs. AreTagChanges (map change_of here) bs q.bytes) (sym h.bytes) (subst (λ bs. AreTagChanges (map change_of here) (bytes_at page t) bs) (sym k.bytes) x.made) in
-    elim x.start [
-      | inl e ↦ (
-          let none : map change_of here ≡ [] = ap (map change_of) e in
-          let bytes : q.bytes ≡ p.bytes = subst (λ cs. AreTagChanges cs p.bytes q.bytes) none made in
-          subst (λ cs. AreMade cs p q) (sym none)
-          (piece_is p q rests bytes (same_says t.kind t.mode p.bytes q.tokens p.tokens (subst (λ bs. Says t.kind t.mode bs q.tokens) bytes says) s)))
-      | inr e ↦ (
-          let tag : t.kind ≡ kind.StartTag = kind_same t.kind kind.StartTag e.0 in
-          let plain : t.mode ≡ mode.Data = mode_same t.mode mode.Data e.1 in
-          let place : p.rest ≡ data_state = h.rest ∙ ap state_of plain in
-          let old : IsWhole mode.Data p.bytes p.tokens =
-          subst (λ (m : Mode). IsWhole m p.bytes p.tokens) plain (subst (λ (n : TokenKind). Says n t.mode p.bytes p.tokens) tag s) in
-          let new : IsWhole mode.Data q.bytes q.tokens =
-          subst (λ (m : Mode). IsWhole m q.bytes q.tokens) plain (subst (λ (n : TokenKind). Says n t.mode q.bytes q.tokens) tag says) in
-          let start : IsStartTag p.tokens = subst (λ (n : TokenKind). IsKind n p.tokens) tag h.kind in
-          subst (λ (r : State). AreMade (map change_of here) (piece r p.bytes p.tokens) q) (sym place)
-          (subst (λ (r : State). AreMade (map change_of here) (piece data_state p.bytes p.tokens) (piece r q.bytes q.tokens)) (sym (rests ∙ place))
-          (tag_made (map change_of here) p.bytes q.bytes p.tokens q.tokens made old start new)))
-    ]
+-- what becomes of a start tag
 
--- what is compared
+pub record Made (cs : List TagChange) (bytes : List ℕ) (ts : List HtmlToken) (new : List ℕ) : Type 0 where
+  pub tokens : List HtmlToken
+  pub whole : IsWhole mode.Data new tokens
+  pub start : IsStartTag tokens
+  pub name : name_in tokens ≡ name_in ts
+  pub made : AreMade cs (piece data_state bytes ts) (piece data_state new tokens)
 
-pub kept : (page text : List ℕ) (t u : Token) → kind_number u.kind ≡ kind_number t.kind → mode_number u.mode ≡ mode_number t.mode →
-    bytes_at text u ≡ bytes_at page t → IsStep [] page t text u
-kept page text t u k m e = record { kind = k; mode = m; start = inl refl; made = e }
+record StillMade (cs : List TagChange) (ts : List HtmlToken) (new : List ℕ) : Type 0 where
+  tokens : List HtmlToken
+  whole : IsWhole mode.Data new tokens
+  start : IsStartTag tokens
+  name : name_in tokens ≡ name_in ts
 
-pub changed_step : (here : List PlacedChange) (page text : List ℕ) (t u : Token) → kind_number u.kind ≡ kind_number t.kind → mode_number u.mode ≡ mode_number t.mode →
-    kind_number t.kind ≡ 1 → mode_number t.mode ≡ 0 → AreTagChanges (map change_of here) (bytes_at page t) (bytes_at text u) → IsStep here page t text u
-changed_step here page text t u k m a b e = record { kind = k; mode = m; start = inr (a, b); made = e }
+name_stays : (c : TagChange) (ts : List HtmlToken) → IsOfAttribute c → IsStartTag ts → name_in (map (changed_token c) ts) ≡ name_in ts
+name_stays (Set key value) (StartTag n a v ∷ []) o h = refl
+name_stays (Unset key) (StartTag n a v ∷ []) o h = refl
+name_stays (Rename new) ts o h = absurd o
+name_stays c [] o h = absurd h
+name_stays c (StartTag n a v ∷ t ∷ ts) o h = absurd h
+name_stays c (EndTag n ∷ ts) o h = absurd h
+name_stays c (Character b ∷ ts) o h = absurd h
+name_stays c (CommentToken n ∷ ts) o h = absurd h
+name_stays c (DoctypeToken ∷ ts) o h = absurd h
+
+still_made : (cs : List TagChange) (bytes new : List ℕ) (ts : List HtmlToken) → AreOfAttributes cs → AreTagChanges cs bytes new → IsWhole mode.Data bytes ts → IsStartTag ts → StillMade cs ts new
+still_made [] bytes new ts o m h s = record { tokens = ts; whole = subst (λ x. IsWhole mode.Data x ts) (sym m) h; start = s; name = refl }
+still_made (c ∷ cs) bytes new ts o m h s =
+    let us : List HtmlToken = map (changed_token c) ts in
+    let ch : IsChanged c bytes m.0 = m.1 in
+    let r = still_made cs m.0 new us o.1 m.2 (ch.tokens ts h s) (start_stays c ts s) in
+    record { tokens = r.tokens; whole = r.whole; start = r.start; name = r.name ∙ name_stays c ts o.0 s }
+
+pub made_from : (cs : List TagChange) (bytes new : List ℕ) (ts : List HtmlToken) → AreOfAttributes cs → AreTagChanges cs bytes new → IsWhole mode.Data bytes ts → IsStartTag ts → Made cs bytes ts new
+made_from cs bytes new ts o m h s =
+    let r = still_made cs bytes new ts o m h s in
+    record { tokens = r.tokens; whole = r.whole; start = r.start; name = r.name; made = tag_made cs bytes new ts r.tokens m h s r.whole }

@@ -14,9 +14,6 @@ pub enum PatchError {
     /// What is to be set in the tag at this place can't be written.
     #[error("the tag at {0} can't be changed so")]
     NotWritten(usize),
-    /// The page would be read otherwise than asked.
-    #[error("the page would be read otherwise")]
-    ReadOtherwise,
     /// Memory ran out.
     #[error("out of memory")]
     OutOfMemory,

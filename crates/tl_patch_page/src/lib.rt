@@ -2,7 +2,6 @@
 #![tactic(auto)]
 
 mod change;
-mod check;
 mod error;
 pub mod laws;
 mod page;
