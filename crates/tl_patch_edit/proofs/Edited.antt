@@ -3,7 +3,7 @@ use Rattle.std.proofs.Common.{◌≡◌, ℕ, zero, suc, ◌+◌, Bool, true, fa
 use Rattle.tl_html_spec.specs.HtmlTokenizer.{HtmlToken, html_tokens, without_mark}
 use Rattle.tl_html_spec.specs.Pieces.{Piece, pieces, placed, runs, tokens_in}
 use Rattle.tl_html_spec.proofs.Cutting.{runs_tokens, tokens_are}
-use Rattle.tl_html_tokens.specs.Kinds.{IsKind, IsStartTag}
+use Rattle.tl_html_tokens.specs.Kinds.{IsKind}
 use Rattle.tl_html_tokens.specs.Tokens.{AreTokens, AreTokensOf, mark_len}
 use Rattle.tl_html_tokens.specs.Whole.{AreWholeTags, IsWhole, bytes_at, is_tag_kind}
 use Rattle.tl_html_tokens.specs.declared.stage.TokenKind.{TokenKind}
@@ -89,15 +89,19 @@ start_of page ts place number t h s =
       start = subst (λ (k : TokenKind). IsKind k m.piece.tokens) s.kind m.kind;
     }
 
-pub asked_is : (patch : Patch) (page : List ℕ) (number : ℕ) (t : Token) (extent : Extent) (name : List ℕ) (asks : List (Splice Put)) → IsStartOf page number t →
-    extent ≡ extent_in number (elements (runs (pieces page))) → IsTagName (bytes_at page t) name → asked patch number extent name ≡ Some asks →
-    asked_of (runs (pieces page)) number patch ≡ Some asks
-asked_is patch page number t extent name asks s x n a =
+pub asked_same : (patch : Patch) (page : List ℕ) (number : ℕ) (t : Token) (extent : Extent) (name : List ℕ) → IsStartOf page number t →
+    extent ≡ extent_in number (elements (runs (pieces page))) → IsTagName (bytes_at page t) name →
+    asked_of (runs (pieces page)) number patch ≡ asked patch number extent name
+asked_same patch page number t extent name s x n =
     let ps : List Piece = runs (pieces page) in
     let named : start_name (s.piece).tokens ≡ Some name = n.named t.mode (s.piece).tokens s.whole s.start in
     ap (λ (o : Option Piece). asked_by_name patch number (extent_in number (elements ps)) (start_name (tokens_of_piece o))) s.stands
     ∙ ap₂ (λ (e : Extent) (o : Option (List ℕ)). asked_by_name patch number e o) (sym x) named
-    ∙ a
+
+pub asked_is : (patch : Patch) (page : List ℕ) (number : ℕ) (t : Token) (extent : Extent) (name : List ℕ) (asks : List (Splice Put)) → IsStartOf page number t →
+    extent ≡ extent_in number (elements (runs (pieces page))) → IsTagName (bytes_at page t) name → asked patch number extent name ≡ Some asks →
+    asked_of (runs (pieces page)) number patch ≡ Some asks
+asked_is patch page number t extent name asks s x n a = asked_same patch page number t extent name s x n ∙ a
 
 pub edited : (patch : Patch) (place number : ℕ) (page text : List ℕ) (t : Token) (asks : List (Splice Put)) (parts : List Part) → IsStartOf page number t → t.start ≡ place →
     asked_of (runs (pieces page)) number patch ≡ Some asks → ArePieces parts (runs (pieces page)) → IsSplicedPageOf asks parts page text → IsEdited patch place page text

@@ -8,4 +8,7 @@ pub mod EndTags
 pub mod Splicing
 pub mod Edited
 pub mod Starts
+pub mod Turns
 pub mod Together
+pub mod Missing
+pub mod Refusals

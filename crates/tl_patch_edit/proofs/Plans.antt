@@ -66,50 +66,59 @@ unwrap_is (Whole m) n name = refl
 unwrap_is (Implied m) n name = refl
 unwrap_is (Unclosed m) n name = refl
 
--- the splice that the code makes
+-- what the code asks for
 
-pub removes : (e : Extent) (n u : ℕ) (name : List ℕ) → until_of n e ≡ Some u → asked Remove n e name ≡ Some (cut_out n u ∷ [])
-removes e n u name h = remove_is e n name ∙ ap (option_map (λ v. cut_out n v ∷ [])) h
+pub removes : (e : Extent) (n : ℕ) (u : Option ℕ) (name : List ℕ) → u ≡ until_of n e → asked Remove n e name ≡ option_map (λ v. cut_out n v ∷ []) u
+removes e n u name h = remove_is e n name ∙ ap (option_map (λ v. cut_out n v ∷ [])) (sym h)
 
-pub replaces : (e : Extent) (n u : ℕ) (c : Content) (name : List ℕ) → until_of n e ≡ Some u → asked (ReplaceWith c) n e name ≡ Some (put_instead n u (NewContent c ∷ []) ∷ [])
-replaces e n u c name h = replace_is e n c name ∙ ap (option_map (λ v. put_instead n v (NewContent c ∷ []) ∷ [])) h
+pub replaces : (e : Extent) (n : ℕ) (u : Option ℕ) (c : Content) (name : List ℕ) → u ≡ until_of n e → asked (ReplaceWith c) n e name ≡ option_map (λ v. put_instead n v (NewContent c ∷ []) ∷ []) u
+replaces e n u c name h = replace_is e n c name ∙ ap (option_map (λ v. put_instead n v (NewContent c ∷ []) ∷ [])) (sym h)
 
-pub fills : (e : Extent) (n m k : ℕ) (c : Content) (name : List ℕ) → inner_end e ≡ Some m → suc n ≡ k → asked (Fill c) n e name ≡ Some (put_instead k m (NewContent c ∷ []) ∷ [])
-fills e n m k c name h i =
-    fill_is e n c name ∙ ap (option_map (λ v. put_instead (suc n) v (NewContent c ∷ []) ∷ [])) h ∙ ap (λ x. Some (put_instead x m (NewContent c ∷ []) ∷ [])) i
+pub fills : (e : Extent) (n k : ℕ) (m : Option ℕ) (c : Content) (name : List ℕ) → m ≡ inner_end e → k ≡ suc n → asked (Fill c) n e name ≡ option_map (λ v. put_instead k v (NewContent c ∷ []) ∷ []) m
+fills e n k m c name h i =
+    fill_is e n c name ∙ ap (option_map (λ v. put_instead (suc n) v (NewContent c ∷ []) ∷ [])) (sym h)
+    ∙ ap (λ x. option_map (λ v. put_instead x v (NewContent c ∷ []) ∷ []) m) (sym i)
 
-pub prepends : (e : Extent) (n m k : ℕ) (c : Content) (name : List ℕ) → inside_end e ≡ Some m → suc n ≡ k → asked (Prepend c) n e name ≡ Some (put_at k (NewContent c ∷ []) ∷ [])
-prepends e n m k c name h i =
-    prepend_is e n c name ∙ ap (option_map (λ v. put_at (suc n) (NewContent c ∷ []) ∷ [])) h ∙ ap (λ x. Some (put_at x (NewContent c ∷ []) ∷ [])) i
+pub prepends : (e : Extent) (n k : ℕ) (m : Option ℕ) (c : Content) (name : List ℕ) → m ≡ inside_end e → k ≡ suc n → asked (Prepend c) n e name ≡ option_map (λ v. put_at k (NewContent c ∷ []) ∷ []) m
+prepends e n k m c name h i =
+    prepend_is e n c name ∙ ap (option_map (λ v. put_at (suc n) (NewContent c ∷ []) ∷ [])) (sym h)
+    ∙ ap (λ x. option_map (λ (v : ℕ). put_at x (NewContent c ∷ []) ∷ []) m) (sym i)
 
-pub appends : (e : Extent) (n m : ℕ) (c : Content) (name : List ℕ) → inner_end e ≡ Some m → asked (Append c) n e name ≡ Some (put_at m (NewContent c ∷ []) ∷ [])
-appends e n m c name h = append_is e n c name ∙ ap (option_map (λ v. put_at v (NewContent c ∷ []) ∷ [])) h
+pub appends : (e : Extent) (n : ℕ) (m : Option ℕ) (c : Content) (name : List ℕ) → m ≡ inner_end e → asked (Append c) n e name ≡ option_map (λ v. put_at v (NewContent c ∷ []) ∷ []) m
+appends e n m c name h = append_is e n c name ∙ ap (option_map (λ v. put_at v (NewContent c ∷ []) ∷ [])) (sym h)
 
 pub puts_before : (e : Extent) (n : ℕ) (c : Content) (name : List ℕ) → asked (PutBefore c) n e name ≡ Some (put_at n (NewContent c ∷ []) ∷ [])
 puts_before e n c name = before_is e n c name
 
-pub puts_behind : (e : Extent) (n u : ℕ) (c : Content) (name : List ℕ) (put : List Put) → until_of n e ≡ Some u → put ≡ put_after e name c →
-    asked (PutAfter c) n e name ≡ Some (put_at u put ∷ [])
-puts_behind e n u c name put h p =
-    after_is e n c name ∙ ap (option_map (λ v. put_at v (put_after e name c) ∷ [])) h ∙ ap (λ x. Some (put_at u x ∷ [])) (sym p)
+pub puts_behind : (e : Extent) (n : ℕ) (u : Option ℕ) (c : Content) (name : List ℕ) → u ≡ until_of n e → asked (PutAfter c) n e name ≡ option_map (λ v. put_at v (put_after e name c) ∷ []) u
+puts_behind e n u c name h = after_is e n c name ∙ ap (option_map (λ v. put_at v (put_after e name c) ∷ [])) (sym h)
 
 -- names
 
 abbrev renamed_if : Bool → List (Splice Put) → Option (List (Splice Put))
 renamed_if may splices = if may then Some splices else None
 
-pub rename_implied : (n m k : ℕ) (old new : List ℕ) → may_be_renamed old new ≡ true → suc n ≡ k →
-    asked (RenameElement new) n (Implied m) old ≡ Some (put_instead n k (Changed (Rename new) ∷ []) ∷ put_at m (NewEndTag new ∷ []) ∷ [])
-rename_implied n m k old new h e =
+pub rename_implied : (n m : ℕ) (old new : List ℕ) → may_be_renamed old new ≡ true →
+    asked (RenameElement new) n (Implied m) old ≡ Some (put_instead n (suc n) (Changed (Rename new) ∷ []) ∷ put_at m (NewEndTag new ∷ []) ∷ [])
+rename_implied n m old new h =
     ap (λ v. renamed_if v (put_instead n (suc n) (Changed (Rename new) ∷ []) ∷ put_at m (NewEndTag new ∷ []) ∷ [])) h
-    ∙ ap (λ x. Some (put_instead n x (Changed (Rename new) ∷ []) ∷ put_at m (NewEndTag new ∷ []) ∷ [])) e
 
 -- of an element whose end tag is not left out
-pub rename_is : (e : Extent) (n : ℕ) (old new : List ℕ) (splices : List (Splice Put)) → may_be_renamed old new ≡ true → is_implied e ≡ false →
-    tags_asked n e (Changed (Rename new) ∷ []) ≡ Some splices → asked (RenameElement new) n e old ≡ Some splices
-rename_is Dropped n old new splices h i e = cc
-rename_is Alone n old new splices h i e = ap (λ v. renamed_if v (put_instead n (suc n) (Changed (Rename new) ∷ []) ∷ [])) h ∙ e
-rename_is (Whole m) n old new splices h i e =
-    ap (λ v. renamed_if v (put_instead n (suc n) (Changed (Rename new) ∷ []) ∷ put_instead m (suc m) (Changed (Rename new) ∷ []) ∷ [])) h ∙ e
-rename_is (Implied m) n old new splices h i e = cc
-rename_is (Unclosed m) n old new splices h i e = cc
+pub rename_is : (e : Extent) (n : ℕ) (old new : List ℕ) → may_be_renamed old new ≡ true → is_implied e ≡ false →
+    asked (RenameElement new) n e old ≡ tags_asked n e (Changed (Rename new) ∷ [])
+rename_is Dropped n old new h i = refl
+rename_is Alone n old new h i = ap (λ v. renamed_if v (put_instead n (suc n) (Changed (Rename new) ∷ []) ∷ [])) h
+rename_is (Whole m) n old new h i =
+    ap (λ v. renamed_if v (put_instead n (suc n) (Changed (Rename new) ∷ []) ∷ put_instead m (suc m) (Changed (Rename new) ∷ []) ∷ [])) h
+rename_is (Implied m) n old new h i = cc
+rename_is (Unclosed m) n old new h i = refl
+
+-- an element whose name can't be changed so
+pub rename_not : (e : Extent) (n : ℕ) (old new : List ℕ) → may_be_renamed old new ≡ false → asked (RenameElement new) n e old ≡ None
+rename_not Dropped n old new h = refl
+rename_not Alone n old new h = ap (λ v. renamed_if v (put_instead n (suc n) (Changed (Rename new) ∷ []) ∷ [])) h
+rename_not (Whole m) n old new h =
+    ap (λ v. renamed_if v (put_instead n (suc n) (Changed (Rename new) ∷ []) ∷ put_instead m (suc m) (Changed (Rename new) ∷ []) ∷ [])) h
+rename_not (Implied m) n old new h =
+    ap (λ v. renamed_if v (put_instead n (suc n) (Changed (Rename new) ∷ []) ∷ put_at m (NewEndTag new ∷ []) ∷ [])) h
+rename_not (Unclosed m) n old new h = refl

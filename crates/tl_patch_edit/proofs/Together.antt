@@ -1,29 +1,24 @@
 -- A page with several elements changed.
-use Rattle.std.proofs.Common.{◌≡◌, ◌≢◌, ◌≤◌, ◌<◌, ℕ, zero, suc, ◌+◌, ◌-◌, ◌==◌, Bool, true, false, ◌&&◌, List, [], ◌∷◌, ◌++◌, length, take, drop, get_or, set, map, Option, Some, None, slice_get, refl, ap, ap₂, sym, subst, ◌∙◌, append_assoc, append-nil, arith, if◌then◌else◌, inl, inr}
-use Rattle.std.specs.Prelude.{nat_lt}
+use Rattle.std.proofs.Common.{◌≡◌, ◌≢◌, ◌≤◌, ◌<◌, ℕ, ◌+◌, ◌-◌, ◌==◌, Bool, true, false, List, [], ◌∷◌, ◌++◌, length, drop, get_or, set, map, Option, Some, None, refl, ap, ap₂, sym, subst, ◌∙◌, append_assoc, append-nil, arith, if◌then◌else◌, inl, inr}
 use Rattle.std.specs.List.{All}
 use Rattle.std.specs.List.Sorted.{IsPermutation}
 use Rattle.std.specs.Option.{option_to_list}
 use Rattle.std.proofs.lemmas.Bool.{cases_Bool, eqb-false, eqb-true, le-ltb, lt-ltb, ltb-false, ltb-true, ne_eqb}
 use lib.Dec.{ltb}
-use Rattle.std.proofs.lemmas.List.{drop_all, drop_more, get_or-set_other, get_or-set_same, length-set, map-append}
+use Rattle.std.proofs.lemmas.List.{drop_more, get_or-set_other, get_or-set_same, length-set, map-append}
 use Rattle.std.proofs.lemmas.List.Elements.{All-cons, All-get_or}
 use Rattle.std.proofs.lemmas.List.Sorted.{IsPermutation-map}
 use Rattle.tl_html_spec.specs.Pieces.{Piece, pieces, placed, runs}
-use Rattle.tl_html_tokens.specs.Kinds.{IsKind, IsStartTag}
 use Rattle.tl_html_tokens.specs.Tokens.{AreTokensOf, mark_len}
-use Rattle.tl_html_tokens.specs.Whole.{bytes_at, is_tag_kind}
-use Rattle.tl_html_tokens.specs.declared.stage.TokenKind.{TokenKind}
 use Rattle.tl_html_tokens.specs.declared.token.Token.{Token}
-use Rattle.tl_html_tokens.proofs.Alone.{tags_are_whole}
-use Rattle.tl_patch_spec.specs.Elements.{Element, elements}
-use Rattle.tl_patch_spec.specs.Patches.{AreAskedOne, Content, Dropped, Extent, Patch, Put, asked_of, extent_in, extent_of}
+use Rattle.tl_patch_spec.specs.Elements.{Element}
+use Rattle.tl_patch_spec.specs.Patches.{AreAskedOne, Content, Dropped, Patch, Put, asked_of, extent_in, extent_of}
 use Rattle.tl_patch_spec.specs.Splices.{Splice, are_ordered}
-use Rattle.tl_patch_spec.specs.Together.{AreAskedTogether, Asked, are_inner_first, ask_of, asked_at, asked_each, is_inner_first, next_after, with_asks}
+use Rattle.tl_patch_spec.specs.Together.{Asked, ask_of, asked_at, asked_each, next_after, with_asks}
 use Rattle.tl_patch_edit.specs.Asks.{ask_view, asks_view, placed_at, placed_view, planned_view}
-use Rattle.tl_patch_edit.specs.Found.{IsSplicedPage, IsSplicedPageOf, IsStartAt, IsStartOf}
+use Rattle.tl_patch_edit.specs.Found.{IsSplicedPage, IsSplicedPageOf, IsStartAt}
 use Rattle.tl_patch_edit.specs.Parts.{ArePieces, Part}
-use Rattle.tl_patch_edit.specs.Several.{AreDropped, AreEdited, AreExtents, AreSorted, AreStartsAt, BeginAt, BeginsAt, IsStartOfPage, asked_one, asked_view, numbers_of}
+use Rattle.tl_patch_edit.specs.Several.{AreDropped, AreEdited, AreExtents, AreInTurn, AreSorted, AreStartsAt, BeginAt, IsStartOfPage, asked_one, asked_view, numbers_of}
 use Rattle.tl_patch_edit.specs.View.{extent_view}
 use Rattle.tl_patch_elements.specs.View.{element_view, elements_view}
 use Rattle.tl_patch_elements.specs.declared.found.Element.{Element as CodeElement}
@@ -33,6 +28,7 @@ use Rattle.tl_patch_edit.specs.declared.ask.PlacedAsk.{PlacedAsk}
 use Rattle.tl_patch_edit.specs.declared.ask.Planned.{Planned}
 use Rattle.tl_patch_edit.specs.declared.ask.Start.{Start}
 use Rattle.tl_patch_edit.proofs.Edited.{start_of}
+use Rattle.tl_patch_edit.proofs.Turns.{inner_comes_first}
 
 -- start tags at places
 
@@ -199,50 +195,22 @@ asks_end ps patch starts at next old all e h =
 -- in order
 
 pub sorted : (ps : List Piece) (patch : Patch) (numbers : List ℕ) (c : Content) (old new : List PlacedAsk) → asked_each ps patch 0 numbers ≡ Some (asked_view c old) → IsPermutation old new →
-    are_inner_first (asked_view c new) ≡ true → AreSorted ps patch numbers (asked_view c new)
-sorted ps patch numbers c old new a p i = record {
+    AreInTurn new → AreSorted ps patch numbers c new
+sorted ps patch numbers c old new a p t = record {
   each = asked_view c old;
   asked = a;
   same = IsPermutation-map (asked_one c) old new p;
-  inner_first = i;
+  in_turn = t;
 }
 
 pub asks_are : (c : Content) (asks : List PlacedAsk) → map ask_of (asked_view c asks) ≡ asks_view c asks
 asks_are c [] = refl
 asks_are c (a ∷ asks) = ap (λ (xs : List (Splice Put)). ask_view c a.ask ∷ xs) (asks_are c asks)
 
-pub inner_first_more : (c : Content) (asks : List PlacedAsk) (at : ℕ) (d e : PlacedAsk) → at + 1 < length asks → is_inner_first (asked_one c (get_or asks at d)) (asked_one c (get_or asks (at + 1) e)) ≡ true →
-    are_inner_first (asked_view c (drop at asks)) ≡ are_inner_first (asked_view c (drop (at + 1) asks))
-inner_first_more c asks at d e l i =
-    let k : at < length asks = omega arith in
-    let here = drop_more asks at d k in
-    let there = drop_more asks (at + 1) e l in
-    ap (λ (xs : List PlacedAsk). are_inner_first (asked_view c xs)) (here ∙ ap (λ (xs : List PlacedAsk). get_or asks at d ∷ xs) there)
-    ∙ ap (λ (v : Bool). v && are_inner_first (asked_view c (get_or asks (at + 1) e ∷ drop (at + 1 + 1) asks))) i
-    ∙ sym (ap (λ (xs : List PlacedAsk). are_inner_first (asked_view c xs)) there)
-
-pub inner_first_not : (c : Content) (asks : List PlacedAsk) (at : ℕ) (d e : PlacedAsk) → at + 1 < length asks → is_inner_first (asked_one c (get_or asks at d)) (asked_one c (get_or asks (at + 1) e)) ≡ false →
-    are_inner_first (asked_view c (drop at asks)) ≡ false
-inner_first_not c asks at d e l i =
-    let k : at < length asks = omega arith in
-    ap (λ (xs : List PlacedAsk). are_inner_first (asked_view c xs)) (drop_more asks at d k ∙ ap (λ (xs : List PlacedAsk). get_or asks at d ∷ xs) (drop_more asks (at + 1) e l))
-    ∙ ap (λ (v : Bool). v && are_inner_first (asked_view c (get_or asks (at + 1) e ∷ drop (at + 1 + 1) asks))) i
-
-pub first_ask : (asks : List PlacedAsk) (at : ℕ) → at < length asks → PlacedAsk
-first_ask [] at l = absurd (omega arith)
-first_ask (a ∷ asks) at l = a
-
-pub inner_first_last : (c : Content) (asks : List PlacedAsk) (at : ℕ) (d : PlacedAsk) → at < length asks → length asks ≤ at + 1 →
-    are_inner_first (asked_view c (drop at asks)) ≡ are_inner_first (asked_view c (drop (at + 1) asks))
-inner_first_last c asks at d l k =
-    let none = drop_all (at + 1) asks k in
-    ap (λ (xs : List PlacedAsk). are_inner_first (asked_view c xs)) (drop_more asks at d l ∙ ap (λ (xs : List PlacedAsk). get_or asks at d ∷ xs) none)
-    ∙ sym (ap (λ (xs : List PlacedAsk). are_inner_first (asked_view c xs)) none)
-
 -- a page that is read again
 
 pub several : (patch : Patch) (places page text : List ℕ) (tokens : List Token) (starts : List Start) (c : Content) (asks : List PlacedAsk) (parts : List Part) →
-    AreTokensOf page tokens → AreStartsAt 0 tokens places starts → AreSorted (runs (pieces page)) patch (numbers_of starts) (asked_view c asks) → ArePieces parts (runs (pieces page)) →
+    AreTokensOf page tokens → AreStartsAt 0 tokens places starts → AreSorted (runs (pieces page)) patch (numbers_of starts) c asks → ArePieces parts (runs (pieces page)) →
     IsSplicedPageOf (asks_view c asks) parts page text → AreEdited patch places page text
 several patch places page text tokens starts c asks parts t s a g r =
     let ps : List Piece = runs (pieces page) in
@@ -258,7 +226,7 @@ several patch places page text tokens starts c asks parts t s a g r =
         asks = asked_view c asks;
         same = a.same;
         ordered = subst (λ (bs : List (Splice Put)). are_ordered 0 (length ps) bs ≡ true) same page_with.ordered;
-        inner_first = a.inner_first;
+        inner_first = inner_comes_first c (length ps) 0 asks a.in_turn page_with.ordered;
         are_asked = subst (λ (bs : List (Splice Put)). AreAskedOne ps bs page_with.splices) same page_with.asked;
       };
       mark = page_with.mark;

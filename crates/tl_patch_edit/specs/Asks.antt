@@ -21,6 +21,7 @@ use Rattle.tl_patch_edit.specs.declared.ask.Start.{Start}
 use Rattle.tl_patch_edit.specs.declared.ask.Put.{Put as CodePut}
 use Rattle.tl_patch_edit.specs.declared.ask.Put.TheVariants as put
 use Rattle.tl_patch_edit.specs.declared.tag.ReadyAsk.{ReadyAsk}
+use Rattle.tl_patch_edit.specs.Found.{has_mark}
 use Rattle.tl_patch_edit.specs.Parts.{ArePieces, Give, IsPieceOf, Part, Says}
 use Rattle.tl_patch_spec.specs.Markup.{text_markup}
 use Rattle.tl_patch_spec.specs.Patches.{ArePut, Alone, AreAskedOne, Changed, Content, Dropped, Extent, Implied, IsNamed, Markup, NewContent, NewEndTag, Patch, Append, Fill, Prepend, PutAfter, PutBefore, Put, ReplaceWith, Text, Unclosed, Whole, put_instead}
@@ -117,10 +118,11 @@ abbrev pub text_of : Content → List ℕ
 text_of (Text text) = text
 text_of (Markup markup) = []
 
--- the parts of a content that is markup
+-- the parts of a content that is markup; with a byte order mark in front it would be another
+-- character
 abbrev pub IsMarkupOf : Content → List Part → Type 0
 IsMarkupOf (Text text) parts = ⊤
-IsMarkupOf (Markup markup) parts =
+IsMarkupOf (Markup markup) parts = has_mark markup ≡ false →
     Give parts (bytes_of (pieces_of markup)) (tokens_in (pieces_of markup))
 
 -- an end tag by itself

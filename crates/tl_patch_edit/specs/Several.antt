@@ -1,5 +1,5 @@
 -- A page with several elements changed by one patch.
-use Rattle.std.specs.Prelude.{◌≡◌, ℕ, ◌≤◌, ◌<◌, true, List, [], ◌∷◌, length, map, Some, slice_index_or, ⊤}
+use Rattle.std.specs.Prelude.{◌≡◌, ℕ, ◌≤◌, ◌<◌, List, [], ◌∷◌, length, map, Some, slice_index_or, ⊤}
 use Rattle.std.specs.List.{All, slice_get}
 use Rattle.std.specs.List.Sorted.{IsPermutation}
 use Rattle.tl_html_spec.specs.HtmlTokenizer.{html_tokens, without_mark}
@@ -9,7 +9,7 @@ use Rattle.tl_html_tokens.specs.declared.token.Token.{Token}
 use Rattle.tl_patch_spec.specs.Elements.{Element}
 use Rattle.tl_patch_spec.specs.Patches.{Content, Dropped, Patch, extent_in}
 use Rattle.tl_patch_spec.specs.Splices.{Splice, with_splices}
-use Rattle.tl_patch_spec.specs.Together.{AreAskedTogether, Asked, are_inner_first, asked_at, asked_each}
+use Rattle.tl_patch_spec.specs.Together.{AreAskedTogether, Asked, asked_at, asked_each}
 use Rattle.tl_patch_edit.specs.Asks.{ask_view}
 use Rattle.tl_patch_edit.specs.Found.{IsStartAt, IsStartOf}
 use Rattle.tl_patch_edit.specs.View.{extent_view}
@@ -69,10 +69,23 @@ asked_one c p = asked_at p.start.number (ask_view c p.ask)
 abbrev pub asked_view : Content → List PlacedAsk → List Asked
 asked_view c asks = map (asked_one c) asks
 
--- these are what is asked for of elements, those of inner ones first where they are for one place
-pub record AreSorted (ps : List Piece) (patch : Patch) (numbers : List ℕ) (asks : List Asked) :
-    Type 0 where
+-- of two asks the first begins no later; where both begin at one place it ends no later; and where
+-- they are for one place it is that of the inner element
+pub record Precedes (a b : PlacedAsk) : Type 0 where
+  pub from : a.ask.from ≤ b.ask.from
+  pub until : a.ask.from ≡ b.ask.from → a.ask.until ≤ b.ask.until
+  pub inner : a.ask.from ≡ b.ask.from → a.ask.until ≡ b.ask.until →
+      b.start.number ≤ a.start.number
+
+abbrev pub AreInTurn : List PlacedAsk → Type 0
+AreInTurn [] = ⊤
+AreInTurn (a ∷ []) = ⊤
+AreInTurn (a ∷ b ∷ asks) = Precedes a b × AreInTurn (b ∷ asks)
+
+-- these are what is asked for of elements, in turn
+pub record AreSorted (ps : List Piece) (patch : Patch) (numbers : List ℕ) (c : Content)
+    (asks : List PlacedAsk) : Type 0 where
   pub each : List Asked
   pub asked : asked_each ps patch 0 numbers ≡ Some each
-  pub same : IsPermutation each asks
-  pub inner_first : are_inner_first asks ≡ true
+  pub same : IsPermutation each (asked_view c asks)
+  pub in_turn : AreInTurn asks

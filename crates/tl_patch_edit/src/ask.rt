@@ -1,5 +1,5 @@
 //! What a patch asks for.
-ghost use Rattle.std.specs.Prelude.{◌≡◌, ◌==◌, IfOk, IfSome, Some};
+ghost use Rattle.std.specs.Prelude.{◌≡◌, ◌==◌, IfOk, Some, suc};
 ghost use Rattle.tl_patch_spec.specs.Patches.{extent_in, extent_of};
 ghost use Rattle.tl_patch_elements.specs.View.{element_view, elements_view};
 ghost use Rattle.tl_patch_edit.specs.Asks.{inner_end, inside_end, until_of};
@@ -139,15 +139,30 @@ pub(crate) fn extent_in(
     Ok(Extent::Dropped)
 }
 
-pub(crate) fn until_of(number: usize, extent: Extent) -> Option<usize>
-    ensures { IfSome result (λ until. until_of number (extent_view extent) ≡ Some until) }
+// The number of the token behind one.
+pub(crate) fn next(number: usize) -> Result<usize, AllocError>
+    ensures { IfOk result (λ next. next ≡ suc number) }
+{
+    let next = number.checked_add(1).ok_or(AllocError)?;
+    Ok(next)
+}
+
+fn some_next(number: usize) -> Result<Option<usize>, AllocError>
+    ensures { IfOk result (λ found. found ≡ Some (suc number)) }
+{
+    let next = next(number)?;
+    Ok(Some(next))
+}
+
+pub(crate) fn until_of(number: usize, extent: Extent) -> Result<Option<usize>, AllocError>
+    ensures { IfOk result (λ until. until ≡ until_of number (extent_view extent)) }
 {
     match extent {
-        Extent::Dropped => None,
-        Extent::Alone => number.checked_add(1),
-        Extent::Whole { end } => end.checked_add(1),
-        Extent::Implied { end } => Some(end),
-        Extent::Unclosed { .. } => None,
+        Extent::Dropped => Ok(None),
+        Extent::Alone => some_next(number),
+        Extent::Whole { end } => some_next(end),
+        Extent::Implied { end } => Ok(Some(end)),
+        Extent::Unclosed { .. } => Ok(None),
     }
 }
 

@@ -1,10 +1,13 @@
 //! A page with one element changed.
-ghost use Rattle.std.specs.Prelude.{◌≡◌, ◌≤◌, ◌++◌, List, IfOk, IfSome, OnOk, Some, true};
+ghost use Rattle.std.specs.Prelude.{◌≡◌, ◌≤◌, ◌++◌, ◌∷◌, [], ℕ, List, Err, IfErr, IfNone, IfOk, IfSome, OnOk, Some, false, true};
 ghost use Rattle.tl_html_spec.specs.HtmlTokenizer.{HtmlToken, html_tokens};
 ghost use Rattle.tl_html_tags.specs.Parts.{name_of};
 ghost use Rattle.tl_html_tokens.specs.declared.stage.TokenKind.TheVariants.{StartTag};
-ghost use Rattle.tl_patch_edit.specs.Asks.{IsMarkupOf, asks_view, content_of, placed_view, planned_view};
+ghost use Rattle.tl_patch_edit.specs.Asks.{asks_view, content_of, placed_view, planned_view};
+ghost use Rattle.tl_patch_edit.specs.Causes.{IsPlanError, IsReadError, IsSpliceError, IsStartError, NoStartFrom};
 ghost use Rattle.tl_patch_edit.specs.Edited.{IsEdited};
+ghost use Rattle.tl_patch_edit.specs.Errors.{CannotBeMeant, CannotBeWritten, IsRefused, LacksStartTag, StandsPastEnd};
+ghost use Rattle.tl_patch_edit.specs.declared.error.EditError.TheVariants.{EndOfPage, NoStartTag, NotMeant, NotWritten};
 ghost use Rattle.tl_patch_edit.specs.Found.{IsReadAs, IsSplicedPageOf, IsStartAt, IsStartOf, IsTagName, has_mark, mark_bytes};
 ghost use Rattle.tl_patch_edit.specs.Parts.{Say, part_bytes, parts_view};
 ghost use Rattle.tl_patch_edit.specs.View.{content_view, extent_view, patch_view};
@@ -30,6 +33,7 @@ use tl_patch_elements::elements;
 fn is_start_at(token: &Token, place: usize) -> bool
     ensures start { result ≡ true → token.now.start ≡ place }
     ensures kind { result ≡ true → token.now.kind ≡ StartTag }
+    ensures not { result ≡ false → token.now.start ≡ place → token.now.kind ≡ StartTag → ⊥ }
 {
     token.start == place && matches!(token.kind, TokenKind::StartTag)
 }
@@ -39,6 +43,7 @@ fn start_from(tokens: &[Token], from: usize, place: usize) -> Option<Start>
     ensures start { IfSome result (λ start.
         IsStartAt tokens.now place start.number start.token) }
     ensures order { IfSome result (λ start. from ≤ start.number) }
+    ensures none { IfNone result (NoStartFrom from tokens.now place) }
 {
     for at in from..tokens.len() {
         let is_it = is_start_at(&tokens[at], place);
@@ -104,7 +109,8 @@ fn read_again(
     wanted: &[Part<'_>],
     place: usize,
 ) -> Result<Vec<u8>, EditError>
-    ensures { IfOk result (λ text. IsReadAs page.now (parts_view wanted.now) text.items) }
+    ensures text { IfOk result (λ text. IsReadAs page.now (parts_view wanted.now) text.items) }
+    ensures error { IfErr result (IsReadError place) }
 {
     let is_marked = has_mark(page);
     let text = written(alloc, is_marked, wanted)?;
@@ -120,20 +126,6 @@ fn read_again(
     Ok(text)
 }
 
-fn written_markup<'p>(
-    alloc: Global,
-    content: Content<'p>,
-    place: usize,
-) -> Result<Vec<Part<'p>>, EditError>
-    ensures { IfOk result (λ parts.
-        IsMarkupOf (content_view content.entry) (parts_view parts.items)) }
-{
-    let Some(parts) = markup_parts(alloc, content)? else {
-        return Err(EditError::NotWritten(place));
-    };
-    Ok(parts)
-}
-
 // The page with what is asked for, in order.
 pub(crate) fn spliced_page(
     alloc: Global,
@@ -143,12 +135,14 @@ pub(crate) fn spliced_page(
     content: Content<'_>,
     place: usize,
 ) -> Result<Vec<u8>, EditError>
-    ensures { IfOk result (λ text.
+    ensures text { IfOk result (λ text.
         IsSplicedPageOf (asks_view (content_view content.entry) asks.now)
         (parts_view parts.now) page.now text.items) }
+    ensures error { IfErr result (IsSpliceError (content_view content.entry)
+        (parts_view parts.now) asks.now) }
 {
     let escaped = escaped_text(alloc, content)?;
-    let markup = written_markup(alloc, content, place)?;
+    let markup = markup_parts(alloc, content)?;
     let asks_ready = ready_asks(alloc, parts, asks)?;
     let ready = Ready {
         content,
@@ -164,6 +158,7 @@ pub(crate) fn meant_start(tokens: &[Token], from: usize, place: usize) -> Result
     ensures start { IfOk result (λ start.
         IsStartAt tokens.now place start.number start.token) }
     ensures order { IfOk result (λ start. from ≤ start.number) }
+    ensures error { IfErr result (IsStartError from tokens.now place) }
 {
     match start_from(tokens, from, place) {
         Some(start) => Ok(start),
@@ -178,9 +173,11 @@ fn meant<'n>(
     extent: Extent,
     raw: &'n [u8],
 ) -> Result<Planned<'n>, EditError>
-    ensures { IfOk result (λ planned.
+    ensures planned { IfOk result (λ planned.
         asked (patch_view patch.entry) start.number (extent_view extent) (name_of raw.now)
         ≡ Some (planned_view (content_of (patch_view patch.entry)) planned)) }
+    ensures error { IfErr result (IsPlanError start.token.start
+        (asked (patch_view patch.entry) start.number (extent_view extent) (name_of raw.now))) }
 {
     match plan(alloc, patch, start.number, extent, raw)? {
         Some(planned) => Ok(planned),
@@ -199,9 +196,11 @@ pub(crate) fn planned_for<'n>(
     requires start { IsStartOf page.now start.number start.token }
     requires extent { extent_view extent
         ≡ extent_in start.number (elements (runs (pieces page.now))) }
-    ensures { IfOk result (λ planned.
+    ensures planned { IfOk result (λ planned.
         asked_of (runs (pieces page.now)) start.number (patch_view patch.entry)
         ≡ Some (planned_view (content_of (patch_view patch.entry)) planned)) }
+    ensures error { IfErr result (IsPlanError start.token.start
+        (asked_of (runs (pieces page.now)) start.number (patch_view patch.entry))) }
 {
     let raw = tag_name(alloc, token_bytes(page, start.token))?;
     let planned = meant(alloc, patch, start, extent, raw)?;
@@ -235,8 +234,31 @@ pub fn patch_element(
     place: usize,
     patch: ElementPatch<'_>,
 ) -> Result<Vec<u8>, EditError>
-    ensures { IfOk result (λ text.
+    ensures edited { IfOk result (λ text.
         IsEdited (patch_view patch.entry) place page.now text.items) }
+    ensures no_start { (p : ℕ) → result ≡ Err (NoStartTag p) →
+        LacksStartTag page.now (place ∷ []) p }
+    ensures not_meant { (p : ℕ) → result ≡ Err (NotMeant p) →
+        CannotBeMeant page.now ((place, patch_view patch.entry) ∷ []) p }
+    ensures past_end { (p : ℕ) → result ≡ Err (EndOfPage p) →
+        StandsPastEnd page.now ((place, patch_view patch.entry) ∷ []) p }
+    ensures not_written { (p : ℕ) → result ≡ Err (NotWritten p) →
+        CannotBeWritten page.now ((place, patch_view patch.entry) ∷ []) p }
+{
+    with_patch(alloc, page, place, patch)
+}
+
+// The page with one element changed.
+fn with_patch(
+    alloc: Global,
+    page: &[u8],
+    place: usize,
+    patch: ElementPatch<'_>,
+) -> Result<Vec<u8>, EditError>
+    ensures edited { IfOk result (λ text.
+        IsEdited (patch_view patch.entry) place page.now text.items) }
+    ensures error { IfErr result (IsRefused page.now (place ∷ [])
+        ((place, patch_view patch.entry) ∷ [])) }
 {
     let found = elements(alloc, page)?;
     let parts = parts_of(alloc, page, found.tokens.as_slice())?;

@@ -1,9 +1,11 @@
 //! What is put into a page.
-ghost use Rattle.std.specs.Prelude.{◌≡◌, [], ◌∷◌, IfOk, IfSome};
+ghost use Rattle.std.specs.Prelude.{◌≡◌, [], ◌∷◌, IfNone, IfOk, IfSome, IsSome, false};
 ghost use Rattle.tl_html_spec.specs.Pieces.{bytes_of, pieces_of, tokens_in};
 ghost use Rattle.tl_html_tokens.specs.declared.mode.Mode.TheVariants.{Data};
 ghost use Rattle.tl_html_tokens.specs.declared.stage.TokenKind.TheVariants.{EndTag};
 ghost use Rattle.tl_patch_edit.specs.Asks.{GivePut, IsEndTagOf, IsReady, IsRenamedTag, IsTagFor, IsTextPart, is_data, puts_view, text_form};
+ghost use Rattle.tl_patch_edit.specs.Causes.{CannotPutIn, CannotStandIn};
+ghost use Rattle.tl_patch_edit.specs.Found.{has_mark};
 ghost use Rattle.tl_patch_edit.specs.Parts.{Give, part_view, parts_view};
 ghost use Rattle.tl_patch_spec.specs.Patches.{Changed, Markup, NewContent, NewEndTag, Text};
 ghost use Rattle.tl_patch_spec.specs.TagChanges.{Rename};
@@ -13,6 +15,7 @@ ghost use Rattle.tl_patch_spec.specs.Markup.{text_markup};
 
 use crate::ask::{Content, Put};
 use crate::part::{Part, copy, push};
+use crate::ready::has_mark;
 use std::alloc::{AllocError, Global};
 use tl_html_texts::characters;
 use tl_html_tokens::{Mode, TokenKind};
@@ -38,8 +41,10 @@ fn text_part<'p>(
     escaped: &'p [u8],
 ) -> Result<Option<Part<'p>>, AllocError>
     requires { escaped.now ≡ text_markup text.now }
-    ensures { IfOk result (λ found. IfSome found (λ part.
+    ensures part { IfOk result (λ found. IfSome found (λ part.
         IsTextPart mode text.now (part_view part))) }
+    ensures none { IfOk result (λ found.
+        IfNone found (CannotStandIn mode (Text text.now))) }
 {
     let bytes = text_form(mode, text, escaped);
     let said = characters(alloc, mode, bytes)?;
@@ -68,9 +73,11 @@ fn text_parts<'p>(
     escaped: &'p [u8],
 ) -> Result<Option<Vec<Part<'p>>>, AllocError>
     requires { escaped.now ≡ text_markup text.now }
-    ensures { IfOk result (λ found. IfSome found (λ parts.
+    ensures parts { IfOk result (λ found. IfSome found (λ parts.
         GivePut (NewContent (Text text.now) ∷ []) (part_view place.entry)
         (parts_view parts.items))) }
+    ensures none { IfOk result (λ found.
+        IfNone found (CannotStandIn place.entry.mode (Text text.now))) }
 {
     let Some(part) = text_part(alloc, place.mode, text, escaped)? else {
         return Ok(None);
@@ -80,21 +87,27 @@ fn text_parts<'p>(
     Ok(Some(parts))
 }
 
-// Markup, which is put in markup alone.
+// Markup, which is put in markup alone. A byte order mark in front would be another character.
 fn markup_parts<'p>(
     alloc: Global,
     place: Part<'p>,
     markup: &[u8],
     parts: &[Part<'p>],
 ) -> Result<Option<Vec<Part<'p>>>, AllocError>
-    requires { Give (parts_view parts.now) (bytes_of (pieces_of markup.now))
-        (tokens_in (pieces_of markup.now)) }
-    ensures { IfOk result (λ found. IfSome found (λ parts.
+    requires { has_mark markup.now ≡ false → Give (parts_view parts.now)
+        (bytes_of (pieces_of markup.now)) (tokens_in (pieces_of markup.now)) }
+    ensures parts { IfOk result (λ found. IfSome found (λ parts.
         GivePut (NewContent (Markup markup.now) ∷ []) (part_view place.entry)
         (parts_view parts.items))) }
+    ensures none { IfOk result (λ found.
+        IfNone found (CannotStandIn place.entry.mode (Markup markup.now))) }
 {
     let is_data = is_data(place.mode);
     if !is_data {
+        return Ok(None);
+    }
+    let has_mark = has_mark(markup);
+    if has_mark {
         return Ok(None);
     }
     let mut put = Vec::new(alloc);
@@ -117,9 +130,11 @@ fn content_parts<'p>(
 ) -> Result<Option<Vec<Part<'p>>>, AllocError>
     requires { IsReady (content_view ready.content) ready.escaped.now
         (parts_view ready.markup.now) }
-    ensures { IfOk result (λ found. IfSome found (λ parts.
+    ensures parts { IfOk result (λ found. IfSome found (λ parts.
         GivePut (NewContent (content_view ready.entry.content) ∷ []) (part_view place.entry)
         (parts_view parts.items))) }
+    ensures none { IfOk result (λ found.
+        IfNone found (CannotStandIn place.entry.mode (content_view ready.entry.content))) }
 {
     match ready.content {
         Content::Text { text } => text_parts(alloc, place, text, ready.escaped),
@@ -150,9 +165,11 @@ pub(crate) fn put_parts<'p>(
     requires ready { IsReady (content_view ready.content) ready.escaped.now
         (parts_view ready.markup.now) }
     requires tag { IsTagFor put (part_view place) tag.now }
-    ensures { IfOk result (λ found. IfSome found (λ parts.
+    ensures parts { IfOk result (λ found. IfSome found (λ parts.
         GivePut (puts_view (content_view ready.entry.content) put.entry)
         (part_view place.entry) (parts_view parts.items))) }
+    ensures none { IfOk result (λ found. IfNone found
+        (CannotPutIn (content_view ready.entry.content) place.entry.mode put.entry)) }
 {
     match put {
         Put::Nothing => Ok(Some(Vec::new(alloc))),
@@ -174,9 +191,11 @@ fn tag_and_content<'p>(
     requires ready { IsReady (content_view ready.content) ready.escaped.now
         (parts_view ready.markup.now) }
     requires tag { IsEndTagOf (name_of raw.now) tag.now }
-    ensures { IfOk result (λ found. IfSome found (λ parts.
+    ensures parts { IfOk result (λ found. IfSome found (λ parts.
         GivePut (NewEndTag (name_of raw.now) ∷ NewContent (content_view ready.entry.content) ∷ [])
         (part_view place.entry) (parts_view parts.items))) }
+    ensures none { IfOk result (λ found.
+        IfNone found (CannotStandIn place.entry.mode (content_view ready.entry.content))) }
 {
     let Some(content) = content_parts(alloc, place, ready)? else {
         return Ok(None);
@@ -194,8 +213,9 @@ fn end_tag_alone<'p>(
     tag: &'p [u8],
 ) -> Result<Option<Vec<Part<'p>>>, AllocError>
     requires { IsEndTagOf name.now tag.now }
-    ensures { IfOk result (λ found. IfSome found (λ parts.
+    ensures parts { IfOk result (λ found. IfSome found (λ parts.
         GivePut (NewEndTag name.now ∷ []) (part_view place.entry) (parts_view parts.items))) }
+    ensures some { IfOk result (λ found. IsSome found) }
 {
     let mut parts = Vec::new(alloc);
     push(end_tag_part(tag), &mut parts)?;
@@ -210,9 +230,10 @@ fn renamed_tag<'p>(
     tag: &'p [u8],
 ) -> Result<Option<Vec<Part<'p>>>, AllocError>
     requires { IsRenamedTag name.now (part_view place) tag.now }
-    ensures { IfOk result (λ found. IfSome found (λ parts.
+    ensures parts { IfOk result (λ found. IfSome found (λ parts.
         GivePut (Changed (Rename name.now) ∷ []) (part_view place.entry)
         (parts_view parts.items))) }
+    ensures some { IfOk result (λ found. IsSome found) }
 {
     let mut parts = Vec::new(alloc);
     push(

@@ -1,5 +1,5 @@
 //! What is put, made ready.
-ghost use Rattle.std.specs.Prelude.{◌≡◌, [], ◌∷◌, IfOk, IfSome, true};
+ghost use Rattle.std.specs.Prelude.{◌≡◌, IfOk, false};
 ghost use Rattle.std.specs.List.{All};
 ghost use Rattle.tl_html_spec.specs.Pieces.{bytes_of, pieces_of, tokens_in};
 ghost use Rattle.tl_html_spec.specs.HtmlTokenizer.{EndTag};
@@ -56,31 +56,27 @@ pub(crate) fn has_mark(page: &[u8]) -> bool
     page.starts_with(b"\xEF\xBB\xBF")
 }
 
-// Markup as parts; `None` where it begins with a byte order mark, which would be another character.
-fn parts_of_markup<'p>(alloc: Global, markup: &'p [u8]) -> Result<Option<Vec<Part<'p>>>, AllocError>
-    ensures { IfOk result (λ found. IfSome found (λ parts.
+// Markup as parts.
+fn parts_of_markup<'p>(alloc: Global, markup: &'p [u8]) -> Result<Vec<Part<'p>>, AllocError>
+    ensures { IfOk result (λ parts. has_mark markup.now ≡ false →
         Give (parts_view parts.items) (bytes_of (pieces_of markup.now))
-        (tokens_in (pieces_of markup.now)))) }
+        (tokens_in (pieces_of markup.now))) }
 {
-    let has_mark = has_mark(markup);
-    if has_mark {
-        return Ok(None);
-    }
     let tokens = tokens(alloc, markup)?;
     let parts = parts_of(alloc, markup, tokens.as_slice())?;
-    Ok(Some(parts))
+    Ok(parts)
 }
 
 // The parts of a content that is markup.
 pub(crate) fn markup_parts<'p>(
     alloc: Global,
     content: Content<'p>,
-) -> Result<Option<Vec<Part<'p>>>, AllocError>
-    ensures { IfOk result (λ found. IfSome found (λ parts.
-        IsMarkupOf (content_view content.entry) (parts_view parts.items))) }
+) -> Result<Vec<Part<'p>>, AllocError>
+    ensures { IfOk result (λ parts.
+        IsMarkupOf (content_view content.entry) (parts_view parts.items)) }
 {
     match content {
-        Content::Text { .. } => Ok(Some(Vec::new(alloc))),
+        Content::Text { .. } => Ok(Vec::new(alloc)),
         Content::Markup { markup } => parts_of_markup(alloc, markup),
     }
 }

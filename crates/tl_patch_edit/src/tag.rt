@@ -1,12 +1,14 @@
 //! Tags that are put, by themselves.
-ghost use Rattle.std.specs.Prelude.{◌≡◌, [], ◌∷◌, ◌++◌, IfOk, IfSome, OnOk, true};
+ghost use Rattle.std.specs.Prelude.{◌≡◌, ◌<◌, [], ◌∷◌, ◌++◌, IfErr, IfOk, IfSome, OnOk, length, true};
 ghost use Rattle.std.specs.List.{All};
 ghost use Rattle.tl_html_spec.specs.HtmlTokenizer.{EndTag};
 ghost use Rattle.tl_html_tags.specs.Parts.{name_of};
 ghost use Rattle.tl_html_tokens.specs.Whole.{IsWhole};
 ghost use Rattle.tl_html_tokens.specs.declared.mode.Mode.TheVariants as mode;
 ghost use Rattle.tl_patch_edit.specs.Asks.{IsEndTagOf, IsRenamedEnd, IsRenamedTag, IsTagAt, IsTagFor, IsTagged, is_end_kind, is_one_end_tag, is_whole_end_tag, placed_of};
+ghost use Rattle.tl_patch_edit.specs.Causes.{IsReadyError, IsSpliceError, IsWithin, has_name};
 ghost use Rattle.tl_patch_edit.specs.Parts.{part_view, parts_view};
+ghost use Rattle.tl_patch_spec.specs.Patches.{Content};
 
 use crate::ask::{Ask, PlacedAsk, Put};
 use crate::error::EditError;
@@ -16,7 +18,7 @@ use std::alloc::{AllocError, Global};
 use tl_html_tags::tag_parts;
 use tl_html_tokens::{Token, TokenKind, tokens};
 use tl_html_write::lower_name;
-use tl_patch::{Splice, with_splices};
+use tl_patch::{Splice, is_name, with_splices};
 use tl_patch_tags::with_name;
 
 fn is_end_kind(kind: TokenKind) -> bool
@@ -132,6 +134,17 @@ fn tag_for(alloc: Global, place: Part<'_>, put: Put<'_>) -> Result<Option<Vec<u8
     }
 }
 
+// Whether the name of the tag that is put can stand as it is.
+fn has_name(put: Put<'_>) -> bool
+    ensures { result ≡ has_name put.entry }
+{
+    match put {
+        Put::EndTag { name } => is_name(name),
+        Put::Renamed { name } => is_name(name),
+        _ => true,
+    }
+}
+
 // The tag that is put for an ask.
 fn tag_put(alloc: Global, parts: &[Part<'_>], ask: Ask<'_>) -> Result<Option<Vec<u8>>, AllocError>
     ensures { IfOk result (λ found. IfSome found (λ tag.
@@ -157,13 +170,20 @@ fn ready_ask<'n>(
 ) -> Result<ReadyAsk<'n>, EditError>
     ensures ask { IfOk result (λ ready. ready.placed ≡ placed.entry) }
     ensures tag { IfOk result (λ ready. IsTagged (parts_view parts.now) ready) }
+    ensures within { IfOk result (λ ready. ready.placed.ask.from < length parts.now) }
+    ensures error { (content : Content) → IfErr result
+        (IsReadyError content (parts_view parts.now) placed.entry) }
 {
     let place = placed.start.token.start;
     if placed.ask.from >= parts.len() {
         return Err(EditError::EndOfPage(place));
     }
-    let Some(tag) = tag_put(alloc, parts, placed.ask)? else {
+    let has_name = has_name(placed.ask.put);
+    if !has_name {
         return Err(EditError::NotWritten(place));
+    }
+    let Some(tag) = tag_put(alloc, parts, placed.ask)? else {
+        return Err(EditError::ReadOtherwise(place));
     };
     Ok(ReadyAsk { placed, tag })
 }
@@ -183,6 +203,9 @@ pub(crate) fn ready_asks<'n>(
 ) -> Result<Vec<ReadyAsk<'n>>, EditError>
     ensures asks { IfOk result (λ ready. placed_of ready.items ≡ asks.now) }
     ensures tags { IfOk result (λ ready. All (IsTagged (parts_view parts.now)) ready.items) }
+    ensures within { IfOk result (λ ready. All (IsWithin (length parts.now)) ready.items) }
+    ensures error { (content : Content) → IfErr result
+        (IsSpliceError content (parts_view parts.now) asks.now) }
 {
     let mut ready = Vec::with_capacity(alloc, asks.len())?;
     for at in 0..asks.len() {

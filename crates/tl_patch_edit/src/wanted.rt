@@ -1,7 +1,8 @@
 //! The parts of a page with what patches ask for.
-ghost use Rattle.std.specs.Prelude.{◌≡◌, ◌<◌, ◌≤◌, ◌-◌, ◌++◌, IfOk, OnOk, drop, length, take, true};
+ghost use Rattle.std.specs.Prelude.{◌≡◌, ◌<◌, ◌≤◌, ◌-◌, ◌++◌, ◌&&◌, IfErr, IfOk, OnOk, drop, length, nat_le, take, true};
 ghost use Rattle.std.specs.List.{All};
 ghost use Rattle.tl_patch_edit.specs.Asks.{GivePutFor, IsReady, IsTagged, IsWanted, asks_view, placed_of};
+ghost use Rattle.tl_patch_edit.specs.Causes.{IsReadyError, IsSpliceError, IsWithin};
 ghost use Rattle.tl_patch_edit.specs.Parts.{parts_view, separator_parts};
 ghost use Rattle.tl_patch_edit.specs.View.{content_view};
 
@@ -156,14 +157,15 @@ fn push_splice<'p>(
     Ok(())
 }
 
-// Whether an ask follows a place, and begins before the end.
+// Whether an ask follows a place, and ends within the page.
 fn follows(ask: Ask<'_>, done: usize, len: usize) -> bool
+    ensures is { result ≡ (nat_le done ask.entry.from && nat_le ask.entry.from ask.entry.until
+        && nat_le ask.entry.until len) }
     ensures done { result ≡ true → done ≤ ask.entry.from }
-    ensures from { result ≡ true → ask.entry.from < len }
     ensures order { result ≡ true → ask.entry.from ≤ ask.entry.until }
     ensures until { result ≡ true → ask.entry.until ≤ len }
 {
-    done <= ask.from && ask.from < len && ask.from <= ask.until && ask.until <= len
+    done <= ask.from && ask.from <= ask.until && ask.until <= len
 }
 
 // What is put for an ask.
@@ -177,9 +179,11 @@ fn put_of<'p>(
         (parts_view ready.markup.now) }
     requires tag { IsTagged (parts_view parts.now) one.now }
     requires from { one.now.placed.ask.from < length parts.now }
-    ensures { IfOk result (λ put.
+    ensures put { IfOk result (λ put.
         GivePutFor (content_view ready.entry.content) one.now.placed.ask
         (parts_view parts.now) (parts_view put.items)) }
+    ensures error { IfErr result (IsReadyError (content_view ready.entry.content)
+        (parts_view parts.now) one.now.placed) }
 {
     let place = parts[one.placed.ask.from];
     let Some(put) = put_parts(alloc, one.placed.ask.put, place, ready, one.tag.as_slice())? else {
@@ -198,9 +202,12 @@ pub(crate) fn wanted_parts<'p>(
     requires ready { IsReady (content_view ready.content) ready.escaped.now
         (parts_view ready.markup.now) }
     requires tags { All (IsTagged (parts_view parts.now)) asks.now }
-    ensures { IfOk result (λ wanted.
+    requires within { All (IsWithin (length parts.now)) asks.now }
+    ensures wanted { IfOk result (λ wanted.
         IsWanted (asks_view (content_view ready.entry.content) (placed_of asks.now))
         (parts_view parts.now) (parts_view wanted.items)) }
+    ensures error { IfErr result (IsSpliceError (content_view ready.entry.content)
+        (parts_view parts.now) (placed_of asks.now)) }
 {
     let mut wanted = Vec::with_capacity(alloc, parts.len())?;
     let mut done = 0usize;

@@ -88,7 +88,7 @@ type SeveralRow = (
 );
 
 #[rattlefmt::skip]
-static SEVERAL_ROWS: [SeveralRow; 31] = [
+static SEVERAL_ROWS: [SeveralRow; 34] = [
     (ElementPatch::Remove, &[], b"a<b>x</b>c", Ok(b"a<b>x</b>c")),
     (ElementPatch::Remove, &[1, 10], b"a<b>x</b>c<i>y</i>d", Ok(b"acd")),
     (ElementPatch::Remove, &[1, 1, 1], b"a<b>x</b>c", Ok(b"ac")),
@@ -120,6 +120,9 @@ static SEVERAL_ROWS: [SeveralRow; 31] = [
     (ElementPatch::Fill { content: TEXT }, &[0, 8], b"<i>a</i><br>z", Err(EditError::NotMeant(8))),
     (ElementPatch::Fill { content: MARKUP }, &[0, 8], b"<i>a</i><title>b</title>", Err(EditError::NotWritten(8))),
     (ElementPatch::Append { content: Content::Markup { markup: b"<!-- " } }, &[0, 8], b"<i>a</i><i>b</i>", Err(EditError::ReadOtherwise(0))),
+    (ElementPatch::Append { content: Content::Markup { markup: b"<!-- " } }, &[], b"<i>a</i><i>b", Ok(b"<i>a</i><i>b")),
+    (ElementPatch::PutBefore { content: Content::Markup { markup: b"\xEF\xBB\xBFx" } }, &[1, 5], b"y<br><br>z", Err(EditError::NotWritten(1))),
+    (ElementPatch::PutBefore { content: Content::Markup { markup: b"\xEF\xBB\xBFx" } }, &[], b"\xEF\xBB\xBFy", Ok(b"\xEF\xBB\xBFy")),
 ];
 
 fn is_wanted(found: Result<Vec<u8>, EditError>, wanted: Result<&[u8], EditError>) -> bool {

@@ -63,3 +63,35 @@ fn tags_are_changed(rt: HostRuntime) {
         assert!(rt; is_patched(rt.alloc(), page, (*first, *second), *wanted));
     }
 }
+
+#[test]
+fn a_page_without_patches_stays(rt: HostRuntime) {
+    for (page, _, _, _) in &PAGE_ROWS {
+        assert!(rt; is_wanted(patch(rt.alloc(), page, &[]), Ok(*page)));
+    }
+}
+
+// A key, a value, and what comes of `a<p k=1>` with them at its tag.
+#[rattlefmt::skip]
+static KEY_ROWS: [(&[u8], &[u8], Result<&[u8], PatchError>); 5] = [
+    (b"k", b"v", Ok(b"a<p k=\"v\">")),
+    (b"j", b"v", Ok(b"a<p j=\"v\" k=1>")),
+    (b"K", b"v", Err(PatchError::NotWritten(1))),
+    (b"j=", b"v", Err(PatchError::NotWritten(1))),
+    (b"j", b"\0", Err(PatchError::NotWritten(1))),
+];
+
+fn is_set(alloc: Global, key: &[u8], value: &[u8], wanted: Result<&[u8], PatchError>) -> bool {
+    let set = TagPatch {
+        start: 1,
+        change: Change::Set { key, value },
+    };
+    is_wanted(patch(alloc, b"a<p k=1>", &[set]), wanted)
+}
+
+#[test]
+fn keys_and_values_that_cannot_be_written_are_refused(rt: HostRuntime) {
+    for (key, value, wanted) in &KEY_ROWS {
+        assert!(rt; is_set(rt.alloc(), key, value, *wanted));
+    }
+}

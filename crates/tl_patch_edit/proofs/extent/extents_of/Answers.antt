@@ -1,4 +1,4 @@
-use Rattle.std.proofs.Common.{◌≤◌, ◌∙◌, arith, length}
+use Rattle.std.proofs.Common.{◌∙◌, arith}
 use Rattle.tl_patch_edit.proofs.Together.{extents_len, extents_step}
 use Rattle.tl_patch_edit.proofs.extent.extents_of.Goals as goal
 

@@ -1,4 +1,4 @@
-use Rattle.std.proofs.Common.{◌≡◌, ◌≤◌, ℕ, drop, length}
+use Rattle.std.proofs.Common.{◌≡◌, ◌≤◌, drop, length}
 use Rattle.tl_patch_elements.specs.View.{elements_view}
 use Rattle.tl_patch_edit.specs.Several.{AreExtents}
 use Rattle.tl_patch_edit.proofs.extent.extents_of.Given as goal

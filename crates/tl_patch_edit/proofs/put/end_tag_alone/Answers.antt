@@ -7,8 +7,8 @@ use Rattle.tl_patch_edit.specs.Parts.{Part, part_view, parts_view}
 use Rattle.tl_patch_edit.proofs.Puts.{end_tag_put}
 use Rattle.tl_patch_edit.proofs.put.end_tag_alone.Goals as goal
 
-pub returns : goal.returns
-returns c =
+pub returns-clause-parts : goal.returns-clause-parts
+returns-clause-parts c =
     let name : List ℕ = c.args.name.now in
     let tag = c.requires in
     let part : Part = part_view c.end_tag_part.result in

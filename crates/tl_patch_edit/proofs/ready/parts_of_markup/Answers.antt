@@ -1,8 +1,6 @@
-use Rattle.std.proofs.Common.{sym, ◌∙◌}
 use Rattle.tl_patch_edit.specs.Parts.{parts_view}
 use Rattle.tl_patch_edit.proofs.EndTags.{markup_gives}
 use Rattle.tl_patch_edit.proofs.ready.parts_of_markup.Goals as goal
 
 pub returns : goal.returns
-returns c =
-    markup_gives c.args.markup.now (parts_view c.in_ok-parts.parts.items) (sym c.has_mark-has_mark.ensures ∙ c.if-has_mark.false) c.in_ok-parts.ensures
+returns c = λ e. markup_gives c.args.markup.now (parts_view c.in_ok-parts.parts.items) e c.in_ok-parts.ensures

@@ -1,0 +1,133 @@
+-- Why the code gives up, in its own terms.
+use Rattle.std.specs.Prelude.{◌≡◌, ◌≤◌, ◌<◌, ◌⊎◌, ℕ, Bool, true, false, List, ◌∷◌, ◌++◌, length, None, Option, Some, ⊤}
+use Rattle.std.specs.List.{Contains, slice_get}
+use Rattle.tl_html_spec.specs.Pieces.{pieces, runs}
+use Rattle.tl_html_tokens.specs.Characters.{characters_of}
+use Rattle.tl_html_tokens.specs.declared.mode.Mode.{Mode}
+use Rattle.tl_html_tokens.specs.declared.stage.TokenKind.TheVariants as kind
+use Rattle.tl_html_tokens.specs.declared.token.Token.{Token}
+use Rattle.tl_patch_spec.specs.Markup.{is_name}
+use Rattle.tl_patch_spec.specs.Patches.{Content, Markup, Patch, Put, Text, asked_of}
+use Rattle.tl_patch_spec.specs.Splices.{Splice, are_ordered}
+use Rattle.tl_patch_edit.specs.Asks.{ask_view, asks_view, content_of, is_data, text_form}
+use Rattle.tl_patch_edit.specs.Found.{IsStartAt, has_mark}
+use Rattle.tl_patch_edit.specs.Parts.{Part}
+use Rattle.tl_patch_edit.specs.declared.ask.Ask.{Ask}
+use Rattle.tl_patch_edit.specs.declared.ask.PlacedAsk.{PlacedAsk}
+use Rattle.tl_patch_edit.specs.declared.ask.Put.{Put as CodePut}
+use Rattle.tl_patch_edit.specs.declared.ask.Put.TheVariants as put
+use Rattle.tl_patch_edit.specs.declared.ask.Start.{Start}
+use Rattle.tl_patch_edit.specs.declared.tag.ReadyAsk.{ReadyAsk}
+use Rattle.tl_patch_edit.specs.declared.error.EditError.{EditError}
+use Rattle.tl_patch_edit.specs.declared.error.EditError.TheVariants as error
+
+-- from this number on no token is a start tag at a place
+abbrev pub NoStartFrom : ℕ → List Token → ℕ → Type 0
+NoStartFrom from tokens place = (n : ℕ) (t : Token) → from ≤ n → slice_get tokens n ≡ Some t →
+    t.start ≡ place → t.kind ≡ kind.StartTag → ⊥
+
+abbrev pub IsStartError : ℕ → List Token → ℕ → EditError → Type 0
+IsStartError from tokens place (error.NoStartTag p) = (p ≡ place) × NoStartFrom from tokens place
+IsStartError from tokens place _ = ⊥
+
+-- the start tag of this number begins at one of these places, if there are some
+abbrev pub ReachesFrom : List Token → List ℕ → ℕ → Type 0
+ReachesFrom tokens places from = (from ≡ 0)
+    ⊎ ((place : ℕ) × (t : Token) × Contains places place × IsStartAt tokens place from t)
+
+-- one of these places at which no start tag begins from that of the place before on
+pub record IsMissing (tokens : List Token) (places : List ℕ) (place : ℕ) : Type 0 where
+  pub front : List ℕ
+  pub back : List ℕ
+  pub is : places ≡ front ++ place ∷ back
+  pub from : ℕ
+  pub reaches : ReachesFrom tokens front from
+  pub none : NoStartFrom from tokens place
+
+abbrev pub IsStartsError : List Token → List ℕ → EditError → Type 0
+IsStartsError tokens places error.OutOfMemory = ⊤
+IsStartsError tokens places (error.NoStartTag p) = IsMissing tokens places p
+IsStartsError tokens places _ = ⊥
+
+-- what is asked for of the element at a place is nothing
+abbrev pub IsPlanError : ℕ → Option (List (Splice Put)) → EditError → Type 0
+IsPlanError place asked error.OutOfMemory = ⊤
+IsPlanError place asked (error.NotMeant p) = (p ≡ place) × (asked ≡ None)
+IsPlanError place asked _ = ⊥
+
+-- the patch can't be meant for the element of one of these start tags
+pub record IsUnmeant (page : List ℕ) (patch : Patch) (starts : List Start) (place : ℕ) :
+    Type 0 where
+  pub start : Start
+  pub among : Contains starts start
+  pub begins : start.token.start ≡ place
+  pub none : asked_of (runs (pieces page)) start.number patch ≡ None
+
+abbrev pub IsAsksError : List ℕ → Patch → List Start → EditError → Type 0
+IsAsksError page patch starts error.OutOfMemory = ⊤
+IsAsksError page patch starts (error.NotMeant p) = IsUnmeant page patch starts p
+IsAsksError page patch starts _ = ⊥
+
+-- an ask of the patch of the element of one of these start tags
+pub record IsPlanned (page : List ℕ) (patch : Patch) (starts : List Start) (one : PlacedAsk) :
+    Type 0 where
+  pub among : Contains starts one.start
+  pub asks : List (Splice Put)
+  pub asked : asked_of (runs (pieces page)) one.start.number patch ≡ Some asks
+  pub is : Contains asks (ask_view (content_of patch) one.ask)
+
+-- whether the name of a tag that is put can stand as it is
+abbrev pub has_name : CodePut → Bool
+has_name (put.EndTag name) = is_name name.now
+has_name (put.Renamed name) = is_name name.now
+has_name _ = true
+
+abbrev pub CannotStandIn : Mode → Content → Type 0
+CannotStandIn m (Text text) = characters_of m (text_form m text) ≡ text → ⊥
+CannotStandIn m (Markup markup) = (is_data m ≡ false) ⊎ (has_mark markup ≡ true)
+
+abbrev pub CannotPutIn : Content → Mode → CodePut → Type 0
+CannotPutIn c m put.Content = CannotStandIn m c
+CannotPutIn c m (put.EndTagAndContent raw) = CannotStandIn m c
+CannotPutIn c m _ = ⊥
+
+-- what is asked for can't be written at its part
+pub record CannotPut (c : Content) (parts : List Part) (ask : Ask) : Type 0 where
+  pub place : Part
+  pub stands : slice_get parts ask.from ≡ Some place
+  pub cannot : (has_name ask.put ≡ false) ⊎ CannotPutIn c place.mode ask.put
+
+-- an ask of the element at a place
+pub record IsOneAt (asks : List PlacedAsk) (place : ℕ) (one : PlacedAsk) : Type 0 where
+  pub among : Contains asks one
+  pub begins : one.start.token.start ≡ place
+
+-- an ask begins before an end
+abbrev pub IsWithin : ℕ → ReadyAsk → Type 0
+IsWithin end ready = ready.placed.ask.from < end
+
+abbrev pub IsReadyError : Content → List Part → PlacedAsk → EditError → Type 0
+IsReadyError c parts one error.OutOfMemory = ⊤
+IsReadyError c parts one (error.EndOfPage p) =
+    (one.start.token.start ≡ p) × (length parts ≤ one.ask.from)
+IsReadyError c parts one (error.NotWritten p) =
+    (one.start.token.start ≡ p) × CannotPut c parts one.ask
+IsReadyError c parts one (error.ReadOtherwise p) = one.start.token.start ≡ p
+IsReadyError c parts one _ = ⊥
+
+abbrev pub IsReadError : ℕ → EditError → Type 0
+IsReadError place error.OutOfMemory = ⊤
+IsReadError place (error.ReadOtherwise p) = p ≡ place
+IsReadError place _ = ⊥
+
+abbrev pub IsSpliceError : Content → List Part → List PlacedAsk → EditError → Type 0
+IsSpliceError c parts asks error.OutOfMemory = ⊤
+IsSpliceError c parts asks (error.EndOfPage p) =
+    (one : PlacedAsk) × IsOneAt asks p one × (length parts ≤ one.ask.from)
+IsSpliceError c parts asks (error.NotWritten p) =
+    (one : PlacedAsk) × IsOneAt asks p one × CannotPut c parts one.ask
+IsSpliceError c parts asks (error.Across p) =
+    (one : PlacedAsk) × IsOneAt asks p one
+    × (are_ordered 0 (length parts) (asks_view c asks) ≡ false)
+IsSpliceError c parts asks (error.ReadOtherwise p) = ⊤
+IsSpliceError c parts asks _ = ⊥

@@ -1,0 +1,138 @@
+-- Why a page is not edited.
+use Rattle.std.specs.Prelude.{◌≡◌, ◌≤◌, ◌<◌, ◌⊎◌, ℕ, true, false, List, [], ◌∷◌, ◌++◌, length, map, None, Some, ⊤}
+use Rattle.std.specs.List.{All, Contains, slice_get}
+use Rattle.std.specs.List.Sorted.{IsPermutation}
+use Rattle.tl_html_spec.specs.HtmlTokenizer.{State}
+use Rattle.tl_html_spec.specs.Pieces.{Piece, pieces, placed, runs}
+use Rattle.tl_html_tokens.specs.Characters.{characters_of}
+use Rattle.tl_html_tokens.specs.Kinds.{IsStartTag}
+use Rattle.tl_html_tokens.specs.Modes.{state_of}
+use Rattle.tl_html_tokens.specs.Tokens.{mark_len}
+use Rattle.tl_html_tokens.specs.declared.mode.Mode.{Mode}
+use Rattle.tl_patch_spec.specs.Markup.{is_name}
+use Rattle.tl_patch_spec.specs.Patches.{Changed, Content, Markup, NewContent, NewEndTag, Patch, Put, Text, asked_of, content_pieces}
+use Rattle.tl_patch_spec.specs.Splices.{Splice}
+use Rattle.tl_patch_spec.specs.TagChanges.{Rename}
+use Rattle.tl_patch_spec.specs.Together.{Asked, ask_of, asked_each}
+use Rattle.tl_patch_edit.specs.Asks.{text_form}
+use Rattle.tl_patch_edit.specs.Found.{has_mark}
+use Rattle.tl_patch_edit.specs.Several.{BeginAt}
+use Rattle.tl_patch_edit.specs.declared.error.EditError.{EditError}
+use Rattle.tl_patch_edit.specs.declared.error.EditError.TheVariants as error
+
+-- the pieces of a page, where characters side by side are one, and those with the bytes at which
+-- they begin
+abbrev pub pieces_in : List ℕ → List Piece
+pieces_in page = runs (pieces page)
+
+abbrev pub placed_pieces : List ℕ → List (ℕ × Piece)
+placed_pieces page = placed (mark_len page) (pieces_in page)
+
+-- this patch of each element whose start tag begins at one of these bytes
+abbrev pub patch_each : Patch → List ℕ → List (ℕ × Patch)
+patch_each patch places = map (λ (place : ℕ). (place, patch)) places
+
+-- no start tag of a page begins at this byte
+abbrev pub NoneBeginsAt : List ℕ → ℕ → Type 0
+NoneBeginsAt page place = (number : ℕ) (p : Piece) →
+    slice_get (placed_pieces page) number ≡ Some (place, p) → IsStartTag p.tokens → ⊥
+
+-- a place is one of these, and where those before it are no greater no start tag begins there
+pub record LacksStartTag (page places : List ℕ) (place : ℕ) : Type 0 where
+  pub front : List ℕ
+  pub back : List ℕ
+  pub is : places ≡ front ++ place ∷ back
+  pub none : All (λ before. before ≤ place) front → NoneBeginsAt page place
+
+-- a patch is asked for of the element whose start tag begins at this place, which is the piece of
+-- this number
+pub record IsPatchAt (page : List ℕ) (patches : List (ℕ × Patch)) (place : ℕ) : Type 0 where
+  pub patch : Patch
+  pub among : Contains patches (place, patch)
+  pub number : ℕ
+  pub piece : Piece
+  pub begins : slice_get (placed_pieces page) number ≡ Some (place, piece)
+
+-- such a patch can't be meant for its element
+pub record CannotBeMeant (page : List ℕ) (patches : List (ℕ × Patch)) (place : ℕ) : Type 0 where
+  pub at : IsPatchAt page patches place
+  pub none : asked_of (pieces_in page) at.number at.patch ≡ None
+
+-- such a patch asks for this splice
+pub record IsAskAt (page : List ℕ) (patches : List (ℕ × Patch)) (place : ℕ) (ask : Splice Put) :
+    Type 0 where
+  pub at : IsPatchAt page patches place
+  pub asks : List (Splice Put)
+  pub asked : asked_of (pieces_in page) at.number at.patch ≡ Some asks
+  pub among : Contains asks ask
+
+-- which begins behind the last piece of the page
+pub record StandsPastEnd (page : List ℕ) (patches : List (ℕ × Patch)) (place : ℕ) : Type 0 where
+  pub ask : Splice Put
+  pub at : IsAskAt page patches place ask
+  pub past : length (pieces_in page) ≤ ask.from
+
+-- content can't stand where the tokenizer is in this state: markup in a raw text, markup that
+-- begins with a byte order mark, a text that would be read otherwise
+abbrev pub CannotStand : State → Content → Type 0
+CannotStand state (Markup markup) =
+    (content_pieces state (Markup markup) ≡ None) ⊎ (has_mark markup ≡ true)
+CannotStand state (Text text) =
+    (m : Mode) × (state ≡ state_of m) × (characters_of m (text_form m text) ≡ text → ⊥)
+
+-- so it can't, or a name is no name of a tag as it is
+abbrev pub CannotBePut : Piece → Put → Type 0
+CannotBePut p (NewContent content) = CannotStand p.rest content
+CannotBePut p (NewEndTag name) = is_name name ≡ false
+CannotBePut p (Changed (Rename name)) = is_name name ≡ false
+CannotBePut p (Changed change) = ⊥
+
+-- which puts what can't be put there
+pub record CannotBeWritten (page : List ℕ) (patches : List (ℕ × Patch)) (place : ℕ) : Type 0 where
+  pub ask : Splice Put
+  pub at : IsAskAt page patches place ask
+  pub piece : Piece
+  pub stands : slice_get (pieces_in page) ask.from ≡ Some piece
+  pub put : Put
+  pub among : Contains ask.put put
+  pub cannot : CannotBePut piece put
+
+-- a splice ends before it begins, or behind an end
+abbrev pub IsOutside : ℕ → Splice Put → Type 0
+IsOutside end s = (s.until < s.from) ⊎ (end < s.until)
+
+-- each of two splices begins before the other ends
+pub record Overlap (s t : Splice Put) : Type 0 where
+  pub first : t.from < s.until
+  pub second : s.from < t.until
+
+-- one of these splices isn't within so many pieces, or two side by side overlap
+abbrev pub AreAcross : ℕ → List (Splice Put) → Type 0
+AreAcross end [] = ⊥
+AreAcross end (s ∷ []) = IsOutside end s
+AreAcross end (s ∷ t ∷ splices) =
+    IsOutside end s ⊎ (Overlap s t ⊎ AreAcross end (t ∷ splices))
+
+-- a place is one of these, and of the splices that the patch asks for at them, in some order, two
+-- overlap, or one isn't within the page
+pub record StandAcross (page places : List ℕ) (patch : Patch) (place : ℕ) : Type 0 where
+  pub among : Contains places place
+  pub numbers : List ℕ
+  pub begin : BeginAt 0 (placed_pieces page) places numbers
+  pub each : List Asked
+  pub asked : asked_each (pieces_in page) patch 0 numbers ≡ Some each
+  pub asks : List Asked
+  pub same : IsPermutation each asks
+  pub across : AreAcross (length (pieces_in page)) (map ask_of asks)
+
+abbrev pub IsAcrossError : List ℕ → List ℕ → Patch → EditError → Type 0
+IsAcrossError page places patch (error.Across place) = StandAcross page places patch place
+IsAcrossError page places patch _ = ⊤
+
+-- when each error comes, where these patches are asked for of the elements at these places
+abbrev pub IsRefused : List ℕ → List ℕ → List (ℕ × Patch) → EditError → Type 0
+IsRefused page places patches (error.NoStartTag place) = LacksStartTag page places place
+IsRefused page places patches (error.NotMeant place) = CannotBeMeant page patches place
+IsRefused page places patches (error.EndOfPage place) = StandsPastEnd page patches place
+IsRefused page places patches (error.NotWritten place) = CannotBeWritten page patches place
+IsRefused page places patches _ = ⊤
