@@ -8,7 +8,7 @@ use Rattle.tl_patch_edit.specs.declared.error.EditError.TheVariants as edit
 use Rattle.tl_patch_select.specs.declared.edit_error.SelectionEditError.{SelectionEditError}
 use Rattle.tl_patch_select.specs.declared.edit_error.SelectionEditError.TheVariants as selection
 use Rattle.tl_patch_select.specs.declared.error.SelectionPatchError.{SelectionPatchError}
-use Rattle.tl_patch_select.specs.declared.error.SelectionPatchError.TheVariants.{NoStartTag, NotWritten, ReadOtherwise, TooLong, OutOfMemory}
+use Rattle.tl_patch_select.specs.declared.error.SelectionPatchError.TheVariants.{NoStartTag, NotWritten, TooLong, OutOfMemory}
 
 abbrev pub error_of_normalize : NormalizeError → SelectionPatchError
 error_of_normalize normalize.TooLong = TooLong
@@ -17,7 +17,6 @@ error_of_normalize normalize.OutOfMemory = OutOfMemory
 abbrev pub error_of_patch : PatchError → SelectionPatchError
 error_of_patch (patch.NoStartTag place) = NoStartTag place
 error_of_patch (patch.NotWritten place) = NotWritten place
-error_of_patch patch.ReadOtherwise = ReadOtherwise
 error_of_patch patch.OutOfMemory = OutOfMemory
 
 abbrev pub edit_error_of_normalize : NormalizeError → SelectionEditError

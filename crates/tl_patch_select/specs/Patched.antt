@@ -7,9 +7,11 @@ use Rattle.tl_css_select.specs.Spelling.{decoded_nodes}
 use Rattle.tl_html_spec.specs.HtmlForm.{html_form}
 use Rattle.tl_html_spec.specs.Nodes.{sources}
 use Rattle.tl_patch_page.specs.Pages.{IsPatched}
+use Rattle.tl_patch_page.specs.Refused.{IsReason}
 use Rattle.tl_patch_page.specs.View.{PlacedChange}
+use Rattle.tl_patch_page.specs.declared.error.PatchError.{PatchError}
 use Rattle.tl_patch_spec.specs.TagChanges.{TagChange}
-use Rattle.tl_patch_select.specs.Selected.{places_of}
+use Rattle.tl_patch_select.specs.Selected.{AreSelected, places_of}
 
 -- a change at each of these places
 abbrev pub changes_at : TagChange → List ℕ → List PlacedChange
@@ -22,3 +24,11 @@ pub record IsPatchedWhere (e : Css) (change : TagChange) (page text places : Lis
   pub found : AreFound (decoded_nodes (document (html_form page)).nodes) e numbers
   pub places_found : places ≡ places_of (sources page) numbers
   pub patched : IsPatched (changes_at change places) page text
+
+-- this change of the start tag of each element where the selector holds is refused, and for this
+-- reason
+pub record IsChangeRefusedWhere (e : Css) (change : TagChange) (page : List ℕ)
+    (error : PatchError) : Type 0 where
+  pub places : List ℕ
+  pub selected : AreSelected e page places
+  pub refused : IsReason (changes_at change places) page error

@@ -1,8 +1,9 @@
 //! A page with the elements changed where a selector holds.
 ghost use Rattle.std.specs.Prelude.{◌≡◌, ◌<◌, Err, IfOk, length};
 ghost use Rattle.tl_patch_edit.specs.View.{patch_view};
-ghost use Rattle.tl_patch_select.specs.Edited.{IsEditedWhere};
-ghost use Rattle.tl_patch_select.specs.declared.edit_error.SelectionEditError.TheVariants.{TooLong};
+ghost use Rattle.tl_patch_edit.specs.declared.error.EditError.{EditError};
+ghost use Rattle.tl_patch_select.specs.Edited.{IsEditedWhere, IsRefusedWhere};
+ghost use Rattle.tl_patch_select.specs.declared.edit_error.SelectionEditError.TheVariants.{Refused, TooLong};
 
 use crate::edit_error::SelectionEditError;
 use crate::patched::Patched;
@@ -23,6 +24,8 @@ pub fn edit_selected(
 ) -> Result<Patched, SelectionEditError>
     ensures edited { IfOk result (λ p. IsEditedWhere selector.now (patch_view patch.entry)
         page.now p.bytes.items p.places.items) }
+    ensures refused { (error : EditError) → result ≡ Err (Refused error) →
+        IsRefusedWhere selector.now (patch_view patch.entry) page.now error }
     ensures long { u32.MAX < length page.now → result ≡ Err TooLong }
 {
     let places = selected(alloc, page, selector)?;

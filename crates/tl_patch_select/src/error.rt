@@ -18,9 +18,6 @@ pub enum SelectionPatchError {
     /// What is to be set in the tag at this place can't be written.
     #[error("the tag at byte {0} can't be changed so")]
     NotWritten(usize),
-    /// The page would be read otherwise than asked.
-    #[error("the page would be read otherwise than asked")]
-    ReadOtherwise,
     /// The page or its form is longer than 4294967295 bytes.
     #[error("too long")]
     TooLong,
@@ -55,7 +52,6 @@ impl From<PatchError> for SelectionPatchError {
         match error {
             PatchError::NoStartTag(place) => SelectionPatchError::NoStartTag(place),
             PatchError::NotWritten(place) => SelectionPatchError::NotWritten(place),
-            PatchError::ReadOtherwise => SelectionPatchError::ReadOtherwise,
             PatchError::OutOfMemory => SelectionPatchError::OutOfMemory,
         }
     }

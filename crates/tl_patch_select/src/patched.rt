@@ -1,8 +1,9 @@
 //! A page with the tags changed where a selector holds.
-ghost use Rattle.std.specs.Prelude.{◌≡◌, ◌<◌, Err, IfOk, length, map};
+ghost use Rattle.std.specs.Prelude.{◌≡◌, ◌<◌, ℕ, Err, IfOk, length, map};
 ghost use Rattle.tl_patch_page.specs.View.{change_view, patch_view};
-ghost use Rattle.tl_patch_select.specs.Patched.{IsPatchedWhere, changes_at};
-ghost use Rattle.tl_patch_select.specs.declared.error.SelectionPatchError.TheVariants.{TooLong};
+ghost use Rattle.tl_patch_select.specs.Patched.{IsChangeRefusedWhere, IsPatchedWhere, changes_at};
+ghost use Rattle.tl_patch_select.specs.declared.error.SelectionPatchError.TheVariants.{NoStartTag, NotWritten, TooLong};
+ghost use Rattle.tl_patch_page.specs.declared.error.PatchError.TheVariants as page_error;
 
 use crate::error::SelectionPatchError;
 use crate::selected::selected;
@@ -49,6 +50,12 @@ pub fn patch_selected(
 ) -> Result<Patched, SelectionPatchError>
     ensures patched { IfOk result (λ p. IsPatchedWhere selector.now (change_view change.entry)
         page.now p.bytes.items p.places.items) }
+    ensures no_start_tag { (place : ℕ) → result ≡ Err (NoStartTag place) →
+        IsChangeRefusedWhere selector.now (change_view change.entry) page.now
+        (page_error.NoStartTag place) }
+    ensures not_written { (place : ℕ) → result ≡ Err (NotWritten place) →
+        IsChangeRefusedWhere selector.now (change_view change.entry) page.now
+        (page_error.NotWritten place) }
     ensures long { u32.MAX < length page.now → result ≡ Err TooLong }
 {
     let places = selected(alloc, page, selector)?;
