@@ -6,8 +6,8 @@ use Rattle.std.specs.Option.{option_map}
 use Rattle.std.specs.Str.{bytes_eq}
 use Rattle.tl_safe.specs.Lists.{ListedWords}
 use Rattle.tl_safe.specs.Names.{words_of}
-use Rattle.tl_cli.specs.declared.lists.ListTexts.{ListTexts}
-use Rattle.tl_cli.specs.declared.lists.WordLists.{WordLists}
+use Rattle.tl_lists.specs.declared.lists.ListTexts.{ListTexts}
+use Rattle.tl_lists.specs.declared.lists.WordLists.{WordLists}
 
 abbrev pub is_comma : ℕ → Bool
 is_comma b = b == 44

@@ -6,7 +6,7 @@ use Rattle.std.proofs.lemmas.List.Splits.{slice_split_first, slice_split_none}
 use Rattle.std.proofs.lemmas.Str.Pattern.{IsSplitOnceResult, split_once_first, split_parts}
 use Rattle.std.specs.Borrow.{Bor}
 use Rattle.std.specs.List.{slice_split}
-use Rattle.tl_cli.specs.ListOptions.{is_comma}
+use Rattle.tl_lists.specs.ListOptions.{is_comma}
 
 no_comma : (b : ℕ) → b ≢ 44 → is_comma b ≡ false
 no_comma b h = grind (arith, nat_tests)

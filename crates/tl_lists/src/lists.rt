@@ -2,7 +2,7 @@
 ghost use Rattle.std.specs.Prelude.{◌≡◌, ◌++◌, ◌∷◌, ◌<◌, [], length, IfOk, IfSome, OnOk, string_bytes};
 ghost use Rattle.std.specs.List.{slice_split};
 ghost use Rattle.tl_safe.specs.Names.{listed_words, words_of};
-ghost use Rattle.tl_cli.specs.ListOptions.{has_rel, is_comma, lists_in, lists_or_default, nofollow_line, option_line, policy_text, prefix_or_default, list_options, relative_line, text_of, with_rel, words_in, remaining_words, words_or_default};
+ghost use Rattle.tl_lists.specs.ListOptions.{has_rel, is_comma, lists_in, lists_or_default, nofollow_line, option_line, policy_text, prefix_or_default, list_options, relative_line, text_of, with_rel, words_in, remaining_words, words_or_default};
 
 use std::alloc::{AllocError, Global};
 use tl_safe::Lists;

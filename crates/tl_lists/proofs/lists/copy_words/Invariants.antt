@@ -1,6 +1,6 @@
 use Rattle.std.proofs.Common.{◌≡◌, ◌++◌, drop}
 use Rattle.tl_safe.specs.Names.{words_of}
-use Rattle.tl_cli.proofs.lists.copy_words.Given as goal
+use Rattle.tl_lists.proofs.lists.copy_words.Given as goal
 
 -- the words so far, and then those that are left
 abbrev pub invariant-loop-word : goal.invariant-loop-word

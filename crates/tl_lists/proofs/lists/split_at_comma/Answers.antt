@@ -1,5 +1,5 @@
-use Rattle.tl_cli.proofs.Commas.{cut_some, cut_none}
-use Rattle.tl_cli.proofs.lists.split_at_comma.Goals as goal
+use Rattle.tl_lists.proofs.Commas.{cut_some, cut_none}
+use Rattle.tl_lists.proofs.lists.split_at_comma.Goals as goal
 
 pub returns-in-Some-clause-words : goal.returns-in-Some-clause-words
 returns-in-Some-clause-words c = cut_some c.args.text.now (c.in-Some.word, c.in-Some.more) c.in-Some.ensures.cases

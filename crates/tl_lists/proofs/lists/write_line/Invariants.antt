@@ -1,7 +1,7 @@
 use Rattle.std.proofs.Common.{◌≡◌, ◌++◌, drop, string_bytes}
 use Rattle.tl_safe.specs.Names.{words_of}
-use Rattle.tl_cli.specs.ListOptions.{after_commas}
-use Rattle.tl_cli.proofs.lists.write_line.Given as goal
+use Rattle.tl_lists.specs.ListOptions.{after_commas}
+use Rattle.tl_lists.proofs.lists.write_line.Given as goal
 
 -- what is written, and then the words that are left
 abbrev pub invariant-loop-word : goal.invariant-loop-word

@@ -2,8 +2,8 @@ use Rattle.std.proofs.Common.{◌≡◌, ◌+◌, ◌++◌, length}
 use Rattle.std.specs.List.{filter}
 use Rattle.std.specs.Option.{option_map_or}
 use Rattle.tl_safe.specs.Names.{words_of}
-use Rattle.tl_cli.specs.ListOptions.{is_word, words_in, remaining_words}
-use Rattle.tl_cli.proofs.lists.split_words.Given as goal
+use Rattle.tl_lists.specs.ListOptions.{is_word, words_in, remaining_words}
+use Rattle.tl_lists.proofs.lists.split_words.Given as goal
 
 -- the words so far, and then those of what is left, are those of the text
 abbrev pub invariant-loop-rest : goal.invariant-loop-rest
