@@ -1,0 +1,4 @@
+mod Floats
+mod Said
+mod Texts
+pub mod Walked

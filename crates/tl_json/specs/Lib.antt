@@ -1,0 +1,4 @@
+pub mod Objects
+pub mod Tree
+pub mod Listing
+pub mod Left
