@@ -53,6 +53,11 @@ How pages are read:
   $ tl select --raw a list.html
   <a href="/x" +40click="f()">Bread &amp; butter</a>
 
+JSON:
+
+  $ tl select --json --tree ul list.html
+  [{"attributes":{},"name":"ul","node":0,"text":"Bread & butter3 < 4","children":[{"attributes":{},"name":"li","node":1,"children":[{"attributes":{"@click":"f()","href":"/x"},"name":"a","node":2,"children":[{"attributes":{},"name":null,"node":3,"text":"Bread & butter"}]}]},{"attributes":{},"name":"li","node":4,"children":[{"attributes":{},"name":null,"node":5,"text":"3 < 4"}]}]}]
+
 Trees:
 
   $ printf '<nav id=top>\n<a class="next big" href=/2 title=t>Bread\n &amp; butter</a><input name=q required></nav><!-- end -->' >tree.html

@@ -35,6 +35,21 @@ Each command, and each option of `select`.
   [{"attributes":{"a":"y&","b":"","class":"c","id":"x"},"name":"p","node":0,"text":"de\""},{"attributes":{},"name":"b","node":2,"text":"e\""}]
   $ printf 'a<!--b--><i>' | tl select --json '*'
   [{"attributes":{},"name":"i","node":2,"text":""}]
+  $ printf 'a<p id=x b>t&amp;"<b>u</b><!--c--><br></p><ul><li>1<li>2</ul>' >below
+  $ tl select --json --tree p below
+  [{"attributes":{"b":"","id":"x"},"name":"p","node":1,"text":"t&\"u","children":[{"attributes":{},"name":null,"node":2,"text":"t&\""},{"attributes":{},"name":"b","node":3,"children":[{"attributes":{},"name":null,"node":4,"text":"u"}]},{"attributes":{},"name":null,"node":5,"text":""},{"attributes":{},"name":"br","node":6,"children":[]}]}]
+  $ tl select --tree --json --raw -m1 p below
+  [{"attributes":{"b":"","id":"x"},"name":"p","node":1,"text":"t&amp;\"u","children":[{"attributes":{},"name":null,"node":2,"text":"t&amp;\""},{"attributes":{},"name":"b","node":3,"children":[{"attributes":{},"name":null,"node":4,"text":"u"}]},{"attributes":{},"name":null,"node":5,"text":""},{"attributes":{},"name":"br","node":6,"children":[]}]}]
+  $ tl select --json --tree --as-is br -0 below
+  [{"attributes":{},"name":"br","node":6,"text":"","children":[]}]\x00 (esc) (no-eol)
+  $ tl select --json --tree 'ul, li:last-child' below
+  [{"attributes":{},"name":"ul","node":7,"text":"12","children":[{"attributes":{},"name":"li","node":8,"children":[{"attributes":{},"name":null,"node":9,"text":"1"}]},{"attributes":{},"name":"li","node":10,"children":[{"attributes":{},"name":null,"node":11,"text":"2"}]}]},{"attributes":{},"name":"li","node":10,"text":"2","children":[{"attributes":{},"name":null,"node":11,"text":"2"}]}]
+  $ tl select --json --tree i below
+  []
+  [1]
+  $ tl select --json --tree -q li below
+  $ python3 -c 'print("<b>" * 100000 + "x")' | tl select --json --tree -m1 b | python3 -c 'import sys; s = sys.stdin.read().strip(); print(len(s), s.count("children"), s[-9:])'
+  5488961 100000 ]}]}]}]}]
   $ tl links <page
   i.png
   j.png 2x
@@ -356,6 +371,21 @@ Nothing was found, or something is refused or not understood.
   error: the argument '--first' cannot be used with '--json' (err)
   ...
   [2]
+  $ tl select --tree p
+  error: the following required arguments were not provided: (err)
+    --json (err)
+  ...
+  [2]
+  $ tl select -c --tree p
+  error: the argument '--count' cannot be used with '--tree' (err)
+  ...
+  [2]
+  $ tl select -1 --json --tree p
+  error: the argument '--first' cannot be used with: (err)
+    --json (err)
+    --tree (err)
+  ...
+  [2]
   $ tl select -t --json p
   error: the argument '--text' cannot be used with '--json' (err)
   ...
@@ -460,6 +490,14 @@ Pages in files.
   $ tl select --json p one two
   {"attributes":{},"file":"one","name":"p","node":0,"text":"one"}
   {"attributes":{},"file":"two","name":"p","node":0,"text":"two\n"}
+  $ tl select --json --tree p one two
+  {"attributes":{},"file":"one","name":"p","node":0,"text":"one","children":[{"attributes":{},"name":null,"node":1,"text":"one"}]}
+  {"attributes":{},"file":"two","name":"p","node":0,"text":"two\n","children":[{"attributes":{},"name":null,"node":1,"text":"two\n"},{"attributes":{},"name":"b","node":2,"children":[]}]}
+  $ tl select --json --tree --no-name b one two
+  []
+  [{"attributes":{},"name":"b","node":2,"text":"","children":[]}]
+  $ tl select --json --tree -l b one two
+  two
   $ tl select --json --no-name p one two
   [{"attributes":{},"name":"p","node":0,"text":"one"}]
   [{"attributes":{},"name":"p","node":0,"text":"two\n"}]
@@ -784,6 +822,7 @@ Help names each command and each option, and words the lists.
   --quiet
   --raw
   --text
+  --tree
   $ tl sanitize --help >help && grep -oE -e '--[a-z-]+' help | sort -u
   --as-is
   --comments

@@ -10,7 +10,7 @@ _tl() {
         --attribute|--backup|--in|--keys|--link-keys|--links|--max-count|--number|--prefix|--tags|-a|-m|-n) COMPREPLY=(); return ;;
     esac
     case ${COMP_WORDS[1]} in
-        select) options='-1 --first -m --max-count --as-is --raw --encoding -q --quiet -l --files-with-matches -0 --null -a --attribute -t --text -H --inside -n --number -c --count --json --no-name -h --help' ;;
+        select) options='-1 --first -m --max-count --as-is --raw --encoding -q --quiet -l --files-with-matches -0 --null -a --attribute -t --text -H --inside -n --number -c --count --json --tree --no-name -h --help' ;;
         links) options='--no-name --as-is --raw --encoding -q --quiet -l --files-with-matches -0 --null -h --help' ;;
         text) options='--no-name --as-is --raw --encoding -w --whitespace --in -h --help' ;;
         table) options='--no-name --as-is --raw --encoding -n --number -h --help' ;;

@@ -32,6 +32,7 @@ complete -c tl -n '__fish_seen_subcommand_from select' -s H -l inside -d 'The pr
 complete -c tl -n '__fish_seen_subcommand_from select' -s n -l number -d 'Its number, from 0; edit takes those of --as-is'
 complete -c tl -n '__fish_seen_subcommand_from select' -s c -l count -d 'How many nodes there are, once for each page'
 complete -c tl -n '__fish_seen_subcommand_from select' -l json -d 'JSON: its number, name, attributes and text'
+complete -c tl -n '__fish_seen_subcommand_from select' -l tree -d 'With --json: its children too, as a tree'
 complete -c tl -n '__fish_seen_subcommand_from select' -l no-name -d 'No `FILE:` before each line, where there are several'
 complete -c tl -n '__fish_seen_subcommand_from select' -s h -l help -d 'Print help'
 complete -c tl -n '__fish_seen_subcommand_from links' -l no-name -d 'No `FILE:` before each line, where there are several'

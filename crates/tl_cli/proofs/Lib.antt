@@ -1,3 +1,1 @@
-pub mod Commas
-mod Floats
 pub mod Forms

@@ -13,10 +13,10 @@ pub record Finding : Type 0 where
 abbrev pub finding_of : Output → Finding
 finding_of output = record { text = string_bytes output.text; is_found = output.is_found }
 
--- whether a text has bytes
-abbrev pub has_bytes : List ℕ → Bool
-has_bytes [] = false
-has_bytes (byte ∷ text) = true
+-- whether there is something
+abbrev pub has_items : {X : Type 0} → List X → Bool
+has_items [] = false
+has_items (x ∷ xs) = true
 
 -- what looks for nothing finds all that it gives
 abbrev pub whole : List ℕ → Finding
@@ -28,7 +28,11 @@ whole_in spelling text = whole (text_written spelling text)
 
 -- answers of which none is empty
 abbrev pub listed : List ℕ → Finding
-listed text = record { text = text; is_found = has_bytes text }
+listed text = record { text = text; is_found = has_items text }
+
+-- a text of these nodes: something is found where there are any
+abbrev pub of_nodes : List ℕ → List ℕ → Finding
+of_nodes numbers text = record { text = text; is_found = has_items numbers }
 
 -- a text and what ends it, if there is one
 abbrev pub first_line : List ℕ → Option (List ℕ) → Finding

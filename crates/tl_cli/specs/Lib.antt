@@ -3,8 +3,6 @@ pub mod Lines
 pub mod Selection
 pub mod Task
 pub mod Filename
-pub mod Json
 pub mod Reports
-pub mod ListOptions
 pub mod UsageErrors
 pub mod CsvLines

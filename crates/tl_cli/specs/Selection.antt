@@ -5,8 +5,8 @@ use Rattle.tl_spec.specs.Tree.Document.{Node}
 use Rattle.tl_page.specs.Outcome.{Outcome, joined, outcome_map, success}
 use Rattle.tl_extract.specs.declared.field.Field.{Field}
 use Rattle.tl_extract.specs.Field.{field_at}
-use Rattle.tl_cli.specs.Findings.{Finding, listed, number_line}
-use Rattle.tl_cli.specs.Json.{array_line, list_data, object_lines}
+use Rattle.tl_json.specs.Listing.{array_of_nodes, object_lines}
+use Rattle.tl_cli.specs.Findings.{Finding, listed, number_line, of_nodes}
 use Rattle.tl_css_select.specs.Spelling.{decoded_nodes}
 use Rattle.tl_cli.specs.declared.reading.Reading.{Reading}
 use Rattle.tl_cli.specs.declared.reading.Reading.TheVariants.{Browser, AsIs}
@@ -41,7 +41,7 @@ abbrev pub listing_of : Listing → List ℕ → List Node → List ℕ → Outc
 listing_of (Fields field) end nodes numbers =
     outcome_map listed (field_lines field end nodes numbers)
 listing_of Count end nodes numbers = success (number_line end (length numbers))
-listing_of (Objects spelling) end nodes numbers =
-    outcome_map (array_line end) (list_data spelling nodes numbers)
-listing_of (Lines spelling file) end nodes numbers =
-    outcome_map listed (object_lines spelling file.now end nodes numbers)
+listing_of (Objects format) end nodes numbers =
+    outcome_map (of_nodes numbers) (array_of_nodes format end nodes numbers)
+listing_of (Lines format) end nodes numbers =
+    outcome_map listed (object_lines format end nodes numbers)

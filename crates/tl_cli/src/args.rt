@@ -6,7 +6,6 @@ ghost use Rattle.tl_cli.specs.declared.args.UsageError.TheVariants.{OutOfMemory}
 
 use crate::edit_words;
 use crate::edit_words::patching;
-use crate::lists::ListTexts;
 use crate::patching::Patching;
 use crate::question::Question;
 use crate::reading::Reading;
@@ -20,6 +19,7 @@ use tl_commands::{Verb, program};
 use tl_css::{Selector, SelectorError, parse};
 use tl_encoding::Encoding;
 use tl_extract::{OutlineFormat, Spelling};
+use tl_lists::ListTexts;
 use tl_page::VERSION;
 use tl_program::script::{Step, steps};
 use tl_safe::Lists;
@@ -178,6 +178,8 @@ fn writing_of(matches: &ArgMatches<'_>) -> Writing {
 fn wanted_answers(matches: &ArgMatches<'_>) -> Wanted {
     if matches.get_flag("count") {
         Wanted::Count
+    } else if matches.get_flag("tree") {
+        Wanted::Trees
     } else if matches.get_flag("json") {
         Wanted::Objects
     } else if matches.get_str("attribute").is_some() {

@@ -1,7 +1,7 @@
 //! What is done with each page.
 use crate::args::Pages;
 use crate::output::Output;
-use crate::selected::{Selected, Wanted};
+use crate::selected::Selected;
 use crate::task::{Task, execute};
 use std::alloc::Global;
 use tl_page::Failure;
@@ -21,7 +21,7 @@ impl<'w> Job<'_, 'w> {
     pub fn says_names(&self) -> bool {
         match self {
             Job::Task(_) => false,
-            Job::Select(selected, _) => selected.wanted == Wanted::Objects,
+            Job::Select(selected, _) => selected.wanted.is_json(),
         }
     }
 

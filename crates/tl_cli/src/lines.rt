@@ -3,7 +3,8 @@ ghost use Rattle.std.specs.Prelude.{◌≡◌, ◌++◌, IfOk, OnOk, flat_map, o
 ghost use Rattle.tl.specs.View.{document_of};
 ghost use Rattle.tl_page.specs.Outcome.{Gives, outcome_map};
 ghost use Rattle.tl_extract.specs.Links.{links_of};
-ghost use Rattle.tl_cli.specs.Findings.{finding_of, listed, number_line};
+ghost use Rattle.tl_json.specs.Listing.{array_of_nodes, object_lines};
+ghost use Rattle.tl_cli.specs.Findings.{finding_of, listed, number_line, of_nodes};
 ghost use Rattle.tl_cli.specs.Lines.{link_line};
 ghost use Rattle.tl_cli.specs.Selection.{ended, field_line, field_lines};
 
@@ -11,6 +12,7 @@ use crate::output::Output;
 use std::alloc::{AllocError, Global};
 use tl::VDom;
 use tl_extract::{Field, Spelling, field_at, links};
+use tl_json::ObjectFormat;
 use tl_page::Failure;
 
 // Adds a text, if it is there, and what ends it.
@@ -58,6 +60,38 @@ pub fn field_lines(
         Gives finding_of (outcome_map listed lines) result }
 {
     Ok(Output::from_lines(lines_of(alloc, document, numbers, field, end)?))
+}
+
+/// An array of JSON with an object for each node of these numbers.
+pub fn object_array(
+    alloc: Global,
+    document: &VDom<'_>,
+    numbers: &[u32],
+    format: &ObjectFormat<'_>,
+    end: &str,
+) -> Result<Output, Failure>
+    ensures { let nodes = (document_of document.now).nodes in
+        let text = array_of_nodes format.now end.now nodes numbers.now in
+        Gives finding_of (outcome_map (of_nodes numbers.now) text) result }
+{
+    let text = tl_json::array(alloc, document, numbers, format, end)?;
+    Ok(Output::of_nodes(numbers, text))
+}
+
+/// An object of JSON for each node of these numbers, each with what ends it.
+pub fn object_lines(
+    alloc: Global,
+    document: &VDom<'_>,
+    numbers: &[u32],
+    format: &ObjectFormat<'_>,
+    end: &str,
+) -> Result<Output, Failure>
+    ensures { let nodes = (document_of document.now).nodes in
+        let lines = object_lines format.now end.now nodes numbers.now in
+        Gives finding_of (outcome_map listed lines) result }
+{
+    let text = tl_json::object_lines(alloc, document, numbers, format, end)?;
+    Ok(Output::from_lines(text))
 }
 
 /// How many nodes there are.

@@ -1,6 +1,6 @@
 //! What a task gives.
 ghost use Rattle.std.specs.Prelude.{◌≡◌, string_bytes};
-ghost use Rattle.tl_cli.specs.Findings.{finding_of, listed, whole};
+ghost use Rattle.tl_cli.specs.Findings.{finding_of, listed, of_nodes, whole};
 
 /// A text, and whether something was found.
 #[derive(Drop)]
@@ -25,6 +25,14 @@ impl Output {
         ensures { finding_of result ≡ listed (string_bytes text) }
     {
         let is_found = !text.is_empty();
+        Output { text, is_found }
+    }
+
+    /// A text of these nodes: something is found where there are any.
+    pub fn of_nodes(numbers: &[u32], text: String) -> Self
+        ensures { finding_of result ≡ of_nodes numbers.now (string_bytes text) }
+    {
+        let is_found = !numbers.is_empty();
         Output { text, is_found }
     }
 }

@@ -6,6 +6,7 @@ use std::alloc::{AllocError, Global};
 use tl_css::Selector;
 use tl_extract::{Field, Spelling};
 use tl_html_write::coded_name;
+use tl_json::ObjectFormat;
 
 /// What is written of nodes.
 #[derive(Clone, Copy, PartialEq, Eq)]
@@ -14,6 +15,8 @@ pub enum Wanted {
     Count,
     /// An object of JSON for each.
     Objects,
+    /// The same with the nodes below it, as a tree.
+    Trees,
     /// The number of each.
     Number,
     /// The markup of each.
@@ -26,6 +29,13 @@ pub enum Wanted {
     Lines,
     /// The value of each at a key.
     Value,
+}
+
+impl Wanted {
+    /// Whether nodes are written as JSON.
+    pub fn is_json(self) -> bool {
+        matches!(self, Wanted::Objects | Wanted::Trees)
+    }
 }
 
 /// What the words of `select` say.
@@ -68,12 +78,21 @@ impl Selected<'_> {
         }
     }
 
+    // How nodes are written as JSON.
+    fn object_format<'k>(&self, file: Option<&'k str>) -> ObjectFormat<'k> {
+        ObjectFormat {
+            spelling: self.spelling,
+            file,
+            has_children: self.wanted == Wanted::Trees,
+        }
+    }
+
     // What is written of the nodes of a file, where the key stands so.
     fn listing<'k>(&self, key: &'k str, file: Option<&'k str>) -> Listing<'k> {
-        match (self.wanted, file) {
-            (Wanted::Count, _) => Listing::Count,
-            (Wanted::Objects, None) => Listing::Objects(self.spelling),
-            (Wanted::Objects, Some(file)) => Listing::Lines(self.spelling, file),
+        match (self.wanted.is_json(), file) {
+            (true, None) => Listing::Objects(self.object_format(None)),
+            (true, Some(_)) => Listing::Lines(self.object_format(file)),
+            _ if self.wanted == Wanted::Count => Listing::Count,
             _ => Listing::Fields(self.field(key)),
         }
     }

@@ -8,8 +8,7 @@ ghost use Rattle.tl_cli.specs.Findings.{finding_of};
 ghost use Rattle.tl_css_select.specs.declared.forest.SelectError.TheVariants.{NotForest, TooLong};
 ghost use Rattle.tl_cli.specs.Selection.{front, listing_of, nodes_read};
 
-use crate::json::{array, object_lines};
-use crate::lines::{count_line, field_lines};
+use crate::lines::{count_line, field_lines, object_array, object_lines};
 use crate::output::Output;
 use crate::reading::Reading;
 use std::alloc::Global;
@@ -17,7 +16,8 @@ use tl::VDom;
 use tl_css::Selector;
 use tl_css_select::document::{select, select_decoded};
 use tl_css_select::forest::SelectError;
-use tl_extract::{Field, Spelling};
+use tl_extract::Field;
+use tl_json::ObjectFormat;
 use tl_page::Failure;
 
 /// What is written of the nodes where a selector holds.
@@ -28,9 +28,9 @@ pub enum Listing<'w> {
     /// How many there are.
     Count,
     /// An array of JSON, with an object for each.
-    Objects(Spelling),
-    /// An object of JSON for each, with the name of the file.
-    Lines(Spelling, &'w str),
+    Objects(ObjectFormat<'w>),
+    /// An object of JSON for each.
+    Lines(ObjectFormat<'w>),
 }
 
 /// Which nodes are looked for, and what is written of them.
@@ -107,10 +107,8 @@ fn list(
     match listing {
         Listing::Fields(field) => field_lines(alloc, document, numbers, field, end),
         Listing::Count => Ok(count_line(alloc, numbers.len(), end)?),
-        Listing::Objects(spelling) => array(alloc, document, numbers, *spelling, end),
-        Listing::Lines(spelling, file) => {
-            object_lines(alloc, document, numbers, *spelling, file, end)
-        }
+        Listing::Objects(format) => object_array(alloc, document, numbers, format, end),
+        Listing::Lines(format) => object_lines(alloc, document, numbers, format, end),
     }
 }
 

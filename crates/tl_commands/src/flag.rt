@@ -141,6 +141,13 @@ pub static NODE_FLAGS: [Flag; 6] = [
     },
 ];
 
+pub static TREE: Flag = Flag {
+    name: "tree",
+    short: None,
+    value: None,
+    help: "With --json: its children too, as a tree",
+};
+
 pub static POLICY: Flag = Flag {
     name: "policy",
     short: None,

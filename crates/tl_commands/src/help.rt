@@ -39,7 +39,8 @@ from browsers.
 
 Of several files each line has the name of its file and a colon before it; with
 --json each node is an object on a line that has its file, where one file alone
-gives an array.";
+gives an array. With --tree each object has the nodes below it as children; a
+tag among them has no text of its own.";
 
 pub const LINKS: &str = "\
 Example:

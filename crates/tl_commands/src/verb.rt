@@ -3,7 +3,7 @@ use crate::element::ElementVerb;
 use crate::flag::{
     AS_IS, BASES, ENCODING, FIRST, Flag, INSIDE, LISTS, MAX_COUNT, NAMES, NO_NAME, NODE_FLAGS,
     NODE_NUMBERS, NOFOLLOW_LINKS, NULL, POLICY, QUIET, RAW, RELATIVE_LINKS, TABLE_NUMBER, TARGETS,
-    WHITESPACE,
+    TREE, WHITESPACE,
 };
 use crate::help::{
     ABOUT, LINKS, OUTLINES, PRINTS, PROGRAM, SAFE, SELECTORS, SETTINGS, STEPS, TABLES, TEXTS,
@@ -220,10 +220,23 @@ fn with_selection<'w>(alloc: Global, command: Command<'w>) -> Result<Command<'w>
         .arg(MAX_COUNT.argument(alloc))
 }
 
+// Children, of objects of JSON alone. What can't stand beside `json` would lift what is required.
+fn tree<'w>(alloc: Global) -> Result<Arg<'w>, AllocError> {
+    TREE.argument(alloc)
+        .requires_arg("json")?
+        .conflicts_with("first")?
+        .conflicts_with("attribute")?
+        .conflicts_with("text")?
+        .conflicts_with("inside")?
+        .conflicts_with("number")?
+        .conflicts_with("count")
+}
+
 fn select<'w>(alloc: Global, command: Command<'w>) -> Result<Command<'w>, AllocError> {
     let command = with_reading(alloc, with_selection(alloc, command)?)?;
     let command = with_flags(alloc, with_search(alloc, command)?, &NODE_FLAGS)?;
     command
+        .arg(tree(alloc)?)?
         .group(one_of(alloc, "wanted", &NODE_FLAGS)?)?
         .arg(NO_NAME.argument(alloc))?
         .arg(files(alloc))
