@@ -17,7 +17,7 @@
  *   TL_NO_ROOM         the answer has `*needed` items, which is more than `room`: lend as many and call again
  *
  * With all but TL_DONE `out` is as it was. But for TL_OUT_OF_MEMORY what is lent, `room` and the document determine all of it: this is proved,
- * for all bytes and each document that the calls made, but for when `tl_patch_css` is refused.
+ * for all bytes and each document that the calls made, but for when `tl_patch_css` and `tl_edit_css` are refused.
  *
  * Lengths     are in bytes, also of texts. Nothing ends with a byte 0, and texts may hold some.
  * Texts       are UTF-8, those that come out too.
@@ -44,6 +44,7 @@
 #ifndef TL_H
 #define TL_H
 
+#include <stdbool.h>
 #include <stddef.h>
 #include <stdint.h>
 
@@ -129,6 +130,83 @@ enum {
 /* The same by one of these policies. Another number is not understood. */
 tl_status tl_sanitize_html_by(uint8_t policy, const uint8_t *page, size_t page_len,
                               uint8_t *out, size_t room, size_t *needed);
+
+/* A list of a policy: words with commas between them, as "a,b,p"; empty words are left out. Where it isn't said, the list is that of
+ * the policy, and the text isn't read. */
+typedef struct {
+    const uint8_t *text;
+    size_t len;
+    bool is_said;
+} tl_list;
+
+/* A policy of one's own: that of a number, with the lists that are said in the place of its own, as `tl sanitize` takes them. */
+typedef struct {
+    tl_list tags;          /* the tags that may stand */
+    tl_list keys;          /* the keys of attributes that may stand */
+    tl_list link_keys;     /* the keys that hold links */
+    tl_list link_prefixes; /* what links begin with */
+    tl_list id_prefix;     /* what values of `id`, `name` and `class` begin with: one word */
+    bool relative_links;   /* whether links beside the page may stand too, as `x.png`; also where that is the policy's own */
+    bool nofollow_links;   /* whether each link is marked with rel="nofollow noopener"; `rel` is among the keys then */
+    uint8_t policy;        /* TL_BLOG, TL_COMMENTS or TL_DOCUMENTS */
+} tl_lists;
+
+/* A list that isn't said, and lists of which none is: tl_lists lists = TL_LISTS_OF(TL_COMMENTS); */
+#define TL_OWN_LIST {(const uint8_t *)"", 0, false}
+#define TL_LISTS_OF(policy) {TL_OWN_LIST, TL_OWN_LIST, TL_OWN_LIST, TL_OWN_LIST, TL_OWN_LIST, false, false, (policy)}
+
+/* The list that a text of C says: lists.tags = tl_list_of("a,b,p"); */
+static inline tl_list tl_list_of(const char *words) {
+    tl_list list = {(const uint8_t *)words, 0, true};
+    while (words[list.len] != 0) list.len++;
+    return list;
+}
+
+/* Why lists are no policy. */
+enum {
+    TL_NO_REASON = 0,
+    TL_MALFORMED_TAG = 1,    /* a name of a tag is a letter of a-z, and then letters and digits */
+    TL_OPAQUE_TAG = 2,       /* what stands in this tag is no markup of HTML */
+    TL_STRUCTURAL_TAG = 3,   /* this tag changes what is around it, or loads what is no page */
+    TL_MALFORMED_KEY = 4,    /* a key is a letter of a-z, and then letters and `-` */
+    TL_SCRIPT_KEY = 5,       /* the value of this key is a script */
+    TL_ACTIVE_KEY = 6,       /* the value of this key is no name, text or link */
+    TL_LINK_KEY = 7,         /* this key holds links, and is no link key */
+    TL_MALFORMED_LINK = 8,   /* links begin with printable ASCII without spaces, `"`, `<` and `>` */
+    TL_ACTIVE_SCHEME = 9,    /* links that begin so are programs or documents */
+    TL_NO_SCHEME = 10,       /* links begin with a scheme and its `:`, or with `/`, `#`, `?` or `.` */
+    TL_MALFORMED_PREFIX = 11, /* a prefix of names is a letter of a-z, and then letters and `-` */
+    TL_UNLISTED_MARK = 12    /* links are marked at `rel`, which is no listed key, or a link key */
+};
+
+/* A reason in words. */
+static inline const char *tl_reason_text(uint8_t reason) {
+    switch (reason) {
+    case TL_MALFORMED_TAG: return "no such tag: a name is a letter of a-z, and then letters and digits";
+    case TL_OPAQUE_TAG: return "no policy may list this tag: what stands in it is no markup of HTML";
+    case TL_STRUCTURAL_TAG: return "no policy may list this tag: it changes what is around it, or loads what is no page";
+    case TL_MALFORMED_KEY: return "no such key: a key is a letter of a-z, and then letters and `-`";
+    case TL_SCRIPT_KEY: return "no policy may list this key: its value is a script";
+    case TL_ACTIVE_KEY: return "no policy may list this key: its value is no name, text or link";
+    case TL_LINK_KEY: return "this key holds links, and is no link key";
+    case TL_MALFORMED_LINK: return "links begin with printable ASCII without spaces, `\"`, `<` and `>`";
+    case TL_ACTIVE_SCHEME: return "links that begin so are programs or documents";
+    case TL_NO_SCHEME: return "no scheme with its `:`, and no `/`, `#`, `?` or `.` stands first";
+    case TL_MALFORMED_PREFIX: return "no prefix: it is a letter of a-z, and then letters and `-`";
+    case TL_UNLISTED_MARK: return "links can't be marked at this key: it is no listed key, or a link key";
+    default: return "no reason";
+    }
+}
+
+/* What a policy of these lists keeps of the page, which is read as browsers read it. Lists that are no policy are refused, and `*cause`
+ * says why; else it is 0. A list that is no UTF-8, and another number of a policy, are not understood. */
+tl_status tl_sanitize_html_with(const tl_lists *lists, const uint8_t *page, size_t page_len,
+                                uint8_t *out, size_t room, size_t *needed, uint8_t *cause);
+
+/* The first word for which these lists are no policy: by the order of tags, keys, link prefixes and the prefix of names, and of the
+ * words in each; then `rel` where links can't be marked. `*cause` says why, and in which list the word stands. Lists that are a policy
+ * have no such word: that is refused, and `*cause` is 0. */
+tl_status tl_refused_word(const tl_lists *lists, uint8_t *out, size_t room, size_t *needed, uint8_t *cause);
 
 /* What stands in a document of tl_parse_html is written for markup. These read it back: the characters that a text says (`&lt;` is
  * `<`), those that a value says, and the name that a name or a key was written of (`+40click` is `@click`). The last writes a name
@@ -221,6 +299,10 @@ static inline const char *tl_cause_text(uint8_t cause) {
     case 16: return "this element has no start tag";
     case 17: return "this tag can't be changed so";
     case 18: return "the page would be read otherwise than asked";
+    case 19: return "this element can't be changed so: it isn't closed, or is a tag alone";
+    case 20: return "this change and that of another element cut across each other";
+    case 21: return "nothing can stand behind the end of the page";
+    case 22: return "what is put can't stand there";
     default: return "no cause";
     }
 }
@@ -241,7 +323,7 @@ enum {
 enum {
     TL_NO_START_TAG = 16,  /* the selector holds at an element that comes of an end tag here, as of `</p>` alone */
     TL_NOT_WRITTEN = 17,   /* this key or this value can't be written in the tag that begins here; keys are in lower case */
-    TL_READ_OTHERWISE = 18 /* the page would be read otherwise than asked; the place is 0 */
+    TL_READ_OTHERWISE = 18 /* of tl_edit_css alone: the page would be read otherwise than asked */
 };
 
 /* The page with a key set or unset in the start tag of each element where a selector of CSS holds, and with each other byte as it was:
@@ -251,6 +333,44 @@ tl_status tl_patch_css(uint8_t edit, const uint8_t *selector, size_t selector_le
                        const uint8_t *key, size_t key_len, const uint8_t *value, size_t value_len,
                        const uint8_t *page, size_t page_len,
                        uint8_t *out, size_t room, size_t *needed, size_t *place, uint8_t *cause);
+
+/* What is done with the elements where a selector holds. */
+enum {
+    TL_RENAME = 0,    /* the element gets the name that `content` is, in lower case; its attributes stay */
+    TL_REMOVE = 1,    /* it goes */
+    TL_UNWRAP = 2,    /* its tags go, and what is in it stays */
+    TL_REPLACE = 3,   /* the content stands in its place */
+    TL_FILL = 4,      /* in the place of what is in it */
+    TL_PREPEND = 5,   /* first in it */
+    TL_APPEND = 6,    /* last in it */
+    TL_PUT_BEFORE = 7, /* before it */
+    TL_PUT_AFTER = 8  /* after it */
+};
+
+/* What the content is. */
+enum {
+    TL_AS_TEXT = 0,  /* a text, which is escaped where it has to be */
+    TL_AS_MARKUP = 1 /* markup, as it is */
+};
+
+/* Why elements can't be changed so, beside the causes above; the place is that of the element in the page, also with
+ * TL_READ_OTHERWISE. */
+enum {
+    TL_NOT_MEANT = 19,   /* the element isn't closed, is a tag alone, or its tag is dropped */
+    TL_ACROSS = 20,      /* its change and that of another element cut across each other */
+    TL_END_OF_PAGE = 21, /* what is put would stand behind the last byte of the page */
+    TL_NO_CONTENT = 22   /* what is put can't stand there: markup in a raw text, or a text that would be read otherwise */
+};
+
+/* The page with each element changed where a selector of CSS holds, and with each other byte as it was. It is read as browsers read it;
+ * what is read of the answer is the page with just that changed. An element in what another takes away goes with it. `form` is read with
+ * a content from TL_REPLACE on; the content of TL_REMOVE and TL_UNWRAP isn't read, and its length may be 0. Where the selector holds
+ * nowhere the answer is the page. Where the bytes are no selector, or an element can't be changed, that is refused, and `*place` and
+ * `*cause` say why; else both are 0. */
+tl_status tl_edit_css(uint8_t edit, uint8_t form, const uint8_t *selector, size_t selector_len,
+                      const uint8_t *content, size_t content_len,
+                      const uint8_t *page, size_t page_len,
+                      uint8_t *out, size_t room, size_t *needed, size_t *place, uint8_t *cause);
 
 /* What stands where there is no node. */
 #define TL_NO_NODE UINT32_MAX
@@ -297,6 +417,34 @@ tl_status tl_node_name(tl_document *document, uint32_t node, uint8_t *out, size_
 /* Its keys, with and without values, in the order of its print, with a byte 0 after each. All come at once: keys that are asked one by
  * one take square time on a tag of many. */
 tl_status tl_node_keys(tl_document *document, uint32_t node, uint8_t *out, size_t room, size_t *needed);
+
+/* Its keys and values in that order: of each how many bytes the key and the value have, in 8 bytes with the lowest first; TL_KEY_ALONE or
+ * TL_VALUE in one; and the key and the value. `tl_next_pair` reads them. That takes a time linear in what is written. */
+tl_status tl_node_attributes(tl_document *document, uint32_t node, uint8_t *out, size_t room, size_t *needed);
+
+/* A key and its value, where they stand in the answer. */
+typedef struct {
+    const uint8_t *key, *value;
+    size_t key_len, value_len;
+    uint8_t standing; /* TL_KEY_ALONE, and then the value has no byte, or TL_VALUE */
+} tl_pair;
+
+/* Reads the pair at a place of an answer of `tl_node_attributes` and moves the place behind it; false at the end:
+ * for (const uint8_t *at = out; tl_next_pair(&at, out + needed, &pair);) .. */
+static inline bool tl_next_pair(const uint8_t **at, const uint8_t *end, tl_pair *pair) {
+    const uint8_t *head = *at;
+    if (head == end) return false;
+    pair->key_len = pair->value_len = 0;
+    for (int place = 7; place >= 0; place--) {
+        pair->key_len = pair->key_len << 8 | head[place];
+        pair->value_len = pair->value_len << 8 | head[place + 8];
+    }
+    pair->standing = head[16];
+    pair->key = head + 17;
+    pair->value = pair->key + pair->key_len;
+    *at = pair->value + pair->value_len;
+    return true;
+}
 
 /* It as markup, and what is inside; the inside of a text or a comment is its own markup. */
 tl_status tl_node_html(tl_document *document, uint32_t node, uint8_t *out, size_t room, size_t *needed);

@@ -173,6 +173,79 @@ static void of_policies(void) {
 static size_t place;
 static uint8_t cause;
 
+/* Lists of one's own over those of a policy, and the word that no policy may list. */
+static void of_lists(void) {
+    static const char written[] = "<P CLASS=own-a>x<A HREF=b.png>y</A><H1>z</H1><b>c</b>";
+    tl_lists lists = TL_LISTS_OF(TL_BLOG);
+    PUTS("<p>x<a>y</a></p><h1>z</h1><b>c</b>", tl_sanitize_html_with(&lists, TEXT(written), OUT, &cause));
+    CHECK(cause == TL_NO_REASON);
+    LEAVES(TL_REFUSED, 0, tl_refused_word(&lists, OUT, &cause));
+    CHECK(cause == TL_NO_REASON);
+    lists.policy = TL_COMMENTS;
+    PUTS("<p>x<a>y</a></p>z<b>c</b>", tl_sanitize_html_with(&lists, TEXT(written), OUT, &cause));
+    lists.relative_links = true;
+    PUTS("<p>x<a href=\"b.png\">y</a></p>z<b>c</b>", tl_sanitize_html_with(&lists, TEXT(written), OUT, &cause));
+    lists.tags = tl_list_of(",a,,h1,");
+    PUTS("x<a href=\"b.png\">y</a><h1>z</h1>c", tl_sanitize_html_with(&lists, TEXT(written), OUT, &cause));
+    lists.nofollow_links = true;
+    PUTS("<a rel=\"nofollow noopener\" href=\"/b\">y</a>", tl_sanitize_html_with(&lists, TEXT("<A HREF=/b>y"), OUT, &cause));
+    lists.tags = tl_list_of("");
+    PUTS("xyzc", tl_sanitize_html_with(&lists, TEXT(written), OUT, &cause));
+    lists.keys = tl_list_of("class");
+    lists.id_prefix = tl_list_of("own-");
+    lists.tags = tl_list_of("p");
+    PUTS("<p class=\"own-a\">xy</p>zc", tl_sanitize_html_with(&lists, TEXT(written), OUT, &cause));
+    LEAVES(TL_NO_ROOM, 25, tl_sanitize_html_with(&lists, TEXT(written), ROOM(24), &cause));
+    RUNS_OUT("<p class=\"own-a\">xy</p>zc", tl_sanitize_html_with(&lists, TEXT(written), OUT, &cause));
+    LEAVES(TL_NOT_UNDERSTOOD, 0, tl_sanitize_html_with(&lists, TEXT("\xff"), OUT, &cause));
+    CHECK(cause == TL_NO_REASON);
+
+    static const struct {
+        const char *tags, *keys, *link_keys, *link_prefixes, *id_prefix, *word;
+        uint8_t reason;
+    } wrong[] = {
+        {"p,B", NULL, NULL, NULL, NULL, "B", TL_MALFORMED_TAG},
+        {"p,script", "onclick", NULL, NULL, NULL, "script", TL_OPAQUE_TAG},
+        {"body", NULL, NULL, NULL, NULL, "body", TL_STRUCTURAL_TAG},
+        {NULL, "a.b", NULL, NULL, NULL, "a.b", TL_MALFORMED_KEY},
+        {NULL, "onclick", NULL, NULL, NULL, "onclick", TL_SCRIPT_KEY},
+        {NULL, "style", NULL, NULL, NULL, "style", TL_ACTIVE_KEY},
+        {NULL, NULL, "cite", NULL, NULL, "href", TL_LINK_KEY},
+        {NULL, NULL, NULL, "a b", NULL, "a b", TL_MALFORMED_LINK},
+        {NULL, NULL, NULL, "javascript:", NULL, "javascript:", TL_ACTIVE_SCHEME},
+        {NULL, NULL, NULL, "www", NULL, "www", TL_NO_SCHEME},
+        {NULL, NULL, NULL, NULL, "1", "1", TL_MALFORMED_PREFIX},
+    };
+    for (size_t row = 0; row < sizeof wrong / sizeof *wrong; row++) {
+        tl_lists own = TL_LISTS_OF(TL_BLOG);
+        if (wrong[row].tags) own.tags = tl_list_of(wrong[row].tags);
+        if (wrong[row].keys) own.keys = tl_list_of(wrong[row].keys);
+        if (wrong[row].link_keys) own.link_keys = tl_list_of(wrong[row].link_keys);
+        if (wrong[row].link_prefixes) own.link_prefixes = tl_list_of(wrong[row].link_prefixes);
+        if (wrong[row].id_prefix) own.id_prefix = tl_list_of(wrong[row].id_prefix);
+        LEAVES(TL_REFUSED, 0, tl_sanitize_html_with(&own, TEXT(written), OUT, &cause));
+        CHECK(cause == wrong[row].reason);
+        cause = 99;
+        CHECK(has_put(tl_refused_word(&own, OUT, &cause), wrong[row].word, strlen(wrong[row].word)));
+        CHECK(cause == wrong[row].reason);
+    }
+    tl_lists own = TL_LISTS_OF(TL_BLOG);
+    own.nofollow_links = true;
+    own.link_keys = tl_list_of("href,src,cite,rel");
+    PUTS("rel", tl_refused_word(&own, OUT, &cause));
+    CHECK(cause == TL_UNLISTED_MARK);
+    LEAVES(TL_NO_ROOM, 3, tl_refused_word(&own, ROOM(2), &cause));
+    RUNS_OUT("rel", tl_refused_word(&own, OUT, &cause));
+    own.policy = 3;
+    LEAVES(TL_NOT_UNDERSTOOD, 0, tl_sanitize_html_with(&own, TEXT(written), OUT, &cause));
+    LEAVES(TL_NOT_UNDERSTOOD, 0, tl_refused_word(&own, OUT, &cause));
+    own.policy = TL_BLOG;
+    own.id_prefix = tl_list_of("\xff");
+    LEAVES(TL_NOT_UNDERSTOOD, 0, tl_sanitize_html_with(&own, TEXT(written), OUT, &cause));
+    LEAVES(TL_NOT_UNDERSTOOD, 0, tl_refused_word(&own, OUT, &cause));
+    CHECK(cause == TL_NO_REASON);
+}
+
 static int is_told(size_t at, uint8_t why) {
     return place == at && cause == why;
 }
@@ -198,6 +271,45 @@ static void of_patch(void) {
 #undef PATCH
 }
 
+/* Elements changed where a selector holds. */
+static void of_elements(void) {
+#define EDIT(edit, form, selector, content, page) tl_edit_css(edit, form, TEXT(selector), TEXT(content), TEXT(page), OUT, &place, &cause)
+    PUTS("<!DOCTYPE X><div a>x</div>", EDIT(TL_RENAME, 9, "p", "div", "<!DOCTYPE X><P a>x</P>"));
+    CHECK(is_told(0, TL_NO_CAUSE));
+    LEAVES(TL_REFUSED, 0, EDIT(TL_RENAME, 9, "p", "DIV", "<!DOCTYPE X><P a>x</P>"));
+    CHECK(is_told(12, TL_NO_CONTENT));
+    PUTS("<P>x</P>", EDIT(TL_REMOVE, 9, "b", "", "<P>x<B>y</B></P>"));
+    PUTS("<P>xy</P>", EDIT(TL_UNWRAP, 9, "b", "", "<P>x<B>y</B></P>"));
+    PUTS("<P>x3 &lt; 4</P>", EDIT(TL_REPLACE, TL_AS_TEXT, "b", "3 < 4", "<P>x<B>y</B></P>"));
+    PUTS("<P>x<i>z</i></P>", EDIT(TL_REPLACE, TL_AS_MARKUP, "b", "<i>z</i>", "<P>x<B>y</B></P>"));
+    PUTS("<P>x<B>z</B></P>", EDIT(TL_FILL, TL_AS_TEXT, "b", "z", "<P>x<B>y</B></P>"));
+    PUTS("<P>x<B>zy</B></P>", EDIT(TL_PREPEND, TL_AS_TEXT, "b", "z", "<P>x<B>y</B></P>"));
+    PUTS("<P>x<B>yz</B></P>", EDIT(TL_APPEND, TL_AS_TEXT, "b", "z", "<P>x<B>y</B></P>"));
+    PUTS("<P>xz<B>y</B></P>", EDIT(TL_PUT_BEFORE, TL_AS_TEXT, "b", "z", "<P>x<B>y</B></P>"));
+    PUTS("<P>x<B>y</B>z</P>", EDIT(TL_PUT_AFTER, TL_AS_TEXT, "b", "z", "<P>x<B>y</B></P>"));
+    PUTS("<P>x", EDIT(TL_REMOVE, 9, "i", "", "<P>x"));
+    LEAVES(TL_REFUSED, 0, EDIT(TL_REMOVE, 0, "p:hover", "", "<P>x"));
+    CHECK(is_told(2, TL_NO_PSEUDO_CLASS));
+    LEAVES(TL_REFUSED, 0, EDIT(TL_FILL, TL_AS_TEXT, "br", "y", "x<br>"));
+    CHECK(is_told(1, TL_NOT_MEANT));
+    LEAVES(TL_REFUSED, 0, EDIT(TL_FILL, TL_AS_MARKUP, "style", "</style>", "x<style></style>"));
+    CHECK(is_told(1, TL_NO_CONTENT));
+    LEAVES(TL_REFUSED, 0, EDIT(TL_FILL, TL_AS_TEXT, "style", "</style>", "x<style></style>"));
+    CHECK(is_told(1, TL_READ_OTHERWISE));
+    LEAVES(TL_REFUSED, 0, EDIT(TL_REMOVE, 0, "p", "", "x</p>"));
+    CHECK(is_told(1, TL_NO_START_TAG));
+    LEAVES(TL_REFUSED, 0, EDIT(TL_APPEND, TL_AS_TEXT, "p", "y", "<p>x"));
+    CHECK(is_told(0, TL_END_OF_PAGE));
+    LEAVES(TL_NOT_UNDERSTOOD, 0, EDIT(9, TL_AS_TEXT, "p", "a", "<P>x</P>"));
+    LEAVES(TL_NOT_UNDERSTOOD, 0, EDIT(TL_FILL, 2, "p", "a", "<P>x</P>"));
+    LEAVES(TL_NOT_UNDERSTOOD, 0, EDIT(TL_REMOVE, 0, "\xff", "", "<P>x</P>"));
+    LEAVES(TL_NOT_UNDERSTOOD, 0, EDIT(TL_REMOVE, 0, "p", "", "\xff"));
+    CHECK(is_told(0, TL_NO_CAUSE));
+    LEAVES(TL_NO_ROOM, 8, tl_edit_css(TL_FILL, TL_AS_TEXT, TEXT("p"), TEXT("y"), TEXT("<p>x</p>"), ROOM(7), &place, &cause));
+    RUNS_OUT("<p>y</p>", EDIT(TL_FILL, TL_AS_TEXT, "p", "y", "<p>x</p>"));
+#undef EDIT
+}
+
 static void of_decode(void) {
     PUTS("a<b &", tl_decode_text(TEXT("a&lt;b &amp;"), OUT));
     PUTS("a\xc2\xa0" "b", tl_decode_text(TEXT("a&nbsp;b"), OUT));
@@ -220,6 +332,9 @@ static void of_words(void) {
     CHECK(strcmp(tl_status_text(99), "no status") == 0);
     CHECK(strcmp(tl_cause_text(TL_UNCLOSED), "this is opened and never closed") == 0);
     CHECK(strcmp(tl_cause_text(TL_NO_CAUSE), "no cause") == 0);
+    CHECK(strcmp(tl_cause_text(TL_NO_CONTENT), "what is put can't stand there") == 0);
+    CHECK(strcmp(tl_reason_text(TL_LINK_KEY), "this key holds links, and is no link key") == 0);
+    CHECK(strcmp(tl_reason_text(TL_NO_REASON), "no reason") == 0);
 }
 
 static void of_version(void) {
@@ -290,7 +405,9 @@ int main(void) {
     of_sanitize();
     of_sanitize_html();
     of_policies();
+    of_lists();
     of_patch();
+    of_elements();
     of_decode();
     of_words();
     of_version();

@@ -66,6 +66,21 @@ static int left(tl_status status, tl_status wanted, size_t count) {
     return is;
 }
 
+/* Whether the attributes of a node are these: each key with `=` and its value, or alone, and a space after it. */
+static int has_attributes(tl_document *document, uint32_t node, const char *wanted) {
+    uint8_t pairs[256];
+    char said[256] = "";
+    size_t count, at = 0;
+    tl_pair pair;
+    if (tl_node_attributes(document, node, pairs, sizeof pairs, &count) != TL_DONE) return 0;
+    for (const uint8_t *here = pairs; tl_next_pair(&here, pairs + count, &pair);) {
+        at += (size_t)sprintf(said + at, "%.*s", (int)pair.key_len, (const char *)pair.key);
+        if (pair.standing == TL_VALUE) at += (size_t)sprintf(said + at, "=%.*s", (int)pair.value_len, (const char *)pair.value);
+        at += (size_t)sprintf(said + at, " ");
+    }
+    return strcmp(said, wanted) == 0;
+}
+
 #define PUTS(call, bytes) CHECK(put((call), bytes, sizeof(bytes) - 1))
 #define FINDS(call, ...) \
     do { \
@@ -145,6 +160,9 @@ static void asked_of_nodes(tl_document *document) {
     LEAVES(tl_node_name(document, 1000, OUT), TL_REFUSED, 0);
     PUTS(tl_node_keys(document, 3, OUT), "");
     PUTS(tl_node_keys(document, 2, OUT), "");
+    PUTS(tl_node_attributes(document, 3, OUT), "");
+    PUTS(tl_node_attributes(document, 2, OUT), "");
+    LEAVES(tl_node_attributes(document, 1000, OUT), TL_REFUSED, 0);
     LEAVES(tl_node_keys(document, 1000, OUT), TL_REFUSED, 0);
     PUTS(tl_node_html(document, 3, OUT), "<a>z</a>");
     PUTS(tl_node_html(document, 7, OUT), "<!-- no -->");
@@ -170,6 +188,7 @@ static void of_html(void) {
     CHECK(tl_node_key(&document, 0, BYTES("a")) == TL_NO_KEY);
     LEAVES(tl_node_name(&document, 0, OUT), TL_REFUSED, 0);
     LEAVES(tl_node_keys(&document, 0, OUT), TL_REFUSED, 0);
+    LEAVES(tl_node_attributes(&document, 0, OUT), TL_REFUSED, 0);
     LEAVES(tl_node_html(&document, 0, OUT), TL_REFUSED, 0);
     LEAVES(tl_node_inner_html(&document, 0, OUT), TL_REFUSED, 0);
     CHECK(tl_links(&document, (tl_node_links[1]){{0, 0}}, 1, &needed) == TL_REFUSED && needed == 0);
@@ -179,6 +198,8 @@ static void of_html(void) {
     asked_of_nodes(&document);
     PUTS(tl_node_keys(&document, 1, OUT), "href\0" "hidden\0" "+40click\0");
     PUTS(tl_attribute(&document, 1, BYTES("href"), OUT), "?a=1&amp;b=2");
+    CHECK(has_attributes(&document, 1, "href=?a=1&amp;b=2 hidden= +40click=f() "));
+    LEAVES(tl_node_attributes(&document, 1, OUT), TL_NO_ROOM, 3 * 17 + 4 + 12 + 6 + 8 + 3);
     SELECTS(&document, "a", 1, 3);
     SELECTS(&document, "A + a", 3);
     SELECTS(&document, "nav:has(a), b", 0, 8);
@@ -198,6 +219,8 @@ static void of_html(void) {
     asked_of_nodes(&document);
     CHECK(tl_parse(BYTES("<b hidden>c"), &document) == TL_DONE);
     CHECK(tl_node_key(&document, 0, BYTES("hidden")) == TL_KEY_ALONE);
+    PUTS(tl_node_attributes(&document, 0, OUT), "\6\0\0\0\0\0\0\0" "\0\0\0\0\0\0\0\0" "\1hidden");
+    CHECK(has_attributes(&document, 0, "hidden "));
     SELECTS(&document, "b", 0);
     tl_free(&document);
 }
@@ -280,6 +303,15 @@ static void refusals(void) {
         REFUSES(number, tl_node_html(&document, 3, OUT), CHECK(left(status, TL_OUT_OF_MEMORY, 0)));
     }
     CHECK(put(TL_DONE, "<a>z</a>", 8));
+    for (long number = 0;; number++) {
+        refused = number;
+        uint8_t pairs[128];
+        tl_status status = tl_node_attributes(&document, 1, pairs, sizeof pairs, &needed);
+        int is_done = refused >= 0;
+        refused = -1;
+        CHECK(status == TL_DONE ? needed == 84 : !is_done && status == TL_OUT_OF_MEMORY && needed == 0);
+        if (is_done) break;
+    }
     for (long number = 0;; number++) {
         /* One of the requests is one that the call can do without. */
         tl_node_links links[10];

@@ -3,7 +3,7 @@ import ctypes
 import os
 import unittest
 
-from tlhtml import Document, as_is, sanitize
+from tlhtml import Document, Policy, as_is, edit, sanitize
 from tlhtml._calls import lib
 
 PAGE = "<ul><LI class=a @click=f() href='?a=1&b'>x &amp; y<LI>3 < 4</UL><p>z"
@@ -32,6 +32,8 @@ class Refusals(unittest.TestCase):
         item = document.select_one("li")
         for call in (
             lambda: sanitize(PAGE),
+            lambda: sanitize(PAGE, Policy.BLOG.lists(tags=["p", "li"])),
+            lambda: edit(PAGE, "li", "fill", text="<"),
             lambda: Document(PAGE).text,
             lambda: document.select("ul > li"),
             lambda: (item.text, item.html, item.inner_html),

@@ -4,7 +4,8 @@ import threading
 import unittest
 
 import tlhtml
-from tlhtml import ChangeError, Document, NoSteps, Policy, Refused, SelectorError, as_is, sanitize, set_attribute, unset_attribute
+from tlhtml import ChangeError, Document, NoSteps, Policy, PolicyError, Refused, SelectorError
+from tlhtml import as_is, edit, sanitize, set_attribute, unset_attribute
 
 PAGE = "<UL><LI hidden class=a @click=f() href='?a=1&b=2&lt;'>x &amp; y<LI>3 < 4</UL><!-- c --><p>z"
 
@@ -100,6 +101,32 @@ class SafePages(unittest.TestCase):
         with self.assertRaises(ValueError):
             sanitize(page, 3)
 
+    def test_lists_of_ones_own(self):
+        page = "<P CLASS=own-a>x<A HREF=b.png>y</A><H1>z</H1><b>c</b>"
+        self.assertEqual(sanitize(page, Policy.COMMENTS.lists()), sanitize(page, Policy.COMMENTS))
+        self.assertEqual(sanitize(page, Policy.COMMENTS.lists(tags=[])), "xyzc")
+        self.assertEqual(sanitize(page, Policy.BLOG.lists(tags="h1")), "xy<h1>z</h1>c")
+        lists = Policy.COMMENTS.lists(
+            tags=("p", "a"), keys={"class", "href"}, id_prefix="own-", relative_links=True, nofollow_links=True
+        )
+        self.assertEqual(sanitize(page, lists), '<p class="own-a">x<a rel="nofollow noopener" href="b.png">y</a></p>zc')
+        self.assertEqual(sanitize("<a href=/x>é", Policy.BLOG.lists(link_prefixes=["https://"])), "<a>é</a>")
+
+    def test_words_that_no_policy_may_list(self):
+        for words, word, reason in (
+            ({"tags": ["p", "script"]}, "script", 2),
+            ({"keys": ["onclick"]}, "onclick", 5),
+            ({"link_keys": ["src"]}, "cite", 7),
+            ({"link_prefixes": ["data:"]}, "data:", 9),
+            ({"id_prefix": "é"}, "é", 11),
+        ):
+            with self.assertRaises(PolicyError) as it:
+                Policy.BLOG.lists(**words)
+            self.assertEqual((it.exception.word, it.exception.reason), (word, reason))
+        self.assertEqual(str(PolicyError("www", 10)), "'www': no scheme with its `:`, and no `/`, `#`, `?` or `.` stands first")
+        with self.assertRaisesRegex(ValueError, "comma"):
+            Policy.BLOG.lists(tags=["p,b"])
+
     @unittest.skipUnless("TL_VERSION" in os.environ, "TL_VERSION says which is wanted")
     def test_version(self):
         self.assertEqual(tlhtml.version(), os.environ["TL_VERSION"])
@@ -121,6 +148,48 @@ class Changes(unittest.TestCase):
         with self.assertRaises(ChangeError) as it:
             set_attribute(self.page, "p", "a", "b")
         self.assertEqual((self.page[it.exception.place :], str(it.exception)), ("</p>", "at 47: this element has no start tag"))
+
+
+class Elements(unittest.TestCase):
+    page = "<!DOCTYPE é><P>one<BR><B>two</B></P>"
+
+    def test_edits(self):
+        for words, wanted in (
+            (("rename", {"name": "I"}), "<i>two</i>"),
+            (("remove", {}), ""),
+            (("unwrap", {}), "two"),
+            (("replace", {"text": "<"}), "&lt;"),
+            (("fill", {"markup": "<i>x</i>"}), "<B><i>x</i></B>"),
+            (("prepend", {"text": "x"}), "<B>xtwo</B>"),
+            (("append", {"text": "x"}), "<B>twox</B>"),
+            (("before", {"text": "x"}), "x<B>two</B>"),
+            (("after", {"text": "x"}), "<B>two</B>x"),
+        ):
+            self.assertEqual(edit(self.page, "b", words[0], **words[1]), self.page.replace("<B>two</B>", wanted))
+            self.assertEqual(edit(self.page, "i", words[0], **words[1]), self.page)
+        self.assertEqual(edit(self.page, "b", "fill", text=""), self.page.replace("two", ""))
+
+    def test_what_is_refused(self):
+        with self.assertRaises(ChangeError) as it:
+            edit(self.page, "br", "fill", text="x")
+        self.assertEqual((self.page[it.exception.place :][:4], it.exception.cause), ("<BR>", 19))
+        with self.assertRaises(SelectorError):
+            edit(self.page, "p:hover", "remove")
+        for what, words in (
+            ("clear", {}),
+            ("remove", {"text": ""}),
+            ("rename", {"text": "i"}),
+            ("fill", {}),
+            ("fill", {"name": "i"}),
+            ("fill", {"text": "x", "markup": "x"}),
+        ):
+            with self.assertRaises(ValueError):
+                edit(self.page, "b", what, **words)
+
+    def test_a_tag_of_many_keys(self):
+        keys = "".join(f' k{it}="{it}&amp;"' for it in range(2_000))
+        attributes = Document(f"<p{keys} hidden>").select_one("p").attributes
+        self.assertEqual((len(attributes), attributes["k1999"], attributes["hidden"]), (2_001, "1999&", ""))
 
 
 class AsIs(unittest.TestCase):

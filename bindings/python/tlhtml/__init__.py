@@ -8,20 +8,23 @@
 """
 from . import as_is
 from ._calls import version
-from ._document import Document, Node, Policy, sanitize, set_attribute, unset_attribute
-from ._errors import ChangeError, Error, NoSteps, Refused, SelectorError, TooLong
+from ._document import Document, Lists, Node, Policy, edit, sanitize, set_attribute, unset_attribute
+from ._errors import ChangeError, Error, NoSteps, PolicyError, Refused, SelectorError, TooLong
 
 __all__ = [
     "ChangeError",
     "Document",
     "Error",
+    "Lists",
     "NoSteps",
     "Node",
     "Policy",
+    "PolicyError",
     "Refused",
     "SelectorError",
     "TooLong",
     "as_is",
+    "edit",
     "sanitize",
     "set_attribute",
     "unset_attribute",

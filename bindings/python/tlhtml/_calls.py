@@ -4,6 +4,7 @@ from __future__ import annotations
 import ctypes
 import ctypes.util
 import os
+import struct
 from typing import Any, Callable, Sequence
 
 from ._errors import Refused, TooLong
@@ -27,6 +28,23 @@ class Handle(ctypes.Structure):
     _fields_ = [("at", ctypes.c_void_p)]
 
 
+class List(ctypes.Structure):
+    """tl_list."""
+
+    _fields_ = [("text", ctypes.c_char_p), ("len", ctypes.c_size_t), ("is_said", ctypes.c_bool)]
+
+
+class Lists(ctypes.Structure):
+    """tl_lists."""
+
+    _fields_ = [
+        *((name, List) for name in ("tags", "keys", "link_keys", "link_prefixes", "id_prefix")),
+        ("relative_links", ctypes.c_bool),
+        ("nofollow_links", ctypes.c_bool),
+        ("policy", ctypes.c_uint8),
+    ]
+
+
 _LENT = [ctypes.c_char_p, ctypes.c_size_t]
 _OUT = [ctypes.c_void_p, ctypes.c_size_t, ctypes.POINTER(ctypes.c_size_t)]
 _OF = ctypes.POINTER(Handle)
@@ -42,6 +60,9 @@ for _name, _kind, _words in (
     ("tl_sanitize", ctypes.c_uint8, _LENT + _OUT),
     ("tl_sanitize_html", ctypes.c_uint8, _LENT + _OUT),
     ("tl_sanitize_html_by", ctypes.c_uint8, [ctypes.c_uint8] + _LENT + _OUT),
+    ("tl_sanitize_html_with", ctypes.c_uint8, [ctypes.POINTER(Lists)] + _LENT + _OUT + [ctypes.POINTER(ctypes.c_uint8)]),
+    ("tl_refused_word", ctypes.c_uint8, [ctypes.POINTER(Lists)] + _OUT + [ctypes.POINTER(ctypes.c_uint8)]),
+    ("tl_edit_css", ctypes.c_uint8, [ctypes.c_uint8] * 2 + _LENT * 3 + _OUT + _PLACE),
     ("tl_patch_css", ctypes.c_uint8, [ctypes.c_uint8] + _LENT * 4 + _OUT + _PLACE),
     ("tl_decode_text", ctypes.c_uint8, _LENT + _OUT),
     ("tl_decode_value", ctypes.c_uint8, _LENT + _OUT),
@@ -59,6 +80,7 @@ for _name, _kind, _words in (
     ("tl_node_key", ctypes.c_uint8, _NODE + _LENT),
     ("tl_node_name", ctypes.c_uint8, _NODE + _OUT),
     ("tl_node_keys", ctypes.c_uint8, _NODE + _OUT),
+    ("tl_node_attributes", ctypes.c_uint8, _NODE + _OUT),
     ("tl_node_html", ctypes.c_uint8, _NODE + _OUT),
     ("tl_node_inner_html", ctypes.c_uint8, _NODE + _OUT),
     ("tl_attribute", ctypes.c_uint8, _NODE + _LENT + _OUT),
@@ -98,8 +120,22 @@ class Room:
             room = self.take(needed.value)
 
 
-def text_in(room: Any, count: int) -> str:
-    return str(memoryview(room)[:count], "utf-8")
+_PAIR = struct.Struct("<QQB")
+
+
+def pairs_in(room: Any, count: int) -> list[tuple[str, str]]:
+    """The keys and values that tl_node_attributes puts, in order; a key alone has the empty value."""
+    pairs, at = [], 0
+    while at < count:
+        key_len, value_len, _ = _PAIR.unpack_from(room, at)
+        value = at + _PAIR.size + key_len
+        at = value + value_len
+        pairs.append((text_in(room, value, value - key_len), text_in(room, at, value)))
+    return pairs
+
+
+def text_in(room: Any, end: int, start: int = 0) -> str:
+    return str(memoryview(room)[start:end], "utf-8")
 
 
 def answer(call: Callable[..., int], *words: Any, room: int) -> str:

@@ -5,11 +5,11 @@ import ctypes
 import enum
 import threading
 from types import TracebackType
-from typing import Any, Callable, Iterator, Sequence
+from typing import Any, Callable, Iterable, Iterator, Sequence
 
 from . import _calls
 from ._calls import DONE, NO_NODE, REFUSED, Handle, Room, error_of, lib, text_in
-from ._errors import ChangeError, SelectorError
+from ._errors import ChangeError, PolicyError, SelectorError
 
 KINDS = {1: "tag", 2: "text", 3: "comment"}
 
@@ -25,10 +25,72 @@ class Policy(enum.IntEnum):
     """For documents: tables and the parts of a document too, and pictures and links beside the page."""
 
 
-def sanitize(html: str, policy: Policy = Policy.BLOG) -> str:
+    def lists(
+        self,
+        *,
+        tags: Iterable[str] | None = None,
+        keys: Iterable[str] | None = None,
+        link_keys: Iterable[str] | None = None,
+        link_prefixes: Iterable[str] | None = None,
+        id_prefix: str | None = None,
+        relative_links: bool = False,
+        nofollow_links: bool = False,
+    ) -> Lists:
+        """This policy with lists of one's own in the place of those that it has: the tags and keys that may stand, the keys that hold
+        links, what links begin with, and what values of `id`, `name` and `class` begin with; whether links beside the page may stand
+        too, and whether each is marked with `rel="nofollow noopener"`. A PolicyError says which word no policy may list.
+
+        >>> sanitize("<p>x<b>y", Policy.COMMENTS.lists(tags=["b"]))
+        'x<b>y</b>'
+        """
+        words = (tags, keys, link_keys, link_prefixes)
+        prefix = None if id_prefix is None else id_prefix.encode()
+        return Lists(self, [None if it is None else _with_commas(it) for it in words] + [prefix], relative_links, nofollow_links)
+
+
+def _with_commas(words: Iterable[str]) -> bytes:
+    """Words as one text."""
+    listed = [words] if isinstance(words, str) else list(words)
+    for word in listed:
+        if "," in word:
+            raise ValueError(f"a word of a list has no comma: {word!r}")
+    return ",".join(listed).encode()
+
+
+class Lists:
+    """A policy with lists of one's own, which `Policy.lists` makes."""
+
+    def __init__(self, policy: Policy, texts: Sequence[bytes | None], relative_links: bool, nofollow_links: bool) -> None:
+        # (the structure keeps the texts)
+        lent = [_calls.List(it or b"", len(it or b""), it is not None) for it in texts]
+        self._lent = _calls.Lists(*lent, relative_links, nofollow_links, policy)
+        refused, cause = self._refused_word()
+        if refused is not None:
+            raise PolicyError(refused, cause)
+
+    def _refused_word(self) -> tuple[str | None, int]:
+        """The first word for which they are no policy, if there is one, and the number of why."""
+        cause = ctypes.c_uint8()
+        status, room, count = Room(ctypes.c_char, 64).fill(lib.tl_refused_word, (self._lent,), (cause,))
+        if status not in (DONE, REFUSED):
+            raise error_of(status)
+        return (text_in(room, count) if status == DONE else None), cause.value
+
+    def _sanitize(self, html: str) -> str:
+        page, cause = html.encode(), ctypes.c_uint8()
+        room = Room(ctypes.c_char, len(page) + len(page) // 8 + 64)
+        status, filled, count = room.fill(lib.tl_sanitize_html_with, (self._lent, page, len(page)), (cause,))
+        if status != DONE:
+            raise error_of(status)
+        return text_in(filled, count)
+
+
+def sanitize(html: str, policy: Policy | Lists = Policy.BLOG) -> str:
     """What a policy keeps of a page, so that a browser builds just that: no scripts, no handlers of events, no styles, and links where
     the policy lets them lead. What people type is read as browsers read it, so `I <3 you` stays a text. The answer is to stand in an
     ordinary element of a page that is served as UTF-8."""
+    if isinstance(policy, Lists):
+        return policy._sanitize(html)
     return _calls.of_text(lib.tl_sanitize_html_by, html, Policy(policy))
 
 
@@ -44,10 +106,38 @@ def unset_attribute(html: str, selector: str, key: str) -> str:
 
 
 def _patched(edit: int, html: str, selector: str, key: str, value: str) -> str:
-    page, lent = html.encode(), [it.encode() for it in (selector, key.lower() if key.isascii() else key, value)]
-    words = [edit, *(word for it in (*lent, page) for word in (it, len(it)))]
+    return _changed(lib.tl_patch_css, [edit], html, selector, key.lower() if key.isascii() else key, value)
+
+
+_EDITS = ("rename", "remove", "unwrap", "replace", "fill", "prepend", "append", "before", "after")
+
+
+def edit(html: str, selector: str, what: str, *, name: str | None = None, text: str | None = None, markup: str | None = None) -> str:
+    """The page with each element changed where a selector holds. `what` is "rename" with a name, "remove", "unwrap", or one of "replace",
+    "fill", "prepend", "append", "before" and "after" with a text, which is escaped, or with markup. No other byte is changed, and what
+    is read of the answer is the page with just that changed. Where the selector holds nowhere it is the page.
+
+    >>> edit("<!DOCTYPE html PUBLIC 'x'><P>one <B>two</B>", "b", "fill", text="3 < 4")
+    "<!DOCTYPE html PUBLIC 'x'><P>one <B>3 &lt; 4</B>"
+    """
+    if what not in _EDITS:
+        raise ValueError(f"no edit: {what!r} is none of {', '.join(_EDITS)}")
+    wanted = {"rename": (name,), "remove": (), "unwrap": ()}.get(what, (text, markup))
+    given = [it for it in (name, text, markup) if it is not None]
+    if len(given) != bool(wanted) or any(it not in wanted for it in given):
+        raise ValueError(f"{what!r} takes {'a name' if what == 'rename' else 'a text or markup' if wanted else 'nothing else'}")
+    numbers = [_EDITS.index(what), int(markup is not None)]
+    content = given[0] if given else ""
+    # (names are in lower case, as keys are)
+    return _changed(lib.tl_edit_css, numbers, html, selector, content.lower() if what == "rename" and content.isascii() else content)
+
+
+def _changed(call: Callable[..., int], numbers: list[int], html: str, selector: str, *texts: str) -> str:
+    """What a call makes of a page and where a selector holds."""
+    page, lent = html.encode(), [it.encode() for it in (selector, *texts)]
+    words = [*numbers, *(word for it in (*lent, page) for word in (it, len(it)))]
     place, cause = ctypes.c_size_t(), ctypes.c_uint8()
-    status, room, count = Room(ctypes.c_char, len(page) + len(page) // 8 + 64).fill(lib.tl_patch_css, words, (place, cause))
+    status, room, count = Room(ctypes.c_char, len(page) + len(page) // 8 + 64).fill(call, words, (place, cause))
     if cause.value >= 16:
         raise ChangeError(_characters(page, place.value), cause.value)
     if cause.value:
@@ -102,13 +192,13 @@ class Document:
                 raise ValueError("the document is closed")
             return call(self._handle, *words)
 
-    def _answer(self, call: Callable[..., int], *words: Any) -> str | None:
-        """The text that a call answers; None where that is refused."""
+    def _answer(self, call: Callable[..., int], *words: Any, make: Callable[[Any, int], Any] = text_in) -> Any:
+        """What is made of what a call answers, the text; None where that is refused."""
         status, room, count = self._bytes.fill(lambda *given: self._call(call, *given), words)
         try:
             if status not in (DONE, REFUSED):
                 raise error_of(status)
-            return text_in(room, count) if status == DONE else None
+            return make(room, count) if status == DONE else None
         finally:
             self._bytes.kept = room
 
@@ -207,9 +297,9 @@ class Node:
     @property
     def attributes(self) -> dict[str, str]:
         """The attributes of a tag in order; those that are keys alone, as `hidden`, have the empty text."""
-        keys = (self._own(lib.tl_node_keys) or "").split("\0")[:-1]
-        values = ((key, self._value(key.encode())) for key in keys)
-        return {self.document._decoded(lib.tl_decode_name, key, "+"): value or "" for key, value in values}
+        pairs = self.document._answer(lib.tl_node_attributes, self.number, make=_calls.pairs_in) or []
+        decoded = self.document._decoded
+        return {decoded(lib.tl_decode_name, key, "+"): decoded(lib.tl_decode_value, value, "&") for key, value in pairs}
 
     def _value(self, key: bytes) -> str | None:
         """The value at a key as the document has it."""

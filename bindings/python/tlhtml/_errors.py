@@ -20,6 +20,25 @@ CAUSES = {
     16: "this element has no start tag",
     17: "this tag can't be changed so",
     18: "the page would be read otherwise than asked",
+    19: "this element can't be changed so: it isn't closed, or is a tag alone",
+    20: "this change and that of another element cut across each other",
+    21: "nothing can stand behind the end of the page",
+    22: "what is put can't stand there",
+}
+
+REASONS = {
+    1: "no such tag: a name is a letter of a-z, and then letters and digits",
+    2: "no policy may list this tag: what stands in it is no markup of HTML",
+    3: "no policy may list this tag: it changes what is around it, or loads what is no page",
+    4: "no such key: a key is a letter of a-z, and then letters and `-`",
+    5: "no policy may list this key: its value is a script",
+    6: "no policy may list this key: its value is no name, text or link",
+    7: "this key holds links, and is no link key",
+    8: "links begin with printable ASCII without spaces, `\"`, `<` and `>`",
+    9: "links that begin so are programs or documents",
+    10: "no scheme with its `:`, and no `/`, `#`, `?` or `.` stands first",
+    11: "no prefix: it is a letter of a-z, and then letters and `-`",
+    12: "links can't be marked at this key: it is no listed key, or a link key",
 }
 
 
@@ -42,8 +61,19 @@ class SelectorError(Error, ValueError):
         return f"no selector: {self.selector!r}: at {self.place}: {CAUSES.get(self.cause, f'cause {self.cause}')}"
 
 
+class PolicyError(Error, ValueError):
+    """Lists are no policy: the first word that none may list, and why, which says in which list it stands."""
+
+    def __init__(self, word: str, reason: int) -> None:
+        self.word, self.reason = word, reason
+        super().__init__(word, reason)
+
+    def __str__(self) -> str:
+        return f"{self.word!r}: {REASONS.get(self.reason, f'reason {self.reason}')}"
+
+
 class ChangeError(Error, ValueError):
-    """A tag can't be changed so: the place in the page where it begins, and why."""
+    """A tag or an element can't be changed so: the place in the page where it begins, and why."""
 
     def __init__(self, place: int, cause: int) -> None:
         self.place, self.cause = place, cause

@@ -16,6 +16,39 @@ pub struct Links {
     pub next: u32,
 }
 
+/// `tl_list`.
+#[repr(C)]
+pub struct List {
+    text: *const u8,
+    len: usize,
+    is_said: bool,
+}
+
+impl List {
+    /// The list that a text says, or one that isn't said. It is lent for no longer than the text.
+    pub fn new(text: Option<&str>) -> List {
+        let lent = text.unwrap_or("");
+        List {
+            text: lent.as_ptr(),
+            len: lent.len(),
+            is_said: text.is_some(),
+        }
+    }
+}
+
+/// `tl_lists`.
+#[repr(C)]
+pub struct Lists {
+    pub tags: List,
+    pub keys: List,
+    pub link_keys: List,
+    pub link_prefixes: List,
+    pub id_prefix: List,
+    pub relative_links: bool,
+    pub nofollow_links: bool,
+    pub policy: u8,
+}
+
 /// What stands where there is no node.
 pub const NO_NODE: u32 = u32::MAX;
 
@@ -83,6 +116,37 @@ unsafe extern "C" {
         out: *mut u8,
         room: usize,
         needed: *mut usize,
+    ) -> u8;
+    pub fn tl_sanitize_html_with(
+        lists: *const Lists,
+        page: *const u8,
+        page_len: usize,
+        out: *mut u8,
+        room: usize,
+        needed: *mut usize,
+        cause: *mut u8,
+    ) -> u8;
+    pub fn tl_refused_word(
+        lists: *const Lists,
+        out: *mut u8,
+        room: usize,
+        needed: *mut usize,
+        cause: *mut u8,
+    ) -> u8;
+    pub fn tl_edit_css(
+        edit: u8,
+        form: u8,
+        selector: *const u8,
+        selector_len: usize,
+        content: *const u8,
+        content_len: usize,
+        page: *const u8,
+        page_len: usize,
+        out: *mut u8,
+        room: usize,
+        needed: *mut usize,
+        place: *mut usize,
+        cause: *mut u8,
     ) -> u8;
     pub fn tl_patch_css(
         edit: u8,
@@ -166,7 +230,7 @@ unsafe extern "C" {
         room: usize,
         needed: *mut usize,
     ) -> u8;
-    pub fn tl_node_keys(
+    pub fn tl_node_attributes(
         document: *mut Handle,
         node: u32,
         out: *mut u8,
@@ -259,6 +323,25 @@ pub fn items<T: Copy>(
 pub fn text_of(bytes: Vec<u8>) -> String {
     String::from_utf8(bytes)
         .unwrap_or_else(|it| String::from_utf8_lossy(it.as_bytes()).into_owned())
+}
+
+// The number in 8 bytes, the lowest first, that stands at a place.
+fn number_at(bytes: &[u8], at: usize) -> usize {
+    let number = bytes[at..at + 8].iter().rev();
+    number.fold(0, |number, byte| number << 8 | usize::from(*byte))
+}
+
+/// The keys and values that `tl_node_attributes` puts, in order; a key alone has the empty value.
+pub fn pairs_in(mut bytes: &[u8]) -> Vec<(String, String)> {
+    let mut pairs = Vec::new();
+    while !bytes.is_empty() {
+        let (key_len, value_len) = (number_at(bytes, 0), number_at(bytes, 8));
+        let (key, rest) = bytes[17..].split_at(key_len);
+        let (value, rest) = rest.split_at(value_len);
+        pairs.push((text_of(key.to_vec()), text_of(value.to_vec())));
+        bytes = rest;
+    }
+    pairs
 }
 
 /// The text that a call answers, for which this room is lent first.

@@ -1,4 +1,5 @@
 //! Why there is no answer.
+use crate::Reason;
 use std::fmt;
 
 /// Why there is no answer.
@@ -11,7 +12,9 @@ pub enum Error {
         /// What is wrong with it.
         cause: Cause,
     },
-    /// A tag can't be changed so.
+    /// Lists are no policy: [`Lists::refused_word`](crate::Lists::refused_word) says of which word.
+    NoPolicy(Reason),
+    /// A tag or an element can't be changed so.
     NotChanged {
         /// Where it begins in the page.
         place: usize,
@@ -34,6 +37,7 @@ impl fmt::Display for Error {
             Error::NoSelector { place, cause } => {
                 write!(f, "no selector: at byte {place}: {cause}")
             }
+            Error::NoPolicy(reason) => write!(f, "no policy: {reason}"),
             Error::NotChanged { place, cause } => write!(f, "at byte {place}: {cause}"),
             Error::TooLong => f.write_str("the page is too long"),
             Error::OutOfMemory => f.write_str("out of memory"),
@@ -113,4 +117,12 @@ causes! {
     NotWritten = 17, "this tag can't be changed so";
     /// The page would be read otherwise than asked.
     ReadOtherwise = 18, "the page would be read otherwise than asked";
+    /// The element isn't closed, is a tag alone, or its tag is dropped.
+    NotMeant = 19, "this element can't be changed so: it isn't closed, or is a tag alone";
+    /// The change of the element and that of another cut across each other.
+    Across = 20, "this change and that of another element cut across each other";
+    /// What is put would stand behind the last byte of the page.
+    EndOfPage = 21, "nothing can stand behind the end of the page";
+    /// What is put can't stand there: markup in a raw text, or a text that would be read otherwise.
+    NoContent = 22, "what is put can't stand there";
 }

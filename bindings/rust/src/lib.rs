@@ -24,11 +24,13 @@ mod document;
 mod error;
 mod node;
 mod patch;
+mod policy;
 
 pub use document::Document;
 pub use error::{Cause, Error};
 pub use node::{Attribute, Children, Kind, Node};
-pub use patch::{set_attribute, unset_attribute};
+pub use patch::{Content, Edit, edit, set_attribute, unset_attribute};
+pub use policy::{Lists, Policy, Reason, sanitize_by};
 
 /// What the policy for the text of a blog keeps of a page, so that a browser builds just that: no scripts, no handlers of events, no
 /// styles, and links to the web, to mail and within the site alone. What people type is read as browsers read it, so `I <3 you` stays
@@ -42,31 +44,6 @@ pub use patch::{set_attribute, unset_attribute};
 /// ```
 pub fn sanitize(page: &str) -> Result<String, Error> {
     calls::of_page(calls::tl_sanitize_html, page)
-}
-
-/// What is kept of a page.
-#[derive(Clone, Copy, Debug, Default, PartialEq, Eq)]
-pub enum Policy {
-    /// For the text of a blog, as [`sanitize`] keeps it.
-    #[default]
-    Blog,
-    /// For comments of readers: emphasis, quotes, lists and code, and links to the web; no headings, pictures and names.
-    Comments,
-    /// For documents: tables and the parts of a document too, and pictures and links beside the page.
-    Documents,
-}
-
-/// What a policy keeps of a page.
-///
-/// ```
-/// use tlhtml::{Policy, sanitize_by};
-/// assert_eq!(sanitize_by(Policy::Comments, "<h1>x</h1><b>y")?, "x<b>y</b>");
-/// # Ok::<(), tlhtml::Error>(())
-/// ```
-pub fn sanitize_by(policy: Policy, page: &str) -> Result<String, Error> {
-    calls::text(calls::room_of(page), |out, room, needed| unsafe {
-        calls::tl_sanitize_html_by(policy as u8, page.as_ptr(), page.len(), out, room, needed)
-    })
 }
 
 /// The version of the library that is linked.

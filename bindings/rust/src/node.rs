@@ -99,16 +99,17 @@ impl<'d> Node<'d> {
 
     /// All of a tag in order; none of a text or a comment.
     pub fn attributes(self) -> Result<Vec<Attribute>, Error> {
-        let keys = self
-            .document
-            .of_node(calls::tl_node_keys, self.number)
+        let document = self.document;
+        let pairs = document
+            .answered(calls::pairs_in, |out, room, needed| unsafe {
+                calls::tl_node_attributes(document.handle(), self.number, out, room, needed)
+            })
             .map_err(calls::error_of)?;
-        keys.split_terminator('\0')
-            .map(|key| {
-                let value = self.value(key)?.unwrap_or_default();
-                let key = self
-                    .document
-                    .decoded(calls::tl_decode_name, key.to_owned())?;
+        pairs
+            .into_iter()
+            .map(|(key, value)| {
+                let key = document.decoded(calls::tl_decode_name, key)?;
+                let value = document.decoded(calls::tl_decode_value, value)?;
                 Ok(Attribute { key, value })
             })
             .collect()

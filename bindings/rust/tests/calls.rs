@@ -2,8 +2,8 @@
 use std::thread;
 use tlhtml::as_is::{self, Field};
 use tlhtml::{
-    Cause, Document, Error, Kind, Policy, sanitize, sanitize_by, set_attribute, unset_attribute,
-    version,
+    Cause, Content, Document, Edit, Error, Kind, Policy, Reason, edit, sanitize, sanitize_by,
+    set_attribute, unset_attribute, version,
 };
 
 const PAGE: &str =
@@ -145,6 +145,102 @@ fn safe_pages() {
         assert_eq!(sanitize_by(policy, page).as_deref(), Ok(wanted));
     }
     assert_eq!(version().as_deref(), Ok(env!("TL_VERSION")));
+}
+
+#[test]
+fn lists_of_ones_own() {
+    let page = "<P CLASS=own-a>x<A HREF=b.png>y</A><H1>z</H1><b>c</b>";
+    let lists = Policy::Comments.lists();
+    assert_eq!(lists.sanitize(page), sanitize_by(Policy::Comments, page));
+    assert_eq!(lists.tags("").sanitize(page).as_deref(), Ok("xyzc"));
+    let lists = lists
+        .tags("p,a")
+        .keys("class,href")
+        .id_prefix("own-")
+        .relative_links()
+        .nofollow_links();
+    assert_eq!(
+        lists.sanitize(page).as_deref(),
+        Ok("<p class=\"own-a\">x<a rel=\"nofollow noopener\" href=\"b.png\">y</a></p>zc")
+    );
+    assert_eq!(lists.refused_word(), Ok(None));
+    let web = Policy::Blog.lists().link_prefixes("https://");
+    assert_eq!(web.sanitize("<a href=/x>y").as_deref(), Ok("<a>y</a>"));
+    for (lists, word, reason) in [
+        (lists.tags("p,script"), "script", Reason::OpaqueTag),
+        (lists.keys("onclick"), "onclick", Reason::ScriptKey),
+        (lists.link_keys("src"), "href", Reason::LinkKey),
+        (web.link_prefixes("data:"), "data:", Reason::ActiveScheme),
+        (web.id_prefix("é"), "é", Reason::MalformedPrefix),
+    ] {
+        assert_eq!(lists.sanitize(page), Err(Error::NoPolicy(reason)));
+        assert_eq!(lists.refused_word(), Ok(Some((word.to_string(), reason))));
+    }
+}
+
+#[test]
+fn elements() {
+    let page = "<!DOCTYPE X><P>one<BR><B>two</B></P>";
+    for (it, wanted) in [
+        (Edit::Rename("I"), "<!DOCTYPE X><P>one<BR><i>two</i></P>"),
+        (Edit::Remove, "<!DOCTYPE X><P>one<BR></P>"),
+        (Edit::Unwrap, "<!DOCTYPE X><P>one<BR>two</P>"),
+        (
+            Edit::Replace(Content::Text("<")),
+            "<!DOCTYPE X><P>one<BR>&lt;</P>",
+        ),
+        (
+            Edit::Fill(Content::Markup("<i>x</i>")),
+            "<!DOCTYPE X><P>one<BR><B><i>x</i></B></P>",
+        ),
+        (
+            Edit::Prepend(Content::Text("x")),
+            "<!DOCTYPE X><P>one<BR><B>xtwo</B></P>",
+        ),
+        (
+            Edit::Append(Content::Text("x")),
+            "<!DOCTYPE X><P>one<BR><B>twox</B></P>",
+        ),
+        (
+            Edit::Before(Content::Text("x")),
+            "<!DOCTYPE X><P>one<BR>x<B>two</B></P>",
+        ),
+        (
+            Edit::After(Content::Text("x")),
+            "<!DOCTYPE X><P>one<BR><B>two</B>x</P>",
+        ),
+    ] {
+        assert_eq!(edit(page, "b", it).as_deref(), Ok(wanted));
+        assert_eq!(edit(page, "i", it).as_deref(), Ok(page));
+    }
+    let (place, cause) = (18, Cause::NotMeant);
+    assert_eq!(
+        edit(page, "br", Edit::Fill(Content::Text("x"))),
+        Err(Error::NotChanged { place, cause })
+    );
+    let (place, cause) = (2, Cause::NoPseudoClass);
+    assert_eq!(
+        edit(page, "p:hover", Edit::Remove),
+        Err(Error::NoSelector { place, cause })
+    );
+}
+
+/// A tag of many keys, whose attributes come in one answer.
+#[test]
+fn many_attributes() {
+    let keys: String = (0..2_000)
+        .map(|it| format!(" k{it}=\"{it}&amp;\""))
+        .collect();
+    let document = Document::parse(&format!("<p{keys} hidden>")).unwrap();
+    let attributes = document.select("p").unwrap()[0].attributes().unwrap();
+    assert_eq!(attributes.len(), 2_001);
+    assert_eq!(
+        (
+            attributes[1_999].key.as_str(),
+            attributes[1_999].value.as_str()
+        ),
+        ("k1999", "1999&")
+    );
 }
 
 #[test]

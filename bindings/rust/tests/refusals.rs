@@ -3,7 +3,7 @@
 
 use std::ffi::c_long;
 use std::fmt::Debug;
-use tlhtml::{Document, Error, as_is, sanitize};
+use tlhtml::{Content, Document, Edit, Error, Policy, as_is, edit, sanitize};
 
 const PAGE: &str = "<ul><LI class=a @click=f() href='?a=1&b'>x &amp; y<LI>3 < 4</UL><p>z";
 
@@ -35,6 +35,9 @@ fn each_call() {
     let document = Document::parse(PAGE).unwrap();
     let item = document.select_first("li").unwrap().unwrap();
     check(|| sanitize(PAGE));
+    check(|| Policy::Blog.lists().tags("p,li").sanitize(PAGE));
+    check(|| Policy::Blog.lists().tags("p,script").refused_word());
+    check(|| edit(PAGE, "li", Edit::Fill(Content::Text("<"))));
     check(|| Document::parse(PAGE)?.text());
     check(|| document.select("ul > li"));
     check(|| item.text());

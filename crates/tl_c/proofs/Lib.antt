@@ -1,5 +1,6 @@
 pub mod Forms
 pub mod Given
+pub mod Lent
 pub mod LinkLemmas
 pub mod Queries
 pub mod Readings

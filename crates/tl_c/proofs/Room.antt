@@ -23,6 +23,13 @@ number_of-memory NotUnderstood = (λ e. absurd (omega (arith, e)), λ e. absurd 
 number_of-memory OutOfMemory = (λ e. refl, λ e. refl)
 number_of-memory Fault = (λ e. absurd (omega (arith, e)), λ e. absurd (cc))
 
+-- and 1 that of what is refused alone
+pub number_of-refused : (failure : Failure) → (number_of failure ≡ 1) ↔ (failure ≡ Refused)
+number_of-refused Refused = (λ e. refl, λ e. refl)
+number_of-refused NotUnderstood = (λ e. absurd (omega (arith, e)), λ e. absurd (cc))
+number_of-refused OutOfMemory = (λ e. absurd (omega (arith, e)), λ e. absurd (cc))
+number_of-refused Fault = (λ e. absurd (omega (arith, e)), λ e. absurd (cc))
+
 module _ {X : Type 0} where
   has_room : (out : List X) → is_too_long [] out ≡ false
   has_room out = le-ltb (length out) 0 (omega arith)

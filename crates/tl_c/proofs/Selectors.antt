@@ -1,5 +1,6 @@
 -- Selectors of CSS, and what they find.
-use Rattle.std.proofs.Common.{◌≡◌, ℕ, true, List, Option, None, Some, Result, Ok, Err, refl, ap, subst}
+use Rattle.std.proofs.Common.{◌≡◌, ◌≢◌, ℕ, Bool, true, false, List, Option, None, Some, Result, Ok, Err, refl, ap, subst, if◌then◌else◌}
+use Rattle.std.specs.Prelude.{IsSome}
 use Rattle.std.specs.Result.{result_err}
 use Rattle.std.specs.Str.{is_utf8}
 use Rattle.tl_css.specs.Reading.{css_at}
@@ -41,3 +42,37 @@ found_by-unread not_understood held ns Refused fails = absurd (cc)
 found_by-unread not_understood held ns NotUnderstood fails = refl
 found_by-unread not_understood held ns OutOfMemory fails = tt
 found_by-unread not_understood held ns Fault fails = absurd fails
+
+right_cases : (b : Bool) (r : Result Css (ℕ × Cause)) (e : Css) → (if b then outcome_of_css r else not_understood) ≡ success e
+    → ◌≡◌ {A = Option (ℕ × Cause)} (if b then result_err r else None) None
+right_cases true (Ok own) e is = refl
+right_cases true (Err wrong) e is = absurd (cc)
+right_cases false r e is = refl
+
+-- a selector has nothing wrong
+pub right_in : (text : List ℕ) (e : Css) → css_in text ≡ success e → wrong_in text ≡ None
+right_in text e is = right_cases (is_utf8 text) (css_at text) e is
+
+refused_cases : (b : Bool) (r : Result Css (ℕ × Cause)) → IsSome {T = ℕ × Cause} (if b then result_err r else None) → (if b then outcome_of_css r else not_understood) ≡ refused
+refused_cases true (Ok e) some = absurd (cc)
+refused_cases true (Err wrong) some = refl
+refused_cases false r some = absurd (cc)
+
+-- and what has is refused
+refused_in : (text : List ℕ) → IsSome (wrong_in text) → css_in text ≡ refused
+refused_in text some = refused_cases (is_utf8 text) (css_at text) some
+
+only_refused : (failure : Failure) → Fails {X = Css} refused failure → failure ≢ OutOfMemory → failure ≡ Refused
+only_refused Refused fails other = refl
+only_refused NotUnderstood fails other = absurd (cc)
+only_refused OutOfMemory fails other = absurd (other refl)
+only_refused Fault fails other = absurd fails
+
+pub wrong_failure : (text : List ℕ) (failure : Failure) → IsSome (wrong_in text) → Fails (css_in text) failure → failure ≢ OutOfMemory → failure ≡ Refused
+wrong_failure text failure some fails other =
+    only_refused failure (subst (λ (outcome : Outcome Css). Fails outcome failure) (refused_in text some) fails) other
+
+pub right_none : (text : List ℕ) (e : Css) → css_in text ≡ success e → IsSome (wrong_in text) → ⊥
+right_none text e is some =
+    let none : ◌≡◌ {A = Bool} false true = subst (λ (wrong : Option (ℕ × Cause)). IsSome wrong) (right_in text e is) some in
+    absurd (cc)

@@ -1,5 +1,7 @@
 pub mod Css
+pub mod Edits
 pub mod Forms
+pub mod LentLists
 pub mod Links
 pub mod Nodes
 pub mod Owned

@@ -4,7 +4,7 @@ use Rattle.tl_css.specs.Selector.{Css}
 use Rattle.tl_page.specs.Outcome.{Outcome, success}
 use Rattle.tl_patch_select.specs.Patched.{IsPatchedWhere}
 use Rattle.tl_patch_select.specs.declared.error.SelectionPatchError.{SelectionPatchError}
-use Rattle.tl_patch_select.specs.declared.error.SelectionPatchError.TheVariants.{NoStartTag, NotWritten, ReadOtherwise, TooLong, OutOfMemory}
+use Rattle.tl_patch_select.specs.declared.error.SelectionPatchError.TheVariants.{NoStartTag, NotWritten, TooLong, OutOfMemory}
 use Rattle.tl_patch_spec.specs.TagChanges.{Set, TagChange, Unset}
 use Rattle.tl_c.specs.Css.{css_in}
 use Rattle.tl_c.specs.Puts.{Puts}
@@ -32,7 +32,6 @@ IsPatchedIf selector (Some change) page text = IsPatchedBy selector change page 
 abbrev pub number_of_patch_error : SelectionPatchError → ℕ
 number_of_patch_error (NoStartTag place) = 16
 number_of_patch_error (NotWritten place) = 17
-number_of_patch_error ReadOtherwise = 18
 number_of_patch_error TooLong = 0
 number_of_patch_error OutOfMemory = 0
 
@@ -40,7 +39,6 @@ number_of_patch_error OutOfMemory = 0
 abbrev pub place_of_patch_error : SelectionPatchError → ℕ
 place_of_patch_error (NoStartTag place) = place
 place_of_patch_error (NotWritten place) = place
-place_of_patch_error ReadOtherwise = 0
 place_of_patch_error TooLong = 0
 place_of_patch_error OutOfMemory = 0
 

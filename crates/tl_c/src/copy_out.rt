@@ -13,6 +13,7 @@ const NO_ROOM: u8 = 4;
 // Puts items at the front of `out`, and how many they are into `needed`. That takes no memory.
 pub(crate) fn copy_items<T: Copy>(items: &[T], out: &mut [T], needed: &mut usize) -> u8
     ensures put { Puts (success items.now) out.old out.new needed.new result }
+    ensures refused { result ≢ 1 }
     ensures memory { result ≢ 3 }
 {
     *needed = items.len();
@@ -28,7 +29,7 @@ fn report_failure<T: Copy>(failure: Failure, out: &mut [T], needed: &mut usize) 
     ensures put { (outcome : Outcome (List T)) → Fails outcome failure
         → Puts outcome out.old out.new needed.new result }
     ensures failed { result ≢ 0 }
-    ensures refused { failure ≡ Refused → result ≡ 1 }
+    ensures refused { (result ≡ 1) ↔ (failure ≡ Refused) }
     ensures not_understood { failure ≡ NotUnderstood → result ≡ 2 }
     ensures memory { (result ≡ 3) ↔ (failure ≡ OutOfMemory) }
 {
@@ -70,7 +71,7 @@ pub(crate) fn copy_result<T: Copy + Drop>(
 pub(crate) fn copy_text(given: Result<String, Failure>, out: &mut [u8], needed: &mut usize) -> u8
     ensures put { (outcome : Outcome (List ℕ)) → Gives string_bytes outcome given
         → Puts outcome out.old out.new needed.new result }
-    ensures refused { given ≡ Err Refused → result ≡ 1 }
+    ensures refused { (result ≡ 1) ↔ (given ≡ Err Refused) }
     ensures not_understood { given ≡ Err NotUnderstood → result ≡ 2 }
     ensures text { result ≡ 0
         → IsOkAnd given (λ text. take needed.new out.new ≡ string_bytes text) }

@@ -5,7 +5,7 @@ ghost use Rattle.tl_links.specs.declared.links.Links.{Links};
 ghost use Rattle.tl_page.specs.Outcome.{Gives, success};
 ghost use Rattle.tl_page.specs.declared.failure.Failure.TheVariants.{Refused};
 ghost use Rattle.tl_c.specs.Links.{AreLinksIn, AreLinksOn, links_shown, number_or_none, shown_links};
-ghost use Rattle.tl_c.specs.Nodes.{child_in, inside_in, keys_in, kind_in, name_in, number_of_kind, number_of_standing, print_in, standing_in};
+ghost use Rattle.tl_c.specs.Nodes.{attributes_in, child_in, inside_in, keys_in, kind_in, name_in, number_of_kind, number_of_standing, print_in, standing_in};
 ghost use Rattle.tl_c.specs.Queries.{node_in};
 
 use crate::node_links::{NO_NODE, NodeLinks, number_or_none, shown_links};
@@ -99,6 +99,23 @@ pub(crate) fn keys(
         return Err(Failure::Refused);
     };
     tl_node::ended_keys(alloc, own.document.get_ref(), node)
+}
+
+/// The keys and values of a node.
+pub(crate) fn attributes(
+    alloc: Global,
+    held: &Option<Box<ParsedPage>>,
+    node: u32,
+) -> Result<Vec<u8>, Failure>
+    ensures gives { let parsed = option_map (λ own. own.value) held.now in
+        Gives (λ pairs. pairs.items) (attributes_in node parsed) result }
+    ensures no_node { node_in node (option_map (λ own. own.value) held.now) ≡ None
+        → result ≡ Err Refused }
+{
+    let Some(own) = held else {
+        return Err(Failure::Refused);
+    };
+    tl_node::attribute_pairs(alloc, own.document.get_ref(), node)
 }
 
 /// A node as markup.

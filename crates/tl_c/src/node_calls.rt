@@ -3,13 +3,13 @@ ghost use Rattle.std.specs.Prelude.{◌≡◌, ◌≢◌, List, None};
 ghost use Rattle.tl_links.specs.declared.links.Links.{Links};
 ghost use Rattle.tl_page.specs.Outcome.{success};
 ghost use Rattle.tl_c.specs.Links.{AreLinksIn, links_shown, number_or_none};
-ghost use Rattle.tl_c.specs.Nodes.{child_in, inside_in, keys_in, kind_in, name_in, number_of_kind, number_of_standing, print_in, standing_in};
+ghost use Rattle.tl_c.specs.Nodes.{attributes_in, child_in, inside_in, keys_in, kind_in, name_in, number_of_kind, number_of_standing, print_in, standing_in};
 ghost use Rattle.tl_c.specs.Puts.{Puts};
 ghost use Rattle.tl_c.specs.Queries.{node_in, outcome_of_some};
 
 use crate::copy_out::{copy_result, copy_text, copy_value};
 use crate::document::Document;
-use crate::node::{self, child, inside, keys, kind, name, print, standing};
+use crate::node::{self, attributes, child, inside, keys, kind, name, print, standing};
 use crate::node_links::NodeLinks;
 use std::alloc::Global;
 
@@ -95,6 +95,30 @@ pub extern "C" fn tl_node_keys(
     let keys = keys(alloc, &held, node);
     let _nothing = document.replace(alloc, held);
     copy_result(keys, out, needed)
+}
+
+/// The keys and values of a node in the order of its print: of each how many bytes the key and the
+/// value have, in 8 bytes with the lowest first, what stands at the key (1 or 2), and both. It is
+/// refused where there is no such node.
+#[unsafe(no_mangle)]
+pub extern "C" fn tl_node_attributes(
+    alloc: Global,
+    document: &mut Document,
+    node: u32,
+    out: &mut [u8],
+    needed: &mut usize,
+) -> u8
+    ensures same { document.new.held ≡ document.old.held }
+    ensures put { let outcome = attributes_in node document.old.held in
+        Puts outcome out.old out.new needed.new result }
+
+    // Without a document, or such a node, it takes no memory.
+    ensures no_node { node_in node document.old.held ≡ None → result ≡ 1 }
+{
+    let held = document.replace(alloc, None);
+    let attributes = attributes(alloc, &held, node);
+    let _nothing = document.replace(alloc, held);
+    copy_result(attributes, out, needed)
 }
 
 /// A node as markup. It is refused where there is no such node.

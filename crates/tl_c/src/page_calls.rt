@@ -1,5 +1,5 @@
 //! The calls with a page.
-ghost use Rattle.std.specs.Prelude.{◌≡◌, ◌≢◌, ◌<◌, length, None, Some, IsUtf8, take};
+ghost use Rattle.std.specs.Prelude.{◌≡◌, ◌≢◌, ◌<◌, length, IsSome, None, Some, IsUtf8, take};
 ghost use Rattle.tl_spec.specs.Print.Normal.{norm};
 ghost use Rattle.tl_spec.specs.Select.Selector.{Selector};
 ghost use Rattle.tl_spec.specs.Select.Text.{IsSelectorText};
@@ -13,13 +13,19 @@ ghost use Rattle.tl_page.specs.Outcome.{success};
 ghost use Rattle.tl_extract.specs.Field.{IsNoSelector};
 ghost use Rattle.tl_program.specs.Action.{Prints, Texts};
 ghost use Rattle.tl_program.specs.Output.{output_of};
+ghost use Rattle.tl_c.specs.Css.{IsTold, wrong_in};
+ghost use Rattle.tl_c.specs.Edits.{PutsEdited, patch_of_number};
 ghost use Rattle.tl_c.specs.Forms.{of_form};
+ghost use Rattle.tl_c.specs.LentLists.{kept_with, lent_lists, number_of_refusal, refusal_in, refused_word};
 ghost use Rattle.tl_c.specs.Pages.{edited_page, safe_page, selection};
 ghost use Rattle.tl_c.specs.Patches.{PutsPatched, change_of_number};
 ghost use Rattle.tl_c.specs.Policies.{kept_by, lists_of_number};
 ghost use Rattle.tl_c.specs.Puts.{Puts};
 
 use crate::copy_out::{copy_items, copy_result, copy_text};
+use crate::element_edit::edit_elements;
+use crate::lent_lists::LentLists;
+use crate::own_policy::{html_page_with, word_refused};
 use crate::page::{edit, safe_html_page, safe_page};
 use crate::patch::patch;
 use crate::policy::html_page_by;
@@ -161,6 +167,58 @@ pub extern "C" fn tl_sanitize_html_by(
     copy_text(html_page_by(alloc, policy, page), out, needed)
 }
 
+/// Prints what a policy of lists that are lent keeps of a page that is read as browsers read it.
+/// Lists that are no policy are refused: `cause` is the number of why in `tl.h`, and else 0.
+#[unsafe(no_mangle)]
+pub extern "C" fn tl_sanitize_html_with(
+    alloc: Global,
+    lists: &LentLists<'_>,
+    page: &[u8],
+    out: &mut [u8],
+    needed: &mut usize,
+    cause: &mut u8,
+) -> u8
+    ensures put { Puts (kept_with lists.now page.now) out.old out.new needed.new result }
+
+    // As `sanitize` says of what it prints.
+    ensures form { (p : ListedWords) → lent_lists lists.now ≡ success p → result ≡ 0
+        → IsSafe p (take needed.new out.new) }
+    ensures standard { (p : ListedWords) → lent_lists lists.now ≡ success p → result ≡ 0
+        → tokens_in_page (take needed.new out.new)
+        ≡ tokens_of (norm (kept_fitted p (trees_of (html_form page.now)))) }
+
+    // Why the lists are no policy.
+    ensures told { result ≡ 1
+        → cause.new ≡ number_of_refusal (refusal_in (lent_lists lists.now)) }
+    ensures lawful { result ≢ 1 → cause.new ≡ 0 }
+
+    // No want of memory hides that a page is no text, or too long.
+    ensures no_text { ¬ (IsUtf8 page.now) → result ≡ 2 }
+    ensures long { u32.MAX < length page.now → result ≡ 2 }
+{
+    copy_text(html_page_with(alloc, lists, page, cause), out, needed)
+}
+
+/// Writes the first word for which lists that are lent are no policy; `cause` is the number of why
+/// in `tl.h`. Of lists that are a policy that is refused, and `cause` is 0.
+#[unsafe(no_mangle)]
+pub extern "C" fn tl_refused_word(
+    alloc: Global,
+    lists: &LentLists<'_>,
+    out: &mut [u8],
+    needed: &mut usize,
+    cause: &mut u8,
+) -> u8
+    ensures put { let word = refused_word (lent_lists lists.now) in
+        Puts word out.old out.new needed.new result }
+    ensures told { result ≢ 3
+        → cause.new ≡ number_of_refusal (refusal_in (lent_lists lists.now)) }
+    ensures lost { result ≡ 3 → cause.new ≡ 0 }
+{
+    let word = word_refused(alloc, lists, cause);
+    copy_result(word, out, needed)
+}
+
 /// Prints a page with a key set (0) or unset (1) in the start tag of each element where a selector
 /// of CSS holds, and with each other byte as it was. Another number is not understood. A text that
 /// is no selector is refused: `place` is its first byte that is wrong, and `cause` the number of
@@ -182,9 +240,45 @@ pub extern "C" fn tl_patch_css(
     ensures patched { let change = change_of_number edit key.now value.now in
         PutsPatched selector.now change page.now out.old out.new needed.new result }
     ensures done { result ≡ 0 → (place.new ≡ 0) × (cause.new ≡ 0) }
+
+    // Of what is no selector the first byte that is wrong, and why.
+    ensures wrong { IsSome (wrong_in selector.now) → result ≢ 3
+        → (result ≡ 1) × IsTold (wrong_in selector.now) place.new cause.new }
 {
     let patched = patch(alloc, edit, selector, key, value, page, place, cause);
     copy_result(patched, out, needed)
+}
+
+/// Prints a page with each element changed where a selector of CSS holds, and with each other byte
+/// as it was: it gets another name (0), goes (1), or its tags go (2); or content stands in its
+/// place (3), in that of what is in it (4), first (5) or last (6) in it, before (7) or after it
+/// (8). The content is a text (0), which is escaped, or markup (1). Other numbers are not
+/// understood. A text that is no selector is refused: `place` is its first byte that is wrong, and
+/// `cause` the number of the cause in `tl.h`. Where an element can't be changed so that the page is
+/// read as asked, that is refused with its place in the page. Else both are 0.
+#[unsafe(no_mangle)]
+pub extern "C" fn tl_edit_css(
+    alloc: Global,
+    edit: u8,
+    form: u8,
+    selector: &[u8],
+    content: &[u8],
+    page: &[u8],
+    out: &mut [u8],
+    needed: &mut usize,
+    place: &mut usize,
+    cause: &mut u8,
+) -> u8
+    ensures edited { let patch = patch_of_number edit form content.now in
+        PutsEdited selector.now patch page.now out.old out.new needed.new result }
+    ensures done { result ≡ 0 → (place.new ≡ 0) × (cause.new ≡ 0) }
+
+    // Of what is no selector the first byte that is wrong, and why.
+    ensures wrong { IsSome (wrong_in selector.now) → result ≢ 3
+        → (result ≡ 1) × IsTold (wrong_in selector.now) place.new cause.new }
+{
+    let edited = edit_elements(alloc, edit, form, selector, content, page, place, cause);
+    copy_result(edited, out, needed)
 }
 
 /// Writes the version. That takes no memory.

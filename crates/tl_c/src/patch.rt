@@ -1,7 +1,7 @@
 //! Tags of a page changed where a selector of CSS holds.
-ghost use Rattle.std.specs.Prelude.{◌≡◌, ◌≢◌, Err, IfOk, None, Some};
+ghost use Rattle.std.specs.Prelude.{◌≡◌, ◌≢◌, Err, IfOk, IsSome};
 ghost use Rattle.std.specs.Option.{option_map};
-ghost use Rattle.tl_page.specs.declared.failure.Failure.TheVariants.{Fault, NotUnderstood, OutOfMemory};
+ghost use Rattle.tl_page.specs.declared.failure.Failure.TheVariants.{Fault, OutOfMemory, Refused};
 ghost use Rattle.tl_patch_page.specs.View.{change_view};
 ghost use Rattle.tl_c.specs.Css.{IsTold, wrong_in};
 ghost use Rattle.tl_c.specs.Patches.{IsPatchedIf, change_of_number, number_of_patch_error, place_of_patch_error};
@@ -33,7 +33,6 @@ fn report(error: SelectionPatchError, place: &mut usize, cause: &mut u8) -> Fail
     let (at, why, failure) = match error {
         SelectionPatchError::NoStartTag(at) => (at, 16, Failure::Refused),
         SelectionPatchError::NotWritten(at) => (at, 17, Failure::Refused),
-        SelectionPatchError::ReadOtherwise => (0, 18, Failure::Refused),
         SelectionPatchError::TooLong => (0, 0, Failure::NotUnderstood),
         SelectionPatchError::OutOfMemory => (0, 0, Failure::OutOfMemory),
     };
@@ -59,6 +58,8 @@ pub(crate) fn patch(
     ensures patched { let change = change_of_number number key.now value.now in
         IfOk result (λ text. IsPatchedIf selector.now change page.now text.items) }
     ensures done { IfOk result (λ _. (place.new ≡ 0) × (cause.new ≡ 0)) }
+    ensures wrong { IsSome (wrong_in selector.now) → result ≢ Err OutOfMemory
+        → (result ≡ Err Refused) × IsTold (wrong_in selector.now) place.new cause.new }
     ensures failure { result ≢ Err Fault }
 {
     let selector = read_selector(alloc, selector, place, cause)?;

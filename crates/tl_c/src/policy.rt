@@ -19,7 +19,7 @@ use tl_page::Failure;
 use tl_safe::Policy;
 
 // The policy of a number, if it has one.
-fn policy_of(number: u8) -> Option<Policy<'static>>
+pub(crate) fn policy_of(number: u8) -> Option<Policy<'static>>
     ensures { option_map lists_of result ≡ lists_of_number number }
 {
     match number {

@@ -1,6 +1,6 @@
 use Rattle.std.proofs.Common.{◌≡◌, Err, ap, subst, sym, ◌∙◌}
 use Rattle.tl_page.specs.Outcome.{success}
-use Rattle.tl_page.specs.declared.failure.Failure.TheVariants.{OutOfMemory}
+use Rattle.tl_page.specs.declared.failure.Failure.TheVariants.{OutOfMemory, Refused}
 use Rattle.tl_c.specs.Puts.{Puts}
 use Rattle.tl_c.proofs.copy_out.copy_result.Goals as goal
 
@@ -27,3 +27,9 @@ returns-in-Err-clause-memory g c = (
       let same : c.in-Err.failure ≡ OutOfMemory = cc in
       c.report_failure.ensures.memory.1 same,
 )
+
+pub returns-in-Err-clause-refused : goal.returns-in-Err-clause-refused
+returns-in-Err-clause-refused g c = λ refused.
+    let is = c.in-Err.is in
+    let same : c.in-Err.failure ≡ Refused = cc in
+    c.report_failure.ensures.refused.1 same

@@ -18,3 +18,8 @@ returns-clause-done c = λ is_done.
     let given = c.patch-patched.result in
     let put = c.copy_result.ensures.put _ (given-gives (λ text. text.items) given c.patch-patched.ensures.failure) in
     given-done (λ text. text.items) given _ _ _ _ put is_done _ c.patch-patched.ensures.done
+
+pub returns-clause-wrong : goal.returns-clause-wrong
+returns-clause-wrong c = λ some other.
+    let told = c.patch-patched.ensures.wrong some (λ lost. other (c.copy_result.ensures.memory.1 lost)) in
+    (c.copy_result.ensures.refused told.0, told.1)

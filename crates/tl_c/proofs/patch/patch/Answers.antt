@@ -2,12 +2,13 @@ use Rattle.std.proofs.Common.{◌≡◌, ◌∙◌, List, ℕ, Option, Some, Err
 use Rattle.std.specs.Option.{option_map}
 use Rattle.tl_page.specs.Outcome.{Fails}
 use Rattle.tl_page.specs.declared.failure.Failure.{Failure}
-use Rattle.tl_page.specs.declared.failure.Failure.TheVariants.{Fault}
+use Rattle.tl_page.specs.declared.failure.Failure.TheVariants.{Fault, OutOfMemory}
 use Rattle.tl_patch_page.specs.View.{change_view}
 use Rattle.tl_patch_select.specs.Patched.{IsPatchedWhere}
 use Rattle.tl_patch_spec.specs.TagChanges.{TagChange}
 use Rattle.tl_c.specs.Css.{css_in}
 use Rattle.tl_c.specs.Patches.{IsPatchedIf, change_of_number}
+use Rattle.tl_c.proofs.Selectors.{right_none, wrong_failure}
 use Rattle.tl_c.proofs.patch.patch.Goals as goal
 
 pub returns-in_err-selector-clause-failure : goal.returns-in_err-selector-clause-failure
@@ -30,3 +31,22 @@ returns-in-Ok-clause-patched c =
       places = places;
       patched = subst (λ (page : List ℕ). IsPatchedWhere css change page bytes places) c.in_ok-text_of.ensures.text c.in-Ok.ensures.patched;
     })
+
+pub returns-in_err-selector-clause-wrong : goal.returns-in_err-selector-clause-wrong
+returns-in_err-selector-clause-wrong c = λ some other.
+    let failure = c.in_err-selector.field-0.0 in
+    let is : c.from_residual.result ≡ Err failure = search rules in
+    let why = wrong_failure c.args.selector.now failure some c.in_err-selector.ensures.reads (λ lost. other (is ∙ ap Err lost)) in
+    (is ∙ ap Err why, c.in_err-selector.ensures.told (λ lost. let same : failure ≡ OutOfMemory = cc in other (is ∙ ap Err same)))
+
+pub returns-in_default-clause-wrong : goal.returns-in_default-clause-wrong
+returns-in_default-clause-wrong c = λ some _. absurd (right_none c.args.selector.now c.in_ok-selector.selector c.in_ok-selector.ensures.reads some)
+
+pub returns-in_err-text_of-clause-wrong : goal.returns-in_err-text_of-clause-wrong
+returns-in_err-text_of-clause-wrong c = λ some _. absurd (right_none c.args.selector.now c.in_ok-selector.selector c.in_ok-selector.ensures.reads some)
+
+pub returns-in-Ok-clause-wrong : goal.returns-in-Ok-clause-wrong
+returns-in-Ok-clause-wrong c = λ some _. absurd (right_none c.args.selector.now c.in_ok-selector.selector c.in_ok-selector.ensures.reads some)
+
+pub returns-clause-wrong : goal.returns-clause-wrong
+returns-clause-wrong c = λ some _. absurd (right_none c.args.selector.now c.in_ok-selector.selector c.in_ok-selector.ensures.reads some)

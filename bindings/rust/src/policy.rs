@@ -1,0 +1,227 @@
+//! Policies, and lists of one's own.
+use crate::Error;
+use crate::calls;
+use std::fmt;
+
+/// What is kept of a page.
+#[derive(Clone, Copy, Debug, Default, PartialEq, Eq)]
+pub enum Policy {
+    /// For the text of a blog, as [`sanitize`](crate::sanitize) keeps it.
+    #[default]
+    Blog,
+    /// For comments of readers: emphasis, quotes, lists and code, and links to the web; no headings, pictures and names.
+    Comments,
+    /// For documents: tables and the parts of a document too, and pictures and links beside the page.
+    Documents,
+}
+
+/// What a policy keeps of a page.
+///
+/// ```
+/// use tlhtml::{Policy, sanitize_by};
+/// assert_eq!(sanitize_by(Policy::Comments, "<h1>x</h1><b>y")?, "x<b>y</b>");
+/// # Ok::<(), tlhtml::Error>(())
+/// ```
+pub fn sanitize_by(policy: Policy, page: &str) -> Result<String, Error> {
+    calls::text(calls::room_of(page), |out, room, needed| unsafe {
+        calls::tl_sanitize_html_by(policy as u8, page.as_ptr(), page.len(), out, room, needed)
+    })
+}
+
+impl Policy {
+    /// Its lists, of which some may be said anew. A list that is said stands in the place of the policy's own.
+    ///
+    /// ```
+    /// use tlhtml::Policy;
+    /// let lists = Policy::Comments.lists().tags("p,a").relative_links().nofollow_links();
+    /// assert_eq!(lists.sanitize("<p>x<a href=y.html>z</a><b>u")?, "<p>x<a rel=\"nofollow noopener\" href=\"y.html\">z</a>u</p>");
+    /// # Ok::<(), tlhtml::Error>(())
+    /// ```
+    pub fn lists<'w>(self) -> Lists<'w> {
+        Lists {
+            policy: self,
+            tags: None,
+            keys: None,
+            link_keys: None,
+            link_prefixes: None,
+            id_prefix: None,
+            relative_links: false,
+            nofollow_links: false,
+        }
+    }
+}
+
+/// A policy with lists of one's own: words with commas between them, as "a,b,p". Empty words are left out.
+#[derive(Clone, Copy, Debug, PartialEq, Eq)]
+pub struct Lists<'w> {
+    policy: Policy,
+    tags: Option<&'w str>,
+    keys: Option<&'w str>,
+    link_keys: Option<&'w str>,
+    link_prefixes: Option<&'w str>,
+    id_prefix: Option<&'w str>,
+    relative_links: bool,
+    nofollow_links: bool,
+}
+
+impl<'w> Lists<'w> {
+    /// The tags that may stand.
+    pub fn tags(self, words: &'w str) -> Lists<'w> {
+        Lists {
+            tags: Some(words),
+            ..self
+        }
+    }
+
+    /// The keys of attributes that may stand.
+    pub fn keys(self, words: &'w str) -> Lists<'w> {
+        Lists {
+            keys: Some(words),
+            ..self
+        }
+    }
+
+    /// The keys that hold links.
+    pub fn link_keys(self, words: &'w str) -> Lists<'w> {
+        Lists {
+            link_keys: Some(words),
+            ..self
+        }
+    }
+
+    /// What links begin with, as "https://,/".
+    pub fn link_prefixes(self, words: &'w str) -> Lists<'w> {
+        Lists {
+            link_prefixes: Some(words),
+            ..self
+        }
+    }
+
+    /// What values of `id`, `name` and `class` begin with: one word.
+    pub fn id_prefix(self, word: &'w str) -> Lists<'w> {
+        Lists {
+            id_prefix: Some(word),
+            ..self
+        }
+    }
+
+    /// Links beside the page may stand too, as `x.png`.
+    pub fn relative_links(self) -> Lists<'w> {
+        Lists {
+            relative_links: true,
+            ..self
+        }
+    }
+
+    /// Each link is marked with `rel="nofollow noopener"`; `rel` is among the keys then.
+    pub fn nofollow_links(self) -> Lists<'w> {
+        Lists {
+            nofollow_links: true,
+            ..self
+        }
+    }
+
+    /// What a policy of these lists keeps of a page. Lists that are no policy are [`Error::NoPolicy`].
+    pub fn sanitize(&self, page: &str) -> Result<String, Error> {
+        let (lists, mut cause) = (self.lent(), 0);
+        let safe = calls::items(calls::room_of(page), |out, room, needed| unsafe {
+            let (at, len) = (page.as_ptr(), page.len());
+            calls::tl_sanitize_html_with(&lists, at, len, out, room, needed, &mut cause)
+        });
+        safe.map(calls::text_of).map_err(|status| match cause {
+            0 => calls::error_of(status),
+            cause => Error::NoPolicy(Reason::of_number(cause)),
+        })
+    }
+
+    /// The first word for which these lists are no policy, and why; `None` where they are one.
+    ///
+    /// ```
+    /// use tlhtml::{Policy, Reason};
+    /// let lists = Policy::Blog.lists().tags("p,script");
+    /// assert_eq!(lists.refused_word()?, Some(("script".to_string(), Reason::OpaqueTag)));
+    /// # Ok::<(), tlhtml::Error>(())
+    /// ```
+    pub fn refused_word(&self) -> Result<Option<(String, Reason)>, Error> {
+        let (lists, mut cause) = (self.lent(), 0);
+        let word = calls::items(64, |out, room, needed| unsafe {
+            calls::tl_refused_word(&lists, out, room, needed, &mut cause)
+        });
+        match word {
+            Ok(word) => Ok(Some((calls::text_of(word), Reason::of_number(cause)))),
+            Err(calls::REFUSED) => Ok(None),
+            Err(status) => Err(calls::error_of(status)),
+        }
+    }
+
+    fn lent(&self) -> calls::Lists {
+        calls::Lists {
+            tags: calls::List::new(self.tags),
+            keys: calls::List::new(self.keys),
+            link_keys: calls::List::new(self.link_keys),
+            link_prefixes: calls::List::new(self.link_prefixes),
+            id_prefix: calls::List::new(self.id_prefix),
+            relative_links: self.relative_links,
+            nofollow_links: self.nofollow_links,
+            policy: self.policy as u8,
+        }
+    }
+}
+
+macro_rules! reasons {
+    ($($(#[$doc:meta])* $name:ident = $number:literal, $words:literal;)*) => {
+        /// Why no policy may list a word. Each says too in which list the word stands.
+        #[derive(Clone, Copy, Debug, PartialEq, Eq)]
+        #[non_exhaustive]
+        pub enum Reason {
+            $($(#[$doc])* $name,)*
+            /// A reason that the library knows and this crate doesn't.
+            Other(u8),
+        }
+
+        impl Reason {
+            fn of_number(number: u8) -> Reason {
+                match number {
+                    $($number => Reason::$name,)*
+                    other => Reason::Other(other),
+                }
+            }
+        }
+
+        impl fmt::Display for Reason {
+            fn fmt(&self, f: &mut fmt::Formatter<'_>) -> fmt::Result {
+                match self {
+                    $(Reason::$name => f.write_str($words),)*
+                    Reason::Other(number) => write!(f, "reason {number}"),
+                }
+            }
+        }
+    };
+}
+
+reasons! {
+    /// A name of a tag is a letter of a-z, and then letters and digits.
+    MalformedTag = 1, "no such tag: a name is a letter of a-z, and then letters and digits";
+    /// What stands in this tag is no markup of HTML.
+    OpaqueTag = 2, "no policy may list this tag: what stands in it is no markup of HTML";
+    /// This tag changes what is around it, or loads what is no page.
+    StructuralTag = 3, "no policy may list this tag: it changes what is around it, or loads what is no page";
+    /// A key is a letter of a-z, and then letters and `-`.
+    MalformedKey = 4, "no such key: a key is a letter of a-z, and then letters and `-`";
+    /// The value of this key is a script.
+    ScriptKey = 5, "no policy may list this key: its value is a script";
+    /// The value of this key is no name, text or link.
+    ActiveKey = 6, "no policy may list this key: its value is no name, text or link";
+    /// This key holds links, and is no link key.
+    LinkKey = 7, "this key holds links, and is no link key";
+    /// Links begin with printable ASCII without spaces, `"`, `<` and `>`.
+    MalformedLink = 8, "links begin with printable ASCII without spaces, `\"`, `<` and `>`";
+    /// Links that begin so are programs or documents.
+    ActiveScheme = 9, "links that begin so are programs or documents";
+    /// Links begin with a scheme and its `:`, or with `/`, `#`, `?` or `.`.
+    NoScheme = 10, "no scheme with its `:`, and no `/`, `#`, `?` or `.` stands first";
+    /// A prefix of names is a letter of a-z, and then letters and `-`.
+    MalformedPrefix = 11, "no prefix: it is a letter of a-z, and then letters and `-`";
+    /// Links are marked at `rel`, which is no listed key, or a link key.
+    UnlistedMark = 12, "links can't be marked at this key: it is no listed key, or a link key";
+}

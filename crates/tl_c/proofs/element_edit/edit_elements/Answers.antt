@@ -1,0 +1,52 @@
+use Rattle.std.proofs.Common.{◌≡◌, ◌∙◌, List, ℕ, Option, Some, Err, ap, rules, subst, sym}
+use Rattle.std.specs.Option.{option_map}
+use Rattle.tl_page.specs.Outcome.{Fails}
+use Rattle.tl_page.specs.declared.failure.Failure.{Failure}
+use Rattle.tl_page.specs.declared.failure.Failure.TheVariants.{Fault, OutOfMemory}
+use Rattle.tl_patch_edit.specs.View.{patch_view}
+use Rattle.tl_patch_select.specs.Edited.{IsEditedWhere}
+use Rattle.tl_patch_spec.specs.Patches.{Patch}
+use Rattle.tl_c.specs.Css.{css_in}
+use Rattle.tl_c.specs.Edits.{IsEditedIf, patch_of_number}
+use Rattle.tl_c.proofs.Selectors.{right_none, wrong_failure}
+use Rattle.tl_c.proofs.element_edit.edit_elements.Goals as goal
+
+pub returns-in_err-selector-clause-failure : goal.returns-in_err-selector-clause-failure
+returns-in_err-selector-clause-failure c = λ is_fault.
+    let failure = c.in_err-selector.field-0.0 in
+    let is : c.from_residual.result ≡ Err failure = search rules in
+    let same : failure ≡ Fault = cc in
+    subst (λ (why : Failure). Fails (css_in c.args.selector.now) why) same c.in_err-selector.ensures.reads
+
+pub returns-in-Ok-clause-edited : goal.returns-in-Ok-clause-edited
+returns-in-Ok-clause-edited c =
+    let css = c.in_ok-selector.selector in
+    let places = c.in-Ok.edited.places.items in
+    let bytes = c.in-Ok.edited.bytes.items in
+    let patch = patch_view c.in-Some.patch in
+    let some : patch_of_number c.args.number c.args.form c.args.content.now ≡ Some patch = sym c.patch_of.ensures ∙ ap (option_map patch_view) c.in-Some.is in
+    subst (λ (asked : Option Patch). IsEditedIf c.args.selector.now asked c.args.page.now bytes) (sym some) (record {
+      css = css;
+      reads = c.in_ok-selector.ensures.reads;
+      places = places;
+      edited = subst (λ (page : List ℕ). IsEditedWhere css patch page bytes places) c.in_ok-text_of.ensures.text c.in-Ok.ensures.edited;
+    })
+
+pub returns-in_err-selector-clause-wrong : goal.returns-in_err-selector-clause-wrong
+returns-in_err-selector-clause-wrong c = λ some other.
+    let failure = c.in_err-selector.field-0.0 in
+    let is : c.from_residual.result ≡ Err failure = search rules in
+    let why = wrong_failure c.args.selector.now failure some c.in_err-selector.ensures.reads (λ lost. other (is ∙ ap Err lost)) in
+    (is ∙ ap Err why, c.in_err-selector.ensures.told (λ lost. let same : failure ≡ OutOfMemory = cc in other (is ∙ ap Err same)))
+
+pub returns-in_default-clause-wrong : goal.returns-in_default-clause-wrong
+returns-in_default-clause-wrong c = λ some _. absurd (right_none c.args.selector.now c.in_ok-selector.selector c.in_ok-selector.ensures.reads some)
+
+pub returns-in_err-text_of-clause-wrong : goal.returns-in_err-text_of-clause-wrong
+returns-in_err-text_of-clause-wrong c = λ some _. absurd (right_none c.args.selector.now c.in_ok-selector.selector c.in_ok-selector.ensures.reads some)
+
+pub returns-in-Ok-clause-wrong : goal.returns-in-Ok-clause-wrong
+returns-in-Ok-clause-wrong c = λ some _. absurd (right_none c.args.selector.now c.in_ok-selector.selector c.in_ok-selector.ensures.reads some)
+
+pub returns-clause-wrong : goal.returns-clause-wrong
+returns-clause-wrong c = λ some _. absurd (right_none c.args.selector.now c.in_ok-selector.selector c.in_ok-selector.ensures.reads some)
