@@ -2,12 +2,13 @@
 
     ./x release VERSION
 
-It has the programs, their manual page and completions, the library for C, static and shared, with its headers and libtl.pc, the
+It has the programs, `tl-static`, which is `tl` with the C library inside, their manual page and completions, the library for C, static and shared, with its headers and libtl.pc, the
 packages for Rust and Python and the callers in C, the documents, the licence, the README, and a note that says what they were proved
 and built with. First the gate and ./x mutants --all have to pass. VERSION is that of the sources
 (`VERSION` of crates/tl_page) and of a heading of CHANGELOG.md, and what is packed is a commit, without times, owners and an order of
-files of its own. It is tried as it is packed; where root runs it, each program too where there is nothing but the C library. The same
-commit and the same kit give the same bytes. It takes strip and readelf (Debian: binutils).
+files of its own. It is tried as it is packed; where root runs it, each program too where there is nothing but the C library, and
+`tl-static` where there is nothing at all. The same commit, the same kit and the same C library give the same bytes. It takes cc, the
+static C library, strip and readelf (Debian: gcc, libc6-dev, binutils).
 """
 import glob
 import gzip
@@ -26,8 +27,10 @@ from . import bindings, library, runs
 
 # The programs that are packed.
 PROGRAMS = ("tl", "tlq")
+# The program that is packed once more, with the C library inside.
+STATIC = "tl"
 # What a program prints of a page, with the words that it takes.
-ALONE = (("tl", "print"), ("tl", "sanitize"), ("tlq", "print"))
+ALONE = (("tl", "print"), ("tl", "sanitize"), ("tlq", "print"), (f"{STATIC}-static", "print"), (f"{STATIC}-static", "sanitize"))
 PAGE, PRINT = b"<p>a<b>c", b"<p>a<b>c</b></p>"
 
 
@@ -53,6 +56,14 @@ def pack_program(workspace, program, to):
     must(["strip", "-o", f"{to}/bin/{program}", f"{folder}/out/{crate}"], "no strip")
 
 
+def pack_static(workspace, program, to):
+    """Links a program with the C library inside, of the object that it was built of, and puts it into the package."""
+    crate = crate_of(workspace, program)
+    parts = [f"{workspace.folder(crate)}/out/{crate}.o", *(f"{workspace.kit}/c/lib{it}_c.a" for it in ("os", "libc"))]
+    words = ["cc", "-static", "-s", "-Wl,--gc-sections", "-o", f"{to}/bin/{program}-static", *parts, "-lm"]
+    must(words, f"{program} is not linked with the C library inside")
+
+
 def pack_tracked(folder, to):
     """Puts the files of a folder of the commit into the package."""
     for file in git("ls-files", "-z", folder).split("\0"):
@@ -68,15 +79,22 @@ def least_c_library(packed):
     return "GLIBC_" + ".".join(map(str, max(versions)))
 
 
+def linked_with(file):
+    """The shared libraries that a program is loaded with; none with one that has all inside."""
+    if b"INTERP" not in must(["readelf", "-l", file], "no readelf").out:
+        return []
+    return re.findall(r"/\S+", must(["ldd", file], "no ldd").out.decode())
+
+
 def run_alone(packed, program, *words):
-    """Runs a packed program on a page where there is nothing but the C library."""
+    """Runs a packed program on a page where there is nothing but what it is linked with."""
     with tempfile.TemporaryDirectory(prefix="x-release-") as root:
         os.mkdir(f"{root}/bin")
         shutil.copy(f"{packed}/bin/{program}", f"{root}/bin/program")
-        for file in re.findall(r"/\S+", must(["ldd", f"{packed}/bin/{program}"], "no ldd").out.decode()):
+        for file in linked_with(f"{packed}/bin/{program}"):
             os.makedirs(root + os.path.dirname(file), exist_ok=True)
             shutil.copy(os.path.realpath(file), root + file)
-        ran = must(["chroot", root, "/bin/program", *words], f"{program} needs more than the C library", given=PAGE)
+        ran = must(["chroot", root, "/bin/program", *words], f"{program} needs more than what it is linked with", given=PAGE)
         if ran.out != PRINT:
             raise Stop(f"{program} {' '.join(words)}: where there is nothing else it wrote {ran.out!r}")
 
@@ -121,6 +139,7 @@ def main(parser, words):
             os.makedirs(f"{packed}/{it}")
         for it in PROGRAMS:
             pack_program(workspace, it, packed)
+        pack_static(workspace, STATIC, packed)
         library.install(packed)
         for it in ("share", "docs", "bindings"):
             pack_tracked(it, packed)
