@@ -22,10 +22,12 @@ mod documents;
 mod guards;
 mod large;
 mod numbers;
+mod patches;
 mod program;
 mod script;
 mod selectors;
 mod stop;
+mod styles;
 mod texts;
 mod tracking;
 
@@ -65,6 +67,8 @@ fn call(number: usize, case: &mut Case) -> Option<Named> {
         8 => tracking::call(place, case),
         9 => guards::call(place, case),
         10 => large::call(place, case),
+        11 => styles::call(place, case),
+        12 => patches::call(place, case),
         _ => None,
     }
 }

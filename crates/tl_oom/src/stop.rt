@@ -2,6 +2,11 @@
 use std::alloc::{AllocError, AllocFailed};
 use tl::ParseError;
 use tl::errors::{SetBytesError, TreeError};
+use tl_css::SelectorError;
+use tl_css_select::forest::SelectError;
+use tl_patch_edit::EditError;
+use tl_patch_page::PatchError;
+use tl_patch_select::{SelectionEditError, SelectionPatchError};
 
 /// Why a case ended.
 #[derive(Clone, Copy)]
@@ -71,6 +76,60 @@ impl From<SetBytesError> for Stop {
         match error {
             SetBytesError::OutOfMemory => Stop::NoMemory,
             SetBytesError::LengthOverflow => Stop::WrongError,
+        }
+    }
+}
+
+impl From<SelectorError> for Stop {
+    fn from(error: SelectorError) -> Self {
+        match error {
+            SelectorError::OutOfMemory => Stop::NoMemory,
+            SelectorError::Text { .. } => Stop::WrongError,
+        }
+    }
+}
+
+impl From<SelectError> for Stop {
+    fn from(error: SelectError) -> Self {
+        match error {
+            SelectError::OutOfMemory => Stop::NoMemory,
+            SelectError::NotForest | SelectError::TooLong => Stop::WrongError,
+        }
+    }
+}
+
+impl From<PatchError> for Stop {
+    fn from(error: PatchError) -> Self {
+        match error {
+            PatchError::OutOfMemory => Stop::NoMemory,
+            _ => Stop::WrongError,
+        }
+    }
+}
+
+impl From<EditError> for Stop {
+    fn from(error: EditError) -> Self {
+        match error {
+            EditError::OutOfMemory => Stop::NoMemory,
+            _ => Stop::WrongError,
+        }
+    }
+}
+
+impl From<SelectionPatchError> for Stop {
+    fn from(error: SelectionPatchError) -> Self {
+        match error {
+            SelectionPatchError::OutOfMemory => Stop::NoMemory,
+            _ => Stop::WrongError,
+        }
+    }
+}
+
+impl From<SelectionEditError> for Stop {
+    fn from(error: SelectionEditError) -> Self {
+        match error {
+            SelectionEditError::OutOfMemory => Stop::NoMemory,
+            _ => Stop::WrongError,
         }
     }
 }
