@@ -1,4 +1,7 @@
 //! The members of a tag's class.
+//!
+//! A class is searched for the member first, and only then for bytes that aren't UTF-8: most
+//! classes lack the one that is sought.
 ghost use Rattle.std.specs.Prelude.{◌≡◌, ◌≤◌, ◌<◌, [], ◌∷◌, not, length, drop, slice_range, option_map, Some, MatchOption, IfSome};
 ghost use Rattle.std.specs.List.{prefix_len, list_any};
 ghost use Rattle.std.specs.Str.{bytes_eq, is_utf8};

@@ -1,4 +1,9 @@
 //! What is known of a tag's attributes without a look at them.
+//!
+//! That is 8 bytes, however values are held: of an id its length by 256 and its ends
+//! (`Fingerprint`), of a class one bit of 32 for each member, of a class that is not UTF-8 too. It
+//! is a type parameter of the tag (`SummaryOf`): as an associated type of the attributes it ends in
+//! an internal error of the compiler.
 ghost use Rattle.std.specs.Prelude.{◌≡◌, ◌↔◌, ◌<◌, IsTrue, Some};
 ghost use Rattle.tl_attributes.specs.Summary.{fingerprint_of, bit_of, MayBeId, MayBeMember, AreClassBits, IsSummary};
 

@@ -1,4 +1,7 @@
 //! Why a text is no selector.
+//!
+//! A cause that held the word which stands at the place would borrow the text or take memory, so
+//! the message quotes it.
 ghost use Rattle.std.specs.Prelude.{◌≡◌};
 
 use std::alloc::AllocError;

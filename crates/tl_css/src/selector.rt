@@ -1,4 +1,12 @@
 //! Selectors as programs over a stack.
+//!
+//! A selector is a formula about links between tags: to the parent, to the sibling before, to the
+//! last one before of the same name. A combinator, `:has`, `:first-child` and `:root` are one form,
+//! so `a > b` is `b` where a link from here leads to `a`; `:is(a, b)` is that one or the other
+//! holds. So no list stands in the type, and one pass along links serves all.
+//!
+//! It is held as a program over a stack, so that reading, dropping and searching are loops, however
+//! deep a text nests; with at most 60 that wait, marks of a tag fit in the bits of a number.
 ghost use Rattle.std.specs.Prelude.{◌≡◌};
 
 use std::marker::Model;

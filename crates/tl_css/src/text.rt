@@ -1,4 +1,7 @@
 //! The reader of a selector text.
+//!
+//! A text is read without memory, item by item: names and strings are slices until they are kept,
+//! so what stands next is an equation with the plain reader.
 ghost use Rattle.std.specs.Prelude.{◌≡◌, ◌≢◌, ℕ, MatchResult, Ok, Err, IfErr, IfOk};
 ghost use Rattle.tl_css.specs.FirstWrong.{IsFirstWrong};
 ghost use Rattle.tl_css.specs.Grammar.{IsSelector};

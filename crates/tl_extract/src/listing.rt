@@ -1,4 +1,7 @@
 //! The outline of a document: its nodes as a tree, each on a line.
+//!
+//! Indentation ends at 64 tags, and the depth is a number past that: else the outline of tags in
+//! one another would be as long as the square of the page.
 ghost use Rattle.std.specs.Prelude.{◌≡◌, ◌<◌, ◌≤◌, ◌++◌, [], ◌∷◌, IfOk, IsOk, OnOk, map, option_map, string_bytes, vec_len};
 ghost use Rattle.std.specs.Char.{is_ascii_whitespace};
 ghost use Rattle.std.specs.List.{list_all};

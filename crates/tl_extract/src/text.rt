@@ -1,4 +1,7 @@
 //! The text of a document, as a reader of its text wants it.
+//!
+//! The texts are gathered first, with line feeds at blocks, and cut into words then: two loops,
+//! each with a definition of its own. A cell ends with a space.
 ghost use Rattle.std.specs.Prelude.{◌≡◌, ◌++◌, [], ℕ, List, IfOk, OnOk, map, string_bytes};
 ghost use Rattle.tl_spec.specs.Lex.ByteClass.{is_among_in_any_case};
 ghost use Rattle.tl_spec.specs.Tree.Document.{document as document_at};

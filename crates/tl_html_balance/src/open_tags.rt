@@ -1,4 +1,6 @@
 //! The open tags: their names and classes.
+//!
+//! Names stand end to end in one list of bytes, so a push and a pop cost the length of the name.
 ghost use Rattle.std.specs.Prelude.{IsTrue, reverse};
 ghost use Rattle.tl_html_balance.specs.Names.{are_nested};
 

@@ -1,4 +1,13 @@
 //! Blocks that hold many values each, and go back one by one.
+//!
+//! A block is a `Bump` of its own that may not grow, made with its room by one request. A `Bump`
+//! that takes blocks as it needs them asks for half as much where one is refused, so that a call
+//! ends well though it was refused memory; it would save 1 to 3 in 100 of the instructions of
+//! reading.
+//!
+//! Handles are counted, since a box that outlives its document has to keep its block: a reference
+//! to the arena ends with it, and parts that a table owns by number can't be asked without that
+//! table.
 ghost use Rattle.std.specs.Prelude.{◌≡◌, IfOk};
 
 use crate::shared::Shared;

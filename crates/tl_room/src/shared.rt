@@ -1,4 +1,7 @@
 //! An allocator that has several owners.
+//!
+//! It is generic in the allocator, so that its proofs know what every allocator promises, and
+//! nothing of arenas.
 ghost use Rattle.std.specs.Prelude.{◌≡◌, IfOk};
 
 use std::alloc::{AllocError, Allocator, Global};

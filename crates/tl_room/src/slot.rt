@@ -1,4 +1,7 @@
 //! Room for a value, taken before there is one.
+//!
+//! It is a `Vec` with room for one: a box of an `Option` is written to at once, and slots that stay
+//! empty are not touched. A value costs 32 bytes more than in a box.
 ghost use Rattle.std.specs.Prelude.{◌≡◌, None, Some, IfOk};
 ghost use Rattle.std.specs.Option.{option_copied, option_copied_mut};
 

@@ -1,4 +1,6 @@
 //! A policy whose tags are looked up.
+//!
+//! So it makes no difference where in the list a tag stands.
 ghost use Rattle.std.specs.Prelude.{◌≡◌};
 ghost use Rattle.tl_safe.specs.Policies.{lists_of};
 ghost use Rattle.tl_words.specs.Indexed.{indexed_words};

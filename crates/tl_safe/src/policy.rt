@@ -1,4 +1,6 @@
 //! Policies.
+//!
+//! Names and keys are compared in exact case, so that what is printed is what was compared.
 ghost use Rattle.std.specs.Prelude.{IsTrue};
 ghost use Rattle.tl_safe.specs.Refusals.{are_lawful};
 ghost use Rattle.tl_safe.specs.Names.{listed_words};

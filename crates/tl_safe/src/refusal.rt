@@ -1,4 +1,7 @@
 //! Which words no policy may list, and why.
+//!
+//! A word is lawful where there is no reason against it, so no reason can be given of a lawful
+//! word.
 ghost use Rattle.std.specs.Prelude.{◌≡◌, ◌∷◌, []};
 ghost use Rattle.std.specs.Option.{option_map, option_or};
 ghost use Rattle.tl_safe.specs.Refusals.{first_refusal, first_refused, key_reason, link_reason, prefix_reason, refusal_of, refused_mark, tag_reason};

@@ -1,4 +1,7 @@
 //! The walk over a page, which writes what is kept of it.
+//!
+//! It edits no node, since no call of `tl` puts a tag's children in its place. A document just read
+//! has children above their parents, so the walk needs no marks.
 ghost use Rattle.std.specs.Prelude.{◌≡◌, ◌∷◌, ◌++◌, [], ◌+◌, ◌*◌, ◌<◌, List, Some, map, OnOk, slice_get};
 ghost use Rattle.std.specs.Option.{option_copied};
 ghost use Rattle.tl_spec.specs.Tree.Element.{children_of};

@@ -1,4 +1,8 @@
 //! How names are hashed.
+//!
+//! A first pass makes 64 bits of the MD5 digest of all names, with which the hasher begins. No
+//! clause of the maps asks what the number is. SHA-256, maps in order and sorted lists were slower,
+//! or took memory in other places.
 ghost use Rattle.std.specs.Prelude.{◌≡◌, ℕ, List, [], ◌∷◌, ◌++◌};
 ghost use Rattle.tl_tracking.specs.Hashing.{keyed_by};
 ghost use Rattle.tl_tracking.specs.NameKey.{number_of_names, HasNames};

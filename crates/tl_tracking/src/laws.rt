@@ -1,4 +1,7 @@
 //! Laws of the definitions: what notes of one tag after the other come to.
+//!
+//! Where the maps answer as scans of some nodes do, after the notes of one more tag they answer as
+//! scans of those and that tag; what ends and edits tags is seen by no scan (`scans_grow`).
 ghost use Rattle.std.specs.Prelude.{◌≡◌, ◌↔◌, List, ℕ, ◌∷◌, [], ◌++◌, None};
 ghost use Rattle.tl_spec.specs.Lookup.ClassMember.{members};
 ghost use Rattle.tl_spec.specs.Tree.Document.{Node};

@@ -1,4 +1,7 @@
 //! The maps.
+//!
+//! They hold plain numbers (`u32`): of a list with room inline of a type parameter it can't be
+//! shown that it fits into memory.
 ghost use Rattle.std.specs.Prelude.{◌≡◌, ◌≢◌, List, ℕ, true, ◌∷◌, [], ◌++◌, length, is_some, OnOk, OnErr, Some, None, IsOk, IsSome, IfSome};
 ghost use Rattle.tl_spec.specs.Tree.Document.{Node};
 ghost use Rattle.tl_spec.specs.Lookup.Scan.{id_of, id_scan, class_scan};

@@ -1,4 +1,8 @@
 //! The table of nodes.
+//!
+//! A flag says that nodes lie as they were read, until they are lent for writing. Then what hangs
+//! below a tag is the nodes right after it, and texts go node after node without a box. Prints go
+//! by the walk always: they fetch each tag's box for its attributes, and want the end of each tag.
 ghost use Rattle.std.specs.Prelude.{◌≡◌, ◌<◌, ◌^◌, length, slice_get, IsTrue, Option};
 ghost use Rattle.std.specs.Borrow.{sem};
 ghost use Rattle.std.specs.Option.{option_copied, option_copied_mut};

@@ -1,4 +1,8 @@
 //! Tags.
+//!
+//! What is known of an id and a class is an invariant of the tag. It goes when attributes are lent
+//! for writing, since no call sees the end of a loan. A tag that is cloned has a block of its own,
+//! since the tags of a block go back together.
 ghost use Rattle.std.specs.Prelude.{◌≡◌, IfOk, OnOk, OnErr};
 
 pub(crate) mod children;

@@ -1,4 +1,7 @@
 //! Lookups of tags by id and by class. None takes memory.
+//!
+//! The lifetimes of the loan and of a class member are one, since a function that shortens a named
+//! lifetime has no generated proof.
 ghost use Rattle.std.specs.Prelude.{◌≡◌, ◌<◌, ◌^◌, length, map, List, ⊤, None, IsSome};
 ghost use Rattle.std.specs.Iterator.{at_most};
 ghost use Rattle.std.specs.Map.Iter.{TakesFirst};

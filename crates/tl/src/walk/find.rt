@@ -1,4 +1,7 @@
 //! Searches.
+//!
+//! A search is stated by what it shows: `FindsNode` gives the chain of the closure's states over
+//! the nodes that the walk meets.
 ghost use Rattle.std.specs.Prelude.{◌≡◌, ℕ, map, Ok, Err, None};
 ghost use Rattle.tl_table.specs.TreeFault.{FirstDangles};
 ghost use Rattle.tl_spec.specs.Tree.Element.{children_of};

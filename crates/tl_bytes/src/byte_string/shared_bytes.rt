@@ -1,4 +1,7 @@
 //! The buffer of an owned document.
+//!
+//! A slice of the kit's `bytes` has five words and would stand in a box: a page was then read in up
+//! to twice the time.
 ghost use Rattle.std.specs.Prelude.{◌≡◌, ◌≤◌, IfOk, length, string_bytes, slice_range};
 ghost use Rattle.tl_bytes.specs.Held.{shared};
 

@@ -1,4 +1,7 @@
 //! What a command writes of a document.
+//!
+//! The text of a page is stated as the texts of the top nodes, each by a walk of its own, and is
+//! walked once: in a document just read no walk meets a fault (`proofs/OneWalk`).
 ghost use Rattle.std.specs.Prelude.{◌≡◌, ◌<◌, length, string_bytes, IsSome, Ok, Some, Err};
 ghost use Rattle.tl_spec.specs.Tree.Document.{document};
 ghost use Rattle.tl_spec.specs.Edit.{apply_changes};

@@ -1,4 +1,9 @@
 //! Readers and writers that remember a failure.
+//!
+//! They pass calls on by contract: `Reader` and `Writer` name what one call may do, as a relation
+//! that an `impl` gives, so the clauses refuse a call that is left out, made twice, or answered
+//! otherwise. Each reader and writer of std is one, by a body of one call, of which that is tested,
+//! since std's contracts leave open what it answers.
 ghost use Rattle.std.specs.Prelude.{◌≡◌, true, false};
 
 mod input;

@@ -1,4 +1,8 @@
 //! The page that is read, or that it is too long.
+//!
+//! One that is too long is read to its end, and not kept, so that endless input takes no more
+//! memory than the longest page. Input that gives bytes for ever is answered as want of memory
+//! after 2^64 reads.
 ghost use Rattle.std.specs.Prelude.{◌≡◌, ◌||◌, IfErr, IfOk, IfSome, OnOk};
 ghost use Rattle.std.specs.Io.KnownBytes.{IsAtEnd};
 ghost use Rattle.tl_program.specs.Failure.{is_fault, IsReadFailure};

@@ -1,4 +1,7 @@
 //! Steps read from text, one on each line.
+//!
+//! Lines are known to be steps before the first step is kept, so a text of other lines never
+//! answers that memory ran out.
 ghost use Rattle.std.specs.Prelude.{◌≡◌, ◌==◌, ◌∷◌, ◌<◌, length, is_some, IsSome, IfOk, IfSome, IfNone, Ok, None, Some};
 ghost use Rattle.std.specs.Option.{option_map};
 ghost use Rattle.std.specs.List.{slice_split};

@@ -1,4 +1,8 @@
 //! Digests of keys, which tell keys apart that nobody made alike on purpose.
+//!
+//! A digest is of what the key feeds to a hasher (`Feed`): up to 31 bytes are their own digest,
+//! more have their SHA-256 taken, so nobody can make two meet. That keys are told apart never rests
+//! on it.
 ghost use Rattle.std.specs.Prelude.{◌≡◌, ◌≤◌, length};
 ghost use Rattle.tl_inline.specs.Digest.{digest_of, halves, number_of};
 

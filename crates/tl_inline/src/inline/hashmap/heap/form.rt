@@ -1,4 +1,8 @@
 //! The forms of pairs on the heap.
+//!
+//! They don't go back. A move to the next form is made whole before the old one goes, so a refused
+//! request leaves the pairs where they are. A list stands in front, since an index map takes three
+//! requests for memory, and hashes each key.
 ghost use Rattle.std.specs.Prelude.{◌≡◌, ◌+◌, ◌<◌, ◌≤◌, None, slice_get, IfOk, IfErr, OnOk, OnErr};
 ghost use Rattle.std.specs.List.{IsDistinct};
 ghost use Rattle.std.specs.Map.{lookup, keys_of, values_of};
