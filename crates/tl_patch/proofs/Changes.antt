@@ -71,7 +71,9 @@ same_tag is_end name t a e = sym (ap₂ (λ (w : Bool) (xs : List HtmlAttribute)
 renamed : (is_end : Bool) (opening tag name : List ℕ) (n : ℕ) → IsNameEnd is_end n tag → Reads data_state (opening ++ name) [] (tag_name (named is_end name)) →
     IsRenamed opening tag (opening ++ (name ++ drop n tag)) name
 renamed is_end opening tag name n p r = record {
+  is_end = is_end;
   place = n;
+  name_end = p;
   bytes = refl;
   tokens = λ more follows.
       let b : ℕ = get_or tag n 0 in

@@ -50,10 +50,13 @@ pub record IsAdded (tag new key value : List ℕ) : Type 0 where
       emitted (at data_state) (new ++ more)
       ≡ changed_first (Set key value) (emitted (at data_state) (tag ++ more))
 
--- new is the tag with another name and each other byte as it is; where the tokenizer goes on after
--- both names alike, its token has that name, and all that follows is read as before
+-- new is the tag with another name and each byte from the end of its name on as it is; where the
+-- tokenizer goes on after both names alike, its token has that name, and all that follows is read
+-- as before
 pub record IsRenamed (opening tag new name : List ℕ) : Type 0 where
+  pub is_end : Bool
   pub place : ℕ
+  pub name_end : IsNameEnd is_end place tag
   pub bytes : new ≡ opening ++ (name ++ drop place tag)
   pub tokens : (more : List ℕ) → FirstGoesOnAs name (emitted (at data_state) (tag ++ more)) →
       emitted (at data_state) (new ++ more)

@@ -20,10 +20,10 @@ fn name_end(tag: &[u8], from: usize) -> Option<usize>
     None
 }
 
-// Where the name of a start tag ends: the tokenizer is in the name there. `None` where no start tag
-// begins, or the bytes end in its name.
+/// Where the name of a start tag ends: the tokenizer is in the name there. `None` where no start
+/// tag begins, or the bytes end in its name.
 #[tactic(auto, using(crate::proofs::Names::start_name_begins))]
-pub(crate) fn start_name_end(tag: &[u8]) -> Option<usize>
+pub fn start_name_end(tag: &[u8]) -> Option<usize>
     ensures ends { IfSome result (λ end. IsNameEnd false end tag.now) }
     ensures some { is_some result ≡ begins_start_tag tag.now }
 {
