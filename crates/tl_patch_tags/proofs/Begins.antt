@@ -41,7 +41,7 @@ start_tag_is (DoctypeToken ∷ ts) h = absurd h
 
 -- a byte of a name
 
-name_goes_on : (t : OpenTag) (c : ℕ) → ends_name c ≡ false → whole_step (tag_name t) c ≡ to (tag_name (with_letter t c))
+pub name_goes_on : (t : OpenTag) (c : ℕ) → ends_name c ≡ false → whole_step (tag_name t) c ≡ to (tag_name (with_letter t c))
 name_goes_on t c h =
     let p = neither (is_white_space c || (c == 47)) (c == 62) h in
     let q = neither (is_white_space c) (c == 47) p.0 in

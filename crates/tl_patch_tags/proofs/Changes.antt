@@ -1,5 +1,5 @@
 -- A tag with a change, by what both say.
-use Rattle.std.proofs.Common.{◌≡◌, ℕ, List, [], ◌∷◌, Bool, true, map, ap, sym, subst, ◌∙◌}
+use Rattle.std.proofs.Common.{◌≡◌, ℕ, List, [], ◌∷◌, Bool, map, ap, sym, subst, ◌∙◌}
 use Rattle.tl_html_spec.specs.HtmlTokenizer.{HtmlToken, StartTag}
 use Rattle.tl_html_spec.specs.Pieces.{Piece}
 use Rattle.tl_html_tokens.specs.Kinds.{IsStartTag}
@@ -9,11 +9,9 @@ use Rattle.tl_html_tokens.specs.declared.mode.Mode.TheVariants as mode
 use Rattle.tl_html_tags.specs.Parts.{Parts, attributes_of, name_of, start_tag}
 use Rattle.std.specs.List.{All}
 use Rattle.tl_patch_spec.specs.Splices.{Splice}
-use Rattle.tl_patch_spec.specs.Markup.{is_name, is_without_nul, value_markup}
-use Rattle.tl_patch_spec.specs.TagChanges.{Rename, Set, TagChange, Unset, changed_token}
-use Rattle.tl_patch_tags.specs.StartTags.{IsChanged, IsFirst, IsPut, IsRenamed, IsSpliced, IsStartTagOf, with_other_keys, with_value_at}
-use Rattle.tl_patch_tags.proofs.Keys.{first_set, name_is, others_left}
-use Rattle.tl_patch_tags.proofs.Values.{value_is}
+use Rattle.tl_patch_spec.specs.TagChanges.{TagChange, Unset, changed_token}
+use Rattle.tl_patch_tags.specs.StartTags.{IsChanged, IsPut, IsSpliced, IsStartTagOf, with_other_keys}
+use Rattle.tl_patch_tags.proofs.Keys.{others_left}
 
 first_tokens : List Piece → List HtmlToken
 first_tokens [] = []
@@ -35,12 +33,6 @@ changed change tag new old wanted a b e tokens w s =
 abbrev pub parts_of : List ℕ → List (List ℕ × List ℕ) → Bool → Parts
 parts_of name attributes closes = record { name = name; attributes = attributes; closes = closes }
 
-pub set_at : (name key value : List ℕ) (ps ws : List (List ℕ × List ℕ)) (closes : Bool) (n : ℕ) → ws ≡ with_value_at n (value_markup value) ps →
-    IsFirst key n ps → is_without_nul value ≡ true →
-    start_tag (parts_of name ws closes) ≡ changed_token (Set key value) (start_tag (parts_of name ps closes))
-set_at name key value ps ws closes n e f v =
-    ap (λ xs. StartTag (name_of name) xs closes) (ap attributes_of e ∙ first_set ps n key value (value_markup value) f (value_is value v))
-
 pub unset_all : (name key : List ℕ) (ps ws : List (List ℕ × List ℕ)) (closes : Bool) → ws ≡ with_other_keys key ps →
     start_tag (parts_of name ws closes) ≡ changed_token (Unset key) (start_tag (parts_of name ps closes))
 unset_all name key ps ws closes e = ap (λ xs. StartTag (name_of name) xs closes) (ap attributes_of e ∙ others_left ps key)
@@ -53,14 +45,4 @@ made change tag new splices old wanted r p a e = record {
   bytes = r.bytes;
   put = p;
   tokens = changed change tag new old wanted a r.read e;
-}
-
--- a tag with another name
-
-pub renamed : (name tag new : List ℕ) (s : Splice ℕ) (old : List ℕ) (ps : List (List ℕ × List ℕ)) (closes : Bool) → s.put ≡ name → is_name name ≡ true →
-    IsStartTagOf tag (parts_of old ps closes) → IsSpliced tag (s ∷ []) (parts_of name ps closes) new → IsRenamed name tag new
-renamed name tag new s old ps closes p n a r = record {
-  named = (s, p, r.bytes);
-  tokens = changed (Rename name) tag new (parts_of old ps closes) (parts_of name ps closes) a r.read
-      (ap (λ u. StartTag u (attributes_of ps) closes) (name_is name n));
 }

@@ -1,12 +1,10 @@
 -- A tag with a key that it lacks.
-use Rattle.std.proofs.Common.{◌≡◌, ℕ, ◌-◌, Bool, true, false, List, [], ◌∷◌, ◌++◌, take, drop, map, refl, ap, ap₂, sym, subst, ◌∙◌, inr, arith, true≢false, not}
+use Rattle.std.proofs.Common.{◌≡◌, ℕ, ◌-◌, Bool, true, false, List, [], ◌∷◌, ◌++◌, take, drop, map, refl, ap, ap₂, sym, subst, ◌∙◌, inr, arith}
 use Rattle.std.specs.List.{list_any}
-use Rattle.tl_html_spec.specs.HtmlTokenizer.{Character, CommentToken, DoctypeToken, EndTag, HtmlAttribute, HtmlToken, OpenTag, StartTag, with_attribute}
-use Rattle.tl_html_spec.specs.Pieces.{Piece, pieces_of}
+use Rattle.tl_html_spec.specs.HtmlTokenizer.{HtmlAttribute, HtmlToken, OpenTag, StartTag, with_attribute}
 use Rattle.tl_html_tokens.specs.Kinds.{IsStartTag}
 use Rattle.tl_html_tokens.specs.Whole.{IsWhole}
 use Rattle.tl_html_tokens.specs.declared.mode.Mode.TheVariants as mode
-use Rattle.tl_html_tags.specs.Parts.{Parts, attributes_of, start_tag}
 use Rattle.tl_patch.specs.Places.{IsAdded, IsNameEnd}
 use Rattle.tl_patch_spec.specs.Markup.{attribute_markup, is_key, is_without_nul, quoted_value}
 use Rattle.tl_patch_spec.specs.Splices.{Splice, with_splices}
@@ -14,10 +12,13 @@ use Rattle.tl_patch_spec.specs.TagChanges.{Set, changed_token, has_key}
 use Rattle.tl_patch_spec.proofs.Added.{attribute_reads, front_all, fronted, fronted_first, with_key_first}
 use Rattle.tl_patch_spec.proofs.Inside.{after_value, with_all}
 use Rattle.tl_patch_spec.proofs.Sets.{kind_kept, name_kept}
-use Rattle.tl_patch_tags.specs.StartTags.{IsChanged, IsFirst, IsPut, IsStartTagOf, are_one_start, have_key, is_one_without, is_start, is_start_tag, is_tag_without, lacks}
+use Rattle.tl_patch_tags.specs.Places.{is_named, places_of}
+use Rattle.tl_patch_tags.specs.StartTags.{IsChanged, IsPut, IsStartTagAlone, is_start_tag}
+use Rattle.tl_patch_tags.proofs.Begins.{start_alone}
 use Rattle.tl_patch_tags.proofs.Changes.{whole_same}
-use Rattle.tl_patch_tags.proofs.Keys.{first_there, has_parts, lacks_parts}
+use Rattle.tl_patch_tags.proofs.Keys.{all_lack}
 use Rattle.tl_patch_tags.proofs.Puts.{one_put}
+use Rattle.tl_patch_tags.proofs.Revalued.{lacks_key, started}
 use Rattle.tl_patch_tags.proofs.Starts.{Ends, IsStart, start_is, start_of, whole_start}
 
 abbrev splice_at : ℕ → List ℕ → Splice ℕ
@@ -60,46 +61,23 @@ module _ (tag key value : List ℕ) (n : ℕ) (p : IsNameEnd false n tag) (k : i
       subst (λ ts. IsWhole mode.Data (take n tag ++ (attribute_markup key value ++ drop n tag)) (map (changed_token (Set key value)) ts)) (sym e.is)
       (subst (λ (x : HtmlToken). IsWhole mode.Data (take n tag ++ (attribute_markup key value ++ drop n tag)) (x ∷ [])) (front_token t key value e.more e.closes (p.in_name).3 none) new)
 
-pub fresh : (tag new key value : List ℕ) (parts : Parts) → IsStartTagOf tag parts → have_key key parts.attributes ≡ false → is_key key ≡ true → is_without_nul value ≡ true →
-    IsAdded tag new key value → IsChanged (Set key value) tag new
+pub fresh : (tag new key value : List ℕ) (n : ℕ) → is_start_tag tag ≡ true → IsNameEnd false n tag → list_any (is_named (drop n tag) key) (places_of (drop n tag)) ≡ false →
+    is_key key ≡ true → is_without_nul value ≡ true → IsAdded tag new key value → IsChanged (Set key value) tag new
 unfolding first_attributes
-fresh tag new key value parts o h k v a =
-    let n : ℕ = a.place in
-    let s : Splice ℕ = splice_at n (attribute_markup key value) in
+fresh tag new key value n o p h k v a =
+    let was : IsStartTagAlone tag = start_alone tag o in
+    let e = (started tag n p was).ends in
+    let t : OpenTag = (p.in_name).0 in
+    let lacks : list_any (has_key key) (with_all t e.more).attributes ≡ false =
+    all_lack key t e.more (ap (list_any (has_key key)) (p.in_name).3) (lacks_key tag n p was key h) in
+    let s : Splice ℕ = splice_at a.place (attribute_markup key value) in
     record {
       splices = s ∷ [];
-      bytes = a.bytes ∙ sym (spliced_is n (attribute_markup key value) tag);
+      bytes = a.bytes ∙ sym (spliced_is a.place (attribute_markup key value) tag);
       put = one_put (IsPut (Set key value)) s (inr refl);
       tokens = λ tokens w i.
-          let same : start_tag parts ∷ [] ≡ tokens = whole_same mode.Data tag (start_tag parts ∷ []) tokens o.whole w in
-          let lacks : list_any (has_key key) (first_attributes tokens) ≡ false = subst (λ ts. list_any (has_key key) (first_attributes ts) ≡ false) same (lacks_parts key parts.attributes h) in
+          let same : start_of t e.more e.closes ∷ [] ≡ tokens = sym e.is ∙ whole_same mode.Data tag was.tokens tokens was.whole w in
+          let none : list_any (has_key key) (first_attributes tokens) ≡ false = subst (λ ts. list_any (has_key key) (first_attributes ts) ≡ false) same lacks in
           subst (λ xs. IsWhole mode.Data xs (map (changed_token (Set key value)) tokens)) (sym a.bytes)
-          (added_whole tag key value n a.name k v tokens w i lacks);
+          (added_whole tag key value a.place a.name k v tokens w i none);
     }
-
--- where a tag lacks a key, its parts do
-
-without_parts : (tag key : List ℕ) (parts : Parts) → IsStartTagOf tag parts → is_tag_without key tag ≡ not (list_any (has_key key) (attributes_of parts.attributes))
-without_parts [] key parts o = cc
-without_parts (b ∷ text) key parts o = ap (is_one_without key) o.whole
-
-pub lacked : (tag key : List ℕ) (n : ℕ) (parts : Parts) → IsStartTagOf tag parts → is_tag_without key tag ≡ true → IsFirst key n parts.attributes → ⊥
-lacked tag key n parts o w f =
-    true≢false (sym w ∙ without_parts tag key parts o ∙ ap not (has_parts key parts.attributes (first_there key n parts.attributes f)))
-
-lacks_start : (key : List ℕ) (ts : List HtmlToken) → lacks key ts ≡ true → is_start ts ≡ true
-lacks_start key (StartTag n a c ∷ []) h = refl
-lacks_start key [] h = h
-lacks_start key (StartTag n a c ∷ t ∷ ts) h = h
-lacks_start key (EndTag n ∷ ts) h = h
-lacks_start key (Character b ∷ ts) h = h
-lacks_start key (CommentToken n ∷ ts) h = h
-lacks_start key (DoctypeToken ∷ ts) h = h
-
-without_one : (key : List ℕ) (ps : List Piece) → is_one_without key ps ≡ true → are_one_start ps ≡ true
-without_one key [] h = h
-without_one key (p ∷ []) h = lacks_start key p.tokens h
-without_one key (p ∷ q ∷ ps) h = h
-
-pub without_start : (tag key : List ℕ) → is_tag_without key tag ≡ true → is_start_tag tag ≡ true
-without_start tag key h = without_one key (pieces_of tag) h

@@ -1,11 +1,15 @@
 pub mod Lists
 pub mod Alone
 pub mod Keys
-pub mod Values
 pub mod Changes
 pub mod Puts
 pub mod Ended
 pub mod Starts
+pub mod Stages
+pub mod Found
+pub mod Attributes
 pub mod Begins
+pub mod Revalued
+pub mod Renamed
 pub mod Fresh
 pub mod Stands

@@ -92,7 +92,7 @@ named_tokens t b text e = ap (λ (x : Step). x.emits ++ tokens_of (reader_in x.n
 named_next : (t : OpenTag) (b : ℕ) → ends_name (feed b) ≡ true → next (at (tag_name t)) b ≡ next (in_tag after_value t false) b
 named_next t b e = ap (λ (x : Step). reader_in x.next (b == 13)) (name_ends t b e)
 
-name_once : (t : OpenTag) (b : ℕ) → (step (tag_name t) b).again ≡ false
+pub name_once : (t : OpenTag) (b : ℕ) → (step (tag_name t) b).again ≡ false
 name_once t b = neither_again (is_white_space b) _ _ refl (neither_again (b == 47) _ _ refl (neither_again (b == 62) _ _ (neither_again t.is_end _ _ refl refl) refl))
 
 pub name_no_rest : (t : OpenTag) (b : ℕ) → rest_before (at (tag_name t)) b ≡ None
@@ -143,6 +143,20 @@ whole_start front z y b t u i v closes w more n e s a k o =
     ∙ tokens_ended u closes w more k in
     subst (IsWhole mode.Data (front ++ ((b ∷ z) ++ y))) tokens (one_whole (front ++ ((b ∷ z) ++ y)) (one_both front ((b ∷ z) ++ y) n.one rest))
 
+pub whole_rest : (front y : List ℕ) (b : ℕ) (t : OpenTag) (closes w : Bool) (more : List HtmlAttribute) → IsNamed front t → ends_name (feed b) ≡ true → t.is_end ≡ false →
+    inner_text after_value false (b ∷ y) ≡ ended closes more w [] → IsWhole mode.Data (front ++ (b ∷ y)) (start_of t more closes ∷ [])
+whole_rest front y b t closes w more n e k o =
+    let later : Restless (at (tag_name t)) (b ∷ y) = named_restless t b y e (ended_restless (b ∷ y) after_value t false closes w more o) in
+    let rest : Restless (after (at data_state) front) (b ∷ y) = subst (λ (r : Reader). Restless r (b ∷ y)) (sym n.state) later in
+    let tokens : tokens_of (at data_state) (front ++ (b ∷ y)) ≡ start_of t more closes ∷ [] =
+    tokens_append (at data_state) front (b ∷ y)
+    ∙ ap₂ (λ (ts : List HtmlToken) (r : Reader). ts ++ tokens_of r (b ∷ y)) n.silent n.state
+    ∙ named_tokens t b y e
+    ∙ tokens_inside after_value t false (b ∷ y)
+    ∙ ap (λ (x : Outcome). emits_of t x ++ at_end (reader_of t x).state) o
+    ∙ tokens_ended t closes w more k in
+    subst (IsWhole mode.Data (front ++ (b ∷ y))) tokens (one_whole (front ++ (b ∷ y)) (one_both front (b ∷ y) n.one rest))
+
 -- and a start tag by itself is so
 
 pub record Ends (rest : List ℕ) (t : OpenTag) (ts : List HtmlToken) : Type 0 where
@@ -178,7 +192,7 @@ rest_ends_it rest b t ts e k h is s =
     no_rest_first : rest_before (in_tag after_value t false) b ≡ None
     no_rest_first = no_rest_inside after_value t false b
 
-front_begins : (n : ℕ) (tag : List ℕ) (t : OpenTag) → n < length tag → after (at data_state) (take n tag) ≡ at (tag_name t) → (k : ℕ) × (n ≡ suc k)
+pub front_begins : (n : ℕ) (tag : List ℕ) (t : OpenTag) → n < length tag → after (at data_state) (take n tag) ≡ at (tag_name t) → (k : ℕ) × (n ≡ suc k)
 front_begins zero tag t l e = absurd (never (ap (λ (r : Reader). r.state) e))
   where
     never : data_state ≡ tag_name t → ⊥

@@ -1,1 +1,2 @@
 pub mod StartTags
+pub mod Places

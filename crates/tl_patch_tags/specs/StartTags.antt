@@ -1,6 +1,6 @@
 -- Start tags by their own bytes, and with a change.
-use Rattle.std.specs.Prelude.{◌≡◌, ◌<◌, ◌⊎◌, ℕ, ◌+◌, ◌==◌, ◌&&◌, Bool, true, false, not, List, [], ◌∷◌, ◌++◌, length, take, drop, map, codes, slice_index_or, ⊤}
-use Rattle.std.specs.List.{All, filter, list_any}
+use Rattle.std.specs.Prelude.{◌≡◌, ◌⊎◌, ℕ, ◌==◌, ◌&&◌, Bool, true, false, not, List, [], ◌∷◌, map, codes, ⊤}
+use Rattle.std.specs.List.{All, filter}
 use Rattle.std.specs.Str.{bytes_eq}
 use Rattle.tl_html_spec.specs.HtmlTokenizer.{HtmlToken, StartTag}
 use Rattle.tl_html_spec.specs.Pieces.{Piece, pieces_of}
@@ -16,7 +16,6 @@ use Rattle.tl_patch_spec.specs.Markup.{attribute_markup, quoted_value}
 use Rattle.tl_patch_spec.specs.Splices.{Splice, with_splices}
 use Rattle.tl_patch_spec.specs.Patches.{IsNamed}
 use Rattle.tl_patch_spec.specs.TagChanges.{Rename, Set, TagChange, Unset, changed_token}
-use Rattle.tl_patch_spec.specs.TagChanges as Said
 
 -- bytes are a start tag by themselves, which says this
 pub record IsStartTagOf (bytes : List ℕ) (parts : Parts) : Type 0 where
@@ -35,20 +34,6 @@ are_one_start _ = false
 -- whether bytes are a start tag by themselves
 abbrev pub is_start_tag : List ℕ → Bool
 is_start_tag bytes = are_one_start (pieces_of bytes)
-
--- whether tokens are one start tag without this key
-abbrev pub lacks : List ℕ → List HtmlToken → Bool
-lacks key (StartTag name attributes closes ∷ []) = not (list_any (Said.has_key key) attributes)
-lacks key _ = false
-
--- whether a text is one piece, which is so
-abbrev pub is_one_without : List ℕ → List Piece → Bool
-is_one_without key (p ∷ []) = lacks key p.tokens
-is_one_without key _ = false
-
--- whether bytes are a start tag by themselves that lacks a key
-abbrev pub is_tag_without : List ℕ → List ℕ → Bool
-is_tag_without key bytes = is_one_without key (pieces_of bytes)
 
 pub record IsStartTagAlone (bytes : List ℕ) : Type 0 where
   pub tokens : List HtmlToken
@@ -76,23 +61,6 @@ is_one_tag _ len = false
 -- whether an attribute as it stands in a tag has this key
 abbrev pub has_key : List ℕ → List ℕ × List ℕ → Bool
 has_key key a = bytes_eq (name_of a.0) key
-
-abbrev pub have_key : List ℕ → List (List ℕ × List ℕ) → Bool
-have_key key attributes = list_any (has_key key) attributes
-
-abbrev pub pair_at : ℕ → List (List ℕ × List ℕ) → List ℕ × List ℕ
-pair_at number attributes = slice_index_or attributes number ([], [])
-
--- the first attribute with this key has this number
-pub record IsFirst (key : List ℕ) (number : ℕ) (attributes : List (List ℕ × List ℕ)) : Type 0 where
-  pub within : number < length attributes
-  pub none_before : have_key key (take number attributes) ≡ false
-  pub is : has_key key (pair_at number attributes) ≡ true
-
--- with another value at a place
-abbrev pub with_value_at : ℕ → List ℕ → List (List ℕ × List ℕ) → List (List ℕ × List ℕ)
-with_value_at number value attributes = take number attributes
-    ++ ((pair_at number attributes).0, value) ∷ drop (number + 1) attributes
 
 -- the attributes with other keys
 abbrev pub with_other_keys : List ℕ → List (List ℕ × List ℕ) → List (List ℕ × List ℕ)

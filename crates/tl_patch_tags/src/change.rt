@@ -1,17 +1,22 @@
 //! Start tags with a key set or unset.
-ghost use Rattle.std.specs.Prelude.{◌≡◌, ◌&&◌, ◌++◌, IfOk, IfSome, OnOk, false, is_some, map, true};
+ghost use Rattle.std.specs.Prelude.{◌≡◌, ◌&&◌, ◌++◌, IfOk, IfSome, OnOk, drop, false, is_some, map, true};
+ghost use Rattle.std.specs.List.{list_any};
 ghost use Rattle.tl_html_tags.specs.Parts.{parts_view};
+ghost use Rattle.tl_patch.specs.Places.{IsNameEnd};
 ghost use Rattle.tl_patch.specs.View.{splice_view};
-ghost use Rattle.tl_patch_spec.specs.Markup.{attribute_markup, is_key, is_without_nul, quoted_value};
+ghost use Rattle.tl_patch_spec.specs.Markup.{is_key, is_without_nul, quoted_value};
 ghost use Rattle.tl_patch_spec.specs.TagChanges.{Set, Unset};
-ghost use Rattle.tl_patch_tags.specs.StartTags.{IsChanged, IsFirst, IsSpliced, IsStartTagOf, IsValuePut, have_key, is_tag_without};
+ghost use Rattle.tl_patch_tags.specs.Places.{IsFirstNamed, is_named, places_of, value_put};
+ghost use Rattle.tl_patch_tags.specs.StartTags.{IsChanged, IsSpliced, is_start_tag};
 
 use crate::cut::cuts;
-use crate::key::{first_with_key, others, revalued};
-use crate::parts::{is_read_as, start_tag_parts};
-use crate::place::place_at;
+use crate::key::others;
+use crate::parts::{is_read_as, start_tag_name_end, start_tag_parts};
+use crate::places::{first_named, places};
+use crate::splice::write_with;
+use crate::stage::Place;
 use std::alloc::{AllocError, Global};
-use tl_html_tags::{AttributeParts, TagParts};
+use tl_html_tags::TagParts;
 use tl_patch::{Splice, is_key, is_value, with_attribute, with_splices, write_value};
 
 // A tag with splices, if it is read with just these parts.
@@ -46,7 +51,7 @@ fn write_quoted(value: &[u8], out: &mut Vec<u8>) -> Result<(), AllocError>
 
 // What is put after a key, or in the place of its value.
 fn value_put(alloc: Global, has_equals: bool, value: &[u8]) -> Result<Vec<u8>, AllocError>
-    ensures { IfOk result (λ put. IsValuePut value.now put.items) }
+    ensures { IfOk result (λ put. put.items ≡ value_put has_equals value.now) }
 {
     let mut put = Vec::new(alloc);
     if has_equals {
@@ -62,50 +67,43 @@ fn value_put(alloc: Global, has_equals: bool, value: &[u8]) -> Result<Vec<u8>, A
 fn with_other_value(
     alloc: Global,
     tag: &[u8],
-    parts: &TagParts<'_>,
-    number: usize,
+    start: usize,
+    place: Place,
     key: &[u8],
     value: &[u8],
-) -> Result<Option<Vec<u8>>, AllocError>
-    requires tag { IsStartTagOf tag.now (parts_view parts.now) }
-    requires first { IsFirst key.now number (parts_view parts.now).attributes }
+) -> Result<Vec<u8>, AllocError>
+    requires tag { is_start_tag tag.now ≡ true }
+    requires start { IsNameEnd false start tag.now }
+    requires first { IsFirstNamed (drop start tag.now) key.now (places_of (drop start tag.now))
+        place }
     requires value { is_without_nul value.now ≡ true }
-    ensures { IfOk result (λ found. IfSome found (λ new.
-        IsChanged (Set key.now value.now) tag.now new.items)) }
+    ensures { IfOk result (λ new. IsChanged (Set key.now value.now) tag.now new.items) }
 {
-    let place = place_at(tag, parts, number);
     let put = value_put(alloc, place.has_equals, value)?;
-    let mut markup = Vec::new(alloc);
-    write_value(value, &mut markup)?;
-    let attributes = revalued(
-        alloc,
-        parts.attributes.as_slice(),
-        number,
-        markup.as_slice(),
+    let mut new = Vec::new(alloc);
+    new.extend_from_slice(&tag[..start])?;
+    write_with(
+        &tag[start..],
+        place.value,
+        place.end,
+        put.as_slice(),
+        &mut new,
     )?;
-    let wanted = TagParts {
-        name: parts.name,
-        attributes,
-        closes: parts.closes,
-    };
-    let splice = Splice {
-        from: place.value,
-        until: place.end,
-        put: put.as_slice(),
-    };
-    spliced(alloc, tag, &[splice], &wanted)
+    Ok(new)
 }
 
 // With a key that is not there yet.
 fn with_new_key(
     alloc: Global,
     tag: &[u8],
-    parts: &TagParts<'_>,
+    start: usize,
     key: &[u8],
     value: &[u8],
 ) -> Result<Option<Vec<u8>>, AllocError>
-    requires tag { IsStartTagOf tag.now (parts_view parts.now) }
-    requires absent { have_key key.now (parts_view parts.now).attributes ≡ false }
+    requires tag { is_start_tag tag.now ≡ true }
+    requires start { IsNameEnd false start tag.now }
+    requires absent { list_any (is_named (drop start tag.now) key.now)
+        (places_of (drop start tag.now)) ≡ false }
     requires key { is_key key.now ≡ true }
     requires value { is_without_nul value.now ≡ true }
     ensures changed { IfOk result (λ found. IfSome found (λ new.
@@ -115,9 +113,34 @@ fn with_new_key(
     with_attribute(alloc, tag, key, value)
 }
 
+// So of a start tag, whose name ends at a place.
+fn with_written_value(
+    alloc: Global,
+    tag: &[u8],
+    start: usize,
+    key: &[u8],
+    value: &[u8],
+) -> Result<Option<Vec<u8>>, AllocError>
+    requires tag { is_start_tag tag.now ≡ true }
+    requires start { IsNameEnd false start tag.now }
+    requires key { is_key key.now ≡ true }
+    requires value { is_without_nul value.now ≡ true }
+    ensures changed { IfOk result (λ found. IfSome found (λ new.
+        IsChanged (Set key.now value.now) tag.now new.items)) }
+    ensures some { IfOk result (λ found. is_some found ≡ true) }
+{
+    let rest = &tag[start..];
+    let attributes = places(alloc, rest)?;
+    let Some(place) = first_named(alloc, rest, attributes.as_slice(), key)? else {
+        return with_new_key(alloc, tag, start, key, value);
+    };
+    let new = with_other_value(alloc, tag, start, place, key, value)?;
+    Ok(Some(new))
+}
+
 /// A start tag with this value at a key: in the place of the value that the first such attribute
 /// has, else with the key right after the name. `None` where the bytes are no start tag by
-/// themselves, the key or the value can't be written, or the new tag would be read otherwise.
+/// themselves, or the key or the value can't be written.
 pub fn with_value(
     alloc: Global,
     tag: &[u8],
@@ -126,25 +149,16 @@ pub fn with_value(
 ) -> Result<Option<Vec<u8>>, AllocError>
     ensures changed { IfOk result (λ found. IfSome found (λ new.
         IsChanged (Set key.now value.now) tag.now new.items)) }
-    // a start tag that lacks the key gets it exactly where the key and the value can be written
-    ensures fresh { is_tag_without key.now tag.now ≡ true → IfOk result (λ found.
-        is_some found ≡ (is_key key.now && is_without_nul value.now)) }
+    ensures some { IfOk result (λ found. is_some found
+        ≡ (is_key key.now && (is_without_nul value.now && is_start_tag tag.now))) }
 {
-    let is_key = is_key(key);
-    if !is_key {
+    if !is_key(key) || !is_value(value) {
         return Ok(None);
     }
-    let is_value = is_value(value);
-    if !is_value {
-        return Ok(None);
-    }
-    let Some(parts) = start_tag_parts(alloc, tag)? else {
+    let Some(start) = start_tag_name_end(alloc, tag)? else {
         return Ok(None);
     };
-    match first_with_key(alloc, parts.attributes.as_slice(), key)? {
-        Some(number) => with_other_value(alloc, tag, &parts, number, key, value),
-        None => with_new_key(alloc, tag, &parts, key, value),
-    }
+    with_written_value(alloc, tag, start, key, value)
 }
 
 /// A start tag without a key. `None` where the bytes are no start tag by themselves, or the new tag

@@ -1,4 +1,4 @@
-//! Start tags with a key set or unset, or another name, in their own bytes, read again.
+//! Start tags with a key set or unset, or another name, in their own bytes.
 #![tactic(auto)]
 
 mod alike;
@@ -7,7 +7,10 @@ mod cut;
 mod key;
 mod parts;
 mod place;
+mod places;
 mod rename;
+mod splice;
+mod stage;
 
 pub use change::{with_value, without_key};
 pub use rename::with_name;

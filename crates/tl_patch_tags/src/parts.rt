@@ -1,12 +1,14 @@
 //! What a start tag says, by its own bytes.
-ghost use Rattle.std.specs.Prelude.{◌≡◌, IfOk, IfSome, is_some, true};
+ghost use Rattle.std.specs.Prelude.{◌≡◌, IfOk, IfSome, false, is_some, true};
 ghost use Rattle.tl_html_tags.specs.Parts.{parts_view};
+ghost use Rattle.tl_patch.specs.Places.{IsNameEnd};
 ghost use Rattle.tl_patch_tags.specs.StartTags.{IsStartTagOf, is_data, is_one_tag, is_start_kind, is_start_tag, is_whole_tag};
 
 use crate::alike::are_alike;
 use std::alloc::{AllocError, Global};
 use tl_html_tags::{TagParts, tag_parts};
 use tl_html_tokens::{Mode, Token, TokenKind, tokens};
+use tl_patch::start_name_end;
 
 fn is_start_kind(kind: TokenKind) -> bool
     ensures { result ≡ is_start_kind kind }
@@ -44,6 +46,18 @@ fn is_start_tag(alloc: Global, bytes: &[u8]) -> Result<bool, AllocError>
 {
     let all = tokens(alloc, bytes)?;
     Ok(is_one_tag(all.as_slice(), bytes.len()))
+}
+
+// Where the name of a start tag ends; `None` where the bytes are no start tag by themselves.
+pub(crate) fn start_tag_name_end(alloc: Global, bytes: &[u8]) -> Result<Option<usize>, AllocError>
+    ensures ends { IfOk result (λ found. IfSome found (λ end. IsNameEnd false end bytes.now)) }
+    ensures some { IfOk result (λ found. is_some found ≡ is_start_tag bytes.now) }
+{
+    let is_alone = is_start_tag(alloc, bytes)?;
+    if !is_alone {
+        return Ok(None);
+    }
+    Ok(start_name_end(bytes))
 }
 
 // The parts of a start tag; `None` where the bytes are no start tag by themselves.

@@ -65,21 +65,3 @@ pub(crate) fn name_end(parts: &TagParts<'_>) -> usize {
 pub(crate) fn byte_at(tag: &[u8], at: usize) -> Option<u8> {
     tag.get(at).copied()
 }
-
-// The place of the attribute of a number; past the last one an empty place.
-pub(crate) fn place_at(tag: &[u8], parts: &TagParts<'_>, number: usize) -> Place {
-    let mut from = name_end(parts);
-    for (at, attribute) in parts.attributes.as_slice().iter().enumerate() {
-        let place = next_place(tag, from, attribute);
-        if at == number {
-            return place;
-        }
-        from = place.end;
-    }
-    Place {
-        start: from,
-        value: from,
-        end: from,
-        has_equals: false,
-    }
-}

@@ -2,7 +2,8 @@ use Rattle.std.proofs.Common.{◌≡◌, ◌&&◌, ℕ, Bool, true, List, subst,
 use Rattle.std.proofs.lemmas.Bool.{and_from}
 use Rattle.tl_patch.specs.Places.{begins_start_tag}
 use Rattle.tl_patch_spec.specs.Markup.{is_key, is_without_nul}
-use Rattle.tl_patch_tags.proofs.Begins.{begins}
+use Rattle.tl_patch_tags.specs.StartTags.{IsStartTagAlone}
+use Rattle.tl_patch_tags.proofs.Begins.{begins, start_alone}
 use Rattle.tl_patch_tags.proofs.Fresh.{fresh}
 use Rattle.tl_patch_tags.proofs.Puts.{found}
 use Rattle.tl_patch_tags.proofs.change.with_new_key.Goals as goal
@@ -10,7 +11,7 @@ use Rattle.tl_patch_tags.proofs.change.with_new_key.Goals as goal
 pub returns-clause-changed : goal.returns-clause-changed
 returns-clause-changed c =
     found c.with_attribute.result _ _
-    (λ new a. fresh c.args.tag.now new.items c.args.key.now c.args.value.now _ c.requires.tag c.requires.absent c.requires.key c.requires.value a)
+    (λ new a. fresh c.args.tag.now new.items c.args.key.now c.args.value.now c.args.start c.requires.tag c.requires.start c.requires.absent c.requires.key c.requires.value a)
     c.with_attribute.ensures.added
 
 pub returns-clause-some : goal.returns-clause-some
@@ -18,7 +19,8 @@ returns-clause-some c =
     let key : List ℕ = c.args.key.now in
     let value : List ℕ = c.args.value.now in
     let tag : List ℕ = c.args.tag.now in
-    let start : begins_start_tag tag ≡ true = begins tag _ (c.requires.tag).whole tt in
+    let a : IsStartTagAlone tag = start_alone tag c.requires.tag in
+    let start : begins_start_tag tag ≡ true = begins tag a.tokens a.whole a.start in
     let all : (is_key key && (is_without_nul value && begins_start_tag tag)) ≡ true =
     and_from (is_key key) _ c.requires.key (and_from (is_without_nul value) _ c.requires.value start) in
     subst (λ (v : Bool). IfOk c.with_attribute.result (λ found. is_some found ≡ v)) all c.with_attribute.ensures.some
