@@ -1,10 +1,10 @@
 -- Why a page is not patched.
-use Rattle.std.proofs.Common.{◌≡◌, ◌⊎◌, ℕ, zero, suc, ◌+◌, ◌-◌, ◌<◌, ◌≤◌, Bool, true, false, List, [], ◌∷◌, ◌++◌, length, take, drop, get_or, map, Some, refl, ap, sym, subst, ◌∙◌, inl, inr, append-nil, arith, true≢false}
+use Rattle.std.proofs.Common.{◌≡◌, ◌⊎◌, ℕ, zero, suc, ◌+◌, ◌-◌, ◌<◌, ◌≤◌, Bool, true, false, ◌||◌, List, [], ◌∷◌, ◌++◌, length, take, drop, get_or, map, Some, refl, ap, sym, subst, ◌∙◌, inl, inr, append_assoc, append-nil, arith, true≢false}
 use Rattle.std.specs.Prelude.{⊤, nat_lt}
 use Rattle.std.specs.List.{All, list_any, slice_get}
 use Rattle.std.proofs.lemmas.Bool.{and_from, cases_Bool, cases_eq, cases_lt, lt-ltb, or_left, or_right}
 use Rattle.std.proofs.lemmas.List.{drop_more, get_or_default, map-append, take-append-drop}
-use Rattle.std.proofs.lemmas.List.Elements.{All-head}
+use Rattle.std.proofs.lemmas.List.Elements.{All-head, All-tail}
 use Rattle.std.proofs.lemmas.List.Folds.{list_any-append}
 use Rattle.tl_html_spec.specs.HtmlTokenizer.{data_state}
 use Rattle.tl_html_spec.specs.Pieces.{Piece, pieces, placed, runs}
@@ -13,7 +13,7 @@ use Rattle.tl_html_tokens.specs.Tokens.{AreTokens, AreTokensOf, IsToken, mark_le
 use Rattle.tl_html_tokens.specs.Whole.{AreWholeTags, IsWhole, bytes_at, is_tag_kind}
 use Rattle.tl_html_tokens.specs.declared.token.Token.{Token}
 use Rattle.tl_html_tokens.proofs.Alone.{tags_are_whole}
-use Rattle.tl_patch_page.specs.Refused.{IsAmong, IsPlaced, IsStartAt, IsUnplaced, IsReason, IsReasonHere, IsTokenReason, has_greater}
+use Rattle.tl_patch_page.specs.Refused.{IsAmong, IsPlaced, IsStartAt, IsUnplaced, IsReason, IsReasonHere, IsTokenReason, has_greater, has_refused, may_be_refused}
 use Rattle.tl_patch_page.specs.Steps.{BeginElsewhere, is_start_token}
 use Rattle.tl_patch_page.specs.View.{PlacedChange, patch_view}
 use Rattle.tl_patch_page.specs.declared.change.TagPatch.{TagPatch}
@@ -22,8 +22,8 @@ use Rattle.tl_patch_page.specs.declared.error.PatchError.TheVariants.{NoStartTag
 use Rattle.tl_patch_page.proofs.Index.{here_of, split}
 use Rattle.tl_patch_page.proofs.Patched.{IsTag, is_tag}
 use Rattle.tl_patch_page.proofs.Runs.{HasBytes, HaveBytes, page_runs_have}
-use Rattle.tl_patch_tags.specs.StartTags.{is_data, is_start_kind}
-use Rattle.tl_patch_tags.proofs.Begins.{kind_start, mode_data}
+use Rattle.tl_patch_tags.specs.StartTags.{is_data, is_start_kind, is_start_tag}
+use Rattle.tl_patch_tags.proofs.Begins.{kind_start, mode_data, whole_start_tag}
 
 -- tokens stand one after the other
 
@@ -127,31 +127,69 @@ all_split patches next end o =
 among_here : (changes front here back : List PlacedChange) (place : ℕ) (c : PlacedChange) → changes ≡ front ++ ((c ∷ here) ++ back) → c.place ≡ place → IsAmong place changes front
 among_here changes front here back place c e p = record { change = c; back = here ++ back; parts = e; is = p }
 
-by_error : (page : List ℕ) (ts : List Token) (at : ℕ) (d : Token) (changes front : List PlacedChange) (e : PatchError) → AreTokensOf page ts → at < length ts →
-    IsAmong (get_or ts at d).start changes front → IsTokenReason (get_or ts at d) e → IsReason changes page e
-by_error page ts at d changes front (NoStartTag place) h l a w =
+start_bytes : (page : List ℕ) (ts : List Token) (at : ℕ) (d : Token) → AreTokensOf page ts → at < length ts → is_start_token (get_or ts at d) ≡ true → is_start_tag (bytes_at page (get_or ts at d)) ≡ true
+start_bytes page ts at d h l y =
+    let r = piece_at page ts (mark_len page) (runs (pieces page)) at d h (tags_are_whole page ts h) l in
+    let i : IsTag page (get_or ts at d) r.piece = is_tag page (get_or ts at d) (get_or ts at d).start r.piece r.is r.whole y in
+    ap is_start_tag (sym (r.is).bytes) ∙ whole_start_tag (r.piece).bytes (r.piece).tokens i.whole i.start
+
+-- the change that may be refused
+
+record Refused (place : ℕ) (here : List PlacedChange) : Type 0 where
+  before : List PlacedChange
+  change : PlacedChange
+  later : List PlacedChange
+  parts : here ≡ before ++ change ∷ later
+  is : change.place ≡ place
+  why : may_be_refused change.change ≡ true
+
+refused_in : (place : ℕ) (here : List PlacedChange) → All (λ (c : PlacedChange). c.place ≡ place) here → has_refused here ≡ true → Refused place here
+refused_in place [] all h = absurd (true≢false (sym h))
+refused_in place (c ∷ here) all h = elim (cases_Bool (may_be_refused c.change)) [
+  | inl y ↦ record { before = []; change = c; later = here; parts = refl; is = All-head (λ (x : PlacedChange). x.place ≡ place) c here all; why = y }
+  | inr n ↦ (
+      let r = refused_in place here (All-tail (λ (x : PlacedChange). x.place ≡ place) c here all) (sym (ap (λ (v : Bool). v || has_refused here) n) ∙ h) in
+      record { before = c ∷ r.before; change = r.change; later = r.later; parts = ap (λ xs. c ∷ xs) r.parts; is = r.is; why = r.why })
+]
+
+by_error : (page : List ℕ) (ts : List Token) (at : ℕ) (d : Token) (changes front here back : List PlacedChange) (e : PatchError) → AreTokensOf page ts → at < length ts →
+    changes ≡ front ++ (here ++ back) → All (λ (c : PlacedChange). c.place ≡ (get_or ts at d).start) here →
+    IsAmong (get_or ts at d).start changes front → IsTokenReason here page (get_or ts at d) e → IsReason changes page e
+by_error page ts at d changes front here back (NoStartTag place) h l parts all a w =
     subst (λ n. IsUnplaced n changes page) (sym w.0) (record { front = front; among = a; why = inl (no_start_at page ts at d h l w.1) })
-by_error page ts at d changes front (NotWritten place) h l a w =
-    subst (λ n. IsPlaced n changes page) (sym w.0) (record { front = front; among = a; start = start_at page ts at d h l w.1 })
-by_error page ts at d changes front OutOfMemory h l a w = tt
+by_error page ts at d changes front here back (NotWritten place) h l parts all a w =
+    let r = refused_in (get_or ts at d).start here all (w.2 (start_bytes page ts at d h l w.1)) in
+    subst (λ n. IsPlaced n changes page) (sym w.0) (record {
+      front = front ++ r.before;
+      among = record {
+        change = r.change;
+        back = r.later ++ back;
+        parts = parts ∙ ap (λ xs. front ++ (xs ++ back)) r.parts ∙ ap (λ xs. front ++ xs) (append_assoc r.before (r.change ∷ r.later) back)
+            ∙ sym (append_assoc front r.before (r.change ∷ (r.later ++ back)));
+        is = r.is;
+      };
+      start = start_at page ts at d h l w.1;
+      why = r.why;
+    })
+by_error page ts at d changes front here back OutOfMemory h l parts all a w = tt
 
 by_here : (page : List ℕ) (ts : List Token) (at : ℕ) (d : Token) (changes front here back : List PlacedChange) (e : PatchError) → AreTokensOf page ts → at < length ts →
-    changes ≡ front ++ (here ++ back) → All (λ (c : PlacedChange). c.place ≡ (get_or ts at d).start) here → IsReasonHere here (get_or ts at d) e → IsReason changes page e
+    changes ≡ front ++ (here ++ back) → All (λ (c : PlacedChange). c.place ≡ (get_or ts at d).start) here → IsReasonHere here page (get_or ts at d) e → IsReason changes page e
 by_here page ts at d changes front [] back (NoStartTag place) h l parts all w = absurd w
 by_here page ts at d changes front [] back (NotWritten place) h l parts all w = absurd w
 by_here page ts at d changes front [] back OutOfMemory h l parts all w = tt
 by_here page ts at d changes front (c ∷ here) back e h l parts all w =
-    by_error page ts at d changes front e h l
+    by_error page ts at d changes front (c ∷ here) back e h l parts all
     (among_here changes front here back (get_or ts at d).start c parts (All-head (λ (x : PlacedChange). x.place ≡ (get_or ts at d).start) c here all)) w
 
 pub token_refused : (page : List ℕ) (ts : List Token) (patches : List TagPatch) (at next end : ℕ) (d : Token) (e : PatchError) → AreTokensOf page ts → at < length ts → next ≤ end →
-    All (λ (c : PlacedChange). c.place ≡ (get_or ts at d).start) (here_of patches next end) → IsReasonHere (here_of patches next end) (get_or ts at d) e → IsReason (map patch_view patches) page e
+    All (λ (c : PlacedChange). c.place ≡ (get_or ts at d).start) (here_of patches next end) → IsReasonHere (here_of patches next end) page (get_or ts at d) e → IsReason (map patch_view patches) page e
 token_refused page ts patches at next end d e h l o all w =
     by_here page ts at d (map patch_view patches) (map patch_view (take next patches)) (here_of patches next end) (map patch_view (drop end patches)) e h l (all_split patches next end o) all w
 
-pub why_here : (here : List TagPatch) (t : Token) (e : PatchError) → 0 < length here → IsTokenReason t e → IsReasonHere (map patch_view here) t e
-why_here [] t e l w = absurd (omega arith)
-why_here (x ∷ here) t e l w = w
+pub why_here : (here : List TagPatch) (page : List ℕ) (t : Token) (e : PatchError) → 0 < length here → IsTokenReason (map patch_view here) page t e → IsReasonHere (map patch_view here) page t e
+why_here [] page t e l w = absurd (omega arith)
+why_here (x ∷ here) page t e l w = w
 
 -- what is left over: no token that was gone over begins at the place of its first patch, or one before it has a greater place
 

@@ -1,15 +1,19 @@
 -- Why a page is not patched.
-use Rattle.std.specs.Prelude.{◌≡◌, ◌⊎◌, ℕ, Bool, true, false, nat_lt, List, [], ◌∷◌, ◌++◌, Some, ⊤}
+use Rattle.std.specs.Prelude.{◌≡◌, ◌⊎◌, ◌&&◌, ℕ, Bool, true, false, not, nat_lt, List, [], ◌∷◌, ◌++◌, Some, ⊤}
 use Rattle.std.specs.List.{list_any, slice_get}
 use Rattle.tl_html_spec.specs.HtmlTokenizer.{data_state}
 use Rattle.tl_html_spec.specs.Pieces.{Piece, pieces, placed, runs}
 use Rattle.tl_html_tokens.specs.Kinds.{IsStartTag}
 use Rattle.tl_html_tokens.specs.Tokens.{mark_len}
+use Rattle.tl_html_tokens.specs.Whole.{bytes_at}
 use Rattle.tl_html_tokens.specs.declared.token.Token.{Token}
 use Rattle.tl_patch_page.specs.Steps.{is_start_token}
 use Rattle.tl_patch_page.specs.View.{PlacedChange}
 use Rattle.tl_patch_page.specs.declared.error.PatchError.{PatchError}
 use Rattle.tl_patch_page.specs.declared.error.PatchError.TheVariants.{NoStartTag, NotWritten, OutOfMemory}
+use Rattle.tl_patch_spec.specs.Markup.{is_key, is_without_nul}
+use Rattle.tl_patch_spec.specs.TagChanges.{Set, TagChange}
+use Rattle.tl_patch_tags.specs.StartTags.{is_start_tag}
 
 -- a start tag of the page begins at this place
 pub record IsStartAt (page : List ℕ) (place : ℕ) : Type 0 where
@@ -37,11 +41,18 @@ pub record IsUnplaced (place : ℕ) (changes : List PlacedChange) (page : List �
   pub among : IsAmong place changes front
   pub why : (IsStartAt page place → ⊥) ⊎ (has_greater place front ≡ true)
 
--- one of the changes is of the start tag at this place
+-- whether a change of a start tag may be refused: a key gets a value wherever both can be written;
+-- of a key that goes nothing is said
+abbrev pub may_be_refused : TagChange → Bool
+may_be_refused (Set key value) = not (is_key key && is_without_nul value)
+may_be_refused _ = true
+
+-- one of the changes is of the start tag at this place, and may be refused
 pub record IsPlaced (place : ℕ) (changes : List PlacedChange) (page : List ℕ) : Type 0 where
   pub front : List PlacedChange
   pub among : IsAmong place changes front
   pub start : IsStartAt page place
+  pub why : may_be_refused among.change.change ≡ true
 
 -- why a page is not patched, by the error
 abbrev pub IsReason : List PlacedChange → List ℕ → PatchError → Type 0
@@ -49,14 +60,21 @@ IsReason changes page (NoStartTag place) = IsUnplaced place changes page
 IsReason changes page (NotWritten place) = IsPlaced place changes page
 IsReason changes page OutOfMemory = ⊤
 
--- why a token is not written
-abbrev pub IsTokenReason : Token → PatchError → Type 0
-IsTokenReason token (NoStartTag place) = (place ≡ token.start) × (is_start_token token ≡ false)
-IsTokenReason token (NotWritten place) = (place ≡ token.start) × (is_start_token token ≡ true)
-IsTokenReason token OutOfMemory = ⊤
+-- one of the changes may be refused
+abbrev pub has_refused : List PlacedChange → Bool
+has_refused changes = list_any (λ c. may_be_refused c.change) changes
+
+-- why a token is not written with changes
+abbrev pub IsTokenReason : List PlacedChange → List ℕ → Token → PatchError → Type 0
+IsTokenReason here page token (NoStartTag place) =
+    (place ≡ token.start) × (is_start_token token ≡ false)
+IsTokenReason here page token (NotWritten place) =
+    (place ≡ token.start) × (is_start_token token ≡ true)
+    × (is_start_tag (bytes_at page token) ≡ true → has_refused here ≡ true)
+IsTokenReason here page token OutOfMemory = ⊤
 
 -- so, with patches of its place
-abbrev pub IsReasonHere : List PlacedChange → Token → PatchError → Type 0
-IsReasonHere [] token OutOfMemory = ⊤
-IsReasonHere [] token _ = ⊥
-IsReasonHere (c ∷ here) token error = IsTokenReason token error
+abbrev pub IsReasonHere : List PlacedChange → List ℕ → Token → PatchError → Type 0
+IsReasonHere [] page token OutOfMemory = ⊤
+IsReasonHere [] page token _ = ⊥
+IsReasonHere (c ∷ here) page token error = IsTokenReason (c ∷ here) page token error

@@ -1,8 +1,9 @@
 //! Changes of tags.
-ghost use Rattle.std.specs.Prelude.{◌≡◌, IfOk, IfSome, map};
+ghost use Rattle.std.specs.Prelude.{◌≡◌, IfOk, IfSome, false, is_some, map, true};
+ghost use Rattle.tl_patch_page.specs.Refused.{has_refused, may_be_refused};
 ghost use Rattle.tl_patch_page.specs.Steps.{AreTagChanges};
 ghost use Rattle.tl_patch_page.specs.View.{change_of, change_view, patch_view};
-ghost use Rattle.tl_patch_tags.specs.StartTags.{IsChanged};
+ghost use Rattle.tl_patch_tags.specs.StartTags.{IsChanged, is_start_tag};
 
 use std::alloc::{AllocError, Global};
 use tl_patch_tags::{with_value, without_key};
@@ -24,8 +25,11 @@ pub struct TagPatch<'a> {
 }
 
 fn changed(alloc: Global, tag: &[u8], change: Change<'_>) -> Result<Option<Vec<u8>>, AllocError>
-    ensures { IfOk result (λ found. IfSome found (λ new.
+    ensures changed { IfOk result (λ found. IfSome found (λ new.
         IsChanged (change_view change.entry) tag.now new.items)) }
+    ensures some { is_start_tag tag.now ≡ true →
+        may_be_refused (change_view change.entry) ≡ false →
+        IfOk result (λ found. is_some found ≡ true) }
 {
     match change {
         Change::Set { key, value } => with_value(alloc, tag, key, value),
@@ -40,8 +44,10 @@ pub(crate) fn changed_tag(
     tag: &[u8],
     patches: &[TagPatch<'_>],
 ) -> Result<Option<Vec<u8>>, AllocError>
-    ensures { IfOk result (λ found. IfSome found (λ new.
+    ensures changed { IfOk result (λ found. IfSome found (λ new.
         AreTagChanges (map change_of (map patch_view patches.now)) tag.now new.items)) }
+    ensures some { is_start_tag tag.now ≡ true → has_refused (map patch_view patches.now) ≡ false →
+        IfOk result (λ found. is_some found ≡ true) }
 {
     let mut now = tag.to_vec(alloc)?;
     for at in 0..patches.len() {

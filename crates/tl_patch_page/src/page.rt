@@ -33,7 +33,8 @@ fn new_tag(
 ) -> Result<Vec<u8>, PatchError>
     ensures made { IfOk result (λ new.
         IsMade (map patch_view patches.now) page.now token.now new.items) }
-    ensures reason { IfErr result (λ e. IsTokenReason token.now e) }
+    ensures reason { IfErr result (λ e.
+        IsTokenReason (map patch_view patches.now) page.now token.now e) }
 {
     if !is_start_tag(token) {
         return Err(PatchError::NoStartTag(token.start));
@@ -54,7 +55,8 @@ fn write_token(
 ) -> Result<(), PatchError>
     ensures written { OnOk result
         (IsWritten (map patch_view here.now) page.now token.now out.old.items out.new.items) }
-    ensures reason { IfErr result (λ e. IsReasonHere (map patch_view here.now) token.now e) }
+    ensures reason { IfErr result (λ e.
+        IsReasonHere (map patch_view here.now) page.now token.now e) }
 {
     if here.is_empty() {
         out.extend_from_slice(token_bytes(page, *token))?;
@@ -100,7 +102,7 @@ pub fn patch(alloc: Global, page: &[u8], patches: &[TagPatch<'_>]) -> Result<Vec
     // a patch has this place, where no start tag begins, or one before it has a greater place
     ensures no_start_tag { (place : ℕ) → result ≡ Err (NoStartTag place) →
         IsUnplaced place (map patch_view patches.now) page.now }
-    // a patch is of the start tag at this place
+    // a patch is of the start tag at this place, and no value that can be written
     ensures not_written { (place : ℕ) → result ≡ Err (NotWritten place) →
         IsPlaced place (map patch_view patches.now) page.now }
     // without patches the page is as it was

@@ -16,7 +16,7 @@ type Row = (
 );
 
 #[rattlefmt::skip]
-static PAGE_ROWS: [Row; 60] = [
+static PAGE_ROWS: [Row; 64] = [
     (ElementPatch::Remove, 1, b"a<b>x</b>c", Ok(b"ac")),
     (ElementPatch::Remove, 4, b"<ul><li>a<li>b</ul>", Ok(b"<ul><li>b</ul>")),
     (ElementPatch::Remove, 9, b"<ul><li>a<li>b</ul>", Ok(b"<ul><li>a</ul>")),
@@ -62,7 +62,11 @@ static PAGE_ROWS: [Row; 60] = [
     (ElementPatch::Unwrap, 0, b"<b>&am</b>p;", Ok(b"&am</>p;")),
     (ElementPatch::Unwrap, 5, b"AT&am<b></b>p;", Ok(b"AT&am</>p;")),
     (ElementPatch::Unwrap, 5, b"<div><b>x</div>y", Err(EditError::NotMeant(5))),
-    (ElementPatch::Unwrap, 0, b"<script>a</script>", Err(EditError::ReadOtherwise(0))),
+    (ElementPatch::Unwrap, 0, b"<script>a</script>", Ok(b"a")),
+    (ElementPatch::Unwrap, 0, b"<script>&lt;</script>", Err(EditError::ReadOtherwise(0))),
+    (ElementPatch::Unwrap, 0, b"<title>&lt;</title>", Ok(b"&lt;")),
+    (ElementPatch::Unwrap, 0, b"<title><b></title>", Err(EditError::ReadOtherwise(0))),
+    (ElementPatch::Unwrap, 0, b"<title>AT&am</title>p;", Err(EditError::ReadOtherwise(0))),
     (ElementPatch::Unwrap, 0, b"<script></script>x", Ok(b"x")),
     (ElementPatch::Rename { name: b"i" }, 1, b"a<B K=v>x</b\n>c", Ok(b"a<i K=v>x</i\n>c")),
     (ElementPatch::Rename { name: b"dd" }, 4, b"<ul><li a>a<li>b</ul>", Ok(b"<ul><dd a>a</dd><li>b</ul>")),

@@ -9,6 +9,6 @@ pub returns-in-Some : goal.returns-in-Some
 returns-in-Some c = record {
   made = made_as c.args.patches.now c.args.page.now c.args.token.now c.in-Some.new.items (sym c.is_start_tag.ensures ∙ c.if-not-is_start_tag.false)
       (subst (λ (bs : List ℕ). AreTagChanges (map change_of (map patch_view c.args.patches.now)) bs c.in-Some.new.items) c.token_bytes.ensures
-      (some_of _ _ _ c.in-Some.is c.in_ok-new.ensures));
+      (some_of _ _ _ c.in-Some.is c.in_ok-new.ensures.changed));
   reason = tt;
 }
