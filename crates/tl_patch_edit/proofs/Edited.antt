@@ -1,8 +1,9 @@
 -- A page that is read again.
-use Rattle.std.proofs.Common.{◌≡◌, ℕ, zero, suc, ◌+◌, Bool, true, false, List, [], ◌∷◌, ◌++◌, length, drop, map, Option, Some, None, slice_get, refl, ap, ap₂, sym, subst, ◌∙◌, if◌then◌else◌}
+use Rattle.std.proofs.Common.{◌≡◌, ℕ, zero, suc, ◌+◌, Bool, true, false, List, [], ◌∷◌, ◌++◌, length, drop, flat_map, map, Option, Some, None, slice_get, refl, ap, ap₂, sym, subst, ◌∙◌, if◌then◌else◌, ◌==◌, ◌&&◌, true≢false, arith}
+use Rattle.std.proofs.lemmas.Bool.{and_parts, eqb-true}
 use Rattle.tl_html_spec.specs.HtmlTokenizer.{HtmlToken, html_tokens, without_mark}
 use Rattle.tl_html_spec.specs.Pieces.{Piece, pieces, placed, runs, tokens_in}
-use Rattle.tl_html_spec.proofs.Cutting.{runs_tokens, tokens_are}
+use Rattle.tl_html_spec.proofs.Cutting.{tokens_are}
 use Rattle.tl_html_tokens.specs.Kinds.{IsKind}
 use Rattle.tl_html_tokens.specs.Tokens.{AreTokens, AreTokensOf, mark_len}
 use Rattle.tl_html_tokens.specs.Whole.{AreWholeTags, IsWhole, bytes_at, is_tag_kind}
@@ -15,16 +16,26 @@ use Rattle.tl_patch_edit.specs.declared.ask.Ask.{Ask}
 use Rattle.tl_patch_edit.specs.declared.ask.Planned.{Planned}
 use Rattle.tl_patch_edit.specs.declared.ask.Start.{Start}
 use Rattle.tl_patch_edit.specs.Edited.{IsEdited}
-use Rattle.tl_patch_edit.specs.Found.{IsReadAs, IsSplicedPage, IsSplicedPageOf, IsStartAt, IsStartOf, IsTagName, has_mark, mark_bytes}
-use Rattle.tl_patch_edit.specs.Parts.{ArePieces, Part, Say, SaySame, part_bytes}
+use Rattle.tl_patch_edit.specs.Found.{IsNeverRead, IsNeverSplicedOf, IsReadAs, IsSplicedPage, IsSplicedPageOf, IsStartAt, IsStartOf, IsTagName, has_mark, mark_bytes}
+use Rattle.tl_patch_edit.specs.Parts.{ArePieces, Part, Say, SayOtherwise, SaySame, part_bytes}
+use Rattle.tl_patch_edit.specs.Sayings.{Saying, sayings}
 use Rattle.tl_patch_edit.proofs.Said.{pieces_give}
+use Rattle.tl_patch_edit.proofs.Sayings.{runs_said, say_whole, tokens_are_said, tokens_said}
 use Rattle.tl_patch_spec.specs.Elements.{elements}
 use Rattle.tl_patch_spec.specs.Patches.{Content, Extent, Patch, Put, asked, asked_by_name, asked_of, extent_in, start_name, tokens_of_piece}
 use Rattle.tl_patch_spec.specs.Splices.{Splice, with_splices}
 
-pub read_is : (text : List ℕ) (wanted others : List Part) → SaySame wanted others → ArePieces others (runs (pieces text)) → (ts : List HtmlToken) → Say wanted ts → html_tokens text ≡ ts
-read_is text wanted others s a ts h =
-    sym (s.same ts (tokens_in (runs (pieces text))) h (pieces_give others (runs (pieces text)) a).say ∙ runs_tokens (pieces text) ∙ tokens_are text)
+pub read_is : (text : List ℕ) (wanted others : List Part) → SaySame wanted others → ArePieces others (runs (pieces text)) → (ss : List Saying) → Say wanted ss → sayings (pieces text) ≡ ss
+read_is text wanted others s a ss h =
+    sym (s.same ss (sayings (runs (pieces text))) h (pieces_give others (runs (pieces text)) a).say ∙ runs_said (pieces text))
+
+pub read_not : (text : List ℕ) (wanted others : List Part) → SayOtherwise wanted others → ArePieces others (runs (pieces text)) → (ss : List Saying) → Say wanted ss → sayings (pieces text) ≡ ss → ⊥
+read_not text wanted others o a ss h e =
+    o.never ss h (subst (λ (us : List Saying). Say others us) (runs_said (pieces text) ∙ e) (pieces_give others (runs (pieces text)) a).say)
+
+tokens_same : (text : List ℕ) (ps : List Piece) → sayings (pieces text) ≡ sayings ps → html_tokens text ≡ tokens_in ps
+tokens_same text ps e =
+    sym (tokens_are text) ∙ tokens_are_said (pieces text) ∙ ap (λ (ss : List Saying). flat_map tokens_said ss) e ∙ sym (tokens_are_said ps)
 
 -- byte order marks
 
@@ -33,12 +44,71 @@ body_is true text body e h = ap without_mark e
 body_is false text body e h = ap (λ (v : Bool). if v then drop 3 text else text) h ∙ e
 
 pub read_as : (b : Bool) (page text : List ℕ) (wanted : List Part) → b ≡ has_mark page → text ≡ mark_bytes b ++ part_bytes wanted → has_mark text ≡ b →
-    ((ts : List HtmlToken) → Say wanted ts → html_tokens text ≡ ts) → IsReadAs page wanted text
+    ((ss : List Saying) → Say wanted ss → sayings (pieces text) ≡ ss) → IsReadAs page wanted text
 read_as b page text wanted p e h r = record {
   mark = ap (λ (v : Bool). if v then 3 else 0) (h ∙ p);
   bytes = body_is b text (part_bytes wanted) e h;
-  tokens = r;
+  said = r;
 }
+
+front_byte : (a b : ℕ) (xs ys : List ℕ) → (b == a) ≡ true → xs ≡ ys → a ∷ xs ≡ b ∷ ys
+front_byte a b xs ys e h = ap₂ (λ (x : ℕ) (zs : List ℕ). x ∷ zs) (sym (eqb-true b a e)) h
+
+mark_front : (text : List ℕ) → has_mark text ≡ true → text ≡ mark_bytes true ++ drop 3 text
+mark_front [] h = absurd (true≢false (sym h))
+mark_front (a ∷ []) h = absurd (true≢false (sym (and_parts (0xEF == a) false h).1))
+mark_front (a ∷ b ∷ []) h = absurd (true≢false (sym (and_parts (0xBB == b) false (and_parts (0xEF == a) ((0xBB == b) && false) h).1).1))
+mark_front (a ∷ b ∷ c ∷ text) h =
+    let p = and_parts (0xEF == a) _ h in
+    let q = and_parts (0xBB == b) _ p.1 in
+    let r = and_parts (0xBF == c) _ q.1 in
+    front_byte a 0xEF (b ∷ c ∷ text) (0xBB ∷ 0xBF ∷ text) p.0 (front_byte b 0xBB (c ∷ text) (0xBF ∷ text) q.0 (front_byte c 0xBF text text r.0 refl))
+
+text_is : (b : Bool) (text body : List ℕ) → has_mark text ≡ b → without_mark text ≡ body → text ≡ mark_bytes b ++ body
+text_is true text body h e =
+    mark_front text h ∙ ap (λ (xs : List ℕ). mark_bytes true ++ xs) (sym (ap (λ (v : Bool). if v then drop 3 text else text) h) ∙ e)
+text_is false text body h e = sym (ap (λ (v : Bool). if v then drop 3 text else text) h) ∙ e
+
+abbrev len_of : Bool → ℕ
+len_of v = if v then 3 else 0
+
+three_if : (v w : Bool) → len_of v ≡ len_of w → v ≡ w
+three_if true true e = refl
+three_if false false e = refl
+three_if true false e = absurd (omega (arith, e))
+three_if false true e = absurd (omega (arith, e))
+
+mark_is : (text page : List ℕ) → mark_len text ≡ mark_len page → has_mark text ≡ has_mark page
+mark_is text page e = three_if (has_mark text) (has_mark page) e
+
+-- a text with the mark of a page and with these bytes is the one that was written
+
+one_text : (b : Bool) (page text other : List ℕ) (wanted : List Part) → b ≡ has_mark page → text ≡ mark_bytes b ++ part_bytes wanted → mark_len other ≡ mark_len page →
+    without_mark other ≡ part_bytes wanted → other ≡ text
+one_text b page text other wanted p w m e = text_is b other (part_bytes wanted) (mark_is other page m ∙ sym p) e ∙ sym w
+
+pub never_marked : (b : Bool) (page text : List ℕ) (wanted : List Part) → b ≡ has_mark page → text ≡ mark_bytes b ++ part_bytes wanted → (has_mark text ≡ b → ⊥) → IsNeverRead page wanted
+never_marked b page text wanted p w n = record {
+  never = λ other m e ss h s.
+      n (subst (λ (xs : List ℕ). has_mark xs ≡ b) (one_text b page text other wanted p w m e) (mark_is other page m ∙ sym p));
+}
+
+pub never_read : (b : Bool) (page text : List ℕ) (wanted : List Part) → b ≡ has_mark page → text ≡ mark_bytes b ++ part_bytes wanted →
+    ((ss : List Saying) → Say wanted ss → sayings (pieces text) ≡ ss → ⊥) → IsNeverRead page wanted
+never_read b page text wanted p w n = record {
+  never = λ other m e ss h s. n ss h (subst (λ (xs : List ℕ). sayings (pieces xs) ≡ ss) (one_text b page text other wanted p w m e) s);
+}
+
+pub never_spliced : (asks : List (Splice Put)) (parts wanted : List Part) (page : List ℕ) → IsWanted asks parts wanted → IsNeverRead page wanted → IsNeverSplicedOf asks parts page
+never_spliced asks parts wanted page w r = λ ps h.
+    let s = w ps h in
+    record {
+      splices = s.splices;
+      ordered = s.ordered;
+      asked = s.asked;
+      whole = say_whole wanted (sayings (with_splices ps s.splices)) (s.gives).say;
+      never = λ text m e k. r.never text m (e ∙ (s.gives).bytes) (sayings (with_splices ps s.splices)) (s.gives).say k;
+    }
 
 pub spliced : (asks : List (Splice Put)) (parts wanted : List Part) (page text : List ℕ) → IsWanted asks parts wanted → IsReadAs page wanted text → IsSplicedPageOf asks parts page text
 spliced asks parts wanted page text w r = λ ps h.
@@ -49,7 +119,7 @@ spliced asks parts wanted page text w r = λ ps h.
       asked = s.asked;
       mark = r.mark;
       bytes = r.bytes ∙ sym (s.gives).bytes;
-      tokens = r.tokens (tokens_in (with_splices ps s.splices)) (s.gives).say;
+      tokens = tokens_same text (with_splices ps s.splices) (r.said (sayings (with_splices ps s.splices)) (s.gives).say);
     }
 
 -- the piece of a token

@@ -2,8 +2,8 @@
 use Rattle.std.proofs.Common.{◌≡◌, ℕ, ◌-◌, ◌==◌, ◌&&◌, Bool, true, false, List, [], ◌∷◌, length, take, drop, ap, sym, subst, subst₂, ◌∙◌, true≢false, arith, take_all, refl, ◌++◌, codes, append_assoc, if◌then◌else◌}
 use Rattle.std.proofs.lemmas.Bool.{and_parts, eqb-true}
 use Rattle.tl_html_spec.specs.HtmlTokenizer.{EndTag, HtmlToken, without_mark}
-use Rattle.tl_html_spec.specs.Pieces.{Piece, bytes_of, pieces, pieces_of, placed, runs, tokens_in}
-use Rattle.tl_html_spec.proofs.Cutting.{runs_bytes, runs_tokens}
+use Rattle.tl_html_spec.specs.Pieces.{Piece, bytes_of, pieces, pieces_of, placed, runs}
+use Rattle.tl_html_spec.proofs.Cutting.{runs_bytes}
 use Rattle.tl_html_tokens.specs.Kinds.{IsEndTag, IsKind}
 use Rattle.tl_html_tokens.specs.Tokens.{AreTokens, AreTokensOf, mark_len}
 use Rattle.tl_html_tokens.specs.Whole.{AreWholeTags, IsWhole, bytes_at, is_tag_kind}
@@ -17,7 +17,9 @@ use Rattle.tl_html_tags.specs.Parts.{Parts, end_tag, name_of}
 use Rattle.tl_patch_edit.specs.Asks.{IsEndTagOf, is_data, is_end_kind, is_one_end_tag, is_whole_end_tag}
 use Rattle.tl_patch_edit.specs.Found.{has_mark}
 use Rattle.tl_patch_edit.specs.Parts.{ArePieces, Give, Part}
+use Rattle.tl_patch_edit.specs.Sayings.{Saying, sayings}
 use Rattle.tl_patch_edit.proofs.Said.{pieces_give}
+use Rattle.tl_patch_edit.proofs.Sayings.{runs_said}
 
 kind_is : (k : TokenKind) → is_end_kind k ≡ true → k ≡ kind.EndTag
 kind_is kind.EndTag h = refl
@@ -65,11 +67,11 @@ named bytes name parts a f e =
 unmarked : (markup : List ℕ) → has_mark markup ≡ false → without_mark markup ≡ markup
 unmarked markup h = ap (λ (v : Bool). if v then drop 3 markup else markup) h
 
-pub markup_gives : (markup : List ℕ) (parts : List Part) → has_mark markup ≡ false → ArePieces parts (runs (pieces markup)) → Give parts (bytes_of (pieces_of markup)) (tokens_in (pieces_of markup))
+pub markup_gives : (markup : List ℕ) (parts : List Part) → has_mark markup ≡ false → ArePieces parts (runs (pieces markup)) → Give parts (bytes_of (pieces_of markup)) (sayings (pieces_of markup))
 markup_gives markup parts h a =
     let is : pieces markup ≡ pieces_of markup = ap pieces_of (unmarked markup h) in
-    subst₂ (λ (b : List ℕ) (ts : List HtmlToken). Give parts b ts)
-    (runs_bytes (pieces markup) ∙ ap bytes_of is) (runs_tokens (pieces markup) ∙ ap tokens_in is) (pieces_give parts (runs (pieces markup)) a)
+    subst₂ (λ (b : List ℕ) (ss : List Saying). Give parts b ss)
+    (runs_bytes (pieces markup) ∙ ap bytes_of is) (runs_said (pieces markup) ∙ ap sayings is) (pieces_give parts (runs (pieces markup)) a)
 
 -- the end tag of a name, written
 

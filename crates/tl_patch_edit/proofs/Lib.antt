@@ -1,6 +1,8 @@
 pub mod Lists
+pub mod Sayings
 pub mod Said
 pub mod Steps
+pub mod Alike
 pub mod Names
 pub mod Plans
 pub mod Puts
@@ -12,3 +14,5 @@ pub mod Turns
 pub mod Together
 pub mod Missing
 pub mod Refusals
+pub mod Order
+pub mod One

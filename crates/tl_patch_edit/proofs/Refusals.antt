@@ -1,9 +1,10 @@
 -- Why an edit is refused.
-use Rattle.std.proofs.Common.{◌≡◌, ◌≤◌, ◌<◌, ℕ, ◌+◌, Bool, false, ◌&&◌, List, [], ◌∷◌, ◌++◌, length, get_or, take, drop, map, Option, Some, None, option_map, slice_get, refl, ap, ap₂, sym, subst, ◌∙◌, arith, inl, inr, true≢false, ◌⊎◌}
+use Rattle.std.proofs.Common.{◌≡◌, ◌==◌, ◌≤◌, ◌<◌, ℕ, ◌+◌, Bool, true, false, ◌&&◌, List, [], ◌∷◌, ◌++◌, length, get_or, take, drop, map, not, Option, Some, None, option_map, slice_get, refl, ap, ap₂, sym, subst, ◌∙◌, arith, inl, inr, true≢false, ◌⊎◌}
 use Rattle.std.specs.List.{All, Contains}
 use Rattle.std.specs.Option.{option_to_list}
 use Rattle.std.specs.Prelude.{Err, IfErr, IfNone, Result, nat_le}
 use Rattle.std.proofs.lemmas.List.Sorted.{IsPermutation-refl}
+use Rattle.std.proofs.lemmas.Bool.{le-leb, or_right}
 use Rattle.std.proofs.lemmas.List.{drop_more, get_or-map, length-map, take-append-drop, take_more}
 use Rattle.std.proofs.lemmas.List.Elements.{All-append, All-cons, All-contains, All-nil, Contains-append_right, Contains-get_or}
 use Rattle.std.proofs.lemmas.Option.{slice_get-get_or, slice_get-map, slice_get_within}
@@ -15,12 +16,14 @@ use Rattle.tl_html_tokens.specs.Tokens.{AreTokensOf}
 use Rattle.tl_html_tokens.specs.declared.mode.Mode.{Mode}
 use Rattle.tl_html_tokens.specs.declared.mode.Mode.TheVariants as mode
 use Rattle.tl_html_tokens.specs.declared.token.Token.{Token}
-use Rattle.tl_patch_spec.specs.Patches.{Changed, Content, Markup, NewContent, NewEndTag, Patch, Put, Text, asked_of, content_pieces}
+use Rattle.tl_patch_spec.specs.Patches.{AreAskedOne, Changed, Content, Markup, NewContent, NewEndTag, Patch, Put, Text, asked_of, content_pieces}
 use Rattle.tl_patch_spec.specs.Splices.{Splice, are_ordered}
 use Rattle.tl_patch_spec.specs.TagChanges.{Rename}
-use Rattle.tl_patch_edit.specs.Asks.{ask_view, asks_view, content_of, is_data, placed_at, placed_of, placed_view, planned_view, puts_view}
-use Rattle.tl_patch_edit.specs.Causes.{CannotPut, CannotPutIn, CannotStandIn, IsAsksError, IsPlanError, IsPlanned, IsReadError, IsReadyError, IsSpliceError, IsStartError, IsStartsError, IsUnmeant, NoStartFrom, ReachesFrom, has_name}
-use Rattle.tl_patch_edit.specs.Errors.{AreAcross, CannotBeMeant, CannotBePut, CannotBeWritten, CannotStand, IsAcrossError, IsAskAt, IsPatchAt, IsRefused, patch_each, pieces_in}
+use Rattle.tl_patch_spec.specs.Together.{AreAskedTogether, are_inner_first, ask_of, asked_at, asked_each}
+use Rattle.tl_html_tags.specs.Parts.{name_of}
+use Rattle.tl_patch_edit.specs.Asks.{IsWanted, ask_view, asks_view, content_of, is_data, placed_at, placed_of, placed_view, planned_view, puts_view}
+use Rattle.tl_patch_edit.specs.Causes.{CannotPut, CannotPutIn, CannotStandIn, IsAsksError, IsOneAt, IsPageError, IsPlanError, IsPlanned, IsReadError, IsReadyError, IsSpliceError, IsStartError, IsStartsError, IsUnmeant, NoStartFrom, ReachesFrom, has_name, puts_tag}
+use Rattle.tl_patch_edit.specs.Errors.{AreAcross, CannotBeMeant, CannotBePut, CannotBeWritten, CannotStand, IsAcrossError, IsAskAt, IsPatchAt, IsReadOtherwise, IsReadingError, IsRefused, PutsTag, is_tag_put, patch_each, pieces_in}
 use Rattle.tl_patch_edit.specs.Found.{IsStartAt}
 use Rattle.tl_patch_edit.specs.Parts.{ArePieces, IsPieceOf, Part, part_view, parts_view}
 use Rattle.tl_patch_edit.specs.Several.{AreEdited, AreInTurn, AreSorted, AreStartsAt, IsStartOfPage, asked_view, numbers_of}
@@ -34,9 +37,10 @@ use Rattle.tl_patch_edit.specs.declared.error.EditError.{EditError}
 use Rattle.tl_patch_edit.specs.declared.error.EditError.TheVariants as error
 use Rattle.tl_patch_edit.specs.declared.part.Part.{Part as CodePart}
 use Rattle.tl_patch_edit.specs.declared.tag.ReadyAsk.{ReadyAsk}
+use Rattle.tl_patch_edit.proofs.Edited.{never_spliced, planned_is}
 use Rattle.tl_patch_edit.proofs.Missing.{lacks}
 use Rattle.tl_patch_edit.proofs.Splicing.{length_pieces, piece_at}
-use Rattle.tl_patch_edit.proofs.Together.{asks_are, starts_begin}
+use Rattle.tl_patch_edit.proofs.Together.{asked_together, asks_are, counts, starts_begin}
 use Rattle.tl_patch_edit.proofs.Turns.{are_across}
 
 -- start tags
@@ -95,7 +99,7 @@ second_planned page patch starts s first (Some ask) k a =
       is = (1, omega arith, refl);
     }) (All-nil (IsPlanned page patch starts))
 
-both_planned : (page : List ℕ) (patch : Patch) (starts : List Start) (s : Start) (p : Planned) → Contains starts s →
+pub both_planned : (page : List ℕ) (patch : Patch) (starts : List Start) (s : Start) (p : Planned) → Contains starts s →
     asked_of (runs (pieces page)) s.number patch ≡ Some (planned_view (content_of patch) p) → All (IsPlanned page patch starts) (placed_view s p)
 both_planned page patch starts s p k a =
     All-cons (IsPlanned page patch starts) (placed_at s p.first) (map (placed_at s) (option_to_list p.second)) (record {
@@ -200,19 +204,29 @@ pub one_refused : (c : Content) (parts : List Part) (asks : List PlacedAsk) (one
 one_refused c parts asks one error.OutOfMemory k h = tt
 one_refused c parts asks one (error.EndOfPage p) k h = (one, record { among = k; begins = h.0 }, h.1)
 one_refused c parts asks one (error.NotWritten p) k h = (one, record { among = k; begins = h.0 }, h.1)
-one_refused c parts asks one (error.ReadOtherwise p) k h = tt
+one_refused c parts asks one (error.ReadOtherwise p) k h = (one, record { among = k; begins = h.0 }, h.1)
 one_refused c parts asks one (error.NoStartTag p) k h = absurd h
 one_refused c parts asks one (error.NotMeant p) k h = absurd h
 one_refused c parts asks one (error.Across p) k h = absurd h
 
-pub read_refused : (c : Content) (parts : List Part) (asks : List PlacedAsk) (place : ℕ) (e : EditError) → IsReadError place e → IsSpliceError c parts asks e
-read_refused c parts asks place error.OutOfMemory h = tt
-read_refused c parts asks place (error.ReadOtherwise p) h = tt
-read_refused c parts asks place (error.EndOfPage p) h = absurd h
-read_refused c parts asks place (error.NotWritten p) h = absurd h
-read_refused c parts asks place (error.NoStartTag p) h = absurd h
-read_refused c parts asks place (error.NotMeant p) h = absurd h
-read_refused c parts asks place (error.Across p) h = absurd h
+pub read_refused : (page : List ℕ) (c : Content) (parts wanted : List Part) (asks : List PlacedAsk) (place : ℕ) (e : EditError) → IsWanted (asks_view c asks) parts wanted → IsReadError page wanted place e →
+    IsPageError page place c parts asks e
+read_refused page c parts wanted asks place error.OutOfMemory w h = tt
+read_refused page c parts wanted asks place (error.ReadOtherwise p) w h = inr (h.0, never_spliced (asks_view c asks) parts wanted page w h.1)
+read_refused page c parts wanted asks place (error.EndOfPage p) w h = absurd h
+read_refused page c parts wanted asks place (error.NotWritten p) w h = absurd h
+read_refused page c parts wanted asks place (error.NoStartTag p) w h = absurd h
+read_refused page c parts wanted asks place (error.NotMeant p) w h = absurd h
+read_refused page c parts wanted asks place (error.Across p) w h = absurd h
+
+pub page_refused : (page : List ℕ) (place : ℕ) (c : Content) (parts : List Part) (asks : List PlacedAsk) (e : EditError) → IsSpliceError c parts asks e → IsPageError page place c parts asks e
+page_refused page place c parts asks error.OutOfMemory h = h
+page_refused page place c parts asks (error.ReadOtherwise p) h = inl h
+page_refused page place c parts asks (error.EndOfPage p) h = h
+page_refused page place c parts asks (error.NotWritten p) h = h
+page_refused page place c parts asks (error.NoStartTag p) h = h
+page_refused page place c parts asks (error.NotMeant p) h = h
+page_refused page place c parts asks (error.Across p) h = h
 
 part_stands : (parts : List CodePart) (n : ℕ) (d : CodePart) → n < length parts → slice_get (parts_view parts) n ≡ Some (part_view (get_or parts n d))
 part_stands parts n d l = slice_get-map part_view parts n ∙ ap (λ (o : Option CodePart). option_map part_view o) (slice_get-get_or parts n d l)
@@ -293,21 +307,21 @@ cannot_write page patches c parts place ask g a h =
     let r = put_there c (h.place).mode s.piece ask.put of.rest h.cannot in
     record { ask = ask_view c ask; at = a; piece = s.piece; stands = s.stands; put = r.put; among = r.among; cannot = r.cannot }
 
-pub splice_refused : (page : List ℕ) (places : List ℕ) (patches : List (ℕ × Patch)) (c : Content) (parts : List Part) (asks : List PlacedAsk) (e : EditError) → ArePieces parts (pieces_in page) →
-    All (λ (one : PlacedAsk). IsAskAt page patches one.start.token.start (ask_view c one.ask)) asks → IsSpliceError c parts asks e → IsRefused page places patches e
-splice_refused page places patches c parts asks error.OutOfMemory g a h = tt
-splice_refused page places patches c parts asks (error.ReadOtherwise p) g a h = tt
-splice_refused page places patches c parts asks (error.Across p) g a h = tt
-splice_refused page places patches c parts asks (error.EndOfPage p) g a h =
+pub splice_refused : (page : List ℕ) (first : ℕ) (places : List ℕ) (patches : List (ℕ × Patch)) (c : Content) (parts : List Part) (asks : List PlacedAsk) (e : EditError) → ArePieces parts (pieces_in page) →
+    All (λ (one : PlacedAsk). IsAskAt page patches one.start.token.start (ask_view c one.ask)) asks → IsPageError page first c parts asks e → IsRefused page places patches e
+splice_refused page first places patches c parts asks error.OutOfMemory g a h = tt
+splice_refused page first places patches c parts asks (error.ReadOtherwise p) g a h = tt
+splice_refused page first places patches c parts asks (error.Across p) g a h = tt
+splice_refused page first places patches c parts asks (error.EndOfPage p) g a h =
     let one : PlacedAsk = h.0 in
     let at : IsAskAt page patches one.start.token.start (ask_view c one.ask) = All-contains (λ (x : PlacedAsk). IsAskAt page patches x.start.token.start (ask_view c x.ask)) asks one a (h.1).among in
     record { ask = ask_view c one.ask; at = subst (λ n. IsAskAt page patches n (ask_view c one.ask)) (h.1).begins at; past = subst (λ n. n ≤ one.ask.from) (sym (length_pieces parts (pieces_in page) g)) h.2 }
-splice_refused page places patches c parts asks (error.NotWritten p) g a h =
+splice_refused page first places patches c parts asks (error.NotWritten p) g a h =
     let one : PlacedAsk = h.0 in
     let at : IsAskAt page patches one.start.token.start (ask_view c one.ask) = All-contains (λ (x : PlacedAsk). IsAskAt page patches x.start.token.start (ask_view c x.ask)) asks one a (h.1).among in
     cannot_write page patches c parts p one.ask g (subst (λ n. IsAskAt page patches n (ask_view c one.ask)) (h.1).begins at) h.2
-splice_refused page places patches c parts asks (error.NoStartTag p) g a h = absurd h
-splice_refused page places patches c parts asks (error.NotMeant p) g a h = absurd h
+splice_refused page first places patches c parts asks (error.NoStartTag p) g a h = absurd h
+splice_refused page first places patches c parts asks (error.NotMeant p) g a h = absurd h
 
 -- one error of a call
 
@@ -320,6 +334,10 @@ of_error r P e h q = subst (λ x. IfErr x P) q h
 pub no_places : (places : List ℕ) → length places ≡ 0 → places ≡ []
 no_places [] e = refl
 no_places (place ∷ places) e = absurd (omega arith)
+
+pub some_places : (places : List ℕ) → (length places == 0) ≡ false → 0 < length places
+some_places [] e = absurd (true≢false e)
+some_places (place ∷ places) e = omega arith
 
 pub none_edited : (patch : Patch) (page : List ℕ) → AreEdited patch [] page page
 none_edited patch page = record {
@@ -364,16 +382,16 @@ some_across : (c : Content) (len : ℕ) (asks : List PlacedAsk) → AreInTurn as
 some_across c len [] t h = absurd (true≢false h)
 some_across c len (a ∷ asks) t h = are_across c len 0 a asks (omega arith) t h
 
-pub splice_across : (page places : List ℕ) (patch : Patch) (tokens : List Token) (starts : List Start) (c : Content) (parts : List Part) (asks : List PlacedAsk) (e : EditError) → AreTokensOf page tokens →
+pub splice_across : (page : List ℕ) (first : ℕ) (places : List ℕ) (patch : Patch) (tokens : List Token) (starts : List Start) (c : Content) (parts : List Part) (asks : List PlacedAsk) (e : EditError) → AreTokensOf page tokens →
     AreStartsAt 0 tokens places starts → ArePieces parts (pieces_in page) → All (IsPlanned page patch starts) asks → AreSorted (pieces_in page) patch (numbers_of starts) c asks →
-    IsSpliceError c parts asks e → IsAcrossError page places patch e
-splice_across page places patch tokens starts c parts asks error.OutOfMemory t s g a o h = tt
-splice_across page places patch tokens starts c parts asks (error.NoStartTag p) t s g a o h = tt
-splice_across page places patch tokens starts c parts asks (error.NotMeant p) t s g a o h = tt
-splice_across page places patch tokens starts c parts asks (error.EndOfPage p) t s g a o h = tt
-splice_across page places patch tokens starts c parts asks (error.NotWritten p) t s g a o h = tt
-splice_across page places patch tokens starts c parts asks (error.ReadOtherwise p) t s g a o h = tt
-splice_across page places patch tokens starts c parts asks (error.Across p) t s g a o h =
+    IsPageError page first c parts asks e → IsAcrossError page places patch e
+splice_across page first places patch tokens starts c parts asks error.OutOfMemory t s g a o h = tt
+splice_across page first places patch tokens starts c parts asks (error.NoStartTag p) t s g a o h = tt
+splice_across page first places patch tokens starts c parts asks (error.NotMeant p) t s g a o h = tt
+splice_across page first places patch tokens starts c parts asks (error.EndOfPage p) t s g a o h = tt
+splice_across page first places patch tokens starts c parts asks (error.NotWritten p) t s g a o h = tt
+splice_across page first places patch tokens starts c parts asks (error.ReadOtherwise p) t s g a o h = tt
+splice_across page first places patch tokens starts c parts asks (error.Across p) t s g a o h =
     let one : PlacedAsk = h.0 in
     let planned : IsPlanned page patch starts one = All-contains (IsPlanned page patch starts) asks one a (h.1).among in
     let place : Contains places one.start.token.start =
@@ -390,3 +408,83 @@ splice_across page places patch tokens starts c parts asks (error.Across p) t s 
       same = o.same;
       across = subst (λ (xs : List (Splice Put)). AreAcross (length (pieces_in page)) xs) (sym (asks_are c asks)) (some_across c (length (pieces_in page)) asks o.in_turn order);
     }
+
+-- a page that is read otherwise
+
+record TagThere (puts : List Put) : Type 0 where
+  put : Put
+  among : Contains puts put
+  tag : is_tag_put put ≡ true
+
+tag_there : (c : Content) (q : CodePut) → puts_tag q ≡ true → TagThere (puts_view c q)
+tag_there c put.Nothing h = absurd (true≢false (sym h))
+tag_there c put.Content h = absurd (true≢false (sym h))
+tag_there c (put.EndTagAndContent raw) h = record { put = NewEndTag (name_of raw.now); among = (0, omega arith, refl); tag = refl }
+tag_there c (put.EndTag name) h = record { put = NewEndTag name.now; among = (0, omega arith, refl); tag = refl }
+tag_there c (put.Renamed name) h = record { put = Changed (Rename name.now); among = (0, omega arith, refl); tag = refl }
+
+tag_put : (page : List ℕ) (patches : List (ℕ × Patch)) (c : Content) (asks : List PlacedAsk) (p : ℕ) (one : PlacedAsk) →
+    All (λ (one : PlacedAsk). IsAskAt page patches one.start.token.start (ask_view c one.ask)) asks → IsOneAt asks p one → puts_tag one.ask.put ≡ true → PutsTag page patches p
+tag_put page patches c asks p one a o h =
+    let at : IsAskAt page patches one.start.token.start (ask_view c one.ask) = All-contains (λ (x : PlacedAsk). IsAskAt page patches x.start.token.start (ask_view c x.ask)) asks one a o.among in
+    let t = tag_there c one.ask.put h in
+    record { ask = ask_view c one.ask; at = subst (λ n. IsAskAt page patches n (ask_view c one.ask)) o.begins at; put = t.put; among = t.among; tag = t.tag }
+
+pub first_place : (places : List ℕ) (d : ℕ) → 0 < length places → places ≡ get_or places 0 d ∷ drop 1 places
+first_place [] d l = absurd (omega arith)
+first_place (place ∷ places) d l = refl
+
+pub splice_reading : (page : List ℕ) (first : ℕ) (places more : List ℕ) (patch : Patch) (tokens : List Token) (starts : List Start) (parts : List Part) (asks : List PlacedAsk) (e : EditError) →
+    places ≡ first ∷ more → AreTokensOf page tokens → AreStartsAt 0 tokens places starts → ArePieces parts (pieces_in page) →
+    All (λ (one : PlacedAsk). IsAskAt page (patch_each patch places) one.start.token.start (ask_view (content_of patch) one.ask)) asks →
+    AreSorted (pieces_in page) patch (numbers_of starts) (content_of patch) asks → IsPageError page first (content_of patch) parts asks e → IsReadingError page places patch e
+splice_reading page first places more patch tokens starts parts asks (error.ReadOtherwise p) f t s g a o (inl h) =
+    inl (tag_put page (patch_each patch places) (content_of patch) asks p h.0 a h.1 h.2)
+splice_reading page first places more patch tokens starts parts asks (error.ReadOtherwise p) f t s g a o (inr h) =
+    let r = h.1 (pieces_in page) g in
+    inr (record {
+      more = more;
+      first = f ∙ ap (λ n. n ∷ more) (sym h.0);
+      numbers = numbers_of starts;
+      begin = starts_begin page tokens places 0 starts t s;
+      splices = r.splices;
+      asked = asked_together patch (pieces_in page) starts (content_of patch) asks r.splices o r.ordered r.asked;
+      whole = r.whole;
+      never = r.never;
+    })
+splice_reading page first places more patch tokens starts parts asks error.OutOfMemory f t s g a o h = tt
+splice_reading page first places more patch tokens starts parts asks (error.NoStartTag p) f t s g a o h = tt
+splice_reading page first places more patch tokens starts parts asks (error.NotMeant p) f t s g a o h = tt
+splice_reading page first places more patch tokens starts parts asks (error.EndOfPage p) f t s g a o h = tt
+splice_reading page first places more patch tokens starts parts asks (error.NotWritten p) f t s g a o h = tt
+splice_reading page first places more patch tokens starts parts asks (error.Across p) f t s g a o h = tt
+
+pub starts_reading : (page places : List ℕ) (patch : Patch) (tokens : List Token) (e : EditError) → IsStartsError tokens places e → IsReadingError page places patch e
+starts_reading page places patch tokens error.OutOfMemory h = tt
+starts_reading page places patch tokens (error.NoStartTag p) h = tt
+starts_reading page places patch tokens (error.NotMeant p) h = tt
+starts_reading page places patch tokens (error.EndOfPage p) h = tt
+starts_reading page places patch tokens (error.NotWritten p) h = tt
+starts_reading page places patch tokens (error.Across p) h = tt
+starts_reading page places patch tokens (error.ReadOtherwise p) h = absurd h
+
+pub start_reading : (page : List ℕ) (place : ℕ) (patch : Patch) (tokens : List Token) (e : EditError) → IsStartError 0 tokens place e → IsReadingError page (place ∷ []) patch e
+start_reading page place patch tokens e h = starts_reading page (place ∷ []) patch tokens e (missing tokens (place ∷ []) 0 0 0 e (omega arith) (inl refl) h)
+
+pub asks_reading : (page places : List ℕ) (patch : Patch) (starts : List Start) (e : EditError) → IsAsksError page patch starts e → IsReadingError page places patch e
+asks_reading page places patch starts error.OutOfMemory h = tt
+asks_reading page places patch starts (error.NoStartTag p) h = tt
+asks_reading page places patch starts (error.NotMeant p) h = tt
+asks_reading page places patch starts (error.EndOfPage p) h = tt
+asks_reading page places patch starts (error.NotWritten p) h = tt
+asks_reading page places patch starts (error.Across p) h = tt
+asks_reading page places patch starts (error.ReadOtherwise p) h = absurd h
+
+pub plan_reading : (page : List ℕ) (place : ℕ) (patch : Patch) (s : Start) (e : EditError) → IsPlanError s.token.start (asked_of (runs (pieces page)) s.number patch) e → IsReadingError page (place ∷ []) patch e
+plan_reading page place patch s error.OutOfMemory h = tt
+plan_reading page place patch s (error.NoStartTag p) h = tt
+plan_reading page place patch s (error.NotMeant p) h = tt
+plan_reading page place patch s (error.EndOfPage p) h = tt
+plan_reading page place patch s (error.NotWritten p) h = tt
+plan_reading page place patch s (error.Across p) h = tt
+plan_reading page place patch s (error.ReadOtherwise p) h = absurd h

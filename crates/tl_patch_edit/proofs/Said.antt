@@ -2,7 +2,8 @@
 use Rattle.std.proofs.Common.{◌≡◌, ℕ, ◌+◌, List, [], ◌∷◌, ◌++◌, length, map, refl, ap, ap₂, sym, subst, subst₂, ◌∙◌, append_assoc}
 use Rattle.std.proofs.lemmas.Grind.{flat_map-append}
 use Rattle.tl_html_spec.specs.HtmlTokenizer.{HtmlToken}
-use Rattle.tl_html_spec.specs.Pieces.{Piece, bytes_of, pieces, placed, runs, tokens_in}
+use Rattle.tl_html_spec.specs.Pieces.{Piece, bytes_of, piece, pieces, placed, runs}
+use Rattle.tl_html_tokens.specs.Modes.{state_of}
 use Rattle.tl_html_tokens.specs.Said.{AreSaid}
 use Rattle.tl_html_tokens.specs.Tokens.{AreTokens, AreTokensOf, IsToken, mark_len}
 use Rattle.tl_html_tokens.specs.Whole.{AreWholeTags}
@@ -13,16 +14,11 @@ use Rattle.tl_html_tokens.specs.declared.token.Token.{Token}
 use Rattle.tl_html_tokens.proofs.Alone.{tags_are_whole}
 use Rattle.tl_html_tokens.proofs.Telling.{tokens_said}
 use Rattle.tl_patch_page.proofs.Says as page
-use Rattle.tl_patch_edit.specs.Parts.{ArePieces, Give, IsPieceOf, Part, Say, Says, view_at}
+use Rattle.tl_patch_tags.proofs.Changes.{whole_same}
+use Rattle.tl_patch_edit.specs.Parts.{ArePieces, Give, IsPieceOf, Part, Say, Says, Tells, TellsTag, view_at}
+use Rattle.tl_patch_edit.specs.Sayings.{Saying, Tag, said_by, sayings}
 use Rattle.tl_patch_edit.proofs.Lists.{bytes_append}
-
-in_page : (k : TokenKind) (m : Mode) (b : List ℕ) (ts : List HtmlToken) → Says k m b ts → page.Says k m b ts
-in_page kind.Text m b ts h = h
-in_page kind.Comment m b ts h = h
-in_page kind.Doctype m b ts h = h
-in_page kind.Nothing m b ts h = h
-in_page kind.StartTag m b ts h = h
-in_page kind.EndTag m b ts h = h
+use Rattle.tl_patch_edit.proofs.Sayings.{tells_of}
 
 of_page : (k : TokenKind) (m : Mode) (b : List ℕ) (ts : List HtmlToken) → page.Says k m b ts → Says k m b ts
 of_page kind.Text m b ts h = h
@@ -32,8 +28,17 @@ of_page kind.Nothing m b ts h = h
 of_page kind.StartTag m b ts h = h
 of_page kind.EndTag m b ts h = h
 
-pub same_says : (k : TokenKind) (m : Mode) (b : List ℕ) (ts us : List HtmlToken) → Says k m b ts → Says k m b us → ts ≡ us
-same_says k m b ts us h g = page.same_says k m b ts us (in_page k m b ts h) (in_page k m b us g)
+tag_same : (m : Mode) (b : List ℕ) (ss us : List Saying) → TellsTag m b ss → TellsTag m b us → ss ≡ us
+tag_same m b ss us h g =
+    h.1 ∙ ap (λ (ts : List HtmlToken). Tag (piece (state_of m) b ts) ∷ []) (whole_same m b h.0 g.0 h.2 g.2) ∙ sym g.1
+
+pub same_tells : (k : TokenKind) (m : Mode) (b : List ℕ) (ss us : List Saying) → Tells k m b ss → Tells k m b us → ss ≡ us
+same_tells kind.Text m b ss us h g = h ∙ sym g
+same_tells kind.Comment m b ss us h g = h ∙ sym g
+same_tells kind.Doctype m b ss us h g = h ∙ sym g
+same_tells kind.Nothing m b ss us h g = h ∙ sym g
+same_tells kind.StartTag m b ss us h g = tag_same m b ss us h g
+same_tells kind.EndTag m b ss us h g = tag_same m b ss us h g
 
 -- the tokens of a page
 
@@ -60,44 +65,44 @@ page_pieces text ts h = pieces_are text ts (mark_len text) (runs (pieces text)) 
 
 -- parts side by side
 
-pub say_both : (xs ys : List Part) (ts us : List HtmlToken) → Say xs ts → Say ys us → Say (xs ++ ys) (ts ++ us)
+pub say_both : (xs ys : List Part) (ts us : List Saying) → Say xs ts → Say ys us → Say (xs ++ ys) (ts ++ us)
 say_both [] ys ts us h k = subst (λ vs. Say ys (vs ++ us)) (sym h) k
 say_both (x ∷ xs) ys ts us h k =
     (h.0, h.1 ++ us, ap (λ vs. vs ++ us) h.2 ∙ append_assoc h.0 h.1 us, h.3, say_both xs ys h.1 us h.4 k)
 
-pub give_both : (xs ys : List Part) (b c : List ℕ) (ts us : List HtmlToken) → Give xs b ts → Give ys c us → Give (xs ++ ys) (b ++ c) (ts ++ us)
+pub give_both : (xs ys : List Part) (b c : List ℕ) (ts us : List Saying) → Give xs b ts → Give ys c us → Give (xs ++ ys) (b ++ c) (ts ++ us)
 give_both xs ys b c ts us h k = record {
   bytes = ap₂ (λ u v. u ++ v) h.bytes k.bytes ∙ sym (bytes_append xs ys);
   say = say_both xs ys ts us h.say k.say;
 }
 
-pub pieces_give : (xs : List Part) (ps : List Piece) → ArePieces xs ps → Give xs (bytes_of ps) (tokens_in ps)
+pub pieces_give : (xs : List Part) (ps : List Piece) → ArePieces xs ps → Give xs (bytes_of ps) (sayings ps)
 pieces_give [] [] h = record { bytes = refl; say = refl }
 pieces_give [] (p ∷ ps) h = absurd h
 pieces_give (x ∷ xs) [] h = absurd h
 pieces_give (x ∷ xs) (p ∷ ps) h =
     let more = pieces_give xs ps h.1 in
-    record { bytes = ap₂ (λ u v. u ++ v) (h.0).bytes more.bytes; say = (p.tokens, tokens_in ps, refl, (h.0).says, more.say) }
+    record { bytes = ap₂ (λ u v. u ++ v) (h.0).bytes more.bytes; say = (said_by p, sayings ps, refl, tells_of x p h.0, more.say) }
 
 abbrev pub GivePieces : List Part → List Piece → Type 0
-GivePieces xs ps = Give xs (bytes_of ps) (tokens_in ps)
+GivePieces xs ps = Give xs (bytes_of ps) (sayings ps)
 
 pub pieces_both : (xs ys : List Part) (ps qs : List Piece) → GivePieces xs ps → GivePieces ys qs → GivePieces (xs ++ ys) (ps ++ qs)
 pieces_both xs ys ps qs h k =
-    subst₂ (λ (b : List ℕ) (ts : List HtmlToken). Give (xs ++ ys) b ts)
-    (sym (flat_map-append (λ (p : Piece). p.bytes) ps qs)) (sym (flat_map-append (λ (p : Piece). p.tokens) ps qs))
-    (give_both xs ys (bytes_of ps) (bytes_of qs) (tokens_in ps) (tokens_in qs) h k)
+    subst₂ (λ (b : List ℕ) (ts : List Saying). Give (xs ++ ys) b ts)
+    (sym (flat_map-append (λ (p : Piece). p.bytes) ps qs)) (sym (flat_map-append said_by ps qs))
+    (give_both xs ys (bytes_of ps) (bytes_of qs) (sayings ps) (sayings qs) h k)
 
--- the tokens of some of them, and of the others
+-- what some of them say, and the others
 
-pub record Parted (xs ys : List Part) (ts : List HtmlToken) : Type 0 where
-  pub first : List HtmlToken
-  pub second : List HtmlToken
+pub record Parted (xs ys : List Part) (ts : List Saying) : Type 0 where
+  pub first : List Saying
+  pub second : List Saying
   pub is : ts ≡ first ++ second
   pub say_first : Say xs first
   pub say_second : Say ys second
 
-pub say_parted : (xs ys : List Part) (ts : List HtmlToken) → Say (xs ++ ys) ts → Parted xs ys ts
+pub say_parted : (xs ys : List Part) (ts : List Saying) → Say (xs ++ ys) ts → Parted xs ys ts
 say_parted [] ys ts h = record { first = []; second = ts; is = refl; say_first = refl; say_second = h }
 say_parted (x ∷ xs) ys ts h =
     let r = say_parted xs ys h.1 h.4 in

@@ -14,7 +14,7 @@ use Rattle.tl_html_tokens.specs.declared.token.Token.{Token}
 use Rattle.tl_patch_spec.specs.Elements.{Element}
 use Rattle.tl_patch_spec.specs.Patches.{AreAskedOne, Content, Dropped, Patch, Put, asked_of, extent_in, extent_of}
 use Rattle.tl_patch_spec.specs.Splices.{Splice, are_ordered}
-use Rattle.tl_patch_spec.specs.Together.{Asked, ask_of, asked_at, asked_each, next_after, with_asks}
+use Rattle.tl_patch_spec.specs.Together.{AreAskedTogether, Asked, ask_of, asked_at, asked_each, next_after, with_asks}
 use Rattle.tl_patch_edit.specs.Asks.{ask_view, asks_view, placed_at, placed_view, planned_view}
 use Rattle.tl_patch_edit.specs.Found.{IsSplicedPage, IsSplicedPageOf, IsStartAt}
 use Rattle.tl_patch_edit.specs.Parts.{ArePieces, Part}
@@ -70,7 +70,7 @@ starts_begin page tokens (place ∷ places) from (s ∷ starts) t h =
 pub none_dropped : (extents : List CodeExtent) → AreDropped extents → AreExtents [] extents
 none_dropped extents h = λ n d l. All-get_or (λ (e : CodeExtent). extent_view e ≡ Dropped) extents n d l h
 
-extent_at : (e : Element) (es : List Element) (n : ℕ) (v : Bool) → (e.start == n) ≡ v → extent_in n (e ∷ es) ≡ (if v then extent_of e else extent_in n es)
+pub extent_at : (e : Element) (es : List Element) (n : ℕ) (v : Bool) → (e.start == n) ≡ v → extent_in n (e ∷ es) ≡ (if v then extent_of e else extent_in n es)
 extent_at e es n v h = ap (λ (w : Bool). if w then extent_of e else extent_in n es) h
 
 within : (e : Element) (es : List Element) (x : CodeExtent) (old new : List CodeExtent) → e.start < length old → new ≡ set old e.start x → extent_view x ≡ extent_of e →
@@ -135,10 +135,10 @@ second_view : (c : Content) (s : Start) (o : Option Ask) → asked_view c (map (
 second_view c s None = refl
 second_view c s (Some a) = refl
 
-placed_asked : (c : Content) (s : Start) (p : Planned) → asked_view c (placed_view s p) ≡ map (asked_at s.number) (planned_view c p)
+pub placed_asked : (c : Content) (s : Start) (p : Planned) → asked_view c (placed_view s p) ≡ map (asked_at s.number) (planned_view c p)
 placed_asked c s p = ap (λ (xs : List Asked). asked_one c (placed_at s p.first) ∷ xs) (second_view c s p.second)
 
-counts : (ps : List Piece) (patch : Patch) (next n : ℕ) (ns : List ℕ) (asks : List (Splice Put)) → next ≤ n → asked_of ps n patch ≡ Some asks →
+pub counts : (ps : List Piece) (patch : Patch) (next n : ℕ) (ns : List ℕ) (asks : List (Splice Put)) → next ≤ n → asked_of ps n patch ≡ Some asks →
     asked_each ps patch next (n ∷ ns) ≡ with_asks n asks (asked_each ps patch (next_after patch n asks) ns)
 counts ps patch next n ns asks l a =
     ap (λ (v : Bool). if v then asked_each ps patch next ns else elim (asked_of ps n patch) as (λ _. Option (List Asked)) [
@@ -209,26 +209,31 @@ asks_are c (a ∷ asks) = ap (λ (xs : List (Splice Put)). ask_view c a.ask ∷ 
 
 -- a page that is read again
 
+pub asked_together : (patch : Patch) (ps : List Piece) (starts : List Start) (c : Content) (asks : List PlacedAsk) (splices : List (Splice Piece)) → AreSorted ps patch (numbers_of starts) c asks →
+    are_ordered 0 (length ps) (asks_view c asks) ≡ true → AreAskedOne ps (asks_view c asks) splices → AreAskedTogether ps (numbers_of starts) patch splices
+asked_together patch ps starts c asks splices a o h =
+    let same : asks_view c asks ≡ map ask_of (asked_view c asks) = sym (asks_are c asks) in
+    record {
+      each = a.each;
+      asked = a.asked;
+      asks = asked_view c asks;
+      same = a.same;
+      ordered = subst (λ (bs : List (Splice Put)). are_ordered 0 (length ps) bs ≡ true) same o;
+      inner_first = inner_comes_first c (length ps) 0 asks a.in_turn o;
+      are_asked = subst (λ (bs : List (Splice Put)). AreAskedOne ps bs splices) same h;
+    }
+
 pub several : (patch : Patch) (places page text : List ℕ) (tokens : List Token) (starts : List Start) (c : Content) (asks : List PlacedAsk) (parts : List Part) →
     AreTokensOf page tokens → AreStartsAt 0 tokens places starts → AreSorted (runs (pieces page)) patch (numbers_of starts) c asks → ArePieces parts (runs (pieces page)) →
     IsSplicedPageOf (asks_view c asks) parts page text → AreEdited patch places page text
 several patch places page text tokens starts c asks parts t s a g r =
     let ps : List Piece = runs (pieces page) in
     let page_with : IsSplicedPage (asks_view c asks) page text ps = r ps g in
-    let same : asks_view c asks ≡ map ask_of (asked_view c asks) = sym (asks_are c asks) in
     record {
       numbers = numbers_of starts;
       begin = starts_begin page tokens places 0 starts t s;
       splices = page_with.splices;
-      asked = record {
-        each = a.each;
-        asked = a.asked;
-        asks = asked_view c asks;
-        same = a.same;
-        ordered = subst (λ (bs : List (Splice Put)). are_ordered 0 (length ps) bs ≡ true) same page_with.ordered;
-        inner_first = inner_comes_first c (length ps) 0 asks a.in_turn page_with.ordered;
-        are_asked = subst (λ (bs : List (Splice Put)). AreAskedOne ps bs page_with.splices) same page_with.asked;
-      };
+      asked = asked_together patch ps starts c asks page_with.splices a page_with.ordered page_with.asked;
       mark = page_with.mark;
       bytes = page_with.bytes;
       tokens = page_with.tokens;

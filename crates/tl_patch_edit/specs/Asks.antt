@@ -4,11 +4,11 @@ use Rattle.std.specs.List.{slice_get}
 use Rattle.std.specs.Option.{option_to_list}
 use Rattle.std.specs.Str.{bytes_eq}
 use Rattle.tl_html_spec.specs.HtmlTokenizer.{EndTag, HtmlToken}
-use Rattle.tl_html_spec.specs.Pieces.{Piece, bytes_of, pieces_of, tokens_in}
+use Rattle.tl_html_spec.specs.Pieces.{Piece, bytes_of, pieces_of}
 use Rattle.tl_html_tags.specs.Parts.{name_of}
 use Rattle.tl_html_tokens.specs.Characters.{characters_of}
 use Rattle.tl_html_tokens.specs.Kinds.{IsKind}
-use Rattle.tl_html_tokens.specs.Whole.{IsWhole}
+use Rattle.tl_html_tokens.specs.Whole.{IsWhole, is_tag_kind}
 use Rattle.tl_html_tokens.specs.declared.stage.TokenKind.{TokenKind}
 use Rattle.tl_html_tokens.specs.declared.stage.TokenKind.TheVariants as kind
 use Rattle.tl_html_tokens.specs.declared.token.Token.{Token}
@@ -23,6 +23,7 @@ use Rattle.tl_patch_edit.specs.declared.ask.Put.TheVariants as put
 use Rattle.tl_patch_edit.specs.declared.tag.ReadyAsk.{ReadyAsk}
 use Rattle.tl_patch_edit.specs.Found.{has_mark}
 use Rattle.tl_patch_edit.specs.Parts.{ArePieces, Give, IsPieceOf, Part, Says}
+use Rattle.tl_patch_edit.specs.Sayings.{sayings}
 use Rattle.tl_patch_spec.specs.Markup.{text_markup}
 use Rattle.tl_patch_spec.specs.Patches.{ArePut, Alone, AreAskedOne, Changed, Content, Dropped, Extent, Implied, IsNamed, Markup, NewContent, NewEndTag, Patch, Append, Fill, Prepend, PutAfter, PutBefore, Put, ReplaceWith, Text, Unclosed, Whole, put_instead}
 use Rattle.tl_patch_spec.specs.Splices.{Splice, are_ordered, with_splices_from}
@@ -78,7 +79,7 @@ is_data _ = false
 abbrev pub GivePut : List Put → Part → List Part → Type 0
 GivePut puts place parts =
     (p : Piece) → IsPieceOf place p →
-    (put : List Piece) × ArePut p puts put × Give parts (bytes_of put) (tokens_in put)
+    (put : List Piece) × ArePut p puts put × Give parts (bytes_of put) (sayings put)
 
 -- where an element ends, with its own end tag, if its bytes are its own
 abbrev pub until_of : ℕ → Extent → Option ℕ
@@ -123,7 +124,7 @@ text_of (Markup markup) = []
 abbrev pub IsMarkupOf : Content → List Part → Type 0
 IsMarkupOf (Text text) parts = ⊤
 IsMarkupOf (Markup markup) parts = has_mark markup ≡ false →
-    Give parts (bytes_of (pieces_of markup)) (tokens_in (pieces_of markup))
+    Give parts (bytes_of (pieces_of markup)) (sayings (pieces_of markup))
 
 -- an end tag by itself
 abbrev pub end_tag_bytes : List ℕ → List ℕ
@@ -140,6 +141,7 @@ pub record IsRenamedEnd (name tag new : List ℕ) : Type 0 where
 
 -- a tag of a page with another name: it says what it said but for that
 pub record IsRenamedTag (name : List ℕ) (place : Part) (new : List ℕ) : Type 0 where
+  pub tag : is_tag_kind place.kind ≡ true
   pub named : IsNamed name place.bytes new
   pub in_data : place.mode ≡ mode.Data
   pub says : (ts : List HtmlToken) → IsKind place.kind ts →
@@ -186,7 +188,7 @@ pub record IsSplicedFrom (done : ℕ) (asks : List (Splice Put)) (ps : List Piec
   pub ordered : are_ordered done (length ps) asks ≡ true
   pub asked : AreAskedOne ps asks splices
   pub gives : Give wanted (bytes_of (with_splices_from done (drop done ps) splices))
-      (tokens_in (with_splices_from done (drop done ps) splices))
+      (sayings (with_splices_from done (drop done ps) splices))
 
 abbrev pub IsWantedFrom : ℕ → List (Splice Put) → List Part → List Part → Type 0
 IsWantedFrom done asks parts wanted =

@@ -10,7 +10,7 @@ use Rattle.tl_patch_spec.specs.Markup.{is_name}
 use Rattle.tl_patch_spec.specs.Patches.{Content, Markup, Patch, Put, Text, asked_of}
 use Rattle.tl_patch_spec.specs.Splices.{Splice, are_ordered}
 use Rattle.tl_patch_edit.specs.Asks.{ask_view, asks_view, content_of, is_data, text_form}
-use Rattle.tl_patch_edit.specs.Found.{IsStartAt, has_mark}
+use Rattle.tl_patch_edit.specs.Found.{IsNeverRead, IsNeverSplicedOf, IsStartAt, has_mark}
 use Rattle.tl_patch_edit.specs.Parts.{Part}
 use Rattle.tl_patch_edit.specs.declared.ask.Ask.{Ask}
 use Rattle.tl_patch_edit.specs.declared.ask.PlacedAsk.{PlacedAsk}
@@ -82,6 +82,12 @@ has_name (put.EndTag name) = is_name name.now
 has_name (put.Renamed name) = is_name name.now
 has_name _ = true
 
+-- whether a tag is put
+abbrev pub puts_tag : CodePut → Bool
+puts_tag put.Nothing = false
+puts_tag put.Content = false
+puts_tag _ = true
+
 abbrev pub CannotStandIn : Mode → Content → Type 0
 CannotStandIn m (Text text) = characters_of m (text_form m text) ≡ text → ⊥
 CannotStandIn m (Markup markup) = (is_data m ≡ false) ⊎ (has_mark markup ≡ true)
@@ -112,13 +118,14 @@ IsReadyError c parts one (error.EndOfPage p) =
     (one.start.token.start ≡ p) × (length parts ≤ one.ask.from)
 IsReadyError c parts one (error.NotWritten p) =
     (one.start.token.start ≡ p) × CannotPut c parts one.ask
-IsReadyError c parts one (error.ReadOtherwise p) = one.start.token.start ≡ p
+IsReadyError c parts one (error.ReadOtherwise p) =
+    (one.start.token.start ≡ p) × (puts_tag one.ask.put ≡ true)
 IsReadyError c parts one _ = ⊥
 
-abbrev pub IsReadError : ℕ → EditError → Type 0
-IsReadError place error.OutOfMemory = ⊤
-IsReadError place (error.ReadOtherwise p) = p ≡ place
-IsReadError place _ = ⊥
+abbrev pub IsReadError : List ℕ → List Part → ℕ → EditError → Type 0
+IsReadError page parts place error.OutOfMemory = ⊤
+IsReadError page parts place (error.ReadOtherwise p) = (p ≡ place) × IsNeverRead page parts
+IsReadError page parts place _ = ⊥
 
 abbrev pub IsSpliceError : Content → List Part → List PlacedAsk → EditError → Type 0
 IsSpliceError c parts asks error.OutOfMemory = ⊤
@@ -129,5 +136,13 @@ IsSpliceError c parts asks (error.NotWritten p) =
 IsSpliceError c parts asks (error.Across p) =
     (one : PlacedAsk) × IsOneAt asks p one
     × (are_ordered 0 (length parts) (asks_view c asks) ≡ false)
-IsSpliceError c parts asks (error.ReadOtherwise p) = ⊤
+IsSpliceError c parts asks (error.ReadOtherwise p) =
+    (one : PlacedAsk) × IsOneAt asks p one × (puts_tag one.ask.put ≡ true)
 IsSpliceError c parts asks _ = ⊥
+
+-- so it is, or the page with the splices is read otherwise
+abbrev pub IsPageError : List ℕ → ℕ → Content → List Part → List PlacedAsk → EditError → Type 0
+IsPageError page place c parts asks (error.ReadOtherwise p) =
+    IsSpliceError c parts asks (error.ReadOtherwise p)
+    ⊎ ((p ≡ place) × IsNeverSplicedOf (asks_view c asks) parts page)
+IsPageError page place c parts asks e = IsSpliceError c parts asks e

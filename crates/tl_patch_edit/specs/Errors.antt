@@ -1,5 +1,5 @@
 -- Why a page is not edited.
-use Rattle.std.specs.Prelude.{◌≡◌, ◌≤◌, ◌<◌, ◌⊎◌, ℕ, true, false, List, [], ◌∷◌, ◌++◌, length, map, None, Some, ⊤}
+use Rattle.std.specs.Prelude.{◌≡◌, ◌≤◌, ◌<◌, ◌⊎◌, ℕ, Bool, true, false, List, [], ◌∷◌, ◌++◌, length, map, None, Some, ⊤}
 use Rattle.std.specs.List.{All, Contains, slice_get}
 use Rattle.std.specs.List.Sorted.{IsPermutation}
 use Rattle.tl_html_spec.specs.HtmlTokenizer.{State}
@@ -11,11 +11,12 @@ use Rattle.tl_html_tokens.specs.Tokens.{mark_len}
 use Rattle.tl_html_tokens.specs.declared.mode.Mode.{Mode}
 use Rattle.tl_patch_spec.specs.Markup.{is_name}
 use Rattle.tl_patch_spec.specs.Patches.{Changed, Content, Markup, NewContent, NewEndTag, Patch, Put, Text, asked_of, content_pieces}
-use Rattle.tl_patch_spec.specs.Splices.{Splice}
+use Rattle.tl_patch_spec.specs.Splices.{Splice, with_splices}
 use Rattle.tl_patch_spec.specs.TagChanges.{Rename}
-use Rattle.tl_patch_spec.specs.Together.{Asked, ask_of, asked_each}
+use Rattle.tl_patch_spec.specs.Together.{AreAskedTogether, Asked, ask_of, asked_each}
 use Rattle.tl_patch_edit.specs.Asks.{text_form}
-use Rattle.tl_patch_edit.specs.Found.{has_mark}
+use Rattle.tl_patch_edit.specs.Found.{IsNeverSaid, has_mark}
+use Rattle.tl_patch_edit.specs.Sayings.{AreWhole, sayings}
 use Rattle.tl_patch_edit.specs.Several.{BeginAt}
 use Rattle.tl_patch_edit.specs.declared.error.EditError.{EditError}
 use Rattle.tl_patch_edit.specs.declared.error.EditError.TheVariants as error
@@ -128,6 +129,41 @@ pub record StandAcross (page places : List ℕ) (patch : Patch) (place : ℕ) : 
 abbrev pub IsAcrossError : List ℕ → List ℕ → Patch → EditError → Type 0
 IsAcrossError page places patch (error.Across place) = StandAcross page places patch place
 IsAcrossError page places patch _ = ⊤
+
+-- a tag is put, or gets another name
+abbrev pub is_tag_put : Put → Bool
+is_tag_put (NewContent content) = false
+is_tag_put _ = true
+
+-- such a patch puts a tag
+pub record PutsTag (page : List ℕ) (patches : List (ℕ × Patch)) (place : ℕ) : Type 0 where
+  pub ask : Splice Put
+  pub at : IsAskAt page patches place ask
+  pub put : Put
+  pub among : Contains ask.put put
+  pub tag : is_tag_put put ≡ true
+
+-- a place is the first of these, the patch asks for splices of the page's pieces at them, each tag
+-- that these leave is read so by itself, and yet no text with the bytes of what comes of them says
+-- what that says, token by token, and each tag in its bytes
+pub record IsReadOtherwise (page places : List ℕ) (patch : Patch) (place : ℕ) : Type 0 where
+  pub more : List ℕ
+  pub first : places ≡ place ∷ more
+  pub numbers : List ℕ
+  pub begin : BeginAt 0 (placed_pieces page) places numbers
+  pub splices : List (Splice Piece)
+  pub asked : AreAskedTogether (pieces_in page) numbers patch splices
+  pub whole : AreWhole (sayings (with_splices (pieces_in page) splices))
+  pub never : IsNeverSaid page (with_splices (pieces_in page) splices)
+
+abbrev pub CannotBeRead : List ℕ → List ℕ → Patch → ℕ → Type 0
+CannotBeRead page places patch place = PutsTag page (patch_each patch places) place
+    ⊎ IsReadOtherwise page places patch place
+
+abbrev pub IsReadingError : List ℕ → List ℕ → Patch → EditError → Type 0
+IsReadingError page places patch (error.ReadOtherwise place) =
+    CannotBeRead page places patch place
+IsReadingError page places patch _ = ⊤
 
 -- when each error comes, where these patches are asked for of the elements at these places
 abbrev pub IsRefused : List ℕ → List ℕ → List (ℕ × Patch) → EditError → Type 0

@@ -10,6 +10,7 @@ use Rattle.tl_html_tokens.specs.declared.mode.Mode.{Mode}
 use Rattle.tl_html_tokens.specs.declared.stage.TokenKind.TheVariants as kind
 use Rattle.tl_html_tokens.specs.declared.token.Token.{Token}
 use Rattle.tl_patch_edit.specs.Parts.{ArePieces, Part, Say, part_bytes}
+use Rattle.tl_patch_edit.specs.Sayings.{AreWhole, Saying, sayings}
 use Rattle.tl_patch_spec.specs.Patches.{AreAskedOne, Put, start_name}
 use Rattle.tl_patch_spec.specs.Splices.{Splice, are_ordered, with_splices}
 
@@ -44,7 +45,13 @@ mark_bytes false = []
 pub record IsReadAs (page : List ℕ) (parts : List Part) (text : List ℕ) : Type 0 where
   pub mark : mark_len text ≡ mark_len page
   pub bytes : without_mark text ≡ part_bytes parts
-  pub tokens : (ts : List HtmlToken) → Say parts ts → html_tokens text ≡ ts
+  pub said : (said : List Saying) → Say parts said → sayings (pieces text) ≡ said
+
+-- no text is these parts, after a byte order mark exactly where the page has one, and is read so
+pub record IsNeverRead (page : List ℕ) (parts : List Part) : Type 0 where
+  pub never : (text : List ℕ) → mark_len text ≡ mark_len page →
+      without_mark text ≡ part_bytes parts → (said : List Saying) → Say parts said →
+      sayings (pieces text) ≡ said → ⊥
 
 -- text is a page of these parts with the splices that are asked for, in order, and is read so
 pub record IsSplicedPage (asks : List (Splice Put)) (page text : List ℕ) (ps : List Piece) :
@@ -55,6 +62,26 @@ pub record IsSplicedPage (asks : List (Splice Put)) (page text : List ℕ) (ps :
   pub mark : mark_len text ≡ mark_len page
   pub bytes : without_mark text ≡ bytes_of (with_splices ps splices)
   pub tokens : html_tokens text ≡ tokens_in (with_splices ps splices)
+
+-- no text with the bytes of these pieces, after a byte order mark exactly where the page has one,
+-- says what they say
+abbrev pub IsNeverSaid : List ℕ → List Piece → Type 0
+IsNeverSaid page ps = (text : List ℕ) → mark_len text ≡ mark_len page →
+    without_mark text ≡ bytes_of ps → sayings (pieces text) ≡ sayings ps → ⊥
+
+-- the splices that are asked for are in order, each tag that they leave is read so by itself, and
+-- no text is read as they are
+pub record IsNeverSpliced (asks : List (Splice Put)) (page : List ℕ) (ps : List Piece) :
+    Type 0 where
+  pub splices : List (Splice Piece)
+  pub ordered : are_ordered 0 (length ps) asks ≡ true
+  pub asked : AreAskedOne ps asks splices
+  pub whole : AreWhole (sayings (with_splices ps splices))
+  pub never : IsNeverSaid page (with_splices ps splices)
+
+abbrev pub IsNeverSplicedOf : List (Splice Put) → List Part → List ℕ → Type 0
+IsNeverSplicedOf asks parts page =
+    (ps : List Piece) → ArePieces parts ps → IsNeverSpliced asks page ps
 
 abbrev pub IsSplicedPageOf : List (Splice Put) → List Part → List ℕ → List ℕ → Type 0
 IsSplicedPageOf asks parts page text =

@@ -1,4 +1,5 @@
 pub mod View
+pub mod Sayings
 pub mod Parts
 pub mod Asks
 pub mod Found

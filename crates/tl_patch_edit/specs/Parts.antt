@@ -1,18 +1,21 @@
 -- Parts of a page: pieces as the code has them.
-use Rattle.std.specs.Prelude.{◌≡◌, ◌≤◌, ◌<◌, ℕ, ◌+◌, Bool, true, false, ◌&&◌, List, [], ◌∷◌, ◌++◌, flat_map, length, map, take, ⊤}
+use Rattle.std.specs.Prelude.{◌≡◌, ◌==◌, ◌≤◌, ◌<◌, ℕ, ◌+◌, Bool, true, false, ◌&&◌, List, [], ◌∷◌, ◌++◌, flat_map, length, map, take, ⊤}
 use Rattle.tl_html_spec.specs.HtmlTokenizer.{Character, CommentToken, DoctypeToken, HtmlToken}
-use Rattle.tl_html_spec.specs.Pieces.{Piece}
+use Rattle.std.specs.Str.{bytes_eq}
+use Rattle.tl_html_spec.specs.Pieces.{Piece, piece}
 use Rattle.tl_html_tokens.specs.Characters.{characters_of}
 use Rattle.tl_html_tokens.specs.Comments.{comment_of}
 use Rattle.tl_html_tokens.specs.Kinds.{IsKind}
 use Rattle.tl_html_tokens.specs.Modes.{state_of}
-use Rattle.tl_html_tokens.specs.Whole.{IsWhole, bytes_at}
+use Rattle.tl_html_tokens.specs.Whole.{IsWhole, bytes_at, is_tag_kind}
 use Rattle.tl_html_tokens.specs.declared.mode.Mode.{Mode}
 use Rattle.tl_html_tokens.specs.declared.stage.TokenKind.{TokenKind}
 use Rattle.tl_html_tokens.specs.declared.stage.TokenKind.TheVariants as kind
 use Rattle.tl_html_tokens.specs.declared.token.Token.{Token}
 use Rattle.tl_html_tokens.specs.declared.mode.Mode.TheVariants as mode
+use Rattle.tl_patch_page.specs.Steps.{mode_number}
 use Rattle.tl_patch_spec.specs.Markup.{separator}
+use Rattle.tl_patch_edit.specs.Sayings.{Other, Saying, Tag, character}
 use Rattle.tl_patch_edit.specs.declared.part.Part.{Part as CodePart}
 
 pub record Part : Type 0 where
@@ -52,24 +55,42 @@ ArePieces [] [] = ⊤
 ArePieces (part ∷ parts) (p ∷ ps) = IsPieceOf part p × ArePieces parts ps
 ArePieces _ _ = ⊥
 
--- parts side by side say these tokens
-abbrev pub Say : List Part → List HtmlToken → Type 0
-Say [] ts = ts ≡ []
-Say (part ∷ parts) ts =
-    (first more : List HtmlToken) × (ts ≡ first ++ more)
-    × Says part.kind part.mode part.bytes first × Say parts more
+-- the same, of a tag with its bytes
+abbrev pub TellsTag : Mode → List ℕ → List Saying → Type 0
+TellsTag mode bytes said =
+    (tokens : List HtmlToken) × (said ≡ Tag (piece (state_of mode) bytes tokens) ∷ [])
+    × IsWhole mode bytes tokens
+
+abbrev pub Tells : TokenKind → Mode → List ℕ → List Saying → Type 0
+Tells kind.Text mode bytes said = said ≡ map character (characters_of mode bytes)
+Tells kind.Comment mode bytes said = said ≡ Other (CommentToken (comment_of bytes)) ∷ []
+Tells kind.Doctype mode bytes said = said ≡ Other DoctypeToken ∷ []
+Tells kind.Nothing mode bytes said = said ≡ []
+Tells kind.StartTag mode bytes said = TellsTag mode bytes said
+Tells kind.EndTag mode bytes said = TellsTag mode bytes said
+
+-- parts side by side say this
+abbrev pub Say : List Part → List Saying → Type 0
+Say [] said = said ≡ []
+Say (part ∷ parts) said =
+    (first more : List Saying) × (said ≡ first ++ more)
+    × Tells part.kind part.mode part.bytes first × Say parts more
 
 abbrev pub part_bytes : List Part → List ℕ
 part_bytes parts = flat_map (λ (p : Part). p.bytes) parts
 
--- they have these bytes, and say these tokens
-pub record Give (parts : List Part) (text : List ℕ) (tokens : List HtmlToken) : Type 0 where
+-- they have these bytes, and say this
+pub record Give (parts : List Part) (text : List ℕ) (said : List Saying) : Type 0 where
   pub bytes : text ≡ part_bytes parts
-  pub say : Say parts tokens
+  pub say : Say parts said
 
 -- whatever both say is the same
 pub record SaySame (parts others : List Part) : Type 0 where
-  pub same : (ts us : List HtmlToken) → Say parts ts → Say others us → ts ≡ us
+  pub same : (said other : List Saying) → Say parts said → Say others other → said ≡ other
+
+-- nothing is what both say
+pub record SayOtherwise (parts others : List Part) : Type 0 where
+  pub never : (said : List Saying) → Say parts said → Say others said → ⊥
 
 -- the first so many of the one say what the first so many of the other do
 pub record IsStep (count other_count : ℕ) (parts others : List Part) : Type 0 where
@@ -82,22 +103,48 @@ abbrev pub is_text_kind : TokenKind → Bool
 is_text_kind kind.Text = true
 is_text_kind _ = false
 
-abbrev pub is_nothing_kind : TokenKind → Bool
-is_nothing_kind kind.Nothing = true
-is_nothing_kind _ = false
+-- texts, and what says nothing
+abbrev pub is_quiet_kind : TokenKind → Bool
+is_quiet_kind kind.Text = true
+is_quiet_kind kind.Nothing = true
+is_quiet_kind _ = false
 
--- whether the first part says nothing
-abbrev pub is_nothing_first : List Part → Bool
-is_nothing_first [] = false
-is_nothing_first (p ∷ ps) = is_nothing_kind p.kind
+abbrev pub is_quiet_first : List Part → Bool
+is_quiet_first [] = false
+is_quiet_first (p ∷ ps) = is_quiet_kind p.kind
 
--- texts side by side, and their characters
-abbrev pub are_texts : List Part → Bool
-are_texts [] = true
-are_texts (p ∷ ps) = is_text_kind p.kind && are_texts ps
+abbrev pub are_quiet : List Part → Bool
+are_quiet [] = true
+are_quiet (p ∷ ps) = is_quiet_kind p.kind && are_quiet ps
+
+-- their characters
+abbrev pub characters_at : TokenKind → Mode → List ℕ → List ℕ
+characters_at kind.Text mode bytes = characters_of mode bytes
+characters_at _ mode bytes = []
 
 abbrev pub characters_in : List Part → List ℕ
-characters_in parts = flat_map (λ (p : Part). characters_of p.mode p.bytes) parts
+characters_in parts = flat_map (λ (p : Part). characters_at p.kind p.mode p.bytes) parts
+
+abbrev pub is_comment_kind : TokenKind → Bool
+is_comment_kind kind.Comment = true
+is_comment_kind _ = false
+
+abbrev pub is_doctype_kind : TokenKind → Bool
+is_doctype_kind kind.Doctype = true
+is_doctype_kind _ = false
+
+-- whether parts are read in one mode, and have the same bytes
+abbrev pub is_same_tag : Part → Part → Bool
+is_same_tag p q = (mode_number p.mode == mode_number q.mode) && bytes_eq p.bytes q.bytes
+
+-- whether a part of this kind says what another one says, where none is a text or nothing
+abbrev pub is_alike : TokenKind → Part → Part → Bool
+is_alike kind.StartTag p q = is_tag_kind q.kind && is_same_tag p q
+is_alike kind.EndTag p q = is_tag_kind q.kind && is_same_tag p q
+is_alike kind.Comment p q =
+    is_comment_kind q.kind && bytes_eq (comment_of p.bytes) (comment_of q.bytes)
+is_alike kind.Doctype p q = is_doctype_kind q.kind
+is_alike _ p q = false
 
 -- the separator as a part
 abbrev pub separator_part : Part

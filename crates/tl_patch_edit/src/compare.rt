@@ -1,11 +1,14 @@
 //! Whether parts say the same.
-ghost use Rattle.std.specs.Prelude.{◌≡◌, ◌≤◌, ◌<◌, ◌+◌, IfOk, IfSome, drop, false, length, take, true};
-ghost use Rattle.tl_patch_edit.specs.Parts.{IsStep, SaySame, are_texts, characters_in, is_nothing_first, is_text_kind, part_view, parts_view};
+ghost use Rattle.std.specs.Prelude.{◌≡◌, ◌≤◌, ◌<◌, ◌+◌, ◌++◌, ◌&&◌, IfNone, IfOk, IfSome, OnOk, drop, false, length, take, true};
+ghost use Rattle.std.specs.Str.{bytes_eq};
+ghost use Rattle.tl_html_tokens.specs.Comments.{comment_of};
+ghost use Rattle.tl_html_tokens.specs.Whole.{is_tag_kind};
+ghost use Rattle.tl_patch_edit.specs.Parts.{IsStep, SayOtherwise, SaySame, are_quiet, characters_at, characters_in, is_alike, is_comment_kind, is_doctype_kind, is_quiet_first, is_quiet_kind, is_same_tag, is_text_kind, part_view, parts_view};
 ghost use Rattle.tl_patch_page.specs.Steps.{kind_number, mode_number};
 
 use crate::part::Part;
 use std::alloc::{AllocError, Global};
-use tl_html_texts::characters;
+use tl_html_texts::{characters, comment};
 use tl_html_tokens::{Mode, TokenKind};
 
 fn kind_number(kind: TokenKind) -> u8
@@ -62,14 +65,46 @@ fn is_same(part: &Part<'_>, other: &Part<'_>) -> bool
     part.bytes == other.bytes
 }
 
-// Whether the first part says nothing.
-fn is_nothing_first(parts: &[Part<'_>]) -> bool
-    ensures { result ≡ is_nothing_first (parts_view parts.now) }
+// Whether there is a first part of both.
+fn have_firsts(parts: &[Part<'_>], others: &[Part<'_>]) -> bool
+    ensures one { result ≡ true → 0 < length parts.now }
+    ensures other { result ≡ true → 0 < length others.now }
+    ensures not { result ≡ false → 0 < length parts.now → 0 < length others.now → ⊥ }
 {
-    match parts {
-        [] => false,
-        [first, ..] => matches!(first.kind, TokenKind::Nothing),
+    parts.len() > 0 && others.len() > 0
+}
+
+// Whether the first parts are the same, byte by byte.
+fn is_same_first(parts: &[Part<'_>], others: &[Part<'_>]) -> bool
+    ensures { result ≡ true → IsStep 1 1 (parts_view parts.now) (parts_view others.now) }
+{
+    let have_firsts = have_firsts(parts, others);
+    if !have_firsts {
+        return false;
     }
+    is_same(&parts[0], &others[0])
+}
+
+fn is_quiet(kind: TokenKind) -> bool
+    ensures { result ≡ is_quiet_kind kind }
+{
+    matches!(kind, TokenKind::Text | TokenKind::Nothing)
+}
+
+// How many parts in front are texts, or say nothing.
+#[tactic(auto, using(crate::proofs::Steps::quiet_more, crate::proofs::Steps::quiet_stops, crate::proofs::Steps::quiet_ends))]
+fn quiet_len(parts: &[Part<'_>]) -> usize
+    ensures within { result ≤ length parts.now }
+    ensures quiet { are_quiet (parts_view (take result parts.now)) ≡ true }
+    ensures stops { is_quiet_first (parts_view (drop result parts.now)) ≡ false }
+{
+    for at in 0..parts.len() {
+        let is_quiet = is_quiet(parts[at].kind);
+        if !is_quiet {
+            return at;
+        }
+    }
+    parts.len()
 }
 
 fn is_text(kind: TokenKind) -> bool
@@ -78,46 +113,46 @@ fn is_text(kind: TokenKind) -> bool
     matches!(kind, TokenKind::Text)
 }
 
-// How many parts in front are texts.
-#[tactic(auto, using(crate::proofs::Steps::texts_more))]
-fn texts(parts: &[Part<'_>]) -> usize
-    ensures within { result ≤ length parts.now }
-    ensures texts { are_texts (parts_view (take result parts.now)) ≡ true }
+// Adds the characters of a part.
+#[tactic(auto, using(crate::proofs::Steps::text_at, crate::proofs::Steps::no_text_at))]
+fn push_characters(alloc: Global, part: &Part<'_>, text: &mut Vec<u8>) -> Result<(), AllocError>
+    ensures { OnOk result (text.new.items ≡ text.old.items
+        ++ characters_at part.now.kind part.now.mode part.now.bytes.now) }
 {
-    let mut count = 0;
-    while count < parts.len() && is_text(parts[count].kind) {
-        count += 1;
+    let is_text = is_text(part.kind);
+    if !is_text {
+        return Ok(());
     }
-    count
+    let said = characters(alloc, part.mode, part.bytes)?;
+    text.extend_from_slice(said.as_bytes())
 }
 
-// The characters of texts.
+// The characters of parts.
 fn characters_in(alloc: Global, parts: &[Part<'_>]) -> Result<Vec<u8>, AllocError>
     ensures { IfOk result (λ text. text.items ≡ characters_in (parts_view parts.now)) }
 {
     let mut text = Vec::new(alloc);
     for at in 0..parts.len() {
-        let said = characters(alloc, parts[at].mode, parts[at].bytes)?;
-        text.extend_from_slice(said.as_bytes())?;
+        push_characters(alloc, &parts[at], &mut text)?;
     }
     Ok(text)
 }
 
-// Whether texts have the same characters.
+// Whether parts have the same characters.
 fn have_same_characters(
     alloc: Global,
     parts: &[Part<'_>],
     others: &[Part<'_>],
 ) -> Result<bool, AllocError>
-    ensures { IfOk result (λ is. is ≡ true →
-        characters_in (parts_view parts.now) ≡ characters_in (parts_view others.now)) }
+    ensures { IfOk result (λ is. is ≡ bytes_eq
+        (characters_in (parts_view parts.now)) (characters_in (parts_view others.now))) }
 {
     let text = characters_in(alloc, parts)?;
     let other_text = characters_in(alloc, others)?;
     Ok(text.as_slice() == other_text.as_slice())
 }
 
-// Texts against texts.
+// The texts in front against the texts in front.
 fn text_step(
     alloc: Global,
     parts: &[Part<'_>],
@@ -127,11 +162,15 @@ fn text_step(
 ) -> Result<Option<(usize, usize)>, AllocError>
     requires within { count ≤ length parts.now }
     requires others_within { other_count ≤ length others.now }
-    requires texts { are_texts (parts_view (take count parts.now)) ≡ true }
-    requires other_texts { are_texts (parts_view (take other_count others.now)) ≡ true }
+    requires quiet { are_quiet (parts_view (take count parts.now)) ≡ true }
+    requires others_quiet { are_quiet (parts_view (take other_count others.now)) ≡ true }
+    requires stops { is_quiet_first (parts_view (drop count parts.now)) ≡ false }
+    requires others_stop { is_quiet_first (parts_view (drop other_count others.now)) ≡ false }
     requires moves { 0 < count + other_count }
-    ensures { IfOk result (λ found. IfSome found (λ counts.
+    ensures step { IfOk result (λ found. IfSome found (λ counts.
         IsStep counts.0 counts.1 (parts_view parts.now) (parts_view others.now))) }
+    ensures none { IfOk result (λ found. IfNone found
+        (SayOtherwise (parts_view parts.now) (parts_view others.now))) }
 {
     let is_it = have_same_characters(alloc, &parts[..count], &others[..other_count])?;
     if !is_it {
@@ -140,27 +179,95 @@ fn text_step(
     Ok(Some((count, other_count)))
 }
 
-// The first part against the first.
-fn first_step(parts: &[Part<'_>], others: &[Part<'_>]) -> Option<(usize, usize)>
-    ensures { IfSome result (λ counts.
-        IsStep counts.0 counts.1 (parts_view parts.now) (parts_view others.now)) }
+fn is_tag(kind: TokenKind) -> bool
+    ensures { result ≡ is_tag_kind kind }
 {
-    if parts.len().min(others.len()) == 0 {
-        return None;
-    }
-    let is_it = is_same(&parts[0], &others[0]);
-    if !is_it {
-        return None;
-    }
-    Some((1, 1))
+    matches!(kind, TokenKind::StartTag | TokenKind::EndTag)
 }
 
-// Whether so many texts have to be joined, to be compared with so many others: some are several, or
-// a text has no bytes.
-fn are_joined(count: usize, other_count: usize) -> bool
-    ensures { result ≡ true → 0 < count + other_count }
+fn is_comment(kind: TokenKind) -> bool
+    ensures { result ≡ is_comment_kind kind }
 {
-    count != other_count || count > 1
+    matches!(kind, TokenKind::Comment)
+}
+
+fn is_doctype(kind: TokenKind) -> bool
+    ensures { result ≡ is_doctype_kind kind }
+{
+    matches!(kind, TokenKind::Doctype)
+}
+
+// Whether a part is the same tag as another one.
+fn is_same_tag(part: &Part<'_>, other: &Part<'_>) -> bool
+    ensures { result ≡ (is_tag_kind other.now.kind
+        && is_same_tag (part_view part.now) (part_view other.now)) }
+{
+    is_tag(other.kind)
+        && mode_number(part.mode) == mode_number(other.mode)
+        && part.bytes == other.bytes
+}
+
+// Whether a part is a comment that says what another one says.
+fn is_same_comment(alloc: Global, part: &Part<'_>, other: &Part<'_>) -> Result<bool, AllocError>
+    ensures { IfOk result (λ is. is ≡ (is_comment_kind other.now.kind
+        && bytes_eq (comment_of part.now.bytes.now) (comment_of other.now.bytes.now))) }
+{
+    let is_it = is_comment(other.kind);
+    if !is_it {
+        return Ok(false);
+    }
+    let said = comment(alloc, part.bytes)?;
+    let other_said = comment(alloc, other.bytes)?;
+    Ok(said.as_bytes() == other_said.as_bytes())
+}
+
+// Whether a part says what another one says, where none is a text or nothing.
+fn is_alike(alloc: Global, part: &Part<'_>, other: &Part<'_>) -> Result<bool, AllocError>
+    ensures { IfOk result (λ is.
+        is ≡ is_alike part.now.kind (part_view part.now) (part_view other.now)) }
+{
+    match part.kind {
+        TokenKind::StartTag => Ok(is_same_tag(part, other)),
+        TokenKind::EndTag => Ok(is_same_tag(part, other)),
+        TokenKind::Comment => is_same_comment(alloc, part, other),
+        TokenKind::Doctype => Ok(is_doctype(other.kind)),
+        TokenKind::Text => Ok(false),
+        TokenKind::Nothing => Ok(false),
+    }
+}
+
+// The first part against the first, where none is a text or nothing.
+fn first_step(
+    alloc: Global,
+    parts: &[Part<'_>],
+    others: &[Part<'_>],
+) -> Result<Option<(usize, usize)>, AllocError>
+    requires loud { is_quiet_first (parts_view parts.now) ≡ false }
+    requires others_loud { is_quiet_first (parts_view others.now) ≡ false }
+    requires left { 0 < length parts.now + length others.now }
+    ensures step { IfOk result (λ found. IfSome found (λ counts.
+        IsStep counts.0 counts.1 (parts_view parts.now) (parts_view others.now))) }
+    ensures none { IfOk result (λ found. IfNone found
+        (SayOtherwise (parts_view parts.now) (parts_view others.now))) }
+{
+    let have_firsts = have_firsts(parts, others);
+    if !have_firsts {
+        return Ok(None);
+    }
+    let is_it = is_alike(alloc, &parts[0], &others[0])?;
+    if !is_it {
+        return Ok(None);
+    }
+    Ok(Some((1, 1)))
+}
+
+// Whether there are some of the one or of the other.
+fn are_some(count: usize, other_count: usize) -> bool
+    ensures some { result ≡ true → 0 < count + other_count }
+    ensures none { result ≡ false → count ≡ 0 }
+    ensures no_others { result ≡ false → other_count ≡ 0 }
+{
+    count > 0 || other_count > 0
 }
 
 // How many parts say what so many others say, if some do.
@@ -169,28 +276,28 @@ fn step(
     parts: &[Part<'_>],
     others: &[Part<'_>],
 ) -> Result<Option<(usize, usize)>, AllocError>
-    ensures { IfOk result (λ found. IfSome found (λ counts.
+    requires { 0 < length parts.now + length others.now }
+    ensures step { IfOk result (λ found. IfSome found (λ counts.
         IsStep counts.0 counts.1 (parts_view parts.now) (parts_view others.now))) }
+    ensures none { IfOk result (λ found. IfNone found
+        (SayOtherwise (parts_view parts.now) (parts_view others.now))) }
 {
-    let is_nothing = is_nothing_first(parts);
-    if is_nothing {
-        return Ok(Some((1, 0)));
+    let is_same = is_same_first(parts, others);
+    if is_same {
+        return Ok(Some((1, 1)));
     }
-    let is_other_nothing = is_nothing_first(others);
-    if is_other_nothing {
-        return Ok(Some((0, 1)));
-    }
-    let count = texts(parts);
-    let other_count = texts(others);
-    let are_joined = are_joined(count, other_count);
-    if are_joined {
+    let count = quiet_len(parts);
+    let other_count = quiet_len(others);
+    let are_some = are_some(count, other_count);
+    if are_some {
         return text_step(alloc, parts, others, count, other_count);
     }
-    Ok(first_step(parts, others))
+    first_step(alloc, parts, others)
 }
 
 // Whether something is left of the one or of the other.
 fn is_left(parts: &[Part<'_>], others: &[Part<'_>]) -> bool
+    ensures left { result ≡ true → 0 < length parts.now + length others.now }
     ensures one { result ≡ false → length parts.now ≡ 0 }
     ensures other { result ≡ false → length others.now ≡ 0 }
 {
@@ -209,14 +316,16 @@ fn after<'r, 'p>(parts: &'r [Part<'p>], count: usize) -> &'r [Part<'p>]
     }
 }
 
-// Whether parts say the same tokens.
+// Whether parts say the same.
 pub(crate) fn are_same(
     alloc: Global,
     parts: &[Part<'_>],
     others: &[Part<'_>],
 ) -> Result<bool, AllocError>
-    ensures { IfOk result (λ is. is ≡ true →
+    ensures same { IfOk result (λ is. is ≡ true →
         SaySame (parts_view parts.now) (parts_view others.now)) }
+    ensures otherwise { IfOk result (λ is. is ≡ false →
+        SayOtherwise (parts_view parts.now) (parts_view others.now)) }
 {
     let mut left = parts;
     let mut other_left = others;

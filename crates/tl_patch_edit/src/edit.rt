@@ -1,15 +1,15 @@
 //! A page with one element changed.
 ghost use Rattle.std.specs.Prelude.{◌≡◌, ◌≤◌, ◌++◌, ◌∷◌, [], ℕ, List, Err, IfErr, IfNone, IfOk, IfSome, OnOk, Some, false, true};
-ghost use Rattle.tl_html_spec.specs.HtmlTokenizer.{HtmlToken, html_tokens};
 ghost use Rattle.tl_html_tags.specs.Parts.{name_of};
 ghost use Rattle.tl_html_tokens.specs.declared.stage.TokenKind.TheVariants.{StartTag};
 ghost use Rattle.tl_patch_edit.specs.Asks.{asks_view, content_of, placed_view, planned_view};
-ghost use Rattle.tl_patch_edit.specs.Causes.{IsPlanError, IsReadError, IsSpliceError, IsStartError, NoStartFrom};
+ghost use Rattle.tl_patch_edit.specs.Causes.{IsPageError, IsPlanError, IsReadError, IsStartError, NoStartFrom};
 ghost use Rattle.tl_patch_edit.specs.Edited.{IsEdited};
-ghost use Rattle.tl_patch_edit.specs.Errors.{CannotBeMeant, CannotBeWritten, IsRefused, LacksStartTag, StandsPastEnd};
-ghost use Rattle.tl_patch_edit.specs.declared.error.EditError.TheVariants.{EndOfPage, NoStartTag, NotMeant, NotWritten};
+ghost use Rattle.tl_patch_edit.specs.Errors.{CannotBeMeant, CannotBeRead, CannotBeWritten, IsAcrossError, IsReadingError, IsRefused, LacksStartTag, StandAcross, StandsPastEnd};
+ghost use Rattle.tl_patch_edit.specs.declared.error.EditError.TheVariants.{Across, EndOfPage, NoStartTag, NotMeant, NotWritten, ReadOtherwise};
 ghost use Rattle.tl_patch_edit.specs.Found.{IsReadAs, IsSplicedPageOf, IsStartAt, IsStartOf, IsTagName, has_mark, mark_bytes};
 ghost use Rattle.tl_patch_edit.specs.Parts.{Say, part_bytes, parts_view};
+ghost use Rattle.tl_patch_edit.specs.Sayings.{Saying, sayings};
 ghost use Rattle.tl_patch_edit.specs.View.{content_view, extent_view, patch_view};
 ghost use Rattle.tl_html_spec.specs.Pieces.{pieces, runs};
 ghost use Rattle.tl_patch_spec.specs.Elements.{elements};
@@ -67,8 +67,10 @@ fn tag_name<'p>(alloc: Global, bytes: &'p [u8]) -> Result<&'p [u8], AllocError>
 
 // Whether a text is read as these parts.
 fn is_read_as(alloc: Global, text: &[u8], wanted: &[Part<'_>]) -> Result<bool, AllocError>
-    ensures { IfOk result (λ is. is ≡ true → (ts : List HtmlToken) →
-        Say (parts_view wanted.now) ts → html_tokens text.now ≡ ts) }
+    ensures is { IfOk result (λ is. is ≡ true → (said : List Saying) →
+        Say (parts_view wanted.now) said → sayings (pieces text.now) ≡ said) }
+    ensures not { IfOk result (λ is. is ≡ false → (said : List Saying) →
+        Say (parts_view wanted.now) said → sayings (pieces text.now) ≡ said → ⊥) }
 {
     let tokens = tokens(alloc, text)?;
     let parts = parts_of(alloc, text, tokens.as_slice())?;
@@ -97,7 +99,8 @@ fn push_mark_if(is_marked: bool, text: &mut Vec<u8>) -> Result<(), AllocError>
 }
 
 fn is_same(one: bool, other: bool) -> bool
-    ensures { result ≡ true → one ≡ other }
+    ensures is { result ≡ true → one ≡ other }
+    ensures not { result ≡ false → one ≡ other → ⊥ }
 {
     if one { other } else { !other }
 }
@@ -110,7 +113,7 @@ fn read_again(
     place: usize,
 ) -> Result<Vec<u8>, EditError>
     ensures text { IfOk result (λ text. IsReadAs page.now (parts_view wanted.now) text.items) }
-    ensures error { IfErr result (IsReadError place) }
+    ensures error { IfErr result (IsReadError page.now (parts_view wanted.now) place) }
 {
     let is_marked = has_mark(page);
     let text = written(alloc, is_marked, wanted)?;
@@ -138,7 +141,7 @@ pub(crate) fn spliced_page(
     ensures text { IfOk result (λ text.
         IsSplicedPageOf (asks_view (content_view content.entry) asks.now)
         (parts_view parts.now) page.now text.items) }
-    ensures error { IfErr result (IsSpliceError (content_view content.entry)
+    ensures error { IfErr result (IsPageError page.now place (content_view content.entry)
         (parts_view parts.now) asks.now) }
 {
     let escaped = escaped_text(alloc, content)?;
@@ -240,10 +243,14 @@ pub fn patch_element(
         LacksStartTag page.now (place ∷ []) p }
     ensures not_meant { (p : ℕ) → result ≡ Err (NotMeant p) →
         CannotBeMeant page.now ((place, patch_view patch.entry) ∷ []) p }
+    ensures across { (p : ℕ) → result ≡ Err (Across p) →
+        StandAcross page.now (place ∷ []) (patch_view patch.entry) p }
     ensures past_end { (p : ℕ) → result ≡ Err (EndOfPage p) →
         StandsPastEnd page.now ((place, patch_view patch.entry) ∷ []) p }
     ensures not_written { (p : ℕ) → result ≡ Err (NotWritten p) →
         CannotBeWritten page.now ((place, patch_view patch.entry) ∷ []) p }
+    ensures read_otherwise { (p : ℕ) → result ≡ Err (ReadOtherwise p) →
+        CannotBeRead page.now (place ∷ []) (patch_view patch.entry) p }
 {
     with_patch(alloc, page, place, patch)
 }
@@ -259,6 +266,10 @@ fn with_patch(
         IsEdited (patch_view patch.entry) place page.now text.items) }
     ensures error { IfErr result (IsRefused page.now (place ∷ [])
         ((place, patch_view patch.entry) ∷ [])) }
+    ensures across { IfErr result
+        (IsAcrossError page.now (place ∷ []) (patch_view patch.entry)) }
+    ensures reading { IfErr result
+        (IsReadingError page.now (place ∷ []) (patch_view patch.entry)) }
 {
     let found = elements(alloc, page)?;
     let parts = parts_of(alloc, page, found.tokens.as_slice())?;

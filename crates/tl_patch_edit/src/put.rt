@@ -1,12 +1,13 @@
 //! What is put into a page.
 ghost use Rattle.std.specs.Prelude.{◌≡◌, [], ◌∷◌, IfNone, IfOk, IfSome, IsSome, false};
-ghost use Rattle.tl_html_spec.specs.Pieces.{bytes_of, pieces_of, tokens_in};
+ghost use Rattle.tl_html_spec.specs.Pieces.{bytes_of, pieces_of};
 ghost use Rattle.tl_html_tokens.specs.declared.mode.Mode.TheVariants.{Data};
 ghost use Rattle.tl_html_tokens.specs.declared.stage.TokenKind.TheVariants.{EndTag};
 ghost use Rattle.tl_patch_edit.specs.Asks.{GivePut, IsEndTagOf, IsReady, IsRenamedTag, IsTagFor, IsTextPart, is_data, puts_view, text_form};
 ghost use Rattle.tl_patch_edit.specs.Causes.{CannotPutIn, CannotStandIn};
 ghost use Rattle.tl_patch_edit.specs.Found.{has_mark};
 ghost use Rattle.tl_patch_edit.specs.Parts.{Give, part_view, parts_view};
+ghost use Rattle.tl_patch_edit.specs.Sayings.{sayings};
 ghost use Rattle.tl_patch_spec.specs.Patches.{Changed, Markup, NewContent, NewEndTag, Text};
 ghost use Rattle.tl_patch_spec.specs.TagChanges.{Rename};
 ghost use Rattle.tl_html_tags.specs.Parts.{name_of};
@@ -95,7 +96,7 @@ fn markup_parts<'p>(
     parts: &[Part<'p>],
 ) -> Result<Option<Vec<Part<'p>>>, AllocError>
     requires { has_mark markup.now ≡ false → Give (parts_view parts.now)
-        (bytes_of (pieces_of markup.now)) (tokens_in (pieces_of markup.now)) }
+        (bytes_of (pieces_of markup.now)) (sayings (pieces_of markup.now)) }
     ensures parts { IfOk result (λ found. IfSome found (λ parts.
         GivePut (NewContent (Markup markup.now) ∷ []) (part_view place.entry)
         (parts_view parts.items))) }

@@ -1,7 +1,7 @@
 //! What is put, made ready.
 ghost use Rattle.std.specs.Prelude.{◌≡◌, IfOk, false};
 ghost use Rattle.std.specs.List.{All};
-ghost use Rattle.tl_html_spec.specs.Pieces.{bytes_of, pieces_of, tokens_in};
+ghost use Rattle.tl_html_spec.specs.Pieces.{bytes_of, pieces_of};
 ghost use Rattle.tl_html_spec.specs.HtmlTokenizer.{EndTag};
 ghost use Rattle.tl_html_tags.specs.Parts.{name_of};
 ghost use Rattle.tl_html_tokens.specs.Whole.{IsWhole};
@@ -9,6 +9,7 @@ ghost use Rattle.tl_html_tokens.specs.declared.mode.Mode.TheVariants as mode;
 ghost use Rattle.tl_patch_edit.specs.Asks.{IsMarkupOf, content_of, text_of};
 ghost use Rattle.tl_patch_edit.specs.Found.{has_mark};
 ghost use Rattle.tl_patch_edit.specs.Parts.{Give, parts_view};
+ghost use Rattle.tl_patch_edit.specs.Sayings.{sayings};
 ghost use Rattle.tl_patch_edit.specs.View.{content_view, patch_view};
 ghost use Rattle.tl_patch_spec.specs.Markup.{text_markup};
 
@@ -60,7 +61,7 @@ pub(crate) fn has_mark(page: &[u8]) -> bool
 fn parts_of_markup<'p>(alloc: Global, markup: &'p [u8]) -> Result<Vec<Part<'p>>, AllocError>
     ensures { IfOk result (λ parts. has_mark markup.now ≡ false →
         Give (parts_view parts.items) (bytes_of (pieces_of markup.now))
-        (tokens_in (pieces_of markup.now))) }
+        (sayings (pieces_of markup.now))) }
 {
     let tokens = tokens(alloc, markup)?;
     let parts = parts_of(alloc, markup, tokens.as_slice())?;

@@ -1,5 +1,5 @@
 //! A page with several elements changed.
-ghost use Rattle.std.specs.Prelude.{◌≡◌, ◌≤◌, ◌<◌, ◌++◌, ◌∷◌, [], ℕ, Err, IfErr, IfOk, MatchResult, OnOk, Some, length};
+ghost use Rattle.std.specs.Prelude.{◌≡◌, ◌≤◌, ◌<◌, ◌++◌, ◌∷◌, [], ℕ, Err, IfErr, IfOk, MatchResult, OnOk, Some, drop, length};
 ghost use Rattle.std.specs.List.{All};
 ghost use Rattle.std.specs.List.Sorted.{IsPermutation};
 ghost use Rattle.tl_html_spec.specs.Pieces.{pieces, runs};
@@ -8,9 +8,9 @@ ghost use Rattle.tl_patch_spec.specs.Patches.{Content, asked_of};
 ghost use Rattle.tl_patch_spec.specs.Together.{asked_each, next_after};
 ghost use Rattle.tl_patch_edit.specs.Asks.{content_of, planned_view};
 ghost use Rattle.tl_patch_edit.specs.Causes.{IsAsksError, IsPlanError, IsPlanned, IsStartsError};
-ghost use Rattle.tl_patch_edit.specs.Errors.{CannotBeMeant, CannotBeWritten, IsAcrossError, IsRefused, LacksStartTag, StandAcross, StandsPastEnd, patch_each};
+ghost use Rattle.tl_patch_edit.specs.Errors.{CannotBeMeant, CannotBeRead, CannotBeWritten, IsAcrossError, IsReadingError, IsRefused, LacksStartTag, StandAcross, StandsPastEnd, patch_each};
 ghost use Rattle.tl_patch_edit.specs.Found.{IsStartOf};
-ghost use Rattle.tl_patch_edit.specs.declared.error.EditError.TheVariants.{Across, EndOfPage, NoStartTag, NotMeant, NotWritten, OutOfMemory};
+ghost use Rattle.tl_patch_edit.specs.declared.error.EditError.TheVariants.{Across, EndOfPage, NoStartTag, NotMeant, NotWritten, OutOfMemory, ReadOtherwise};
 ghost use Rattle.tl_patch_edit.specs.Several.{AreEdited, AreExtents, AreInTurn, AreSorted, AreStartsAt, IsStartOfPage, asked_view, numbers_of};
 ghost use Rattle.tl_patch_edit.specs.View.{patch_view};
 
@@ -153,6 +153,14 @@ fn sorted_asks<'n>(
     Ok(asks)
 }
 
+// The first of some places.
+fn first_of(places: &[usize]) -> usize
+    requires { 0 < length places.now }
+    ensures { places.now ≡ result ∷ drop 1 places.now }
+{
+    places[0]
+}
+
 // The page with this patch of several elements.
 fn with_patches(
     alloc: Global,
@@ -160,17 +168,17 @@ fn with_patches(
     places: &[usize],
     patch: ElementPatch<'_>,
 ) -> Result<Vec<u8>, EditError>
+    requires { 0 < length places.now }
     ensures edited { IfOk result (λ text.
         AreEdited (patch_view patch.entry) places.now page.now text.items) }
     ensures error { IfErr result (IsRefused page.now places.now
         (patch_each (patch_view patch.entry) places.now)) }
     ensures across { IfErr result
         (IsAcrossError page.now places.now (patch_view patch.entry)) }
+    ensures reading { IfErr result
+        (IsReadingError page.now places.now (patch_view patch.entry)) }
 {
-    let place = match places {
-        [] => 0,
-        [first, ..] => *first,
-    };
+    let place = first_of(places);
     let found = elements(alloc, page)?;
     let parts = parts_of(alloc, page, found.tokens.as_slice())?;
     let starts = starts_at(alloc, found.tokens.as_slice(), places)?;
@@ -213,6 +221,8 @@ pub fn patch_elements(
         StandsPastEnd page.now (patch_each (patch_view patch.entry) places.now) place }
     ensures not_written { (place : ℕ) → result ≡ Err (NotWritten place) →
         CannotBeWritten page.now (patch_each (patch_view patch.entry) places.now) place }
+    ensures read_otherwise { (place : ℕ) → result ≡ Err (ReadOtherwise place) →
+        CannotBeRead page.now places.now (patch_view patch.entry) place }
 {
     if places.is_empty() {
         let mut text = Vec::new(alloc);

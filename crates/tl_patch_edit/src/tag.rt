@@ -1,12 +1,12 @@
 //! Tags that are put, by themselves.
-ghost use Rattle.std.specs.Prelude.{◌≡◌, ◌<◌, [], ◌∷◌, ◌++◌, IfErr, IfOk, IfSome, OnOk, length, true};
+ghost use Rattle.std.specs.Prelude.{◌≡◌, ◌<◌, [], ◌∷◌, ◌++◌, IfErr, IfNone, IfOk, IfSome, OnOk, length, true};
 ghost use Rattle.std.specs.List.{All};
 ghost use Rattle.tl_html_spec.specs.HtmlTokenizer.{EndTag};
 ghost use Rattle.tl_html_tags.specs.Parts.{name_of};
 ghost use Rattle.tl_html_tokens.specs.Whole.{IsWhole};
 ghost use Rattle.tl_html_tokens.specs.declared.mode.Mode.TheVariants as mode;
 ghost use Rattle.tl_patch_edit.specs.Asks.{IsEndTagOf, IsRenamedEnd, IsRenamedTag, IsTagAt, IsTagFor, IsTagged, is_end_kind, is_one_end_tag, is_whole_end_tag, placed_of};
-ghost use Rattle.tl_patch_edit.specs.Causes.{IsReadyError, IsSpliceError, IsWithin, has_name};
+ghost use Rattle.tl_patch_edit.specs.Causes.{IsReadyError, IsSpliceError, IsWithin, has_name, puts_tag};
 ghost use Rattle.tl_patch_edit.specs.Parts.{part_view, parts_view};
 ghost use Rattle.tl_patch_spec.specs.Patches.{Content};
 
@@ -122,8 +122,9 @@ fn renamed_tag(alloc: Global, place: Part<'_>, name: &[u8]) -> Result<Option<Vec
 
 // The tag that is put at a part, which is empty where none is; `None` where it can't be written.
 fn tag_for(alloc: Global, place: Part<'_>, put: Put<'_>) -> Result<Option<Vec<u8>>, AllocError>
-    ensures { IfOk result (λ found. IfSome found (λ tag.
+    ensures tag { IfOk result (λ found. IfSome found (λ tag.
         IsTagFor put.entry (part_view place.entry) tag.items)) }
+    ensures none { IfOk result (λ found. IfNone found (puts_tag put.entry ≡ true)) }
 {
     match put {
         Put::Nothing => Ok(Some(Vec::new(alloc))),
@@ -147,13 +148,16 @@ fn has_name(put: Put<'_>) -> bool
 
 // The tag that is put for an ask.
 fn tag_put(alloc: Global, parts: &[Part<'_>], ask: Ask<'_>) -> Result<Option<Vec<u8>>, AllocError>
-    ensures { IfOk result (λ found. IfSome found (λ tag.
+    requires { ask.from < length parts.now }
+    ensures tag { IfOk result (λ found. IfSome found (λ tag.
         IsTagAt (parts_view parts.now) ask.entry tag.items)) }
+    ensures none { IfOk result (λ found. IfNone found (puts_tag ask.entry.put ≡ true)) }
 {
-    let Some(place) = parts.get(ask.from) else {
+    let place = parts[ask.from];
+    let Some(tag) = tag_for(alloc, place, ask.put)? else {
         return Ok(None);
     };
-    tag_for(alloc, *place, ask.put)
+    Ok(Some(tag))
 }
 
 // An ask, with the tag that is put.

@@ -1,11 +1,9 @@
-use Rattle.std.proofs.Common.{sym, ◌∙◌}
-use Rattle.tl_patch_edit.specs.Parts.{parts_view}
-use Rattle.tl_patch_edit.proofs.Steps.{nothing_step, other_nothing_step}
+use Rattle.tl_patch_edit.proofs.Steps.{no_quiet}
 use Rattle.tl_patch_edit.proofs.compare.step.Goals as goal
 
-pub returns-then-is_nothing : goal.returns-then-is_nothing
-returns-then-is_nothing c = nothing_step (parts_view c.args.parts.now) (parts_view c.args.others.now) (sym c.is_nothing_first-is_nothing.ensures ∙ c.if-is_nothing.true)
+pub first_step-requires-clause-loud : goal.first_step-requires-clause-loud
+first_step-requires-clause-loud c = no_quiet c.args.parts.now c.quiet_len-count.result (c.are_some-are_some.ensures.none c.if-are_some.false) c.quiet_len-count.ensures.stops
 
-pub returns-then-is_other_nothing : goal.returns-then-is_other_nothing
-returns-then-is_other_nothing c =
-    other_nothing_step (parts_view c.args.parts.now) (parts_view c.args.others.now) (sym c.is_nothing_first-is_other_nothing.ensures ∙ c.if-is_other_nothing.true)
+pub first_step-requires-clause-others_loud : goal.first_step-requires-clause-others_loud
+first_step-requires-clause-others_loud c =
+    no_quiet c.args.others.now c.quiet_len-other_count.result (c.are_some-are_some.ensures.no_others c.if-are_some.false) c.quiet_len-other_count.ensures.stops

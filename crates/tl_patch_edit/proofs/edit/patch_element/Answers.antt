@@ -12,3 +12,9 @@ returns-clause-past_end c = λ p e. of_error _ _ _ c.with_patch.ensures.error e
 
 pub returns-clause-not_written : goal.returns-clause-not_written
 returns-clause-not_written c = λ p e. of_error _ _ _ c.with_patch.ensures.error e
+
+pub returns-clause-read_otherwise : goal.returns-clause-read_otherwise
+returns-clause-read_otherwise c = λ p e. of_error _ _ _ c.with_patch.ensures.reading e
+
+pub returns-clause-across : goal.returns-clause-across
+returns-clause-across c = λ p e. of_error _ _ _ c.with_patch.ensures.across e

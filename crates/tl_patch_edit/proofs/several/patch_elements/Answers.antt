@@ -2,7 +2,7 @@ use Rattle.std.proofs.Common.{◌≡◌, length, ℕ, List, [], ◌++◌, ap, sy
 use Rattle.std.proofs.lemmas.Bool.{eqb-true}
 use Rattle.tl_patch_edit.specs.Several.{AreEdited}
 use Rattle.tl_patch_edit.specs.View.{patch_view}
-use Rattle.tl_patch_edit.proofs.Refusals.{no_places, none_edited, of_error}
+use Rattle.tl_patch_edit.proofs.Refusals.{no_places, none_edited, of_error, some_places}
 use Rattle.tl_patch_edit.proofs.several.patch_elements.Goals as goal
 
 pub returns-clause-no_start : goal.returns-clause-no_start
@@ -27,3 +27,9 @@ returns-then-is_empty-clause-edited c =
 
 pub returns-clause-across : goal.returns-clause-across
 returns-clause-across c = λ p e. of_error _ _ _ c.with_patches.ensures.across e
+
+pub returns-clause-read_otherwise : goal.returns-clause-read_otherwise
+returns-clause-read_otherwise c = λ p e. of_error _ _ _ c.with_patches.ensures.reading e
+
+pub with_patches-requires : goal.with_patches-requires
+with_patches-requires c = some_places c.args.places.now (sym c.is_empty.ensures ∙ c.if-is_empty.false)

@@ -1,4 +1,4 @@
-use Rattle.std.proofs.Common.{rules, Err, ◌≡◌, ℕ, List, arith, length, ap, subst, sym, ◌∙◌}
+use Rattle.std.proofs.Common.{rules, Err, ◌≡◌, ℕ, List, arith, drop, length, ap, subst, sym, ◌∙◌}
 use Rattle.std.specs.List.{All}
 use Rattle.tl_html_spec.specs.Pieces.{pieces, runs}
 use Rattle.tl_html_tokens.specs.declared.token.Token.{Token}
@@ -6,7 +6,7 @@ use Rattle.tl_patch_elements.specs.View.{elements_view}
 use Rattle.tl_patch_spec.specs.Elements.{Element, elements}
 use Rattle.tl_patch_spec.specs.Patches.{Content, Patch}
 use Rattle.tl_patch_edit.specs.Asks.{asks_view, content_of}
-use Rattle.tl_patch_edit.specs.Causes.{IsPlanned, IsAsksError, IsSpliceError, IsStartsError}
+use Rattle.tl_patch_edit.specs.Causes.{IsAsksError, IsPageError, IsPlanned, IsStartsError}
 use Rattle.tl_patch_edit.specs.Errors.{patch_each}
 use Rattle.tl_patch_edit.specs.Found.{IsSplicedPageOf}
 use Rattle.tl_patch_edit.specs.Parts.{parts_view}
@@ -18,7 +18,7 @@ use Rattle.tl_patch_edit.specs.declared.ask.Start.{Start}
 use Rattle.tl_patch_edit.specs.declared.part.Part.{Part}
 use Rattle.tl_patch_edit.proofs.Together.{several, starts_are}
 use Rattle.tl_patch_edit.proofs.Lists.{length_view}
-use Rattle.tl_patch_edit.proofs.Refusals.{asks_across, asks_at, asks_refused, err_is, places_are, splice_across, splice_refused, starts_across, starts_refused}
+use Rattle.tl_patch_edit.proofs.Refusals.{asks_across, asks_at, asks_reading, asks_refused, err_is, places_are, splice_across, splice_reading, splice_refused, starts_across, starts_reading, starts_refused}
 use Rattle.tl_patch_edit.proofs.Splicing.{length_pieces}
 use Rattle.tl_patch_edit.proofs.several.with_patches.Goals as goal
 
@@ -98,11 +98,11 @@ returns-in_err-text-clause-error c =
     let planned : All (IsPlanned page patch starts) asks =
     subst (λ (ss : List Start). All (IsPlanned page patch ss) asks) c.as_slice-4.ensures.value c.in_ok-asks.ensures.planned in
     let is : c.from_residual-in_err-text.result ≡ Err c.in_err-text.field-0.0 = search rules in
-    err_is _ _ _ is (splice_refused page c.args.places.now (patch_each patch c.args.places.now) (content_of patch) (parts_view parts) asks c.in_err-text.field-0.0 c.in_ok-parts.ensures
+    err_is _ _ _ is (splice_refused page c.first_of-place.result c.args.places.now (patch_each patch c.args.places.now) (content_of patch) (parts_view parts) asks c.in_err-text.field-0.0 c.in_ok-parts.ensures
     (asks_at page patch c.args.places.now starts asks (starts_are page tokens c.args.places.now 0 starts c.in_ok-found.ensures.tokens at) (places_are tokens c.args.places.now 0 starts at) planned)
-    (subst (λ (k : Content). IsSpliceError k (parts_view parts) asks c.in_err-text.field-0.0) c.content_of-content.ensures
-    (subst (λ (bs : List PlacedAsk). IsSpliceError (content_view c.content_of-content.result) (parts_view parts) bs c.in_err-text.field-0.0) c.as_slice-7.ensures.value
-    (subst (λ (xs : List Part). IsSpliceError (content_view c.content_of-content.result) (parts_view xs) c.as_slice-7.result.now c.in_err-text.field-0.0) c.as_slice-6.ensures.value
+    (subst (λ (k : Content). IsPageError page c.first_of-place.result k (parts_view parts) asks c.in_err-text.field-0.0) c.content_of-content.ensures
+    (subst (λ (bs : List PlacedAsk). IsPageError page c.first_of-place.result (content_view c.content_of-content.result) (parts_view parts) bs c.in_err-text.field-0.0) c.as_slice-7.ensures.value
+    (subst (λ (xs : List Part). IsPageError page c.first_of-place.result (content_view c.content_of-content.result) (parts_view xs) c.as_slice-7.result.now c.in_err-text.field-0.0) c.as_slice-6.ensures.value
     c.in_err-text.ensures.error))))
 
 pub returns-in_err-starts-clause-across : goal.returns-in_err-starts-clause-across
@@ -130,8 +130,42 @@ returns-in_err-text-clause-across c =
     let sorted : AreSorted (runs (pieces page)) patch (numbers_of starts) (content_of patch) asks =
     subst (λ (ss : List Start). AreSorted (runs (pieces page)) patch (numbers_of ss) (content_of patch) asks) c.as_slice-4.ensures.value c.in_ok-asks.ensures.sorted in
     let is : c.from_residual-in_err-text.result ≡ Err c.in_err-text.field-0.0 = search rules in
-    err_is _ _ _ is (splice_across page c.args.places.now patch tokens starts (content_of patch) (parts_view parts) asks c.in_err-text.field-0.0 c.in_ok-found.ensures.tokens at c.in_ok-parts.ensures planned sorted
-    (subst (λ (k : Content). IsSpliceError k (parts_view parts) asks c.in_err-text.field-0.0) c.content_of-content.ensures
-    (subst (λ (bs : List PlacedAsk). IsSpliceError (content_view c.content_of-content.result) (parts_view parts) bs c.in_err-text.field-0.0) c.as_slice-7.ensures.value
-    (subst (λ (xs : List Part). IsSpliceError (content_view c.content_of-content.result) (parts_view xs) c.as_slice-7.result.now c.in_err-text.field-0.0) c.as_slice-6.ensures.value
+    err_is _ _ _ is (splice_across page c.first_of-place.result c.args.places.now patch tokens starts (content_of patch) (parts_view parts) asks c.in_err-text.field-0.0 c.in_ok-found.ensures.tokens at c.in_ok-parts.ensures planned sorted
+    (subst (λ (k : Content). IsPageError page c.first_of-place.result k (parts_view parts) asks c.in_err-text.field-0.0) c.content_of-content.ensures
+    (subst (λ (bs : List PlacedAsk). IsPageError page c.first_of-place.result (content_view c.content_of-content.result) (parts_view parts) bs c.in_err-text.field-0.0) c.as_slice-7.ensures.value
+    (subst (λ (xs : List Part). IsPageError page c.first_of-place.result (content_view c.content_of-content.result) (parts_view xs) c.as_slice-7.result.now c.in_err-text.field-0.0) c.as_slice-6.ensures.value
+    c.in_err-text.ensures.error))))
+
+pub returns-in_err-starts-clause-reading : goal.returns-in_err-starts-clause-reading
+returns-in_err-starts-clause-reading c =
+    let is : c.from_residual-in_err-starts.result ≡ Err c.in_err-starts.field-0.0 = search rules in
+    err_is _ _ _ is (starts_reading c.args.page.now c.args.places.now (patch_view c.args.patch) c.as_slice-2.result.now c.in_err-starts.field-0.0 c.in_err-starts.ensures.error)
+
+pub returns-in_err-asks-clause-reading : goal.returns-in_err-asks-clause-reading
+returns-in_err-asks-clause-reading c =
+    let is : c.from_residual-in_err-asks.result ≡ Err c.in_err-asks.field-0.0 = search rules in
+    err_is _ _ _ is (asks_reading c.args.page.now c.args.places.now (patch_view c.args.patch) c.as_slice-4.result.now c.in_err-asks.field-0.0 c.in_err-asks.ensures.error)
+
+pub returns-in_err-text-clause-reading : goal.returns-in_err-text-clause-reading
+returns-in_err-text-clause-reading c =
+    let page : List ℕ = c.args.page.now in
+    let patch : Patch = patch_view c.args.patch in
+    let tokens : List Token = c.in_ok-found.found.tokens.items in
+    let starts : List Start = c.in_ok-starts.starts.items in
+    let parts : List Part = c.in_ok-parts.parts.items in
+    let asks : List PlacedAsk = c.in_ok-asks.asks.items in
+    let at : AreStartsAt 0 tokens c.args.places.now starts =
+    subst (λ (ts : List Token). AreStartsAt 0 ts c.args.places.now starts) c.as_slice-2.ensures.value c.in_ok-starts.ensures.starts in
+    let planned : All (IsPlanned page patch starts) asks =
+    subst (λ (ss : List Start). All (IsPlanned page patch ss) asks) c.as_slice-4.ensures.value c.in_ok-asks.ensures.planned in
+    let sorted : AreSorted (runs (pieces page)) patch (numbers_of starts) (content_of patch) asks =
+    subst (λ (ss : List Start). AreSorted (runs (pieces page)) patch (numbers_of ss) (content_of patch) asks) c.as_slice-4.ensures.value c.in_ok-asks.ensures.sorted in
+    let is : c.from_residual-in_err-text.result ≡ Err c.in_err-text.field-0.0 = search rules in
+    err_is _ _ _ is (splice_reading page c.first_of-place.result c.args.places.now (drop 1 c.args.places.now) patch tokens starts (parts_view parts) asks c.in_err-text.field-0.0 c.first_of-place.ensures
+    c.in_ok-found.ensures.tokens at c.in_ok-parts.ensures
+    (asks_at page patch c.args.places.now starts asks (starts_are page tokens c.args.places.now 0 starts c.in_ok-found.ensures.tokens at) (places_are tokens c.args.places.now 0 starts at) planned)
+    sorted
+    (subst (λ (k : Content). IsPageError page c.first_of-place.result k (parts_view parts) asks c.in_err-text.field-0.0) c.content_of-content.ensures
+    (subst (λ (bs : List PlacedAsk). IsPageError page c.first_of-place.result (content_view c.content_of-content.result) (parts_view parts) bs c.in_err-text.field-0.0) c.as_slice-7.ensures.value
+    (subst (λ (xs : List Part). IsPageError page c.first_of-place.result (content_view c.content_of-content.result) (parts_view xs) c.as_slice-7.result.now c.in_err-text.field-0.0) c.as_slice-6.ensures.value
     c.in_err-text.ensures.error))))
