@@ -2,7 +2,7 @@
 use Rattle.std.proofs.Common.{◌≡◌, ℕ, List, refl, subst, sym}
 use Rattle.std.specs.Prelude.{Err, Result}
 use Rattle.tl_css.specs.Selector.{Css}
-use Rattle.tl_patch_edit.specs.Errors.{CannotBeMeant, CannotBeWritten, IsAcrossError, IsRefused, LacksStartTag, StandAcross, StandsPastEnd, patch_each}
+use Rattle.tl_patch_edit.specs.Errors.{CannotBeMeant, CannotBeRead, CannotBeWritten, IsAcrossError, IsReadingError, IsRefused, LacksStartTag, StandAcross, StandsPastEnd, patch_each}
 use Rattle.tl_patch_edit.specs.declared.error.EditError.{EditError}
 use Rattle.tl_patch_edit.specs.declared.error.EditError.TheVariants as edit
 use Rattle.tl_patch_spec.specs.Patches.{Patch}
@@ -21,6 +21,7 @@ pub record Says {T : Type 0} (page places : List ℕ) (patch : Patch) (r : Resul
   pub past_end : (p : ℕ) → r ≡ Err (edit.EndOfPage p) → StandsPastEnd page (patch_each patch places) p
   pub not_written : (p : ℕ) → r ≡ Err (edit.NotWritten p) → CannotBeWritten page (patch_each patch places) p
   pub across : (p : ℕ) → r ≡ Err (edit.Across p) → StandAcross page places patch p
+  pub read_otherwise : (p : ℕ) → r ≡ Err (edit.ReadOtherwise p) → CannotBeRead page places patch p
 
 why : {T : Type 0} (page places : List ℕ) (patch : Patch) (r : Result T EditError) (e : EditError) → r ≡ Err e → Says page places patch r → IsRefused page places (patch_each patch places) e
 why page places patch r (edit.NoStartTag p) q s = s.no_start p q
@@ -39,6 +40,15 @@ why_across page places patch r (edit.EndOfPage p) q s = tt
 why_across page places patch r (edit.NotWritten p) q s = tt
 why_across page places patch r (edit.ReadOtherwise p) q s = tt
 why_across page places patch r edit.OutOfMemory q s = tt
+
+why_reading : {T : Type 0} (page places : List ℕ) (patch : Patch) (r : Result T EditError) (e : EditError) → r ≡ Err e → Says page places patch r → IsReadingError page places patch e
+why_reading page places patch r (edit.ReadOtherwise p) q s = s.read_otherwise p q
+why_reading page places patch r (edit.NoStartTag p) q s = tt
+why_reading page places patch r (edit.NotMeant p) q s = tt
+why_reading page places patch r (edit.EndOfPage p) q s = tt
+why_reading page places patch r (edit.NotWritten p) q s = tt
+why_reading page places patch r (edit.Across p) q s = tt
+why_reading page places patch r edit.OutOfMemory q s = tt
 
 inside : {U : Type 0} (u : Result U SelectionEditError) (a b : SelectionEditError) → u ≡ Err a → u ≡ Err b → a ≡ b
 inside u a b h k = cc
@@ -61,6 +71,7 @@ refused_where sel page places patch r e u error a q s h k =
       selected = a;
       refused = subst (IsRefused page places (patch_each patch places)) is (why page places patch r e q s);
       across = subst (IsAcrossError page places patch) is (why_across page places patch r e q s);
+      reading = subst (IsReadingError page places patch) is (why_reading page places patch r e q s);
     }
 
 not_refused : (e : NormalizeError) (error : EditError) → edit_error_of_normalize e ≡ selection.Refused error → ⊥

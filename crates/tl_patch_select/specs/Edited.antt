@@ -6,7 +6,7 @@ use Rattle.tl_css.specs.Selector.{Css}
 use Rattle.tl_css_select.specs.Spelling.{decoded_nodes}
 use Rattle.tl_html_spec.specs.HtmlForm.{html_form}
 use Rattle.tl_html_spec.specs.Nodes.{sources}
-use Rattle.tl_patch_edit.specs.Errors.{IsAcrossError, IsRefused, patch_each}
+use Rattle.tl_patch_edit.specs.Errors.{IsAcrossError, IsReadingError, IsRefused, patch_each}
 use Rattle.tl_patch_edit.specs.Several.{AreEdited}
 use Rattle.tl_patch_edit.specs.declared.error.EditError.{EditError}
 use Rattle.tl_patch_spec.specs.Patches.{Patch}
@@ -27,3 +27,4 @@ pub record IsRefusedWhere (e : Css) (patch : Patch) (page : List ℕ) (error : E
   pub selected : AreSelected e page places
   pub refused : IsRefused page places (patch_each patch places) error
   pub across : IsAcrossError page places patch error
+  pub reading : IsReadingError page places patch error

@@ -1,5 +1,6 @@
 //! A page with the elements changed where a selector holds.
-ghost use Rattle.std.specs.Prelude.{◌≡◌, ◌<◌, Err, IfOk, length};
+ghost use Rattle.std.specs.Prelude.{◌≡◌, ◌<◌, ◌⊎◌, Err, IfOk, length};
+ghost use Rattle.tl_html_spec.specs.HtmlForm.{html_form};
 ghost use Rattle.tl_patch_edit.specs.View.{patch_view};
 ghost use Rattle.tl_patch_edit.specs.declared.error.EditError.{EditError};
 ghost use Rattle.tl_patch_select.specs.Edited.{IsEditedWhere, IsRefusedWhere};
@@ -27,6 +28,8 @@ pub fn edit_selected(
     ensures refused { (error : EditError) → result ≡ Err (Refused error) →
         IsRefusedWhere selector.now (patch_view patch.entry) page.now error }
     ensures long { u32.MAX < length page.now → result ≡ Err TooLong }
+    ensures failure { result ≡ Err TooLong
+        → (u32.MAX < length page.now) ⊎ (u32.MAX < length (html_form page.now)) }
 {
     let places = selected(alloc, page, selector)?;
     let bytes = patch_elements(alloc, page.as_bytes(), places.as_slice(), patch)?;

@@ -1,5 +1,6 @@
 //! A page with the tags changed where a selector holds.
-ghost use Rattle.std.specs.Prelude.{◌≡◌, ◌<◌, ℕ, Err, IfOk, length, map};
+ghost use Rattle.std.specs.Prelude.{◌≡◌, ◌<◌, ◌⊎◌, ℕ, Err, IfOk, length, map};
+ghost use Rattle.tl_html_spec.specs.HtmlForm.{html_form};
 ghost use Rattle.tl_patch_page.specs.View.{change_view, patch_view};
 ghost use Rattle.tl_patch_select.specs.Patched.{IsChangeRefusedWhere, IsPatchedWhere, changes_at};
 ghost use Rattle.tl_patch_select.specs.declared.error.SelectionPatchError.TheVariants.{NoStartTag, NotWritten, TooLong};
@@ -57,6 +58,8 @@ pub fn patch_selected(
         IsChangeRefusedWhere selector.now (change_view change.entry) page.now
         (page_error.NotWritten place) }
     ensures long { u32.MAX < length page.now → result ≡ Err TooLong }
+    ensures failure { result ≡ Err TooLong
+        → (u32.MAX < length page.now) ⊎ (u32.MAX < length (html_form page.now)) }
 {
     let places = selected(alloc, page, selector)?;
     let patches = patches_at(alloc, change, places.as_slice())?;

@@ -1,8 +1,9 @@
 //! Where the elements of a page begin at which a selector holds.
-ghost use Rattle.std.specs.Prelude.{◌≡◌, ◌≤◌, ◌<◌, Err, IfErr, IfOk, IsUtf8, length};
+ghost use Rattle.std.specs.Prelude.{◌≡◌, ◌≤◌, ◌<◌, ◌⊎◌, Err, IfErr, IfOk, IsUtf8, length};
 ghost use Rattle.tl_spec.specs.Tree.Document.{document};
 ghost use Rattle.tl_css.specs.Meaning.{AreFound};
 ghost use Rattle.tl_css_select.specs.Spelling.{decoded_nodes};
+ghost use Rattle.tl_html_spec.specs.HtmlForm.{html_form};
 ghost use Rattle.tl_html.specs.Noted.{spans_of};
 ghost use Rattle.tl_html.specs.declared.error.NormalizeError.TheVariants.{OutOfMemory, TooLong};
 ghost use Rattle.tl_patch_select.specs.Selected.{AreSelected, place_of, places_of};
@@ -62,6 +63,8 @@ pub(crate) fn selected(
     ensures selected { IfOk result (λ places.
         AreSelected selector.now page.now places.items) }
     ensures long { u32.MAX < length page.now → result ≡ Err TooLong }
+    ensures failure { result ≡ Err TooLong
+        → (u32.MAX < length page.now) ⊎ (u32.MAX < length (html_form page.now)) }
 {
     let form = normalize_with_sources(alloc, page.as_bytes())?;
     let text = unsafe { std::str::from_utf8_unchecked(form.bytes.as_slice()) };

@@ -33,6 +33,7 @@ returns-in_err-bytes-clause-refused c = λ error h.
       past_end = λ p q. search (rules, q);
       not_written = λ p q. search (rules, q);
       across = λ p q. search (rules, q);
+      read_otherwise = λ p q. search (rules, q);
     } in
     refused_where c.args.selector.now page c.as_slice.result.now patch c.patch_elements.result e c.from_residual-in_err-bytes.result error
     (subst (λ (places : List ℕ). AreSelected c.args.selector.now page places) (sym c.as_slice.ensures.value) c.in_ok-places.ensures.selected) was says is h
