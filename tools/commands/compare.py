@@ -7,6 +7,7 @@
                                 the forms of pages with a model, and with the trees of the standard's own tests
     ./x compare pages ..        what `tl` says of pages in a folder with what html5lib and lxml say
     ./x compare selectors ..    what `tl select` finds with a plain reader of selectors of CSS, Chromium and soupsieve
+    ./x compare shared ..       which selector texts are read alike as those of the Rust crate and of CSS, by plain readers of both
     ./x compare tools ..        the time that `tl` takes with that of pup, xmllint and hxselect
 
 ./x compare NAME --help says more of each. The Rust crate is compared by ./x bench --against (compare/src).
@@ -15,7 +16,7 @@ import importlib
 
 from ..main import parser_of
 
-NAMES = ("check", "edits", "browser", "html", "pages", "selectors", "tools")
+NAMES = ("check", "edits", "browser", "html", "pages", "selectors", "shared", "tools")
 
 
 def main(parser, words):

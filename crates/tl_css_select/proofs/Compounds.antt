@@ -221,3 +221,13 @@ no_child zero (Shift way link reach) t h e = λ _. false≢true h
 no_child (suc place) (Shift way link reach) t h e = λ _. false≢true h
 no_child zero (Count way link formula) t h e = λ _. false≢true h
 no_child (suc place) (Count way link formula) t h e = λ _. false≢true h
+
+-- a compound holds where no test is left out
+pub compound_holds : (nodes : List Node) (steps : List Step) (n : ℕ) → IsCompound steps → OthersHold nodes steps (length steps) n ↔ Holds nodes (selector_of steps) n
+compound_holds nodes steps n c = (
+  λ h. (all_hold nodes n steps c).1 (λ place. elim (eqb_tells place (length steps)) [
+    | inl same ↦ past nodes steps place n (omega (arith, same.1))
+    | inr other ↦ h place other.1
+  ]),
+  λ h. λ place other. (all_hold nodes n steps c).0 h place,
+)

@@ -5,7 +5,7 @@ use Rattle.tl_spec.specs.Tree.Document.{Node}
 use Rattle.tl_css.specs.Meaning.{AreFound}
 use Rattle.tl_css.specs.Selector.{Css}
 
-abbrev Rises : List ℕ → Type 0
+abbrev pub Rises : List ℕ → Type 0
 Rises ns = AllPairs (λ m n. m < n) ns
 
 pub at_front : (n : ℕ) (ns : List ℕ) → Contains (n ∷ ns) n
@@ -27,7 +27,7 @@ rises_later n ns h i j d l m = h (suc i) (suc j) d (omega (arith, l)) (omega (ar
 above : (n : ℕ) (ns : List ℕ) → Rises (n ∷ ns) → (m : ℕ) → Contains ns m → n < m
 above n ns h m c = subst (λ y. n < y) c.2 (h 0 (suc c.0) m (omega arith) (omega (arith, c.1)))
 
-same : (ms ns : List ℕ) → Rises ms → Rises ns → ((x : ℕ) → Contains ms x → Contains ns x) → ((x : ℕ) → Contains ns x → Contains ms x) → ms ≡ ns
+pub same : (ms ns : List ℕ) → Rises ms → Rises ns → ((x : ℕ) → Contains ms x → Contains ns x) → ((x : ℕ) → Contains ns x → Contains ms x) → ms ≡ ns
 same [] [] h g f b = refl
 same [] (n ∷ ns) h g f b = absurd (in_nothing n (b n (at_front n ns)))
 same (m ∷ ms) [] h g f b = absurd (in_nothing m (f m (at_front m ms)))

@@ -23,6 +23,11 @@ pub mod Turned
 pub mod Spellings
 pub mod PlainWords
 pub mod Plain
+pub mod FlatSelectors
+pub mod SharedRuns
+pub mod SharedTexts
+pub mod SharedFound
 pub mod Compounds
 pub mod Narrowed
 pub mod Seen
+pub mod Descendants

@@ -139,10 +139,20 @@ listed : (o : Option Node) (n : ℕ) → IsSomeAnd (option_map decoded_node o) (
 listed None n h = h
 listed (Some node) n h = subst (λ (children : List ℕ). Contains children n) (decoded_children node) h
 
-child_of : (nodes : List Node) (m n : ℕ) → IsChild (decoded_nodes nodes) m n → IsChild nodes m n
+pub child_of : (nodes : List Node) (m n : ℕ) → IsChild (decoded_nodes nodes) m n → IsChild nodes m n
 child_of nodes m n h = record {
   within = subst (λ (len : ℕ). n < len) (length-map nodes decoded_node) h.within;
   listed = listed (slice_get nodes m) n (subst (λ (o : Option Node). IsSomeAnd o (λ node. Contains (children_of node) n)) (slice_get-map decoded_node nodes m) h.listed);
+}
+
+seen_listed : (o : Option Node) (n : ℕ) → IsSomeAnd o (λ node. Contains (children_of node) n) → IsSomeAnd (option_map decoded_node o) (λ node. Contains (children_of node) n)
+seen_listed None n h = h
+seen_listed (Some node) n h = subst (λ (children : List ℕ). Contains children n) (sym (decoded_children node)) h
+
+pub child_seen : (nodes : List Node) (m n : ℕ) → IsChild nodes m n → IsChild (decoded_nodes nodes) m n
+child_seen nodes m n h = record {
+  within = subst (λ (len : ℕ). n < len) (sym (length-map nodes decoded_node)) h.within;
+  listed = subst (λ (o : Option Node). IsSomeAnd o (λ node. Contains (children_of node) n)) (sym (slice_get-map decoded_node nodes m)) (seen_listed (slice_get nodes m) n h.listed);
 }
 
 -- a forest is one seen decoded

@@ -8,6 +8,8 @@ pub mod Pair
 pub mod Spelling
 pub mod Decoded
 pub mod Plain
+pub mod Shared
 pub mod Compound
 pub mod Complex
 pub mod Seen
+pub mod Below

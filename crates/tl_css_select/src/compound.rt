@@ -232,6 +232,22 @@ fn others_hold(
     Ok(true)
 }
 
+/// Whether a compound holds at the tag of a number, by what names and values say.
+pub fn compound_holds(
+    alloc: Global,
+    spelling: Spelling,
+    nodes: &[Node<'_>],
+    number: usize,
+    steps: &[Step],
+) -> Result<bool, AllocError>
+    requires { IsCompound steps.now }
+    ensures { IfOk result (λ holds. (holds ≡ true)
+        ↔ Holds (seen_nodes spelling nodes.now) (selector_of steps.now) number) }
+{
+    let holds = others_hold(alloc, spelling, nodes, number, steps, steps.len())?;
+    Ok(holds)
+}
+
 // The numbers where a name and the other steps pass.
 fn named(
     alloc: Global,

@@ -1,12 +1,14 @@
 //! Documents that are forests, and where selectors hold in them.
-ghost use Rattle.std.specs.Prelude.{◌≡◌, ◌↔◌, ◌<◌, [], Err, IfOk, IsErrOf, IsOk, length};
+ghost use Rattle.std.specs.Prelude.{◌≡◌, ◌↔◌, ◌<◌, [], Err, IfOk, IsErrOf, IsOk, length, string_bytes, true};
 ghost use Rattle.tl_spec.specs.Tree.Document.{document};
-ghost use Rattle.tl_css.specs.Meaning.{AreFound, IsForest};
+ghost use Rattle.tl_css.specs.Meaning.{AreFound, Holds, IsForest};
 ghost use Rattle.tl.specs.View.{document_of};
 ghost use Rattle.tl.specs.declared.errors.ParseError.TheVariants.{InvalidLength};
+ghost use Rattle.tl_css_select.specs.Below.{AreFoundBelow};
 ghost use Rattle.tl_css_select.specs.Spelling.{decoded_nodes};
 
-use crate::compound::{compound_matches, is_compound};
+use crate::below::{marks_below, retain_marked};
+use crate::compound::{compound_holds, compound_matches, is_compound};
 use crate::decoded::decoded;
 use crate::forest::SelectError;
 use crate::shape::is_forest;
@@ -14,7 +16,7 @@ use crate::spelling::Spelling;
 use crate::stack::matches;
 use std::alloc::{AllocError, Global};
 use std::marker::Model;
-use tl::{ParseError, ParserOptions, VDom, parse};
+use tl::{ParseError, ParserOptions, VDom, VDomGuard, parse, parse_owned};
 use tl_css::Selector;
 
 /// A document whose table is a forest: the children of a node rise above it, and each node is the
@@ -87,6 +89,44 @@ impl<'d, 'a> Forest<'d, 'a> {
         let numbers = matches(alloc, &nodes, selector)?;
         Ok(numbers)
     }
+
+    /// Those of them that stand below a node. The selector is asked of the whole page, so it may
+    /// name what stands around. Where there is no such node, nothing is below it.
+    pub fn select_decoded_below(
+        &self,
+        alloc: Global,
+        number: u32,
+        selector: &Selector,
+    ) -> Result<Vec<u32>, AllocError>
+        ensures { IfOk result (λ ns. let nodes = decoded_nodes (document_of self.now).nodes in
+            AreFoundBelow nodes number selector.now ns.items) }
+    {
+        let mut numbers = self.select_decoded(alloc, selector)?;
+        let below = marks_below(alloc, self.document.nodes(), number as usize)?;
+        retain_marked(&mut numbers, &below);
+        Ok(numbers)
+    }
+
+    /// Whether a selector holds at the tag of a number, of a page in its form. A compound is asked
+    /// there alone.
+    pub fn holds_decoded(
+        &self,
+        alloc: Global,
+        number: u32,
+        selector: &Selector,
+    ) -> Result<bool, AllocError>
+        ensures { IfOk result (λ holds. (holds ≡ true)
+            ↔ Holds (decoded_nodes (document_of self.now).nodes) selector.now number) }
+    {
+        let steps = selector.steps();
+        if is_compound(steps) {
+            let nodes = self.document.nodes();
+            let holds = compound_holds(alloc, Spelling::Html, nodes, number as usize, steps)?;
+            return Ok(holds);
+        }
+        let numbers = self.select_decoded(alloc, selector)?;
+        Ok(numbers.contains(&number))
+    }
 }
 
 /// A document as it was read, which is a forest without a look. It is seen as the document.
@@ -143,5 +183,54 @@ impl<'a> FreshDocument<'a> {
         ensures { result ≡ self.entry }
     {
         self.document
+    }
+}
+
+/// The same of a document that keeps its text.
+#[derive(Drop)]
+pub struct FreshGuard {
+    document: VDomGuard,
+}
+
+impl Model for FreshGuard {
+    ghost use Rattle.tl.specs.View.{HTMLTable, document_of};
+    ghost use Rattle.tl_css.specs.Meaning.{IsForest};
+
+    ghost Value = { HTMLTable };
+
+    ghost view = { λ f. f.document };
+
+    ghost invariant = { λ f. IsForest (document_of f.document).nodes };
+}
+
+impl FreshGuard {
+    /// Reads a text, as `tl::parse_owned` does.
+    #[tactic(auto, using(crate::proofs::Fresh::document_is_forest))]
+    pub fn parse(
+        alloc: Global,
+        text: String,
+        options: ParserOptions,
+    ) -> Result<FreshGuard, ParseError>
+        ensures length { IsErrOf result InvalidLength ↔ (u32.MAX < length (string_bytes text)) }
+        ensures document { IfOk result (λ d. document_of d ≡ document (string_bytes text)) }
+    {
+        let document = parse_owned(alloc, text, options)?;
+        Ok(FreshGuard { document })
+    }
+
+    /// The document, to be looked at alone.
+    pub fn get_ref(&self) -> &VDom<'static>
+        ensures { result.now ≡ self.now }
+    {
+        self.document.get_ref()
+    }
+
+    /// The same as a forest.
+    pub fn forest(&self) -> Forest<'_, 'static>
+        ensures { result ≡ self.now }
+    {
+        Forest {
+            document: self.document.get_ref(),
+        }
     }
 }

@@ -1,11 +1,13 @@
 //! The tags of a document where a selector of CSS holds.
 #![tactic(auto)]
 
+mod below;
 mod columns;
 mod complex;
 mod compound;
 mod decoded;
 pub mod document;
+mod examples;
 pub mod forest;
 mod group;
 mod kin;

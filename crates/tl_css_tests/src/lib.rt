@@ -2,6 +2,8 @@
 #![tactic(auto)]
 
 #[cfg(test)]
+mod messages;
+#[cfg(test)]
 mod refused;
 #[cfg(test)]
 mod selectors;
