@@ -1,1 +1,3 @@
 pub mod Said
+pub mod Shorter
+pub mod Steps

@@ -1,58 +1,84 @@
--- The encoding that a page says in itself: the label after `charset` and `=` in the first tag
--- `meta` that has one, within its first 1,024 bytes.
-use Rattle.std.specs.Prelude.{ℕ, Bool, not, ◌||◌, ◌==◌, List, [], ◌∷◌, Option, Some, None, codes, drop, length, option_map, take, if◌then◌else◌}
-use Rattle.std.specs.Char.{is_ascii_alphanumeric, is_ascii_whitespace}
-use Rattle.std.specs.List.{list_any, prefix_len, take_while}
-use Rattle.std.specs.Option.{option_or}
+-- The encoding that a page says in itself: the label that the HTML standard's prescan ("prescan a
+-- byte stream to determine its encoding") finds in its first 1,024 bytes.
+use Rattle.std.specs.Prelude.{ℕ, Bool, ◌||◌, ◌&&◌, List, [], ◌∷◌, Option, Some, None, codes, drop, false, length, not, suc, take, true, zero, if◌then◌else◌}
+use Rattle.std.specs.Option.{option_and_then, option_or}
 use Rattle.std.specs.Str.{str_eq_ignore_ascii_case}
-use Rattle.tl_encoding.specs.declared.charset.ByteClass.{ByteClass}
-use Rattle.tl_encoding.specs.declared.charset.ByteClass.TheVariants.{Space, Label, Tag}
+use Rattle.tl_encoding.specs.Attributes.{tag_end, value_at}
+use Rattle.tl_encoding.specs.Content.{content_label}
+use Rattle.tl_encoding.specs.Labels.{is_label, trimmed}
+use Rattle.tl_encoding.specs.Runs.{after, begins_of, begins_with}
+use Rattle.tl_encoding.specs.declared.run.ByteClass.TheVariants.{Bare, Except, Gap, Letter}
 
--- white space; letters, digits and `-_.:+`, which labels are made of; all but the end of a tag
-abbrev pub is_of : ByteClass → ℕ → Bool
-is_of Space b = is_ascii_whitespace b
-is_of Label b = is_ascii_alphanumeric b || list_any (λ c. c == b) (codes "-_.:+")
-is_of Tag b = not (b == 62)
+-- a tag `meta`: white space or a slash stands after its name
+abbrev pub is_meta : List ℕ → Bool
+is_meta bytes = begins_with (codes "<meta") bytes && begins_of Gap (drop 5 bytes)
 
-abbrev pub after_spaces : List ℕ → List ℕ
-after_spaces bytes = drop (prefix_len (is_of Space) bytes) bytes
+-- a start tag or an end tag
+abbrev pub is_tag : List ℕ → Bool
+is_tag bytes =
+    (begins_with (codes "<") bytes && begins_of Letter (drop 1 bytes))
+    || (begins_with (codes "</") bytes && begins_of Letter (drop 2 bytes))
 
--- whether bytes begin with a word, in any case
-abbrev pub begins_with : List ℕ → List ℕ → Bool
-begins_with word bytes = str_eq_ignore_ascii_case (take (length word) bytes) word
+-- what else is passed over up to its `>`
+abbrev pub is_markup : List ℕ → Bool
+is_markup bytes =
+    begins_with (codes "<!") bytes || (begins_with (codes "</") bytes || begins_with (codes "<?") bytes)
 
--- what stands after this byte, if bytes begin with it
-abbrev pub rest_after : ℕ → List ℕ → Option (List ℕ)
-rest_after b [] = None
-rest_after b (c ∷ s) = if c == b then Some s else None
+-- the end of a comment, at the `>` of its first `-->`
+abbrev pub comment_end : List ℕ → List ℕ
+comment_end [] = []
+comment_end (b ∷ s) = if begins_with (codes "-->") (b ∷ s) then drop 2 (b ∷ s) else comment_end s
 
-abbrev pub without_quote : List ℕ → List ℕ
-without_quote [] = []
-without_quote (b ∷ s) = if (b == 34) || (b == 39) then s else b ∷ s
+-- the last byte of what stands here: a comment, whose dashes may be those of its beginning, a tag,
+-- other markup, or one byte
+abbrev pub item_end : List ℕ → List ℕ
+item_end bytes =
+    if begins_with (codes "<!--") bytes then comment_end (drop 2 bytes)
+    else if is_meta bytes then tag_end (drop 5 bytes)
+    else if is_tag bytes then tag_end (after Bare bytes)
+    else if is_markup bytes then after (Except 62) bytes
+    else bytes
 
--- a label, in quotes or bare
-abbrev pub label_of : List ℕ → List ℕ
-label_of bytes = take_while (is_of Label) (without_quote bytes)
+-- `http-equiv` says that `content` is the type of the page
+abbrev pub is_content_type : Option (List ℕ) → Bool
+is_content_type None = false
+is_content_type (Some value) = str_eq_ignore_ascii_case value (codes "content-type")
 
--- the label after `=`, with white space around that
-abbrev pub label_after : List ℕ → Option (List ℕ)
-label_after bytes =
-    option_map (λ rest. label_of (after_spaces rest)) (rest_after 61 (after_spaces bytes))
-
--- the label where `charset` stands
-abbrev pub label_at : List ℕ → Option (List ℕ)
-label_at bytes = if begins_with (codes "charset") bytes then label_after (drop 7 bytes) else None
-
--- what is said at the first place that says something
-abbrev pub first_said : (List ℕ → Option (List ℕ)) → List ℕ → Option (List ℕ)
-first_said at [] = None
-first_said at (b ∷ s) = option_or (at (b ∷ s)) (first_said at s)
-
--- the label of the tag `meta` that stands here
-abbrev pub meta_label_at : List ℕ → Option (List ℕ)
-meta_label_at bytes =
-    if begins_with (codes "<meta") bytes then first_said label_at (take_while (is_of Tag) bytes)
+-- the label in `content` counts where `http-equiv` says so
+abbrev pub label_in_content : List ℕ → Option (List ℕ)
+label_in_content tag =
+    if is_content_type (value_at (codes "http-equiv") tag)
+    then option_and_then content_label (value_at (codes "content") tag)
     else None
 
+-- the label that a tag `meta` says: that of `charset`, else that in `content`
+abbrev pub label_said : List ℕ → Option (List ℕ)
+label_said tag = option_or (value_at (codes "charset") tag) (label_in_content tag)
+
+-- a label of the encoding standard, without white space around it; others are passed over
+abbrev pub label_known : List ℕ → Option (List ℕ)
+label_known label = if is_label (trimmed label) then Some (trimmed label) else None
+
+abbrev pub is_empty : List ℕ → Bool
+is_empty [] = true
+is_empty (b ∷ s) = false
+
+-- the label of the tag `meta` that stands here, if the bytes don't run out before its end
+abbrev pub meta_label : List ℕ → Option (List ℕ)
+meta_label bytes =
+    if is_meta bytes && not (is_empty (tag_end (drop 5 bytes)))
+    then option_and_then label_known (label_said (drop 5 bytes))
+    else None
+
+-- what is said in at most so many steps
+abbrev pub said_within : ℕ → List ℕ → Option (List ℕ)
+said_within zero bytes = None
+said_within (suc n) bytes =
+    option_or (meta_label bytes) (said_within n (drop 1 (item_end bytes)))
+
+-- each step takes a byte at least
+abbrev pub prescanned : List ℕ → Option (List ℕ)
+prescanned bytes = said_within (length bytes) bytes
+
 abbrev pub charset_of : List ℕ → Option (List ℕ)
-charset_of page = first_said meta_label_at (take 1024 page)
+charset_of page = prescanned (take 1024 page)

@@ -1,22 +1,32 @@
 -- Which encoding a page is in, and the text that its bytes stand for.
-use Rattle.std.specs.Prelude.{ℕ, Bool, ◌||◌, List, [], ◌∷◌, Option, Some, None, Result, Ok, Err, encode_utf8, flat_map, map, nat_eq, if◌then◌else◌}
+use Rattle.std.specs.Prelude.{ℕ, Bool, ◌||◌, List, [], ◌∷◌, Option, Some, None, Result, Ok, Err, encode_utf8, flat_map, nat_eq, if◌then◌else◌}
 use Rattle.std.specs.List.{starts_with}
 use Rattle.std.specs.Str.{is_utf8}
-use Rattle.tl_spec.specs.Lex.ByteClass.{is_among_in_any_case}
 use Rattle.tl_html_spec.specs.References.{windows_1252}
 use Rattle.tl_encoding.specs.Charset.{charset_of}
-use Rattle.tl_encoding.specs.declared.labels.TheConstants.{UTF_8, WINDOWS_1252}
+use Rattle.tl_encoding.specs.Labels.{names_user_defined, names_utf_16, names_utf_8, names_windows_1252, trimmed}
 use Rattle.tl_encoding.specs.declared.encoding.Encoding.{Encoding}
 use Rattle.tl_encoding.specs.declared.encoding.Encoding.TheVariants.{Utf8, Windows1252}
 use Rattle.tl_encoding.specs.declared.encoding.EncodingError.{EncodingError}
 use Rattle.tl_encoding.specs.declared.encoding.EncodingError.TheVariants.{Utf16, Unknown}
 
--- the encoding of a label, by the lists of the code
-abbrev pub encoding_labelled : List ℕ → Option Encoding
-encoding_labelled label =
-    if is_among_in_any_case (map (λ own. own.now) UTF_8) label then Some Utf8
-    else if is_among_in_any_case (map (λ own. own.now) WINDOWS_1252) label then Some Windows1252
+-- the encoding of a label that has no white space around it
+abbrev pub encoding_named : List ℕ → Option Encoding
+encoding_named label =
+    if names_utf_8 label then Some Utf8
+    else if names_windows_1252 label then Some Windows1252
     else None
+
+-- the encoding of a label
+abbrev pub encoding_labelled : List ℕ → Option Encoding
+encoding_labelled label = encoding_named (trimmed label)
+
+-- the encoding that a tag `meta` means: a page whose tags can be read so is in no UTF-16
+abbrev pub encoding_meant : List ℕ → Option Encoding
+encoding_meant label =
+    if names_utf_16 label then Some Utf8
+    else if names_user_defined label then Some Windows1252
+    else encoding_named label
 
 -- what there is to say of a page: its encoding, or why it is in none that is read
 pub data Answer : Type 0 where
@@ -36,7 +46,7 @@ known_or (Some encoding) label = known encoding
 
 abbrev pub labelled : Option (List ℕ) → Answer
 labelled None = known Utf8
-labelled (Some label) = known_or (encoding_labelled label) label
+labelled (Some label) = known_or (encoding_meant label) label
 
 -- what a page says in itself, and UTF-8 if it says nothing
 abbrev pub encoding_said : List ℕ → Answer

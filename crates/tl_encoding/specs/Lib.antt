@@ -1,2 +1,7 @@
+pub mod Attributes
 pub mod Charset
+pub mod Content
 pub mod Encodings
+pub mod Examples
+pub mod Labels
+pub mod Runs

@@ -1,126 +1,136 @@
 //! The encoding that a page says in itself.
-ghost use Rattle.std.specs.Prelude.{◌≡◌, ◌≤◌, length, option_map, take};
-ghost use Rattle.std.specs.List.{prefix_len, take_while};
-ghost use Rattle.tl_encoding.specs.Charset.{after_spaces, begins_with, charset_of, first_said, is_of, label_after, label_at, label_of, meta_label_at, rest_after, without_quote};
+ghost use Rattle.std.specs.Prelude.{◌≡◌, codes, option_map, take};
+ghost use Rattle.tl_encoding.specs.Charset.{charset_of, comment_end, is_content_type, is_markup, is_meta, is_tag, item_end, label_in_content, label_known, label_said, meta_label, prescanned};
+ghost use Rattle.tl_encoding.specs.Attributes.{value_at};
+
+use crate::attribute::{tag_end, value_at};
+use crate::content::content_label;
+use crate::labels::{is_label, trimmed};
+use crate::run::{ByteClass, after, begins_of, begins_with, without_first};
 
 // How many bytes of a page, at most, say its encoding.
 const HEAD: usize = 1024;
 
-// White space, what a label is made of, and what a tag is made of.
-#[derive(Clone, Copy)]
-pub(crate) enum ByteClass {
-    Space,
-    Label,
-    Tag,
-}
-
-impl ByteClass {
-    fn has(self, byte: u8) -> bool
-        ensures { result ≡ is_of self byte }
-    {
-        match self {
-            ByteClass::Space => byte.is_ascii_whitespace(),
-            ByteClass::Label => byte.is_ascii_alphanumeric() || b"-_.:+".contains(&byte),
-            ByteClass::Tag => byte != b'>',
-        }
-    }
-}
-
-// How many bytes in front are of the class.
-fn run_len(class: ByteClass, bytes: &[u8]) -> usize
-    ensures run { result ≡ prefix_len (is_of class) bytes.now }
-    ensures within { result ≤ length bytes.now }
+// Whether a tag `meta` stands here: white space or a slash stands after its name.
+fn is_meta(bytes: &[u8]) -> bool
+    ensures { result ≡ is_meta bytes.now }
 {
-    let mut at = 0;
-    while at < bytes.len() && class.has(bytes[at]) {
-        at += 1;
-    }
-    at
+    begins_with(bytes, "<meta") && begins_of(ByteClass::Gap, &bytes[5..])
 }
 
-// The bytes of the class in front.
-fn run(class: ByteClass, bytes: &[u8]) -> &[u8]
-    ensures { result.now ≡ take_while (is_of class) bytes.now }
+// Whether a start tag or an end tag stands here.
+fn is_tag(bytes: &[u8]) -> bool
+    ensures { result ≡ is_tag bytes.now }
 {
-    &bytes[..run_len(class, bytes)]
+    (begins_with(bytes, "<") && begins_of(ByteClass::Letter, &bytes[1..]))
+        || (begins_with(bytes, "</") && begins_of(ByteClass::Letter, &bytes[2..]))
 }
 
-fn after_spaces(bytes: &[u8]) -> &[u8]
-    ensures { result.now ≡ after_spaces bytes.now }
+// Whether other markup stands here, which ends at the next `>`.
+fn is_markup(bytes: &[u8]) -> bool
+    ensures { result ≡ is_markup bytes.now }
 {
-    &bytes[run_len(ByteClass::Space, bytes)..]
+    begins_with(bytes, "<!") || begins_with(bytes, "</") || begins_with(bytes, "<?")
 }
 
-// Whether bytes begin with a word, in any case.
-fn begins_with(bytes: &[u8], word: &str) -> bool
-    ensures { result ≡ begins_with word.now bytes.now }
+// A comment from the `>` of its first `-->` on.
+#[tactic(auto, using(crate::proofs::Said::comment_goes_on))]
+fn comment_end(bytes: &[u8]) -> &[u8]
+    ensures { result.now ≡ comment_end bytes.now }
 {
-    bytes.len() >= word.len() && bytes[..word.len()].eq_ignore_ascii_case(word.as_bytes())
-}
-
-// What stands after an equals sign, if bytes begin with one.
-fn rest_after_equals(bytes: &[u8]) -> Option<&[u8]>
-    ensures { option_map (λ rest. rest.now) result ≡ rest_after 61 bytes.now }
-{
-    match bytes {
-        [b'=', rest @ ..] => Some(rest),
-        _ => None,
-    }
-}
-
-// Past a quote, if bytes begin with one.
-fn without_quote(bytes: &[u8]) -> &[u8]
-    ensures { result.now ≡ without_quote bytes.now }
-{
-    match bytes {
-        [b'"' | b'\'', rest @ ..] => rest,
-        _ => bytes,
-    }
-}
-
-// The label after an equals sign.
-fn label_after(bytes: &[u8]) -> Option<&[u8]>
-    ensures { option_map (λ label. label.now) result ≡ label_after bytes.now }
-{
-    let Some(rest) = rest_after_equals(after_spaces(bytes)) else {
-        return None;
-    };
-    Some(run(ByteClass::Label, without_quote(after_spaces(rest))))
-}
-
-// The label where a text says `charset`.
-fn label_at(bytes: &[u8]) -> Option<&[u8]>
-    ensures { option_map (λ label. label.now) result ≡ label_at bytes.now }
-{
-    if !begins_with(bytes, "charset") {
-        return None;
-    }
-    label_after(&bytes[7..])
-}
-
-// The first label that a tag says.
-#[tactic(auto, using(crate::proofs::Said::one_more))]
-fn label_in(tag: &[u8]) -> Option<&[u8]>
-    ensures { option_map (λ label. label.now) result ≡ first_said label_at tag.now }
-{
-    let mut rest = tag;
+    let mut rest = bytes;
     while !rest.is_empty() {
-        if let Some(label) = label_at(rest) {
-            return Some(label);
+        if begins_with(rest, "-->") {
+            return &rest[2..];
         }
         rest = &rest[1..];
     }
-    None
+    rest
 }
 
-// The label of a tag `meta`.
-fn meta_label_at(bytes: &[u8]) -> Option<&[u8]>
-    ensures { option_map (λ label. label.now) result ≡ meta_label_at bytes.now }
+// The last byte of what stands here, and what stands after it.
+fn item_end(bytes: &[u8]) -> &[u8]
+    ensures { result.now ≡ item_end bytes.now }
 {
-    if !begins_with(bytes, "<meta") {
+    if begins_with(bytes, "<!--") {
+        comment_end(&bytes[2..])
+    } else if is_meta(bytes) {
+        tag_end(&bytes[5..])
+    } else if is_tag(bytes) {
+        tag_end(after(ByteClass::Bare, bytes))
+    } else if is_markup(bytes) {
+        after(ByteClass::Except(b'>'), bytes)
+    } else {
+        bytes
+    }
+}
+
+// Whether `http-equiv` says that `content` is the type of the page.
+fn is_content_type(tag: &[u8]) -> bool
+    ensures { result ≡ is_content_type (value_at (codes "http-equiv") tag.now) }
+{
+    match value_at("http-equiv", tag) {
+        Some(value) => value.eq_ignore_ascii_case(b"content-type"),
+        None => false,
+    }
+}
+
+// The label in `content`, where it counts.
+fn label_in_content(tag: &[u8]) -> Option<&[u8]>
+    ensures { option_map (λ label. label.now) result ≡ label_in_content tag.now }
+{
+    if !is_content_type(tag) {
         return None;
     }
-    label_in(run(ByteClass::Tag, bytes))
+    content_label(value_at("content", tag)?)
+}
+
+// The label that a tag `meta` says.
+fn label_said(tag: &[u8]) -> Option<&[u8]>
+    ensures { option_map (λ label. label.now) result ≡ label_said tag.now }
+{
+    match value_at("charset", tag) {
+        Some(label) => Some(label),
+        None => label_in_content(tag),
+    }
+}
+
+// A label of the encoding standard, without white space around it.
+fn label_known(label: &[u8]) -> Option<&[u8]>
+    ensures { option_map (λ label. label.now) result ≡ label_known label.now }
+{
+    let label = trimmed(label);
+    if is_label(label) { Some(label) } else { None }
+}
+
+// The label of the tag `meta` that stands here, if it has an end.
+fn meta_label(bytes: &[u8]) -> Option<&[u8]>
+    ensures { option_map (λ label. label.now) result ≡ meta_label bytes.now }
+{
+    if !is_meta(bytes) {
+        return None;
+    }
+    let tag = &bytes[5..];
+    if tag_end(tag).is_empty() {
+        return None;
+    }
+    label_known(label_said(tag)?)
+}
+
+// The label that the first bytes of a page say.
+#[tactic(auto, using(crate::proofs::Steps::steps))]
+fn prescanned(head: &[u8]) -> Option<&[u8]>
+    ensures { option_map (λ label. label.now) result ≡ prescanned head.now }
+{
+    let mut rest = head;
+    // each step takes a byte at least
+    for _step in 0..head.len() {
+        if let Some(label) = meta_label(rest) {
+            return Some(label);
+        }
+        rest = without_first(item_end(rest));
+    }
+    None
 }
 
 // The bytes of a page that may say its encoding.
@@ -134,17 +144,9 @@ fn head(page: &[u8]) -> &[u8]
     }
 }
 
-/// The label of the encoding that a page says in a tag `meta` among its first 1,024 bytes.
-#[tactic(auto, using(crate::proofs::Said::one_more))]
+/// The label of an encoding that a page says in a tag `meta` among its first 1,024 bytes.
 pub(crate) fn charset_of(page: &[u8]) -> Option<&[u8]>
     ensures { option_map (λ label. label.now) result ≡ charset_of page.now }
 {
-    let mut rest = head(page);
-    while !rest.is_empty() {
-        if let Some(label) = meta_label_at(rest) {
-            return Some(label);
-        }
-        rest = &rest[1..];
-    }
-    None
+    prescanned(head(page))
 }

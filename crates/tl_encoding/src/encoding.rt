@@ -1,14 +1,13 @@
 //! Encodings, and which one a page is in.
 ghost use Rattle.std.specs.Prelude.{◌≡◌, ◌∷◌, []};
 ghost use Rattle.std.specs.Str.{is_utf8};
-ghost use Rattle.tl_encoding.specs.Encodings.{answer_of, begins, encoding_in, encoding_labelled, encoding_said, has_utf_16_mark};
+ghost use Rattle.tl_encoding.specs.Encodings.{answer_of, begins, encoding_in, encoding_labelled, encoding_meant, encoding_named, encoding_said, has_utf_16_mark};
 
 use crate::charset::charset_of;
-use crate::labels::{UTF_8, WINDOWS_1252};
+use crate::labels::{names_user_defined, names_utf_8, names_utf_16, names_windows_1252, trimmed};
 use bstr::ByteSlice;
 use std::error::Error;
 use std::fmt;
-use tl_bytes::ascii_case::is_among_in_any_case;
 
 /// How bytes stand for characters.
 #[derive(Clone, Copy, PartialEq, Eq, Debug)]
@@ -42,16 +41,36 @@ impl fmt::Display for EncodingError<'_> {
 impl Error for EncodingError<'_> {}
 
 impl Encoding {
+    // The encoding of a label that has no white space around it.
+    fn named(label: &[u8]) -> Option<Encoding>
+        ensures { result ≡ encoding_named label.now }
+    {
+        if names_utf_8(label) {
+            Some(Encoding::Utf8)
+        } else if names_windows_1252(label) {
+            Some(Encoding::Windows1252)
+        } else {
+            None
+        }
+    }
+
     /// The encoding of a label of the encoding standard, in any case.
     pub fn from_label(label: &[u8]) -> Option<Encoding>
         ensures { result ≡ encoding_labelled label.now }
     {
-        if is_among_in_any_case(&UTF_8, label) {
+        Encoding::named(trimmed(label))
+    }
+
+    // The encoding that a tag `meta` means: a page whose tags can be read so is in no UTF-16.
+    fn meant(label: &[u8]) -> Option<Encoding>
+        ensures { result ≡ encoding_meant label.now }
+    {
+        if names_utf_16(label) {
             Some(Encoding::Utf8)
-        } else if is_among_in_any_case(&WINDOWS_1252, label) {
+        } else if names_user_defined(label) {
             Some(Encoding::Windows1252)
         } else {
-            None
+            Encoding::named(label)
         }
     }
 }
@@ -63,7 +82,7 @@ fn encoding_said(page: &[u8]) -> Result<Encoding, EncodingError<'_>>
     let Some(label) = charset_of(page) else {
         return Ok(Encoding::Utf8);
     };
-    match Encoding::from_label(label) {
+    match Encoding::meant(label) {
         Some(encoding) => Ok(encoding),
         None => Err(EncodingError::Unknown(label)),
     }

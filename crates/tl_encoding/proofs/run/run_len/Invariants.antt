@@ -1,6 +1,6 @@
 use Rattle.std.proofs.Common.{◌≡◌, ℕ, ◌-◌, ◌<◌, ◌≤◌, true, get_or, length}
-use Rattle.tl_encoding.specs.Charset.{is_of}
-use Rattle.tl_encoding.proofs.charset.run_len.Given as goal
+use Rattle.tl_encoding.specs.Runs.{is_of}
+use Rattle.tl_encoding.proofs.run.run_len.Given as goal
 
 -- the bytes so far are of the class
 abbrev pub invariant-loop-at : goal.invariant-loop-at

@@ -1,7 +1,7 @@
 use Rattle.std.proofs.Common.{◌∙◌, List, ℕ, sym, arith}
 use Rattle.std.proofs.lemmas.List.Sums.{prefix_len_is}
-use Rattle.tl_encoding.specs.Charset.{is_of}
-use Rattle.tl_encoding.proofs.charset.run_len.Goals as goal
+use Rattle.tl_encoding.specs.Runs.{is_of}
+use Rattle.tl_encoding.proofs.run.run_len.Goals as goal
 
 pub returns-else-has-clause-run : goal.returns-else-has-clause-run
 returns-else-has-clause-run c =

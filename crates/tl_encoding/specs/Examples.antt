@@ -1,0 +1,16 @@
+-- Words for worked rows: a quoted text stands for its bytes. No contract cites them.
+use Prim.Native.String.{String}
+use Rattle.std.specs.Prelude.{◌≡◌, Some, None, codes}
+use Rattle.tl_encoding.specs.Charset.{charset_of}
+use Rattle.tl_encoding.specs.Encodings.{Answer, encoding_said}
+
+-- the label that a page says
+abbrev pub Says : String → String → Type 0
+Says page label = charset_of (codes page) ≡ Some (codes label)
+
+abbrev pub SaysNothing : String → Type 0
+SaysNothing page = charset_of (codes page) ≡ None
+
+-- what there is to say of it
+abbrev pub Means : String → Answer → Type 0
+Means page answer = encoding_said (codes page) ≡ answer
