@@ -9,6 +9,7 @@ pub mod Args
 pub mod Script
 pub mod Status
 pub mod Steps
+pub mod Tracking
 pub mod Streams
 pub mod TableEdit
 pub mod TagLent

@@ -12,6 +12,7 @@ ghost use Rattle.tl_page.specs.Outcome.{Gives};
 ghost use Rattle.tl_program.specs.Action.{action_of, selector_of};
 ghost use Rattle.tl_program.specs.Output.{outcome_of_document, outcome_of_edited, outcome_of_print, texts_of, IsJustRead, document_again, document_edited, command_print, PrintsBack};
 ghost use Rattle.tl_program.specs.Steps.{changes_in};
+ghost use Rattle.tl_program.specs.Tracking.{tracked_of};
 ghost use Rattle.tl_program.specs.TableEdit.{TakeNoMemory};
 
 use super::commands::Command;
@@ -71,7 +72,9 @@ pub fn edit_and_print(
 }
 
 /// What is tracked while the page is read of which a command writes something.
-pub fn options_of(command: &Command<'_>) -> ParserOptions {
+pub fn options_of(command: &Command<'_>) -> ParserOptions
+    ensures { result ≡ tracked_of (action_of command.now) }
+{
     match command {
         Command::Id(_) => ParserOptions::new().track_ids(),
         Command::Class(_) => ParserOptions::new().track_classes(),
