@@ -254,6 +254,9 @@ tl_status tl_parse_html(const uint8_t *page, size_t page_len, tl_document *docum
 /* Gives a document's memory back, and leaves TL_NO_DOCUMENT there. On TL_NO_DOCUMENT, so when called again, it does nothing. */
 void tl_free(tl_document *document);
 
+/* What stands where there is no node. */
+#define TL_NO_NODE UINT32_MAX
+
 /* The numbers of the nodes where the selector holds, in the order of the text. */
 tl_status tl_find(tl_document *document, const uint8_t *selector, size_t selector_len,
                   uint32_t *numbers, size_t room, size_t *needed);
@@ -313,6 +316,23 @@ static inline const char *tl_cause_text(uint8_t cause) {
 tl_status tl_select_css(tl_document *document, const uint8_t *selector, size_t selector_len,
                         uint32_t *numbers, size_t room, size_t *needed, size_t *place, uint8_t *cause);
 
+/* The first of them alone. Where there is none that is refused with no cause, and `*number` is TL_NO_NODE. */
+tl_status tl_first_css(tl_document *document, const uint8_t *selector, size_t selector_len,
+                       uint32_t *number, size_t *place, uint8_t *cause);
+
+/* The same of the tags below a node: the selector is asked of the whole document, so it may name what stands around the node, which is
+ * itself none of them. Where there is no such node that is refused. */
+tl_status tl_node_select_css(tl_document *document, uint32_t node, const uint8_t *selector, size_t selector_len,
+                             uint32_t *numbers, size_t room, size_t *needed, size_t *place, uint8_t *cause);
+tl_status tl_node_first_css(tl_document *document, uint32_t node, const uint8_t *selector, size_t selector_len,
+                            uint32_t *number, size_t *place, uint8_t *cause);
+
+/* Whether a selector of CSS holds at a node: `*matches` is 1 where it does, and else 0, as at each text and comment. Where there is no
+ * such node that is refused. A selector of a name, ids, classes and keys (`li.a[href]`) is asked of the node alone, any other of the
+ * whole document: who asks that of many nodes asks tl_select_css once. */
+tl_status tl_node_matches_css(tl_document *document, uint32_t node, const uint8_t *selector, size_t selector_len,
+                              uint8_t *matches, size_t *place, uint8_t *cause);
+
 /* What is done with the tags where a selector holds. */
 enum {
     TL_SET = 0,  /* the key gets the value */
@@ -371,9 +391,6 @@ tl_status tl_edit_css(uint8_t edit, uint8_t form, const uint8_t *selector, size_
                       const uint8_t *content, size_t content_len,
                       const uint8_t *page, size_t page_len,
                       uint8_t *out, size_t room, size_t *needed, size_t *place, uint8_t *cause);
-
-/* What stands where there is no node. */
-#define TL_NO_NODE UINT32_MAX
 
 /* Where a node stands: its parent, and the sibling behind it; TL_NO_NODE where there is none. */
 typedef struct {

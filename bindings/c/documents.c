@@ -133,6 +133,38 @@ static void asked(tl_document *document) {
         CHECK(place == 0 && cause == TL_NO_CAUSE); \
     } while (0)
 
+/* What a call answers that says one number, and whether place and cause are told. */
+static uint32_t one;
+static uint8_t is_met;
+#define SAYS(call, wanted, said, number, at, why) \
+    do { \
+        size_t place = 99; \
+        uint8_t cause = 99; \
+        said = 99; \
+        CHECK((call) == (wanted)); \
+        CHECK(said == (number) && place == (at) && cause == (why)); \
+    } while (0)
+#define FIRST(document, selector, wanted, number, at, why) \
+    SAYS(tl_first_css((document), BYTES(selector), &one, &place, &cause), wanted, one, number, at, why)
+#define FIRST_BELOW(document, node, selector, wanted, number, at, why) \
+    SAYS(tl_node_first_css((document), (node), BYTES(selector), &one, &place, &cause), wanted, one, number, at, why)
+#define MATCHES(document, node, selector, wanted, number, at, why) \
+    SAYS(tl_node_matches_css((document), (node), BYTES(selector), &is_met, &place, &cause), wanted, is_met, number, at, why)
+#define SELECTS_BELOW(document, node, selector, ...) \
+    do { \
+        size_t place = 99; \
+        uint8_t cause = 99; \
+        FINDS(tl_node_select_css((document), (node), BYTES(selector), NUMBERS, &place, &cause), __VA_ARGS__); \
+        CHECK(place == 0 && cause == TL_NO_CAUSE); \
+    } while (0)
+#define LEAVES_BELOW(document, node, selector, status, at, why) \
+    do { \
+        size_t place = 99; \
+        uint8_t cause = 99; \
+        LEAVES(tl_node_select_css((document), (node), BYTES(selector), NUMBERS, &place, &cause), (status), 0); \
+        CHECK(place == (at) && cause == (why)); \
+    } while (0)
+
 /* The same page as people write it: 0 is the nav, 1 and 3 are links, 2 and 4 their texts, 5 a paragraph with a text (6), a comment (7)
  * and a text in a tag (9 in 8). */
 static const char written[] = "<NAV><a href='?a=1&b=2' hidden @click=f()>y</a><A>z</A></NAV><p>one<!-- no --><b>two";
@@ -179,9 +211,54 @@ static void asked_of_nodes(tl_document *document) {
         CHECK(links[node].parent == wanted[node].parent && links[node].next == wanted[node].next);
 }
 
+/* Of that page: what is found first, below a node, and at one. */
+static void asked_below(tl_document *document) {
+    FIRST(document, "a", TL_DONE, 1, 0, TL_NO_CAUSE);
+    FIRST(document, "A + a, b", TL_DONE, 3, 0, TL_NO_CAUSE);
+    FIRST(document, "i", TL_REFUSED, TL_NO_NODE, 0, TL_NO_CAUSE);
+    FIRST(document, "a[", TL_REFUSED, TL_NO_NODE, 2, TL_NO_NAME);
+    FIRST(document, "\xff", TL_NOT_UNDERSTOOD, TL_NO_NODE, 0, TL_NO_CAUSE);
+
+    SELECTS_BELOW(document, 0, "a", 1, 3);
+    SELECTS_BELOW(document, 0, "nav > a:last-child", 3);
+    SELECTS_BELOW(document, 5, "*", 8);
+    SELECTS_BELOW(document, 5, "nav ~ p b", 8);
+    size_t place = 99;
+    uint8_t cause = 99;
+    CHECK(found(tl_node_select_css(document, 0, BYTES("nav, p, b"), NUMBERS, &place, &cause), NULL, 0));
+    CHECK(found(tl_node_select_css(document, 9, BYTES("*"), NUMBERS, &place, &cause), NULL, 0));
+    LEAVES(tl_node_select_css(document, 0, BYTES("a"), numbers, 1, &needed, &place, &cause), TL_NO_ROOM, 2);
+    LEAVES_BELOW(document, 10, "a", TL_REFUSED, 0, TL_NO_CAUSE);
+    LEAVES_BELOW(document, 0, "p:hover", TL_REFUSED, 2, TL_NO_PSEUDO_CLASS);
+    LEAVES_BELOW(document, 10, "p:hover", TL_REFUSED, 2, TL_NO_PSEUDO_CLASS);
+    LEAVES_BELOW(document, 0, "\xff", TL_NOT_UNDERSTOOD, 0, TL_NO_CAUSE);
+    FIRST_BELOW(document, 0, "a, b", TL_DONE, 1, 0, TL_NO_CAUSE);
+    FIRST_BELOW(document, 5, "a, b", TL_DONE, 8, 0, TL_NO_CAUSE);
+    FIRST_BELOW(document, 8, "a, b", TL_REFUSED, TL_NO_NODE, 0, TL_NO_CAUSE);
+    FIRST_BELOW(document, 10, "a, b", TL_REFUSED, TL_NO_NODE, 0, TL_NO_CAUSE);
+    FIRST_BELOW(document, 0, "a,", TL_REFUSED, TL_NO_NODE, 2, TL_NO_SELECTOR);
+    FIRST_BELOW(document, 0, "\xff", TL_NOT_UNDERSTOOD, TL_NO_NODE, 0, TL_NO_CAUSE);
+
+    MATCHES(document, 0, "nav", TL_DONE, 1, 0, TL_NO_CAUSE);
+    MATCHES(document, 1, "[href='?a=1&b=2']", TL_DONE, 1, 0, TL_NO_CAUSE);
+    MATCHES(document, 3, "nav > a + a", TL_DONE, 1, 0, TL_NO_CAUSE);
+    MATCHES(document, 1, "nav > a + a", TL_DONE, 0, 0, TL_NO_CAUSE);
+    MATCHES(document, 1, "p, b", TL_DONE, 0, 0, TL_NO_CAUSE);
+    MATCHES(document, 8, "p, b", TL_DONE, 1, 0, TL_NO_CAUSE);
+    MATCHES(document, 2, "*", TL_DONE, 0, 0, TL_NO_CAUSE);
+    MATCHES(document, 10, "*", TL_REFUSED, 0, 0, TL_NO_CAUSE);
+    MATCHES(document, 0, "nav[", TL_REFUSED, 0, 4, TL_NO_NAME);
+    MATCHES(document, 0, "\xff", TL_NOT_UNDERSTOOD, 0, 0, TL_NO_CAUSE);
+}
+
 /* The calls with a page that is read as browsers read it. */
 static void of_html(void) {
     tl_document document = TL_NO_DOCUMENT;
+    FIRST(&document, "a", TL_REFUSED, TL_NO_NODE, 0, TL_NO_CAUSE);
+    LEAVES_BELOW(&document, 0, "a", TL_REFUSED, 0, TL_NO_CAUSE);
+    LEAVES_BELOW(&document, 0, "a[", TL_REFUSED, 2, TL_NO_NAME);
+    FIRST_BELOW(&document, 0, "a", TL_REFUSED, TL_NO_NODE, 0, TL_NO_CAUSE);
+    MATCHES(&document, 0, "a", TL_REFUSED, 0, 0, TL_NO_CAUSE);
     WRONG(&document, "a[", 2, TL_NO_NAME);
     WRONG(&document, "a", 0, TL_NO_CAUSE);
     CHECK(tl_node_kind(&document, 0) == TL_NONE && tl_node_child(&document, 0) == TL_NO_NODE);
@@ -200,6 +277,7 @@ static void of_html(void) {
     PUTS(tl_attribute(&document, 1, BYTES("href"), OUT), "?a=1&amp;b=2");
     CHECK(has_attributes(&document, 1, "href=?a=1&amp;b=2 hidden= +40click=f() "));
     LEAVES(tl_node_attributes(&document, 1, OUT), TL_NO_ROOM, 3 * 17 + 4 + 12 + 6 + 8 + 3);
+    asked_below(&document);
     SELECTS(&document, "a", 1, 3);
     SELECTS(&document, "A + a", 3);
     SELECTS(&document, "nav:has(a), b", 0, 8);
@@ -299,6 +377,34 @@ static void refusals(void) {
                 CHECK(place == 0 && cause == TL_NO_CAUSE));
     }
     CHECK(found(TL_DONE, (const uint32_t[]){1, 3}, 2));
+    for (long number = 0;; number++) {
+        size_t place = 99;
+        uint8_t cause = 99;
+        REFUSES(number, tl_node_select_css(&document, 0, BYTES("nav > a"), NUMBERS, &place, &cause),
+                CHECK(left(status, TL_OUT_OF_MEMORY, 0)); CHECK(place == 0 && cause == TL_NO_CAUSE));
+    }
+    CHECK(found(TL_DONE, (const uint32_t[]){1, 3}, 2));
+    for (long number = 0;; number++) {
+        size_t place = 99;
+        uint8_t cause = 99;
+        REFUSES(number, tl_first_css(&document, BYTES("nav > a"), &one, &place, &cause), CHECK(one == TL_NO_NODE);
+                CHECK(place == 0 && cause == TL_NO_CAUSE));
+    }
+    CHECK(one == 1);
+    for (long number = 0;; number++) {
+        size_t place = 99;
+        uint8_t cause = 99;
+        REFUSES(number, tl_node_first_css(&document, 0, BYTES("a"), &one, &place, &cause), CHECK(one == TL_NO_NODE);
+                CHECK(place == 0 && cause == TL_NO_CAUSE));
+    }
+    CHECK(one == 1);
+    for (long number = 0;; number++) {
+        size_t place = 99;
+        uint8_t cause = 99;
+        REFUSES(number, tl_node_matches_css(&document, 3, BYTES("nav > a"), &is_met, &place, &cause), CHECK(is_met == 0);
+                CHECK(place == 0 && cause == TL_NO_CAUSE));
+    }
+    CHECK(is_met == 1);
     for (long number = 0;; number++) {
         REFUSES(number, tl_node_html(&document, 3, OUT), CHECK(left(status, TL_OUT_OF_MEMORY, 0)));
     }

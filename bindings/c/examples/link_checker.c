@@ -6,14 +6,14 @@
 /* Whether a tag of the document is the place that a link `#id` leads to. */
 static int has_place(tl_document *document, const char *id, size_t room) {
     char *quoted = calloc(1, 2 * room), *selector = malloc(6 * room + 64), *end = quoted;
-    uint32_t numbers[1];
-    size_t found = 0, place;
+    uint32_t found = TL_NO_NODE;
+    size_t place;
     uint8_t cause;
     for (; quoted && *id; *end++ = *id++) if (*id == '"' || *id == '\\') *end++ = '\\';
     int len = quoted && selector ? sprintf(selector, "[id=\"%s\"], a[name=\"%s\"]", quoted, quoted) : 0;
-    if (len > 0) tl_select_css(document, (uint8_t *)selector, len, numbers, 0, &found, &place, &cause);
+    if (len > 0) tl_first_css(document, (uint8_t *)selector, len, &found, &place, &cause);
     free(selector), free(quoted);
-    return found > 0;
+    return found != TL_NO_NODE;
 }
 
 /* Whether a link of a page leads somewhere. */

@@ -67,7 +67,7 @@ def texts(document: Document) -> Iterator[str]:
 def asked(page: bytes) -> Row:
     """What is asked of a page."""
     with Document(page) as document:
-        title = document.select_one("title")
+        title = document.first("title")
         links = [it["href"] for it in document.select("a[href]")]
         return {"title": title and title.text.strip(), "links": links, "text": " ".join(" ".join(texts(document)).split())}
 

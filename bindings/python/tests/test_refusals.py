@@ -29,13 +29,15 @@ class Refusals(unittest.TestCase):
 
     def test_each_call(self):
         document = Document(PAGE)
-        item = document.select_one("li")
+        item = document.first("li")
         for call in (
             lambda: sanitize(PAGE),
             lambda: sanitize(PAGE, Policy.BLOG.lists(tags=["p", "li"])),
             lambda: edit(PAGE, "li", "fill", text="<"),
             lambda: Document(PAGE).text,
             lambda: document.select("ul > li"),
+            lambda: (document.first("ul > li"), item.select("ul > li"), item.first("ul > li")),
+            lambda: item.matches("ul > li"),
             lambda: (item.text, item.html, item.inner_html),
             lambda: (item.attributes, item["@click"]),
             lambda: as_is.edit("set 0 a b", "<p>x"),

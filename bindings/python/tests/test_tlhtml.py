@@ -17,8 +17,8 @@ class Selectors(unittest.TestCase):
     def test_tags_in_order(self):
         self.assertEqual([it.name for it in self.document.select("li, p")], ["li", "li", "p"])
         self.assertEqual(self.document.select("i"), [])
-        self.assertIsNone(self.document.select_one("i"))
-        self.assertEqual(self.document.select_one("li + li").text, "3 < 4")
+        self.assertIsNone(self.document.first("i"))
+        self.assertEqual(self.document.first("li + li").text, "3 < 4")
         self.assertEqual(len(self.document.select(r"[\@click]")), 1)
 
     def test_a_wrong_one(self):
@@ -30,8 +30,20 @@ class Selectors(unittest.TestCase):
     def test_below_a_node(self):
         items, _, last = self.document.children
         self.assertEqual(len(items.select("li")), 2)
-        self.assertEqual(items.select_one("li").next.select("*"), [])
-        self.assertIsNone(last.select_one("li"))
+        self.assertEqual(items.first("li").next.select("*"), [])
+        self.assertIsNone(last.first("li"))
+        item = items.first("li")
+        self.assertEqual(items.select("li"), self.document.select("li"))
+        self.assertEqual(items.first("body li + li, ul > li + li"), item.next)
+        self.assertIsNone(items.first("ul"))
+        for selector, wanted in (("li", True), ("LI[href].a", True), ("ul > :first-child", True), ("ul", False), ("p, li + li", False)):
+            self.assertEqual(item.matches(selector), wanted)
+        text = next(item.children)
+        self.assertEqual((text.matches("*"), text.select("*"), text.first("*")), (False, [], None))
+        for ask in (self.document.first, item.select, item.first, item.matches):
+            with self.assertRaises(SelectorError) as it:
+                ask("é li:hover")
+            self.assertEqual((it.exception.place, it.exception.cause), (5, 9))
 
 
 class Nodes(unittest.TestCase):
@@ -46,11 +58,11 @@ class Nodes(unittest.TestCase):
         self.assertEqual((item.text, document.text), ("x & y", "x & y3 < 4z"))
         self.assertEqual([it.number for it in document.nodes], list(range(8)))
         self.assertEqual(list(Document("").children), [])
-        self.assertEqual({item, document.select_one("li")}, {item})
+        self.assertEqual({item, document.first("li")}, {item})
         self.assertEqual(repr(item), "<tlhtml.Node 1: tag li>")
 
     def test_attributes(self):
-        item = Document(PAGE).select_one("li")
+        item = Document(PAGE).first("li")
         self.assertEqual(item["HREF"], "?a=1&b=2<")
         self.assertEqual((item.get("@click"), item.get("hidden"), item.get("id")), ("f()", "", None))
         self.assertEqual(item.get("id", "none"), "none")
@@ -64,15 +76,15 @@ class Nodes(unittest.TestCase):
     def test_bytes_0_and_long_answers(self):
         long = "é" * 100_000
         document = Document(f"<b>{long}</b>" + "<i>&lt;" * 1000)
-        self.assertEqual(document.select_one("b").text, long)
-        self.assertEqual(document.select_one("i").text, "<" * 1000)
+        self.assertEqual(document.first("b").text, long)
+        self.assertEqual(document.first("i").text, "<" * 1000)
         self.assertEqual(len(Document("<b></b>" * 5000).select("b")), 5000)
 
 
 class Closing(unittest.TestCase):
     def test_a_closed_document(self):
         with Document(PAGE) as document:
-            item = document.select_one("li")
+            item = document.first("li")
         document.close()
         for ask in (lambda: document.select("li"), lambda: item.text, lambda: item.attributes, lambda: item.kind):
             with self.assertRaisesRegex(ValueError, "closed"):
@@ -188,7 +200,7 @@ class Elements(unittest.TestCase):
 
     def test_a_tag_of_many_keys(self):
         keys = "".join(f' k{it}="{it}&amp;"' for it in range(2_000))
-        attributes = Document(f"<p{keys} hidden>").select_one("p").attributes
+        attributes = Document(f"<p{keys} hidden>").first("p").attributes
         self.assertEqual((len(attributes), attributes["k1999"], attributes["hidden"]), (2_001, "1999&", ""))
 
 
@@ -227,7 +239,7 @@ class Threads(unittest.TestCase):
 
         def ask(first):
             for number in list(range(first, 200)) * 3:
-                node = document.select_one(f"#user-{number}")
+                node = document.first(f"#user-{number}")
                 if node.text != "x" * number or node["id"] != f"user-{number}":
                     wrong.append(number)
 

@@ -50,6 +50,7 @@ _OUT = [ctypes.c_void_p, ctypes.c_size_t, ctypes.POINTER(ctypes.c_size_t)]
 _OF = ctypes.POINTER(Handle)
 _PLACE = [ctypes.POINTER(ctypes.c_size_t), ctypes.POINTER(ctypes.c_uint8)]
 _NODE = [_OF, ctypes.c_uint32]
+_ONE = [ctypes.POINTER(ctypes.c_uint32)]
 
 lib = ctypes.CDLL(_path())
 for _name, _kind, _words in (
@@ -74,6 +75,10 @@ for _name, _kind, _words in (
     ("tl_free", None, [_OF]),
     ("tl_find", ctypes.c_uint8, [_OF] + _LENT + _OUT),
     ("tl_select_css", ctypes.c_uint8, [_OF] + _LENT + _OUT + _PLACE),
+    ("tl_first_css", ctypes.c_uint8, [_OF] + _LENT + _ONE + _PLACE),
+    ("tl_node_select_css", ctypes.c_uint8, _NODE + _LENT + _OUT + _PLACE),
+    ("tl_node_first_css", ctypes.c_uint8, _NODE + _LENT + _ONE + _PLACE),
+    ("tl_node_matches_css", ctypes.c_uint8, _NODE + _LENT + [ctypes.POINTER(ctypes.c_uint8)] + _PLACE),
     ("tl_links", ctypes.c_uint8, [_OF] + _OUT),
     ("tl_node_kind", ctypes.c_uint8, _NODE),
     ("tl_node_child", ctypes.c_uint32, _NODE),

@@ -147,6 +147,14 @@ def _changed(call: Callable[..., int], numbers: list[int], html: str, selector: 
     return text_in(room, count)
 
 
+def _look_at(selector: str, status: int, place: int, cause: int) -> None:
+    """Raises what a call says of a selector that is none, or a status that is no answer."""
+    if cause:
+        raise SelectorError(selector, _characters(selector.encode(), place), cause)
+    if status != DONE:
+        raise error_of(status)
+
+
 def _characters(text: bytes, place: int) -> int:
     """How many characters stand before a byte."""
     return len(text[:place].decode(errors="ignore"))
@@ -202,30 +210,42 @@ class Document:
         finally:
             self._bytes.kept = room
 
-    def _found(self, call: Callable[..., int], selector: str, behind: Sequence[Any] = ()) -> tuple[int, list[int]]:
+    def _found(self, call: Callable[..., int], selector: str, front: Sequence[Any] = (), behind: Sequence[Any] = ()) -> tuple[int, list[int]]:
         """The status of a call that takes a selector, and the numbers that it found."""
         lent = selector.encode()
-        status, room, count = self._numbers.fill(lambda *given: self._call(call, *given), (lent, len(lent)), behind)
+        status, room, count = self._numbers.fill(lambda *given: self._call(call, *given), (*front, lent, len(lent)), behind)
         found = room[:count] if status == DONE else []
         self._numbers.kept = room
         return status, found
 
-    def _selected(self, selector: str) -> list[int]:
+    def _selected(self, call: Callable[..., int], selector: str, *front: int) -> list[Node]:
+        """The nodes that a call finds which says where and why a selector is none."""
         place, cause = ctypes.c_size_t(), ctypes.c_uint8()
-        status, found = self._found(lib.tl_select_css, selector, (place, cause))
-        if cause.value:
-            raise SelectorError(selector, _characters(selector.encode(), place.value), cause.value)
-        if status != DONE:
-            raise error_of(status)
-        return found
+        status, found = self._found(call, selector, front, (place, cause))
+        _look_at(selector, status, place.value, cause.value)
+        return [Node(self, number) for number in found]
+
+    def _said(self, call: Callable[..., int], selector: str, said: ctypes.c_uint32 | ctypes.c_uint8, *front: int) -> int | None:
+        """The one number that such a call says; None where it is refused without a cause."""
+        lent, place, cause = selector.encode(), ctypes.c_size_t(), ctypes.c_uint8()
+        status = self._call(call, *front, lent, len(lent), said, place, cause)
+        if status == REFUSED and not cause.value:
+            return None
+        _look_at(selector, status, place.value, cause.value)
+        return said.value
+
+    def _first(self, call: Callable[..., int], selector: str, *front: int) -> Node | None:
+        """The node that such a call says."""
+        number = self._said(call, selector, ctypes.c_uint32(), *front)
+        return None if number is None else Node(self, number)
 
     def select(self, selector: str) -> list[Node]:
         """The tags where a selector of CSS holds, in the order of the page."""
-        return [Node(self, number) for number in self._selected(selector)]
+        return self._selected(lib.tl_select_css, selector)
 
-    def select_one(self, selector: str) -> Node | None:
+    def first(self, selector: str) -> Node | None:
         """The first of them."""
-        return next((Node(self, number) for number in self._selected(selector)), None)
+        return self._first(lib.tl_first_css, selector)
 
     @property
     def _parents_and_nexts(self) -> memoryview:
@@ -359,21 +379,15 @@ class Node:
     def select(self, selector: str) -> list[Node]:
         """The tags below it where a selector of CSS holds, in order. The selector is asked of the whole page, so it may name what
         stands around."""
-        end = self._end()
-        return [Node(self.document, it) for it in self.document._selected(selector) if self.number < it < end]
+        return self.document._selected(lib.tl_node_select_css, selector, self.number)
 
-    def select_one(self, selector: str) -> Node | None:
+    def first(self, selector: str) -> Node | None:
         """The first of them."""
-        return next(iter(self.select(selector)), None)
+        return self.document._first(lib.tl_node_first_css, selector, self.number)
 
-    def _end(self) -> int:
-        """The number behind the last node below it: nodes are counted as they stand, so all between are below."""
-        links, at = self.document._parents_and_nexts, self.number
-        while at != NO_NODE:
-            if links[2 * at + 1] != NO_NODE:
-                return links[2 * at + 1]
-            at = links[2 * at]
-        return len(links) // 2
+    def matches(self, selector: str) -> bool:
+        """Whether a selector of CSS holds at it. All but one of a name, ids, classes and keys (`li.a[href]`) is asked of the whole page."""
+        return self.document._said(lib.tl_node_matches_css, selector, ctypes.c_uint8(), self.number) == 1
 
 
 def _row(document: Document, number: int) -> Iterator[Node]:

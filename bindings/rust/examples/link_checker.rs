@@ -10,7 +10,7 @@ use tlhtml::Document;
 fn has_place(document: &Document, id: &str) -> Result<bool, tlhtml::Error> {
     let quoted = id.replace('\\', "\\\\").replace('"', "\\\"");
     Ok(document
-        .select_first(&format!("[id=\"{quoted}\"], a[name=\"{quoted}\"]"))?
+        .first(&format!("[id=\"{quoted}\"], a[name=\"{quoted}\"]"))?
         .is_some())
 }
 

@@ -214,6 +214,43 @@ unsafe extern "C" {
         place: *mut usize,
         cause: *mut u8,
     ) -> u8;
+    pub fn tl_first_css(
+        document: *mut Handle,
+        selector: *const u8,
+        selector_len: usize,
+        number: *mut u32,
+        place: *mut usize,
+        cause: *mut u8,
+    ) -> u8;
+    pub fn tl_node_select_css(
+        document: *mut Handle,
+        node: u32,
+        selector: *const u8,
+        selector_len: usize,
+        numbers: *mut u32,
+        room: usize,
+        needed: *mut usize,
+        place: *mut usize,
+        cause: *mut u8,
+    ) -> u8;
+    pub fn tl_node_first_css(
+        document: *mut Handle,
+        node: u32,
+        selector: *const u8,
+        selector_len: usize,
+        number: *mut u32,
+        place: *mut usize,
+        cause: *mut u8,
+    ) -> u8;
+    pub fn tl_node_matches_css(
+        document: *mut Handle,
+        node: u32,
+        selector: *const u8,
+        selector_len: usize,
+        matches: *mut u8,
+        place: *mut usize,
+        cause: *mut u8,
+    ) -> u8;
     pub fn tl_links(
         document: *mut Handle,
         links: *mut Links,

@@ -8,7 +8,7 @@ use std::ptr;
 ///
 /// ```
 /// let document = tlhtml::Document::parse("<p>one<p class=b>two")?;
-/// let second = document.select_first("p.b")?.unwrap();
+/// let second = document.first("p.b")?.unwrap();
 /// assert_eq!(second.text()?, "two");
 /// assert_eq!(document.select("p +")
 ///     .unwrap_err().to_string(), "no selector: at byte 3: a selector is missing");
@@ -62,47 +62,61 @@ impl Document {
 
     /// The tags where a selector of CSS holds, in the order of the page.
     pub fn select(&self, selector: &str) -> Result<Vec<Node<'_>>, Error> {
-        self.selected(selector, |numbers| {
-            numbers
-                .iter()
-                .map(|number| Node::new(self, *number))
-                .collect()
+        let (at, len) = (selector.as_ptr(), selector.len());
+        self.selected(|numbers, room, needed, place, cause| unsafe {
+            calls::tl_select_css(self.handle(), at, len, numbers, room, needed, place, cause)
         })
     }
 
     /// The first of them.
-    pub fn select_first(&self, selector: &str) -> Result<Option<Node<'_>>, Error> {
-        self.selected(selector, |numbers| {
-            numbers.first().map(|number| Node::new(self, *number))
+    pub fn first(&self, selector: &str) -> Result<Option<Node<'_>>, Error> {
+        let (at, len) = (selector.as_ptr(), selector.len());
+        self.selected_one(|number, place, cause| unsafe {
+            calls::tl_first_css(self.handle(), at, len, number, place, cause)
         })
     }
 
-    // What is made of the numbers of the tags where a selector holds.
-    pub(crate) fn selected<T>(
+    // What a call with a selector answers, which says also where and why it is none.
+    pub(crate) fn by_selector<T>(
         &self,
-        selector: &str,
-        make: impl FnOnce(&[u32]) -> T,
+        call: impl FnOnce(&mut usize, &mut u8) -> Result<T, u8>,
     ) -> Result<T, Error> {
         let (mut place, mut cause) = (0, 0);
-        self.numbered(make, |numbers, room, needed| unsafe {
-            let (at, len) = (selector.as_ptr(), selector.len());
-            calls::tl_select_css(
-                self.handle(),
-                at,
-                len,
-                numbers,
-                room,
-                needed,
-                &mut place,
-                &mut cause,
-            )
-        })
-        .map_err(|status| match cause {
+        let answer = call(&mut place, &mut cause);
+        answer.map_err(|status| match cause {
             0 => calls::error_of(status),
             cause => Error::NoSelector {
                 place,
                 cause: Cause::of_number(cause),
             },
+        })
+    }
+
+    // The nodes of the numbers that such a call answers.
+    pub(crate) fn selected(
+        &self,
+        call: impl Fn(*mut u32, usize, *mut usize, *mut usize, *mut u8) -> u8,
+    ) -> Result<Vec<Node<'_>>, Error> {
+        let nodes = |numbers: &[u32]| numbers.iter().map(|it| Node::new(self, *it)).collect();
+        self.by_selector(|place, cause| {
+            self.numbered(nodes, |numbers, room, needed| {
+                call(numbers, room, needed, place, cause)
+            })
+        })
+    }
+
+    // The node of the number that such a call answers. Where there is none it is refused without a cause.
+    pub(crate) fn selected_one(
+        &self,
+        call: impl FnOnce(*mut u32, *mut usize, *mut u8) -> u8,
+    ) -> Result<Option<Node<'_>>, Error> {
+        self.by_selector(|place, cause| {
+            let mut number = calls::NO_NODE;
+            match call(&mut number, place, cause) {
+                calls::DONE => Ok(Some(Node::new(self, number))),
+                calls::REFUSED if *cause == 0 => Ok(None),
+                status => Err(status),
+            }
         })
     }
 

@@ -160,29 +160,45 @@ impl<'d> Node<'d> {
     /// The tags below it where a selector of CSS holds, in order. The selector is asked of the whole page, so it may name what stands
     /// around.
     pub fn select(self, selector: &str) -> Result<Vec<Node<'d>>, Error> {
-        let end = self.end()?;
-        let document = self.document;
-        document.selected(selector, |numbers| {
-            let first = numbers.partition_point(|it| *it <= self.number);
-            let last = numbers.partition_point(|it| *it < end);
-            numbers[first..last.max(first)]
-                .iter()
-                .map(|it| Node::new(document, *it))
-                .collect()
+        let (at, len) = (selector.as_ptr(), selector.len());
+        let (document, node) = (self.document, self.number);
+        document.selected(|numbers, room, needed, place, cause| unsafe {
+            calls::tl_node_select_css(
+                document.handle(),
+                node,
+                at,
+                len,
+                numbers,
+                room,
+                needed,
+                place,
+                cause,
+            )
         })
     }
 
-    // The number behind the last node below it: nodes are counted as they stand, so all between are below.
-    fn end(self) -> Result<u32, Error> {
-        let links = self.document.links()?;
-        let mut at = self.number;
-        while at != calls::NO_NODE {
-            match links[at as usize].next {
-                calls::NO_NODE => at = links[at as usize].parent,
-                next => return Ok(next),
+    /// The first of them.
+    pub fn first(self, selector: &str) -> Result<Option<Node<'d>>, Error> {
+        let (at, len) = (selector.as_ptr(), selector.len());
+        let (document, node) = (self.document, self.number);
+        document.selected_one(|number, place, cause| unsafe {
+            calls::tl_node_first_css(document.handle(), node, at, len, number, place, cause)
+        })
+    }
+
+    /// Whether a selector of CSS holds at it. All but one of a name, ids, classes and keys (`li.a[href]`) is asked of the whole page.
+    pub fn matches(self, selector: &str) -> Result<bool, Error> {
+        let (at, len) = (selector.as_ptr(), selector.len());
+        let handle = self.document.handle();
+        self.document.by_selector(|place, cause| {
+            let mut matches = 0;
+            match unsafe {
+                calls::tl_node_matches_css(handle, self.number, at, len, &mut matches, place, cause)
+            } {
+                calls::DONE => Ok(matches == 1),
+                status => Err(status),
             }
-        }
-        Ok(links.len() as u32)
+        })
     }
 
     // What was found, or none where that is refused.

@@ -26,10 +26,10 @@ fn selectors() {
         [Some("li".into()), Some("li".into()), Some("p".into())]
     );
     assert!(document.select("i").unwrap().is_empty());
-    assert_eq!(document.select_first("i"), Ok(None));
+    assert_eq!(document.first("i"), Ok(None));
     assert_eq!(
         document
-            .select_first("li + li")
+            .first("li + li")
             .unwrap()
             .unwrap()
             .text()
@@ -84,9 +84,44 @@ fn nodes() {
 }
 
 #[test]
+fn below_a_node() {
+    let document = Document::parse(PAGE).unwrap();
+    let list = document.first("ul").unwrap().unwrap();
+    let item = list.first("li").unwrap().unwrap();
+    assert_eq!(list.select("li"), document.select("li"));
+    assert_eq!(
+        list.first("body li + li, ul > li + li"),
+        item.next_sibling()
+    );
+    assert_eq!((list.first("ul"), item.first("*")), (Ok(None), Ok(None)));
+    for (selector, wanted) in [
+        ("li", true),
+        ("LI[href].a", true),
+        ("ul > :first-child", true),
+        ("ul", false),
+        ("p, li + li", false),
+    ] {
+        assert_eq!(item.matches(selector), Ok(wanted));
+    }
+    let text = item.children().unwrap().next().unwrap();
+    assert_eq!(
+        (text.matches("*"), text.select("*")),
+        (Ok(false), Ok(vec![]))
+    );
+    let wrong = Error::NoSelector {
+        place: 3,
+        cause: Cause::NoPseudoClass,
+    };
+    assert_eq!(item.select("li:hover"), Err(wrong));
+    assert_eq!(item.first("li:hover"), Err(wrong));
+    assert_eq!(item.matches("li:hover"), Err(wrong));
+    assert_eq!(document.first("li:hover"), Err(wrong));
+}
+
+#[test]
 fn attributes() {
     let document = Document::parse(PAGE).unwrap();
-    let item = document.select_first("li").unwrap().unwrap();
+    let item = document.first("li").unwrap().unwrap();
     assert_eq!(
         item.attribute("HREF").unwrap().as_deref(),
         Some("?a=1&b=2<")

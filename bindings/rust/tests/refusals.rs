@@ -33,13 +33,17 @@ fn check<T: PartialEq + Debug>(call: impl Fn() -> Result<T, Error>) {
 #[test]
 fn each_call() {
     let document = Document::parse(PAGE).unwrap();
-    let item = document.select_first("li").unwrap().unwrap();
+    let item = document.first("li").unwrap().unwrap();
     check(|| sanitize(PAGE));
     check(|| Policy::Blog.lists().tags("p,li").sanitize(PAGE));
     check(|| Policy::Blog.lists().tags("p,script").refused_word());
     check(|| edit(PAGE, "li", Edit::Fill(Content::Text("<"))));
     check(|| Document::parse(PAGE)?.text());
     check(|| document.select("ul > li"));
+    check(|| document.first("ul > li"));
+    check(|| item.select("ul > li"));
+    check(|| item.first("ul > li"));
+    check(|| item.matches("ul > li"));
     check(|| item.text());
     check(|| item.html());
     check(|| item.inner_html());

@@ -10,12 +10,9 @@ use Rattle.tl_spec.specs.Select.Selector.{Selector}
 use Rattle.tl.specs.Query.{matches_in}
 use Rattle.tl_page.specs.Outcome.{Outcome, not_understood, success}
 use Rattle.tl_page.specs.Page.{is_page}
-use Rattle.tl_page.proofs.Outcomes.{fails-outcome}
 use Rattle.tl_extract.specs.Field.{fields, with_field}
 use Rattle.tl_extract.specs.declared.field.Field.TheVariants.{Number, OuterHtml, InnerHtml, InnerText, Attribute}
 use Rattle.tl_c.specs.Pages.{ended_texts, field_of_number, fields_by, fields_in, selection}
-
-pub ruleset texts = (fails-outcome)
 
 module _ (k l : Bor (List ℕ)) (e : k.now ≡ l.now) where
   -- a field is that of the bytes of its key, wherever they stand

@@ -1,6 +1,7 @@
 -- Selectors of CSS, and what they find.
-use Rattle.std.proofs.Common.{◌≡◌, ◌≢◌, ℕ, Bool, true, false, List, Option, None, Some, Result, Ok, Err, refl, ap, subst, if◌then◌else◌}
+use Rattle.std.proofs.Common.{◌≡◌, ◌≢◌, ◌↔◌, ℕ, Bool, true, false, List, Option, None, Some, Result, Ok, Err, refl, ap, subst, sym, if◌then◌else◌}
 use Rattle.std.specs.Prelude.{IsSome}
+use Rattle.std.specs.Option.{is_some, option_map}
 use Rattle.std.specs.Result.{result_err}
 use Rattle.std.specs.Str.{is_utf8}
 use Rattle.tl_css.specs.Reading.{css_at}
@@ -10,8 +11,8 @@ use Rattle.tl_page.specs.Outcome.{Fails, Outcome, not_understood, refused, succe
 use Rattle.tl_page.specs.declared.failure.Failure.{Failure}
 use Rattle.tl_page.specs.declared.failure.Failure.TheVariants.{Refused, NotUnderstood, OutOfMemory, Fault}
 use Rattle.tl_page.proofs.Outcomes.{fails_success}
-use Rattle.tl_c.specs.Css.{css_in, found_by, found_in, outcome_of_css, wrong_in}
-use Rattle.tl_c.specs.declared.parsed_page.ParsedPage.{ParsedPage}
+use Rattle.tl_c.specs.Css.{answer_by, css_in, outcome_of_css, wrong_in}
+use Rattle.tl_c.specs.Queries.{outcome_of_some}
 
 module _ (bytes text : List ℕ) (utf8 : is_utf8 bytes ≡ true) (same : text ≡ bytes) where
   read : (r : Result Css (ℕ × Cause)) → css_at text ≡ r → css_at bytes ≡ r
@@ -31,17 +32,37 @@ module _ (bytes text : List ℕ) (utf8 : is_utf8 bytes ≡ true) (same : text �
   pub wrong_in-wrong : (wrong : ℕ × Cause) → css_at text ≡ Err wrong → wrong_in bytes ≡ Some wrong
   wrong_in-wrong wrong found = rw utf8 (ap result_err (read (Err wrong) found))
 
--- what is no selector finds nothing
-pub found_by-unread : (css : Outcome Css) (held : Option ParsedPage) (ns : List ℕ) (failure : Failure) → Fails css failure → Fails (found_by css held ns) failure
-found_by-unread (success e) held ns failure fails = fails_success e (found_in held ns) failure fails
-found_by-unread refused held ns Refused fails = refl
-found_by-unread refused held ns NotUnderstood fails = absurd (cc)
-found_by-unread refused held ns OutOfMemory fails = tt
-found_by-unread refused held ns Fault fails = absurd fails
-found_by-unread not_understood held ns Refused fails = absurd (cc)
-found_by-unread not_understood held ns NotUnderstood fails = refl
-found_by-unread not_understood held ns OutOfMemory fails = tt
-found_by-unread not_understood held ns Fault fails = absurd fails
+-- what is no selector has no answer
+pub answer_by-unread : {X A : Type 0} (css : Outcome Css) (place : Option X) (answer : A) (failure : Failure) → Fails css failure → Fails (answer_by css place answer) failure
+answer_by-unread (success e) place answer failure fails = fails_success e (outcome_of_some (λ _. success answer) place) failure fails
+answer_by-unread refused place answer Refused fails = refl
+answer_by-unread refused place answer NotUnderstood fails = absurd (cc)
+answer_by-unread refused place answer OutOfMemory fails = tt
+answer_by-unread refused place answer Fault fails = absurd fails
+answer_by-unread not_understood place answer Refused fails = absurd (cc)
+answer_by-unread not_understood place answer NotUnderstood fails = refl
+answer_by-unread not_understood place answer OutOfMemory fails = tt
+answer_by-unread not_understood place answer Fault fails = absurd fails
+
+-- where there is no node that is refused, and else it is an answer
+pub at_none : {X A : Type 0} (place : Option X) (answer : A) → is_some place ≡ false → outcome_of_some (λ _. success answer) place ≡ refused
+at_none None answer e = refl
+at_none (Some x) answer e = absurd (cc)
+
+pub at_some : {X A : Type 0} (place : Option X) (answer : A) → is_some place ≡ true → outcome_of_some (λ _. success answer) place ≡ success answer
+at_some None answer e = absurd (cc)
+at_some (Some x) answer e = refl
+
+pub is_some-map : {X Y : Type 0} (f : X → Y) (place : Option X) → is_some (option_map f place) ≡ is_some place
+is_some-map f None = refl
+is_some-map f (Some x) = refl
+
+-- an answer is one where both say whether the same holds
+pub one_answer : (a b : Bool) (P : Type 0) → (a ≡ true) ↔ P → (b ≡ true) ↔ P → a ≡ b
+one_answer true true P h g = refl
+one_answer true false P h g = sym (g.1 (h.0 refl))
+one_answer false true P h g = h.1 (g.0 refl)
+one_answer false false P h g = refl
 
 right_cases : (b : Bool) (r : Result Css (ℕ × Cause)) (e : Css) → (if b then outcome_of_css r else not_understood) ≡ success e
     → ◌≡◌ {A = Option (ℕ × Cause)} (if b then result_err r else None) None

@@ -1,16 +1,18 @@
--- What is found by a selector of CSS in the document that is held, if one is.
-use Rattle.std.specs.Prelude.{◌≡◌, ℕ, List, Option, None, Some, Result, Ok, Err, ⊤, if◌then◌else◌}
+-- What a selector of CSS says of the document that is held, if one is.
+use Rattle.std.specs.Prelude.{◌≡◌, ◌↔◌, ℕ, Bool, true, List, Option, None, Some, Result, Ok, Err, ⊤, if◌then◌else◌, slice_get}
 use Rattle.std.specs.Result.{result_err}
 use Rattle.std.specs.Str.{is_utf8}
 use Rattle.tl_spec.specs.Tree.Document.{Document}
-use Rattle.tl_css.specs.Meaning.{AreFound, IsForest}
+use Rattle.tl_css.specs.Meaning.{AreFound, Holds}
 use Rattle.tl_css.specs.Reading.{css_at}
 use Rattle.tl_css.specs.Selector.{Css}
 use Rattle.tl_css.specs.declared.error.Cause.{Cause}
 use Rattle.tl_css.specs.declared.error.Cause.TheVariants.{Unclosed, NoSelector, NoName, NoOperator, NoValue, NoFlag, NoFormula, LargeNumber, NoPseudoClass, PseudoElement, Namespace, NeedsArgument, TakesNone, TooDeep, Unexpected}
+use Rattle.tl_css_select.specs.Below.{AreFoundBelow}
 use Rattle.tl_css_select.specs.Spelling.{decoded_nodes}
 use Rattle.tl.specs.View.{document_of}
 use Rattle.tl_page.specs.Outcome.{Outcome, not_understood, refused, success}
+use Rattle.tl_c.specs.Queries.{outcome_of_some}
 use Rattle.tl_c.specs.declared.parsed_page.ParsedPage.{ParsedPage}
 
 -- the number of a cause in the header
@@ -48,30 +50,38 @@ outcome_of_css (Err wrong) = refused
 abbrev pub css_in : List ℕ → Outcome Css
 css_in text = if is_utf8 text then outcome_of_css (css_at text) else not_understood
 
--- these are the numbers of the tags where a selector holds, with names and values seen decoded;
--- what was read is a forest: `documents_are_forests`
-pub record AreFoundOn (d : Document) (e : Css) (ns : List ℕ) : Type 0 where
-  pub forest : IsForest d.nodes
-  pub found : AreFound (decoded_nodes d.nodes) e ns
+-- what is said of a selector and of the document that is held, where both are there
+abbrev pub IfBoth : (Css → Document → Type 0) → Outcome Css → Option ParsedPage → Type 0
+IfBoth P (success e) None = ⊤
+IfBoth P (success e) (Some p) = P e (document_of p.document)
+IfBoth P refused held = ⊤
+IfBoth P not_understood held = ⊤
 
--- the same of the document that is held, if one is
-abbrev pub AreFoundIn : Css → Option ParsedPage → List ℕ → Type 0
-AreFoundIn e None ns = ⊤
-AreFoundIn e (Some p) ns = AreFoundOn (document_of p.document) e ns
+-- names and values are seen decoded
 
--- where none is held that is refused
-abbrev pub found_in : Option ParsedPage → List ℕ → Outcome (List ℕ)
-found_in None ns = refused
-found_in (Some p) ns = success ns
-
--- the same by what comes of the bytes of a selector
-
+-- these are the numbers of the tags where the selector holds
 abbrev pub AreFoundBy : Outcome Css → Option ParsedPage → List ℕ → Type 0
-AreFoundBy (success e) held ns = AreFoundIn e held ns
-AreFoundBy refused held ns = ⊤
-AreFoundBy not_understood held ns = ⊤
+AreFoundBy css held ns = IfBoth (λ e d. AreFound (decoded_nodes d.nodes) e ns) css held
 
-abbrev pub found_by : Outcome Css → Option ParsedPage → List ℕ → Outcome (List ℕ)
-found_by (success e) held ns = found_in held ns
-found_by refused held ns = refused
-found_by not_understood held ns = not_understood
+-- these are those of them below a node
+abbrev pub AreFoundBelowBy : ℕ → Outcome Css → Option ParsedPage → List ℕ → Type 0
+AreFoundBelowBy node css held ns =
+    IfBoth (λ e d. AreFoundBelow (decoded_nodes d.nodes) node e ns) css held
+
+-- this says whether the selector holds at a node
+abbrev pub TellsAt : ℕ → Outcome Css → Option ParsedPage → Bool → Type 0
+TellsAt node css held holds =
+    IfBoth (λ e d. (holds ≡ true) ↔ Holds (decoded_nodes d.nodes) e node) css held
+
+-- what is answered of a document or of a node; where there is none that is refused, and so is what
+-- is no selector
+abbrev pub answer_by : {X A : Type 0} → Outcome Css → Option X → A → Outcome A
+answer_by (success e) place answer = outcome_of_some (λ _. success answer) place
+answer_by refused place answer = refused
+answer_by not_understood place answer = not_understood
+
+-- the first of the numbers; where there is none that is refused
+abbrev pub first_of : Outcome (List ℕ) → Outcome ℕ
+first_of (success ns) = outcome_of_some success (slice_get ns 0)
+first_of refused = refused
+first_of not_understood = not_understood

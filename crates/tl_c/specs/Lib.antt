@@ -6,6 +6,7 @@ pub mod Links
 pub mod Nodes
 pub mod Owned
 pub mod Pages
+pub mod Parts
 pub mod Patches
 pub mod Policies
 pub mod Puts

@@ -1,15 +1,12 @@
 -- What is asked of a node of the document that is held, if one is.
 use Rattle.std.specs.Prelude.{ℕ, List, Option, None, Some, option_and_then, option_map}
 use Rattle.tl_spec.specs.Tree.Element.{attribute_of, name_of}
-use Rattle.tl.specs.View.{document_of}
-use Rattle.tl_page.specs.Outcome.{Outcome}
 use Rattle.tl_node.specs.Node as node
-use Rattle.tl_node.specs.Pairs.{pairs_in}
 use Rattle.tl_node.specs.declared.shape.Kind.{Kind}
 use Rattle.tl_node.specs.declared.shape.Kind.TheVariants.{Tag, Text, Comment}
 use Rattle.tl_node.specs.declared.keys.Standing.{Standing}
 use Rattle.tl_node.specs.declared.keys.Standing.TheVariants.{NoKey, NoValue, Value}
-use Rattle.tl_c.specs.Queries.{node_in, outcome_of_some}
+use Rattle.tl_c.specs.Queries.{node_in}
 use Rattle.tl_c.specs.declared.parsed_page.ParsedPage.{ParsedPage}
 
 -- the number of a kind in the header, 0 where there is no node
@@ -40,20 +37,3 @@ standing_in number key held =
 
 abbrev pub child_in : ℕ → Option ParsedPage → Option ℕ
 child_in number held = option_and_then node.first_child_of (node_in number held)
-
--- its keys in the order of its print, each with a byte 0 after it
-abbrev pub keys_in : ℕ → Option ParsedPage → Outcome (List ℕ)
-keys_in number held = outcome_of_some (λ p. node.keys_in (document_of p.document) number) held
-
--- its keys and values in that order
-abbrev pub attributes_in : ℕ → Option ParsedPage → Outcome (List ℕ)
-attributes_in number held = outcome_of_some (λ p. pairs_in (document_of p.document) number) held
-
--- it as markup, and what is inside
-abbrev pub print_in : ℕ → Option ParsedPage → Outcome (List ℕ)
-print_in number held =
-    outcome_of_some (λ p. node.outer_html_in (document_of p.document) number) held
-
-abbrev pub inside_in : ℕ → Option ParsedPage → Outcome (List ℕ)
-inside_in number held =
-    outcome_of_some (λ p. node.inner_html_in (document_of p.document) number) held

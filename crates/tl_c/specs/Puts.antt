@@ -2,12 +2,18 @@
 use Rattle.std.specs.Prelude.{◌≡◌, ◌≢◌, ◌<◌, ◌⊎◌, ℕ, Bool, List, ◌++◌, Option, IsSomeAnd, length, drop, nat_lt, if◌then◌else◌}
 use Rattle.tl_spec.specs.Tree.Document.{Document}
 use Rattle.tl.specs.View.{document_of}
-use Rattle.tl_page.specs.Outcome.{Outcome, not_understood, status_of, success, written_of}
+use Rattle.tl_page.specs.Outcome.{Outcome, not_understood, refused, status_of, success, written_of}
 use Rattle.tl_c.specs.declared.parsed_page.ParsedPage.{ParsedPage}
 
 -- more items than there is room for
 abbrev pub is_too_long : {X : Type 0} → List X → List X → Bool
 is_too_long items room = nat_lt (length room) (length items)
+
+-- the value of an outcome, or the one that stands for none
+abbrev pub value_or : {X : Type 0} → X → Outcome X → X
+value_or none (success value) = value
+value_or none refused = none
+value_or none not_understood = none
 
 -- the status of an outcome: 4 where its items are more than there is room for, else its own
 abbrev pub status_in : {X : Type 0} → List X → Outcome (List X) → ℕ
@@ -27,6 +33,13 @@ pub record Puts {X : Type 0} (outcome : Outcome (List X)) (old new : List X)
   pub filled : status ≢ 3 → new ≡ room_with (written_of outcome) old
   pub unneeded : status ≡ 3 → needed ≡ 0
   pub untouched : status ≡ 3 → new ≡ old
+
+-- A value is put, or the one that stands for none where there is none, which the status says; or
+-- memory ran out, which is 3.
+pub record PutsOne {X : Type 0} (outcome : Outcome X) (none new : X) (status : ℕ) : Type 0 where
+  pub answered : status ≢ 3 → status ≡ status_of outcome
+  pub filled : status ≢ 3 → new ≡ value_or none outcome
+  pub unfilled : status ≡ 3 → new ≡ none
 
 -- A page is read into a document (what it held, and what it holds after the call): the status, and
 -- the document.

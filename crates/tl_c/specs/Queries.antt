@@ -5,10 +5,9 @@ use Rattle.std.specs.Str.{is_utf8}
 use Rattle.tl_spec.specs.Tree.Document.{Document, Node}
 use Rattle.tl_spec.specs.Tree.Element.{attribute_of}
 use Rattle.tl_spec.specs.Select.Selector.{Selector}
-use Rattle.tl_spec.specs.Print.Text.{inner_text}
 use Rattle.tl.specs.Query.{matches_in}
 use Rattle.tl.specs.View.{document_of}
-use Rattle.tl_page.specs.Outcome.{Outcome, not_understood, outcome_of, refused, success}
+use Rattle.tl_page.specs.Outcome.{Outcome, not_understood, refused, success}
 use Rattle.tl_c.specs.declared.parsed_page.ParsedPage.{ParsedPage}
 
 -- what is made of a value; where there is none, that is refused
@@ -34,11 +33,3 @@ node_in number (Some p) = slice_get (document_of p.document).nodes number
 abbrev pub value_in : ℕ → List ℕ → Option ParsedPage → Option (List ℕ)
 value_in number key held =
     option_flatten (option_map_or (attribute_of key) (node_in number held) None)
-
--- the texts at or below the node of a number
-abbrev pub text_of_node : ℕ → Document → Outcome (List ℕ)
-text_of_node number d =
-    outcome_of_some (λ node. outcome_of (inner_text d.nodes node)) (slice_get d.nodes number)
-
-abbrev pub text_in : ℕ → Option ParsedPage → Outcome (List ℕ)
-text_in number held = outcome_of_some (λ p. text_of_node number (document_of p.document)) held

@@ -2,7 +2,8 @@
 ghost use Rattle.std.specs.Prelude.{◌≡◌, ◌≢◌, ◌↔◌, ℕ, List, Err, IsOkAnd, option_copied, string_bytes, take};
 ghost use Rattle.tl_page.specs.Outcome.{Fails, Gives, Outcome, success};
 ghost use Rattle.tl_page.specs.declared.failure.Failure.TheVariants.{NotUnderstood, OutOfMemory, Refused};
-ghost use Rattle.tl_c.specs.Puts.{Puts};
+ghost use Rattle.tl_c.specs.Css.{first_of};
+ghost use Rattle.tl_c.specs.Puts.{Puts, PutsOne};
 ghost use Rattle.tl_c.specs.Queries.{outcome_of_some};
 
 use tl_page::Failure;
@@ -79,5 +80,35 @@ pub(crate) fn copy_text(given: Result<String, Failure>, out: &mut [u8], needed: 
     match given {
         Ok(text) => copy_items(text.as_bytes(), out, needed),
         Err(failure) => report_failure(failure, out, needed),
+    }
+}
+
+/// The first of the numbers that were given; where there is none that is refused.
+pub(crate) fn first(given: Result<Vec<u32>, Failure>) -> Result<u32, Failure>
+    ensures gives { (outcome : Outcome (List ℕ)) → Gives (λ numbers. numbers.items) outcome given
+        → Gives (λ number. number) (first_of outcome) result }
+    ensures memory { (result ≡ Err OutOfMemory) ↔ (given ≡ Err OutOfMemory) }
+{
+    match given?.first() {
+        Some(number) => Ok(*number),
+        None => Err(Failure::Refused),
+    }
+}
+
+/// Puts a value that was given; where none was, the one that stands for none, and answers why.
+pub(crate) fn put_one<T: Copy>(given: Result<T, Failure>, none: T, out: &mut T) -> u8
+    ensures put { (outcome : Outcome T) → Gives (λ value. value) outcome given
+        → PutsOne outcome none out.new result }
+    ensures memory { (result ≡ 3) ↔ (given ≡ Err OutOfMemory) }
+{
+    match given {
+        Ok(value) => {
+            *out = value;
+            0
+        }
+        Err(failure) => {
+            *out = none;
+            failure as u8
+        }
     }
 }

@@ -1,5 +1,4 @@
 //! What texts, values and names of a form say.
-ghost use Rattle.std.specs.Prelude.{◌≡◌};
 ghost use Rattle.tl_html_spec.specs.Coded.{coded};
 ghost use Rattle.tl_html_spec.specs.Unescaped.{unescaped_text, unescaped_value};
 ghost use Rattle.tl_html_tags.specs.Parts.{name_of};

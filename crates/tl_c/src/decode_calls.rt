@@ -1,5 +1,4 @@
 //! The calls with bytes of a form.
-ghost use Rattle.std.specs.Prelude.{◌≡◌};
 ghost use Rattle.tl_html_spec.specs.Coded.{coded};
 ghost use Rattle.tl_html_spec.specs.Unescaped.{unescaped_text, unescaped_value};
 ghost use Rattle.tl_html_tags.specs.Parts.{name_of};

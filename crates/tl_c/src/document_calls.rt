@@ -1,20 +1,18 @@
 //! The calls with a document.
-ghost use Rattle.std.specs.Prelude.{◌≡◌, ◌≢◌, ◌<◌, ℕ, IsSome, IsUtf8, List, None, Some, length};
+ghost use Rattle.std.specs.Prelude.{◌≡◌, ◌≢◌, ◌<◌, IsSome, IsUtf8, None, Some, length};
 ghost use Rattle.tl_spec.specs.Select.Selector.{Selector};
 ghost use Rattle.tl_spec.specs.Select.Text.{IsSelectorText};
 ghost use Rattle.tl_page.specs.Outcome.{not_understood, success};
 ghost use Rattle.tl_page.specs.Page.{document_in};
 ghost use Rattle.tl_extract.specs.Field.{IsNoSelector};
-ghost use Rattle.tl_c.specs.Css.{AreFoundBy, IsTold, css_in, found_by, wrong_in};
 ghost use Rattle.tl_c.specs.Forms.{of_form};
 ghost use Rattle.tl_c.specs.Puts.{Puts, Reads};
-ghost use Rattle.tl_c.specs.Queries.{node_in, numbers_in, outcome_of_some, text_in, value_in};
+ghost use Rattle.tl_c.specs.Queries.{numbers_in, outcome_of_some, value_in};
 
 use crate::copy_out::{copy_result, copy_value};
-use crate::css::find_css;
 use crate::document::Document;
 use crate::page::{parse, parse_html};
-use crate::query::{find, text, value};
+use crate::query::{find, value};
 use std::alloc::Global;
 
 /// Reads a copy of a page into a document. What it held before is given back.
@@ -90,35 +88,6 @@ pub extern "C" fn tl_find(
     copy_result(found, numbers, needed)
 }
 
-/// Finds the tags of a document where a selector of CSS holds: their numbers, in the order of the
-/// text. Names and values are compared decoded, as those of a page that was read by way of its
-/// form. A text that is no selector is refused: `place` is its first byte that is wrong, and
-/// `cause` the number of the cause in `tl.h`; else both are 0.
-#[unsafe(no_mangle)]
-pub extern "C" fn tl_select_css(
-    alloc: Global,
-    document: &mut Document,
-    selector: &[u8],
-    numbers: &mut [u32],
-    needed: &mut usize,
-    place: &mut usize,
-    cause: &mut u8,
-) -> u8
-    ensures same { document.new.held ≡ document.old.held }
-
-    // By the numbers of the tags where it holds: these are one list.
-    ensures finds { (ns : List ℕ) → let css = css_in selector.now in
-        AreFoundBy css document.old.held ns →
-        Puts (found_by css document.old.held ns) numbers.old numbers.new needed.new result }
-    ensures told { result ≢ 3 → IsTold (wrong_in selector.now) place.new cause.new }
-    ensures lost { result ≡ 3 → IsTold None place.new cause.new }
-{
-    let held = document.replace(alloc, None);
-    let found = find_css(alloc, &held, selector, place, cause);
-    let _nothing = document.replace(alloc, held);
-    copy_result(found, numbers, needed)
-}
-
 /// The value of a node at a key. It is refused where the node has none, and where there is no such
 /// node.
 #[unsafe(no_mangle)]
@@ -141,26 +110,4 @@ pub extern "C" fn tl_attribute(
     let status = copy_value(value(&held, node, key), out, needed);
     let _nothing = document.replace(alloc, held);
     status
-}
-
-/// The texts at or below a node, in order. It is refused where there is no such node.
-#[unsafe(no_mangle)]
-pub extern "C" fn tl_node_text(
-    alloc: Global,
-    document: &mut Document,
-    node: u32,
-    out: &mut [u8],
-    needed: &mut usize,
-) -> u8
-    ensures same { document.new.held ≡ document.old.held }
-    ensures put { let outcome = text_in node document.old.held in
-        Puts outcome out.old out.new needed.new result }
-
-    // Without a document, or such a node, it takes no memory.
-    ensures no_node { node_in node document.old.held ≡ None → result ≡ 1 }
-{
-    let held = document.replace(alloc, None);
-    let text = text(alloc, &held, node);
-    let _nothing = document.replace(alloc, held);
-    copy_result(text, out, needed)
 }

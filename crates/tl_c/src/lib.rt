@@ -4,6 +4,7 @@
 
 mod copy_out;
 mod css;
+mod css_calls;
 mod decode;
 mod decode_calls;
 mod document;
@@ -17,6 +18,7 @@ mod own_policy;
 mod page;
 mod page_calls;
 mod parsed_page;
+mod part;
 mod patch;
 mod policy;
 mod query;

@@ -1,12 +1,11 @@
 //! What is asked of a node of the document that is held, if one is.
-ghost use Rattle.std.specs.Prelude.{◌≡◌, Err, List, None, map, option_copied, option_map, string_bytes};
+ghost use Rattle.std.specs.Prelude.{◌≡◌, Err, List, None, map, option_copied, option_map};
 ghost use Rattle.tl.specs.View.{document_of};
 ghost use Rattle.tl_links.specs.declared.links.Links.{Links};
 ghost use Rattle.tl_page.specs.Outcome.{Gives, success};
 ghost use Rattle.tl_page.specs.declared.failure.Failure.TheVariants.{Refused};
 ghost use Rattle.tl_c.specs.Links.{AreLinksIn, AreLinksOn, links_shown, number_or_none, shown_links};
-ghost use Rattle.tl_c.specs.Nodes.{attributes_in, child_in, inside_in, keys_in, kind_in, name_in, number_of_kind, number_of_standing, print_in, standing_in};
-ghost use Rattle.tl_c.specs.Queries.{node_in};
+ghost use Rattle.tl_c.specs.Nodes.{child_in, kind_in, name_in, number_of_kind, number_of_standing, standing_in};
 
 use crate::node_links::{NO_NODE, NodeLinks, number_or_none, shown_links};
 use crate::parsed_page::ParsedPage;
@@ -82,74 +81,6 @@ pub(crate) fn name<'h>(held: &'h Option<Box<ParsedPage>>, node: u32) -> Option<&
         return None;
     };
     tl_node::name(own.document.get_ref(), node)
-}
-
-/// The keys of a node, each with a byte 0 after it.
-pub(crate) fn keys(
-    alloc: Global,
-    held: &Option<Box<ParsedPage>>,
-    node: u32,
-) -> Result<Vec<u8>, Failure>
-    ensures gives { let parsed = option_map (λ own. own.value) held.now in
-        Gives (λ keys. keys.items) (keys_in node parsed) result }
-    ensures no_node { node_in node (option_map (λ own. own.value) held.now) ≡ None
-        → result ≡ Err Refused }
-{
-    let Some(own) = held else {
-        return Err(Failure::Refused);
-    };
-    tl_node::ended_keys(alloc, own.document.get_ref(), node)
-}
-
-/// The keys and values of a node.
-pub(crate) fn attributes(
-    alloc: Global,
-    held: &Option<Box<ParsedPage>>,
-    node: u32,
-) -> Result<Vec<u8>, Failure>
-    ensures gives { let parsed = option_map (λ own. own.value) held.now in
-        Gives (λ pairs. pairs.items) (attributes_in node parsed) result }
-    ensures no_node { node_in node (option_map (λ own. own.value) held.now) ≡ None
-        → result ≡ Err Refused }
-{
-    let Some(own) = held else {
-        return Err(Failure::Refused);
-    };
-    tl_node::attribute_pairs(alloc, own.document.get_ref(), node)
-}
-
-/// A node as markup.
-pub(crate) fn print(
-    alloc: Global,
-    held: &Option<Box<ParsedPage>>,
-    node: u32,
-) -> Result<String, Failure>
-    ensures gives { let parsed = option_map (λ own. own.value) held.now in
-        Gives string_bytes (print_in node parsed) result }
-    ensures no_node { node_in node (option_map (λ own. own.value) held.now) ≡ None
-        → result ≡ Err Refused }
-{
-    let Some(own) = held else {
-        return Err(Failure::Refused);
-    };
-    tl_node::outer_html(alloc, own.document.get_ref(), node)
-}
-
-/// What is inside of a node as markup.
-pub(crate) fn inside(
-    alloc: Global,
-    held: &Option<Box<ParsedPage>>,
-    node: u32,
-) -> Result<String, Failure>
-    ensures gives { let parsed = option_map (λ own. own.value) held.now in
-        Gives string_bytes (inside_in node parsed) result }
-    ensures no_node { node_in node (option_map (λ own. own.value) held.now) ≡ None
-        → result ≡ Err Refused }
-{
-    let Some(own) = held else {
-        return Err(Failure::Refused);
-    };
-    tl_node::inner_html(alloc, own.document.get_ref(), node)
 }
 
 // The links of each node of a document.

@@ -3,14 +3,17 @@ ghost use Rattle.std.specs.Prelude.{◌≡◌, ◌≢◌, List, None};
 ghost use Rattle.tl_links.specs.declared.links.Links.{Links};
 ghost use Rattle.tl_page.specs.Outcome.{success};
 ghost use Rattle.tl_c.specs.Links.{AreLinksIn, links_shown, number_or_none};
-ghost use Rattle.tl_c.specs.Nodes.{attributes_in, child_in, inside_in, keys_in, kind_in, name_in, number_of_kind, number_of_standing, print_in, standing_in};
+ghost use Rattle.tl_c.specs.Nodes.{child_in, kind_in, name_in, number_of_kind, number_of_standing, standing_in};
+ghost use Rattle.tl_c.specs.Parts.{part_in};
 ghost use Rattle.tl_c.specs.Puts.{Puts};
 ghost use Rattle.tl_c.specs.Queries.{node_in, outcome_of_some};
+ghost use Rattle.tl_c.specs.declared.part.Part.TheVariants.{Attributes, Html, InnerHtml, InnerText, Keys};
 
-use crate::copy_out::{copy_result, copy_text, copy_value};
+use crate::copy_out::{copy_result, copy_value};
 use crate::document::Document;
-use crate::node::{self, attributes, child, inside, keys, kind, name, print, standing};
+use crate::node::{self, child, kind, name, standing};
 use crate::node_links::NodeLinks;
+use crate::part::{Part, write_held};
 use std::alloc::Global;
 
 /// What a node is: a tag (1), a text (2) or a comment (3), or 0 where there is no such node.
@@ -74,8 +77,29 @@ pub extern "C" fn tl_node_name(
     status
 }
 
-/// The keys of a node in the order of its print, each with a byte 0 after it. It is refused where
-/// there is no such node.
+// Puts what is written of a node into room. It is refused where there is no such node.
+fn put_part(
+    alloc: Global,
+    document: &mut Document,
+    node: u32,
+    part: Part,
+    out: &mut [u8],
+    needed: &mut usize,
+) -> u8
+    ensures same { document.new.held ≡ document.old.held }
+    ensures put { let outcome = part_in part node document.old.held in
+        Puts outcome out.old out.new needed.new result }
+
+    // Without a document, or such a node, it takes no memory.
+    ensures no_node { node_in node document.old.held ≡ None → result ≡ 1 }
+{
+    let held = document.replace(alloc, None);
+    let written = write_held(alloc, &held, node, part);
+    let _nothing = document.replace(alloc, held);
+    copy_result(written, out, needed)
+}
+
+/// The keys of a node in the order of its print, each with a byte 0 after it.
 #[unsafe(no_mangle)]
 pub extern "C" fn tl_node_keys(
     alloc: Global,
@@ -85,21 +109,15 @@ pub extern "C" fn tl_node_keys(
     needed: &mut usize,
 ) -> u8
     ensures same { document.new.held ≡ document.old.held }
-    ensures put { let outcome = keys_in node document.old.held in
+    ensures put { let outcome = part_in Keys node document.old.held in
         Puts outcome out.old out.new needed.new result }
-
-    // Without a document, or such a node, it takes no memory.
     ensures no_node { node_in node document.old.held ≡ None → result ≡ 1 }
 {
-    let held = document.replace(alloc, None);
-    let keys = keys(alloc, &held, node);
-    let _nothing = document.replace(alloc, held);
-    copy_result(keys, out, needed)
+    put_part(alloc, document, node, Part::Keys, out, needed)
 }
 
 /// The keys and values of a node in the order of its print: of each how many bytes the key and the
-/// value have, in 8 bytes with the lowest first, what stands at the key (1 or 2), and both. It is
-/// refused where there is no such node.
+/// value have, in 8 bytes with the lowest first, what stands at the key (1 or 2), and both.
 #[unsafe(no_mangle)]
 pub extern "C" fn tl_node_attributes(
     alloc: Global,
@@ -109,19 +127,14 @@ pub extern "C" fn tl_node_attributes(
     needed: &mut usize,
 ) -> u8
     ensures same { document.new.held ≡ document.old.held }
-    ensures put { let outcome = attributes_in node document.old.held in
+    ensures put { let outcome = part_in Attributes node document.old.held in
         Puts outcome out.old out.new needed.new result }
-
-    // Without a document, or such a node, it takes no memory.
     ensures no_node { node_in node document.old.held ≡ None → result ≡ 1 }
 {
-    let held = document.replace(alloc, None);
-    let attributes = attributes(alloc, &held, node);
-    let _nothing = document.replace(alloc, held);
-    copy_result(attributes, out, needed)
+    put_part(alloc, document, node, Part::Attributes, out, needed)
 }
 
-/// A node as markup. It is refused where there is no such node.
+/// A node as markup.
 #[unsafe(no_mangle)]
 pub extern "C" fn tl_node_html(
     alloc: Global,
@@ -131,18 +144,14 @@ pub extern "C" fn tl_node_html(
     needed: &mut usize,
 ) -> u8
     ensures same { document.new.held ≡ document.old.held }
-    ensures put { let outcome = print_in node document.old.held in
+    ensures put { let outcome = part_in Html node document.old.held in
         Puts outcome out.old out.new needed.new result }
     ensures no_node { node_in node document.old.held ≡ None → result ≡ 1 }
 {
-    let held = document.replace(alloc, None);
-    let print = print(alloc, &held, node);
-    let _nothing = document.replace(alloc, held);
-    copy_text(print, out, needed)
+    put_part(alloc, document, node, Part::Html, out, needed)
 }
 
-/// What is inside of a node as markup; of a text or a comment its own. It is refused where there is
-/// no such node.
+/// What is inside of a node as markup; of a text or a comment its own.
 #[unsafe(no_mangle)]
 pub extern "C" fn tl_node_inner_html(
     alloc: Global,
@@ -152,14 +161,28 @@ pub extern "C" fn tl_node_inner_html(
     needed: &mut usize,
 ) -> u8
     ensures same { document.new.held ≡ document.old.held }
-    ensures put { let outcome = inside_in node document.old.held in
+    ensures put { let outcome = part_in InnerHtml node document.old.held in
         Puts outcome out.old out.new needed.new result }
     ensures no_node { node_in node document.old.held ≡ None → result ≡ 1 }
 {
-    let held = document.replace(alloc, None);
-    let inside = inside(alloc, &held, node);
-    let _nothing = document.replace(alloc, held);
-    copy_text(inside, out, needed)
+    put_part(alloc, document, node, Part::InnerHtml, out, needed)
+}
+
+/// The texts at or below a node, in order.
+#[unsafe(no_mangle)]
+pub extern "C" fn tl_node_text(
+    alloc: Global,
+    document: &mut Document,
+    node: u32,
+    out: &mut [u8],
+    needed: &mut usize,
+) -> u8
+    ensures same { document.new.held ≡ document.old.held }
+    ensures put { let outcome = part_in InnerText node document.old.held in
+        Puts outcome out.old out.new needed.new result }
+    ensures no_node { node_in node document.old.held ≡ None → result ≡ 1 }
+{
+    put_part(alloc, document, node, Part::InnerText, out, needed)
 }
 
 /// Of each node, in order, its parent and the sibling behind it, at the top too; 4294967295 where

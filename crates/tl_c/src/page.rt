@@ -17,7 +17,8 @@ ghost use Rattle.tl_c.specs.Pages.{edited_page, kept_page};
 use crate::parsed_page::ParsedPage;
 use crate::text::text_of;
 use std::alloc::{AllocError, Global};
-use tl::{ParserOptions, parse_owned};
+use tl::ParserOptions;
+use tl_css_select::known_forest::FreshGuard;
 use tl_html::{NormalizeError, normalize};
 use tl_page::{Failure, text};
 use tl_program::program::{Command, output};
@@ -57,7 +58,7 @@ pub(crate) fn parse(alloc: Global, page: &[u8]) -> Result<Box<ParsedPage>, Failu
     ensures no_page { document_in page.now ≡ not_understood → result ≡ Err NotUnderstood }
 {
     let copy = String::from_str(alloc, text(page)?)?;
-    let document = parse_owned(alloc, copy, ParserOptions::new())?;
+    let document = FreshGuard::parse(alloc, copy, ParserOptions::new())?;
     Ok(Box::new(alloc, ParsedPage { document }).map_err(AllocError::from)?)
 }
 
@@ -85,7 +86,7 @@ pub(crate) fn parse_html(alloc: Global, page: &[u8]) -> Result<Box<ParsedPage>, 
     ensures long { u32.MAX < length page.now → result ≡ Err NotUnderstood }
 {
     let form = form(alloc, page)?;
-    let document = parse_owned(alloc, form, ParserOptions::new())?;
+    let document = FreshGuard::parse(alloc, form, ParserOptions::new())?;
     Ok(Box::new(alloc, ParsedPage { document }).map_err(AllocError::from)?)
 }
 

@@ -1,9 +1,9 @@
 //! What a document of C holds.
 
-use tl::VDomGuard;
+use tl_css_select::known_forest::FreshGuard;
 
-/// A page that was read.
+/// A page as it was read.
 #[derive(Drop)]
 pub struct ParsedPage {
-    pub(crate) document: VDomGuard,
+    pub(crate) document: FreshGuard,
 }

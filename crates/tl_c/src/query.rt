@@ -1,18 +1,17 @@
 //! What is asked of a document that is held, if one is.
-ghost use Rattle.std.specs.Prelude.{◌≡◌, Err, IfOk, IsSome, IsUtf8, None, Some, option_copied, option_map, slice_get};
+ghost use Rattle.std.specs.Prelude.{◌≡◌, Err, IfOk, IsSome, IsUtf8, None, Some, option_copied, option_map};
 ghost use Rattle.tl_spec.specs.Select.Selector.{Selector};
 ghost use Rattle.tl_spec.specs.Select.Text.{IsSelectorText};
-ghost use Rattle.tl.specs.View.{document_of};
 ghost use Rattle.tl_page.specs.Outcome.{Gives};
 ghost use Rattle.tl_page.specs.declared.failure.Failure.TheVariants.{NotUnderstood, Refused};
 ghost use Rattle.tl_extract.specs.Field.{IsNoSelector};
-ghost use Rattle.tl_c.specs.Queries.{node_in, numbers_in, text_in, text_of_node, value_in};
+ghost use Rattle.tl_c.specs.Queries.{numbers_in, value_in};
 
 use crate::parsed_page::ParsedPage;
 use crate::text::text_of;
 use std::alloc::{AllocError, Global};
 use tl::queryselector::QuerySelectorIterator;
-use tl::{Element, NodeHandle, VDom};
+use tl::{Element, NodeHandle};
 use tl_page::Failure;
 
 // The numbers of the nodes that are left.
@@ -76,35 +75,4 @@ pub(crate) fn value<'h>(
         Some(value) => value,
         None => None,
     }
-}
-
-// The texts at or below a node of a document.
-#[tactic(auto, using(crate::proofs::Queries::texts))]
-fn text_of_node(alloc: Global, document: &VDom<'_>, node: NodeHandle) -> Result<Vec<u8>, Failure>
-    ensures gives { let outcome = text_of_node node (document_of document.now) in
-        Gives (λ text. text.items) outcome result }
-    ensures no_node { slice_get (document_of document.now).nodes node ≡ None
-        → result ≡ Err Refused }
-{
-    let Some(node) = node.get(document.parser()) else {
-        return Err(Failure::Refused);
-    };
-    Ok(node.inner_text(alloc, document.parser())?.into_bytes())
-}
-
-/// The texts at or below a node.
-pub(crate) fn text(
-    alloc: Global,
-    held: &Option<Box<ParsedPage>>,
-    node: u32,
-) -> Result<Vec<u8>, Failure>
-    ensures gives { let parsed = option_map (λ own. own.value) held.now in
-        Gives (λ text. text.items) (text_in node parsed) result }
-    ensures no_node { node_in node (option_map (λ own. own.value) held.now) ≡ None
-        → result ≡ Err Refused }
-{
-    let Some(own) = held else {
-        return Err(Failure::Refused);
-    };
-    text_of_node(alloc, own.document.get_ref(), NodeHandle::new(node))
 }

@@ -2,8 +2,8 @@ use Rattle.std.proofs.Common.{◌≡◌, ◌∙◌, Err, ap, rules, subst, sym}
 use Rattle.std.specs.Option.{option_map}
 use Rattle.tl_page.specs.Outcome.{Gives}
 use Rattle.tl_page.specs.declared.failure.Failure.TheVariants.{OutOfMemory}
-use Rattle.tl_c.specs.Css.{css_in, found_by}
-use Rattle.tl_c.proofs.Selectors.{found_by-unread}
+use Rattle.tl_c.specs.Css.{css_in, answer_by}
+use Rattle.tl_c.proofs.Selectors.{answer_by-unread}
 use Rattle.tl_c.proofs.css.find_css.Goals as goal
 
 pub returns-in_err-selector-clause-finds : goal.returns-in_err-selector-clause-finds
@@ -11,8 +11,8 @@ returns-in_err-selector-clause-finds c = λ ns found.
     let parsed = option_map (λ own. own.value) c.args.held.now in
     let failure = c.in_err-selector.field-0.0 in
     let is : c.from_residual.result ≡ Err failure = search rules in
-    subst (Gives (λ numbers. numbers.items) (found_by (css_in c.args.selector.now) parsed ns)) (sym is)
-    (found_by-unread (css_in c.args.selector.now) parsed ns failure c.in_err-selector.ensures.reads)
+    subst (Gives (λ numbers. numbers.items) (answer_by (css_in c.args.selector.now) parsed ns)) (sym is)
+    (answer_by-unread (css_in c.args.selector.now) parsed ns failure c.in_err-selector.ensures.reads)
 
 pub returns-in_err-selector-clause-told : goal.returns-in_err-selector-clause-told
 returns-in_err-selector-clause-told c = λ other.
@@ -29,7 +29,7 @@ returns-in_err-selector-clause-lost c = λ lost.
 
 pub returns-clause-finds : goal.returns-clause-finds
 returns-clause-finds c =
-    rw c.in_ok-selector.ensures.reads (λ ns found. c.select_held.ensures ns found)
+    rw c.in_ok-selector.ensures.reads (λ ns found. c.select.ensures ns found)
 
 pub returns-clause-told : goal.returns-clause-told
 returns-clause-told c = λ _. c.in_ok-selector.ensures.told (λ lost. absurd (cc))

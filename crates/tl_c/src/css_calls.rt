@@ -1,0 +1,143 @@
+//! The calls with selectors of CSS.
+ghost use Rattle.std.specs.Prelude.{◌≡◌, ◌≢◌, ℕ, Bool, List, None};
+ghost use Rattle.tl_spec.specs.Lex.ByteClass.{largest_u32};
+ghost use Rattle.tl_css_select.specs.Links.{one_if};
+ghost use Rattle.tl_c.specs.Css.{AreFoundBelowBy, AreFoundBy, IsTold, TellsAt, answer_by, css_in, first_of, wrong_in};
+ghost use Rattle.tl_c.specs.Puts.{Puts, PutsOne};
+ghost use Rattle.tl_c.specs.Queries.{node_in};
+
+use crate::copy_out::{copy_result, first, put_one};
+use crate::css::{css_holds_at, find_css, find_css_below};
+use crate::document::Document;
+use crate::node_links::NO_NODE;
+use std::alloc::Global;
+
+/// Finds the tags of a document where a selector of CSS holds: their numbers, in the order of the
+/// text. Names and values are compared decoded, as those of a page that was read by way of its
+/// form. A text that is no selector is refused: `place` is its first byte that is wrong, and
+/// `cause` the number of the cause in `tl.h`; else both are 0.
+#[unsafe(no_mangle)]
+pub extern "C" fn tl_select_css(
+    alloc: Global,
+    document: &mut Document,
+    selector: &[u8],
+    numbers: &mut [u32],
+    needed: &mut usize,
+    place: &mut usize,
+    cause: &mut u8,
+) -> u8
+    ensures same { document.new.held ≡ document.old.held }
+
+    // By the numbers of the tags where it holds: these are one list.
+    ensures finds { (ns : List ℕ) → let css = css_in selector.now in
+        AreFoundBy css document.old.held ns →
+        Puts (answer_by css document.old.held ns) numbers.old numbers.new needed.new result }
+    ensures told { result ≢ 3 → IsTold (wrong_in selector.now) place.new cause.new }
+    ensures lost { result ≡ 3 → IsTold None place.new cause.new }
+{
+    let held = document.replace(alloc, None);
+    let found = find_css(alloc, &held, selector, place, cause);
+    let _nothing = document.replace(alloc, held);
+    copy_result(found, numbers, needed)
+}
+
+/// The first of them alone. Where there is none that is refused, and `number` is 4294967295.
+#[unsafe(no_mangle)]
+pub extern "C" fn tl_first_css(
+    alloc: Global,
+    document: &mut Document,
+    selector: &[u8],
+    number: &mut u32,
+    place: &mut usize,
+    cause: &mut u8,
+) -> u8
+    ensures same { document.new.held ≡ document.old.held }
+    ensures finds { (ns : List ℕ) → let css = css_in selector.now in
+        AreFoundBy css document.old.held ns →
+        PutsOne (first_of (answer_by css document.old.held ns)) largest_u32 number.new result }
+    ensures told { result ≢ 3 → IsTold (wrong_in selector.now) place.new cause.new }
+    ensures lost { result ≡ 3 → IsTold None place.new cause.new }
+{
+    let held = document.replace(alloc, None);
+    let found = first(find_css(alloc, &held, selector, place, cause));
+    let _nothing = document.replace(alloc, held);
+    put_one(found, NO_NODE, number)
+}
+
+/// The numbers of the tags below a node where a selector of CSS holds. It is asked of the whole
+/// document, so it may name what stands around the node. It is refused where there is no such node.
+#[unsafe(no_mangle)]
+pub extern "C" fn tl_node_select_css(
+    alloc: Global,
+    document: &mut Document,
+    node: u32,
+    selector: &[u8],
+    numbers: &mut [u32],
+    needed: &mut usize,
+    place: &mut usize,
+    cause: &mut u8,
+) -> u8
+    ensures same { document.new.held ≡ document.old.held }
+    ensures finds { (ns : List ℕ) → let css = css_in selector.now in
+        AreFoundBelowBy node css document.old.held ns →
+        let outcome = answer_by css (node_in node document.old.held) ns in
+        Puts outcome numbers.old numbers.new needed.new result }
+    ensures told { result ≢ 3 → IsTold (wrong_in selector.now) place.new cause.new }
+    ensures lost { result ≡ 3 → IsTold None place.new cause.new }
+{
+    let held = document.replace(alloc, None);
+    let found = find_css_below(alloc, &held, node, selector, place, cause);
+    let _nothing = document.replace(alloc, held);
+    copy_result(found, numbers, needed)
+}
+
+/// The first of them alone. Where there is none that is refused, and `number` is 4294967295.
+#[unsafe(no_mangle)]
+pub extern "C" fn tl_node_first_css(
+    alloc: Global,
+    document: &mut Document,
+    node: u32,
+    selector: &[u8],
+    number: &mut u32,
+    place: &mut usize,
+    cause: &mut u8,
+) -> u8
+    ensures same { document.new.held ≡ document.old.held }
+    ensures finds { (ns : List ℕ) → let css = css_in selector.now in
+        AreFoundBelowBy node css document.old.held ns →
+        let outcome = first_of (answer_by css (node_in node document.old.held) ns) in
+        PutsOne outcome largest_u32 number.new result }
+    ensures told { result ≢ 3 → IsTold (wrong_in selector.now) place.new cause.new }
+    ensures lost { result ≡ 3 → IsTold None place.new cause.new }
+{
+    let held = document.replace(alloc, None);
+    let found = first(find_css_below(alloc, &held, node, selector, place, cause));
+    let _nothing = document.replace(alloc, held);
+    put_one(found, NO_NODE, number)
+}
+
+/// Whether a selector of CSS holds at a node: `matches` is 1 where it does, and else 0. It is
+/// refused where there is no such node.
+#[unsafe(no_mangle)]
+pub extern "C" fn tl_node_matches_css(
+    alloc: Global,
+    document: &mut Document,
+    node: u32,
+    selector: &[u8],
+    matches: &mut u8,
+    place: &mut usize,
+    cause: &mut u8,
+) -> u8
+    ensures same { document.new.held ≡ document.old.held }
+    ensures tells { (holds : Bool) → let css = css_in selector.now in
+        TellsAt node css document.old.held holds →
+        let outcome = answer_by css (node_in node document.old.held) (one_if holds) in
+        PutsOne outcome 0 matches.new result }
+    ensures told { result ≢ 3 → IsTold (wrong_in selector.now) place.new cause.new }
+    ensures lost { result ≡ 3 → IsTold None place.new cause.new }
+{
+    let held = document.replace(alloc, None);
+    let holds = css_holds_at(alloc, &held, node, selector, place, cause);
+    let _nothing = document.replace(alloc, held);
+    put_one(holds, 0, matches)
+}
