@@ -24,8 +24,15 @@ fn create_beside(rt: &HostRuntime, file: &str) -> io::Result<(String, File)> {
     Err(ErrorKind::AlreadyExists.into())
 }
 
-// Writes a new file, with the owner and the mode of the old one. An owner that may not be set is
-// not.
+// Gives a new file the owner and the mode of the old one, and makes it last. An owner that may not
+// be set is not.
+fn settle(rt: &HostRuntime, name: &str, file: &mut File, old: &Metadata) -> io::Result<()> {
+    let _ = chown(rt, name, Some(old.uid()), Some(old.gid()));
+    file.set_permissions(old.permissions())?;
+    file.sync_all()
+}
+
+// Writes a new file that is to stand in the place of the old one.
 fn write_new(
     rt: &HostRuntime,
     name: &str,
@@ -35,16 +42,34 @@ fn write_new(
 ) -> io::Result<()> {
     let mut file = file;
     file.write_all(bytes)?;
-    let _ = chown(rt, name, Some(old.uid()), Some(old.gid()));
-    file.set_permissions(old.permissions())?;
-    file.sync_all()
+    settle(rt, name, &mut file, old)
 }
 
-// Gives a file a second name, under which its bytes stay.
-fn back_up(rt: &HostRuntime, file: &str, suffix: &str) -> io::Result<()> {
+// Copies a file to a new one beside it, which then takes the name of its backup.
+fn copy_and_rename(
+    rt: &HostRuntime,
+    name: &str,
+    new: File,
+    file: &str,
+    old: &Metadata,
+    backup: &str,
+) -> io::Result<()> {
+    let mut new = new;
+    fs::copy(rt, file, name)?;
+    settle(rt, name, &mut new, old)?;
+    fs::rename(rt, name, backup)
+}
+
+// Keeps the bytes of a file under another name. What had that name is not written to, since it may
+// be a link, also to this file: the name is taken from it.
+fn back_up(rt: &HostRuntime, file: &str, old: &Metadata, suffix: &str) -> io::Result<()> {
     let backup = format!(in rt.alloc(); "{file}{suffix}")?;
-    fs::copy(rt, file, backup.as_str())?;
-    Ok(())
+    let (name, new) = create_beside(rt, file)?;
+    let done = copy_and_rename(rt, name.as_str(), new, file, old, backup.as_str());
+    if done.is_err() {
+        let _ = fs::remove_file(rt, name.as_str());
+    }
+    done
 }
 
 // Writes the new file, keeps the old one under another name if that is asked for, and renames.
@@ -59,21 +84,22 @@ fn write_and_rename(
 ) -> io::Result<()> {
     write_new(rt, name, new, old, bytes)?;
     if let Some(suffix) = suffix {
-        back_up(rt, file, suffix)?;
+        back_up(rt, file, old, suffix)?;
     }
     fs::rename(rt, name, file)
 }
 
 /// Replaces the bytes of a file; a link is followed to its file. Mode stays, and so does the owner
-/// where that may be set; other names that it has by hard links keep the old bytes. What is no
-/// regular file is an error. With a suffix the old bytes stay in a file of that name and the
-/// suffix.
-/// Where this fails the old file is whole, and no new one is left.
+/// where that may be set; other names that it has by hard links keep the old bytes. With a suffix
+/// the old bytes stay in a file of that name and the suffix; if that name is a link, it is one no
+/// more, and what it led to keeps its bytes. What is no regular file is an error, and so is an
+/// empty suffix.
+/// Where this fails the old file is whole, and no new one is left but the one with the suffix.
 pub fn replace(rt: &HostRuntime, file: &str, suffix: Option<&str>, bytes: &[u8]) -> io::Result<()> {
     let file = fs::canonicalize(rt, file)?;
     let file = file.as_str();
     let old = fs::metadata(rt, file)?;
-    if !old.is_file() {
+    if !old.is_file() || suffix == Some("") {
         return Err(ErrorKind::InvalidInput.into());
     }
     let (name, new) = create_beside(rt, file)?;
