@@ -59,6 +59,45 @@ In their files: each is replaced at once, keeps its mode, and is not touched whe
   page:CLASS="n"
   other:CLASS="n"
 
+What stood in the place of the old page is gone.
+
+  $ printf '<p>1' >second
+  $ tl set --backup .old p k v second
+  $ tl set --backup .old p k w second
+  $ cat second second.old
+  <p k="w">1<p k="v">1 (no-eol)
+
+Where a link has the name of the backup, what it leads to keeps its bytes, also where that is the page.
+
+  $ printf '<p>2' >other
+  $ ln -sf other second.old
+  $ tl set --backup .old p k x second
+  $ cat second second.old other
+  <p k="x">1<p k="w">1<p>2 (no-eol)
+  $ ln -s other other.old
+  $ tl set --backup .old p k v other
+  $ cat other other.old
+  <p k="v">2<p>2 (no-eol)
+  $ ls | grep tl-
+  [1]
+
+An empty suffix would be the page.
+
+  $ tl set --backup '' p k v second
+  tl: no suffix of a backup: an empty word (err)
+  [2]
+  $ cat second
+  <p k="x">1 (no-eol)
+
+What is no regular file stays as it is.
+
+  $ mkfifo pipe
+  $ (printf '<p>' >pipe & tl set -i p k v pipe 2>said; echo $?; wait)
+  4
+  $ cat said
+  tl: pipe: no regular file
+  $ rm pipe said second second.old other other.old
+
 A failed write leaves the old page, and nothing beside it.
 
   $ (trap '' XFSZ; ulimit -f 0; tl set -i a href /q page 2>&1; echo $?) | cat
@@ -188,6 +227,23 @@ Something stands in their place, in them, before or after them: a text, or marku
   <title>&lt;/title></title>b (no-eol)
   $ printf '<script>a</script>b' | tl fill script '1 < 2'
   <script>1 < 2</script>b (no-eol)
+  $ printf '<title>a &amp; b</title>c' | tl unwrap title
+  a &amp; bc (no-eol)
+
+A body goes to the end of the page, past its end tag.
+
+  $ printf '<body>\n<p>a</p></body></html>\n' >whole
+  $ tl prepend body x whole
+  <body>x
+  <p>a</p></body></html>
+  $ tl append body x whole
+  tl: whole: the end of the page, for the element at byte 0 (err)
+  [2]
+  $ tl fill body x whole
+  <body>x (no-eol)
+  $ tl unwrap body whole
+  (empty)
+  <p>a</p></body></html>
 
 In their files.
 
@@ -275,6 +331,9 @@ What is refused.
   tl: -: what is put can't stand there, for the element at byte 0 (err)
   [2]
   $ printf '<script>a</script>' | tl fill script '</script>'
+  tl: -: the page would be read otherwise, for the element at byte 0 (err)
+  [2]
+  $ printf '<script>a &amp; b</script>' | tl unwrap script
   tl: -: the page would be read otherwise, for the element at byte 0 (err)
   [2]
   $ printf '<p>a</p></p>' | tl remove p

@@ -340,6 +340,16 @@ Encodings.
   $ printf '<meta charset=Shift_JIS><p>\203' | tl text
   tl: -: the encoding `Shift_JIS` is not read (err)
   [2]
+  $ printf '<!-- <meta charset=koi8-r> --><meta charset=" latin1 "><p>caf\351' | tl text
+  café (no-eol)
+  $ printf '<meta name=description content="charset=koi8-r"><meta charset=latin1><p>caf\351' | tl text
+  café (no-eol)
+  $ printf '<meta charset=""><p>\351' | tl text
+  tl: -: no UTF-8 at byte 20 (err)
+  [2]
+  $ printf '<meta charset=" gbk "><p>\203' | tl text
+  tl: -: the encoding `gbk` is not read (err)
+  [2]
   $ printf '<meta charset=utf-8><p>\203' | tl text
   tl: -: no UTF-8 at byte 23 (err)
   [2]

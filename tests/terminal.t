@@ -25,6 +25,8 @@ They have none with NO_COLOR, on a terminal that takes none, and elsewhere.
   $ python3 terminal.py 'NO_COLOR=1 tl select -l p a.html b.html 2>said'
   a.html\x0d (esc)
   b.html\x0d (esc)
+  $ python3 terminal.py 'NO_COLOR="$(printf "\377")" tl select -l p a.html 2>said'
+  a.html\x0d (esc)
   $ python3 terminal.py 'NO_COLOR= tl select -l p a.html 2>said'
   \x1b[35ma.html\x1b[0m\x0d (esc)
   $ python3 terminal.py 'TERM=dumb tl select -l p a.html b.html 2>said'
@@ -82,3 +84,41 @@ It is said of a long page too.
   $ python3 terminal.py 'tl select --as-is -c p shorter' | tr -d '\r' | tr '\033' '\n'
   (empty)
   [K0
+
+Fewer files show it too where they take more than a second.
+
+  $ mkfifo slow
+  $ { sleep 2; printf '<p>x'; } >slow & python3 terminal.py 'tl select -q i slow a.html b.html 2>&1 >said' | tr '\033' '\n'
+  (empty)
+  [K
+  7
+  [Ktl: file 2 of 3
+  8
+  [K
+  7
+  [Ktl: file 3 of 3
+  8
+  [K (no-eol)
+
+What is said of a page takes its place, whatever that is.
+
+  $ printf '\376\377' >utf16
+  $ printf '\377' >bytes
+  $ python3 terminal.py 'tl select -q i utf16 *.html 2>&1 >said' | tr -d '\r' | tr '\033' '\n' | sed -n '1,5p'
+  (empty)
+  7
+  [Ktl: file 1 of 104
+  8
+  [Ktl: utf16: UTF-16 is not read
+  $ python3 terminal.py 'tl select -q i bytes *.html 2>&1 >said' | tr -d '\r' | tr '\033' '\n' | sed -n '1,5p'
+  (empty)
+  7
+  [Ktl: file 1 of 104
+  8
+  [Ktl: bytes: no UTF-8 at byte 0
+  $ python3 terminal.py 'tl edit "name 9 b" -- *.html 2>&1 >said' | tr -d '\r' | tr '\033' '\n' | sed -n '1,5p'
+  (empty)
+  7
+  [Ktl: file 1 of 103
+  8
+  [Ktl: 1.html: step 1 is refused: no node has this number

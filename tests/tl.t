@@ -873,7 +873,7 @@ Help names each command and each option, and words the lists.
     tl replace --html 'br + br' '<hr>' a.html    a rule for a second break
     tl fill -i title 'News & more' *.html   pages with another title
     tl prepend --html -i head '<meta charset=utf-8>' *.html    their encoding
-    tl append --html -i body '<hr>' *.html  a rule at the end of each page
+    tl append --html -i footer '<hr>' *.html     a rule at the end of each footer
     tl before --html h1 '<p>Draft</p>' a.html    a note before the title of a page
     tl after 'a[href^=http]' ' (elsewhere)' a.html    where links lead out
     tl sanitize --comments comment.html     what of a comment may be shown

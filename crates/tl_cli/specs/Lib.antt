@@ -6,3 +6,4 @@ pub mod Filename
 pub mod Reports
 pub mod UsageErrors
 pub mod CsvLines
+pub mod Edits

@@ -106,6 +106,8 @@ pub enum UsageError<'w> {
     NoName(&'w str),
     /// Standard input is to be changed in its file.
     NoFile,
+    /// The suffix of a backup is empty.
+    NoSuffix,
     /// A label of no encoding that is read.
     NoEncoding(&'w str),
     /// A word that is no number of nodes.

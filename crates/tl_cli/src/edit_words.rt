@@ -91,6 +91,9 @@ fn target<'w>(matches: &ArgMatches<'w>) -> Result<Target<'w>, UsageError<'w>> {
     if has_standard_input(matches) {
         return Err(UsageError::NoFile);
     }
+    if suffix == Some("") {
+        return Err(UsageError::NoSuffix);
+    }
     Ok(Target::Files(suffix))
 }
 

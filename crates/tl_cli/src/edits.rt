@@ -1,4 +1,11 @@
 //! Changes of tags and elements.
+ghost use Rattle.std.specs.Prelude.{IfErr, IfOk};
+ghost use Rattle.tl_patch_edit.specs.View.{patch_view};
+ghost use Rattle.tl_patch_page.specs.View.{change_view};
+ghost use Rattle.tl_patch_select.specs.Edited.{IsEditedWhere};
+ghost use Rattle.tl_patch_select.specs.Patched.{IsPatchedWhere};
+ghost use Rattle.tl_cli.specs.Edits.{IsDone, IsTold};
+
 use std::alloc::Global;
 use tl_css::Selector;
 use tl_patch_edit::ElementPatch;
@@ -34,7 +41,11 @@ fn with_tags(
     page: &str,
     selector: &Selector,
     change: Change<'_>,
-) -> Result<Patched, Refusal> {
+) -> Result<Patched, Refusal>
+    ensures done { IfOk result (λ p. IsPatchedWhere selector.now (change_view change.entry)
+        page.now p.bytes.items p.places.items) }
+    ensures told { IfErr result IsTold }
+{
     match patch_selected(alloc, page, selector, change) {
         Ok(patched) => Ok(patched),
         Err(SelectionPatchError::OutOfMemory) => Err(Refusal::OutOfMemory),
@@ -48,7 +59,11 @@ fn with_elements(
     page: &str,
     selector: &Selector,
     patch: ElementPatch<'_>,
-) -> Result<Patched, Refusal> {
+) -> Result<Patched, Refusal>
+    ensures done { IfOk result (λ p. IsEditedWhere selector.now (patch_view patch.entry)
+        page.now p.bytes.items p.places.items) }
+    ensures told { IfErr result IsTold }
+{
     match edit_selected(alloc, page, selector, patch) {
         Ok(patched) => Ok(patched),
         Err(SelectionEditError::OutOfMemory) => Err(Refusal::OutOfMemory),
@@ -63,7 +78,11 @@ impl Edit<'_> {
         alloc: Global,
         page: &str,
         selector: &Selector,
-    ) -> Result<Patched, Refusal> {
+    ) -> Result<Patched, Refusal>
+        ensures done { IfOk result (λ p.
+            IsDone self.now selector.now page.now p.bytes.items p.places.items) }
+        ensures told { IfErr result IsTold }
+    {
         match self {
             Edit::Set(key, value) => {
                 let change = Change::Set {

@@ -141,6 +141,9 @@ fn report_usage_error(rt: &HostRuntime, usage_error: &UsageError<'_>) -> Result<
         UsageError::NoFile => {
             let _ = eprintln!(rt; "tl: standard input has no file to be written");
         }
+        UsageError::NoSuffix => {
+            let _ = eprintln!(rt; "tl: no suffix of a backup: an empty word");
+        }
         UsageError::NoTable(word) => {
             let _ = eprintln!(rt; "tl: no number of a table: {word}");
         }

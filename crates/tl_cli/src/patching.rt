@@ -9,6 +9,7 @@ use crate::pages::{
 };
 use crate::reports::{Answer, Report, status_of};
 use std::alloc::{AllocError, Global};
+use std::io::ErrorKind;
 use tl_css::Selector;
 use tl_in_place::replace;
 use tl_page::{Failure, text};
@@ -102,6 +103,10 @@ fn write_file(rt: &HostRuntime, file: &str, suffix: Option<&str>, patched: &Patc
     }
     match replace(rt, file, suffix, patched.bytes.as_slice()) {
         Ok(()) => Answer::Found,
+        Err(error) if error.kind() == ErrorKind::InvalidInput => {
+            let _ = eprintln!(rt; "tl: {file}: no regular file");
+            Answer::Failed(Failure::Fault)
+        }
         Err(error) => Answer::Failed(report_error(rt, file, &error)),
     }
 }

@@ -3,7 +3,6 @@ ghost use Rattle.std.specs.Prelude.{ℕ, List, Result, string_bytes};
 ghost use Rattle.tl_spec.specs.Walk.{TreeFault};
 ghost use Rattle.tl_table.specs.Answer.{Answers};
 ghost use Rattle.tl.specs.View.{document_of};
-ghost use Rattle.tl_css.specs.Meaning.{IsForest};
 ghost use Rattle.tl_page.specs.Outcome.{Gives, outcome_map, outcome_of};
 ghost use Rattle.tl_cli.specs.Findings.{finding_of, whole_in};
 ghost use Rattle.tl_cli.specs.Task.{AreSelected, answer_of};
@@ -13,8 +12,8 @@ use crate::lines::link_lines;
 use crate::output::Output;
 use crate::selection::{Query, selection};
 use std::alloc::Global;
-use tl::VDom;
 use tl::errors::TreeError;
+use tl_css_select::known_forest::Forest;
 use tl_extract::{OutlineFormat, Spelling, outline, readable};
 use tl_page::Failure;
 
@@ -55,14 +54,15 @@ pub fn answer(
     alloc: Global,
     question: &Question<'_>,
     end: &str,
-    document: &VDom<'_>,
+    forest: &Forest<'_, '_>,
 ) -> Result<Output, Failure>
-    ensures { (ns : List ℕ) → let d = document_of document.now in
-        IsForest d.nodes → AreSelected question.now d.nodes ns
+    ensures { (ns : List ℕ) → let d = document_of forest.now in
+        AreSelected question.now d.nodes ns
         → Gives finding_of (answer_of question.now ns end.now d) result }
 {
+    let document = forest.document();
     match question {
-        Question::Select(query) => selection(alloc, document, query, end),
+        Question::Select(query) => selection(alloc, forest, query, end),
         Question::Links(spelling) => Ok(link_lines(alloc, document, *spelling, end)?),
         Question::Text(spelling) => whole_text(alloc, document.inner_text(alloc), *spelling),
         Question::Readable(spelling) => whole_text(alloc, readable(alloc, document), *spelling),

@@ -1,21 +1,18 @@
 //! What is written of the nodes where a selector holds.
-ghost use Rattle.std.specs.Prelude.{◌≡◌, ℕ, Err, List, IfErr, IfOk};
+ghost use Rattle.std.specs.Prelude.{◌≡◌, ℕ, List, IfOk};
 ghost use Rattle.tl.specs.View.{document_of};
-ghost use Rattle.tl_css.specs.Meaning.{AreFound, IsForest};
+ghost use Rattle.tl_css.specs.Meaning.{AreFound};
 ghost use Rattle.tl_page.specs.Outcome.{Gives};
-ghost use Rattle.tl_page.specs.declared.failure.Failure.TheVariants.{OutOfMemory};
 ghost use Rattle.tl_cli.specs.Findings.{finding_of};
-ghost use Rattle.tl_css_select.specs.declared.forest.SelectError.TheVariants.{NotForest, TooLong};
 ghost use Rattle.tl_cli.specs.Selection.{front, listing_of, nodes_read};
 
 use crate::lines::{count_line, field_lines, object_array, object_lines};
 use crate::output::Output;
 use crate::reading::Reading;
-use std::alloc::Global;
+use std::alloc::{AllocError, Global};
 use tl::VDom;
 use tl_css::Selector;
-use tl_css_select::document::{select, select_decoded};
-use tl_css_select::forest::SelectError;
+use tl_css_select::known_forest::Forest;
 use tl_extract::Field;
 use tl_json::ObjectFormat;
 use tl_page::Failure;
@@ -47,38 +44,16 @@ pub struct Query<'w> {
 // The numbers of the nodes where a selector holds.
 fn find(
     alloc: Global,
-    document: &VDom<'_>,
+    forest: &Forest<'_, '_>,
     selector: &Selector,
     reading: Reading,
-) -> Result<Vec<u32>, SelectError>
-    ensures found { IfOk result (λ ns.
-        AreFound (nodes_read reading (document_of document.now).nodes) selector.now ns.items) }
-    ensures not_forest { result ≡ Err NotForest → IsForest (document_of document.now).nodes → ⊥ }
-    ensures not_too_long { result ≡ Err TooLong → ⊥ }
+) -> Result<Vec<u32>, AllocError>
+    ensures { IfOk result (λ ns.
+        AreFound (nodes_read reading (document_of forest.now).nodes) selector.now ns.items) }
 {
     match reading {
-        Reading::Browser => select_decoded(alloc, document, selector),
-        Reading::AsIs => select(alloc, document, selector),
-    }
-}
-
-// The same; a table that is no forest is refused.
-fn numbers(
-    alloc: Global,
-    document: &VDom<'_>,
-    selector: &Selector,
-    reading: Reading,
-) -> Result<Vec<u32>, Failure>
-    ensures found { IfOk result (λ ns.
-        AreFound (nodes_read reading (document_of document.now).nodes) selector.now ns.items) }
-    ensures memory { IsForest (document_of document.now).nodes
-        → IfErr result (λ failure. failure ≡ OutOfMemory) }
-{
-    match find(alloc, document, selector, reading) {
-        Ok(numbers) => Ok(numbers),
-        Err(SelectError::OutOfMemory) => Err(Failure::OutOfMemory),
-        Err(SelectError::NotForest) => Err(Failure::Refused),
-        Err(SelectError::TooLong) => Err(Failure::Refused),
+        Reading::Browser => forest.select_decoded(alloc, selector),
+        Reading::AsIs => forest.select(alloc, selector),
     }
 }
 
@@ -112,20 +87,20 @@ fn list(
     }
 }
 
-/// What is written of the nodes of a document where a selector holds. Only a table that is no
-/// forest is refused, and no document that was just read has one.
+/// What is written of the nodes of a document where a selector holds. The document is a forest, so
+/// no selector is refused.
 pub fn selection(
     alloc: Global,
-    document: &VDom<'_>,
+    forest: &Forest<'_, '_>,
     query: &Query<'_>,
     end: &str,
 ) -> Result<Output, Failure>
-    ensures { (ns : List ℕ) → let nodes = (document_of document.now).nodes in
+    ensures { (ns : List ℕ) → let nodes = (document_of forest.now).nodes in
         let query = query.now in
-        IsForest nodes → AreFound (nodes_read query.reading nodes) query.selector.now ns
+        AreFound (nodes_read query.reading nodes) query.selector.now ns
         → Gives finding_of (listing_of query.listing end.now nodes (front query.most ns)) result }
 {
-    let numbers = numbers(alloc, document, query.selector, query.reading)?;
+    let numbers = find(alloc, forest, query.selector, query.reading)?;
     let meant = front(&numbers, query.most);
-    list(alloc, document, meant, &query.listing, end)
+    list(alloc, forest.document(), meant, &query.listing, end)
 }

@@ -1,8 +1,9 @@
 //! What is made of a page.
-ghost use Rattle.std.specs.Prelude.{◌≡◌, ◌<◌, ℕ, Err, IsUtf8, List, length};
+ghost use Rattle.std.specs.Prelude.{◌≡◌, ◌<◌, ℕ, Err, IfOk, IsUtf8, List, length};
 ghost use Rattle.tl_spec.specs.Tree.Document.{document};
 ghost use Rattle.tl_page.specs.Outcome.{Gives};
-ghost use Rattle.tl_page.specs.Page.{outcome_in};
+ghost use Rattle.tl.specs.View.{document_of};
+ghost use Rattle.tl_page.specs.Page.{document_in, outcome_in};
 ghost use Rattle.tl_page.specs.declared.failure.Failure.TheVariants.{NotUnderstood};
 ghost use Rattle.tl_program.specs.Steps.{changes_in};
 ghost use Rattle.tl_safe.specs.Policies.{lists_of};
@@ -15,6 +16,7 @@ use crate::question::{Question, answer};
 use crate::reading::Reading;
 use std::alloc::Global;
 use tl::ParserOptions;
+use tl_css_select::known_forest::FreshDocument;
 use tl_html::{NormalizeError, normalize_bytes};
 use tl_page::{Failure, read, text};
 use tl_program::program::edit_and_print;
@@ -32,6 +34,16 @@ pub enum Task<'w> {
     Sanitize(Policy<'w>),
 }
 
+// The document of a page, as it was read, which is a forest.
+fn read_fresh(alloc: Global, page: &[u8]) -> Result<FreshDocument<'_>, Failure>
+    ensures gives { Gives document_of (document_in page.now) result }
+    ensures document { IfOk result (λ d. document_of d ≡ document page.now) }
+    ensures no_text { ¬ (IsUtf8 page.now) → result ≡ Err NotUnderstood }
+    ensures long { u32.MAX < length page.now → result ≡ Err NotUnderstood }
+{
+    Ok(FreshDocument::parse(alloc, text(page)?, ParserOptions::new())?)
+}
+
 // What is answered of the document of a page.
 #[tactic(auto, using(tl_page::proofs::Pages::pages))]
 fn ask(alloc: Global, question: &Question<'_>, end: &str, page: &[u8]) -> Result<Output, Failure>
@@ -40,8 +52,8 @@ fn ask(alloc: Global, question: &Question<'_>, end: &str, page: &[u8]) -> Result
     ensures no_text { ¬ (IsUtf8 page.now) → result ≡ Err NotUnderstood }
     ensures long { u32.MAX < length page.now → result ≡ Err NotUnderstood }
 {
-    let document = read(alloc, page, ParserOptions::new())?;
-    answer(alloc, question, end, &document)
+    let document = read_fresh(alloc, page)?;
+    answer(alloc, question, end, &document.forest())
 }
 
 // The print of a page after steps.

@@ -153,7 +153,7 @@ said. Where nothing is found, no file is touched, and the status is 1.";
 
 const LAST_IN: &str = "\
 Example:
-  tl append --html -i body '<hr>' *.html  a rule at the end of each page
+  tl append --html -i footer '<hr>' *.html     a rule at the end of each footer
 
 A text is escaped where it has to be. Pages are UTF-8, and are read as browsers
 read them. No other byte changes. A page that can't be changed so, as where an

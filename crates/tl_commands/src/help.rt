@@ -14,11 +14,11 @@ left out, values without quotes, character references. print and edit, and
 byte-order mark says, else UTF-8 if it can be, else what its <meta charset>
 says. What is written is UTF-8.
 
-It ends with 0: all is done; 1: nothing is found, of select, links, table and
-text --in; 2: words, a selector, a page or a step are not understood, or a step
-is refused; 3: out of memory; 4: a read or a write failed; 141: what is written
-is read no more. A page that can't be read is said on standard error, and those
-after it are done.
+It ends with 0: all is done; 1: nothing is found, of select, links, table, text
+--in and the commands that change where a selector holds; 2: words, a selector,
+a page or a step are not understood, or a change is refused; 3: out of memory;
+4: a read or a write failed; 141: what is written is read no more. A page that
+can't be read is said on standard error, and those after it are done.
 
 On a terminal names of files have colours, unless NO_COLOR is set, and where
 there are many files, or they take long, standard error says how far it is.";

@@ -1,0 +1,106 @@
+Files that are changed in place: what stays of the old one, what stands beside it, and what is left where it fails.
+
+The owner and the mode stay; another name of the file by a hard link keeps the old bytes.
+
+  $ printf '<a href=/x>y</a>\n' >page
+  $ chmod 604 page
+  $ chown 1:2 page 2>/dev/null; stat -c '%u:%g %a' page >was
+  $ ln page other
+  $ tl set -i a k v page
+  $ cat page other
+  <a k="v" href=/x>y</a>
+  <a href=/x>y</a>
+  $ stat -c '%u:%g %a' page | cmp - was
+
+A link is followed: the file and its backup stand where the file stands. A later backup takes the place of an earlier one.
+
+  $ mkdir links
+  $ ln -s ../page links/link
+  $ tl set --backup .old a k w links/link
+  $ ls links page*
+  page
+  page.old
+  (empty)
+  links:
+  link
+  $ cat page page.old
+  <a k="w" href=/x>y</a>
+  <a k="v" href=/x>y</a>
+  $ tl set --backup=.old a k x page
+  $ cat page page.old
+  <a k="x" href=/x>y</a>
+  <a k="w" href=/x>y</a>
+  $ rm page.old
+
+The name of the new file is one that is free; where a hundred are taken, that is said.
+
+  $ echo mine >page.tl-0
+  $ tl set -i a k y page
+  $ cat page page.tl-0
+  <a k="y" href=/x>y</a>
+  mine
+  $ for number in $(seq 0 99); do echo mine >page.tl-$number; done
+  $ tl set -i a k z page
+  tl: page: entity already exists (err)
+  [4]
+  $ cat page.tl-* | sort | uniq -c
+      100 mine
+  $ cat page
+  <a k="y" href=/x>y</a>
+  $ rm page.tl-*
+
+What can't be done leaves the old page, and nothing beside it: where a backup can't be written, and of what is no regular file.
+
+  $ tl set --backup /none a k z page
+  tl: page: Not a directory (os error 20) (err)
+  [4]
+  $ cat page
+  <a k="y" href=/x>y</a>
+  $ ls page*
+  page
+  $ mkfifo pipe
+  $ (timeout 60 sh -c 'printf "<a>" >pipe') & timeout 60 tl set -i a k z pipe
+  tl: pipe: no regular file (err)
+  [4]
+  $ test -p pipe
+  $ ls pipe*
+  pipe
+
+Until it is whole, none but its owner may read the new file, which stays where the program is killed.
+
+  $ (umask 0; ulimit -c 0; ulimit -f 0; tl set -i a k z page; true) >/dev/null 2>&1
+  $ stat -c %a page.tl-0
+  600
+  $ cat page
+  <a k="y" href=/x>y</a>
+  $ rm page.tl-0
+
+Where what is written can't be, no further page is looked at.
+
+  $ cp page second
+  $ tl set a k z page second >/dev/full
+  tl: standard output: No space left on device (os error 28) (err)
+  [4]
+  $ tl set --dry-run a k z page second >/dev/full
+  tl: standard output: No space left on device (os error 28) (err)
+  [4]
+
+Columns are bytes, from 1, and a line ends with its line feed.
+
+  $ printf '\303\251<a>\r\n\n <a>é<a>\n<a>' | tl set --dry-run a k v
+  -:1:3
+  -:3:2
+  -:3:7
+  -:4:1
+
+Where memory runs out, nothing is written, and that is the status.
+
+  $ head -c 1000000 /dev/zero | sed 's/\x00/<p>/g' >tags
+  $ cp tags same
+  $ (ulimit -v 40000 && exec tl set -i p k v tags)
+  tl: tags: out of memory (err)
+  [3]
+  $ (ulimit -v 40000 && exec tl rename -i p b tags)
+  tl: tags: out of memory (err)
+  [3]
+  $ cmp tags same

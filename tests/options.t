@@ -1,0 +1,77 @@
+Options beside one another.
+
+  $ printf '<p a.b="1&amp;2">x&amp;y<p>z' >one
+  $ printf '<p>x<table><td><a href=y>z</table>' >two
+  $ printf '<p a="1&amp;2">x' >three
+
+Of two that say where pages go, of two policies, and of two that say what is written of a node, one alone is taken.
+
+  $ for words in '-i --dry-run' '-i --backup .o' '--backup .o --dry-run'; do tl set $words p k v one 2>&1 | head -1; done
+  error: the argument '--in-place' cannot be used with '--dry-run'
+  error: the argument '--in-place' cannot be used with '--backup <SUFFIX>'
+  error: the argument '--backup <SUFFIX>' cannot be used with '--dry-run'
+  $ tl sanitize --comments --documents one 2>&1 | head -1
+  error: the argument '--comments' cannot be used with '--documents'
+  $ for flag in '-a a.b' -t -H -n -c -1; do tl select --tree $flag p one 2>&1 | head -1; done
+  error: the argument '--tree' cannot be used with '--attribute <KEY>'
+  error: the argument '--tree' cannot be used with '--text'
+  error: the argument '--tree' cannot be used with '--inside'
+  error: the argument '--tree' cannot be used with '--number'
+  error: the argument '--tree' cannot be used with '--count'
+  error: the argument '--tree' cannot be used with '--first'
+  $ for flag in '-a a.b' -t -H -n -c; do tl select --json $flag p one 2>&1 | head -1; done
+  error: the argument '--json' cannot be used with '--attribute <KEY>'
+  error: the argument '--json' cannot be used with '--text'
+  error: the argument '--json' cannot be used with '--inside'
+  error: the argument '--json' cannot be used with '--number'
+  error: the argument '--json' cannot be used with '--count'
+  $ cat one
+  <p a.b="1&amp;2">x&amp;y<p>z (no-eol)
+
+No names of files, of each command that names them.
+
+  $ for command in links text table print outline sanitize; do tl $command --no-name one two >said; grep -c : said; done
+  0
+  0
+  0
+  0
+  0
+  0
+  [1]
+  $ tl edit --no-name 'name 0 b' -- one one | grep -c :
+  0
+  [1]
+
+Values and texts of nodes as the form has them, and by the grammar of `tl`.
+
+  $ tl select -a a.b p one
+  1&2
+  $ tl select --raw -a a.b p one
+  1&amp;2
+  $ printf '<p A="1&amp;2">' | tl select --as-is -a A p
+  1&amp;2
+  $ tl text --in p one
+  x&y
+  z
+  $ tl text --raw --in p one
+  x&amp;y
+  z
+  $ tl text --as-is --in '[a="1&amp;2"]' three
+  x
+  $ tl text -w --in p one
+  x&y
+  z
+  $ tl text -w --raw --in p one
+  x&amp;y
+  z
+  $ tl text -w --as-is --in '[a="1&amp;2"]' three
+  x
+
+What is wrong with the words is said on standard error; where that can't be written, a write failed.
+
+  $ tl show 2>/dev/full
+  [4]
+  $ tl select 2>&-
+  [4]
+  $ tl select 'p[' one 2>/dev/full
+  [2]
