@@ -13,12 +13,12 @@
     oom          each request for memory refused in turn
     stress       hostile use
 
-It needs the toolchain and Python alone, and 8 GB of memory that is free. Where fewer than 18 GB are, `rt ci` runs one check of one
-job on each core, four at most and one for each 4 GB (RT_JOBS, which is kept where it is set).
+It needs the toolchain and Python alone, and 8 GB of memory that is free. Where fewer than 40 GB are, `rt ci` runs one check of one
+job on each core, four at most and one for each 7 GB (RT_JOBS, which is kept where it is set).
 It says what each crate cost, in minutes of the processor, and which chain of crates was the longest; its last line after how
 many minutes each part had ended. It may take 60 minutes on 4 cores and 90 on 2, without other load. Each crate is proved from
 nothing once, and a second time with its tests if it has any; the mutants of must-fail of one crate are tried one after the other,
-the first of them at the cost of a proof of the crate. A check of one job takes 1 GB, of tl_program 2, of tl 3.
+the first of them at the cost of a proof of the crate. A check of one job takes 1 to 3 GB, of tl 5, of tl_c and tl_cli 7.5.
 
 Where it takes longer:
 - See which part grew, and which crate begins to try its must-fail edits last. A crate above some 15 of these or 100 functions is
@@ -31,6 +31,7 @@ Where it takes longer:
 No clause is weakened and no row of a test is dropped for it.
 """
 import os
+import re
 import subprocess
 import sys
 import time
@@ -42,9 +43,11 @@ from . import bindings, mutants, oom, runs, stress, vendor, wants, widths
 GIGABYTE = 1_000_000_000
 NEEDED = 8
 # Where `rt ci` chooses by itself, it gives a crate that others wait for up to four jobs, so with memory enough the chain of crates
-# is proved faster than by RT_JOBS. But it plans with some three times the memory that a check takes, and with less than this it
-# leaves cores idle, though one check takes 4 GB at most.
-ENOUGH, OF_A_CHECK = 18, 4
+# is proved faster than by RT_JOBS. But it plans with up to three times the memory that a check takes, and with 22 GB it left a third
+# of 4 cores idle. The dearest checks take 7.5 GB of one job (`tl_c`, `tl_cli`), the next ones 5.
+ENOUGH, OF_A_CHECK = 40, 7
+# A line of `rt ci` on something that failed.
+FAULT = re.compile(r"rt: .*(NOT PROVED|NOT REFUSED|BAD EDIT|FAILED)")
 
 
 def checks(number, free):
@@ -77,7 +80,7 @@ class Gate:
             ran = subprocess.Popen(["rt", "ci"], cwd=ROOT, encoding="utf-8", **how)
         except FileNotFoundError:
             raise Stop(NO_RT) from None
-        end = costs.watch(ran.pid)
+        end, faults = costs.watch(ran.pid), []
         for line in ran.stdout:
             sys.stdout.write(line)
             sys.stdout.flush()
@@ -86,10 +89,13 @@ class Gate:
                 self.note("proofs")
             if line.startswith("rt: must-fail ") and "mutants of must-fail" not in self.ends:
                 self.note("mutants of must-fail")
+            if FAULT.match(line):
+                faults.append(line.rstrip())
         status = ran.wait()
         end()
         self.note("tests and programs")
-        for it in costs.lines():
+        # (what failed stands far above, where a log may be cut)
+        for it in [*costs.lines(), *faults]:
             print(f"gate: {it}", flush=True)
         return status == 0
 
