@@ -13,7 +13,7 @@ use Rattle.tl_html_tokens.specs.Tokens.{AreTokens, AreTokensOf, IsToken, mark_le
 use Rattle.tl_html_tokens.specs.Whole.{AreWholeTags, IsWhole, bytes_at, is_tag_kind}
 use Rattle.tl_html_tokens.specs.declared.token.Token.{Token}
 use Rattle.tl_html_tokens.proofs.Alone.{tags_are_whole}
-use Rattle.tl_patch_page.specs.Refused.{IsAmong, IsPlaced, IsStartAt, IsUnplaced, IsReason, IsReasonHere, IsTokenReason, has_greater, has_refused, may_be_refused}
+use Rattle.tl_patch_page.specs.Refused.{IsAmong, IsPlaced, IsStartAt, IsUnplaced, IsReason, IsReasonHere, IsTokenReason, has_greater, has_refused, is_refused}
 use Rattle.tl_patch_page.specs.Steps.{BeginElsewhere, is_start_token}
 use Rattle.tl_patch_page.specs.View.{PlacedChange, patch_view}
 use Rattle.tl_patch_page.specs.declared.change.TagPatch.{TagPatch}
@@ -133,7 +133,7 @@ start_bytes page ts at d h l y =
     let i : IsTag page (get_or ts at d) r.piece = is_tag page (get_or ts at d) (get_or ts at d).start r.piece r.is r.whole y in
     ap is_start_tag (sym (r.is).bytes) ∙ whole_start_tag (r.piece).bytes (r.piece).tokens i.whole i.start
 
--- the change that may be refused
+-- the change that is refused
 
 record Refused (place : ℕ) (here : List PlacedChange) : Type 0 where
   before : List PlacedChange
@@ -141,11 +141,11 @@ record Refused (place : ℕ) (here : List PlacedChange) : Type 0 where
   later : List PlacedChange
   parts : here ≡ before ++ change ∷ later
   is : change.place ≡ place
-  why : may_be_refused change.change ≡ true
+  why : is_refused change.change ≡ true
 
 refused_in : (place : ℕ) (here : List PlacedChange) → All (λ (c : PlacedChange). c.place ≡ place) here → has_refused here ≡ true → Refused place here
 refused_in place [] all h = absurd (true≢false (sym h))
-refused_in place (c ∷ here) all h = elim (cases_Bool (may_be_refused c.change)) [
+refused_in place (c ∷ here) all h = elim (cases_Bool (is_refused c.change)) [
   | inl y ↦ record { before = []; change = c; later = here; parts = refl; is = All-head (λ (x : PlacedChange). x.place ≡ place) c here all; why = y }
   | inr n ↦ (
       let r = refused_in place here (All-tail (λ (x : PlacedChange). x.place ≡ place) c here all) (sym (ap (λ (v : Bool). v || has_refused here) n) ∙ h) in

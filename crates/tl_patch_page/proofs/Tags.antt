@@ -6,7 +6,7 @@ use Rattle.tl_patch_page.specs.View.{change_of, change_view, patch_view}
 use Rattle.tl_patch_page.specs.declared.change.TagPatch.{TagPatch}
 use Rattle.tl_html_spec.specs.HtmlTokenizer.{Character, CommentToken, DoctypeToken, EndTag, HtmlToken, StartTag}
 use Rattle.tl_html_tokens.specs.Kinds.{IsStartTag}
-use Rattle.tl_patch_page.specs.Refused.{has_refused, may_be_refused}
+use Rattle.tl_patch_page.specs.Refused.{has_refused, is_refused}
 use Rattle.tl_patch_spec.specs.Markup.{is_key, is_without_nul}
 use Rattle.tl_patch_spec.specs.TagChanges.{Rename, Set, TagChange, Unset, changed_token}
 use Rattle.tl_patch_spec.proofs.Sets.{neither}
@@ -57,12 +57,12 @@ written key value tag s n = both (is_key key) (is_without_nul value) n
     both true false n = absurd (true≢false n)
     both false y n = absurd (true≢false n)
 
-pub none_refused : (patches : List TagPatch) (at : ℕ) (d : TagPatch) → at < length patches → has_refused (map patch_view patches) ≡ false → may_be_refused (change_view (get_or patches at d).change) ≡ false
+pub none_refused : (patches : List TagPatch) (at : ℕ) (d : TagPatch) → at < length patches → has_refused (map patch_view patches) ≡ false → is_refused (change_view (get_or patches at d).change) ≡ false
 none_refused [] at d l h = absurd (omega arith)
-none_refused (p ∷ patches) zero d l h = (neither (may_be_refused (change_view p.change)) (has_refused (map patch_view patches)) h).0
-none_refused (p ∷ patches) (suc at) d l h = none_refused patches at d (omega arith) (neither (may_be_refused (change_view p.change)) (has_refused (map patch_view patches)) h).1
+none_refused (p ∷ patches) zero d l h = (neither (is_refused (change_view p.change)) (has_refused (map patch_view patches)) h).0
+none_refused (p ∷ patches) (suc at) d l h = none_refused patches at d (omega arith) (neither (is_refused (change_view p.change)) (has_refused (map patch_view patches)) h).1
 
--- where nothing is found, one of the changes may be refused
+-- where nothing is found, one of the changes is refused
 
 pub some_refused : {A E : Type 0} (r : Result (Option A) E) (refused : Bool) → r ≡ Ok None → (refused ≡ false → IfOk r (λ found. is_some found ≡ true)) → refused ≡ true
 some_refused r true e f = refl

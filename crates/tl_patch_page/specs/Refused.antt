@@ -41,18 +41,18 @@ pub record IsUnplaced (place : ℕ) (changes : List PlacedChange) (page : List �
   pub among : IsAmong place changes front
   pub why : (IsStartAt page place → ⊥) ⊎ (has_greater place front ≡ true)
 
--- whether a change of a start tag may be refused: a key gets a value wherever both can be written;
--- of a key that goes nothing is said
-abbrev pub may_be_refused : TagChange → Bool
-may_be_refused (Set key value) = not (is_key key && is_without_nul value)
-may_be_refused _ = true
+-- whether a change of a start tag is refused: a key gets a value wherever both can be written, and
+-- goes wherever it stands
+abbrev pub is_refused : TagChange → Bool
+is_refused (Set key value) = not (is_key key && is_without_nul value)
+is_refused _ = false
 
--- one of the changes is of the start tag at this place, and may be refused
+-- one of the changes is of the start tag at this place, and sets what can't be written
 pub record IsPlaced (place : ℕ) (changes : List PlacedChange) (page : List ℕ) : Type 0 where
   pub front : List PlacedChange
   pub among : IsAmong place changes front
   pub start : IsStartAt page place
-  pub why : may_be_refused among.change.change ≡ true
+  pub why : is_refused among.change.change ≡ true
 
 -- why a page is not patched, by the error
 abbrev pub IsReason : List PlacedChange → List ℕ → PatchError → Type 0
@@ -60,9 +60,9 @@ IsReason changes page (NoStartTag place) = IsUnplaced place changes page
 IsReason changes page (NotWritten place) = IsPlaced place changes page
 IsReason changes page OutOfMemory = ⊤
 
--- one of the changes may be refused
+-- one of the changes is refused
 abbrev pub has_refused : List PlacedChange → Bool
-has_refused changes = list_any (λ c. may_be_refused c.change) changes
+has_refused changes = list_any (λ c. is_refused c.change) changes
 
 -- why a token is not written with changes
 abbrev pub IsTokenReason : List PlacedChange → List ℕ → Token → PatchError → Type 0

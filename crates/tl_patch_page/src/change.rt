@@ -1,6 +1,6 @@
 //! Changes of tags.
 ghost use Rattle.std.specs.Prelude.{◌≡◌, IfOk, IfSome, false, is_some, map, true};
-ghost use Rattle.tl_patch_page.specs.Refused.{has_refused, may_be_refused};
+ghost use Rattle.tl_patch_page.specs.Refused.{has_refused, is_refused};
 ghost use Rattle.tl_patch_page.specs.Steps.{AreTagChanges};
 ghost use Rattle.tl_patch_page.specs.View.{change_of, change_view, patch_view};
 ghost use Rattle.tl_patch_tags.specs.StartTags.{IsChanged, is_start_tag};
@@ -28,7 +28,7 @@ fn changed(alloc: Global, tag: &[u8], change: Change<'_>) -> Result<Option<Vec<u
     ensures changed { IfOk result (λ found. IfSome found (λ new.
         IsChanged (change_view change.entry) tag.now new.items)) }
     ensures some { is_start_tag tag.now ≡ true →
-        may_be_refused (change_view change.entry) ≡ false →
+        is_refused (change_view change.entry) ≡ false →
         IfOk result (λ found. is_some found ≡ true) }
 {
     match change {

@@ -102,7 +102,7 @@ pub fn patch(alloc: Global, page: &[u8], patches: &[TagPatch<'_>]) -> Result<Vec
     // a patch has this place, where no start tag begins, or one before it has a greater place
     ensures no_start_tag { (place : ℕ) → result ≡ Err (NoStartTag place) →
         IsUnplaced place (map patch_view patches.now) page.now }
-    // a patch is of the start tag at this place, and no value that can be written
+    // a patch of the start tag at this place sets a key or a value that can't be written
     ensures not_written { (place : ℕ) → result ≡ Err (NotWritten place) →
         IsPlaced place (map patch_view patches.now) page.now }
     // without patches the page is as it was

@@ -30,7 +30,7 @@ static SET_ROWS: [(&[u8], &[u8], &[u8], Option<&[u8]>); 20] = [
 
 // A tag, a key, and the tag without it.
 #[rattlefmt::skip]
-static UNSET_ROWS: [(&[u8], &[u8], Option<&[u8]>); 18] = [
+static UNSET_ROWS: [(&[u8], &[u8], Option<&[u8]>); 33] = [
     (b"<p>", b"k", Some(b"<p>")),
     (b"<p class=\"a\" id=1>", b"class", Some(b"<p id=1>")),
     (b"<p class=\"a\" id=1>", b"id", Some(b"<p class=\"a\">")),
@@ -46,7 +46,22 @@ static UNSET_ROWS: [(&[u8], &[u8], Option<&[u8]>); 18] = [
     (b"<img src=\"x\" alt=\"y\" />", b"alt", Some(b"<img src=\"x\" />")),
     (b"<p/b>", b"b", Some(b"<p/ >")),
     (b"<p/b b>", b"b", Some(b"<p/ >")),
-    (b"<a k=\"1\"k=\"2\">", b"k", Some(b"<a >")),
+    (b"<a k=\"1\"k=\"2\">", b"k", Some(b"<a>")),
+    (b"<p k=1 id=2 K=3>", b"k", Some(b"<p id=2>")),
+    (b"<P KEY=a Key>", b"key", Some(b"<P>")),
+    (b"<p KEY>", b"KEY", Some(b"<p KEY>")),
+    (b"<a k>", b"k", Some(b"<a>")),
+    (b"<a k/b>", b"k", Some(b"<a /b>")),
+    (b"<br/k/>", b"k", Some(b"<br/ />")),
+    (b"<a/b=c>", b"b", Some(b"<a/ >")),
+    (b"<a k=1 b=2>", b"k", Some(b"<a b=2>")),
+    (b"<a b=2 k=1/>", b"k", Some(b"<a b=2>")),
+    (b"<a x=1y=2>", b"y", Some(b"<a x=1y=2>")),
+    (b"<a x=1y=2>", b"x", Some(b"<a>")),
+    (b"<a \"x\">", b"x", Some(b"<a \"x\">")),
+    (b"<a \"x\">", b"\"x\"", Some(b"<a>")),
+    (b"<a b k= >", b"k", Some(b"<a b>")),
+    (b"<a b=\"1\"k=\"2\"c='3'>", b"k", Some(b"<a b=\"1\" c='3'>")),
     (b"</p k>", b"k", None),
     (b"<p k", b"k", None),
 ];

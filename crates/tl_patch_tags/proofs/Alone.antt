@@ -1,9 +1,8 @@
 -- Bytes that are one token alone.
 use Rattle.std.proofs.Common.{◌≡◌, ℕ, ◌-◌, ◌==◌, ◌&&◌, true, List, [], ◌∷◌, length, take, drop, ap, sym, subst, ◌∙◌, true≢false, arith, take_all, refl}
 use Rattle.std.proofs.lemmas.Bool.{and_parts, eqb-true}
-use Rattle.tl_html_spec.specs.HtmlTokenizer.{HtmlToken}
 use Rattle.tl_html_spec.specs.Pieces.{Piece, pieces, placed, runs}
-use Rattle.tl_html_tokens.specs.Kinds.{IsKind, IsStartTag}
+use Rattle.tl_html_tokens.specs.Kinds.{IsKind}
 use Rattle.tl_html_tokens.specs.Tokens.{AreTokens, AreTokensOf, mark_len}
 use Rattle.tl_html_tokens.specs.Whole.{AreWholeTags, IsWhole, bytes_at, is_tag_kind}
 use Rattle.tl_html_tokens.specs.declared.mode.Mode.{Mode}
@@ -12,8 +11,7 @@ use Rattle.tl_html_tokens.specs.declared.stage.TokenKind.{TokenKind}
 use Rattle.tl_html_tokens.specs.declared.stage.TokenKind.TheVariants as kind
 use Rattle.tl_html_tokens.specs.declared.token.Token.{Token}
 use Rattle.tl_html_tokens.proofs.Alone.{tags_are_whole}
-use Rattle.tl_html_tags.specs.Parts.{Parts, start_tag}
-use Rattle.tl_patch_tags.specs.StartTags.{IsStartTagAlone, IsStartTagOf, is_data, is_one_tag, is_start_kind, is_whole_tag}
+use Rattle.tl_patch_tags.specs.StartTags.{IsStartTagAlone, is_data, is_one_tag, is_start_kind, is_whole_tag}
 
 kind_is : (k : TokenKind) → is_start_kind k ≡ true → k ≡ kind.StartTag
 kind_is kind.StartTag h = refl
@@ -45,7 +43,3 @@ pub alone : (bytes : List ℕ) (ts : List Token) → AreTokensOf bytes ts → is
 alone bytes [] h e = absurd (true≢false (sym e))
 alone bytes (t ∷ []) h e = one bytes t (placed (mark_len bytes) (runs (pieces bytes))) h (tags_are_whole bytes (t ∷ []) h) e
 alone bytes (t ∷ u ∷ ts) h e = absurd (true≢false (sym e))
-
-pub told : (bytes : List ℕ) (parts : Parts) → IsStartTagAlone bytes → ((m : Mode) (ts : List HtmlToken) → IsWhole m bytes ts → IsStartTag ts → ts ≡ start_tag parts ∷ []) →
-    IsStartTagOf bytes parts
-told bytes parts a f = record { whole = subst (IsWhole mode.Data bytes) (f mode.Data a.tokens a.whole a.start) a.whole }

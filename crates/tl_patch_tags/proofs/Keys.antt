@@ -1,21 +1,15 @@
--- The attributes of a token with a change, where those that stand in the tag have it.
-use Rattle.std.proofs.Common.{◌≡◌, ℕ, Bool, true, false, not, ◌||◌, List, [], ◌∷◌, ◌++◌, map, refl, ap, ap₂, sym, ◌∙◌, inl, inr}
+-- The attributes of a tag with a change.
+use Rattle.std.proofs.Common.{◌≡◌, ℕ, Bool, true, false, not, ◌||◌, List, [], ◌∷◌, ◌++◌, refl, ap, ap₂, sym, ◌∙◌, inl, inr}
 use Rattle.std.specs.List.{filter, list_any}
 use Rattle.std.specs.Str.{bytes_eq}
 use Rattle.std.proofs.lemmas.Bool.{cases_Bool}
 use Rattle.std.proofs.lemmas.List.Folds.{list_any-append}
-use Rattle.tl_html_spec.specs.HtmlTokenizer.{HtmlAttribute, OpenTag, new_tag, with_attribute}
-use Rattle.tl_html_tags.specs.Parts.{attribute_of, attributes_of, name_of, value_of, with_attributes}
-use Rattle.tl_patch_spec.specs.TagChanges.{has_attribute, has_key, without_key}
+use Rattle.tl_html_spec.specs.HtmlTokenizer.{HtmlAttribute, OpenTag, with_attribute}
+use Rattle.tl_patch_spec.specs.TagChanges.{has_attribute, has_key}
 use Rattle.tl_patch_spec.proofs.Inside.{with_all}
 use Rattle.tl_patch_spec.proofs.Sets.{adding_if, attribute_is, fresh, has_all, has_fresh, neither, revalue_all, revalued}
 use Rattle.tl_patch_spec.proofs.Added.{other_way}
 use Rattle.tl_patch_spec.proofs.Unset.{drop_attribute, dropped, dropped_same}
-use Rattle.tl_patch_tags.specs.StartTags.{with_other_keys}
-use Rattle.tl_patch_tags.specs.StartTags.{has_key as has_raw_key}
-
-abbrev Pair : Type 0
-Pair = List ℕ × List ℕ
 
 -- a tag lacks a key with an attribute more that has another
 
@@ -49,40 +43,14 @@ set_has key old t (a ∷ front) back h n =
     let p = neither (has_key key a) (list_any (has_key key) front) n in
     set_has key old (with_attribute t a.0 a.1) front back (still_lacks key t a.0 a.1 h p.0) p.1
 
-abbrev made : List HtmlAttribute → List HtmlAttribute
-made xs = (with_all (new_tag false) xs).attributes
-
 -- those with a key gone
 
-abbrev others_of : List ℕ → List HtmlAttribute → List HtmlAttribute
+abbrev pub others_of : List ℕ → List HtmlAttribute → List HtmlAttribute
 others_of key xs = filter (λ a. not (has_key key a)) xs
 
-unset_all : (key : List ℕ) (t : OpenTag) (xs : List HtmlAttribute) → with_all (dropped key t) (others_of key xs) ≡ dropped key (with_all t xs)
+pub unset_all : (key : List ℕ) (t : OpenTag) (xs : List HtmlAttribute) → with_all (dropped key t) (others_of key xs) ≡ dropped key (with_all t xs)
 unset_all key t [] = refl
 unset_all key t (a ∷ xs) = elim (cases_Bool (has_key key a)) [
   | inl y ↦ rw (y, filter) (ap (λ (u : OpenTag). with_all u (others_of key xs)) (sym (dropped_same key t a.0 a.1 y)) ∙ unset_all key (with_attribute t a.0 a.1) xs)
   | inr n ↦ rw (n, filter) (ap (λ (u : OpenTag). with_all u (others_of key xs)) (sym (drop_attribute key t a.0 a.1 (other_way a.0 key n))) ∙ unset_all key (with_attribute t a.0 a.1) xs)
 ]
-
-unset_made : (key : List ℕ) (xs : List HtmlAttribute) → made (others_of key xs) ≡ without_key key (made xs)
-unset_made key xs = ap (λ (t : OpenTag). t.attributes) (unset_all key (new_tag false) xs)
-
--- as they stand in a tag
-
-all_is : (t : OpenTag) (ps : List Pair) → with_attributes t ps ≡ with_all t (map attribute_of ps)
-all_is t [] = refl
-all_is t (a ∷ ps) = all_is (with_attribute t (name_of a.0) (value_of a.1)) ps
-
-made_is : (ps : List Pair) → attributes_of ps ≡ made (map attribute_of ps)
-made_is ps = ap (λ (t : OpenTag). t.attributes) (all_is (new_tag false) ps)
-
-others_are : (key : List ℕ) (ps : List Pair) → map attribute_of (with_other_keys key ps) ≡ others_of key (map attribute_of ps)
-others_are key [] = refl
-others_are key (a ∷ ps) = elim (cases_Bool (has_raw_key key a)) [
-  | inl y ↦ rw (y, filter) (others_are key ps)
-  | inr n ↦ rw (n, filter) (ap (λ xs. attribute_of a ∷ xs) (others_are key ps))
-]
-
-pub others_left : (ps : List Pair) (key : List ℕ) → attributes_of (with_other_keys key ps) ≡ without_key key (attributes_of ps)
-others_left ps key =
-    made_is (with_other_keys key ps) ∙ ap made (others_are key ps) ∙ unset_made key (map attribute_of ps) ∙ ap (without_key key) (sym (made_is ps))

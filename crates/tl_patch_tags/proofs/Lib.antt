@@ -1,4 +1,3 @@
-pub mod Lists
 pub mod Alone
 pub mod Keys
 pub mod Changes
@@ -7,9 +6,13 @@ pub mod Ended
 pub mod Starts
 pub mod Stages
 pub mod Found
+pub mod Gaps
 pub mod Attributes
+pub mod Gone
+pub mod Unset
 pub mod Begins
 pub mod Revalued
+pub mod Dropped
 pub mod Renamed
 pub mod Fresh
 pub mod Stands

@@ -77,11 +77,12 @@ value_is_put true value = inl refl
 value_is_put false value = inr refl
 
 module _ (t : OpenTag) (rest : List ℕ) (closes returned : Bool) (more : List HtmlAttribute) where
-  lookup : (before done later : List Place) (place : Place) → AreAttributes t rest closes returned more done (before ++ place ∷ later) →
-      IsAttribute t rest closes returned more (done ++ before) place
-  lookup [] done later place h = subst (λ xs. IsAttribute t rest closes returned more xs place) (sym (append-nil done)) h.0
-  lookup (p ∷ before) done later place h =
-      subst (λ xs. IsAttribute t rest closes returned more xs place) (append_assoc done (p ∷ []) before) (lookup before (done ++ p ∷ []) later place h.1)
+  lookup : (before : List Place) (last : ℕ) (done later : List Place) (place : Place) → AreAttributes t rest closes returned more last done (before ++ place ∷ later) →
+      (n : ℕ) × IsAttribute t rest closes returned more n (done ++ before) place
+  lookup [] last done later place h = (last, subst (λ xs. IsAttribute t rest closes returned more last xs place) (sym (append-nil done)) h.0)
+  lookup (p ∷ before) last done later place h =
+      let x = lookup before p.end (done ++ p ∷ []) later place h.1 in
+      (x.0, subst (λ xs. IsAttribute t rest closes returned more x.0 xs place) (append_assoc done (p ∷ []) before) x.1)
 
   put_reads : (c : Bool) (p : Place) (front : List HtmlAttribute) (value : List ℕ) → is_without_nul value ≡ true → PutAt t rest closes returned more c p front →
       Quiet t rest closes returned more (take p.value rest ++ value_put c value) (in_tag after_value (with_attribute (with_all t front) (key_at rest p) value) false)
@@ -146,15 +147,15 @@ module _ (tag : List ℕ) (n : ℕ) (p : IsNameEnd false n tag) (a : IsStartTagA
   pub started : IsStart tag n opened a.tokens
   started = start_is tag a.tokens n p a.whole a.start
 
-  first_place : (e : Ends rest opened a.tokens) (key : List ℕ) (place : Place) (f : IsFirstNamed rest key (places_of rest) place) → IsAttribute opened rest e.closes e.returned e.more f.before place
+  first_place : (e : Ends rest opened a.tokens) (key : List ℕ) (place : Place) (f : IsFirstNamed rest key (places_of rest) place) → (m : ℕ) × IsAttribute opened rest e.closes e.returned e.more m f.before place
   first_place e key place f =
-      lookup opened rest e.closes e.returned e.more f.before [] f.later place
-      (subst (AreAttributes opened rest e.closes e.returned e.more []) f.parts (found opened rest e.closes e.returned e.more e.outcome).0)
+      lookup opened rest e.closes e.returned e.more f.before 0 [] f.later place
+      (subst (AreAttributes opened rest e.closes e.returned e.more 0 []) f.parts (found opened rest e.closes e.returned e.more e.outcome).0)
 
   set_whole : (e : Ends rest opened a.tokens) (key value : List ℕ) (place : Place) (f : IsFirstNamed rest key (places_of rest) place) → is_without_nul value ≡ true →
       IsWhole mode.Data (take n tag ++ (take place.value rest ++ (value_put place.has_equals value ++ drop place.end rest))) (map (changed_token (Set key value)) a.tokens)
   set_whole e key value place f h =
-      let x = first_place e key place f in
+      let x = (first_place e key place f).1 in
       let t : OpenTag = opened in
       let named : key_at rest place ≡ key = (bytes_eq-Decides (key_at rest place) key).0 f.is in
       let lacks : list_any (has_key key) x.front ≡ false = same_keys rest key x.front f.before x.keys ∙ f.none_before in
@@ -180,7 +181,7 @@ module _ (tag : List ℕ) (n : ℕ) (p : IsNameEnd false n tag) (a : IsStartTagA
   pub is_set : (key value : List ℕ) (place : Place) → IsFirstNamed rest key (places_of rest) place → is_without_nul value ≡ true → IsSet tag n key value place
   is_set key value place f h =
       let e : Ends rest opened a.tokens = started.ends in
-      let x = first_place e key place f in
+      let x = (first_place e key place f).1 in
       let put : List ℕ = value_put place.has_equals value in
       let s : Splice ℕ = record { from = n + place.value; until = n + place.end; put = put } in
       record {

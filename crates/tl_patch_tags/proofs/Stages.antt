@@ -9,7 +9,7 @@ use Rattle.tl_patch_spec.proofs.Inside.{Inner, Inside, Value, adding, after_key,
 abbrev pub settle : Inside → ℕ → Inner
 settle i c = inner_settled 3 (inner i c) c
 
-white_cases : (P : ℕ → Type 0) → P 9 → P 10 → P 12 → P 32 → (c : ℕ) → is_white_space c ≡ true → P c
+pub white_cases : (P : ℕ → Type 0) → P 9 → P 10 → P 12 → P 32 → (c : ℕ) → is_white_space c ≡ true → P c
 white_cases P p q r s c h = elim (cases_Bool (c == 9)) [
   | inl y ↦ subst P (sym (eqb-true c 9 y)) p
   | inr n ↦ elim (cases_Bool (c == 10)) [
@@ -201,15 +201,15 @@ value_begins k c w g d s =
 
 -- and the byte that ends it gives the attribute
 
-abbrev said_of : List HtmlAttribute → List ℕ
+abbrev pub said_of : List HtmlAttribute → List ℕ
 said_of [] = []
 said_of (a ∷ more) = a.1
 
-abbrev said : Inner → List ℕ
+abbrev pub said : Inner → List ℕ
 said (stays again j more) = said_of more
 said (ends closes more) = said_of more
 
-abbrev Gives : Inside → List ℕ → Inner → Type 0
+abbrev pub Gives : Inside → List ℕ → Inner → Type 0
 Gives j k x = x ≡ stays false j ((k, said x) ∷ [])
 
 -- it gives it where it gives it with its own key
@@ -240,13 +240,10 @@ single_ends k _ h = absurd h
 
 -- a value without quotes, before white space and before the end
 
-abbrev Spaced : Inside → List ℕ → ℕ → Type 0
-Spaced i k c = (old : List ℕ) × (settle i c ≡ stays false before_key ((k, old) ∷ []))
+spaced : (i : Inside) (k x : List ℕ) → x ≡ k → ((c : ℕ) → is_white_space c ≡ true → Gives before_key x (settle i c)) → (c : ℕ) → is_white_space c ≡ true → Gives before_key k (settle i c)
+spaced i k x h f c w = subst (λ z. Gives before_key z (settle i c)) h (f c w)
 
-spaced : (i : Inside) (k x : List ℕ) → x ≡ k → ((c : ℕ) → is_white_space c ≡ true → Gives before_key x (settle i c)) → (c : ℕ) → is_white_space c ≡ true → Spaced i k c
-spaced i k x h f c w = gives_key before_key i k x c h (f c w)
-
-pub bare_space : (k : List ℕ) (i : Inside) → In bare k i → (c : ℕ) → is_white_space c ≡ true → (old : List ℕ) × (settle i c ≡ stays false before_key ((k, old) ∷ []))
+pub bare_space : (k : List ℕ) (i : Inside) → In bare k i → (c : ℕ) → is_white_space c ≡ true → Gives before_key k (settle i c)
 bare_space k (value_of (no_quotes x w)) h = spaced (value_of (no_quotes x w)) k x h (white_cases (λ d. Gives before_key x (settle (value_of (no_quotes x w)) d)) refl refl refl refl)
 bare_space k (reference (no_quotes x w)) h = spaced (reference (no_quotes x w)) k x h (white_cases (λ d. Gives before_key x (settle (reference (no_quotes x w)) d)) refl refl refl refl)
 bare_space k (named_reference (no_quotes x w) buffer) h = spaced (named_reference (no_quotes x w) buffer) k x h (white_cases (λ d. Gives before_key x (settle (named_reference (no_quotes x w) buffer) d)) refl refl refl refl)
@@ -257,10 +254,14 @@ bare_space k (hexadecimal_number (no_quotes x w) code) h = spaced (hexadecimal_n
 bare_space k (decimal_number (no_quotes x w) code) h = spaced (decimal_number (no_quotes x w) code) k x h (white_cases (λ d. Gives before_key x (settle (decimal_number (no_quotes x w) code) d)) refl refl refl refl)
 bare_space k _ h = absurd h
 
-closed : (i : Inside) (k x : List ℕ) → x ≡ k → settle i 62 ≡ ends false ((x, said (settle i 62)) ∷ []) → (old : List ℕ) × (settle i 62 ≡ ends false ((k, old) ∷ []))
-closed i k x h e = (said (settle i 62), subst (λ z. settle i 62 ≡ ends false ((z, said (settle i 62)) ∷ [])) h e)
+-- what it says
+abbrev pub bare_value : Inside → List ℕ
+bare_value i = said (settle i 62)
 
-pub bare_greater : (k : List ℕ) (i : Inside) → In bare k i → (old : List ℕ) × (settle i 62 ≡ ends false ((k, old) ∷ []))
+closed : (i : Inside) (k x : List ℕ) → x ≡ k → settle i 62 ≡ ends false ((x, bare_value i) ∷ []) → settle i 62 ≡ ends false ((k, bare_value i) ∷ [])
+closed i k x h e = subst (λ z. settle i 62 ≡ ends false ((z, bare_value i) ∷ [])) h e
+
+pub bare_greater : (k : List ℕ) (i : Inside) → In bare k i → settle i 62 ≡ ends false ((k, bare_value i) ∷ [])
 bare_greater k (value_of (no_quotes x w)) h = closed (value_of (no_quotes x w)) k x h refl
 bare_greater k (reference (no_quotes x w)) h = closed (reference (no_quotes x w)) k x h refl
 bare_greater k (named_reference (no_quotes x w) buffer) h = closed (named_reference (no_quotes x w) buffer) k x h refl

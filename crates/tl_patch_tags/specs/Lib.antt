@@ -1,2 +1,3 @@
 pub mod StartTags
 pub mod Places
+pub mod Cuts

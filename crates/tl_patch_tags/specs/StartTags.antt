@@ -1,7 +1,6 @@
 -- Start tags by their own bytes, and with a change.
-use Rattle.std.specs.Prelude.{◌≡◌, ◌⊎◌, ℕ, ◌==◌, ◌&&◌, Bool, true, false, not, List, [], ◌∷◌, map, codes, ⊤}
-use Rattle.std.specs.List.{All, filter}
-use Rattle.std.specs.Str.{bytes_eq}
+use Rattle.std.specs.Prelude.{◌≡◌, ◌⊎◌, ℕ, ◌==◌, ◌&&◌, Bool, true, false, List, [], ◌∷◌, map, codes, ⊤}
+use Rattle.std.specs.List.{All}
 use Rattle.tl_html_spec.specs.HtmlTokenizer.{HtmlToken, StartTag}
 use Rattle.tl_html_spec.specs.Pieces.{Piece, pieces_of}
 use Rattle.tl_html_tokens.specs.Kinds.{IsStartTag}
@@ -11,15 +10,10 @@ use Rattle.tl_html_tokens.specs.declared.mode.Mode.TheVariants as mode
 use Rattle.tl_html_tokens.specs.declared.stage.TokenKind.{TokenKind}
 use Rattle.tl_html_tokens.specs.declared.stage.TokenKind.TheVariants as kind
 use Rattle.tl_html_tokens.specs.declared.token.Token.{Token}
-use Rattle.tl_html_tags.specs.Parts.{Parts, name_of, start_tag}
 use Rattle.tl_patch_spec.specs.Markup.{attribute_markup, quoted_value}
 use Rattle.tl_patch_spec.specs.Splices.{Splice, with_splices}
 use Rattle.tl_patch_spec.specs.Patches.{IsNamed}
 use Rattle.tl_patch_spec.specs.TagChanges.{Rename, Set, TagChange, Unset, changed_token}
-
--- bytes are a start tag by themselves, which says this
-pub record IsStartTagOf (bytes : List ℕ) (parts : Parts) : Type 0 where
-  pub whole : IsWhole mode.Data bytes (start_tag parts ∷ [])
 
 -- whether tokens are one start tag
 abbrev pub is_start : List HtmlToken → Bool
@@ -58,14 +52,6 @@ abbrev pub is_one_tag : List Token → ℕ → Bool
 is_one_tag (token ∷ []) len = is_whole_tag token len
 is_one_tag _ len = false
 
--- whether an attribute as it stands in a tag has this key
-abbrev pub has_key : List ℕ → List ℕ × List ℕ → Bool
-has_key key a = bytes_eq (name_of a.0) key
-
--- the attributes with other keys
-abbrev pub with_other_keys : List ℕ → List (List ℕ × List ℕ) → List (List ℕ × List ℕ)
-with_other_keys key attributes = filter (λ a. not (has_key key a)) attributes
-
 -- a value in the place of another, or after a key that has none
 abbrev pub IsValuePut : List ℕ → List ℕ → Type 0
 IsValuePut value put = (put ≡ quoted_value value) ⊎ (put ≡ 61 ∷ quoted_value value)
@@ -82,12 +68,6 @@ abbrev pub IsPut : TagChange → Splice ℕ → Type 0
 IsPut (Set key value) s = IsValuePut value s.put ⊎ (s.put ≡ attribute_markup key value)
 IsPut (Unset key) s = IsCut s
 IsPut _ s = ⊤
-
--- a tag with splices, which is read with just these parts
-pub record IsSpliced (tag : List ℕ) (splices : List (Splice ℕ)) (wanted : Parts) (new : List ℕ) :
-    Type 0 where
-  pub bytes : new ≡ with_splices tag splices
-  pub read : IsStartTagOf new wanted
 
 -- new is the tag with a change: some places in it have something else, and each other byte is as it
 -- was; and where the tag is a start tag by itself, so is new, with the token changed

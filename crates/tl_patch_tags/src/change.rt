@@ -1,43 +1,19 @@
 //! Start tags with a key set or unset.
-ghost use Rattle.std.specs.Prelude.{◌≡◌, ◌&&◌, ◌++◌, IfOk, IfSome, OnOk, drop, false, is_some, map, true};
+ghost use Rattle.std.specs.Prelude.{◌≡◌, ◌&&◌, ◌++◌, IfOk, IfSome, OnOk, drop, false, is_some, true};
 ghost use Rattle.std.specs.List.{list_any};
-ghost use Rattle.tl_html_tags.specs.Parts.{parts_view};
 ghost use Rattle.tl_patch.specs.Places.{IsNameEnd};
-ghost use Rattle.tl_patch.specs.View.{splice_view};
 ghost use Rattle.tl_patch_spec.specs.Markup.{is_key, is_without_nul, quoted_value};
 ghost use Rattle.tl_patch_spec.specs.TagChanges.{Set, Unset};
 ghost use Rattle.tl_patch_tags.specs.Places.{IsFirstNamed, is_named, places_of, value_put};
-ghost use Rattle.tl_patch_tags.specs.StartTags.{IsChanged, IsSpliced, is_start_tag};
+ghost use Rattle.tl_patch_tags.specs.StartTags.{IsChanged, is_start_tag};
 
 use crate::cut::cuts;
-use crate::key::others;
-use crate::parts::{is_read_as, start_tag_name_end, start_tag_parts};
+use crate::parts::start_tag_name_end;
 use crate::places::{first_named, places};
 use crate::splice::write_with;
 use crate::stage::Place;
 use std::alloc::{AllocError, Global};
-use tl_html_tags::TagParts;
-use tl_patch::{Splice, is_key, is_value, with_attribute, with_splices, write_value};
-
-// A tag with splices, if it is read with just these parts.
-pub(crate) fn spliced(
-    alloc: Global,
-    tag: &[u8],
-    splices: &[Splice<'_>],
-    wanted: &TagParts<'_>,
-) -> Result<Option<Vec<u8>>, AllocError>
-    ensures { IfOk result (λ found. IfSome found (λ new.
-        IsSpliced tag.now (map splice_view splices.now) (parts_view wanted.now) new.items)) }
-{
-    let Some(new) = with_splices(alloc, tag, splices)? else {
-        return Ok(None);
-    };
-    let is_read = is_read_as(alloc, new.as_slice(), wanted)?;
-    if !is_read {
-        return Ok(None);
-    }
-    Ok(Some(new))
-}
+use tl_patch::{is_key, is_value, with_attribute, with_splices, write_value};
 
 #[tactic(auto, using(crate::proofs::Puts::quoted_is))]
 fn write_quoted(value: &[u8], out: &mut Vec<u8>) -> Result<(), AllocError>
@@ -161,21 +137,40 @@ pub fn with_value(
     with_written_value(alloc, tag, start, key, value)
 }
 
-/// A start tag without a key. `None` where the bytes are no start tag by themselves, or the new tag
-/// would be read otherwise.
-pub fn without_key(alloc: Global, tag: &[u8], key: &[u8]) -> Result<Option<Vec<u8>>, AllocError>
-    ensures { IfOk result (λ found. IfSome found (λ new.
+// So a start tag, whose name ends at a place, without a key.
+fn without_named(
+    alloc: Global,
+    tag: &[u8],
+    start: usize,
+    key: &[u8],
+) -> Result<Option<Vec<u8>>, AllocError>
+    requires tag { is_start_tag tag.now ≡ true }
+    requires start { IsNameEnd false start tag.now }
+    ensures changed { IfOk result (λ found. IfSome found (λ new.
         IsChanged (Unset key.now) tag.now new.items)) }
+    ensures some { IfOk result (λ found. is_some found ≡ true) }
 {
-    let Some(parts) = start_tag_parts(alloc, tag)? else {
+    let rest = &tag[start..];
+    let attributes = places(alloc, rest)?;
+    let gone = cuts(alloc, rest, attributes.as_slice(), key)?;
+    // (they stand in order, so it is never `None`)
+    let Some(new_rest) = with_splices(alloc, rest, gone.as_slice())? else {
         return Ok(None);
     };
-    let splices = cuts(alloc, tag, &parts, key)?;
-    let attributes = others(alloc, parts.attributes.as_slice(), key)?;
-    let wanted = TagParts {
-        name: parts.name,
-        attributes,
-        closes: parts.closes,
+    let mut new = Vec::new(alloc);
+    new.extend_from_slice(&tag[..start])?;
+    new.extend_from_slice(new_rest.as_slice())?;
+    Ok(Some(new))
+}
+
+/// A start tag without a key. `None` where the bytes are no start tag by themselves.
+pub fn without_key(alloc: Global, tag: &[u8], key: &[u8]) -> Result<Option<Vec<u8>>, AllocError>
+    ensures changed { IfOk result (λ found. IfSome found (λ new.
+        IsChanged (Unset key.now) tag.now new.items)) }
+    ensures some { IfOk result (λ found. is_some found ≡ is_start_tag tag.now) }
+{
+    let Some(start) = start_tag_name_end(alloc, tag)? else {
+        return Ok(None);
     };
-    spliced(alloc, tag, splices.as_slice(), &wanted)
+    without_named(alloc, tag, start, key)
 }

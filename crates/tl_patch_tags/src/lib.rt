@@ -1,12 +1,10 @@
 //! Start tags with a key set or unset, or another name, in their own bytes.
 #![tactic(auto)]
 
-mod alike;
 mod change;
 mod cut;
 mod key;
 mod parts;
-mod place;
 mod places;
 mod rename;
 mod splice;

@@ -1,12 +1,9 @@
 //! What a start tag says, by its own bytes.
-ghost use Rattle.std.specs.Prelude.{◌≡◌, IfOk, IfSome, false, is_some, true};
-ghost use Rattle.tl_html_tags.specs.Parts.{parts_view};
+ghost use Rattle.std.specs.Prelude.{◌≡◌, IfOk, IfSome, false, is_some};
 ghost use Rattle.tl_patch.specs.Places.{IsNameEnd};
-ghost use Rattle.tl_patch_tags.specs.StartTags.{IsStartTagOf, is_data, is_one_tag, is_start_kind, is_start_tag, is_whole_tag};
+ghost use Rattle.tl_patch_tags.specs.StartTags.{is_data, is_one_tag, is_start_kind, is_start_tag, is_whole_tag};
 
-use crate::alike::are_alike;
 use std::alloc::{AllocError, Global};
-use tl_html_tags::{TagParts, tag_parts};
 use tl_html_tokens::{Mode, Token, TokenKind, tokens};
 use tl_patch::start_name_end;
 
@@ -58,44 +55,4 @@ pub(crate) fn start_tag_name_end(alloc: Global, bytes: &[u8]) -> Result<Option<u
         return Ok(None);
     }
     Ok(start_name_end(bytes))
-}
-
-// The parts of a start tag; `None` where the bytes are no start tag by themselves.
-pub(crate) fn start_tag_parts(
-    alloc: Global,
-    bytes: &[u8],
-) -> Result<Option<TagParts<'_>>, AllocError>
-    ensures parts { IfOk result (λ found. IfSome found (λ parts.
-        IsStartTagOf bytes.now (parts_view parts))) }
-    ensures some { IfOk result (λ found. is_some found ≡ is_start_tag bytes.now) }
-{
-    let is_alone = is_start_tag(alloc, bytes)?;
-    if !is_alone {
-        return Ok(None);
-    }
-    let parts = tag_parts(alloc, bytes)?;
-    Ok(Some(parts))
-}
-
-// Whether bytes are a start tag by themselves with just these parts, byte by byte.
-pub(crate) fn is_read_as(
-    alloc: Global,
-    bytes: &[u8],
-    wanted: &TagParts<'_>,
-) -> Result<bool, AllocError>
-    ensures { IfOk result (λ is. is ≡ true → IsStartTagOf bytes.now (parts_view wanted.now)) }
-{
-    let Some(parts) = start_tag_parts(alloc, bytes)? else {
-        return Ok(false);
-    };
-    Ok(has_parts(&parts, wanted))
-}
-
-// Whether two tags have the same parts, byte by byte.
-fn has_parts(tag: &TagParts<'_>, wanted: &TagParts<'_>) -> bool
-    ensures { result ≡ true → parts_view tag.now ≡ parts_view wanted.now }
-{
-    tag.name == wanted.name
-        && tag.closes == wanted.closes
-        && are_alike(tag.attributes.as_slice(), wanted.attributes.as_slice())
 }

@@ -54,7 +54,7 @@ fn first(bytes: &[u8], len: usize) -> &[u8]
 }
 
 // What stands between two places.
-fn part(bytes: &[u8], from: usize, until: usize) -> &[u8]
+pub(crate) fn part(bytes: &[u8], from: usize, until: usize) -> &[u8]
     ensures { result.now ≡ part from until bytes.now }
 {
     first(after(bytes, from), until.saturating_sub(from))

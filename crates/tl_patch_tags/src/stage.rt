@@ -33,7 +33,7 @@ pub(crate) enum Stage {
     Unquoted(KeyPlace, usize),
 }
 
-fn is_space(byte: u8) -> bool
+pub(crate) fn is_space(byte: u8) -> bool
     ensures { result ≡ is_space byte }
 {
     matches!(byte, b'\t' | b'\n' | 0x0C | b'\r' | b' ')
