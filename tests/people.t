@@ -355,6 +355,24 @@ Encodings.
   [2]
   $ (head -c 1024 /dev/zero | tr '\0' a; printf '<meta charset=latin1>\351') | tl text | tail -c 3
   tl: -: no UTF-8 at byte 1045 (err)
+  $ printf '<?xml version="1.0" encoding="iso-8859-1"?><p>caf\351' | tl text
+  café (no-eol)
+  $ printf '<?xml version="1.0" encoding="koi8-r"?><meta charset=latin1><p>caf\351' | tl text
+  café (no-eol)
+  $ printf '<?xml version="1.0" encoding="koi8-r"?><p>\351' | tl text
+  tl: -: the encoding `koi8-r` is not read (err)
+  [2]
+  $ printf '<?xml version="1.0" encoding=latin1?><p>\351' | tl text
+  tl: -: no UTF-8 at byte 40 (err)
+  [2]
+  $ (printf '<?xml '; head -c 1024 /dev/zero | tr '\0' a; printf ' encoding="latin1"?>\351') | tl text | tail -c 3
+  tl: -: no UTF-8 at byte 1050 (err)
+  $ printf '<\0?\0x\0m\0l\0' | tl text
+  tl: -: UTF-16 is not read (err)
+  [2]
+  $ printf '\0<\0?\0x\0m\0l' | tl text
+  tl: -: UTF-16 is not read (err)
+  [2]
   $ tl text --encoding utf-16 meta.html
   tl: no encoding that is read: utf-16 (err)
   [2]

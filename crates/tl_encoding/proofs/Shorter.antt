@@ -6,7 +6,7 @@ use Rattle.std.proofs.lemmas.Bool.{cases_Bool}
 use Rattle.std.proofs.lemmas.List.{length-drop}
 use Rattle.tl_encoding.specs.Attributes.{after_attributes, after_key, after_value, is_end, is_named, key_len, next, next_of, tag_end, value_among, value_at}
 use Rattle.tl_encoding.specs.Charset.{comment_end, is_markup, is_meta, is_tag, item_end, meta_label, prescanned, said_within}
-use Rattle.tl_encoding.specs.Runs.{after, after_equals, begins_with, is_of, is_quote, rest_after_equals}
+use Rattle.tl_encoding.specs.Runs.{after, after_equals, begins, begins_with, from_word, is_of, is_quote, rest_after_equals}
 use Rattle.tl_encoding.specs.declared.run.ByteClass.{ByteClass}
 use Rattle.tl_encoding.specs.declared.run.ByteClass.TheVariants.{Space, Gap, Bare, Except}
 
@@ -16,7 +16,7 @@ drop-le k s = omega (arith, length-drop k s)
 after-le : (class : ByteClass) (s : List ℕ) → length (after class s) ≤ length s
 after-le class s = drop-le (prefix_len (is_of class) s) s
 
-rest_after_equals-le : (s r : List ℕ) → rest_after_equals s ≡ Some r → length r ≤ length s
+rest_after_equals-le : (s r : List ℕ) → rest_after_equals Space s ≡ Some r → length r ≤ length s
 rest_after_equals-le [] r e = cc
 rest_after_equals-le (b ∷ s) r e = elim (cases_Bool (b == 61)) [
   | inl y ↦ (let f : after Space s ≡ r = cc (rw y at e) in omega (arith, after-le Space s, ap length f))
@@ -30,7 +30,7 @@ after_value-le (b ∷ s) = elim (cases_Bool (is_quote b)) [
   | inr n ↦ rw n (after-le Bare (b ∷ s))
 ]
 
-next_of-le : (s : List ℕ) (o : Option (List ℕ)) → after_equals (after_key s) ≡ o → length (next_of s o) ≤ length (after_key s)
+next_of-le : (s : List ℕ) (o : Option (List ℕ)) → after_equals Space (after_key s) ≡ o → length (next_of s o) ≤ length (after_key s)
 next_of-le s None e = after-le Gap (after_key s)
 next_of-le s (Some r) e = omega (arith, after-le Gap (after_value r), after_value-le r, rest_after_equals-le (after Space (after_key s)) r e, after-le Space (after_key s))
 
@@ -39,7 +39,7 @@ after_key-lt [] e = cc
 after_key-lt (b ∷ s) e = omega (arith, length-drop (key_len (b ∷ s)) (b ∷ s))
 
 pub next-lt : (s : List ℕ) → is_end s ≡ false → length (next s) < length s
-next-lt s e = omega (arith, next_of-le s (after_equals (after_key s)) refl, after_key-lt s e)
+next-lt s e = omega (arith, next_of-le s (after_equals Space (after_key s)) refl, after_key-lt s e)
 
 after_attributes-le : (n : ℕ) (s : List ℕ) → length (after_attributes n s) ≤ length s
 after_attributes-le zero s = omega arith
@@ -51,12 +51,15 @@ after_attributes-le (suc n) s = elim (cases_Bool (is_end s)) [
 tag_end-le : (tag : List ℕ) → length (tag_end tag) ≤ length tag
 tag_end-le tag = omega (arith, after_attributes-le (length tag) (after Gap tag), after-le Gap tag)
 
-comment_end-le : (s : List ℕ) → length (comment_end s) ≤ length s
-comment_end-le [] = omega arith
-comment_end-le (b ∷ s) = elim (cases_Bool (begins_with (codes "-->") (b ∷ s))) [
-  | inl y ↦ rw y (drop-le 2 (b ∷ s))
-  | inr n ↦ rw n (omega (arith, comment_end-le s))
+from_word-le : (word s : List ℕ) → length (from_word word s) ≤ length s
+from_word-le word [] = omega arith
+from_word-le word (b ∷ s) = elim (cases_Bool (begins word (b ∷ s))) [
+  | inl y ↦ rw y (omega arith)
+  | inr n ↦ rw n (omega (arith, from_word-le word s))
 ]
+
+comment_end-le : (s : List ℕ) → length (comment_end s) ≤ length s
+comment_end-le s = omega (arith, drop-le 2 (from_word (codes "-->") s), from_word-le (codes "-->") s)
 
 item_end-le : (s : List ℕ) → length (item_end s) ≤ length s
 item_end-le s = elim (cases_Bool (begins_with (codes "<!--") s)) [

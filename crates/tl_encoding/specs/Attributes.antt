@@ -4,7 +4,7 @@ use Rattle.std.specs.Prelude.{ℕ, Bool, ◌+◌, ◌==◌, List, [], ◌∷◌,
 use Rattle.std.specs.List.{prefix_len, take_while}
 use Rattle.std.specs.Str.{str_eq_ignore_ascii_case}
 use Rattle.tl_encoding.specs.Runs.{after, after_equals, is_of, is_quote}
-use Rattle.tl_encoding.specs.declared.run.ByteClass.TheVariants.{Gap, Key, Bare, Except}
+use Rattle.tl_encoding.specs.declared.run.ByteClass.TheVariants.{Space, Gap, Key, Bare, Except}
 
 -- how many bytes a key has: its first byte may be an equals sign
 abbrev pub key_len : List ℕ → ℕ
@@ -33,7 +33,7 @@ value_of None = []
 value_of (Some written) = written_value written
 
 abbrev pub value : List ℕ → List ℕ
-value bytes = value_of (after_equals (after_key bytes))
+value bytes = value_of (after_equals Space (after_key bytes))
 
 -- where the next attribute stands
 abbrev pub next_of : List ℕ → Option (List ℕ) → List ℕ
@@ -41,7 +41,7 @@ next_of bytes None = after Gap (after_key bytes)
 next_of bytes (Some written) = after Gap (after_value written)
 
 abbrev pub next : List ℕ → List ℕ
-next bytes = next_of bytes (after_equals (after_key bytes))
+next bytes = next_of bytes (after_equals Space (after_key bytes))
 
 -- no attribute stands here: `>` does, or the bytes ran out
 abbrev pub is_end : List ℕ → Bool

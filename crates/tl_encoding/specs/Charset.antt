@@ -1,12 +1,12 @@
--- The encoding that a page says in itself: the label that the HTML standard's prescan ("prescan a
--- byte stream to determine its encoding") finds in its first 1,024 bytes.
+-- The encoding that a page says in a tag `meta`: the label that the HTML standard's prescan
+-- ("prescan a byte stream to determine its encoding") finds in its first 1,024 bytes.
 use Rattle.std.specs.Prelude.{ℕ, Bool, ◌||◌, ◌&&◌, List, [], ◌∷◌, Option, Some, None, codes, drop, false, length, not, suc, take, true, zero, if◌then◌else◌}
 use Rattle.std.specs.Option.{option_and_then, option_or}
 use Rattle.std.specs.Str.{str_eq_ignore_ascii_case}
 use Rattle.tl_encoding.specs.Attributes.{tag_end, value_at}
 use Rattle.tl_encoding.specs.Content.{content_label}
 use Rattle.tl_encoding.specs.Labels.{is_label, trimmed}
-use Rattle.tl_encoding.specs.Runs.{after, begins_of, begins_with}
+use Rattle.tl_encoding.specs.Runs.{after, begins_of, begins_with, from_word}
 use Rattle.tl_encoding.specs.declared.run.ByteClass.TheVariants.{Bare, Except, Gap, Letter}
 
 -- a tag `meta`: white space or a slash stands after its name
@@ -26,8 +26,7 @@ is_markup bytes =
 
 -- the end of a comment, at the `>` of its first `-->`
 abbrev pub comment_end : List ℕ → List ℕ
-comment_end [] = []
-comment_end (b ∷ s) = if begins_with (codes "-->") (b ∷ s) then drop 2 (b ∷ s) else comment_end s
+comment_end bytes = drop 2 (from_word (codes "-->") bytes)
 
 -- the last byte of what stands here: a comment, whose dashes may be those of its beginning, a tag,
 -- other markup, or one byte
@@ -80,5 +79,9 @@ said_within (suc n) bytes =
 abbrev pub prescanned : List ℕ → Option (List ℕ)
 prescanned bytes = said_within (length bytes) bytes
 
+-- the bytes that are looked at
+abbrev pub head : List ℕ → List ℕ
+head page = take 1024 page
+
 abbrev pub charset_of : List ℕ → Option (List ℕ)
-charset_of page = prescanned (take 1024 page)
+charset_of page = prescanned (head page)

@@ -4,12 +4,12 @@ use Rattle.std.specs.Prelude.{ℕ, List, [], ◌∷◌, Option, Some, None, code
 use Rattle.std.specs.List.{prefix_len, take_while}
 use Rattle.std.specs.Option.{option_and_then, option_or}
 use Rattle.tl_encoding.specs.Runs.{after_equals, begins_with, is_of, is_quote}
-use Rattle.tl_encoding.specs.declared.run.ByteClass.TheVariants.{Except, Label}
+use Rattle.tl_encoding.specs.declared.run.ByteClass.TheVariants.{Space, Except, Label}
 
 -- what stands after `charset` and an equals sign, where they stand
 abbrev pub charset_at : List ℕ → Option (List ℕ)
 charset_at bytes =
-    if begins_with (codes "charset") bytes then after_equals (drop 7 bytes) else None
+    if begins_with (codes "charset") bytes then after_equals Space (drop 7 bytes) else None
 
 -- what is said at the first place that says something
 abbrev pub first_said : (List ℕ → Option (List ℕ)) → List ℕ → Option (List ℕ)

@@ -2,6 +2,7 @@
 use Prim.Native.String.{String}
 use Rattle.std.specs.Prelude.{◌≡◌, Some, None, codes}
 use Rattle.tl_encoding.specs.Charset.{charset_of}
+use Rattle.tl_encoding.specs.Declaration.{label_declared}
 use Rattle.tl_encoding.specs.Encodings.{Answer, encoding_said}
 
 -- the label that a page says
@@ -10,6 +11,13 @@ Says page label = charset_of (codes page) ≡ Some (codes label)
 
 abbrev pub SaysNothing : String → Type 0
 SaysNothing page = charset_of (codes page) ≡ None
+
+-- the label that a page declares
+abbrev pub Declares : String → String → Type 0
+Declares page label = label_declared (codes page) ≡ Some (codes label)
+
+abbrev pub DeclaresNothing : String → Type 0
+DeclaresNothing page = label_declared (codes page) ≡ None
 
 -- what there is to say of it
 abbrev pub Means : String → Answer → Type 0

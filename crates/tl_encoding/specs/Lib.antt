@@ -1,6 +1,7 @@
 pub mod Attributes
 pub mod Charset
 pub mod Content
+pub mod Declaration
 pub mod Encodings
 pub mod Examples
 pub mod Labels

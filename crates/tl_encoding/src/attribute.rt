@@ -2,7 +2,7 @@
 ghost use Rattle.std.specs.Prelude.{◌≡◌, ◌≤◌, length, option_map};
 ghost use Rattle.tl_encoding.specs.Attributes.{after_key, after_value, is_end, is_named, key, key_len, next, tag_end, value, value_at, written_value};
 
-use crate::run::{ByteClass, after, after_equals, is_quote, run, run_len, without_first};
+use crate::run::{ByteClass, after, after_equals, is_quote, run, run_len, without};
 
 // How many bytes the key has that stands here: its first may be an equals sign.
 fn key_len(bytes: &[u8]) -> usize
@@ -44,7 +44,7 @@ fn after_value(bytes: &[u8]) -> &[u8]
 {
     match bytes {
         [quote, rest @ ..] if is_quote(*quote) => {
-            without_first(after(ByteClass::Except(*quote), rest))
+            without(1, after(ByteClass::Except(*quote), rest))
         }
         _ => after(ByteClass::Bare, bytes),
     }
@@ -54,7 +54,7 @@ fn after_value(bytes: &[u8]) -> &[u8]
 fn value(bytes: &[u8]) -> &[u8]
     ensures { result.now ≡ value bytes.now }
 {
-    match after_equals(after_key(bytes)) {
+    match after_equals(ByteClass::Space, after_key(bytes)) {
         Some(written) => written_value(written),
         None => b"",
     }
@@ -65,7 +65,7 @@ fn next(bytes: &[u8]) -> &[u8]
     ensures { result.now ≡ next bytes.now }
 {
     let rest = after_key(bytes);
-    match after_equals(rest) {
+    match after_equals(ByteClass::Space, rest) {
         Some(written) => after(ByteClass::Gap, after_value(written)),
         None => after(ByteClass::Gap, rest),
     }

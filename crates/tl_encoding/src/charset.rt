@@ -1,12 +1,12 @@
-//! The encoding that a page says in itself.
-ghost use Rattle.std.specs.Prelude.{◌≡◌, codes, option_map, take};
-ghost use Rattle.tl_encoding.specs.Charset.{charset_of, comment_end, is_content_type, is_markup, is_meta, is_tag, item_end, label_in_content, label_known, label_said, meta_label, prescanned};
+//! The encoding that a page says in a tag `meta`.
+ghost use Rattle.std.specs.Prelude.{◌≡◌, codes, option_map};
+ghost use Rattle.tl_encoding.specs.Charset.{charset_of, comment_end, head, is_content_type, is_markup, is_meta, is_tag, item_end, label_in_content, label_known, label_said, meta_label, prescanned};
 ghost use Rattle.tl_encoding.specs.Attributes.{value_at};
 
 use crate::attribute::{tag_end, value_at};
 use crate::content::content_label;
 use crate::labels::{is_label, trimmed};
-use crate::run::{ByteClass, after, begins_of, begins_with, without_first};
+use crate::run::{ByteClass, after, begins_of, begins_with, from_word, without};
 
 // How many bytes of a page, at most, say its encoding.
 const HEAD: usize = 1024;
@@ -34,18 +34,10 @@ fn is_markup(bytes: &[u8]) -> bool
 }
 
 // A comment from the `>` of its first `-->` on.
-#[tactic(auto, using(crate::proofs::Said::comment_goes_on))]
 fn comment_end(bytes: &[u8]) -> &[u8]
     ensures { result.now ≡ comment_end bytes.now }
 {
-    let mut rest = bytes;
-    while !rest.is_empty() {
-        if begins_with(rest, "-->") {
-            return &rest[2..];
-        }
-        rest = &rest[1..];
-    }
-    rest
+    without(2, from_word("-->", bytes))
 }
 
 // The last byte of what stands here, and what stands after it.
@@ -96,7 +88,7 @@ fn label_said(tag: &[u8]) -> Option<&[u8]>
 }
 
 // A label of the encoding standard, without white space around it.
-fn label_known(label: &[u8]) -> Option<&[u8]>
+pub(crate) fn label_known(label: &[u8]) -> Option<&[u8]>
     ensures { option_map (λ label. label.now) result ≡ label_known label.now }
 {
     let label = trimmed(label);
@@ -128,14 +120,14 @@ fn prescanned(head: &[u8]) -> Option<&[u8]>
         if let Some(label) = meta_label(rest) {
             return Some(label);
         }
-        rest = without_first(item_end(rest));
+        rest = without(1, item_end(rest));
     }
     None
 }
 
 // The bytes of a page that may say its encoding.
-fn head(page: &[u8]) -> &[u8]
-    ensures { result.now ≡ take 1024 page.now }
+pub(crate) fn head(page: &[u8]) -> &[u8]
+    ensures { result.now ≡ head page.now }
 {
     if page.len() < HEAD {
         page

@@ -11,7 +11,7 @@ fn charset_at(bytes: &[u8]) -> Option<&[u8]>
     if !begins_with(bytes, "charset") {
         return None;
     }
-    after_equals(&bytes[7..])
+    after_equals(ByteClass::Space, &bytes[7..])
 }
 
 // The same at the first place where they stand.
@@ -30,7 +30,7 @@ fn charset_in(content: &[u8]) -> Option<&[u8]>
 }
 
 // The bytes before a quote, if it stands there.
-fn until(quote: u8, bytes: &[u8]) -> Option<&[u8]>
+pub(crate) fn until(quote: u8, bytes: &[u8]) -> Option<&[u8]>
     ensures { option_map (λ label. label.now) result ≡ until quote bytes.now }
 {
     let class = ByteClass::Except(quote);

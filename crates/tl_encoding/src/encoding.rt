@@ -1,9 +1,12 @@
 //! Encodings, and which one a page is in.
 ghost use Rattle.std.specs.Prelude.{◌≡◌, ◌∷◌, []};
 ghost use Rattle.std.specs.Str.{is_utf8};
-ghost use Rattle.tl_encoding.specs.Encodings.{answer_of, begins, encoding_in, encoding_labelled, encoding_meant, encoding_named, encoding_said, has_utf_16_mark};
+ghost use Rattle.tl_encoding.specs.Declaration.{label_declared};
+ghost use Rattle.tl_encoding.specs.Encodings.{answer_of, declared, encoding_declared, encoding_in, encoding_labelled, encoding_meant, encoding_named, encoding_said, has_utf_16_mark, known_or};
+ghost use Rattle.tl_encoding.specs.Runs.{begins};
 
 use crate::charset::charset_of;
+use crate::declaration::{is_utf_16_declared, label_declared};
 use crate::labels::{names_user_defined, names_utf_8, names_utf_16, names_windows_1252, trimmed};
 use bstr::ByteSlice;
 use std::error::Error;
@@ -20,7 +23,7 @@ pub enum Encoding {
 /// Why a page is in no encoding that is read.
 #[derive(Clone, Copy, PartialEq, Eq, Debug)]
 pub enum EncodingError<'p> {
-    /// It begins with the byte-order mark of UTF-16.
+    /// It begins with the byte-order mark of UTF-16, or with an XML declaration in UTF-16.
     Utf16,
     /// It says another one, by this label.
     Unknown(&'p [u8]),
@@ -61,30 +64,56 @@ impl Encoding {
         Encoding::named(trimmed(label))
     }
 
-    // The encoding that a tag `meta` means: a page whose tags can be read so is in no UTF-16.
-    fn meant(label: &[u8]) -> Option<Encoding>
-        ensures { result ≡ encoding_meant label.now }
+    // The encoding that an XML declaration means: a page that can be read so is in no UTF-16.
+    fn declared(label: &[u8]) -> Option<Encoding>
+        ensures { result ≡ encoding_declared label.now }
     {
         if names_utf_16(label) {
             Some(Encoding::Utf8)
-        } else if names_user_defined(label) {
-            Some(Encoding::Windows1252)
         } else {
             Encoding::named(label)
         }
     }
+
+    // The encoding that a tag `meta` means: there `x-user-defined` is windows-1252.
+    fn meant(label: &[u8]) -> Option<Encoding>
+        ensures { result ≡ encoding_meant label.now }
+    {
+        if names_user_defined(label) {
+            Some(Encoding::Windows1252)
+        } else {
+            Encoding::declared(label)
+        }
+    }
 }
 
-// The encoding that a page says in itself; else it has to be UTF-8.
+// The encoding of a label, or that it has none that is read.
+fn known_or(encoding: Option<Encoding>, label: &[u8]) -> Result<Encoding, EncodingError<'_>>
+    ensures { answer_of result ≡ known_or encoding label.now }
+{
+    match encoding {
+        Some(encoding) => Ok(encoding),
+        None => Err(EncodingError::Unknown(label)),
+    }
+}
+
+// The encoding that a page says in an XML declaration; else it has to be UTF-8.
+fn encoding_declared(page: &[u8]) -> Result<Encoding, EncodingError<'_>>
+    ensures { answer_of result ≡ declared (label_declared page.now) }
+{
+    match label_declared(page) {
+        Some(label) => known_or(Encoding::declared(label), label),
+        None => Ok(Encoding::Utf8),
+    }
+}
+
+// The encoding that a page says in itself: a tag `meta` counts before a declaration.
 fn encoding_said(page: &[u8]) -> Result<Encoding, EncodingError<'_>>
     ensures { answer_of result ≡ encoding_said page.now }
 {
-    let Some(label) = charset_of(page) else {
-        return Ok(Encoding::Utf8);
-    };
-    match Encoding::meant(label) {
-        Some(encoding) => Ok(encoding),
-        None => Err(EncodingError::Unknown(label)),
+    match charset_of(page) {
+        Some(label) => known_or(Encoding::meant(label), label),
+        None => encoding_declared(page),
     }
 }
 
@@ -113,11 +142,12 @@ fn is_utf_8(page: &[u8]) -> bool
 }
 
 /// The encoding of a page: that of its byte-order mark, else UTF-8 if it is that, else what it says
-/// in a tag `meta` among its first 1,024 bytes, and UTF-8 if it says nothing.
+/// among its first 1,024 bytes in a tag `meta` or, where none says anything, in an XML declaration,
+/// and UTF-8 if it says nothing. A declaration in UTF-16 counts as its mark does.
 pub fn encoding_of(page: &[u8]) -> Result<Encoding, EncodingError<'_>>
     ensures { answer_of result ≡ encoding_in page.now }
 {
-    if has_utf_16_mark(page) {
+    if has_utf_16_mark(page) || is_utf_16_declared(page) {
         return Err(EncodingError::Utf16);
     }
     if has_utf_8_mark(page) {

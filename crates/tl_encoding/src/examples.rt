@@ -1,11 +1,11 @@
-//! Worked rows: pages, and the label that the standard's prescan finds in them.
+//! Worked rows: pages, and what the standard's prescan finds in them.
 #![tactic(auto, unfolding(crate::specs::Labels::names_utf_8, crate::specs::Labels::names_windows_1252, crate::specs::Labels::names_utf_16, crate::specs::Labels::names_unread))]
 
 ghost use Rattle.std.specs.Prelude.{◌≡◌, [], Some, None, codes};
 ghost use Rattle.tl_encoding.specs.Attributes.{tag_end, value_at};
 ghost use Rattle.tl_encoding.specs.Content.{content_label};
-ghost use Rattle.tl_encoding.specs.Encodings.{encoding_labelled, known, unknown};
-ghost use Rattle.tl_encoding.specs.Examples.{Means, Says, SaysNothing};
+ghost use Rattle.tl_encoding.specs.Encodings.{encoding_in, encoding_labelled, known, unknown, utf_16};
+ghost use Rattle.tl_encoding.specs.Examples.{Declares, DeclaresNothing, Means, Says, SaysNothing};
 ghost use Rattle.tl_encoding.specs.declared.encoding.Encoding.TheVariants.{Utf8, Windows1252};
 
 /// Attributes ("get an attribute").
@@ -68,6 +68,42 @@ pub fn passed()
     ensures end_tag { SaysNothing "</a b='<meta charset=l1>'>" }
     ensures markup { SaysNothing "<?<meta charset=l1>" }
     ensures less_sign { Says "<<meta charset=l1>" "l1" }
+{}
+
+/// Labels in declarations ("get an XML encoding").
+pub fn declarations()
+    ensures plain { Declares "<?xml version='1.0' encoding='latin1'?>" "latin1" }
+    ensures quotes { Declares "<?xml encoding=\"KOI8-R\"?>" "KOI8-R" }
+    ensures white_space { Declares "<?xml encoding\t=\n'l1' ?>" "l1" }
+    ensures control_character { Declares "<?xml encoding\u{1}= 'l1'?>" "l1" }
+    ensures behind_it { Declares "<?xml?><p encoding='l1'>" "l1" }
+    ensures in_a_longer_name { Declares "<?xmlencoding='l1'>" "l1" }
+    ensures no_quotes { DeclaresNothing "<?xml encoding=l1 ?>" }
+    ensures open_quote { DeclaresNothing "<?xml encoding='l1?>" }
+    ensures other_quote { DeclaresNothing "<?xml encoding='l1\"?>" }
+    ensures no_equals_sign { DeclaresNothing "<?xml encoding 'l1'?>" }
+    ensures first_alone { DeclaresNothing "<?xml encoding encoding='l1'?>" }
+    ensures capitals { DeclaresNothing "<?xml ENCODING='l1'?>" }
+    ensures capitals_in_front { DeclaresNothing "<?XML encoding='l1'?>" }
+    ensures not_in_front { DeclaresNothing " <?xml encoding='l1'?>" }
+    ensures no_end { DeclaresNothing "<?xml encoding='l1'?" }
+    ensures blank_in_front { DeclaresNothing "<?xml encoding=' l1'?>" }
+    ensures blank_at_its_end { DeclaresNothing "<?xml encoding='l1 '?>" }
+    ensures no_label { DeclaresNothing "<?xml encoding='nope'?>" }
+{}
+
+/// Where declarations count.
+pub fn declared()
+    ensures alone { Means "<?xml encoding='l1'?>" (known Windows1252) }
+    ensures behind_a_meta { Means "<?xml encoding='koi8-r'?><meta charset=l1>" (known Windows1252) }
+    ensures passed_meta { Means "<?xml encoding='l1'?><meta charset=nope>" (known Windows1252) }
+    ensures utf_16 { Means "<?xml encoding='utf-16'?>" (known Utf8) }
+    ensures user_defined { Means "<?xml encoding='x-user-defined'?>" (unknown (codes "x-user-defined")) }
+    ensures unread { Means "<?xml encoding='gbk'?>" (unknown (codes "gbk")) }
+    ensures no_label { Means "<?xml encoding='nope'?>" (known Utf8) }
+    ensures little_end_first { encoding_in (codes "<\0?\0x\0") ≡ utf_16 }
+    ensures big_end_first { encoding_in (codes "\0<\0?\0x") ≡ utf_16 }
+    ensures too_short { encoding_in (codes "<\0?\0x") ≡ known Utf8 }
 {}
 
 /// The encodings that labels mean.

@@ -4,6 +4,7 @@
 mod attribute;
 mod charset;
 mod content;
+mod declaration;
 mod encoding;
 mod examples;
 mod labels;

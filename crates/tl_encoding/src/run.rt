@@ -1,12 +1,14 @@
 //! Runs of bytes of a class.
 ghost use Rattle.std.specs.Prelude.{◌≡◌, ◌≤◌, drop, length, option_map};
 ghost use Rattle.std.specs.List.{prefix_len, take_while};
-ghost use Rattle.tl_encoding.specs.Runs.{after, after_equals, begins_of, begins_with, is_of, is_quote};
+ghost use Rattle.tl_encoding.specs.Runs.{after, after_equals, begins_of, begins_with, from_word, is_of, is_quote};
 
 #[derive(Clone, Copy)]
 pub(crate) enum ByteClass {
     // white space
     Space,
+    // a space or a control character
+    Blank,
     // what stands between attributes
     Gap,
     // what a key is made of after its first byte
@@ -21,11 +23,12 @@ pub(crate) enum ByteClass {
 }
 
 impl ByteClass {
-    fn has(self, byte: u8) -> bool
+    pub(crate) fn has(self, byte: u8) -> bool
         ensures { result ≡ is_of self byte }
     {
         match self {
             ByteClass::Space => byte.is_ascii_whitespace(),
+            ByteClass::Blank => byte <= b' ',
             ByteClass::Gap => byte.is_ascii_whitespace() || byte == b'/',
             ByteClass::Key => {
                 !(byte.is_ascii_whitespace() || byte == b'/' || byte == b'=' || byte == b'>')
@@ -81,12 +84,27 @@ pub(crate) fn begins_with(bytes: &[u8], word: &str) -> bool
     bytes.len() >= word.len() && bytes[..word.len()].eq_ignore_ascii_case(word.as_bytes())
 }
 
-// What stands after an equals sign with white space around it, if that is next.
-pub(crate) fn after_equals(bytes: &[u8]) -> Option<&[u8]>
-    ensures { option_map (λ rest. rest.now) result ≡ after_equals bytes.now }
+// Bytes from the first place on where they begin with a word, in the same case.
+#[tactic(auto, using(crate::proofs::Said::words))]
+pub(crate) fn from_word<'p>(word: &str, bytes: &'p [u8]) -> &'p [u8]
+    ensures { result.now ≡ from_word word.now bytes.now }
 {
-    match after(ByteClass::Space, bytes) {
-        [b'=', rest @ ..] => Some(after(ByteClass::Space, rest)),
+    let mut rest = bytes;
+    while !rest.is_empty() {
+        if rest.starts_with(word.as_bytes()) {
+            return rest;
+        }
+        rest = &rest[1..];
+    }
+    rest
+}
+
+// What stands after an equals sign with bytes of the class around it, if that is next.
+pub(crate) fn after_equals(class: ByteClass, bytes: &[u8]) -> Option<&[u8]>
+    ensures { option_map (λ rest. rest.now) result ≡ after_equals class bytes.now }
+{
+    match after(class, bytes) {
+        [b'=', rest @ ..] => Some(after(class, rest)),
         _ => None,
     }
 }
@@ -97,12 +115,13 @@ pub(crate) fn is_quote(byte: u8) -> bool
     byte == b'"' || byte == b'\''
 }
 
-// All but the first byte.
-pub(crate) fn without_first(bytes: &[u8]) -> &[u8]
-    ensures { result.now ≡ drop 1 bytes.now }
+// What stands after so many bytes; nothing where there are fewer.
+pub(crate) fn without(count: usize, bytes: &[u8]) -> &[u8]
+    ensures { result.now ≡ drop count bytes.now }
 {
-    match bytes {
-        [] => bytes,
-        [_, rest @ ..] => rest,
+    if count <= bytes.len() {
+        &bytes[count..]
+    } else {
+        b""
     }
 }

@@ -3,7 +3,7 @@ use tl_encoding::{Encoding, EncodingError, encoding_of};
 
 // A page, and its encoding.
 #[rattlefmt::skip]
-static KNOWN: [(&[u8], Encoding); 44] = [
+static KNOWN: [(&[u8], Encoding); 80] = [
     (b"", Encoding::Utf8),
     (b"caf\xC3\xA9<meta charset=latin1>", Encoding::Utf8),
     (b"\xEF\xBB\xBF\xE9<meta charset=latin1>", Encoding::Utf8),
@@ -48,16 +48,55 @@ static KNOWN: [(&[u8], Encoding); 44] = [
     (b"\xE9<a title=\"<meta charset=koi8-r>\"><meta charset=latin1>", Encoding::Windows1252),
     (b"\xE9</a title=\"<meta charset=koi8-r>\"><meta charset=latin1>", Encoding::Windows1252),
     (b"\xE9<!doctype html><?x <meta charset=koi8-r><//><<meta charset=latin1>", Encoding::Windows1252),
+    (b"<?xml version=\"1.0\" encoding=\"iso-8859-1\"?><p>\xE9", Encoding::Windows1252),
+    (b"<?xml version='1.0' encoding='utf-8'?><p>\xE9", Encoding::Utf8),
+    (b"<?xml version=\"1.0\" encoding=\"latin1\"?><p>caf\xC3\xA9", Encoding::Utf8),
+    (b"\xEF\xBB\xBF<?xml version=\"1.0\" encoding=\"latin1\"?><p>\xE9", Encoding::Utf8),
+    (b"<?xml encoding\x00\x0B = \t'latin1'?>\xE9", Encoding::Windows1252),
+    (b"<?xml encoding='latin1'>\xE9", Encoding::Windows1252),
+    (b"<?xml-stylesheet encoding='latin1'>\xE9", Encoding::Windows1252),
+    (b"<?xml version='1.0'?><p encoding='latin1'>\xE9", Encoding::Windows1252),
+    (b"<?xml coding='koi8-r' encoding='latin1'?>\xE9", Encoding::Windows1252),
+    (b"<?xml version='1.0' encoding='utf-16'?>\xE9", Encoding::Utf8),
+    (b"<?xml version='1.0' encoding='nope'?>\xE9", Encoding::Utf8),
+    (b"<?xml version='1.0' encoding=''?>\xE9", Encoding::Utf8),
+    (b"<?xml version='1.0' encoding=' latin1'?>\xE9", Encoding::Utf8),
+    (b"<?xml version='1.0' encoding='latin1\n'?>\xE9", Encoding::Utf8),
+    (b"<?xml version='1.0' encoding='latin1\x00'?>\xE9", Encoding::Utf8),
+    (b"<?xml version='1.0' encoding=latin1?>\xE9", Encoding::Utf8),
+    (b"<?xml version='1.0' encoding='latin1\"?>\xE9", Encoding::Utf8),
+    (b"<?xml version='1.0' encoding 'latin1'?>\xE9", Encoding::Utf8),
+    (b"<?xml version='1.0' encoding\xA0='latin1'?>\xE9", Encoding::Utf8),
+    (b"<?xml version='1.0' encoding: encoding='latin1'?>\xE9", Encoding::Utf8),
+    (b"<?xml version='1.0' Encoding='latin1'?>\xE9", Encoding::Utf8),
+    (b"<?XML version='1.0' encoding='latin1'?>\xE9", Encoding::Utf8),
+    (b"<? xml version='1.0' encoding='latin1'?>\xE9", Encoding::Utf8),
+    (b"\n<?xml version='1.0' encoding='latin1'?>\xE9", Encoding::Utf8),
+    (b"<?xml version='1.0' encoding='latin1'?\xE9", Encoding::Utf8),
+    (b"<?xml version='1.0' encoding\xE9>", Encoding::Utf8),
+    (b"<?xml \xE9>encoding", Encoding::Utf8),
+    (b"<?xml \xE9>encoding=", Encoding::Utf8),
+    (b"<?xml version='1.0' encoding='koi8-r'?><meta charset=latin1>\xE9", Encoding::Windows1252),
+    (b"<?xml version='1.0' encoding='koi8-r'?><meta charset=utf-8>\xE9", Encoding::Utf8),
+    (b"<?xml version='1.0' encoding='latin1'?><meta charset=nope>\xE9", Encoding::Windows1252),
+    (b"<?xml version='1.0' encoding='latin1'?><!--<meta charset=koi8-r>\xE9", Encoding::Windows1252),
+    (b"<\0?\0x", Encoding::Utf8),
+    (b"<\0?\0X\0", Encoding::Utf8),
+    (b"\n\0<\0?\0x\0", Encoding::Utf8),
+    (b"\xEF\xBB\xBF<\0?\0x\0", Encoding::Utf8),
 ];
 
 // A page in no encoding that is read, and the label that it says.
 #[rattlefmt::skip]
-static UNKNOWN: [(&[u8], &[u8]); 5] = [
+static UNKNOWN: [(&[u8], &[u8]); 8] = [
     (b"\xE9<meta charset=Shift_JIS>", b"Shift_JIS"),
     (b"\xE9<meta charset=\" gbk\n\">", b"gbk"),
     (b"\xE9<meta charset=koi8-r><meta charset=latin1>", b"koi8-r"),
     (b"\xE9<meta charset=nope><meta charset=big5>", b"big5"),
     (b"\xE9<meta http-equiv=content-type content=\"text/html; charset=iso-8859-2\">", b"iso-8859-2"),
+    (b"<?xml version='1.0' encoding='Shift_JIS'?>\x83", b"Shift_JIS"),
+    (b"<?xml version='1.0' encoding='x-user-defined'?>\xE9", b"x-user-defined"),
+    (b"<?xml version='1.0' encoding='latin1'?><meta charset=gbk>\xE9", b"gbk"),
 ];
 
 #[test]
@@ -72,8 +111,22 @@ fn others_name_theirs(rt: HostRuntime) {
     for (page, label) in &UNKNOWN {
         assert!(rt; encoding_of(page) == Err(EncodingError::Unknown(label)));
     }
-    assert!(rt; encoding_of(b"\xFE\xFF\0<") == Err(EncodingError::Utf16));
-    assert!(rt; encoding_of(b"\xFF\xFE<\0") == Err(EncodingError::Utf16));
+}
+
+// Pages in UTF-16, by their mark or by their declaration.
+static UTF_16: [&[u8]; 5] = [
+    b"\xFE\xFF\0<",
+    b"\xFF\xFE<\0",
+    b"<\0?\0x\0m\0l\0 \0",
+    b"\0<\0?\0x\0m\0l\0 ",
+    b"<\0?\0x\0\xE9<meta charset=latin1>",
+];
+
+#[test]
+fn utf_16_is_told(rt: HostRuntime) {
+    for page in &UTF_16 {
+        assert!(rt; encoding_of(page) == Err(EncodingError::Utf16));
+    }
 }
 
 #[rattlefmt::skip]
