@@ -194,6 +194,8 @@ def splices(page, at, word, content):
         return [(front, front, (content,))]
     if kind in ("dropped", "unclosed") or (kind == "alone" and word in ("prepend", "append", "fill")):
         raise NotMeant
+    if word == "after" and page.tokens[at][1] in ("html", "body"):
+        raise NotMeant
     if word == "rename":
         return renamed(page, at, content[1], kind, end)
     if word == "unwrap":

@@ -117,8 +117,8 @@ class Edit:
         return [self.word, "-i", *options, "--", self.selector, *given]
 
     def is_refused(self, page, found, why):
-        """Whether that may be said of a page. That it ends there, that it would be read otherwise, and which content a raw text
-        can't hold isn't looked at."""
+        """Whether that may be said of a page. That it would be read otherwise, and which content a raw text can't hold isn't looked
+        at."""
         if not all(page.tokens[it][0] == "start" for it in found):
             return "no start tag" in why
         try:
@@ -129,7 +129,7 @@ class Edit:
             return True
         if "can't stand there" in why:
             return any(page.raw_name(sum(begin)) for begin, _, _ in asked)
-        return bool(asked) and ("the end of the page" in why or "would be read otherwise" in why)
+        return bool(asked) and "would be read otherwise" in why
 
     def is_done(self, page, written, found):
         """Whether that was written of a page which has to be."""

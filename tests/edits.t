@@ -239,13 +239,49 @@ A body goes to the end of the page, past its end tag.
   <body>x
   <p>a</p></body></html>
   $ tl append body x whole
-  tl: whole: the end of the page, for the element at byte 0 (err)
+  <body>
+  <p>a</p></body></html>
+  x (no-eol)
+  $ tl after body x whole
+  tl: whole: the element at byte 0 can't be changed so (err)
   [2]
+  $ tl rename body main whole
+  <main>
+  <p>a</p></body></html>
+  </main> (no-eol)
   $ tl fill body x whole
   <body>x (no-eol)
   $ tl unwrap body whole
   (empty)
   <p>a</p></body></html>
+
+Something may stand behind the last byte, where what the page ends with is read the same before it.
+
+  $ printf '<p>a' >last
+  $ tl append p x last
+  <p>ax (no-eol)
+  $ tl after p x last
+  <p>a</p>x (no-eol)
+  $ tl rename p i last
+  <i>a</i> (no-eol)
+  $ printf '<p>AT&am' | tl append p 'p;'
+  <p>AT&am</>p; (no-eol)
+  $ printf '<p>1 <' | tl append --html p 'b>'
+  <p>1 <</>b> (no-eol)
+  $ printf '<p><title>a' | tl append p x
+  <p><title>ax (no-eol)
+  $ printf '<p>a<b' | tl append p x
+  tl: -: the page would be read otherwise, for the element at byte 0 (err)
+  [2]
+  $ printf '<p>a<!-- b' | tl after p x
+  tl: -: the page would be read otherwise, for the element at byte 0 (err)
+  [2]
+  $ printf '<p><title>a' | tl append --html p '<i>'
+  tl: -: the page would be read otherwise, for the element at byte 0 (err)
+  [2]
+  $ printf '<p><plaintext>a' | tl after p x
+  tl: -: the page would be read otherwise, for the element at byte 0 (err)
+  [2]
 
 In their files.
 
@@ -319,9 +355,6 @@ What is refused.
   [2]
   $ tl rename p '' break
   tl: no name:\x20 (esc) (err)
-  [2]
-  $ tl after p x break
-  tl: break: the end of the page, for the element at byte 0 (err)
   [2]
   $ tl append --html p '<!-- ' break
   tl: break: the page would be read otherwise, for the element at byte 0 (err)

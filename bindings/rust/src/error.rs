@@ -121,7 +121,7 @@ causes! {
     NotMeant = 19, "this element can't be changed so: it isn't closed, or is a tag alone";
     /// The change of the element and that of another cut across each other.
     Across = 20, "this change and that of another element cut across each other";
-    /// What is put would stand behind the last byte of the page.
+    /// What is put would stand behind the end of the page; none does.
     EndOfPage = 21, "nothing can stand behind the end of the page";
     /// What is put can't stand there: markup in a raw text, or a text that would be read otherwise.
     NoContent = 22, "what is put can't stand there";

@@ -1,7 +1,7 @@
 -- A page that is read again.
 use Rattle.std.proofs.Common.{◌≡◌, ℕ, zero, suc, ◌+◌, Bool, true, false, List, [], ◌∷◌, ◌++◌, length, drop, flat_map, map, Option, Some, None, slice_get, refl, ap, ap₂, sym, subst, ◌∙◌, if◌then◌else◌, ◌==◌, ◌&&◌, true≢false, arith}
 use Rattle.std.proofs.lemmas.Bool.{and_parts, eqb-true}
-use Rattle.tl_html_spec.specs.HtmlTokenizer.{HtmlToken, html_tokens, without_mark}
+use Rattle.tl_html_spec.specs.HtmlTokenizer.{html_tokens, without_mark}
 use Rattle.tl_html_spec.specs.Pieces.{Piece, pieces, placed, runs, tokens_in}
 use Rattle.tl_html_spec.proofs.Cutting.{tokens_are}
 use Rattle.tl_html_tokens.specs.Kinds.{IsKind}

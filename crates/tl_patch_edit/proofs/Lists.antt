@@ -1,9 +1,9 @@
 -- Lists of parts, one by one.
-use Rattle.std.proofs.Common.{◌≡◌, ℕ, suc, ◌+◌, ◌<◌, ◌≤◌, List, [], ◌∷◌, ◌++◌, length, take, get_or, map, refl, ap, sym, ◌∙◌, append_assoc, append-nil}
+use Rattle.std.proofs.Common.{◌≡◌, ℕ, zero, suc, Some, slice_get, arith, ◌+◌, ◌<◌, ◌≤◌, List, [], ◌∷◌, ◌++◌, length, take, get_or, map, refl, ap, sym, ◌∙◌, append_assoc, append-nil}
 use Rattle.std.proofs.lemmas.Grind.{flat_map-append}
 use Rattle.std.proofs.lemmas.List.{map-append, take_all, take_more}
 use Rattle.tl_html_tokens.specs.declared.token.Token.{Token}
-use Rattle.tl_patch_edit.specs.Parts.{Part, part_bytes, part_view, parts_view, view_at}
+use Rattle.tl_patch_edit.specs.Parts.{Part, end_part, part_bytes, part_view, parts_view, view_at, with_end_part}
 use Rattle.tl_patch_edit.specs.declared.part.Part.{Part as CodePart}
 
 pub length_view : (xs : List CodePart) → length (parts_view xs) ≡ length xs
@@ -46,3 +46,16 @@ written_more xs n d old now next l h e =
 
 pub written_all : (xs : List CodePart) (n : ℕ) (old now : List ℕ) → length xs ≤ n → now ≡ old ++ part_bytes (parts_view (take n xs)) → now ≡ old ++ part_bytes (parts_view xs)
 written_all xs n old now l h = h ∙ ap (λ (u : List CodePart). old ++ part_bytes (parts_view u)) (take_all n xs l)
+
+-- the part at which something is put
+
+pub place_before : (xs : List CodePart) (n : ℕ) (d : CodePart) → n < length xs → slice_get (with_end_part (parts_view xs)) n ≡ Some (part_view (get_or xs n d))
+place_before [] n d l = absurd (omega arith)
+place_before (x ∷ xs) zero d l = refl
+place_before (x ∷ xs) (suc n) d l = place_before xs n d (omega arith)
+
+pub place_end : (xs : List CodePart) (n : ℕ) → n ≤ length xs → length xs ≤ n → slice_get (with_end_part (parts_view xs)) n ≡ Some end_part
+place_end [] zero l k = refl
+place_end [] (suc n) l k = absurd (omega arith)
+place_end (x ∷ xs) zero l k = absurd (omega arith)
+place_end (x ∷ xs) (suc n) l k = place_end xs n (omega arith) (omega arith)

@@ -2,7 +2,7 @@
 use Rattle.std.proofs.Common.{◌≡◌, ℕ, Bool, true, false, ◌||◌, List, codes, refl, ◌∙◌}
 use Rattle.std.specs.Str.{bytes_eq}
 use Rattle.tl_names.specs.Elements.{implied_ends, is_among, table_parts}
-use Rattle.tl_patch_spec.specs.Patches.{may_lack_end_tag}
+use Rattle.tl_patch_spec.specs.Patches.{is_page_name, may_lack_end_tag}
 
 abbrev one_of : Bool → Bool → Bool → Bool → Bool → Bool
 one_of a b c d e = a || b || (c || (d || (e || false)))
@@ -38,3 +38,14 @@ pub document_name : (name : List ℕ) → is_among implied_ends name ≡ false �
     (bytes_eq name (codes "html") || bytes_eq name (codes "head") || bytes_eq name (codes "body")) ≡ may_lack_end_tag name
 document_name name h k =
     third (is_among implied_ends name) (is_among table_parts name) (bytes_eq name (codes "html")) (bytes_eq name (codes "head")) (bytes_eq name (codes "body")) h k ∙ is_it name
+
+last_false : (a b : Bool) → (a || b) ≡ (a || (b || false))
+last_false true b = refl
+last_false false true = refl
+last_false false false = refl
+
+page_is : (name : List ℕ) → (bytes_eq name (codes "html") || (bytes_eq name (codes "body") || false)) ≡ is_page_name name
+page_is name = refl
+
+pub page_name : (name : List ℕ) → (bytes_eq name (codes "html") || bytes_eq name (codes "body")) ≡ is_page_name name
+page_name name = last_false (bytes_eq name (codes "html")) (bytes_eq name (codes "body")) ∙ page_is name

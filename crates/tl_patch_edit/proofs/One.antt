@@ -1,12 +1,10 @@
 -- One element is what several are: what is asked of it, and why it is refused.
-use Rattle.std.proofs.Common.{◌≡◌, ℕ, List, [], ◌∷◌, ◌++◌, map, Some, refl, ap, sym, ◌∙◌, append-nil, arith}
-use Rattle.std.specs.List.{All}
-use Rattle.std.proofs.lemmas.List.Elements.{All-cons, All-nil}
+use Rattle.std.proofs.Common.{◌≡◌, ℕ, List, [], ◌∷◌, map, Some, refl, ap, sym, ◌∙◌, append-nil, arith}
 use Rattle.std.proofs.lemmas.List.Sorted.{IsPermutation-refl}
 use Rattle.tl_html_spec.specs.Pieces.{Piece}
 use Rattle.tl_html_tokens.specs.Tokens.{AreTokensOf}
 use Rattle.tl_html_tokens.specs.declared.token.Token.{Token}
-use Rattle.tl_patch_spec.specs.Patches.{Content, Patch, Put, asked_of}
+use Rattle.tl_patch_spec.specs.Patches.{Patch, Put, asked_of}
 use Rattle.tl_patch_spec.specs.Splices.{Splice}
 use Rattle.tl_patch_spec.specs.Together.{Asked, asked_at, asked_each}
 use Rattle.tl_patch_edit.specs.Asks.{content_of, placed_view, planned_view}
@@ -14,7 +12,7 @@ use Rattle.tl_patch_edit.specs.Causes.{IsPageError, IsPlanError, IsStartError}
 use Rattle.tl_patch_edit.specs.Errors.{IsAcrossError, IsReadingError, pieces_in}
 use Rattle.tl_patch_edit.specs.Found.{IsStartAt}
 use Rattle.tl_patch_edit.specs.Parts.{ArePieces, Part}
-use Rattle.tl_patch_edit.specs.Several.{AreSorted, AreStartsAt, IsStartOfPage, asked_view, numbers_of}
+use Rattle.tl_patch_edit.specs.Several.{AreSorted, AreStartsAt, asked_view, numbers_of}
 use Rattle.tl_patch_edit.specs.declared.ask.Planned.{Planned}
 use Rattle.tl_patch_edit.specs.declared.ask.Start.{Start}
 use Rattle.tl_patch_edit.specs.declared.error.EditError.{EditError}

@@ -11,13 +11,13 @@ use Rattle.tl_patch_spec.specs.Elements.{Element, OpenElement, PlacedToken, at_p
 use Rattle.tl_patch_spec.specs.Patches.{Alone, Append, Changed, Content, Dropped, Extent, Fill, Implied, NewContent, NewEndTag, Patch, Prepend, Put, PutAfter, PutBefore, Remove, RenameElement, ReplaceWith, SetAttribute, Unclosed, UnsetAttribute, Unwrap, Whole, asked, asked_by_name, asked_of, change_tag, cut_out, extent_in, extent_of, may_be_renamed, may_lack_end_tag, put_at, put_instead, start_name, tokens_of_piece}
 use Rattle.tl_patch_spec.specs.Splices.{Splice}
 use Rattle.tl_patch_spec.specs.TagChanges.{Rename, Set, Unset}
-use Rattle.tl_patch_edit.specs.Asks.{ask_view, content_of, inner_end, inside_end, placed_at, placed_view, planned_view, put_after, tags_asked, until_of}
+use Rattle.tl_patch_edit.specs.Asks.{ask_view, content_of, ends_page, inner_end, inside_end, placed_at, placed_view, planned_view, put_after, tags_asked, until_of}
 use Rattle.tl_patch_edit.specs.Several.{AreInTurn}
 use Rattle.tl_patch_edit.specs.declared.ask.Ask.{Ask}
 use Rattle.tl_patch_edit.specs.declared.ask.Planned.{Planned}
 use Rattle.tl_patch_edit.specs.declared.ask.Start.{Start}
 use Rattle.tl_patch_edit.proofs.Together.{extent_at}
-use Rattle.tl_patch_edit.proofs.Plans.{appends, fills, prepends, puts_before, puts_behind, removes, rename_implied, rename_is, rename_not, replaces, unwrap_is}
+use Rattle.tl_patch_edit.proofs.Plans.{appends, fills, none_behind, prepends, puts_before, puts_behind, removes, rename_implied, rename_is, rename_not, replaces, unwrap_is}
 
 abbrev InOrder : ℕ → List PlacedToken → Type 0
 InOrder from [] = ⊤
@@ -211,7 +211,10 @@ two_asked (Fill c) n e name a b f h = absurd (single (inner_end e) (λ v. put_in
 two_asked (Prepend c) n e name a b f h = absurd (single (inside_end e) (λ v. put_at (suc n) (NewContent c ∷ [])) a b (sym (prepends e n (suc n) (inside_end e) c name refl refl) ∙ h))
 two_asked (Append c) n e name a b f h = absurd (single (inner_end e) (λ v. put_at v (NewContent c ∷ [])) a b (sym (appends e n (inner_end e) c name refl) ∙ h))
 two_asked (PutBefore c) n e name a b f h = absurd (one_never (put_at n (NewContent c ∷ [])) a b (sym (puts_before e n c name) ∙ h))
-two_asked (PutAfter c) n e name a b f h = absurd (single (until_of n e) (λ v. put_at v (put_after e name c)) a b (sym (puts_behind e n (until_of n e) c name refl) ∙ h))
+two_asked (PutAfter c) n e name a b f h = elim (cases_Bool (ends_page e name)) [
+  | inl y ↦ absurd (none_never a b (sym (none_behind e n c name y) ∙ h))
+  | inr k ↦ absurd (single (until_of n e) (λ v. put_at v (put_after e name c)) a b (sym (puts_behind e n (until_of n e) c name k refl) ∙ h))
+]
 
 by_name : (patch : Patch) (n : ℕ) (e : Extent) (o : Option (List ℕ)) (a b : Splice Put) → EndsAfter n e → asked_by_name patch n e o ≡ Some (a ∷ b ∷ []) → a.from < b.from
 by_name patch n e None a b f h = absurd (none_never a b h)

@@ -1,10 +1,10 @@
 -- What each patch asks for, by how far its element goes.
-use Rattle.std.proofs.Common.{◌≡◌, ℕ, suc, Bool, true, false, List, [], ◌∷◌, Option, Some, None, refl, ap, sym, ◌∙◌, if◌then◌else◌}
+use Rattle.std.proofs.Common.{◌≡◌, ℕ, suc, Bool, true, false, List, [], ◌∷◌, Option, Some, None, refl, ap, sym, ◌∙◌, if◌then◌else◌, true≢false}
 use Rattle.std.specs.Prelude.{option_map}
 use Rattle.tl_patch_spec.specs.Patches.{Alone, Append, Changed, Content, Dropped, Extent, Fill, Implied, NewContent, NewEndTag, Prepend, Put, PutAfter, PutBefore, Remove, RenameElement, ReplaceWith, Unclosed, Unwrap, Whole, asked, cut_out, may_be_renamed, put_at, put_instead}
 use Rattle.tl_patch_spec.specs.Splices.{Splice}
 use Rattle.tl_patch_spec.specs.TagChanges.{Rename}
-use Rattle.tl_patch_edit.specs.Asks.{inner_end, inside_end, put_after, tags_asked, until_of}
+use Rattle.tl_patch_edit.specs.Asks.{ends_page, inner_end, inside_end, put_after, tags_asked, until_of}
 
 abbrev pub is_implied : Extent → Bool
 is_implied (Implied m) = true
@@ -45,12 +45,15 @@ before_is (Whole m) n c name = refl
 before_is (Implied m) n c name = refl
 before_is (Unclosed m) n c name = refl
 
-after_is : (e : Extent) (n : ℕ) (c : Content) (name : List ℕ) → asked (PutAfter c) n e name ≡ option_map (λ u. put_at u (put_after e name c) ∷ []) (until_of n e)
-after_is Dropped n c name = refl
-after_is Alone n c name = refl
-after_is (Whole m) n c name = refl
-after_is (Implied m) n c name = refl
-after_is (Unclosed m) n c name = refl
+abbrev after_if : Bool → List (Splice Put) → Option (List (Splice Put))
+after_if ends splices = if ends then None else Some splices
+
+after_is : (e : Extent) (n : ℕ) (c : Content) (name : List ℕ) → ends_page e name ≡ false → asked (PutAfter c) n e name ≡ option_map (λ u. put_at u (put_after e name c) ∷ []) (until_of n e)
+after_is Dropped n c name h = refl
+after_is Alone n c name h = refl
+after_is (Whole m) n c name h = refl
+after_is (Implied m) n c name h = ap (λ v. after_if v (put_at m (NewEndTag name ∷ NewContent c ∷ []) ∷ [])) h
+after_is (Unclosed m) n c name h = refl
 
 prepend_is : (e : Extent) (n : ℕ) (c : Content) (name : List ℕ) → asked (Prepend c) n e name ≡ option_map (λ m. put_at (suc n) (NewContent c ∷ []) ∷ []) (inside_end e)
 prepend_is Dropped n c name = refl
@@ -90,8 +93,16 @@ appends e n m c name h = append_is e n c name ∙ ap (option_map (λ v. put_at v
 pub puts_before : (e : Extent) (n : ℕ) (c : Content) (name : List ℕ) → asked (PutBefore c) n e name ≡ Some (put_at n (NewContent c ∷ []) ∷ [])
 puts_before e n c name = before_is e n c name
 
-pub puts_behind : (e : Extent) (n : ℕ) (u : Option ℕ) (c : Content) (name : List ℕ) → u ≡ until_of n e → asked (PutAfter c) n e name ≡ option_map (λ v. put_at v (put_after e name c) ∷ []) u
-puts_behind e n u c name h = after_is e n c name ∙ ap (option_map (λ v. put_at v (put_after e name c) ∷ [])) (sym h)
+pub puts_behind : (e : Extent) (n : ℕ) (u : Option ℕ) (c : Content) (name : List ℕ) → ends_page e name ≡ false → u ≡ until_of n e → asked (PutAfter c) n e name ≡ option_map (λ v. put_at v (put_after e name c) ∷ []) u
+puts_behind e n u c name l h = after_is e n c name l ∙ ap (option_map (λ v. put_at v (put_after e name c) ∷ [])) (sym h)
+
+-- nothing can stand after an element that goes to the end of the page
+pub none_behind : (e : Extent) (n : ℕ) (c : Content) (name : List ℕ) → ends_page e name ≡ true → asked (PutAfter c) n e name ≡ None
+none_behind (Implied m) n c name h = ap (λ v. after_if v (put_at m (NewEndTag name ∷ NewContent c ∷ []) ∷ [])) h
+none_behind Dropped n c name h = refl
+none_behind Alone n c name h = absurd (true≢false (sym h))
+none_behind (Whole m) n c name h = absurd (true≢false (sym h))
+none_behind (Unclosed m) n c name h = refl
 
 -- names
 

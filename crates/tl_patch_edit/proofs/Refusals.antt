@@ -1,13 +1,12 @@
 -- Why an edit is refused.
-use Rattle.std.proofs.Common.{◌≡◌, ◌==◌, ◌≤◌, ◌<◌, ℕ, ◌+◌, Bool, true, false, ◌&&◌, List, [], ◌∷◌, ◌++◌, length, get_or, take, drop, map, not, Option, Some, None, option_map, slice_get, refl, ap, ap₂, sym, subst, ◌∙◌, arith, inl, inr, true≢false, ◌⊎◌}
+use Rattle.std.proofs.Common.{◌≡◌, ◌==◌, ◌≤◌, ◌<◌, ℕ, ◌+◌, Bool, true, false, ◌&&◌, List, [], ◌∷◌, ◌++◌, length, get_or, take, drop, map, Option, Some, None, slice_get, refl, ap, ap₂, sym, subst, ◌∙◌, arith, inl, inr, true≢false, ◌⊎◌}
 use Rattle.std.specs.List.{All, Contains}
 use Rattle.std.specs.Option.{option_to_list}
 use Rattle.std.specs.Prelude.{Err, IfErr, IfNone, Result, nat_le}
 use Rattle.std.proofs.lemmas.List.Sorted.{IsPermutation-refl}
-use Rattle.std.proofs.lemmas.Bool.{le-leb, or_right}
 use Rattle.std.proofs.lemmas.List.{drop_more, get_or-map, length-map, take-append-drop, take_more}
 use Rattle.std.proofs.lemmas.List.Elements.{All-append, All-cons, All-contains, All-nil, Contains-append_right, Contains-get_or}
-use Rattle.std.proofs.lemmas.Option.{slice_get-get_or, slice_get-map, slice_get_within}
+use Rattle.std.proofs.lemmas.Option.{slice_get-get_or, slice_get_within}
 use Rattle.tl_html_spec.specs.HtmlTokenizer.{State}
 use Rattle.tl_html_spec.specs.Pieces.{Piece, pieces, runs}
 use Rattle.tl_html_spec.proofs.Cutting.{bytes_are, runs_bytes, runs_tokens, tokens_are}
@@ -16,16 +15,15 @@ use Rattle.tl_html_tokens.specs.Tokens.{AreTokensOf}
 use Rattle.tl_html_tokens.specs.declared.mode.Mode.{Mode}
 use Rattle.tl_html_tokens.specs.declared.mode.Mode.TheVariants as mode
 use Rattle.tl_html_tokens.specs.declared.token.Token.{Token}
-use Rattle.tl_patch_spec.specs.Patches.{AreAskedOne, Changed, Content, Markup, NewContent, NewEndTag, Patch, Put, Text, asked_of, content_pieces}
+use Rattle.tl_patch_spec.specs.Patches.{Changed, Content, Markup, NewContent, NewEndTag, Patch, Put, Text, asked_of, content_pieces, with_end}
 use Rattle.tl_patch_spec.specs.Splices.{Splice, are_ordered}
 use Rattle.tl_patch_spec.specs.TagChanges.{Rename}
-use Rattle.tl_patch_spec.specs.Together.{AreAskedTogether, are_inner_first, ask_of, asked_at, asked_each}
 use Rattle.tl_html_tags.specs.Parts.{name_of}
 use Rattle.tl_patch_edit.specs.Asks.{IsWanted, ask_view, asks_view, content_of, is_data, placed_at, placed_of, placed_view, planned_view, puts_view}
 use Rattle.tl_patch_edit.specs.Causes.{CannotPut, CannotPutIn, CannotStandIn, IsAsksError, IsOneAt, IsPageError, IsPlanError, IsPlanned, IsReadError, IsReadyError, IsSpliceError, IsStartError, IsStartsError, IsUnmeant, NoStartFrom, ReachesFrom, has_name, puts_tag}
-use Rattle.tl_patch_edit.specs.Errors.{AreAcross, CannotBeMeant, CannotBePut, CannotBeWritten, CannotStand, IsAcrossError, IsAskAt, IsPatchAt, IsReadOtherwise, IsReadingError, IsRefused, PutsTag, is_tag_put, patch_each, pieces_in}
+use Rattle.tl_patch_edit.specs.Errors.{AreAcross, CannotBeMeant, CannotBePut, CannotBeWritten, CannotStand, IsAcrossError, IsAskAt, IsPatchAt, IsReadingError, IsRefused, PutsTag, is_tag_put, patch_each, pieces_in}
 use Rattle.tl_patch_edit.specs.Found.{IsStartAt}
-use Rattle.tl_patch_edit.specs.Parts.{ArePieces, IsPieceOf, Part, part_view, parts_view}
+use Rattle.tl_patch_edit.specs.Parts.{ArePieces, IsPieceOf, Part, with_end_part}
 use Rattle.tl_patch_edit.specs.Several.{AreEdited, AreInTurn, AreSorted, AreStartsAt, IsStartOfPage, asked_view, numbers_of}
 use Rattle.tl_patch_edit.specs.declared.ask.Ask.{Ask}
 use Rattle.tl_patch_edit.specs.declared.ask.PlacedAsk.{PlacedAsk}
@@ -35,12 +33,11 @@ use Rattle.tl_patch_edit.specs.declared.ask.Put.TheVariants as put
 use Rattle.tl_patch_edit.specs.declared.ask.Start.{Start}
 use Rattle.tl_patch_edit.specs.declared.error.EditError.{EditError}
 use Rattle.tl_patch_edit.specs.declared.error.EditError.TheVariants as error
-use Rattle.tl_patch_edit.specs.declared.part.Part.{Part as CodePart}
 use Rattle.tl_patch_edit.specs.declared.tag.ReadyAsk.{ReadyAsk}
-use Rattle.tl_patch_edit.proofs.Edited.{never_spliced, planned_is}
+use Rattle.tl_patch_edit.proofs.Edited.{never_spliced}
 use Rattle.tl_patch_edit.proofs.Missing.{lacks}
-use Rattle.tl_patch_edit.proofs.Splicing.{length_pieces, piece_at}
-use Rattle.tl_patch_edit.proofs.Together.{asked_together, asks_are, counts, starts_begin}
+use Rattle.tl_patch_edit.proofs.Splicing.{end_pieces, length_pieces, piece_at}
+use Rattle.tl_patch_edit.proofs.Together.{asked_together, asks_are, starts_begin}
 use Rattle.tl_patch_edit.proofs.Turns.{are_across}
 
 -- start tags
@@ -228,23 +225,17 @@ page_refused page place c parts asks (error.NoStartTag p) h = h
 page_refused page place c parts asks (error.NotMeant p) h = h
 page_refused page place c parts asks (error.Across p) h = h
 
-part_stands : (parts : List CodePart) (n : ℕ) (d : CodePart) → n < length parts → slice_get (parts_view parts) n ≡ Some (part_view (get_or parts n d))
-part_stands parts n d l = slice_get-map part_view parts n ∙ ap (λ (o : Option CodePart). option_map part_view o) (slice_get-get_or parts n d l)
-
-pub there : (parts : List CodePart) (n : ℕ) (d : CodePart) (P : Part → Type 0) → n < length parts → P (part_view (get_or parts n d)) →
-    (place : Part) → slice_get (parts_view parts) n ≡ Some place → P place
-there parts n d P l h = λ place e.
-    let here : slice_get (parts_view parts) n ≡ Some (part_view (get_or parts n d)) = part_stands parts n d l in
-    let stands : slice_get (parts_view parts) n ≡ Some place = e in
-    let same : part_view (get_or parts n d) ≡ place = cc in
+pub there : (parts : List Part) (n : ℕ) (here : Part) (P : Part → Type 0) → slice_get parts n ≡ Some here → P here → (place : Part) → slice_get parts n ≡ Some place → P place
+there parts n here P s h = λ place e.
+    let same : here ≡ place = cc in
     subst P same h
 
 pub none_of : {A : Type 0} (o : Option A) (P : Type 0) → o ≡ None → IfNone o P → P
 none_of o P e h = subst (λ x. IfNone x P) e h
 
-pub cannot_put : (c : Content) (parts : List CodePart) (ask : Ask) (d : CodePart) → ask.from < length parts →
-    (has_name ask.put ≡ false) ⊎ CannotPutIn c (get_or parts ask.from d).mode ask.put → CannotPut c (parts_view parts) ask
-cannot_put c parts ask d l h = record { place = part_view (get_or parts ask.from d); stands = part_stands parts ask.from d l; cannot = h }
+pub cannot_put : (c : Content) (parts : List Part) (ask : Ask) (place : Part) → slice_get (with_end_part parts) ask.from ≡ Some place →
+    (has_name ask.put ≡ false) ⊎ CannotPutIn c place.mode ask.put → CannotPut c parts ask
+cannot_put c parts ask place s h = record { place = place; stands = s; cannot = h }
 
 pub ordered_more : (c : Content) (asks : List ReadyAsk) (at done len : ℕ) (one : ReadyAsk) (v : Bool) → drop at asks ≡ one ∷ drop (at + 1) asks →
     (nat_le done one.placed.ask.from && nat_le one.placed.ask.from one.placed.ask.until && nat_le one.placed.ask.until len) ≡ v →
@@ -298,11 +289,12 @@ put_there c m p (put.Renamed name) e (inr h) = absurd h
 cannot_write : (page : List ℕ) (patches : List (ℕ × Patch)) (c : Content) (parts : List Part) (place : ℕ) (ask : Ask) → ArePieces parts (pieces_in page) →
     IsAskAt page patches place (ask_view c ask) → CannotPut c parts ask → CannotBeWritten page patches place
 cannot_write page patches c parts place ask g a h =
-    let l : ask.from < length parts = slice_get_within parts ask.from h.place h.stands in
-    let s = piece_at parts (pieces_in page) ask.from h.place g l in
-    let here : slice_get parts ask.from ≡ Some (get_or parts ask.from h.place) = slice_get-get_or parts ask.from h.place l in
-    let there : slice_get parts ask.from ≡ Some h.place = h.stands in
-    let same : get_or parts ask.from h.place ≡ h.place = cc in
+    let all : List Part = with_end_part parts in
+    let l : ask.from < length all = slice_get_within all ask.from h.place h.stands in
+    let s = piece_at all (with_end (pieces_in page)) ask.from h.place (end_pieces parts (pieces_in page) g) l in
+    let here : slice_get all ask.from ≡ Some (get_or all ask.from h.place) = slice_get-get_or all ask.from h.place l in
+    let there : slice_get all ask.from ≡ Some h.place = h.stands in
+    let same : get_or all ask.from h.place ≡ h.place = cc in
     let of : IsPieceOf h.place s.piece = subst (λ (x : Part). IsPieceOf x s.piece) same s.is in
     let r = put_there c (h.place).mode s.piece ask.put of.rest h.cannot in
     record { ask = ask_view c ask; at = a; piece = s.piece; stands = s.stands; put = r.put; among = r.among; cannot = r.cannot }
@@ -315,7 +307,7 @@ splice_refused page first places patches c parts asks (error.Across p) g a h = t
 splice_refused page first places patches c parts asks (error.EndOfPage p) g a h =
     let one : PlacedAsk = h.0 in
     let at : IsAskAt page patches one.start.token.start (ask_view c one.ask) = All-contains (λ (x : PlacedAsk). IsAskAt page patches x.start.token.start (ask_view c x.ask)) asks one a (h.1).among in
-    record { ask = ask_view c one.ask; at = subst (λ n. IsAskAt page patches n (ask_view c one.ask)) (h.1).begins at; past = subst (λ n. n ≤ one.ask.from) (sym (length_pieces parts (pieces_in page) g)) h.2 }
+    record { ask = ask_view c one.ask; at = subst (λ n. IsAskAt page patches n (ask_view c one.ask)) (h.1).begins at; past = subst (λ n. n < one.ask.from) (sym (length_pieces parts (pieces_in page) g)) h.2 }
 splice_refused page first places patches c parts asks (error.NotWritten p) g a h =
     let one : PlacedAsk = h.0 in
     let at : IsAskAt page patches one.start.token.start (ask_view c one.ask) = All-contains (λ (x : PlacedAsk). IsAskAt page patches x.start.token.start (ask_view c x.ask)) asks one a (h.1).among in

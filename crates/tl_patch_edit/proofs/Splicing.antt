@@ -2,15 +2,15 @@
 use Rattle.std.proofs.Common.{◌≡◌, ◌<◌, ◌≤◌, ℕ, zero, suc, ◌+◌, ◌-◌, Bool, true, false, ◌&&◌, List, [], ◌∷◌, ◌++◌, length, take, drop, get_or, Some, slice_get, refl, ap, ap₂, sym, subst, ◌∙◌, append_assoc, arith}
 use Rattle.std.specs.Prelude.{nat_le}
 use Rattle.std.proofs.lemmas.Bool.{le-leb}
-use Rattle.std.proofs.lemmas.List.{drop-drop, drop-map, take-map}
+use Rattle.std.proofs.lemmas.List.{drop-drop, drop-map, length-append, take-map}
 use Rattle.std.proofs.lemmas.Option.{slice_get-get_or}
 use Rattle.tl_html_spec.specs.Pieces.{Piece}
 use Rattle.tl_patch_edit.specs.Asks.{GivePut, IsWantedFrom}
-use Rattle.tl_patch_edit.specs.Parts.{ArePieces, IsPieceOf, Part, part_view, parts_view, separator_parts}
+use Rattle.tl_patch_edit.specs.Parts.{ArePieces, IsPieceOf, Part, end_part, part_view, parts_view, separator_parts, with_end_part}
 use Rattle.tl_patch_edit.specs.declared.part.Part.{Part as CodePart}
 use Rattle.tl_patch_edit.proofs.Lists.{length_view}
 use Rattle.tl_patch_edit.proofs.Said.{GivePieces, pieces_both, pieces_give}
-use Rattle.tl_patch_spec.specs.Patches.{Put, separator_if}
+use Rattle.tl_patch_spec.specs.Patches.{Put, separator_if, with_end}
 use Rattle.tl_patch_spec.specs.Splices.{Splice, are_ordered, with_splices_from}
 
 separator_gives : (b : Bool) → GivePieces (separator_parts b) (separator_if b)
@@ -50,19 +50,28 @@ length_pieces [] (p ∷ ps) h = absurd h
 length_pieces (x ∷ xs) [] h = absurd h
 length_pieces (x ∷ xs) (p ∷ ps) h = ap suc (length_pieces xs ps h.1)
 
+pub end_pieces : (xs : List Part) (ps : List Piece) → ArePieces xs ps → ArePieces (with_end_part xs) (with_end ps)
+end_pieces [] [] h = (record { rest = refl; bytes = refl; kind = refl; says = refl }, tt)
+end_pieces [] (p ∷ ps) h = absurd h
+end_pieces (x ∷ xs) [] h = absurd h
+end_pieces (x ∷ xs) (p ∷ ps) h = (h.0, end_pieces xs ps h.1)
+
+pub before_end : (xs : List Part) (n : ℕ) → n ≤ length xs → n < length (with_end_part xs)
+before_end xs n l = let e = length-append xs (end_part ∷ []) in omega (arith, e)
+
 in_order : (d f u e : ℕ) (rest : Bool) → d ≤ f → f ≤ u → u ≤ e → rest ≡ true → (nat_le d f && nat_le f u && nat_le u e && rest) ≡ true
 in_order d f u e rest h i j k =
     ap₂ (λ (v w : Bool). v && w) (ap₂ (λ (v w : Bool). v && w) (ap₂ (λ (v w : Bool). v && w) (le-leb d f h) (le-leb f u i)) (le-leb u e j)) k
 
 -- parts up to a splice and what is put there, before the parts of what follows
 pub step_wanted : (X : List Part) (done : ℕ) (ask : Splice Put) (asks : List (Splice Put)) (d : Part) (put rest : List Part) (b a : Bool) →
-    done ≤ ask.from → ask.from < length X → ask.from ≤ ask.until → ask.until ≤ length X → GivePut ask.put (get_or X ask.from d) put →
+    done ≤ ask.from → ask.from ≤ length X → ask.from ≤ ask.until → ask.until ≤ length X → GivePut ask.put (get_or (with_end_part X) ask.from d) put →
     IsWantedFrom ask.until asks X rest →
     IsWantedFrom done (ask ∷ asks) X (take (ask.from - done) (drop done X) ++ ((separator_parts b ++ (put ++ separator_parts a)) ++ rest))
 step_wanted X done ask asks d put rest b a l i o u g w = λ ps h.
     let from : ℕ = ask.from in
     let until : ℕ = ask.until in
-    let s : Stands (get_or X from d) ps from = piece_at X ps from d h i in
+    let s : Stands (get_or (with_end_part X) from d) (with_end ps) from = piece_at (with_end_part X) (with_end ps) from d (end_pieces X ps h) (before_end X from i) in
     let r = g s.piece s.is in
     let later = w ps h in
     let splice : Splice Piece = record { from = from; until = until; put = separator_if b ++ (r.0 ++ separator_if a) } in
@@ -109,25 +118,22 @@ end_wanted X done = λ ps h. record {
 regrouped : (old t b p a rest : List Part) → ((((old ++ t) ++ b) ++ p) ++ a) ++ rest ≡ old ++ (t ++ ((b ++ (p ++ a)) ++ rest))
 regrouped old t b p a rest = simp append_assoc
 
-pub first_of : (xs : List CodePart) (n : ℕ) → n < length xs → CodePart
-first_of [] n l = absurd (omega arith)
-first_of (x ∷ xs) n l = x
-
 -- the same of the parts that the code has
-pub step_more : (xs : List CodePart) (done : ℕ) (ask : Splice Put) (asks all : List (Splice Put)) (d : CodePart) (put old now : List Part) (b a : Bool) →
-    done ≤ ask.from → ask.from < length xs → ask.from ≤ ask.until → ask.until ≤ length xs →
-    ((place : Part) → slice_get (parts_view xs) ask.from ≡ Some place → GivePut ask.put place put) →
+pub step_more : (xs : List CodePart) (done : ℕ) (ask : Splice Put) (asks all : List (Splice Put)) (put old now : List Part) (b a : Bool) →
+    done ≤ ask.from → ask.from ≤ length xs → ask.from ≤ ask.until → ask.until ≤ length xs →
+    ((place : Part) → slice_get (with_end_part (parts_view xs)) ask.from ≡ Some place → GivePut ask.put place put) →
     now ≡ (((old ++ parts_view (take (ask.from - done) (drop done xs))) ++ separator_parts b) ++ put) ++ separator_parts a →
     ((rest : List Part) → IsWantedFrom done (ask ∷ asks) (parts_view xs) rest → IsWantedFrom 0 all (parts_view xs) (old ++ rest)) →
     (rest : List Part) → IsWantedFrom ask.until asks (parts_view xs) rest → IsWantedFrom 0 all (parts_view xs) (now ++ rest)
-step_more xs done ask asks all d put old now b a l i o u g e h rest w =
+step_more xs done ask asks all put old now b a l i o u g e h rest w =
     let X : List Part = parts_view xs in
     let k : ℕ = ask.from - done in
-    let inside : ask.from < length X = omega (arith, length_view xs) in
+    let inside : ask.from ≤ length X = omega (arith, length_view xs) in
     let ends : ask.until ≤ length X = omega (arith, length_view xs) in
     let viewed : take k (drop done X) ≡ parts_view (take k (drop done xs)) = ap (take k) (drop-map part_view done xs) ∙ take-map part_view k (drop done xs) in
-    let here : GivePut ask.put (get_or X ask.from (part_view d)) put = g (get_or X ask.from (part_view d)) (slice_get-get_or X ask.from (part_view d) inside) in
-    let step = h (take k (drop done X) ++ ((separator_parts b ++ (put ++ separator_parts a)) ++ rest)) (step_wanted X done ask asks (part_view d) put rest b a l inside o ends here w) in
+    let here : GivePut ask.put (get_or (with_end_part X) ask.from end_part) put =
+    g (get_or (with_end_part X) ask.from end_part) (slice_get-get_or (with_end_part X) ask.from end_part (before_end X ask.from inside)) in
+    let step = h (take k (drop done X) ++ ((separator_parts b ++ (put ++ separator_parts a)) ++ rest)) (step_wanted X done ask asks end_part put rest b a l inside o ends here w) in
     subst (λ (zs : List Part). IsWantedFrom 0 all X zs)
     (ap (λ (t : List Part). old ++ (t ++ ((separator_parts b ++ (put ++ separator_parts a)) ++ rest))) viewed
     ∙ sym (ap (λ (zs : List Part). zs ++ rest) e ∙ regrouped old (parts_view (take k (drop done xs))) (separator_parts b) put (separator_parts a) rest)) step

@@ -22,10 +22,10 @@ use Rattle.tl_patch_edit.specs.declared.ask.Put.{Put as CodePut}
 use Rattle.tl_patch_edit.specs.declared.ask.Put.TheVariants as put
 use Rattle.tl_patch_edit.specs.declared.tag.ReadyAsk.{ReadyAsk}
 use Rattle.tl_patch_edit.specs.Found.{has_mark}
-use Rattle.tl_patch_edit.specs.Parts.{ArePieces, Give, IsPieceOf, Part, Says}
+use Rattle.tl_patch_edit.specs.Parts.{ArePieces, Give, IsPieceOf, Part, Says, with_end_part}
 use Rattle.tl_patch_edit.specs.Sayings.{sayings}
 use Rattle.tl_patch_spec.specs.Markup.{text_markup}
-use Rattle.tl_patch_spec.specs.Patches.{ArePut, Alone, AreAskedOne, Changed, Content, Dropped, Extent, Implied, IsNamed, Markup, NewContent, NewEndTag, Patch, Append, Fill, Prepend, PutAfter, PutBefore, Put, ReplaceWith, Text, Unclosed, Whole, put_instead}
+use Rattle.tl_patch_spec.specs.Patches.{ArePut, Alone, AreAskedOne, Changed, Content, Dropped, Extent, Implied, IsNamed, Markup, NewContent, NewEndTag, Patch, Append, Fill, Prepend, PutAfter, PutBefore, Put, ReplaceWith, Text, Unclosed, Whole, is_page_name, put_instead}
 use Rattle.tl_patch_spec.specs.Splices.{Splice, are_ordered, with_splices_from}
 use Rattle.tl_patch_spec.specs.TagChanges.{Rename, changed_token}
 
@@ -102,6 +102,11 @@ inside_end (Implied m) = Some m
 inside_end (Unclosed m) = Some m
 inside_end _ = None
 
+-- whether an element goes to the end of the page, so that nothing can stand after it
+abbrev pub ends_page : Extent → List ℕ → Bool
+ends_page (Implied m) name = is_page_name name
+ends_page _ name = false
+
 -- an end tag is put in where one is left out
 abbrev pub put_after : Extent → List ℕ → Content → List Put
 put_after (Implied m) name c = NewEndTag name ∷ NewContent c ∷ []
@@ -158,11 +163,11 @@ IsTagFor (put.Renamed name) place tag = IsRenamedTag name.now place tag
 
 abbrev pub IsTagAt : List Part → Ask → List ℕ → Type 0
 IsTagAt parts ask tag =
-    (place : Part) → slice_get parts ask.from ≡ Some place → IsTagFor ask.put place tag
+    (place : Part) → slice_get (with_end_part parts) ask.from ≡ Some place → IsTagFor ask.put place tag
 
 -- parts are what is put for an ask
 abbrev pub GivePutFor : Content → Ask → List Part → List Part → Type 0
-GivePutFor c ask parts put = (place : Part) → slice_get parts ask.from ≡ Some place →
+GivePutFor c ask parts put = (place : Part) → slice_get (with_end_part parts) ask.from ≡ Some place →
     GivePut (puts_view c ask.put) place put
 
 abbrev pub IsTagged : List Part → ReadyAsk → Type 0

@@ -11,7 +11,7 @@ use Rattle.tl_patch_spec.specs.Patches.{Content, Markup, Patch, Put, Text, asked
 use Rattle.tl_patch_spec.specs.Splices.{Splice, are_ordered}
 use Rattle.tl_patch_edit.specs.Asks.{ask_view, asks_view, content_of, is_data, text_form}
 use Rattle.tl_patch_edit.specs.Found.{IsNeverRead, IsNeverSplicedOf, IsStartAt, has_mark}
-use Rattle.tl_patch_edit.specs.Parts.{Part}
+use Rattle.tl_patch_edit.specs.Parts.{Part, with_end_part}
 use Rattle.tl_patch_edit.specs.declared.ask.Ask.{Ask}
 use Rattle.tl_patch_edit.specs.declared.ask.PlacedAsk.{PlacedAsk}
 use Rattle.tl_patch_edit.specs.declared.ask.Put.{Put as CodePut}
@@ -100,7 +100,7 @@ CannotPutIn c m _ = ⊥
 -- what is asked for can't be written at its part
 pub record CannotPut (c : Content) (parts : List Part) (ask : Ask) : Type 0 where
   pub place : Part
-  pub stands : slice_get parts ask.from ≡ Some place
+  pub stands : slice_get (with_end_part parts) ask.from ≡ Some place
   pub cannot : (has_name ask.put ≡ false) ⊎ CannotPutIn c place.mode ask.put
 
 -- an ask of the element at a place
@@ -108,14 +108,14 @@ pub record IsOneAt (asks : List PlacedAsk) (place : ℕ) (one : PlacedAsk) : Typ
   pub among : Contains asks one
   pub begins : one.start.token.start ≡ place
 
--- an ask begins before an end
+-- an ask begins no later than at an end
 abbrev pub IsWithin : ℕ → ReadyAsk → Type 0
-IsWithin end ready = ready.placed.ask.from < end
+IsWithin end ready = ready.placed.ask.from ≤ end
 
 abbrev pub IsReadyError : Content → List Part → PlacedAsk → EditError → Type 0
 IsReadyError c parts one error.OutOfMemory = ⊤
 IsReadyError c parts one (error.EndOfPage p) =
-    (one.start.token.start ≡ p) × (length parts ≤ one.ask.from)
+    (one.start.token.start ≡ p) × (length parts < one.ask.from)
 IsReadyError c parts one (error.NotWritten p) =
     (one.start.token.start ≡ p) × CannotPut c parts one.ask
 IsReadyError c parts one (error.ReadOtherwise p) =
@@ -130,7 +130,7 @@ IsReadError page parts place _ = ⊥
 abbrev pub IsSpliceError : Content → List Part → List PlacedAsk → EditError → Type 0
 IsSpliceError c parts asks error.OutOfMemory = ⊤
 IsSpliceError c parts asks (error.EndOfPage p) =
-    (one : PlacedAsk) × IsOneAt asks p one × (length parts ≤ one.ask.from)
+    (one : PlacedAsk) × IsOneAt asks p one × (length parts < one.ask.from)
 IsSpliceError c parts asks (error.NotWritten p) =
     (one : PlacedAsk) × IsOneAt asks p one × CannotPut c parts one.ask
 IsSpliceError c parts asks (error.Across p) =

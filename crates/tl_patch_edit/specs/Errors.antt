@@ -10,7 +10,7 @@ use Rattle.tl_html_tokens.specs.Modes.{state_of}
 use Rattle.tl_html_tokens.specs.Tokens.{mark_len}
 use Rattle.tl_html_tokens.specs.declared.mode.Mode.{Mode}
 use Rattle.tl_patch_spec.specs.Markup.{is_name}
-use Rattle.tl_patch_spec.specs.Patches.{Changed, Content, Markup, NewContent, NewEndTag, Patch, Put, Text, asked_of, content_pieces}
+use Rattle.tl_patch_spec.specs.Patches.{Changed, Content, Markup, NewContent, NewEndTag, Patch, Put, Text, asked_of, content_pieces, with_end}
 use Rattle.tl_patch_spec.specs.Splices.{Splice, with_splices}
 use Rattle.tl_patch_spec.specs.TagChanges.{Rename}
 use Rattle.tl_patch_spec.specs.Together.{AreAskedTogether, Asked, ask_of, asked_each}
@@ -67,11 +67,11 @@ pub record IsAskAt (page : List ℕ) (patches : List (ℕ × Patch)) (place : �
   pub asked : asked_of (pieces_in page) at.number at.patch ≡ Some asks
   pub among : Contains asks ask
 
--- which begins behind the last piece of the page
+-- which begins behind the end of the page
 pub record StandsPastEnd (page : List ℕ) (patches : List (ℕ × Patch)) (place : ℕ) : Type 0 where
   pub ask : Splice Put
   pub at : IsAskAt page patches place ask
-  pub past : length (pieces_in page) ≤ ask.from
+  pub past : length (pieces_in page) < ask.from
 
 -- content can't stand where the tokenizer is in this state: markup in a raw text, markup that
 -- begins with a byte order mark, a text that would be read otherwise
@@ -93,7 +93,7 @@ pub record CannotBeWritten (page : List ℕ) (patches : List (ℕ × Patch)) (pl
   pub ask : Splice Put
   pub at : IsAskAt page patches place ask
   pub piece : Piece
-  pub stands : slice_get (pieces_in page) ask.from ≡ Some piece
+  pub stands : slice_get (with_end (pieces_in page)) ask.from ≡ Some piece
   pub put : Put
   pub among : Contains ask.put put
   pub cannot : CannotBePut piece put

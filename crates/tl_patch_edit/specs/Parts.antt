@@ -146,6 +146,13 @@ is_alike kind.Comment p q =
 is_alike kind.Doctype p q = is_doctype_kind q.kind
 is_alike _ p q = false
 
+-- the end of a page as a part, and the parts at which something is put
+abbrev pub end_part : Part
+end_part = record { kind = kind.Nothing; mode = mode.Data; bytes = [] }
+
+abbrev pub with_end_part : List Part → List Part
+with_end_part parts = parts ++ end_part ∷ []
+
 -- the separator as a part
 abbrev pub separator_part : Part
 separator_part = record { kind = kind.Nothing; mode = mode.Data; bytes = separator }

@@ -2,7 +2,7 @@
 ghost use Rattle.std.specs.Prelude.{◌≡◌, ◌||◌, codes};
 ghost use Rattle.std.specs.Str.{bytes_eq};
 ghost use Rattle.tl_html_spec.specs.Balanced.{is_raw};
-ghost use Rattle.tl_patch_spec.specs.Patches.{may_be_renamed, may_lack_end_tag};
+ghost use Rattle.tl_patch_spec.specs.Patches.{is_page_name, may_be_renamed, may_lack_end_tag};
 ghost use Rattle.tl_patch_edit.specs.Asks.{is_document_name, is_script_name};
 
 use tl_lexer::names::is_void;
@@ -28,6 +28,14 @@ pub(crate) fn may_lack_end_tag(name: &[u8]) -> bool
         return true;
     }
     is_document_name(name)
+}
+
+// Whether what stands behind the end tag of an element is in the body.
+#[tactic(auto, using(crate::proofs::Names::page_name))]
+pub(crate) fn is_page_name(name: &[u8]) -> bool
+    ensures { result ≡ is_page_name name.now }
+{
+    name == b"html".as_slice() || name == b"body".as_slice()
 }
 
 fn is_script_name(name: &[u8]) -> bool

@@ -18,7 +18,7 @@ pub enum EditError {
     /// The changes of the element at this place and of another cut across each other.
     #[error("the change of the element at byte {0} cuts across another")]
     Across(usize),
-    /// What is to be put would stand after the last byte of the page.
+    /// What is to be put would stand behind the end of the page.
     #[error("the end of the page, for the element at byte {0}")]
     EndOfPage(usize),
     /// What is to be put can't stand there, for the element at this place: markup in a raw text, or

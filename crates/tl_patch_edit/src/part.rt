@@ -1,9 +1,10 @@
 //! Parts of a page.
-ghost use Rattle.std.specs.Prelude.{◌≡◌, ◌∷◌, ◌++◌, [], IfOk, OnOk, drop, map, take};
+ghost use Rattle.std.specs.Prelude.{◌≡◌, ◌≤◌, ◌∷◌, ◌++◌, [], IfOk, OnOk, Some, drop, length, map, take};
+ghost use Rattle.std.specs.List.{slice_get};
 ghost use Rattle.tl_html_spec.specs.Pieces.{pieces, runs};
 ghost use Rattle.tl_html_tokens.specs.Tokens.{AreTokensOf};
 ghost use Rattle.tl_html_tokens.specs.Whole.{bytes_at};
-ghost use Rattle.tl_patch_edit.specs.Parts.{ArePieces, part_bytes, part_view, parts_view, view_at};
+ghost use Rattle.tl_patch_edit.specs.Parts.{ArePieces, part_bytes, part_view, parts_view, view_at, with_end_part};
 
 use std::alloc::{AllocError, Global};
 use tl_html_tokens::{Mode, Token, TokenKind};
@@ -55,6 +56,23 @@ fn part_at(page: &[u8], token: Token) -> Part<'_>
         kind: token.kind,
         mode: token.mode,
         bytes: token_bytes(page, token),
+    }
+}
+
+// The part at which something is put. Where a page ends none stands, and what is put there stands
+// in markup.
+#[tactic(auto, using(crate::proofs::Lists::place_before, crate::proofs::Lists::place_end))]
+pub(crate) fn place_at<'p>(parts: &[Part<'p>], from: usize) -> Part<'p>
+    requires { from ≤ length parts.now }
+    ensures { slice_get (with_end_part (parts_view parts.now)) from ≡ Some (part_view result) }
+{
+    if from < parts.len() {
+        return parts[from];
+    }
+    Part {
+        kind: TokenKind::Nothing,
+        mode: Mode::Data,
+        bytes: &[],
     }
 }
 

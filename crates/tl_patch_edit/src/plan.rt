@@ -1,13 +1,13 @@
 //! Which tokens a patch puts something in the place of.
 ghost use Rattle.std.specs.Prelude.{◌≡◌, ℕ, List, IfOk, None, Some, option_map, suc, true};
 ghost use Rattle.tl_html_tags.specs.Parts.{name_of};
-ghost use Rattle.tl_patch_spec.specs.Patches.{Append, Content, Fill, Prepend, PutAfter, PutBefore, Remove, RenameElement, ReplaceWith, Unwrap, asked, may_be_renamed};
-ghost use Rattle.tl_patch_edit.specs.Asks.{content_of, planned_view, put_after, puts_view, tags_asked};
+ghost use Rattle.tl_patch_spec.specs.Patches.{Append, Content, Fill, Prepend, PutAfter, PutBefore, Remove, RenameElement, ReplaceWith, Unwrap, asked, is_page_name, may_be_renamed};
+ghost use Rattle.tl_patch_edit.specs.Asks.{content_of, ends_page, planned_view, put_after, puts_view, tags_asked};
 ghost use Rattle.tl_patch_edit.specs.declared.ask.Put.TheVariants.{EndTag, Renamed};
 ghost use Rattle.tl_patch_edit.specs.View.{extent_view, patch_view};
 
 use crate::ask::{Ask, ElementPatch, Extent, Planned, Put, inner_end, inside_end, next, until_of};
-use crate::element_name::may_be_renamed;
+use crate::element_name::{is_page_name, may_be_renamed};
 use std::alloc::{AllocError, Global};
 use tl_html_write::lower_name;
 
@@ -100,11 +100,37 @@ fn put_after(extent: Extent, raw: &[u8]) -> Put<'_>
     }
 }
 
-fn put_behind(number: usize, extent: Extent, raw: &[u8]) -> Result<Option<Planned<'_>>, AllocError>
+fn is_page(alloc: Global, raw: &[u8]) -> Result<bool, AllocError>
+    ensures { IfOk result (λ is. is ≡ is_page_name (name_of raw.now)) }
+{
+    let name = lower_name(alloc, raw)?;
+    Ok(is_page_name(name.as_bytes()))
+}
+
+// Whether an element goes to the end of the page, so that nothing can stand after it.
+fn ends_page(alloc: Global, extent: Extent, raw: &[u8]) -> Result<bool, AllocError>
+    ensures { IfOk result (λ is. is ≡ ends_page (extent_view extent) (name_of raw.now)) }
+{
+    match extent {
+        Extent::Implied { .. } => is_page(alloc, raw),
+        _ => Ok(false),
+    }
+}
+
+fn put_behind(
+    alloc: Global,
+    number: usize,
+    extent: Extent,
+    raw: &[u8],
+) -> Result<Option<Planned<'_>>, AllocError>
     ensures { IfOk result (λ found. (content : Content) →
         asked (PutAfter content) number (extent_view extent) (name_of raw.now)
         ≡ option_map (planned_view content) found) }
 {
+    let ends_page = ends_page(alloc, extent, raw)?;
+    if ends_page {
+        return Ok(None);
+    }
     let Some(until) = until_of(number, extent)? else {
         return Ok(None);
     };
@@ -245,6 +271,6 @@ pub(crate) fn plan<'n>(
         ElementPatch::Prepend { .. } => prepended(number, extent),
         ElementPatch::Append { .. } => Ok(appended(number, extent)),
         ElementPatch::PutBefore { .. } => Ok(Some(put_before(number, extent))),
-        ElementPatch::PutAfter { .. } => put_behind(number, extent, raw),
+        ElementPatch::PutAfter { .. } => put_behind(alloc, number, extent, raw),
     }
 }

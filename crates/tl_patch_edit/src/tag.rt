@@ -1,5 +1,5 @@
 //! Tags that are put, by themselves.
-ghost use Rattle.std.specs.Prelude.{◌≡◌, ◌<◌, [], ◌∷◌, ◌++◌, IfErr, IfNone, IfOk, IfSome, OnOk, length, true};
+ghost use Rattle.std.specs.Prelude.{◌≡◌, ◌≤◌, [], ◌∷◌, ◌++◌, IfErr, IfNone, IfOk, IfSome, OnOk, length, true};
 ghost use Rattle.std.specs.List.{All};
 ghost use Rattle.tl_html_spec.specs.HtmlTokenizer.{EndTag};
 ghost use Rattle.tl_html_tags.specs.Parts.{name_of};
@@ -12,7 +12,7 @@ ghost use Rattle.tl_patch_spec.specs.Patches.{Content};
 
 use crate::ask::{Ask, PlacedAsk, Put};
 use crate::error::EditError;
-use crate::part::Part;
+use crate::part::{Part, place_at};
 use crate::put::is_data;
 use std::alloc::{AllocError, Global};
 use tl_html_tags::tag_parts;
@@ -148,12 +148,12 @@ fn has_name(put: Put<'_>) -> bool
 
 // The tag that is put for an ask.
 fn tag_put(alloc: Global, parts: &[Part<'_>], ask: Ask<'_>) -> Result<Option<Vec<u8>>, AllocError>
-    requires { ask.from < length parts.now }
+    requires { ask.from ≤ length parts.now }
     ensures tag { IfOk result (λ found. IfSome found (λ tag.
         IsTagAt (parts_view parts.now) ask.entry tag.items)) }
     ensures none { IfOk result (λ found. IfNone found (puts_tag ask.entry.put ≡ true)) }
 {
-    let place = parts[ask.from];
+    let place = place_at(parts, ask.from);
     let Some(tag) = tag_for(alloc, place, ask.put)? else {
         return Ok(None);
     };
@@ -174,12 +174,12 @@ fn ready_ask<'n>(
 ) -> Result<ReadyAsk<'n>, EditError>
     ensures ask { IfOk result (λ ready. ready.placed ≡ placed.entry) }
     ensures tag { IfOk result (λ ready. IsTagged (parts_view parts.now) ready) }
-    ensures within { IfOk result (λ ready. ready.placed.ask.from < length parts.now) }
+    ensures within { IfOk result (λ ready. ready.placed.ask.from ≤ length parts.now) }
     ensures error { (content : Content) → IfErr result
         (IsReadyError content (parts_view parts.now) placed.entry) }
 {
     let place = placed.start.token.start;
-    if placed.ask.from >= parts.len() {
+    if placed.ask.from > parts.len() {
         return Err(EditError::EndOfPage(place));
     }
     let has_name = has_name(placed.ask.put);

@@ -1,5 +1,5 @@
 //! The parts of a page with what patches ask for.
-ghost use Rattle.std.specs.Prelude.{◌≡◌, ◌<◌, ◌≤◌, ◌-◌, ◌++◌, ◌&&◌, IfErr, IfOk, OnOk, drop, length, nat_le, take, true};
+ghost use Rattle.std.specs.Prelude.{◌≡◌, ◌≤◌, ◌-◌, ◌++◌, ◌&&◌, IfErr, IfOk, OnOk, drop, length, nat_le, take, true};
 ghost use Rattle.std.specs.List.{All};
 ghost use Rattle.tl_patch_edit.specs.Asks.{GivePutFor, IsReady, IsTagged, IsWanted, asks_view, placed_of};
 ghost use Rattle.tl_patch_edit.specs.Causes.{IsReadyError, IsSpliceError, IsWithin};
@@ -8,7 +8,7 @@ ghost use Rattle.tl_patch_edit.specs.View.{content_view};
 
 use crate::ask::Ask;
 use crate::error::EditError;
-use crate::part::{Part, copy, push};
+use crate::part::{Part, copy, place_at, push};
 use crate::put::{Ready, put_parts};
 use crate::tag::ReadyAsk;
 use std::alloc::{AllocError, Global};
@@ -178,14 +178,14 @@ fn put_of<'p>(
     requires ready { IsReady (content_view ready.content) ready.escaped.now
         (parts_view ready.markup.now) }
     requires tag { IsTagged (parts_view parts.now) one.now }
-    requires from { one.now.placed.ask.from < length parts.now }
+    requires from { one.now.placed.ask.from ≤ length parts.now }
     ensures put { IfOk result (λ put.
         GivePutFor (content_view ready.entry.content) one.now.placed.ask
         (parts_view parts.now) (parts_view put.items)) }
     ensures error { IfErr result (IsReadyError (content_view ready.entry.content)
         (parts_view parts.now) one.now.placed) }
 {
-    let place = parts[one.placed.ask.from];
+    let place = place_at(parts, one.placed.ask.from);
     let Some(put) = put_parts(alloc, one.placed.ask.put, place, ready, one.tag.as_slice())? else {
         return Err(EditError::NotWritten(one.placed.start.token.start));
     };

@@ -11,7 +11,7 @@ use Rattle.tl_patch_page.specs.Asked.{IsAsAsked, IsOfAttribute, patch_of}
 use Rattle.tl_patch_page.specs.Pages.{AreChanged, AreMade, IsChangedPiece, IsPatched}
 use Rattle.tl_patch_page.specs.View.{PlacedChange, change_of}
 use Rattle.tl_patch_spec.specs.Elements.{elements}
-use Rattle.tl_patch_spec.specs.Patches.{AreAsked, Changed, Extent, IsPut, Patch, asked_by_name, change_tag, extent_in, start_name, tokens_of_piece}
+use Rattle.tl_patch_spec.specs.Patches.{AreAsked, Changed, Extent, IsPut, Patch, asked_by_name, change_tag, extent_in, start_name, tokens_of_piece, with_end}
 use Rattle.tl_patch_spec.specs.Splices.{Splice, with_splices}
 use Rattle.tl_patch_spec.specs.TagChanges.{Rename, Set, TagChange, Unset, changed_token}
 
@@ -122,6 +122,11 @@ is_put (Set key value) p q a r t = (q, refl, r, t)
 is_put (Unset key) p q a r t = (q, refl, r, t)
 is_put (Rename new) p q a r t = absurd a
 
+stands_before : (ps : List Piece) (n : ℕ) (p : Piece) → slice_get ps n ≡ Some p → slice_get (with_end ps) n ≡ Some p
+stands_before [] n p e = cc
+stands_before (q ∷ ps) zero p e = e
+stands_before (q ∷ ps) (suc n) p e = stands_before ps n p e
+
 is_asked : (c : PlacedChange) (place : ℕ) (ps qs : List Piece) → IsOfAttribute c.change → (o : IsOne c place ps qs) →
     AreAsked ps o.number (patch_of c.change) (record { from = o.number; until = suc o.number; put = o.new ∷ [] } ∷ [])
 is_asked c place ps qs a o =
@@ -138,7 +143,7 @@ is_asked c place ps qs a o =
           from = refl;
           until = refl;
           place = o.piece;
-          stands = o.stands;
+          stands = stands_before ps o.number o.piece o.stands;
           put = o.new ∷ [];
           are_put = (o.new ∷ [], [], refl, is_put c.change o.piece o.new a (o.made).rest (o.made).tokens, refl);
           before = false;

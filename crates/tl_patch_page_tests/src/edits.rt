@@ -16,7 +16,7 @@ type Row = (
 );
 
 #[rattlefmt::skip]
-static PAGE_ROWS: [Row; 64] = [
+static PAGE_ROWS: [Row; 82] = [
     (ElementPatch::Remove, 1, b"a<b>x</b>c", Ok(b"ac")),
     (ElementPatch::Remove, 4, b"<ul><li>a<li>b</ul>", Ok(b"<ul><li>b</ul>")),
     (ElementPatch::Remove, 9, b"<ul><li>a<li>b</ul>", Ok(b"<ul><li>a</ul>")),
@@ -49,7 +49,25 @@ static PAGE_ROWS: [Row; 64] = [
     (ElementPatch::PutAfter { content: MARKUP }, 4, b"<ul><li>a<li>b</ul>", Ok(b"<ul><li>a</li><hr>p;<li>b</ul>")),
     (ElementPatch::PutAfter { content: TEXT }, 0, b"<b>x</b>y", Ok(b"<b>x</b>1 &lt; 2 &amp; 3y")),
     (ElementPatch::PutAfter { content: Content::Markup { markup: b"x &am" } }, 0, b"<p></p>p;", Ok(b"<p></p>x &am</>p;")),
-    (ElementPatch::PutAfter { content: TEXT }, 0, b"<b>x</b>", Err(EditError::EndOfPage(0))),
+    (ElementPatch::PutAfter { content: TEXT }, 0, b"<b>x</b>", Ok(b"<b>x</b>1 &lt; 2 &amp; 3")),
+    (ElementPatch::PutAfter { content: MARKUP }, 0, b"<p>a", Ok(b"<p>a</p><hr>p;")),
+    (ElementPatch::PutAfter { content: TEXT }, 1, b"a<br>", Ok(b"a<br>1 &lt; 2 &amp; 3")),
+    (ElementPatch::PutAfter { content: MARKUP }, 0, b"<p>a<b", Err(EditError::ReadOtherwise(0))),
+    (ElementPatch::PutAfter { content: MARKUP }, 0, b"<p>a<!-- b", Err(EditError::ReadOtherwise(0))),
+    (ElementPatch::PutAfter { content: TEXT }, 0, b"<body>a</body>", Err(EditError::NotMeant(0))),
+    (ElementPatch::PutAfter { content: TEXT }, 6, b"<html><body>a", Err(EditError::NotMeant(6))),
+    (ElementPatch::Append { content: Content::Text { text: b"y" } }, 0, b"<body>a</body>\n", Ok(b"<body>a</body>\ny")),
+    (ElementPatch::Rename { name: b"main" }, 0, b"<body>a</body>", Ok(b"<main>a</body></main>")),
+    (ElementPatch::Append { content: Content::Text { text: b"p;" } }, 0, b"<p>AT&am", Ok(b"<p>AT&am</>p;")),
+    (ElementPatch::Append { content: MARKUP }, 4, b"<ul><li>3 <", Ok(b"<ul><li>3 <<hr>p;")),
+    (ElementPatch::Append { content: Content::Markup { markup: b"b>" } }, 0, b"<p>3 <", Ok(b"<p>3 <</>b>")),
+    (ElementPatch::Append { content: Content::Markup { markup: b"<" } }, 0, b"<p>x", Ok(b"<p>x<")),
+    (ElementPatch::Append { content: Content::Markup { markup: b"<i" } }, 0, b"<p>x", Ok(b"<p>x<i")),
+    (ElementPatch::Append { content: Content::Text { text: b"y" } }, 0, b"<p><title>x", Ok(b"<p><title>xy")),
+    (ElementPatch::Append { content: MARKUP }, 0, b"<p><title>x", Err(EditError::ReadOtherwise(0))),
+    (ElementPatch::Append { content: MARKUP }, 0, b"<li><plaintext>x", Err(EditError::ReadOtherwise(0))),
+    (ElementPatch::Fill { content: Content::Text { text: b"y" } }, 0, b"<p>", Ok(b"<p>y")),
+    (ElementPatch::Prepend { content: Content::Text { text: b"y" } }, 0, b"<b>", Ok(b"<b>y")),
     (ElementPatch::PutAfter { content: TEXT }, 1, b"a<br>b", Ok(b"a<br>1 &lt; 2 &amp; 3b")),
     (ElementPatch::Fill { content: Content::Text { text: b"" } }, 0, b"<p>a</p>", Ok(b"<p></p>")),
     (ElementPatch::Fill { content: Content::Text { text: b"" } }, 0, b"<title>a</title>", Ok(b"<title></title>")),
@@ -80,7 +98,7 @@ static PAGE_ROWS: [Row; 64] = [
     (ElementPatch::Rename { name: b"i k" }, 0, b"<b>x</b>", Err(EditError::NotWritten(0))),
     (ElementPatch::Rename { name: b"" }, 0, b"<b>x</b>", Err(EditError::NotWritten(0))),
     (ElementPatch::Rename { name: b"i" }, 5, b"<div><b>x</div>y", Err(EditError::NotMeant(5))),
-    (ElementPatch::Rename { name: b"i" }, 0, b"<p>a", Err(EditError::EndOfPage(0))),
+    (ElementPatch::Rename { name: b"i" }, 0, b"<p>a", Ok(b"<i>a</i>")),
 ];
 
 // What is done, the bytes where the start tags begin, the page, and what comes of it.
@@ -92,7 +110,7 @@ type SeveralRow = (
 );
 
 #[rattlefmt::skip]
-static SEVERAL_ROWS: [SeveralRow; 34] = [
+static SEVERAL_ROWS: [SeveralRow; 35] = [
     (ElementPatch::Remove, &[], b"a<b>x</b>c", Ok(b"a<b>x</b>c")),
     (ElementPatch::Remove, &[1, 10], b"a<b>x</b>c<i>y</i>d", Ok(b"acd")),
     (ElementPatch::Remove, &[1, 1, 1], b"a<b>x</b>c", Ok(b"ac")),
@@ -120,7 +138,8 @@ static SEVERAL_ROWS: [SeveralRow; 34] = [
     (ElementPatch::PutBefore { content: TEXT }, &[0, 3], b"<b><i>x</i></b>", Ok(b"1 &lt; 2 &amp; 3<b>1 &lt; 2 &amp; 3<i>x</i></b>")),
     (ElementPatch::PutAfter { content: Content::Text { text: b"y" } }, &[4, 8], b"<ul><li><b>x</b></ul>", Ok(b"<ul><li><b>x</b>y</li>y</ul>")),
     (ElementPatch::PutAfter { content: Content::Text { text: b"y" } }, &[0, 4], b"<br><br>z", Ok(b"<br>y<br>yz")),
-    (ElementPatch::PutAfter { content: TEXT }, &[0, 8], b"<b>x</b><b>y</b>", Err(EditError::EndOfPage(8))),
+    (ElementPatch::PutAfter { content: Content::Text { text: b"z" } }, &[0, 8], b"<b>x</b><b>y</b>", Ok(b"<b>x</b>z<b>y</b>z")),
+    (ElementPatch::Append { content: Content::Text { text: b"z" } }, &[0, 6], b"<body><p>x", Ok(b"<body><p>xzz")),
     (ElementPatch::Fill { content: TEXT }, &[0, 8], b"<i>a</i><br>z", Err(EditError::NotMeant(8))),
     (ElementPatch::Fill { content: MARKUP }, &[0, 8], b"<i>a</i><title>b</title>", Err(EditError::NotWritten(8))),
     (ElementPatch::Append { content: Content::Markup { markup: b"<!-- " } }, &[0, 8], b"<i>a</i><i>b</i>", Err(EditError::ReadOtherwise(0))),

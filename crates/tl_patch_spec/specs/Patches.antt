@@ -80,6 +80,10 @@ abbrev pub may_be_renamed : List ℕ → List ℕ → Bool
 may_be_renamed name new =
     not (is_raw name || is_raw new) && (if is_void name then is_void new else not (is_void new))
 
+-- what stands behind the end tag of such an element is in the body, so nothing can stand after it
+abbrev pub is_page_name : List ℕ → Bool
+is_page_name name = is_one_of (codes "html body") name
+
 -- the splices of a patch on the element that begins at place n, by how far it goes; none where the
 -- patch can't be meant
 abbrev pub asked : Patch → ℕ → Extent → List ℕ → Option (List (Splice Put))
@@ -115,7 +119,8 @@ asked (PutBefore c) n extent name = Some (put_at n (NewContent c ∷ []) ∷ [])
 asked (PutAfter c) n Alone name = Some (put_at (suc n) (NewContent c ∷ []) ∷ [])
 asked (PutAfter c) n (Whole m) name = Some (put_at (suc m) (NewContent c ∷ []) ∷ [])
 asked (PutAfter c) n (Implied m) name =
-    Some (put_at m (NewEndTag name ∷ NewContent c ∷ []) ∷ [])
+    if is_page_name name then None
+    else Some (put_at m (NewEndTag name ∷ NewContent c ∷ []) ∷ [])
 asked _ n extent name = None
 
 -- the name of a piece that is a start tag
@@ -176,12 +181,20 @@ ArePut p (first ∷ more) put =
 abbrev pub separator_if : Bool → List Piece
 separator_if needed = if needed then separator_piece ∷ [] else []
 
+-- where the page ends: what is put there stands in `data`
+abbrev pub end_piece : Piece
+end_piece = piece data_state [] []
+
+-- the pieces at which something is put: those of a page, and its end
+abbrev pub with_end : List Piece → List Piece
+with_end ps = ps ++ end_piece ∷ []
+
 -- a splice is as it is asked for; a separator may stand before what is put, and after it
 pub record IsAsked (ps : List Piece) (ask : Splice Put) (splice : Splice Piece) : Type 0 where
   pub from : splice.from ≡ ask.from
   pub until : splice.until ≡ ask.until
   pub place : Piece
-  pub stands : slice_get ps ask.from ≡ Some place
+  pub stands : slice_get (with_end ps) ask.from ≡ Some place
   pub put : List Piece
   pub are_put : ArePut place ask.put put
   pub before : Bool
@@ -216,7 +229,7 @@ abbrev pub token_splice : List Piece → Splice Put → Splice (List HtmlToken)
 token_splice ps ask = record {
   from = ask.from;
   until = ask.until;
-  put = map (put_tokens (slice_get ps ask.from)) ask.put;
+  put = map (put_tokens (slice_get (with_end ps) ask.from)) ask.put;
 }
 
 abbrev pub tokens_asked : List Piece → ℕ → Patch → Option (List HtmlToken)

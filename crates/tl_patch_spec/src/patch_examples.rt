@@ -182,3 +182,20 @@ pub fn tokens_of_elements()
         ≡ Some (start "ul" [] ++ start "li" [] ++ text "a" ++ end "li" ++ start "hr" []
         ++ start "li" [] ++ text "b" ++ end "ul") }
 {}
+
+/// At the end of a page something can be put too: it stands in `data`.
+#[tactic(auto, unfolding(tl_html_spec::specs::Reader::read, tl_html_spec::specs::Reader::rest_before))]
+pub fn at_the_end()
+    ensures after { with_patch "<p>a</p>" 0 (PutAfter (Markup (codes "<hr>")))
+        ≡ Some (start "p" [] ++ text "a" ++ end "p" ++ start "hr" []) }
+    ensures end_tag { with_patch "<p>a" 0 (PutAfter (words "b"))
+        ≡ Some (start "p" [] ++ text "a" ++ end "p" ++ text "b") }
+    ensures append { with_patch "<ul><li>a" 1 (Append (words "<"))
+        ≡ Some (start "ul" [] ++ start "li" [] ++ text "a<") }
+    ensures rename { with_patch "<p>AT&am" 0 (RenameElement (codes "div"))
+        ≡ Some (start "div" [] ++ text "AT&am" ++ end "div") }
+    // a body goes up to there, past its end tag, and nothing can stand after it
+    ensures in_body { with_patch "<body>a</body>" 0 (Append (words "b"))
+        ≡ Some (start "body" [] ++ text "a" ++ end "body" ++ text "b") }
+    ensures after_body { with_patch "<body>a</body>" 0 (PutAfter (words "b")) ≡ None }
+{}

@@ -1,4 +1,4 @@
-use Rattle.std.proofs.Common.{◌≡◌, refl, sym, ap, ◌∙◌}
+use Rattle.std.proofs.Common.{refl, sym, ap, ◌∙◌}
 use Rattle.tl_html_spec.specs.Pieces.{pieces}
 use Rattle.tl_patch_edit.specs.Found.{has_mark}
 use Rattle.tl_patch_edit.specs.Parts.{parts_view}

@@ -4,10 +4,13 @@ use Rattle.tl_patch_spec.specs.Patches.{Put, put_at}
 use Rattle.tl_patch_edit.specs.Asks.{planned_view}
 use Rattle.tl_patch_edit.specs.View.{extent_view}
 use Rattle.tl_patch_edit.specs.declared.ask.Planned.{Planned}
-use Rattle.tl_patch_edit.proofs.Plans.{puts_behind}
+use Rattle.tl_patch_edit.proofs.Plans.{none_behind, puts_behind}
 use Rattle.tl_patch_edit.proofs.plan.put_behind.Goals as goal
 
+pub returns-then-ends_page : goal.returns-then-ends_page
+returns-then-ends_page c = λ content. none_behind (extent_view c.args.extent) c.args.number content (name_of c.args.raw.now) (sym c.in_ok-ends_page.ensures ∙ c.if-ends_page.true)
+
 pub returns : goal.returns
-returns c = λ content. puts_behind (extent_view c.args.extent) c.args.number _ content (name_of c.args.raw.now) (sym c.in-Some.is ∙ c.in_ok-until.ensures)
+returns c = λ content. puts_behind (extent_view c.args.extent) c.args.number _ content (name_of c.args.raw.now) (sym c.in_ok-ends_page.ensures ∙ c.if-ends_page.false) (sym c.in-Some.is ∙ c.in_ok-until.ensures)
     ∙ ap (λ (xs : List Put). Some (put_at c.in-Some.until xs ∷ [])) (sym (c.put_after.ensures content))
     ∙ ap (λ (p : Planned). Some (planned_view content p)) (sym c.one.ensures)

@@ -1,4 +1,4 @@
-use Rattle.std.proofs.Common.{Err, rules, ◌≡◌, ◌<◌, ◌-◌, ◌++◌, drop, length, take, ℕ, ◌+◌, Bool, true, false, refl, List, [], ◌∷◌, ap, sym, subst, ◌∙◌, arith}
+use Rattle.std.proofs.Common.{Err, rules, ◌≡◌, ◌≤◌, ◌-◌, ◌++◌, drop, length, take, ℕ, ◌+◌, Bool, true, false, refl, List, [], ◌∷◌, ap, sym, subst, ◌∙◌, arith}
 use Rattle.std.proofs.lemmas.List.{drop_all, drop_more, length-drop, take_all}
 use Rattle.tl_patch_edit.specs.Asks.{IsWantedFrom, ask_view, asks_view, placed_of}
 use Rattle.tl_patch_edit.specs.Parts.{Part, parts_view, separator_parts}
@@ -8,7 +8,7 @@ use Rattle.tl_patch_edit.proofs.Refusals.{err_is, one_among, one_refused, ordere
 use Rattle.tl_patch_edit.specs.View.{content_view}
 use Rattle.tl_patch_edit.specs.declared.part.Part.{Part as CodePart}
 use Rattle.tl_patch_edit.specs.declared.tag.ReadyAsk.{ReadyAsk}
-use Rattle.tl_patch_edit.proofs.Splicing.{all_wanted, first_of, step_more}
+use Rattle.tl_patch_edit.proofs.Splicing.{all_wanted, step_more}
 use Rattle.tl_patch_spec.specs.Patches.{Content, Put}
 use Rattle.tl_patch_spec.specs.Splices.{Splice, are_ordered}
 use Rattle.tl_patch_edit.proofs.wanted.wanted_parts.Goals as goal
@@ -22,7 +22,7 @@ loop-at-preserved c =
     let at : ℕ = c.loop-at.at in
     let done : ℕ = c.loop-at.done in
     let one : ReadyAsk = c.index-asks-at.result in
-    let within : one.placed.ask.from < length xs = subst (IsWithin (length xs)) (sym c.index-asks-at.is) (c.requires.within at one c.loop-at-test.true) in
+    let within : one.placed.ask.from ≤ length xs = subst (IsWithin (length xs)) (sym c.index-asks-at.is) (c.requires.within at one c.loop-at-test.true) in
     let left : drop at asks ≡ one ∷ drop (at + 1) asks = drop_more asks at one c.loop-at-test.true ∙ ap (λ (r : ReadyAsk). r ∷ drop (at + 1) asks) (sym c.index-asks-at.is) in
     let more : List (Splice Put) = asks_view content (placed_of (drop (at + 1) asks)) in
     let all : List (Splice Put) = asks_view content (placed_of asks) in
@@ -33,7 +33,7 @@ loop-at-preserved c =
     record {
       within = (c.follows-follows.ensures.until c.if-not-follows.false);
       ordered = c.loop-at.invariant.ordered ∙ ordered_more content asks at done (length xs) one true left (sym c.follows-follows.ensures.is ∙ c.if-not-follows.false);
-      rest = step_more xs done (ask_view content one.placed.ask) more all (first_of xs one.placed.ask.from within) (parts_view c.in_ok-put.put.items) old (parts_view c.push_splice.new.out.items) b a
+      rest = step_more xs done (ask_view content one.placed.ask) more all (parts_view c.in_ok-put.put.items) old (parts_view c.push_splice.new.out.items) b a
           (c.follows-follows.ensures.done c.if-not-follows.false) within (c.follows-follows.ensures.order c.if-not-follows.false) (c.follows-follows.ensures.until c.if-not-follows.false) c.in_ok-put.ensures.put
           (c.in_ok-push_splice.ensures ∙ ap (λ (ps : List CodePart). (((old ++ front) ++ separator_parts b) ++ parts_view ps) ++ separator_parts a) c.as_slice-in-loop-at-2.ensures.value)
           (λ rest w. c.loop-at.invariant.rest rest (subst (λ (rs : List ReadyAsk). IsWantedFrom done (asks_view content (placed_of rs)) X rest) (sym left) w));
@@ -43,7 +43,7 @@ pub push_splice-requires-clause-within : goal.push_splice-requires-clause-within
 push_splice-requires-clause-within c =
     let len : ℕ = length c.args.parts.now in
     let one : ReadyAsk = c.index-asks-at.result in
-    let within : one.placed.ask.from < len = subst (IsWithin len) (sym c.index-asks-at.is) (c.requires.within c.loop-at.at one c.loop-at-test.true) in
+    let within : one.placed.ask.from ≤ len = subst (IsWithin len) (sym c.index-asks-at.is) (c.requires.within c.loop-at.at one c.loop-at-test.true) in
     omega arith
 
 pub returns-then-not-follows-clause-error : goal.returns-then-not-follows-clause-error
