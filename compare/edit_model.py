@@ -77,9 +77,22 @@ class Attributes:
         return self.own
 
 
+def tail_tags(tokens):
+    """The end tags of `body` and `html` that stand last in a page, with nothing but white space and comments between and behind them."""
+    tags = []
+    for at in range(len(tokens) - 1, -1, -1):
+        kind, said = tokens[at][0], tokens[at][1:]
+        if kind == "end" and said[0] in ("body", "html"):
+            tags.insert(0, at)
+        elif kind != "comment" and not (kind == "text" and not said[0].strip("\t\n\f ")):
+            break
+    return tags
+
+
 class Page:
     """A page as it is read: its tokens, the places of its tags, its nodes with the token that each comes from, and how far the element of
-    each start tag goes: up to a token, which is its own end tag or isn't."""
+    each start tag goes: up to a token, which is its own end tag or isn't. What is open at the end ends where the last end tags of the page
+    begin."""
 
     def __init__(self, text):
         tokenizer = PlacedTokenizer(text)
@@ -88,6 +101,7 @@ class Page:
         self.places = {token: (places[begin], places[end]) for token, (begin, end) in tokenizer.places.items()}
         self.nodes, self.sources, self.ends, self.open = [], [], {}, []
         self.read_nodes()
+        self.end_in_tail(tail_tags(self.tokens))
 
     def read_nodes(self):
         balance = SourcedBalance()
@@ -99,6 +113,18 @@ class Page:
         before = len(balance.tokens)
         balance.close(len(balance.open))
         self.add(balance.tokens[before:], len(self.tokens), False, False)
+
+    def end_in_tail(self, tags):
+        """Moves the ends that are the end of the page: `html` to its own end tag, any other to the first of the last end tags."""
+        for source, end in self.ends.items():
+            if end != (len(self.tokens), False):
+                continue
+            name = self.tokens[source][1]
+            own = [at for at in tags if self.tokens[at][1] == name]
+            if name == "html":
+                self.ends[source] = (own[0], True) if own else end
+            elif tags:
+                self.ends[source] = (tags[0], tags[0] in own)
 
     def add(self, emitted, source, is_end, is_inside):
         """Takes what a token gives to the nodes."""

@@ -35,6 +35,7 @@ WORDS = ("set", "unset", "remove", "replace", "fill", "prepend", "append", "befo
 SELECTORS = (
     ["*", "*", "*", "body *", "a", "p", "li", "b", "td", "svg *", "div > *", "p + *", "[title]", "[class]", ":first-child", ":empty", "p, a"]
     + [":not(:root)", "table td", "x-y", "option", "br", "a[href]", "[id=x]", ".k", "#x", "li:nth-child(2n)", "title", "script", "z"]
+    + ["body", "html", "body > :last-child"]
 )
 KEYS = ["title", "class", "ID", "href", "onclick", "data-x", "a:b", "é", "x", "y"]
 VALUES = ["", "v", "a b", '"', "'", "&", "&amp;", "&copy", "<i>", "a>b", "\n", "é", "=", "`", "/", "&#10;", "&notit;"]
@@ -48,6 +49,8 @@ TEXTS = (
     ["x", " ", "\n", "&am", "&amp", "&#1", "&#x", "&", "<", "</", "<!", "</>", "\r", "\r\n", "é", "\0", "<!--c-->", "<!-->", "<!--", "<?x>"]
     + ["]]>", "&copy;"]
 )
+# What stands last in a page.
+TAIL = ("</body>", "</html>", "</BODY >", "\n", " ", "<!--c-->", "</>", "&#32;", "x", "</p>", "</body></html>\n", "</body>\n</html>")
 
 
 def html5lib_tokens(text):
@@ -92,6 +95,9 @@ def made_page(chance):
             out.append(f"</{name}>")
         else:
             out.append(chance.choice(TEXTS))
+    if chance.random() < 0.4:
+        out.insert(0, chance.choice(["<body>", "<html><body>", "<html>", "<html><head><title>x</title><body>"]))
+        out += [chance.choice(TAIL) for _ in range(chance.randrange(1, 5))]
     return "".join(out)
 
 

@@ -232,7 +232,7 @@ Something stands in their place, in them, before or after them: a text, or marku
   $ printf '<title>a &amp; b</title>c' | tl unwrap title
   a &amp; bc (no-eol)
 
-A body goes to the end of the page, past its end tag.
+A body ends at its end tag, where that stands last in the page.
 
   $ printf '<body>\n<p>a</p></body></html>\n' >whole
   $ tl prepend body x whole
@@ -240,20 +240,39 @@ A body goes to the end of the page, past its end tag.
   <p>a</p></body></html>
   $ tl append body x whole
   <body>
-  <p>a</p></body></html>
-  x (no-eol)
+  <p>a</p>x</body></html>
+  $ tl fill body x whole
+  <body>x</body></html>
+  $ tl unwrap body whole
+  (empty)
+  <p>a</p></html>
+  $ tl rename body div whole
+  <div>
+  <p>a</p></div></html>
+  $ tl remove body whole
+  </html>
   $ tl after body x whole
   tl: whole: the element at byte 0 can't be changed so (err)
   [2]
-  $ tl rename body main whole
-  <main>
-  <p>a</p></body></html>
-  </main> (no-eol)
-  $ tl fill body x whole
+  $ printf '<html><body><p>a</BODY> <!--b--></html>\n' >open
+  $ tl append body '!' open
+  <html><body><p>a!</BODY> <!--b--></html>
+  $ tl append html '!' open
+  <html><body><p>a</BODY> <!--b-->!</html>
+  $ tl remove p open
+  <html><body></BODY> <!--b--></html>
+  $ tl after p x open
+  <html><body><p>a</p>x</BODY> <!--b--></html>
+
+With anything else behind it what it says is in the body to browsers, and it ends nothing.
+
+  $ printf '<body>a</body>b\n' | tl fill body x
   <body>x (no-eol)
-  $ tl unwrap body whole
-  (empty)
-  <p>a</p></body></html>
+  $ printf '<body>a</body>b\n' | tl append body x
+  <body>a</body>b
+  x (no-eol)
+  $ printf '<body>a</body><p>b\n' | tl prepend body x
+  <body>xa</body><p>b
 
 Something may stand behind the last byte, where what the page ends with is read the same before it.
 

@@ -21,9 +21,9 @@ use Rattle.tl_patch_edit.specs.Parts.{ArePieces, Part, Say, SayOtherwise, SaySam
 use Rattle.tl_patch_edit.specs.Sayings.{Saying, sayings}
 use Rattle.tl_patch_edit.proofs.Said.{pieces_give}
 use Rattle.tl_patch_edit.proofs.Sayings.{runs_said, say_whole, tokens_are_said, tokens_said}
-use Rattle.tl_patch_spec.specs.Elements.{elements}
 use Rattle.tl_patch_spec.specs.Patches.{Content, Extent, Patch, Put, asked, asked_by_name, asked_of, extent_in, start_name, tokens_of_piece}
 use Rattle.tl_patch_spec.specs.Splices.{Splice, with_splices}
+use Rattle.tl_patch_spec.specs.Tail.{elements_up_to_tail}
 
 pub read_is : (text : List ℕ) (wanted others : List Part) → SaySame wanted others → ArePieces others (runs (pieces text)) → (ss : List Saying) → Say wanted ss → sayings (pieces text) ≡ ss
 read_is text wanted others s a ss h =
@@ -160,16 +160,16 @@ start_of page ts place number t h s =
     }
 
 pub asked_same : (patch : Patch) (page : List ℕ) (number : ℕ) (t : Token) (extent : Extent) (name : List ℕ) → IsStartOf page number t →
-    extent ≡ extent_in number (elements (runs (pieces page))) → IsTagName (bytes_at page t) name →
+    extent ≡ extent_in number (elements_up_to_tail (runs (pieces page))) → IsTagName (bytes_at page t) name →
     asked_of (runs (pieces page)) number patch ≡ asked patch number extent name
 asked_same patch page number t extent name s x n =
     let ps : List Piece = runs (pieces page) in
     let named : start_name (s.piece).tokens ≡ Some name = n.named t.mode (s.piece).tokens s.whole s.start in
-    ap (λ (o : Option Piece). asked_by_name patch number (extent_in number (elements ps)) (start_name (tokens_of_piece o))) s.stands
+    ap (λ (o : Option Piece). asked_by_name patch number (extent_in number (elements_up_to_tail ps)) (start_name (tokens_of_piece o))) s.stands
     ∙ ap₂ (λ (e : Extent) (o : Option (List ℕ)). asked_by_name patch number e o) (sym x) named
 
 pub asked_is : (patch : Patch) (page : List ℕ) (number : ℕ) (t : Token) (extent : Extent) (name : List ℕ) (asks : List (Splice Put)) → IsStartOf page number t →
-    extent ≡ extent_in number (elements (runs (pieces page))) → IsTagName (bytes_at page t) name → asked patch number extent name ≡ Some asks →
+    extent ≡ extent_in number (elements_up_to_tail (runs (pieces page))) → IsTagName (bytes_at page t) name → asked patch number extent name ≡ Some asks →
     asked_of (runs (pieces page)) number patch ≡ Some asks
 asked_is patch page number t extent name asks s x n a = asked_same patch page number t extent name s x n ∙ a
 

@@ -8,11 +8,13 @@ pub mod Plans
 pub mod Puts
 pub mod EndTags
 pub mod Splicing
+pub mod Tails
 pub mod Edited
 pub mod Starts
 pub mod Turns
 pub mod Together
 pub mod Missing
 pub mod Refusals
+pub mod Later
 pub mod Order
 pub mod One

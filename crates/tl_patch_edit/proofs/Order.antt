@@ -1,107 +1,21 @@
--- Elements end after they begin, so what is asked of one element stands in order.
-use Rattle.std.proofs.Common.{◌≡◌, ◌≤◌, ◌<◌, ℕ, suc, ◌+◌, Bool, true, false, ◌==◌, List, [], ◌∷◌, ◌++◌, length, map, slice_get, Option, Some, None, option_map, refl, ap, sym, subst, ◌∙◌, append_assoc, arith, if◌then◌else◌, inl, inr, true≢false}
-use Rattle.std.specs.Prelude.{⊤}
+-- What is asked of one element stands in order, as it ends after it begins.
+use Rattle.std.proofs.Common.{◌≡◌, ◌≤◌, ◌<◌, ℕ, suc, Bool, true, false, ◌==◌, List, [], ◌∷◌, map, slice_get, Option, Some, None, option_map, refl, ap, sym, subst, ◌∙◌, arith, if◌then◌else◌, inl, inr, true≢false}
 use Rattle.std.specs.Option.{option_to_list}
 use Rattle.std.proofs.lemmas.Bool.{cases_Bool, cases_lt, eq-eqb, eqb-true}
-use Rattle.tl_spec.specs.Lex.ByteClass.{is_void}
-use Rattle.tl_html_spec.specs.HtmlTokenizer.{Character, CommentToken, DoctypeToken, EndTag, HtmlAttribute, HtmlToken, StartTag}
-use Rattle.tl_html_spec.specs.Balanced.{Balance, balance, start}
 use Rattle.tl_html_spec.specs.Pieces.{Piece}
-use Rattle.tl_patch_spec.specs.Elements.{Element, OpenElement, PlacedToken, at_piece, balance_after, balanced_at, balanced_in, balanced_pieces, elements, elements_of, ended_element, is_end_tag, open_names, tokens_at}
+use Rattle.tl_patch_spec.specs.Elements.{Element}
 use Rattle.tl_patch_spec.specs.Patches.{Alone, Append, Changed, Content, Dropped, Extent, Fill, Implied, NewContent, NewEndTag, Patch, Prepend, Put, PutAfter, PutBefore, Remove, RenameElement, ReplaceWith, SetAttribute, Unclosed, UnsetAttribute, Unwrap, Whole, asked, asked_by_name, asked_of, change_tag, cut_out, extent_in, extent_of, may_be_renamed, may_lack_end_tag, put_at, put_instead, start_name, tokens_of_piece}
 use Rattle.tl_patch_spec.specs.Splices.{Splice}
 use Rattle.tl_patch_spec.specs.TagChanges.{Rename, Set, Unset}
+use Rattle.tl_patch_spec.specs.Tail.{elements_up_to_tail}
 use Rattle.tl_patch_edit.specs.Asks.{ask_view, content_of, ends_page, inner_end, inside_end, placed_at, placed_view, planned_view, put_after, tags_asked, until_of}
 use Rattle.tl_patch_edit.specs.Several.{AreInTurn}
 use Rattle.tl_patch_edit.specs.declared.ask.Ask.{Ask}
 use Rattle.tl_patch_edit.specs.declared.ask.Planned.{Planned}
 use Rattle.tl_patch_edit.specs.declared.ask.Start.{Start}
+use Rattle.tl_patch_edit.proofs.Later.{EndLater, tail_end_later}
 use Rattle.tl_patch_edit.proofs.Together.{extent_at}
 use Rattle.tl_patch_edit.proofs.Plans.{appends, fills, none_behind, prepends, puts_before, puts_behind, removes, rename_implied, rename_is, rename_not, replaces, unwrap_is}
-
-abbrev InOrder : ℕ → List PlacedToken → Type 0
-InOrder from [] = ⊤
-InOrder from (at_piece place is_own token ∷ tokens) = (from ≤ place) × InOrder place tokens
-
-earlier : (m n : ℕ) (ts : List PlacedToken) → m ≤ n → InOrder n ts → InOrder m ts
-earlier m n [] l h = tt
-earlier m n (at_piece p o t ∷ ts) l h = let a : n ≤ p = h.0 in (omega arith, h.1)
-
-tokens_in_order : (n : ℕ) (o : Bool) (ts : List HtmlToken) (more : List PlacedToken) → InOrder n more → InOrder n (tokens_at n o ts ++ more)
-tokens_in_order n o [] more h = h
-tokens_in_order n o (t ∷ []) more h = (omega arith, h)
-tokens_in_order n o (t ∷ u ∷ ts) more h = (omega arith, tokens_in_order n o (u ∷ ts) more h)
-
-ends_in_order : (n : ℕ) (o : Bool) (ts : List HtmlToken) → InOrder n (tokens_at n o ts)
-ends_in_order n o [] = tt
-ends_in_order n o (t ∷ []) = (omega arith, tt)
-ends_in_order n o (t ∷ u ∷ ts) = (omega arith, ends_in_order n o (u ∷ ts))
-
-at_in_order : (n : ℕ) (s : Balance) (ts : List HtmlToken) (more : List PlacedToken) → InOrder n more → InOrder n (balanced_at n s ts ++ more)
-at_in_order n s [] more h = h
-at_in_order n s (t ∷ ts) more h =
-    subst (InOrder n) (sym (append_assoc (tokens_at n (is_end_tag t) (balance s t).emits) (balanced_at n (balance s t).next ts) more))
-    (tokens_in_order n (is_end_tag t) (balance s t).emits (balanced_at n (balance s t).next ts ++ more) (at_in_order n (balance s t).next ts more h))
-
-in_order : (n : ℕ) (s : Balance) (ps : List Piece) (more : List PlacedToken) → InOrder (n + length ps) more → InOrder n (balanced_in n s ps ++ more)
-in_order n s [] more h = earlier n (n + 0) more (omega arith) h
-in_order n s (p ∷ ps) more h =
-    let next : Balance = balance_after s p.tokens in
-    subst (InOrder n) (sym (append_assoc (balanced_at n s p.tokens) (balanced_in (suc n) next ps) more))
-    (at_in_order n s p.tokens (balanced_in (suc n) next ps ++ more)
-    (earlier n (suc n) (balanced_in (suc n) next ps ++ more) (omega arith)
-    (in_order (suc n) next ps more (earlier (suc n + length ps) (n + suc (length ps)) more (omega arith) h))))
-
-pieces_in_order : (ps : List Piece) → InOrder 0 (balanced_pieces ps)
-pieces_in_order ps =
-    let last : List HtmlToken = map EndTag (open_names ps) in
-    in_order 0 start ps (tokens_at (length ps) false last) (earlier (0 + length ps) (length ps) (tokens_at (length ps) false last) (omega arith) (ends_in_order (length ps) false last))
-
--- those that are open have begun
-
-abbrev Begun : ℕ → List OpenElement → Type 0
-Begun n [] = ⊤
-Begun n (o ∷ stack) = (o.1 ≤ n) × Begun n stack
-
-begun_before : (m n : ℕ) (stack : List OpenElement) → m ≤ n → Begun m stack → Begun n stack
-begun_before m n [] l h = tt
-begun_before m n (o ∷ stack) l h = let a : o.1 ≤ m = h.0 in (omega arith, begun_before m n stack l h.1)
-
-abbrev pub EndLater : List Element → Type 0
-EndLater [] = ⊤
-EndLater (e ∷ es) = (e.start ≤ e.end) × EndLater es
-
-void_ends : (stack : List OpenElement) (p : ℕ) (w : Bool) (n : List ℕ) (xs : List HtmlAttribute) (c : Bool) (ts : List PlacedToken) → is_void n ≡ true →
-    elements_of stack (at_piece p w (StartTag n xs c) ∷ ts) ≡ ended_element (n, p) p false ∷ elements_of stack ts
-void_ends [] p w n xs c ts v = rw (v, elements_of) refl
-void_ends (o ∷ stack) p w n xs c ts v = rw (v, elements_of) refl
-
-start_opens : (stack : List OpenElement) (p : ℕ) (w : Bool) (n : List ℕ) (xs : List HtmlAttribute) (c : Bool) (ts : List PlacedToken) → is_void n ≡ false →
-    elements_of stack (at_piece p w (StartTag n xs c) ∷ ts) ≡ elements_of ((n, p) ∷ stack) ts
-start_opens [] p w n xs c ts v = rw (v, elements_of) refl
-start_opens (o ∷ stack) p w n xs c ts v = rw (v, elements_of) refl
-
-end_later : (stack : List OpenElement) (n : ℕ) (ts : List PlacedToken) → Begun n stack → InOrder n ts → EndLater (elements_of stack ts)
-end_later [] n [] b h = tt
-end_later (q ∷ stack) n [] b h = tt
-end_later stack n (at_piece p w (StartTag name xs closes) ∷ ts) b h = elim (cases_Bool (is_void name)) [
-  | inl y ↦ subst EndLater (sym (void_ends stack p w name xs closes ts y)) (omega arith, end_later stack p ts (begun_before n p stack h.0 b) h.1)
-  | inr k ↦ subst EndLater (sym (start_opens stack p w name xs closes ts k)) (end_later ((name, p) ∷ stack) p ts (omega arith, begun_before n p stack h.0 b) h.1)
-]
-end_later [] n (at_piece p w (EndTag name) ∷ ts) b h = end_later [] p ts tt h.1
-end_later (q ∷ stack) n (at_piece p w (EndTag name) ∷ ts) b h =
-    let a : q.1 ≤ n = b.0 in
-    let l : n ≤ p = h.0 in
-    (omega arith, end_later stack p ts (begun_before n p stack h.0 b.1) h.1)
-end_later [] n (at_piece p w (Character c) ∷ ts) b h = end_later [] p ts tt h.1
-end_later (q ∷ stack) n (at_piece p w (Character c) ∷ ts) b h = end_later (q ∷ stack) p ts (begun_before n p (q ∷ stack) h.0 b) h.1
-end_later [] n (at_piece p w (CommentToken c) ∷ ts) b h = end_later [] p ts tt h.1
-end_later (q ∷ stack) n (at_piece p w (CommentToken c) ∷ ts) b h = end_later (q ∷ stack) p ts (begun_before n p (q ∷ stack) h.0 b) h.1
-end_later [] n (at_piece p w DoctypeToken ∷ ts) b h = end_later [] p ts tt h.1
-end_later (q ∷ stack) n (at_piece p w DoctypeToken ∷ ts) b h = end_later (q ∷ stack) p ts (begun_before n p (q ∷ stack) h.0 b) h.1
-
-elements_end : (ps : List Piece) → EndLater (elements ps)
-elements_end ps = end_later [] 0 (balanced_pieces ps) tt (pieces_in_order ps)
 
 -- so each end of more than a tag stands after its start tag
 
@@ -158,8 +72,8 @@ ends_after (e ∷ es) n m l h = elim (cases_Bool (e.start == n)) [
       | inr g ↦ absurd (d (omega arith))
     ]
 
-pub extent_after : (ps : List Piece) (n m : ℕ) → end_of (extent_in n (elements ps)) ≡ Some m → n < m
-extent_after ps n m h = ends_after (elements ps) n m (elements_end ps) h
+pub extent_after : (ps : List Piece) (n m : ℕ) → end_of (extent_in n (elements_up_to_tail ps)) ≡ Some m → n < m
+extent_after ps n m h = ends_after (elements_up_to_tail ps) n m (tail_end_later ps) h
 
 -- of two splices that are asked of an element the second begins later
 
@@ -221,7 +135,7 @@ by_name patch n e None a b f h = absurd (none_never a b h)
 by_name patch n e (Some name) a b f h = two_asked patch n e name a b f h
 
 two_of : (ps : List Piece) (n : ℕ) (patch : Patch) (a b : Splice Put) → asked_of ps n patch ≡ Some (a ∷ b ∷ []) → a.from < b.from
-two_of ps n patch a b h = by_name patch n (extent_in n (elements ps)) (start_name (tokens_of_piece (slice_get ps n))) a b (extent_after ps n) h
+two_of ps n patch a b h = by_name patch n (extent_in n (elements_up_to_tail ps)) (start_name (tokens_of_piece (slice_get ps n))) a b (extent_after ps n) h
 
 both_in_turn : (ps : List Piece) (patch : Patch) (c : Content) (s : Start) (first : Ask) (o : Option Ask) →
     asked_of ps s.number patch ≡ Some (ask_view c first ∷ map (ask_view c) (option_to_list o)) → AreInTurn (placed_at s first ∷ map (placed_at s) (option_to_list o))

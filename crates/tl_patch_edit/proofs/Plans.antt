@@ -51,7 +51,7 @@ after_if ends splices = if ends then None else Some splices
 after_is : (e : Extent) (n : ℕ) (c : Content) (name : List ℕ) → ends_page e name ≡ false → asked (PutAfter c) n e name ≡ option_map (λ u. put_at u (put_after e name c) ∷ []) (until_of n e)
 after_is Dropped n c name h = refl
 after_is Alone n c name h = refl
-after_is (Whole m) n c name h = refl
+after_is (Whole m) n c name h = ap (λ v. after_if v (put_at (suc m) (NewContent c ∷ []) ∷ [])) h
 after_is (Implied m) n c name h = ap (λ v. after_if v (put_at m (NewEndTag name ∷ NewContent c ∷ []) ∷ [])) h
 after_is (Unclosed m) n c name h = refl
 
@@ -101,7 +101,7 @@ pub none_behind : (e : Extent) (n : ℕ) (c : Content) (name : List ℕ) → end
 none_behind (Implied m) n c name h = ap (λ v. after_if v (put_at m (NewEndTag name ∷ NewContent c ∷ []) ∷ [])) h
 none_behind Dropped n c name h = refl
 none_behind Alone n c name h = absurd (true≢false (sym h))
-none_behind (Whole m) n c name h = absurd (true≢false (sym h))
+none_behind (Whole m) n c name h = ap (λ v. after_if v (put_at (suc m) (NewContent c ∷ []) ∷ [])) h
 none_behind (Unclosed m) n c name h = refl
 
 -- names

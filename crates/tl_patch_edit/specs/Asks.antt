@@ -104,6 +104,7 @@ inside_end _ = None
 
 -- whether an element goes to the end of the page, so that nothing can stand after it
 abbrev pub ends_page : Extent → List ℕ → Bool
+ends_page (Whole m) name = is_page_name name
 ends_page (Implied m) name = is_page_name name
 ends_page _ name = false
 
@@ -163,11 +164,13 @@ IsTagFor (put.Renamed name) place tag = IsRenamedTag name.now place tag
 
 abbrev pub IsTagAt : List Part → Ask → List ℕ → Type 0
 IsTagAt parts ask tag =
-    (place : Part) → slice_get (with_end_part parts) ask.from ≡ Some place → IsTagFor ask.put place tag
+    (place : Part) → slice_get (with_end_part parts) ask.from ≡ Some place →
+    IsTagFor ask.put place tag
 
 -- parts are what is put for an ask
 abbrev pub GivePutFor : Content → Ask → List Part → List Part → Type 0
-GivePutFor c ask parts put = (place : Part) → slice_get (with_end_part parts) ask.from ≡ Some place →
+GivePutFor c ask parts put =
+    (place : Part) → slice_get (with_end_part parts) ask.from ≡ Some place →
     GivePut (puts_view c ask.put) place put
 
 abbrev pub IsTagged : List Part → ReadyAsk → Type 0

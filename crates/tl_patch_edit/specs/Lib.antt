@@ -1,6 +1,7 @@
 pub mod View
 pub mod Sayings
 pub mod Parts
+pub mod Tails
 pub mod Asks
 pub mod Found
 pub mod Causes

@@ -12,8 +12,8 @@ ghost use Rattle.tl_patch_edit.specs.Parts.{Say, part_bytes, parts_view};
 ghost use Rattle.tl_patch_edit.specs.Sayings.{Saying, sayings};
 ghost use Rattle.tl_patch_edit.specs.View.{content_view, extent_view, patch_view};
 ghost use Rattle.tl_html_spec.specs.Pieces.{pieces, runs};
-ghost use Rattle.tl_patch_spec.specs.Elements.{elements};
 ghost use Rattle.tl_patch_spec.specs.Patches.{asked, asked_of, extent_in};
+ghost use Rattle.tl_patch_spec.specs.Tail.{elements_up_to_tail};
 
 use crate::ask::{Content, ElementPatch, Extent, PlacedAsk, Planned, Start, extent_in};
 use crate::compare::are_same;
@@ -23,11 +23,11 @@ use crate::plan::plan;
 use crate::put::Ready;
 use crate::ready::{content_of, escaped_text, has_mark, markup_parts};
 use crate::tag::ready_asks;
+use crate::tail::elements_up_to_tail;
 use crate::wanted::wanted_parts;
 use std::alloc::{AllocError, Global};
 use tl_html_tags::tag_parts;
 use tl_html_tokens::{Token, TokenKind, tokens};
-use tl_patch_elements::elements;
 
 // Whether a token is a start tag at a place.
 fn is_start_at(token: &Token, place: usize) -> bool
@@ -198,7 +198,7 @@ pub(crate) fn planned_for<'n>(
 ) -> Result<Planned<'n>, EditError>
     requires start { IsStartOf page.now start.number start.token }
     requires extent { extent_view extent
-        ≡ extent_in start.number (elements (runs (pieces page.now))) }
+        ≡ extent_in start.number (elements_up_to_tail (runs (pieces page.now))) }
     ensures planned { IfOk result (λ planned.
         asked_of (runs (pieces page.now)) start.number (patch_view patch.entry)
         ≡ Some (planned_view (content_of (patch_view patch.entry)) planned)) }
@@ -271,7 +271,7 @@ fn with_patch(
     ensures reading { IfErr result
         (IsReadingError page.now (place ∷ []) (patch_view patch.entry)) }
 {
-    let found = elements(alloc, page)?;
+    let found = elements_up_to_tail(alloc, page)?;
     let parts = parts_of(alloc, page, found.tokens.as_slice())?;
     let start = meant_start(found.tokens.as_slice(), 0, place)?;
     let extent = extent_in(alloc, start.number, found.elements.as_slice())?;

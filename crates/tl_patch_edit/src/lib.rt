@@ -13,6 +13,7 @@ mod put;
 mod ready;
 mod several;
 mod tag;
+mod tail;
 mod wanted;
 
 pub use ask::{Content, ElementPatch};

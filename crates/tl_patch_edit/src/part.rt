@@ -49,7 +49,7 @@ pub(crate) fn token_bytes(page: &[u8], token: Token) -> &[u8]
     first(after(page, token.start), len)
 }
 
-fn part_at(page: &[u8], token: Token) -> Part<'_>
+pub(crate) fn part_at(page: &[u8], token: Token) -> Part<'_>
     ensures { part_view result ≡ view_at page.now token }
 {
     Part {

@@ -112,6 +112,7 @@ fn ends_page(alloc: Global, extent: Extent, raw: &[u8]) -> Result<bool, AllocErr
     ensures { IfOk result (λ is. is ≡ ends_page (extent_view extent) (name_of raw.now)) }
 {
     match extent {
+        Extent::Whole { .. } => is_page(alloc, raw),
         Extent::Implied { .. } => is_page(alloc, raw),
         _ => Ok(false),
     }

@@ -3,8 +3,8 @@ ghost use Rattle.std.specs.Prelude.{◌≡◌, ◌≤◌, ◌<◌, ◌++◌, ◌
 ghost use Rattle.std.specs.List.{All};
 ghost use Rattle.std.specs.List.Sorted.{IsPermutation};
 ghost use Rattle.tl_html_spec.specs.Pieces.{pieces, runs};
-ghost use Rattle.tl_patch_spec.specs.Elements.{elements};
 ghost use Rattle.tl_patch_spec.specs.Patches.{Content, asked_of};
+ghost use Rattle.tl_patch_spec.specs.Tail.{elements_up_to_tail};
 ghost use Rattle.tl_patch_spec.specs.Together.{asked_each, next_after};
 ghost use Rattle.tl_patch_edit.specs.Asks.{content_of, planned_view};
 ghost use Rattle.tl_patch_edit.specs.Causes.{IsAsksError, IsPlanError, IsPlanned, IsStartsError};
@@ -20,10 +20,10 @@ use crate::error::EditError;
 use crate::extent::extents_of;
 use crate::part::parts_of;
 use crate::ready::content_of;
+use crate::tail::elements_up_to_tail;
 use std::alloc::{AllocError, Global};
 use std::cmp::Reverse;
 use tl_html_tokens::Token;
-use tl_patch_elements::elements;
 
 fn push_start(start: Start, out: &mut Vec<Start>) -> Result<(), AllocError>
     ensures { OnOk result (out.new.items ≡ out.old.items ++ start ∷ []) }
@@ -56,7 +56,7 @@ fn planned_by<'n>(
     patch: ElementPatch<'n>,
 ) -> Result<Planned<'n>, EditError>
     requires start { IsStartOf page.now start.number start.token }
-    requires extents { AreExtents (elements (runs (pieces page.now))) extents.now }
+    requires extents { AreExtents (elements_up_to_tail (runs (pieces page.now))) extents.now }
     requires within { start.number < length extents.now }
     ensures planned { IfOk result (λ planned.
         asked_of (runs (pieces page.now)) start.number (patch_view patch.entry)
@@ -94,7 +94,7 @@ fn asks_of<'n>(
     patch: ElementPatch<'n>,
 ) -> Result<Vec<PlacedAsk<'n>>, EditError>
     requires starts { All (IsStartOfPage page.now) starts.now }
-    requires extents { AreExtents (elements (runs (pieces page.now))) extents.now }
+    requires extents { AreExtents (elements_up_to_tail (runs (pieces page.now))) extents.now }
     requires within { length (runs (pieces page.now)) ≤ length extents.now }
     ensures asks { IfOk result (λ asks.
         asked_each (runs (pieces page.now)) (patch_view patch.entry) 0 (numbers_of starts.now)
@@ -139,7 +139,7 @@ fn sorted_asks<'n>(
     patch: ElementPatch<'n>,
 ) -> Result<Vec<PlacedAsk<'n>>, EditError>
     requires starts { All (IsStartOfPage page.now) starts.now }
-    requires extents { AreExtents (elements (runs (pieces page.now))) extents.now }
+    requires extents { AreExtents (elements_up_to_tail (runs (pieces page.now))) extents.now }
     requires within { length (runs (pieces page.now)) ≤ length extents.now }
     ensures sorted { IfOk result (λ asks. AreSorted (runs (pieces page.now))
         (patch_view patch.entry) (numbers_of starts.now) (content_of (patch_view patch.entry))
@@ -179,7 +179,7 @@ fn with_patches(
         (IsReadingError page.now places.now (patch_view patch.entry)) }
 {
     let place = first_of(places);
-    let found = elements(alloc, page)?;
+    let found = elements_up_to_tail(alloc, page)?;
     let parts = parts_of(alloc, page, found.tokens.as_slice())?;
     let starts = starts_at(alloc, found.tokens.as_slice(), places)?;
     let extents = extents_of(alloc, found.elements.as_slice(), parts.len())?;

@@ -10,10 +10,10 @@ use Rattle.tl_html_tokens.specs.Tokens.{mark_len}
 use Rattle.tl_patch_page.specs.Asked.{IsAsAsked, IsOfAttribute, patch_of}
 use Rattle.tl_patch_page.specs.Pages.{AreChanged, AreMade, IsChangedPiece, IsPatched}
 use Rattle.tl_patch_page.specs.View.{PlacedChange, change_of}
-use Rattle.tl_patch_spec.specs.Elements.{elements}
 use Rattle.tl_patch_spec.specs.Patches.{AreAsked, Changed, Extent, IsPut, Patch, asked_by_name, change_tag, extent_in, start_name, tokens_of_piece, with_end}
 use Rattle.tl_patch_spec.specs.Splices.{Splice, with_splices}
 use Rattle.tl_patch_spec.specs.TagChanges.{Rename, Set, TagChange, Unset, changed_token}
+use Rattle.tl_patch_spec.specs.Tail.{elements_up_to_tail}
 
 record AreNone (xs ys : List PlacedChange) : Type 0 where
   first : xs ≡ []
@@ -132,7 +132,7 @@ is_asked : (c : PlacedChange) (place : ℕ) (ps qs : List Piece) → IsOfAttribu
 is_asked c place ps qs a o =
     let patch : Patch = patch_of c.change in
     let n : ℕ = o.number in
-    let extent : Extent = extent_in n (elements ps) in
+    let extent : Extent = extent_in n (elements_up_to_tail ps) in
     let m = named (o.piece).tokens (o.made).start in (
       change_tag n c.change ∷ [],
       ap (λ (x : Option Piece). asked_by_name patch n extent (start_name (tokens_of_piece x))) o.stands

@@ -101,6 +101,32 @@ static PAGE_ROWS: [Row; 82] = [
     (ElementPatch::Rename { name: b"i" }, 0, b"<p>a", Ok(b"<i>a</i>")),
 ];
 
+// What is open where `</body>` and `</html>` stand last in the page.
+#[rattlefmt::skip]
+static TAIL_ROWS: [Row; 21] = [
+    (ElementPatch::Append { content: MARKUP }, 0, b"<body>a</body></html>\n", Ok(b"<body>a<hr>p;</body></html>\n")),
+    (ElementPatch::Append { content: MARKUP }, 0, b"<body></body>", Ok(b"<body><hr>p;</body>")),
+    (ElementPatch::Append { content: MARKUP }, 0, b"<body>a</BODY\n> <!--b--></html>", Ok(b"<body>a<hr>p;</BODY\n> <!--b--></html>")),
+    (ElementPatch::Append { content: MARKUP }, 0, b"<body>a</html></body>", Ok(b"<body>a<hr>p;</html></body>")),
+    (ElementPatch::Append { content: MARKUP }, 0, b"<body>a&#32;</body>&#32;", Ok(b"<body>a&#32;<hr>p;</body>&#32;")),
+    (ElementPatch::Append { content: MARKUP }, 6, b"<body><p>a</html>", Ok(b"<body><p>a<hr>p;</html>")),
+    (ElementPatch::Append { content: MARKUP }, 6, b"<body><div>a</body>", Err(EditError::NotMeant(6))),
+    (ElementPatch::Prepend { content: MARKUP }, 6, b"<body><div>a</body>", Ok(b"<body><div><hr>p;a</body>")),
+    (ElementPatch::Fill { content: MARKUP }, 0, b"<body>a<b>c</body></html>", Ok(b"<body><hr>p;</body></html>")),
+    (ElementPatch::Fill { content: MARKUP }, 0, b"<html><body>a</body></html>", Ok(b"<html><hr>p;</html>")),
+    (ElementPatch::Fill { content: MARKUP }, 0, b"<body>a</body>b", Ok(b"<body><hr>p;")),
+    (ElementPatch::Fill { content: MARKUP }, 0, b"<body>a</body><!--b--><br>", Ok(b"<body><hr>p;")),
+    (ElementPatch::Fill { content: MARKUP }, 0, b"<body>a</body></p>", Ok(b"<body><hr>p;")),
+    (ElementPatch::Fill { content: MARKUP }, 0, b"<body>a</body>\0", Ok(b"<body><hr>p;")),
+    (ElementPatch::Remove, 6, b"<body><p>a</body></html>", Ok(b"<body></body></html>")),
+    (ElementPatch::Remove, 0, b"<body><p>a</body></html>", Ok(b"</html>")),
+    (ElementPatch::Unwrap, 0, b"<body>a</body></html>", Ok(b"a</html>")),
+    (ElementPatch::Rename { name: b"div" }, 0, b"<body>a</body></html>", Ok(b"<div>a</div></html>")),
+    (ElementPatch::Rename { name: b"div" }, 6, b"<html><body>a</html>", Ok(b"<html><div>a</div></html>")),
+    (ElementPatch::PutAfter { content: TEXT }, 6, b"<body><p>a</body>", Ok(b"<body><p>a</p>1 &lt; 2 &amp; 3</body>")),
+    (ElementPatch::PutAfter { content: TEXT }, 0, b"<body>a</body></html>", Ok(b"<body>a</body>1 &lt; 2 &amp; 3</html>")),
+];
+
 // What is done, the bytes where the start tags begin, the page, and what comes of it.
 type SeveralRow = (
     ElementPatch<'static>,
@@ -164,6 +190,13 @@ fn is_wanted(found: Result<Vec<u8>, EditError>, wanted: Result<&[u8], EditError>
 #[test]
 fn elements_are_changed(rt: HostRuntime) {
     for (patch, place, page, wanted) in &PAGE_ROWS {
+        assert!(rt; is_wanted(patch_element(rt.alloc(), page, *place, *patch), *wanted));
+    }
+}
+
+#[test]
+fn elements_end_in_the_tail(rt: HostRuntime) {
+    for (patch, place, page, wanted) in &TAIL_ROWS {
         assert!(rt; is_wanted(patch_element(rt.alloc(), page, *place, *patch), *wanted));
     }
 }

@@ -6,6 +6,7 @@ use Rattle.tl_html_spec.specs.Pieces.{Piece, pieces, runs}
 use Rattle.tl_patch_spec.specs.Elements.{Element, elements}
 use Rattle.tl_patch_spec.specs.Patches.{Content, NewContent, Patch, Put, Text, asked_of, tokens_asked}
 use Rattle.tl_patch_spec.specs.Splices.{Splice}
+use Rattle.tl_patch_spec.specs.Tail.{elements_up_to_tail}
 use Rattle.tl_patch_spec.specs.Together.{Asked, asked_each}
 
 -- the pieces of a page, where characters are joined
@@ -15,6 +16,10 @@ cut_page page = runs (pieces (codes page))
 -- its elements, by the numbers of these pieces
 abbrev pub elements_in : String → List Element
 elements_in page = elements (cut_page page)
+
+-- the same, up to its tail
+abbrev pub up_to_tail_in : String → List Element
+up_to_tail_in page = elements_up_to_tail (cut_page page)
 
 -- one that ends with its own end tag
 abbrev pub whole : String → ℕ → ℕ → Element
@@ -30,7 +35,11 @@ cut name start end =
 abbrev pub alone : String → ℕ → Element
 alone name place = cut name place place
 
--- what a patch asks for, on an element of two tags, one whose end tag is left out, one of a tag
+-- what a patch asks for of the element that begins at this piece
+abbrev pub asked_in : String → ℕ → Patch → Option (List (Splice Put))
+asked_in page place patch = asked_of (cut_page page) place patch
+
+-- the same, on an element of two tags, one whose end tag is left out, one of a tag
 -- alone, one that another end tag closes, a tag that is dropped, and a title
 
 abbrev pub on_whole : Patch → Option (List (Splice Put))

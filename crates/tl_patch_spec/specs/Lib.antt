@@ -3,6 +3,7 @@ pub mod TagChanges
 pub mod Markup
 pub mod PieceChanges
 pub mod Elements
+pub mod Tail
 pub mod Patches
 pub mod Together
 pub mod Examples

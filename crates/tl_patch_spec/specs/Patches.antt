@@ -6,10 +6,11 @@ use Rattle.tl_spec.specs.Lex.ByteClass.{is_void}
 use Rattle.tl_html_spec.specs.HtmlTokenizer.{Character, EndTag, HtmlToken, Raw, StartTag, State, data_state, plaintext, raw, rcdata}
 use Rattle.tl_html_spec.specs.Balanced.{is_one_of, is_raw}
 use Rattle.tl_html_spec.specs.Pieces.{Piece, piece, pieces_of}
-use Rattle.tl_patch_spec.specs.Elements.{Element, elements}
+use Rattle.tl_patch_spec.specs.Elements.{Element}
 use Rattle.tl_patch_spec.specs.Markup.{separator_piece, text_markup}
 use Rattle.tl_patch_spec.specs.Splices.{Splice, with_splices}
 use Rattle.tl_patch_spec.specs.TagChanges.{Rename, Set, TagChange, Unset, changed_token}
+use Rattle.tl_patch_spec.specs.Tail.{elements_up_to_tail}
 
 pub data Content : Type 0 where
   Text : List ℕ → Content
@@ -117,7 +118,9 @@ asked (Append c) n (Whole m) name = Some (put_at m (NewContent c ∷ []) ∷ [])
 asked (Append c) n (Implied m) name = Some (put_at m (NewContent c ∷ []) ∷ [])
 asked (PutBefore c) n extent name = Some (put_at n (NewContent c ∷ []) ∷ [])
 asked (PutAfter c) n Alone name = Some (put_at (suc n) (NewContent c ∷ []) ∷ [])
-asked (PutAfter c) n (Whole m) name = Some (put_at (suc m) (NewContent c ∷ []) ∷ [])
+asked (PutAfter c) n (Whole m) name =
+    if is_page_name name then None
+    else Some (put_at (suc m) (NewContent c ∷ []) ∷ [])
 asked (PutAfter c) n (Implied m) name =
     if is_page_name name then None
     else Some (put_at m (NewEndTag name ∷ NewContent c ∷ []) ∷ [])
@@ -139,7 +142,7 @@ tokens_of_piece (Some p) = p.tokens
 -- the splices of a patch on the element whose start tag is the piece of this number
 abbrev pub asked_of : List Piece → ℕ → Patch → Option (List (Splice Put))
 asked_of ps place patch =
-    asked_by_name patch place (extent_in place (elements ps))
+    asked_by_name patch place (extent_in place (elements_up_to_tail ps))
     (start_name (tokens_of_piece (slice_get ps place)))
 
 -- an end tag in `data`

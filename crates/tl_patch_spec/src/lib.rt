@@ -4,4 +4,5 @@
 mod examples;
 pub mod laws;
 mod patch_examples;
+mod tail_examples;
 mod together_examples;

@@ -3,8 +3,9 @@ use Rattle.std.specs.List.{All}
 use Rattle.tl_html_spec.specs.Pieces.{pieces, runs}
 use Rattle.tl_html_tokens.specs.declared.token.Token.{Token}
 use Rattle.tl_patch_elements.specs.View.{elements_view}
-use Rattle.tl_patch_spec.specs.Elements.{Element, elements}
+use Rattle.tl_patch_spec.specs.Elements.{Element}
 use Rattle.tl_patch_spec.specs.Patches.{Content, Patch}
+use Rattle.tl_patch_spec.specs.Tail.{elements_up_to_tail}
 use Rattle.tl_patch_edit.specs.Asks.{asks_view, content_of}
 use Rattle.tl_patch_edit.specs.Causes.{IsAsksError, IsPageError, IsPlanned, IsStartsError}
 use Rattle.tl_patch_edit.specs.Errors.{patch_each}
@@ -34,7 +35,7 @@ sorted_asks-requires-clause-starts c =
 pub sorted_asks-requires-clause-extents : goal.sorted_asks-requires-clause-extents
 sorted_asks-requires-clause-extents c =
     let page : List ℕ = c.args.page.now in
-    let es : List Element = elements (runs (pieces page)) in
+    let es : List Element = elements_up_to_tail (runs (pieces page)) in
     let same : elements_view c.as_slice-3.result.now ≡ es = ap elements_view c.as_slice-3.ensures.value ∙ c.in_ok-found.ensures.elements in
     subst (λ (xs : List CodeExtent). AreExtents es xs) (sym c.as_slice-5.ensures.value)
     (subst (λ (fs : List Element). AreExtents fs c.in_ok-extents.extents.items) same c.in_ok-extents.ensures.extents)
