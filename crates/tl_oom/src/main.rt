@@ -19,17 +19,22 @@ mod byte_strings;
 mod case;
 mod containers;
 mod documents;
+mod forms;
 mod guards;
 mod large;
 mod numbers;
 mod patches;
+mod policies;
 mod program;
+mod questions;
 mod script;
 mod selectors;
 mod stop;
 mod styles;
+mod tags;
 mod texts;
 mod tracking;
+mod writes;
 
 use case::{Case, Point};
 use std::alloc::Global;
@@ -69,6 +74,11 @@ fn call(number: usize, case: &mut Case) -> Option<Named> {
         10 => large::call(place, case),
         11 => styles::call(place, case),
         12 => patches::call(place, case),
+        13 => tags::call(place, case),
+        14 => forms::call(place, case),
+        15 => writes::call(place, case),
+        16 => questions::call(place, case),
+        17 => policies::call(place, case),
         _ => None,
     }
 }

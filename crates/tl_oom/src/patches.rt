@@ -41,7 +41,7 @@ enum PatchCall {
 type Row = (&'static str, PatchCall, &'static str);
 
 #[rattlefmt::skip]
-static ROWS: [Row; 14] = [
+static ROWS: [Row; 18] = [
     ("patch, no tag", PatchCall::Tags(&[]), "<p id=i>x</p><!-- y --><p class='k'>z"),
     ("patch, a key with another value", PatchCall::Tags(&[TagPatch { start: 0, change: SET }]), "<p id=\"&quot;j&quot;\">x</p><!-- y --><p class='k'>z"),
     ("patch, a new key and one less", PatchCall::Tags(&[TagPatch { start: 0, change: ADD }, TagPatch { start: 23, change: UNSET }]), "<p title=\"a&amp;b\" id=i>x</p><!-- y --><p>z"),
@@ -56,6 +56,10 @@ static ROWS: [Row; 14] = [
     ("patch_selected, a joint", PatchCall::SelectedTags("p + p", UNSET), "<p id=i>x</p><!-- y --><p>z"),
     ("edit_selected, one part", PatchCall::SelectedElements("#i", ElementPatch::ReplaceWith { content: TEXT }), "&lt;x<!-- y --><p class='k'>z"),
     ("edit_selected, a joint", PatchCall::SelectedElements("p + p", ElementPatch::PutBefore { content: MARKUP }), "<p id=i>x</p><!-- y --><i>m</i><p class='k'>z"),
+    ("patch_element, ReplaceWith markup", PatchCall::Element(0, ElementPatch::ReplaceWith { content: MARKUP }), "<i>m</i><!-- y --><p class='k'>z"),
+    ("patch_element, Append with a text", PatchCall::Element(0, ElementPatch::Append { content: TEXT }), "<p id=i>x&lt;x</p><!-- y --><p class='k'>z"),
+    ("patch_element, PutAfter with a text", PatchCall::Element(0, ElementPatch::PutAfter { content: TEXT }), "<p id=i>x</p>&lt;x<!-- y --><p class='k'>z"),
+    ("patch_elements, no element", PatchCall::Elements(&[], ElementPatch::Remove), "<p id=i>x</p><!-- y --><p class='k'>z"),
 ];
 
 /// A call that changes a page in its own bytes, if there is one of this number.

@@ -4,6 +4,9 @@ use tl::ParseError;
 use tl::errors::{SetBytesError, TreeError};
 use tl_css::SelectorError;
 use tl_css_select::forest::SelectError;
+use tl_encoding::DecodeError;
+use tl_html::NormalizeError;
+use tl_page::Failure;
 use tl_patch_edit::EditError;
 use tl_patch_page::PatchError;
 use tl_patch_select::{SelectionEditError, SelectionPatchError};
@@ -129,6 +132,33 @@ impl From<SelectionEditError> for Stop {
     fn from(error: SelectionEditError) -> Self {
         match error {
             SelectionEditError::OutOfMemory => Stop::NoMemory,
+            _ => Stop::WrongError,
+        }
+    }
+}
+
+impl From<NormalizeError> for Stop {
+    fn from(error: NormalizeError) -> Self {
+        match error {
+            NormalizeError::OutOfMemory => Stop::NoMemory,
+            NormalizeError::TooLong => Stop::WrongError,
+        }
+    }
+}
+
+impl From<DecodeError> for Stop {
+    fn from(error: DecodeError) -> Self {
+        match error {
+            DecodeError::OutOfMemory => Stop::NoMemory,
+            DecodeError::NoText(_) => Stop::WrongError,
+        }
+    }
+}
+
+impl From<Failure> for Stop {
+    fn from(failure: Failure) -> Self {
+        match failure {
+            Failure::OutOfMemory => Stop::NoMemory,
             _ => Stop::WrongError,
         }
     }

@@ -1,0 +1,154 @@
+//! What texts, names and tags of HTML say, forms of pages, and pages in an encoding.
+use crate::case::Case;
+use crate::stop::{Stop, value};
+use crate::{Named, measured};
+use std::alloc::Global;
+use tl_encoding::{Encoding, decode};
+use tl_html::{Mode, normalize, normalize_bytes, normalize_with_sources};
+use tl_html_tags::tag_parts;
+use tl_html_texts::{characters, comment};
+use tl_html_write::{coded_name, lower_name, uncoded_name};
+use tl_text::{
+    escape_text, escape_value, unescape_text, unescape_text_str, unescape_value, unescape_value_str,
+};
+
+// What is called.
+#[derive(Clone, Copy)]
+enum FormCall {
+    EscapeText,
+    EscapeValue,
+    UnescapeText,
+    UnescapeValue,
+    UnescapeTextStr,
+    UnescapeValueStr,
+    CodedName,
+    UncodedName,
+    Normalize,
+    NormalizeBytes,
+    NormalizeWithSources,
+    Comment,
+    Characters,
+    LowerName,
+    TagParts,
+    Tokens,
+    Decode(Encoding),
+}
+
+// The name of a call, the call, the bytes, and what is made; of a tag its name, and of tokens the
+// last one.
+type Row = (&'static str, FormCall, &'static [u8], &'static [u8]);
+
+#[rattlefmt::skip]
+static ROWS: [Row; 24] = [
+    ("escape_text", FormCall::EscapeText, b"a<b&c", b"a&lt;b&amp;c"),
+    ("escape_value", FormCall::EscapeValue, b"a\"b", b"a&quot;b"),
+    ("unescape_text", FormCall::UnescapeText, b"a&lt;b", b"a<b"),
+    ("unescape_value", FormCall::UnescapeValue, b"?a&lt=1&quot;", b"?a&lt=1\""),
+    ("unescape_text_str", FormCall::UnescapeTextStr, b"a&lt;b", b"a<b"),
+    ("unescape_value_str", FormCall::UnescapeValueStr, b"?a&lt=1&quot;", b"?a&lt=1\""),
+    ("coded_name", FormCall::CodedName, b"@click", b"+40click"),
+    ("uncoded_name", FormCall::UncodedName, b"+40click", b"@click"),
+    ("normalize", FormCall::Normalize, b"<P CLASS=x>a<p>b", b"<p class=\"x\">a</p><p>b</p>"),
+    ("normalize_bytes", FormCall::NormalizeBytes, b"<P CLASS=x>a<p>b", b"<p class=\"x\">a</p><p>b</p>"),
+    ("normalize_bytes, a script and a comment", FormCall::NormalizeBytes, b"<script>a<b</script><!--x\r\n--!>&eacute;", b"<script>a&lt;b</script><!--x\n-->\xC3\xA9"),
+    ("normalize_with_sources", FormCall::NormalizeWithSources, b"<P CLASS=x>a<p>b", b"<p class=\"x\">a</p><p>b</p>"),
+    ("comment, as it is", FormCall::Comment, b"<!--a-->", b"a"),
+    ("comment with a line end", FormCall::Comment, b"<!--a\r\nb-->", b"a\nb"),
+    ("comment with a line end and a NUL", FormCall::Comment, b"<!--\r\x00-->", b"\n\xEF\xBF\xBD"),
+    ("characters, as they are", FormCall::Characters, b"a", b"a"),
+    ("characters with a reference", FormCall::Characters, b"a&lt;\r\nb", b"a<\nb"),
+    ("lower_name, as it is", FormCall::LowerName, b"div", b"div"),
+    ("lower_name", FormCall::LowerName, b"DIV", b"div"),
+    ("tag_parts, no attribute", FormCall::TagParts, b"<p>", b"p"),
+    ("tag_parts", FormCall::TagParts, b"<p class=k id>", b"p"),
+    ("tokens", FormCall::Tokens, b"<p>x<!-- y -->z", b"z"),
+    ("decode, UTF-8", FormCall::Decode(Encoding::Utf8), b"caf\xC3\xA9", b"caf\xC3\xA9"),
+    ("decode, windows-1252", FormCall::Decode(Encoding::Windows1252), b"caf\xE9 \x80", b"caf\xC3\xA9 \xE2\x82\xAC"),
+];
+
+/// A call that reads or writes bytes of a page, if there is one of this number.
+pub fn call(number: usize, case: &mut Case) -> Option<Named> {
+    let row = ROWS.get(number)?;
+    let (name, call, _, _) = *row;
+    let answer = match call {
+        FormCall::Comment | FormCall::Characters => read_text(row, case),
+        FormCall::LowerName => lower(row, case),
+        FormCall::TagParts => read_tag(row, case),
+        FormCall::Tokens => read_tokens(row, case),
+        FormCall::Decode(encoding) => decode_page(encoding, row, case),
+        _ => make(row, case),
+    };
+    Some((name, answer))
+}
+
+fn make(row: &Row, case: &mut Case) -> Result<(), Stop> {
+    let (_, call, bytes, wanted) = *row;
+    let answer = measured!(case, made(case.alloc(), call, bytes));
+    value(answer?.as_slice() == wanted)
+}
+
+fn made(alloc: Global, call: FormCall, bytes: &[u8]) -> Result<Vec<u8>, Stop> {
+    match call {
+        FormCall::EscapeText => Ok(escape_text(alloc, bytes)?),
+        FormCall::EscapeValue => Ok(escape_value(alloc, bytes)?),
+        FormCall::UnescapeText => Ok(unescape_text(alloc, bytes)?),
+        FormCall::UnescapeValue => Ok(unescape_value(alloc, bytes)?),
+        FormCall::CodedName => Ok(coded_name(alloc, bytes)?),
+        FormCall::UncodedName => Ok(uncoded_name(alloc, bytes)?),
+        FormCall::NormalizeBytes => Ok(normalize_bytes(alloc, bytes)?),
+        FormCall::NormalizeWithSources => Ok(normalize_with_sources(alloc, bytes)?.bytes),
+        _ => made_of_text(alloc, call, str::from_utf8(bytes).unwrap_or("")),
+    }
+}
+
+fn made_of_text(alloc: Global, call: FormCall, text: &str) -> Result<Vec<u8>, Stop> {
+    match call {
+        FormCall::UnescapeTextStr => Ok(unescape_text_str(alloc, text)?.into_bytes()),
+        FormCall::UnescapeValueStr => Ok(unescape_value_str(alloc, text)?.into_bytes()),
+        FormCall::Normalize => Ok(normalize(alloc, text)?.into_bytes()),
+        _ => Err(Stop::WrongValue),
+    }
+}
+
+fn read_text(row: &Row, case: &mut Case) -> Result<(), Stop> {
+    let (_, call, bytes, wanted) = *row;
+    case.begin()?;
+    let answer = match call {
+        FormCall::Comment => comment(case.alloc(), bytes),
+        _ => characters(case.alloc(), Mode::Data, bytes),
+    };
+    case.end();
+    value(answer?.as_bytes() == wanted)
+}
+
+fn lower(row: &Row, case: &mut Case) -> Result<(), Stop> {
+    let (_, _, name, wanted) = *row;
+    let answer = measured!(case, lower_name(case.alloc(), name));
+    value(answer?.as_bytes() == wanted)
+}
+
+fn read_tag(row: &Row, case: &mut Case) -> Result<(), Stop> {
+    let (_, _, bytes, wanted) = *row;
+    let answer = measured!(case, tag_parts(case.alloc(), bytes));
+    value(answer?.name == wanted)
+}
+
+fn read_tokens(row: &Row, case: &mut Case) -> Result<(), Stop> {
+    let (_, _, page, wanted) = *row;
+    let answer = measured!(case, tl_html::tokens(case.alloc(), page));
+    let tokens = answer?;
+    match tokens.last() {
+        Some(token) => {
+            let len = token.end.saturating_sub(token.start);
+            value(token.end == page.len() && len == wanted.len() && page.ends_with(wanted))
+        }
+        None => Err(Stop::WrongValue),
+    }
+}
+
+fn decode_page(encoding: Encoding, row: &Row, case: &mut Case) -> Result<(), Stop> {
+    let (_, _, bytes, wanted) = *row;
+    let page = Vec::from_slice(case.alloc(), bytes)?;
+    let answer = measured!(case, decode(case.alloc(), page, encoding));
+    value(answer?.as_bytes() == wanted)
+}

@@ -1,0 +1,84 @@
+//! Policies and their lists, words that are looked up, and pages made safe.
+use crate::case::Case;
+use crate::stop::{Stop, value};
+use crate::{Named, measured};
+use tl_lists::{ListTexts, WordLists, lines_of};
+use tl_safe::{Lists, Policy, sanitize};
+use tl_words::WordIndex;
+
+// What is called.
+#[derive(Clone, Copy)]
+enum PolicyCall {
+    Sanitize,
+    Lists,
+    Lines,
+    Index,
+}
+
+// The name of a call, the call, a page or a word, and what is made of it.
+type Row = (&'static str, PolicyCall, &'static str, &'static str);
+
+#[rattlefmt::skip]
+static ROWS: [Row; 6] = [
+    ("sanitize, nothing", PolicyCall::Sanitize, "<script>x</script>", ""),
+    ("sanitize", PolicyCall::Sanitize, "<p id=user-i onclick=x>a</p><script>y</script><a href=\"https://c\">d</a>", "<p id=\"user-i\">a</p><a href=\"https://c\">d</a>"),
+    ("WordLists::new, lists that are not said", PolicyCall::Lists, "", "wbr"),
+    ("WordLists::new", PolicyCall::Lists, "b,,p", "p"),
+    ("lines_of lists", PolicyCall::Lines, "b", "--tags b\n--keys title\n--link-keys\n--links\n--prefix user-\n"),
+    ("WordIndex::new", PolicyCall::Index, "b", "p"),
+];
+
+/// A call of a policy, if there is one of this number.
+pub fn call(number: usize, case: &mut Case) -> Option<Named> {
+    let row = ROWS.get(number)?;
+    let (name, call, text, wanted) = *row;
+    let answer = match call {
+        PolicyCall::Sanitize => make_safe(text, wanted, case),
+        PolicyCall::Lists => read_lists(text, wanted, case),
+        PolicyCall::Lines => write_lists(text, wanted, case),
+        PolicyCall::Index => index(text, wanted, case),
+    };
+    Some((name, answer))
+}
+
+fn make_safe(page: &str, wanted: &str, case: &mut Case) -> Result<(), Stop> {
+    let policy = Policy::blog();
+    let answer = measured!(case, sanitize(case.alloc(), &policy, page));
+    value(answer?.as_str() == wanted)
+}
+
+// What stands for lists of these tags, with links of no kind; where none are said, those of a blog.
+fn texts(tags: &'static str) -> ListTexts<'static> {
+    let is_said = !tags.is_empty();
+    ListTexts {
+        own: Lists::BLOG,
+        tags: is_said.then_some(tags),
+        keys: is_said.then_some("title"),
+        link_keys: is_said.then_some(""),
+        link_prefixes: is_said.then_some(""),
+        relative_links: false,
+        nofollow_links: false,
+        id_prefix: None,
+    }
+}
+
+// The last of the tags is wanted.
+fn read_lists(tags: &'static str, wanted: &str, case: &mut Case) -> Result<(), Stop> {
+    let texts = texts(tags);
+    let answer = measured!(case, WordLists::new(case.alloc(), &texts));
+    let words = answer?;
+    value(words.lists().tags.last() == Some(&wanted))
+}
+
+fn write_lists(tags: &'static str, wanted: &str, case: &mut Case) -> Result<(), Stop> {
+    let words = WordLists::new(case.alloc(), &texts(tags))?;
+    let answer = measured!(case, lines_of(case.alloc(), &words.lists()));
+    value(answer?.as_str() == wanted)
+}
+
+// One of the words is wanted, and no other.
+fn index(word: &'static str, other: &str, case: &mut Case) -> Result<(), Stop> {
+    let answer = measured!(case, WordIndex::new(case.alloc(), &[word]));
+    let words = answer?;
+    value(words.contains(word.as_bytes()) && !words.contains(other.as_bytes()))
+}
