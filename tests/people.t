@@ -306,7 +306,7 @@ Encodings.
   $ printf '<meta http-equiv=Content-Type content="text/html; charset=windows-1252"><p>caf\351' >http.html
   $ printf '\357\273\277<p>caf\303\251' >mark.html
   $ tl text latin1.html
-  tl: latin1.html: no UTF-8 at byte 6 (err)
+  tl: latin1.html: no UTF-8 at byte 6; --encoding says what a page is in (err)
   [2]
   $ tl text --encoding latin1 latin1.html
   café € (no-eol)
@@ -327,7 +327,7 @@ Encodings.
   $ tl select -t p meta.html latin1.html mark.html
   meta.html:café €
   mark.html:café
-  tl: latin1.html: no UTF-8 at byte 6 (err)
+  tl: latin1.html: no UTF-8 at byte 6; --encoding says what a page is in (err)
   [2]
   $ printf '<p>caf\303\251<meta charset=latin1>' | tl text
   café (no-eol)
@@ -345,16 +345,16 @@ Encodings.
   $ printf '<meta name=description content="charset=koi8-r"><meta charset=latin1><p>caf\351' | tl text
   café (no-eol)
   $ printf '<meta charset=""><p>\351' | tl text
-  tl: -: no UTF-8 at byte 20 (err)
+  tl: -: no UTF-8 at byte 20; --encoding says what a page is in (err)
   [2]
   $ printf '<meta charset=" gbk "><p>\203' | tl text
   tl: -: the encoding `gbk` is not read (err)
   [2]
   $ printf '<meta charset=utf-8><p>\203' | tl text
-  tl: -: no UTF-8 at byte 23 (err)
+  tl: -: no UTF-8 at byte 23; --encoding says what a page is in (err)
   [2]
   $ (head -c 1024 /dev/zero | tr '\0' a; printf '<meta charset=latin1>\351') | tl text | tail -c 3
-  tl: -: no UTF-8 at byte 1045 (err)
+  tl: -: no UTF-8 at byte 1045; --encoding says what a page is in (err)
   $ printf '<?xml version="1.0" encoding="iso-8859-1"?><p>caf\351' | tl text
   café (no-eol)
   $ printf '<?xml version="1.0" encoding="koi8-r"?><meta charset=latin1><p>caf\351' | tl text
@@ -363,10 +363,10 @@ Encodings.
   tl: -: the encoding `koi8-r` is not read (err)
   [2]
   $ printf '<?xml version="1.0" encoding=latin1?><p>\351' | tl text
-  tl: -: no UTF-8 at byte 40 (err)
+  tl: -: no UTF-8 at byte 40; --encoding says what a page is in (err)
   [2]
   $ (printf '<?xml '; head -c 1024 /dev/zero | tr '\0' a; printf ' encoding="latin1"?>\351') | tl text | tail -c 3
-  tl: -: no UTF-8 at byte 1050 (err)
+  tl: -: no UTF-8 at byte 1050; --encoding says what a page is in (err)
   $ printf '<\0?\0x\0m\0l\0' | tl text
   tl: -: UTF-16 is not read (err)
   [2]

@@ -115,7 +115,7 @@ What is said of a page takes its place, whatever that is.
   7
   [Ktl: file 1 of 104
   8
-  [Ktl: bytes: no UTF-8 at byte 0
+  [Ktl: bytes: no UTF-8 at byte 0; --encoding says what a page is in
   $ python3 terminal.py 'tl edit "name 9 b" -- *.html 2>&1 >said' | tr -d '\r' | tr '\033' '\n' | sed -n '1,5p'
   (empty)
   7

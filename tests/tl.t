@@ -330,10 +330,10 @@ Nothing was found, or something is refused or not understood.
   tl: -: refused: a child is no node, or stands in itself (err)
   [2]
   $ printf '\377' | tl print
-  tl: -: no UTF-8 at byte 0 (err)
+  tl: -: no UTF-8 at byte 0; --encoding says what a page is in (err)
   [2]
   $ printf '\377' | tl select p
-  tl: -: no UTF-8 at byte 0 (err)
+  tl: -: no UTF-8 at byte 0; --encoding says what a page is in (err)
   [2]
   $ tl
   error: 'tl' requires a subcommand but one was not provided (err)
@@ -736,11 +736,11 @@ Words that no policy may list: the first one is named, and no page is made safe.
 Pages that can't be had are passed over, and the greatest status counts.
 
   $ printf '\377' | tl sanitize
-  tl: -: no UTF-8 at byte 0 (err)
+  tl: -: no UTF-8 at byte 0; --encoding says what a page is in (err)
   [2]
   $ tl sanitize --no-name a.html bytes.html b.html
   <p>a</p><b>b</b> (no-eol)
-  tl: bytes.html: no UTF-8 at byte 0 (err)
+  tl: bytes.html: no UTF-8 at byte 0; --encoding says what a page is in (err)
   [2]
   $ tl sanitize --no-name a.html none b.html
   <p>a</p><b>b</b> (no-eol)
@@ -748,10 +748,10 @@ Pages that can't be had are passed over, and the greatest status counts.
   [4]
   $ tl sanitize none bytes.html
   tl: none: No such file or directory (os error 2) (err)
-  tl: bytes.html: no UTF-8 at byte 0 (err)
+  tl: bytes.html: no UTF-8 at byte 0; --encoding says what a page is in (err)
   [4]
   $ tl sanitize bytes.html none
-  tl: bytes.html: no UTF-8 at byte 0 (err)
+  tl: bytes.html: no UTF-8 at byte 0; --encoding says what a page is in (err)
   tl: none: No such file or directory (os error 2) (err)
   [4]
   $ printf '<i>x</i>' | tl sanitize --no-name none -

@@ -140,6 +140,29 @@ pub fn not_understood<E: fmt::Display>(rt: &HostRuntime, file: &str, error: &E) 
     Answer::Failed(Failure::NotUnderstood)
 }
 
+// Why bytes are no text, where it isn't said what pages are in: that may be all that is wrong.
+#[derive(Clone, Copy)]
+struct UnsaidEncoding<'e> {
+    error: &'e DecodeError,
+}
+
+impl fmt::Display for UnsaidEncoding<'_> {
+    fn fmt<W: fmt::Write>(&self, f: &mut fmt::Formatter<W>) -> fmt::Result {
+        let error = self.error;
+        write!(f, "{error}; --encoding says what a page is in")
+    }
+}
+
+// Says on standard error why there is no text of a page.
+fn no_text(rt: &HostRuntime, pages: &Pages<'_>, file: &str, error: &DecodeError) -> Answer
+    ensures { result ≡ Failed NotUnderstood }
+{
+    match pages.encoding {
+        Some(_) => not_understood(rt, file, error),
+        None => not_understood(rt, file, &UnsaidEncoding { error }),
+    }
+}
+
 // Says on standard error why the text of a page is refused.
 fn refused(rt: &HostRuntime, job: &Job<'_, '_>, file: &str, text: &[u8]) {
     match job.steps() {
@@ -195,7 +218,7 @@ fn process_bytes(
         Err(DecodeError::OutOfMemory) => return Err(Failure::OutOfMemory),
         Err(error) => {
             pages.terminal.clear(rt);
-            return Ok(not_understood(rt, file, &error));
+            return Ok(no_text(rt, pages, file, &error));
         }
     };
     process_text(rt, job, pages, file, text.as_bytes())
