@@ -16,3 +16,4 @@ pub mod Dropped
 pub mod Renamed
 pub mod Fresh
 pub mod Stands
+pub mod EndNames

@@ -39,7 +39,7 @@ name_next t b h =
     let n : (b == 13) ≡ false = not-true (b == 13) (and_parts (not (b == 13)) (not (ends_name b) && (not (b == 0) && (to_ascii_lowercase b == b))) h).0 in
     ap₂ reader_in (ap (λ (x : Step). x.next) (name_goes_on t (feed b) (stays_in_name b h))) n
 
-name_restless : (name : List ℕ) (t : OpenTag) → list_all is_name_byte name ≡ true → Restless (at (tag_name t)) name
+pub name_restless : (name : List ℕ) (t : OpenTag) → list_all is_name_byte name ≡ true → Restless (at (tag_name t)) name
 name_restless [] t h = tt
 name_restless (b ∷ name) t h =
     let p = and_parts (is_name_byte b) (list_all is_name_byte name) h in
@@ -47,7 +47,7 @@ name_restless (b ∷ name) t h =
 
 -- nor before its first letter
 
-letter_is_not : (b c : ℕ) → is_ascii_alphabetic b ≡ true → is_ascii_alphabetic c ≡ false → (b == c) ≡ false
+pub letter_is_not : (b c : ℕ) → is_ascii_alphabetic b ≡ true → is_ascii_alphabetic c ≡ false → (b == c) ≡ false
 letter_is_not b c h n = elim (cases_Bool (b == c)) [
   | inl y ↦ absurd (true≢false (sym h ∙ ap is_ascii_alphabetic (eqb-true b c y) ∙ n))
   | inr m ↦ m

@@ -143,19 +143,23 @@ whole_start front z y b t u i v closes w more n e s a k o =
     ∙ tokens_ended u closes w more k in
     subst (IsWhole mode.Data (front ++ ((b ∷ z) ++ y))) tokens (one_whole (front ++ ((b ∷ z) ++ y)) (one_both front ((b ∷ z) ++ y) n.one rest))
 
-pub whole_rest : (front y : List ℕ) (b : ℕ) (t : OpenTag) (closes w : Bool) (more : List HtmlAttribute) → IsNamed front t → ends_name (feed b) ≡ true → t.is_end ≡ false →
-    inner_text after_value false (b ∷ y) ≡ ended closes more w [] → IsWhole mode.Data (front ++ (b ∷ y)) (start_of t more closes ∷ [])
-whole_rest front y b t closes w more n e k o =
+pub whole_rest_as : (front y : List ℕ) (b : ℕ) (t : OpenTag) (closes w : Bool) (more : List HtmlAttribute) (us : List HtmlToken) → IsNamed front t → ends_name (feed b) ≡ true →
+    emits_of t (ended closes more w []) ++ at_end (reader_of t (ended closes more w [])).state ≡ us → inner_text after_value false (b ∷ y) ≡ ended closes more w [] → IsWhole mode.Data (front ++ (b ∷ y)) us
+whole_rest_as front y b t closes w more us n e k o =
     let later : Restless (at (tag_name t)) (b ∷ y) = named_restless t b y e (ended_restless (b ∷ y) after_value t false closes w more o) in
     let rest : Restless (after (at data_state) front) (b ∷ y) = subst (λ (r : Reader). Restless r (b ∷ y)) (sym n.state) later in
-    let tokens : tokens_of (at data_state) (front ++ (b ∷ y)) ≡ start_of t more closes ∷ [] =
+    let tokens : tokens_of (at data_state) (front ++ (b ∷ y)) ≡ us =
     tokens_append (at data_state) front (b ∷ y)
     ∙ ap₂ (λ (ts : List HtmlToken) (r : Reader). ts ++ tokens_of r (b ∷ y)) n.silent n.state
     ∙ named_tokens t b y e
     ∙ tokens_inside after_value t false (b ∷ y)
     ∙ ap (λ (x : Outcome). emits_of t x ++ at_end (reader_of t x).state) o
-    ∙ tokens_ended t closes w more k in
+    ∙ k in
     subst (IsWhole mode.Data (front ++ (b ∷ y))) tokens (one_whole (front ++ (b ∷ y)) (one_both front (b ∷ y) n.one rest))
+
+pub whole_rest : (front y : List ℕ) (b : ℕ) (t : OpenTag) (closes w : Bool) (more : List HtmlAttribute) → IsNamed front t → ends_name (feed b) ≡ true → t.is_end ≡ false →
+    inner_text after_value false (b ∷ y) ≡ ended closes more w [] → IsWhole mode.Data (front ++ (b ∷ y)) (start_of t more closes ∷ [])
+whole_rest front y b t closes w more n e k o = whole_rest_as front y b t closes w more (start_of t more closes ∷ []) n e (tokens_ended t closes w more k) o
 
 -- and a start tag by itself is so
 
@@ -166,31 +170,42 @@ pub record Ends (rest : List ℕ) (t : OpenTag) (ts : List HtmlToken) : Type 0 w
   pub outcome : inner_text after_value false rest ≡ ended closes more returned []
   pub is : ts ≡ start_of t more closes ∷ []
 
-never_start : (ts : List HtmlToken) → ts ≡ [] → IsStartTag ts → ⊥
-never_start ts e h = subst IsStartTag e h
+-- so it ends, where a token comes of it
+pub record IsEnded (rest : List ℕ) : Type 0 where
+  pub closes : Bool
+  pub more : List HtmlAttribute
+  pub returned : Bool
+  pub outcome : inner_text after_value false rest ≡ ended closes more returned []
 
-by_outcome : (rest : List ℕ) (t : OpenTag) (ts : List HtmlToken) (o : Outcome) → inner_text after_value false rest ≡ o → t.is_end ≡ false → Restless (in_tag after_value t false) rest →
-    ts ≡ emits_of t o ++ at_end (reader_of t o).state → IsStartTag ts → Ends rest t ts
-by_outcome rest t ts (still i w more) f k h e s = absurd (never_start ts (e ∙ tokens_still t i w more) s)
-by_outcome rest t ts (ended closes more w left) f k h e s =
+by_outcome : (rest : List ℕ) (t : OpenTag) (ts : List HtmlToken) (o : Outcome) → inner_text after_value false rest ≡ o → Restless (in_tag after_value t false) rest →
+    ts ≡ emits_of t o ++ at_end (reader_of t o).state → (ts ≡ [] → ⊥) → IsEnded rest
+by_outcome rest t ts (still i w more) f h e s = absurd (s (e ∙ tokens_still t i w more))
+by_outcome rest t ts (ended closes more w left) f h e s =
     let none : left ≡ [] = ends_last rest after_value t false closes w more left h f in
-    record {
-      closes = closes;
-      more = more;
-      returned = w;
-      outcome = f ∙ ap (ended closes more w) none;
-      is = e ∙ ap (λ x. emits_of t (ended closes more w x) ++ at_end (reader_of t (ended closes more w x)).state) none ∙ tokens_ended t closes w more k;
-    }
+    record { closes = closes; more = more; returned = w; outcome = f ∙ ap (ended closes more w) none }
 
-pub rest_ends_it : (rest : List ℕ) (b : ℕ) (t : OpenTag) (ts : List HtmlToken) → ends_name (feed b) ≡ true → t.is_end ≡ false → Restless (at (tag_name t)) (b ∷ rest) →
-    ts ≡ tokens_of (at (tag_name t)) (b ∷ rest) → IsStartTag ts → Ends (b ∷ rest) t ts
-rest_ends_it rest b t ts e k h is s =
-    by_outcome (b ∷ rest) t ts (inner_text after_value false (b ∷ rest)) refl k
+pub rest_ended : (rest : List ℕ) (b : ℕ) (t : OpenTag) (ts : List HtmlToken) → ends_name (feed b) ≡ true → Restless (at (tag_name t)) (b ∷ rest) →
+    ts ≡ tokens_of (at (tag_name t)) (b ∷ rest) → (ts ≡ [] → ⊥) → IsEnded (b ∷ rest)
+rest_ended rest b t ts e h is s =
+    by_outcome (b ∷ rest) t ts (inner_text after_value false (b ∷ rest)) refl
     (no_rest_first, subst (λ (r : Reader). Restless r rest) (named_next t b e) h.1)
     (is ∙ named_tokens t b rest e ∙ tokens_inside after_value t false (b ∷ rest)) s
   where
     no_rest_first : rest_before (in_tag after_value t false) b ≡ None
     no_rest_first = no_rest_inside after_value t false b
+
+pub rest_ends_it : (rest : List ℕ) (b : ℕ) (t : OpenTag) (ts : List HtmlToken) → ends_name (feed b) ≡ true → t.is_end ≡ false → Restless (at (tag_name t)) (b ∷ rest) →
+    ts ≡ tokens_of (at (tag_name t)) (b ∷ rest) → IsStartTag ts → Ends (b ∷ rest) t ts
+rest_ends_it rest b t ts e k h is s =
+    let r : IsEnded (b ∷ rest) = rest_ended rest b t ts e h is (λ n. subst IsStartTag n s) in
+    record {
+      closes = r.closes;
+      more = r.more;
+      returned = r.returned;
+      outcome = r.outcome;
+      is = is ∙ named_tokens t b rest e ∙ tokens_inside after_value t false (b ∷ rest)
+          ∙ ap (λ (o : Outcome). emits_of t o ++ at_end (reader_of t o).state) r.outcome ∙ tokens_ended t r.closes r.returned r.more k;
+    }
 
 pub front_begins : (n : ℕ) (tag : List ℕ) (t : OpenTag) → n < length tag → after (at data_state) (take n tag) ≡ at (tag_name t) → (k : ℕ) × (n ≡ suc k)
 front_begins zero tag t l e = absurd (never (ap (λ (r : Reader). r.state) e))
@@ -211,6 +226,28 @@ whole_one bytes ts h =
     let w : Whole mode.Data bytes ts = whole_is mode.Data bytes ts h in
     (subst IsOnePiece (sym w.parts) w.restless, w.is)
 
+-- what follows the name of a tag by itself
+pub record IsAfterName (tag : List ℕ) (n : ℕ) (t : OpenTag) (ts : List HtmlToken) : Type 0 where
+  pub one : IsOnePiece (take n tag)
+  pub restless : Restless (at (tag_name t)) (get_or tag n 0 ∷ drop (n + 1) tag)
+  pub is : ts ≡ tokens_of (at (tag_name t)) (get_or tag n 0 ∷ drop (n + 1) tag)
+
+pub after_name : (is_end : Bool) (tag : List ℕ) (ts : List HtmlToken) (n : ℕ) (p : IsNameEnd is_end n tag) → IsWhole mode.Data tag ts → IsAfterName tag n (p.in_name).0 ts
+after_name is_end tag ts n p h =
+    let t : OpenTag = (p.in_name).0 in
+    let b : ℕ = get_or tag n 0 in
+    let rest : List ℕ = drop (n + 1) tag in
+    let k = front_begins n tag t p.within (p.in_name).1 in
+    let parts : tag ≡ take n tag ++ (b ∷ rest) = sym (take-append-drop n tag) ∙ ap (λ xs. take n tag ++ xs) (drop_more tag n 0 p.within) in
+    let w = whole_one tag ts h in
+    let f = front_one k.0 tag (b ∷ rest) (subst (λ m. m < length tag) k.1 p.within) w.0 (subst (λ m. tag ≡ take m tag ++ (b ∷ rest)) k.1 parts) in
+    record {
+      one = subst (λ m. IsOnePiece (take m tag)) (sym k.1) f.0;
+      restless = subst (λ (r : Reader). Restless r (b ∷ rest)) (p.in_name).1 (subst (λ m. Restless (after (at data_state) (take m tag)) (b ∷ rest)) (sym k.1) f.1);
+      is = w.1 ∙ ap (tokens_of (at data_state)) parts ∙ tokens_append (at data_state) (take n tag) (b ∷ rest)
+          ∙ ap₂ (λ (us : List HtmlToken) (r : Reader). us ++ tokens_of r (b ∷ rest)) (p.in_name).2 (p.in_name).1;
+    }
+
 pub record IsStart (tag : List ℕ) (n : ℕ) (t : OpenTag) (ts : List HtmlToken) : Type 0 where
   pub named : IsNamed (take n tag) t
   pub ends : Ends (drop n tag) t ts
@@ -221,17 +258,8 @@ start_is tag ts n p h s =
     let b : ℕ = get_or tag n 0 in
     let rest : List ℕ = drop (n + 1) tag in
     let back : drop n tag ≡ b ∷ rest = drop_more tag n 0 p.within in
-    let k = front_begins n tag t p.within (p.in_name).1 in
-    let parts : tag ≡ take n tag ++ (b ∷ rest) = sym (take-append-drop n tag) ∙ ap (λ xs. take n tag ++ xs) back in
-    let w = whole_one tag ts h in
-    let f = front_one k.0 tag (b ∷ rest) (subst (λ m. m < length tag) k.1 p.within) w.0 (subst (λ m. tag ≡ take m tag ++ (b ∷ rest)) k.1 parts) in
-    let one : IsOnePiece (take n tag) = subst (λ m. IsOnePiece (take m tag)) (sym k.1) f.0 in
-    let later : Restless (at (tag_name t)) (b ∷ rest) =
-    subst (λ (r : Reader). Restless r (b ∷ rest)) (p.in_name).1 (subst (λ m. Restless (after (at data_state) (take m tag)) (b ∷ rest)) (sym k.1) f.1) in
-    let is : ts ≡ tokens_of (at (tag_name t)) (b ∷ rest) =
-    w.1 ∙ ap (tokens_of (at data_state)) parts ∙ tokens_append (at data_state) (take n tag) (b ∷ rest)
-    ∙ ap₂ (λ (us : List HtmlToken) (r : Reader). us ++ tokens_of r (b ∷ rest)) (p.in_name).2 (p.in_name).1 in
+    let a : IsAfterName tag n t ts = after_name false tag ts n p h in
     record {
-      named = record { one = one; state = (p.in_name).1; silent = (p.in_name).2 };
-      ends = subst (λ xs. Ends xs t ts) (sym back) (rest_ends_it rest b t ts p.ends (p.in_name).4 later is s);
+      named = record { one = a.one; state = (p.in_name).1; silent = (p.in_name).2 };
+      ends = subst (λ xs. Ends xs t ts) (sym back) (rest_ends_it rest b t ts p.ends (p.in_name).4 a.restless a.is s);
     }
