@@ -298,7 +298,7 @@ Something may stand behind the last byte, where what the page ends with is read 
   $ printf '<p><title>a' | tl append --html p '<i>'
   tl: -: the page would be read otherwise, for the element at byte 0 (err)
   [2]
-  $ printf '<p><plaintext>a' | tl after p x
+  $ printf '<li><plaintext>a' | tl after li x
   tl: -: the page would be read otherwise, for the element at byte 0 (err)
   [2]
 

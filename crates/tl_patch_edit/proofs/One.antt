@@ -17,9 +17,8 @@ use Rattle.tl_patch_edit.specs.declared.ask.Planned.{Planned}
 use Rattle.tl_patch_edit.specs.declared.ask.Start.{Start}
 use Rattle.tl_patch_edit.specs.declared.error.EditError.{EditError}
 use Rattle.tl_patch_edit.specs.declared.error.EditError.TheVariants as error
-use Rattle.tl_patch_edit.proofs.Edited.{start_of}
 use Rattle.tl_patch_edit.proofs.Order.{planned_in_turn}
-use Rattle.tl_patch_edit.proofs.Refusals.{asks_at_one, both_planned, splice_across, splice_reading}
+use Rattle.tl_patch_edit.proofs.Refusals.{both_planned, splice_across, splice_reading}
 use Rattle.tl_patch_edit.proofs.Together.{counts, placed_asked}
 
 one_asked : (ps : List Piece) (patch : Patch) (s : Start) (p : Planned) → asked_of ps s.number patch ≡ Some (planned_view (content_of patch) p) →
@@ -46,7 +45,7 @@ pub one_reading : (page : List ℕ) (place : ℕ) (patch : Patch) (tokens : List
     IsPageError page place (content_of patch) parts (placed_view s p) e → IsReadingError page (place ∷ []) patch e
 one_reading page place patch tokens s p parts e t h a g r =
     splice_reading page place (place ∷ []) [] patch tokens (s ∷ []) parts (placed_view s p) e refl t (one_start tokens place s h) g
-    (asks_at_one page patch place s p (start_of page tokens place s.number s.token t h) h.start a) (one_sorted (pieces_in page) patch s p a) r
+    (one_sorted (pieces_in page) patch s p a) r
 
 pub one_across : (page : List ℕ) (place : ℕ) (patch : Patch) (tokens : List Token) (s : Start) (p : Planned) (parts : List Part) (e : EditError) → AreTokensOf page tokens →
     IsStartAt tokens place s.number s.token → asked_of (pieces_in page) s.number patch ≡ Some (planned_view (content_of patch) p) → ArePieces parts (pieces_in page) →

@@ -148,19 +148,19 @@ start_renamed name m b new d r = record {
   says = λ ts k w. r.tokens ts (subst (λ (n : Mode). IsWhole n b ts) d w) k;
 }
 
-renamed_end : (name : List ℕ) (new : List ℕ) (ts : List HtmlToken) → IsEndTag ts → IsWhole mode.Data new (EndTag name ∷ []) → IsWhole mode.Data new (map (changed_token (Rename name)) ts)
-renamed_end name new (EndTag n ∷ []) k w = w
-renamed_end name new [] k w = absurd k
-renamed_end name new (EndTag n ∷ t ∷ ts) k w = absurd k
-renamed_end name new (StartTag n a v ∷ ts) k w = absurd k
-renamed_end name new (Character b ∷ ts) k w = absurd k
-renamed_end name new (CommentToken n ∷ ts) k w = absurd k
-renamed_end name new (DoctypeToken ∷ ts) k w = absurd k
+renamed_end : (name b new : List ℕ) (ts : List HtmlToken) → IsEndTag ts → IsWhole mode.Data b ts → IsRenamedEnd name b new → IsWhole mode.Data new (map (changed_token (Rename name)) ts)
+renamed_end name b new (EndTag n ∷ []) k w r = r.whole (EndTag n ∷ []) w k
+renamed_end name b new [] k w r = absurd k
+renamed_end name b new (EndTag n ∷ t ∷ ts) k w r = absurd k
+renamed_end name b new (StartTag n a v ∷ ts) k w r = absurd k
+renamed_end name b new (Character x ∷ ts) k w r = absurd k
+renamed_end name b new (CommentToken n ∷ ts) k w r = absurd k
+renamed_end name b new (DoctypeToken ∷ ts) k w r = absurd k
 
 pub end_renamed : (name : List ℕ) (m : Mode) (b new : List ℕ) → m ≡ mode.Data → IsRenamedEnd name b new → IsRenamedTag name (record { kind = kind.EndTag; mode = m; bytes = b }) new
 end_renamed name m b new d r = record {
   tag = refl;
   named = r.named;
   in_data = d;
-  says = λ ts k w. renamed_end name new ts k r.whole;
+  says = λ ts k w. renamed_end name b new ts k (subst (λ (n : Mode). IsWhole n b ts) d w) r;
 }

@@ -7,23 +7,28 @@ use Rattle.std.proofs.lemmas.List.Sorted.{IsPermutation-refl}
 use Rattle.std.proofs.lemmas.List.{drop_more, get_or-map, length-map, take-append-drop, take_more}
 use Rattle.std.proofs.lemmas.List.Elements.{All-append, All-cons, All-contains, All-nil, Contains-append_right, Contains-get_or}
 use Rattle.std.proofs.lemmas.Option.{slice_get-get_or, slice_get_within}
-use Rattle.tl_html_spec.specs.HtmlTokenizer.{State}
+use Rattle.tl_html_spec.specs.HtmlTokenizer.{Character, CommentToken, DoctypeToken, EndTag, HtmlToken, StartTag, State, data_state}
 use Rattle.tl_html_spec.specs.Pieces.{Piece, pieces, runs}
 use Rattle.tl_html_spec.proofs.Cutting.{bytes_are, runs_bytes, runs_tokens, tokens_are}
+use Rattle.tl_html_tokens.specs.Characters.{characters_of}
+use Rattle.tl_html_tokens.specs.Kinds.{IsKind}
 use Rattle.tl_html_tokens.specs.Modes.{state_of}
 use Rattle.tl_html_tokens.specs.Tokens.{AreTokensOf}
 use Rattle.tl_html_tokens.specs.declared.mode.Mode.{Mode}
 use Rattle.tl_html_tokens.specs.declared.mode.Mode.TheVariants as mode
+use Rattle.tl_html_tokens.specs.declared.stage.TokenKind.{TokenKind}
+use Rattle.tl_html_tokens.specs.declared.stage.TokenKind.TheVariants as kind
 use Rattle.tl_html_tokens.specs.declared.token.Token.{Token}
+use Rattle.tl_patch_tags.proofs.Begins.{whole_start_tag}
 use Rattle.tl_patch_spec.specs.Patches.{Changed, Content, Markup, NewContent, NewEndTag, Patch, Put, Text, asked_of, content_pieces, with_end}
 use Rattle.tl_patch_spec.specs.Splices.{Splice, are_ordered}
 use Rattle.tl_patch_spec.specs.TagChanges.{Rename}
 use Rattle.tl_html_tags.specs.Parts.{name_of}
 use Rattle.tl_patch_edit.specs.Asks.{IsWanted, ask_view, asks_view, content_of, is_data, placed_at, placed_of, placed_view, planned_view, puts_view}
-use Rattle.tl_patch_edit.specs.Causes.{CannotPut, CannotPutIn, CannotStandIn, IsAsksError, IsOneAt, IsPageError, IsPlanError, IsPlanned, IsReadError, IsReadyError, IsSpliceError, IsStartError, IsStartsError, IsUnmeant, NoStartFrom, ReachesFrom, has_name, puts_tag}
-use Rattle.tl_patch_edit.specs.Errors.{AreAcross, CannotBeMeant, CannotBePut, CannotBeWritten, CannotStand, IsAcrossError, IsAskAt, IsPatchAt, IsReadingError, IsRefused, PutsTag, is_tag_put, patch_each, pieces_in}
+use Rattle.tl_patch_edit.specs.Causes.{CannotPut, CannotPutIn, CannotStandIn, IsAsksError, IsPageError, IsPlanError, IsPlanned, IsReadError, IsReadyError, IsSpliceError, IsStartError, IsStartsError, IsUnmeant, NoStartFrom, ReachesFrom, begins_as, has_name, has_tag}
+use Rattle.tl_patch_edit.specs.Errors.{AreAcross, AreTag, CannotBeMeant, CannotBePut, CannotBeWritten, CannotStand, IsAcrossError, IsAskAt, IsPatchAt, IsReadingError, IsRefused, IsTag, patch_each, pieces_in}
 use Rattle.tl_patch_edit.specs.Found.{IsStartAt}
-use Rattle.tl_patch_edit.specs.Parts.{ArePieces, IsPieceOf, Part, with_end_part}
+use Rattle.tl_patch_edit.specs.Parts.{ArePieces, IsPieceOf, Part, Says, with_end_part}
 use Rattle.tl_patch_edit.specs.Several.{AreEdited, AreInTurn, AreSorted, AreStartsAt, IsStartOfPage, asked_view, numbers_of}
 use Rattle.tl_patch_edit.specs.declared.ask.Ask.{Ask}
 use Rattle.tl_patch_edit.specs.declared.ask.PlacedAsk.{PlacedAsk}
@@ -201,7 +206,7 @@ pub one_refused : (c : Content) (parts : List Part) (asks : List PlacedAsk) (one
 one_refused c parts asks one error.OutOfMemory k h = tt
 one_refused c parts asks one (error.EndOfPage p) k h = (one, record { among = k; begins = h.0 }, h.1)
 one_refused c parts asks one (error.NotWritten p) k h = (one, record { among = k; begins = h.0 }, h.1)
-one_refused c parts asks one (error.ReadOtherwise p) k h = (one, record { among = k; begins = h.0 }, h.1)
+one_refused c parts asks one (error.ReadOtherwise p) k h = absurd h
 one_refused c parts asks one (error.NoStartTag p) k h = absurd h
 one_refused c parts asks one (error.NotMeant p) k h = absurd h
 one_refused c parts asks one (error.Across p) k h = absurd h
@@ -209,7 +214,7 @@ one_refused c parts asks one (error.Across p) k h = absurd h
 pub read_refused : (page : List ℕ) (c : Content) (parts wanted : List Part) (asks : List PlacedAsk) (place : ℕ) (e : EditError) → IsWanted (asks_view c asks) parts wanted → IsReadError page wanted place e →
     IsPageError page place c parts asks e
 read_refused page c parts wanted asks place error.OutOfMemory w h = tt
-read_refused page c parts wanted asks place (error.ReadOtherwise p) w h = inr (h.0, never_spliced (asks_view c asks) parts wanted page w h.1)
+read_refused page c parts wanted asks place (error.ReadOtherwise p) w h = (h.0, never_spliced (asks_view c asks) parts wanted page w h.1)
 read_refused page c parts wanted asks place (error.EndOfPage p) w h = absurd h
 read_refused page c parts wanted asks place (error.NotWritten p) w h = absurd h
 read_refused page c parts wanted asks place (error.NoStartTag p) w h = absurd h
@@ -218,7 +223,7 @@ read_refused page c parts wanted asks place (error.Across p) w h = absurd h
 
 pub page_refused : (page : List ℕ) (place : ℕ) (c : Content) (parts : List Part) (asks : List PlacedAsk) (e : EditError) → IsSpliceError c parts asks e → IsPageError page place c parts asks e
 page_refused page place c parts asks error.OutOfMemory h = h
-page_refused page place c parts asks (error.ReadOtherwise p) h = inl h
+page_refused page place c parts asks (error.ReadOtherwise p) h = absurd h
 page_refused page place c parts asks (error.EndOfPage p) h = h
 page_refused page place c parts asks (error.NotWritten p) h = h
 page_refused page place c parts asks (error.NoStartTag p) h = h
@@ -234,7 +239,7 @@ pub none_of : {A : Type 0} (o : Option A) (P : Type 0) → o ≡ None → IfNone
 none_of o P e h = subst (λ x. IfNone x P) e h
 
 pub cannot_put : (c : Content) (parts : List Part) (ask : Ask) (place : Part) → slice_get (with_end_part parts) ask.from ≡ Some place →
-    (has_name ask.put ≡ false) ⊎ CannotPutIn c place.mode ask.put → CannotPut c parts ask
+    (has_name ask.put ≡ false) ⊎ ((has_tag place ask.put ≡ false) ⊎ CannotPutIn c place.mode ask.put) → CannotPut c parts ask
 cannot_put c parts ask place s h = record { place = place; stands = s; cannot = h }
 
 pub ordered_more : (c : Content) (asks : List ReadyAsk) (at done len : ℕ) (one : ReadyAsk) (v : Bool) → drop at asks ≡ one ∷ drop (at + 1) asks →
@@ -274,17 +279,52 @@ record PutThere (p : Piece) (puts : List Put) : Type 0 where
   among : Contains puts put
   cannot : CannotBePut p put
 
-put_there : (c : Content) (m : Mode) (p : Piece) (q : CodePut) → p.rest ≡ state_of m → (has_name q ≡ false) ⊎ CannotPutIn c m q → PutThere p (puts_view c q)
-put_there c m p put.Nothing e (inl h) = absurd (true≢false h)
-put_there c m p put.Nothing e (inr h) = absurd h
-put_there c m p put.Content e (inl h) = absurd (true≢false h)
-put_there c m p put.Content e (inr h) = record { put = NewContent c; among = (0, omega arith, refl); cannot = cannot_stand c m p.rest e h }
-put_there c m p (put.EndTagAndContent raw) e (inl h) = absurd (true≢false h)
-put_there c m p (put.EndTagAndContent raw) e (inr h) = record { put = NewContent c; among = (1, omega arith, refl); cannot = cannot_stand c m p.rest e h }
-put_there c m p (put.EndTag name) e (inl h) = record { put = NewEndTag name.now; among = (0, omega arith, refl); cannot = h }
-put_there c m p (put.EndTag name) e (inr h) = absurd h
-put_there c m p (put.Renamed name) e (inl h) = record { put = Changed (Rename name.now); among = (0, omega arith, refl); cannot = h }
-put_there c m p (put.Renamed name) e (inr h) = absurd h
+data_mode : (m : Mode) → data_state ≡ state_of m → m ≡ mode.Data
+data_mode mode.Data e = refl
+data_mode _ e = cc
+
+no_tag_in : (cs b : List ℕ) → AreTag (map Character cs) b → ⊥
+no_tag_in [] b t = t
+no_tag_in (c ∷ cs) b t = t
+
+-- a tag of a page begins as one
+tag_begins : (k : TokenKind) (b : List ℕ) (ts : List HtmlToken) → IsKind k ts → Says k mode.Data b ts → AreTag ts b → begins_as k b ≡ true
+tag_begins kind.StartTag b ts k s t = whole_start_tag b ts s k
+tag_begins kind.EndTag b (EndTag n ∷ []) k s t = t
+tag_begins kind.EndTag b [] k s t = absurd k
+tag_begins kind.EndTag b (EndTag n ∷ u ∷ ts) k s t = absurd k
+tag_begins kind.EndTag b (StartTag n a v ∷ ts) k s t = absurd k
+tag_begins kind.EndTag b (Character c ∷ ts) k s t = absurd k
+tag_begins kind.EndTag b (CommentToken n ∷ ts) k s t = absurd k
+tag_begins kind.EndTag b (DoctypeToken ∷ ts) k s t = absurd k
+tag_begins kind.Text b ts k s t = absurd (no_tag_in (characters_of mode.Data b) b (subst (λ (us : List HtmlToken). AreTag us b) s t))
+tag_begins kind.Comment b ts k s t = absurd (subst (λ (us : List HtmlToken). AreTag us b) s t)
+tag_begins kind.Doctype b ts k s t = absurd (subst (λ (us : List HtmlToken). AreTag us b) s t)
+tag_begins kind.Nothing b ts k s t = absurd (subst (λ (us : List HtmlToken). AreTag us b) s t)
+
+no_tag : (place : Part) (p : Piece) → IsPieceOf place p → (is_data place.mode && begins_as place.kind place.bytes) ≡ false → IsTag p → ⊥
+no_tag place p i h t =
+    let m : place.mode ≡ mode.Data = data_mode place.mode (sym t.0 ∙ i.rest) in
+    let said : Says place.kind mode.Data place.bytes p.tokens = subst (λ (n : Mode). Says place.kind n place.bytes p.tokens) m i.says in
+    let begins : begins_as place.kind place.bytes ≡ true = tag_begins place.kind place.bytes p.tokens i.kind said (subst (λ (b : List ℕ). AreTag p.tokens b) i.bytes t.1) in
+    true≢false (sym (ap (λ (n : Mode). is_data n && begins_as place.kind place.bytes) m ∙ begins) ∙ h)
+
+put_there : (c : Content) (place : Part) (p : Piece) (q : CodePut) → IsPieceOf place p → (has_name q ≡ false) ⊎ ((has_tag place q ≡ false) ⊎ CannotPutIn c place.mode q) → PutThere p (puts_view c q)
+put_there c place p put.Nothing i (inl h) = absurd (true≢false h)
+put_there c place p put.Nothing i (inr (inl h)) = absurd (true≢false h)
+put_there c place p put.Nothing i (inr (inr h)) = absurd h
+put_there c place p put.Content i (inl h) = absurd (true≢false h)
+put_there c place p put.Content i (inr (inl h)) = absurd (true≢false h)
+put_there c place p put.Content i (inr (inr h)) = record { put = NewContent c; among = (0, omega arith, refl); cannot = cannot_stand c place.mode p.rest i.rest h }
+put_there c place p (put.EndTagAndContent raw) i (inl h) = record { put = NewEndTag (name_of raw.now); among = (0, omega arith, refl); cannot = h }
+put_there c place p (put.EndTagAndContent raw) i (inr (inl h)) = absurd (true≢false h)
+put_there c place p (put.EndTagAndContent raw) i (inr (inr h)) = record { put = NewContent c; among = (1, omega arith, refl); cannot = cannot_stand c place.mode p.rest i.rest h }
+put_there c place p (put.EndTag name) i (inl h) = record { put = NewEndTag name.now; among = (0, omega arith, refl); cannot = h }
+put_there c place p (put.EndTag name) i (inr (inl h)) = absurd (true≢false h)
+put_there c place p (put.EndTag name) i (inr (inr h)) = absurd h
+put_there c place p (put.Renamed name) i (inl h) = record { put = Changed (Rename name.now); among = (0, omega arith, refl); cannot = inl h }
+put_there c place p (put.Renamed name) i (inr (inl h)) = record { put = Changed (Rename name.now); among = (0, omega arith, refl); cannot = inr (no_tag place p i h) }
+put_there c place p (put.Renamed name) i (inr (inr h)) = absurd h
 
 cannot_write : (page : List ℕ) (patches : List (ℕ × Patch)) (c : Content) (parts : List Part) (place : ℕ) (ask : Ask) → ArePieces parts (pieces_in page) →
     IsAskAt page patches place (ask_view c ask) → CannotPut c parts ask → CannotBeWritten page patches place
@@ -296,7 +336,7 @@ cannot_write page patches c parts place ask g a h =
     let there : slice_get all ask.from ≡ Some h.place = h.stands in
     let same : get_or all ask.from h.place ≡ h.place = cc in
     let of : IsPieceOf h.place s.piece = subst (λ (x : Part). IsPieceOf x s.piece) same s.is in
-    let r = put_there c (h.place).mode s.piece ask.put of.rest h.cannot in
+    let r = put_there c h.place s.piece ask.put of h.cannot in
     record { ask = ask_view c ask; at = a; piece = s.piece; stands = s.stands; put = r.put; among = r.among; cannot = r.cannot }
 
 pub splice_refused : (page : List ℕ) (first : ℕ) (places : List ℕ) (patches : List (ℕ × Patch)) (c : Content) (parts : List Part) (asks : List PlacedAsk) (e : EditError) → ArePieces parts (pieces_in page) →
@@ -403,38 +443,16 @@ splice_across page first places patch tokens starts c parts asks (error.Across p
 
 -- a page that is read otherwise
 
-record TagThere (puts : List Put) : Type 0 where
-  put : Put
-  among : Contains puts put
-  tag : is_tag_put put ≡ true
-
-tag_there : (c : Content) (q : CodePut) → puts_tag q ≡ true → TagThere (puts_view c q)
-tag_there c put.Nothing h = absurd (true≢false (sym h))
-tag_there c put.Content h = absurd (true≢false (sym h))
-tag_there c (put.EndTagAndContent raw) h = record { put = NewEndTag (name_of raw.now); among = (0, omega arith, refl); tag = refl }
-tag_there c (put.EndTag name) h = record { put = NewEndTag name.now; among = (0, omega arith, refl); tag = refl }
-tag_there c (put.Renamed name) h = record { put = Changed (Rename name.now); among = (0, omega arith, refl); tag = refl }
-
-tag_put : (page : List ℕ) (patches : List (ℕ × Patch)) (c : Content) (asks : List PlacedAsk) (p : ℕ) (one : PlacedAsk) →
-    All (λ (one : PlacedAsk). IsAskAt page patches one.start.token.start (ask_view c one.ask)) asks → IsOneAt asks p one → puts_tag one.ask.put ≡ true → PutsTag page patches p
-tag_put page patches c asks p one a o h =
-    let at : IsAskAt page patches one.start.token.start (ask_view c one.ask) = All-contains (λ (x : PlacedAsk). IsAskAt page patches x.start.token.start (ask_view c x.ask)) asks one a o.among in
-    let t = tag_there c one.ask.put h in
-    record { ask = ask_view c one.ask; at = subst (λ n. IsAskAt page patches n (ask_view c one.ask)) o.begins at; put = t.put; among = t.among; tag = t.tag }
-
 pub first_place : (places : List ℕ) (d : ℕ) → 0 < length places → places ≡ get_or places 0 d ∷ drop 1 places
 first_place [] d l = absurd (omega arith)
 first_place (place ∷ places) d l = refl
 
 pub splice_reading : (page : List ℕ) (first : ℕ) (places more : List ℕ) (patch : Patch) (tokens : List Token) (starts : List Start) (parts : List Part) (asks : List PlacedAsk) (e : EditError) →
     places ≡ first ∷ more → AreTokensOf page tokens → AreStartsAt 0 tokens places starts → ArePieces parts (pieces_in page) →
-    All (λ (one : PlacedAsk). IsAskAt page (patch_each patch places) one.start.token.start (ask_view (content_of patch) one.ask)) asks →
     AreSorted (pieces_in page) patch (numbers_of starts) (content_of patch) asks → IsPageError page first (content_of patch) parts asks e → IsReadingError page places patch e
-splice_reading page first places more patch tokens starts parts asks (error.ReadOtherwise p) f t s g a o (inl h) =
-    inl (tag_put page (patch_each patch places) (content_of patch) asks p h.0 a h.1 h.2)
-splice_reading page first places more patch tokens starts parts asks (error.ReadOtherwise p) f t s g a o (inr h) =
+splice_reading page first places more patch tokens starts parts asks (error.ReadOtherwise p) f t s g o h =
     let r = h.1 (pieces_in page) g in
-    inr (record {
+    record {
       more = more;
       first = f ∙ ap (λ n. n ∷ more) (sym h.0);
       numbers = numbers_of starts;
@@ -443,13 +461,13 @@ splice_reading page first places more patch tokens starts parts asks (error.Read
       asked = asked_together patch (pieces_in page) starts (content_of patch) asks r.splices o r.ordered r.asked;
       whole = r.whole;
       never = r.never;
-    })
-splice_reading page first places more patch tokens starts parts asks error.OutOfMemory f t s g a o h = tt
-splice_reading page first places more patch tokens starts parts asks (error.NoStartTag p) f t s g a o h = tt
-splice_reading page first places more patch tokens starts parts asks (error.NotMeant p) f t s g a o h = tt
-splice_reading page first places more patch tokens starts parts asks (error.EndOfPage p) f t s g a o h = tt
-splice_reading page first places more patch tokens starts parts asks (error.NotWritten p) f t s g a o h = tt
-splice_reading page first places more patch tokens starts parts asks (error.Across p) f t s g a o h = tt
+    }
+splice_reading page first places more patch tokens starts parts asks error.OutOfMemory f t s g o h = tt
+splice_reading page first places more patch tokens starts parts asks (error.NoStartTag p) f t s g o h = tt
+splice_reading page first places more patch tokens starts parts asks (error.NotMeant p) f t s g o h = tt
+splice_reading page first places more patch tokens starts parts asks (error.EndOfPage p) f t s g o h = tt
+splice_reading page first places more patch tokens starts parts asks (error.NotWritten p) f t s g o h = tt
+splice_reading page first places more patch tokens starts parts asks (error.Across p) f t s g o h = tt
 
 pub starts_reading : (page places : List ℕ) (patch : Patch) (tokens : List Token) (e : EditError) → IsStartsError tokens places e → IsReadingError page places patch e
 starts_reading page places patch tokens error.OutOfMemory h = tt

@@ -1,5 +1,5 @@
 -- What the code asks for, as the definitions have it.
-use Rattle.std.specs.Prelude.{◌≡◌, ℕ, suc, ◌==◌, ◌&&◌, ◌||◌, Bool, true, false, List, [], ◌∷◌, ◌++◌, length, drop, map, codes, Option, Some, None, ⊤}
+use Rattle.std.specs.Prelude.{◌≡◌, ℕ, suc, ◌||◌, Bool, true, false, List, [], ◌∷◌, ◌++◌, length, drop, map, codes, Option, Some, None, ⊤}
 use Rattle.std.specs.List.{slice_get}
 use Rattle.std.specs.Option.{option_to_list}
 use Rattle.std.specs.Str.{bytes_eq}
@@ -7,11 +7,9 @@ use Rattle.tl_html_spec.specs.HtmlTokenizer.{EndTag, HtmlToken}
 use Rattle.tl_html_spec.specs.Pieces.{Piece, bytes_of, pieces_of}
 use Rattle.tl_html_tags.specs.Parts.{name_of}
 use Rattle.tl_html_tokens.specs.Characters.{characters_of}
-use Rattle.tl_html_tokens.specs.Kinds.{IsKind}
+use Rattle.tl_html_tokens.specs.Kinds.{IsEndTag, IsKind}
 use Rattle.tl_html_tokens.specs.Whole.{IsWhole, is_tag_kind}
-use Rattle.tl_html_tokens.specs.declared.stage.TokenKind.{TokenKind}
 use Rattle.tl_html_tokens.specs.declared.stage.TokenKind.TheVariants as kind
-use Rattle.tl_html_tokens.specs.declared.token.Token.{Token}
 use Rattle.tl_html_tokens.specs.declared.mode.Mode.{Mode}
 use Rattle.tl_html_tokens.specs.declared.mode.Mode.TheVariants as mode
 use Rattle.tl_patch_edit.specs.declared.ask.Ask.{Ask}
@@ -140,10 +138,11 @@ pub record IsEndTagOf (name tag : List ℕ) : Type 0 where
   pub is : tag ≡ end_tag_bytes name
   pub whole : IsWhole mode.Data tag (EndTag name ∷ [])
 
--- an end tag with another name
+-- an end tag with another name: where the old one is an end tag by itself, so is the new one
 pub record IsRenamedEnd (name tag new : List ℕ) : Type 0 where
   pub named : IsNamed name tag new
-  pub whole : IsWhole mode.Data new (EndTag name ∷ [])
+  pub whole : (tokens : List HtmlToken) → IsWhole mode.Data tag tokens → IsEndTag tokens →
+      IsWhole mode.Data new (EndTag name ∷ [])
 
 -- a tag of a page with another name: it says what it said but for that
 pub record IsRenamedTag (name : List ℕ) (place : Part) (new : List ℕ) : Type 0 where
@@ -205,20 +204,6 @@ IsWantedFrom done asks parts wanted =
 -- parts are a page with the splices that are asked for
 abbrev pub IsWanted : List (Splice Put) → List Part → List Part → Type 0
 IsWanted asks parts wanted = IsWantedFrom 0 asks parts wanted
-
-abbrev pub is_end_kind : TokenKind → Bool
-is_end_kind kind.EndTag = true
-is_end_kind _ = false
-
--- whether a token is an end tag and stands up to an end
-abbrev pub is_whole_end_tag : Token → ℕ → Bool
-is_whole_end_tag token len = is_end_kind token.kind
-    && (is_data token.mode && ((token.start == 0) && (token.end == len)))
-
--- whether tokens are one such tag alone
-abbrev pub is_one_end_tag : List Token → ℕ → Bool
-is_one_end_tag (token ∷ []) len = is_whole_end_tag token len
-is_one_end_tag _ len = false
 
 abbrev pub is_document_name : List ℕ → Bool
 is_document_name name =

@@ -1,14 +1,18 @@
 -- Why the code gives up, in its own terms.
-use Rattle.std.specs.Prelude.{◌≡◌, ◌≤◌, ◌<◌, ◌⊎◌, ℕ, Bool, true, false, List, ◌∷◌, ◌++◌, length, None, Option, Some, ⊤}
+use Rattle.std.specs.Prelude.{◌≡◌, ◌≤◌, ◌<◌, ◌⊎◌, ◌&&◌, ℕ, Bool, true, false, List, ◌∷◌, ◌++◌, length, None, Option, Some, ⊤}
 use Rattle.std.specs.List.{Contains, slice_get}
 use Rattle.tl_html_spec.specs.Pieces.{pieces, runs}
 use Rattle.tl_html_tokens.specs.Characters.{characters_of}
 use Rattle.tl_html_tokens.specs.declared.mode.Mode.{Mode}
+use Rattle.tl_html_tokens.specs.declared.stage.TokenKind.{TokenKind}
 use Rattle.tl_html_tokens.specs.declared.stage.TokenKind.TheVariants as kind
 use Rattle.tl_html_tokens.specs.declared.token.Token.{Token}
+use Rattle.tl_html_tags.specs.Parts.{name_of}
+use Rattle.tl_patch.specs.Places.{begins_end_tag}
 use Rattle.tl_patch_spec.specs.Markup.{is_name}
 use Rattle.tl_patch_spec.specs.Patches.{Content, Markup, Patch, Put, Text, asked_of}
 use Rattle.tl_patch_spec.specs.Splices.{Splice, are_ordered}
+use Rattle.tl_patch_tags.specs.StartTags.{is_start_tag}
 use Rattle.tl_patch_edit.specs.Asks.{ask_view, asks_view, content_of, is_data, text_form}
 use Rattle.tl_patch_edit.specs.Found.{IsNeverRead, IsNeverSplicedOf, IsStartAt, has_mark}
 use Rattle.tl_patch_edit.specs.Parts.{Part, with_end_part}
@@ -78,15 +82,21 @@ pub record IsPlanned (page : List ℕ) (patch : Patch) (starts : List Start) (on
 
 -- whether the name of a tag that is put can stand as it is
 abbrev pub has_name : CodePut → Bool
+has_name (put.EndTagAndContent raw) = is_name (name_of raw.now)
 has_name (put.EndTag name) = is_name name.now
 has_name (put.Renamed name) = is_name name.now
 has_name _ = true
 
--- whether a tag is put
-abbrev pub puts_tag : CodePut → Bool
-puts_tag put.Nothing = false
-puts_tag put.Content = false
-puts_tag _ = true
+-- whether what stands there begins as a tag of its kind
+abbrev pub begins_as : TokenKind → List ℕ → Bool
+begins_as kind.StartTag bytes = is_start_tag bytes
+begins_as kind.EndTag bytes = begins_end_tag bytes
+begins_as _ bytes = false
+
+-- whether a tag stands there, in markup, where one gets another name
+abbrev pub has_tag : Part → CodePut → Bool
+has_tag place (put.Renamed name) = is_data place.mode && begins_as place.kind place.bytes
+has_tag place _ = true
 
 abbrev pub CannotStandIn : Mode → Content → Type 0
 CannotStandIn m (Text text) = characters_of m (text_form m text) ≡ text → ⊥
@@ -101,7 +111,8 @@ CannotPutIn c m _ = ⊥
 pub record CannotPut (c : Content) (parts : List Part) (ask : Ask) : Type 0 where
   pub place : Part
   pub stands : slice_get (with_end_part parts) ask.from ≡ Some place
-  pub cannot : (has_name ask.put ≡ false) ⊎ CannotPutIn c place.mode ask.put
+  pub cannot : (has_name ask.put ≡ false)
+      ⊎ ((has_tag place ask.put ≡ false) ⊎ CannotPutIn c place.mode ask.put)
 
 -- an ask of the element at a place
 pub record IsOneAt (asks : List PlacedAsk) (place : ℕ) (one : PlacedAsk) : Type 0 where
@@ -118,8 +129,6 @@ IsReadyError c parts one (error.EndOfPage p) =
     (one.start.token.start ≡ p) × (length parts < one.ask.from)
 IsReadyError c parts one (error.NotWritten p) =
     (one.start.token.start ≡ p) × CannotPut c parts one.ask
-IsReadyError c parts one (error.ReadOtherwise p) =
-    (one.start.token.start ≡ p) × (puts_tag one.ask.put ≡ true)
 IsReadyError c parts one _ = ⊥
 
 abbrev pub IsReadError : List ℕ → List Part → ℕ → EditError → Type 0
@@ -136,13 +145,10 @@ IsSpliceError c parts asks (error.NotWritten p) =
 IsSpliceError c parts asks (error.Across p) =
     (one : PlacedAsk) × IsOneAt asks p one
     × (are_ordered 0 (length parts) (asks_view c asks) ≡ false)
-IsSpliceError c parts asks (error.ReadOtherwise p) =
-    (one : PlacedAsk) × IsOneAt asks p one × (puts_tag one.ask.put ≡ true)
 IsSpliceError c parts asks _ = ⊥
 
--- so it is, or the page with the splices is read otherwise
+-- so it is, or no text is read as the page with the splices
 abbrev pub IsPageError : List ℕ → ℕ → Content → List Part → List PlacedAsk → EditError → Type 0
 IsPageError page place c parts asks (error.ReadOtherwise p) =
-    IsSpliceError c parts asks (error.ReadOtherwise p)
-    ⊎ ((p ≡ place) × IsNeverSplicedOf (asks_view c asks) parts page)
+    (p ≡ place) × IsNeverSplicedOf (asks_view c asks) parts page
 IsPageError page place c parts asks e = IsSpliceError c parts asks e

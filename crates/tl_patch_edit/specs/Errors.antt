@@ -1,14 +1,15 @@
 -- Why a page is not edited.
-use Rattle.std.specs.Prelude.{◌≡◌, ◌≤◌, ◌<◌, ◌⊎◌, ℕ, Bool, true, false, List, [], ◌∷◌, ◌++◌, length, map, None, Some, ⊤}
+use Rattle.std.specs.Prelude.{◌≡◌, ◌≤◌, ◌<◌, ◌⊎◌, ℕ, true, false, List, [], ◌∷◌, ◌++◌, length, map, None, Some, ⊤}
 use Rattle.std.specs.List.{All, Contains, slice_get}
 use Rattle.std.specs.List.Sorted.{IsPermutation}
-use Rattle.tl_html_spec.specs.HtmlTokenizer.{State}
+use Rattle.tl_html_spec.specs.HtmlTokenizer.{EndTag, HtmlToken, StartTag, State, data_state}
 use Rattle.tl_html_spec.specs.Pieces.{Piece, pieces, placed, runs}
 use Rattle.tl_html_tokens.specs.Characters.{characters_of}
 use Rattle.tl_html_tokens.specs.Kinds.{IsStartTag}
 use Rattle.tl_html_tokens.specs.Modes.{state_of}
 use Rattle.tl_html_tokens.specs.Tokens.{mark_len}
 use Rattle.tl_html_tokens.specs.declared.mode.Mode.{Mode}
+use Rattle.tl_patch.specs.Places.{begins_end_tag}
 use Rattle.tl_patch_spec.specs.Markup.{is_name}
 use Rattle.tl_patch_spec.specs.Patches.{Changed, Content, Markup, NewContent, NewEndTag, Patch, Put, Text, asked_of, content_pieces, with_end}
 use Rattle.tl_patch_spec.specs.Splices.{Splice, with_splices}
@@ -81,11 +82,21 @@ CannotStand state (Markup markup) =
 CannotStand state (Text text) =
     (m : Mode) × (state ≡ state_of m) × (characters_of m (text_form m text) ≡ text → ⊥)
 
--- so it can't, or a name is no name of a tag as it is
+-- tokens and their bytes are a start tag, or an end tag whose name ends
+abbrev pub AreTag : List HtmlToken → List ℕ → Type 0
+AreTag (StartTag name attributes closes ∷ []) bytes = ⊤
+AreTag (EndTag name ∷ []) bytes = begins_end_tag bytes ≡ true
+AreTag _ bytes = ⊥
+
+-- a tag stands there, in `data`
+abbrev pub IsTag : Piece → Type 0
+IsTag p = (p.rest ≡ data_state) × AreTag p.tokens p.bytes
+
+-- so it can't, or a name is no name of a tag as it is, or no tag stands there that could have it
 abbrev pub CannotBePut : Piece → Put → Type 0
 CannotBePut p (NewContent content) = CannotStand p.rest content
 CannotBePut p (NewEndTag name) = is_name name ≡ false
-CannotBePut p (Changed (Rename name)) = is_name name ≡ false
+CannotBePut p (Changed (Rename name)) = (is_name name ≡ false) ⊎ (IsTag p → ⊥)
 CannotBePut p (Changed change) = ⊥
 
 -- which puts what can't be put there
@@ -130,23 +141,10 @@ abbrev pub IsAcrossError : List ℕ → List ℕ → Patch → EditError → Typ
 IsAcrossError page places patch (error.Across place) = StandAcross page places patch place
 IsAcrossError page places patch _ = ⊤
 
--- a tag is put, or gets another name
-abbrev pub is_tag_put : Put → Bool
-is_tag_put (NewContent content) = false
-is_tag_put _ = true
-
--- such a patch puts a tag
-pub record PutsTag (page : List ℕ) (patches : List (ℕ × Patch)) (place : ℕ) : Type 0 where
-  pub ask : Splice Put
-  pub at : IsAskAt page patches place ask
-  pub put : Put
-  pub among : Contains ask.put put
-  pub tag : is_tag_put put ≡ true
-
 -- a place is the first of these, the patch asks for splices of the page's pieces at them, each tag
 -- that these leave is read so by itself, and yet no text with the bytes of what comes of them says
 -- what that says, token by token, and each tag in its bytes
-pub record IsReadOtherwise (page places : List ℕ) (patch : Patch) (place : ℕ) : Type 0 where
+pub record CannotBeRead (page places : List ℕ) (patch : Patch) (place : ℕ) : Type 0 where
   pub more : List ℕ
   pub first : places ≡ place ∷ more
   pub numbers : List ℕ
@@ -155,10 +153,6 @@ pub record IsReadOtherwise (page places : List ℕ) (patch : Patch) (place : ℕ
   pub asked : AreAskedTogether (pieces_in page) numbers patch splices
   pub whole : AreWhole (sayings (with_splices (pieces_in page) splices))
   pub never : IsNeverSaid page (with_splices (pieces_in page) splices)
-
-abbrev pub CannotBeRead : List ℕ → List ℕ → Patch → ℕ → Type 0
-CannotBeRead page places patch place = PutsTag page (patch_each patch places) place
-    ⊎ IsReadOtherwise page places patch place
 
 abbrev pub IsReadingError : List ℕ → List ℕ → Patch → EditError → Type 0
 IsReadingError page places patch (error.ReadOtherwise place) =

@@ -1,130 +1,103 @@
 //! Tags that are put, by themselves.
-ghost use Rattle.std.specs.Prelude.{◌≡◌, ◌≤◌, [], ◌∷◌, ◌++◌, IfErr, IfNone, IfOk, IfSome, OnOk, length, true};
+ghost use Rattle.std.specs.Prelude.{◌≡◌, ◌≤◌, ◌∷◌, ◌++◌, [], IfErr, IfNone, IfOk, IfSome, IsSome, OnOk, false, length, true};
 ghost use Rattle.std.specs.List.{All};
-ghost use Rattle.tl_html_spec.specs.HtmlTokenizer.{EndTag};
 ghost use Rattle.tl_html_tags.specs.Parts.{name_of};
-ghost use Rattle.tl_html_tokens.specs.Whole.{IsWhole};
-ghost use Rattle.tl_html_tokens.specs.declared.mode.Mode.TheVariants as mode;
-ghost use Rattle.tl_patch_edit.specs.Asks.{IsEndTagOf, IsRenamedEnd, IsRenamedTag, IsTagAt, IsTagFor, IsTagged, is_end_kind, is_one_end_tag, is_whole_end_tag, placed_of};
-ghost use Rattle.tl_patch_edit.specs.Causes.{IsReadyError, IsSpliceError, IsWithin, has_name, puts_tag};
+ghost use Rattle.tl_patch.specs.Places.{begins_end_tag};
+ghost use Rattle.tl_patch_edit.specs.Asks.{IsEndTagOf, IsRenamedEnd, IsRenamedTag, IsTagAt, IsTagFor, IsTagged, placed_of};
+ghost use Rattle.tl_patch_edit.specs.Causes.{CannotPut, IsReadyError, IsSpliceError, IsWithin, has_name, has_tag};
 ghost use Rattle.tl_patch_edit.specs.Parts.{part_view, parts_view};
+ghost use Rattle.tl_patch_edit.specs.declared.ask.Put.TheVariants.{Renamed};
+ghost use Rattle.tl_patch_spec.specs.Markup.{is_name};
 ghost use Rattle.tl_patch_spec.specs.Patches.{Content};
+ghost use Rattle.tl_patch_tags.specs.StartTags.{IsRenamed, is_start_tag};
 
 use crate::ask::{Ask, PlacedAsk, Put};
 use crate::error::EditError;
 use crate::part::{Part, place_at};
 use crate::put::is_data;
 use std::alloc::{AllocError, Global};
-use tl_html_tags::tag_parts;
-use tl_html_tokens::{Token, TokenKind, tokens};
+use tl_html_tokens::TokenKind;
 use tl_html_write::lower_name;
-use tl_patch::{Splice, is_name, with_splices};
+use tl_patch::{is_name, with_end_name};
 use tl_patch_tags::with_name;
 
-fn is_end_kind(kind: TokenKind) -> bool
-    ensures { result ≡ is_end_kind kind }
-{
-    matches!(kind, TokenKind::EndTag)
-}
-
-// Whether a token is an end tag and stands up to an end.
-fn is_whole_end_tag(token: &Token, len: usize) -> bool
-    ensures { result ≡ is_whole_end_tag token.now len }
-{
-    is_end_kind(token.kind) && is_data(token.mode) && token.start == 0 && token.end == len
-}
-
-// Whether tokens are one such tag alone.
-fn is_one_end_tag(tokens: &[Token], len: usize) -> bool
-    ensures { result ≡ is_one_end_tag tokens.now len }
-{
-    match tokens {
-        [token] => is_whole_end_tag(token, len),
-        _ => false,
-    }
-}
-
-// Whether bytes are an end tag of this name by themselves.
-fn is_end_tag(alloc: Global, bytes: &[u8], name: &[u8]) -> Result<bool, AllocError>
-    ensures { IfOk result (λ is. is ≡ true →
-        IsWhole mode.Data bytes.now (EndTag name.now ∷ [])) }
-{
-    let all = tokens(alloc, bytes)?;
-    let is_one = is_one_end_tag(all.as_slice(), bytes.len());
-    if !is_one {
-        return Ok(false);
-    }
-    let parts = tag_parts(alloc, bytes)?;
-    let read = lower_name(alloc, parts.name)?;
-    Ok(read.as_bytes() == name)
-}
-
-// The end tag of a name, if it is read as one.
+// The end tag of a name.
 fn end_tag(alloc: Global, name: &[u8]) -> Result<Option<Vec<u8>>, AllocError>
-    ensures { IfOk result (λ found. IfSome found (λ tag. IsEndTagOf name.now tag.items)) }
+    requires { is_name name.now ≡ true }
+    ensures tag { IfOk result (λ found. IfSome found (λ tag. IsEndTagOf name.now tag.items)) }
+    ensures some { IfOk result (λ found. IsSome found) }
 {
     let mut tag = Vec::new(alloc);
     tag.extend_from_slice(b"</")?;
     tag.extend_from_slice(name)?;
     tag.extend_from_slice(b">")?;
-    let is_it = is_end_tag(alloc, tag.as_slice(), name)?;
-    if !is_it {
-        return Ok(None);
-    }
     Ok(Some(tag))
 }
 
 // The end tag of a name as it stands in a start tag.
 fn lower_end_tag(alloc: Global, raw: &[u8]) -> Result<Option<Vec<u8>>, AllocError>
-    ensures { IfOk result (λ found. IfSome found (λ tag.
+    requires { is_name (name_of raw.now) ≡ true }
+    ensures tag { IfOk result (λ found. IfSome found (λ tag.
         IsEndTagOf (name_of raw.now) tag.items)) }
+    ensures some { IfOk result (λ found. IsSome found) }
 {
     let name = lower_name(alloc, raw)?;
     end_tag(alloc, name.as_bytes())
 }
 
-// An end tag with another name, if it is read so.
-fn with_end_name(alloc: Global, tag: &[u8], name: &[u8]) -> Result<Option<Vec<u8>>, AllocError>
-    ensures { IfOk result (λ found. IfSome found (λ new.
+// An end tag with another name; `None` where no end tag begins whose name ends.
+fn renamed_end(alloc: Global, tag: &[u8], name: &[u8]) -> Result<Option<Vec<u8>>, AllocError>
+    requires { is_name name.now ≡ true }
+    ensures renamed { IfOk result (λ found. IfSome found (λ new.
         IsRenamedEnd name.now tag.now new.items)) }
+    ensures none { IfOk result (λ found. IfNone found (begins_end_tag tag.now ≡ false)) }
 {
-    let parts = tag_parts(alloc, tag)?;
-    let splice = Splice {
-        from: 2,
-        until: parts.name.len().saturating_add(2),
-        put: name,
-    };
-    let Some(new) = with_splices(alloc, tag, &[splice])? else {
+    let Some(new) = with_end_name(alloc, tag, name)? else {
         return Ok(None);
     };
-    let is_it = is_end_tag(alloc, new.as_slice(), name)?;
-    if !is_it {
-        return Ok(None);
-    }
     Ok(Some(new))
 }
 
-// A tag with another name.
+// The same of a start tag, by itself.
+fn renamed_start(alloc: Global, tag: &[u8], name: &[u8]) -> Result<Option<Vec<u8>>, AllocError>
+    requires { is_name name.now ≡ true }
+    ensures renamed { IfOk result (λ found. IfSome found (λ new.
+        IsRenamed name.now tag.now new.items)) }
+    ensures none { IfOk result (λ found. IfNone found (is_start_tag tag.now ≡ false)) }
+{
+    let Some(new) = with_name(alloc, tag, name)? else {
+        return Ok(None);
+    };
+    Ok(Some(new))
+}
+
+// A tag with another name; `None` where none stands there, or not in markup.
 fn renamed_tag(alloc: Global, place: Part<'_>, name: &[u8]) -> Result<Option<Vec<u8>>, AllocError>
-    ensures { IfOk result (λ found. IfSome found (λ new.
+    requires { is_name name.now ≡ true }
+    ensures tag { IfOk result (λ found. IfSome found (λ new.
         IsRenamedTag name.now (part_view place.entry) new.items)) }
+    ensures none { IfOk result (λ found. IfNone found
+        (has_tag (part_view place.entry) (Renamed name.entry) ≡ false)) }
 {
     let is_data = is_data(place.mode);
     if !is_data {
         return Ok(None);
     }
     match place.kind {
-        TokenKind::StartTag => with_name(alloc, place.bytes, name),
-        TokenKind::EndTag => with_end_name(alloc, place.bytes, name),
+        TokenKind::StartTag => renamed_start(alloc, place.bytes, name),
+        TokenKind::EndTag => renamed_end(alloc, place.bytes, name),
         _ => Ok(None),
     }
 }
 
-// The tag that is put at a part, which is empty where none is; `None` where it can't be written.
+// The tag that is put at a part, which is empty where none is; `None` where none stands there that
+// could get another name.
 fn tag_for(alloc: Global, place: Part<'_>, put: Put<'_>) -> Result<Option<Vec<u8>>, AllocError>
+    requires { has_name put ≡ true }
     ensures tag { IfOk result (λ found. IfSome found (λ tag.
         IsTagFor put.entry (part_view place.entry) tag.items)) }
-    ensures none { IfOk result (λ found. IfNone found (puts_tag put.entry ≡ true)) }
+    ensures none { IfOk result (λ found. IfNone found
+        (has_tag (part_view place.entry) put.entry ≡ false)) }
 {
     match put {
         Put::Nothing => Ok(Some(Vec::new(alloc))),
@@ -135,23 +108,34 @@ fn tag_for(alloc: Global, place: Part<'_>, put: Put<'_>) -> Result<Option<Vec<u8
     }
 }
 
+// Whether the name of a tag that is written in lower case can stand so.
+fn is_lower_name(alloc: Global, raw: &[u8]) -> Result<bool, AllocError>
+    ensures { IfOk result (λ is. is ≡ is_name (name_of raw.now)) }
+{
+    let name = lower_name(alloc, raw)?;
+    Ok(is_name(name.as_bytes()))
+}
+
 // Whether the name of the tag that is put can stand as it is.
-fn has_name(put: Put<'_>) -> bool
-    ensures { result ≡ has_name put.entry }
+fn has_name(alloc: Global, put: Put<'_>) -> Result<bool, AllocError>
+    ensures { IfOk result (λ has. has ≡ has_name put.entry) }
 {
     match put {
-        Put::EndTag { name } => is_name(name),
-        Put::Renamed { name } => is_name(name),
-        _ => true,
+        Put::EndTagAndContent { raw } => is_lower_name(alloc, raw),
+        Put::EndTag { name } => Ok(is_name(name)),
+        Put::Renamed { name } => Ok(is_name(name)),
+        _ => Ok(true),
     }
 }
 
 // The tag that is put for an ask.
 fn tag_put(alloc: Global, parts: &[Part<'_>], ask: Ask<'_>) -> Result<Option<Vec<u8>>, AllocError>
-    requires { ask.from ≤ length parts.now }
+    requires within { ask.from ≤ length parts.now }
+    requires name { has_name ask.put ≡ true }
     ensures tag { IfOk result (λ found. IfSome found (λ tag.
         IsTagAt (parts_view parts.now) ask.entry tag.items)) }
-    ensures none { IfOk result (λ found. IfNone found (puts_tag ask.entry.put ≡ true)) }
+    ensures none { (content : Content) → IfOk result (λ found. IfNone found
+        (CannotPut content (parts_view parts.now) ask.entry)) }
 {
     let place = place_at(parts, ask.from);
     let Some(tag) = tag_for(alloc, place, ask.put)? else {
@@ -182,12 +166,12 @@ fn ready_ask<'n>(
     if placed.ask.from > parts.len() {
         return Err(EditError::EndOfPage(place));
     }
-    let has_name = has_name(placed.ask.put);
+    let has_name = has_name(alloc, placed.ask.put)?;
     if !has_name {
         return Err(EditError::NotWritten(place));
     }
     let Some(tag) = tag_put(alloc, parts, placed.ask)? else {
-        return Err(EditError::ReadOtherwise(place));
+        return Err(EditError::NotWritten(place));
     };
     Ok(ReadyAsk { placed, tag })
 }

@@ -157,15 +157,11 @@ returns-in_err-text-clause-reading c =
     let asks : List PlacedAsk = c.in_ok-asks.asks.items in
     let at : AreStartsAt 0 tokens c.args.places.now starts =
     subst (λ (ts : List Token). AreStartsAt 0 ts c.args.places.now starts) c.as_slice-2.ensures.value c.in_ok-starts.ensures.starts in
-    let planned : All (IsPlanned page patch starts) asks =
-    subst (λ (ss : List Start). All (IsPlanned page patch ss) asks) c.as_slice-4.ensures.value c.in_ok-asks.ensures.planned in
     let sorted : AreSorted (runs (pieces page)) patch (numbers_of starts) (content_of patch) asks =
     subst (λ (ss : List Start). AreSorted (runs (pieces page)) patch (numbers_of ss) (content_of patch) asks) c.as_slice-4.ensures.value c.in_ok-asks.ensures.sorted in
     let is : c.from_residual-in_err-text.result ≡ Err c.in_err-text.field-0.0 = search rules in
     err_is _ _ _ is (splice_reading page c.first_of-place.result c.args.places.now (drop 1 c.args.places.now) patch tokens starts (parts_view parts) asks c.in_err-text.field-0.0 c.first_of-place.ensures
-    c.in_ok-found.ensures.tokens at c.in_ok-parts.ensures
-    (asks_at page patch c.args.places.now starts asks (starts_are page tokens c.args.places.now 0 starts c.in_ok-found.ensures.tokens at) (places_are tokens c.args.places.now 0 starts at) planned)
-    sorted
+    c.in_ok-found.ensures.tokens at c.in_ok-parts.ensures sorted
     (subst (λ (k : Content). IsPageError page c.first_of-place.result k (parts_view parts) asks c.in_err-text.field-0.0) c.content_of-content.ensures
     (subst (λ (bs : List PlacedAsk). IsPageError page c.first_of-place.result (content_view c.content_of-content.result) (parts_view parts) bs c.in_err-text.field-0.0) c.as_slice-7.ensures.value
     (subst (λ (xs : List Part). IsPageError page c.first_of-place.result (content_view c.content_of-content.result) (parts_view xs) c.as_slice-7.result.now c.in_err-text.field-0.0) c.as_slice-6.ensures.value

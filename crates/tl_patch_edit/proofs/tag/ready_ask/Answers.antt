@@ -12,8 +12,11 @@ returns-then-not-has_name-clause-error c = λ content.
     let l : c.args.placed.ask.from ≤ length parts = omega (arith, length_view c.args.parts.now, c.if-placed-parts.false) in (
       refl,
       cannot_put content parts c.args.placed.ask _ (slice_get-get_or (with_end_part parts) c.args.placed.ask.from end_part (before_end parts c.args.placed.ask.from l))
-          (inl (sym c.has_name-has_name.ensures ∙ c.if-not-has_name.true)),
+          (inl (sym c.in_ok-has_name.ensures ∙ c.if-not-has_name.true)),
     )
 
 pub returns-in_default-clause-error : goal.returns-in_default-clause-error
-returns-in_default-clause-error c = λ content. (refl, none_of _ _ c.in_default.is c.in_ok-tag.ensures.none)
+returns-in_default-clause-error c = λ content. (refl, none_of _ _ c.in_default.is (c.in_ok-tag.ensures.none content))
+
+pub tag_put-requires-clause-name : goal.tag_put-requires-clause-name
+tag_put-requires-clause-name c = sym c.in_ok-has_name.ensures ∙ c.if-not-has_name.false

@@ -8,7 +8,7 @@ use Rattle.tl_patch_edit.proofs.wanted.put_of.Goals as goal
 
 pub returns-in_default-clause-error : goal.returns-in_default-clause-error
 returns-in_default-clause-error c =
-    (refl, cannot_put (content_view c.args.ready.content) (parts_view c.args.parts.now) c.args.one.now.placed.ask (part_view c.place_at-place.result) c.place_at-place.ensures (inr (none_of _ _ c.in_default.is c.in_ok-put.ensures.none)))
+    (refl, cannot_put (content_view c.args.ready.content) (parts_view c.args.parts.now) c.args.one.now.placed.ask (part_view c.place_at-place.result) c.place_at-place.ensures (inr (inr (none_of _ _ c.in_default.is c.in_ok-put.ensures.none))))
 
 pub returns-clause-put : goal.returns-clause-put
 returns-clause-put c =
