@@ -56,8 +56,8 @@ static PAGE_ROWS: [Row; 82] = [
     (ElementPatch::PutAfter { content: MARKUP }, 0, b"<p>a<!-- b", Err(EditError::ReadOtherwise(0))),
     (ElementPatch::PutAfter { content: TEXT }, 0, b"<body>a</body>", Err(EditError::NotMeant(0))),
     (ElementPatch::PutAfter { content: TEXT }, 6, b"<html><body>a", Err(EditError::NotMeant(6))),
-    (ElementPatch::Append { content: Content::Text { text: b"y" } }, 0, b"<body>a</body>\n", Ok(b"<body>a</body>\ny")),
-    (ElementPatch::Rename { name: b"main" }, 0, b"<body>a</body>", Ok(b"<main>a</body></main>")),
+    (ElementPatch::Append { content: Content::Text { text: b"y" } }, 0, b"<body>a</body>b", Ok(b"<body>a</body>by")),
+    (ElementPatch::Rename { name: b"main" }, 0, b"<body>a</body>b", Ok(b"<main>a</body>b</main>")),
     (ElementPatch::Append { content: Content::Text { text: b"p;" } }, 0, b"<p>AT&am", Ok(b"<p>AT&am</>p;")),
     (ElementPatch::Append { content: MARKUP }, 4, b"<ul><li>3 <", Ok(b"<ul><li>3 <<hr>p;")),
     (ElementPatch::Append { content: Content::Markup { markup: b"b>" } }, 0, b"<p>3 <", Ok(b"<p>3 <</>b>")),
@@ -124,7 +124,7 @@ static TAIL_ROWS: [Row; 21] = [
     (ElementPatch::Rename { name: b"div" }, 0, b"<body>a</body></html>", Ok(b"<div>a</div></html>")),
     (ElementPatch::Rename { name: b"div" }, 6, b"<html><body>a</html>", Ok(b"<html><div>a</div></html>")),
     (ElementPatch::PutAfter { content: TEXT }, 6, b"<body><p>a</body>", Ok(b"<body><p>a</p>1 &lt; 2 &amp; 3</body>")),
-    (ElementPatch::PutAfter { content: TEXT }, 0, b"<body>a</body></html>", Ok(b"<body>a</body>1 &lt; 2 &amp; 3</html>")),
+    (ElementPatch::PutAfter { content: TEXT }, 0, b"<body>a</body></html>", Err(EditError::NotMeant(0))),
 ];
 
 // What is done, the bytes where the start tags begin, the page, and what comes of it.
