@@ -376,7 +376,8 @@ enum {
 /* Why elements can't be changed so, beside the causes above; the place is that of the element in the page, also with
  * TL_READ_OTHERWISE. */
 enum {
-    TL_NOT_MEANT = 19,   /* the element isn't closed, is a tag alone, or its tag is dropped */
+    TL_NOT_MEANT = 19,   /* the element isn't closed, is a tag alone, its tag is dropped, or it is
+                            a body or html, after which nothing can stand */
     TL_ACROSS = 20,      /* its change and that of another element cut across each other */
     TL_END_OF_PAGE = 21, /* what is put would stand behind the end of the page; none does */
     TL_NO_CONTENT = 22   /* what is put can't stand there: markup in a raw text, or a text that would be read otherwise */

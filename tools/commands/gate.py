@@ -16,7 +16,7 @@
 It needs the toolchain and Python alone, and 8 GB of memory that is free. Where fewer than 40 GB are, `rt ci` runs one check of one
 job on each core, four at most and one for each 7 GB (RT_JOBS, which is kept where it is set).
 It says what each crate cost, in minutes of the processor, and which chain of crates was the longest; its last line after how
-many minutes each part had ended. It may take 60 minutes on 4 cores and 90 on 2, without other load. Each crate is proved from
+many minutes each part had ended. It is meant to take 60 minutes on 4 cores and 120 on 2, without other load. Each crate is proved from
 nothing once, and a second time with its tests if it has any; the mutants of must-fail of one crate are tried one after the other,
 the first of them at the cost of a proof of the crate. A check of one job takes 1 to 3 GB, of tl 5, of tl_c and tl_cli 7.5.
 

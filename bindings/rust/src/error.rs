@@ -117,7 +117,8 @@ causes! {
     NotWritten = 17, "this tag can't be changed so";
     /// The page would be read otherwise than asked.
     ReadOtherwise = 18, "the page would be read otherwise than asked";
-    /// The element isn't closed, is a tag alone, or its tag is dropped.
+    /// The element isn't closed, is a tag alone, its tag is dropped, or it is a `body` or `html`,
+    /// after which nothing can stand.
     NotMeant = 19, "this element can't be changed so: it isn't closed, or is a tag alone";
     /// The change of the element and that of another cut across each other.
     Across = 20, "this change and that of another element cut across each other";
