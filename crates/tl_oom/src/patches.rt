@@ -2,7 +2,9 @@
 use crate::case::Case;
 use crate::stop::{Stop, value};
 use crate::{Named, measured};
-use tl_patch_edit::{Content, ElementPatch, patch_element, patch_elements};
+use tl_patch_edit::{
+    Content, ElementPatch, PlacedPatch, patch_each, patch_element, patch_elements,
+};
 use tl_patch_page::{Change, TagPatch, patch};
 use tl_patch_select::{Patched, edit_selected, patch_selected};
 
@@ -33,6 +35,7 @@ enum PatchCall {
     Tags(&'static [TagPatch<'static>]),
     Element(usize, ElementPatch<'static>),
     Elements(&'static [usize], ElementPatch<'static>),
+    Each(&'static [PlacedPatch<'static>]),
     SelectedTags(&'static str, Change<'static>),
     SelectedElements(&'static str, ElementPatch<'static>),
 }
@@ -41,7 +44,7 @@ enum PatchCall {
 type Row = (&'static str, PatchCall, &'static str);
 
 #[rattlefmt::skip]
-static ROWS: [Row; 18] = [
+static ROWS: [Row; 20] = [
     ("patch, no tag", PatchCall::Tags(&[]), "<p id=i>x</p><!-- y --><p class='k'>z"),
     ("patch, a key with another value", PatchCall::Tags(&[TagPatch { start: 0, change: SET }]), "<p id=\"&quot;j&quot;\">x</p><!-- y --><p class='k'>z"),
     ("patch, a new key and one less", PatchCall::Tags(&[TagPatch { start: 0, change: ADD }, TagPatch { start: 23, change: UNSET }]), "<p title=\"a&amp;b\" id=i>x</p><!-- y --><p>z"),
@@ -59,6 +62,8 @@ static ROWS: [Row; 18] = [
     ("patch_element, ReplaceWith markup", PatchCall::Element(0, ElementPatch::ReplaceWith { content: MARKUP }), "<i>m</i><!-- y --><p class='k'>z"),
     ("patch_element, Append with a text", PatchCall::Element(0, ElementPatch::Append { content: TEXT }), "<p id=i>x&lt;x</p><!-- y --><p class='k'>z"),
     ("patch_element, PutAfter with a text", PatchCall::Element(0, ElementPatch::PutAfter { content: TEXT }), "<p id=i>x</p>&lt;x<!-- y --><p class='k'>z"),
+    ("patch_each, two patches of one element and one of another", PatchCall::Each(&[PlacedPatch { place: 0, patch: ElementPatch::Append { content: TEXT } }, PlacedPatch { place: 0, patch: ElementPatch::Rename { name: b"i" } }, PlacedPatch { place: 23, patch: ElementPatch::PutBefore { content: MARKUP } }]), "<i id=i>x&lt;x</i><!-- y --><i>m</i><p class='k'>z"),
+    ("patch_each, no patch", PatchCall::Each(&[]), "<p id=i>x</p><!-- y --><p class='k'>z"),
     ("patch_elements, no element", PatchCall::Elements(&[], ElementPatch::Remove), "<p id=i>x</p><!-- y --><p class='k'>z"),
 ];
 
@@ -69,6 +74,7 @@ pub fn call(number: usize, case: &mut Case) -> Option<Named> {
         PatchCall::Tags(patches) => patch_tags(patches, wanted, case),
         PatchCall::Element(place, patch) => patch_one(place, patch, wanted, case),
         PatchCall::Elements(places, patch) => patch_several(places, patch, wanted, case),
+        PatchCall::Each(patches) => patch_elements_each(patches, wanted, case),
         PatchCall::SelectedTags(text, change) => patch_where(text, change, wanted, case),
         PatchCall::SelectedElements(text, patch) => edit_where(text, patch, wanted, case),
     };
@@ -107,6 +113,15 @@ fn patch_several(
         case,
         patch_elements(case.alloc(), PAGE.as_bytes(), places, patch)
     );
+    is_page(answer?.as_slice(), wanted)
+}
+
+fn patch_elements_each(
+    patches: &[PlacedPatch<'_>],
+    wanted: &str,
+    case: &mut Case,
+) -> Result<(), Stop> {
+    let answer = measured!(case, patch_each(case.alloc(), PAGE.as_bytes(), patches));
     is_page(answer?.as_slice(), wanted)
 }
 

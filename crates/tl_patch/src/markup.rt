@@ -38,6 +38,8 @@ fn write_value_byte(byte: u8, out: &mut Vec<u8>) -> Result<(), AllocError>
         b'\r' => out.extend_from_slice(b"&#13;"),
         b'&' => out.extend_from_slice(b"&amp;"),
         b'"' => out.extend_from_slice(b"&quot;"),
+        b'<' => out.extend_from_slice(b"&lt;"),
+        b'>' => out.extend_from_slice(b"&gt;"),
         _ => {
             out.push(byte)?;
             Ok(())

@@ -1,5 +1,5 @@
 -- A page that is read again.
-use Rattle.std.proofs.Common.{◌≡◌, ℕ, zero, suc, ◌+◌, Bool, true, false, List, [], ◌∷◌, ◌++◌, length, drop, flat_map, map, Option, Some, None, slice_get, refl, ap, ap₂, sym, subst, ◌∙◌, if◌then◌else◌, ◌==◌, ◌&&◌, true≢false, arith}
+use Rattle.std.proofs.Common.{◌≡◌, ℕ, zero, suc, ◌+◌, Bool, true, false, List, [], ◌∷◌, ◌++◌, length, drop, flat_map, Option, Some, slice_get, refl, ap, ap₂, sym, subst, ◌∙◌, if◌then◌else◌, ◌==◌, ◌&&◌, true≢false, arith}
 use Rattle.std.proofs.lemmas.Bool.{and_parts, eqb-true}
 use Rattle.tl_html_spec.specs.HtmlTokenizer.{html_tokens, without_mark}
 use Rattle.tl_html_spec.specs.Pieces.{Piece, pieces, placed, runs, tokens_in}
@@ -10,18 +10,13 @@ use Rattle.tl_html_tokens.specs.Whole.{AreWholeTags, IsWhole, bytes_at, is_tag_k
 use Rattle.tl_html_tokens.specs.declared.stage.TokenKind.{TokenKind}
 use Rattle.tl_html_tokens.specs.declared.token.Token.{Token}
 use Rattle.tl_html_tokens.proofs.Alone.{tags_are_whole}
-use Rattle.std.specs.Option.{option_to_list}
-use Rattle.tl_patch_edit.specs.Asks.{IsWanted, ask_view, asks_view, placed_at, placed_view, planned_view}
-use Rattle.tl_patch_edit.specs.declared.ask.Ask.{Ask}
-use Rattle.tl_patch_edit.specs.declared.ask.Planned.{Planned}
-use Rattle.tl_patch_edit.specs.declared.ask.Start.{Start}
-use Rattle.tl_patch_edit.specs.Edited.{IsEdited}
-use Rattle.tl_patch_edit.specs.Found.{IsNeverRead, IsNeverSplicedOf, IsReadAs, IsSplicedPage, IsSplicedPageOf, IsStartAt, IsStartOf, IsTagName, has_mark, mark_bytes}
+use Rattle.tl_patch_edit.specs.Asks.{IsWanted}
+use Rattle.tl_patch_edit.specs.Found.{IsNeverRead, IsNeverSplicedOf, IsReadAs, IsSplicedPageOf, IsStartAt, IsStartOf, IsTagName, has_mark, mark_bytes}
 use Rattle.tl_patch_edit.specs.Parts.{ArePieces, Part, Say, SayOtherwise, SaySame, part_bytes}
 use Rattle.tl_patch_edit.specs.Sayings.{Saying, sayings}
 use Rattle.tl_patch_edit.proofs.Said.{pieces_give}
 use Rattle.tl_patch_edit.proofs.Sayings.{runs_said, say_whole, tokens_are_said, tokens_said}
-use Rattle.tl_patch_spec.specs.Patches.{Content, Extent, Patch, Put, asked, asked_by_name, asked_of, extent_in, start_name, tokens_of_piece}
+use Rattle.tl_patch_spec.specs.Patches.{Extent, Patch, Put, asked, asked_by_name, asked_of, extent_in, start_name, tokens_of_piece}
 use Rattle.tl_patch_spec.specs.Splices.{Splice, with_splices}
 use Rattle.tl_patch_spec.specs.Tail.{elements_up_to_tail}
 
@@ -172,25 +167,3 @@ pub asked_is : (patch : Patch) (page : List ℕ) (number : ℕ) (t : Token) (ext
     extent ≡ extent_in number (elements_up_to_tail (runs (pieces page))) → IsTagName (bytes_at page t) name → asked patch number extent name ≡ Some asks →
     asked_of (runs (pieces page)) number patch ≡ Some asks
 asked_is patch page number t extent name asks s x n a = asked_same patch page number t extent name s x n ∙ a
-
-pub edited : (patch : Patch) (place number : ℕ) (page text : List ℕ) (t : Token) (asks : List (Splice Put)) (parts : List Part) → IsStartOf page number t → t.start ≡ place →
-    asked_of (runs (pieces page)) number patch ≡ Some asks → ArePieces parts (runs (pieces page)) → IsSplicedPageOf asks parts page text → IsEdited patch place page text
-edited patch place number page text t asks parts s e a g r =
-    let page_with : IsSplicedPage asks page text (runs (pieces page)) = r (runs (pieces page)) g in
-    record {
-      number = number;
-      piece = s.piece;
-      begins = s.begins ∙ ap (λ n. Some (n, s.piece)) e;
-      splices = page_with.splices;
-      asked = (asks, a, page_with.asked);
-      mark = page_with.mark;
-      bytes = page_with.bytes;
-      tokens = page_with.tokens;
-    }
-
-second_is : (c : Content) (s : Start) (o : Option Ask) → asks_view c (map (placed_at s) (option_to_list o)) ≡ map (ask_view c) (option_to_list o)
-second_is c s None = refl
-second_is c s (Some a) = refl
-
-pub planned_is : (c : Content) (s : Start) (p : Planned) → asks_view c (placed_view s p) ≡ planned_view c p
-planned_is c s p = ap (λ (xs : List (Splice Put)). ask_view c p.first ∷ xs) (second_is c s p.second)

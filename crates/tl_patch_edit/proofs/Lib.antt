@@ -15,6 +15,3 @@ pub mod Turns
 pub mod Together
 pub mod Missing
 pub mod Refusals
-pub mod Later
-pub mod Order
-pub mod One

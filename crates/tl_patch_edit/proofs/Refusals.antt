@@ -1,5 +1,5 @@
 -- Why an edit is refused.
-use Rattle.std.proofs.Common.{◌≡◌, ◌==◌, ◌≤◌, ◌<◌, ℕ, ◌+◌, Bool, true, false, ◌&&◌, List, [], ◌∷◌, ◌++◌, length, get_or, take, drop, map, Option, Some, None, slice_get, refl, ap, ap₂, sym, subst, ◌∙◌, arith, inl, inr, true≢false, ◌⊎◌}
+use Rattle.std.proofs.Common.{◌≡◌, ◌==◌, ◌≤◌, ◌<◌, ℕ, zero, suc, ◌+◌, Bool, true, false, ◌&&◌, List, [], ◌∷◌, ◌++◌, length, get_or, take, drop, map, Option, Some, None, slice_get, refl, ap, sym, subst, ◌∙◌, arith, inl, inr, true≢false, ◌⊎◌}
 use Rattle.std.specs.List.{All, Contains}
 use Rattle.std.specs.Option.{option_to_list}
 use Rattle.std.specs.Prelude.{Err, IfErr, IfNone, Result, nat_le}
@@ -24,14 +24,18 @@ use Rattle.tl_patch_spec.specs.Patches.{Changed, Content, Markup, NewContent, Ne
 use Rattle.tl_patch_spec.specs.Splices.{Splice, are_ordered}
 use Rattle.tl_patch_spec.specs.TagChanges.{Rename}
 use Rattle.tl_html_tags.specs.Parts.{name_of}
-use Rattle.tl_patch_edit.specs.Asks.{IsWanted, ask_view, asks_view, content_of, is_data, placed_at, placed_of, placed_view, planned_view, puts_view}
-use Rattle.tl_patch_edit.specs.Causes.{CannotPut, CannotPutIn, CannotStandIn, IsAsksError, IsPageError, IsPlanError, IsPlanned, IsReadError, IsReadyError, IsSpliceError, IsStartError, IsStartsError, IsUnmeant, NoStartFrom, ReachesFrom, begins_as, has_name, has_tag}
-use Rattle.tl_patch_edit.specs.Errors.{AreAcross, AreTag, CannotBeMeant, CannotBePut, CannotBeWritten, CannotStand, IsAcrossError, IsAskAt, IsPatchAt, IsReadingError, IsRefused, IsTag, patch_each, pieces_in}
+use Rattle.tl_patch_edit.specs.Asks.{IsWanted, ask_view, asks_view, is_data, placed_at, placed_of, placed_view, planned_view, puts_view}
+use Rattle.tl_patch_edit.specs.Causes.{CannotPut, CannotPutIn, CannotStandIn, IsAsksError, IsOneAt, IsPageError, IsPlanError, IsPlanned, IsReadError, IsReadyError, IsSpliceError, IsStartError, IsStartsError, IsUnmeant, NoStartFrom, ReachesFrom, begins_as, has_name, has_tag}
+use Rattle.tl_patch_edit.specs.Errors.{AreAcross, AreTag, CannotBeMeant, CannotBePut, CannotBeWritten, CannotStand, IsAskAt, IsPatchAt, IsRefused, IsTag, pieces_in, placed_pieces}
 use Rattle.tl_patch_edit.specs.Found.{IsStartAt}
 use Rattle.tl_patch_edit.specs.Parts.{ArePieces, IsPieceOf, Part, Says, with_end_part}
-use Rattle.tl_patch_edit.specs.Several.{AreEdited, AreInTurn, AreSorted, AreStartsAt, IsStartOfPage, asked_view, numbers_of}
+use Rattle.tl_patch_edit.specs.Several.{AreEdited, AreInTurn, AreSorted, BeginAt, IsMeantOfPage, asked_view, places_of}
+use Rattle.tl_patch_edit.specs.View.{content_view, meant_view, patch_view, patches_view}
 use Rattle.tl_patch_edit.specs.declared.ask.Ask.{Ask}
+use Rattle.tl_patch_edit.specs.declared.ask.MeantPatch.{MeantPatch}
 use Rattle.tl_patch_edit.specs.declared.ask.PlacedAsk.{PlacedAsk}
+use Rattle.tl_patch_edit.specs.declared.ask.PlacedPatch.{PlacedPatch}
+use Rattle.tl_patch_edit.specs.declared.ask.Turn.{Turn}
 use Rattle.tl_patch_edit.specs.declared.ask.Planned.{Planned}
 use Rattle.tl_patch_edit.specs.declared.ask.Put.{Put as CodePut}
 use Rattle.tl_patch_edit.specs.declared.ask.Put.TheVariants as put
@@ -42,7 +46,7 @@ use Rattle.tl_patch_edit.specs.declared.tag.ReadyAsk.{ReadyAsk}
 use Rattle.tl_patch_edit.proofs.Edited.{never_spliced}
 use Rattle.tl_patch_edit.proofs.Missing.{lacks}
 use Rattle.tl_patch_edit.proofs.Splicing.{end_pieces, length_pieces, piece_at}
-use Rattle.tl_patch_edit.proofs.Together.{asked_together, asks_are, starts_begin}
+use Rattle.tl_patch_edit.proofs.Together.{asked_together, asks_are, given}
 use Rattle.tl_patch_edit.proofs.Turns.{are_across}
 
 -- start tags
@@ -74,161 +78,170 @@ missing tokens places at from d (error.EndOfPage p) l r h = absurd h
 missing tokens places at from d (error.NotWritten p) l r h = absurd h
 missing tokens places at from d (error.ReadOtherwise p) l r h = absurd h
 
-pub starts_refused : (page : List ℕ) (tokens : List Token) (places : List ℕ) (patches : List (ℕ × Patch)) (e : EditError) → AreTokensOf page tokens → IsStartsError tokens places e →
-    IsRefused page places patches e
-starts_refused page tokens places patches (error.NoStartTag p) t h = lacks page tokens places p t h
-starts_refused page tokens places patches error.OutOfMemory t h = tt
-starts_refused page tokens places patches (error.NotMeant p) t h = absurd h
-starts_refused page tokens places patches (error.Across p) t h = absurd h
-starts_refused page tokens places patches (error.EndOfPage p) t h = absurd h
-starts_refused page tokens places patches (error.NotWritten p) t h = absurd h
-starts_refused page tokens places patches (error.ReadOtherwise p) t h = absurd h
+pub starts_refused : (page : List ℕ) (tokens : List Token) (patches : List (ℕ × Patch)) (e : EditError) → AreTokensOf page tokens → IsStartsError tokens (places_of patches) e →
+    IsRefused page patches e
+starts_refused page tokens patches (error.NoStartTag p) t h = lacks page tokens (places_of patches) p t h
+starts_refused page tokens patches error.OutOfMemory t h = tt
+starts_refused page tokens patches (error.NotMeant p) t h = absurd h
+starts_refused page tokens patches (error.Across p) t h = absurd h
+starts_refused page tokens patches (error.EndOfPage p) t h = absurd h
+starts_refused page tokens patches (error.NotWritten p) t h = absurd h
+starts_refused page tokens patches (error.ReadOtherwise p) t h = absurd h
 
-pub start_refused : (page : List ℕ) (tokens : List Token) (place : ℕ) (patches : List (ℕ × Patch)) (e : EditError) → AreTokensOf page tokens → IsStartError 0 tokens place e →
-    IsRefused page (place ∷ []) patches e
-start_refused page tokens place patches e t h = starts_refused page tokens (place ∷ []) patches e t (missing tokens (place ∷ []) 0 0 0 e (omega arith) (inl refl) h)
+-- places of patches
+
+places_length : (patches : List PlacedPatch) → length (places_of (patches_view patches)) ≡ length patches
+places_length [] = refl
+places_length (p ∷ patches) = ap suc (places_length patches)
+
+place_of : (patches : List PlacedPatch) (at : ℕ) (d : PlacedPatch) (n : ℕ) → at < length patches → get_or (places_of (patches_view patches)) at n ≡ (get_or patches at d).place
+place_of [] at d n l = absurd (omega arith)
+place_of (p ∷ patches) zero d n l = refl
+place_of (p ∷ patches) (suc at) d n l = place_of patches at d n (omega arith)
+
+pub patch_reached : (tokens : List Token) (patches : List PlacedPatch) (at : ℕ) (d : PlacedPatch) (start : Start) → at < length patches → IsStartAt tokens (get_or patches at d).place start.number start.token →
+    ReachesFrom tokens (take (at + 1) (places_of (patches_view patches))) start.number
+patch_reached tokens patches at d start l s =
+    let here : at < length (places_of (patches_view patches)) = omega (arith, places_length patches) in
+    reached tokens (places_of (patches_view patches)) at 0 start here (subst (λ n. IsStartAt tokens n start.number start.token) (sym (place_of patches at d 0 l)) s)
+
+pub patch_missing : (tokens : List Token) (patches : List PlacedPatch) (at from : ℕ) (d : PlacedPatch) (e : EditError) → at < length patches → ReachesFrom tokens (take at (places_of (patches_view patches))) from →
+    IsStartError from tokens (get_or patches at d).place e → IsStartsError tokens (places_of (patches_view patches)) e
+patch_missing tokens patches at from d e l r h =
+    let here : at < length (places_of (patches_view patches)) = omega (arith, places_length patches) in
+    missing tokens (places_of (patches_view patches)) at from 0 e here r (subst (λ n. IsStartError from tokens n e) (sym (place_of patches at d 0 l)) h)
 
 -- what is asked for of an element
 
-second_planned : (page : List ℕ) (patch : Patch) (starts : List Start) (s : Start) (first : Splice Put) (o : Option Ask) → Contains starts s →
-    asked_of (runs (pieces page)) s.number patch ≡ Some (first ∷ map (ask_view (content_of patch)) (option_to_list o)) → All (IsPlanned page patch starts) (map (placed_at s) (option_to_list o))
-second_planned page patch starts s first None k a = All-nil (IsPlanned page patch starts)
-second_planned page patch starts s first (Some ask) k a =
-    All-cons (IsPlanned page patch starts) (placed_at s ask) [] (record {
+second_planned : (page : List ℕ) (meant : List MeantPatch) (m : MeantPatch) (t : Turn) (first : Splice Put) (o : Option Ask) → Contains meant m →
+    asked_of (runs (pieces page)) m.start.number (patch_view m.patch) ≡ Some (first ∷ map ask_view (option_to_list o)) → All (IsPlanned page meant) (map (placed_at m.start t) (option_to_list o))
+second_planned page meant m t first None k a = All-nil (IsPlanned page meant)
+second_planned page meant m t first (Some ask) k a =
+    All-cons (IsPlanned page meant) (placed_at m.start t ask) [] (record {
+      meant = m;
       among = k;
-      asks = first ∷ ask_view (content_of patch) ask ∷ [];
+      start = refl;
+      asks = first ∷ ask_view ask ∷ [];
       asked = a;
       is = (1, omega arith, refl);
-    }) (All-nil (IsPlanned page patch starts))
+    }) (All-nil (IsPlanned page meant))
 
-pub both_planned : (page : List ℕ) (patch : Patch) (starts : List Start) (s : Start) (p : Planned) → Contains starts s →
-    asked_of (runs (pieces page)) s.number patch ≡ Some (planned_view (content_of patch) p) → All (IsPlanned page patch starts) (placed_view s p)
-both_planned page patch starts s p k a =
-    All-cons (IsPlanned page patch starts) (placed_at s p.first) (map (placed_at s) (option_to_list p.second)) (record {
+both_planned : (page : List ℕ) (meant : List MeantPatch) (m : MeantPatch) (t : Turn) (p : Planned) → Contains meant m →
+    asked_of (runs (pieces page)) m.start.number (patch_view m.patch) ≡ Some (planned_view p) → All (IsPlanned page meant) (placed_view m.start t p)
+both_planned page meant m t p k a =
+    All-cons (IsPlanned page meant) (placed_at m.start t p.first) (map (placed_at m.start t) (option_to_list p.second)) (record {
+      meant = m;
       among = k;
-      asks = planned_view (content_of patch) p;
+      start = refl;
+      asks = planned_view p;
       asked = a;
       is = (0, omega arith, refl);
-    }) (second_planned page patch starts s (ask_view (content_of patch) p.first) p.second k a)
+    }) (second_planned page meant m t (ask_view p.first) p.second k a)
 
-pub planned_more : (page : List ℕ) (patch : Patch) (starts : List Start) (at : ℕ) (d : Start) (p : Planned) (old now : List PlacedAsk) → at < length starts →
-    asked_of (runs (pieces page)) (get_or starts at d).number patch ≡ Some (planned_view (content_of patch) p) → now ≡ old ++ placed_view (get_or starts at d) p →
-    All (IsPlanned page patch starts) old → All (IsPlanned page patch starts) now
-planned_more page patch starts at d p old now l a e h =
-    let s : Start = get_or starts at d in
-    subst (All (IsPlanned page patch starts)) (sym e) (All-append (IsPlanned page patch starts) old (placed_view s p) h (both_planned page patch starts s p (Contains-get_or starts at d l) a))
+pub one_meant : (meant : List MeantPatch) (at : ℕ) (m d : MeantPatch) → at < length meant → m ≡ get_or meant at d → Contains meant m
+one_meant meant at m d l e = subst (λ (x : MeantPatch). Contains meant x) (sym e) (Contains-get_or meant at d l)
 
-pub within_extents : (page : List ℕ) (starts : List Start) (at len : ℕ) (d : Start) → at < length starts → All (IsStartOfPage page) starts → length (runs (pieces page)) ≤ len →
-    (get_or starts at d).number < len
-within_extents page starts at len d l h k =
-    let o : IsStartOfPage page (get_or starts at d) = h at d l in
-    let m : (get_or starts at d).number < length (runs (pieces page)) = slice_get_within (runs (pieces page)) (get_or starts at d).number o.piece o.stands in
+pub planned_more : (page : List ℕ) (meant : List MeantPatch) (at : ℕ) (m d : MeantPatch) (t : Turn) (p : Planned) (old now : List PlacedAsk) → at < length meant → m ≡ get_or meant at d →
+    asked_of (runs (pieces page)) m.start.number (patch_view m.patch) ≡ Some (planned_view p) → now ≡ old ++ placed_view m.start t p →
+    All (IsPlanned page meant) old → All (IsPlanned page meant) now
+planned_more page meant at m d t p old now l i a e h =
+    subst (All (IsPlanned page meant)) (sym e) (All-append (IsPlanned page meant) old (placed_view m.start t p) h (both_planned page meant m t p (one_meant meant at m d l i) a))
+
+pub within_extents : (page : List ℕ) (meant : List MeantPatch) (at len : ℕ) (m d : MeantPatch) → at < length meant → m ≡ get_or meant at d → All (IsMeantOfPage page) meant →
+    length (runs (pieces page)) ≤ len → m.start.number < len
+within_extents page meant at len m d l e h k =
+    let o : IsMeantOfPage page m = All-contains (IsMeantOfPage page) meant m h (one_meant meant at m d l e) in
+    let n : m.start.number < length (runs (pieces page)) = slice_get_within (runs (pieces page)) m.start.number o.piece o.stands in
     omega arith
 
-pub unmeant : (page : List ℕ) (patch : Patch) (starts : List Start) (at : ℕ) (d : Start) (e : EditError) → at < length starts →
-    IsPlanError (get_or starts at d).token.start (asked_of (runs (pieces page)) (get_or starts at d).number patch) e → IsAsksError page patch starts e
-unmeant page patch starts at d (error.NotMeant p) l h = record { start = get_or starts at d; among = Contains-get_or starts at d l; begins = sym h.0; none = h.1 }
-unmeant page patch starts at d error.OutOfMemory l h = tt
-unmeant page patch starts at d (error.NoStartTag p) l h = absurd h
-unmeant page patch starts at d (error.Across p) l h = absurd h
-unmeant page patch starts at d (error.EndOfPage p) l h = absurd h
-unmeant page patch starts at d (error.NotWritten p) l h = absurd h
-unmeant page patch starts at d (error.ReadOtherwise p) l h = absurd h
+pub unmeant : (page : List ℕ) (meant : List MeantPatch) (at : ℕ) (m d : MeantPatch) (e : EditError) → at < length meant → m ≡ get_or meant at d →
+    IsPlanError m.start.token.start (asked_of (runs (pieces page)) m.start.number (patch_view m.patch)) e → IsAsksError page meant e
+unmeant page meant at m d (error.NotMeant p) l i h = record { meant = m; among = one_meant meant at m d l i; begins = sym h.0; none = h.1 }
+unmeant page meant at m d error.OutOfMemory l i h = tt
+unmeant page meant at m d (error.NoStartTag p) l i h = absurd h
+unmeant page meant at m d (error.Across p) l i h = absurd h
+unmeant page meant at m d (error.EndOfPage p) l i h = absurd h
+unmeant page meant at m d (error.NotWritten p) l i h = absurd h
+unmeant page meant at m d (error.ReadOtherwise p) l i h = absurd h
 
 pub contains_map : {X Y : Type 0} (f : X → Y) (xs : List X) (x : X) → Contains xs x → Contains (map f xs) (f x)
 contains_map f xs x k =
     let l : k.0 < length (map f xs) = (let e : length (map f xs) ≡ length xs = length-map xs f in omega (arith, k.1)) in
     (k.0, l, get_or-map f xs k.0 x (f x) k.1 ∙ ap f k.2)
 
-pub places_are : (tokens : List Token) (places : List ℕ) (from : ℕ) (starts : List Start) → AreStartsAt from tokens places starts → map (λ (s : Start). s.token.start) starts ≡ places
-places_are tokens [] from [] h = refl
-places_are tokens [] from (s ∷ starts) h = absurd h
-places_are tokens (place ∷ places) from [] h = absurd h
-places_are tokens (place ∷ places) from (s ∷ starts) h = ap₂ (λ (n : ℕ) (ns : List ℕ). n ∷ ns) (h.1).start (places_are tokens places s.number starts h.2)
-
-each_among : (patch : Patch) (places : List ℕ) (starts : List Start) (s : Start) → map (λ (s : Start). s.token.start) starts ≡ places → Contains starts s → Contains (patch_each patch places) (s.token.start, patch)
-each_among patch places starts s e k =
-    contains_map (λ (n : ℕ). (n, patch)) places s.token.start (subst (λ (ns : List ℕ). Contains ns s.token.start) e (contains_map (λ (s : Start). s.token.start) starts s k))
-
 -- the patch of one of these start tags
-patch_at : (page : List ℕ) (patch : Patch) (places : List ℕ) (starts : List Start) (s : Start) → All (IsStartOfPage page) starts → map (λ (s : Start). s.token.start) starts ≡ places →
-    Contains starts s → IsPatchAt page (patch_each patch places) s.token.start
-patch_at page patch places starts s o e k =
-    let here : IsStartOfPage page s = All-contains (IsStartOfPage page) starts s o k in
+patch_at : (page : List ℕ) (patches : List (ℕ × Patch)) (meant : List MeantPatch) (m : MeantPatch) → All (IsMeantOfPage page) meant → map given meant ≡ patches → Contains meant m →
+    IsPatchAt page patches m.start.token.start
+patch_at page patches meant m o e k =
+    let here : IsMeantOfPage page m = All-contains (IsMeantOfPage page) meant m o k in
     record {
-      patch = patch;
-      among = each_among patch places starts s e k;
-      number = s.number;
+      patch = patch_view m.patch;
+      among = subst (λ (xs : List (ℕ × Patch)). Contains xs (given m)) e (contains_map given meant m k);
+      number = m.start.number;
       piece = here.piece;
       begins = here.begins;
     }
 
-unmeant_at : (page : List ℕ) (patch : Patch) (places : List ℕ) (starts : List Start) (place : ℕ) → All (IsStartOfPage page) starts → map (λ (s : Start). s.token.start) starts ≡ places →
-    IsUnmeant page patch starts place → CannotBeMeant page (patch_each patch places) place
+unmeant_at : (page : List ℕ) (patches : List (ℕ × Patch)) (meant : List MeantPatch) (place : ℕ) → All (IsMeantOfPage page) meant → map given meant ≡ patches →
+    IsUnmeant page meant place → CannotBeMeant page patches place
 unfolding patch_at
-unmeant_at page patch places starts place o e u =
-    let one : CannotBeMeant page (patch_each patch places) u.start.token.start = record { at = patch_at page patch places starts u.start o e u.among; none = u.none } in
-    subst (λ n. CannotBeMeant page (patch_each patch places) n) u.begins one
+unmeant_at page patches meant place o e u =
+    let one : CannotBeMeant page patches u.meant.start.token.start = record { at = patch_at page patches meant u.meant o e u.among; none = u.none } in
+    subst (λ n. CannotBeMeant page patches n) u.begins one
 
-pub asks_refused : (page : List ℕ) (patch : Patch) (places : List ℕ) (starts : List Start) (e : EditError) → All (IsStartOfPage page) starts →
-    map (λ (s : Start). s.token.start) starts ≡ places → IsAsksError page patch starts e → IsRefused page places (patch_each patch places) e
-asks_refused page patch places starts error.OutOfMemory o m h = tt
-asks_refused page patch places starts (error.NotMeant p) o m h = unmeant_at page patch places starts p o m h
-asks_refused page patch places starts (error.Across p) o m h = absurd h
-asks_refused page patch places starts (error.NoStartTag p) o m h = absurd h
-asks_refused page patch places starts (error.EndOfPage p) o m h = absurd h
-asks_refused page patch places starts (error.NotWritten p) o m h = absurd h
-asks_refused page patch places starts (error.ReadOtherwise p) o m h = absurd h
+pub asks_refused : (page : List ℕ) (patches : List (ℕ × Patch)) (meant : List MeantPatch) (e : EditError) → All (IsMeantOfPage page) meant →
+    map given meant ≡ patches → IsAsksError page meant e → IsRefused page patches e
+asks_refused page patches meant error.OutOfMemory o m h = tt
+asks_refused page patches meant (error.NotMeant p) o m h = unmeant_at page patches meant p o m h
+asks_refused page patches meant (error.Across p) o m h = absurd h
+asks_refused page patches meant (error.NoStartTag p) o m h = absurd h
+asks_refused page patches meant (error.EndOfPage p) o m h = absurd h
+asks_refused page patches meant (error.NotWritten p) o m h = absurd h
+asks_refused page patches meant (error.ReadOtherwise p) o m h = absurd h
 
-pub plan_refused : (page : List ℕ) (patch : Patch) (place : ℕ) (s : Start) (e : EditError) → IsStartOfPage page s → s.token.start ≡ place →
-    IsPlanError s.token.start (asked_of (runs (pieces page)) s.number patch) e → IsRefused page (place ∷ []) (patch_each patch (place ∷ [])) e
-plan_refused page patch place s e o b h =
-    asks_refused page patch (place ∷ []) (s ∷ []) e (All-cons (IsStartOfPage page) s [] o (All-nil (IsStartOfPage page))) (ap (λ n. n ∷ []) b)
-    (unmeant page patch (s ∷ []) 0 s e (omega arith) h)
-
-pub asks_at : (page : List ℕ) (patch : Patch) (places : List ℕ) (starts : List Start) (asks : List PlacedAsk) → All (IsStartOfPage page) starts → map (λ (s : Start). s.token.start) starts ≡ places →
-    All (IsPlanned page patch starts) asks → All (λ (one : PlacedAsk). IsAskAt page (patch_each patch places) one.start.token.start (ask_view (content_of patch) one.ask)) asks
+ask_at : (page : List ℕ) (patches : List (ℕ × Patch)) (meant : List MeantPatch) (one : PlacedAsk) → All (IsMeantOfPage page) meant → map given meant ≡ patches → IsPlanned page meant one →
+    IsAskAt page patches one.start.token.start (ask_view one.ask)
 unfolding patch_at
-asks_at page patch places starts asks o e h = λ k d l.
-    let p : IsPlanned page patch starts (get_or asks k d) = h k d l in
-    record { at = patch_at page patch places starts (get_or asks k d).start o e p.among; asks = p.asks; asked = p.asked; among = p.is }
+ask_at page patches meant one o e p =
+    let at : IsAskAt page patches p.meant.start.token.start (ask_view one.ask) = record { at = patch_at page patches meant p.meant o e p.among; asks = p.asks; asked = p.asked; among = p.is } in
+    subst (λ (x : Start). IsAskAt page patches x.token.start (ask_view one.ask)) p.start at
 
-pub asks_at_one : (page : List ℕ) (patch : Patch) (place : ℕ) (s : Start) (p : Planned) → IsStartOfPage page s → s.token.start ≡ place →
-    asked_of (runs (pieces page)) s.number patch ≡ Some (planned_view (content_of patch) p) →
-    All (λ (one : PlacedAsk). IsAskAt page (patch_each patch (place ∷ [])) one.start.token.start (ask_view (content_of patch) one.ask)) (placed_view s p)
-asks_at_one page patch place s p o b a =
-    asks_at page patch (place ∷ []) (s ∷ []) (placed_view s p) (All-cons (IsStartOfPage page) s [] o (All-nil (IsStartOfPage page))) (ap (λ n. n ∷ []) b)
-    (both_planned page patch (s ∷ []) s p (0, omega arith, refl) a)
+abbrev AreAsksAt : List ℕ → List (ℕ × Patch) → List PlacedAsk → Type 0
+AreAsksAt page patches asks = All (λ (one : PlacedAsk). IsAskAt page patches one.start.token.start (ask_view one.ask)) asks
+
+asks_at : (page : List ℕ) (patches : List (ℕ × Patch)) (meant : List MeantPatch) (asks : List PlacedAsk) → All (IsMeantOfPage page) meant → map given meant ≡ patches →
+    All (IsPlanned page meant) asks → AreAsksAt page patches asks
+asks_at page patches meant asks o e h = λ k d l. ask_at page patches meant (get_or asks k d) o e (h k d l)
 
 -- asks that can't be written
 
-pub one_refused : (c : Content) (parts : List Part) (asks : List PlacedAsk) (one : PlacedAsk) (e : EditError) → Contains asks one → IsReadyError c parts one e → IsSpliceError c parts asks e
-one_refused c parts asks one error.OutOfMemory k h = tt
-one_refused c parts asks one (error.EndOfPage p) k h = (one, record { among = k; begins = h.0 }, h.1)
-one_refused c parts asks one (error.NotWritten p) k h = (one, record { among = k; begins = h.0 }, h.1)
-one_refused c parts asks one (error.ReadOtherwise p) k h = absurd h
-one_refused c parts asks one (error.NoStartTag p) k h = absurd h
-one_refused c parts asks one (error.NotMeant p) k h = absurd h
-one_refused c parts asks one (error.Across p) k h = absurd h
+pub one_refused : (parts : List Part) (asks : List PlacedAsk) (one : PlacedAsk) (e : EditError) → Contains asks one → IsReadyError parts one e → IsSpliceError parts asks e
+one_refused parts asks one error.OutOfMemory k h = tt
+one_refused parts asks one (error.EndOfPage p) k h = (one, record { among = k; begins = h.0 }, h.1)
+one_refused parts asks one (error.NotWritten p) k h = (one, record { among = k; begins = h.0 }, h.1)
+one_refused parts asks one (error.ReadOtherwise p) k h = absurd h
+one_refused parts asks one (error.NoStartTag p) k h = absurd h
+one_refused parts asks one (error.NotMeant p) k h = absurd h
+one_refused parts asks one (error.Across p) k h = absurd h
 
-pub read_refused : (page : List ℕ) (c : Content) (parts wanted : List Part) (asks : List PlacedAsk) (place : ℕ) (e : EditError) → IsWanted (asks_view c asks) parts wanted → IsReadError page wanted place e →
-    IsPageError page place c parts asks e
-read_refused page c parts wanted asks place error.OutOfMemory w h = tt
-read_refused page c parts wanted asks place (error.ReadOtherwise p) w h = (h.0, never_spliced (asks_view c asks) parts wanted page w h.1)
-read_refused page c parts wanted asks place (error.EndOfPage p) w h = absurd h
-read_refused page c parts wanted asks place (error.NotWritten p) w h = absurd h
-read_refused page c parts wanted asks place (error.NoStartTag p) w h = absurd h
-read_refused page c parts wanted asks place (error.NotMeant p) w h = absurd h
-read_refused page c parts wanted asks place (error.Across p) w h = absurd h
+pub read_refused : (page : List ℕ) (parts wanted : List Part) (asks : List PlacedAsk) (place : ℕ) (e : EditError) → IsWanted (asks_view asks) parts wanted → IsReadError page wanted place e →
+    IsPageError page place parts asks e
+read_refused page parts wanted asks place error.OutOfMemory w h = tt
+read_refused page parts wanted asks place (error.ReadOtherwise p) w h = (h.0, never_spliced (asks_view asks) parts wanted page w h.1)
+read_refused page parts wanted asks place (error.EndOfPage p) w h = absurd h
+read_refused page parts wanted asks place (error.NotWritten p) w h = absurd h
+read_refused page parts wanted asks place (error.NoStartTag p) w h = absurd h
+read_refused page parts wanted asks place (error.NotMeant p) w h = absurd h
+read_refused page parts wanted asks place (error.Across p) w h = absurd h
 
-pub page_refused : (page : List ℕ) (place : ℕ) (c : Content) (parts : List Part) (asks : List PlacedAsk) (e : EditError) → IsSpliceError c parts asks e → IsPageError page place c parts asks e
-page_refused page place c parts asks error.OutOfMemory h = h
-page_refused page place c parts asks (error.ReadOtherwise p) h = absurd h
-page_refused page place c parts asks (error.EndOfPage p) h = h
-page_refused page place c parts asks (error.NotWritten p) h = h
-page_refused page place c parts asks (error.NoStartTag p) h = h
-page_refused page place c parts asks (error.NotMeant p) h = h
-page_refused page place c parts asks (error.Across p) h = h
+pub page_refused : (page : List ℕ) (place : ℕ) (parts : List Part) (asks : List PlacedAsk) (e : EditError) → IsSpliceError parts asks e → IsPageError page place parts asks e
+page_refused page place parts asks error.OutOfMemory h = h
+page_refused page place parts asks (error.ReadOtherwise p) h = absurd h
+page_refused page place parts asks (error.EndOfPage p) h = h
+page_refused page place parts asks (error.NotWritten p) h = h
+page_refused page place parts asks (error.NoStartTag p) h = h
+page_refused page place parts asks (error.NotMeant p) h = h
+page_refused page place parts asks (error.Across p) h = h
 
 pub there : (parts : List Part) (n : ℕ) (here : Part) (P : Part → Type 0) → slice_get parts n ≡ Some here → P here → (place : Part) → slice_get parts n ≡ Some place → P place
 there parts n here P s h = λ place e.
@@ -238,16 +251,16 @@ there parts n here P s h = λ place e.
 pub none_of : {A : Type 0} (o : Option A) (P : Type 0) → o ≡ None → IfNone o P → P
 none_of o P e h = subst (λ x. IfNone x P) e h
 
-pub cannot_put : (c : Content) (parts : List Part) (ask : Ask) (place : Part) → slice_get (with_end_part parts) ask.from ≡ Some place →
-    (has_name ask.put ≡ false) ⊎ ((has_tag place ask.put ≡ false) ⊎ CannotPutIn c place.mode ask.put) → CannotPut c parts ask
-cannot_put c parts ask place s h = record { place = place; stands = s; cannot = h }
+pub cannot_put : (parts : List Part) (ask : Ask) (place : Part) → slice_get (with_end_part parts) ask.from ≡ Some place →
+    (has_name ask.put ≡ false) ⊎ ((has_tag place ask.put ≡ false) ⊎ CannotPutIn place.mode ask.put) → CannotPut parts ask
+cannot_put parts ask place s h = record { place = place; stands = s; cannot = h }
 
-pub ordered_more : (c : Content) (asks : List ReadyAsk) (at done len : ℕ) (one : ReadyAsk) (v : Bool) → drop at asks ≡ one ∷ drop (at + 1) asks →
+pub ordered_more : (asks : List ReadyAsk) (at done len : ℕ) (one : ReadyAsk) (v : Bool) → drop at asks ≡ one ∷ drop (at + 1) asks →
     (nat_le done one.placed.ask.from && nat_le one.placed.ask.from one.placed.ask.until && nat_le one.placed.ask.until len) ≡ v →
-    are_ordered done len (asks_view c (placed_of (drop at asks))) ≡ (v && are_ordered one.placed.ask.until len (asks_view c (placed_of (drop (at + 1) asks))))
-ordered_more c asks at done len one v e h =
-    ap (λ (rs : List ReadyAsk). are_ordered done len (asks_view c (placed_of rs))) e
-    ∙ ap (λ (w : Bool). w && are_ordered one.placed.ask.until len (asks_view c (placed_of (drop (at + 1) asks)))) h
+    are_ordered done len (asks_view (placed_of (drop at asks))) ≡ (v && are_ordered one.placed.ask.until len (asks_view (placed_of (drop (at + 1) asks))))
+ordered_more asks at done len one v e h =
+    ap (λ (rs : List ReadyAsk). are_ordered done len (asks_view (placed_of rs))) e
+    ∙ ap (λ (w : Bool). w && are_ordered one.placed.ask.until len (asks_view (placed_of (drop (at + 1) asks)))) h
 
 pub one_among : (asks : List ReadyAsk) (at : ℕ) (one : ReadyAsk) → at < length asks → one ≡ get_or asks at one → Contains (placed_of asks) one.placed
 one_among asks at one l e = contains_map (λ (r : ReadyAsk). r.placed) asks one (at, l, sym e)
@@ -309,26 +322,26 @@ no_tag place p i h t =
     let begins : begins_as place.kind place.bytes ≡ true = tag_begins place.kind place.bytes p.tokens i.kind said (subst (λ (b : List ℕ). AreTag p.tokens b) i.bytes t.1) in
     true≢false (sym (ap (λ (n : Mode). is_data n && begins_as place.kind place.bytes) m ∙ begins) ∙ h)
 
-put_there : (c : Content) (place : Part) (p : Piece) (q : CodePut) → IsPieceOf place p → (has_name q ≡ false) ⊎ ((has_tag place q ≡ false) ⊎ CannotPutIn c place.mode q) → PutThere p (puts_view c q)
-put_there c place p put.Nothing i (inl h) = absurd (true≢false h)
-put_there c place p put.Nothing i (inr (inl h)) = absurd (true≢false h)
-put_there c place p put.Nothing i (inr (inr h)) = absurd h
-put_there c place p put.Content i (inl h) = absurd (true≢false h)
-put_there c place p put.Content i (inr (inl h)) = absurd (true≢false h)
-put_there c place p put.Content i (inr (inr h)) = record { put = NewContent c; among = (0, omega arith, refl); cannot = cannot_stand c place.mode p.rest i.rest h }
-put_there c place p (put.EndTagAndContent raw) i (inl h) = record { put = NewEndTag (name_of raw.now); among = (0, omega arith, refl); cannot = h }
-put_there c place p (put.EndTagAndContent raw) i (inr (inl h)) = absurd (true≢false h)
-put_there c place p (put.EndTagAndContent raw) i (inr (inr h)) = record { put = NewContent c; among = (1, omega arith, refl); cannot = cannot_stand c place.mode p.rest i.rest h }
-put_there c place p (put.EndTag name) i (inl h) = record { put = NewEndTag name.now; among = (0, omega arith, refl); cannot = h }
-put_there c place p (put.EndTag name) i (inr (inl h)) = absurd (true≢false h)
-put_there c place p (put.EndTag name) i (inr (inr h)) = absurd h
-put_there c place p (put.Renamed name) i (inl h) = record { put = Changed (Rename name.now); among = (0, omega arith, refl); cannot = inl h }
-put_there c place p (put.Renamed name) i (inr (inl h)) = record { put = Changed (Rename name.now); among = (0, omega arith, refl); cannot = inr (no_tag place p i h) }
-put_there c place p (put.Renamed name) i (inr (inr h)) = absurd h
+put_there : (place : Part) (p : Piece) (q : CodePut) → IsPieceOf place p → (has_name q ≡ false) ⊎ ((has_tag place q ≡ false) ⊎ CannotPutIn place.mode q) → PutThere p (puts_view q)
+put_there place p put.Nothing i (inl h) = absurd (true≢false h)
+put_there place p put.Nothing i (inr (inl h)) = absurd (true≢false h)
+put_there place p put.Nothing i (inr (inr h)) = absurd h
+put_there place p (put.Content c) i (inl h) = absurd (true≢false h)
+put_there place p (put.Content c) i (inr (inl h)) = absurd (true≢false h)
+put_there place p (put.Content c) i (inr (inr h)) = record { put = NewContent (content_view c); among = (0, omega arith, refl); cannot = cannot_stand (content_view c) place.mode p.rest i.rest h }
+put_there place p (put.EndTagAndContent raw c) i (inl h) = record { put = NewEndTag (name_of raw.now); among = (0, omega arith, refl); cannot = h }
+put_there place p (put.EndTagAndContent raw c) i (inr (inl h)) = absurd (true≢false h)
+put_there place p (put.EndTagAndContent raw c) i (inr (inr h)) = record { put = NewContent (content_view c); among = (1, omega arith, refl); cannot = cannot_stand (content_view c) place.mode p.rest i.rest h }
+put_there place p (put.EndTag name) i (inl h) = record { put = NewEndTag name.now; among = (0, omega arith, refl); cannot = h }
+put_there place p (put.EndTag name) i (inr (inl h)) = absurd (true≢false h)
+put_there place p (put.EndTag name) i (inr (inr h)) = absurd h
+put_there place p (put.Renamed name) i (inl h) = record { put = Changed (Rename name.now); among = (0, omega arith, refl); cannot = inl h }
+put_there place p (put.Renamed name) i (inr (inl h)) = record { put = Changed (Rename name.now); among = (0, omega arith, refl); cannot = inr (no_tag place p i h) }
+put_there place p (put.Renamed name) i (inr (inr h)) = absurd h
 
-cannot_write : (page : List ℕ) (patches : List (ℕ × Patch)) (c : Content) (parts : List Part) (place : ℕ) (ask : Ask) → ArePieces parts (pieces_in page) →
-    IsAskAt page patches place (ask_view c ask) → CannotPut c parts ask → CannotBeWritten page patches place
-cannot_write page patches c parts place ask g a h =
+cannot_write : (page : List ℕ) (patches : List (ℕ × Patch)) (parts : List Part) (place : ℕ) (ask : Ask) → ArePieces parts (pieces_in page) →
+    IsAskAt page patches place (ask_view ask) → CannotPut parts ask → CannotBeWritten page patches place
+cannot_write page patches parts place ask g a h =
     let all : List Part = with_end_part parts in
     let l : ask.from < length all = slice_get_within all ask.from h.place h.stands in
     let s = piece_at all (with_end (pieces_in page)) ask.from h.place (end_pieces parts (pieces_in page) g) l in
@@ -336,24 +349,8 @@ cannot_write page patches c parts place ask g a h =
     let there : slice_get all ask.from ≡ Some h.place = h.stands in
     let same : get_or all ask.from h.place ≡ h.place = cc in
     let of : IsPieceOf h.place s.piece = subst (λ (x : Part). IsPieceOf x s.piece) same s.is in
-    let r = put_there c h.place s.piece ask.put of h.cannot in
-    record { ask = ask_view c ask; at = a; piece = s.piece; stands = s.stands; put = r.put; among = r.among; cannot = r.cannot }
-
-pub splice_refused : (page : List ℕ) (first : ℕ) (places : List ℕ) (patches : List (ℕ × Patch)) (c : Content) (parts : List Part) (asks : List PlacedAsk) (e : EditError) → ArePieces parts (pieces_in page) →
-    All (λ (one : PlacedAsk). IsAskAt page patches one.start.token.start (ask_view c one.ask)) asks → IsPageError page first c parts asks e → IsRefused page places patches e
-splice_refused page first places patches c parts asks error.OutOfMemory g a h = tt
-splice_refused page first places patches c parts asks (error.ReadOtherwise p) g a h = tt
-splice_refused page first places patches c parts asks (error.Across p) g a h = tt
-splice_refused page first places patches c parts asks (error.EndOfPage p) g a h =
-    let one : PlacedAsk = h.0 in
-    let at : IsAskAt page patches one.start.token.start (ask_view c one.ask) = All-contains (λ (x : PlacedAsk). IsAskAt page patches x.start.token.start (ask_view c x.ask)) asks one a (h.1).among in
-    record { ask = ask_view c one.ask; at = subst (λ n. IsAskAt page patches n (ask_view c one.ask)) (h.1).begins at; past = subst (λ n. n < one.ask.from) (sym (length_pieces parts (pieces_in page) g)) h.2 }
-splice_refused page first places patches c parts asks (error.NotWritten p) g a h =
-    let one : PlacedAsk = h.0 in
-    let at : IsAskAt page patches one.start.token.start (ask_view c one.ask) = All-contains (λ (x : PlacedAsk). IsAskAt page patches x.start.token.start (ask_view c x.ask)) asks one a (h.1).among in
-    cannot_write page patches c parts p one.ask g (subst (λ n. IsAskAt page patches n (ask_view c one.ask)) (h.1).begins at) h.2
-splice_refused page first places patches c parts asks (error.NoStartTag p) g a h = absurd h
-splice_refused page first places patches c parts asks (error.NotMeant p) g a h = absurd h
+    let r = put_there h.place s.piece ask.put of h.cannot in
+    record { ask = ask_view ask; at = a; piece = s.piece; stands = s.stands; put = r.put; among = r.among; cannot = r.cannot }
 
 -- one error of a call
 
@@ -363,17 +360,17 @@ err_is P r e q h = subst (λ x. IfErr x P) (sym q) h
 pub of_error : {T E : Type 0} (r : Result T E) (P : E → Type 0) (e : E) → IfErr r P → r ≡ Err e → P e
 of_error r P e h q = subst (λ x. IfErr x P) q h
 
-pub no_places : (places : List ℕ) → length places ≡ 0 → places ≡ []
-no_places [] e = refl
-no_places (place ∷ places) e = absurd (omega arith)
+pub no_patches : (patches : List PlacedPatch) → length patches ≡ 0 → patches ≡ []
+no_patches [] e = refl
+no_patches (p ∷ patches) e = absurd (omega arith)
 
-pub some_places : (places : List ℕ) → (length places == 0) ≡ false → 0 < length places
-some_places [] e = absurd (true≢false e)
-some_places (place ∷ places) e = omega arith
+pub some_patches : (patches : List PlacedPatch) → (length patches == 0) ≡ false → 0 < length patches
+some_patches [] e = absurd (true≢false e)
+some_patches (p ∷ patches) e = omega arith
 
-pub none_edited : (patch : Patch) (page : List ℕ) → AreEdited patch [] page page
-none_edited patch page = record {
-  numbers = [];
+pub none_edited : (page : List ℕ) → AreEdited [] page page
+none_edited page = record {
+  numbered = [];
   begin = tt;
   splices = [];
   asked = record {
@@ -382,7 +379,7 @@ none_edited patch page = record {
     asks = [];
     same = IsPermutation-refl [];
     ordered = refl;
-    inner_first = refl;
+    in_turn = refl;
     are_asked = tt;
   };
   mark = refl;
@@ -392,109 +389,67 @@ none_edited patch page = record {
 
 -- asks that stand across
 
-pub starts_across : (page places : List ℕ) (patch : Patch) (tokens : List Token) (e : EditError) → IsStartsError tokens places e → IsAcrossError page places patch e
-starts_across page places patch tokens error.OutOfMemory h = tt
-starts_across page places patch tokens (error.NoStartTag p) h = tt
-starts_across page places patch tokens (error.NotMeant p) h = tt
-starts_across page places patch tokens (error.EndOfPage p) h = tt
-starts_across page places patch tokens (error.NotWritten p) h = tt
-starts_across page places patch tokens (error.ReadOtherwise p) h = tt
-starts_across page places patch tokens (error.Across p) h = absurd h
+some_across : (len : ℕ) (asks : List PlacedAsk) → AreInTurn asks → are_ordered 0 len (asks_view asks) ≡ false → AreAcross len (asks_view asks)
+some_across len [] t h = absurd (true≢false h)
+some_across len (a ∷ asks) t h = are_across len 0 a asks (omega arith) t h
 
-pub asks_across : (page places : List ℕ) (patch : Patch) (starts : List Start) (e : EditError) → IsAsksError page patch starts e → IsAcrossError page places patch e
-asks_across page places patch starts error.OutOfMemory h = tt
-asks_across page places patch starts (error.NoStartTag p) h = tt
-asks_across page places patch starts (error.NotMeant p) h = tt
-asks_across page places patch starts (error.EndOfPage p) h = tt
-asks_across page places patch starts (error.NotWritten p) h = tt
-asks_across page places patch starts (error.ReadOtherwise p) h = tt
-asks_across page places patch starts (error.Across p) h = absurd h
+-- what is known of patches whose asks are refused
+pub record AreAskedOf (page : List ℕ) (patches : List (ℕ × Patch)) (parts : List Part) (meant : List MeantPatch) (asks : List PlacedAsk) : Type 0 where
+  pub are_pieces : ArePieces parts (pieces_in page)
+  pub of_page : All (IsMeantOfPage page) meant
+  pub are_given : map given meant ≡ patches
+  pub begin : BeginAt 0 (placed_pieces page) patches (meant_view meant)
+  pub planned : All (IsPlanned page meant) asks
+  pub sorted : AreSorted (pieces_in page) (meant_view meant) asks
 
-some_across : (c : Content) (len : ℕ) (asks : List PlacedAsk) → AreInTurn asks → are_ordered 0 len (asks_view c asks) ≡ false → AreAcross len (asks_view c asks)
-some_across c len [] t h = absurd (true≢false h)
-some_across c len (a ∷ asks) t h = are_across c len 0 a asks (omega arith) t h
+-- an ask at a place
+one_at : (page : List ℕ) (patches : List (ℕ × Patch)) (parts : List Part) (meant : List MeantPatch) (asks : List PlacedAsk) (p : ℕ) (one : PlacedAsk) → AreAskedOf page patches parts meant asks →
+    IsOneAt asks p one → IsAskAt page patches p (ask_view one.ask)
+one_at page patches parts meant asks p one a o =
+    let all : AreAsksAt page patches asks = asks_at page patches meant asks a.of_page a.are_given a.planned in
+    let at : IsAskAt page patches one.start.token.start (ask_view one.ask) = All-contains (λ (x : PlacedAsk). IsAskAt page patches x.start.token.start (ask_view x.ask)) asks one all o.among in
+    subst (λ n. IsAskAt page patches n (ask_view one.ask)) o.begins at
 
-pub splice_across : (page : List ℕ) (first : ℕ) (places : List ℕ) (patch : Patch) (tokens : List Token) (starts : List Start) (c : Content) (parts : List Part) (asks : List PlacedAsk) (e : EditError) → AreTokensOf page tokens →
-    AreStartsAt 0 tokens places starts → ArePieces parts (pieces_in page) → All (IsPlanned page patch starts) asks → AreSorted (pieces_in page) patch (numbers_of starts) c asks →
-    IsPageError page first c parts asks e → IsAcrossError page places patch e
-splice_across page first places patch tokens starts c parts asks error.OutOfMemory t s g a o h = tt
-splice_across page first places patch tokens starts c parts asks (error.NoStartTag p) t s g a o h = tt
-splice_across page first places patch tokens starts c parts asks (error.NotMeant p) t s g a o h = tt
-splice_across page first places patch tokens starts c parts asks (error.EndOfPage p) t s g a o h = tt
-splice_across page first places patch tokens starts c parts asks (error.NotWritten p) t s g a o h = tt
-splice_across page first places patch tokens starts c parts asks (error.ReadOtherwise p) t s g a o h = tt
-splice_across page first places patch tokens starts c parts asks (error.Across p) t s g a o h =
+place_among : (page : List ℕ) (patches : List (ℕ × Patch)) (p : ℕ) → IsPatchAt page patches p → Contains (places_of patches) p
+place_among page patches p a = contains_map (λ (x : ℕ × Patch). x.0) patches (p, a.patch) a.among
+
+pub splice_refused : (page : List ℕ) (first : ℕ) (more : List ℕ) (patches : List (ℕ × Patch)) (parts : List Part) (meant : List MeantPatch) (asks : List PlacedAsk) (e : EditError) →
+    places_of patches ≡ first ∷ more → AreAskedOf page patches parts meant asks → IsPageError page first parts asks e → IsRefused page patches e
+splice_refused page first more patches parts meant asks error.OutOfMemory f a h = tt
+splice_refused page first more patches parts meant asks (error.EndOfPage p) f a h =
     let one : PlacedAsk = h.0 in
-    let planned : IsPlanned page patch starts one = All-contains (IsPlanned page patch starts) asks one a (h.1).among in
-    let place : Contains places one.start.token.start =
-    subst (λ (ns : List ℕ). Contains ns one.start.token.start) (places_are tokens places 0 starts s) (contains_map (λ (x : Start). x.token.start) starts one.start planned.among) in
-    let len : length (pieces_in page) ≡ length parts = length_pieces parts (pieces_in page) g in
-    let order : are_ordered 0 (length (pieces_in page)) (asks_view c asks) ≡ false = ap (λ n. are_ordered 0 n (asks_view c asks)) len ∙ h.2 in
+    record { ask = ask_view one.ask; at = one_at page patches parts meant asks p one a h.1; past = subst (λ n. n < one.ask.from) (sym (length_pieces parts (pieces_in page) a.are_pieces)) h.2 }
+splice_refused page first more patches parts meant asks (error.NotWritten p) f a h =
+    cannot_write page patches parts p (h.0).ask a.are_pieces (one_at page patches parts meant asks p h.0 a h.1) h.2
+splice_refused page first more patches parts meant asks (error.Across p) f a h =
+    let at : IsAskAt page patches p (ask_view (h.0).ask) = one_at page patches parts meant asks p h.0 a h.1 in
+    let len : length (pieces_in page) ≡ length parts = length_pieces parts (pieces_in page) a.are_pieces in
+    let order : are_ordered 0 (length (pieces_in page)) (asks_view asks) ≡ false = ap (λ n. are_ordered 0 n (asks_view asks)) len ∙ h.2 in
     record {
-      among = subst (λ n. Contains places n) (h.1).begins place;
-      numbers = numbers_of starts;
-      begin = starts_begin page tokens places 0 starts t s;
-      each = o.each;
-      asked = o.asked;
-      asks = asked_view c asks;
-      same = o.same;
-      across = subst (λ (xs : List (Splice Put)). AreAcross (length (pieces_in page)) xs) (sym (asks_are c asks)) (some_across c (length (pieces_in page)) asks o.in_turn order);
+      among = place_among page patches p at.at;
+      numbered = meant_view meant;
+      begin = a.begin;
+      each = a.sorted.each;
+      asked = a.sorted.asked;
+      asks = asked_view asks;
+      same = a.sorted.same;
+      across = subst (λ (xs : List (Splice Put)). AreAcross (length (pieces_in page)) xs) (sym (asks_are asks)) (some_across (length (pieces_in page)) asks a.sorted.in_turn order);
     }
-
--- a page that is read otherwise
-
-pub first_place : (places : List ℕ) (d : ℕ) → 0 < length places → places ≡ get_or places 0 d ∷ drop 1 places
-first_place [] d l = absurd (omega arith)
-first_place (place ∷ places) d l = refl
-
-pub splice_reading : (page : List ℕ) (first : ℕ) (places more : List ℕ) (patch : Patch) (tokens : List Token) (starts : List Start) (parts : List Part) (asks : List PlacedAsk) (e : EditError) →
-    places ≡ first ∷ more → AreTokensOf page tokens → AreStartsAt 0 tokens places starts → ArePieces parts (pieces_in page) →
-    AreSorted (pieces_in page) patch (numbers_of starts) (content_of patch) asks → IsPageError page first (content_of patch) parts asks e → IsReadingError page places patch e
-splice_reading page first places more patch tokens starts parts asks (error.ReadOtherwise p) f t s g o h =
-    let r = h.1 (pieces_in page) g in
+splice_refused page first more patches parts meant asks (error.ReadOtherwise p) f a h =
+    let r = h.1 (pieces_in page) a.are_pieces in
     record {
       more = more;
       first = f ∙ ap (λ n. n ∷ more) (sym h.0);
-      numbers = numbers_of starts;
-      begin = starts_begin page tokens places 0 starts t s;
+      numbered = meant_view meant;
+      begin = a.begin;
       splices = r.splices;
-      asked = asked_together patch (pieces_in page) starts (content_of patch) asks r.splices o r.ordered r.asked;
+      asked = asked_together (pieces_in page) (meant_view meant) asks r.splices a.sorted r.ordered r.asked;
       whole = r.whole;
       never = r.never;
     }
-splice_reading page first places more patch tokens starts parts asks error.OutOfMemory f t s g o h = tt
-splice_reading page first places more patch tokens starts parts asks (error.NoStartTag p) f t s g o h = tt
-splice_reading page first places more patch tokens starts parts asks (error.NotMeant p) f t s g o h = tt
-splice_reading page first places more patch tokens starts parts asks (error.EndOfPage p) f t s g o h = tt
-splice_reading page first places more patch tokens starts parts asks (error.NotWritten p) f t s g o h = tt
-splice_reading page first places more patch tokens starts parts asks (error.Across p) f t s g o h = tt
+splice_refused page first more patches parts meant asks (error.NoStartTag p) f a h = absurd h
+splice_refused page first more patches parts meant asks (error.NotMeant p) f a h = absurd h
 
-pub starts_reading : (page places : List ℕ) (patch : Patch) (tokens : List Token) (e : EditError) → IsStartsError tokens places e → IsReadingError page places patch e
-starts_reading page places patch tokens error.OutOfMemory h = tt
-starts_reading page places patch tokens (error.NoStartTag p) h = tt
-starts_reading page places patch tokens (error.NotMeant p) h = tt
-starts_reading page places patch tokens (error.EndOfPage p) h = tt
-starts_reading page places patch tokens (error.NotWritten p) h = tt
-starts_reading page places patch tokens (error.Across p) h = tt
-starts_reading page places patch tokens (error.ReadOtherwise p) h = absurd h
-
-pub start_reading : (page : List ℕ) (place : ℕ) (patch : Patch) (tokens : List Token) (e : EditError) → IsStartError 0 tokens place e → IsReadingError page (place ∷ []) patch e
-start_reading page place patch tokens e h = starts_reading page (place ∷ []) patch tokens e (missing tokens (place ∷ []) 0 0 0 e (omega arith) (inl refl) h)
-
-pub asks_reading : (page places : List ℕ) (patch : Patch) (starts : List Start) (e : EditError) → IsAsksError page patch starts e → IsReadingError page places patch e
-asks_reading page places patch starts error.OutOfMemory h = tt
-asks_reading page places patch starts (error.NoStartTag p) h = tt
-asks_reading page places patch starts (error.NotMeant p) h = tt
-asks_reading page places patch starts (error.EndOfPage p) h = tt
-asks_reading page places patch starts (error.NotWritten p) h = tt
-asks_reading page places patch starts (error.Across p) h = tt
-asks_reading page places patch starts (error.ReadOtherwise p) h = absurd h
-
-pub plan_reading : (page : List ℕ) (place : ℕ) (patch : Patch) (s : Start) (e : EditError) → IsPlanError s.token.start (asked_of (runs (pieces page)) s.number patch) e → IsReadingError page (place ∷ []) patch e
-plan_reading page place patch s error.OutOfMemory h = tt
-plan_reading page place patch s (error.NoStartTag p) h = tt
-plan_reading page place patch s (error.NotMeant p) h = tt
-plan_reading page place patch s (error.EndOfPage p) h = tt
-plan_reading page place patch s (error.NotWritten p) h = tt
-plan_reading page place patch s (error.Across p) h = tt
-plan_reading page place patch s (error.ReadOtherwise p) h = absurd h
+pub first_place : (patches : List PlacedPatch) (d : PlacedPatch) → 0 < length patches → places_of (patches_view patches) ≡ (get_or patches 0 d).place ∷ places_of (patches_view (drop 1 patches))
+first_place [] d l = absurd (omega arith)
+first_place (p ∷ patches) d l = refl

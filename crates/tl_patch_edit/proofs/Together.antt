@@ -1,9 +1,9 @@
--- A page with several elements changed.
-use Rattle.std.proofs.Common.{◌≡◌, ◌≢◌, ◌≤◌, ◌<◌, ℕ, ◌+◌, ◌-◌, ◌==◌, Bool, true, false, List, [], ◌∷◌, ◌++◌, length, drop, get_or, set, map, Option, Some, None, refl, ap, ap₂, sym, subst, ◌∙◌, append_assoc, append-nil, arith, if◌then◌else◌, inl, inr}
+-- A page with elements changed.
+use Rattle.std.proofs.Common.{◌≡◌, ◌≢◌, ◌≤◌, ◌<◌, ℕ, ◌+◌, ◌-◌, ◌==◌, Bool, true, false, List, [], ◌∷◌, ◌++◌, length, suc, drop, get_or, set, map, Option, Some, None, refl, ap, ap₂, sym, subst, ◌∙◌, append_assoc, append-nil, arith, if◌then◌else◌, inl, inr, true≢false}
 use Rattle.std.specs.List.{All}
 use Rattle.std.specs.List.Sorted.{IsPermutation}
 use Rattle.std.specs.Option.{option_to_list}
-use Rattle.std.proofs.lemmas.Bool.{cases_Bool, eqb-false, eqb-true, le-ltb, lt-ltb, ltb-false, ltb-true, ne_eqb}
+use Rattle.std.proofs.lemmas.Bool.{cases_Bool, eqb-false, eqb-true, ltb-false, ltb-true, ne_eqb}
 use lib.Dec.{ltb}
 use Rattle.std.proofs.lemmas.List.{drop_more, get_or-set_other, get_or-set_same, length-set, map-append}
 use Rattle.std.proofs.lemmas.List.Elements.{All-cons, All-get_or}
@@ -12,58 +12,74 @@ use Rattle.tl_html_spec.specs.Pieces.{Piece, pieces, placed, runs}
 use Rattle.tl_html_tokens.specs.Tokens.{AreTokensOf, mark_len}
 use Rattle.tl_html_tokens.specs.declared.token.Token.{Token}
 use Rattle.tl_patch_spec.specs.Elements.{Element}
-use Rattle.tl_patch_spec.specs.Patches.{AreAskedOne, Content, Dropped, Patch, Put, asked_of, extent_in, extent_of}
+use Rattle.tl_patch_spec.specs.Patches.{AreAskedOne, Dropped, Patch, Put, asked_of, extent_in, extent_of}
 use Rattle.tl_patch_spec.specs.Splices.{Splice, are_ordered}
-use Rattle.tl_patch_spec.specs.Together.{AreAskedTogether, Asked, ask_of, asked_at, asked_each, next_after, with_asks}
+use Rattle.tl_patch_spec.specs.Together.{AreAskedTogether, Asked, Gone, Turn, ask_of, asked_at, asked_each, at_each, gone_after, is_gone, none_gone, turn_of, with_asks}
 use Rattle.tl_patch_edit.specs.Asks.{ask_view, asks_view, placed_at, placed_view, planned_view}
 use Rattle.tl_patch_edit.specs.Found.{IsSplicedPage, IsSplicedPageOf, IsStartAt}
 use Rattle.tl_patch_edit.specs.Parts.{ArePieces, Part}
-use Rattle.tl_patch_edit.specs.Several.{AreDropped, AreEdited, AreExtents, AreInTurn, AreSorted, AreStartsAt, BeginAt, IsStartOfPage, asked_one, asked_view, numbers_of}
-use Rattle.tl_patch_edit.specs.View.{extent_view}
+use Rattle.tl_patch_edit.specs.Several.{AreDropped, AreEdited, AreExtents, AreInTurn, AreMeantAt, AreSorted, BeginAt, IsMeantOfPage, asked_one, asked_view, stands_twice}
+use Rattle.tl_patch_edit.specs.View.{extent_view, meant_view, patch_view, patches_view, turn_view}
 use Rattle.tl_patch_elements.specs.View.{element_view, elements_view}
 use Rattle.tl_patch_elements.specs.declared.found.Element.{Element as CodeElement}
 use Rattle.tl_patch_edit.specs.declared.ask.Ask.{Ask}
 use Rattle.tl_patch_edit.specs.declared.ask.Extent.{Extent as CodeExtent}
+use Rattle.tl_patch_edit.specs.declared.ask.ElementPatch.{ElementPatch}
+use Rattle.tl_patch_edit.specs.declared.ask.MeantPatch.{MeantPatch}
 use Rattle.tl_patch_edit.specs.declared.ask.PlacedAsk.{PlacedAsk}
+use Rattle.tl_patch_edit.specs.declared.ask.PlacedPatch.{PlacedPatch}
+use Rattle.tl_patch_edit.specs.declared.ask.Turn.{Turn as CodeTurn}
 use Rattle.tl_patch_edit.specs.declared.ask.Planned.{Planned}
 use Rattle.tl_patch_edit.specs.declared.ask.Start.{Start}
 use Rattle.tl_patch_edit.proofs.Edited.{start_of}
-use Rattle.tl_patch_edit.proofs.Turns.{inner_comes_first}
+use Rattle.tl_patch_edit.proofs.Turns.{are_put_in_turn}
 
 -- start tags at places
 
-pub start_more : (tokens : List Token) (places : List ℕ) (at from : ℕ) (d : ℕ) (start : Start) (old now : List Start) → at < length places →
-    from ≤ start.number → IsStartAt tokens (get_or places at d) start.number start.token → now ≡ old ++ start ∷ [] →
-    ((rest : List Start) → AreStartsAt from tokens (drop at places) rest → AreStartsAt 0 tokens places (old ++ rest)) →
-    (rest : List Start) → AreStartsAt start.number tokens (drop (at + 1) places) rest → AreStartsAt 0 tokens places (now ++ rest)
-start_more tokens places at from d start old now l o s e h rest r =
-    subst (λ (xs : List Start). AreStartsAt 0 tokens places xs) (sym (ap (λ (xs : List Start). xs ++ rest) e ∙ append_assoc old (start ∷ []) rest))
-    (h (start ∷ rest) (subst (λ (qs : List ℕ). AreStartsAt from tokens qs (start ∷ rest)) (sym (drop_more places at d l)) (o, s, r)))
+pub meant_more : (tokens : List Token) (patches : List PlacedPatch) (at from : ℕ) (d : PlacedPatch) (m : MeantPatch) (old now : List MeantPatch) → at < length patches →
+    from ≤ m.start.number → IsStartAt tokens (get_or patches at d).place m.start.number m.start.token → m.patch ≡ (get_or patches at d).patch → now ≡ old ++ m ∷ [] →
+    ((rest : List MeantPatch) → AreMeantAt from tokens (drop at patches) rest → AreMeantAt 0 tokens patches (old ++ rest)) →
+    (rest : List MeantPatch) → AreMeantAt m.start.number tokens (drop (at + 1) patches) rest → AreMeantAt 0 tokens patches (now ++ rest)
+meant_more tokens patches at from d m old now l o s q e h rest r =
+    subst (λ (xs : List MeantPatch). AreMeantAt 0 tokens patches xs) (sym (ap (λ (xs : List MeantPatch). xs ++ rest) e ∙ append_assoc old (m ∷ []) rest))
+    (h (m ∷ rest) (subst (λ (qs : List PlacedPatch). AreMeantAt from tokens qs (m ∷ rest)) (sym (drop_more patches at d l)) (o, s, q, r)))
 
-pub starts_end : (tokens : List Token) (places : List ℕ) (at from : ℕ) (old : List Start) → drop at places ≡ [] →
-    ((rest : List Start) → AreStartsAt from tokens (drop at places) rest → AreStartsAt 0 tokens places (old ++ rest)) → AreStartsAt 0 tokens places old
-starts_end tokens places at from old e h =
-    subst (λ (xs : List Start). AreStartsAt 0 tokens places xs) (append-nil old) (h [] (subst (λ (qs : List ℕ). AreStartsAt from tokens qs []) (sym e) tt))
+pub meant_end : (tokens : List Token) (patches : List PlacedPatch) (at from : ℕ) (old : List MeantPatch) → drop at patches ≡ [] →
+    ((rest : List MeantPatch) → AreMeantAt from tokens (drop at patches) rest → AreMeantAt 0 tokens patches (old ++ rest)) → AreMeantAt 0 tokens patches old
+meant_end tokens patches at from old e h =
+    subst (λ (xs : List MeantPatch). AreMeantAt 0 tokens patches xs) (append-nil old) (h [] (subst (λ (qs : List PlacedPatch). AreMeantAt from tokens qs []) (sym e) tt))
 
-pub starts_are : (page : List ℕ) (tokens : List Token) (places : List ℕ) (from : ℕ) (starts : List Start) → AreTokensOf page tokens → AreStartsAt from tokens places starts →
-    All (IsStartOfPage page) starts
-starts_are page tokens [] from [] t h = λ k d l. absurd (omega arith)
-starts_are page tokens [] from (s ∷ starts) t h = absurd h
-starts_are page tokens (place ∷ places) from [] t h = absurd h
-starts_are page tokens (place ∷ places) from (s ∷ starts) t h =
-    All-cons (IsStartOfPage page) s starts (start_of page tokens place s.number s.token t h.1) (starts_are page tokens places s.number starts t h.2)
+pub meant_are : (page : List ℕ) (tokens : List Token) (patches : List PlacedPatch) (from : ℕ) (meant : List MeantPatch) → AreTokensOf page tokens → AreMeantAt from tokens patches meant →
+    All (IsMeantOfPage page) meant
+meant_are page tokens [] from [] t h = λ k d l. absurd (omega arith)
+meant_are page tokens [] from (m ∷ meant) t h = absurd h
+meant_are page tokens (p ∷ patches) from [] t h = absurd h
+meant_are page tokens (p ∷ patches) from (m ∷ meant) t h =
+    All-cons (IsMeantOfPage page) m meant (start_of page tokens p.place m.start.number m.start.token t h.1) (meant_are page tokens patches m.start.number meant t h.3)
 
-pub starts_begin : (page : List ℕ) (tokens : List Token) (places : List ℕ) (from : ℕ) (starts : List Start) → AreTokensOf page tokens → AreStartsAt from tokens places starts →
-    BeginAt from (placed (mark_len page) (runs (pieces page))) places (numbers_of starts)
-starts_begin page tokens [] from [] t h = tt
-starts_begin page tokens [] from (s ∷ starts) t h = absurd h
-starts_begin page tokens (place ∷ places) from [] t h = absurd h
-starts_begin page tokens (place ∷ places) from (s ∷ starts) t h =
-    let o = start_of page tokens place s.number s.token t h.1 in (
+pub meant_begin : (page : List ℕ) (tokens : List Token) (patches : List PlacedPatch) (from : ℕ) (meant : List MeantPatch) → AreTokensOf page tokens → AreMeantAt from tokens patches meant →
+    BeginAt from (placed (mark_len page) (runs (pieces page))) (patches_view patches) (meant_view meant)
+meant_begin page tokens [] from [] t h = tt
+meant_begin page tokens [] from (m ∷ meant) t h = absurd h
+meant_begin page tokens (p ∷ patches) from [] t h = absurd h
+meant_begin page tokens (p ∷ patches) from (m ∷ meant) t h =
+    let o = start_of page tokens p.place m.start.number m.start.token t h.1 in (
       h.0,
       (o.piece, o.begins ∙ ap (λ n. Some (n, o.piece)) (h.1).start),
-      starts_begin page tokens places s.number starts t h.2,
+      ap patch_view h.2,
+      meant_begin page tokens patches m.start.number meant t h.3,
     )
+
+-- each patch is one of those that are given
+abbrev pub given : MeantPatch → ℕ × Patch
+given m = (m.start.token.start, patch_view m.patch)
+
+pub meant_given : (tokens : List Token) (patches : List PlacedPatch) (from : ℕ) (meant : List MeantPatch) → AreMeantAt from tokens patches meant → map given meant ≡ patches_view patches
+meant_given tokens [] from [] h = refl
+meant_given tokens [] from (m ∷ meant) h = absurd h
+meant_given tokens (p ∷ patches) from [] h = absurd h
+meant_given tokens (p ∷ patches) from (m ∷ meant) h =
+    ap₂ (λ (x : ℕ × Patch) (xs : List (ℕ × Patch)). x ∷ xs) (ap₂ (λ (n : ℕ) (q : ElementPatch). (n, patch_view q)) (h.1).start h.2) (meant_given tokens patches m.start.number meant h.3)
 
 -- how far elements go
 
@@ -123,118 +139,169 @@ abbrev pub before : List Asked → Option (List Asked) → Option (List Asked)
 before xs None = None
 before xs (Some more) = Some (xs ++ more)
 
-before_asks : (xs : List Asked) (n : ℕ) (asks : List (Splice Put)) (o : Option (List Asked)) → before xs (with_asks n asks o) ≡ before (xs ++ map (asked_at n) asks) o
-before_asks xs n asks None = refl
-before_asks xs n asks (Some more) = ap (λ (ys : List Asked). Some ys) (sym (append_assoc xs (map (asked_at n) asks) more))
+before_asks : (xs : List Asked) (t : Turn) (asks : List (Splice Put)) (o : Option (List Asked)) → before xs (with_asks t asks o) ≡ before (xs ++ map (asked_at t) asks) o
+before_asks xs t asks None = refl
+before_asks xs t asks (Some more) = ap (λ (ys : List Asked). Some ys) (sym (append_assoc xs (map (asked_at t) asks) more))
 
 pub before_none : (o : Option (List Asked)) → before [] o ≡ o
 before_none None = refl
 before_none (Some more) = refl
 
-second_view : (c : Content) (s : Start) (o : Option Ask) → asked_view c (map (placed_at s) (option_to_list o)) ≡ map (asked_at s.number) (map (ask_view c) (option_to_list o))
-second_view c s None = refl
-second_view c s (Some a) = refl
+second_view : (s : Start) (t : CodeTurn) (o : Option Ask) → asked_view (map (placed_at s t) (option_to_list o)) ≡ map (asked_at (turn_view t)) (map ask_view (option_to_list o))
+second_view s t None = refl
+second_view s t (Some a) = refl
 
-pub placed_asked : (c : Content) (s : Start) (p : Planned) → asked_view c (placed_view s p) ≡ map (asked_at s.number) (planned_view c p)
-placed_asked c s p = ap (λ (xs : List Asked). asked_one c (placed_at s p.first) ∷ xs) (second_view c s p.second)
+placed_asked : (s : Start) (t : CodeTurn) (p : Planned) → asked_view (placed_view s t p) ≡ map (asked_at (turn_view t)) (planned_view p)
+placed_asked s t p = ap (λ (xs : List Asked). asked_one (placed_at s t p.first) ∷ xs) (second_view s t p.second)
 
-pub counts : (ps : List Piece) (patch : Patch) (next n : ℕ) (ns : List ℕ) (asks : List (Splice Put)) → next ≤ n → asked_of ps n patch ≡ Some asks →
-    asked_each ps patch next (n ∷ ns) ≡ with_asks n asks (asked_each ps patch (next_after patch n asks) ns)
-counts ps patch next n ns asks l a =
-    ap (λ (v : Bool). if v then asked_each ps patch next ns else elim (asked_of ps n patch) as (λ _. Option (List Asked)) [
+counts : (ps : List Piece) (at : ℕ) (gone : Gone) (q : ℕ × Patch) (qs : List (ℕ × Patch)) (asks : List (Splice Put)) → is_gone gone q.0 ≡ false → asked_of ps q.0 q.1 ≡ Some asks →
+    asked_each ps at gone (q ∷ qs) ≡ with_asks (turn_of q.1 q.0 at) asks (asked_each ps (suc at) (gone_after q.1 q.0 asks gone) qs)
+counts ps at gone q qs asks l a =
+    ap (λ (v : Bool). if v then asked_each ps (suc at) gone qs else elim (asked_of ps q.0 q.1) as (λ _. Option (List Asked)) [
       | None ↦ None
-      | Some as2 ↦ with_asks n as2 (asked_each ps patch (next_after patch n as2) ns)
-    ]) (le-ltb n next l)
+      | Some as2 ↦ with_asks (turn_of q.1 q.0 at) as2 (asked_each ps (suc at) (gone_after q.1 q.0 as2 gone) qs)
+    ]) l
     ∙ ap (λ (o : Option (List (Splice Put))). elim o as (λ _. Option (List Asked)) [
       | None ↦ None
-      | Some as2 ↦ with_asks n as2 (asked_each ps patch (next_after patch n as2) ns)
+      | Some as2 ↦ with_asks (turn_of q.1 q.0 at) as2 (asked_each ps (suc at) (gone_after q.1 q.0 as2 gone) qs)
     ]) a
 
-skipped : (ps : List Piece) (patch : Patch) (next n : ℕ) (ns : List ℕ) → n < next → asked_each ps patch next (n ∷ ns) ≡ asked_each ps patch next ns
-skipped ps patch next n ns l =
-    ap (λ (v : Bool). if v then asked_each ps patch next ns else elim (asked_of ps n patch) as (λ _. Option (List Asked)) [
+skipped : (ps : List Piece) (at : ℕ) (gone : Gone) (q : ℕ × Patch) (qs : List (ℕ × Patch)) → is_gone gone q.0 ≡ true → asked_each ps at gone (q ∷ qs) ≡ asked_each ps (suc at) gone qs
+skipped ps at gone q qs l =
+    ap (λ (v : Bool). if v then asked_each ps (suc at) gone qs else elim (asked_of ps q.0 q.1) as (λ _. Option (List Asked)) [
       | None ↦ None
-      | Some as2 ↦ with_asks n as2 (asked_each ps patch (next_after patch n as2) ns)
-    ]) (lt-ltb n next l)
+      | Some as2 ↦ with_asks (turn_of q.1 q.0 at) as2 (asked_each ps (suc at) (gone_after q.1 q.0 as2 gone) qs)
+    ]) l
 
--- those of the start tags from a number on
-abbrev pub AskedFrom : List Piece → Patch → ℕ → List Start → Option (List Asked)
-AskedFrom ps patch next starts = asked_each ps patch next (numbers_of starts)
+-- those of the patches from a number on
+abbrev pub AskedFrom : List Piece → ℕ → Gone → List MeantPatch → Option (List Asked)
+AskedFrom ps at gone meant = asked_each ps at gone (meant_view meant)
 
-numbers_drop : (starts : List Start) (at : ℕ) (d : Start) → at < length starts → numbers_of (drop at starts) ≡ (get_or starts at d).number ∷ numbers_of (drop (at + 1) starts)
-numbers_drop starts at d l = ap numbers_of (drop_more starts at d l)
+abbrev numbered : MeantPatch → ℕ × Patch
+numbered m = (m.start.number, patch_view m.patch)
 
-pub asks_more : (ps : List Piece) (patch : Patch) (c : Content) (starts : List Start) (at next after : ℕ) (d : Start) (planned : Planned) (old now : List PlacedAsk) (all : Option (List Asked)) →
-    at < length starts → next ≤ (get_or starts at d).number → asked_of ps (get_or starts at d).number patch ≡ Some (planned_view c planned) →
-    now ≡ old ++ placed_view (get_or starts at d) planned → after ≡ next_after patch (get_or starts at d).number (planned_view c planned) →
-    all ≡ before (asked_view c old) (AskedFrom ps patch next (drop at starts)) → all ≡ before (asked_view c now) (AskedFrom ps patch after (drop (at + 1) starts))
-asks_more ps patch c starts at next after d planned old now all l o a e k h =
-    let s : Start = get_or starts at d in
-    let asks : List (Splice Put) = planned_view c planned in
-    let more : List ℕ = numbers_of (drop (at + 1) starts) in
-    let viewed : asked_view c now ≡ asked_view c old ++ map (asked_at s.number) asks =
-    ap (asked_view c) e ∙ map-append (asked_one c) old (placed_view s planned) ∙ ap (λ (xs : List Asked). asked_view c old ++ xs) (placed_asked c s planned) in
+view_drop : (meant : List MeantPatch) (at : ℕ) (d : MeantPatch) → at < length meant → meant_view (drop at meant) ≡ numbered (get_or meant at d) ∷ meant_view (drop (at + 1) meant)
+view_drop meant at d l = ap meant_view (drop_more meant at d l)
+
+pub asks_more : (ps : List Piece) (meant : List MeantPatch) (at : ℕ) (gone after : Gone) (t : CodeTurn) (m d : MeantPatch) (planned : Planned) (old now : List PlacedAsk) (all : Option (List Asked)) →
+    at < length meant → m ≡ get_or meant at d → is_gone gone m.start.number ≡ false → asked_of ps m.start.number (patch_view m.patch) ≡ Some (planned_view planned) →
+    turn_view t ≡ turn_of (patch_view m.patch) m.start.number at →
+    now ≡ old ++ placed_view m.start t planned → after ≡ gone_after (patch_view m.patch) m.start.number (planned_view planned) gone →
+    all ≡ before (asked_view old) (AskedFrom ps at gone (drop at meant)) → all ≡ before (asked_view now) (AskedFrom ps (at + 1) after (drop (at + 1) meant))
+asks_more ps meant at gone after t m d planned old now all l is o a v e k h =
+    let asks : List (Splice Put) = planned_view planned in
+    let more : List (ℕ × Patch) = meant_view (drop (at + 1) meant) in
+    let viewed : asked_view now ≡ asked_view old ++ map (asked_at (turn_view t)) asks =
+    ap asked_view e ∙ map-append asked_one old (placed_view m.start t planned) ∙ ap (λ (xs : List Asked). asked_view old ++ xs) (placed_asked m.start t planned) in
+    let left : meant_view (drop at meant) ≡ numbered m ∷ more = view_drop meant at d l ∙ ap (λ (x : MeantPatch). numbered x ∷ more) (sym is) in
+    let next : suc at ≡ at + 1 = omega arith in
     h
-    ∙ ap (λ (ns : List ℕ). before (asked_view c old) (asked_each ps patch next ns)) (numbers_drop starts at d l)
-    ∙ ap (before (asked_view c old)) (counts ps patch next s.number more asks o a)
-    ∙ before_asks (asked_view c old) s.number asks (asked_each ps patch (next_after patch s.number asks) more)
-    ∙ ap₂ (λ (xs : List Asked) (n : ℕ). before xs (asked_each ps patch n more)) (sym viewed) (sym k)
+    ∙ ap (λ (ns : List (ℕ × Patch)). before (asked_view old) (asked_each ps at gone ns)) left
+    ∙ ap (before (asked_view old)) (counts ps at gone (numbered m) more asks o a)
+    ∙ before_asks (asked_view old) (turn_of (patch_view m.patch) m.start.number at) asks (asked_each ps (suc at) (gone_after (patch_view m.patch) m.start.number asks gone) more)
+    ∙ ap (λ (u : Turn). before (asked_view old ++ map (asked_at u) asks) (asked_each ps (suc at) (gone_after (patch_view m.patch) m.start.number asks gone) more)) (sym v)
+    ∙ ap₂ (λ (xs : List Asked) (g : Gone). before xs (asked_each ps (suc at) g more)) (sym viewed) (sym k)
+    ∙ ap (λ n. before (asked_view now) (asked_each ps n after more)) next
 
-pub asks_same : (ps : List Piece) (patch : Patch) (starts : List Start) (at next : ℕ) (d : Start) (old : List Asked) (all : Option (List Asked)) →
-    at < length starts → (get_or starts at d).number < next →
-    all ≡ before old (AskedFrom ps patch next (drop at starts)) → all ≡ before old (AskedFrom ps patch next (drop (at + 1) starts))
-asks_same ps patch starts at next d old all l o h =
-    h ∙ ap (λ (ns : List ℕ). before old (asked_each ps patch next ns)) (numbers_drop starts at d l)
-    ∙ ap (before old) (skipped ps patch next (get_or starts at d).number (numbers_of (drop (at + 1) starts)) o)
+pub asks_same : (ps : List Piece) (meant : List MeantPatch) (at : ℕ) (gone : Gone) (m d : MeantPatch) (old : List Asked) (all : Option (List Asked)) →
+    at < length meant → m ≡ get_or meant at d → is_gone gone m.start.number ≡ true →
+    all ≡ before old (AskedFrom ps at gone (drop at meant)) → all ≡ before old (AskedFrom ps (at + 1) gone (drop (at + 1) meant))
+asks_same ps meant at gone m d old all l is o h =
+    let more : List (ℕ × Patch) = meant_view (drop (at + 1) meant) in
+    let left : meant_view (drop at meant) ≡ numbered m ∷ more = view_drop meant at d l ∙ ap (λ (x : MeantPatch). numbered x ∷ more) (sym is) in
+    let next : suc at ≡ at + 1 = omega arith in
+    h ∙ ap (λ (ns : List (ℕ × Patch)). before old (asked_each ps at gone ns)) left
+    ∙ ap (before old) (skipped ps at gone (numbered m) more o)
+    ∙ ap (λ n. before old (asked_each ps n gone more)) next
 
-pub asks_end : (ps : List Piece) (patch : Patch) (starts : List Start) (at next : ℕ) (old : List Asked) (all : Option (List Asked)) → drop at starts ≡ [] →
-    all ≡ before old (AskedFrom ps patch next (drop at starts)) → all ≡ Some old
-asks_end ps patch starts at next old all e h =
-    h ∙ ap (λ (xs : List Start). before old (AskedFrom ps patch next xs)) e ∙ ap (λ (xs : List Asked). Some xs) (append-nil old)
+pub asks_end : (ps : List Piece) (meant : List MeantPatch) (at : ℕ) (gone : Gone) (old : List Asked) (all : Option (List Asked)) → drop at meant ≡ [] →
+    all ≡ before old (AskedFrom ps at gone (drop at meant)) → all ≡ Some old
+asks_end ps meant at gone old all e h =
+    h ∙ ap (λ (xs : List MeantPatch). before old (AskedFrom ps at gone xs)) e ∙ ap (λ (xs : List Asked). Some xs) (append-nil old)
 
 -- in order
 
-pub sorted : (ps : List Piece) (patch : Patch) (numbers : List ℕ) (c : Content) (old new : List PlacedAsk) → asked_each ps patch 0 numbers ≡ Some (asked_view c old) → IsPermutation old new →
-    AreInTurn new → AreSorted ps patch numbers c new
-sorted ps patch numbers c old new a p t = record {
-  each = asked_view c old;
+pub sorted : (ps : List Piece) (patches : List (ℕ × Patch)) (old new : List PlacedAsk) → asked_each ps 0 none_gone patches ≡ Some (asked_view old) → IsPermutation old new →
+    AreInTurn new → AreSorted ps patches new
+sorted ps patches old new a p t = record {
+  each = asked_view old;
   asked = a;
-  same = IsPermutation-map (asked_one c) old new p;
+  same = IsPermutation-map asked_one old new p;
   in_turn = t;
 }
 
-pub asks_are : (c : Content) (asks : List PlacedAsk) → map ask_of (asked_view c asks) ≡ asks_view c asks
-asks_are c [] = refl
-asks_are c (a ∷ asks) = ap (λ (xs : List (Splice Put)). ask_view c a.ask ∷ xs) (asks_are c asks)
+pub asks_are : (asks : List PlacedAsk) → map ask_of (asked_view asks) ≡ asks_view asks
+asks_are [] = refl
+asks_are (a ∷ asks) = ap (λ (xs : List (Splice Put)). ask_view a.ask ∷ xs) (asks_are asks)
 
 -- a page that is read again
 
-pub asked_together : (patch : Patch) (ps : List Piece) (starts : List Start) (c : Content) (asks : List PlacedAsk) (splices : List (Splice Piece)) → AreSorted ps patch (numbers_of starts) c asks →
-    are_ordered 0 (length ps) (asks_view c asks) ≡ true → AreAskedOne ps (asks_view c asks) splices → AreAskedTogether ps (numbers_of starts) patch splices
-asked_together patch ps starts c asks splices a o h =
-    let same : asks_view c asks ≡ map ask_of (asked_view c asks) = sym (asks_are c asks) in
+pub asked_together : (ps : List Piece) (patches : List (ℕ × Patch)) (asks : List PlacedAsk) (splices : List (Splice Piece)) → AreSorted ps patches asks →
+    are_ordered 0 (length ps) (asks_view asks) ≡ true → AreAskedOne ps (asks_view asks) splices → AreAskedTogether ps patches splices
+asked_together ps patches asks splices a o h =
+    let same : asks_view asks ≡ map ask_of (asked_view asks) = sym (asks_are asks) in
     record {
       each = a.each;
       asked = a.asked;
-      asks = asked_view c asks;
+      asks = asked_view asks;
       same = a.same;
       ordered = subst (λ (bs : List (Splice Put)). are_ordered 0 (length ps) bs ≡ true) same o;
-      inner_first = inner_comes_first c (length ps) 0 asks a.in_turn o;
+      in_turn = are_put_in_turn (length ps) 0 asks a.in_turn o;
       are_asked = subst (λ (bs : List (Splice Put)). AreAskedOne ps bs splices) same h;
     }
 
-pub several : (patch : Patch) (places page text : List ℕ) (tokens : List Token) (starts : List Start) (c : Content) (asks : List PlacedAsk) (parts : List Part) →
-    AreTokensOf page tokens → AreStartsAt 0 tokens places starts → AreSorted (runs (pieces page)) patch (numbers_of starts) c asks → ArePieces parts (runs (pieces page)) →
-    IsSplicedPageOf (asks_view c asks) parts page text → AreEdited patch places page text
-several patch places page text tokens starts c asks parts t s a g r =
+pub several : (page text : List ℕ) (tokens : List Token) (patches : List PlacedPatch) (meant : List MeantPatch) (asks : List PlacedAsk) (parts : List Part) →
+    AreTokensOf page tokens → AreMeantAt 0 tokens patches meant → AreSorted (runs (pieces page)) (meant_view meant) asks → ArePieces parts (runs (pieces page)) →
+    IsSplicedPageOf (asks_view asks) parts page text → AreEdited (patches_view patches) page text
+several page text tokens patches meant asks parts t s a g r =
     let ps : List Piece = runs (pieces page) in
-    let page_with : IsSplicedPage (asks_view c asks) page text ps = r ps g in
+    let page_with : IsSplicedPage (asks_view asks) page text ps = r ps g in
     record {
-      numbers = numbers_of starts;
-      begin = starts_begin page tokens places 0 starts t s;
+      numbered = meant_view meant;
+      begin = meant_begin page tokens patches 0 meant t s;
       splices = page_with.splices;
-      asked = asked_together patch ps starts c asks page_with.splices a page_with.ordered page_with.asked;
+      asked = asked_together ps (meant_view meant) asks page_with.splices a page_with.ordered page_with.asked;
       mark = page_with.mark;
       bytes = page_with.bytes;
       tokens = page_with.tokens;
     }
+
+-- this patch at each place
+
+again_by : (places : List ℕ) (at d : ℕ) (patch : Patch) → at < length places → at_each patch (drop at places) ≡ at_each patch (get_or places at d ∷ drop (at + 1) places)
+again_by places at d patch l = ap (at_each patch) (drop_more places at d l)
+
+each_twice : (n m : ℕ) (ns : List ℕ) (patch : Patch) (v : Bool) → (n == m) ≡ v → at_each patch (n ∷ m ∷ ns) ≡ (if v then at_each patch (m ∷ ns) else (n, patch) ∷ at_each patch (m ∷ ns))
+each_twice n m ns patch v e = ap (λ (w : Bool). if w then at_each patch (m ∷ ns) else (n, patch) ∷ at_each patch (m ∷ ns)) e
+
+each_one : (n : ℕ) (ns : List ℕ) (patch : Patch) (v : Bool) → stands_twice (n ∷ ns) ≡ v → at_each patch (n ∷ ns) ≡ (if v then at_each patch ns else (n, patch) ∷ at_each patch ns)
+each_one n [] patch true e = absurd (true≢false (sym e))
+each_one n [] patch false e = refl
+each_one n (m ∷ ns) patch v e = each_twice n m ns patch v e
+
+each_more : (places : List ℕ) (at d : ℕ) (patch : Patch) (v : Bool) → at < length places → stands_twice (drop at places) ≡ v →
+    at_each patch (drop at places) ≡ (if v then at_each patch (drop (at + 1) places) else (get_or places at d, patch) ∷ at_each patch (drop (at + 1) places))
+each_more places at d patch v l e =
+    again_by places at d patch l ∙ each_one (get_or places at d) (drop (at + 1) places) patch v (ap stands_twice (sym (drop_more places at d l)) ∙ e)
+
+pub each_again : (places : List ℕ) (at d : ℕ) (patch : Patch) (old all : List (ℕ × Patch)) → at < length places → stands_twice (drop at places) ≡ true →
+    all ≡ old ++ at_each patch (drop at places) → all ≡ old ++ at_each patch (drop (at + 1) places)
+each_again places at d patch old all l e h = h ∙ ap (λ (xs : List (ℕ × Patch)). old ++ xs) (each_more places at d patch true l e)
+
+pub each_once : (places : List ℕ) (at d : ℕ) (old now : List PlacedPatch) (p : ElementPatch) (all : List (ℕ × Patch)) → at < length places → stands_twice (drop at places) ≡ false →
+    now ≡ old ++ record { place = get_or places at d; patch = p } ∷ [] →
+    all ≡ patches_view old ++ at_each (patch_view p) (drop at places) → all ≡ patches_view now ++ at_each (patch_view p) (drop (at + 1) places)
+each_once places at d old now p all l e n h =
+    let one : List (ℕ × Patch) = (get_or places at d, patch_view p) ∷ [] in
+    let more : List (ℕ × Patch) = at_each (patch_view p) (drop (at + 1) places) in
+    let viewed : patches_view now ≡ patches_view old ++ one = ap patches_view n ∙ map-append (λ (x : PlacedPatch). (x.place, patch_view x.patch)) old (record { place = get_or places at d; patch = p } ∷ []) in
+    h ∙ ap (λ (xs : List (ℕ × Patch)). patches_view old ++ xs) (each_more places at d (patch_view p) false l e)
+    ∙ sym (append_assoc (patches_view old) one more)
+    ∙ ap (λ (xs : List (ℕ × Patch)). xs ++ more) (sym viewed)
+
+pub none_left : (places : List ℕ) (at : ℕ) (patch : Patch) (now all : List (ℕ × Patch)) → drop at places ≡ [] → all ≡ now ++ at_each patch (drop at places) → now ≡ all
+none_left places at patch now all e h = sym (h ∙ ap (λ (xs : List ℕ). now ++ at_each patch xs) e ∙ append-nil now)
+
+pub none_viewed : (patches : List PlacedPatch) → patches_view patches ≡ [] → patches ≡ []
+none_viewed [] e = refl
+none_viewed (p ∷ patches) e = cc

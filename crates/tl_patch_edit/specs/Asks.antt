@@ -4,7 +4,7 @@ use Rattle.std.specs.List.{slice_get}
 use Rattle.std.specs.Option.{option_to_list}
 use Rattle.std.specs.Str.{bytes_eq}
 use Rattle.tl_html_spec.specs.HtmlTokenizer.{EndTag, HtmlToken}
-use Rattle.tl_html_spec.specs.Pieces.{Piece, bytes_of, pieces_of}
+use Rattle.tl_html_spec.specs.Pieces.{Piece, bytes_of}
 use Rattle.tl_html_tags.specs.Parts.{name_of}
 use Rattle.tl_html_tokens.specs.Characters.{characters_of}
 use Rattle.tl_html_tokens.specs.Kinds.{IsEndTag, IsKind}
@@ -19,48 +19,41 @@ use Rattle.tl_patch_edit.specs.declared.ask.Start.{Start}
 use Rattle.tl_patch_edit.specs.declared.ask.Put.{Put as CodePut}
 use Rattle.tl_patch_edit.specs.declared.ask.Put.TheVariants as put
 use Rattle.tl_patch_edit.specs.declared.tag.ReadyAsk.{ReadyAsk}
-use Rattle.tl_patch_edit.specs.Found.{has_mark}
+use Rattle.tl_patch_edit.specs.declared.ask.Turn.{Turn}
 use Rattle.tl_patch_edit.specs.Parts.{ArePieces, Give, IsPieceOf, Part, Says, with_end_part}
 use Rattle.tl_patch_edit.specs.Sayings.{sayings}
+use Rattle.tl_patch_edit.specs.View.{content_view}
 use Rattle.tl_patch_spec.specs.Markup.{text_markup}
-use Rattle.tl_patch_spec.specs.Patches.{ArePut, Alone, AreAskedOne, Changed, Content, Dropped, Extent, Implied, IsNamed, Markup, NewContent, NewEndTag, Patch, Append, Fill, Prepend, PutAfter, PutBefore, Put, ReplaceWith, Text, Unclosed, Whole, is_page_name, put_instead}
+use Rattle.tl_patch_spec.specs.Patches.{ArePut, Alone, AreAskedOne, Changed, Content, Dropped, Extent, Implied, IsNamed, Markup, NewContent, NewEndTag, Put, Text, Unclosed, Whole, is_page_name, put_instead}
 use Rattle.tl_patch_spec.specs.Splices.{Splice, are_ordered, with_splices_from}
 use Rattle.tl_patch_spec.specs.TagChanges.{Rename, changed_token}
 
--- what is put by a patch with this content
-abbrev pub puts_view : Content → CodePut → List Put
-puts_view c put.Nothing = []
-puts_view c put.Content = NewContent c ∷ []
-puts_view c (put.EndTagAndContent raw) = NewEndTag (name_of raw.now) ∷ NewContent c ∷ []
-puts_view c (put.EndTag name) = NewEndTag name.now ∷ []
-puts_view c (put.Renamed name) = Changed (Rename name.now) ∷ []
+-- what is put
+abbrev pub puts_view : CodePut → List Put
+puts_view put.Nothing = []
+puts_view (put.Content content) = NewContent (content_view content) ∷ []
+puts_view (put.EndTagAndContent raw content) =
+    NewEndTag (name_of raw.now) ∷ NewContent (content_view content) ∷ []
+puts_view (put.EndTag name) = NewEndTag name.now ∷ []
+puts_view (put.Renamed name) = Changed (Rename name.now) ∷ []
 
-abbrev pub ask_view : Content → Ask → Splice Put
-ask_view c a = record { from = a.from; until = a.until; put = puts_view c a.put }
+abbrev pub ask_view : Ask → Splice Put
+ask_view a = record { from = a.from; until = a.until; put = puts_view a.put }
 
-abbrev pub planned_view : Content → Planned → List (Splice Put)
-planned_view c p = ask_view c p.first ∷ map (ask_view c) (option_to_list p.second)
+abbrev pub planned_view : Planned → List (Splice Put)
+planned_view p = ask_view p.first ∷ map ask_view (option_to_list p.second)
 
 -- what is asked of elements, without them
-abbrev pub asks_view : Content → List PlacedAsk → List (Splice Put)
-asks_view c asks = map (λ (p : PlacedAsk). ask_view c p.ask) asks
+abbrev pub asks_view : List PlacedAsk → List (Splice Put)
+asks_view asks = map (λ (p : PlacedAsk). ask_view p.ask) asks
 
-abbrev pub placed_at : Start → Ask → PlacedAsk
-placed_at start ask = record { start = start; ask = ask }
+abbrev pub placed_at : Start → Turn → Ask → PlacedAsk
+placed_at start turn ask = record { start = start; turn = turn; ask = ask }
 
 -- of the element of this start tag
-abbrev pub placed_view : Start → Planned → List PlacedAsk
-placed_view start p = placed_at start p.first ∷ map (placed_at start) (option_to_list p.second)
-
--- the content of a patch; none is a text without bytes
-abbrev pub content_of : Patch → Content
-content_of (ReplaceWith c) = c
-content_of (Fill c) = c
-content_of (Prepend c) = c
-content_of (Append c) = c
-content_of (PutBefore c) = c
-content_of (PutAfter c) = c
-content_of _ = Text []
+abbrev pub placed_view : Start → Turn → Planned → List PlacedAsk
+placed_view start turn p =
+    placed_at start turn p.first ∷ map (placed_at start turn) (option_to_list p.second)
 
 -- a text as it stands where it is read in this mode
 abbrev pub text_form : Mode → List ℕ → List ℕ
@@ -123,12 +116,11 @@ abbrev pub text_of : Content → List ℕ
 text_of (Text text) = text
 text_of (Markup markup) = []
 
--- the parts of a content that is markup; with a byte order mark in front it would be another
--- character
-abbrev pub IsMarkupOf : Content → List Part → Type 0
-IsMarkupOf (Text text) parts = ⊤
-IsMarkupOf (Markup markup) parts = has_mark markup ≡ false →
-    Give parts (bytes_of (pieces_of markup)) (sayings (pieces_of markup))
+-- the text that is put, if one is
+abbrev pub text_put : CodePut → List ℕ
+text_put (put.Content content) = text_of (content_view content)
+text_put (put.EndTagAndContent raw content) = text_of (content_view content)
+text_put _ = []
 
 -- an end tag by itself
 abbrev pub end_tag_bytes : List ℕ → List ℕ
@@ -156,8 +148,8 @@ pub record IsRenamedTag (name : List ℕ) (place : Part) (new : List ℕ) : Type
 -- the tag that is put at a part, by itself
 abbrev pub IsTagFor : CodePut → Part → List ℕ → Type 0
 IsTagFor put.Nothing place tag = ⊤
-IsTagFor put.Content place tag = ⊤
-IsTagFor (put.EndTagAndContent raw) place tag = IsEndTagOf (name_of raw.now) tag
+IsTagFor (put.Content content) place tag = ⊤
+IsTagFor (put.EndTagAndContent raw content) place tag = IsEndTagOf (name_of raw.now) tag
 IsTagFor (put.EndTag name) place tag = IsEndTagOf name.now tag
 IsTagFor (put.Renamed name) place tag = IsRenamedTag name.now place tag
 
@@ -167,10 +159,9 @@ IsTagAt parts ask tag =
     IsTagFor ask.put place tag
 
 -- parts are what is put for an ask
-abbrev pub GivePutFor : Content → Ask → List Part → List Part → Type 0
-GivePutFor c ask parts put =
-    (place : Part) → slice_get (with_end_part parts) ask.from ≡ Some place →
-    GivePut (puts_view c ask.put) place put
+abbrev pub GivePutFor : Ask → List Part → List Part → Type 0
+GivePutFor ask parts put = (place : Part) → slice_get (with_end_part parts) ask.from ≡ Some place →
+    GivePut (puts_view ask.put) place put
 
 abbrev pub IsTagged : List Part → ReadyAsk → Type 0
 IsTagged parts ready = IsTagAt parts ready.placed.ask ready.tag.items
@@ -178,10 +169,9 @@ IsTagged parts ready = IsTagAt parts ready.placed.ask ready.tag.items
 abbrev pub placed_of : List ReadyAsk → List PlacedAsk
 placed_of ready = map (λ (r : ReadyAsk). r.placed) ready
 
--- the content is made ready: a text as it stands in markup, and the parts of markup
-pub record IsReady (c : Content) (escaped : List ℕ) (markup : List Part) : Type 0 where
-  pub text : escaped ≡ text_markup (text_of c)
-  pub parts : IsMarkupOf c markup
+-- with the text that is put as it stands in markup
+abbrev pub IsEscaped : ReadyAsk → Type 0
+IsEscaped ready = ready.escaped.items ≡ text_markup (text_put ready.placed.ask.put)
 
 -- a text that is read as it was given
 pub record IsTextPart (m : Mode) (text : List ℕ) (part : Part) : Type 0 where

@@ -10,17 +10,18 @@ use Rattle.tl_html_tokens.specs.declared.token.Token.{Token}
 use Rattle.tl_html_tags.specs.Parts.{name_of}
 use Rattle.tl_patch.specs.Places.{begins_end_tag}
 use Rattle.tl_patch_spec.specs.Markup.{is_name}
-use Rattle.tl_patch_spec.specs.Patches.{Content, Markup, Patch, Put, Text, asked_of}
+use Rattle.tl_patch_spec.specs.Patches.{Content, Markup, Put, Text, asked_of}
 use Rattle.tl_patch_spec.specs.Splices.{Splice, are_ordered}
 use Rattle.tl_patch_tags.specs.StartTags.{is_start_tag}
-use Rattle.tl_patch_edit.specs.Asks.{ask_view, asks_view, content_of, is_data, text_form}
+use Rattle.tl_patch_edit.specs.Asks.{ask_view, asks_view, is_data, text_form}
 use Rattle.tl_patch_edit.specs.Found.{IsNeverRead, IsNeverSplicedOf, IsStartAt, has_mark}
 use Rattle.tl_patch_edit.specs.Parts.{Part, with_end_part}
+use Rattle.tl_patch_edit.specs.View.{content_view, patch_view}
 use Rattle.tl_patch_edit.specs.declared.ask.Ask.{Ask}
+use Rattle.tl_patch_edit.specs.declared.ask.MeantPatch.{MeantPatch}
 use Rattle.tl_patch_edit.specs.declared.ask.PlacedAsk.{PlacedAsk}
 use Rattle.tl_patch_edit.specs.declared.ask.Put.{Put as CodePut}
 use Rattle.tl_patch_edit.specs.declared.ask.Put.TheVariants as put
-use Rattle.tl_patch_edit.specs.declared.ask.Start.{Start}
 use Rattle.tl_patch_edit.specs.declared.tag.ReadyAsk.{ReadyAsk}
 use Rattle.tl_patch_edit.specs.declared.error.EditError.{EditError}
 use Rattle.tl_patch_edit.specs.declared.error.EditError.TheVariants as error
@@ -59,30 +60,30 @@ IsPlanError place asked error.OutOfMemory = ⊤
 IsPlanError place asked (error.NotMeant p) = (p ≡ place) × (asked ≡ None)
 IsPlanError place asked _ = ⊥
 
--- the patch can't be meant for the element of one of these start tags
-pub record IsUnmeant (page : List ℕ) (patch : Patch) (starts : List Start) (place : ℕ) :
-    Type 0 where
-  pub start : Start
-  pub among : Contains starts start
-  pub begins : start.token.start ≡ place
-  pub none : asked_of (runs (pieces page)) start.number patch ≡ None
+-- one of these patches can't be meant for its element
+pub record IsUnmeant (page : List ℕ) (patches : List MeantPatch) (place : ℕ) : Type 0 where
+  pub meant : MeantPatch
+  pub among : Contains patches meant
+  pub begins : meant.start.token.start ≡ place
+  pub none : asked_of (runs (pieces page)) meant.start.number (patch_view meant.patch) ≡ None
 
-abbrev pub IsAsksError : List ℕ → Patch → List Start → EditError → Type 0
-IsAsksError page patch starts error.OutOfMemory = ⊤
-IsAsksError page patch starts (error.NotMeant p) = IsUnmeant page patch starts p
-IsAsksError page patch starts _ = ⊥
+abbrev pub IsAsksError : List ℕ → List MeantPatch → EditError → Type 0
+IsAsksError page patches error.OutOfMemory = ⊤
+IsAsksError page patches (error.NotMeant p) = IsUnmeant page patches p
+IsAsksError page patches _ = ⊥
 
--- an ask of the patch of the element of one of these start tags
-pub record IsPlanned (page : List ℕ) (patch : Patch) (starts : List Start) (one : PlacedAsk) :
-    Type 0 where
-  pub among : Contains starts one.start
+-- an ask of one of these patches
+pub record IsPlanned (page : List ℕ) (patches : List MeantPatch) (one : PlacedAsk) : Type 0 where
+  pub meant : MeantPatch
+  pub among : Contains patches meant
+  pub start : meant.start ≡ one.start
   pub asks : List (Splice Put)
-  pub asked : asked_of (runs (pieces page)) one.start.number patch ≡ Some asks
-  pub is : Contains asks (ask_view (content_of patch) one.ask)
+  pub asked : asked_of (runs (pieces page)) meant.start.number (patch_view meant.patch) ≡ Some asks
+  pub is : Contains asks (ask_view one.ask)
 
 -- whether the name of a tag that is put can stand as it is
 abbrev pub has_name : CodePut → Bool
-has_name (put.EndTagAndContent raw) = is_name (name_of raw.now)
+has_name (put.EndTagAndContent raw content) = is_name (name_of raw.now)
 has_name (put.EndTag name) = is_name name.now
 has_name (put.Renamed name) = is_name name.now
 has_name _ = true
@@ -102,17 +103,17 @@ abbrev pub CannotStandIn : Mode → Content → Type 0
 CannotStandIn m (Text text) = characters_of m (text_form m text) ≡ text → ⊥
 CannotStandIn m (Markup markup) = (is_data m ≡ false) ⊎ (has_mark markup ≡ true)
 
-abbrev pub CannotPutIn : Content → Mode → CodePut → Type 0
-CannotPutIn c m put.Content = CannotStandIn m c
-CannotPutIn c m (put.EndTagAndContent raw) = CannotStandIn m c
-CannotPutIn c m _ = ⊥
+abbrev pub CannotPutIn : Mode → CodePut → Type 0
+CannotPutIn m (put.Content content) = CannotStandIn m (content_view content)
+CannotPutIn m (put.EndTagAndContent raw content) = CannotStandIn m (content_view content)
+CannotPutIn m _ = ⊥
 
 -- what is asked for can't be written at its part
-pub record CannotPut (c : Content) (parts : List Part) (ask : Ask) : Type 0 where
+pub record CannotPut (parts : List Part) (ask : Ask) : Type 0 where
   pub place : Part
   pub stands : slice_get (with_end_part parts) ask.from ≡ Some place
   pub cannot : (has_name ask.put ≡ false)
-      ⊎ ((has_tag place ask.put ≡ false) ⊎ CannotPutIn c place.mode ask.put)
+      ⊎ ((has_tag place ask.put ≡ false) ⊎ CannotPutIn place.mode ask.put)
 
 -- an ask of the element at a place
 pub record IsOneAt (asks : List PlacedAsk) (place : ℕ) (one : PlacedAsk) : Type 0 where
@@ -123,32 +124,32 @@ pub record IsOneAt (asks : List PlacedAsk) (place : ℕ) (one : PlacedAsk) : Typ
 abbrev pub IsWithin : ℕ → ReadyAsk → Type 0
 IsWithin end ready = ready.placed.ask.from ≤ end
 
-abbrev pub IsReadyError : Content → List Part → PlacedAsk → EditError → Type 0
-IsReadyError c parts one error.OutOfMemory = ⊤
-IsReadyError c parts one (error.EndOfPage p) =
+abbrev pub IsReadyError : List Part → PlacedAsk → EditError → Type 0
+IsReadyError parts one error.OutOfMemory = ⊤
+IsReadyError parts one (error.EndOfPage p) =
     (one.start.token.start ≡ p) × (length parts < one.ask.from)
-IsReadyError c parts one (error.NotWritten p) =
-    (one.start.token.start ≡ p) × CannotPut c parts one.ask
-IsReadyError c parts one _ = ⊥
+IsReadyError parts one (error.NotWritten p) =
+    (one.start.token.start ≡ p) × CannotPut parts one.ask
+IsReadyError parts one _ = ⊥
 
 abbrev pub IsReadError : List ℕ → List Part → ℕ → EditError → Type 0
 IsReadError page parts place error.OutOfMemory = ⊤
 IsReadError page parts place (error.ReadOtherwise p) = (p ≡ place) × IsNeverRead page parts
 IsReadError page parts place _ = ⊥
 
-abbrev pub IsSpliceError : Content → List Part → List PlacedAsk → EditError → Type 0
-IsSpliceError c parts asks error.OutOfMemory = ⊤
-IsSpliceError c parts asks (error.EndOfPage p) =
+abbrev pub IsSpliceError : List Part → List PlacedAsk → EditError → Type 0
+IsSpliceError parts asks error.OutOfMemory = ⊤
+IsSpliceError parts asks (error.EndOfPage p) =
     (one : PlacedAsk) × IsOneAt asks p one × (length parts < one.ask.from)
-IsSpliceError c parts asks (error.NotWritten p) =
-    (one : PlacedAsk) × IsOneAt asks p one × CannotPut c parts one.ask
-IsSpliceError c parts asks (error.Across p) =
+IsSpliceError parts asks (error.NotWritten p) =
+    (one : PlacedAsk) × IsOneAt asks p one × CannotPut parts one.ask
+IsSpliceError parts asks (error.Across p) =
     (one : PlacedAsk) × IsOneAt asks p one
-    × (are_ordered 0 (length parts) (asks_view c asks) ≡ false)
-IsSpliceError c parts asks _ = ⊥
+    × (are_ordered 0 (length parts) (asks_view asks) ≡ false)
+IsSpliceError parts asks _ = ⊥
 
 -- so it is, or no text is read as the page with the splices
-abbrev pub IsPageError : List ℕ → ℕ → Content → List Part → List PlacedAsk → EditError → Type 0
-IsPageError page place c parts asks (error.ReadOtherwise p) =
-    (p ≡ place) × IsNeverSplicedOf (asks_view c asks) parts page
-IsPageError page place c parts asks e = IsSpliceError c parts asks e
+abbrev pub IsPageError : List ℕ → ℕ → List Part → List PlacedAsk → EditError → Type 0
+IsPageError page place parts asks (error.ReadOtherwise p) =
+    (p ≡ place) × IsNeverSplicedOf (asks_view asks) parts page
+IsPageError page place parts asks e = IsSpliceError parts asks e

@@ -14,11 +14,11 @@ use Rattle.tl_patch_spec.specs.Markup.{is_name}
 use Rattle.tl_patch_spec.specs.Patches.{Changed, Content, Markup, NewContent, NewEndTag, Patch, Put, Text, asked_of, content_pieces, with_end}
 use Rattle.tl_patch_spec.specs.Splices.{Splice, with_splices}
 use Rattle.tl_patch_spec.specs.TagChanges.{Rename}
-use Rattle.tl_patch_spec.specs.Together.{AreAskedTogether, Asked, ask_of, asked_each}
+use Rattle.tl_patch_spec.specs.Together.{AreAskedTogether, Asked, ask_of, asked_each, none_gone}
 use Rattle.tl_patch_edit.specs.Asks.{text_form}
 use Rattle.tl_patch_edit.specs.Found.{IsNeverSaid, has_mark}
 use Rattle.tl_patch_edit.specs.Sayings.{AreWhole, sayings}
-use Rattle.tl_patch_edit.specs.Several.{BeginAt}
+use Rattle.tl_patch_edit.specs.Several.{BeginAt, places_of}
 use Rattle.tl_patch_edit.specs.declared.error.EditError.{EditError}
 use Rattle.tl_patch_edit.specs.declared.error.EditError.TheVariants as error
 
@@ -29,10 +29,6 @@ pieces_in page = runs (pieces page)
 
 abbrev pub placed_pieces : List ℕ → List (ℕ × Piece)
 placed_pieces page = placed (mark_len page) (pieces_in page)
-
--- this patch of each element whose start tag begins at one of these bytes
-abbrev pub patch_each : Patch → List ℕ → List (ℕ × Patch)
-patch_each patch places = map (λ (place : ℕ). (place, patch)) places
 
 -- no start tag of a page begins at this byte
 abbrev pub NoneBeginsAt : List ℕ → ℕ → Type 0
@@ -125,44 +121,37 @@ AreAcross end (s ∷ []) = IsOutside end s
 AreAcross end (s ∷ t ∷ splices) =
     IsOutside end s ⊎ (Overlap s t ⊎ AreAcross end (t ∷ splices))
 
--- a place is one of these, and of the splices that the patch asks for at them, in some order, two
--- overlap, or one isn't within the page
-pub record StandAcross (page places : List ℕ) (patch : Patch) (place : ℕ) : Type 0 where
-  pub among : Contains places place
-  pub numbers : List ℕ
-  pub begin : BeginAt 0 (placed_pieces page) places numbers
+-- a place is one of those of these patches, and of the splices that they ask for, in some order,
+-- two overlap, or one isn't within the page
+pub record StandAcross (page : List ℕ) (patches : List (ℕ × Patch)) (place : ℕ) : Type 0 where
+  pub among : Contains (places_of patches) place
+  pub numbered : List (ℕ × Patch)
+  pub begin : BeginAt 0 (placed_pieces page) patches numbered
   pub each : List Asked
-  pub asked : asked_each (pieces_in page) patch 0 numbers ≡ Some each
+  pub asked : asked_each (pieces_in page) 0 none_gone numbered ≡ Some each
   pub asks : List Asked
   pub same : IsPermutation each asks
   pub across : AreAcross (length (pieces_in page)) (map ask_of asks)
 
-abbrev pub IsAcrossError : List ℕ → List ℕ → Patch → EditError → Type 0
-IsAcrossError page places patch (error.Across place) = StandAcross page places patch place
-IsAcrossError page places patch _ = ⊤
-
--- a place is the first of these, the patch asks for splices of the page's pieces at them, each tag
--- that these leave is read so by itself, and yet no text with the bytes of what comes of them says
--- what that says, token by token, and each tag in its bytes
-pub record CannotBeRead (page places : List ℕ) (patch : Patch) (place : ℕ) : Type 0 where
+-- a place is the first of those of these patches, they ask for splices of the page's pieces, each
+-- tag that these leave is read so by itself, and yet no text with the bytes of what comes of them
+-- says what that says, token by token, and each tag in its bytes
+pub record CannotBeRead (page : List ℕ) (patches : List (ℕ × Patch)) (place : ℕ) : Type 0 where
   pub more : List ℕ
-  pub first : places ≡ place ∷ more
-  pub numbers : List ℕ
-  pub begin : BeginAt 0 (placed_pieces page) places numbers
+  pub first : places_of patches ≡ place ∷ more
+  pub numbered : List (ℕ × Patch)
+  pub begin : BeginAt 0 (placed_pieces page) patches numbered
   pub splices : List (Splice Piece)
-  pub asked : AreAskedTogether (pieces_in page) numbers patch splices
+  pub asked : AreAskedTogether (pieces_in page) numbered splices
   pub whole : AreWhole (sayings (with_splices (pieces_in page) splices))
   pub never : IsNeverSaid page (with_splices (pieces_in page) splices)
 
-abbrev pub IsReadingError : List ℕ → List ℕ → Patch → EditError → Type 0
-IsReadingError page places patch (error.ReadOtherwise place) =
-    CannotBeRead page places patch place
-IsReadingError page places patch _ = ⊤
-
--- when each error comes, where these patches are asked for of the elements at these places
-abbrev pub IsRefused : List ℕ → List ℕ → List (ℕ × Patch) → EditError → Type 0
-IsRefused page places patches (error.NoStartTag place) = LacksStartTag page places place
-IsRefused page places patches (error.NotMeant place) = CannotBeMeant page patches place
-IsRefused page places patches (error.EndOfPage place) = StandsPastEnd page patches place
-IsRefused page places patches (error.NotWritten place) = CannotBeWritten page patches place
-IsRefused page places patches _ = ⊤
+-- when each error comes, where these patches are asked for of the elements at their places
+abbrev pub IsRefused : List ℕ → List (ℕ × Patch) → EditError → Type 0
+IsRefused page patches (error.NoStartTag place) = LacksStartTag page (places_of patches) place
+IsRefused page patches (error.NotMeant place) = CannotBeMeant page patches place
+IsRefused page patches (error.Across place) = StandAcross page patches place
+IsRefused page patches (error.EndOfPage place) = StandsPastEnd page patches place
+IsRefused page patches (error.NotWritten place) = CannotBeWritten page patches place
+IsRefused page patches (error.ReadOtherwise place) = CannotBeRead page patches place
+IsRefused page patches error.OutOfMemory = ⊤

@@ -5,6 +5,5 @@ pub mod Tails
 pub mod Asks
 pub mod Found
 pub mod Causes
-pub mod Edited
 pub mod Several
 pub mod Errors

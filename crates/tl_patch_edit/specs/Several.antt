@@ -1,5 +1,5 @@
--- A page with several elements changed by one patch.
-use Rattle.std.specs.Prelude.{◌≡◌, ℕ, ◌≤◌, ◌<◌, List, [], ◌∷◌, length, map, Some, slice_index_or, ⊤}
+-- A page with several elements changed.
+use Rattle.std.specs.Prelude.{◌≡◌, ◌==◌, ℕ, ◌≤◌, ◌<◌, Bool, true, false, List, [], ◌∷◌, length, map, Some, slice_index_or, ⊤}
 use Rattle.std.specs.List.{All, slice_get}
 use Rattle.std.specs.List.Sorted.{IsPermutation}
 use Rattle.tl_html_spec.specs.HtmlTokenizer.{html_tokens, without_mark}
@@ -7,53 +7,62 @@ use Rattle.tl_html_spec.specs.Pieces.{Piece, bytes_of, pieces, placed, runs, tok
 use Rattle.tl_html_tokens.specs.Tokens.{mark_len}
 use Rattle.tl_html_tokens.specs.declared.token.Token.{Token}
 use Rattle.tl_patch_spec.specs.Elements.{Element}
-use Rattle.tl_patch_spec.specs.Patches.{Content, Dropped, Patch, extent_in}
+use Rattle.tl_patch_spec.specs.Patches.{Dropped, Patch, extent_in}
 use Rattle.tl_patch_spec.specs.Splices.{Splice, with_splices}
-use Rattle.tl_patch_spec.specs.Together.{AreAskedTogether, Asked, asked_at, asked_each}
+use Rattle.tl_patch_spec.specs.Together.{AreAskedTogether, Asked, asked_at, asked_each, comes_first, none_gone}
 use Rattle.tl_patch_edit.specs.Asks.{ask_view}
 use Rattle.tl_patch_edit.specs.Found.{IsStartAt, IsStartOf}
-use Rattle.tl_patch_edit.specs.View.{extent_view}
+use Rattle.tl_patch_edit.specs.View.{extent_view, turn_view}
 use Rattle.tl_patch_edit.specs.declared.ask.Extent.{Extent}
+use Rattle.tl_patch_edit.specs.declared.ask.MeantPatch.{MeantPatch}
 use Rattle.tl_patch_edit.specs.declared.ask.PlacedAsk.{PlacedAsk}
-use Rattle.tl_patch_edit.specs.declared.ask.Start.{Start}
+use Rattle.tl_patch_edit.specs.declared.ask.PlacedPatch.{PlacedPatch}
 
 -- the piece of this number begins at a place
 abbrev pub BeginsAt : List (ℕ × Piece) → ℕ → ℕ → Type 0
 BeginsAt ps place number = (piece : Piece) × (slice_get ps number ≡ Some (place, piece))
 
--- these are the numbers of the pieces at places, in order, from a number on
-abbrev pub BeginAt : ℕ → List (ℕ × Piece) → List ℕ → List ℕ → Type 0
+-- patches with the places at which pieces begin, and with the numbers of these pieces, which are
+-- in order from a number on
+abbrev pub BeginAt : ℕ → List (ℕ × Piece) → List (ℕ × Patch) → List (ℕ × Patch) → Type 0
 BeginAt from ps [] [] = ⊤
-BeginAt from ps (place ∷ places) (number ∷ numbers) =
-    (from ≤ number) × BeginsAt ps place number × BeginAt number ps places numbers
+BeginAt from ps (p ∷ patches) (q ∷ numbered) =
+    (from ≤ q.0) × BeginsAt ps p.0 q.0 × (q.1 ≡ p.1) × BeginAt q.0 ps patches numbered
 BeginAt from ps _ _ = ⊥
 
--- text is the page with splices of its pieces, those that the patch asks for of each element whose
--- start tag begins at one of these places; no other byte changes, and the tokens of the text are
--- those of the spliced pieces
-pub record AreEdited (patch : Patch) (places page text : List ℕ) : Type 0 where
-  pub numbers : List ℕ
-  pub begin : BeginAt 0 (placed (mark_len page) (runs (pieces page))) places numbers
+-- text is the page with splices of its pieces, those that these patches ask for, each of the
+-- element whose start tag begins at its place; no other byte changes, and the tokens of the text
+-- are those of the spliced pieces
+pub record AreEdited (patches : List (ℕ × Patch)) (page text : List ℕ) : Type 0 where
+  pub numbered : List (ℕ × Patch)
+  pub begin : BeginAt 0 (placed (mark_len page) (runs (pieces page))) patches numbered
   pub splices : List (Splice Piece)
-  pub asked : AreAskedTogether (runs (pieces page)) numbers patch splices
+  pub asked : AreAskedTogether (runs (pieces page)) numbered splices
   pub mark : mark_len text ≡ mark_len page
   pub bytes : without_mark text ≡ bytes_of (with_splices (runs (pieces page)) splices)
   pub tokens : html_tokens text ≡ tokens_in (with_splices (runs (pieces page)) splices)
 
+-- the places of patches
+abbrev pub places_of : List (ℕ × Patch) → List ℕ
+places_of patches = map (λ (p : ℕ × Patch). p.0) patches
+
+-- whether the first two of some places are the same
+abbrev pub stands_twice : List ℕ → Bool
+stands_twice (place ∷ next ∷ places) = place == next
+stands_twice _ = false
+
 -- the same of tokens
 
-abbrev pub AreStartsAt : ℕ → List Token → List ℕ → List Start → Type 0
-AreStartsAt from tokens [] [] = ⊤
-AreStartsAt from tokens (place ∷ places) (start ∷ starts) =
-    (from ≤ start.number) × IsStartAt tokens place start.number start.token
-    × AreStartsAt start.number tokens places starts
-AreStartsAt from tokens _ _ = ⊥
+-- the start tags that patches are meant for, by their numbers, from a number on
+abbrev pub AreMeantAt : ℕ → List Token → List PlacedPatch → List MeantPatch → Type 0
+AreMeantAt from tokens [] [] = ⊤
+AreMeantAt from tokens (p ∷ patches) (m ∷ meant) =
+    (from ≤ m.start.number) × IsStartAt tokens p.place m.start.number m.start.token
+    × (m.patch ≡ p.patch) × AreMeantAt m.start.number tokens patches meant
+AreMeantAt from tokens _ _ = ⊥
 
-abbrev pub IsStartOfPage : List ℕ → Start → Type 0
-IsStartOfPage page start = IsStartOf page start.number start.token
-
-abbrev pub numbers_of : List Start → List ℕ
-numbers_of starts = map (λ (s : Start). s.number) starts
+abbrev pub IsMeantOfPage : List ℕ → MeantPatch → Type 0
+IsMeantOfPage page m = IsStartOf page m.start.number m.start.token
 
 abbrev pub AreDropped : List Extent → Type 0
 AreDropped extents = All (λ (e : Extent). extent_view e ≡ Dropped) extents
@@ -63,29 +72,29 @@ abbrev pub AreExtents : List Element → List Extent → Type 0
 AreExtents es extents = (n : ℕ) (d : Extent) → n < length extents →
     extent_view (slice_index_or extents n d) ≡ extent_in n es
 
-abbrev pub asked_one : Content → PlacedAsk → Asked
-asked_one c p = asked_at p.start.number (ask_view c p.ask)
+abbrev pub asked_one : PlacedAsk → Asked
+asked_one p = asked_at (turn_view p.turn) (ask_view p.ask)
 
-abbrev pub asked_view : Content → List PlacedAsk → List Asked
-asked_view c asks = map (asked_one c) asks
+abbrev pub asked_view : List PlacedAsk → List Asked
+asked_view asks = map asked_one asks
 
 -- of two asks the first begins no later; where both begin at one place it ends no later; and where
--- they are for one place it is that of the inner element
+-- they are for one place it comes first
 pub record Precedes (a b : PlacedAsk) : Type 0 where
   pub from : a.ask.from ≤ b.ask.from
   pub until : a.ask.from ≡ b.ask.from → a.ask.until ≤ b.ask.until
-  pub inner : a.ask.from ≡ b.ask.from → a.ask.until ≡ b.ask.until →
-      b.start.number ≤ a.start.number
+  pub turn : a.ask.from ≡ b.ask.from → a.ask.until ≡ b.ask.until →
+      comes_first (turn_view a.turn) (turn_view b.turn) ≡ true
 
 abbrev pub AreInTurn : List PlacedAsk → Type 0
 AreInTurn [] = ⊤
 AreInTurn (a ∷ []) = ⊤
 AreInTurn (a ∷ b ∷ asks) = Precedes a b × AreInTurn (b ∷ asks)
 
--- these are what is asked for of elements, in turn
-pub record AreSorted (ps : List Piece) (patch : Patch) (numbers : List ℕ) (c : Content)
-    (asks : List PlacedAsk) : Type 0 where
+-- these are what patches ask for, in turn
+pub record AreSorted (ps : List Piece) (patches : List (ℕ × Patch)) (asks : List PlacedAsk) :
+    Type 0 where
   pub each : List Asked
-  pub asked : asked_each ps patch 0 numbers ≡ Some each
-  pub same : IsPermutation each (asked_view c asks)
+  pub asked : asked_each ps 0 none_gone patches ≡ Some each
+  pub same : IsPermutation each (asked_view asks)
   pub in_turn : AreInTurn asks

@@ -1,7 +1,7 @@
 //! What a patch asks for.
-ghost use Rattle.std.specs.Prelude.{◌≡◌, ◌==◌, IfOk, Some, suc};
-ghost use Rattle.tl_patch_spec.specs.Patches.{extent_in, extent_of};
-ghost use Rattle.tl_patch_elements.specs.View.{element_view, elements_view};
+ghost use Rattle.std.specs.Prelude.{◌≡◌, IfOk, Some, suc};
+ghost use Rattle.tl_patch_spec.specs.Patches.{extent_of};
+ghost use Rattle.tl_patch_elements.specs.View.{element_view};
 ghost use Rattle.tl_patch_edit.specs.Asks.{inner_end, inside_end, until_of};
 ghost use Rattle.tl_patch_edit.specs.View.{extent_view};
 
@@ -55,6 +55,13 @@ pub(crate) enum Extent {
     Unclosed { end: usize },
 }
 
+/// A patch of the element whose start tag begins at a byte of a page.
+#[derive(Clone, Copy, Debug)]
+pub struct PlacedPatch<'a> {
+    pub place: usize,
+    pub patch: ElementPatch<'a>,
+}
+
 // A start tag, by its number among the tokens.
 #[derive(Clone, Copy)]
 pub(crate) struct Start {
@@ -62,13 +69,20 @@ pub(crate) struct Start {
     pub(crate) token: Token,
 }
 
-// What is put: nothing, the content, the content after an end tag of a name as it stands in a start
+// A patch of the element of a start tag.
+#[derive(Clone, Copy)]
+pub(crate) struct MeantPatch<'n> {
+    pub(crate) start: Start,
+    pub(crate) patch: ElementPatch<'n>,
+}
+
+// What is put: nothing, a content, a content after an end tag of a name as it stands in a start
 // tag, an end tag of a name, or the tag that stood there with another name.
 #[derive(Clone, Copy)]
 pub(crate) enum Put<'n> {
     Nothing,
-    Content,
-    EndTagAndContent { raw: &'n [u8] },
+    Content { content: Content<'n> },
+    EndTagAndContent { raw: &'n [u8], content: Content<'n> },
     EndTag { name: &'n [u8] },
     Renamed { name: &'n [u8] },
 }
@@ -81,11 +95,28 @@ pub(crate) struct Ask<'n> {
     pub(crate) put: Put<'n>,
 }
 
+// When what a patch puts has its turn among what is put at the same place: by how deep its element
+// stands, by what it does there, and by the number of the patch.
+#[derive(Clone, Copy)]
+pub(crate) struct Turn {
+    pub(crate) depth: usize,
+    pub(crate) rank: usize,
+    pub(crate) at: usize,
+}
+
 // An ask of the element of a start tag.
 #[derive(Clone, Copy)]
 pub(crate) struct PlacedAsk<'n> {
     pub(crate) start: Start,
+    pub(crate) turn: Turn,
     pub(crate) ask: Ask<'n>,
+}
+
+// What was taken away last: of the element of this number, up to a token.
+#[derive(Clone, Copy)]
+pub(crate) struct Gone {
+    pub(crate) from: usize,
+    pub(crate) until: usize,
 }
 
 // What a patch asks for of one element.
@@ -112,31 +143,6 @@ pub(crate) fn extent_of(alloc: Global, element: &Element<'_>) -> Result<Extent, 
         return Ok(Extent::Implied { end: element.end });
     }
     Ok(Extent::Unclosed { end: element.end })
-}
-
-fn begins_at(element: &Element<'_>, number: usize) -> bool
-    ensures { result ≡ (element.now.start == number) }
-{
-    element.start == number
-}
-
-// How far the element of a start tag goes.
-pub(crate) fn extent_in(
-    alloc: Global,
-    number: usize,
-    elements: &[Element<'_>],
-) -> Result<Extent, AllocError>
-    ensures { IfOk result (λ extent.
-        extent_view extent ≡ extent_in number (elements_view elements.now)) }
-{
-    for at in 0..elements.len() {
-        let is_it = begins_at(&elements[at], number);
-        if is_it {
-            let extent = extent_of(alloc, &elements[at])?;
-            return Ok(extent);
-        }
-    }
-    Ok(Extent::Dropped)
 }
 
 // The number of the token behind one.

@@ -16,7 +16,6 @@ mod tag;
 mod tail;
 mod wanted;
 
-pub use ask::{Content, ElementPatch};
-pub use edit::patch_element;
+pub use ask::{Content, ElementPatch, PlacedPatch};
 pub use error::EditError;
-pub use several::patch_elements;
+pub use several::{patch_each, patch_element, patch_elements};

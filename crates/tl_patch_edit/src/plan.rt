@@ -1,12 +1,14 @@
 //! Which tokens a patch puts something in the place of.
 ghost use Rattle.std.specs.Prelude.{◌≡◌, ℕ, List, IfOk, None, Some, option_map, suc, true};
 ghost use Rattle.tl_html_tags.specs.Parts.{name_of};
-ghost use Rattle.tl_patch_spec.specs.Patches.{Append, Content, Fill, Prepend, PutAfter, PutBefore, Remove, RenameElement, ReplaceWith, Unwrap, asked, is_page_name, may_be_renamed};
-ghost use Rattle.tl_patch_edit.specs.Asks.{content_of, ends_page, planned_view, put_after, puts_view, tags_asked};
+ghost use Rattle.tl_patch_spec.specs.Patches.{Append, Fill, Prepend, PutAfter, PutBefore, Remove, RenameElement, ReplaceWith, Unwrap, asked, is_page_name, may_be_renamed};
+ghost use Rattle.tl_patch_edit.specs.Asks.{ends_page, planned_view, put_after, puts_view, tags_asked};
 ghost use Rattle.tl_patch_edit.specs.declared.ask.Put.TheVariants.{EndTag, Renamed};
-ghost use Rattle.tl_patch_edit.specs.View.{extent_view, patch_view};
+ghost use Rattle.tl_patch_edit.specs.View.{content_view, extent_view, patch_view};
 
-use crate::ask::{Ask, ElementPatch, Extent, Planned, Put, inner_end, inside_end, next, until_of};
+use crate::ask::{
+    Ask, Content, ElementPatch, Extent, Planned, Put, inner_end, inside_end, next, until_of,
+};
 use crate::element_name::{is_page_name, may_be_renamed};
 use std::alloc::{AllocError, Global};
 use tl_html_write::lower_name;
@@ -25,9 +27,9 @@ fn one<'n>(from: usize, until: usize, put: Put<'n>) -> Planned<'n>
 }
 
 fn removed(number: usize, extent: Extent) -> Result<Option<Planned<'static>>, AllocError>
-    ensures { IfOk result (λ found. (content : Content) (name : List ℕ) →
+    ensures { IfOk result (λ found. (name : List ℕ) →
         asked Remove number (extent_view extent) name
-        ≡ option_map (planned_view content) found) }
+        ≡ option_map planned_view found) }
 {
     let Some(until) = until_of(number, extent)? else {
         return Ok(None);
@@ -35,68 +37,80 @@ fn removed(number: usize, extent: Extent) -> Result<Option<Planned<'static>>, Al
     Ok(Some(one(number, until, Put::Nothing)))
 }
 
-fn replaced(number: usize, extent: Extent) -> Result<Option<Planned<'static>>, AllocError>
-    ensures { IfOk result (λ found. (content : Content) (name : List ℕ) →
-        asked (ReplaceWith content) number (extent_view extent) name
-        ≡ option_map (planned_view content) found) }
+fn replaced<'n>(
+    number: usize,
+    extent: Extent,
+    content: Content<'n>,
+) -> Result<Option<Planned<'n>>, AllocError>
+    ensures { IfOk result (λ found. (name : List ℕ) →
+        asked (ReplaceWith (content_view content.entry)) number (extent_view extent) name
+        ≡ option_map planned_view found) }
 {
     let Some(until) = until_of(number, extent)? else {
         return Ok(None);
     };
-    Ok(Some(one(number, until, Put::Content)))
+    Ok(Some(one(number, until, Put::Content { content })))
 }
 
-fn filled(number: usize, extent: Extent) -> Result<Option<Planned<'static>>, AllocError>
-    ensures { IfOk result (λ found. (content : Content) (name : List ℕ) →
-        asked (Fill content) number (extent_view extent) name
-        ≡ option_map (planned_view content) found) }
+fn filled<'n>(
+    number: usize,
+    extent: Extent,
+    content: Content<'n>,
+) -> Result<Option<Planned<'n>>, AllocError>
+    ensures { IfOk result (λ found. (name : List ℕ) →
+        asked (Fill (content_view content.entry)) number (extent_view extent) name
+        ≡ option_map planned_view found) }
 {
     let Some(until) = inner_end(extent) else {
         return Ok(None);
     };
     let from = next(number)?;
-    Ok(Some(one(from, until, Put::Content)))
+    Ok(Some(one(from, until, Put::Content { content })))
 }
 
-fn prepended(number: usize, extent: Extent) -> Result<Option<Planned<'static>>, AllocError>
-    ensures { IfOk result (λ found. (content : Content) (name : List ℕ) →
-        asked (Prepend content) number (extent_view extent) name
-        ≡ option_map (planned_view content) found) }
+fn prepended<'n>(
+    number: usize,
+    extent: Extent,
+    content: Content<'n>,
+) -> Result<Option<Planned<'n>>, AllocError>
+    ensures { IfOk result (λ found. (name : List ℕ) →
+        asked (Prepend (content_view content.entry)) number (extent_view extent) name
+        ≡ option_map planned_view found) }
 {
     let Some(_) = inside_end(extent) else {
         return Ok(None);
     };
     let from = next(number)?;
-    Ok(Some(one(from, from, Put::Content)))
+    Ok(Some(one(from, from, Put::Content { content })))
 }
 
-fn appended(number: usize, extent: Extent) -> Option<Planned<'static>>
-    ensures { (content : Content) (name : List ℕ) →
-        asked (Append content) number (extent_view extent) name
-        ≡ option_map (planned_view content) result }
+fn appended<'n>(number: usize, extent: Extent, content: Content<'n>) -> Option<Planned<'n>>
+    ensures { (name : List ℕ) →
+        asked (Append (content_view content.entry)) number (extent_view extent) name
+        ≡ option_map (planned_view) result }
 {
     let Some(end) = inner_end(extent) else {
         return None;
     };
-    Some(one(end, end, Put::Content))
+    Some(one(end, end, Put::Content { content }))
 }
 
-fn put_before(number: usize, extent: Extent) -> Planned<'static>
-    ensures { (content : Content) (name : List ℕ) →
-        asked (PutBefore content) number (extent_view extent) name
-        ≡ Some (planned_view content result) }
+fn put_before<'n>(number: usize, extent: Extent, content: Content<'n>) -> Planned<'n>
+    ensures { (name : List ℕ) →
+        asked (PutBefore (content_view content.entry)) number (extent_view extent) name
+        ≡ Some (planned_view result) }
 {
-    one(number, number, Put::Content)
+    one(number, number, Put::Content { content })
 }
 
 // An end tag is put in where one is left out.
-fn put_after(extent: Extent, raw: &[u8]) -> Put<'_>
-    ensures { (content : Content) → puts_view content result
-        ≡ put_after (extent_view extent) (name_of raw.now) content }
+fn put_after<'n>(extent: Extent, raw: &'n [u8], content: Content<'n>) -> Put<'n>
+    ensures { puts_view result
+        ≡ put_after (extent_view extent) (name_of raw.now) (content_view content.entry) }
 {
     match extent {
-        Extent::Implied { .. } => Put::EndTagAndContent { raw },
-        _ => Put::Content,
+        Extent::Implied { .. } => Put::EndTagAndContent { raw, content },
+        _ => Put::Content { content },
     }
 }
 
@@ -118,15 +132,16 @@ fn ends_page(alloc: Global, extent: Extent, raw: &[u8]) -> Result<bool, AllocErr
     }
 }
 
-fn put_behind(
+fn put_behind<'n>(
     alloc: Global,
     number: usize,
     extent: Extent,
-    raw: &[u8],
-) -> Result<Option<Planned<'_>>, AllocError>
-    ensures { IfOk result (λ found. (content : Content) →
-        asked (PutAfter content) number (extent_view extent) (name_of raw.now)
-        ≡ option_map (planned_view content) found) }
+    raw: &'n [u8],
+    content: Content<'n>,
+) -> Result<Option<Planned<'n>>, AllocError>
+    ensures { IfOk result (λ found.
+        asked (PutAfter (content_view content.entry)) number (extent_view extent)
+        (name_of raw.now) ≡ option_map planned_view found) }
 {
     let ends_page = ends_page(alloc, extent, raw)?;
     if ends_page {
@@ -135,14 +150,14 @@ fn put_behind(
     let Some(until) = until_of(number, extent)? else {
         return Ok(None);
     };
-    Ok(Some(one(until, until, put_after(extent, raw))))
+    Ok(Some(one(until, until, put_after(extent, raw, content))))
 }
 
 // The same in the place of the start tag, and of its own end tag.
 fn tags<'n>(number: usize, extent: Extent, put: Put<'n>) -> Result<Option<Planned<'n>>, AllocError>
-    ensures { IfOk result (λ found. (content : Content) →
-        tags_asked number (extent_view extent) (puts_view content put.entry)
-        ≡ option_map (planned_view content) found) }
+    ensures { IfOk result (λ found.
+        tags_asked number (extent_view extent) (puts_view put.entry)
+        ≡ option_map planned_view found) }
 {
     let until = next(number)?;
     match extent {
@@ -177,9 +192,9 @@ fn both_tags<'n>(
 }
 
 fn unwrapped(number: usize, extent: Extent) -> Result<Option<Planned<'static>>, AllocError>
-    ensures { IfOk result (λ found. (content : Content) (name : List ℕ) →
+    ensures { IfOk result (λ found. (name : List ℕ) →
         asked Unwrap number (extent_view extent) name
-        ≡ option_map (planned_view content) found) }
+        ≡ option_map planned_view found) }
 {
     tags(number, extent, Put::Nothing)
 }
@@ -220,10 +235,10 @@ fn renamed_tags<'n>(
     extent: Extent,
     name: &'n [u8],
 ) -> Result<Option<Planned<'n>>, AllocError>
-    ensures { IfOk result (λ found. (content : Content) (old : List ℕ) →
+    ensures { IfOk result (λ found. (old : List ℕ) →
         may_be_renamed old name.now ≡ true →
         asked (RenameElement name.now) number (extent_view extent) old
-        ≡ option_map (planned_view content) found) }
+        ≡ option_map planned_view found) }
 {
     match extent {
         Extent::Implied { end } => renamed_implied(number, end, name),
@@ -238,9 +253,9 @@ fn renamed<'n>(
     raw: &[u8],
     name: &'n [u8],
 ) -> Result<Option<Planned<'n>>, AllocError>
-    ensures { IfOk result (λ found. (content : Content) →
+    ensures { IfOk result (λ found.
         asked (RenameElement name.now) number (extent_view extent) (name_of raw.now)
-        ≡ option_map (planned_view content) found) }
+        ≡ option_map planned_view found) }
 {
     let old = lower_name(alloc, raw)?;
     let may_be = may_be_renamed(old.as_bytes(), name);
@@ -261,17 +276,17 @@ pub(crate) fn plan<'n>(
 ) -> Result<Option<Planned<'n>>, AllocError>
     ensures { IfOk result (λ found.
         asked (patch_view patch.entry) number (extent_view extent) (name_of raw.now)
-        ≡ option_map (planned_view (content_of (patch_view patch.entry))) found) }
+        ≡ option_map planned_view found) }
 {
     match patch {
         ElementPatch::Rename { name } => renamed(alloc, number, extent, raw, name),
         ElementPatch::Remove => removed(number, extent),
         ElementPatch::Unwrap => unwrapped(number, extent),
-        ElementPatch::ReplaceWith { .. } => replaced(number, extent),
-        ElementPatch::Fill { .. } => filled(number, extent),
-        ElementPatch::Prepend { .. } => prepended(number, extent),
-        ElementPatch::Append { .. } => Ok(appended(number, extent)),
-        ElementPatch::PutBefore { .. } => Ok(Some(put_before(number, extent))),
-        ElementPatch::PutAfter { .. } => put_behind(alloc, number, extent, raw),
+        ElementPatch::ReplaceWith { content } => replaced(number, extent, content),
+        ElementPatch::Fill { content } => filled(number, extent, content),
+        ElementPatch::Prepend { content } => prepended(number, extent, content),
+        ElementPatch::Append { content } => Ok(appended(number, extent, content)),
+        ElementPatch::PutBefore { content } => Ok(Some(put_before(number, extent, content))),
+        ElementPatch::PutAfter { content } => put_behind(alloc, number, extent, raw, content),
     }
 }

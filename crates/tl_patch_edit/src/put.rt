@@ -3,11 +3,11 @@ ghost use Rattle.std.specs.Prelude.{◌≡◌, [], ◌∷◌, IfNone, IfOk, IfSo
 ghost use Rattle.tl_html_spec.specs.Pieces.{bytes_of, pieces_of};
 ghost use Rattle.tl_html_tokens.specs.declared.mode.Mode.TheVariants.{Data};
 ghost use Rattle.tl_html_tokens.specs.declared.stage.TokenKind.TheVariants.{EndTag};
-ghost use Rattle.tl_patch_edit.specs.Asks.{GivePut, IsEndTagOf, IsReady, IsRenamedTag, IsTagFor, IsTextPart, is_data, puts_view, text_form};
+ghost use Rattle.tl_patch_edit.specs.Asks.{GivePut, IsEndTagOf, IsRenamedTag, IsTagFor, IsTextPart, is_data, puts_view, text_form, text_of, text_put};
 ghost use Rattle.tl_patch_edit.specs.Causes.{CannotPutIn, CannotStandIn};
-ghost use Rattle.tl_patch_edit.specs.Found.{has_mark};
 ghost use Rattle.tl_patch_edit.specs.Parts.{Give, part_view, parts_view};
 ghost use Rattle.tl_patch_edit.specs.Sayings.{sayings};
+ghost use Rattle.tl_patch_edit.specs.Found.{has_mark};
 ghost use Rattle.tl_patch_spec.specs.Patches.{Changed, Markup, NewContent, NewEndTag, Text};
 ghost use Rattle.tl_patch_spec.specs.TagChanges.{Rename};
 ghost use Rattle.tl_html_tags.specs.Parts.{name_of};
@@ -15,11 +15,11 @@ ghost use Rattle.tl_patch_edit.specs.View.{content_view};
 ghost use Rattle.tl_patch_spec.specs.Markup.{text_markup};
 
 use crate::ask::{Content, Put};
-use crate::part::{Part, copy, push};
+use crate::part::{Part, copy, parts_of, push};
 use crate::ready::has_mark;
 use std::alloc::{AllocError, Global};
 use tl_html_texts::characters;
-use tl_html_tokens::{Mode, TokenKind};
+use tl_html_tokens::{Mode, TokenKind, tokens};
 
 // A text as it stands where it is read in a mode.
 fn text_form<'p>(mode: Mode, text: &'p [u8], escaped: &'p [u8]) -> &'p [u8]
@@ -88,15 +88,23 @@ fn text_parts<'p>(
     Ok(Some(parts))
 }
 
+// Markup as parts.
+fn parts_of_markup<'p>(alloc: Global, markup: &'p [u8]) -> Result<Vec<Part<'p>>, AllocError>
+    ensures { IfOk result (λ parts. has_mark markup.now ≡ false →
+        Give (parts_view parts.items) (bytes_of (pieces_of markup.now))
+        (sayings (pieces_of markup.now))) }
+{
+    let tokens = tokens(alloc, markup)?;
+    let parts = parts_of(alloc, markup, tokens.as_slice())?;
+    Ok(parts)
+}
+
 // Markup, which is put in markup alone. A byte order mark in front would be another character.
 fn markup_parts<'p>(
     alloc: Global,
     place: Part<'p>,
-    markup: &[u8],
-    parts: &[Part<'p>],
+    markup: &'p [u8],
 ) -> Result<Option<Vec<Part<'p>>>, AllocError>
-    requires { has_mark markup.now ≡ false → Give (parts_view parts.now)
-        (bytes_of (pieces_of markup.now)) (sayings (pieces_of markup.now)) }
     ensures parts { IfOk result (λ found. IfSome found (λ parts.
         GivePut (NewContent (Markup markup.now) ∷ []) (part_view place.entry)
         (parts_view parts.items))) }
@@ -111,35 +119,26 @@ fn markup_parts<'p>(
     if has_mark {
         return Ok(None);
     }
-    let mut put = Vec::new(alloc);
-    copy(parts, &mut put)?;
+    let put = parts_of_markup(alloc, markup)?;
     Ok(Some(put))
-}
-
-// The content, made ready: a text as it stands in markup, and the parts of markup.
-#[derive(Clone, Copy)]
-pub(crate) struct Ready<'r, 'p> {
-    pub(crate) content: Content<'p>,
-    pub(crate) escaped: &'p [u8],
-    pub(crate) markup: &'r [Part<'p>],
 }
 
 fn content_parts<'p>(
     alloc: Global,
     place: Part<'p>,
-    ready: Ready<'_, 'p>,
+    content: Content<'p>,
+    escaped: &'p [u8],
 ) -> Result<Option<Vec<Part<'p>>>, AllocError>
-    requires { IsReady (content_view ready.content) ready.escaped.now
-        (parts_view ready.markup.now) }
+    requires { escaped.now ≡ text_markup (text_of (content_view content)) }
     ensures parts { IfOk result (λ found. IfSome found (λ parts.
-        GivePut (NewContent (content_view ready.entry.content) ∷ []) (part_view place.entry)
+        GivePut (NewContent (content_view content.entry) ∷ []) (part_view place.entry)
         (parts_view parts.items))) }
     ensures none { IfOk result (λ found.
-        IfNone found (CannotStandIn place.entry.mode (content_view ready.entry.content))) }
+        IfNone found (CannotStandIn place.entry.mode (content_view content.entry))) }
 {
-    match ready.content {
-        Content::Text { text } => text_parts(alloc, place, text, ready.escaped),
-        Content::Markup { markup } => markup_parts(alloc, place, markup, ready.markup),
+    match content {
+        Content::Text { text } => text_parts(alloc, place, text, escaped),
+        Content::Markup { markup } => markup_parts(alloc, place, markup),
     }
 }
 
@@ -158,24 +157,24 @@ fn end_tag_part(end_tag: &[u8]) -> Part<'_>
 // What is put where a part begins, if it can be put there.
 pub(crate) fn put_parts<'p>(
     alloc: Global,
-    put: Put<'_>,
+    put: Put<'p>,
     place: Part<'p>,
-    ready: Ready<'_, 'p>,
+    escaped: &'p [u8],
     tag: &'p [u8],
 ) -> Result<Option<Vec<Part<'p>>>, AllocError>
-    requires ready { IsReady (content_view ready.content) ready.escaped.now
-        (parts_view ready.markup.now) }
+    requires escaped { escaped.now ≡ text_markup (text_put put) }
     requires tag { IsTagFor put (part_view place) tag.now }
     ensures parts { IfOk result (λ found. IfSome found (λ parts.
-        GivePut (puts_view (content_view ready.entry.content) put.entry)
-        (part_view place.entry) (parts_view parts.items))) }
+        GivePut (puts_view put.entry) (part_view place.entry) (parts_view parts.items))) }
     ensures none { IfOk result (λ found. IfNone found
-        (CannotPutIn (content_view ready.entry.content) place.entry.mode put.entry)) }
+        (CannotPutIn place.entry.mode put.entry)) }
 {
     match put {
         Put::Nothing => Ok(Some(Vec::new(alloc))),
-        Put::Content => content_parts(alloc, place, ready),
-        Put::EndTagAndContent { raw } => tag_and_content(alloc, place, ready, raw, tag),
+        Put::Content { content } => content_parts(alloc, place, content, escaped),
+        Put::EndTagAndContent { raw, content } => {
+            tag_and_content(alloc, place, content, escaped, raw, tag)
+        }
         Put::EndTag { name } => end_tag_alone(alloc, place, name, tag),
         Put::Renamed { name } => renamed_tag(alloc, place, name, tag),
     }
@@ -185,25 +184,25 @@ pub(crate) fn put_parts<'p>(
 fn tag_and_content<'p>(
     alloc: Global,
     place: Part<'p>,
-    ready: Ready<'_, 'p>,
+    content: Content<'p>,
+    escaped: &'p [u8],
     raw: &[u8],
     tag: &'p [u8],
 ) -> Result<Option<Vec<Part<'p>>>, AllocError>
-    requires ready { IsReady (content_view ready.content) ready.escaped.now
-        (parts_view ready.markup.now) }
+    requires escaped { escaped.now ≡ text_markup (text_of (content_view content)) }
     requires tag { IsEndTagOf (name_of raw.now) tag.now }
     ensures parts { IfOk result (λ found. IfSome found (λ parts.
-        GivePut (NewEndTag (name_of raw.now) ∷ NewContent (content_view ready.entry.content) ∷ [])
+        GivePut (NewEndTag (name_of raw.now) ∷ NewContent (content_view content.entry) ∷ [])
         (part_view place.entry) (parts_view parts.items))) }
     ensures none { IfOk result (λ found.
-        IfNone found (CannotStandIn place.entry.mode (content_view ready.entry.content))) }
+        IfNone found (CannotStandIn place.entry.mode (content_view content.entry))) }
 {
-    let Some(content) = content_parts(alloc, place, ready)? else {
+    let Some(found) = content_parts(alloc, place, content, escaped)? else {
         return Ok(None);
     };
     let mut parts = Vec::new(alloc);
     push(end_tag_part(tag), &mut parts)?;
-    copy(content.as_slice(), &mut parts)?;
+    copy(found.as_slice(), &mut parts)?;
     Ok(Some(parts))
 }
 

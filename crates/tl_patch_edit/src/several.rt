@@ -1,122 +1,169 @@
-//! A page with several elements changed.
+//! A page with elements changed.
 ghost use Rattle.std.specs.Prelude.{◌≡◌, ◌≤◌, ◌<◌, ◌++◌, ◌∷◌, [], ℕ, Err, IfErr, IfOk, MatchResult, OnOk, Some, drop, length};
 ghost use Rattle.std.specs.List.{All};
 ghost use Rattle.std.specs.List.Sorted.{IsPermutation};
-ghost use Rattle.tl_html_spec.specs.Pieces.{pieces, runs};
-ghost use Rattle.tl_patch_spec.specs.Patches.{Content, asked_of};
+ghost use Rattle.tl_patch_spec.specs.Patches.{asked_of};
 ghost use Rattle.tl_patch_spec.specs.Tail.{elements_up_to_tail};
-ghost use Rattle.tl_patch_spec.specs.Together.{asked_each, next_after};
-ghost use Rattle.tl_patch_edit.specs.Asks.{content_of, planned_view};
+ghost use Rattle.tl_patch_spec.specs.Together.{asked_each, at_each, depth_of, gone_after, is_gone, none_gone, rank_of, turn_of};
+ghost use Rattle.tl_patch_edit.specs.Asks.{planned_view};
 ghost use Rattle.tl_patch_edit.specs.Causes.{IsAsksError, IsPlanError, IsPlanned, IsStartsError};
-ghost use Rattle.tl_patch_edit.specs.Errors.{CannotBeMeant, CannotBeRead, CannotBeWritten, IsAcrossError, IsReadingError, IsRefused, LacksStartTag, StandAcross, StandsPastEnd, patch_each};
-ghost use Rattle.tl_patch_edit.specs.Found.{IsStartOf};
+ghost use Rattle.tl_patch_edit.specs.Errors.{CannotBeMeant, CannotBeRead, CannotBeWritten, IsRefused, LacksStartTag, StandAcross, StandsPastEnd, pieces_in};
+ghost use Rattle.tl_patch_edit.specs.declared.ask.PlacedPatch.{PlacedPatch};
 ghost use Rattle.tl_patch_edit.specs.declared.error.EditError.TheVariants.{Across, EndOfPage, NoStartTag, NotMeant, NotWritten, OutOfMemory, ReadOtherwise};
-ghost use Rattle.tl_patch_edit.specs.Several.{AreEdited, AreExtents, AreInTurn, AreSorted, AreStartsAt, IsStartOfPage, asked_view, numbers_of};
-ghost use Rattle.tl_patch_edit.specs.View.{patch_view};
+ghost use Rattle.tl_patch_edit.specs.Several.{AreEdited, AreExtents, AreInTurn, AreMeantAt, AreSorted, IsMeantOfPage, asked_view, places_of, stands_twice};
+ghost use Rattle.tl_patch_edit.specs.View.{gone_view, meant_view, patch_view, patches_view, turn_view};
 
-use crate::ask::{ElementPatch, Extent, PlacedAsk, Planned, Start, next};
+use crate::ask::{ElementPatch, Extent, Gone, MeantPatch, PlacedAsk, PlacedPatch, Planned, Turn};
 use crate::edit::{meant_start, planned_for, push_asks, spliced_page};
 use crate::error::EditError;
 use crate::extent::extents_of;
 use crate::part::parts_of;
-use crate::ready::content_of;
 use crate::tail::elements_up_to_tail;
 use std::alloc::{AllocError, Global};
 use std::cmp::Reverse;
 use tl_html_tokens::Token;
 
-fn push_start(start: Start, out: &mut Vec<Start>) -> Result<(), AllocError>
-    ensures { OnOk result (out.new.items ≡ out.old.items ++ start ∷ []) }
+fn push_meant<'n>(one: MeantPatch<'n>, out: &mut Vec<MeantPatch<'n>>) -> Result<(), AllocError>
+    ensures { OnOk result (out.new.items ≡ out.old.items ++ one.entry ∷ []) }
 {
-    out.push(start)?;
+    out.push(one)?;
     Ok(())
 }
 
-// The start tags at places, which stand in order; a place may stand several times.
-fn starts_at(alloc: Global, tokens: &[Token], places: &[usize]) -> Result<Vec<Start>, EditError>
-    ensures starts { IfOk result (λ starts. AreStartsAt 0 tokens.now places.now starts.items) }
-    ensures error { IfErr result (IsStartsError tokens.now places.now) }
+// Patches with the start tags at their places, which stand in order; a place may stand several
+// times.
+fn meant_at<'n>(
+    alloc: Global,
+    tokens: &[Token],
+    patches: &[PlacedPatch<'n>],
+) -> Result<Vec<MeantPatch<'n>>, EditError>
+    ensures meant { IfOk result (λ meant. AreMeantAt 0 tokens.now patches.now meant.items) }
+    ensures error { IfErr result
+        (IsStartsError tokens.now (places_of (patches_view patches.now))) }
 {
-    let mut starts = Vec::with_capacity(alloc, places.len())?;
+    let mut meant = Vec::with_capacity(alloc, patches.len())?;
     let mut from = 0usize;
-    for at in 0..places.len() {
-        let start = meant_start(tokens, from, places[at])?;
-        push_start(start, &mut starts)?;
+    for at in 0..patches.len() {
+        let one = patches[at];
+        let start = meant_start(tokens, from, one.place)?;
+        let patch = one.patch;
+        push_meant(MeantPatch { start, patch }, &mut meant)?;
         from = start.number;
     }
-    Ok(starts)
+    Ok(meant)
 }
 
-// What is asked for of the element of a start tag.
+// What a patch asks for of its element.
 fn planned_by<'n>(
     alloc: Global,
     page: &'n [u8],
-    start: Start,
+    one: MeantPatch<'n>,
     extents: &[Extent],
-    patch: ElementPatch<'n>,
 ) -> Result<Planned<'n>, EditError>
-    requires start { IsStartOf page.now start.number start.token }
-    requires extents { AreExtents (elements_up_to_tail (runs (pieces page.now))) extents.now }
-    requires within { start.number < length extents.now }
+    requires start { IsMeantOfPage page.now one }
+    requires extents { AreExtents (elements_up_to_tail (pieces_in page.now)) extents.now }
+    requires within { one.start.number < length extents.now }
     ensures planned { IfOk result (λ planned.
-        asked_of (runs (pieces page.now)) start.number (patch_view patch.entry)
-        ≡ Some (planned_view (content_of (patch_view patch.entry)) planned)) }
-    ensures error { IfErr result (IsPlanError start.token.start
-        (asked_of (runs (pieces page.now)) start.number (patch_view patch.entry))) }
+        asked_of (pieces_in page.now) one.entry.start.number (patch_view one.entry.patch)
+        ≡ Some (planned_view planned)) }
+    ensures error { IfErr result (IsPlanError one.entry.start.token.start
+        (asked_of (pieces_in page.now) one.entry.start.number (patch_view one.entry.patch))) }
 {
-    let planned = planned_for(alloc, page, start, extents[start.number], patch)?;
+    let planned = planned_for(alloc, page, one, extents[one.start.number])?;
     Ok(planned)
 }
 
-// The number of the next start tag that counts: what begins in what is taken away goes with it.
-fn next_after(
-    patch: ElementPatch<'_>,
-    number: usize,
-    planned: Planned<'_>,
-) -> Result<usize, AllocError>
-    ensures { (content : Content) → IfOk result (λ next.
-        next ≡ next_after (patch_view patch.entry) number (planned_view content planned.entry)) }
+// Whether an element begins in what was taken away.
+fn is_gone(gone: Gone, number: usize) -> bool
+    ensures { result ≡ is_gone (gone_view gone) number }
 {
+    gone.from < number && number < gone.until
+}
+
+// What is taken away after a patch of an element.
+fn gone_after(patch: ElementPatch<'_>, number: usize, planned: Planned<'_>, gone: Gone) -> Gone
+    ensures { gone_view result ≡ gone_after (patch_view patch.entry) number
+        (planned_view planned.entry) (gone_view gone) }
+{
+    let until = planned.first.until;
+    let here = Gone {
+        from: number,
+        until,
+    };
     match patch {
-        ElementPatch::Remove => Ok(planned.first.until),
-        ElementPatch::ReplaceWith { .. } => Ok(planned.first.until),
-        ElementPatch::Fill { .. } => Ok(planned.first.until),
-        _ => next(number),
+        ElementPatch::Remove => here,
+        ElementPatch::ReplaceWith { .. } => here,
+        ElementPatch::Fill { .. } => here,
+        _ => gone,
     }
 }
 
-// What is asked for of the elements of these start tags.
+fn depth_of(patch: ElementPatch<'_>, number: usize) -> usize
+    ensures { result ≡ depth_of (patch_view patch.entry) number }
+{
+    match patch {
+        ElementPatch::PutBefore { .. } => 0,
+        _ => number,
+    }
+}
+
+fn rank_of(patch: ElementPatch<'_>) -> usize
+    ensures { result ≡ rank_of (patch_view patch.entry) }
+{
+    match patch {
+        ElementPatch::Prepend { .. } => 0,
+        ElementPatch::Fill { .. } => 1,
+        ElementPatch::Append { .. } => 2,
+        ElementPatch::Rename { .. } => 3,
+        ElementPatch::PutAfter { .. } => 4,
+        ElementPatch::PutBefore { .. } => 5,
+        _ => 0,
+    }
+}
+
+// When what a patch puts has its turn.
+fn turn_of(patch: ElementPatch<'_>, number: usize, at: usize) -> Turn
+    ensures { turn_view result ≡ turn_of (patch_view patch.entry) number at }
+{
+    Turn {
+        depth: depth_of(patch, number),
+        rank: rank_of(patch),
+        at,
+    }
+}
+
+// What these patches ask for.
 fn asks_of<'n>(
     alloc: Global,
     page: &'n [u8],
-    starts: &[Start],
+    meant: &[MeantPatch<'n>],
     extents: &[Extent],
-    patch: ElementPatch<'n>,
 ) -> Result<Vec<PlacedAsk<'n>>, EditError>
-    requires starts { All (IsStartOfPage page.now) starts.now }
-    requires extents { AreExtents (elements_up_to_tail (runs (pieces page.now))) extents.now }
-    requires within { length (runs (pieces page.now)) ≤ length extents.now }
+    requires meant { All (IsMeantOfPage page.now) meant.now }
+    requires extents { AreExtents (elements_up_to_tail (pieces_in page.now)) extents.now }
+    requires within { length (pieces_in page.now) ≤ length extents.now }
     ensures asks { IfOk result (λ asks.
-        asked_each (runs (pieces page.now)) (patch_view patch.entry) 0 (numbers_of starts.now)
-        ≡ Some (asked_view (content_of (patch_view patch.entry)) asks.items)) }
-    ensures planned { IfOk result (λ asks.
-        All (IsPlanned page.now (patch_view patch.entry) starts.now) asks.items) }
-    ensures error { IfErr result (IsAsksError page.now (patch_view patch.entry) starts.now) }
+        asked_each (pieces_in page.now) 0 none_gone (meant_view meant.now)
+        ≡ Some (asked_view asks.items)) }
+    ensures planned { IfOk result (λ asks. All (IsPlanned page.now meant.now) asks.items) }
+    ensures error { IfErr result (IsAsksError page.now meant.now) }
 {
-    let mut asks = Vec::with_capacity(alloc, starts.len())?;
-    let mut next = 0usize;
-    for at in 0..starts.len() {
-        let start = starts[at];
-        if start.number >= next {
-            let planned = planned_by(alloc, page, start, extents, patch)?;
-            push_asks(start, planned, &mut asks)?;
-            next = next_after(patch, start.number, planned)?;
+    let mut asks = Vec::with_capacity(alloc, meant.len())?;
+    let mut gone = Gone { from: 0, until: 0 };
+    for at in 0..meant.len() {
+        let one = meant[at];
+        let is_gone = is_gone(gone, one.start.number);
+        if !is_gone {
+            let planned = planned_by(alloc, page, one, extents)?;
+            let turn = turn_of(one.patch, one.start.number, at);
+            push_asks(one.start, turn, planned, &mut asks)?;
+            gone = gone_after(one.patch, one.start.number, planned, gone);
         }
     }
     Ok(asks)
 }
 
-// Puts asks in order, those of inner elements first where they are for one place.
+// Puts asks in order, in turn where they are for one place.
 fn sort_asks(asks: &mut Vec<PlacedAsk<'_>>) -> Result<(), AllocError>
     ensures permutation { IsPermutation asks.old.items asks.new.items }
     ensures in_turn { OnOk result (AreInTurn asks.new.items) }
@@ -125,82 +172,137 @@ fn sort_asks(asks: &mut Vec<PlacedAsk<'_>>) -> Result<(), AllocError>
         (
             placed.ask.from,
             placed.ask.until,
-            Reverse(placed.start.number),
+            Reverse(placed.turn.depth),
+            placed.turn.rank,
+            placed.turn.at,
         )
     })
 }
 
-// What is asked for of these start tags, in order.
+// What these patches ask for, in order.
 fn sorted_asks<'n>(
     alloc: Global,
     page: &'n [u8],
-    starts: &[Start],
+    meant: &[MeantPatch<'n>],
     extents: &[Extent],
-    patch: ElementPatch<'n>,
 ) -> Result<Vec<PlacedAsk<'n>>, EditError>
-    requires starts { All (IsStartOfPage page.now) starts.now }
-    requires extents { AreExtents (elements_up_to_tail (runs (pieces page.now))) extents.now }
-    requires within { length (runs (pieces page.now)) ≤ length extents.now }
-    ensures sorted { IfOk result (λ asks. AreSorted (runs (pieces page.now))
-        (patch_view patch.entry) (numbers_of starts.now) (content_of (patch_view patch.entry))
-        asks.items) }
-    ensures planned { IfOk result (λ asks.
-        All (IsPlanned page.now (patch_view patch.entry) starts.now) asks.items) }
-    ensures error { IfErr result (IsAsksError page.now (patch_view patch.entry) starts.now) }
+    requires meant { All (IsMeantOfPage page.now) meant.now }
+    requires extents { AreExtents (elements_up_to_tail (pieces_in page.now)) extents.now }
+    requires within { length (pieces_in page.now) ≤ length extents.now }
+    ensures sorted { IfOk result (λ asks.
+        AreSorted (pieces_in page.now) (meant_view meant.now) asks.items) }
+    ensures planned { IfOk result (λ asks. All (IsPlanned page.now meant.now) asks.items) }
+    ensures error { IfErr result (IsAsksError page.now meant.now) }
 {
-    let mut asks = asks_of(alloc, page, starts, extents, patch)?;
+    let mut asks = asks_of(alloc, page, meant, extents)?;
     sort_asks(&mut asks)?;
     Ok(asks)
 }
 
-// The first of some places.
-fn first_of(places: &[usize]) -> usize
-    requires { 0 < length places.now }
-    ensures { places.now ≡ result ∷ drop 1 places.now }
+// The place of the first of some patches.
+fn first_of(patches: &[PlacedPatch<'_>]) -> usize
+    requires { 0 < length patches.now }
+    ensures { places_of (patches_view patches.now)
+        ≡ result ∷ places_of (patches_view (drop 1 patches.now)) }
 {
-    places[0]
+    patches[0].place
 }
 
-// The page with this patch of several elements.
-fn with_patches(
+// The page with these patches.
+fn with_patches<'p>(
     alloc: Global,
-    page: &[u8],
-    places: &[usize],
-    patch: ElementPatch<'_>,
+    page: &'p [u8],
+    patches: &[PlacedPatch<'p>],
 ) -> Result<Vec<u8>, EditError>
-    requires { 0 < length places.now }
+    requires { 0 < length patches.now }
     ensures edited { IfOk result (λ text.
-        AreEdited (patch_view patch.entry) places.now page.now text.items) }
-    ensures error { IfErr result (IsRefused page.now places.now
-        (patch_each (patch_view patch.entry) places.now)) }
-    ensures across { IfErr result
-        (IsAcrossError page.now places.now (patch_view patch.entry)) }
-    ensures reading { IfErr result
-        (IsReadingError page.now places.now (patch_view patch.entry)) }
+        AreEdited (patches_view patches.now) page.now text.items) }
+    ensures error { IfErr result (IsRefused page.now (patches_view patches.now)) }
 {
-    let place = first_of(places);
+    let place = first_of(patches);
     let found = elements_up_to_tail(alloc, page)?;
     let parts = parts_of(alloc, page, found.tokens.as_slice())?;
-    let starts = starts_at(alloc, found.tokens.as_slice(), places)?;
+    let meant = meant_at(alloc, found.tokens.as_slice(), patches)?;
     let extents = extents_of(alloc, found.elements.as_slice(), parts.len())?;
-    let asks = sorted_asks(alloc, page, starts.as_slice(), extents.as_slice(), patch)?;
-    let content = content_of(patch);
-    let text = spliced_page(
-        alloc,
-        page,
-        parts.as_slice(),
-        asks.as_slice(),
-        content,
-        place,
-    )?;
+    let asks = sorted_asks(alloc, page, meant.as_slice(), extents.as_slice())?;
+    let text = spliced_page(alloc, page, parts.as_slice(), asks.as_slice(), place)?;
     Ok(text)
 }
 
-/// The page with this patch of several elements, whose start tags begin at these bytes of the page,
-/// in order; a place may stand several times, and counts once. An element that begins in what
-/// another takes away, by `Remove`, `ReplaceWith` or `Fill`, goes with it. No other byte changes.
-/// The text is read again, and is refused where it isn't read as asked, with the place of the first
-/// element.
+/// The page with these patches, each of the element whose start tag begins at its place, a byte of
+/// the page; the places stand in order, and one may stand several times. An element that begins in
+/// what another patch takes away, by `Remove`, `ReplaceWith` or `Fill`, goes with it; patches that
+/// cut across each other are refused. No other byte changes. `</>`, which is read as nothing,
+/// stands where two texts would become something else together. The text is read again, and is
+/// refused where it isn't read as asked, with the place of the first element.
+pub fn patch_each(
+    alloc: Global,
+    page: &[u8],
+    patches: &[PlacedPatch<'_>],
+) -> Result<Vec<u8>, EditError>
+    ensures edited { IfOk result (λ text.
+        AreEdited (patches_view patches.now) page.now text.items) }
+    ensures unchanged { patches.now ≡ [] →
+        MatchResult result (λ text. text.items ≡ page.now) (λ error. error ≡ OutOfMemory) }
+    ensures no_start { (place : ℕ) → result ≡ Err (NoStartTag place) →
+        LacksStartTag page.now (places_of (patches_view patches.now)) place }
+    ensures not_meant { (place : ℕ) → result ≡ Err (NotMeant place) →
+        CannotBeMeant page.now (patches_view patches.now) place }
+    ensures across { (place : ℕ) → result ≡ Err (Across place) →
+        StandAcross page.now (patches_view patches.now) place }
+    ensures past_end { (place : ℕ) → result ≡ Err (EndOfPage place) →
+        StandsPastEnd page.now (patches_view patches.now) place }
+    ensures not_written { (place : ℕ) → result ≡ Err (NotWritten place) →
+        CannotBeWritten page.now (patches_view patches.now) place }
+    ensures read_otherwise { (place : ℕ) → result ≡ Err (ReadOtherwise place) →
+        CannotBeRead page.now (patches_view patches.now) place }
+{
+    if patches.is_empty() {
+        let mut text = Vec::new(alloc);
+        text.extend_from_slice(page)?;
+        return Ok(text);
+    }
+    with_patches(alloc, page, patches)
+}
+
+// Whether the place behind one is the same.
+fn stands_twice(places: &[usize]) -> bool
+    ensures { result ≡ stands_twice places.now }
+{
+    match places {
+        [place, next, ..] => place == next,
+        _ => false,
+    }
+}
+
+fn push_patch<'n>(one: PlacedPatch<'n>, out: &mut Vec<PlacedPatch<'n>>) -> Result<(), AllocError>
+    ensures { OnOk result (out.new.items ≡ out.old.items ++ one.entry ∷ []) }
+{
+    out.push(one)?;
+    Ok(())
+}
+
+// This patch at each of these places.
+fn each_at<'n>(
+    alloc: Global,
+    places: &[usize],
+    patch: ElementPatch<'n>,
+) -> Result<Vec<PlacedPatch<'n>>, AllocError>
+    ensures { IfOk result (λ patches. patches_view patches.items
+        ≡ at_each (patch_view patch.entry) places.now) }
+{
+    let mut patches = Vec::with_capacity(alloc, places.len())?;
+    for at in 0..places.len() {
+        let is_twice = stands_twice(&places[at..]);
+        if !is_twice {
+            let place = places[at];
+            push_patch(PlacedPatch { place, patch }, &mut patches)?;
+        }
+    }
+    Ok(patches)
+}
+
+/// The same with one patch of several elements; a place that stands several times counts once.
 pub fn patch_elements(
     alloc: Global,
     page: &[u8],
@@ -208,26 +310,47 @@ pub fn patch_elements(
     patch: ElementPatch<'_>,
 ) -> Result<Vec<u8>, EditError>
     ensures edited { IfOk result (λ text.
-        AreEdited (patch_view patch.entry) places.now page.now text.items) }
+        AreEdited (at_each (patch_view patch.entry) places.now) page.now text.items) }
     ensures unchanged { places.now ≡ [] →
         MatchResult result (λ text. text.items ≡ page.now) (λ error. error ≡ OutOfMemory) }
     ensures no_start { (place : ℕ) → result ≡ Err (NoStartTag place) →
-        LacksStartTag page.now places.now place }
+        LacksStartTag page.now (places_of (at_each (patch_view patch.entry) places.now)) place }
     ensures not_meant { (place : ℕ) → result ≡ Err (NotMeant place) →
-        CannotBeMeant page.now (patch_each (patch_view patch.entry) places.now) place }
+        CannotBeMeant page.now (at_each (patch_view patch.entry) places.now) place }
     ensures across { (place : ℕ) → result ≡ Err (Across place) →
-        StandAcross page.now places.now (patch_view patch.entry) place }
+        StandAcross page.now (at_each (patch_view patch.entry) places.now) place }
     ensures past_end { (place : ℕ) → result ≡ Err (EndOfPage place) →
-        StandsPastEnd page.now (patch_each (patch_view patch.entry) places.now) place }
+        StandsPastEnd page.now (at_each (patch_view patch.entry) places.now) place }
     ensures not_written { (place : ℕ) → result ≡ Err (NotWritten place) →
-        CannotBeWritten page.now (patch_each (patch_view patch.entry) places.now) place }
+        CannotBeWritten page.now (at_each (patch_view patch.entry) places.now) place }
     ensures read_otherwise { (place : ℕ) → result ≡ Err (ReadOtherwise place) →
-        CannotBeRead page.now places.now (patch_view patch.entry) place }
+        CannotBeRead page.now (at_each (patch_view patch.entry) places.now) place }
 {
-    if places.is_empty() {
-        let mut text = Vec::new(alloc);
-        text.extend_from_slice(page)?;
-        return Ok(text);
-    }
-    with_patches(alloc, page, places, patch)
+    let patches = each_at(alloc, places, patch)?;
+    patch_each(alloc, page, patches.as_slice())
+}
+
+/// The same with one patch of one element.
+pub fn patch_element(
+    alloc: Global,
+    page: &[u8],
+    place: usize,
+    patch: ElementPatch<'_>,
+) -> Result<Vec<u8>, EditError>
+    ensures edited { IfOk result (λ text.
+        AreEdited ((place, patch_view patch.entry) ∷ []) page.now text.items) }
+    ensures no_start { (p : ℕ) → result ≡ Err (NoStartTag p) →
+        LacksStartTag page.now (place ∷ []) p }
+    ensures not_meant { (p : ℕ) → result ≡ Err (NotMeant p) →
+        CannotBeMeant page.now ((place, patch_view patch.entry) ∷ []) p }
+    ensures across { (p : ℕ) → result ≡ Err (Across p) →
+        StandAcross page.now ((place, patch_view patch.entry) ∷ []) p }
+    ensures past_end { (p : ℕ) → result ≡ Err (EndOfPage p) →
+        StandsPastEnd page.now ((place, patch_view patch.entry) ∷ []) p }
+    ensures not_written { (p : ℕ) → result ≡ Err (NotWritten p) →
+        CannotBeWritten page.now ((place, patch_view patch.entry) ∷ []) p }
+    ensures read_otherwise { (p : ℕ) → result ≡ Err (ReadOtherwise p) →
+        CannotBeRead page.now ((place, patch_view patch.entry) ∷ []) p }
+{
+    patch_each(alloc, page, &[PlacedPatch { place, patch }])
 }

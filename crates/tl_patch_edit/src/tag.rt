@@ -3,18 +3,18 @@ ghost use Rattle.std.specs.Prelude.{◌≡◌, ◌≤◌, ◌∷◌, ◌++◌, [
 ghost use Rattle.std.specs.List.{All};
 ghost use Rattle.tl_html_tags.specs.Parts.{name_of};
 ghost use Rattle.tl_patch.specs.Places.{begins_end_tag};
-ghost use Rattle.tl_patch_edit.specs.Asks.{IsEndTagOf, IsRenamedEnd, IsRenamedTag, IsTagAt, IsTagFor, IsTagged, placed_of};
+ghost use Rattle.tl_patch_edit.specs.Asks.{IsEndTagOf, IsEscaped, IsRenamedEnd, IsRenamedTag, IsTagAt, IsTagFor, IsTagged, placed_of};
 ghost use Rattle.tl_patch_edit.specs.Causes.{CannotPut, IsReadyError, IsSpliceError, IsWithin, has_name, has_tag};
 ghost use Rattle.tl_patch_edit.specs.Parts.{part_view, parts_view};
 ghost use Rattle.tl_patch_edit.specs.declared.ask.Put.TheVariants.{Renamed};
 ghost use Rattle.tl_patch_spec.specs.Markup.{is_name};
-ghost use Rattle.tl_patch_spec.specs.Patches.{Content};
 ghost use Rattle.tl_patch_tags.specs.StartTags.{IsRenamed, is_start_tag};
 
 use crate::ask::{Ask, PlacedAsk, Put};
 use crate::error::EditError;
 use crate::part::{Part, place_at};
 use crate::put::is_data;
+use crate::ready::escaped_for;
 use std::alloc::{AllocError, Global};
 use tl_html_tokens::TokenKind;
 use tl_html_write::lower_name;
@@ -101,8 +101,8 @@ fn tag_for(alloc: Global, place: Part<'_>, put: Put<'_>) -> Result<Option<Vec<u8
 {
     match put {
         Put::Nothing => Ok(Some(Vec::new(alloc))),
-        Put::Content => Ok(Some(Vec::new(alloc))),
-        Put::EndTagAndContent { raw } => lower_end_tag(alloc, raw),
+        Put::Content { .. } => Ok(Some(Vec::new(alloc))),
+        Put::EndTagAndContent { raw, .. } => lower_end_tag(alloc, raw),
         Put::EndTag { name } => end_tag(alloc, name),
         Put::Renamed { name } => renamed_tag(alloc, place, name),
     }
@@ -121,7 +121,7 @@ fn has_name(alloc: Global, put: Put<'_>) -> Result<bool, AllocError>
     ensures { IfOk result (λ has. has ≡ has_name put.entry) }
 {
     match put {
-        Put::EndTagAndContent { raw } => is_lower_name(alloc, raw),
+        Put::EndTagAndContent { raw, .. } => is_lower_name(alloc, raw),
         Put::EndTag { name } => Ok(is_name(name)),
         Put::Renamed { name } => Ok(is_name(name)),
         _ => Ok(true),
@@ -134,8 +134,8 @@ fn tag_put(alloc: Global, parts: &[Part<'_>], ask: Ask<'_>) -> Result<Option<Vec
     requires name { has_name ask.put ≡ true }
     ensures tag { IfOk result (λ found. IfSome found (λ tag.
         IsTagAt (parts_view parts.now) ask.entry tag.items)) }
-    ensures none { (content : Content) → IfOk result (λ found. IfNone found
-        (CannotPut content (parts_view parts.now) ask.entry)) }
+    ensures none { IfOk result (λ found. IfNone found
+        (CannotPut (parts_view parts.now) ask.entry)) }
 {
     let place = place_at(parts, ask.from);
     let Some(tag) = tag_for(alloc, place, ask.put)? else {
@@ -144,23 +144,20 @@ fn tag_put(alloc: Global, parts: &[Part<'_>], ask: Ask<'_>) -> Result<Option<Vec
     Ok(Some(tag))
 }
 
-// An ask, with the tag that is put.
+// An ask, with the tag that is put, and with its text as it stands in markup.
 #[derive(Drop)]
 pub(crate) struct ReadyAsk<'n> {
     pub(crate) placed: PlacedAsk<'n>,
     pub(crate) tag: Vec<u8>,
+    pub(crate) escaped: Vec<u8>,
 }
 
-fn ready_ask<'n>(
-    alloc: Global,
-    parts: &[Part<'_>],
-    placed: PlacedAsk<'n>,
-) -> Result<ReadyAsk<'n>, EditError>
-    ensures ask { IfOk result (λ ready. ready.placed ≡ placed.entry) }
-    ensures tag { IfOk result (λ ready. IsTagged (parts_view parts.now) ready) }
-    ensures within { IfOk result (λ ready. ready.placed.ask.from ≤ length parts.now) }
-    ensures error { (content : Content) → IfErr result
-        (IsReadyError content (parts_view parts.now) placed.entry) }
+// The tag that is put for an ask, if it can be written.
+fn ready_tag(alloc: Global, parts: &[Part<'_>], placed: PlacedAsk<'_>) -> Result<Vec<u8>, EditError>
+    ensures tag { IfOk result (λ tag.
+        IsTagAt (parts_view parts.now) placed.entry.ask tag.items) }
+    ensures within { IfOk result (λ tag. placed.entry.ask.from ≤ length parts.now) }
+    ensures error { IfErr result (IsReadyError (parts_view parts.now) placed.entry) }
 {
     let place = placed.start.token.start;
     if placed.ask.from > parts.len() {
@@ -173,7 +170,27 @@ fn ready_ask<'n>(
     let Some(tag) = tag_put(alloc, parts, placed.ask)? else {
         return Err(EditError::NotWritten(place));
     };
-    Ok(ReadyAsk { placed, tag })
+    Ok(tag)
+}
+
+fn ready_ask<'n>(
+    alloc: Global,
+    parts: &[Part<'_>],
+    placed: PlacedAsk<'n>,
+) -> Result<ReadyAsk<'n>, EditError>
+    ensures ask { IfOk result (λ ready. ready.placed ≡ placed.entry) }
+    ensures tag { IfOk result (IsTagged (parts_view parts.now)) }
+    ensures escaped { IfOk result IsEscaped }
+    ensures within { IfOk result (IsWithin (length parts.now)) }
+    ensures error { IfErr result (IsReadyError (parts_view parts.now) placed.entry) }
+{
+    let tag = ready_tag(alloc, parts, placed)?;
+    let escaped = escaped_for(alloc, placed.ask.put)?;
+    Ok(ReadyAsk {
+        placed,
+        tag,
+        escaped,
+    })
 }
 
 fn push_ready<'n>(ready: ReadyAsk<'n>, out: &mut Vec<ReadyAsk<'n>>) -> Result<(), AllocError>
@@ -183,7 +200,7 @@ fn push_ready<'n>(ready: ReadyAsk<'n>, out: &mut Vec<ReadyAsk<'n>>) -> Result<()
     Ok(())
 }
 
-// Asks with the tags that are put.
+// Asks with the tags and texts that are put.
 pub(crate) fn ready_asks<'n>(
     alloc: Global,
     parts: &[Part<'_>],
@@ -191,9 +208,9 @@ pub(crate) fn ready_asks<'n>(
 ) -> Result<Vec<ReadyAsk<'n>>, EditError>
     ensures asks { IfOk result (λ ready. placed_of ready.items ≡ asks.now) }
     ensures tags { IfOk result (λ ready. All (IsTagged (parts_view parts.now)) ready.items) }
+    ensures escaped { IfOk result (λ ready. All IsEscaped ready.items) }
     ensures within { IfOk result (λ ready. All (IsWithin (length parts.now)) ready.items) }
-    ensures error { (content : Content) → IfErr result
-        (IsSpliceError content (parts_view parts.now) asks.now) }
+    ensures error { IfErr result (IsSpliceError (parts_view parts.now) asks.now) }
 {
     let mut ready = Vec::with_capacity(alloc, asks.len())?;
     for at in 0..asks.len() {

@@ -1,15 +1,14 @@
 //! The parts of a page with what patches ask for.
 ghost use Rattle.std.specs.Prelude.{◌≡◌, ◌≤◌, ◌-◌, ◌++◌, ◌&&◌, IfErr, IfOk, OnOk, drop, length, nat_le, take, true};
 ghost use Rattle.std.specs.List.{All};
-ghost use Rattle.tl_patch_edit.specs.Asks.{GivePutFor, IsReady, IsTagged, IsWanted, asks_view, placed_of};
+ghost use Rattle.tl_patch_edit.specs.Asks.{GivePutFor, IsEscaped, IsTagged, IsWanted, asks_view, placed_of};
 ghost use Rattle.tl_patch_edit.specs.Causes.{IsReadyError, IsSpliceError, IsWithin};
 ghost use Rattle.tl_patch_edit.specs.Parts.{parts_view, separator_parts};
-ghost use Rattle.tl_patch_edit.specs.View.{content_view};
 
 use crate::ask::Ask;
 use crate::error::EditError;
 use crate::part::{Part, copy, place_at, push};
-use crate::put::{Ready, put_parts};
+use crate::put::put_parts;
 use crate::tag::ReadyAsk;
 use std::alloc::{AllocError, Global};
 use tl_html_tokens::{Mode, TokenKind};
@@ -173,20 +172,24 @@ fn put_of<'p>(
     alloc: Global,
     parts: &[Part<'p>],
     one: &'p ReadyAsk<'_>,
-    ready: Ready<'_, 'p>,
 ) -> Result<Vec<Part<'p>>, EditError>
-    requires ready { IsReady (content_view ready.content) ready.escaped.now
-        (parts_view ready.markup.now) }
+    requires escaped { IsEscaped one.now }
     requires tag { IsTagged (parts_view parts.now) one.now }
     requires from { one.now.placed.ask.from ≤ length parts.now }
     ensures put { IfOk result (λ put.
-        GivePutFor (content_view ready.entry.content) one.now.placed.ask
-        (parts_view parts.now) (parts_view put.items)) }
-    ensures error { IfErr result (IsReadyError (content_view ready.entry.content)
-        (parts_view parts.now) one.now.placed) }
+        GivePutFor one.now.placed.ask (parts_view parts.now) (parts_view put.items)) }
+    ensures error { IfErr result (IsReadyError (parts_view parts.now) one.now.placed) }
 {
     let place = place_at(parts, one.placed.ask.from);
-    let Some(put) = put_parts(alloc, one.placed.ask.put, place, ready, one.tag.as_slice())? else {
+    let escaped = one.escaped.as_slice();
+    let Some(put) = put_parts(
+        alloc,
+        one.placed.ask.put,
+        place,
+        escaped,
+        one.tag.as_slice(),
+    )?
+    else {
         return Err(EditError::NotWritten(one.placed.start.token.start));
     };
     Ok(put)
@@ -197,17 +200,13 @@ pub(crate) fn wanted_parts<'p>(
     alloc: Global,
     parts: &[Part<'p>],
     asks: &'p [ReadyAsk<'_>],
-    ready: Ready<'_, 'p>,
 ) -> Result<Vec<Part<'p>>, EditError>
-    requires ready { IsReady (content_view ready.content) ready.escaped.now
-        (parts_view ready.markup.now) }
+    requires escaped { All IsEscaped asks.now }
     requires tags { All (IsTagged (parts_view parts.now)) asks.now }
     requires within { All (IsWithin (length parts.now)) asks.now }
-    ensures wanted { IfOk result (λ wanted.
-        IsWanted (asks_view (content_view ready.entry.content) (placed_of asks.now))
+    ensures wanted { IfOk result (λ wanted. IsWanted (asks_view (placed_of asks.now))
         (parts_view parts.now) (parts_view wanted.items)) }
-    ensures error { IfErr result (IsSpliceError (content_view ready.entry.content)
-        (parts_view parts.now) (placed_of asks.now)) }
+    ensures error { IfErr result (IsSpliceError (parts_view parts.now) (placed_of asks.now)) }
 {
     let mut wanted = Vec::with_capacity(alloc, parts.len())?;
     let mut done = 0usize;
@@ -218,7 +217,7 @@ pub(crate) fn wanted_parts<'p>(
         if !follows {
             return Err(EditError::Across(one.placed.start.token.start));
         }
-        let put = put_of(alloc, parts, one, ready)?;
+        let put = put_of(alloc, parts, one)?;
         let is_next = is_next_at(asks, at, ask.until);
         let seams = seams_at(wanted.as_slice(), parts, done, ask, put.as_slice(), is_next);
         push_splice(parts, done, ask.from, seams, put.as_slice(), &mut wanted)?;

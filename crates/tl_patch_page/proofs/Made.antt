@@ -42,7 +42,7 @@ tag_made (c ∷ cs) a b ts us m h s k =
     let ch : IsChanged c a n = m.1 in
     let vs : List HtmlToken = map (changed_token c) ts in (
       piece data_state n vs,
-      record { start = s; rest = refl; splices = ch.splices; bytes = ch.bytes; put = ch.put; tokens = refl },
+      record { start = s; rest = refl; splices = ch.splices; bytes = ch.bytes; put = ch.put; taken = ch.taken; tokens = refl },
       tag_made cs n b vs us m.2 (ch.tokens ts h s) (start_stays c ts s) k,
     )
 

@@ -9,6 +9,7 @@ use Rattle.tl_patch_page.specs.View.{PlacedChange, change_of}
 use Rattle.tl_patch_spec.specs.Splices.{Splice, with_splices}
 use Rattle.tl_patch_spec.specs.TagChanges.{TagChange, changed_token}
 use Rattle.tl_patch_tags.specs.StartTags.{IsPut}
+use Rattle.tl_patch_tags.specs.Taken.{AreTaken}
 
 -- a piece that is a start tag, with a change: its token is changed, and each byte but what is put
 -- is as it was
@@ -18,6 +19,7 @@ pub record IsChangedPiece (change : TagChange) (p q : Piece) : Type 0 where
   pub splices : List (Splice ℕ)
   pub bytes : q.bytes ≡ with_splices p.bytes splices
   pub put : All (IsPut change) splices
+  pub taken : AreTaken change p.bytes splices
   pub tokens : q.tokens ≡ map (changed_token change) p.tokens
 
 -- with changes one after the other

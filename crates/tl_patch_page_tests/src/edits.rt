@@ -1,7 +1,9 @@
 //! Pages with one element changed, and with several.
 
 use std::alloc::Global;
-use tl_patch_edit::{Content, EditError, ElementPatch, patch_element, patch_elements};
+use tl_patch_edit::{
+    Content, EditError, ElementPatch, PlacedPatch, patch_each, patch_element, patch_elements,
+};
 
 const TEXT: Content<'static> = Content::Text { text: b"1 < 2 & 3" };
 
@@ -174,6 +176,43 @@ static SEVERAL_ROWS: [SeveralRow; 35] = [
     (ElementPatch::PutBefore { content: Content::Markup { markup: b"\xEF\xBB\xBFx" } }, &[], b"\xEF\xBB\xBFy", Ok(b"\xEF\xBB\xBFy")),
 ];
 
+// The patches with the bytes where the start tags begin, the page, and what comes of it.
+type EachRow = (
+    &'static [PlacedPatch<'static>],
+    &'static [u8],
+    Result<&'static [u8], EditError>,
+);
+
+const Y: Content<'static> = Content::Text { text: b"y" };
+
+const Z: Content<'static> = Content::Text { text: b"z" };
+
+#[rattlefmt::skip]
+static EACH_ROWS: [EachRow; 22] = [
+    (&[], b"a<b>x</b>c", Ok(b"a<b>x</b>c")),
+    (&[PlacedPatch { place: 1, patch: ElementPatch::Remove }, PlacedPatch { place: 10, patch: ElementPatch::Append { content: Z } }], b"a<b>x</b>c<i>y</i>d", Ok(b"ac<i>yz</i>d")),
+    (&[PlacedPatch { place: 0, patch: ElementPatch::Append { content: Y } }, PlacedPatch { place: 0, patch: ElementPatch::Append { content: Z } }], b"<b>x</b>", Ok(b"<b>xyz</b>")),
+    (&[PlacedPatch { place: 0, patch: ElementPatch::Append { content: Z } }, PlacedPatch { place: 0, patch: ElementPatch::Append { content: Y } }], b"<b>x</b>", Ok(b"<b>xzy</b>")),
+    (&[PlacedPatch { place: 0, patch: ElementPatch::Append { content: Z } }, PlacedPatch { place: 0, patch: ElementPatch::Prepend { content: Y } }], b"<b></b>", Ok(b"<b>yz</b>")),
+    (&[PlacedPatch { place: 0, patch: ElementPatch::Rename { name: b"u" } }, PlacedPatch { place: 0, patch: ElementPatch::Fill { content: TEXT } }, PlacedPatch { place: 0, patch: ElementPatch::PutAfter { content: Z } }, PlacedPatch { place: 0, patch: ElementPatch::PutBefore { content: Y } }], b"<b>x</b>", Ok(b"y<u>1 &lt; 2 &amp; 3</u>z")),
+    (&[PlacedPatch { place: 0, patch: ElementPatch::Fill { content: TEXT } }, PlacedPatch { place: 8, patch: ElementPatch::Fill { content: MARKUP } }], b"<i>a</i><i>b</i>", Ok(b"<i>1 &lt; 2 &amp; 3</i><i><hr>p;</i>")),
+    (&[PlacedPatch { place: 0, patch: ElementPatch::Append { content: Y } }, PlacedPatch { place: 8, patch: ElementPatch::Append { content: Y } }, PlacedPatch { place: 16, patch: ElementPatch::Append { content: Z } }], b"<i>a</i><i>b</i><i>c</i>", Ok(b"<i>ay</i><i>by</i><i>cz</i>")),
+    (&[PlacedPatch { place: 4, patch: ElementPatch::PutAfter { content: Y } }, PlacedPatch { place: 4, patch: ElementPatch::Append { content: Z } }], b"<ul><li>a<li>b</ul>", Ok(b"<ul><li>az</li>y<li>b</ul>")),
+    (&[PlacedPatch { place: 4, patch: ElementPatch::PutAfter { content: Y } }, PlacedPatch { place: 9, patch: ElementPatch::PutBefore { content: Z } }], b"<ul><li>a<li>b</ul>", Ok(b"<ul><li>a</li>yz<li>b</ul>")),
+    (&[PlacedPatch { place: 4, patch: ElementPatch::Append { content: Y } }, PlacedPatch { place: 8, patch: ElementPatch::Rename { name: b"p" } }], b"<ul><li><b>x</ul>", Err(EditError::NotMeant(8))),
+    (&[PlacedPatch { place: 0, patch: ElementPatch::Remove }, PlacedPatch { place: 3, patch: ElementPatch::Fill { content: TEXT } }, PlacedPatch { place: 3, patch: ElementPatch::Rename { name: b"u" } }], b"<b><i>x</i></b>y", Ok(b"y")),
+    (&[PlacedPatch { place: 0, patch: ElementPatch::Fill { content: Z } }, PlacedPatch { place: 3, patch: ElementPatch::Remove }], b"<b><i>x</i></b>y", Ok(b"<b>z</b>y")),
+    (&[PlacedPatch { place: 0, patch: ElementPatch::Remove }, PlacedPatch { place: 0, patch: ElementPatch::PutAfter { content: Y } }], b"<b>x</b>z", Ok(b"yz")),
+    (&[PlacedPatch { place: 0, patch: ElementPatch::PutBefore { content: Y } }, PlacedPatch { place: 0, patch: ElementPatch::Remove }], b"<b>x</b>z", Ok(b"yz")),
+    (&[PlacedPatch { place: 0, patch: ElementPatch::Remove }, PlacedPatch { place: 0, patch: ElementPatch::Unwrap }], b"<b>x</b>", Err(EditError::Across(0))),
+    (&[PlacedPatch { place: 0, patch: ElementPatch::Append { content: Y } }, PlacedPatch { place: 0, patch: ElementPatch::Fill { content: Z } }], b"<b>x</b>", Ok(b"<b>zy</b>")),
+    (&[PlacedPatch { place: 1, patch: ElementPatch::Rename { name: b"u" } }, PlacedPatch { place: 1, patch: ElementPatch::Rename { name: b"i" } }], b"a<b>x</b>", Err(EditError::Across(1))),
+    (&[PlacedPatch { place: 0, patch: ElementPatch::Unwrap }, PlacedPatch { place: 5, patch: ElementPatch::Remove }], b"<div><b>x</div>y", Err(EditError::NotMeant(5))),
+    (&[PlacedPatch { place: 8, patch: ElementPatch::Remove }, PlacedPatch { place: 0, patch: ElementPatch::Unwrap }], b"<i>a</i><b>c</b>", Err(EditError::NoStartTag(0))),
+    (&[PlacedPatch { place: 0, patch: ElementPatch::Fill { content: TEXT } }, PlacedPatch { place: 8, patch: ElementPatch::Fill { content: MARKUP } }], b"<i>a</i><title>b</title>", Err(EditError::NotWritten(8))),
+    (&[PlacedPatch { place: 0, patch: ElementPatch::Unwrap }, PlacedPatch { place: 8, patch: ElementPatch::Append { content: Content::Markup { markup: b"<!-- " } } }], b"<i>a</i><i>b</i>", Err(EditError::ReadOtherwise(0))),
+];
+
 fn is_wanted(found: Result<Vec<u8>, EditError>, wanted: Result<&[u8], EditError>) -> bool {
     match found {
         Ok(text) => match wanted {
@@ -205,6 +244,14 @@ fn elements_end_in_the_tail(rt: HostRuntime) {
 fn several_elements_are_changed(rt: HostRuntime) {
     for (patch, places, page, wanted) in &SEVERAL_ROWS {
         let found = patch_elements(rt.alloc(), page, places, *patch);
+        assert!(rt; is_wanted(found, *wanted));
+    }
+}
+
+#[test]
+fn each_element_is_changed(rt: HostRuntime) {
+    for (patches, page, wanted) in &EACH_ROWS {
+        let found = patch_each(rt.alloc(), page, patches);
         assert!(rt; is_wanted(found, *wanted));
     }
 }

@@ -1,5 +1,5 @@
 -- Each start tag of the balanced tokens stands in its piece, and so does each end tag that is the page's own.
-use Rattle.std.proofs.Common.{◌≡◌, ℕ, suc, ◌+◌, Bool, true, false, ◌||◌, ◌&&◌, not, ◌==◌, List, [], ◌∷◌, ◌++◌, length, map, take, drop, Some, codes, refl, ap, sym, subst, ◌∙◌, append_assoc, if◌then◌else◌}
+use Rattle.std.proofs.Common.{◌≡◌, ℕ, suc, Bool, true, false, ◌||◌, ◌&&◌, not, ◌==◌, List, [], ◌∷◌, ◌++◌, length, map, take, drop, Some, codes, refl, ap, sym, subst, ◌∙◌, append_assoc, if◌then◌else◌}
 use Rattle.std.specs.Prelude.{⊤}
 use Rattle.std.specs.List.{All, AllByRecursion, Contains, slice_get}
 use Rattle.std.proofs.lemmas.List.Elements.{All-from_recursion, Contains-append_left, Contains-push}
@@ -7,7 +7,7 @@ use Rattle.tl_spec.specs.Lex.ByteClass.{is_void}
 use Rattle.tl_names.specs.Elements.{closed_at_once, head_parts, is_among}
 use Rattle.tl_html_spec.specs.HtmlTokenizer.{HtmlAttribute, HtmlToken, Character, StartTag, EndTag, CommentToken, DoctypeToken, is_white_space}
 use Rattle.tl_html_spec.specs.Balanced.{Balance, Balanced, Closing, Names, Rule, after_closing, balance, before_start, carried_out, closed_by, closing, is_dropped, is_foreign, is_head, is_one_of, is_raw, leading, nothing_more, opened, put_in, rules_before, start, then_closing, when}
-use Rattle.tl_html_spec.specs.Pieces.{Piece, tokens_in}
+use Rattle.tl_html_spec.specs.Pieces.{Piece}
 use Rattle.tl_patch_spec.specs.Elements.{GivesStart, IsOfPiece, PlacedToken, StandsIn, at_piece, balance_after, balanced_at, balanced_in, balanced_pieces, is_end_tag, open_names, tokens_at}
 
 -- what a token of a page may give

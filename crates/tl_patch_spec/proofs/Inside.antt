@@ -1,5 +1,5 @@
 -- The states in a tag after its name, apart from the tag that is being made: what a text adds to it, whatever it has.
-use Rattle.std.specs.Prelude.{◌≡◌, ℕ, zero, suc, ◌+◌, ◌*◌, Bool, true, false, ◌&&◌, not, ◌==◌, List, [], ◌∷◌, ◌++◌, Some, None, codes, if◌then◌else◌, ⊤}
+use Rattle.std.specs.Prelude.{◌≡◌, ℕ, zero, suc, ◌+◌, ◌*◌, Bool, true, false, ◌&&◌, not, ◌==◌, List, [], ◌∷◌, ◌++◌, codes, if◌then◌else◌, ⊤}
 use Rattle.std.specs.Char.{is_ascii_alphanumeric, is_ascii_digit, is_ascii_hexdigit, to_ascii_lowercase}
 use Rattle.tl_html_spec.specs.References.{named_value, number_value}
 use Rattle.tl_html_spec.specs.HtmlTokenizer.{HtmlAttribute, OpenTag, State, Step, after_attribute_name, after_attribute_value, attribute_name, before_attribute_name, before_attribute_value, char_of, character_reference, decimal, decimal_start, digit_value, double_quoted, ends_name, hexadecimal, hexadecimal_start, is_white_space, named_character_reference, numeric_character_reference, self_closing_start_tag, single_quoted, unquoted, with_attribute}

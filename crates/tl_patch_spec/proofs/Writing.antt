@@ -63,7 +63,13 @@ value_byte_reads tag key value b z = elim (cases_Bool (b == 13)) [
     | inl y ↦ rw (eqb-true b 38 y) (record { tokens_are = refl; state_is = refl })
     | inr m ↦ elim (cases_Bool (b == 34)) [
       | inl y ↦ rw (eqb-true b 34 y) (record { tokens_are = refl; state_is = refl })
-      | inr l ↦ record { tokens_are = simp (n, m, l); state_is = simp (n, m, l, z) }
+      | inr l ↦ elim (cases_Bool (b == 60)) [
+        | inl y ↦ rw (eqb-true b 60 y) (record { tokens_are = refl; state_is = refl })
+        | inr o ↦ elim (cases_Bool (b == 62)) [
+          | inl y ↦ rw (eqb-true b 62 y) (record { tokens_are = refl; state_is = refl })
+          | inr p ↦ record { tokens_are = simp (n, m, l, o, p); state_is = simp (n, m, l, o, p, z) }
+        ]
+      ]
     ]
   ]
 ]

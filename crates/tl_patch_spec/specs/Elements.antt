@@ -1,6 +1,6 @@
 -- The elements of a page, by the pieces that they begin and end at: the start and end tags of
 -- `balanced` that belong together.
-use Rattle.std.specs.Prelude.{◌≡◌, ℕ, suc, Bool, true, false, List, [], ◌∷◌, ◌++◌, length, map, not, Option, Some, if◌then◌else◌, ⊤}
+use Rattle.std.specs.Prelude.{◌≡◌, ℕ, suc, Bool, true, false, List, [], ◌∷◌, ◌++◌, length, map, not, Some, if◌then◌else◌, ⊤}
 use Rattle.std.specs.List.{Contains, slice_get}
 use Rattle.tl_spec.specs.Lex.ByteClass.{is_void}
 use Rattle.tl_html_spec.specs.HtmlTokenizer.{HtmlAttribute, HtmlToken, StartTag, EndTag}

@@ -7,7 +7,7 @@ use Rattle.tl_patch_spec.specs.Elements.{Element, elements}
 use Rattle.tl_patch_spec.specs.Patches.{Content, NewContent, Patch, Put, Text, asked_of, tokens_asked}
 use Rattle.tl_patch_spec.specs.Splices.{Splice}
 use Rattle.tl_patch_spec.specs.Tail.{elements_up_to_tail}
-use Rattle.tl_patch_spec.specs.Together.{Asked, asked_each}
+use Rattle.tl_patch_spec.specs.Together.{Asked, asked_each, at_each, none_gone}
 
 -- the pieces of a page, where characters are joined
 abbrev pub cut_page : String → List Piece
@@ -71,6 +71,9 @@ put_words bytes = NewContent (words bytes) ∷ []
 abbrev pub with_patch : String → ℕ → Patch → Option (List HtmlToken)
 with_patch page place patch = tokens_asked (cut_page page) place patch
 
--- what a patch asks for of the elements that begin at these pieces
+-- what patches ask for of the elements that begin at these pieces, and one patch of each
+abbrev pub all_asked : String → List (ℕ × Patch) → Option (List Asked)
+all_asked page patches = asked_each (cut_page page) 0 none_gone patches
+
 abbrev pub each_asked : String → Patch → List ℕ → Option (List Asked)
-each_asked page patch numbers = asked_each (cut_page page) patch 0 numbers
+each_asked page patch numbers = all_asked page (at_each patch numbers)

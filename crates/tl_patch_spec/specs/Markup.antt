@@ -14,8 +14,14 @@ text_byte_markup b = if b == 13 then codes "&#13;" else text_escape b
 abbrev pub text_markup : List ℕ → List ℕ
 text_markup text = flat_map text_byte_markup text
 
+-- `<` and `>` too, so that a value ends nothing that a browser reads around it and the tokenizer
+-- by itself doesn't: the raw text of a `noscript` where scripts run, a CDATA section in `svg`
 abbrev pub value_byte_markup : ℕ → List ℕ
-value_byte_markup b = if b == 13 then codes "&#13;" else value_escape b
+value_byte_markup b =
+    if b == 13 then codes "&#13;"
+    else if b == 60 then codes "&lt;"
+    else if b == 62 then codes "&gt;"
+    else value_escape b
 
 abbrev pub value_markup : List ℕ → List ℕ
 value_markup value = flat_map value_byte_markup value

@@ -1,9 +1,9 @@
 -- What a patch asks for: which pieces of a page give way to which others.
-use Rattle.std.specs.Prelude.{◌≡◌, ℕ, suc, Bool, true, false, ◌||◌, ◌&&◌, not, ◌==◌, nat_eq, List, [], ◌∷◌, ◌++◌, flat_map, map, codes, Option, Some, None, option_map, if◌then◌else◌, ⊤}
+use Rattle.std.specs.Prelude.{◌≡◌, ℕ, suc, Bool, ◌||◌, ◌&&◌, not, ◌==◌, List, [], ◌∷◌, ◌++◌, flat_map, map, codes, Option, Some, None, option_map, if◌then◌else◌, ⊤}
 use Rattle.std.specs.List.{slice_get}
 use Rattle.tl_names.specs.Elements.{implied_ends, is_among, table_parts}
 use Rattle.tl_spec.specs.Lex.ByteClass.{is_void}
-use Rattle.tl_html_spec.specs.HtmlTokenizer.{Character, EndTag, HtmlToken, Raw, StartTag, State, data_state, plaintext, raw, rcdata}
+use Rattle.tl_html_spec.specs.HtmlTokenizer.{Character, EndTag, HtmlToken, StartTag, State, data_state, plaintext, raw, rcdata}
 use Rattle.tl_html_spec.specs.Balanced.{is_one_of, is_raw}
 use Rattle.tl_html_spec.specs.Pieces.{Piece, piece, pieces_of}
 use Rattle.tl_patch_spec.specs.Elements.{Element}
@@ -161,7 +161,8 @@ content_pieces (raw r) (Text text) = Some (piece (raw r) text (map Character tex
 content_pieces plaintext (Text text) = Some (piece plaintext text (map Character text) ∷ [])
 content_pieces _ _ = None
 
--- a tag with another name, and each other byte as it is
+-- a tag with these bytes of a name in the place of one run of its own, and each byte outside of
+-- that run as it is; that the run is the old name alone is not said
 abbrev pub IsNamed : List ℕ → List ℕ → List ℕ → Type 0
 IsNamed name tag new = (s : Splice ℕ) × (s.put ≡ name) × (new ≡ with_splices tag (s ∷ []))
 

@@ -1,60 +1,110 @@
--- What one patch asks for of several elements of a page together.
+-- What patches ask for of several elements of a page together.
 use Rattle.std.specs.Prelude.{◌≡◌, ℕ, suc, Bool, true, ◌||◌, ◌&&◌, not, ◌==◌, nat_le, nat_lt, List, [], ◌∷◌, ◌++◌, length, map, Option, Some, None, if◌then◌else◌}
 use Rattle.std.specs.List.Sorted.{IsPermutation}
 use Rattle.tl_html_spec.specs.Pieces.{Piece}
-use Rattle.tl_patch_spec.specs.Patches.{AreAskedOne, Fill, Patch, Put, Remove, ReplaceWith, asked_of}
+use Rattle.tl_patch_spec.specs.Patches.{Append, AreAskedOne, Fill, Patch, Prepend, Put, PutAfter, PutBefore, Remove, RenameElement, ReplaceWith, asked_of}
 use Rattle.tl_patch_spec.specs.Splices.{Splice, are_ordered}
 
--- a splice that is asked for, of the element whose start tag is the piece of this number
+-- this patch of each element that is named here in order; one that is named twice counts once
+abbrev pub at_each : Patch → List ℕ → List (ℕ × Patch)
+at_each patch [] = []
+at_each patch (n ∷ []) = (n, patch) ∷ []
+at_each patch (n ∷ m ∷ ns) =
+    if n == m then at_each patch (m ∷ ns) else (n, patch) ∷ at_each patch (m ∷ ns)
+
+-- when what a patch puts has its turn among what is put at the same place
+pub record Turn : Type 0 where
+  pub depth : ℕ
+  pub rank : ℕ
+  pub at : ℕ
+
+-- an inner element has its turn before an outer one, and what stands before an element is the last
+abbrev pub depth_of : Patch → ℕ → ℕ
+depth_of (PutBefore c) n = 0
+depth_of patch n = n
+
+-- of one element first what stands in it, then its end tag, then what stands after it
+abbrev pub rank_of : Patch → ℕ
+rank_of (Prepend c) = 0
+rank_of (Fill c) = 1
+rank_of (Append c) = 2
+rank_of (RenameElement name) = 3
+rank_of (PutAfter c) = 4
+rank_of (PutBefore c) = 5
+rank_of patch = 0
+
+-- the turn of the patch of this number, of the element whose start tag is the piece of a number
+abbrev pub turn_of : Patch → ℕ → ℕ → Turn
+turn_of patch n at = record { depth = depth_of patch n; rank = rank_of patch; at = at }
+
+abbrev pub comes_first : Turn → Turn → Bool
+comes_first a b = nat_lt b.depth a.depth
+    || ((a.depth == b.depth)
+    && (nat_lt a.rank b.rank || ((a.rank == b.rank) && nat_le a.at b.at)))
+
+-- a splice that is asked for
 pub record Asked : Type 0 where
-  pub number : ℕ
+  pub turn : Turn
   pub ask : Splice Put
 
-abbrev pub asked_at : ℕ → Splice Put → Asked
-asked_at n ask = record { number = n; ask = ask }
+abbrev pub asked_at : Turn → Splice Put → Asked
+asked_at turn ask = record { turn = turn; ask = ask }
 
 abbrev pub ask_of : Asked → Splice Put
 ask_of a = a.ask
 
--- the next piece whose element counts: what begins in what is taken away goes with it
-abbrev pub next_after : Patch → ℕ → List (Splice Put) → ℕ
-next_after Remove n (s ∷ splices) = s.until
-next_after (ReplaceWith c) n (s ∷ splices) = s.until
-next_after (Fill c) n (s ∷ splices) = s.until
-next_after patch n splices = suc n
+-- what was taken away last: of the element of this number, up to a piece
+pub record Gone : Type 0 where
+  pub from : ℕ
+  pub until : ℕ
 
-abbrev pub with_asks : ℕ → List (Splice Put) → Option (List Asked) → Option (List Asked)
-with_asks n asks None = None
-with_asks n asks (Some more) = Some (map (asked_at n) asks ++ more)
+abbrev pub none_gone : Gone
+none_gone = record { from = 0; until = 0 }
 
--- what is asked of elements in the order of their start tags; one that was named before, or begins
--- in what another takes away, doesn't count
-abbrev pub asked_each : List Piece → Patch → ℕ → List ℕ → Option (List Asked)
-asked_each ps patch next [] = Some []
-asked_each ps patch next (n ∷ ns) =
-    if nat_lt n next then asked_each ps patch next ns
-    else elim (asked_of ps n patch) as (λ _. Option (List Asked)) [
+-- whether the element that begins at a piece goes with another one
+abbrev pub is_gone : Gone → ℕ → Bool
+is_gone gone n = nat_lt gone.from n && nat_lt n gone.until
+
+abbrev pub gone_after : Patch → ℕ → List (Splice Put) → Gone → Gone
+gone_after Remove n (s ∷ splices) gone = record { from = n; until = s.until }
+gone_after (ReplaceWith c) n (s ∷ splices) gone = record { from = n; until = s.until }
+gone_after (Fill c) n (s ∷ splices) gone = record { from = n; until = s.until }
+gone_after patch n splices gone = gone
+
+abbrev pub with_asks : Turn → List (Splice Put) → Option (List Asked) → Option (List Asked)
+with_asks turn asks None = None
+with_asks turn asks (Some more) = Some (map (asked_at turn) asks ++ more)
+
+-- what patches ask for, from the one of a number on, each of the element whose start tag is the
+-- piece of a number, in the order of these; one that begins in what another takes away doesn't
+-- count
+abbrev pub asked_each : List Piece → ℕ → Gone → List (ℕ × Patch) → Option (List Asked)
+asked_each ps at gone [] = Some []
+asked_each ps at gone (p ∷ patches) =
+    if is_gone gone p.0 then asked_each ps (suc at) gone patches
+    else elim (asked_of ps p.0 p.1) as (λ _. Option (List Asked)) [
       | None ↦ None
-      | Some asks ↦ with_asks n asks (asked_each ps patch (next_after patch n asks) ns)
+      | Some asks ↦ with_asks (turn_of p.1 p.0 at) asks
+          (asked_each ps (suc at) (gone_after p.1 p.0 asks gone) patches)
     ]
 
--- of what is put at one place, that of the inner element comes first
-abbrev pub is_inner_first : Asked → Asked → Bool
-is_inner_first a b = not (a.ask.from == b.ask.until) || nat_le b.number a.number
+-- whether what is put at one place is put in turn
+abbrev pub is_in_turn : Asked → Asked → Bool
+is_in_turn a b = not (a.ask.from == b.ask.until) || comes_first a.turn b.turn
 
-abbrev pub are_inner_first : List Asked → Bool
-are_inner_first [] = true
-are_inner_first (a ∷ []) = true
-are_inner_first (a ∷ b ∷ asks) = is_inner_first a b && are_inner_first (b ∷ asks)
+abbrev pub are_in_turn : List Asked → Bool
+are_in_turn [] = true
+are_in_turn (a ∷ []) = true
+are_in_turn (a ∷ b ∷ asks) = is_in_turn a b && are_in_turn (b ∷ asks)
 
--- the splices of pieces are those that the patch asks for of each of these elements, in order, none
--- over another
-pub record AreAskedTogether (ps : List Piece) (numbers : List ℕ) (patch : Patch)
+-- the splices of pieces are those that the patches ask for of these elements, in order, none over
+-- another
+pub record AreAskedTogether (ps : List Piece) (patches : List (ℕ × Patch))
     (splices : List (Splice Piece)) : Type 0 where
   pub each : List Asked
-  pub asked : asked_each ps patch 0 numbers ≡ Some each
+  pub asked : asked_each ps 0 none_gone patches ≡ Some each
   pub asks : List Asked
   pub same : IsPermutation each asks
   pub ordered : are_ordered 0 (length ps) (map ask_of asks) ≡ true
-  pub inner_first : are_inner_first asks ≡ true
+  pub in_turn : are_in_turn asks ≡ true
   pub are_asked : AreAskedOne ps (map ask_of asks) splices

@@ -3,6 +3,7 @@
 
 mod examples;
 pub mod laws;
+mod markup_examples;
 mod patch_examples;
 mod tail_examples;
 mod together_examples;

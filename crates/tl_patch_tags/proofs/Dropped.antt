@@ -20,27 +20,26 @@ use Rattle.tl_patch_spec.proofs.Unset.{dropped}
 use Rattle.tl_patch_tags.specs.Cuts.{Cutting, cuts_of, free_after, is_free, opens, over}
 use Rattle.tl_patch_tags.specs.Places.{places_of}
 use Rattle.tl_patch_tags.specs.StartTags.{IsChanged, IsCut, IsStartTagAlone}
+use Rattle.tl_patch_tags.specs.Taken.{shifted}
 use Rattle.tl_patch_tags.proofs.Attributes.{found}
 use Rattle.tl_patch_tags.proofs.Changes.{whole_same}
 use Rattle.tl_patch_tags.proofs.Keys.{others_of, unset_all}
 use Rattle.tl_patch_tags.proofs.Revalued.{started}
 use Rattle.tl_patch_tags.proofs.Starts.{Ends, start_of, whole_rest}
+use Rattle.tl_patch_tags.proofs.Taken.{all_taken, keys_taken}
 use Rattle.tl_patch_tags.proofs.Unset.{Left, left, ordered}
 
 -- the same splices of a list with something before it
 
-abbrev shift : ℕ → Splice ℕ → Splice ℕ
-shift n s = record { from = n + s.from; until = n + s.until; put = s.put }
-
-shifted : (n at : ℕ) (items : List ℕ) (ss : List (Splice ℕ)) → with_splices_from (n + at) items (map (shift n) ss) ≡ with_splices_from at items ss
-shifted n at items [] = refl
-shifted n at items (s ∷ ss) =
+moved_on : (n at : ℕ) (items : List ℕ) (ss : List (Splice ℕ)) → with_splices_from (n + at) items (map (shifted n) ss) ≡ with_splices_from at items ss
+moved_on n at items [] = refl
+moved_on n at items (s ∷ ss) =
     let f : (n + s.from) - (n + at) ≡ s.from - at = omega arith in
     let u : (n + s.until) - (n + at) ≡ s.until - at = omega arith in
-    ap₂ (λ j k. take j items ++ (s.put ++ with_splices_from (n + s.until) (drop k items) (map (shift n) ss))) f u
-    ∙ ap (λ ys. take (s.from - at) items ++ (s.put ++ ys)) (shifted n s.until (drop (s.until - at) items) ss)
+    ap₂ (λ j k. take j items ++ (s.put ++ with_splices_from (n + s.until) (drop k items) (map (shifted n) ss))) f u
+    ∙ ap (λ ys. take (s.from - at) items ++ (s.put ++ ys)) (moved_on n s.until (drop (s.until - at) items) ss)
 
-pub spliced_after : (n : ℕ) (tag : List ℕ) (ss : List (Splice ℕ)) → take n tag ++ with_splices (drop n tag) ss ≡ with_splices tag (map (shift n) ss)
+pub spliced_after : (n : ℕ) (tag : List ℕ) (ss : List (Splice ℕ)) → take n tag ++ with_splices (drop n tag) ss ≡ with_splices tag (map (shifted n) ss)
 spliced_after n tag [] = take-append-drop n tag
 spliced_after n tag (s ∷ ss) =
     let f : (n + s.from) - 0 ≡ n + s.from = omega arith in
@@ -50,12 +49,12 @@ spliced_after n tag (s ∷ ss) =
     ap₂ (λ j k. take n tag ++ (take j (drop n tag) ++ (s.put ++ with_splices_from s.until (drop k (drop n tag)) ss))) g v
     ∙ sym (append_assoc (take n tag) (take s.from (drop n tag)) (s.put ++ with_splices_from s.until (drop s.until (drop n tag)) ss))
     ∙ ap₂ (λ (xs ys : List ℕ). xs ++ (s.put ++ with_splices_from s.until ys ss)) (sym (take-add n s.from tag)) (drop-drop s.until n tag)
-    ∙ ap (λ ys. take (n + s.from) tag ++ (s.put ++ ys)) (sym (shifted n s.until (drop (n + s.until) tag) ss))
-    ∙ sym (ap₂ (λ j k. take j tag ++ (s.put ++ with_splices_from (n + s.until) (drop k tag) (map (shift n) ss))) f u)
+    ∙ ap (λ ys. take (n + s.from) tag ++ (s.put ++ ys)) (sym (moved_on n s.until (drop (n + s.until) tag) ss))
+    ∙ sym (ap₂ (λ j k. take j tag ++ (s.put ++ with_splices_from (n + s.until) (drop k tag) (map (shifted n) ss))) f u)
 
-all_shifted : (n : ℕ) (ss : List (Splice ℕ)) → All IsCut ss → All IsCut (map (shift n) ss)
+all_shifted : (n : ℕ) (ss : List (Splice ℕ)) → All IsCut ss → All IsCut (map (shifted n) ss)
 all_shifted n [] h = λ k d l. absurd (omega arith)
-all_shifted n (s ∷ ss) h = All-cons IsCut (shift n s) (map (shift n) ss) (All-head IsCut s ss h) (all_shifted n ss (All-tail IsCut s ss h))
+all_shifted n (s ∷ ss) h = All-cons IsCut (shifted n s) (map (shifted n) ss) (All-head IsCut s ss h) (all_shifted n ss (All-tail IsCut s ss h))
 
 -- a name ends as before
 
@@ -147,9 +146,11 @@ module _ (tag : List ℕ) (n : ℕ) (p : IsNameEnd false n tag) (a : IsStartTagA
       record {
         ordered = ordered opened rest e.closes e.returned e.more key 0 c.splices h.sorted;
         changed = λ new is. record {
-          splices = map (shift n) c.splices;
+          splices = map (shifted n) c.splices;
           bytes = is ∙ spliced_after n tag c.splices;
           put = all_shifted n c.splices h.put;
+          taken = keys_taken tag key n p c.splices
+              (all_taken opened rest e.closes e.returned e.more key (places_of rest) 0 [] (found opened rest e.closes e.returned e.more e.outcome).0);
           tokens = λ tokens w i.
               let same : a.tokens ≡ tokens = whole_same mode.Data tag a.tokens tokens a.whole w in
               subst (λ xs. IsWhole mode.Data xs (map (changed_token (Unset key)) tokens)) (sym is)

@@ -75,6 +75,7 @@ fresh tag new key value n o p h k v a =
       splices = s ∷ [];
       bytes = a.bytes ∙ sym (spliced_is a.place (attribute_markup key value) tag);
       put = one_put (IsPut (Set key value)) s (inr refl);
+      taken = (s, refl, inr (record { start = n; name = p; absent = h; behind = a.name; nothing = refl }));
       tokens = λ tokens w i.
           let same : start_of t e.more e.closes ∷ [] ≡ tokens = sym e.is ∙ whole_same mode.Data tag was.tokens tokens was.whole w in
           let none : list_any (has_key key) (first_attributes tokens) ≡ false = subst (λ ts. list_any (has_key key) (first_attributes ts) ≡ false) same lacks in

@@ -10,6 +10,7 @@ pub mod Gaps
 pub mod Attributes
 pub mod Gone
 pub mod Unset
+pub mod Taken
 pub mod Begins
 pub mod Revalued
 pub mod Dropped

@@ -119,6 +119,7 @@ module _ (tag : List ℕ) (n : ℕ) (p : IsNameEnd false n tag) (a : IsStartTagA
       let s : Splice ℕ = record { from = 1; until = n; put = name } in
       record {
         named = (s, refl, is ∙ sym (renamed_is n name tag 60 text o));
+        taken = record { end = n; name_end = p; is = is };
         tokens = λ tokens w i.
             let same : a.tokens ≡ tokens = whole_same mode.Data tag a.tokens tokens a.whole w in
             subst (λ xs. IsWhole mode.Data xs (map (changed_token (Rename name)) tokens)) (sym is)

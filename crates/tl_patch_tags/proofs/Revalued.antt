@@ -191,6 +191,7 @@ module _ (tag : List ℕ) (n : ℕ) (p : IsNameEnd false n tag) (a : IsStartTagA
           splices = s ∷ [];
           bytes = is ∙ spliced_at n place.value place.end put tag;
           put = one_put (IsPut (Set key value)) s (inl (value_is_put place.has_equals value));
+          taken = (s, refl, inl (record { start = n; place = place; name = p; first = f; from = refl; until = refl }));
           tokens = λ tokens w i.
               let same : a.tokens ≡ tokens = whole_same mode.Data tag a.tokens tokens a.whole w in
               subst (λ xs. IsWhole mode.Data xs (map (changed_token (Set key value)) tokens)) (sym is)

@@ -20,7 +20,7 @@ use Rattle.tl_patch_tags.proofs.Keys.{others_of}
 
 -- lists
 
-first_at : (n : ℕ) (xs : List ℕ) (b : ℕ) (y : List ℕ) → drop n xs ≡ b ∷ y → (slice_index xs n ≡ b) × (n < length xs)
+pub first_at : (n : ℕ) (xs : List ℕ) (b : ℕ) (y : List ℕ) → drop n xs ≡ b ∷ y → (slice_index xs n ≡ b) × (n < length xs)
 first_at zero [] b y e = absurd (never b y e)
   where
     never : (b : ℕ) (y : List ℕ) → [] ≡ b ∷ y → ⊥
@@ -32,7 +32,7 @@ first_at (suc n) [] b y e = absurd (never b y e)
 first_at zero (x ∷ xs) b y e = (cc, omega arith)
 first_at (suc n) (x ∷ xs) b y e = let h = first_at n xs b y e in (h.0, (let l : n < length xs = h.1 in omega arith))
 
-space_low : (n from : ℕ) (rest : List ℕ) → (from ≤ space_before n from rest) × (space_before n from rest ≤ from + n)
+pub space_low : (n from : ℕ) (rest : List ℕ) → (from ≤ space_before n from rest) × (space_before n from rest ≤ from + n)
 space_low zero from rest = (omega arith, omega arith)
 space_low (suc n) from rest = by_test (is_space (slice_index rest (from + n))) (space_low n from rest)
   where

@@ -1,3 +1,4 @@
 pub mod StartTags
 pub mod Places
+pub mod Taken
 pub mod Cuts

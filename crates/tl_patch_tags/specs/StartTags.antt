@@ -14,6 +14,7 @@ use Rattle.tl_patch_spec.specs.Markup.{attribute_markup, quoted_value}
 use Rattle.tl_patch_spec.specs.Splices.{Splice, with_splices}
 use Rattle.tl_patch_spec.specs.Patches.{IsNamed}
 use Rattle.tl_patch_spec.specs.TagChanges.{Rename, Set, TagChange, Unset, changed_token}
+use Rattle.tl_patch_tags.specs.Taken.{AreTaken, TakesName}
 
 -- whether tokens are one start tag
 abbrev pub is_start : List HtmlToken → Bool
@@ -75,6 +76,7 @@ pub record IsChanged (change : TagChange) (tag new : List ℕ) : Type 0 where
   pub splices : List (Splice ℕ)
   pub bytes : new ≡ with_splices tag splices
   pub put : All (IsPut change) splices
+  pub taken : AreTaken change tag splices
   pub tokens : (tokens : List HtmlToken) → IsWhole mode.Data tag tokens → IsStartTag tokens →
       IsWhole mode.Data new (map (changed_token change) tokens)
 
@@ -82,5 +84,6 @@ pub record IsChanged (change : TagChange) (tag new : List ℕ) : Type 0 where
 -- itself, so is new, with the token renamed
 pub record IsRenamed (name tag new : List ℕ) : Type 0 where
   pub named : IsNamed name tag new
+  pub taken : TakesName name tag new
   pub tokens : (tokens : List HtmlToken) → IsWhole mode.Data tag tokens → IsStartTag tokens →
       IsWhole mode.Data new (map (changed_token (Rename name)) tokens)

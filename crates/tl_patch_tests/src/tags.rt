@@ -11,7 +11,7 @@ static ADDED_ROWS: [(&[u8], &[u8], &[u8], Option<&[u8]>); 12] = [
     (b"<br/>", b"k", b"say \"hi\"", Some(b"<br k=\"say &quot;hi&quot;\"/>")),
     (b"<p\r\nid=1>", b"k", b"a\rb", Some(b"<p k=\"a&#13;b\"\r\nid=1>")),
     (b"<p id=1 id=2>", b"class", b"", Some(b"<p class=\"\" id=1 id=2>")),
-    (b"<p <>", b"data-x", b"<", Some(b"<p data-x=\"<\" <>")),
+    (b"<p <>", b"data-x", b"<b>", Some(b"<p data-x=\"&lt;b&gt;\" <>")),
     (b"<x-y", b"k", b"v", None),
     (b"</p>", b"k", b"v", None),
     (b"<p>", b"a=b", b"v", None),

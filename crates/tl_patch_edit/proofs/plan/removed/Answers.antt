@@ -6,4 +6,4 @@ use Rattle.tl_patch_edit.proofs.Plans.{removes}
 use Rattle.tl_patch_edit.proofs.plan.removed.Goals as goal
 
 pub returns : goal.returns
-returns c = λ content name. removes (extent_view c.args.extent) c.args.number _ name (sym c.in-Some.is ∙ c.in_ok-until.ensures) ∙ ap (λ (p : Planned). Some (planned_view content p)) (sym c.one.ensures)
+returns c = λ name. removes (extent_view c.args.extent) c.args.number _ name (sym c.in-Some.is ∙ c.in_ok-until.ensures) ∙ ap (λ (p : Planned). Some (planned_view p)) (sym c.one.ensures)

@@ -1,9 +1,9 @@
 use Rattle.std.proofs.Common.{ap, sym, ◌∙◌, Some}
 use Rattle.tl_patch_edit.specs.Asks.{planned_view}
-use Rattle.tl_patch_edit.specs.View.{extent_view}
+use Rattle.tl_patch_edit.specs.View.{content_view, extent_view}
 use Rattle.tl_patch_edit.specs.declared.ask.Planned.{Planned}
 use Rattle.tl_patch_edit.proofs.Plans.{replaces}
 use Rattle.tl_patch_edit.proofs.plan.replaced.Goals as goal
 
 pub returns : goal.returns
-returns c = λ content name. replaces (extent_view c.args.extent) c.args.number _ content name (sym c.in-Some.is ∙ c.in_ok-until.ensures) ∙ ap (λ (p : Planned). Some (planned_view content p)) (sym c.one.ensures)
+returns c = λ name. replaces (extent_view c.args.extent) c.args.number _ (content_view c.args.content) name (sym c.in-Some.is ∙ c.in_ok-until.ensures) ∙ ap (λ (p : Planned). Some (planned_view p)) (sym c.one.ensures)

@@ -15,10 +15,10 @@ returns-clause-parts c =
     let name : List ℕ = name_of c.args.raw.now in
     let tag = c.requires.tag in
     let part : Part = part_view c.end_tag_part.result in
-    tag_put name (content_view c.args.ready.content) (part_view c.args.place) part (parts_view c.in-Some.content.items) (parts_view c.copy.new.out.items)
+    tag_put name (content_view c.args.content) (part_view c.args.place) part (parts_view c.in-Some.found.items) (parts_view c.copy.new.out.items)
     (c.end_tag_part.ensures ∙ ap (λ (b : List ℕ). record { kind = kind.EndTag; mode = mode.Data; bytes = b }) tag.is)
     (subst (λ (b : List ℕ). IsWhole mode.Data b (EndTag name ∷ [])) tag.is tag.whole)
-    (some_of _ _ _ c.in-Some.is c.in_ok-content.ensures.parts)
+    (some_of _ _ _ c.in-Some.is c.in_ok-found.ensures.parts)
     (c.in_ok-copy.ensures
     ∙ ap (λ xs. xs ++ parts_view c.as_slice.result.now) (c.in_ok-push.ensures ∙ ap (λ xs. parts_view xs ++ part ∷ []) c.new-parts.ensures.items)
     ∙ ap (λ xs. (part ∷ []) ++ parts_view xs) c.as_slice.ensures.value)

@@ -1,35 +1,49 @@
-use Rattle.std.proofs.Common.{◌≡◌, length, ℕ, List, [], ◌++◌, ap, sym, subst₂, ◌∙◌}
-use Rattle.std.proofs.lemmas.Bool.{eqb-true}
-use Rattle.tl_patch_edit.specs.Several.{AreEdited}
-use Rattle.tl_patch_edit.specs.View.{patch_view}
-use Rattle.tl_patch_edit.proofs.Refusals.{no_places, none_edited, of_error, some_places}
+use Rattle.std.proofs.Common.{◌≡◌, ℕ, List, ap, subst, ◌∙◌}
+use Rattle.std.specs.Prelude.{IfOk}
+use Rattle.tl_patch_spec.specs.Patches.{Patch}
+use Rattle.tl_patch_spec.specs.Together.{at_each}
+use Rattle.tl_patch_edit.specs.Errors.{CannotBeMeant, CannotBeRead, CannotBeWritten, LacksStartTag, StandAcross, StandsPastEnd}
+use Rattle.tl_patch_edit.specs.Several.{AreEdited, places_of}
+use Rattle.tl_patch_edit.specs.View.{patch_view, patches_view}
+use Rattle.tl_patch_edit.proofs.Together.{none_viewed}
 use Rattle.tl_patch_edit.proofs.several.patch_elements.Goals as goal
 
+pub returns-clause-edited : goal.returns-clause-edited
+returns-clause-edited c =
+    let same : patches_view c.as_slice.result.now ≡ at_each (patch_view c.args.patch) c.args.places.now = ap patches_view c.as_slice.ensures.value ∙ c.in_ok-patches.ensures in
+    subst (λ (ps : List (ℕ × Patch)). IfOk c.patch_each.result (λ text. AreEdited ps c.args.page.now text.items)) same c.patch_each.ensures.edited
+
+pub returns-clause-unchanged : goal.returns-clause-unchanged
+returns-clause-unchanged c = λ e.
+    let same : patches_view c.as_slice.result.now ≡ at_each (patch_view c.args.patch) c.args.places.now = ap patches_view c.as_slice.ensures.value ∙ c.in_ok-patches.ensures in
+    c.patch_each.ensures.unchanged (none_viewed c.as_slice.result.now (same ∙ ap (at_each (patch_view c.args.patch)) e))
+
 pub returns-clause-no_start : goal.returns-clause-no_start
-returns-clause-no_start c = λ p e. of_error _ _ _ c.with_patches.ensures.error e
+returns-clause-no_start c = λ p e.
+    let same : patches_view c.as_slice.result.now ≡ at_each (patch_view c.args.patch) c.args.places.now = ap patches_view c.as_slice.ensures.value ∙ c.in_ok-patches.ensures in
+    subst (λ (ps : List (ℕ × Patch)). LacksStartTag c.args.page.now (places_of ps) p) same (c.patch_each.ensures.no_start p e)
 
 pub returns-clause-not_meant : goal.returns-clause-not_meant
-returns-clause-not_meant c = λ p e. of_error _ _ _ c.with_patches.ensures.error e
-
-pub returns-clause-past_end : goal.returns-clause-past_end
-returns-clause-past_end c = λ p e. of_error _ _ _ c.with_patches.ensures.error e
-
-pub returns-clause-not_written : goal.returns-clause-not_written
-returns-clause-not_written c = λ p e. of_error _ _ _ c.with_patches.ensures.error e
-
-pub returns-then-is_empty-clause-edited : goal.returns-then-is_empty-clause-edited
-returns-then-is_empty-clause-edited c =
-    let page : List ℕ = c.args.page.now in
-    let zero : length c.args.places.now ≡ 0 = eqb-true (length c.args.places.now) 0 (sym c.is_empty.ensures ∙ c.if-is_empty.true) in
-    let none : c.args.places.now ≡ [] = no_places c.args.places.now zero in
-    let is : c.extend_from_slice.new.self.items ≡ page = c.in_ok-extend_from_slice.ensures.items ∙ ap (λ (xs : List ℕ). xs ++ page) c.new-text.ensures.items in
-    subst₂ (λ (places text : List ℕ). AreEdited (patch_view c.args.patch) places page text) (sym none) (sym is) (none_edited (patch_view c.args.patch) page)
+returns-clause-not_meant c = λ p e.
+    let same : patches_view c.as_slice.result.now ≡ at_each (patch_view c.args.patch) c.args.places.now = ap patches_view c.as_slice.ensures.value ∙ c.in_ok-patches.ensures in
+    subst (λ (ps : List (ℕ × Patch)). CannotBeMeant c.args.page.now ps p) same (c.patch_each.ensures.not_meant p e)
 
 pub returns-clause-across : goal.returns-clause-across
-returns-clause-across c = λ p e. of_error _ _ _ c.with_patches.ensures.across e
+returns-clause-across c = λ p e.
+    let same : patches_view c.as_slice.result.now ≡ at_each (patch_view c.args.patch) c.args.places.now = ap patches_view c.as_slice.ensures.value ∙ c.in_ok-patches.ensures in
+    subst (λ (ps : List (ℕ × Patch)). StandAcross c.args.page.now ps p) same (c.patch_each.ensures.across p e)
+
+pub returns-clause-past_end : goal.returns-clause-past_end
+returns-clause-past_end c = λ p e.
+    let same : patches_view c.as_slice.result.now ≡ at_each (patch_view c.args.patch) c.args.places.now = ap patches_view c.as_slice.ensures.value ∙ c.in_ok-patches.ensures in
+    subst (λ (ps : List (ℕ × Patch)). StandsPastEnd c.args.page.now ps p) same (c.patch_each.ensures.past_end p e)
+
+pub returns-clause-not_written : goal.returns-clause-not_written
+returns-clause-not_written c = λ p e.
+    let same : patches_view c.as_slice.result.now ≡ at_each (patch_view c.args.patch) c.args.places.now = ap patches_view c.as_slice.ensures.value ∙ c.in_ok-patches.ensures in
+    subst (λ (ps : List (ℕ × Patch)). CannotBeWritten c.args.page.now ps p) same (c.patch_each.ensures.not_written p e)
 
 pub returns-clause-read_otherwise : goal.returns-clause-read_otherwise
-returns-clause-read_otherwise c = λ p e. of_error _ _ _ c.with_patches.ensures.reading e
-
-pub with_patches-requires : goal.with_patches-requires
-with_patches-requires c = some_places c.args.places.now (sym c.is_empty.ensures ∙ c.if-is_empty.false)
+returns-clause-read_otherwise c = λ p e.
+    let same : patches_view c.as_slice.result.now ≡ at_each (patch_view c.args.patch) c.args.places.now = ap patches_view c.as_slice.ensures.value ∙ c.in_ok-patches.ensures in
+    subst (λ (ps : List (ℕ × Patch)). CannotBeRead c.args.page.now ps p) same (c.patch_each.ensures.read_otherwise p e)

@@ -5,8 +5,8 @@ use Rattle.tl_patch_edit.specs.declared.ask.PlacedAsk.{PlacedAsk}
 use Rattle.tl_patch_edit.proofs.Turns.{in_turn, key_not_less, on_ok}
 use Rattle.tl_patch_edit.proofs.several.sort_asks.Goals as goal
 
-key : PlacedAsk → ℕ × ℕ × Reverse ℕ
-key a = (a.ask.from, a.ask.until, record { 0 = a.start.number })
+key : PlacedAsk → ℕ × ℕ × Reverse ℕ × ℕ × ℕ
+key a = (a.ask.from, a.ask.until, record { 0 = a.turn.depth }, a.turn.rank, a.turn.at)
 
 pub returns-clause-in_turn : goal.returns-clause-in_turn
 unfolding key

@@ -1,17 +1,15 @@
 use Rattle.tl_html_spec.specs.Pieces.{pieces, runs}
-use Rattle.tl_patch_edit.specs.Asks.{content_of}
 use Rattle.tl_patch_edit.specs.Causes.{IsPlanned}
 use Rattle.std.proofs.lemmas.List.Sorted.{All-permutation}
-use Rattle.tl_patch_edit.specs.Several.{numbers_of}
-use Rattle.tl_patch_edit.specs.View.{patch_view}
+use Rattle.tl_patch_edit.specs.View.{meant_view}
 use Rattle.tl_patch_edit.proofs.Together.{sorted}
 use Rattle.tl_patch_edit.proofs.several.sorted_asks.Goals as goal
 
 pub returns-clause-sorted : goal.returns-clause-sorted
 returns-clause-sorted c =
-    sorted (runs (pieces c.args.page.now)) (patch_view c.args.patch) (numbers_of c.args.starts.now) (content_of (patch_view c.args.patch)) c.in_ok-asks.asks.items c.sort_asks.new.asks.items
+    sorted (runs (pieces c.args.page.now)) (meant_view c.args.meant.now) c.in_ok-asks.asks.items c.sort_asks.new.asks.items
     c.in_ok-asks.ensures.asks c.sort_asks.ensures.permutation c.in_ok-sort_asks.ensures.in_turn
 
 pub returns-clause-planned : goal.returns-clause-planned
 returns-clause-planned c =
-    All-permutation (IsPlanned c.args.page.now (patch_view c.args.patch) c.args.starts.now) c.in_ok-asks.asks.items c.sort_asks.new.asks.items c.sort_asks.ensures.permutation c.in_ok-asks.ensures.planned
+    All-permutation (IsPlanned c.args.page.now c.args.meant.now) c.in_ok-asks.asks.items c.sort_asks.new.asks.items c.sort_asks.ensures.permutation c.in_ok-asks.ensures.planned

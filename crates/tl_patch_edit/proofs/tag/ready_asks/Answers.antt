@@ -2,7 +2,7 @@ use Rattle.std.proofs.Common.{rules, Err, ◌≡◌, List, [], ◌∷◌, ◌++�
 use Rattle.std.specs.List.{All}
 use Rattle.std.proofs.lemmas.List.{map-append, take_all, take_more}
 use Rattle.std.proofs.lemmas.List.Elements.{All-push, Contains-get_or}
-use Rattle.tl_patch_edit.specs.Asks.{IsTagged, placed_of}
+use Rattle.tl_patch_edit.specs.Asks.{IsEscaped, IsTagged, placed_of}
 use Rattle.tl_patch_edit.specs.Causes.{IsWithin}
 use Rattle.tl_patch_edit.proofs.Refusals.{err_is, one_refused}
 use Rattle.tl_patch_edit.specs.Parts.{parts_view}
@@ -16,6 +16,8 @@ loop-at-preserved c =
     let old : List ReadyAsk = c.loop-at.ready.items in
     let one : ReadyAsk = c.in_ok-one.one in
     record {
+      escaped = subst (All IsEscaped) (sym c.in_ok-push_ready.ensures)
+          (All-push IsEscaped old one c.loop-at.invariant.escaped c.in_ok-one.ensures.escaped);
       asks = ap placed_of c.in_ok-push_ready.ensures
           ∙ map-append (λ (r : ReadyAsk). r.placed) old (one ∷ [])
           ∙ ap (λ (xs : List PlacedAsk). xs ++ one.placed ∷ []) c.loop-at.invariant.asks
@@ -31,6 +33,6 @@ pub returns-clause-asks : goal.returns-clause-asks
 returns-clause-asks c = c.loop-at.invariant.asks ∙ take_all c.loop-at.at c.args.asks.now c.loop-at-test.false
 
 pub returns-in_err-one-clause-error : goal.returns-in_err-one-clause-error
-returns-in_err-one-clause-error c = λ content.
+returns-in_err-one-clause-error c =
     let is : c.from_residual-in_err-one.result ≡ Err c.in_err-one.field-0.0 = search rules in
-    err_is _ _ _ is (one_refused content (parts_view c.args.parts.now) c.args.asks.now _ _ (Contains-get_or c.args.asks.now c.loop-at.at _ c.loop-at-test.true) (c.in_err-one.ensures.error content))
+    err_is _ _ _ is (one_refused (parts_view c.args.parts.now) c.args.asks.now _ _ (Contains-get_or c.args.asks.now c.loop-at.at _ c.loop-at-test.true) c.in_err-one.ensures.error)

@@ -1,6 +1,6 @@
 use Rattle.std.proofs.Common.{◌≡◌, length, take}
 use Rattle.std.specs.List.{All}
-use Rattle.tl_patch_edit.specs.Asks.{IsTagged, placed_of}
+use Rattle.tl_patch_edit.specs.Asks.{IsEscaped, IsTagged, placed_of}
 use Rattle.tl_patch_edit.specs.Causes.{IsWithin}
 use Rattle.tl_patch_edit.specs.Parts.{parts_view}
 use Rattle.tl_patch_edit.proofs.tag.ready_asks.Given as goal
@@ -10,4 +10,5 @@ invariant-loop-at l = record {
   asks : placed_of l.ready.items ≡ take l.at l.asks;
   within : All (IsWithin (length l.parts)) l.ready.items;
   tags : All (IsTagged (parts_view l.parts)) l.ready.items;
+  escaped : All IsEscaped l.ready.items;
 }

@@ -11,5 +11,5 @@ returns-clause-tag c =
     (some_of _ _ _ c.in-Some.is c.in_ok-tag.ensures.tag)
 
 pub returns-in_default-clause-none : goal.returns-in_default-clause-none
-returns-in_default-clause-none c = λ content.
-    cannot_put content (parts_view c.args.parts.now) c.args.ask (part_view c.place_at-place.result) c.place_at-place.ensures (inr (inl (none_of _ _ c.in_default.is c.in_ok-tag.ensures.none)))
+returns-in_default-clause-none c =
+    cannot_put (parts_view c.args.parts.now) c.args.ask (part_view c.place_at-place.result) c.place_at-place.ensures (inr (inl (none_of _ _ c.in_default.is c.in_ok-tag.ensures.none)))

@@ -1,8 +1,9 @@
-use Rattle.std.proofs.Common.{rules, ◌≡◌, Err, List, ℕ, subst, sym, ◌∙◌}
+use Rattle.std.proofs.Common.{rules, ◌≡◌, Err, List, ℕ, subst, sym}
 use Rattle.tl_patch_edit.specs.Several.{AreEdited}
 use Rattle.tl_patch_edit.specs.View.{patch_view}
 use Rattle.tl_patch_edit.specs.declared.error.EditError.{EditError}
 use Rattle.tl_patch_spec.specs.Patches.{Patch}
+use Rattle.tl_patch_spec.specs.Together.{at_each}
 use Rattle.tl_patch_select.specs.Errors.{edit_error_of_normalize, error_of_edit}
 use Rattle.tl_patch_select.specs.Selected.{AreSelected}
 use Rattle.tl_patch_select.proofs.Refused.{Says, normalize_refused, refused_where}
@@ -12,12 +13,12 @@ pub returns-clause-edited : goal.returns-clause-edited
 returns-clause-edited c =
     let page : List ℕ = c.args.page.now in
     let text : List ℕ = c.in_ok-bytes.bytes.items in
-    let made : AreEdited (patch_view c.args.patch) c.as_slice.result.now page text = search rules in
+    let made : AreEdited (at_each (patch_view c.args.patch) c.as_slice.result.now) page text = search rules in
     record {
       numbers = c.in_ok-places.ensures.selected.numbers;
       found = c.in_ok-places.ensures.selected.found;
       places_found = c.in_ok-places.ensures.selected.places_found;
-      edited = subst (λ (places : List ℕ). AreEdited (patch_view c.args.patch) places page text) c.as_slice.ensures.value made;
+      edited = subst (λ (places : List ℕ). AreEdited (at_each (patch_view c.args.patch) places) page text) c.as_slice.ensures.value made;
     }
 
 pub returns-in_err-bytes-clause-refused : goal.returns-in_err-bytes-clause-refused
@@ -27,7 +28,7 @@ returns-in_err-bytes-clause-refused c = λ error h.
     let e : EditError = c.in_err-bytes.field-0.0 in
     let was : c.patch_elements.result ≡ Err e = c.in_err-bytes.was in
     let is : c.from_residual-in_err-bytes.result ≡ Err (error_of_edit e) = search rules in
-    let says : Says page c.as_slice.result.now patch c.patch_elements.result = record {
+    let says : Says page (at_each patch c.as_slice.result.now) c.patch_elements.result = record {
       no_start = λ p q. search (rules, q);
       not_meant = λ p q. search (rules, q);
       past_end = λ p q. search (rules, q);
