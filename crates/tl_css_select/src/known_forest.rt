@@ -1,8 +1,10 @@
 //! Documents that are forests, and where selectors hold in them.
-ghost use Rattle.std.specs.Prelude.{◌≡◌, ◌↔◌, ◌<◌, [], Err, IfOk, IsErrOf, IsOk, length, string_bytes, true};
+ghost use Rattle.std.specs.Prelude.{◌≡◌, ◌↔◌, ◌<◌, [], All, Err, IfOk, IsErrOf, IsOk, length, string_bytes, true};
+ghost use Rattle.tl_bytes.specs.Held.{borrowed, shared};
 ghost use Rattle.tl_spec.specs.Tree.Document.{document};
 ghost use Rattle.tl_css.specs.Meaning.{AreFound, Holds, IsForest};
-ghost use Rattle.tl.specs.View.{document_of};
+ghost use Rattle.tl.specs.Tracked.{AnswerClasses, AnswerIds, AreAsked};
+ghost use Rattle.tl.specs.View.{IsHeldNode, document_of, version_of};
 ghost use Rattle.tl.specs.declared.errors.ParseError.TheVariants.{InvalidLength};
 ghost use Rattle.tl_css_select.specs.Below.{AreFoundBelow};
 ghost use Rattle.tl_css_select.specs.Spelling.{decoded_nodes};
@@ -157,6 +159,13 @@ impl<'a> FreshDocument<'a> {
         ensures length { IsErrOf result InvalidLength ↔ (u32.MAX < length text.now) }
         ensures document { IfOk result (λ d. document_of d ≡ document text.now) }
         ensures empty { text.now ≡ [] → IsOk result }
+        ensures version { IfOk result (λ d. d.version ≡ version_of (document text.now).is_html5) }
+        ensures borrowed { IfOk result (λ d. All (IsHeldNode borrowed) d.nodes) }
+
+        // What the options ask for is tracked.
+        ensures asked { IfOk result (λ d. AreAsked options d.tracking) }
+        ensures ids { IfOk result (λ d. AnswerIds d.tracking (document text.now).nodes) }
+        ensures classes { IfOk result (λ d. AnswerClasses d.tracking (document text.now).nodes) }
     {
         let document = parse(alloc, text, options)?;
         Ok(FreshDocument { document })
@@ -213,6 +222,15 @@ impl FreshGuard {
     ) -> Result<FreshGuard, ParseError>
         ensures length { IsErrOf result InvalidLength ↔ (u32.MAX < length (string_bytes text)) }
         ensures document { IfOk result (λ d. document_of d ≡ document (string_bytes text)) }
+        ensures version { IfOk result (λ d. d.version
+            ≡ version_of (document (string_bytes text)).is_html5) }
+        ensures shared { IfOk result (λ d. All (IsHeldNode shared) d.nodes) }
+
+        // What the options ask for is tracked.
+        ensures asked { IfOk result (λ d. AreAsked options d.tracking) }
+        ensures ids { IfOk result (λ d. AnswerIds d.tracking (document (string_bytes text)).nodes) }
+        ensures classes { IfOk result (λ d. AnswerClasses d.tracking
+            (document (string_bytes text)).nodes) }
     {
         let document = parse_owned(alloc, text, options)?;
         Ok(FreshGuard { document })
