@@ -1,5 +1,5 @@
 -- Elements of a page changed where a selector of CSS holds.
-use Rattle.std.specs.Prelude.{◌≡◌, ◌==◌, ℕ, List, Option, None, Some, option_and_then, ⊤, if◌then◌else◌}
+use Rattle.std.specs.Prelude.{◌≡◌, ◌==◌, ℕ, List, Option, None, Some, option_and_then, if◌then◌else◌}
 use Rattle.tl_css.specs.Selector.{Css}
 use Rattle.tl_page.specs.Outcome.{Outcome, success}
 use Rattle.tl_patch_edit.specs.declared.error.EditError.{EditError}
@@ -44,9 +44,9 @@ pub record IsEditedBy (selector : List ℕ) (patch : Patch) (page text : List �
   pub places : List ℕ
   pub edited : IsEditedWhere css patch page text places
 
--- the same of a patch that may not be one
+-- the same of a patch that may not be one: then nothing is given
 abbrev pub IsEditedIf : List ℕ → Option Patch → List ℕ → List ℕ → Type 0
-IsEditedIf selector None page text = ⊤
+IsEditedIf selector None page text = ⊥
 IsEditedIf selector (Some patch) page text = IsEditedBy selector patch page text
 
 -- the number in the header of why an element isn't changed, 0 where that is said by the status

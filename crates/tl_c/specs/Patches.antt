@@ -1,5 +1,5 @@
 -- Tags of a page changed where a selector of CSS holds.
-use Rattle.std.specs.Prelude.{◌≡◌, ◌==◌, ℕ, List, Option, None, Some, ⊤, if◌then◌else◌}
+use Rattle.std.specs.Prelude.{◌≡◌, ◌==◌, ℕ, List, Option, None, Some, if◌then◌else◌}
 use Rattle.tl_css.specs.Selector.{Css}
 use Rattle.tl_page.specs.Outcome.{Outcome, success}
 use Rattle.tl_patch_select.specs.Patched.{IsPatchedWhere}
@@ -23,9 +23,9 @@ pub record IsPatchedBy (selector : List ℕ) (change : TagChange) (page text : L
   pub places : List ℕ
   pub patched : IsPatchedWhere css change page text places
 
--- the same of a change that may not be one
+-- the same of a change that may not be one: then nothing is given
 abbrev pub IsPatchedIf : List ℕ → Option TagChange → List ℕ → List ℕ → Type 0
-IsPatchedIf selector None page text = ⊤
+IsPatchedIf selector None page text = ⊥
 IsPatchedIf selector (Some change) page text = IsPatchedBy selector change page text
 
 -- the number in the header of why the tags aren't changed, 0 where that is said by the status
