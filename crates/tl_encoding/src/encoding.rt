@@ -107,8 +107,9 @@ fn encoding_declared(page: &[u8]) -> Result<Encoding, EncodingError<'_>>
     }
 }
 
-// The encoding that a page says in itself: a tag `meta` counts before a declaration.
-fn encoding_said(page: &[u8]) -> Result<Encoding, EncodingError<'_>>
+/// The encoding that a page says in itself, whatever its bytes are: a tag `meta` counts before an
+/// XML declaration, and one that says nothing is in UTF-8.
+pub fn encoding_said(page: &[u8]) -> Result<Encoding, EncodingError<'_>>
     ensures { answer_of result ≡ encoding_said page.now }
 {
     match charset_of(page) {

@@ -12,5 +12,5 @@ mod laws;
 mod run;
 mod text;
 
-pub use encoding::{Encoding, EncodingError, encoding_of};
+pub use encoding::{Encoding, EncodingError, encoding_of, encoding_said};
 pub use text::{DecodeError, decode};

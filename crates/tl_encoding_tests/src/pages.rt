@@ -1,5 +1,5 @@
 //! Which encoding pages are in.
-use tl_encoding::{Encoding, EncodingError, encoding_of};
+use tl_encoding::{Encoding, EncodingError, encoding_of, encoding_said};
 
 // A page, and its encoding.
 #[rattlefmt::skip]
@@ -129,12 +129,40 @@ fn utf_16_is_told(rt: HostRuntime) {
     }
 }
 
+// Pages of ASCII, and what they say: it counts also where the bytes are UTF-8.
 #[rattlefmt::skip]
-static LABELS: [(&[u8], Option<Encoding>); 9] = [
-    (b"utf-8", Some(Encoding::Utf8)), (b"UTF8", Some(Encoding::Utf8)),
-    (b"Latin1", Some(Encoding::Windows1252)), (b"cp1252", Some(Encoding::Windows1252)),
-    (b" latin1\t", Some(Encoding::Windows1252)), (b"x-user-defined", None),
-    (b"iso-8859-15", None), (b"utf-16", None), (b"", None),
+static SAID: [(&[u8], Result<Encoding, EncodingError<'static>>); 6] = [
+    (b"<p>a", Ok(Encoding::Utf8)),
+    (b"<meta charset=utf-8><p>a", Ok(Encoding::Utf8)),
+    (b"<meta charset=latin1><p>a", Ok(Encoding::Windows1252)),
+    (b"<?xml version=\"1.0\" encoding=\"latin1\"?><p>a", Ok(Encoding::Windows1252)),
+    (b"<?xml version=\"1.0\" encoding=\"latin1\"?><meta charset=utf-8>", Ok(Encoding::Utf8)),
+    (b"<meta charset=koi8-r><p>a", Err(EncodingError::Unknown(b"koi8-r"))),
+];
+
+#[test]
+fn what_pages_say_counts_whatever_they_are(rt: HostRuntime) {
+    for (page, said) in &SAID {
+        assert!(rt; encoding_said(page) == *said);
+    }
+}
+
+#[rattlefmt::skip]
+static LABELS: [(&[u8], Option<Encoding>); 29] = [
+    (b"unicode-1-1-utf-8", Some(Encoding::Utf8)), (b"unicode11utf8", Some(Encoding::Utf8)),
+    (b"unicode20utf8", Some(Encoding::Utf8)), (b"utf-8", Some(Encoding::Utf8)),
+    (b"UTF8", Some(Encoding::Utf8)), (b"x-unicode20utf8", Some(Encoding::Utf8)),
+    (b"ansi_x3.4-1968", Some(Encoding::Windows1252)), (b"ascii", Some(Encoding::Windows1252)),
+    (b"cp1252", Some(Encoding::Windows1252)), (b"cp819", Some(Encoding::Windows1252)),
+    (b"csisolatin1", Some(Encoding::Windows1252)), (b"ibm819", Some(Encoding::Windows1252)),
+    (b"ISO-8859-1", Some(Encoding::Windows1252)), (b"iso-ir-100", Some(Encoding::Windows1252)),
+    (b"iso8859-1", Some(Encoding::Windows1252)), (b"iso88591", Some(Encoding::Windows1252)),
+    (b"iso_8859-1", Some(Encoding::Windows1252)), (b"iso_8859-1:1987", Some(Encoding::Windows1252)),
+    (b"l1", Some(Encoding::Windows1252)), (b"Latin1", Some(Encoding::Windows1252)),
+    (b" latin1\t", Some(Encoding::Windows1252)), (b"us-ascii", Some(Encoding::Windows1252)),
+    (b"windows-1252", Some(Encoding::Windows1252)), (b"x-cp1252", Some(Encoding::Windows1252)),
+    (b"x-user-defined", None), (b"iso-8859-15", None), (b"utf-16", None), (b"latin2", None),
+    (b"", None),
 ];
 
 #[test]
