@@ -52,7 +52,7 @@ pub fn report_error(rt: &HostRuntime, name: &str, error: &io::Error) -> Failure 
 // What a reader has left. Of a page that is too long no more is read than shows it.
 fn page_in<R: Read + Drop>(alloc: Global, reader: R) -> io::Result<Vec<u8>>
     ensures { IfOk result (λ page. IfSome (R.remaining reader)
-        (λ bytes. page.items ≡ take TOO_LONG bytes)) }
+        (λ bytes. page.items ≡ take 4294967296 bytes)) }
 {
     let mut page = Vec::new(alloc);
     reader.take(TOO_LONG).read_to_end(&mut page)?;

@@ -9,8 +9,10 @@ use crate::pages::{
 };
 use crate::reports::{Answer, Report, status_of};
 use std::alloc::{AllocError, Global};
+use std::fmt;
 use std::io::ErrorKind;
 use tl_css::Selector;
+use tl_encoding::{Encoding, encoding_of, encoding_said};
 use tl_in_place::replace;
 use tl_page::{Failure, text};
 use tl_patch_select::Patched;
@@ -130,6 +132,24 @@ fn put(
     }
 }
 
+// Whether browsers would read other characters than those that were put: a page of ASCII says
+// another encoding than UTF-8, and is no more ASCII.
+fn is_misread(page: &[u8], patched: &Patched) -> bool {
+    page.is_ascii()
+        && !patched.bytes.as_slice().is_ascii()
+        && encoding_said(page) != Ok(Encoding::Utf8)
+}
+
+// Why a page is not changed by what is no ASCII.
+#[derive(Clone, Copy)]
+struct OtherEncoding;
+
+impl fmt::Display for OtherEncoding {
+    fn fmt<W: fmt::Write>(&self, f: &mut fmt::Formatter<W>) -> fmt::Result {
+        f.write_str("what is put is no ASCII, and the page says another encoding than UTF-8")
+    }
+}
+
 // Changes the page in a file.
 fn patch_page(rt: &HostRuntime, patching: &Patching<'_>, file: &str) -> Result<Answer, Failure> {
     let bytes = match page_of(rt, file) {
@@ -140,8 +160,14 @@ fn patch_page(rt: &HostRuntime, patching: &Patching<'_>, file: &str) -> Result<A
         Ok(page) => page,
         Err(error) => return Ok(not_understood(rt, file, &error)),
     };
+    if let Err(error) = encoding_of(page.as_bytes()) {
+        return Ok(not_understood(rt, file, &error));
+    }
     let edit = &patching.edit;
     match edit.patched(rt.alloc(), page, &patching.selector) {
+        Ok(patched) if is_misread(page.as_bytes(), &patched) => {
+            Ok(not_understood(rt, file, &OtherEncoding))
+        }
         Ok(patched) => Ok(put(rt, &patching.target, file, page, &patched)?),
         Err(Refusal::OutOfMemory) => Err(Failure::OutOfMemory),
         Err(Refusal::Tag(error)) => Ok(not_understood(rt, file, &error)),

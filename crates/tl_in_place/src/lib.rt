@@ -9,10 +9,15 @@ use std::os::unix::fs::{MetadataExt, OpenOptionsExt, chown};
 // How many names are tried for a new file.
 const NAMES: u32 = 100;
 
-// A new file beside another one, which none but its owner may read yet, and its name.
-fn create_beside(rt: &HostRuntime, file: &str) -> io::Result<(String, File)> {
+// A new file beside another one, which none but its owner may read yet, and its name. That is not
+// the one that the backup is to have.
+fn create_beside(rt: &HostRuntime, file: &str, suffix: Option<&str>) -> io::Result<(String, File)> {
     for number in 0..NAMES {
-        let name = format!(in rt.alloc(); "{file}.tl-{number}")?;
+        let end = format!(in rt.alloc(); ".tl-{number}")?;
+        if suffix == Some(end.as_str()) {
+            continue;
+        }
+        let name = format!(in rt.alloc(); "{file}{end}")?;
         let mut options = OpenOptions::new();
         options.write(true).create_new(true).mode(0o600);
         match options.open(rt, name.as_str()) {
@@ -64,7 +69,7 @@ fn copy_and_rename(
 // be a link, also to this file: the name is taken from it.
 fn back_up(rt: &HostRuntime, file: &str, old: &Metadata, suffix: &str) -> io::Result<()> {
     let backup = format!(in rt.alloc(); "{file}{suffix}")?;
-    let (name, new) = create_beside(rt, file)?;
+    let (name, new) = create_beside(rt, file, Some(suffix))?;
     let done = copy_and_rename(rt, name.as_str(), new, file, old, backup.as_str());
     if done.is_err() {
         let _ = fs::remove_file(rt, name.as_str());
@@ -102,7 +107,7 @@ pub fn replace(rt: &HostRuntime, file: &str, suffix: Option<&str>, bytes: &[u8])
     if !old.is_file() || suffix == Some("") {
         return Err(ErrorKind::InvalidInput.into());
     }
-    let (name, new) = create_beside(rt, file)?;
+    let (name, new) = create_beside(rt, file, suffix)?;
     let done = write_and_rename(rt, name.as_str(), new, file, &old, suffix, bytes);
     if done.is_err() {
         let _ = fs::remove_file(rt, name.as_str());
