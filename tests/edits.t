@@ -6,7 +6,12 @@ Edits of pages in their own bytes: what `tl set` and its like write, where, and 
   <LI><A HREF="/y">a</a> &am<b CLASS=k>p; (no-eol)
   $ tl set 'a, .k' TITLE 'q"&<' <page
   <UL>
-  <LI><A title="q&quot;&amp;<" HREF=/x>a</a> &am<b title="q&quot;&amp;<" CLASS=k>p; (no-eol)
+  <LI><A title="q&quot;&amp;&lt;" HREF=/x>a</a> &am<b title="q&quot;&amp;&lt;" CLASS=k>p; (no-eol)
+  $ printf '<noscript><img alt=x></noscript>' | tl set img alt '</noscript><img src=x onerror=f()>'
+  <noscript><img alt="&lt;/noscript&gt;&lt;img src=x onerror=f()&gt;"></noscript> (no-eol)
+  $ tl set a title ' x ' <page
+  <UL>
+  <LI><A title=" x " HREF=/x>a</a> &am<b CLASS=k>p; (no-eol)
   $ tl unset '[class]' class page
   <UL>
   <LI><A HREF=/x>a</a> &am<b>p; (no-eol)
@@ -414,6 +419,21 @@ What is refused.
   [2]
   $ od -An -c bytes | tr -d ' \n'
   <a>377 (no-eol)
+  $ printf '<\0?\0x\0m\0l\0 \0v\0?\0>\0<\0p\0>\0a\0' | tl set p k v
+  tl: -: UTF-16 is not read (err)
+  [2]
+  $ printf '<meta charset=latin1><p>a' | tl set p k é
+  tl: -: what is put is no ASCII, and the page says another encoding than UTF-8 (err)
+  [2]
+  $ printf '<?xml version="1.0" encoding="koi8-r"?><p>a' | tl append p é
+  tl: -: what is put is no ASCII, and the page says another encoding than UTF-8 (err)
+  [2]
+  $ printf '<meta charset=latin1><p>a' | tl set p k e
+  <meta charset=latin1><p k="e">a (no-eol)
+  $ printf '<meta charset=latin1><p>è' | tl set p k é
+  <meta charset=latin1><p k="é">è (no-eol)
+  $ printf '<meta charset=utf-8><p>a' | tl set p k é
+  <meta charset=utf-8><p k="é">a (no-eol)
   $ tl set a 'k=' v page
   tl: no key: k= (err)
   [2]

@@ -12,6 +12,15 @@ The owner and the mode stay; another name of the file by a hard link keeps the o
   <a href=/x>y</a>
   $ stat -c '%u:%g %a' page | cmp - was
 
+An owner that may not be set is not; the mode stays. (A superuser gives up that right here, where there is the program for it.)
+
+  $ setpriv --bounding-set -chown true 2>/dev/null && without='setpriv --bounding-set -chown'; $without tl set -i a k u page
+  $ cat page
+  <a k="u" href=/x>y</a>
+  $ stat -c %a page
+  604
+  $ chown 1:2 page 2>/dev/null; tl set -i a k v page
+
 A link is followed: the file and its backup stand where the file stands. A later backup takes the place of an earlier one.
 
   $ mkdir links
@@ -30,6 +39,19 @@ A link is followed: the file and its backup stand where the file stands. A later
   $ cat page page.old
   <a k="x" href=/x>y</a>
   <a k="w" href=/x>y</a>
+
+The backup has the owner and the mode of the page, and stays where a later write fails.
+
+  $ stat -c '%u:%g %a' page.old | cmp - was
+  $ (trap '' XFSZ; ulimit -f 0; tl set --backup .old a k z page 2>&1; echo $?) | cat
+  tl: page: File too large (os error 27)
+  4
+  $ cat page page.old
+  <a k="x" href=/x>y</a>
+  <a k="w" href=/x>y</a>
+  $ ls page*
+  page
+  page.old
   $ rm page.old
 
 The name of the new file is one that is free; where a hundred are taken, that is said.
@@ -39,6 +61,10 @@ The name of the new file is one that is free; where a hundred are taken, that is
   $ cat page page.tl-0
   <a k="y" href=/x>y</a>
   mine
+  $ printf '<b>' >other
+  $ tl set --backup .tl-0 b k v other
+  $ cat other other.tl-0
+  <b k="v"><b> (no-eol)
   $ for number in $(seq 0 99); do echo mine >page.tl-$number; done
   $ tl set -i a k z page
   tl: page: entity already exists (err)

@@ -50,6 +50,9 @@ Values and texts of nodes as the form has them, and by the grammar of `tl`.
   1&amp;2
   $ printf '<p A="1&amp;2">' | tl select --as-is -a A p
   1&amp;2
+  $ tl select --raw --json -m1 p one three
+  {"attributes":{"a+2eb":"1&amp;2"},"file":"one","name":"p","node":0,"text":"x&amp;y"}
+  {"attributes":{"a":"1&amp;2"},"file":"three","name":"p","node":0,"text":"x"}
   $ tl text --in p one
   x&y
   z
@@ -58,6 +61,11 @@ Values and texts of nodes as the form has them, and by the grammar of `tl`.
   z
   $ tl text --as-is --in '[a="1&amp;2"]' three
   x
+  $ printf '<p>x&amp;y</p>' | tl outline --as-is
+  p
+    "x&amp;y"
+  $ printf '<table><tr><td>x&amp;y</td></tr></table>' | tl table --as-is
+  x&amp;y
   $ tl text -w --in p one
   x&y
   z

@@ -312,6 +312,15 @@ Encodings.
   café € (no-eol)
   $ tl text --encoding=Windows-1252 latin1.html
   café € (no-eol)
+  $ tl select --encoding latin1 -t p latin1.html
+  café €
+  $ tl outline --encoding latin1 latin1.html
+  p
+    "café €"
+  $ printf '<a href=\351><table><tr><td>\200' | tl links --encoding latin1
+  é
+  $ printf '<a href=\351><table><tr><td>\200' | tl table --encoding latin1
+  €
   $ tl text --encoding utf-8 latin1.html
   tl: latin1.html: no UTF-8 at byte 6 (err)
   [2]

@@ -38,6 +38,10 @@ They have none with NO_COLOR, on a terminal that takes none, and elsewhere.
   $ python3 terminal.py 'tl select -l p a.html b.html 2>said | cat'
   a.html\x0d (esc)
   b.html\x0d (esc)
+  $ python3 terminal.py 'tl select -l p a.html b.html >said' >shown
+  $ cat said
+  a.html
+  b.html
 
 Help and what is said of errors have none either.
 
@@ -67,6 +71,13 @@ How far the work is, is said on standard error where there are more than a hundr
   [1]
   $ python3 terminal.py 'TERM=dumb tl select -q i *.html'
   [1]
+  $ for files in 100 101; do python3 terminal.py "tl select -q i \$(seq -f %g.html $files)" | tr '\033' '\n' | grep 'file 1 of'; done
+  [Ktl: file 1 of 101
+  $ python3 terminal.py 'NO_COLOR=1 tl select -q i *.html 2>&1 >said' | tr '\033' '\n' | grep 'file 1 of'
+  [Ktl: file 1 of 103
+  $ python3 terminal.py 'tl set --dry-run p k v *.html >said'
+  $ wc -l <said
+  104
   $ tl select -q i *.html none
   tl: none: No such file or directory (os error 2) (err)
   [4]

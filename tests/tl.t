@@ -23,6 +23,14 @@ Each command, and each option of `select`.
   2
   $ tl select -n0 p <page
   0\x004\x00 (esc) (no-eol)
+  $ tl select -c0 p <page
+  2\x00 (esc) (no-eol)
+  $ tl select -H0 p <page
+  x<b>y</b>\x00z<img src="i.png" srcset="j.png 2x"><a href="/q"></a>\x00 (esc) (no-eol)
+  $ tl select -0 -a src '*' <page
+  i.png\x00 (esc) (no-eol)
+  $ tl select -0 b <page
+  <b>y</b>\x00 (esc) (no-eol)
   $ tl select -t '#a' - <page
   xy
   $ tl select -1 p <page
@@ -56,6 +64,13 @@ Each command, and each option of `select`.
   /q
   $ tl links --null <page
   i.png\x00j.png 2x\x00/q\x00 (esc) (no-eol)
+  $ tl links page - <page
+  page:i.png
+  page:j.png 2x
+  page:/q
+  -:i.png
+  -:j.png 2x
+  -:/q
   $ tl text <page
   xyz (no-eol)
   $ printf '<title>T</title><style>p{}</style><div>a\n b<b>c</b><p> d<br>e</p></div><script>f</script>' | tl text -w
@@ -151,6 +166,12 @@ Of each page the first nodes alone; whether there are some; the files that have 
   [{"attributes":{},"name":"li","node":5,"text":"1"}]
   $ tl select -m 9 -c li shelf
   3
+  $ tl select -m 4294967295 -c li shelf
+  3
+  $ tl select -m1 -H p page
+  x<b>y</b>
+  $ tl select -m1 -a class 'p, li' shelf
+  x y
   $ tl select -m 2 -c li shelf page
   shelf:2
   page:0
@@ -160,6 +181,8 @@ Of each page the first nodes alone; whether there are some; the files that have 
   [1]
   $ tl select -q li shelf
   $ tl select -q b shelf
+  [1]
+  $ tl select -q -a id li shelf
   [1]
   $ tl select --quiet -a class li none shelf none
   tl: none: No such file or directory (os error 2) (err)
@@ -175,6 +198,11 @@ Of each page the first nodes alone; whether there are some; the files that have 
   shelf
   $ tl select -l0 p page
   page\x00 (esc) (no-eol)
+  $ tl select -l p <page
+  -
+  $ tl select -l --no-name p page shelf
+  page
+  shelf
   $ tl select -l -a id p page shelf
   page
   $ tl select -l dd page shelf
@@ -244,6 +272,8 @@ Tables as CSV.
   1,d e & f
   """x"""
   $ tl table --number=2 table
+  [1]
+  $ tl table --number 4294967295 table
   [1]
   $ printf '<table><tr><td>o<table><tr><td>i<td>j</table>p<td>q<tr></table><table><tr><td>z' | tl table
   o i j p,q
@@ -423,6 +453,12 @@ Nothing was found, or something is refused or not understood.
   $ tl print "$(printf '\377')"
   tl: words: no UTF-8 (err)
   [2]
+  $ tl print <.
+  tl: -: Is a directory (os error 21) (err)
+  [4]
+  $ tl print - <&-
+  tl: -: Bad file descriptor (os error 9) (err)
+  [4]
   $ mkdir folder && tl print folder
   tl: folder: Is a directory (os error 21) (err)
   [4]

@@ -13,6 +13,8 @@ The callers of `crates/uses`.
   $ uses values p href
   $ printf '<p title="Dear {name}">Dear <b>{name}</b>, {x} <!-- {name} --></p>' | uses fill 'name=A"<&' name=B
   <p title="Dear A&quot;&lt;&amp;">Dear <b>A&quot;&lt;&amp;</b>, {x} <!-- {name} --></p> (no-eol)
+  $ printf '<p>{a}</p>' | uses fill a=b=c
+  <p>b=c</p> (no-eol)
   $ printf '<p>{a}{b}{c</p>' | uses fill a=1 c=2
   <p>1{b}{c</p> (no-eol)
   $ printf '<p>{a}</p>' | uses fill a
@@ -60,4 +62,10 @@ The callers of `crates/uses`.
   d e
   $ printf '\377' | uses text
   Error: no UTF-8 at byte 0 (err)
+  [1]
+  $ uses text <.
+  Error: Is a directory (os error 21) (err)
+  [1]
+  $ printf '<p>x' | uses text >/dev/full
+  Error: No space left on device (os error 28) (err)
   [1]

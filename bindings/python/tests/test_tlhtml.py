@@ -59,7 +59,10 @@ class Nodes(unittest.TestCase):
         self.assertEqual([it.number for it in document.nodes], list(range(8)))
         self.assertEqual(list(Document("").children), [])
         self.assertEqual({item, document.first("li")}, {item})
+        self.assertNotEqual(item, Document(PAGE).first("li"))
         self.assertEqual(repr(item), "<tlhtml.Node 1: tag li>")
+        text = next(item.children)
+        self.assertEqual((text.kind, text.name, text.text, repr(text)), ("text", None, "x & y", "<tlhtml.Node 2: text>"))
 
     def test_attributes(self):
         item = Document(PAGE).first("li")
@@ -123,6 +126,9 @@ class SafePages(unittest.TestCase):
         )
         self.assertEqual(sanitize(page, lists), '<p class="own-a">x<a rel="nofollow noopener" href="b.png">y</a></p>zc')
         self.assertEqual(sanitize("<a href=/x>é", Policy.BLOG.lists(link_prefixes=["https://"])), "<a>é</a>")
+        links = "<a href=b.png>x</a><a href=/y>z</a>"
+        self.assertEqual(sanitize(links, Policy.BLOG.lists(relative_links=True)), '<a href="b.png">x</a><a href="/y">z</a>')
+        self.assertEqual(sanitize(links, Policy.BLOG.lists(nofollow_links=True)), '<a>x</a><a rel="nofollow noopener" href="/y">z</a>')
 
     def test_words_that_no_policy_may_list(self):
         for words, word, reason in (
@@ -197,6 +203,16 @@ class Elements(unittest.TestCase):
         ):
             with self.assertRaises(ValueError):
                 edit(self.page, "b", what, **words)
+        self.assertEqual(str(ChangeError(7, 19)), "at 7: this element can't be changed so: it isn't closed, or is a tag alone")
+        for call in (lambda selector: edit(self.page, selector, "remove"), lambda selector: set_attribute(self.page, selector, "a", "b")):
+            with self.assertRaises(SelectorError) as it:
+                call("é ]")
+            self.assertEqual((it.exception.selector, it.exception.place, it.exception.cause), ("é ]", 2, 15))
+
+    def test_the_case_of_letters_that_are_not_ascii(self):
+        """The sign of kelvins is no `k`."""
+        self.assertEqual(set_attribute("<p k=1>", "p", "\u212a", "2"), '<p \u212a="2" k=1>')
+        self.assertEqual(edit("<p>x</p>", "p", "rename", name="p\u212a"), "<p\u212a>x</p\u212a>")
 
     def test_a_tag_of_many_keys(self):
         keys = "".join(f' k{it}="{it}&amp;"' for it in range(2_000))
@@ -211,6 +227,8 @@ class AsIs(unittest.TestCase):
         self.assertEqual(as_is.edit("set 0 href /x", "<a>y</a>"), '<a href="/x">y</a>')
         self.assertEqual(as_is.select("p", as_is.INNER_TEXT, "<p>x<b>y</b></p><p>z"), ["xy", "z"])
         self.assertEqual(as_is.select("a", as_is.ATTRIBUTE, '<a href="/x"><a>', "href"), ["/x"])
+        for field, wanted in ((as_is.NUMBER, "1"), (as_is.OUTER_HTML, '<b a="/x">y</b>'), (as_is.INNER_HTML, "y")):
+            self.assertEqual(as_is.select("b", field, 'x<b a="/x">y</b>'), [wanted])
 
     def test_what_is_refused(self):
         for error, call, words in (
@@ -227,6 +245,7 @@ class AsIs(unittest.TestCase):
         document = as_is.parse("<A b>&amp;</A>")
         (tag,) = as_is.find(document, "A")
         self.assertEqual((tag.text, tag.get("b"), tag.get("c"), tag.attributes), ("&amp;", "", None, {"b": ""}))
+        self.assertEqual(("b" in tag, "c" in tag), (True, False))
         with self.assertRaises(Refused):
             as_is.find(document, ",")
 

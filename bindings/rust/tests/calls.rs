@@ -74,6 +74,11 @@ fn nodes() {
         Ok("3 &lt; 4")
     );
     assert_eq!(item.text().as_deref(), Ok("x & y"));
+    let text = item.children().unwrap().next().unwrap();
+    assert_eq!((text.kind(), text.name()), (Kind::Text, Ok(None)));
+    let other = Document::parse(PAGE).unwrap();
+    let same = other.nodes().unwrap().nth(1).unwrap();
+    assert!(same.number() == item.number() && same != item);
     assert_eq!(document.text().as_deref(), Ok("x & y3 < 4z"));
     assert_eq!(top[0].select("li").unwrap().len(), 2);
     assert!(item.select("li").unwrap().is_empty());
@@ -201,6 +206,23 @@ fn lists_of_ones_own() {
     assert_eq!(lists.refused_word(), Ok(None));
     let web = Policy::Blog.lists().link_prefixes("https://");
     assert_eq!(web.sanitize("<a href=/x>y").as_deref(), Ok("<a>y</a>"));
+    let links = "<a href=b.png>x</a><a href=/y>z</a>";
+    assert_eq!(
+        Policy::Blog
+            .lists()
+            .relative_links()
+            .sanitize(links)
+            .as_deref(),
+        Ok("<a href=\"b.png\">x</a><a href=\"/y\">z</a>")
+    );
+    assert_eq!(
+        Policy::default()
+            .lists()
+            .nofollow_links()
+            .sanitize(links)
+            .as_deref(),
+        Ok("<a>x</a><a rel=\"nofollow noopener\" href=\"/y\">z</a>")
+    );
     for (lists, word, reason) in [
         (lists.tags("p,script"), "script", Reason::OpaqueTag),
         (lists.keys("onclick"), "onclick", Reason::ScriptKey),
@@ -260,6 +282,28 @@ fn elements() {
     );
 }
 
+/// What is said of errors, in the words that each has.
+#[test]
+fn texts_of_errors() {
+    let (place, cause) = (7, Cause::NotMeant);
+    for (error, wanted) in [
+        (
+            Error::NotChanged { place, cause },
+            "at byte 7: this element can't be changed so: it isn't closed, or is a tag alone",
+        ),
+        (
+            Error::NoPolicy(Reason::ScriptKey),
+            "no policy: no policy may list this key: its value is a script",
+        ),
+        (Error::TooLong, "the page is too long"),
+        (Error::OutOfMemory, "out of memory"),
+        (Error::NoSteps, "these lines are no steps"),
+        (Error::Refused, "refused"),
+    ] {
+        assert_eq!(error.to_string(), wanted);
+    }
+}
+
 /// A tag of many keys, whose attributes come in one answer.
 #[test]
 fn many_attributes() {
@@ -293,6 +337,11 @@ fn changes() {
     let (place, cause) = (2, Cause::NoPseudoClass);
     assert_eq!(
         set_attribute(page, "p:hover", "a", "b"),
+        Err(Error::NoSelector { place, cause })
+    );
+    let (place, cause) = (2, Cause::Unexpected);
+    assert_eq!(
+        set_attribute(page, "p ]", "a", "b"),
         Err(Error::NoSelector { place, cause })
     );
     let (place, cause) = (47, Cause::NoStartTag);
@@ -338,6 +387,10 @@ fn pages_as_they_are() {
     assert_eq!(
         (tag.attribute("b"), tag.attribute("c")),
         (Ok(Some(String::new())), Ok(None))
+    );
+    assert_eq!(
+        (tag.has_attribute("b"), tag.has_attribute("c")),
+        (Ok(true), Ok(false))
     );
 }
 
