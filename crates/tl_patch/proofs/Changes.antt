@@ -1,15 +1,16 @@
 -- Tags with one attribute more, or with another name.
 use Rattle.std.proofs.Common.{◌≡◌, ℕ, ◌+◌, ◌<◌, Bool, true, false, List, [], ◌∷◌, ◌++◌, length, take, drop, get_or, codes, refl, ap, ap₂, sym, subst, ◌∙◌, append_assoc}
 use Rattle.std.proofs.lemmas.List.{drop_more, take-append-drop}
-use Rattle.tl_html_spec.specs.HtmlTokenizer.{HtmlAttribute, HtmlToken, OpenTag, data_state, ends_name, tag_name}
-use Rattle.tl_html_spec.specs.Reader.{Reader, after, at, emitted, feed}
+use Rattle.tl_html_spec.specs.HtmlTokenizer.{HtmlAttribute, HtmlToken, OpenTag, data_state, tag_name}
+use Rattle.tl_html_spec.specs.Reader.{Reader, after, at, emitted}
 use Rattle.tl_html_spec.proofs.Fold.{emitted_append}
 use Rattle.tl_patch_spec.specs.Markup.{attribute_markup, is_key, is_name, is_without_nul, value_markup}
 use Rattle.tl_patch_spec.specs.TagChanges.{FirstGoesOnAs, FirstLacks, Rename, Set, changed_first}
 use Rattle.tl_patch_spec.proofs.Added.{added_reads}
 use Rattle.tl_patch_spec.proofs.Renamed.{renamed_reads}
 use Rattle.tl_patch_spec.proofs.Writing.{Reads}
-use Rattle.tl_patch.specs.Places.{GoesOn, IsAdded, IsInName, IsNameEnd, IsRenamed}
+use Rattle.tl_patch.specs.Places.{IsAdded, IsRenamed}
+use Rattle.tl_patch_spec.specs.TagNames.{IsNameEnd, tag_opening}
 use Rattle.tl_patch.proofs.Names.{end_name_reads, named, start_name_reads}
 
 -- what is read after a name is read from its state
@@ -68,14 +69,14 @@ same_tag is_end name t a e = sym (ap₂ (λ (w : Bool) (xs : List HtmlAttribute)
     tag_of : Bool → List ℕ → List HtmlAttribute → OpenTag
     tag_of w n xs = record { is_end = w; name = n; attributes = xs }
 
-renamed : (is_end : Bool) (opening tag name : List ℕ) (n : ℕ) → IsNameEnd is_end n tag → Reads data_state (opening ++ name) [] (tag_name (named is_end name)) →
-    IsRenamed opening tag (opening ++ (name ++ drop n tag)) name
-renamed is_end opening tag name n p r = record {
-  is_end = is_end;
+renamed : (is_end : Bool) (tag name : List ℕ) (n : ℕ) → IsNameEnd is_end n tag → Reads data_state (tag_opening is_end ++ name) [] (tag_name (named is_end name)) →
+    IsRenamed is_end tag (tag_opening is_end ++ (name ++ drop n tag)) name
+renamed is_end tag name n p r = record {
   place = n;
   name_end = p;
   bytes = refl;
   tokens = λ more follows.
+      let opening : List ℕ = tag_opening is_end in
       let b : ℕ = get_or tag n 0 in
       let rest : List ℕ = drop (n + 1) tag ++ more in
       let t : OpenTag = (p.in_name).0 in
@@ -88,11 +89,11 @@ renamed is_end opening tag name n p r = record {
 }
 
 pub start_renamed : (tag name new : List ℕ) (n : ℕ) → IsNameEnd false n tag → is_name name ≡ true → new ≡ (codes "<" ++ name) ++ drop n tag →
-    IsRenamed (codes "<") tag new name
+    IsRenamed false tag new name
 start_renamed tag name new n p k e =
-    subst (λ items. IsRenamed (codes "<") tag items name) (sym (e ∙ append_assoc (codes "<") name (drop n tag))) (renamed false (codes "<") tag name n p (start_name_reads name k))
+    subst (λ items. IsRenamed false tag items name) (sym (e ∙ append_assoc (codes "<") name (drop n tag))) (renamed false tag name n p (start_name_reads name k))
 
 pub end_renamed : (tag name new : List ℕ) (n : ℕ) → IsNameEnd true n tag → is_name name ≡ true → new ≡ (codes "</" ++ name) ++ drop n tag →
-    IsRenamed (codes "</") tag new name
+    IsRenamed true tag new name
 end_renamed tag name new n p k e =
-    subst (λ items. IsRenamed (codes "</") tag items name) (sym (e ∙ append_assoc (codes "</") name (drop n tag))) (renamed true (codes "</") tag name n p (end_name_reads name k))
+    subst (λ items. IsRenamed true tag items name) (sym (e ∙ append_assoc (codes "</") name (drop n tag))) (renamed true tag name n p (end_name_reads name k))

@@ -1,16 +1,16 @@
 -- The name of a tag, byte by byte.
-use Rattle.std.proofs.Common.{arith, ◌≡◌, ℕ, ◌+◌, ◌<◌, Bool, true, false, ◌==◌, ◌||◌, ◌&&◌, not, List, [], ◌∷◌, ◌++◌, length, take, drop, get_or, codes, refl, ap, ap₂, sym, subst, ◌∙◌, inl, inr, append_assoc, append-nil, if◌then◌else◌, true≢false}
+use Rattle.std.proofs.Common.{arith, ◌≡◌, ℕ, ◌+◌, ◌<◌, Bool, true, false, ◌==◌, ◌||◌, ◌&&◌, not, List, [], ◌∷◌, ◌++◌, length, take, drop, get_or, refl, ap, ap₂, sym, subst, ◌∙◌, inl, inr, append_assoc, append-nil, if◌then◌else◌, true≢false}
 use Rattle.std.specs.Char.{is_ascii_alphabetic, to_ascii_lowercase}
 use Rattle.std.specs.List.{list_all}
 use Rattle.std.proofs.lemmas.Bool.{and_parts, cases_Bool, eqb-true, not-true}
 use Rattle.std.proofs.lemmas.List.{drop_more, take_more}
-use Rattle.tl_html_spec.specs.HtmlTokenizer.{HtmlToken, OpenTag, State, Step, data_state, end_tag_open, ends_name, is_white_space, new_tag, tag_name, tag_open, to, whole_step, with_letter}
+use Rattle.tl_html_spec.specs.HtmlTokenizer.{OpenTag, State, Step, data_state, end_tag_open, ends_name, is_white_space, new_tag, tag_name, tag_open, to, whole_step, with_letter}
 use Rattle.tl_html_spec.specs.Reader.{Reader, after, at, emitted, feed, read}
-use Rattle.tl_html_spec.proofs.Fold.{after_append, emitted_append}
 use Rattle.tl_patch_spec.specs.Markup.{is_name, is_name_byte}
 use Rattle.tl_patch_spec.proofs.Sets.{neither}
 use Rattle.tl_patch_spec.proofs.Writing.{Reads, then_reads}
-use Rattle.tl_patch.specs.Places.{IsInName, has_name_end}
+use Rattle.tl_patch.specs.Places.{has_name_end}
+use Rattle.tl_patch_spec.specs.TagNames.{IsInName}
 
 -- a letter is no other byte
 letter_is_not : (b c : ℕ) → is_ascii_alphabetic b ≡ true → is_ascii_alphabetic c ≡ false → (b == c) ≡ false

@@ -1,22 +1,12 @@
 -- Places in a tag, and tags with a change.
-use Rattle.std.specs.Prelude.{◌≡◌, ℕ, ◌<◌, ◌==◌, ◌&&◌, Bool, true, false, List, [], ◌∷◌, ◌++◌, length, take, drop, slice_index}
+use Rattle.std.specs.Prelude.{◌≡◌, ℕ, ◌<◌, ◌==◌, ◌&&◌, Bool, true, false, List, ◌∷◌, ◌++◌, length, take, drop, slice_index}
 use Rattle.std.specs.Char.{is_ascii_alphabetic}
 use Rattle.std.specs.List.{list_any}
-use Rattle.tl_html_spec.specs.HtmlTokenizer.{OpenTag, data_state, ends_name, tag_name}
-use Rattle.tl_html_spec.specs.Reader.{after, at, emitted, feed}
+use Rattle.tl_html_spec.specs.HtmlTokenizer.{data_state, ends_name}
+use Rattle.tl_html_spec.specs.Reader.{at, emitted, feed}
 use Rattle.tl_patch_spec.specs.Markup.{attribute_markup}
+use Rattle.tl_patch_spec.specs.TagNames.{IsInName, IsNameEnd, tag_opening}
 use Rattle.tl_patch_spec.specs.TagChanges.{FirstGoesOnAs, FirstLacks, Rename, Set, changed_first}
-
--- after so many bytes the name of a tag goes on, or ends with the next byte
-abbrev pub IsInName : Bool → ℕ → List ℕ → Type 0
-IsInName is_end n text = (tag : OpenTag) × (after (at data_state) (take n text) ≡ at (tag_name tag))
-    × (emitted (at data_state) (take n text) ≡ []) × (tag.attributes ≡ []) × (tag.is_end ≡ is_end)
-
--- the name ends with the byte after so many
-pub record IsNameEnd (is_end : Bool) (n : ℕ) (text : List ℕ) : Type 0 where
-  pub in_name : IsInName is_end n text
-  pub within : n < length text
-  pub ends : ends_name (feed (slice_index text n)) ≡ true
 
 -- where a name goes on at one place, it ends at the other
 pub record GoesOn (from n : ℕ) (text : List ℕ) : Type 0 where
@@ -53,11 +43,10 @@ pub record IsAdded (tag new key value : List ℕ) : Type 0 where
 -- new is the tag with another name and each byte from the end of its name on as it is; where the
 -- tokenizer goes on after both names alike, its token has that name, and all that follows is read
 -- as before
-pub record IsRenamed (opening tag new name : List ℕ) : Type 0 where
-  pub is_end : Bool
+pub record IsRenamed (is_end : Bool) (tag new name : List ℕ) : Type 0 where
   pub place : ℕ
   pub name_end : IsNameEnd is_end place tag
-  pub bytes : new ≡ opening ++ (name ++ drop place tag)
+  pub bytes : new ≡ tag_opening is_end ++ (name ++ drop place tag)
   pub tokens : (more : List ℕ) → FirstGoesOnAs name (emitted (at data_state) (tag ++ more)) →
       emitted (at data_state) (new ++ more)
       ≡ changed_first (Rename name) (emitted (at data_state) (tag ++ more))

@@ -1,6 +1,7 @@
 //! The names of tags.
 ghost use Rattle.std.specs.Prelude.{◌≡◌, IfSome, drop, false, is_some, true};
-ghost use Rattle.tl_patch.specs.Places.{GoesOn, IsNameEnd, begins_end_tag, begins_start_tag, has_name_end};
+ghost use Rattle.tl_patch.specs.Places.{GoesOn, begins_end_tag, begins_start_tag, has_name_end};
+ghost use Rattle.tl_patch_spec.specs.TagNames.{IsNameEnd};
 
 use crate::markup::ends_name;
 

@@ -1,5 +1,5 @@
 //! Tags with a change, in their own bytes.
-ghost use Rattle.std.specs.Prelude.{◌≡◌, ◌&&◌, codes, IfOk, IfSome, is_some};
+ghost use Rattle.std.specs.Prelude.{◌≡◌, ◌&&◌, false, IfOk, IfSome, is_some, true};
 ghost use Rattle.tl_patch.specs.Places.{IsAdded, IsRenamed, begins_end_tag, begins_start_tag};
 ghost use Rattle.tl_patch_spec.specs.Markup.{is_key, is_name, is_without_nul};
 
@@ -40,7 +40,7 @@ pub fn with_start_name(
     name: &[u8],
 ) -> Result<Option<Vec<u8>>, AllocError>
     ensures renamed { IfOk result (λ found. IfSome found (λ new.
-        IsRenamed (codes "<") tag.now new.items name.now)) }
+        IsRenamed false tag.now new.items name.now)) }
     ensures some { IfOk result (λ found.
         is_some found ≡ (is_name name.now && begins_start_tag tag.now)) }
 {
@@ -60,7 +60,7 @@ pub fn with_start_name(
 /// An end tag with another name; `None` where no end tag begins, or the name can't be written.
 pub fn with_end_name(alloc: Global, tag: &[u8], name: &[u8]) -> Result<Option<Vec<u8>>, AllocError>
     ensures renamed { IfOk result (λ found. IfSome found (λ new.
-        IsRenamed (codes "</") tag.now new.items name.now)) }
+        IsRenamed true tag.now new.items name.now)) }
     ensures some { IfOk result (λ found.
         is_some found ≡ (is_name name.now && begins_end_tag tag.now)) }
 {

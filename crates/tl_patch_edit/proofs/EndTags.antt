@@ -45,10 +45,10 @@ tag_is name none one two three n a b c h =
 
 -- an end tag with another name
 
-pub end_named : (tag name new : List ℕ) → is_name name ≡ true → begins_end_tag tag ≡ true → IsRenamed (codes "</") tag new name → IsRenamedEnd name tag new
+pub end_named : (tag name new : List ℕ) → is_name name ≡ true → begins_end_tag tag ≡ true → IsRenamed true tag new name → IsRenamedEnd name tag new
 end_named tag name new h b r = record {
-  named = renamed_bytes tag name new r.place b r.bytes;
-  whole = λ tokens w k. subst (λ (x : List ℕ). IsWhole mode.Data x (EndTag name ∷ [])) (sym r.bytes) (renamed_whole r.is_end tag r.place r.name_end name tokens h w k);
+  named = renamed_bytes tag name new r.place b r.name_end r.bytes;
+  whole = λ tokens w k. subst (λ (x : List ℕ). IsWhole mode.Data x (EndTag name ∷ [])) (sym r.bytes) (renamed_whole true tag r.place r.name_end name tokens h w k);
 }
 
 -- what is found exactly where it can be

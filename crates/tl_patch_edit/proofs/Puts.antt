@@ -13,7 +13,8 @@ use Rattle.tl_patch_edit.specs.Parts.{Give, Part, Says, TellsTag}
 use Rattle.tl_patch_edit.specs.Sayings.{Tag, character, is_tag, said_by, sayings}
 use Rattle.tl_patch_edit.proofs.Said.{pieces_both}
 use Rattle.tl_patch_edit.proofs.Sayings.{characters_other, kind_is_tag, plain, tag_kind_says, tag_kind_tells, tag_tells, text_no_tag}
-use Rattle.tl_patch_spec.specs.Patches.{Changed, Content, IsNamed, Markup, NewContent, NewEndTag, Text, content_pieces, end_tag_piece}
+use Rattle.tl_patch_spec.specs.Patches.{Changed, Content, Markup, NewContent, NewEndTag, Text, content_pieces, end_tag_piece}
+use Rattle.tl_patch_spec.specs.TagNames.{IsNamed}
 use Rattle.tl_patch_spec.specs.TagChanges.{Rename, changed_token}
 use Rattle.tl_patch_tags.specs.StartTags.{IsRenamed}
 

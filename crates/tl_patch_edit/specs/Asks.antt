@@ -24,7 +24,8 @@ use Rattle.tl_patch_edit.specs.Parts.{ArePieces, Give, IsPieceOf, Part, Says, wi
 use Rattle.tl_patch_edit.specs.Sayings.{sayings}
 use Rattle.tl_patch_edit.specs.View.{content_view}
 use Rattle.tl_patch_spec.specs.Markup.{text_markup}
-use Rattle.tl_patch_spec.specs.Patches.{ArePut, Alone, AreAskedOne, Changed, Content, Dropped, Extent, Implied, IsNamed, Markup, NewContent, NewEndTag, Put, Text, Unclosed, Whole, is_page_name, put_instead}
+use Rattle.tl_patch_spec.specs.Patches.{ArePut, Alone, AreAskedOne, Changed, Content, Dropped, Extent, Implied, Markup, NewContent, NewEndTag, Put, Text, Unclosed, Whole, is_page_name, put_instead}
+use Rattle.tl_patch_spec.specs.TagNames.{IsNamed}
 use Rattle.tl_patch_spec.specs.Splices.{Splice, are_ordered, with_splices_from}
 use Rattle.tl_patch_spec.specs.TagChanges.{Rename, changed_token}
 

@@ -1,5 +1,6 @@
 pub mod Splices
 pub mod TagChanges
+pub mod TagNames
 pub mod Markup
 pub mod PieceChanges
 pub mod Elements

@@ -10,6 +10,7 @@ use Rattle.tl_patch_spec.specs.Elements.{Element}
 use Rattle.tl_patch_spec.specs.Markup.{separator_piece, text_markup}
 use Rattle.tl_patch_spec.specs.Splices.{Splice, with_splices}
 use Rattle.tl_patch_spec.specs.TagChanges.{Rename, Set, TagChange, Unset, changed_token}
+use Rattle.tl_patch_spec.specs.TagNames.{IsNamed}
 use Rattle.tl_patch_spec.specs.Tail.{elements_up_to_tail}
 
 pub data Content : Type 0 where
@@ -160,11 +161,6 @@ content_pieces (raw (rcdata name)) (Text text) =
 content_pieces (raw r) (Text text) = Some (piece (raw r) text (map Character text) ∷ [])
 content_pieces plaintext (Text text) = Some (piece plaintext text (map Character text) ∷ [])
 content_pieces _ _ = None
-
--- a tag with these bytes of a name in the place of one run of its own, and each byte outside of
--- that run as it is; that the run is the old name alone is not said
-abbrev pub IsNamed : List ℕ → List ℕ → List ℕ → Type 0
-IsNamed name tag new = (s : Splice ℕ) × (s.put ≡ name) × (new ≡ with_splices tag (s ∷ []))
 
 -- these pieces are what is put before a piece, or in its place
 abbrev pub IsPut : Piece → Put → List Piece → Type 0

@@ -21,7 +21,8 @@ use Rattle.tl_html_tokens.specs.declared.token.Token.{Token}
 use Rattle.tl_html_tokens.proofs.Alone.{Whole, whole_is}
 use Rattle.tl_html_tokens.proofs.Opening.{Opening, end, opening, own, start}
 use Rattle.tl_html_tokens.proofs.Others.{is_tag}
-use Rattle.tl_patch.specs.Places.{IsInName, begins_start_tag, has_name_end}
+use Rattle.tl_patch.specs.Places.{begins_start_tag, has_name_end}
+use Rattle.tl_patch_spec.specs.TagNames.{IsInName}
 use Rattle.tl_patch.proofs.Names.{start_name_begins}
 use Rattle.tl_patch_spec.proofs.Inside.{Inside, Outcome, after_value, before_key, ended, inner_text, still, with_all}
 use Rattle.tl_patch_spec.proofs.Sets.{end_step, neither}

@@ -11,7 +11,7 @@ use Rattle.tl_html_spec.specs.Reader.{feed}
 use Rattle.tl_html_tags.specs.Bytes.{is_space}
 use Rattle.tl_html_tokens.specs.Whole.{IsWhole}
 use Rattle.tl_html_tokens.specs.declared.mode.Mode.TheVariants as mode
-use Rattle.tl_patch.specs.Places.{IsNameEnd}
+use Rattle.tl_patch_spec.specs.TagNames.{IsNameEnd}
 use Rattle.tl_patch_spec.specs.Splices.{Splice, are_ordered, with_splices, with_splices_from}
 use Rattle.tl_patch_spec.specs.TagChanges.{Unset, changed_token, without_key}
 use Rattle.tl_patch_spec.proofs.Inside.{after_value, inner_text, with_all}

@@ -11,10 +11,11 @@ use Rattle.tl_html_tokens.specs.Kinds.{IsEndTag}
 use Rattle.tl_html_tokens.specs.Whole.{IsWhole}
 use Rattle.tl_html_tokens.specs.declared.mode.Mode.TheVariants as mode
 use Rattle.tl_html_tokens.proofs.Others.{Restless}
-use Rattle.tl_patch.specs.Places.{IsNameEnd, begins_end_tag, has_name_end}
+use Rattle.tl_patch.specs.Places.{begins_end_tag, has_name_end}
+use Rattle.tl_patch_spec.specs.TagNames.{IsNameEnd}
 use Rattle.tl_patch.proofs.Names.{end_name_begins, end_name_reads, named}
 use Rattle.tl_patch_spec.specs.Markup.{is_name, is_name_byte}
-use Rattle.tl_patch_spec.specs.Patches.{IsNamed}
+use Rattle.tl_patch_spec.specs.TagNames.{IsNamed}
 use Rattle.tl_patch_spec.specs.Splices.{Splice}
 use Rattle.tl_patch_spec.proofs.Inside.{ended, with_all}
 use Rattle.tl_patch_spec.proofs.Sets.{kind_kept, name_kept}
@@ -99,9 +100,14 @@ opening (a ∷ b ∷ c ∷ text) h =
     let q = and_parts (b == 47) (is_ascii_alphabetic c && has_name_end text) p.1 in
     (c ∷ text, ap (λ x. x ∷ b ∷ c ∷ text) (eqb-true a 60 p.0) ∙ ap (λ x. 60 ∷ x ∷ c ∷ text) (eqb-true b 47 q.0))
 
-pub renamed_bytes : (tag name new : List ℕ) (n : ℕ) → begins_end_tag tag ≡ true → new ≡ codes "</" ++ (name ++ drop n tag) → IsNamed name tag new
-renamed_bytes tag name new n h e =
+pub renamed_bytes : (tag name new : List ℕ) (n : ℕ) → begins_end_tag tag ≡ true → IsNameEnd true n tag → new ≡ codes "</" ++ (name ++ drop n tag) → IsNamed name tag new
+renamed_bytes tag name new n h i e =
     let s : Splice ℕ = record { from = 2; until = n; put = name } in
     let o = opening tag h in
     let m : n - 0 ≡ n = omega arith in
-    (s, refl, e ∙ ap (λ (xs : List ℕ). take 2 xs ++ (name ++ drop n tag)) (sym o.1) ∙ ap (λ k. take 2 tag ++ (name ++ drop k tag)) (sym m))
+    record {
+      splice = s;
+      takes = record { is_end = true; opening = ap (λ (xs : List ℕ). take 2 xs) o.1; end = i };
+      puts = refl;
+      bytes = e ∙ ap (λ (xs : List ℕ). take 2 xs ++ (name ++ drop n tag)) (sym o.1) ∙ ap (λ k. take 2 tag ++ (name ++ drop k tag)) (sym m);
+    }

@@ -5,7 +5,8 @@ use Rattle.tl_html_spec.specs.HtmlTokenizer.{HtmlAttribute, HtmlToken, OpenTag, 
 use Rattle.tl_html_tokens.specs.Kinds.{IsStartTag}
 use Rattle.tl_html_tokens.specs.Whole.{IsWhole}
 use Rattle.tl_html_tokens.specs.declared.mode.Mode.TheVariants as mode
-use Rattle.tl_patch.specs.Places.{IsAdded, IsNameEnd}
+use Rattle.tl_patch.specs.Places.{IsAdded}
+use Rattle.tl_patch_spec.specs.TagNames.{IsNameEnd}
 use Rattle.tl_patch_spec.specs.Markup.{attribute_markup, is_key, is_without_nul, quoted_value}
 use Rattle.tl_patch_spec.specs.Splices.{Splice, with_splices}
 use Rattle.tl_patch_spec.specs.TagChanges.{Set, changed_token, has_key}

@@ -10,7 +10,8 @@ use Rattle.tl_html_spec.specs.Reader.{Reader, at, emitting_before, feed, next, r
 use Rattle.tl_html_tokens.specs.Whole.{IsWhole}
 use Rattle.tl_html_tokens.specs.declared.mode.Mode.TheVariants as mode
 use Rattle.tl_html_tokens.proofs.Others.{Restless}
-use Rattle.tl_patch.specs.Places.{IsNameEnd, begins_start_tag, has_name_end}
+use Rattle.tl_patch.specs.Places.{begins_start_tag, has_name_end}
+use Rattle.tl_patch_spec.specs.TagNames.{IsNameEnd}
 use Rattle.tl_patch.proofs.Names.{named, start_name_begins, start_name_reads}
 use Rattle.tl_patch_spec.specs.Markup.{is_name, is_name_byte}
 use Rattle.tl_patch_spec.specs.Splices.{Splice, with_splices}
@@ -118,8 +119,12 @@ module _ (tag : List ℕ) (n : ℕ) (p : IsNameEnd false n tag) (a : IsStartTagA
   renamed name new text h o is =
       let s : Splice ℕ = record { from = 1; until = n; put = name } in
       record {
-        named = (s, refl, is ∙ sym (renamed_is n name tag 60 text o));
-        taken = record { end = n; name_end = p; is = is };
+        named = record {
+          splice = s;
+          takes = record { is_end = false; opening = ap (λ (xs : List ℕ). take 1 xs) o; end = p };
+          puts = refl;
+          bytes = is ∙ sym (renamed_is n name tag 60 text o);
+        };
         tokens = λ tokens w i.
             let same : a.tokens ≡ tokens = whole_same mode.Data tag a.tokens tokens a.whole w in
             subst (λ xs. IsWhole mode.Data xs (map (changed_token (Rename name)) tokens)) (sym is)

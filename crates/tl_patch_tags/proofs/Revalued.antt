@@ -10,7 +10,7 @@ use Rattle.tl_html_spec.specs.Reader.{Reader, after, at, emitted, feed, read}
 use Rattle.tl_html_spec.proofs.Fold.{after_append, emitted_append}
 use Rattle.tl_html_tokens.specs.Whole.{IsWhole}
 use Rattle.tl_html_tokens.specs.declared.mode.Mode.TheVariants as mode
-use Rattle.tl_patch.specs.Places.{IsNameEnd}
+use Rattle.tl_patch_spec.specs.TagNames.{IsNameEnd}
 use Rattle.tl_patch_spec.specs.Markup.{is_without_nul, quoted_value}
 use Rattle.tl_patch_spec.specs.Splices.{Splice, with_splices}
 use Rattle.tl_patch_spec.specs.TagChanges.{Set, changed_token, has_key}

@@ -9,7 +9,8 @@ use Rattle.tl_html_spec.proofs.Fold.{after_append, emitted_append}
 use Rattle.tl_html_tokens.specs.Kinds.{IsStartTag}
 use Rattle.tl_html_tokens.specs.Whole.{IsWhole}
 use Rattle.tl_html_tokens.specs.declared.mode.Mode.TheVariants as mode
-use Rattle.tl_patch.specs.Places.{IsInName, IsNameEnd, begins_start_tag, has_name_end}
+use Rattle.tl_patch.specs.Places.{begins_start_tag, has_name_end}
+use Rattle.tl_patch_spec.specs.TagNames.{IsInName, IsNameEnd}
 use Rattle.tl_patch.proofs.Names.{name_goes_on, start_name_begins}
 use Rattle.tl_patch_spec.proofs.Inside.{Outcome, after_value, ended, inner_text, with_all}
 use Rattle.tl_patch_spec.proofs.Sets.{kind_kept, name_kept}

@@ -12,7 +12,7 @@ use Rattle.tl_html_tokens.specs.Whole.{IsWhole}
 use Rattle.tl_html_tokens.specs.declared.mode.Mode.TheVariants as mode
 use Rattle.tl_html_tokens.proofs.Alone.{Whole, whole_is}
 use Rattle.tl_html_tokens.proofs.Others.{Restless}
-use Rattle.tl_patch.specs.Places.{IsNameEnd}
+use Rattle.tl_patch_spec.specs.TagNames.{IsNameEnd}
 use Rattle.tl_patch_spec.proofs.Added.{name_ends}
 use Rattle.tl_patch_spec.proofs.Inside.{Inside, Outcome, Value, after_key, after_slash, after_value, before_key, before_value, decimal_begin, decimal_number, double_quotes, ended, fill, hexadecimal_begin, hexadecimal_number, inner_text, key_of, named_reference, no_quotes, numeric_reference, reference, single_quotes, still, value_in, value_of, with_all}
 use Rattle.tl_patch_spec.proofs.Markup.{rest_ends}

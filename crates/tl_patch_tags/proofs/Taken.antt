@@ -6,7 +6,7 @@ use Rattle.std.proofs.lemmas.List.Elements.{All-cons, All-head, All-tail}
 use Rattle.std.proofs.lemmas.List.Folds.{list_all-append}
 use Rattle.tl_html_spec.specs.HtmlTokenizer.{HtmlAttribute, OpenTag}
 use Rattle.tl_html_tags.specs.Bytes.{is_space}
-use Rattle.tl_patch.specs.Places.{IsNameEnd}
+use Rattle.tl_patch_spec.specs.TagNames.{IsNameEnd}
 use Rattle.tl_patch_spec.specs.Splices.{Splice}
 use Rattle.tl_patch_tags.specs.Cuts.{Cutting, cut_from, cut_if, cut_splice, cuts_of, space_before, space_start}
 use Rattle.tl_patch_tags.specs.Places.{is_named, part, places_of}

@@ -12,9 +12,9 @@ use Rattle.tl_html_tokens.specs.declared.stage.TokenKind.TheVariants as kind
 use Rattle.tl_html_tokens.specs.declared.token.Token.{Token}
 use Rattle.tl_patch_spec.specs.Markup.{attribute_markup, quoted_value}
 use Rattle.tl_patch_spec.specs.Splices.{Splice, with_splices}
-use Rattle.tl_patch_spec.specs.Patches.{IsNamed}
+use Rattle.tl_patch_spec.specs.TagNames.{IsNamed}
 use Rattle.tl_patch_spec.specs.TagChanges.{Rename, Set, TagChange, Unset, changed_token}
-use Rattle.tl_patch_tags.specs.Taken.{AreTaken, TakesName}
+use Rattle.tl_patch_tags.specs.Taken.{AreTaken}
 
 -- whether tokens are one start tag
 abbrev pub is_start : List HtmlToken → Bool
@@ -84,6 +84,5 @@ pub record IsChanged (change : TagChange) (tag new : List ℕ) : Type 0 where
 -- itself, so is new, with the token renamed
 pub record IsRenamed (name tag new : List ℕ) : Type 0 where
   pub named : IsNamed name tag new
-  pub taken : TakesName name tag new
   pub tokens : (tokens : List HtmlToken) → IsWhole mode.Data tag tokens → IsStartTag tokens →
       IsWhole mode.Data new (map (changed_token (Rename name)) tokens)

@@ -1,9 +1,9 @@
--- What goes of a tag where a key gets a value, or goes, or the tag gets another name: a value,
--- attributes with the white space before them, or the name, and no other byte.
-use Rattle.std.specs.Prelude.{◌≡◌, ◌⊎◌, ◌≤◌, ◌+◌, ℕ, true, false, List, [], ◌∷◌, ◌++◌, codes, drop, ⊤}
+-- What goes of a tag where a key gets a value, or goes: a value, or attributes with the white space
+-- before them, and no other byte.
+use Rattle.std.specs.Prelude.{◌≡◌, ◌⊎◌, ◌≤◌, ◌+◌, ℕ, true, false, List, [], ◌∷◌, drop, ⊤}
 use Rattle.std.specs.List.{All, Contains, list_all, list_any}
 use Rattle.tl_html_tags.specs.Bytes.{is_space}
-use Rattle.tl_patch.specs.Places.{IsNameEnd}
+use Rattle.tl_patch_spec.specs.TagNames.{IsNameEnd}
 use Rattle.tl_patch_spec.specs.Splices.{Splice}
 use Rattle.tl_patch_spec.specs.TagChanges.{Rename, Set, TagChange, Unset}
 use Rattle.tl_patch_tags.specs.Places.{IsFirstNamed, is_named, part, places_of}
@@ -53,9 +53,3 @@ AreTaken (Set key value) tag splices =
     (s : Splice ℕ) × (splices ≡ s ∷ []) × (TakesValue tag key s ⊎ TakesNothing tag key s)
 AreTaken (Unset key) tag splices = All (TakesKey tag key) splices
 AreTaken (Rename name) tag splices = ⊤
-
--- the name of a tag goes, and another one stands there
-pub record TakesName (name tag new : List ℕ) : Type 0 where
-  pub end : ℕ
-  pub name_end : IsNameEnd false end tag
-  pub is : new ≡ codes "<" ++ (name ++ drop end tag)

@@ -1,7 +1,7 @@
 //! Start tags with a key set or unset.
 ghost use Rattle.std.specs.Prelude.{◌≡◌, ◌&&◌, ◌++◌, IfOk, IfSome, OnOk, drop, false, is_some, true};
 ghost use Rattle.std.specs.List.{list_any};
-ghost use Rattle.tl_patch.specs.Places.{IsNameEnd};
+ghost use Rattle.tl_patch_spec.specs.TagNames.{IsNameEnd};
 ghost use Rattle.tl_patch_spec.specs.Markup.{is_key, is_without_nul, quoted_value};
 ghost use Rattle.tl_patch_spec.specs.TagChanges.{Set, Unset};
 ghost use Rattle.tl_patch_tags.specs.Places.{IsFirstNamed, is_named, places_of, value_put};

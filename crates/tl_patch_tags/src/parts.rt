@@ -1,6 +1,6 @@
 //! What a start tag says, by its own bytes.
 ghost use Rattle.std.specs.Prelude.{◌≡◌, IfOk, IfSome, false, is_some};
-ghost use Rattle.tl_patch.specs.Places.{IsNameEnd};
+ghost use Rattle.tl_patch_spec.specs.TagNames.{IsNameEnd};
 ghost use Rattle.tl_patch_tags.specs.StartTags.{is_data, is_one_tag, is_start_kind, is_start_tag, is_whole_tag};
 
 use std::alloc::{AllocError, Global};

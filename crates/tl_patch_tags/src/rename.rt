@@ -1,6 +1,6 @@
 //! Start tags with another name.
 ghost use Rattle.std.specs.Prelude.{◌≡◌, ◌&&◌, IfOk, IfSome, false, is_some, true};
-ghost use Rattle.tl_patch.specs.Places.{IsNameEnd};
+ghost use Rattle.tl_patch_spec.specs.TagNames.{IsNameEnd};
 ghost use Rattle.tl_patch_spec.specs.Markup.{is_name};
 ghost use Rattle.tl_patch_tags.specs.StartTags.{IsRenamed, is_start_tag};
 

@@ -1,5 +1,6 @@
-use Rattle.std.proofs.Common.{◌≡◌, ℕ, ◌-◌, Bool, drop, length}
-use Rattle.tl_patch.specs.Places.{IsInName, has_name_end}
+use Rattle.std.proofs.Common.{◌≡◌, ◌-◌, Bool, drop, length}
+use Rattle.tl_patch.specs.Places.{has_name_end}
+use Rattle.tl_patch_spec.specs.TagNames.{IsInName}
 use Rattle.tl_patch.proofs.name.name_end.Given as goal
 
 abbrev pub invariant-loop-end : goal.invariant-loop-end
