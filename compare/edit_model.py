@@ -149,6 +149,18 @@ class Page:
         self.nodes.append(node)
         self.sources.append(source)
 
+    def raw_in_foreign(self):
+        """The tokens of the elements in `svg` and `math` whose names begin a raw text that can't be escaped."""
+        inside, tokens = set(), set()
+        for number, node in enumerate(self.nodes):
+            if node[0] != "tag":
+                continue
+            if number in inside or node[1] in (b"svg", b"math"):
+                inside.update(node[3])
+            if number in inside and node[1].decode() in RAW.difference(RCDATA):
+                tokens.add(self.sources[number])
+        return tokens
+
     def found(self, selector):
         """The tokens from which the tags come where a selector holds, in order."""
         return [self.sources[number] for number in definition.select(self.nodes, selector)]

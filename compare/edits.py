@@ -5,7 +5,7 @@
 Of each page the plain reader (edit_model.py) says which tags a selector finds, where they and their elements stand, and what comes of
 the page. Each byte outside of these places has to be as it was; html5lib's tokenizer has to read the tokens that are asked for, where
 it reads the page itself as the plain reader does. What is refused is counted by what is said; of keys that are set or unset the plain
-reader knows it: a tag is found that no start tag begins (`</p>` alone).
+reader knows it: a tag is found that no start tag begins (`</p>` alone); and of texts that are put into a `style` in an `svg` and its like.
 
 With folders the pages in them are edited too, and html5lib's trees compared: with a key set or unset at all tags of a name, or with
 such elements gone, it has to be the tree of the page with just that done.
@@ -122,6 +122,15 @@ class Edit:
             given = [] if self.word in ("remove", "unwrap") else [self.content[1]]
         return [self.word, "-i", *options, "--", self.selector, *given]
 
+    def foreign_place(self, page, found):
+        """The byte of the first element found into which the text can't be put, as it has `&` or `<` and a browser would read markup there;
+        None where there is none."""
+        if self.word not in ("fill", "prepend", "append") or self.content[0] != "text" or not {"&", "<"}.intersection(self.content[1]):
+            return None
+        raw = page.raw_in_foreign()
+        bytes_before = (len(page.text[: page.places[it][0]].encode()) for it in found if it in raw)
+        return next(bytes_before, None)
+
     def is_refused(self, page, found, why):
         """Whether that may be said of a page. That it would be read otherwise, and which content a raw text can't hold isn't looked
         at."""
@@ -184,6 +193,11 @@ def judged(edit, text, written, why, tally):
     is_tagged = all(page.tokens[it][0] == "start" for it in found)
     tally["edits"] += 1
     tally["edits of what is found"] += bool(found)
+    foreign = edit.foreign_place(page, found)
+    if foreign is not None:
+        tally[f"{edit.word}: of a raw text in svg or math"] += 1
+        wanted = f"what is put can't stand there, for the element at byte {foreign}"
+        return None if written == text and why == wanted else f"not refused at byte {foreign}: {why}"
     if why:
         tally[f"{edit.word}: refused: " + re.sub(r"\d+", "N", why)] += 1
         return None if written == text and edit.is_refused(page, found, why) else f"refused: {why}"

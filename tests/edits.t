@@ -443,3 +443,30 @@ What is refused.
   $ printf '<p>a</p></p>' | tl set p k v
   tl: -: the element at byte 8 has no start tag (err)
   [2]
+
+A browser reads what is in a `style` or `script` in `svg` and `math` as markup: no text with `&` or `<` is put there.
+
+  $ printf '<svg><style>a</style></svg><style>b</style>' >drawing
+  $ tl fill 'svg style' 'a<b' drawing
+  tl: drawing: what is put can't stand there, for the element at byte 5 (err)
+  [2]
+  $ tl fill style 'a&b' drawing
+  tl: drawing: what is put can't stand there, for the element at byte 5 (err)
+  [2]
+  $ tl fill 'svg ~ style' 'a<b' drawing
+  <svg><style>a</style></svg><style>a<b</style> (no-eol)
+  $ tl fill 'svg style' 'a>b' drawing
+  <svg><style>a>b</style></svg><style>b</style> (no-eol)
+  $ tl fill --html 'svg style' '<g/>' drawing
+  tl: drawing: what is put can't stand there, for the element at byte 5 (err)
+  [2]
+  $ tl before 'svg style' 'a<b' drawing
+  <svg>a&lt;b<style>a</style></svg><style>b</style> (no-eol)
+  $ printf '<math>\n<SCRIPT>a</SCRIPT></math>' | tl prepend 'math script' '&'
+  tl: -: what is put can't stand there, for the element at byte 7 (err)
+  [2]
+  $ printf '<svg><p><xmp>a' | tl append xmp '<'
+  tl: -: what is put can't stand there, for the element at byte 8 (err)
+  [2]
+  $ printf '<svg><title>a</title></svg>' | tl fill title '<'
+  <svg><title>&lt;</title></svg> (no-eol)

@@ -44,7 +44,7 @@ enum PatchCall {
 type Row = (&'static str, PatchCall, &'static str);
 
 #[rattlefmt::skip]
-static ROWS: [Row; 20] = [
+static ROWS: [Row; 21] = [
     ("patch, no tag", PatchCall::Tags(&[]), "<p id=i>x</p><!-- y --><p class='k'>z"),
     ("patch, a key with another value", PatchCall::Tags(&[TagPatch { start: 0, change: SET }]), "<p id=\"&quot;j&quot;\">x</p><!-- y --><p class='k'>z"),
     ("patch, a new key and one less", PatchCall::Tags(&[TagPatch { start: 0, change: ADD }, TagPatch { start: 23, change: UNSET }]), "<p title=\"a&amp;b\" id=i>x</p><!-- y --><p>z"),
@@ -65,6 +65,7 @@ static ROWS: [Row; 20] = [
     ("patch_each, two patches of one element and one of another", PatchCall::Each(&[PlacedPatch { place: 0, patch: ElementPatch::Append { content: TEXT } }, PlacedPatch { place: 0, patch: ElementPatch::Rename { name: b"i" } }, PlacedPatch { place: 23, patch: ElementPatch::PutBefore { content: MARKUP } }]), "<i id=i>x&lt;x</i><!-- y --><i>m</i><p class='k'>z"),
     ("patch_each, no patch", PatchCall::Each(&[]), "<p id=i>x</p><!-- y --><p class='k'>z"),
     ("patch_elements, no element", PatchCall::Elements(&[], ElementPatch::Remove), "<p id=i>x</p><!-- y --><p class='k'>z"),
+    ("edit_selected, Fill with a text", PatchCall::SelectedElements("p", ElementPatch::Fill { content: TEXT }), "<p id=i>&lt;x</p><!-- y --><p class='k'>&lt;x"),
 ];
 
 /// A call that changes a page in its own bytes, if there is one of this number.

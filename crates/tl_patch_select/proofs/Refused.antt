@@ -1,5 +1,5 @@
 -- Why an edit is refused.
-use Rattle.std.proofs.Common.{◌≡◌, ℕ, List, subst}
+use Rattle.std.proofs.Common.{◌≡◌, ℕ, List, inl, subst}
 use Rattle.std.specs.Prelude.{Err, Result}
 use Rattle.tl_css.specs.Selector.{Css}
 use Rattle.tl_patch_edit.specs.Errors.{CannotBeMeant, CannotBeRead, CannotBeWritten, IsRefused, LacksStartTag, StandAcross, StandsPastEnd}
@@ -64,7 +64,7 @@ refused_where sel page places patch r e u error a q s h k =
     record {
       places = places;
       selected = a;
-      refused = subst (IsRefused page (at_each patch places)) is (why page (at_each patch places) r e q s);
+      refused = inl (subst (IsRefused page (at_each patch places)) is (why page (at_each patch places) r e q s));
       reason = subst IsEditReason is (no_memory e error becomes);
     }
 

@@ -1,4 +1,5 @@
 pub mod Errors
 pub mod Selected
 pub mod Patched
+pub mod Foreign
 pub mod Edited

@@ -4,6 +4,7 @@
 mod edit_error;
 mod edited;
 mod error;
+mod foreign;
 mod patched;
 mod selected;
 
