@@ -17,7 +17,8 @@
  *   TL_NO_ROOM         the answer has `*needed` items, which is more than `room`: lend as many and call again
  *
  * With all but TL_DONE `out` is as it was. But for TL_OUT_OF_MEMORY what is lent, `room` and the document determine all of it: this is proved,
- * for all bytes and each document that the calls made, but for when `tl_patch_css` and `tl_edit_css` are refused.
+ * for all bytes and each document that the calls made. Of `tl_patch_css` and `tl_edit_css` it is proved what they write, and that a reason
+ * why they are refused is so.
  *
  * Lengths     are in bytes, also of texts. Nothing ends with a byte 0, and texts may hold some.
  * Texts       are UTF-8, those that come out too.
@@ -380,7 +381,8 @@ enum {
                             a body or html, after which nothing can stand */
     TL_ACROSS = 20,      /* its change and that of another element cut across each other */
     TL_END_OF_PAGE = 21, /* what is put would stand behind the end of the page; none does */
-    TL_NO_CONTENT = 22   /* what is put can't stand there: markup in a raw text, or a text that would be read otherwise */
+    TL_NO_CONTENT = 22   /* what is put can't stand there: markup in a raw text, a text that would be read otherwise, or one
+                            with `&` or `<` in a `style`, `script` and the like in `svg` or `math`, where browsers read markup */
 };
 
 /* The page with each element changed where a selector of CSS holds, and with each other byte as it was. It is read as browsers read it;

@@ -124,6 +124,8 @@ causes! {
     Across = 20, "this change and that of another element cut across each other";
     /// What is put would stand behind the end of the page; none does.
     EndOfPage = 21, "nothing can stand behind the end of the page";
-    /// What is put can't stand there: markup in a raw text, or a text that would be read otherwise.
+    /// What is put can't stand there: markup in a raw text, a text that would be read otherwise, or
+    /// one with `&` or `<` in a `style`, `script` and the like in `svg` or `math`, where browsers read
+    /// markup.
     NoContent = 22, "what is put can't stand there";
 }

@@ -4,8 +4,8 @@ use Rattle.std.specs.Prelude.{◌&&◌, is_none}
 use Rattle.std.proofs.lemmas.Bool.{cases_Bool}
 use Rattle.tl_page.specs.Page.{IsPage, is_page}
 use Rattle.tl_page.proofs.Pages.{is_page-IsPage, is_page-true}
-use Rattle.tl_lists.specs.ListOptions.{ListOptions, lists_or_default}
-use Rattle.tl_page.specs.Outcome.{Outcome, not_understood, refused, success}
+use Rattle.tl_lists.specs.ListOptions.{ListOptions}
+use Rattle.tl_page.specs.Outcome.{not_understood, refused}
 use Rattle.tl_safe.specs.Lists.{ListedWords}
 use Rattle.tl_safe.specs.Refusals.{Refusal, are_lawful, first_refusal}
 use Rattle.tl_c.specs.LentLists.{are_texts, is_text, kept_by_lists, kept_lawful, kept_with, lent_lists, lists_over, number_of_refusal, said_options, said_text}

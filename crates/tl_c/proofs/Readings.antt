@@ -2,7 +2,7 @@
 use Rattle.std.proofs.Common.{◌≡◌, ℕ, Bool, true, false, List, Option, refl, arith, inl, inr, if◌then◌else◌}
 use Rattle.tl_spec.specs.Tree.Document.{Document, document}
 use Rattle.tl_html_spec.specs.HtmlForm.{html_form}
-use Rattle.tl_page.specs.Outcome.{Fails, Outcome, not_understood, refused, success}
+use Rattle.tl_page.specs.Outcome.{Fails, not_understood, refused, success}
 use Rattle.tl_page.specs.Page.{document_in, is_page}
 use Rattle.tl_page.specs.declared.failure.Failure.{Failure}
 use Rattle.tl_page.specs.declared.failure.Failure.TheVariants.{Refused, NotUnderstood, OutOfMemory, Fault}

@@ -93,6 +93,16 @@ pub wrong_failure : (text : List ℕ) (failure : Failure) → IsSome (wrong_in t
 wrong_failure text failure some fails other =
     only_refused failure (subst (λ (outcome : Outcome Css). Fails outcome failure) (refused_in text some) fails) other
 
+none_cases : (b : Bool) (r : Result Css (ℕ × Cause)) → ◌≡◌ {A = Option (ℕ × Cause)} (if b then result_err r else None) None
+    → (if b then outcome_of_css r else not_understood) ≡ refused → ⊥
+none_cases true (Ok e) none is = absurd (cc)
+none_cases true (Err wrong) none is = absurd (cc)
+none_cases false r none is = absurd (cc)
+
+-- what has nothing wrong is not refused
+pub none_refused : (text : List ℕ) → wrong_in text ≡ None → css_in text ≡ refused → ⊥
+none_refused text none is = none_cases (is_utf8 text) (css_at text) none is
+
 pub right_none : (text : List ℕ) (e : Css) → css_in text ≡ success e → IsSome (wrong_in text) → ⊥
 right_none text e is some =
     let none : ◌≡◌ {A = Bool} false true = subst (λ (wrong : Option (ℕ × Cause)). IsSome wrong) (right_in text e is) some in

@@ -4,7 +4,7 @@ use Rattle.tl_css.specs.Selector.{Css}
 use Rattle.tl_page.specs.Outcome.{Outcome, success}
 use Rattle.tl_patch_edit.specs.declared.error.EditError.{EditError}
 use Rattle.tl_patch_edit.specs.declared.error.EditError.TheVariants as edit
-use Rattle.tl_patch_select.specs.Edited.{IsEditedWhere}
+use Rattle.tl_patch_select.specs.Edited.{IsEditedWhere, IsRefusedWhere}
 use Rattle.tl_patch_select.specs.declared.edit_error.SelectionEditError.{SelectionEditError}
 use Rattle.tl_patch_select.specs.declared.edit_error.SelectionEditError.TheVariants.{Refused, TooLong, OutOfMemory}
 use Rattle.tl_patch_spec.specs.Patches.{Append, Content, Fill, Markup, Patch, Prepend, PutAfter, PutBefore, Remove, RenameElement, ReplaceWith, Text, Unwrap}
@@ -72,6 +72,23 @@ place_of_edit_error (Refused (edit.ReadOtherwise place)) = place
 place_of_edit_error (Refused edit.OutOfMemory) = 0
 place_of_edit_error TooLong = 0
 place_of_edit_error OutOfMemory = 0
+
+-- it says why an element can't be changed
+abbrev pub IsEditRefusal : SelectionEditError → Type 0
+IsEditRefusal error = (why : EditError) × (error ≡ Refused why)
+
+-- this patch of the elements where the selector that bytes are holds is refused, where and why the
+-- numbers say
+pub record IsEditRefused (selector : List ℕ) (patch : Option Patch) (page : List ℕ)
+    (place cause : ℕ) : Type 0 where
+  pub css : Css
+  pub reads : css_in selector ≡ success css
+  pub asked : Patch
+  pub is : patch ≡ Some asked
+  pub error : EditError
+  pub refused : IsRefusedWhere css asked page error
+  pub stands : place ≡ place_of_edit_error (Refused error)
+  pub why : cause ≡ number_of_edit_error (Refused error)
 
 -- an outcome is put into room (old, and new after the call); its text, if it has one, is the page
 -- with the elements changed

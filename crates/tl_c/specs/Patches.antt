@@ -1,8 +1,10 @@
 -- Tags of a page changed where a selector of CSS holds.
-use Rattle.std.specs.Prelude.{◌≡◌, ◌==◌, ℕ, List, Option, None, Some, if◌then◌else◌}
+use Rattle.std.specs.Prelude.{◌≡◌, ◌==◌, ℕ, List, Option, None, Some, if◌then◌else◌, ⊤}
 use Rattle.tl_css.specs.Selector.{Css}
 use Rattle.tl_page.specs.Outcome.{Outcome, success}
-use Rattle.tl_patch_select.specs.Patched.{IsPatchedWhere}
+use Rattle.tl_patch_page.specs.declared.error.PatchError.{PatchError}
+use Rattle.tl_patch_select.specs.Errors.{error_of_patch}
+use Rattle.tl_patch_select.specs.Patched.{IsChangeRefusedWhere, IsPatchedWhere}
 use Rattle.tl_patch_select.specs.declared.error.SelectionPatchError.{SelectionPatchError}
 use Rattle.tl_patch_select.specs.declared.error.SelectionPatchError.TheVariants.{NoStartTag, NotWritten, TooLong, OutOfMemory}
 use Rattle.tl_patch_spec.specs.TagChanges.{Set, TagChange, Unset}
@@ -41,6 +43,26 @@ place_of_patch_error (NoStartTag place) = place
 place_of_patch_error (NotWritten place) = place
 place_of_patch_error TooLong = 0
 place_of_patch_error OutOfMemory = 0
+
+-- it says why a tag can't be changed
+abbrev pub IsChangeRefusal : SelectionPatchError → Type 0
+IsChangeRefusal (NoStartTag place) = ⊤
+IsChangeRefusal (NotWritten place) = ⊤
+IsChangeRefusal TooLong = ⊥
+IsChangeRefusal OutOfMemory = ⊥
+
+-- this change where the selector that bytes are holds is refused, where and why the numbers say
+pub record IsPatchRefused (selector : List ℕ) (change : Option TagChange) (page : List ℕ)
+    (place cause : ℕ) : Type 0 where
+  pub css : Css
+  pub reads : css_in selector ≡ success css
+  pub asked : TagChange
+  pub is : change ≡ Some asked
+  pub error : PatchError
+  pub refused : IsChangeRefusedWhere css asked page error
+  pub reason : IsChangeRefusal (error_of_patch error)
+  pub stands : place ≡ place_of_patch_error (error_of_patch error)
+  pub why : cause ≡ number_of_patch_error (error_of_patch error)
 
 -- an outcome is put into room (old, and new after the call); its text, if it has one, is the page
 -- with the change

@@ -58,7 +58,7 @@ pub(crate) fn copy_result<T: Copy + Drop>(
 ) -> u8
     ensures put { (outcome : Outcome (List T)) → Gives (λ items. items.items) outcome given
         → Puts outcome out.old out.new needed.new result }
-    ensures refused { given ≡ Err Refused → result ≡ 1 }
+    ensures refused { (result ≡ 1) ↔ (given ≡ Err Refused) }
     ensures not_understood { given ≡ Err NotUnderstood → result ≡ 2 }
     ensures memory { (result ≡ 3) ↔ (given ≡ Err OutOfMemory) }
 {

@@ -1,10 +1,10 @@
 //! Elements of a page changed where a selector of CSS holds.
-ghost use Rattle.std.specs.Prelude.{◌≡◌, ◌≢◌, Err, IfOk, IsSome};
+ghost use Rattle.std.specs.Prelude.{◌≡◌, ◌≢◌, Err, IfOk, IsSome, None};
 ghost use Rattle.std.specs.Option.{option_map};
 ghost use Rattle.tl_page.specs.declared.failure.Failure.TheVariants.{Fault, OutOfMemory, Refused};
 ghost use Rattle.tl_patch_edit.specs.View.{content_view, patch_view};
 ghost use Rattle.tl_c.specs.Css.{IsTold, wrong_in};
-ghost use Rattle.tl_c.specs.Edits.{IsEditedIf, content_of_number, number_of_edit_error, patch_of_number, place_of_edit_error, placed_of_number};
+ghost use Rattle.tl_c.specs.Edits.{IsEditRefusal, IsEditRefused, IsEditedIf, content_of_number, number_of_edit_error, patch_of_number, place_of_edit_error, placed_of_number};
 
 use crate::css::read_selector;
 use crate::text::text_of;
@@ -56,6 +56,7 @@ fn report(error: SelectionEditError, place: &mut usize, cause: &mut u8) -> Failu
     ensures place { place.new ≡ place_of_edit_error error }
     ensures cause { cause.new ≡ number_of_edit_error error }
     ensures failure { result ≢ Fault }
+    ensures refused { result ≡ Refused → IsEditRefusal error }
 {
     let (at, why, failure) = match error {
         SelectionEditError::Refused(EditError::NoStartTag(at)) => (at, 16, Failure::Refused),
@@ -92,6 +93,9 @@ pub(crate) fn edit_elements(
     ensures done { IfOk result (λ _. (place.new ≡ 0) × (cause.new ≡ 0)) }
     ensures wrong { IsSome (wrong_in selector.now) → result ≢ Err OutOfMemory
         → (result ≡ Err Refused) × IsTold (wrong_in selector.now) place.new cause.new }
+    ensures refused { wrong_in selector.now ≡ None → result ≡ Err Refused →
+        let patch = patch_of_number number form content.now in
+        IsEditRefused selector.now patch page.now place.new cause.new }
     ensures failure { result ≢ Err Fault }
 {
     let selector = read_selector(alloc, selector, place, cause)?;

@@ -14,11 +14,11 @@ ghost use Rattle.tl_extract.specs.Field.{IsNoSelector};
 ghost use Rattle.tl_program.specs.Action.{Prints, Texts};
 ghost use Rattle.tl_program.specs.Output.{output_of};
 ghost use Rattle.tl_c.specs.Css.{IsTold, wrong_in};
-ghost use Rattle.tl_c.specs.Edits.{PutsEdited, patch_of_number};
+ghost use Rattle.tl_c.specs.Edits.{IsEditRefused, PutsEdited, patch_of_number};
 ghost use Rattle.tl_c.specs.Forms.{of_form};
 ghost use Rattle.tl_c.specs.LentLists.{kept_with, lent_lists, number_of_refusal, refusal_in, refused_word};
 ghost use Rattle.tl_c.specs.Pages.{edited_page, safe_page, selection};
-ghost use Rattle.tl_c.specs.Patches.{PutsPatched, change_of_number};
+ghost use Rattle.tl_c.specs.Patches.{IsPatchRefused, PutsPatched, change_of_number};
 ghost use Rattle.tl_c.specs.Policies.{kept_by, lists_of_number};
 ghost use Rattle.tl_c.specs.Puts.{Puts};
 
@@ -244,6 +244,11 @@ pub extern "C" fn tl_patch_css(
     // Of what is no selector the first byte that is wrong, and why.
     ensures wrong { IsSome (wrong_in selector.now) → result ≢ 3
         → (result ≡ 1) × IsTold (wrong_in selector.now) place.new cause.new }
+
+    // Of a selector, where and why nothing can be changed so.
+    ensures refused { wrong_in selector.now ≡ None → result ≡ 1 →
+        let change = change_of_number edit key.now value.now in
+        IsPatchRefused selector.now change page.now place.new cause.new }
 {
     let patched = patch(alloc, edit, selector, key, value, page, place, cause);
     copy_result(patched, out, needed)
@@ -276,6 +281,11 @@ pub extern "C" fn tl_edit_css(
     // Of what is no selector the first byte that is wrong, and why.
     ensures wrong { IsSome (wrong_in selector.now) → result ≢ 3
         → (result ≡ 1) × IsTold (wrong_in selector.now) place.new cause.new }
+
+    // Of a selector, where and why nothing can be changed so.
+    ensures refused { wrong_in selector.now ≡ None → result ≡ 1 →
+        let patch = patch_of_number edit form content.now in
+        IsEditRefused selector.now patch page.now place.new cause.new }
 {
     let edited = edit_elements(alloc, edit, form, selector, content, page, place, cause);
     copy_result(edited, out, needed)

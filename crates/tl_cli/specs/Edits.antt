@@ -1,11 +1,14 @@
 -- What a change of tags or elements gives, and why it is refused.
-use Rattle.std.specs.Prelude.{ℕ, List, ⊤, string_bytes}
+use Rattle.std.specs.Prelude.{ℕ, ◌<◌, ◌⊎◌, List, length, ⊤, string_bytes}
+use Rattle.tl_spec.specs.Lex.ByteClass.{largest_u32}
 use Rattle.tl_css.specs.Selector.{Css}
+use Rattle.tl_html_spec.specs.HtmlForm.{html_form}
 use Rattle.tl_patch_edit.specs.View.{patch_view}
+use Rattle.tl_patch_page.specs.declared.error.PatchError.TheVariants as page_error
 use Rattle.tl_patch_spec.specs.Patches.{Patch, RenameElement}
 use Rattle.tl_patch_spec.specs.TagChanges.{Set, TagChange, Unset}
-use Rattle.tl_patch_select.specs.Edited.{IsEditedWhere}
-use Rattle.tl_patch_select.specs.Patched.{IsPatchedWhere}
+use Rattle.tl_patch_select.specs.Edited.{IsEditedWhere, IsRefusedWhere}
+use Rattle.tl_patch_select.specs.Patched.{IsChangeRefusedWhere, IsPatchedWhere}
 use Rattle.tl_patch_select.specs.declared.edit_error.SelectionEditError.{SelectionEditError}
 use Rattle.tl_patch_select.specs.declared.edit_error.SelectionEditError.TheVariants as element
 use Rattle.tl_patch_select.specs.declared.error.SelectionPatchError.{SelectionPatchError}
@@ -25,17 +28,40 @@ IsDone (edit.Rename name) e page text places =
     IsEditedWhere e (RenameElement (string_bytes name)) page text places
 IsDone (edit.Element patch) e page text places = IsEditedWhere e (patch_view patch) page text places
 
--- the reason is not want of memory
-abbrev pub IsTagReason : SelectionPatchError → Type 0
-IsTagReason tag.OutOfMemory = ⊥
-IsTagReason _ = ⊤
+-- there is no room for the page, or for its form
+abbrev pub IsTooLong : List ℕ → Type 0
+IsTooLong page = (largest_u32 < length page) ⊎ (largest_u32 < length (html_form page))
 
-abbrev pub IsElementReason : SelectionEditError → Type 0
-IsElementReason element.OutOfMemory = ⊥
-IsElementReason _ = ⊤
+-- why the tags where the selector holds don't get this change; want of memory is no reason
+abbrev pub IsTagReason : Css → TagChange → List ℕ → SelectionPatchError → Type 0
+IsTagReason e change page (tag.NoStartTag place) =
+    IsChangeRefusedWhere e change page (page_error.NoStartTag place)
+IsTagReason e change page (tag.NotWritten place) =
+    IsChangeRefusedWhere e change page (page_error.NotWritten place)
+IsTagReason e change page tag.TooLong = IsTooLong page
+IsTagReason e change page tag.OutOfMemory = ⊥
 
--- want of memory is told from a reason
-abbrev pub IsTold : Refusal → Type 0
-IsTold (refusal.Tag error) = IsTagReason error
-IsTold (refusal.Element error) = IsElementReason error
-IsTold refusal.OutOfMemory = ⊤
+-- and why the elements don't get this patch
+abbrev pub IsElementReason : Css → Patch → List ℕ → SelectionEditError → Type 0
+IsElementReason e patch page (element.Refused error) = IsRefusedWhere e patch page error
+IsElementReason e patch page element.TooLong = IsTooLong page
+IsElementReason e patch page element.OutOfMemory = ⊥
+
+abbrev pub IsTagRefusal : Css → TagChange → List ℕ → Refusal → Type 0
+IsTagRefusal e change page (refusal.Tag error) = IsTagReason e change page error
+IsTagRefusal e change page (refusal.Element error) = ⊥
+IsTagRefusal e change page refusal.OutOfMemory = ⊤
+
+abbrev pub IsElementRefusal : Css → Patch → List ℕ → Refusal → Type 0
+IsElementRefusal e patch page (refusal.Tag error) = ⊥
+IsElementRefusal e patch page (refusal.Element error) = IsElementReason e patch page error
+IsElementRefusal e patch page refusal.OutOfMemory = ⊤
+
+-- why this isn't done where the selector holds
+abbrev pub IsUndone : Edit → Css → List ℕ → Refusal → Type 0
+IsUndone (edit.Set key value) e page why =
+    IsTagRefusal e (Set (string_bytes key) value.now) page why
+IsUndone (edit.Unset key) e page why = IsTagRefusal e (Unset (string_bytes key)) page why
+IsUndone (edit.Rename name) e page why =
+    IsElementRefusal e (RenameElement (string_bytes name)) page why
+IsUndone (edit.Element patch) e page why = IsElementRefusal e (patch_view patch) page why

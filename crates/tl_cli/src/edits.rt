@@ -4,7 +4,7 @@ ghost use Rattle.tl_patch_edit.specs.View.{patch_view};
 ghost use Rattle.tl_patch_page.specs.View.{change_view};
 ghost use Rattle.tl_patch_select.specs.Edited.{IsEditedWhere};
 ghost use Rattle.tl_patch_select.specs.Patched.{IsPatchedWhere};
-ghost use Rattle.tl_cli.specs.Edits.{IsDone, IsTold};
+ghost use Rattle.tl_cli.specs.Edits.{IsDone, IsElementRefusal, IsTagRefusal, IsUndone};
 
 use std::alloc::Global;
 use tl_css::Selector;
@@ -44,7 +44,8 @@ fn with_tags(
 ) -> Result<Patched, Refusal>
     ensures done { IfOk result (λ p. IsPatchedWhere selector.now (change_view change.entry)
         page.now p.bytes.items p.places.items) }
-    ensures told { IfErr result IsTold }
+    ensures told { IfErr result
+        (IsTagRefusal selector.now (change_view change.entry) page.now) }
 {
     match patch_selected(alloc, page, selector, change) {
         Ok(patched) => Ok(patched),
@@ -62,7 +63,8 @@ fn with_elements(
 ) -> Result<Patched, Refusal>
     ensures done { IfOk result (λ p. IsEditedWhere selector.now (patch_view patch.entry)
         page.now p.bytes.items p.places.items) }
-    ensures told { IfErr result IsTold }
+    ensures told { IfErr result
+        (IsElementRefusal selector.now (patch_view patch.entry) page.now) }
 {
     match edit_selected(alloc, page, selector, patch) {
         Ok(patched) => Ok(patched),
@@ -81,7 +83,7 @@ impl Edit<'_> {
     ) -> Result<Patched, Refusal>
         ensures done { IfOk result (λ p.
             IsDone self.now selector.now page.now p.bytes.items p.places.items) }
-        ensures told { IfErr result IsTold }
+        ensures told { IfErr result (IsUndone self.now selector.now page.now) }
     {
         match self {
             Edit::Set(key, value) => {

@@ -29,7 +29,14 @@ returns-in-Err-clause-memory g c = (
 )
 
 pub returns-in-Err-clause-refused : goal.returns-in-Err-clause-refused
-returns-in-Err-clause-refused g c = λ refused.
-    let is = c.in-Err.is in
-    let same : c.in-Err.failure ≡ Refused = cc in
-    c.report_failure.ensures.refused.1 same
+returns-in-Err-clause-refused g c = (
+  λ one. c.in-Err.is ∙ ap Err (c.report_failure.ensures.refused.0 one),
+  λ refused.
+      let is = c.in-Err.is in
+      let same : c.in-Err.failure ≡ Refused = cc in
+      c.report_failure.ensures.refused.1 same,
+)
+
+pub returns-in-Ok-clause-refused : goal.returns-in-Ok-clause-refused
+returns-in-Ok-clause-refused g c =
+    (λ one. absurd (c.copy_items.ensures.refused one), λ refused. let is = c.in-Ok.is in absurd (cc))

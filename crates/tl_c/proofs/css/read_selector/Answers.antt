@@ -1,5 +1,4 @@
-use Rattle.std.proofs.Common.{◌≡◌, ℕ, Err, List, Option, refl, subst, sym}
-use Rattle.tl_css.specs.Reading.{css_at}
+use Rattle.std.proofs.Common.{ℕ, Option, refl, subst, sym}
 use Rattle.tl_css.specs.declared.error.Cause.{Cause}
 use Rattle.tl_c.specs.Css.{IsTold}
 use Rattle.tl_c.proofs.Selectors.{css_in-right, css_in-wrong, wrong_in-right, wrong_in-wrong}

@@ -2,13 +2,13 @@ use Rattle.std.proofs.Common.{◌≡◌, ◌∙◌, List, ℕ, Option, Some, Err
 use Rattle.std.specs.Option.{option_map}
 use Rattle.tl_page.specs.Outcome.{Fails}
 use Rattle.tl_page.specs.declared.failure.Failure.{Failure}
-use Rattle.tl_page.specs.declared.failure.Failure.TheVariants.{Fault, OutOfMemory}
+use Rattle.tl_page.specs.declared.failure.Failure.TheVariants.{Fault, OutOfMemory, Refused}
 use Rattle.tl_patch_edit.specs.View.{patch_view}
-use Rattle.tl_patch_select.specs.Edited.{IsEditedWhere}
+use Rattle.tl_patch_select.specs.Edited.{IsEditedWhere, IsRefusedWhere}
 use Rattle.tl_patch_spec.specs.Patches.{Patch}
 use Rattle.tl_c.specs.Css.{css_in}
-use Rattle.tl_c.specs.Edits.{IsEditedIf, patch_of_number}
-use Rattle.tl_c.proofs.Selectors.{right_none, wrong_failure}
+use Rattle.tl_c.specs.Edits.{IsEditedIf, number_of_edit_error, patch_of_number, place_of_edit_error}
+use Rattle.tl_c.proofs.Selectors.{none_refused, right_none, wrong_failure}
 use Rattle.tl_c.proofs.element_edit.edit_elements.Goals as goal
 
 pub returns-in_err-selector-clause-failure : goal.returns-in_err-selector-clause-failure
@@ -50,3 +50,27 @@ returns-in-Ok-clause-wrong c = λ some _. absurd (right_none c.args.selector.now
 
 pub returns-clause-wrong : goal.returns-clause-wrong
 returns-clause-wrong c = λ some _. absurd (right_none c.args.selector.now c.in_ok-selector.selector c.in_ok-selector.ensures.reads some)
+
+pub returns-in_err-selector-clause-refused : goal.returns-in_err-selector-clause-refused
+returns-in_err-selector-clause-refused c = λ right is_refused.
+    let failure = c.in_err-selector.field-0.0 in
+    let is : c.from_residual.result ≡ Err failure = search rules in
+    let same : failure ≡ Refused = cc in
+    absurd (none_refused c.args.selector.now right (subst (λ (why : Failure). Fails (css_in c.args.selector.now) why) same c.in_err-selector.ensures.reads))
+
+pub returns-clause-refused : goal.returns-clause-refused
+returns-clause-refused c = λ _ is_refused.
+    let patch = patch_view c.in-Some.patch in
+    let some : patch_of_number c.args.number c.args.form c.args.content.now ≡ Some patch = sym c.patch_of.ensures ∙ ap (option_map patch_view) c.in-Some.is in
+    let same : c.report.result ≡ Refused = cc in
+    let why = c.report.ensures.refused same in
+    record {
+      css = c.in_ok-selector.selector;
+      reads = c.in_ok-selector.ensures.reads;
+      asked = patch;
+      is = some;
+      error = why.0;
+      refused = subst (λ (page : List ℕ). IsRefusedWhere c.in_ok-selector.selector patch page why.0) c.in_ok-text_of.ensures.text (c.edit_selected.ensures.refused why.0 (c.in-Err.is ∙ ap Err why.1));
+      stands = c.report.ensures.place ∙ ap place_of_edit_error why.1;
+      why = c.report.ensures.cause ∙ ap number_of_edit_error why.1;
+    }

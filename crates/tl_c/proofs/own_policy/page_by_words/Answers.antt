@@ -8,7 +8,6 @@ use Rattle.tl_safe.specs.IsSafe.{IsSafe, tokens_of}
 use Rattle.tl_safe.specs.Filter.{trees_of}
 use Rattle.tl_safe.specs.KeptFitted.{kept_fitted}
 use Rattle.tl_safe.specs.Lists.{ListedWords}
-use Rattle.tl_safe.specs.Policies.{lists_of}
 use Rattle.tl_page.specs.Outcome.{Gives, Outcome, refused}
 use Rattle.tl_page.specs.declared.failure.Failure.TheVariants.{Refused}
 use Rattle.tl_c.specs.Forms.{of_form}

@@ -1,10 +1,8 @@
-use Rattle.std.proofs.Common.{◌≡◌, ◌∙◌, None, Option, Some, Err, ap, ap₂, rules, subst, sym}
+use Rattle.std.proofs.Common.{◌≡◌, ◌∙◌, None, Some, Err, ap, ap₂, rules, subst, sym}
 use Rattle.std.specs.Option.{option_map}
-use Rattle.tl_lists.specs.ListOptions.{ListOptions, list_options, lists_or_default}
-use Rattle.tl_page.specs.Outcome.{Gives, not_understood, success}
+use Rattle.tl_lists.specs.ListOptions.{lists_or_default}
+use Rattle.tl_page.specs.Outcome.{Gives, success}
 use Rattle.tl_page.specs.declared.failure.Failure.TheVariants.{NotUnderstood}
-use Rattle.tl_safe.specs.Lists.{ListedWords}
-use Rattle.tl_safe.specs.Names.{listed_words}
 use Rattle.tl_safe.specs.Policies.{lists_of}
 use Rattle.tl_c.specs.LentLists.{lent_lists, lists_in_texts, lists_over, said_options}
 use Rattle.tl_c.specs.Policies.{lists_of_number}

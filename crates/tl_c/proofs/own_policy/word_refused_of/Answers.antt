@@ -1,6 +1,6 @@
-use Rattle.std.proofs.Common.{◌≡◌, ◌∙◌, List, ℕ, None, Option, Some, ap, rules, sym}
+use Rattle.std.proofs.Common.{◌≡◌, ◌∙◌, None, Option, Some, ap, rules, sym}
 use Rattle.tl_lists.specs.ListOptions.{lists_in}
-use Rattle.tl_page.specs.Outcome.{Outcome, success}
+use Rattle.tl_page.specs.Outcome.{success}
 use Rattle.tl_safe.specs.Refusals.{Refusal, first_refusal, refusal_of}
 use Rattle.tl_c.specs.LentLists.{number_of_refusal}
 use Rattle.tl_c.specs.Queries.{outcome_of_some}

@@ -1,4 +1,3 @@
-use Rattle.std.proofs.Common.{◌≡◌, ℕ}
 use Rattle.tl_c.specs.Edits.{IsEditedIf, patch_of_number}
 use Rattle.tl_c.proofs.Given.{given-done, given-gives, given-success, outcome_given}
 use Rattle.tl_c.proofs.page_calls.tl_edit_css.Goals as goal
@@ -22,4 +21,7 @@ returns-clause-done c = λ is_done.
 pub returns-clause-wrong : goal.returns-clause-wrong
 returns-clause-wrong c = λ some other.
     let told = c.edit_elements-edited.ensures.wrong some (λ lost. other (c.copy_result.ensures.memory.1 lost)) in
-    (c.copy_result.ensures.refused told.0, told.1)
+    (c.copy_result.ensures.refused.1 told.0, told.1)
+
+pub returns-clause-refused : goal.returns-clause-refused
+returns-clause-refused c = λ right one. c.edit_elements-edited.ensures.refused right (c.copy_result.ensures.refused.0 one)

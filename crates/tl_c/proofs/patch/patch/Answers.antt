@@ -1,14 +1,20 @@
-use Rattle.std.proofs.Common.{◌≡◌, ◌∙◌, List, ℕ, Option, Some, Err, ap, rules, subst, sym}
+use Rattle.std.proofs.Common.{◌≡◌, ◌∙◌, List, ℕ, Option, Some, Err, ap, refl, rules, subst, sym}
 use Rattle.std.specs.Option.{option_map}
 use Rattle.tl_page.specs.Outcome.{Fails}
 use Rattle.tl_page.specs.declared.failure.Failure.{Failure}
-use Rattle.tl_page.specs.declared.failure.Failure.TheVariants.{Fault, OutOfMemory}
+use Rattle.tl_page.specs.declared.failure.Failure.TheVariants.{Fault, OutOfMemory, Refused}
 use Rattle.tl_patch_page.specs.View.{change_view}
-use Rattle.tl_patch_select.specs.Patched.{IsPatchedWhere}
+use Rattle.tl_css.specs.Selector.{Css}
+use Rattle.tl_patch_page.specs.declared.error.PatchError.{PatchError}
+use Rattle.tl_patch_page.specs.declared.error.PatchError.TheVariants as page_error
+use Rattle.tl_patch_select.specs.Errors.{error_of_patch}
+use Rattle.tl_patch_select.specs.Patched.{IsChangeRefusedWhere, IsPatchedWhere}
+use Rattle.tl_patch_select.specs.declared.error.SelectionPatchError.{SelectionPatchError}
+use Rattle.tl_patch_select.specs.declared.error.SelectionPatchError.TheVariants.{NoStartTag, NotWritten, TooLong, OutOfMemory as NoMemory}
 use Rattle.tl_patch_spec.specs.TagChanges.{TagChange}
 use Rattle.tl_c.specs.Css.{css_in}
-use Rattle.tl_c.specs.Patches.{IsPatchedIf, change_of_number}
-use Rattle.tl_c.proofs.Selectors.{right_none, wrong_failure}
+use Rattle.tl_c.specs.Patches.{IsChangeRefusal, IsPatchedIf, change_of_number, number_of_patch_error, place_of_patch_error}
+use Rattle.tl_c.proofs.Selectors.{none_refused, right_none, wrong_failure}
 use Rattle.tl_c.proofs.patch.patch.Goals as goal
 
 pub returns-in_err-selector-clause-failure : goal.returns-in_err-selector-clause-failure
@@ -50,3 +56,46 @@ returns-in-Ok-clause-wrong c = λ some _. absurd (right_none c.args.selector.now
 
 pub returns-clause-wrong : goal.returns-clause-wrong
 returns-clause-wrong c = λ some _. absurd (right_none c.args.selector.now c.in_ok-selector.selector c.in_ok-selector.ensures.reads some)
+
+record IsWhy (css : Css) (change : TagChange) (page : List ℕ) (error : SelectionPatchError) : Type 0 where
+  why : PatchError
+  same : error ≡ error_of_patch why
+  refused : IsChangeRefusedWhere css change page why
+
+why_of : (css : Css) (change : TagChange) (page : List ℕ) (error : SelectionPatchError) → IsChangeRefusal error →
+    ((place : ℕ) → error ≡ NoStartTag place → IsChangeRefusedWhere css change page (page_error.NoStartTag place)) →
+    ((place : ℕ) → error ≡ NotWritten place → IsChangeRefusedWhere css change page (page_error.NotWritten place)) →
+    IsWhy css change page error
+why_of css change page (NoStartTag place) is h k = record { why = page_error.NoStartTag place; same = refl; refused = h place refl }
+why_of css change page (NotWritten place) is h k = record { why = page_error.NotWritten place; same = refl; refused = k place refl }
+why_of css change page TooLong is h k = absurd is
+why_of css change page NoMemory is h k = absurd is
+
+pub returns-in_err-selector-clause-refused : goal.returns-in_err-selector-clause-refused
+returns-in_err-selector-clause-refused c = λ right is_refused.
+    let failure = c.in_err-selector.field-0.0 in
+    let is : c.from_residual.result ≡ Err failure = search rules in
+    let same : failure ≡ Refused = cc in
+    absurd (none_refused c.args.selector.now right (subst (λ (why : Failure). Fails (css_in c.args.selector.now) why) same c.in_err-selector.ensures.reads))
+
+pub returns-clause-refused : goal.returns-clause-refused
+returns-clause-refused c = λ _ is_refused.
+    let css = c.in_ok-selector.selector in
+    let change = change_view c.in-Some.change in
+    let some : change_of_number c.args.number c.args.key.now c.args.value.now ≡ Some change = sym c.change_of.ensures ∙ ap (option_map change_view) c.in-Some.is in
+    let same : c.report.result ≡ Refused = cc in
+    let reason = c.report.ensures.refused same in
+    let why = why_of css change _ c.in-Err.error reason
+    (λ place is. c.patch_selected.ensures.no_start_tag place (c.in-Err.is ∙ ap Err is))
+    (λ place is. c.patch_selected.ensures.not_written place (c.in-Err.is ∙ ap Err is)) in
+    record {
+      css = css;
+      reads = c.in_ok-selector.ensures.reads;
+      asked = change;
+      is = some;
+      error = why.why;
+      refused = subst (λ (page : List ℕ). IsChangeRefusedWhere css change page why.why) c.in_ok-text_of.ensures.text why.refused;
+      reason = subst IsChangeRefusal why.same reason;
+      stands = c.report.ensures.place ∙ ap place_of_patch_error why.same;
+      why = c.report.ensures.cause ∙ ap number_of_patch_error why.same;
+    }

@@ -1,4 +1,4 @@
-use Rattle.std.proofs.Common.{◌≡◌, ◌≤◌, ℕ, Bool, List, [], append-nil, drop, length, refl, subst, sym}
+use Rattle.std.proofs.Common.{◌≤◌, ℕ, Bool, List, [], append-nil, drop, length, refl, subst, sym}
 use Rattle.std.proofs.lemmas.List.{drop_all}
 use Rattle.std.specs.Borrow.{Bor}
 use Rattle.tl_safe.specs.Names.{words_of}

@@ -1,4 +1,4 @@
-use Rattle.std.proofs.Common.{◌≡◌, ◌∙◌, List, ℕ, ap, subst, sym}
+use Rattle.std.proofs.Common.{◌≡◌, ◌∙◌, ap, subst, sym}
 use Rattle.tl_spec.specs.Tree.Document.{Document, document}
 use Rattle.tl.specs.View.{document_of}
 use Rattle.tl_page.specs.Outcome.{Gives, Outcome, success}

@@ -1,4 +1,4 @@
-use Rattle.std.proofs.Common.{◌≡◌, List, ℕ, subst, sym}
+use Rattle.std.proofs.Common.{List, ℕ, subst, sym}
 use Rattle.tl_page.specs.Outcome.{Gives, Outcome}
 use Rattle.tl_cli.specs.Findings.{Finding, finding_of}
 use Rattle.tl_cli.specs.Task.{AreSelectedIn, outcome_read, page_of, task_output}
