@@ -17,8 +17,8 @@
  *   TL_NO_ROOM         the answer has `*needed` items, which is more than `room`: lend as many and call again
  *
  * With all but TL_DONE `out` is as it was. But for TL_OUT_OF_MEMORY what is lent, `room` and the document determine all of it: this is proved,
- * for all bytes and each document that the calls made. Of `tl_patch_css` and `tl_edit_css` it is proved what they write, and that a reason
- * why they are refused is so.
+ * for all bytes and each document that the calls made. Of `tl_patch_css` and `tl_edit_css` it is proved what they write, and that a
+ * reason for which they write nothing holds.
  *
  * Lengths     are in bytes, also of texts. Nothing ends with a byte 0, and texts may hold some.
  * Texts       are UTF-8, those that come out too.

@@ -103,6 +103,15 @@ none_cases false r none is = absurd (cc)
 pub none_refused : (text : List ℕ) → wrong_in text ≡ None → css_in text ≡ refused → ⊥
 none_refused text none is = none_cases (is_utf8 text) (css_at text) none is
 
+lost_cases : (b : Bool) (r : Result Css (ℕ × Cause)) → (if b then outcome_of_css r else not_understood) ≡ not_understood → b ≡ false
+lost_cases true (Ok e) is = absurd (cc)
+lost_cases true (Err wrong) is = absurd (cc)
+lost_cases false r is = refl
+
+-- what is not understood is no text
+pub lost_text : (text : List ℕ) → css_in text ≡ not_understood → is_utf8 text ≡ false
+lost_text text is = lost_cases (is_utf8 text) (css_at text) is
+
 pub right_none : (text : List ℕ) (e : Css) → css_in text ≡ success e → IsSome (wrong_in text) → ⊥
 right_none text e is some =
     let none : ◌≡◌ {A = Bool} false true = subst (λ (wrong : Option (ℕ × Cause)). IsSome wrong) (right_in text e is) some in

@@ -1,8 +1,10 @@
 -- What a selector of CSS says of the document that is held, if one is.
-use Rattle.std.specs.Prelude.{◌≡◌, ◌↔◌, ℕ, Bool, true, List, Option, None, Some, Result, Ok, Err, ⊤, if◌then◌else◌, slice_get}
+use Rattle.std.specs.Prelude.{◌≡◌, ◌↔◌, ◌⊎◌, ◌<◌, ℕ, Bool, true, false, List, length, Option, None, Some, Result, Ok, Err, ⊤, if◌then◌else◌, slice_get}
 use Rattle.std.specs.Result.{result_err}
 use Rattle.std.specs.Str.{is_utf8}
+use Rattle.tl_spec.specs.Lex.ByteClass.{largest_u32}
 use Rattle.tl_spec.specs.Tree.Document.{Document}
+use Rattle.tl_html_spec.specs.HtmlForm.{html_form}
 use Rattle.tl_css.specs.Meaning.{AreFound, Holds}
 use Rattle.tl_css.specs.Reading.{css_at}
 use Rattle.tl_css.specs.Selector.{Css}
@@ -49,6 +51,13 @@ outcome_of_css (Err wrong) = refused
 -- the selector that bytes are; a text that is none is refused
 abbrev pub css_in : List ℕ → Outcome Css
 css_in text = if is_utf8 text then outcome_of_css (css_at text) else not_understood
+
+-- a selector, a change and a page with which nothing can be asked: the selector is no text, the
+-- change is none, or the page is no text, or there is no room for it or its form
+abbrev pub IsUnasked : {X : Type 0} → List ℕ → Option X → List ℕ → Type 0
+IsUnasked selector asked page = (is_utf8 selector ≡ false) ⊎ ((asked ≡ None)
+    ⊎ ((is_utf8 page ≡ false)
+    ⊎ ((largest_u32 < length page) ⊎ (largest_u32 < length (html_form page)))))
 
 -- what is said of a selector and of the document that is held, where both are there
 abbrev pub IfBoth : (Css → Document → Type 0) → Outcome Css → Option ParsedPage → Type 0

@@ -15,6 +15,7 @@ const NO_ROOM: u8 = 4;
 pub(crate) fn copy_items<T: Copy>(items: &[T], out: &mut [T], needed: &mut usize) -> u8
     ensures put { Puts (success items.now) out.old out.new needed.new result }
     ensures refused { result ≢ 1 }
+    ensures understood { result ≢ 2 }
     ensures memory { result ≢ 3 }
 {
     *needed = items.len();
@@ -31,7 +32,7 @@ fn report_failure<T: Copy>(failure: Failure, out: &mut [T], needed: &mut usize) 
         → Puts outcome out.old out.new needed.new result }
     ensures failed { result ≢ 0 }
     ensures refused { (result ≡ 1) ↔ (failure ≡ Refused) }
-    ensures not_understood { failure ≡ NotUnderstood → result ≡ 2 }
+    ensures not_understood { (result ≡ 2) ↔ (failure ≡ NotUnderstood) }
     ensures memory { (result ≡ 3) ↔ (failure ≡ OutOfMemory) }
 {
     *needed = 0;
@@ -59,7 +60,7 @@ pub(crate) fn copy_result<T: Copy + Drop>(
     ensures put { (outcome : Outcome (List T)) → Gives (λ items. items.items) outcome given
         → Puts outcome out.old out.new needed.new result }
     ensures refused { (result ≡ 1) ↔ (given ≡ Err Refused) }
-    ensures not_understood { given ≡ Err NotUnderstood → result ≡ 2 }
+    ensures not_understood { (result ≡ 2) ↔ (given ≡ Err NotUnderstood) }
     ensures memory { (result ≡ 3) ↔ (given ≡ Err OutOfMemory) }
 {
     match given {

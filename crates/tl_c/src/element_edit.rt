@@ -1,9 +1,10 @@
 //! Elements of a page changed where a selector of CSS holds.
 ghost use Rattle.std.specs.Prelude.{◌≡◌, ◌≢◌, Err, IfOk, IsSome, None};
 ghost use Rattle.std.specs.Option.{option_map};
-ghost use Rattle.tl_page.specs.declared.failure.Failure.TheVariants.{Fault, OutOfMemory, Refused};
+ghost use Rattle.tl_page.specs.declared.failure.Failure.TheVariants.{Fault, NotUnderstood, OutOfMemory, Refused};
 ghost use Rattle.tl_patch_edit.specs.View.{content_view, patch_view};
-ghost use Rattle.tl_c.specs.Css.{IsTold, wrong_in};
+ghost use Rattle.tl_patch_select.specs.declared.edit_error.SelectionEditError.TheVariants.{TooLong};
+ghost use Rattle.tl_c.specs.Css.{IsTold, IsUnasked, wrong_in};
 ghost use Rattle.tl_c.specs.Edits.{IsEditRefusal, IsEditRefused, IsEditedIf, content_of_number, number_of_edit_error, patch_of_number, place_of_edit_error, placed_of_number};
 
 use crate::css::read_selector;
@@ -57,6 +58,7 @@ fn report(error: SelectionEditError, place: &mut usize, cause: &mut u8) -> Failu
     ensures cause { cause.new ≡ number_of_edit_error error }
     ensures failure { result ≢ Fault }
     ensures refused { result ≡ Refused → IsEditRefusal error }
+    ensures understood { result ≡ NotUnderstood → error ≡ TooLong }
 {
     let (at, why, failure) = match error {
         SelectionEditError::Refused(EditError::NoStartTag(at)) => (at, 16, Failure::Refused),
@@ -96,6 +98,8 @@ pub(crate) fn edit_elements(
     ensures refused { wrong_in selector.now ≡ None → result ≡ Err Refused →
         let patch = patch_of_number number form content.now in
         IsEditRefused selector.now patch page.now place.new cause.new }
+    ensures understood { result ≡ Err NotUnderstood →
+        IsUnasked selector.now (patch_of_number number form content.now) page.now }
     ensures failure { result ≢ Err Fault }
 {
     let selector = read_selector(alloc, selector, place, cause)?;

@@ -13,7 +13,7 @@ ghost use Rattle.tl_page.specs.Outcome.{success};
 ghost use Rattle.tl_extract.specs.Field.{IsNoSelector};
 ghost use Rattle.tl_program.specs.Action.{Prints, Texts};
 ghost use Rattle.tl_program.specs.Output.{output_of};
-ghost use Rattle.tl_c.specs.Css.{IsTold, wrong_in};
+ghost use Rattle.tl_c.specs.Css.{IsTold, IsUnasked, wrong_in};
 ghost use Rattle.tl_c.specs.Edits.{IsEditRefused, PutsEdited, patch_of_number};
 ghost use Rattle.tl_c.specs.Forms.{of_form};
 ghost use Rattle.tl_c.specs.LentLists.{kept_with, lent_lists, number_of_refusal, refusal_in, refused_word};
@@ -249,6 +249,10 @@ pub extern "C" fn tl_patch_css(
     ensures refused { wrong_in selector.now ≡ None → result ≡ 1 →
         let change = change_of_number edit key.now value.now in
         IsPatchRefused selector.now change page.now place.new cause.new }
+
+    // When nothing can be asked.
+    ensures understood { result ≡ 2 →
+        IsUnasked selector.now (change_of_number edit key.now value.now) page.now }
 {
     let patched = patch(alloc, edit, selector, key, value, page, place, cause);
     copy_result(patched, out, needed)
@@ -286,6 +290,10 @@ pub extern "C" fn tl_edit_css(
     ensures refused { wrong_in selector.now ≡ None → result ≡ 1 →
         let patch = patch_of_number edit form content.now in
         IsEditRefused selector.now patch page.now place.new cause.new }
+
+    // When nothing can be asked.
+    ensures understood { result ≡ 2 →
+        IsUnasked selector.now (patch_of_number edit form content.now) page.now }
 {
     let edited = edit_elements(alloc, edit, form, selector, content, page, place, cause);
     copy_result(edited, out, needed)

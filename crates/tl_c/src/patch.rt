@@ -1,9 +1,10 @@
 //! Tags of a page changed where a selector of CSS holds.
 ghost use Rattle.std.specs.Prelude.{◌≡◌, ◌≢◌, Err, IfOk, IsSome, None};
 ghost use Rattle.std.specs.Option.{option_map};
-ghost use Rattle.tl_page.specs.declared.failure.Failure.TheVariants.{Fault, OutOfMemory, Refused};
+ghost use Rattle.tl_page.specs.declared.failure.Failure.TheVariants.{Fault, NotUnderstood, OutOfMemory, Refused};
 ghost use Rattle.tl_patch_page.specs.View.{change_view};
-ghost use Rattle.tl_c.specs.Css.{IsTold, wrong_in};
+ghost use Rattle.tl_patch_select.specs.declared.error.SelectionPatchError.TheVariants.{TooLong};
+ghost use Rattle.tl_c.specs.Css.{IsTold, IsUnasked, wrong_in};
 ghost use Rattle.tl_c.specs.Patches.{IsChangeRefusal, IsPatchRefused, IsPatchedIf, change_of_number, number_of_patch_error, place_of_patch_error};
 
 use crate::css::read_selector;
@@ -30,6 +31,7 @@ fn report(error: SelectionPatchError, place: &mut usize, cause: &mut u8) -> Fail
     ensures cause { cause.new ≡ number_of_patch_error error }
     ensures failure { result ≢ Fault }
     ensures refused { result ≡ Refused → IsChangeRefusal error }
+    ensures understood { result ≡ NotUnderstood → error ≡ TooLong }
 {
     let (at, why, failure) = match error {
         SelectionPatchError::NoStartTag(at) => (at, 16, Failure::Refused),
@@ -64,6 +66,8 @@ pub(crate) fn patch(
     ensures refused { wrong_in selector.now ≡ None → result ≡ Err Refused →
         let change = change_of_number number key.now value.now in
         IsPatchRefused selector.now change page.now place.new cause.new }
+    ensures understood { result ≡ Err NotUnderstood →
+        IsUnasked selector.now (change_of_number number key.now value.now) page.now }
     ensures failure { result ≢ Err Fault }
 {
     let selector = read_selector(alloc, selector, place, cause)?;

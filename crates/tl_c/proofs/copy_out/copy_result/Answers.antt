@@ -1,6 +1,6 @@
 use Rattle.std.proofs.Common.{◌≡◌, Err, ap, subst, sym, ◌∙◌}
 use Rattle.tl_page.specs.Outcome.{success}
-use Rattle.tl_page.specs.declared.failure.Failure.TheVariants.{OutOfMemory, Refused}
+use Rattle.tl_page.specs.declared.failure.Failure.TheVariants.{NotUnderstood, OutOfMemory, Refused}
 use Rattle.tl_c.specs.Puts.{Puts}
 use Rattle.tl_c.proofs.copy_out.copy_result.Goals as goal
 
@@ -40,3 +40,16 @@ returns-in-Err-clause-refused g c = (
 pub returns-in-Ok-clause-refused : goal.returns-in-Ok-clause-refused
 returns-in-Ok-clause-refused g c =
     (λ one. absurd (c.copy_items.ensures.refused one), λ refused. let is = c.in-Ok.is in absurd (cc))
+
+pub returns-in-Err-clause-not_understood : goal.returns-in-Err-clause-not_understood
+returns-in-Err-clause-not_understood g c = (
+  λ two. c.in-Err.is ∙ ap Err (c.report_failure.ensures.not_understood.0 two),
+  λ lost.
+      let is = c.in-Err.is in
+      let same : c.in-Err.failure ≡ NotUnderstood = cc in
+      c.report_failure.ensures.not_understood.1 same,
+)
+
+pub returns-in-Ok-clause-not_understood : goal.returns-in-Ok-clause-not_understood
+returns-in-Ok-clause-not_understood g c =
+    (λ two. absurd (c.copy_items.ensures.understood two), λ lost. let is = c.in-Ok.is in absurd (cc))

@@ -25,3 +25,6 @@ returns-clause-wrong c = λ some other.
 
 pub returns-clause-refused : goal.returns-clause-refused
 returns-clause-refused c = λ right one. c.edit_elements-edited.ensures.refused right (c.copy_result.ensures.refused.0 one)
+
+pub returns-clause-understood : goal.returns-clause-understood
+returns-clause-understood c = λ two. c.edit_elements-edited.ensures.understood (c.copy_result.ensures.not_understood.0 two)

@@ -1,8 +1,10 @@
-use Rattle.std.proofs.Common.{◌≡◌, ◌∙◌, List, ℕ, Option, Some, Err, ap, refl, rules, subst, sym}
+use Rattle.std.proofs.Common.{◌≡◌, ◌⊎◌, ◌<◌, inl, inr, length, ◌∙◌, List, ℕ, Option, Some, Err, ap, refl, rules, subst, sym}
 use Rattle.std.specs.Option.{option_map}
+use Rattle.tl_spec.specs.Lex.ByteClass.{largest_u32}
+use Rattle.tl_html_spec.specs.HtmlForm.{html_form}
 use Rattle.tl_page.specs.Outcome.{Fails}
 use Rattle.tl_page.specs.declared.failure.Failure.{Failure}
-use Rattle.tl_page.specs.declared.failure.Failure.TheVariants.{Fault, OutOfMemory, Refused}
+use Rattle.tl_page.specs.declared.failure.Failure.TheVariants.{Fault, NotUnderstood, OutOfMemory, Refused}
 use Rattle.tl_patch_page.specs.View.{change_view}
 use Rattle.tl_css.specs.Selector.{Css}
 use Rattle.tl_patch_page.specs.declared.error.PatchError.{PatchError}
@@ -14,7 +16,7 @@ use Rattle.tl_patch_select.specs.declared.error.SelectionPatchError.TheVariants.
 use Rattle.tl_patch_spec.specs.TagChanges.{TagChange}
 use Rattle.tl_c.specs.Css.{css_in}
 use Rattle.tl_c.specs.Patches.{IsChangeRefusal, IsPatchedIf, change_of_number, number_of_patch_error, place_of_patch_error}
-use Rattle.tl_c.proofs.Selectors.{none_refused, right_none, wrong_failure}
+use Rattle.tl_c.proofs.Selectors.{lost_text, none_refused, right_none, wrong_failure}
 use Rattle.tl_c.proofs.patch.patch.Goals as goal
 
 pub returns-in_err-selector-clause-failure : goal.returns-in_err-selector-clause-failure
@@ -99,3 +101,16 @@ returns-clause-refused c = λ _ is_refused.
       stands = c.report.ensures.place ∙ ap place_of_patch_error why.same;
       why = c.report.ensures.cause ∙ ap number_of_patch_error why.same;
     }
+
+pub returns-in_err-selector-clause-understood : goal.returns-in_err-selector-clause-understood
+returns-in_err-selector-clause-understood c = λ lost.
+    let failure = c.in_err-selector.field-0.0 in
+    let is : c.from_residual.result ≡ Err failure = search rules in
+    let same : failure ≡ NotUnderstood = cc in
+    inl (lost_text c.args.selector.now (subst (λ (why : Failure). Fails (css_in c.args.selector.now) why) same c.in_err-selector.ensures.reads))
+
+pub returns-clause-understood : goal.returns-clause-understood
+returns-clause-understood c = λ lost.
+    let same : c.report.result ≡ NotUnderstood = cc in
+    let long = c.report.ensures.understood same in
+    inr (inr (inr (subst (λ (page : List ℕ). (largest_u32 < length page) ⊎ (largest_u32 < length (html_form page))) c.in_ok-text_of.ensures.text (c.patch_selected.ensures.failure (c.in-Err.is ∙ ap Err long)))))
