@@ -4,7 +4,7 @@ use Rattle.std.specs.Prelude.{◌&&◌, is_none}
 use Rattle.std.proofs.lemmas.Bool.{cases_Bool}
 use Rattle.tl_page.specs.Page.{IsPage, is_page}
 use Rattle.tl_page.proofs.Pages.{is_page-IsPage, is_page-true}
-use Rattle.tl_lists.specs.ListOptions.{ListOptions}
+use Rattle.tl_safe.specs.ListOptions.{ListOptions}
 use Rattle.tl_page.specs.Outcome.{not_understood, refused}
 use Rattle.tl_safe.specs.Lists.{ListedWords}
 use Rattle.tl_safe.specs.Refusals.{Refusal, are_lawful, first_refusal}

@@ -1,7 +1,7 @@
 -- Links of all nodes are one list.
 use Rattle.std.proofs.Common.{◌≡◌, ◌∙◌, ℕ, zero, suc, List, [], ◌∷◌, Some, refl, ap₂, sym, slice_get}
 use Rattle.tl_spec.specs.Tree.Document.{Document}
-use Rattle.tl_links.specs.declared.links.Links.{Links}
+use Rattle.tl_table.specs.declared.links.Links.{Links}
 use Rattle.tl_c.specs.Links.{AreLinksOn}
 
 -- lists that have the same at each place are the same

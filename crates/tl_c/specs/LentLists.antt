@@ -2,8 +2,8 @@
 use Rattle.std.specs.Prelude.{ℕ, Bool, true, ◌&&◌, List, Option, None, Some, if◌then◌else◌}
 use Rattle.std.specs.Option.{option_map_or}
 use Rattle.std.specs.Str.{is_utf8}
-use Rattle.tl_lists.specs.ListOptions.{ListOptions, list_options, lists_or_default}
-use Rattle.tl_lists.specs.declared.lists.ListTexts.{ListTexts}
+use Rattle.tl_safe.specs.ListOptions.{ListOptions, list_options, lists_or_default}
+use Rattle.tl_safe.specs.declared.word_lists.ListTexts.{ListTexts}
 use Rattle.tl_page.specs.Outcome.{Outcome, not_understood, refused, success}
 use Rattle.tl_page.specs.Page.{is_page}
 use Rattle.tl_safe.specs.Lists.{ListedWords}

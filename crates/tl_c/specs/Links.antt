@@ -3,8 +3,8 @@ use Rattle.std.specs.Prelude.{ℕ, List, map, Option, None, Some, ⊤}
 use Rattle.tl_spec.specs.Lex.ByteClass.{largest_u32}
 use Rattle.tl_spec.specs.Tree.Document.{Document}
 use Rattle.tl.specs.View.{document_of}
-use Rattle.tl_links.specs.Links.{AreLinks}
-use Rattle.tl_links.specs.declared.links.Links.{Links}
+use Rattle.tl_table.specs.Links.{AreLinks}
+use Rattle.tl_table.specs.declared.links.Links.{Links}
 use Rattle.tl_page.specs.Outcome.{Outcome, refused, success}
 use Rattle.tl_c.specs.declared.node_links.NodeLinks.{NodeLinks}
 use Rattle.tl_c.specs.declared.parsed_page.ParsedPage.{ParsedPage}

@@ -1,11 +1,11 @@
 -- What is asked of a node of the document that is held, if one is.
 use Rattle.std.specs.Prelude.{ℕ, List, Option, None, Some, option_and_then, option_map}
 use Rattle.tl_spec.specs.Tree.Element.{attribute_of, name_of}
-use Rattle.tl_node.specs.Node as node
-use Rattle.tl_node.specs.declared.shape.Kind.{Kind}
-use Rattle.tl_node.specs.declared.shape.Kind.TheVariants.{Tag, Text, Comment}
-use Rattle.tl_node.specs.declared.keys.Standing.{Standing}
-use Rattle.tl_node.specs.declared.keys.Standing.TheVariants.{NoKey, NoValue, Value}
+use Rattle.tl_extract.specs.Node as node
+use Rattle.tl_extract.specs.declared.node.shape.Kind.{Kind}
+use Rattle.tl_extract.specs.declared.node.shape.Kind.TheVariants.{Tag, Text, Comment}
+use Rattle.tl_extract.specs.declared.node.keys.Standing.{Standing}
+use Rattle.tl_extract.specs.declared.node.keys.Standing.TheVariants.{NoKey, NoValue, Value}
 use Rattle.tl_c.specs.Queries.{node_in}
 use Rattle.tl_c.specs.declared.parsed_page.ParsedPage.{ParsedPage}
 

@@ -2,8 +2,8 @@
 use Rattle.std.specs.Prelude.{ℕ, List, Option}
 use Rattle.tl_spec.specs.Tree.Document.{Document}
 use Rattle.tl.specs.View.{document_of}
-use Rattle.tl_node.specs.Node.{inner_html_in, inner_text_in, keys_in, outer_html_in}
-use Rattle.tl_node.specs.Pairs.{pairs_in}
+use Rattle.tl_extract.specs.Node.{inner_html_in, inner_text_in, keys_in, outer_html_in}
+use Rattle.tl_extract.specs.Pairs.{pairs_in}
 use Rattle.tl_page.specs.Outcome.{Outcome}
 use Rattle.tl_c.specs.Queries.{outcome_of_some}
 use Rattle.tl_c.specs.declared.parsed_page.ParsedPage.{ParsedPage}

@@ -2,7 +2,7 @@
 use Rattle.std.specs.Prelude.{◌≡◌, ◌==◌, ℕ, List, Option, None, Some, if◌then◌else◌, ⊤}
 use Rattle.tl_css.specs.Selector.{Css}
 use Rattle.tl_page.specs.Outcome.{Outcome, success}
-use Rattle.tl_patch_page.specs.declared.error.PatchError.{PatchError}
+use Rattle.tl_patch.specs.declared.error.PatchError.{PatchError}
 use Rattle.tl_patch_select.specs.Errors.{error_of_patch}
 use Rattle.tl_patch_select.specs.Patched.{IsChangeRefusedWhere, IsPatchedWhere}
 use Rattle.tl_patch_select.specs.declared.error.SelectionPatchError.{SelectionPatchError}

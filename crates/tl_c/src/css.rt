@@ -13,7 +13,7 @@ use crate::text::text_of;
 use std::alloc::Global;
 use tl::VDom;
 use tl_css::{Cause, Selector, SelectorError, parse};
-use tl_node::kind_of;
+use tl_extract::node::kind_of;
 use tl_page::Failure;
 
 // The number of a cause in `tl.h`.

@@ -1,7 +1,7 @@
 //! What texts, values and names of a form say.
 ghost use Rattle.tl_html_spec.specs.Coded.{coded};
 ghost use Rattle.tl_html_spec.specs.Unescaped.{unescaped_text, unescaped_value};
-ghost use Rattle.tl_html_tags.specs.Parts.{name_of};
+ghost use Rattle.tl_html_parts.specs.Parts.{name_of};
 ghost use Rattle.tl_html_write.specs.Names.{uncoded_bytes};
 ghost use Rattle.tl_page.specs.Outcome.{Gives, success};
 

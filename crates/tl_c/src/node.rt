@@ -1,7 +1,7 @@
 //! What is asked of a node of the document that is held, if one is.
 ghost use Rattle.std.specs.Prelude.{◌≡◌, Err, List, None, map, option_copied, option_map};
 ghost use Rattle.tl.specs.View.{document_of};
-ghost use Rattle.tl_links.specs.declared.links.Links.{Links};
+ghost use Rattle.tl_table.specs.declared.links.Links.{Links};
 ghost use Rattle.tl_page.specs.Outcome.{Gives, success};
 ghost use Rattle.tl_page.specs.declared.failure.Failure.TheVariants.{Refused};
 ghost use Rattle.tl_c.specs.Links.{AreLinksIn, AreLinksOn, links_shown, number_or_none, shown_links};
@@ -11,8 +11,8 @@ use crate::node_links::{NO_NODE, NodeLinks, number_or_none, shown_links};
 use crate::parsed_page::ParsedPage;
 use std::alloc::Global;
 use tl::VDom;
-use tl_links::{LinksError, node_links};
-use tl_node::{Kind, Standing, first_child, kind_of, standing_at};
+use tl_table::links::{LinksError, node_links};
+use tl_extract::node::{Kind, Standing, first_child, kind_of, standing_at};
 use tl_page::Failure;
 
 // The number of a kind in `tl.h`.
@@ -80,7 +80,7 @@ pub(crate) fn name<'h>(held: &'h Option<Box<ParsedPage>>, node: u32) -> Option<&
     let Some(own) = held else {
         return None;
     };
-    tl_node::name(own.document.get_ref(), node)
+    tl_extract::node::name(own.document.get_ref(), node)
 }
 
 // The links of each node of a document.

@@ -1,6 +1,6 @@
 //! The calls with a node of a document.
 ghost use Rattle.std.specs.Prelude.{◌≡◌, ◌≢◌, List, None};
-ghost use Rattle.tl_links.specs.declared.links.Links.{Links};
+ghost use Rattle.tl_table.specs.declared.links.Links.{Links};
 ghost use Rattle.tl_page.specs.Outcome.{success};
 ghost use Rattle.tl_c.specs.Links.{AreLinksIn, links_shown, number_or_none};
 ghost use Rattle.tl_c.specs.Nodes.{child_in, kind_in, name_in, number_of_kind, number_of_standing, standing_in};

@@ -3,7 +3,7 @@ ghost use Rattle.std.specs.Prelude.{◌≡◌, IfOk, map};
 ghost use Rattle.tl_c.specs.Links.{number_or_none, shown_links};
 
 use std::alloc::{AllocError, Global};
-use tl_links::Links;
+use tl_table::links::Links;
 
 /// What stands where there is no node: no node has this number.
 pub(crate) const NO_NODE: u32 = 4294967295;

@@ -3,7 +3,7 @@ ghost use Rattle.std.specs.Prelude.{◌≡◌, ◌≢◌, ◌<◌, length, Err, 
 ghost use Rattle.tl_spec.specs.Print.Normal.{norm};
 ghost use Rattle.tl_html_spec.specs.HtmlForm.{html_form};
 ghost use Rattle.tl_html_spec.specs.HtmlTokenizer.{tokens_in_page};
-ghost use Rattle.tl_lists.specs.ListOptions.{lists_in, text_of};
+ghost use Rattle.tl_safe.specs.ListOptions.{lists_in, text_of};
 ghost use Rattle.tl_safe.specs.Filter.{trees_of};
 ghost use Rattle.tl_safe.specs.IsSafe.{IsSafe, tokens_of};
 ghost use Rattle.tl_safe.specs.KeptFitted.{kept_fitted};
@@ -19,7 +19,7 @@ use crate::page::safe_html_page;
 use crate::policy::policy_of;
 use crate::text::text_of;
 use std::alloc::Global;
-use tl_lists::{ListTexts, WordLists};
+use tl_safe::{ListTexts, WordLists};
 use tl_page::{Failure, text};
 use tl_safe::{Policy, Reason};
 

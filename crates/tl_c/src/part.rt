@@ -9,7 +9,7 @@ ghost use Rattle.tl_c.specs.Queries.{node_in};
 use crate::parsed_page::ParsedPage;
 use std::alloc::Global;
 use tl::VDom;
-use tl_node::{attribute_pairs, ended_keys, inner_html, inner_text, outer_html};
+use tl_extract::node::{attribute_pairs, ended_keys, inner_html, inner_text, outer_html};
 use tl_page::Failure;
 
 /// What is written of a node.

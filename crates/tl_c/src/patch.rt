@@ -2,7 +2,7 @@
 ghost use Rattle.std.specs.Prelude.{◌≡◌, ◌≢◌, Err, IfOk, IsSome, None};
 ghost use Rattle.std.specs.Option.{option_map};
 ghost use Rattle.tl_page.specs.declared.failure.Failure.TheVariants.{Fault, NotUnderstood, OutOfMemory, Refused};
-ghost use Rattle.tl_patch_page.specs.View.{change_view};
+ghost use Rattle.tl_patch.specs.PatchView.{change_view};
 ghost use Rattle.tl_patch_select.specs.declared.error.SelectionPatchError.TheVariants.{TooLong};
 ghost use Rattle.tl_c.specs.Css.{IsTold, IsUnasked, wrong_in};
 ghost use Rattle.tl_c.specs.Patches.{IsChangeRefusal, IsPatchRefused, IsPatchedIf, change_of_number, number_of_patch_error, place_of_patch_error};
@@ -11,7 +11,7 @@ use crate::css::read_selector;
 use crate::text::text_of;
 use std::alloc::Global;
 use tl_page::Failure;
-use tl_patch_page::Change;
+use tl_patch::Change;
 use tl_patch_select::{Patched, SelectionPatchError, patch_selected};
 
 // The change that a number asks for.

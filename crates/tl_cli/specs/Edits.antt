@@ -4,7 +4,7 @@ use Rattle.tl_spec.specs.Lex.ByteClass.{largest_u32}
 use Rattle.tl_css.specs.Selector.{Css}
 use Rattle.tl_html_spec.specs.HtmlForm.{html_form}
 use Rattle.tl_patch_edit.specs.View.{patch_view}
-use Rattle.tl_patch_page.specs.declared.error.PatchError.TheVariants as page_error
+use Rattle.tl_patch.specs.declared.error.PatchError.TheVariants as page_error
 use Rattle.tl_patch_spec.specs.Patches.{Patch, RenameElement}
 use Rattle.tl_patch_spec.specs.TagChanges.{Set, TagChange, Unset}
 use Rattle.tl_patch_select.specs.Edited.{IsEditedWhere, IsRefusedWhere}

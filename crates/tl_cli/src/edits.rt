@@ -1,7 +1,7 @@
 //! Changes of tags and elements.
 ghost use Rattle.std.specs.Prelude.{IfErr, IfOk};
 ghost use Rattle.tl_patch_edit.specs.View.{patch_view};
-ghost use Rattle.tl_patch_page.specs.View.{change_view};
+ghost use Rattle.tl_patch.specs.PatchView.{change_view};
 ghost use Rattle.tl_patch_select.specs.Edited.{IsEditedWhere};
 ghost use Rattle.tl_patch_select.specs.Patched.{IsPatchedWhere};
 ghost use Rattle.tl_cli.specs.Edits.{IsDone, IsElementRefusal, IsTagRefusal, IsUndone};
@@ -9,7 +9,7 @@ ghost use Rattle.tl_cli.specs.Edits.{IsDone, IsElementRefusal, IsTagRefusal, IsU
 use std::alloc::Global;
 use tl_css::Selector;
 use tl_patch_edit::ElementPatch;
-use tl_patch_page::Change;
+use tl_patch::Change;
 use tl_patch_select::{
     Patched, SelectionEditError, SelectionPatchError, edit_selected, patch_selected,
 };

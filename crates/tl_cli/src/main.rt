@@ -38,7 +38,7 @@ use std::io::ErrorKind;
 use std::process::ExitCode;
 use task::Task;
 use terminal::Terminal;
-use tl_lists::{ListTexts, WordLists, lines_of};
+use tl_safe::{ListTexts, WordLists, lines_of};
 use tl_page::{Cause, Failure};
 use tl_safe::{Lists, Policy};
 

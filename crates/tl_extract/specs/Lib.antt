@@ -8,3 +8,5 @@ pub mod Readable
 pub mod Flow
 pub mod Spelling
 pub mod Table
+pub mod Node
+pub mod Pairs

@@ -12,7 +12,7 @@ ghost use Rattle.tl_html.specs.Parts.{IsPart};
 use crate::text::is_white_space;
 use crate::token::token_bytes;
 use std::alloc::{AllocError, Global};
-use tl_html_texts::characters;
+use tl_html_parts::characters;
 use tl_html_tokens::{Token, TokenKind};
 
 fn is_white_text(characters: &[u8]) -> bool

@@ -2,14 +2,14 @@
 ghost use Rattle.std.specs.Prelude.{◌≡◌, ◌∷◌, ◌++◌, [], List, OnOk};
 ghost use Rattle.tl_html_spec.specs.HtmlTokenizer.{HtmlToken, StartTag, EndTag};
 ghost use Rattle.tl_html_balance.specs.Tokens.{tokens_put_in};
-ghost use Rattle.tl_html_tags.specs.Parts.{end_tag, name_of, parts_view, start_tag};
+ghost use Rattle.tl_html_parts.specs.Parts.{end_tag, name_of, parts_view, start_tag};
 ghost use Rattle.tl_html.specs.Written.{written_form};
 ghost use Rattle.tl_html.specs.Forms.{Grows};
 
 use crate::form::Form;
 use std::alloc::{AllocError, Global};
 use tl_html_balance::{Opening, PutIn, TagName};
-use tl_html_tags::TagParts;
+use tl_html_parts::TagParts;
 use tl_html_write::{lower_name, write_end_tag, write_start_tag};
 
 // Writes what an end tag of this name puts in.

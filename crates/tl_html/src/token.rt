@@ -9,8 +9,8 @@ ghost use Rattle.tl_html.specs.Parts.{IsPart};
 
 use crate::form::Form;
 use std::alloc::{AllocError, Global};
-use tl_html_tags::tag_parts;
-use tl_html_texts::{characters, comment};
+use tl_html_parts::tag_parts;
+use tl_html_parts::{characters, comment};
 use tl_html_tokens::{Token, TokenKind};
 
 // The bytes of a token.

@@ -1,6 +1,6 @@
 //! Comments, and their data.
 use std::alloc::AllocError;
-use tl_html_texts::comment;
+use tl_html_parts::comment;
 
 #[rattlefmt::skip]
 static ROWS: [(&[u8], &[u8]); 30] = [

@@ -1,7 +1,7 @@
 //! Texts, and what they say by their mode.
 use std::alloc::AllocError;
 use tl_html::Mode;
-use tl_html_texts::{CharacterData, characters};
+use tl_html_parts::{CharacterData, characters};
 
 #[rattlefmt::skip]
 static ROWS: [(Mode, &[u8], &[u8]); 18] = [

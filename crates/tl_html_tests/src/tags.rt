@@ -1,6 +1,6 @@
 //! Tags, and what they say.
 use std::alloc::AllocError;
-use tl_html_tags::{AttributeParts, TagParts, tag_parts};
+use tl_html_parts::{AttributeParts, TagParts, tag_parts};
 
 // A tag with its name, its keys and values, and whether it has the self-closing flag.
 struct Row {

@@ -8,8 +8,8 @@ use Rattle.std.specs.Ordering.{nat_cmp}
 use Rattle.std.specs.Str.{bytes_eq}
 use Rattle.std.proofs.lemmas.Map.Text.{is_eq-slice_cmp}
 use Rattle.tl_html_spec.specs.HtmlTokenizer.{HtmlAttribute}
-use Rattle.tl_html_tags.specs.Parts.{name_of}
-use Rattle.tl_html_tags.specs.declared.parts.AttributeParts.{AttributeParts}
+use Rattle.tl_html_parts.specs.Parts.{name_of}
+use Rattle.tl_html_parts.specs.declared.parts.AttributeParts.{AttributeParts}
 use Rattle.tl_html_write.specs.Attributes.{attributes_in, has_key}
 use Rattle.tl_html_write.proofs.Repeats.{keys_more}
 

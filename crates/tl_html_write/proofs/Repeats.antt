@@ -15,8 +15,8 @@ use Rattle.std.proofs.lemmas.Slice.Eq.{bytes_eq-Decides}
 use Rattle.tl_html_spec.specs.Coded.{coded_attribute}
 use Rattle.tl_html_spec.specs.HtmlTokenizer.{OpenTag, new_tag, replacement, with_attribute}
 use Rattle.tl_html_spec.specs.Written.{written_attribute}
-use Rattle.tl_html_tags.specs.Parts.{attribute_of, attribute_view, name_of, value_of, with_attributes}
-use Rattle.tl_html_tags.specs.declared.parts.AttributeParts.{AttributeParts}
+use Rattle.tl_html_parts.specs.Parts.{attribute_of, attribute_view, name_of, value_of, with_attributes}
+use Rattle.tl_html_parts.specs.declared.parts.AttributeParts.{AttributeParts}
 use Rattle.tl_html_write.specs.Attributes.{attributes_in, first_attribute, has_key, has_nul, written_attributes}
 
 -- what stands past the end of a list of attributes

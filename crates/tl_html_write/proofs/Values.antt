@@ -10,7 +10,7 @@ use Rattle.tl_html_spec.specs.Unescaped.{unescaped_value}
 use Rattle.tl_html_spec.proofs.Feeds.{feed-byte}
 use Rattle.tl_html_spec.proofs.Looked.{byte-plain}
 use Rattle.tl_text.proofs.Plain.{all_fail, value_none}
-use Rattle.tl_html_tags.specs.Parts.{value_of}
+use Rattle.tl_html_parts.specs.Parts.{value_of}
 use Rattle.tl_html_write.specs.Values.{characters_of, begins_with_feed, is_written_byte}
 
 -- a byte that is no return

@@ -5,8 +5,8 @@ use Rattle.std.specs.Str.{bytes_eq}
 use Rattle.tl_html_spec.specs.Coded.{coded_attribute}
 use Rattle.tl_html_spec.specs.HtmlTokenizer.{HtmlAttribute}
 use Rattle.tl_html_spec.specs.Written.{written_attribute}
-use Rattle.tl_html_tags.specs.Parts.{attribute_view, attributes_of}
-use Rattle.tl_html_tags.specs.declared.parts.AttributeParts.{AttributeParts}
+use Rattle.tl_html_parts.specs.Parts.{attribute_view, attributes_of}
+use Rattle.tl_html_parts.specs.declared.parts.AttributeParts.{AttributeParts}
 
 -- what these attributes say
 abbrev pub attributes_in : List AttributeParts → List HtmlAttribute

@@ -2,12 +2,12 @@
 ghost use Rattle.std.specs.Prelude.{◌≡◌, ◌++◌, OnOk};
 ghost use Rattle.tl_html_spec.specs.Coded.{coded_attribute};
 ghost use Rattle.tl_html_spec.specs.Written.{written_attribute};
-ghost use Rattle.tl_html_tags.specs.Parts.{attribute_of, attribute_view};
+ghost use Rattle.tl_html_parts.specs.Parts.{attribute_of, attribute_view};
 
 use crate::name::write_raw_name;
 use crate::value::write_value;
 use std::alloc::{AllocError, Global};
-use tl_html_tags::AttributeParts;
+use tl_html_parts::AttributeParts;
 
 // Writes an attribute as it is read and coded.
 pub(crate) fn write_attribute(

@@ -5,7 +5,7 @@ ghost use Rattle.std.specs.List.{list_all};
 ghost use Rattle.std.specs.Str.{bytes_eq};
 ghost use Rattle.tl_html_spec.specs.Coded.{coded, coded_byte, coded_tag, digit_in, digits, is_kept};
 ghost use Rattle.tl_html_spec.specs.HtmlTokenizer.{char_of};
-ghost use Rattle.tl_html_tags.specs.Parts.{name_of};
+ghost use Rattle.tl_html_parts.specs.Parts.{name_of};
 ghost use Rattle.tl_html_write.specs.Names.{name_view};
 
 use crate::character::write_character;

@@ -3,12 +3,12 @@ ghost use Rattle.std.specs.Prelude.{◌≡◌, ◌++◌, OnOk};
 ghost use Rattle.tl_html_spec.specs.Coded.{coded_token};
 ghost use Rattle.tl_html_spec.specs.HtmlTokenizer.{EndTag};
 ghost use Rattle.tl_html_spec.specs.Written.{written_token};
-ghost use Rattle.tl_html_tags.specs.Parts.{parts_view, start_tag};
+ghost use Rattle.tl_html_parts.specs.Parts.{parts_view, start_tag};
 
 use crate::name::{write_coded_tag, write_raw_tag};
 use crate::repeat::write_attributes;
 use std::alloc::{AllocError, Global};
-use tl_html_tags::TagParts;
+use tl_html_parts::TagParts;
 
 /// Writes a start tag as it is read, with its names coded and without the self-closing flag.
 pub fn write_start_tag(

@@ -3,7 +3,7 @@ ghost use Rattle.std.specs.Prelude.{◌≡◌, ◌∷◌, ◌++◌, IfOk, OnOk};
 ghost use Rattle.std.specs.Bool.{OnTrue};
 ghost use Rattle.std.specs.List.{list_all};
 ghost use Rattle.tl_html_spec.specs.Escapes.{escaped_value};
-ghost use Rattle.tl_html_tags.specs.Parts.{value_of};
+ghost use Rattle.tl_html_parts.specs.Parts.{value_of};
 ghost use Rattle.tl_html_write.specs.Values.{characters_of, begins_with_feed, is_written_byte};
 
 use crate::character::write_character;

@@ -1,7 +1,7 @@
 //! Tags, and what is written of them.
 
 use std::alloc::{AllocError, Global};
-use tl_html_tags::{AttributeParts, TagParts};
+use tl_html_parts::{AttributeParts, TagParts};
 use tl_html_write::{lower_name, write_end_tag, write_start_tag};
 
 // A name in a page, the name that it is read as, and the end tag that is written of it.

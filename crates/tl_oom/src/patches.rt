@@ -5,7 +5,7 @@ use crate::{Named, measured};
 use tl_patch_edit::{
     Content, ElementPatch, PlacedPatch, patch_each, patch_element, patch_elements,
 };
-use tl_patch_page::{Change, TagPatch, patch};
+use tl_patch::{Change, TagPatch, patch};
 use tl_patch_select::{Patched, edit_selected, patch_selected};
 
 // What is called, of this page.

@@ -2,9 +2,9 @@
 use crate::case::Case;
 use crate::stop::{Stop, value};
 use crate::{Named, measured};
-use tl_lists::{ListTexts, WordLists, lines_of};
+use tl_safe::{ListTexts, WordLists, lines_of};
 use tl_safe::{Lists, Policy, sanitize};
-use tl_words::WordIndex;
+use tl_safe_fit::WordIndex;
 
 // What is called.
 #[derive(Clone, Copy)]

@@ -10,7 +10,7 @@ use tl_extract::{
     select, table,
 };
 use tl_json::{ObjectFormat, array, object_lines};
-use tl_node::{attribute_pairs, ended_keys, inner_html, inner_text, outer_html};
+use tl_extract::node::{attribute_pairs, ended_keys, inner_html, inner_text, outer_html};
 use tl_page::read;
 
 const PAGE: &str =

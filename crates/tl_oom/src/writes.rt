@@ -3,7 +3,7 @@ use crate::case::Case;
 use crate::stop::{Stop, refused, value};
 use crate::{Named, measured};
 use std::alloc::{AllocError, Global};
-use tl_html_tags::{TagParts, tag_parts};
+use tl_html_parts::{TagParts, tag_parts};
 use tl_html_write::{write_comment, write_end_tag, write_start_tag, write_text};
 use tl_patch::write_attribute;
 use tl_text::{write_escaped_text, write_escaped_value};

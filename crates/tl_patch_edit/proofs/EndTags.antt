@@ -11,7 +11,7 @@ use Rattle.tl_html_tokens.specs.declared.mode.Mode.TheVariants as mode
 use Rattle.tl_html_tokens.specs.declared.stage.TokenKind.{TokenKind}
 use Rattle.tl_patch.specs.Places.{IsRenamed, begins_end_tag}
 use Rattle.tl_patch_spec.specs.Markup.{is_name}
-use Rattle.tl_patch_tags.proofs.EndNames.{end_tag_whole, renamed_bytes, renamed_whole}
+use Rattle.tl_patch.proofs.EndNames.{end_tag_whole, renamed_bytes, renamed_whole}
 use Rattle.tl_patch_edit.specs.Asks.{IsEndTagOf, IsRenamedEnd, is_data}
 use Rattle.tl_patch_edit.specs.Causes.{begins_as}
 use Rattle.tl_patch_edit.specs.Found.{has_mark}

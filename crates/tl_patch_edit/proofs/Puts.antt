@@ -16,7 +16,7 @@ use Rattle.tl_patch_edit.proofs.Sayings.{characters_other, kind_is_tag, plain, t
 use Rattle.tl_patch_spec.specs.Patches.{Changed, Content, Markup, NewContent, NewEndTag, Text, content_pieces, end_tag_piece}
 use Rattle.tl_patch_spec.specs.TagNames.{IsNamed}
 use Rattle.tl_patch_spec.specs.TagChanges.{Rename, changed_token}
-use Rattle.tl_patch_tags.specs.StartTags.{IsRenamed}
+use Rattle.tl_patch.specs.StartTags.{IsRenamed}
 
 text_pieces : Mode → List ℕ → List Piece
 text_pieces m t = piece (state_of m) (text_form m t) (map Character t) ∷ []

@@ -19,11 +19,11 @@ use Rattle.tl_html_tokens.specs.declared.mode.Mode.TheVariants as mode
 use Rattle.tl_html_tokens.specs.declared.stage.TokenKind.{TokenKind}
 use Rattle.tl_html_tokens.specs.declared.stage.TokenKind.TheVariants as kind
 use Rattle.tl_html_tokens.specs.declared.token.Token.{Token}
-use Rattle.tl_patch_tags.proofs.Begins.{whole_start_tag}
+use Rattle.tl_patch.proofs.Begins.{whole_start_tag}
 use Rattle.tl_patch_spec.specs.Patches.{Changed, Content, Markup, NewContent, NewEndTag, Patch, Put, Text, asked_of, content_pieces, with_end}
 use Rattle.tl_patch_spec.specs.Splices.{Splice, are_ordered}
 use Rattle.tl_patch_spec.specs.TagChanges.{Rename}
-use Rattle.tl_html_tags.specs.Parts.{name_of}
+use Rattle.tl_html_parts.specs.Parts.{name_of}
 use Rattle.tl_patch_edit.specs.Asks.{IsWanted, ask_view, asks_view, is_data, placed_at, placed_of, placed_view, planned_view, puts_view}
 use Rattle.tl_patch_edit.specs.Causes.{CannotPut, CannotPutIn, CannotStandIn, IsAsksError, IsOneAt, IsPageError, IsPlanError, IsPlanned, IsReadError, IsReadyError, IsSpliceError, IsStartError, IsStartsError, IsUnmeant, NoStartFrom, ReachesFrom, begins_as, has_name, has_tag}
 use Rattle.tl_patch_edit.specs.Errors.{AreAcross, AreTag, CannotBeMeant, CannotBePut, CannotBeWritten, CannotStand, IsAskAt, IsPatchAt, IsRefused, IsTag, pieces_in, placed_pieces}

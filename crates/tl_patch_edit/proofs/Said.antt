@@ -13,8 +13,8 @@ use Rattle.tl_html_tokens.specs.declared.stage.TokenKind.TheVariants as kind
 use Rattle.tl_html_tokens.specs.declared.token.Token.{Token}
 use Rattle.tl_html_tokens.proofs.Alone.{tags_are_whole}
 use Rattle.tl_html_tokens.proofs.Telling.{tokens_said}
-use Rattle.tl_patch_page.proofs.Says as page
-use Rattle.tl_patch_tags.proofs.Changes.{whole_same}
+use Rattle.tl_patch.proofs.Says as page
+use Rattle.tl_patch.proofs.KeyChanges.{whole_same}
 use Rattle.tl_patch_edit.specs.Parts.{ArePieces, Give, IsPieceOf, Part, Say, Says, Tells, TellsTag, view_at}
 use Rattle.tl_patch_edit.specs.Sayings.{Saying, Tag, said_by, sayings}
 use Rattle.tl_patch_edit.proofs.Lists.{bytes_append}

@@ -5,7 +5,7 @@ use Rattle.std.specs.Option.{option_to_list}
 use Rattle.std.specs.Str.{bytes_eq}
 use Rattle.tl_html_spec.specs.HtmlTokenizer.{EndTag, HtmlToken}
 use Rattle.tl_html_spec.specs.Pieces.{Piece, bytes_of}
-use Rattle.tl_html_tags.specs.Parts.{name_of}
+use Rattle.tl_html_parts.specs.Parts.{name_of}
 use Rattle.tl_html_tokens.specs.Characters.{characters_of}
 use Rattle.tl_html_tokens.specs.Kinds.{IsEndTag, IsKind}
 use Rattle.tl_html_tokens.specs.Whole.{IsWhole, is_tag_kind}

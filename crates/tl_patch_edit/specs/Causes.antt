@@ -7,12 +7,12 @@ use Rattle.tl_html_tokens.specs.declared.mode.Mode.{Mode}
 use Rattle.tl_html_tokens.specs.declared.stage.TokenKind.{TokenKind}
 use Rattle.tl_html_tokens.specs.declared.stage.TokenKind.TheVariants as kind
 use Rattle.tl_html_tokens.specs.declared.token.Token.{Token}
-use Rattle.tl_html_tags.specs.Parts.{name_of}
+use Rattle.tl_html_parts.specs.Parts.{name_of}
 use Rattle.tl_patch.specs.Places.{begins_end_tag}
 use Rattle.tl_patch_spec.specs.Markup.{is_name}
 use Rattle.tl_patch_spec.specs.Patches.{Content, Markup, Put, Text, asked_of}
 use Rattle.tl_patch_spec.specs.Splices.{Splice, are_ordered}
-use Rattle.tl_patch_tags.specs.StartTags.{is_start_tag}
+use Rattle.tl_patch.specs.StartTags.{is_start_tag}
 use Rattle.tl_patch_edit.specs.Asks.{ask_view, asks_view, is_data, text_form}
 use Rattle.tl_patch_edit.specs.Found.{IsNeverRead, IsNeverSplicedOf, IsStartAt, has_mark}
 use Rattle.tl_patch_edit.specs.Parts.{Part, with_end_part}

@@ -1,6 +1,6 @@
 //! A page with what is asked for.
 ghost use Rattle.std.specs.Prelude.{◌≡◌, ◌≤◌, ◌++◌, List, IfErr, IfNone, IfOk, IfSome, OnOk, Some, false, true};
-ghost use Rattle.tl_html_tags.specs.Parts.{name_of};
+ghost use Rattle.tl_html_parts.specs.Parts.{name_of};
 ghost use Rattle.tl_html_tokens.specs.declared.stage.TokenKind.TheVariants.{StartTag};
 ghost use Rattle.tl_patch_edit.specs.Asks.{asks_view, placed_view, planned_view};
 ghost use Rattle.tl_patch_edit.specs.Causes.{IsPageError, IsPlanError, IsReadError, IsStartError, NoStartFrom};
@@ -23,7 +23,7 @@ use crate::ready::has_mark;
 use crate::tag::ready_asks;
 use crate::wanted::wanted_parts;
 use std::alloc::{AllocError, Global};
-use tl_html_tags::tag_parts;
+use tl_html_parts::tag_parts;
 use tl_html_tokens::{Token, TokenKind, tokens};
 
 // Whether a token is a start tag at a place.

@@ -1,6 +1,6 @@
 //! Which tokens a patch puts something in the place of.
 ghost use Rattle.std.specs.Prelude.{◌≡◌, ℕ, List, IfOk, None, Some, option_map, suc, true};
-ghost use Rattle.tl_html_tags.specs.Parts.{name_of};
+ghost use Rattle.tl_html_parts.specs.Parts.{name_of};
 ghost use Rattle.tl_patch_spec.specs.Patches.{Append, Fill, Prepend, PutAfter, PutBefore, Remove, RenameElement, ReplaceWith, Unwrap, asked, is_page_name, may_be_renamed};
 ghost use Rattle.tl_patch_edit.specs.Asks.{ends_page, planned_view, put_after, puts_view, tags_asked};
 ghost use Rattle.tl_patch_edit.specs.declared.ask.Put.TheVariants.{EndTag, Renamed};

@@ -10,7 +10,7 @@ ghost use Rattle.tl_patch_edit.specs.Sayings.{sayings};
 ghost use Rattle.tl_patch_edit.specs.Found.{has_mark};
 ghost use Rattle.tl_patch_spec.specs.Patches.{Changed, Markup, NewContent, NewEndTag, Text};
 ghost use Rattle.tl_patch_spec.specs.TagChanges.{Rename};
-ghost use Rattle.tl_html_tags.specs.Parts.{name_of};
+ghost use Rattle.tl_html_parts.specs.Parts.{name_of};
 ghost use Rattle.tl_patch_edit.specs.View.{content_view};
 ghost use Rattle.tl_patch_spec.specs.Markup.{text_markup};
 
@@ -18,7 +18,7 @@ use crate::ask::{Content, Put};
 use crate::part::{Part, copy, parts_of, push};
 use crate::ready::has_mark;
 use std::alloc::{AllocError, Global};
-use tl_html_texts::characters;
+use tl_html_parts::characters;
 use tl_html_tokens::{Mode, TokenKind, tokens};
 
 // A text as it stands where it is read in a mode.

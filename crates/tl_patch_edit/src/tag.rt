@@ -1,14 +1,14 @@
 //! Tags that are put, by themselves.
 ghost use Rattle.std.specs.Prelude.{◌≡◌, ◌≤◌, ◌∷◌, ◌++◌, [], IfErr, IfNone, IfOk, IfSome, IsSome, OnOk, false, length, true};
 ghost use Rattle.std.specs.List.{All};
-ghost use Rattle.tl_html_tags.specs.Parts.{name_of};
+ghost use Rattle.tl_html_parts.specs.Parts.{name_of};
 ghost use Rattle.tl_patch.specs.Places.{begins_end_tag};
 ghost use Rattle.tl_patch_edit.specs.Asks.{IsEndTagOf, IsEscaped, IsRenamedEnd, IsRenamedTag, IsTagAt, IsTagFor, IsTagged, placed_of};
 ghost use Rattle.tl_patch_edit.specs.Causes.{CannotPut, IsReadyError, IsSpliceError, IsWithin, has_name, has_tag};
 ghost use Rattle.tl_patch_edit.specs.Parts.{part_view, parts_view};
 ghost use Rattle.tl_patch_edit.specs.declared.ask.Put.TheVariants.{Renamed};
 ghost use Rattle.tl_patch_spec.specs.Markup.{is_name};
-ghost use Rattle.tl_patch_tags.specs.StartTags.{IsRenamed, is_start_tag};
+ghost use Rattle.tl_patch.specs.StartTags.{IsRenamed, is_start_tag};
 
 use crate::ask::{Ask, PlacedAsk, Put};
 use crate::error::EditError;
@@ -19,7 +19,7 @@ use std::alloc::{AllocError, Global};
 use tl_html_tokens::TokenKind;
 use tl_html_write::lower_name;
 use tl_patch::{is_name, with_end_name};
-use tl_patch_tags::with_name;
+use tl_patch::with_name;
 
 // The end tag of a name.
 fn end_tag(alloc: Global, name: &[u8]) -> Result<Option<Vec<u8>>, AllocError>

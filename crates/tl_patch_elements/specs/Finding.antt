@@ -2,7 +2,7 @@
 use Rattle.std.specs.Prelude.{◌≡◌, ℕ, Bool, true, false, not, ◌||◌, ◌==◌, List, ◌++◌, map, reverse, ⊤}
 use Rattle.tl_html_spec.specs.HtmlTokenizer.{HtmlToken, is_white_space}
 use Rattle.tl_html_spec.specs.Balanced.{Balance}
-use Rattle.tl_html_tags.specs.Parts.{name_of}
+use Rattle.tl_html_parts.specs.Parts.{name_of}
 use Rattle.tl_html_balance.specs.View.{open_names}
 use Rattle.tl_html_balance.specs.declared.balance.Opening.{Opening}
 use Rattle.tl_html_balance.specs.declared.balance.Opening.TheVariants as opens

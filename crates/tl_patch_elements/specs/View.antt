@@ -1,6 +1,6 @@
 -- Elements of the code, as the definitions have them.
 use Rattle.std.specs.Prelude.{List, map}
-use Rattle.tl_html_tags.specs.Parts.{name_of}
+use Rattle.tl_html_parts.specs.Parts.{name_of}
 use Rattle.tl_patch_spec.specs.Elements.{Element}
 use Rattle.tl_patch_elements.specs.declared.found.Element.{Element as CodeElement}
 

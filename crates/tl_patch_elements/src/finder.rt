@@ -3,8 +3,8 @@
 use crate::found::Element;
 use std::alloc::{AllocError, Global};
 use tl_html_balance::{OpenTags, Opening, PutIn, TagName};
-use tl_html_tags::tag_parts;
-use tl_html_texts::characters;
+use tl_html_parts::tag_parts;
+use tl_html_parts::characters;
 use tl_html_tokens::{Mode, Token, TokenKind};
 use tl_html_write::lower_name;
 
@@ -32,7 +32,7 @@ ghost use Rattle.tl_html_tokens.specs.Characters.{characters_of};
 ghost use Rattle.tl_html_tokens.specs.Kinds.{IsEndTag, IsStartTag};
 ghost use Rattle.tl_html_tokens.specs.Whole.{IsWhole, bytes_at};
 ghost use Rattle.tl_html_tokens.specs.declared.mode.Mode.{Mode};
-ghost use Rattle.tl_html_tags.specs.Parts.{name_of};
+ghost use Rattle.tl_html_parts.specs.Parts.{name_of};
 ghost use Rattle.tl_html_balance.specs.View.{name_of as tag_name, open_names};
 ghost use Rattle.tl_html.specs.Parts.{IsPart};
 ghost use Rattle.tl_patch_spec.specs.Elements.{PlacedToken, at_piece, elements_of, tokens_at};

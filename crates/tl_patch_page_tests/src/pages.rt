@@ -1,7 +1,7 @@
 //! Pages with keys of their tags set and unset.
 
 use std::alloc::Global;
-use tl_patch_page::{Change, PatchError, TagPatch, patch};
+use tl_patch::{Change, PatchError, TagPatch, patch};
 
 const SET: Change<'static> = Change::Set {
     key: b"k",

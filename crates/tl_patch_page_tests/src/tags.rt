@@ -1,7 +1,7 @@
 //! Start tags with a key set, and without one.
 
 use std::alloc::{AllocError, Global};
-use tl_patch_tags::{with_value, without_key};
+use tl_patch::{with_value, without_key};
 
 // A tag, a key and a value, and the tag with them.
 #[rattlefmt::skip]

@@ -2,10 +2,10 @@
 use Rattle.std.proofs.Common.{◌≡◌, ◌∙◌, ℕ, List, ap}
 use Rattle.std.specs.Prelude.{Err, Result}
 use Rattle.tl_css.specs.Selector.{Css}
-use Rattle.tl_patch_page.specs.Refused.{IsPlaced, IsUnplaced}
-use Rattle.tl_patch_page.specs.View.{PlacedChange}
-use Rattle.tl_patch_page.specs.declared.error.PatchError.{PatchError}
-use Rattle.tl_patch_page.specs.declared.error.PatchError.TheVariants as patch
+use Rattle.tl_patch.specs.Refused.{IsPlaced, IsUnplaced}
+use Rattle.tl_patch.specs.PatchView.{PlacedChange}
+use Rattle.tl_patch.specs.declared.error.PatchError.{PatchError}
+use Rattle.tl_patch.specs.declared.error.PatchError.TheVariants as patch
 use Rattle.tl_patch_spec.specs.TagChanges.{TagChange}
 use Rattle.tl_patch_select.specs.Errors.{error_of_patch}
 use Rattle.tl_patch_select.specs.Patched.{IsChangeRefusedWhere, changes_at}

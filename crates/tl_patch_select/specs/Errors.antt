@@ -1,8 +1,8 @@
 -- What errors of what is called become.
 use Rattle.tl_html.specs.declared.error.NormalizeError.{NormalizeError}
 use Rattle.tl_html.specs.declared.error.NormalizeError.TheVariants as normalize
-use Rattle.tl_patch_page.specs.declared.error.PatchError.{PatchError}
-use Rattle.tl_patch_page.specs.declared.error.PatchError.TheVariants as patch
+use Rattle.tl_patch.specs.declared.error.PatchError.{PatchError}
+use Rattle.tl_patch.specs.declared.error.PatchError.TheVariants as patch
 use Rattle.tl_patch_edit.specs.declared.error.EditError.{EditError}
 use Rattle.tl_patch_edit.specs.declared.error.EditError.TheVariants as edit
 use Rattle.tl_patch_select.specs.declared.edit_error.SelectionEditError.{SelectionEditError}

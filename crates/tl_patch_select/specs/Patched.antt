@@ -6,10 +6,10 @@ use Rattle.tl_css.specs.Selector.{Css}
 use Rattle.tl_css_select.specs.Spelling.{decoded_nodes}
 use Rattle.tl_html_spec.specs.HtmlForm.{html_form}
 use Rattle.tl_html_spec.specs.Nodes.{sources}
-use Rattle.tl_patch_page.specs.Pages.{IsPatched}
-use Rattle.tl_patch_page.specs.Refused.{IsReason}
-use Rattle.tl_patch_page.specs.View.{PlacedChange}
-use Rattle.tl_patch_page.specs.declared.error.PatchError.{PatchError}
+use Rattle.tl_patch.specs.Pages.{IsPatched}
+use Rattle.tl_patch.specs.Refused.{IsReason}
+use Rattle.tl_patch.specs.PatchView.{PlacedChange}
+use Rattle.tl_patch.specs.declared.error.PatchError.{PatchError}
 use Rattle.tl_patch_spec.specs.TagChanges.{TagChange}
 use Rattle.tl_patch_select.specs.Selected.{AreSelected, places_of}
 

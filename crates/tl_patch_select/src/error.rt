@@ -6,7 +6,7 @@ ghost use Rattle.tl_patch_select.specs.declared.error.SelectionPatchError.TheVar
 use std::alloc::AllocError;
 use thiserror::Error;
 use tl_html::NormalizeError;
-use tl_patch_page::PatchError;
+use tl_patch::PatchError;
 
 /// Why the tags where a selector holds were not changed. Places are bytes of the page.
 #[derive(Clone, Copy, PartialEq, Eq, Debug, Error)]

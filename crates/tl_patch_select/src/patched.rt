@@ -1,16 +1,16 @@
 //! A page with the tags changed where a selector holds.
 ghost use Rattle.std.specs.Prelude.{◌≡◌, ◌<◌, ◌⊎◌, ℕ, Err, IfOk, length, map};
 ghost use Rattle.tl_html_spec.specs.HtmlForm.{html_form};
-ghost use Rattle.tl_patch_page.specs.View.{change_view, patch_view};
+ghost use Rattle.tl_patch.specs.PatchView.{change_view, patch_view};
 ghost use Rattle.tl_patch_select.specs.Patched.{IsChangeRefusedWhere, IsPatchedWhere, changes_at};
 ghost use Rattle.tl_patch_select.specs.declared.error.SelectionPatchError.TheVariants.{NoStartTag, NotWritten, TooLong};
-ghost use Rattle.tl_patch_page.specs.declared.error.PatchError.TheVariants as page_error;
+ghost use Rattle.tl_patch.specs.declared.error.PatchError.TheVariants as page_error;
 
 use crate::error::SelectionPatchError;
 use crate::selected::selected;
 use std::alloc::{AllocError, Global};
 use tl_css::Selector;
-use tl_patch_page::{Change, TagPatch, patch};
+use tl_patch::{Change, TagPatch, patch};
 
 /// A page with changes, and the bytes of the page at which the start tags begin of the elements
 /// where the selector holds, in order.

@@ -18,7 +18,7 @@ use Rattle.tl_tree_spec.specs.Groups.{group}
 use Rattle.tl_tree_spec.specs.Stays.{is_preformatted}
 use Rattle.tl_safe.specs.IsSafe.{are_written, text_characters}
 use Rattle.tl_safe.specs.Filter.{is_text_byte}
-use Rattle.tl_words.specs.Words.{is_among}
+use Rattle.tl_safe_fit.specs.Words.{is_among}
 use Rattle.tl_safe.specs.Lists.{ListedWords}
 use Rattle.tl_safe.specs.Fitted.{Levels, Piece, Place, Run, alone, as_texts, at_top, element_run, end_tags_to, ends, first_texts, fit, fitted, is_closable, is_empty, is_read, is_written_anew, levels_of, may_begin_line, names_of, part_tag, parts_added, parts_around, past_lines, room_for, room_here, says, sequence, starts, still, tag_run, texts_there, with_element, with_piece}
 use Rattle.tl_spec.proofs.Print.Ascii.{are_ascii}

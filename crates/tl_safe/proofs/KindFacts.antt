@@ -16,7 +16,7 @@ use Rattle.tl_tree_spec.specs.HtmlTreeBuilder.{is_rtc}
 use Rattle.tl_tree_spec.specs.Stays.{surely_ends}
 use Rattle.tl_safe_fit.specs.Kinds
 use Rattle.tl_safe_fit.specs.Kinds.{Named, kind_among, kind_of, names_of_1, names_of_2, names_of_3, names_of_4, names_of_5, names_of_6, names_of_7, names_of_8, names_of_10, rows_of}
-use Rattle.tl_words.specs.Words.{is_among}
+use Rattle.tl_safe_fit.specs.Words.{is_among}
 use Rattle.tl_safe.specs.Lists.{opaque_names, structural_names}
 use Rattle.tl_safe_fit.specs.declared.kinds.Kind.{Kind}
 use Rattle.tl_safe_fit.specs.declared.kinds.Kind.TheVariants.{Paragraph, Block, LooseBlock, Heading, Preformatted, Item, Description, Anchor, Nobr, Void, Rule, RubyBase, RubyTextContainer, RubyText, Table, Caption, ColumnGroup, Column, TableBody, Row, Cell, Other}

@@ -23,3 +23,4 @@ pub mod RowRuns
 pub mod FirstTexts
 pub mod WriterFacts
 pub mod WalkFacts
+mod Commas

@@ -15,7 +15,7 @@ use Rattle.tl_spec.specs.Lex.Attribute.{Pair}
 use Rattle.tl_spec.specs.Lex.AttributeList.{AreOthers, HasOwnKeys, IsOther, PlainAttributes, pair_if_some, printed_pairs}
 use Rattle.tl_spec.specs.Print.Normal.{lossy_pair}
 use Rattle.tl_spec.proofs.Print.Ascii.{lossy-ascii}
-use Rattle.tl_words.specs.Words.{is_among}
+use Rattle.tl_safe_fit.specs.Words.{is_among}
 use Rattle.tl_safe.specs.Lists.{ListedWords}
 use Rattle.tl_safe.specs.Refusals.{are_lawful}
 use Rattle.tl_safe.specs.Filter.{has_key, is_allowed, is_beside_mark, is_link, is_marked_link, linking_names, mark, marked_attributes, rel_key, rel_value, written_pair, written_pairs}

@@ -21,7 +21,7 @@ use Rattle.tl_spec.proofs.Print.Identity.{identity, not_command}
 use Rattle.tl_spec.proofs.Print.Ascii.{lossy-ascii}
 use Rattle.tl_spec.proofs.Print.Images.{image-pairs_in_order}
 use Rattle.tl_html_spec.specs.HtmlTokenizer.{Character, EndTag, HtmlToken, StartTag, data_state, tokens_in_page}
-use Rattle.tl_words.specs.Words.{is_among}
+use Rattle.tl_safe_fit.specs.Words.{is_among}
 use Rattle.tl_safe.specs.Lists.{ListedWords}
 use Rattle.tl_safe.specs.Refusals.{are_lawful}
 use Rattle.tl_safe.specs.Filter.{is_text_byte, kept, is_allowed, is_allowed_value}

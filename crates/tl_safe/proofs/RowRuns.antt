@@ -10,7 +10,7 @@ use Rattle.tl_spec.proofs.Walk.Walks.{walk-nil}
 use Rattle.tl_safe.specs.Filter.{joined, kept, kept_tag}
 use Rattle.tl_safe.specs.Fitted.{Piece, Place, Run, fit, print_pieces, room_for, sequence, tag_run}
 use Rattle.tl_safe.specs.KeptFitted.{adds_of}
-use Rattle.tl_words.specs.Words.{is_among}
+use Rattle.tl_safe_fit.specs.Words.{is_among}
 use Rattle.tl_safe.specs.Lists.{ListedWords, opaque_names}
 use Rattle.tl_safe.specs.Runs.{Written, handle_run, row_run, text_run, unchanged, unless_void, written}
 use Rattle.tl_safe.proofs.PiecesPrint.{print-append}

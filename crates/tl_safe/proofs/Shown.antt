@@ -21,7 +21,7 @@ use Rattle.tl_html_spec.proofs.Feeds.{feed-word, is_no_return}
 use Rattle.tl_tree_spec.specs.Builder.{Mode, in_body, is_flow, mode_by, mode_of}
 use Rattle.tl_tree_spec.specs.Groups.{Group, a_caption, a_cell, a_column, a_column_group, a_row, a_table, a_table_body, group, is_part, is_table_group}
 use Rattle.tl_tree_spec.specs.Stays.{is_preformatted}
-use Rattle.tl_words.specs.Words.{is_among}
+use Rattle.tl_safe_fit.specs.Words.{is_among}
 use Rattle.tl_safe.specs.IsSafe.{text_characters}
 use Rattle.tl_safe.specs.Filter.{kept}
 use Rattle.tl_safe.specs.Fitted.{Piece, Place, Run, alone, as_texts, at_top, element_run, end_tags_to, ends, first_texts, fit, fitted, is_closable, is_empty, is_read, is_written_anew, may_begin_line, names_of, part_tag, parts_added, parts_around, past_lines, pieces_of, room_for, room_here, says, sequence, starts, still, tag_run, texts_there}

@@ -13,7 +13,7 @@ use Rattle.tl_spec.specs.Lex.AttributeList.{AreOthers, HasOwnKeys, IsOther, Plai
 use Rattle.tl_spec.specs.Lex.ByteClass.{is_among_in_any_case, is_void}
 use Rattle.tl_spec.specs.Print.Clean.{AreCleanPairs, HaveOwnKeys, IsClean, IsCleanStart, IsName}
 use Rattle.tl_spec.specs.Tree.Forest.{Forest, none, text, comment, tag, PlainTag}
-use Rattle.tl_words.specs.Words.{is_among}
+use Rattle.tl_safe_fit.specs.Words.{is_among}
 use Rattle.tl_safe.specs.Lists.{ListedWords, opaque_names}
 use Rattle.tl_safe.specs.Refusals.{are_lawful}
 use Rattle.tl_safe.specs.Filter.{is_text_byte, is_value_byte, is_marked_link, joined, kept, kept_attributes, kept_tag, kept_value, is_allowed, is_allowed_value, written_pair, written_pairs, written_value}

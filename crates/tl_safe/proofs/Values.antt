@@ -9,7 +9,7 @@ use Rattle.tl_spec.specs.Lex.Attribute.{Pair}
 use Rattle.tl_spec.specs.Print.Normal.{lossy_pair}
 use Rattle.tl_spec.proofs.Lex.Bytes.{AllPass-also, all_pass, passes}
 use Rattle.tl_spec.proofs.Print.Lossy.{lossy-AllPass}
-use Rattle.tl_words.specs.Words.{is_among}
+use Rattle.tl_safe_fit.specs.Words.{is_among}
 use Rattle.tl_safe.specs.Lists.{ListedWords, begins_link, has_no_scheme, is_beginning_byte, is_link_byte, is_relative, is_unschemed, leads_out, leaves_site}
 use Rattle.tl_safe.specs.Refusals.{are_lawful}
 use Rattle.tl_safe.specs.Filter.{is_link, is_own_byte, is_own_name, is_value_byte, naming_keys, is_allowed, is_allowed_value, written_byte, written_pair, written_pairs, written_value}

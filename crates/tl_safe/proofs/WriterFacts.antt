@@ -19,7 +19,7 @@ use Rattle.tl_safe_fit.specs.Kinds
 use Rattle.tl_safe_fit.specs.Kinds.{kind_of}
 use Rattle.tl_safe_fit.specs.Levels.{has_room, level_inside, level_rooms, missing_parts, outermost_level}
 use Rattle.tl_safe.specs.Levels.{level_of, parts_of}
-use Rattle.tl_words.specs.Words.{is_among}
+use Rattle.tl_safe_fit.specs.Words.{is_among}
 use Rattle.tl_safe.specs.Lists.{ListedWords, opaque_names}
 use Rattle.tl_safe.specs.Policies.{lists_of}
 use Rattle.tl_safe.specs.Runs.{Written, ended, ended_in, kept_run, left, listed_run, opened_in, or_unchanged, part_start, parts_run, text_run, unchanged, unless_void, written}

@@ -8,7 +8,7 @@ use Rattle.tl_spec.specs.Lex.AttributeList.{PlainAttributes, printed_pairs}
 use Rattle.tl_spec.specs.Lex.ByteClass.{is_among_in_any_case, is_void}
 use Rattle.tl_spec.specs.Tree.Forest.{Forest, none, text, comment, tag, PlainTag, forest, plain}
 use Rattle.tl_spec.specs.Lex.Token.{tokens}
-use Rattle.tl_words.specs.Words.{is_among}
+use Rattle.tl_safe_fit.specs.Words.{is_among}
 use Rattle.tl_safe.specs.Lists.{ListedWords, begins_link, is_link_byte, is_relative, opaque_names}
 
 -- a byte that stays in a text: no `<`, and neither 0 nor 27, with which a text of another character

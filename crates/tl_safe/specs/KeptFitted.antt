@@ -3,7 +3,7 @@ use Rattle.std.specs.Prelude.{ℕ, Bool, List}
 use Rattle.tl_spec.specs.Tree.Forest.{Forest, PlainTag}
 use Rattle.tl_safe.specs.Fitted.{fitted}
 use Rattle.tl_safe.specs.Filter.{kept}
-use Rattle.tl_words.specs.Words.{is_among}
+use Rattle.tl_safe_fit.specs.Words.{is_among}
 use Rattle.tl_safe.specs.Lists.{ListedWords}
 
 -- a part of a table that is missing is added where the policy lists it

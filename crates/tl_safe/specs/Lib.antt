@@ -15,3 +15,4 @@ pub mod Policies
 pub mod Remaining
 pub mod Writes
 pub mod Refusals
+pub mod ListOptions

@@ -1,6 +1,6 @@
 -- Words as values, and what is asked of them.
 use Rattle.std.specs.Prelude.{ℕ, Bool, List, Option}
-pub use Rattle.tl_words.specs.Words.{words_of}
+pub use Rattle.tl_safe_fit.specs.Words.{words_of}
 use Rattle.tl_safe.specs.Lists.{ListedWords, is_beginning_byte, is_key_byte, is_link_byte, is_tag_byte}
 use Rattle.std.specs.Char.{is_ascii_whitespace}
 use Rattle.tl_safe.specs.Filter.{is_own_byte, is_text_byte}

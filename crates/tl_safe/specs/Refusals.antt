@@ -2,7 +2,7 @@
 use Rattle.std.specs.Prelude.{ℕ, Bool, not, ◌&&◌, ◌==◌, List, [], ◌∷◌, Option, Some, None, is_none, codes, if◌then◌else◌}
 use Rattle.std.specs.List.{list_all, starts_with}
 use Rattle.std.specs.Option.{option_map, option_or}
-use Rattle.tl_words.specs.Words.{is_among}
+use Rattle.tl_safe_fit.specs.Words.{is_among}
 use Rattle.tl_safe.specs.Filter.{rel_key}
 use Rattle.tl_safe.specs.Lists.{ListedWords, active_keys, active_schemes, begins_path, begins_with_any, structural_names, has_scheme, is_beginning_byte, is_key_byte, is_tag_byte, is_word_of, known_link_keys, opaque_names}
 use Rattle.tl_safe.specs.declared.refusal.PolicyError.{PolicyError}

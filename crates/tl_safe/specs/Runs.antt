@@ -8,7 +8,7 @@ use Rattle.tl_spec.specs.Walk.{all_tags, plain_node, trees, walk}
 use Rattle.tl_safe.specs.Filter.{is_text_byte, kept, kept_tag}
 use Rattle.tl_safe.specs.Fitted.{Place, Run, end_tags_to, ends, fit, is_empty, part_tag, print_pieces, room_for, says, sequence, starts, still, tag_run, texts_there}
 use Rattle.tl_safe.specs.KeptFitted.{adds_of}
-use Rattle.tl_words.specs.Words.{is_among}
+use Rattle.tl_safe_fit.specs.Words.{is_among}
 use Rattle.tl_safe.specs.Lists.{ListedWords, opaque_names}
 
 -- nothing is written

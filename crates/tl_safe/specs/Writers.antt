@@ -6,7 +6,7 @@ use Rattle.tl.specs.View.{tag_view}
 use Rattle.tl_safe.specs.Filter.{kept_tag}
 use Rattle.tl_safe.specs.Fitted.{Place, Run, part_tag, print_pieces}
 use Rattle.tl_safe.specs.Levels.{level_of, parts_of}
-use Rattle.tl_words.specs.Words.{is_among}
+use Rattle.tl_safe_fit.specs.Words.{is_among}
 use Rattle.tl_safe.specs.Lists.{ListedWords}
 use Rattle.tl_safe.specs.Policies.{lists_of}
 use Rattle.tl_safe.specs.Runs.{Written, left, unchanged, written}

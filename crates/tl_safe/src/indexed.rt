@@ -3,11 +3,11 @@
 //! So it makes no difference where in the list a tag stands.
 ghost use Rattle.std.specs.Prelude.{◌≡◌};
 ghost use Rattle.tl_safe.specs.Policies.{lists_of};
-ghost use Rattle.tl_words.specs.Indexed.{indexed_words};
+ghost use Rattle.tl_safe_fit.specs.Indexed.{indexed_words};
 
 use crate::policy::Policy;
 use std::alloc::{AllocError, Global};
-use tl_words::WordIndex;
+use tl_safe_fit::WordIndex;
 
 // A policy, with the tags that it lists.
 #[derive(Drop)]
@@ -19,7 +19,7 @@ pub(crate) struct IndexedPolicy<'p> {
 
 impl<'p> IndexedPolicy<'p> {
     ghost use Rattle.std.specs.Prelude.{IfOk};
-    ghost use Rattle.tl_words.specs.Words.{is_among};
+    ghost use Rattle.tl_safe_fit.specs.Words.{is_among};
 
     // The index of the tags of a policy.
     pub(crate) fn new(alloc: Global, policy: &'p Policy<'p>) -> Result<Self, AllocError>

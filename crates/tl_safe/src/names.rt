@@ -4,9 +4,9 @@ ghost use Rattle.std.specs.List.{list_all, list_any};
 ghost use Rattle.tl_spec.specs.Lex.ByteClass.{is_among_in_any_case};
 ghost use Rattle.tl_safe.specs.Filter.{is_text_byte, is_value_byte, linking_names, naming_keys};
 ghost use Rattle.tl_safe.specs.IsSafe.{is_written_byte};
-ghost use Rattle.tl_words.specs.Words.{is_among};
+ghost use Rattle.tl_safe_fit.specs.Words.{is_among};
 ghost use Rattle.tl_safe.specs.Lists.{active_keys, structural_names, begins_link, begins_path, begins_with_any, has_colon, has_no_scheme, has_scheme, is_link_byte, is_relative, is_unschemed, is_word_of, leads_out, leaves_site, opaque_names};
-ghost use Rattle.tl_words.specs.Words.{words_of};
+ghost use Rattle.tl_safe_fit.specs.Words.{words_of};
 ghost use Rattle.tl_safe.specs.Names.{has_class};
 
 use memchr::{memchr2, memchr3};

@@ -5,7 +5,7 @@
 ghost use Rattle.std.specs.Prelude.{◌≡◌, ◌∷◌, []};
 ghost use Rattle.std.specs.Option.{option_map, option_or};
 ghost use Rattle.tl_safe.specs.Refusals.{first_refusal, first_refused, key_reason, link_reason, prefix_reason, refusal_of, refused_mark, tag_reason};
-ghost use Rattle.tl_words.specs.Words.{words_of};
+ghost use Rattle.tl_safe_fit.specs.Words.{words_of};
 ghost use Rattle.tl_safe.specs.Names.{listed_words, reason_in};
 
 use crate::lists::Lists;

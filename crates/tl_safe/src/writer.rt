@@ -7,7 +7,7 @@ ghost use Rattle.tl_safe.specs.Fitted.{Place, Run, at_top, end_tags_to, print_pi
 ghost use Rattle.tl_safe_fit.specs.Kinds.{kind_of};
 ghost use Rattle.tl_safe_fit.specs.Levels.{has_room, missing_parts};
 ghost use Rattle.tl_safe.specs.Levels.{parts_of};
-ghost use Rattle.tl_words.specs.Words.{is_among};
+ghost use Rattle.tl_safe_fit.specs.Words.{is_among};
 ghost use Rattle.tl_safe.specs.Policies.{lists_of};
 ghost use Rattle.tl_safe.specs.Runs.{ended, kept_run, left, listed_run, opened_in, or_unchanged, part_start, parts_run, room_at, text_run, unchanged, unless_void};
 ghost use Rattle.tl_safe.specs.Writers.{GoesOn, IsLevel, Writes, entered, opened_tag, place_of, with_more, words_by};

@@ -2,7 +2,7 @@
 ghost use Rattle.std.specs.Prelude.{◌≡◌};
 ghost use Rattle.tl_safe_fit.specs.Kinds.{bounds_scope, ends_items, is_anchor, is_closable, is_column_group, is_description, is_flow_inside, is_heading, is_implied, is_implied_in_container, is_item, is_mark, is_nobr, is_paragraph, is_row, is_ruby, is_table, is_table_body};
 ghost use Rattle.tl_safe_fit.specs.Levels.{has_room, in_either, level_inside, level_rooms, missing_parts, outermost_level, path_inside};
-ghost use Rattle.tl_words.specs.Words.{words_of};
+ghost use Rattle.tl_safe_fit.specs.Words.{words_of};
 
 use crate::kinds::Kind;
 

@@ -1,2 +1,4 @@
 pub mod Places
 pub mod Way
+pub mod Rows
+pub mod Top

@@ -1,7 +1,7 @@
 use Rattle.std.proofs.Common.{◌∙◌, ap, slice_get}
 use Rattle.std.specs.Option.{is_some}
 use Rattle.tl.specs.View.{document_of}
-use Rattle.tl_node.specs.Node.{kind_of}
+use Rattle.tl_extract.specs.Node.{kind_of}
 use Rattle.tl_c.proofs.Selectors.{is_some-map}
 use Rattle.tl_c.proofs.css.has_node.Goals as goal
 

@@ -1,6 +1,6 @@
 use Rattle.std.proofs.Common.{◌≡◌, ◌≤◌, ◌^◌, ◌∙◌, Err, List, length, map, ap, arith, sym}
 use Rattle.tl.specs.View.{document_of}
-use Rattle.tl_links.specs.declared.links.Links.{Links}
+use Rattle.tl_table.specs.declared.links.Links.{Links}
 use Rattle.tl_page.specs.Outcome.{success}
 use Rattle.tl_c.specs.Links.{AreLinksOn, shown_links}
 use Rattle.tl_c.proofs.LinkLemmas.{links_once}

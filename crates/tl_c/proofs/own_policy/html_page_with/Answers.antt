@@ -3,7 +3,7 @@ use Rattle.std.specs.Prelude.{IfOk}
 use Rattle.tl_spec.specs.Print.Normal.{norm}
 use Rattle.tl_html_spec.specs.HtmlForm.{html_form}
 use Rattle.tl_html_spec.specs.HtmlTokenizer.{tokens_in_page}
-use Rattle.tl_lists.specs.ListOptions.{lists_in}
+use Rattle.tl_safe.specs.ListOptions.{lists_in}
 use Rattle.tl_safe.specs.IsSafe.{IsSafe, tokens_of}
 use Rattle.tl_safe.specs.Filter.{trees_of}
 use Rattle.tl_safe.specs.KeptFitted.{kept_fitted}

@@ -1,6 +1,6 @@
 use Rattle.std.proofs.Common.{◌≡◌, ◌∙◌, None, Some, Err, ap, ap₂, rules, subst, sym}
 use Rattle.std.specs.Option.{option_map}
-use Rattle.tl_lists.specs.ListOptions.{lists_or_default}
+use Rattle.tl_safe.specs.ListOptions.{lists_or_default}
 use Rattle.tl_page.specs.Outcome.{Gives, success}
 use Rattle.tl_page.specs.declared.failure.Failure.TheVariants.{NotUnderstood}
 use Rattle.tl_safe.specs.Policies.{lists_of}

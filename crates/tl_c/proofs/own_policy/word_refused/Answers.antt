@@ -1,5 +1,5 @@
 use Rattle.std.proofs.Common.{◌≡◌, ◌∙◌, Err, ap, rules, subst, sym}
-use Rattle.tl_lists.specs.ListOptions.{lists_in}
+use Rattle.tl_safe.specs.ListOptions.{lists_in}
 use Rattle.tl_page.specs.Outcome.{Gives, Outcome, not_understood, success}
 use Rattle.tl_page.specs.declared.failure.Failure.TheVariants.{NotUnderstood}
 use Rattle.tl_safe.specs.Lists.{ListedWords}

@@ -1,5 +1,5 @@
 use Rattle.std.proofs.Common.{◌≡◌, ◌∙◌, None, Option, Some, ap, rules, sym}
-use Rattle.tl_lists.specs.ListOptions.{lists_in}
+use Rattle.tl_safe.specs.ListOptions.{lists_in}
 use Rattle.tl_page.specs.Outcome.{success}
 use Rattle.tl_safe.specs.Refusals.{Refusal, first_refusal, refusal_of}
 use Rattle.tl_c.specs.LentLists.{number_of_refusal}

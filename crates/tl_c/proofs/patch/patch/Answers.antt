@@ -5,10 +5,10 @@ use Rattle.tl_html_spec.specs.HtmlForm.{html_form}
 use Rattle.tl_page.specs.Outcome.{Fails}
 use Rattle.tl_page.specs.declared.failure.Failure.{Failure}
 use Rattle.tl_page.specs.declared.failure.Failure.TheVariants.{Fault, NotUnderstood, OutOfMemory, Refused}
-use Rattle.tl_patch_page.specs.View.{change_view}
+use Rattle.tl_patch.specs.PatchView.{change_view}
 use Rattle.tl_css.specs.Selector.{Css}
-use Rattle.tl_patch_page.specs.declared.error.PatchError.{PatchError}
-use Rattle.tl_patch_page.specs.declared.error.PatchError.TheVariants as page_error
+use Rattle.tl_patch.specs.declared.error.PatchError.{PatchError}
+use Rattle.tl_patch.specs.declared.error.PatchError.TheVariants as page_error
 use Rattle.tl_patch_select.specs.Errors.{error_of_patch}
 use Rattle.tl_patch_select.specs.Patched.{IsChangeRefusedWhere, IsPatchedWhere}
 use Rattle.tl_patch_select.specs.declared.error.SelectionPatchError.{SelectionPatchError}

@@ -1,5 +1,5 @@
 use Rattle.std.proofs.Common.{◌≡◌, take}
-use Rattle.tl_html_tags.specs.Parts.{name_of}
+use Rattle.tl_html_parts.specs.Parts.{name_of}
 use Rattle.tl_html_write.proofs.name.lowered.Given as goal
 
 abbrev pub invariant-loop-byte : goal.invariant-loop-byte

@@ -1,7 +1,7 @@
 use Rattle.std.proofs.Common.{◌≡◌, ◌++◌, take}
 use Rattle.std.specs.List.{flat_map}
 use Rattle.tl_html_spec.specs.Coded.{coded_byte}
-use Rattle.tl_html_tags.specs.Parts.{name_of}
+use Rattle.tl_html_parts.specs.Parts.{name_of}
 use Rattle.tl_html_write.proofs.name.write_raw_bytes.Given as goal
 
 abbrev pub invariant-loop-byte : goal.invariant-loop-byte

@@ -2,8 +2,8 @@ use Rattle.std.proofs.Common.{ℕ, List, ap, sym, ◌∙◌, arith, take_all}
 use Rattle.std.specs.List.{list_any}
 use Rattle.std.specs.Str.{bytes_eq}
 use Rattle.std.proofs.lemmas.List.Folds.{list_any_at}
-use Rattle.tl_html_tags.specs.Parts.{name_of}
-use Rattle.tl_html_tags.specs.declared.parts.AttributeParts.{AttributeParts}
+use Rattle.tl_html_parts.specs.Parts.{name_of}
+use Rattle.tl_html_parts.specs.declared.parts.AttributeParts.{AttributeParts}
 use Rattle.tl_html_write.proofs.Repeats.{keys_in, nothing}
 use Rattle.tl_html_write.proofs.repeat.have_key.Goals as goal
 

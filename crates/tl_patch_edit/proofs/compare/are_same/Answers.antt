@@ -1,5 +1,5 @@
 use Rattle.std.proofs.Common.{◌+◌, ◌<◌, List, length, sym, subst₂}
-use Rattle.tl_patch_page.proofs.Tags.{some_of}
+use Rattle.tl_patch.proofs.Tags.{some_of}
 use Rattle.tl_patch_edit.specs.declared.part.Part.{Part}
 use Rattle.tl_patch_edit.specs.Parts.{SayOtherwise, parts_view}
 use Rattle.tl_patch_edit.proofs.Refusals.{none_of}

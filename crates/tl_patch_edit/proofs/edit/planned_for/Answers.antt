@@ -4,7 +4,7 @@ use Rattle.tl_patch_spec.specs.Patches.{Put, asked, asked_of}
 use Rattle.tl_patch_spec.specs.Splices.{Splice}
 use Rattle.tl_patch_edit.specs.Causes.{IsPlanError}
 use Rattle.tl_patch_edit.proofs.Refusals.{err_is}
-use Rattle.tl_html_tags.specs.Parts.{name_of}
+use Rattle.tl_html_parts.specs.Parts.{name_of}
 use Rattle.tl_patch_edit.specs.Found.{IsTagName}
 use Rattle.tl_patch_edit.specs.Asks.{planned_view}
 use Rattle.tl_patch_edit.specs.View.{extent_view, patch_view}

@@ -1,4 +1,4 @@
-use Rattle.tl_html_tags.specs.Parts.{name_of}
+use Rattle.tl_html_parts.specs.Parts.{name_of}
 use Rattle.tl_patch_edit.proofs.plan.plan.Goals as goal
 
 pub returns-in-PutBefore : goal.returns-in-PutBefore

@@ -1,5 +1,5 @@
 use Rattle.std.proofs.Common.{List, [], ◌∷◌, ap, sym, ◌∙◌, Some}
-use Rattle.tl_html_tags.specs.Parts.{name_of}
+use Rattle.tl_html_parts.specs.Parts.{name_of}
 use Rattle.tl_patch_spec.specs.Patches.{Put, put_at}
 use Rattle.tl_patch_edit.specs.Asks.{planned_view}
 use Rattle.tl_patch_edit.specs.View.{content_view, extent_view}

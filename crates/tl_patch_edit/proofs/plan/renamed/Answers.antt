@@ -1,6 +1,6 @@
 use Rattle.std.proofs.Common.{◌≡◌, ℕ, List, true, false, Option, ap, sym, ◌∙◌}
 use Rattle.std.specs.Prelude.{Err, IfOk, Ok, Result, option_map}
-use Rattle.tl_html_tags.specs.Parts.{name_of}
+use Rattle.tl_html_parts.specs.Parts.{name_of}
 use Rattle.tl_patch_spec.specs.Patches.{Extent, RenameElement, asked, may_be_renamed}
 use Rattle.tl_patch_edit.specs.Asks.{planned_view}
 use Rattle.tl_patch_edit.specs.View.{extent_view}

@@ -1,10 +1,10 @@
 use Rattle.std.proofs.Common.{◌++◌, ◌∷◌, [], List, ℕ, ap, subst, ◌∙◌}
 use Rattle.tl_html_spec.specs.HtmlTokenizer.{EndTag}
-use Rattle.tl_html_tags.specs.Parts.{name_of}
+use Rattle.tl_html_parts.specs.Parts.{name_of}
 use Rattle.tl_html_tokens.specs.Whole.{IsWhole}
 use Rattle.tl_html_tokens.specs.declared.mode.Mode.TheVariants as mode
 use Rattle.tl_html_tokens.specs.declared.stage.TokenKind.TheVariants as kind
-use Rattle.tl_patch_page.proofs.Tags.{some_of}
+use Rattle.tl_patch.proofs.Tags.{some_of}
 use Rattle.tl_patch_edit.specs.Parts.{Part, part_view, parts_view}
 use Rattle.tl_patch_edit.specs.View.{content_view}
 use Rattle.tl_patch_edit.proofs.Puts.{tag_put}

@@ -1,5 +1,5 @@
 use Rattle.tl_patch.specs.Places.{begins_end_tag}
-use Rattle.tl_patch_page.proofs.Tags.{some_of}
+use Rattle.tl_patch.proofs.Tags.{some_of}
 use Rattle.tl_patch_spec.specs.Markup.{is_name}
 use Rattle.tl_patch_edit.proofs.EndTags.{end_named, not_given, so_given}
 use Rattle.tl_patch_edit.proofs.tag.renamed_end.Goals as goal

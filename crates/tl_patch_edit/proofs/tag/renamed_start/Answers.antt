@@ -1,5 +1,5 @@
 use Rattle.tl_patch_spec.specs.Markup.{is_name}
-use Rattle.tl_patch_tags.specs.StartTags.{is_start_tag}
+use Rattle.tl_patch.specs.StartTags.{is_start_tag}
 use Rattle.tl_patch_edit.proofs.EndTags.{not_given}
 use Rattle.tl_patch_edit.proofs.tag.renamed_start.Goals as goal
 

@@ -1,7 +1,7 @@
 use Rattle.std.proofs.Common.{rules, ◌≡◌, Err, List, ℕ, map, subst}
-use Rattle.tl_patch_page.specs.Pages.{IsPatched}
-use Rattle.tl_patch_page.specs.View.{PlacedChange, change_view, patch_view}
-use Rattle.tl_patch_page.specs.declared.error.PatchError.{PatchError}
+use Rattle.tl_patch.specs.Pages.{IsPatched}
+use Rattle.tl_patch.specs.PatchView.{PlacedChange, change_view, patch_view}
+use Rattle.tl_patch.specs.declared.error.PatchError.{PatchError}
 use Rattle.tl_patch_spec.specs.TagChanges.{TagChange}
 use Rattle.tl_patch_select.specs.Errors.{error_of_patch}
 use Rattle.tl_patch_select.specs.Patched.{changes_at}

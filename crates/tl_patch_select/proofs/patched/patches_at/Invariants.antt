@@ -1,5 +1,5 @@
 use Rattle.std.proofs.Common.{◌≡◌, map, take}
-use Rattle.tl_patch_page.specs.View.{change_view, patch_view}
+use Rattle.tl_patch.specs.PatchView.{change_view, patch_view}
 use Rattle.tl_patch_select.specs.Patched.{changes_at}
 use Rattle.tl_patch_select.proofs.patched.patches_at.Given as goal
 

@@ -5,7 +5,7 @@ use Rattle.tl_spec.specs.Lex.Attribute.{Pair}
 use Rattle.tl_spec.specs.Lex.AttributeList.{PlainAttributes, printed_pairs}
 use Rattle.tl_attributes.specs.AttributesView.{plain}
 use Rattle.tl.specs.View.{tag_view}
-use Rattle.tl_words.specs.Words.{is_among}
+use Rattle.tl_safe_fit.specs.Words.{is_among}
 use Rattle.tl_safe.specs.Filter.{has_key, kept_attributes, linking_names}
 use Rattle.tl_safe.specs.Lists.{ListedWords}
 use Rattle.tl_safe.specs.Policies.{lists_of}

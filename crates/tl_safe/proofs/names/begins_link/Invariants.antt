@@ -1,7 +1,7 @@
 use Rattle.std.proofs.Common.{◌≡◌, drop}
 use Rattle.std.specs.List.{list_any}
 use Rattle.tl_safe.specs.Lists.{begins_link}
-use Rattle.tl_words.specs.Words.{words_of}
+use Rattle.tl_safe_fit.specs.Words.{words_of}
 use Rattle.tl_safe.proofs.names.begins_link.Given as goal
 
 abbrev pub invariant-loop-front : goal.invariant-loop-front

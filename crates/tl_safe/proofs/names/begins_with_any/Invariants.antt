@@ -1,6 +1,6 @@
 use Rattle.std.proofs.Common.{◌≡◌, drop}
 use Rattle.tl_safe.specs.Lists.{begins_with_any}
-use Rattle.tl_words.specs.Words.{words_of}
+use Rattle.tl_safe_fit.specs.Words.{words_of}
 use Rattle.tl_safe.proofs.names.begins_with_any.Given as goal
 
 abbrev pub invariant-loop-front : goal.invariant-loop-front

@@ -1,6 +1,6 @@
 use Rattle.std.proofs.Common.{◌≡◌, drop}
-use Rattle.tl_words.specs.Words.{is_among}
-use Rattle.tl_words.specs.Words.{words_of}
+use Rattle.tl_safe_fit.specs.Words.{is_among}
+use Rattle.tl_safe_fit.specs.Words.{words_of}
 use Rattle.tl_safe.proofs.names.is_among.Given as goal
 
 abbrev pub invariant-loop-own : goal.invariant-loop-own

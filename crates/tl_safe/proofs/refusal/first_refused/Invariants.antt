@@ -1,6 +1,6 @@
 use Rattle.std.proofs.Common.{◌≡◌, drop}
 use Rattle.tl_safe.specs.Refusals.{first_refused}
-use Rattle.tl_words.specs.Words.{words_of}
+use Rattle.tl_safe_fit.specs.Words.{words_of}
 use Rattle.tl_safe.specs.Names.{reason_in}
 use Rattle.tl_safe.proofs.refusal.first_refused.Given as goal
 

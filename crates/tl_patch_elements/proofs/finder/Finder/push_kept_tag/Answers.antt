@@ -4,7 +4,7 @@ use Rattle.tl_html_spec.specs.HtmlTokenizer.{HtmlAttribute}
 use Rattle.tl_html_balance.specs.Tokens.{Opens}
 use Rattle.tl_html_balance.specs.View.{open_names}
 use Rattle.tl_html_balance.specs.declared.balance.Opening.{Opening}
-use Rattle.tl_html_tags.specs.Parts.{name_of}
+use Rattle.tl_html_parts.specs.Parts.{name_of}
 use Rattle.tl_patch_elements.proofs.Tags.{alone_is, start_found}
 use Rattle.tl_patch_elements.proofs.finder.Finder.push_kept_tag.Goals as goal
 

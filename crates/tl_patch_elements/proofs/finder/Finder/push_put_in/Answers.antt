@@ -1,5 +1,5 @@
 use Rattle.std.proofs.Common.{ℕ, Bool, List, ◌∷◌, ◌++◌, ap, sym, ◌∙◌}
-use Rattle.tl_html_tags.specs.Parts.{name_of}
+use Rattle.tl_html_parts.specs.Parts.{name_of}
 use Rattle.tl_patch_spec.specs.Elements.{PlacedToken, elements_of, ended_element}
 use Rattle.tl_patch_elements.specs.Finding.{stack_of}
 use Rattle.tl_patch_elements.specs.View.{elements_view}

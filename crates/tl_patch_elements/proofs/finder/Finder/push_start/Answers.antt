@@ -1,5 +1,5 @@
 use Rattle.std.proofs.Common.{map, sym, subst}
-use Rattle.tl_html_tags.specs.Parts.{attribute_view, attributes_of}
+use Rattle.tl_html_parts.specs.Parts.{attribute_view, attributes_of}
 use Rattle.tl_patch_elements.specs.Finding.{Finds}
 use Rattle.tl_patch_elements.proofs.finder.Finder.push_start.Goals as goal
 

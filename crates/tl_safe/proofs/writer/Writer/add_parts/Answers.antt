@@ -3,9 +3,9 @@ use Rattle.std.specs.Borrow.{Bor}
 use Rattle.std.specs.List.{list_all}
 use Rattle.std.proofs.lemmas.List.{drop_all}
 use Rattle.tl_safe.specs.Fitted.{Run}
-use Rattle.tl_words.specs.Words.{is_among}
+use Rattle.tl_safe_fit.specs.Words.{is_among}
 use Rattle.tl_safe_fit.specs.Levels.{missing_parts}
-use Rattle.tl_words.specs.Words.{words_of}
+use Rattle.tl_safe_fit.specs.Words.{words_of}
 use Rattle.tl_safe.specs.Runs.{parts_run, written}
 use Rattle.tl_safe.specs.Writers.{place_of, words_by}
 use Rattle.tl_safe.specs.declared.writer.Writer.{Writer}

@@ -4,7 +4,7 @@ use Rattle.tl_spec.specs.Tree.Document.{TagNode}
 use Rattle.tl_spec.specs.Walk.{plain_node}
 use Rattle.tl.specs.View.{tag_view}
 use Rattle.tl_safe.specs.Filter.{kept_tag}
-use Rattle.tl_words.specs.Words.{is_among}
+use Rattle.tl_safe_fit.specs.Words.{is_among}
 use Rattle.tl_safe.specs.Runs.{opened_in, unless_void}
 use Rattle.tl_safe.specs.Writers.{place_of, words_by}
 use Rattle.tl_safe.specs.declared.writer.Writer.{Writer}

@@ -1,0 +1,4 @@
+pub mod View
+pub mod Parts
+pub mod Bytes
+pub mod Tail

@@ -1,5 +1,0 @@
-pub mod View
-pub mod Pages
-pub mod Steps
-pub mod Asked
-pub mod Refused

@@ -1,4 +1,0 @@
-pub mod StartTags
-pub mod Places
-pub mod Taken
-pub mod Cuts

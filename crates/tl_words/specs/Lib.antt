@@ -1,4 +1,0 @@
-pub mod Words
-pub mod Linked
-pub mod Rows
-pub mod Indexed

@@ -1,8 +1,0 @@
-//! Lists of words to look up.
-#![tactic(auto)]
-
-mod index;
-mod row;
-mod slot;
-
-pub use index::WordIndex;
