@@ -11,9 +11,9 @@ use crate::node_links::{NO_NODE, NodeLinks, number_or_none, shown_links};
 use crate::parsed_page::ParsedPage;
 use std::alloc::Global;
 use tl::VDom;
-use tl_table::links::{LinksError, node_links};
 use tl_extract::node::{Kind, Standing, first_child, kind_of, standing_at};
 use tl_page::Failure;
+use tl_table::links::{LinksError, node_links};
 
 // The number of a kind in `tl.h`.
 fn number_of_kind(kind: Option<Kind>) -> u8

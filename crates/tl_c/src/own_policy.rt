@@ -19,9 +19,8 @@ use crate::page::safe_html_page;
 use crate::policy::policy_of;
 use crate::text::text_of;
 use std::alloc::Global;
-use tl_safe::{ListTexts, WordLists};
 use tl_page::{Failure, text};
-use tl_safe::{Policy, Reason};
+use tl_safe::{ListTexts, Policy, Reason, WordLists};
 
 // The number of a reason in `tl.h`.
 fn number_of_reason(reason: Reason) -> u8

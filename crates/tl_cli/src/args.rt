@@ -19,10 +19,9 @@ use tl_commands::{Verb, program};
 use tl_css::{Selector, SelectorError, parse};
 use tl_encoding::Encoding;
 use tl_extract::{OutlineFormat, Spelling};
-use tl_safe::ListTexts;
 use tl_page::VERSION;
 use tl_program::script::{Step, steps};
-use tl_safe::Lists;
+use tl_safe::{ListTexts, Lists};
 
 /// What is written of pages.
 #[derive(Clone, Copy, PartialEq, Eq)]

@@ -8,8 +8,8 @@ ghost use Rattle.tl_cli.specs.Edits.{IsDone, IsElementRefusal, IsTagRefusal, IsU
 
 use std::alloc::Global;
 use tl_css::Selector;
-use tl_patch_edit::ElementPatch;
 use tl_patch::Change;
+use tl_patch_edit::ElementPatch;
 use tl_patch_select::{
     Patched, SelectionEditError, SelectionPatchError, edit_selected, patch_selected,
 };

@@ -11,6 +11,7 @@ mod csv_lines;
 mod edit_words;
 mod edits;
 mod filename;
+mod in_place;
 mod job;
 mod lines;
 mod output;
@@ -38,9 +39,8 @@ use std::io::ErrorKind;
 use std::process::ExitCode;
 use task::Task;
 use terminal::Terminal;
-use tl_safe::{ListTexts, WordLists, lines_of};
 use tl_page::{Cause, Failure};
-use tl_safe::{Lists, Policy};
+use tl_safe::{ListTexts, Lists, Policy, WordLists, lines_of};
 
 fn main(rt: HostRuntime) -> ExitCode {
     match run(&rt) {

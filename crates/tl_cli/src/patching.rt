@@ -4,6 +4,7 @@ ghost use Rattle.tl_page.specs.declared.failure.Failure.TheVariants.{OutOfMemory
 
 use crate::args::Pages;
 use crate::edits::{Edit, Refusal};
+use crate::in_place::replace;
 use crate::pages::{
     STANDARD_INPUT, not_understood, page_of, report, report_error, unwritten, write,
 };
@@ -13,7 +14,6 @@ use std::fmt;
 use std::io::ErrorKind;
 use tl_css::Selector;
 use tl_encoding::{Encoding, encoding_of, encoding_said};
-use tl_in_place::replace;
 use tl_page::{Failure, text};
 use tl_patch_select::Patched;
 

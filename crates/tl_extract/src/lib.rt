@@ -1,5 +1,5 @@
 //! What is asked of a document: how many nodes there are where a selector holds, their fields, the
-//! links, the outline, and the text line by line.
+//! links, the outline, and the text line by line; and what is asked of one node by its number.
 #![tactic(auto)]
 
 mod field;
@@ -7,6 +7,7 @@ mod lines;
 mod link;
 mod listing;
 mod lossy_text;
+pub mod node;
 mod notation;
 mod number;
 mod rows;

@@ -9,8 +9,7 @@ ghost use Rattle.tl_html.specs.Parts.{IsPart};
 
 use crate::form::Form;
 use std::alloc::{AllocError, Global};
-use tl_html_parts::tag_parts;
-use tl_html_parts::{characters, comment};
+use tl_html_parts::{characters, comment, tag_parts};
 use tl_html_tokens::{Token, TokenKind};
 
 // The bytes of a token.

@@ -5,8 +5,7 @@ use crate::{Named, measured};
 use std::alloc::Global;
 use tl_encoding::{Encoding, decode};
 use tl_html::{Mode, normalize, normalize_bytes, normalize_with_sources};
-use tl_html_parts::tag_parts;
-use tl_html_parts::{characters, comment};
+use tl_html_parts::{characters, comment, tag_parts};
 use tl_html_write::{coded_name, lower_name, uncoded_name};
 use tl_text::{
     escape_text, escape_value, unescape_text, unescape_text_str, unescape_value, unescape_value_str,

@@ -2,10 +2,10 @@
 use crate::case::Case;
 use crate::stop::{Stop, value};
 use crate::{Named, measured};
+use tl_patch::{Change, TagPatch, patch};
 use tl_patch_edit::{
     Content, ElementPatch, PlacedPatch, patch_each, patch_element, patch_elements,
 };
-use tl_patch::{Change, TagPatch, patch};
 use tl_patch_select::{Patched, edit_selected, patch_selected};
 
 // What is called, of this page.

@@ -2,8 +2,7 @@
 use crate::case::Case;
 use crate::stop::{Stop, value};
 use crate::{Named, measured};
-use tl_safe::{ListTexts, WordLists, lines_of};
-use tl_safe::{Lists, Policy, sanitize};
+use tl_safe::{ListTexts, Lists, Policy, WordLists, lines_of, sanitize};
 use tl_safe_fit::WordIndex;
 
 // What is called.

@@ -5,12 +5,12 @@ use crate::{Named, measured};
 use std::alloc::Global;
 use tl::errors::TreeError;
 use tl::{ParserOptions, VDom};
+use tl_extract::node::{attribute_pairs, ended_keys, inner_html, inner_text, outer_html};
 use tl_extract::{
     Field, OutlineFormat, Spelling, count, field_at, first, lines_of, links, outline, readable,
     select, table,
 };
 use tl_json::{ObjectFormat, array, object_lines};
-use tl_extract::node::{attribute_pairs, ended_keys, inner_html, inner_text, outer_html};
 use tl_page::read;
 
 const PAGE: &str =

@@ -7,8 +7,8 @@ use tl_css_select::forest::SelectError;
 use tl_encoding::DecodeError;
 use tl_html::NormalizeError;
 use tl_page::Failure;
-use tl_patch_edit::EditError;
 use tl_patch::PatchError;
+use tl_patch_edit::EditError;
 use tl_patch_select::{SelectionEditError, SelectionPatchError};
 
 /// Why a case ended.

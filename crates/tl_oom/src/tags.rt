@@ -3,9 +3,11 @@ use crate::case::Case;
 use crate::stop::{Stop, value};
 use crate::{Named, measured};
 use std::alloc::{AllocError, Global};
-use tl_patch::{Splice, with_attribute, with_end_name, with_splices, with_start_name};
+use tl_patch::{
+    Splice, with_attribute, with_end_name, with_name, with_splices, with_start_name, with_value,
+    without_key,
+};
 use tl_patch_elements::elements;
-use tl_patch::{with_name, with_value, without_key};
 
 // What is called.
 #[derive(Clone, Copy)]

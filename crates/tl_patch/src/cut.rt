@@ -3,11 +3,11 @@ ghost use Rattle.std.specs.Prelude.{◌≡◌, ◌≤◌, ◌++◌, [], ◌∷�
 ghost use Rattle.tl_patch.specs.View.{splice_view};
 ghost use Rattle.tl_patch.specs.Cuts.{cut_from, cut_if, cut_put, cut_splice, cuts_of, first_of, follow_at, follow_cut, free_after, last_before, space_start};
 
+use crate::Splice;
 use crate::key::is_named;
 use crate::places::part;
 use crate::stage::{Place, is_space};
 use std::alloc::{AllocError, Global};
-use crate::Splice;
 
 /// What follows a place: the first byte, and whether no `=` comes after white space.
 #[derive(Clone, Copy)]

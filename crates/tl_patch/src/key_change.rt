@@ -12,8 +12,8 @@ use crate::parts::start_tag_name_end;
 use crate::places::{first_named, places};
 use crate::rewrite::write_with;
 use crate::stage::Place;
-use std::alloc::{AllocError, Global};
 use crate::{is_key, is_value, with_attribute, with_splices, write_value};
+use std::alloc::{AllocError, Global};
 
 #[tactic(auto, using(crate::proofs::Puts::quoted_is))]
 fn write_quoted(value: &[u8], out: &mut Vec<u8>) -> Result<(), AllocError>

@@ -7,9 +7,9 @@ ghost use Rattle.tl_patch.specs.Steps.{IsMade, IsPage, IsWritten, mark_of};
 ghost use Rattle.tl_patch.specs.PatchView.{patch_view};
 ghost use Rattle.tl_patch.specs.declared.error.PatchError.TheVariants.{NoStartTag, NotWritten, OutOfMemory};
 
-use crate::tag_patch::{TagPatch, changed_tag};
 use crate::error::PatchError;
 use crate::step::{group_end, is_start_tag, token_bytes};
+use crate::tag_patch::{TagPatch, changed_tag};
 use std::alloc::Global;
 use tl_html_tokens::{Token, tokens};
 

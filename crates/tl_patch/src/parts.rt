@@ -3,9 +3,9 @@ ghost use Rattle.std.specs.Prelude.{◌≡◌, IfOk, IfSome, false, is_some};
 ghost use Rattle.tl_patch_spec.specs.TagNames.{IsNameEnd};
 ghost use Rattle.tl_patch.specs.StartTags.{is_data, is_one_tag, is_start_kind, is_start_tag, is_whole_tag};
 
+use crate::start_name_end;
 use std::alloc::{AllocError, Global};
 use tl_html_tokens::{Mode, Token, TokenKind, tokens};
-use crate::start_name_end;
 
 fn is_start_kind(kind: TokenKind) -> bool
     ensures { result ≡ is_start_kind kind }

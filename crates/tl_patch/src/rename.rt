@@ -4,10 +4,10 @@ ghost use Rattle.tl_patch_spec.specs.TagNames.{IsNameEnd};
 ghost use Rattle.tl_patch_spec.specs.Markup.{is_name};
 ghost use Rattle.tl_patch.specs.StartTags.{IsRenamed, is_start_tag};
 
+use crate::is_name;
 use crate::parts::start_tag_name_end;
 use crate::rewrite::write_with;
 use std::alloc::{AllocError, Global};
-use crate::is_name;
 
 // With another name, where the name ends at a place.
 fn renamed(alloc: Global, tag: &[u8], end: usize, name: &[u8]) -> Result<Vec<u8>, AllocError>

@@ -5,8 +5,8 @@ ghost use Rattle.tl_patch.specs.Steps.{AreTagChanges};
 ghost use Rattle.tl_patch.specs.PatchView.{change_of, change_view, patch_view};
 ghost use Rattle.tl_patch.specs.StartTags.{IsChanged, is_start_tag};
 
-use std::alloc::{AllocError, Global};
 use crate::{with_value, without_key};
+use std::alloc::{AllocError, Global};
 
 /// What is done with a start tag.
 #[derive(Clone, Copy, Debug)]

@@ -18,8 +18,7 @@ use crate::ready::escaped_for;
 use std::alloc::{AllocError, Global};
 use tl_html_tokens::TokenKind;
 use tl_html_write::lower_name;
-use tl_patch::{is_name, with_end_name};
-use tl_patch::with_name;
+use tl_patch::{is_name, with_end_name, with_name};
 
 // The end tag of a name.
 fn end_tag(alloc: Global, name: &[u8]) -> Result<Option<Vec<u8>>, AllocError>

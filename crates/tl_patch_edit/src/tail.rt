@@ -17,8 +17,7 @@ ghost use Rattle.tl_patch_edit.specs.Tails.{IsEndFor, IsTailFrom, IsTailPart, is
 
 use crate::part::{Part, part_at};
 use std::alloc::{AllocError, Global};
-use tl_html_parts::tag_parts;
-use tl_html_parts::characters;
+use tl_html_parts::{characters, tag_parts};
 use tl_html_tokens::{Mode, Token, TokenKind};
 use tl_html_write::lower_name;
 use tl_patch_elements::{Element, PageElements, elements};

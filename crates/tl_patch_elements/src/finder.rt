@@ -3,8 +3,7 @@
 use crate::found::Element;
 use std::alloc::{AllocError, Global};
 use tl_html_balance::{OpenTags, Opening, PutIn, TagName};
-use tl_html_parts::tag_parts;
-use tl_html_parts::characters;
+use tl_html_parts::{characters, tag_parts};
 use tl_html_tokens::{Mode, Token, TokenKind};
 use tl_html_write::lower_name;
 

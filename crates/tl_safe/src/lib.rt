@@ -23,6 +23,7 @@ mod policy;
 mod preformatted;
 mod refusal;
 mod walk;
+mod word_lists;
 mod write;
 mod writer;
 
@@ -33,6 +34,7 @@ pub use refusal::{PolicyError, Reason};
 use std::alloc::Global;
 use tl::{ParseError, ParserOptions, parse};
 use walk::write_row;
+pub use word_lists::{ListTexts, WordLists, lines_of};
 use writer::Writer;
 
 // The print of what is kept of a page, made to stay.

@@ -4,8 +4,8 @@ ghost use Rattle.std.specs.List.{slice_split};
 ghost use Rattle.tl_safe.specs.Names.{listed_words, words_of};
 ghost use Rattle.tl_safe.specs.ListOptions.{has_rel, is_comma, lists_in, lists_or_default, nofollow_line, option_line, policy_text, prefix_or_default, list_options, relative_line, text_of, with_rel, words_in, remaining_words, words_or_default};
 
-use std::alloc::{AllocError, Global};
 use crate::Lists;
+use std::alloc::{AllocError, Global};
 
 /// The texts of lists, where they are said: words with commas between them, and a prefix; and the
 /// lists that count where they are not.

@@ -4,9 +4,9 @@ ghost use Rattle.tl_spec.specs.Tree.Element.{children_of};
 ghost use Rattle.tl_table.specs.Links.{AreLinks};
 ghost use Rattle.tl_table.specs.Steps.{with_child, with_row, with_top, with_top_node};
 
-use std::alloc::{AllocError, Global};
 use crate::element::Element;
 use crate::handle::NodeHandle;
+use std::alloc::{AllocError, Global};
 
 /// Where a node stands.
 #[derive(Clone, Copy, PartialEq, Eq, Debug)]

@@ -1,6 +1,5 @@
 //! Files whose bytes are replaced at once: a new file is written beside the old one and takes its
 //! name, so that a failure at any place leaves the old one whole.
-#![tactic(auto)]
 
 use std::fs::{self, File, Metadata, OpenOptions};
 use std::io::{self, ErrorKind, Write};

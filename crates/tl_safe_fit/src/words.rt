@@ -1,0 +1,6 @@
+//! Lists of words to look up.
+mod index;
+mod row;
+mod slot;
+
+pub use index::WordIndex;
