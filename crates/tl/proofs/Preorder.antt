@@ -16,11 +16,11 @@ use Rattle.tl_spec.specs.Walk.{TreeFault, Cycle, Dangling, all_tags, first_fault
 use Rattle.tl_spec.proofs.Walk.Rising.{walk-one}
 use Rattle.tl_spec.proofs.Walk.Walks.{walk-nil}
 use Rattle.tl_table.specs.TreeFault.{IsRefusal}
-use Rattle.tl_table.specs.Way.{Rises}
+use Rattle.tl_table.specs.Inner.Way.{Rises}
 use Rattle.tl_table.specs.declared.errors.TreeError.{TreeError}
 use Rattle.tl_table.specs.declared.errors.TreeError.TheVariants.{Dangling as DanglingError, Cycle as CycleError, OutOfMemory}
 use Rattle.tl_table.proofs.Way.{AreBelow, all_rise, below-above, below-off, further, here, past}
-use Rattle.tl.specs.Preorder.{ArePreorder, IsInPreorder, children_in}
+use Rattle.tl.specs.Inner.Preorder.{ArePreorder, IsInPreorder, children_in}
 use Rattle.tl.specs.View.{HTMLNode, node_view}
 use Rattle.tl.specs.declared.parser.tag.node.NodeOf.TheVariants.{Tag as ATag, Raw as ARaw, Comment as AComment}
 use Rattle.tl.proofs.Frames.{shown_past}

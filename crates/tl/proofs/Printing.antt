@@ -14,7 +14,7 @@ use Rattle.tl_spec.specs.Lex.Attribute.{Pair}
 use Rattle.tl_spec.proofs.Walk.Walks.{node_identity, table_identity}
 use Rattle.tl_bytes.specs.Held.{Kept}
 use Rattle.tl_table.specs.declared.errors.TreeError.{TreeError}
-use Rattle.tl_attributes.specs.Listing.{as_borrowed, listed}
+use Rattle.tl_attributes.specs.Inner.Listing.{as_borrowed, listed}
 use Rattle.tl_attributes.specs.AttributesView.{plain, bytes_view, pair_view, value_view}
 use Rattle.std.specs.Prelude.{IfOk}
 use Rattle.std.specs.Global.{Global}

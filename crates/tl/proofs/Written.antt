@@ -5,7 +5,7 @@ use Rattle.std.proofs.Math.Seq.{take-append_seam}
 use Rattle.std.proofs.lemmas.List.Elements.{All-map}
 use Rattle.tl_spec.specs.Tree.Document.{Document, Node}
 use Rattle.tl.specs.View.{HTMLNode, HTMLTable, document_of, node_view}
-use Rattle.tl.specs.TableLends.{with_nodes}
+use Rattle.tl.specs.Inner.TableLends.{with_nodes}
 
 -- a slice of the same length written over a list is that slice
 refill-same : {X : Type 0} (xs ws : List X) → length ws ≡ length xs → refill (length xs) xs ws ≡ ws

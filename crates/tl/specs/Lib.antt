@@ -1,7 +1,5 @@
 pub mod Tag
-pub mod Node
 pub mod Table
-pub mod Preorder
 pub mod Remaining
 pub mod View
 pub use Rattle.tl_table.specs.TreeFault
@@ -9,12 +7,9 @@ pub use Rattle.tl_table.specs.Answer
 pub mod Builder
 pub mod Marks
 pub mod Tracked
-pub mod Names
 pub mod Lookup
 pub mod Walker
-pub mod TagLends
-pub mod NodeLends
-pub mod TableLends
 pub mod ChildrenLends
 pub mod Find
 pub mod Query
+pub mod Inner

@@ -13,7 +13,7 @@ ghost use Rattle.tl_spec.specs.Lookup.Scan.{has_id, is_in_class, IsFirstPlace, A
 ghost use Rattle.tl.specs.Lookup.{with_id, with_member};
 ghost use Rattle.tl.specs.Query.{FindsIn, matches_in};
 ghost use Rattle.tl.specs.View.{document_of, node_view, HTMLNode, HTMLTable};
-ghost use Rattle.tl.specs.TableLends.{with_nodes};
+ghost use Rattle.tl.specs.Inner.TableLends.{with_nodes};
 ghost use Rattle.tl.specs.Tracked.{AreAsked, AnswerIds, AnswerClasses};
 
 pub use tl_spec::laws::nodes::{clean_nodes, nodes_of_a_walk, trees_of_the_normal_form};

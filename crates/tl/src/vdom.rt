@@ -9,7 +9,7 @@ ghost use Rattle.tl_spec.specs.Print.{document_print};
 ghost use Rattle.tl_spec.specs.Print.Text.{document_text};
 ghost use Rattle.tl_spec.specs.Walk.{all_tags, trees, walk};
 ghost use Rattle.tl.specs.View.{document_of};
-ghost use Rattle.tl.specs.TableLends.{LendsParser, LendsNodes, LendsTop};
+ghost use Rattle.tl.specs.Inner.TableLends.{LendsParser, LendsNodes, LendsTop};
 
 pub(crate) mod guard;
 pub(crate) mod lookup;

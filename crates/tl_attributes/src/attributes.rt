@@ -247,7 +247,7 @@ impl<B: Piece + Default + Drop> AttributesOf<B> {
 
 impl<B: Piece> AttributesOf<B> {
     ghost use Rattle.std.specs.Borrow.{sem};
-    ghost use Rattle.tl_attributes.specs.AttributesLends.{LendsId, LendsClass, LendsSlot, LendsValue, LendsValueAt, LendsValueAtOk};
+    ghost use Rattle.tl_attributes.specs.Inner.AttributesLends.{LendsId, LendsClass, LendsSlot, LendsValue, LendsValueAt, LendsValueAtOk};
 
     // The value of `id`.
     fn id_mut(&mut self) -> Option<&mut B>

@@ -5,7 +5,7 @@ ghost use Rattle.std.specs.Iterator.{at_most};
 ghost use Rattle.std.specs.List.{IsDistinct};
 ghost use Rattle.std.specs.Map.{keys_of};
 ghost use Rattle.tl_spec.specs.Lex.AttributeList.{AreOthers};
-ghost use Rattle.tl_attributes.specs.Listing.{read_pair, listed};
+ghost use Rattle.tl_attributes.specs.Inner.Listing.{read_pair, listed};
 
 use crate::attributes::AttributesOf;
 use crate::piece::Piece;
@@ -25,7 +25,7 @@ impl<'s, B: Piece> Model for AttributesIter<'s, B> {
     ghost use Rattle.std.specs.Prelude.{List, Option};
     ghost use Rattle.std.specs.Option.{option_copied};
     ghost use Rattle.tl_bytes.specs.Held.{Kept};
-    ghost use Rattle.tl_attributes.specs.Listing.{listed_parts};
+    ghost use Rattle.tl_attributes.specs.Inner.Listing.{listed_parts};
 
     ghost Value = { List (Kept × Option B) };
 

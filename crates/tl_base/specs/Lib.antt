@@ -4,6 +4,6 @@ pub use Rattle.tl_bytes.specs.Search
 pub use Rattle.tl_bytes.specs.Set
 pub use Rattle.tl_spec.specs.Tree.Inline
 pub use Rattle.tl_inline.specs.InlineMap
-pub use Rattle.tl_inline.specs.InlineMapLends
+pub use Rattle.tl_inline.specs.Inner.InlineMapLends
 pub use Rattle.tl_inline.specs.InlineVec
-pub use Rattle.tl_inline.specs.InlineVecLends
+pub use Rattle.tl_inline.specs.Inner.InlineVecLends

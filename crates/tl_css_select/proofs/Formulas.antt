@@ -3,7 +3,7 @@ use Rattle.std.proofs.Common.{◌≡◌, ◌↔◌, ◌+◌, ◌*◌, ◌/◌, �
 use Rattle.std.specs.Int.RustNames.{unsigned_abs}
 use Rattle.std.proofs.lemmas.Int.{ints}
 use Rattle.std.proofs.lemmas.Nat.{mod-mul-add, div-add-mod'}
-use Rattle.tl_css_select.specs.Terms.{IsDistance, is_natural}
+use Rattle.tl_css_select.specs.Inner.Terms.{IsDistance, is_natural}
 
 -- a number of steps makes a count
 abbrev pub IsReached : ℤ → ℤ → ℕ → Type 0

@@ -9,7 +9,7 @@ use Rattle.tl_spec.specs.Tree.Forest.{Forest, SourceTag, comment, forest, none, 
 use Rattle.tl_spec.proofs.Tree.Builder.{slice_get-append}
 use Rattle.tl_spec.proofs.Tree.Order.{length-nodes}
 use Rattle.tl_css.specs.Meaning.{AreChildrenRising, IsForest}
-use Rattle.tl_css_select.specs.Shape.{rises}
+use Rattle.tl_css_select.specs.Inner.Shape.{rises}
 use Rattle.tl_css_select.proofs.Shapes.{all_rises}
 use Rattle.tl_css_select.proofs.Siblings.{parent_tag}
 

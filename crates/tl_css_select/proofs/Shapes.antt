@@ -12,7 +12,7 @@ use Rattle.tl_spec.specs.Select.Meaning.{IsChild}
 use Rattle.tl_css.specs.Meaning.{IsForest}
 use Rattle.tl_css_select.specs.Kin.{children_at, with_children}
 use Rattle.tl_css_select.specs.Links.{link_at, no_link}
-use Rattle.tl_css_select.specs.Shape.{are_orphans, fits_at, rises}
+use Rattle.tl_css_select.specs.Inner.Shape.{are_orphans, fits_at, rises}
 use Rattle.tl_css_select.proofs.Parents.{Fostered, none_fostered, one_fostered, listed, unlisted, parent_within}
 
 rises-next : (last len : ℕ) (cs : List ℕ) (i c : ℕ) → slice_get cs i ≡ Some c → rises last len (drop i cs) ≡ (nat_lt last c && (nat_lt c len && rises c len (drop (suc i) cs)))

@@ -20,7 +20,7 @@ use Rattle.tl_css.specs.Meaning.{AreNamesakes, IsMet}
 use Rattle.tl_css_select.specs.declared.twin.TwinGroup.{TwinGroup}
 use Rattle.tl_css_select.specs.Links.{AreGrouped, IsLatest, link_at, link_or_none, no_link}
 use Rattle.tl_css_select.specs.Kin.{AreLinksOf, AreSiblingGroups, name_at, twin_group}
-use Rattle.tl_css_select.specs.Twin.{parts, twin_cmp}
+use Rattle.tl_css_select.specs.Inner.Twin.{parts, twin_cmp}
 use Rattle.tl_css_select.proofs.Sources.{link_within}
 use Rattle.tl_css_select.proofs.Previous.{AreLatest, IsLatest-here, IsLatest-more, all_latest, link_is, none_latest, one_latest}
 use Rattle.tl_css_select.proofs.Siblings.{links_to_last}

@@ -1,9 +1,6 @@
 pub mod Links
 pub mod Kin
-pub mod Twin
 pub mod Columns
-pub mod Terms
-pub mod Shape
 pub mod Pair
 pub mod Spelling
 pub mod Decoded
@@ -13,3 +10,4 @@ pub mod Compound
 pub mod Complex
 pub mod Seen
 pub mod Below
+pub mod Inner

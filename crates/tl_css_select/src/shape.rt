@@ -4,7 +4,7 @@ ghost use Rattle.tl_spec.specs.Tree.Element.{children_of};
 ghost use Rattle.tl_css.specs.Meaning.{IsForest};
 ghost use Rattle.std.specs.Option.{is_some};
 ghost use Rattle.tl_css_select.specs.Links.{link_at};
-ghost use Rattle.tl_css_select.specs.Shape.{are_orphans, fits_at, rises};
+ghost use Rattle.tl_css_select.specs.Inner.Shape.{are_orphans, fits_at, rises};
 
 use crate::kin::link_children_at;
 use crate::links::{NO_LINK, link};

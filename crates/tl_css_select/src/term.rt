@@ -1,7 +1,7 @@
 //! Terms of a formula.
 ghost use Rattle.std.specs.Prelude.{◌≡◌, ◌↔◌, ℕ, MatchOption, true};
 ghost use Rattle.tl_css.specs.Meaning.{IsTerm};
-ghost use Rattle.tl_css_select.specs.Terms.{IsDistance, is_natural};
+ghost use Rattle.tl_css_select.specs.Inner.Terms.{IsDistance, is_natural};
 
 use tl_css::selector::Formula;
 

@@ -6,7 +6,7 @@ ghost use Rattle.std.specs.Str.{str_to_ascii_lowercase};
 ghost use Rattle.tl_css.specs.declared.selector.Link.TheVariants.{Twin};
 ghost use Rattle.tl_css_select.specs.Kin.{AreLinksOf, AreSiblingGroups, name_at, twin_group};
 ghost use Rattle.tl_css_select.specs.Links.{no_link};
-ghost use Rattle.tl_css_select.specs.Twin.{parts, twin_cmp};
+ghost use Rattle.tl_css_select.specs.Inner.Twin.{parts, twin_cmp};
 ghost use Rattle.tl_css_select.specs.declared.twin.TwinGroup.{TwinGroup};
 
 use crate::links::{NO_LINK, link};

@@ -16,7 +16,7 @@ use Rattle.tl.specs.Walker.{event_view}
 use Rattle.tl.specs.declared.walk.WalkEvent.{WalkEvent}
 use Rattle.tl.specs.declared.walk.WalkEvent.TheVariants.{Meets, Leaves}
 use Rattle.tl.proofs.Remaining.{IsEntered, entered-step, fewer-step, next_at, next_same, place-skipped}
-use Rattle.tl_extract.specs.Flow.{after_event, after_name, event_flow, fault_around, remaining_fault, flow_around, remaining_flow, meets_hidden}
+use Rattle.tl_extract.specs.Inner.Flow.{after_event, after_name, event_flow, fault_around, remaining_fault, flow_around, remaining_flow, meets_hidden}
 use Rattle.tl_extract.specs.Readable.{edge, flow, is_hidden, readable, readable_of, visible_fault, spaced_byte}
 
 or_else_assoc : (a b c : Option TreeFault) → earlier_fault (earlier_fault a b) c ≡ earlier_fault a (earlier_fault b c)

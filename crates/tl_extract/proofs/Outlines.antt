@@ -15,7 +15,7 @@ use Rattle.tl.specs.Walker.{event_view}
 use Rattle.tl.specs.declared.walk.WalkEvent.{WalkEvent}
 use Rattle.tl.specs.declared.walk.WalkEvent.TheVariants.{Meets, Leaves}
 use Rattle.tl.proofs.Remaining.{IsEntered}
-use Rattle.tl_extract.specs.Events.{depth_after, event_lines, first_fault_around, first_fault_left, lines_around, lines_left}
+use Rattle.tl_extract.specs.Inner.Events.{depth_after, event_lines, first_fault_around, first_fault_left, lines_around, lines_left}
 use Rattle.tl_extract.specs.Outline.{node_line, node_lines, outline_of, placed, placed_nodes}
 use Rattle.tl_extract.specs.declared.listing.OutlineFormat.{OutlineFormat}
 use Rattle.tl_extract.proofs.Steps.{HoldsStepwise, holds_of_step, left_in, refused_by_error}

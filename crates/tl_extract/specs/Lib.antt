@@ -2,11 +2,10 @@ pub mod Field
 pub mod Links
 pub mod Notation
 pub mod Outline
-pub mod Events
 pub mod Split
 pub mod Readable
-pub mod Flow
 pub mod Spelling
 pub mod Table
 pub mod Node
 pub mod Pairs
+pub mod Inner

@@ -11,7 +11,7 @@ ghost use Rattle.tl.specs.Remaining.{remaining_of};
 ghost use Rattle.tl.specs.View.{document_of, node_view};
 ghost use Rattle.tl.specs.Walker.{event_view, Writes};
 ghost use Rattle.tl.proofs.Remaining.{IsEntered};
-ghost use Rattle.tl_extract.specs.Events.{depth_after, depth_below, event_lines, first_fault_left, lines_left};
+ghost use Rattle.tl_extract.specs.Inner.Events.{depth_after, depth_below, event_lines, first_fault_left, lines_left};
 ghost use Rattle.tl_extract.specs.Outline.{attribute_words, class_words, first_line, id_words, indentation, is_blank, key_words, keys_words, marked_name, node_line, node_words, number_words, outline_of, placed, said_at, shown_keys, type_words};
 ghost use Rattle.tl_extract.specs.Readable.{lines_of};
 ghost use Rattle.tl_extract.specs.Spelling.{said_text};

@@ -12,7 +12,7 @@ ghost use Rattle.tl.specs.Remaining.{remaining_of};
 ghost use Rattle.tl.specs.View.{document_of, node_view};
 ghost use Rattle.tl.specs.Walker.{event_view, Writes};
 ghost use Rattle.tl.proofs.Remaining.{IsEntered};
-ghost use Rattle.tl_extract.specs.Flow.{after_event, after_name, event_flow, remaining_fault, remaining_flow, visible_edge};
+ghost use Rattle.tl_extract.specs.Inner.Flow.{after_event, after_name, event_flow, remaining_fault, remaining_flow, visible_edge};
 ghost use Rattle.tl_extract.specs.Readable.{block_names, cell_names, edge, flow_inside, is_hidden, readable, readable_inside, readable_of, spaced_byte};
 
 use crate::lines::lines_of;

@@ -18,8 +18,8 @@ use Rattle.tl_html_tokens.specs.declared.stage.TokenKind.{TokenKind}
 use Rattle.tl_html_tokens.specs.declared.stage.TokenKind.TheVariants as kind
 use Rattle.tl_html_tokens.specs.declared.token.Token.{Token}
 use Rattle.tl_html.specs.Noted.{Noted, nodes_written, noted, with_end, with_last_up_to, with_next_text, with_node, with_nodes, with_text, with_text_after}
-use Rattle.tl_html.specs.Parts.{Says}
-use Rattle.tl_html.specs.Written.{emits_of, goes, is_some_byte, next_after, written_form}
+use Rattle.tl_html.specs.Inner.Parts.{Says}
+use Rattle.tl_html.specs.Inner.Written.{emits_of, goes, is_some_byte, next_after, written_form}
 use Rattle.tl_html.proofs.Noting.{last_append, last_twice}
 use Rattle.tl_html.proofs.Plain as P
 use Rattle.tl_html.proofs.Plain.{balanced_at}

@@ -9,8 +9,8 @@ use Rattle.tl_html_spec.specs.HtmlForm.{doctype_of, has_doctype}
 use Rattle.tl_html_balance.specs.View.{open_names}
 use Rattle.tl_html_spec.specs.Coded.{coded_token}
 use Rattle.tl_html_spec.specs.Written.{written, written_token}
-use Rattle.tl_html.specs.Forms.{Grows, balance_of}
-use Rattle.tl_html.specs.Written.{emits_of, next_after, written_form}
+use Rattle.tl_html.specs.Inner.Forms.{Grows, balance_of}
+use Rattle.tl_html.specs.Inner.Written.{emits_of, next_after, written_form}
 use Rattle.tl_html.specs.declared.form.Form.{Form}
 
 pub form_append : (x y : List HtmlToken) → written_form (x ++ y) ≡ written_form x ++ written_form y

@@ -9,9 +9,9 @@ use Rattle.tl_html_balance.specs.Tokens.{Opens, tokens_put_in}
 use Rattle.tl_html_balance.specs.View.{open_names}
 use Rattle.tl_html_balance.specs.declared.balance.Opening.{Opening}
 use Rattle.tl_html_balance.specs.declared.balance.PutIn.{PutIn}
-use Rattle.tl_html.specs.Forms.{Grows, balance_of}
-use Rattle.tl_html.specs.Opened.{opened_tags, opened_tokens}
-use Rattle.tl_html.specs.Written.{emits_of, goes, is_some_byte, next_after, written_form}
+use Rattle.tl_html.specs.Inner.Forms.{Grows, balance_of}
+use Rattle.tl_html.specs.Inner.Opened.{opened_tags, opened_tokens}
+use Rattle.tl_html.specs.Inner.Written.{emits_of, goes, is_some_byte, next_after, written_form}
 use Rattle.tl_html.specs.declared.form.Form.{Form}
 use Rattle.tl_html.proofs.Growing.{characters_form, grows_one}
 use Rattle.tl_html.proofs.Plain as P

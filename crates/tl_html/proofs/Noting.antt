@@ -6,7 +6,7 @@ use Rattle.tl_html_spec.specs.Coded.{coded_token}
 use Rattle.tl_html_spec.specs.Nodes.{SourcedNode, SourcedToken, Span, balanced_at, form_tokens_at, goes_on, is_character, mark_size, nodes_of, sourced, sources, tokens_at, with_character, with_token}
 use Rattle.tl_html_spec.specs.Pieces.{pieces, placed, runs}
 use Rattle.tl_html.specs.Noted.{Noted, no_nodes, noted, noted_after, with_end, with_last_up_to}
-use Rattle.tl_html.specs.Sourced.{emits_at}
+use Rattle.tl_html.specs.Inner.Sourced.{emits_at}
 
 -- the spans of nodes by themselves
 

@@ -10,7 +10,7 @@ use Rattle.tl_html_spec.specs.HtmlTokenizer.{Character, EndTag, is_white_space}
 use Rattle.tl_html_spec.specs.Balanced.{Balance, Names, balance, is_head, leading, when}
 use Rattle.tl_html_spec.specs.Written.{written, written_token}
 use Rattle.tl_html_tokens.proofs.Plain.{all_before, fails_not}
-use Rattle.tl_html.specs.Written.{emits_of, goes, is_some_byte, next_after, written_form}
+use Rattle.tl_html.specs.Inner.Written.{emits_of, goes, is_some_byte, next_after, written_form}
 use Rattle.tl_html.proofs.Growing.{form_append}
 
 abbrev pub balanced_at : Names → Bool → Balance

@@ -17,11 +17,11 @@ use Rattle.tl_html_tokens.specs.Tokens.{AreTokens, AreTokensOf, mark_len}
 use Rattle.tl_html_tokens.specs.declared.token.Token.{Token}
 use Rattle.tl_html_tokens.proofs.Alone.{tags_are_whole}
 use Rattle.tl_html_tokens.proofs.Telling.{tokens_said}
-use Rattle.tl_html.specs.Forms.{Grows, balance_of}
+use Rattle.tl_html.specs.Inner.Forms.{Grows, balance_of}
 use Rattle.tl_html.specs.Noted.{Noted, nodes_written, noted, noted_of, span_of, with_nodes}
-use Rattle.tl_html.specs.Parts.{AreParts, IsPart}
-use Rattle.tl_html.specs.Sourced.{Notes, NotesToken, emits_at}
-use Rattle.tl_html.specs.Written.{emits_of, next_after, written_form}
+use Rattle.tl_html.specs.Inner.Parts.{AreParts, IsPart}
+use Rattle.tl_html.specs.Inner.Sourced.{Notes, NotesToken, emits_at}
+use Rattle.tl_html.specs.Inner.Written.{emits_of, next_after, written_form}
 use Rattle.tl_html.specs.declared.form.Form.{Form}
 use Rattle.tl_html.specs.declared.source.Source.{Source}
 use Rattle.tl_html.specs.declared.source.Sources.{Sources}

@@ -8,8 +8,8 @@ use Rattle.tl_html_balance.specs.Tokens.{Opens, opened_as, tokens_put_in}
 use Rattle.tl_html_balance.specs.declared.balance.Opening.{Opening}
 use Rattle.tl_html_balance.specs.declared.balance.Opening.TheVariants as opens
 use Rattle.tl_html_balance.specs.declared.balance.PutIn.{PutIn}
-use Rattle.tl_html.specs.Opened.{opened_tags, opened_tokens}
-use Rattle.tl_html.specs.Written.{written_form}
+use Rattle.tl_html.specs.Inner.Opened.{opened_tags, opened_tokens}
+use Rattle.tl_html.specs.Inner.Written.{written_form}
 use Rattle.tl_html.proofs.Growing.{form_append}
 use Rattle.tl_html.proofs.Plain.{balanced_at}
 

@@ -18,7 +18,7 @@ use Rattle.tl_html_tokens.specs.declared.stage.TokenKind.TheVariants as kind
 use Rattle.tl_html_tokens.specs.declared.token.Token.{Token}
 use Rattle.tl_html_tokens.proofs.Alone.{tags_are_whole}
 use Rattle.tl_html_tokens.proofs.Telling.{tokens_said}
-use Rattle.tl_html.specs.Parts.{AreParts, IsPart, Says}
+use Rattle.tl_html.specs.Inner.Parts.{AreParts, IsPart, Says}
 
 doctype_is : (ts : List HtmlToken) → IsDoctype ts → ts ≡ DoctypeToken ∷ []
 doctype_is (DoctypeToken ∷ []) h = refl

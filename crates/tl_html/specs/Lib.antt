@@ -1,6 +1,2 @@
-pub mod Written
-pub mod Forms
-pub mod Parts
-pub mod Opened
 pub mod Noted
-pub mod Sourced
+pub mod Inner

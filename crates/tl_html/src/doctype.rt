@@ -7,7 +7,7 @@ ghost use Rattle.tl_html_spec.specs.HtmlTokenizer.{HtmlToken, html_tokens, is_wh
 ghost use Rattle.tl_html_tokens.specs.Characters.{characters_of};
 ghost use Rattle.tl_html_tokens.specs.Tokens.{AreTokensOf};
 ghost use Rattle.tl_html_tokens.specs.Whole.{bytes_at};
-ghost use Rattle.tl_html.specs.Parts.{IsPart};
+ghost use Rattle.tl_html.specs.Inner.Parts.{IsPart};
 
 use crate::text::is_white_space;
 use crate::token::token_bytes;

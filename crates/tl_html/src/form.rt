@@ -16,8 +16,8 @@ ghost use Rattle.std.specs.Prelude.{◌≡◌, ◌++◌, drop, map, take, OnOk};
 ghost use Rattle.tl_html_spec.specs.HtmlTokenizer.{EndTag};
 ghost use Rattle.tl_html_spec.specs.Balanced.{start};
 ghost use Rattle.tl_html_balance.specs.View.{open_names};
-ghost use Rattle.tl_html.specs.Written.{written_form};
-ghost use Rattle.tl_html.specs.Forms.{balance_of};
+ghost use Rattle.tl_html.specs.Inner.Written.{written_form};
+ghost use Rattle.tl_html.specs.Inner.Forms.{balance_of};
 
 // Writes the end tags of so many of the innermost open tags.
 fn write_end_tags(open_tags: &OpenTags, count: usize, out: &mut Vec<u8>) -> Result<(), AllocError>

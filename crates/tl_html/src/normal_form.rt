@@ -5,10 +5,10 @@ ghost use Rattle.tl_html_spec.specs.HtmlForm.{html_form};
 ghost use Rattle.tl_html_spec.specs.HtmlTokenizer.{HtmlToken, html_tokens};
 ghost use Rattle.tl_html_spec.specs.Nodes.{sources};
 ghost use Rattle.tl_html_tokens.specs.Tokens.{AreTokensOf};
-ghost use Rattle.tl_html.specs.Forms.{Grows, balance_of};
+ghost use Rattle.tl_html.specs.Inner.Forms.{Grows, balance_of};
 ghost use Rattle.tl_html.specs.Noted.{noted_of, spans_of};
-ghost use Rattle.tl_html.specs.Parts.{IsPart};
-ghost use Rattle.tl_html.specs.Sourced.{NotesPage, NotesToken};
+ghost use Rattle.tl_html.specs.Inner.Parts.{IsPart};
+ghost use Rattle.tl_html.specs.Inner.Sourced.{NotesPage, NotesToken};
 ghost use Rattle.tl_html.specs.declared.error.NormalizeError.TheVariants.{TooLong};
 
 use crate::error::NormalizeError;

@@ -3,7 +3,7 @@ ghost use Rattle.std.specs.Prelude.{◌≡◌, ◌≤◌, ◌<◌, ◌++◌, ◌
 ghost use Rattle.tl_html_spec.specs.HtmlForm.{doctype_of, html_form};
 ghost use Rattle.tl_html_spec.specs.HtmlTokenizer.{html_tokens};
 ghost use Rattle.tl_html_tokens.specs.Tokens.{AreTokensOf};
-ghost use Rattle.tl_html.specs.Forms.{Grows};
+ghost use Rattle.tl_html.specs.Inner.Forms.{Grows};
 ghost use Rattle.tl_html.specs.declared.error.NormalizeError.TheVariants.{TooLong};
 
 use crate::doctype::has_doctype;

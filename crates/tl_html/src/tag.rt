@@ -3,8 +3,8 @@ ghost use Rattle.std.specs.Prelude.{◌≡◌, ◌∷◌, ◌++◌, [], List, On
 ghost use Rattle.tl_html_spec.specs.HtmlTokenizer.{HtmlToken, StartTag, EndTag};
 ghost use Rattle.tl_html_balance.specs.Tokens.{tokens_put_in};
 ghost use Rattle.tl_html_parts.specs.Parts.{end_tag, name_of, parts_view, start_tag};
-ghost use Rattle.tl_html.specs.Written.{written_form};
-ghost use Rattle.tl_html.specs.Forms.{Grows};
+ghost use Rattle.tl_html.specs.Inner.Written.{written_form};
+ghost use Rattle.tl_html.specs.Inner.Forms.{Grows};
 
 use crate::form::Form;
 use std::alloc::{AllocError, Global};
@@ -42,8 +42,8 @@ fn write_put_in(
 ghost use Rattle.std.specs.Prelude.{false};
 ghost use Rattle.tl_html_spec.specs.Balanced.{is_dropped};
 ghost use Rattle.tl_html_balance.specs.View.{name_of as tag_name, open_names};
-ghost use Rattle.tl_html.specs.Forms.{balance_of};
-ghost use Rattle.tl_html.specs.Opened.{opened_tokens, opened_tags};
+ghost use Rattle.tl_html.specs.Inner.Forms.{balance_of};
+ghost use Rattle.tl_html.specs.Inner.Opened.{opened_tokens, opened_tags};
 
 impl Form {
     // What becomes of a start tag that is written: its end tag follows, or it is open.

@@ -4,8 +4,8 @@ ghost use Rattle.tl_html_spec.specs.HtmlTokenizer.{Character, CommentToken, is_w
 ghost use Rattle.tl_html_spec.specs.Balanced.{is_head, leading};
 ghost use Rattle.tl_html_spec.specs.Written.{written};
 ghost use Rattle.tl_html_balance.specs.View.{open_names};
-ghost use Rattle.tl_html.specs.Written.{goes, is_some_byte};
-ghost use Rattle.tl_html.specs.Forms.{Grows};
+ghost use Rattle.tl_html.specs.Inner.Written.{goes, is_some_byte};
+ghost use Rattle.tl_html.specs.Inner.Forms.{Grows};
 
 use crate::form::Form;
 use memchr::memchr;

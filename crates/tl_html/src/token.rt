@@ -4,8 +4,8 @@ ghost use Rattle.tl_html_spec.specs.HtmlTokenizer.{HtmlToken, DoctypeToken};
 ghost use Rattle.tl_html_tokens.specs.Kinds.{IsEndTag, IsStartTag};
 ghost use Rattle.tl_html_tokens.specs.Whole.{IsWhole, bytes_at};
 ghost use Rattle.tl_html_tokens.specs.declared.mode.Mode.{Mode};
-ghost use Rattle.tl_html.specs.Forms.{Grows};
-ghost use Rattle.tl_html.specs.Parts.{IsPart};
+ghost use Rattle.tl_html.specs.Inner.Forms.{Grows};
+ghost use Rattle.tl_html.specs.Inner.Parts.{IsPart};
 
 use crate::form::Form;
 use std::alloc::{AllocError, Global};

@@ -4,7 +4,7 @@ use Rattle.std.specs.Str.{bytes_eq}
 use Rattle.std.proofs.lemmas.List.{drop_all, drop_more, get_or-take}
 use Rattle.tl_html_spec.specs.Balanced.{Names, depth, depth_in, is_foreign, is_innermost, is_one_of, leading, looked_at, never}
 use Rattle.tl_html_balance.specs.Classes.{is}
-use Rattle.tl_html_balance.specs.Rules.{innermost_passes}
+use Rattle.tl_html_balance.specs.Inner.Rules.{innermost_passes}
 use Rattle.tl_html_balance.specs.declared.class.TheConstants as class
 use Rattle.tl_html_balance.proofs.Tests.{any_foreign, foreign_object, never_is}
 

@@ -4,7 +4,7 @@ use Rattle.std.specs.Str.{bytes_eq}
 use Rattle.tl_names.specs.Elements.{head_parts, is_among}
 use Rattle.tl_html_spec.specs.Balanced.{Names, Rule, before_start, carried_out, closed_by, closing, depth, innermost, inside_of, is_foreign, is_head, is_in_ruby, is_one_of, leading, nearest, or_none, rules_before, then_closing, when}
 use Rattle.tl_html_balance.specs.Classes.{is}
-use Rattle.tl_html_balance.specs.Rules.{end_reach, in_ruby, rule_of, rules_for, same_name_stops, total}
+use Rattle.tl_html_balance.specs.Inner.Rules.{end_reach, in_ruby, rule_of, rules_for, same_name_stops, total}
 use Rattle.tl_html_balance.specs.declared.class.TheConstants as class
 use Rattle.tl_html_balance.specs.declared.rule.Reach.{Reach}
 use Rattle.tl_html_balance.specs.declared.rule.Reach.TheVariants as reach

@@ -4,7 +4,7 @@ use Rattle.std.proofs.lemmas.List.{drop-drop, drop_more, map-append}
 use Rattle.tl_html_spec.specs.HtmlTokenizer.{HtmlToken, EndTag}
 use Rattle.tl_html_spec.specs.Balanced.{Closing, Names, Rule, carried_out, closing, innermost, or_none, then_closing, when}
 use Rattle.tl_html_balance.specs.Classes.{is}
-use Rattle.tl_html_balance.specs.Rules.{innermost_passes, rule_of, rules_for, total}
+use Rattle.tl_html_balance.specs.Inner.Rules.{innermost_passes, rule_of, rules_for, total}
 use Rattle.tl_html_balance.specs.declared.rule.Reach.{Reach}
 
 take_none : (n : ℕ) → take {A = List ℕ} n [] ≡ []

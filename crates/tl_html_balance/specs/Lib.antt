@@ -1,5 +1,5 @@
 pub mod Classes
 pub mod Names
 pub mod View
-pub mod Rules
 pub mod Tokens
+pub mod Inner

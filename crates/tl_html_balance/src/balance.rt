@@ -2,7 +2,7 @@
 ghost use Rattle.std.specs.Prelude.{◌≡◌, ◌≤◌, ◌||◌, length, not};
 ghost use Rattle.tl_names.specs.Elements.{head_parts, is_among};
 ghost use Rattle.tl_html_spec.specs.Balanced.{before_start, closed_by, closing, is_dropped, is_foreign, is_head, leading, put_in, when};
-ghost use Rattle.tl_html_balance.specs.Rules.{end_reach, same_name_stops};
+ghost use Rattle.tl_html_balance.specs.Inner.Rules.{end_reach, same_name_stops};
 ghost use Rattle.tl_html_balance.specs.Tokens.{Opens, is_closed_at_once, is_misplaced, tokens_put_in};
 ghost use Rattle.tl_html_balance.specs.View.{name_of, names_left, open_names};
 

@@ -4,7 +4,7 @@ ghost use Rattle.std.specs.List.{list_any};
 ghost use Rattle.std.specs.Str.{bytes_eq};
 ghost use Rattle.tl_html_spec.specs.Balanced.{depth, innermost, is_foreign, leading, nearest, never, or_none};
 ghost use Rattle.tl_html_balance.specs.Classes.{is};
-ghost use Rattle.tl_html_balance.specs.Rules.{in_ruby, innermost_passes};
+ghost use Rattle.tl_html_balance.specs.Inner.Rules.{in_ruby, innermost_passes};
 ghost use Rattle.tl_html_balance.specs.View.{name_of, names_left};
 
 use crate::class;

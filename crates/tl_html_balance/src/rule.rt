@@ -1,6 +1,6 @@
 //! The rules by which tags close others.
 ghost use Rattle.std.specs.Prelude.{◌≡◌, ◌≤◌, length};
-ghost use Rattle.tl_html_balance.specs.Rules.{rule_of, rules_for, total};
+ghost use Rattle.tl_html_balance.specs.Inner.Rules.{rule_of, rules_for, total};
 ghost use Rattle.tl_html_balance.specs.View.{name_of, names_left};
 
 use crate::class::*;

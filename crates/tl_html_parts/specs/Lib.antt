@@ -1,4 +1,4 @@
 pub mod View
 pub mod Parts
 pub mod Bytes
-pub mod Tail
+pub mod Inner

@@ -10,7 +10,7 @@ use Rattle.tl_html_spec.proofs.Cutting.{front_of, none_or_some}
 use Rattle.tl_html_spec.proofs.Resting.{settled_at_once}
 use Rattle.tl_html_tokens.specs.Fronts.{pieces_at}
 use Rattle.tl_html_tokens.specs.Kinds.{IsKind}
-use Rattle.tl_html_tokens.specs.Machine as M
+use Rattle.tl_html_tokens.specs.Inner.Machine as M
 use Rattle.tl_html_tokens.specs.Modes.{state_of}
 use Rattle.tl_html_tokens.specs.Tokens.{AreTokens, AreTokensOf, mark_len}
 use Rattle.tl_html_tokens.specs.Whole.{AreWholeTags, IsWhole, TagsAreWhole, is_tag_kind}

@@ -4,10 +4,10 @@ use Rattle.std.specs.Char.{is_ascii_alphabetic}
 use Rattle.std.specs.List.{list_all}
 use Rattle.std.proofs.lemmas.Bool.{cases_Bool, eqb-true}
 use Rattle.tl_html_spec.specs.Reader.{feed}
-use Rattle.tl_html_tokens.specs.Machine as M
-use Rattle.tl_html_tokens.specs.Quiet.{is_quiet, skip_quiet}
-use Rattle.tl_html_tokens.specs.Scanned.{scanned, unless_ended}
-use Rattle.tl_html_tokens.specs.Scans as S
+use Rattle.tl_html_tokens.specs.Inner.Machine as M
+use Rattle.tl_html_tokens.specs.Inner.Quiet.{is_quiet, skip_quiet}
+use Rattle.tl_html_tokens.specs.Inner.Scanned.{scanned, unless_ended}
+use Rattle.tl_html_tokens.specs.Inner.Scans as S
 use Rattle.tl_html_tokens.specs.declared.front.Scan.{Scan}
 use Rattle.tl_html_tokens.specs.declared.front.Scanned.{Scanned}
 use Rattle.tl_html_tokens.specs.declared.front.Scanned.TheVariants.{On, Before}

@@ -14,7 +14,7 @@ use Rattle.tl_html_spec.specs.HtmlTokenizer.{HtmlToken, CommentToken, State, cha
 use Rattle.tl_html_spec.specs.Reader.{is_at_rest}
 use Rattle.tl_html_tokens.specs.Characters.{without_nul}
 use Rattle.tl_html_tokens.specs.Comments.{data_of, inside, not_greater}
-use Rattle.tl_html_tokens.specs.Machine as M
+use Rattle.tl_html_tokens.specs.Inner.Machine as M
 use Rattle.tl_html_tokens.specs.declared.mode.Mode.{Mode}
 use Rattle.tl_html_tokens.specs.declared.mode.Mode.TheVariants as mode
 use Rattle.tl_html_tokens.specs.declared.stage.TokenKind.{TokenKind}

@@ -1,6 +1,6 @@
 -- Stages that none of some arms takes.
 use Rattle.std.proofs.Common.{◌≡◌, ℕ, refl}
-use Rattle.tl_html_tokens.specs.Machine as M
+use Rattle.tl_html_tokens.specs.Inner.Machine as M
 use Rattle.tl_html_tokens.specs.declared.mode.Mode.{Mode}
 use Rattle.tl_html_tokens.specs.declared.stage.TokenKind.{TokenKind}
 use Rattle.tl_html_tokens.specs.declared.stage.Tag.{Tag}

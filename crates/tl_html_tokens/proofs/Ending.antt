@@ -9,7 +9,7 @@ use Rattle.tl_html_spec.specs.Sound.{IsSome}
 use Rattle.tl_html_tokens.specs.Fronts.{IsFront, pieces_at}
 use Rattle.tl_html_tokens.specs.Kinds.{IsKind}
 use Rattle.tl_html_tokens.specs.Modes.{state_of}
-use Rattle.tl_html_tokens.specs.Stages.{kind_at_end, place_at_end}
+use Rattle.tl_html_tokens.specs.Inner.Stages.{kind_at_end, place_at_end}
 use Rattle.tl_html_tokens.specs.declared.front.Scan.{Scan}
 use Rattle.tl_html_tokens.specs.declared.mode.Mode.{Mode}
 use Rattle.tl_html_tokens.specs.declared.mode.Mode.TheVariants as mode

@@ -5,8 +5,8 @@ use Rattle.tl_html_spec.specs.HtmlTokenizer as T
 use Rattle.tl_html_spec.specs.HtmlTokenizer.{HtmlToken, Character, CommentToken, State, at_end}
 use Rattle.tl_html_tokens.specs.Characters.{without_nul}
 use Rattle.tl_html_tokens.specs.Comments.{data_of}
-use Rattle.tl_html_tokens.specs.Machine as M
-use Rattle.tl_html_tokens.specs.Stages.{kind_at_end}
+use Rattle.tl_html_tokens.specs.Inner.Machine as M
+use Rattle.tl_html_tokens.specs.Inner.Stages.{kind_at_end}
 use Rattle.tl_html_tokens.specs.declared.mode.Mode.{Mode}
 use Rattle.tl_html_tokens.specs.declared.stage.TokenKind.TheVariants as kind
 use Rattle.tl_html_tokens.specs.declared.stage.Place.TheVariants as place

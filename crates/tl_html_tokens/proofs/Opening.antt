@@ -10,9 +10,9 @@ use Rattle.tl_html_spec.specs.HtmlTokenizer as T
 use Rattle.tl_html_spec.specs.HtmlTokenizer.{HtmlToken, OpenTag, Raw, State, Step, at_end, ends_name, is_appropriate, is_white_space, new_tag, own_end_tag, settled, step, whole_step}
 use Rattle.tl_html_spec.specs.Reader.{Reader, at, feed, next, read, tokens_of}
 use Rattle.tl_html_spec.proofs.Resting.{neither_again, settled_at_once}
-use Rattle.tl_html_tokens.specs.Machine as M
+use Rattle.tl_html_tokens.specs.Inner.Machine as M
 use Rattle.tl_html_tokens.specs.Modes.{state_of}
-use Rattle.tl_html_tokens.specs.Stages.{kind_at_end}
+use Rattle.tl_html_tokens.specs.Inner.Stages.{kind_at_end}
 use Rattle.tl_html_tokens.specs.Whole.{is_tag_kind}
 use Rattle.tl_html_tokens.specs.declared.mode.Mode.{Mode}
 use Rattle.tl_html_tokens.specs.declared.mode.Mode.TheVariants as mode

@@ -8,9 +8,9 @@ use Rattle.tl_html_spec.specs.HtmlTokenizer.{HtmlToken, Character, StartTag, End
 use Rattle.tl_html_spec.specs.Pieces.{are_characters}
 use Rattle.tl_html_spec.specs.Reader.{Reader, Rest, feed, is_at_rest, next, read, rest_before, resting, tokens_of}
 use Rattle.tl_html_tokens.specs.Kinds.{IsKind}
-use Rattle.tl_html_tokens.specs.Machine as M
+use Rattle.tl_html_tokens.specs.Inner.Machine as M
 use Rattle.tl_html_tokens.specs.Modes.{state_of}
-use Rattle.tl_html_tokens.specs.Stages.{has_word, kind_at_end}
+use Rattle.tl_html_tokens.specs.Inner.Stages.{has_word, kind_at_end}
 use Rattle.tl_html_tokens.specs.Whole.{is_tag_kind}
 use Rattle.tl_html_tokens.specs.declared.mode.Mode.{Mode}
 use Rattle.tl_html_tokens.specs.declared.stage.TokenKind.{TokenKind}

@@ -5,10 +5,10 @@ use Rattle.std.proofs.lemmas.Bool.{and_parts, cond_both}
 use Rattle.std.proofs.lemmas.List.{drop_more}
 use Rattle.tl_html_spec.specs.HtmlTokenizer.{ends_name, is_white_space}
 use Rattle.tl_html_spec.specs.Reader.{feed}
-use Rattle.tl_html_tokens.specs.Machine as M
-use Rattle.tl_html_tokens.specs.Quiet.{is_quiet, skip_quiet}
-use Rattle.tl_html_tokens.specs.Scans as S
-use Rattle.tl_html_tokens.specs.Stages.{has_word}
+use Rattle.tl_html_tokens.specs.Inner.Machine as M
+use Rattle.tl_html_tokens.specs.Inner.Quiet.{is_quiet, skip_quiet}
+use Rattle.tl_html_tokens.specs.Inner.Scans as S
+use Rattle.tl_html_tokens.specs.Inner.Stages.{has_word}
 use Rattle.tl_html_tokens.specs.declared.front.Scan.{Scan}
 use Rattle.tl_html_tokens.specs.declared.front.Scanned.TheVariants.{On}
 use Rattle.tl_html_tokens.specs.declared.mode.Mode.{Mode}

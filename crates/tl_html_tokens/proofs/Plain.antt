@@ -11,7 +11,7 @@ use Rattle.tl_html_spec.specs.Sound.{IsSome}
 use Rattle.tl_html_spec.proofs.Resting.{settled_at_once, strict_rest}
 use Rattle.tl_html_tokens.specs.Fronts.{IsFront, pieces_at}
 use Rattle.tl_html_tokens.specs.Modes.{state_of}
-use Rattle.tl_html_tokens.specs.Runs.{is_plain, reads_plain}
+use Rattle.tl_html_tokens.specs.Inner.Runs.{is_plain, reads_plain}
 use Rattle.tl_html_tokens.specs.declared.mode.Mode.{Mode}
 use Rattle.tl_html_tokens.specs.declared.mode.Mode.TheVariants as mode
 use Rattle.tl_html_tokens.specs.declared.stage.TokenKind.TheVariants as kind

@@ -9,10 +9,10 @@ use Rattle.tl_html_spec.specs.Reader.{Reader, Rest, at, byte_step, feed, is_at_r
 use Rattle.tl_html_spec.proofs.Resting.{settled_at_once}
 use Rattle.tl_html_tokens.specs.Fronts.{IsFront, pieces_at}
 use Rattle.tl_html_tokens.specs.Kinds.{IsKind}
-use Rattle.tl_html_tokens.specs.Machine as M
+use Rattle.tl_html_tokens.specs.Inner.Machine as M
 use Rattle.tl_html_tokens.specs.Modes.{state_of}
-use Rattle.tl_html_tokens.specs.Scans as S
-use Rattle.tl_html_tokens.specs.Stages.{has_word}
+use Rattle.tl_html_tokens.specs.Inner.Scans as S
+use Rattle.tl_html_tokens.specs.Inner.Stages.{has_word}
 use Rattle.tl_html_tokens.specs.declared.front.Scan.{Scan}
 use Rattle.tl_html_tokens.specs.declared.front.Scanned.{Scanned}
 use Rattle.tl_html_tokens.specs.declared.front.Scanned.TheVariants.{On, Before}

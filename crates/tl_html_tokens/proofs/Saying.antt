@@ -11,9 +11,9 @@ use Rattle.tl_html_spec.proofs.Resting.{settled_at_once}
 use Rattle.tl_html_tokens.specs.Comments.{data_of}
 use Rattle.tl_html_tokens.specs.Fronts.{pieces_at}
 use Rattle.tl_html_tokens.specs.Kinds.{IsComment, IsKind}
-use Rattle.tl_html_tokens.specs.Machine as M
+use Rattle.tl_html_tokens.specs.Inner.Machine as M
 use Rattle.tl_html_tokens.specs.Modes.{state_of}
-use Rattle.tl_html_tokens.specs.Stages.{kind_at_end}
+use Rattle.tl_html_tokens.specs.Inner.Stages.{kind_at_end}
 use Rattle.tl_html_tokens.specs.declared.mode.Mode.{Mode}
 use Rattle.tl_html_tokens.specs.declared.mode.Mode.TheVariants as mode
 use Rattle.tl_html_tokens.specs.declared.stage.TokenKind.{TokenKind}

@@ -13,9 +13,9 @@ use Rattle.tl_html_spec.specs.Pieces.{are_characters}
 use Rattle.tl_html_spec.specs.Reader.{is_at_rest}
 use Rattle.tl_html_spec.specs.Sound.{IsSome}
 use Rattle.tl_html_tokens.specs.Kinds.{IsKind}
-use Rattle.tl_html_tokens.specs.Machine as M
+use Rattle.tl_html_tokens.specs.Inner.Machine as M
 use Rattle.tl_html_tokens.specs.Modes.{mode_after, own_name, state_of}
-use Rattle.tl_html_tokens.specs.Stages.{has_word}
+use Rattle.tl_html_tokens.specs.Inner.Stages.{has_word}
 use Rattle.tl_html_tokens.specs.declared.mode.Mode.{Mode}
 use Rattle.tl_html_tokens.specs.declared.mode.Mode.TheVariants as mode
 use Rattle.tl_html_tokens.specs.declared.stage.TokenKind.TheVariants as kind

@@ -14,7 +14,7 @@ use Rattle.tl_html_spec.proofs.Ahead.{apart}
 use Rattle.tl_html_spec.proofs.Resting.{neither_again, settled_at_once}
 use Rattle.tl_html_tokens.specs.Characters.{without_nul}
 use Rattle.tl_html_tokens.specs.Comments.{not_greater}
-use Rattle.tl_html_tokens.specs.Machine as M
+use Rattle.tl_html_tokens.specs.Inner.Machine as M
 use Rattle.tl_html_tokens.specs.Modes.{state_of}
 use Rattle.tl_html_tokens.specs.declared.mode.Mode.{Mode}
 use Rattle.tl_html_tokens.specs.declared.mode.Mode.TheVariants as mode

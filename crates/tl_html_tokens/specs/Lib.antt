@@ -1,15 +1,9 @@
 pub mod Modes
-pub mod Stages
 pub mod Kinds
-pub mod Machine
-pub mod Scans
 pub mod Fronts
 pub mod Tokens
-pub mod Runs
-pub mod Quiet
 pub mod Characters
 pub mod Comments
 pub mod Said
 pub mod Whole
-pub mod Through
-pub mod Scanned
+pub mod Inner

@@ -1,8 +1,8 @@
 //! Attributes that are read at once: a key, `=`, and a value in double quotes that holds neither a
 //! reference nor a carriage return. A space stands between two.
 ghost use Rattle.std.specs.Prelude.{◌≡◌, ◌≤◌, ◌<◌, Some, false, length, take};
-ghost use Rattle.tl_html_tokens.specs.Stages.{has_word};
-ghost use Rattle.tl_html_tokens.specs.Through.{through};
+ghost use Rattle.tl_html_tokens.specs.Inner.Stages.{has_word};
+ghost use Rattle.tl_html_tokens.specs.Inner.Through.{through};
 ghost use Rattle.tl_html_tokens.specs.declared.stage.Tag.{Tag};
 ghost use Rattle.tl_html_tokens.specs.declared.stage.Stage.TheVariants.{AfterValue, BeforeKey};
 

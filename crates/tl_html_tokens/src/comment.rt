@@ -2,7 +2,7 @@
 ghost use Rattle.std.specs.Prelude.{◌≡◌, map};
 ghost use Rattle.std.specs.Char.{to_ascii_lowercase};
 ghost use Rattle.tl_html_spec.specs.HtmlTokenizer.{begins};
-ghost use Rattle.tl_html_tokens.specs.Machine as machine;
+ghost use Rattle.tl_html_tokens.specs.Inner.Machine as machine;
 
 use crate::mode::Mode;
 use crate::stage::{Stage, TokenKind, Turn};

@@ -1,6 +1,6 @@
 //! What the first byte of a piece does.
 ghost use Rattle.std.specs.Prelude.{◌≡◌};
-ghost use Rattle.tl_html_tokens.specs.Machine as machine;
+ghost use Rattle.tl_html_tokens.specs.Inner.Machine as machine;
 
 use crate::mode::Mode;
 use crate::stage::{Place, Stage, TokenKind};

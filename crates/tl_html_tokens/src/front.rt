@@ -33,7 +33,7 @@ enum Scanned {
     Before(TokenKind, Mode),
 }
 
-ghost use Rattle.tl_html_tokens.specs.Scans as scans;
+ghost use Rattle.tl_html_tokens.specs.Inner.Scans as scans;
 
 fn first_scan(page: &[u8], start: usize, mode: Mode) -> Scan
     requires { start < length page.now }
@@ -80,7 +80,7 @@ fn next_scan(scan: Scan, page: &[u8], at: usize) -> Scanned
 }
 
 ghost use Rattle.std.specs.Prelude.{◌+◌};
-ghost use Rattle.tl_html_tokens.specs.Quiet.{skip_quiet};
+ghost use Rattle.tl_html_tokens.specs.Inner.Quiet.{skip_quiet};
 
 // The same after bytes that leave the stage as it is.
 fn skip_quiet(scan: Scan, at: usize, len: usize) -> Scan
@@ -103,8 +103,8 @@ fn skip_quiet(scan: Scan, at: usize, len: usize) -> Scan
 }
 
 ghost use Rattle.std.specs.Prelude.{◌-◌, Some, drop, false, take};
-ghost use Rattle.tl_html_tokens.specs.Stages.{has_word};
-ghost use Rattle.tl_html_tokens.specs.Through.{through};
+ghost use Rattle.tl_html_tokens.specs.Inner.Stages.{has_word};
+ghost use Rattle.tl_html_tokens.specs.Inner.Through.{through};
 ghost use Rattle.tl_html_tokens.specs.declared.stage.Stage.TheVariants.{BeforeKey};
 
 // Past the attributes that are read at once, where the next key of a tag is awaited.
@@ -132,7 +132,7 @@ struct Begun {
     at: usize,
 }
 
-ghost use Rattle.tl_html_tokens.specs.Scanned.{scanned};
+ghost use Rattle.tl_html_tokens.specs.Inner.Scanned.{scanned};
 ghost use Rattle.tl_html_tokens.specs.declared.front.Scanned.TheVariants.{On};
 
 // Past the first byte of a piece, and up to the first letter of the name of a tag.
@@ -172,7 +172,7 @@ fn begin(page: &[u8], start: usize, mode: Mode) -> Begun
 
 ghost use Rattle.std.specs.Prelude.{true};
 ghost use Rattle.std.specs.List.{list_all};
-ghost use Rattle.tl_html_tokens.specs.Quiet.{is_quiet};
+ghost use Rattle.tl_html_tokens.specs.Inner.Quiet.{is_quiet};
 
 // Past the bytes that leave the stage as it is.
 fn pass_quiet(begun: Begun, page: &[u8]) -> Begun

@@ -1,7 +1,7 @@
 //! Runs of bytes that leave a stage as it is.
 ghost use Rattle.std.specs.Prelude.{◌≡◌, ◌≤◌, length, take, true};
 ghost use Rattle.std.specs.List.{list_all};
-ghost use Rattle.tl_html_tokens.specs.Quiet.{is_quiet};
+ghost use Rattle.tl_html_tokens.specs.Inner.Quiet.{is_quiet};
 ghost use Rattle.memchr.specs.Find.{is_byte3};
 ghost use Rattle.std.specs.Prelude.{not};
 
@@ -20,7 +20,7 @@ fn len_before(first: u8, second: u8, third: u8, text: &[u8]) -> usize
     }
 }
 
-ghost use Rattle.tl_html_tokens.specs.Quiet.{is_inside_name};
+ghost use Rattle.tl_html_tokens.specs.Inner.Quiet.{is_inside_name};
 
 use crate::byte_class::ends_name;
 

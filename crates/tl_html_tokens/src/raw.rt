@@ -1,6 +1,6 @@
 //! What a byte does where markup begins, and in texts that their own end tag alone ends.
 ghost use Rattle.std.specs.Prelude.{◌≡◌, drop};
-ghost use Rattle.tl_html_tokens.specs.Machine as machine;
+ghost use Rattle.tl_html_tokens.specs.Inner.Machine as machine;
 
 use crate::byte_class::{ends_name, is_white_space};
 use crate::mode::Mode;

@@ -1,6 +1,6 @@
 //! What a byte does in a reference, of which nothing is resolved here.
 ghost use Rattle.std.specs.Prelude.{◌≡◌};
-ghost use Rattle.tl_html_tokens.specs.Machine as machine;
+ghost use Rattle.tl_html_tokens.specs.Inner.Machine as machine;
 
 use crate::stage::{Place, Stage, TokenKind, Turn};
 use crate::tag::value;

@@ -1,7 +1,7 @@
 //! Runs of bytes that are characters by themselves.
 ghost use Rattle.std.specs.Prelude.{◌≡◌, ◌<◌, ◌≤◌, length, take, true};
 ghost use Rattle.std.specs.List.{list_all};
-ghost use Rattle.tl_html_tokens.specs.Runs.{is_plain, reads_plain};
+ghost use Rattle.tl_html_tokens.specs.Inner.Runs.{is_plain, reads_plain};
 
 use crate::mode::Mode;
 use memchr::memchr3;

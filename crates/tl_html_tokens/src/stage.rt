@@ -97,7 +97,7 @@ pub(crate) enum Turn {
 }
 
 ghost use Rattle.std.specs.Prelude.{◌≡◌};
-ghost use Rattle.tl_html_tokens.specs.Stages.{has_word, kind_at_end};
+ghost use Rattle.tl_html_tokens.specs.Inner.Stages.{has_word, kind_at_end};
 
 impl Stage {
     // Whether a word is being read, which a name may become.
@@ -153,7 +153,7 @@ impl Stage {
     }
 }
 
-ghost use Rattle.tl_html_tokens.specs.Stages.{place_at_end};
+ghost use Rattle.tl_html_tokens.specs.Inner.Stages.{place_at_end};
 
 impl Place {
     fn kind_at_end(self) -> TokenKind

@@ -1,7 +1,7 @@
 //! What a byte does at a stage.
 ghost use Rattle.std.specs.Prelude.{◌≡◌, ◌-◌, ◌<◌, ◌≤◌, drop, length, slice_index, take};
 ghost use Rattle.tl_html_spec.specs.Reader.{feed};
-ghost use Rattle.tl_html_tokens.specs.Machine as machine;
+ghost use Rattle.tl_html_tokens.specs.Inner.Machine as machine;
 
 use crate::byte_class::feed;
 use crate::comment::{

@@ -10,7 +10,7 @@ use Rattle.std.proofs.lemmas.Map.Text.{is_eq-slice_cmp}
 use Rattle.tl_html_spec.specs.HtmlTokenizer.{HtmlAttribute}
 use Rattle.tl_html_parts.specs.Parts.{name_of}
 use Rattle.tl_html_parts.specs.declared.parts.AttributeParts.{AttributeParts}
-use Rattle.tl_html_write.specs.Attributes.{attributes_in, has_key}
+use Rattle.tl_html_write.specs.Inner.Attributes.{attributes_in, has_key}
 use Rattle.tl_html_write.proofs.Repeats.{keys_more}
 
 abbrev pub key_cmp : Vec ℕ Global → Vec ℕ Global → Ordering

@@ -17,7 +17,7 @@ use Rattle.tl_html_spec.specs.HtmlTokenizer.{OpenTag, new_tag, replacement, with
 use Rattle.tl_html_spec.specs.Written.{written_attribute}
 use Rattle.tl_html_parts.specs.Parts.{attribute_of, attribute_view, name_of, value_of, with_attributes}
 use Rattle.tl_html_parts.specs.declared.parts.AttributeParts.{AttributeParts}
-use Rattle.tl_html_write.specs.Attributes.{attributes_in, first_attribute, has_key, has_nul, written_attributes}
+use Rattle.tl_html_write.specs.Inner.Attributes.{attributes_in, first_attribute, has_key, has_nul, written_attributes}
 
 -- what stands past the end of a list of attributes
 abbrev pub nothing : AttributeParts

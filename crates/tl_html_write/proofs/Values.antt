@@ -11,7 +11,7 @@ use Rattle.tl_html_spec.proofs.Feeds.{feed-byte}
 use Rattle.tl_html_spec.proofs.Looked.{byte-plain}
 use Rattle.tl_text.proofs.Plain.{all_fail, value_none}
 use Rattle.tl_html_parts.specs.Parts.{value_of}
-use Rattle.tl_html_write.specs.Values.{characters_of, begins_with_feed, is_written_byte}
+use Rattle.tl_html_write.specs.Inner.Values.{characters_of, begins_with_feed, is_written_byte}
 
 -- a byte that is no return
 pub byte_read : (b : ℕ) (s : List ℕ) → (b == 13) ≡ false → characters_of (b ∷ s) ≡ char_of b ++ characters_of s

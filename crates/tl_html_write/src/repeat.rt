@@ -3,7 +3,7 @@ ghost use Rattle.std.specs.Prelude.{◌≡◌, ◌++◌, false, OnOk};
 ghost use Rattle.std.specs.Bool.{OnTrue};
 ghost use Rattle.std.specs.Str.{bytes_eq};
 ghost use Rattle.tl_html_parts.specs.Parts.{attribute_of, attribute_view, name_of};
-ghost use Rattle.tl_html_write.specs.Attributes.{HavePlainKeys, attributes_in, first_attribute, has_key, has_nul, written_attributes};
+ghost use Rattle.tl_html_write.specs.Inner.Attributes.{HavePlainKeys, attributes_in, first_attribute, has_key, has_nul, written_attributes};
 
 use crate::attribute::write_attribute;
 use crate::name::lowered;

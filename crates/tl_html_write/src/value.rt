@@ -4,7 +4,7 @@ ghost use Rattle.std.specs.Bool.{OnTrue};
 ghost use Rattle.std.specs.List.{list_all};
 ghost use Rattle.tl_html_spec.specs.Escapes.{escaped_value};
 ghost use Rattle.tl_html_parts.specs.Parts.{value_of};
-ghost use Rattle.tl_html_write.specs.Values.{characters_of, begins_with_feed, is_written_byte};
+ghost use Rattle.tl_html_write.specs.Inner.Values.{characters_of, begins_with_feed, is_written_byte};
 
 use crate::character::write_character;
 use memchr::memchr2;

@@ -6,7 +6,7 @@ use Rattle.std.specs.Option.{option_map_or}
 use Rattle.std.specs.Vec.{with_item}
 use Rattle.indexmap.specs.IndexMap.{set_value_at}
 use Rattle.tl_spec.proofs.Tree.Pairs.{keys-set_value_at}
-use Rattle.tl_inline.specs.HeapForm.{form_entries, form_with_value_at}
+use Rattle.tl_inline.specs.Inner.HeapForm.{form_entries, form_with_value_at}
 use Rattle.tl_inline.specs.declared.inline.hashmap.heap.form.HeapForm.{HeapForm}
 use Rattle.tl_inline.specs.declared.inline.hashmap.heap.form.HeapForm.TheVariants.{Few, Many, Noted}
 use Rattle.tl_inline.proofs.Maps.{set-found, set-past}

@@ -6,7 +6,7 @@ use Rattle.std.proofs.iter.runs.Sources.{from_front}
 use Rattle.std.proofs.lemmas.List.Elements.{Contains-get_or, Contains-append_right}
 use Rattle.tl_spec.specs.Tree.Inline.{InlineVec, with_item}
 use Rattle.tl_inline.specs.InlineVec.{ClonesAreEqual}
-use Rattle.tl_inline.specs.ItemStorage.{storage_view, storage_with_item}
+use Rattle.tl_inline.specs.Inner.ItemStorage.{storage_view, storage_with_item}
 use Rattle.tl_inline.specs.declared.inline.vec.storage.ItemStorage.{ItemStorage}
 use Rattle.tl_inline.specs.declared.inline.vec.storage.ItemStorage.TheVariants.{Inline, Heap}
 

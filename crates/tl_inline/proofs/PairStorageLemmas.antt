@@ -3,7 +3,7 @@ use Rattle.std.proofs.Common.{◌≡◌, ℕ, Bool, Some, position, true, false,
 use Rattle.std.specs.List.{IsDistinct}
 use Rattle.std.specs.Map.{keys_of}
 use Rattle.tl_spec.specs.Tree.Inline.{InlineMap, with_value}
-use Rattle.tl_inline.specs.PairStorage.{storage_view, storage_with_value_at}
+use Rattle.tl_inline.specs.Inner.PairStorage.{storage_view, storage_with_value_at}
 use Rattle.tl_inline.specs.declared.inline.hashmap.storage.PairStorage.{PairStorage}
 use Rattle.tl_inline.specs.declared.inline.hashmap.storage.PairStorage.TheVariants.{Inline, Heap}
 use Rattle.tl_spec.proofs.Tree.Pairs.{keys-set_value_at}

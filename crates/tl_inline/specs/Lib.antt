@@ -1,15 +1,6 @@
 pub mod InlineVec
-pub mod InlineVecLends
 pub mod InlineMap
-pub mod InlineMapLends
-pub mod ItemStorage
-pub mod ItemStorageLends
 pub mod Digest
 pub mod Places
-pub mod PairTableLends
-pub mod HeapForm
-pub mod HeapFormLends
-pub mod HeapPairsLends
-pub mod PairStorage
-pub mod PairStorageLends
 pub mod RemainingPairs
+pub mod Inner

@@ -15,7 +15,7 @@ use Rattle.tl.specs.Walker.{event_view}
 use Rattle.tl.specs.declared.walk.WalkEvent.{WalkEvent}
 use Rattle.tl.specs.declared.walk.WalkEvent.TheVariants.{Meets, Leaves}
 use Rattle.tl.proofs.Remaining.{IsEntered}
-use Rattle.tl_extract.specs.Events.{first_fault_around, first_fault_left}
+use Rattle.tl_extract.specs.Inner.Events.{first_fault_around, first_fault_left}
 use Rattle.tl_extract.specs.declared.spelling.Spelling.{Spelling}
 use Rattle.tl_extract.proofs.Outlines.{earlier_assoc, earlier_none, error_of_fault}
 use Rattle.tl_extract.proofs.Steps.{HoldsStepwise, holds_of_step, left_in, refused_by_error}

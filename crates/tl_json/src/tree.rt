@@ -10,7 +10,7 @@ ghost use Rattle.tl.specs.Remaining.{remaining_of};
 ghost use Rattle.tl.specs.View.{node_view};
 ghost use Rattle.tl.specs.Walker.{event_view, own_text, Writes};
 ghost use Rattle.tl.proofs.Remaining.{IsEntered};
-ghost use Rattle.tl_extract.specs.Events.{first_fault_left};
+ghost use Rattle.tl_extract.specs.Inner.Events.{first_fault_left};
 ghost use Rattle.tl_json.specs.Left.{event_text, is_leaf, later_after, members_in, node_text, opening, text_left};
 ghost use Rattle.tl_json.specs.Objects.{inner_data};
 ghost use Rattle.tl_json.specs.Tree.{items_below, leaf_data, walk_below};

@@ -15,7 +15,7 @@ use Rattle.tl_html_parts.specs.Parts.{name_of}
 use Rattle.tl_patch_spec.proofs.Inside.{Inner, Inside, Outcome, adding_to, after_key, after_slash, after_value, applied, before_key, before_value, byte_inner, continued, double_quotes, ended, ends, inner_text, key_of, single_quotes, stays, still, value_of, with_all}
 use Rattle.tl_patch_spec.proofs.Tags.{all_append, in_tag}
 use Rattle.tl_patch.specs.AttributePlaces.{alone, attribute_found, key_at, key_place, next_stage, part, places_from, places_of, valued}
-use Rattle.tl_patch.specs.Cuts.{free_after, is_blank, is_free, opens, over}
+use Rattle.tl_patch.specs.Inner.Cuts.{free_after, is_blank, is_free, opens, over}
 use Rattle.tl_patch.specs.declared.stage.KeyPlace.{KeyPlace}
 use Rattle.tl_patch.specs.declared.stage.Place.{Place}
 use Rattle.tl_patch.specs.declared.stage.Stage.{Stage}

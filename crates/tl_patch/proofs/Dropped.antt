@@ -17,7 +17,7 @@ use Rattle.tl_patch_spec.specs.TagChanges.{Unset, changed_token, without_key}
 use Rattle.tl_patch_spec.proofs.Inside.{after_value, inner_text, with_all}
 use Rattle.tl_patch_spec.proofs.Sets.{with_list}
 use Rattle.tl_patch_spec.proofs.Unset.{dropped}
-use Rattle.tl_patch.specs.Cuts.{Cutting, cuts_of, free_after, is_free, opens, over}
+use Rattle.tl_patch.specs.Inner.Cuts.{Cutting, cuts_of, free_after, is_free, opens, over}
 use Rattle.tl_patch.specs.AttributePlaces.{places_of}
 use Rattle.tl_patch.specs.StartTags.{IsChanged, IsCut, IsStartTagAlone}
 use Rattle.tl_patch.specs.Taken.{shifted}

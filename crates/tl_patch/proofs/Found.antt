@@ -9,7 +9,7 @@ use Rattle.tl_html_parts.specs.Bytes.{is_space}
 use Rattle.tl_patch.specs.View.{splice_view}
 use Rattle.tl_patch.specs.declared.splice.Splice.{Splice as CodeSplice}
 use Rattle.tl_patch_spec.specs.Splices.{Splice}
-use Rattle.tl_patch.specs.Cuts.{Cutting, cut_if, cut_splice, cuts_of, end_at, follow_cut, free_after, last_before, space_before}
+use Rattle.tl_patch.specs.Inner.Cuts.{Cutting, cut_if, cut_splice, cuts_of, end_at, follow_cut, free_after, last_before, space_before}
 use Rattle.tl_patch.specs.declared.cut.Follow.{Follow}
 use Rattle.tl_patch.specs.AttributePlaces.{IsFirstNamed, attribute_found, is_named, next_stage, places_from}
 use Rattle.tl_patch.specs.declared.stage.Place.{Place}

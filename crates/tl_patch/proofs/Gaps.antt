@@ -10,7 +10,7 @@ use Rattle.tl_html_spec.proofs.Ahead.{is_name_byte, named-same}
 use Rattle.tl_html_spec.proofs.Looked.{letters-alike}
 use Rattle.tl_html_parts.specs.Bytes.{is_space}
 use Rattle.tl_patch_spec.proofs.Inside.{Inner, Inside, Outcome, adding_to, after_key, after_slash, after_value, before_key, before_value, byte_inner, continued, decimal_begin, decimal_number, ended, ends, hexadecimal_begin, hexadecimal_number, inner_text, key_of, named_reference, no_quotes, numeric_reference, reference, stays, still, value_of}
-use Rattle.tl_patch.specs.Cuts.{free_after, is_blank, is_free, opens, over}
+use Rattle.tl_patch.specs.Inner.Cuts.{free_after, is_blank, is_free, opens, over}
 use Rattle.tl_patch.proofs.Stages.{In, IsBetween, IsPlain, bare, bare_greater, bare_space, bare_value, between_key, between_slash, between_space, key_space, after_other, after_space, said, settle, white_cases}
 
 -- texts after texts

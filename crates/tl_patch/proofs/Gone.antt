@@ -10,7 +10,7 @@ use Rattle.tl_html_spec.specs.HtmlTokenizer.{HtmlAttribute, OpenTag}
 use Rattle.tl_html_parts.specs.Bytes.{is_space}
 use Rattle.tl_patch_spec.proofs.Inside.{adding_to, after_value, before_key, ended, inner_text}
 use Rattle.tl_patch.specs.AttributePlaces.{key_at, part}
-use Rattle.tl_patch.specs.Cuts.{cut_from, cut_put, free_after, is_blank, is_free, opens, over}
+use Rattle.tl_patch.specs.Inner.Cuts.{cut_from, cut_put, free_after, is_blank, is_free, opens, over}
 use Rattle.tl_patch.specs.declared.stage.Place.{Place}
 use Rattle.tl_patch.proofs.Attributes.{Begins, Gap, IsAttribute, Kind, no_text, no_value, quoted, unquoted}
 use Rattle.tl_patch.proofs.Gaps.{IsOther, adding_none, alike_after, alike_free, alike_opens, alike_over, bare_read, before_after, blank_not_over, free_gap, gap_free, gap_read, key_alone, text_append, text_none}

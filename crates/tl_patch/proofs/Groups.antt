@@ -3,7 +3,7 @@ use Rattle.std.proofs.Common.{◌≡◌, ℕ, ◌+◌, ◌-◌, ◌<◌, ◌≤�
 use Rattle.std.specs.List.{All}
 use Rattle.std.proofs.lemmas.List.{drop_all, drop_more, get_or-drop, length-drop, map-append, take_more}
 use Rattle.std.proofs.lemmas.List.Elements.{All-push}
-use Rattle.tl_patch.specs.Steps.{BeginElsewhere}
+use Rattle.tl_patch.specs.Inner.Steps.{BeginElsewhere}
 use Rattle.tl_patch.specs.PatchView.{PlacedChange, patch_view}
 use Rattle.tl_patch.specs.declared.tag_patch.TagPatch.{TagPatch}
 

@@ -7,7 +7,7 @@ use Rattle.tl_html_tokens.specs.Whole.{IsWhole}
 use Rattle.tl_html_tokens.specs.declared.mode.Mode.TheVariants as mode
 use Rattle.tl_patch.specs.Pages.{AreMade}
 use Rattle.tl_patch.specs.Asked.{IsOfAttribute}
-use Rattle.tl_patch.specs.Steps.{AreOfAttributes, AreTagChanges}
+use Rattle.tl_patch.specs.Inner.Steps.{AreOfAttributes, AreTagChanges}
 use Rattle.tl_patch_spec.specs.TagChanges.{Rename, Set, TagChange, Unset, changed_token}
 use Rattle.tl_patch.specs.StartTags.{IsChanged}
 use Rattle.tl_patch.proofs.KeyChanges.{whole_same}

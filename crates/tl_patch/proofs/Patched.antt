@@ -19,7 +19,7 @@ use Rattle.tl_html_tokens.specs.declared.token.Token.{Token}
 use Rattle.tl_html_tokens.proofs.Alone.{tags_are_whole}
 use Rattle.tl_patch.specs.Places.{begins_start_tag}
 use Rattle.tl_patch.specs.Pages.{AreChanged, AreMade, IsPatched}
-use Rattle.tl_patch.specs.Steps.{AreWritten, IsMade, IsPage, is_start_token, mark_of}
+use Rattle.tl_patch.specs.Inner.Steps.{AreWritten, IsMade, IsPage, is_start_token, mark_of}
 use Rattle.tl_patch.specs.PatchView.{PlacedChange, change_of}
 use Rattle.tl_patch.proofs.Made.{Made, made_from, name_in}
 use Rattle.tl_patch.proofs.Runs.{page_runs_read}
@@ -144,11 +144,11 @@ module _ (page : List ℕ) (t : Token) (p : Piece) (ps : List Piece) (place : �
 
   one_more : IsToken page t place p → (is_tag_kind t.kind ≡ true → IsWhole t.mode (bytes_at page t) p.tokens) → IsMade here page t put → Becomes place (p ∷ ps) (here ++ later) (put ++ bytes)
   one_more h w m = elim m.start [
-    | inl e ↦ kept e (subst (λ cs. Rattle.tl_patch.specs.Steps.AreTagChanges (map change_of cs) (bytes_at page t) put) e m.made ∙ sym h.bytes)
+    | inl e ↦ kept e (subst (λ cs. Rattle.tl_patch.specs.Inner.Steps.AreTagChanges (map change_of cs) (bytes_at page t) put) e m.made ∙ sym h.bytes)
     | inr e ↦ (
         let i : IsTag page t p = is_tag page t place p h w e in
         exchanged i (made_from (map change_of here) p.bytes put p.tokens m.attributes
-        (subst (λ bs. Rattle.tl_patch.specs.Steps.AreTagChanges (map change_of here) bs put) (sym h.bytes) m.made) i.whole i.start))
+        (subst (λ bs. Rattle.tl_patch.specs.Inner.Steps.AreTagChanges (map change_of here) bs put) (sym h.bytes) m.made) i.whole i.start))
   ]
 
 becomes : (page : List ℕ) (ts : List Token) (place : ℕ) (ps : List Piece) (changes : List PlacedChange) (bytes : List ℕ) → AreTokens page ts (placed place ps) → AreWholeTags page ts (placed place ps) →

@@ -14,7 +14,7 @@ use Rattle.tl_html_tokens.specs.Whole.{AreWholeTags, IsWhole, bytes_at, is_tag_k
 use Rattle.tl_html_tokens.specs.declared.token.Token.{Token}
 use Rattle.tl_html_tokens.proofs.Alone.{tags_are_whole}
 use Rattle.tl_patch.specs.Refused.{IsAmong, IsPlaced, IsStartAt, IsUnplaced, IsReason, IsReasonHere, IsTokenReason, has_greater, has_refused, is_refused}
-use Rattle.tl_patch.specs.Steps.{BeginElsewhere, is_start_token}
+use Rattle.tl_patch.specs.Inner.Steps.{BeginElsewhere, is_start_token}
 use Rattle.tl_patch.specs.PatchView.{PlacedChange, patch_view}
 use Rattle.tl_patch.specs.declared.tag_patch.TagPatch.{TagPatch}
 use Rattle.tl_patch.specs.declared.error.PatchError.{PatchError}

@@ -13,7 +13,7 @@ use Rattle.tl_html_tokens.specs.declared.mode.Mode.TheVariants as mode
 use Rattle.tl_html_tokens.specs.declared.stage.TokenKind.{TokenKind}
 use Rattle.tl_html_tokens.specs.declared.stage.TokenKind.TheVariants as kind
 use Rattle.tl_html_tokens.specs.declared.token.Token.{Token}
-use Rattle.tl_patch.specs.Steps.{kind_number, mode_number}
+use Rattle.tl_patch.specs.Inner.Steps.{kind_number, mode_number}
 use Rattle.tl_patch.proofs.KeyChanges.{whole_same}
 
 abbrev pub Says : TokenKind → Mode → List ℕ → List HtmlToken → Type 0

@@ -1,7 +1,7 @@
 -- A tag with changes one after the other.
 use Rattle.std.proofs.Common.{◌≡◌, ℕ, zero, suc, ◌+◌, ◌<◌, ◌≤◌, ◌&&◌, Bool, true, false, not, List, [], ◌∷◌, length, drop, get_or, map, refl, sym, subst, true≢false, arith, Option, Some, None, Result, Ok, IfOk, IfSome, is_some}
 use Rattle.std.proofs.lemmas.List.{drop_all, drop_more}
-use Rattle.tl_patch.specs.Steps.{AreTagChanges}
+use Rattle.tl_patch.specs.Inner.Steps.{AreTagChanges}
 use Rattle.tl_patch.specs.PatchView.{change_of, change_view, patch_view}
 use Rattle.tl_patch.specs.declared.tag_patch.TagPatch.{TagPatch}
 use Rattle.tl_html_spec.specs.HtmlTokenizer.{Character, CommentToken, DoctypeToken, EndTag, HtmlToken, StartTag}

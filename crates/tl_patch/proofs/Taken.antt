@@ -8,7 +8,7 @@ use Rattle.tl_html_spec.specs.HtmlTokenizer.{HtmlAttribute, OpenTag}
 use Rattle.tl_html_parts.specs.Bytes.{is_space}
 use Rattle.tl_patch_spec.specs.TagNames.{IsNameEnd}
 use Rattle.tl_patch_spec.specs.Splices.{Splice}
-use Rattle.tl_patch.specs.Cuts.{Cutting, cut_from, cut_if, cut_splice, cuts_of, space_before, space_start}
+use Rattle.tl_patch.specs.Inner.Cuts.{Cutting, cut_from, cut_if, cut_splice, cuts_of, space_before, space_start}
 use Rattle.tl_patch.specs.AttributePlaces.{is_named, part, places_of}
 use Rattle.tl_patch.specs.Taken.{TakesAttribute, TakesKey, shifted}
 use Rattle.tl_patch.specs.declared.cut.Follow.{Follow}

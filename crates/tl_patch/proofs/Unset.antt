@@ -9,7 +9,7 @@ use Rattle.tl_html_spec.specs.HtmlTokenizer.{HtmlAttribute, OpenTag}
 use Rattle.tl_html_parts.specs.Bytes.{is_space}
 use Rattle.tl_patch_spec.specs.Splices.{Splice, are_ordered, with_splices_from}
 use Rattle.tl_patch_spec.proofs.Inside.{after_value, ended, inner_text}
-use Rattle.tl_patch.specs.Cuts.{Cutting, cut_from, cut_if, cut_put, cut_splice, cuts_of, first_of, follow_at, free_after, space_before, space_start}
+use Rattle.tl_patch.specs.Inner.Cuts.{Cutting, cut_from, cut_if, cut_put, cut_splice, cuts_of, first_of, follow_at, free_after, space_before, space_start}
 use Rattle.tl_patch.specs.AttributePlaces.{is_named, key_at, part}
 use Rattle.tl_patch.specs.StartTags.{IsCut, IsCutPut}
 use Rattle.tl_patch.specs.declared.cut.Follow.{Follow}

@@ -5,7 +5,7 @@ use Rattle.std.proofs.lemmas.List.{drop_all, drop_more}
 use Rattle.tl_html_tokens.specs.Whole.{bytes_at}
 use Rattle.tl_html_tokens.specs.declared.token.Token.{Token}
 use Rattle.tl_patch.specs.Asked.{IsOfAttribute}
-use Rattle.tl_patch.specs.Steps.{AreOfAttributes, AreTagChanges, AreWritten, IsMade, IsPage, IsWritten, is_start_token, mark_of}
+use Rattle.tl_patch.specs.Inner.Steps.{AreOfAttributes, AreTagChanges, AreWritten, IsMade, IsPage, IsWritten, is_start_token, mark_of}
 use Rattle.tl_patch.specs.PatchView.{PlacedChange, change_of, change_view, patch_view}
 use Rattle.tl_patch.specs.declared.tag_patch.Change.{Change}
 use Rattle.tl_patch.specs.declared.tag_patch.Change.TheVariants as change

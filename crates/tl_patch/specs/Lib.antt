@@ -3,9 +3,8 @@ pub mod Places
 pub mod StartTags
 pub mod AttributePlaces
 pub mod Taken
-pub mod Cuts
 pub mod PatchView
 pub mod Pages
-pub mod Steps
 pub mod Asked
 pub mod Refused
+pub mod Inner

@@ -7,7 +7,7 @@ use Rattle.tl_html_tokens.specs.Kinds.{IsStartTag}
 use Rattle.tl_html_tokens.specs.Tokens.{mark_len}
 use Rattle.tl_html_tokens.specs.Whole.{bytes_at}
 use Rattle.tl_html_tokens.specs.declared.token.Token.{Token}
-use Rattle.tl_patch.specs.Steps.{is_start_token}
+use Rattle.tl_patch.specs.Inner.Steps.{is_start_token}
 use Rattle.tl_patch.specs.PatchView.{PlacedChange}
 use Rattle.tl_patch.specs.declared.error.PatchError.{PatchError}
 use Rattle.tl_patch.specs.declared.error.PatchError.TheVariants.{NoStartTag, NotWritten, OutOfMemory}

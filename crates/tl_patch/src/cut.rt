@@ -1,7 +1,7 @@
 //! What goes with attributes that are taken out of a tag.
 ghost use Rattle.std.specs.Prelude.{◌≡◌, ◌≤◌, ◌++◌, [], ◌∷◌, IfOk, OnOk, drop, length, map, reverse, slice_index, if◌then◌else◌};
 ghost use Rattle.tl_patch.specs.View.{splice_view};
-ghost use Rattle.tl_patch.specs.Cuts.{cut_from, cut_if, cut_put, cut_splice, cuts_of, first_of, follow_at, follow_cut, free_after, last_before, space_start};
+ghost use Rattle.tl_patch.specs.Inner.Cuts.{cut_from, cut_if, cut_put, cut_splice, cuts_of, first_of, follow_at, follow_cut, free_after, last_before, space_start};
 
 use crate::Splice;
 use crate::key::is_named;

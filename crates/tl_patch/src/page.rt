@@ -3,7 +3,7 @@ ghost use Rattle.std.specs.Prelude.{◌≡◌, ℕ, [], Err, IfErr, IfOk, MatchR
 ghost use Rattle.tl_html_tokens.specs.Tokens.{AreTokensOf};
 ghost use Rattle.tl_patch.specs.Pages.{IsPatched};
 ghost use Rattle.tl_patch.specs.Refused.{IsPlaced, IsUnplaced, IsReason, IsReasonHere, IsTokenReason};
-ghost use Rattle.tl_patch.specs.Steps.{IsMade, IsPage, IsWritten, mark_of};
+ghost use Rattle.tl_patch.specs.Inner.Steps.{IsMade, IsPage, IsWritten, mark_of};
 ghost use Rattle.tl_patch.specs.PatchView.{patch_view};
 ghost use Rattle.tl_patch.specs.declared.error.PatchError.TheVariants.{NoStartTag, NotWritten, OutOfMemory};
 

@@ -2,7 +2,7 @@
 ghost use Rattle.std.specs.Prelude.{◌≡◌, ◌≤◌, ◌-◌, length, map, take, drop};
 ghost use Rattle.std.specs.List.{All};
 ghost use Rattle.tl_html_tokens.specs.Whole.{bytes_at};
-ghost use Rattle.tl_patch.specs.Steps.{BeginElsewhere, is_start_token};
+ghost use Rattle.tl_patch.specs.Inner.Steps.{BeginElsewhere, is_start_token};
 ghost use Rattle.tl_patch.specs.PatchView.{PlacedChange, patch_view};
 
 use crate::tag_patch::TagPatch;

@@ -1,7 +1,7 @@
 //! Changes of tags.
 ghost use Rattle.std.specs.Prelude.{◌≡◌, IfOk, IfSome, false, is_some, map, true};
 ghost use Rattle.tl_patch.specs.Refused.{has_refused, is_refused};
-ghost use Rattle.tl_patch.specs.Steps.{AreTagChanges};
+ghost use Rattle.tl_patch.specs.Inner.Steps.{AreTagChanges};
 ghost use Rattle.tl_patch.specs.PatchView.{change_of, change_view, patch_view};
 ghost use Rattle.tl_patch.specs.StartTags.{IsChanged, is_start_tag};
 

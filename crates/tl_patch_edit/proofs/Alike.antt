@@ -12,9 +12,9 @@ use Rattle.tl_html_tokens.specs.declared.mode.Mode.{Mode}
 use Rattle.tl_html_tokens.specs.declared.mode.Mode.TheVariants as mode
 use Rattle.tl_html_tokens.specs.declared.stage.TokenKind.{TokenKind}
 use Rattle.tl_html_tokens.specs.declared.stage.TokenKind.TheVariants as kind
-use Rattle.tl_patch.specs.Steps.{mode_number}
+use Rattle.tl_patch.specs.Inner.Steps.{mode_number}
 use Rattle.tl_patch.proofs.Says.{mode_same}
-use Rattle.tl_patch_edit.specs.Parts.{Part, Say, Tells, TellsTag, is_alike, is_comment_kind, is_doctype_kind, is_quiet_first, is_quiet_kind, is_same_tag}
+use Rattle.tl_patch_edit.specs.Inner.Parts.{Part, Say, Tells, TellsTag, is_alike, is_comment_kind, is_doctype_kind, is_quiet_first, is_quiet_kind, is_same_tag}
 use Rattle.tl_patch_edit.specs.Sayings.{Other, Saying, Tag, character}
 use Rattle.tl_patch_edit.proofs.Said.{same_tells}
 

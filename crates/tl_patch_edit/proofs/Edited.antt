@@ -12,7 +12,7 @@ use Rattle.tl_html_tokens.specs.declared.token.Token.{Token}
 use Rattle.tl_html_tokens.proofs.Alone.{tags_are_whole}
 use Rattle.tl_patch_edit.specs.Asks.{IsWanted}
 use Rattle.tl_patch_edit.specs.Found.{IsNeverRead, IsNeverSplicedOf, IsReadAs, IsSplicedPageOf, IsStartAt, IsStartOf, IsTagName, has_mark, mark_bytes}
-use Rattle.tl_patch_edit.specs.Parts.{ArePieces, Part, Say, SayOtherwise, SaySame, part_bytes}
+use Rattle.tl_patch_edit.specs.Inner.Parts.{ArePieces, Part, Say, SayOtherwise, SaySame, part_bytes}
 use Rattle.tl_patch_edit.specs.Sayings.{Saying, sayings}
 use Rattle.tl_patch_edit.proofs.Said.{pieces_give}
 use Rattle.tl_patch_edit.proofs.Sayings.{runs_said, say_whole, tokens_are_said, tokens_said}

@@ -13,9 +13,9 @@ use Rattle.tl_patch.specs.Places.{IsRenamed, begins_end_tag}
 use Rattle.tl_patch_spec.specs.Markup.{is_name}
 use Rattle.tl_patch.proofs.EndNames.{end_tag_whole, renamed_bytes, renamed_whole}
 use Rattle.tl_patch_edit.specs.Asks.{IsEndTagOf, IsRenamedEnd, is_data}
-use Rattle.tl_patch_edit.specs.Causes.{begins_as}
+use Rattle.tl_patch_edit.specs.Inner.Causes.{begins_as}
 use Rattle.tl_patch_edit.specs.Found.{has_mark}
-use Rattle.tl_patch_edit.specs.Parts.{ArePieces, Give, Part}
+use Rattle.tl_patch_edit.specs.Inner.Parts.{ArePieces, Give, Part}
 use Rattle.tl_patch_edit.specs.Sayings.{Saying, sayings}
 use Rattle.tl_patch_edit.proofs.Said.{pieces_give}
 use Rattle.tl_patch_edit.proofs.Sayings.{runs_said}

@@ -3,7 +3,7 @@ use Rattle.std.proofs.Common.{◌≡◌, ℕ, zero, suc, Some, slice_get, arith,
 use Rattle.std.proofs.lemmas.Grind.{flat_map-append}
 use Rattle.std.proofs.lemmas.List.{map-append, take_all, take_more}
 use Rattle.tl_html_tokens.specs.declared.token.Token.{Token}
-use Rattle.tl_patch_edit.specs.Parts.{Part, end_part, part_bytes, part_view, parts_view, view_at, with_end_part}
+use Rattle.tl_patch_edit.specs.Inner.Parts.{Part, end_part, part_bytes, part_view, parts_view, view_at, with_end_part}
 use Rattle.tl_patch_edit.specs.declared.part.Part.{Part as CodePart}
 
 pub length_view : (xs : List CodePart) → length (parts_view xs) ≡ length xs

@@ -13,7 +13,7 @@ use Rattle.tl_html_tokens.specs.declared.mode.Mode.{Mode}
 use Rattle.tl_html_tokens.specs.declared.stage.TokenKind.{TokenKind}
 use Rattle.tl_html_tokens.specs.declared.stage.TokenKind.TheVariants as kind
 use Rattle.tl_html_tokens.specs.declared.token.Token.{Token}
-use Rattle.tl_patch_edit.specs.Causes.{IsMissing, NoStartFrom, ReachesFrom}
+use Rattle.tl_patch_edit.specs.Inner.Causes.{IsMissing, NoStartFrom, ReachesFrom}
 use Rattle.tl_patch_edit.specs.Errors.{LacksStartTag, NoneBeginsAt}
 use Rattle.tl_patch_edit.specs.Found.{IsStartAt, IsStartOf}
 use Rattle.tl_patch_edit.proofs.Edited.{start_of}

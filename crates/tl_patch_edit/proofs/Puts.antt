@@ -9,7 +9,7 @@ use Rattle.tl_html_tokens.specs.declared.mode.Mode.{Mode}
 use Rattle.tl_html_tokens.specs.declared.mode.Mode.TheVariants as mode
 use Rattle.tl_html_tokens.specs.declared.stage.TokenKind.TheVariants as kind
 use Rattle.tl_patch_edit.specs.Asks.{GivePut, IsRenamedEnd, IsRenamedTag, IsTextPart, end_tag_bytes, is_data, text_form}
-use Rattle.tl_patch_edit.specs.Parts.{Give, Part, Says, TellsTag}
+use Rattle.tl_patch_edit.specs.Inner.Parts.{Give, Part, Says, TellsTag}
 use Rattle.tl_patch_edit.specs.Sayings.{Tag, character, is_tag, said_by, sayings}
 use Rattle.tl_patch_edit.proofs.Said.{pieces_both}
 use Rattle.tl_patch_edit.proofs.Sayings.{characters_other, kind_is_tag, plain, tag_kind_says, tag_kind_tells, tag_tells, text_no_tag}

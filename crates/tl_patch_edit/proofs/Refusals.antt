@@ -25,10 +25,10 @@ use Rattle.tl_patch_spec.specs.Splices.{Splice, are_ordered}
 use Rattle.tl_patch_spec.specs.TagChanges.{Rename}
 use Rattle.tl_html_parts.specs.Parts.{name_of}
 use Rattle.tl_patch_edit.specs.Asks.{IsWanted, ask_view, asks_view, is_data, placed_at, placed_of, placed_view, planned_view, puts_view}
-use Rattle.tl_patch_edit.specs.Causes.{CannotPut, CannotPutIn, CannotStandIn, IsAsksError, IsOneAt, IsPageError, IsPlanError, IsPlanned, IsReadError, IsReadyError, IsSpliceError, IsStartError, IsStartsError, IsUnmeant, NoStartFrom, ReachesFrom, begins_as, has_name, has_tag}
+use Rattle.tl_patch_edit.specs.Inner.Causes.{CannotPut, CannotPutIn, CannotStandIn, IsAsksError, IsOneAt, IsPageError, IsPlanError, IsPlanned, IsReadError, IsReadyError, IsSpliceError, IsStartError, IsStartsError, IsUnmeant, NoStartFrom, ReachesFrom, begins_as, has_name, has_tag}
 use Rattle.tl_patch_edit.specs.Errors.{AreAcross, AreTag, CannotBeMeant, CannotBePut, CannotBeWritten, CannotStand, IsAskAt, IsPatchAt, IsRefused, IsTag, pieces_in, placed_pieces}
 use Rattle.tl_patch_edit.specs.Found.{IsStartAt}
-use Rattle.tl_patch_edit.specs.Parts.{ArePieces, IsPieceOf, Part, Says, with_end_part}
+use Rattle.tl_patch_edit.specs.Inner.Parts.{ArePieces, IsPieceOf, Part, Says, with_end_part}
 use Rattle.tl_patch_edit.specs.Several.{AreEdited, AreInTurn, AreSorted, BeginAt, IsMeantOfPage, asked_view, places_of}
 use Rattle.tl_patch_edit.specs.View.{content_view, meant_view, patch_view, patches_view}
 use Rattle.tl_patch_edit.specs.declared.ask.Ask.{Ask}

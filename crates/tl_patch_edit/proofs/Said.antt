@@ -15,7 +15,7 @@ use Rattle.tl_html_tokens.proofs.Alone.{tags_are_whole}
 use Rattle.tl_html_tokens.proofs.Telling.{tokens_said}
 use Rattle.tl_patch.proofs.Says as page
 use Rattle.tl_patch.proofs.KeyChanges.{whole_same}
-use Rattle.tl_patch_edit.specs.Parts.{ArePieces, Give, IsPieceOf, Part, Say, Says, Tells, TellsTag, view_at}
+use Rattle.tl_patch_edit.specs.Inner.Parts.{ArePieces, Give, IsPieceOf, Part, Say, Says, Tells, TellsTag, view_at}
 use Rattle.tl_patch_edit.specs.Sayings.{Saying, Tag, said_by, sayings}
 use Rattle.tl_patch_edit.proofs.Lists.{bytes_append}
 use Rattle.tl_patch_edit.proofs.Sayings.{tells_of}

@@ -12,7 +12,7 @@ use Rattle.tl_html_tokens.specs.Whole.{is_tag_kind}
 use Rattle.tl_html_tokens.specs.declared.mode.Mode.{Mode}
 use Rattle.tl_html_tokens.specs.declared.stage.TokenKind.{TokenKind}
 use Rattle.tl_html_tokens.specs.declared.stage.TokenKind.TheVariants as kind
-use Rattle.tl_patch_edit.specs.Parts.{IsPieceOf, Part, Says, Say, Tells, TellsTag}
+use Rattle.tl_patch_edit.specs.Inner.Parts.{IsPieceOf, Part, Says, Say, Tells, TellsTag}
 use Rattle.tl_patch_edit.specs.Sayings.{AreWhole, Other, Saying, Tag, character, is_tag, said_by, sayings}
 
 abbrev pub tokens_said : Saying → List HtmlToken

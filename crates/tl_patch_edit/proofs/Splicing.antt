@@ -6,7 +6,7 @@ use Rattle.std.proofs.lemmas.List.{drop-drop, drop-map, length-append, take-map}
 use Rattle.std.proofs.lemmas.Option.{slice_get-get_or}
 use Rattle.tl_html_spec.specs.Pieces.{Piece}
 use Rattle.tl_patch_edit.specs.Asks.{GivePut, IsWantedFrom}
-use Rattle.tl_patch_edit.specs.Parts.{ArePieces, IsPieceOf, Part, end_part, part_view, parts_view, separator_parts, with_end_part}
+use Rattle.tl_patch_edit.specs.Inner.Parts.{ArePieces, IsPieceOf, Part, end_part, part_view, parts_view, separator_parts, with_end_part}
 use Rattle.tl_patch_edit.specs.declared.part.Part.{Part as CodePart}
 use Rattle.tl_patch_edit.proofs.Lists.{length_view}
 use Rattle.tl_patch_edit.proofs.Said.{GivePieces, pieces_both, pieces_give}

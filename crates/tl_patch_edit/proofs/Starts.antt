@@ -5,7 +5,7 @@ use lib.Dec.{ltb}
 use Rattle.std.proofs.lemmas.Option.{slice_get-get_or, slice_get_within}
 use Rattle.tl_html_tokens.specs.declared.stage.TokenKind.TheVariants as kind
 use Rattle.tl_html_tokens.specs.declared.token.Token.{Token}
-use Rattle.tl_patch_edit.specs.Causes.{NoStartFrom}
+use Rattle.tl_patch_edit.specs.Inner.Causes.{NoStartFrom}
 use Rattle.tl_patch_edit.specs.Found.{IsStartAt}
 
 pub start_is : (ts : List Token) (place n : ℕ) (d : Token) → n < length ts → (get_or ts n d).start ≡ place → (get_or ts n d).kind ≡ kind.StartTag → IsStartAt ts place n (get_or ts n d)

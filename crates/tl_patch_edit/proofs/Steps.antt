@@ -9,9 +9,9 @@ use Rattle.tl_html_tokens.specs.Characters.{characters_of}
 use Rattle.tl_html_tokens.specs.declared.mode.Mode.{Mode}
 use Rattle.tl_html_tokens.specs.declared.stage.TokenKind.{TokenKind}
 use Rattle.tl_html_tokens.specs.declared.stage.TokenKind.TheVariants as kind
-use Rattle.tl_patch.specs.Steps.{kind_number, mode_number}
+use Rattle.tl_patch.specs.Inner.Steps.{kind_number, mode_number}
 use Rattle.tl_patch.proofs.Says.{kind_same, mode_same}
-use Rattle.tl_patch_edit.specs.Parts.{IsStep, Part, Say, SayOtherwise, SaySame, Tells, are_quiet, characters_at, characters_in, is_alike, is_quiet_first, is_quiet_kind, is_text_kind, part_view, parts_view}
+use Rattle.tl_patch_edit.specs.Inner.Parts.{IsStep, Part, Say, SayOtherwise, SaySame, Tells, are_quiet, characters_at, characters_in, is_alike, is_quiet_first, is_quiet_kind, is_text_kind, part_view, parts_view}
 use Rattle.tl_patch_edit.specs.Sayings.{Saying, character}
 use Rattle.tl_patch_edit.specs.declared.part.Part.{Part as CodePart}
 use Rattle.tl_patch_edit.proofs.Lists.{length_view, more}

@@ -16,8 +16,8 @@ use Rattle.tl_patch_elements.specs.View.{element_view, elements_view}
 use Rattle.tl_patch_elements.specs.declared.found.Element.{Element as CodeElement}
 use Rattle.tl_patch_spec.specs.Elements.{Element}
 use Rattle.tl_patch_spec.specs.Tail.{are_end_tag, is_end_of, is_tail_name, is_tail_piece, is_tail_token, tail_end, tail_from, up_to_tail}
-use Rattle.tl_patch_edit.specs.Parts.{IsPieceOf, Part, view_at}
-use Rattle.tl_patch_edit.specs.Tails.{IsEndFor, IsTailFrom, IsTailPart, end_at, is_in_tail, with_part}
+use Rattle.tl_patch_edit.specs.Inner.Parts.{IsPieceOf, Part, view_at}
+use Rattle.tl_patch_edit.specs.Inner.Tails.{IsEndFor, IsTailFrom, IsTailPart, end_at, is_in_tail, with_part}
 use Rattle.tl_patch_edit.specs.declared.tail.End.{End}
 use Rattle.tl_patch_edit.specs.declared.tail.Tail.{Tail}
 use Rattle.tl_patch_edit.specs.declared.tail.TailPart.{TailPart}

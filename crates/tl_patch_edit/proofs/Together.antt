@@ -17,7 +17,7 @@ use Rattle.tl_patch_spec.specs.Splices.{Splice, are_ordered}
 use Rattle.tl_patch_spec.specs.Together.{AreAskedTogether, Asked, Gone, Turn, ask_of, asked_at, asked_each, at_each, gone_after, is_gone, none_gone, turn_of, with_asks}
 use Rattle.tl_patch_edit.specs.Asks.{ask_view, asks_view, placed_at, placed_view, planned_view}
 use Rattle.tl_patch_edit.specs.Found.{IsSplicedPage, IsSplicedPageOf, IsStartAt}
-use Rattle.tl_patch_edit.specs.Parts.{ArePieces, Part}
+use Rattle.tl_patch_edit.specs.Inner.Parts.{ArePieces, Part}
 use Rattle.tl_patch_edit.specs.Several.{AreDropped, AreEdited, AreExtents, AreInTurn, AreMeantAt, AreSorted, BeginAt, IsMeantOfPage, asked_one, asked_view, stands_twice}
 use Rattle.tl_patch_edit.specs.View.{extent_view, meant_view, patch_view, patches_view, turn_view}
 use Rattle.tl_patch_elements.specs.View.{element_view, elements_view}

@@ -20,7 +20,7 @@ use Rattle.tl_patch_edit.specs.declared.ask.Put.{Put as CodePut}
 use Rattle.tl_patch_edit.specs.declared.ask.Put.TheVariants as put
 use Rattle.tl_patch_edit.specs.declared.tag.ReadyAsk.{ReadyAsk}
 use Rattle.tl_patch_edit.specs.declared.ask.Turn.{Turn}
-use Rattle.tl_patch_edit.specs.Parts.{ArePieces, Give, IsPieceOf, Part, Says, with_end_part}
+use Rattle.tl_patch_edit.specs.Inner.Parts.{ArePieces, Give, IsPieceOf, Part, Says, with_end_part}
 use Rattle.tl_patch_edit.specs.Sayings.{sayings}
 use Rattle.tl_patch_edit.specs.View.{content_view}
 use Rattle.tl_patch_spec.specs.Markup.{text_markup}

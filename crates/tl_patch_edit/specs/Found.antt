@@ -9,7 +9,7 @@ use Rattle.tl_html_tokens.specs.Whole.{IsWhole, bytes_at}
 use Rattle.tl_html_tokens.specs.declared.mode.Mode.{Mode}
 use Rattle.tl_html_tokens.specs.declared.stage.TokenKind.TheVariants as kind
 use Rattle.tl_html_tokens.specs.declared.token.Token.{Token}
-use Rattle.tl_patch_edit.specs.Parts.{ArePieces, Part, Say, part_bytes}
+use Rattle.tl_patch_edit.specs.Inner.Parts.{ArePieces, Part, Say, part_bytes}
 use Rattle.tl_patch_edit.specs.Sayings.{AreWhole, Saying, sayings}
 use Rattle.tl_patch_spec.specs.Patches.{AreAskedOne, Put, start_name}
 use Rattle.tl_patch_spec.specs.Splices.{Splice, are_ordered, with_splices}

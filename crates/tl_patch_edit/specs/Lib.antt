@@ -1,9 +1,7 @@
 pub mod View
 pub mod Sayings
-pub mod Parts
-pub mod Tails
 pub mod Asks
 pub mod Found
-pub mod Causes
 pub mod Several
 pub mod Errors
+pub mod Inner

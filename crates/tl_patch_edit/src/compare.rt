@@ -3,8 +3,8 @@ ghost use Rattle.std.specs.Prelude.{◌≡◌, ◌≤◌, ◌<◌, ◌+◌, ◌+
 ghost use Rattle.std.specs.Str.{bytes_eq};
 ghost use Rattle.tl_html_tokens.specs.Comments.{comment_of};
 ghost use Rattle.tl_html_tokens.specs.Whole.{is_tag_kind};
-ghost use Rattle.tl_patch_edit.specs.Parts.{IsStep, SayOtherwise, SaySame, are_quiet, characters_at, characters_in, is_alike, is_comment_kind, is_doctype_kind, is_quiet_first, is_quiet_kind, is_same_tag, is_text_kind, part_view, parts_view};
-ghost use Rattle.tl_patch.specs.Steps.{kind_number, mode_number};
+ghost use Rattle.tl_patch_edit.specs.Inner.Parts.{IsStep, SayOtherwise, SaySame, are_quiet, characters_at, characters_in, is_alike, is_comment_kind, is_doctype_kind, is_quiet_first, is_quiet_kind, is_same_tag, is_text_kind, part_view, parts_view};
+ghost use Rattle.tl_patch.specs.Inner.Steps.{kind_number, mode_number};
 
 use crate::part::Part;
 use std::alloc::{AllocError, Global};

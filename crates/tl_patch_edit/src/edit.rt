@@ -3,10 +3,10 @@ ghost use Rattle.std.specs.Prelude.{◌≡◌, ◌≤◌, ◌++◌, List, IfErr,
 ghost use Rattle.tl_html_parts.specs.Parts.{name_of};
 ghost use Rattle.tl_html_tokens.specs.declared.stage.TokenKind.TheVariants.{StartTag};
 ghost use Rattle.tl_patch_edit.specs.Asks.{asks_view, placed_view, planned_view};
-ghost use Rattle.tl_patch_edit.specs.Causes.{IsPageError, IsPlanError, IsReadError, IsStartError, NoStartFrom};
+ghost use Rattle.tl_patch_edit.specs.Inner.Causes.{IsPageError, IsPlanError, IsReadError, IsStartError, NoStartFrom};
 ghost use Rattle.tl_patch_edit.specs.Several.{IsMeantOfPage};
 ghost use Rattle.tl_patch_edit.specs.Found.{IsReadAs, IsSplicedPageOf, IsStartAt, IsTagName, has_mark, mark_bytes};
-ghost use Rattle.tl_patch_edit.specs.Parts.{Say, part_bytes, parts_view};
+ghost use Rattle.tl_patch_edit.specs.Inner.Parts.{Say, part_bytes, parts_view};
 ghost use Rattle.tl_patch_edit.specs.Sayings.{Saying, sayings};
 ghost use Rattle.tl_patch_edit.specs.View.{extent_view, patch_view};
 ghost use Rattle.tl_html_spec.specs.Pieces.{pieces};

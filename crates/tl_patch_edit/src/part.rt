@@ -4,7 +4,7 @@ ghost use Rattle.std.specs.List.{slice_get};
 ghost use Rattle.tl_html_spec.specs.Pieces.{pieces, runs};
 ghost use Rattle.tl_html_tokens.specs.Tokens.{AreTokensOf};
 ghost use Rattle.tl_html_tokens.specs.Whole.{bytes_at};
-ghost use Rattle.tl_patch_edit.specs.Parts.{ArePieces, part_bytes, part_view, parts_view, view_at, with_end_part};
+ghost use Rattle.tl_patch_edit.specs.Inner.Parts.{ArePieces, part_bytes, part_view, parts_view, view_at, with_end_part};
 
 use std::alloc::{AllocError, Global};
 use tl_html_tokens::{Mode, Token, TokenKind};

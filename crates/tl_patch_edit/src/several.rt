@@ -6,7 +6,7 @@ ghost use Rattle.tl_patch_spec.specs.Patches.{asked_of};
 ghost use Rattle.tl_patch_spec.specs.Tail.{elements_up_to_tail};
 ghost use Rattle.tl_patch_spec.specs.Together.{asked_each, at_each, depth_of, gone_after, is_gone, none_gone, rank_of, turn_of};
 ghost use Rattle.tl_patch_edit.specs.Asks.{planned_view};
-ghost use Rattle.tl_patch_edit.specs.Causes.{IsAsksError, IsPlanError, IsPlanned, IsStartsError};
+ghost use Rattle.tl_patch_edit.specs.Inner.Causes.{IsAsksError, IsPlanError, IsPlanned, IsStartsError};
 ghost use Rattle.tl_patch_edit.specs.Errors.{CannotBeMeant, CannotBeRead, CannotBeWritten, IsRefused, LacksStartTag, StandAcross, StandsPastEnd, pieces_in};
 ghost use Rattle.tl_patch_edit.specs.declared.ask.PlacedPatch.{PlacedPatch};
 ghost use Rattle.tl_patch_edit.specs.declared.error.EditError.TheVariants.{Across, EndOfPage, NoStartTag, NotMeant, NotWritten, OutOfMemory, ReadOtherwise};

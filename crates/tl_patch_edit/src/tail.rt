@@ -12,8 +12,8 @@ ghost use Rattle.tl_html_tokens.specs.Whole.{IsWhole};
 ghost use Rattle.tl_html_tokens.specs.declared.mode.Mode.{Mode};
 ghost use Rattle.tl_patch_elements.specs.View.{element_view, elements_view};
 ghost use Rattle.tl_patch_spec.specs.Tail.{elements_up_to_tail, up_to_tail};
-ghost use Rattle.tl_patch_edit.specs.Parts.{IsPieceOf, part_view};
-ghost use Rattle.tl_patch_edit.specs.Tails.{IsEndFor, IsTailFrom, IsTailPart, is_in_tail, with_part};
+ghost use Rattle.tl_patch_edit.specs.Inner.Parts.{IsPieceOf, part_view};
+ghost use Rattle.tl_patch_edit.specs.Inner.Tails.{IsEndFor, IsTailFrom, IsTailPart, is_in_tail, with_part};
 
 use crate::part::{Part, part_at};
 use std::alloc::{AllocError, Global};

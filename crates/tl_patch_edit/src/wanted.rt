@@ -2,8 +2,8 @@
 ghost use Rattle.std.specs.Prelude.{◌≡◌, ◌≤◌, ◌-◌, ◌++◌, ◌&&◌, IfErr, IfOk, OnOk, drop, length, nat_le, take, true};
 ghost use Rattle.std.specs.List.{All};
 ghost use Rattle.tl_patch_edit.specs.Asks.{GivePutFor, IsEscaped, IsTagged, IsWanted, asks_view, placed_of};
-ghost use Rattle.tl_patch_edit.specs.Causes.{IsReadyError, IsSpliceError, IsWithin};
-ghost use Rattle.tl_patch_edit.specs.Parts.{parts_view, separator_parts};
+ghost use Rattle.tl_patch_edit.specs.Inner.Causes.{IsReadyError, IsSpliceError, IsWithin};
+ghost use Rattle.tl_patch_edit.specs.Inner.Parts.{parts_view, separator_parts};
 
 use crate::ask::Ask;
 use crate::error::EditError;

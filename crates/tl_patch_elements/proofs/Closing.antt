@@ -6,7 +6,7 @@ use Rattle.std.proofs.lemmas.List.{drop_all, drop_more, length-take}
 use Rattle.tl_html_spec.specs.HtmlTokenizer.{EndTag, HtmlToken}
 use Rattle.tl_html_spec.specs.Balanced.{Names}
 use Rattle.tl_patch_spec.specs.Elements.{PlacedToken, at_piece, tokens_at}
-use Rattle.tl_patch_elements.specs.Finding.{elements_with}
+use Rattle.tl_patch_elements.specs.Inner.Finding.{elements_with}
 use Rattle.tl_patch_elements.specs.declared.finder.Finder.{Finder}
 
 -- tokens of which none is the page's own end tag

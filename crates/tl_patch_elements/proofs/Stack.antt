@@ -5,7 +5,7 @@ use Rattle.tl_spec.specs.Lex.ByteClass.{is_void}
 use Rattle.tl_html_spec.specs.HtmlTokenizer.{HtmlAttribute, Character, StartTag, EndTag, CommentToken}
 use Rattle.tl_patch_spec.specs.Elements.{Element, OpenElement, PlacedToken, at_piece, elements_of, ended_element, open_after}
 use Rattle.tl_patch_spec.proofs.Elements.{elements_append}
-use Rattle.tl_patch_elements.specs.Finding.{open_view}
+use Rattle.tl_patch_elements.specs.Inner.Finding.{open_view}
 use Rattle.tl_patch_elements.specs.View.{element_view, elements_view}
 use Rattle.tl_patch_elements.specs.declared.finder.OpenElement.{OpenElement as CodeOpenElement}
 use Rattle.tl_patch_elements.specs.declared.found.Element.{Element as CodeElement}

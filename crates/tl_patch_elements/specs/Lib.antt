@@ -1,2 +1,2 @@
 pub mod View
-pub mod Finding
+pub mod Inner

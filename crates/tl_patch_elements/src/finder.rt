@@ -33,12 +33,12 @@ ghost use Rattle.tl_html_tokens.specs.Whole.{IsWhole, bytes_at};
 ghost use Rattle.tl_html_tokens.specs.declared.mode.Mode.{Mode};
 ghost use Rattle.tl_html_parts.specs.Parts.{name_of};
 ghost use Rattle.tl_html_balance.specs.View.{name_of as tag_name, open_names};
-ghost use Rattle.tl_html.specs.Parts.{IsPart};
+ghost use Rattle.tl_html.specs.Inner.Parts.{IsPart};
 ghost use Rattle.tl_patch_spec.specs.Elements.{PlacedToken, at_piece, elements_of, tokens_at};
 ghost use Rattle.tl_patch_spec.specs.Elements.{ended_element};
-ghost use Rattle.tl_html.specs.Opened.{opened_tags, opened_tokens};
+ghost use Rattle.tl_html.specs.Inner.Opened.{opened_tags, opened_tokens};
 ghost use Rattle.tl_html_balance.specs.Tokens.{tokens_put_in};
-ghost use Rattle.tl_patch_elements.specs.Finding.{Finds, IsNamed, elements_with, is_alone, is_nothing, is_paragraph, is_seen, stack_of};
+ghost use Rattle.tl_patch_elements.specs.Inner.Finding.{Finds, IsNamed, elements_with, is_alone, is_nothing, is_paragraph, is_seen, stack_of};
 ghost use Rattle.tl_patch_elements.specs.View.{elements_view};
 
 fn is_seen(byte: u8) -> bool

@@ -10,7 +10,7 @@ use Rattle.tl_spec.specs.Tree.Inline.{InlineMap, room, with_entry, with_value, w
 use Rattle.tl_spec.specs.Lex.AttributeList.{Attributes, is_id, is_class, set_at}
 use Rattle.tl_spec.specs.Tree.Document.{Handles}
 use Rattle.tl_spec.specs.Edit.{Change, Names, Texts, Comments, Sets, Flags, Unsets, Bares, Pushes, Pulls, Roots, Refusal, no_node, not_tag, no_place, map_ok, without_handle}
-use Rattle.tl.specs.TableLends.{with_node}
+use Rattle.tl.specs.Inner.TableLends.{with_node}
 use Rattle.tl.specs.View.{HTMLTag, HTMLNode, HTMLTable}
 use Rattle.tl.specs.declared.parser.tag.node.NodeOf.TheVariants.{Tag, Raw, Comment}
 use Rattle.tl_program.specs.TableEdit.{with_attribute, without_attribute, without_value, of_tag, of_node, at_node, edited_table, table_after}

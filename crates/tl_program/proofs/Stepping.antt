@@ -8,7 +8,7 @@ use Rattle.tl_spec.specs.Tree.Document.{Document}
 use Rattle.tl_spec.specs.Edit.{Change, Refusal, no_node, not_tag, no_place, map_ok, apply_change, apply_changes, none_refused, refusal_at}
 use Rattle.tl_spec.proofs.Edit.Shape.{apply_changes-refused}
 use Rattle.tl.specs.View.{HTMLTag, HTMLNode, document_of, HTMLTable}
-use Rattle.tl.specs.TableLends.{with_node}
+use Rattle.tl.specs.Inner.TableLends.{with_node}
 use Rattle.tl.specs.declared.parser.tag.node.NodeOf.TheVariants.{Tag}
 use Rattle.tl.proofs.Nodes.{set_same}
 use Rattle.tl_program.specs.Steps.{change_of}

@@ -13,7 +13,7 @@ use Rattle.tl_spec.specs.Edit as shown_edit
 use Rattle.tl_spec.specs.Edit.{Change, Names, Texts, Comments, Sets, Flags, Unsets, Bares, Pushes, Pulls, Roots, Refusal, no_place, map_ok, without_handle, apply_change, apply_changes, none_refused, shift_place}
 use Rattle.tl_spec.proofs.Print.Images.{image-with_attribute, image-without_attribute, image-without_value}
 use Rattle.tl_attributes.specs.AttributesView.{bytes_view, attributes_view}
-use Rattle.tl.specs.TableLends.{with_node}
+use Rattle.tl.specs.Inner.TableLends.{with_node}
 use Rattle.tl.specs.View.{HTMLTag, HTMLNode, tag_view, node_view, document_of, HTMLTable}
 use Rattle.tl.specs.declared.parser.tag.node.NodeOf.TheVariants.{Tag, Raw, Comment}
 use Rattle.tl_program.specs.TableEdit.{with_attribute, without_attribute, without_value, of_tag, of_node, at_node, at_tag, edited_table, next, table_after}

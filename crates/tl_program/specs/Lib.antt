@@ -12,4 +12,4 @@ pub mod Steps
 pub mod Tracking
 pub mod Streams
 pub mod TableEdit
-pub mod TagLent
+pub mod Inner

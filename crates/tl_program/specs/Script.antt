@@ -4,7 +4,7 @@ use Rattle.std.specs.Borrow.{MutBor}
 use Rattle.tl_bytes.specs.Held.{Kept, as_owned}
 use Rattle.tl_spec.specs.Tree.Document.{Document}
 use Rattle.tl_spec.specs.Edit.{Change, Refusal, no_node, not_tag, no_place, apply_change, apply_changes, none_refused, refusal_at}
-use Rattle.tl.specs.Node.{tag_of}
+use Rattle.tl.specs.Inner.Node.{tag_of}
 use Rattle.tl.specs.Tag.{Tag}
 use Rattle.tl.specs.Table.{Table}
 use Rattle.tl.specs.View.{HTMLTag, HTMLNode, HTMLTable}

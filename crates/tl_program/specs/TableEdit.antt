@@ -9,7 +9,7 @@ use Rattle.tl_spec.specs.Lex.AttributeList.{Attributes}
 use Rattle.tl_spec.specs.Edit.Attribute as any
 use Rattle.tl_spec.specs.Edit.{Change, Names, Texts, Comments, Sets, Flags, Unsets, Bares, Pushes, Pulls, Roots, Refusal, no_node, not_tag, no_place, map_ok, without_handle}
 use Rattle.tl_attributes.specs.AttributesView.{bytes_view}
-use Rattle.tl.specs.TableLends.{with_node}
+use Rattle.tl.specs.Inner.TableLends.{with_node}
 use Rattle.tl.specs.View.{HTMLTag, HTMLNode, HTMLTable}
 use Rattle.tl.specs.declared.parser.tag.node.NodeOf.TheVariants.{Tag, Raw, Comment}
 

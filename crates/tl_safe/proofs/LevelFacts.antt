@@ -19,11 +19,11 @@ use Rattle.tl_safe_fit.specs.Kinds
 use Rattle.tl_safe_fit.specs.Kinds.{kind_of}
 use Rattle.tl_safe.specs.KeptFitted.{adds_of}
 use Rattle.tl_safe_fit.specs.Levels.{has_room, in_either, level_rooms, missing_parts, outermost_path, path_inside}
-use Rattle.tl_safe.specs.Levels.{level_of, parts_of}
+use Rattle.tl_safe.specs.Inner.Levels.{level_of, parts_of}
 use Rattle.tl_safe_fit.specs.Words.{is_among}
 use Rattle.tl_safe.specs.Lists.{ListedWords}
 use Rattle.tl_safe.specs.Refusals.{are_lawful}
-use Rattle.tl_safe.specs.Runs.{parts_run}
+use Rattle.tl_safe.specs.Inner.Runs.{parts_run}
 use Rattle.tl_safe_fit.specs.declared.kinds.Kind.{Kind}
 use Rattle.tl_safe_fit.specs.declared.kinds.Kind.TheVariants.{Paragraph, Block, LooseBlock, Heading, Preformatted, Item, Description, Anchor, Nobr, Void, Rule, RubyBase, RubyTextContainer, RubyText, Ruby, Table, Caption, ColumnGroup, Column, TableBody, Row, Cell, Other}
 use Rattle.tl_safe_fit.specs.declared.levels.Level.{Level}

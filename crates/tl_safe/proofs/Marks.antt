@@ -20,7 +20,7 @@ use Rattle.tl_safe.specs.Lists.{ListedWords}
 use Rattle.tl_safe.specs.Refusals.{are_lawful}
 use Rattle.tl_safe.specs.Filter.{has_key, is_allowed, is_beside_mark, is_link, is_marked_link, linking_names, mark, marked_attributes, rel_key, rel_value, written_pair, written_pairs}
 use Rattle.tl_safe.specs.IsSafe.{are_written, begins_marked, is_written, is_written_byte}
-use Rattle.tl_safe.specs.Writes.{is_kept_at, stays_beside}
+use Rattle.tl_safe.specs.Inner.Writes.{is_kept_at, stays_beside}
 use Rattle.tl_safe.proofs.Listed.{listed_mark}
 
 -- a key as it is written

@@ -12,7 +12,7 @@ use Rattle.tl_safe.specs.Fitted.{Piece, Place, Run, fit, print_pieces, room_for,
 use Rattle.tl_safe.specs.KeptFitted.{adds_of}
 use Rattle.tl_safe_fit.specs.Words.{is_among}
 use Rattle.tl_safe.specs.Lists.{ListedWords, opaque_names}
-use Rattle.tl_safe.specs.Runs.{Written, handle_run, row_run, text_run, unchanged, unless_void, written}
+use Rattle.tl_safe.specs.Inner.Runs.{Written, handle_run, row_run, text_run, unchanged, unless_void, written}
 use Rattle.tl_safe.proofs.PiecesPrint.{print-append}
 
 pub sequence-assoc : (r : Run) (k l : Place → Run) → sequence (sequence r k) l ≡ sequence r (λ q. sequence (k q) l)

@@ -17,9 +17,9 @@ use Rattle.tl_safe.specs.Fitted.{Piece, Place, Run, at_top, end_tags_to, fit, pr
 use Rattle.tl_safe.specs.KeptFitted.{adds_of}
 use Rattle.tl_safe.specs.Lists.{ListedWords}
 use Rattle.tl_safe.specs.Policies.{kept_fitted_of, lists_of}
-use Rattle.tl_safe.specs.Remaining.{frame_run, frame_steps, owed, owed_from, steps}
-use Rattle.tl_safe.specs.Runs.{handle_run, kept_run, left, row_run, unchanged, written}
-use Rattle.tl_safe.specs.Writers.{GoesOn, Writes, place_of, words_by}
+use Rattle.tl_safe.specs.Inner.Remaining.{frame_run, frame_steps, owed, owed_from, steps}
+use Rattle.tl_safe.specs.Inner.Runs.{handle_run, kept_run, left, row_run, unchanged, written}
+use Rattle.tl_safe.specs.Inner.Writers.{GoesOn, Writes, place_of, words_by}
 use Rattle.tl_safe.specs.declared.policy.Policy.{Policy}
 use Rattle.tl_safe.specs.declared.walk.Frame.{Frame}
 use Rattle.tl_safe.specs.declared.writer.Writer.{Writer}

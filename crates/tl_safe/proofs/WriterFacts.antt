@@ -18,12 +18,12 @@ use Rattle.tl_safe.specs.KeptFitted.{adds_of}
 use Rattle.tl_safe_fit.specs.Kinds
 use Rattle.tl_safe_fit.specs.Kinds.{kind_of}
 use Rattle.tl_safe_fit.specs.Levels.{has_room, level_inside, level_rooms, missing_parts, outermost_level}
-use Rattle.tl_safe.specs.Levels.{level_of, parts_of}
+use Rattle.tl_safe.specs.Inner.Levels.{level_of, parts_of}
 use Rattle.tl_safe_fit.specs.Words.{is_among}
 use Rattle.tl_safe.specs.Lists.{ListedWords, opaque_names}
 use Rattle.tl_safe.specs.Policies.{lists_of}
-use Rattle.tl_safe.specs.Runs.{Written, ended, ended_in, kept_run, left, listed_run, opened_in, or_unchanged, part_start, parts_run, text_run, unchanged, unless_void, written}
-use Rattle.tl_safe.specs.Writers.{AreOpen, AreOpenIn, GoesOn, IsLevel, Writes, around_from, around_of, entered, opened_tag, place_of, words_by}
+use Rattle.tl_safe.specs.Inner.Runs.{Written, ended, ended_in, kept_run, left, listed_run, opened_in, or_unchanged, part_start, parts_run, text_run, unchanged, unless_void, written}
+use Rattle.tl_safe.specs.Inner.Writers.{AreOpen, AreOpenIn, GoesOn, IsLevel, Writes, around_from, around_of, entered, opened_tag, place_of, words_by}
 use Rattle.tl_safe_fit.specs.declared.kinds.Kind.{Kind}
 use Rattle.tl_safe_fit.specs.declared.kinds.Kind.TheVariants.{Preformatted, Column, Row, Cell, Table, TableBody, Void, Rule}
 use Rattle.tl_safe_fit.specs.declared.levels.Level.{Level}

@@ -12,7 +12,7 @@ use Rattle.tl_spec.specs.Print.{print_pairs, print_start, print_value}
 use Rattle.tl_safe.specs.Lists.{ListedWords}
 use Rattle.tl_safe.specs.Filter.{is_beside_mark, is_marked_link, is_text_byte, kept_attributes, kept_tag, mark, marked_attributes, written_pair, written_value}
 use Rattle.tl_safe.specs.IsSafe.{is_written_byte}
-use Rattle.tl_safe.specs.Writes.{mark_print, stays_beside}
+use Rattle.tl_safe.specs.Inner.Writes.{mark_print, stays_beside}
 use Rattle.tl_safe.proofs.Marks.{beside-written, marked-pairs}
 use Rattle.tl_safe.proofs.Trees.{kept-pairs}
 use Rattle.tl_safe.proofs.Values.{written-same}

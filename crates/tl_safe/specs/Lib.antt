@@ -8,11 +8,7 @@ pub mod Shown
 pub mod Rows
 pub mod HtmlTrees
 pub mod Names
-pub mod Levels
-pub mod Runs
-pub mod Writers
 pub mod Policies
-pub mod Remaining
-pub mod Writes
 pub mod Refusals
 pub mod ListOptions
+pub mod Inner

@@ -7,7 +7,7 @@ ghost use Rattle.tl_attributes.specs.AttributesView.{plain};
 ghost use Rattle.tl.specs.View.{tag_view};
 ghost use Rattle.tl_safe.specs.Filter.{is_link, is_own_name, is_allowed, is_allowed_value};
 ghost use Rattle.tl_safe.specs.Policies.{lists_of};
-ghost use Rattle.tl_safe.specs.Writes.{is_kept_at, is_marked_start, pair_of, stays_beside};
+ghost use Rattle.tl_safe.specs.Inner.Writes.{is_kept_at, is_marked_start, pair_of, stays_beside};
 
 use crate::names::{
     ByteClass, REL_KEY, all_have_class, begins_link, is_among, is_linking, is_naming_key,

@@ -8,7 +8,7 @@ ghost use Rattle.tl_html_spec.specs.HtmlTokenizer.{with_feeds};
 ghost use Rattle.tl_safe.specs.Filter.{is_text_byte};
 ghost use Rattle.tl_safe.specs.Fitted.{as_texts, first_len, first_texts, is_empty, is_written_anew, may_begin_line, past_lines, print_pieces, says};
 ghost use Rattle.tl_safe.specs.IsSafe.{text_characters};
-ghost use Rattle.tl_safe.specs.Writes.{Adds};
+ghost use Rattle.tl_safe.specs.Inner.Writes.{Adds};
 
 use crate::names::ByteClass;
 use crate::write::{bytes_of, write_lossy};

@@ -9,9 +9,9 @@ ghost use Rattle.tl_spec.specs.Tree.Order.{ChildrenFollowParents};
 ghost use Rattle.tl.specs.View.{node_view, tag_view};
 ghost use Rattle.tl_spec.specs.Tree.Document.{Node, Tag as TagOf};
 ghost use Rattle.tl_spec.specs.Walk.Length.{child_at, handle_met};
-ghost use Rattle.tl_safe.specs.Remaining.{frame_run, frame_steps, owed, steps};
-ghost use Rattle.tl_safe.specs.Runs.{handle_run, kept_run, row_run, then_run};
-ghost use Rattle.tl_safe.specs.Writers.{GoesOn, IsLevel, Writes, place_of, with_more, words_by};
+ghost use Rattle.tl_safe.specs.Inner.Remaining.{frame_run, frame_steps, owed, steps};
+ghost use Rattle.tl_safe.specs.Inner.Runs.{handle_run, kept_run, row_run, then_run};
+ghost use Rattle.tl_safe.specs.Inner.Writers.{GoesOn, IsLevel, Writes, place_of, with_more, words_by};
 
 use crate::writer::{Entry, Writer};
 use std::alloc::{AllocError, Global};

@@ -11,7 +11,7 @@ ghost use Rattle.tl.specs.View.{tag_view};
 ghost use Rattle.tl_safe.specs.Filter.{is_text_byte, written_byte, written_pair, written_value};
 ghost use Rattle.tl_safe.specs.Fitted.{part_tag};
 ghost use Rattle.tl_safe.specs.Names.{has_class};
-ghost use Rattle.tl_safe.specs.Writes.{Adds, kept_pairs, kept_start, mark_print, pair_of, print_pair};
+ghost use Rattle.tl_safe.specs.Inner.Writes.{Adds, kept_pairs, kept_start, mark_print, pair_of, print_pair};
 
 use crate::filter::{is_marked_link, stays_beside};
 use crate::names::{ByteClass, all_have_class, has_class, is_whole_text, is_written_value};

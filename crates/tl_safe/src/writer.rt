@@ -6,11 +6,11 @@ ghost use Rattle.tl_safe.specs.Filter.{is_text_byte};
 ghost use Rattle.tl_safe.specs.Fitted.{Place, Run, at_top, end_tags_to, print_pieces};
 ghost use Rattle.tl_safe_fit.specs.Kinds.{kind_of};
 ghost use Rattle.tl_safe_fit.specs.Levels.{has_room, missing_parts};
-ghost use Rattle.tl_safe.specs.Levels.{parts_of};
+ghost use Rattle.tl_safe.specs.Inner.Levels.{parts_of};
 ghost use Rattle.tl_safe_fit.specs.Words.{is_among};
 ghost use Rattle.tl_safe.specs.Policies.{lists_of};
-ghost use Rattle.tl_safe.specs.Runs.{ended, kept_run, left, listed_run, opened_in, or_unchanged, part_start, parts_run, room_at, text_run, unchanged, unless_void};
-ghost use Rattle.tl_safe.specs.Writers.{GoesOn, IsLevel, Writes, entered, opened_tag, place_of, with_more, words_by};
+ghost use Rattle.tl_safe.specs.Inner.Runs.{ended, kept_run, left, listed_run, opened_in, or_unchanged, part_start, parts_run, room_at, text_run, unchanged, unless_void};
+ghost use Rattle.tl_safe.specs.Inner.Writers.{GoesOn, IsLevel, Writes, entered, opened_tag, place_of, with_more, words_by};
 
 use crate::indexed::IndexedPolicy;
 use crate::names::is_opaque;

@@ -10,7 +10,7 @@ pub use Rattle.tl_spec.proofs.Select.Text.{rest_part, rest_end, rest_bad, next_l
 use Rattle.tl_selector.specs.View.{selector}
 use Rattle.tl_selector.specs.declared.selector.Selector.{Selector}
 use Rattle.tl_selector.specs.MissingSimple.{LacksSecond}
-use Rattle.tl_selector.specs.ParserViews.{separator}
+use Rattle.tl_selector.specs.Inner.ParserViews.{separator}
 use Rattle.tl_selector.specs.declared.parser.complex.Separator.{Separator}
 use Rattle.tl_selector.specs.declared.parser.complex.Separator.TheVariants.{Comma, Step, Spaces, Touch}
 

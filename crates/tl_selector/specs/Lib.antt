@@ -3,5 +3,5 @@ pub mod NodeSet
 pub mod Spine
 pub mod View
 pub mod LossyChars
-pub mod ParserViews
 pub mod MissingSimple
+pub mod Inner

@@ -5,7 +5,7 @@ use Rattle.std.proofs.lemmas.Option.{slice_get-get_or, slice_get-map}
 use Rattle.std.proofs.lemmas.Bool.{cases_Bool, eqb-true, eqb-false}
 use Rattle.tl_table.specs.declared.links.Links.{Links}
 use Rattle.tl_table.specs.Links.{behind, child_links, links_in}
-use Rattle.tl_table.specs.Steps.{is_orphan, with_child, with_row}
+use Rattle.tl_table.specs.Inner.Steps.{is_orphan, with_child, with_row}
 
 -- lists, at a place
 

@@ -6,7 +6,7 @@ use Rattle.tl_spec.specs.Tree.Document.{Node}
 use Rattle.tl_spec.specs.Tree.Element.{children_of}
 use Rattle.tl_table.specs.declared.links.Links.{Links}
 use Rattle.tl_table.specs.Links.{AreLinks, behind, links_in, links_of, top_links}
-use Rattle.tl_table.specs.Steps.{is_loose, with_top, with_top_node}
+use Rattle.tl_table.specs.Inner.Steps.{is_loose, with_top, with_top_node}
 use Rattle.tl_table.proofs.Rows.{chosen, either, none_stays, rows_at, rows_past, set_other, set_same, with_rows}
 
 abbrev pub linked_by : Option ℕ → Option ℕ → Links

@@ -13,7 +13,7 @@ use Rattle.tl_spec.specs.Tree.Element.{last_child_of}
 use Rattle.tl_spec.specs.Tree.Order.{ChildrenFollowParents}
 use Rattle.tl_spec.specs.Walk.Range.{handle_end, step_end, end_within, end_below, last_below, with_end, boundaries_from}
 use Rattle.tl_spec.specs.Walk.{TreeFault, Dangling, Cycle, stands_on}
-use Rattle.tl_table.specs.Way.{last_child_at, after_steps, Rises}
+use Rattle.tl_table.specs.Inner.Way.{last_child_at, after_steps, Rises}
 use Rattle.tl_spec.proofs.Walk.Ranges.{end-step}
 
 module _ (nodes : List Node) (path : List ℕ) where

@@ -3,7 +3,7 @@ use Rattle.std.specs.Prelude.{◌≡◌, ℕ, List, Some, Ok, Err}
 use Rattle.tl_spec.specs.Tree.Document.{Node}
 use Rattle.tl_spec.specs.Walk.Range.{last_below}
 use Rattle.tl_spec.specs.Walk.{Dangling}
-use Rattle.tl_table.specs.Way.{Rises}
+use Rattle.tl_table.specs.Inner.Way.{Rises}
 use Rattle.tl_table.specs.declared.last_descendant.Stop.{Stop}
 use Rattle.tl_table.specs.declared.last_descendant.Stop.TheVariants.{End, Dangling as Dangles, Fall}
 

@@ -1,6 +1,5 @@
 pub mod TreeFault
 pub mod Answer
-pub mod Way
 pub mod LastDescendant
 pub mod Links
-pub mod Steps
+pub mod Inner

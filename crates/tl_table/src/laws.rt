@@ -1,6 +1,6 @@
 //! Laws of the way along last children.
 ghost use Rattle.std.specs.Prelude.{ℕ, List, Option};
-ghost use Rattle.tl_table.specs.Way.{Rises};
+ghost use Rattle.tl_table.specs.Inner.Way.{Rises};
 ghost use Rattle.tl_spec.specs.Tree.Document.{Node};
 ghost use Rattle.tl_spec.specs.Tree.Order.{ChildrenFollowParents};
 

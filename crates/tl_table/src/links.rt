@@ -2,7 +2,7 @@
 ghost use Rattle.std.specs.Prelude.{◌≡◌, ◌<◌, ◌≤◌, ◌^◌, Err, IfOk, length, map, slice_get};
 ghost use Rattle.tl_spec.specs.Tree.Element.{children_of};
 ghost use Rattle.tl_table.specs.Links.{AreLinks};
-ghost use Rattle.tl_table.specs.Steps.{with_child, with_row, with_top, with_top_node};
+ghost use Rattle.tl_table.specs.Inner.Steps.{with_child, with_row, with_top, with_top_node};
 
 use crate::element::Element;
 use crate::handle::NodeHandle;

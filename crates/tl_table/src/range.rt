@@ -5,7 +5,7 @@
 ghost use Rattle.std.specs.Prelude.{◌≤◌, IfOk, length, map};
 ghost use Rattle.tl_spec.specs.Walk.Range.{last_below, boundaries_from, range_from};
 ghost use Rattle.tl_table.specs.Answer.{Answers, WantsNoMemory};
-ghost use Rattle.tl_table.specs.Way.{Rises};
+ghost use Rattle.tl_table.specs.Inner.Way.{Rises};
 
 use crate::element::Element;
 use crate::errors::TreeError;

@@ -6,7 +6,7 @@ use Rattle.std.proofs.lemmas.List.{at_drop_more}
 use Rattle.tl_html_spec.specs.HtmlTokenizer.{digit_value}
 use Rattle.tl_html_spec.specs.References.{Reference, number_value, windows_1252}
 use Rattle.tl_html_spec.specs.Unescaped.{number_from, one_before}
-use Rattle.tl_text.specs.View.{base_of, capped, is_digit_of, number_reference}
+use Rattle.tl_text.specs.Inner.View.{base_of, capped, is_digit_of, number_reference}
 use Rattle.tl_text.specs.declared.base.Base.{Base}
 use Rattle.tl_text.specs.declared.base.Base.TheVariants.{Decimal, Hexadecimal}
 

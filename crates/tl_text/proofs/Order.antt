@@ -6,7 +6,7 @@ use Rattle.std.proofs.lemmas.List.{drop-drop}
 use Rattle.std.proofs.Math.Seq.{drop-nil}
 use Rattle.tl_names.specs.References.{table_of}
 use Rattle.tl_html_spec.specs.References.{Row, first_row, not_equals, not_zero, rows}
-use Rattle.tl_text.specs.Order.{are_in_order, is_past, is_past_first}
+use Rattle.tl_text.specs.Inner.Order.{are_in_order, is_past, is_past_first}
 use Rattle.tl_text.proofs.Rows.{later_in, row_in, row_later, rows-step, shorter}
 
 -- the first bytes of two words decide, or are the same

@@ -1,7 +1,7 @@
 //! Digits of numbers.
 ghost use Rattle.std.specs.Prelude.{◌≡◌, ◌<◌, Some, None, IfSome, if◌then◌else◌};
 ghost use Rattle.tl_html_spec.specs.HtmlTokenizer.{digit_value};
-ghost use Rattle.tl_text.specs.View.{base_of, is_digit_of};
+ghost use Rattle.tl_text.specs.Inner.View.{base_of, is_digit_of};
 
 // What a number is written in.
 #[derive(Clone, Copy)]

@@ -2,8 +2,8 @@
 ghost use Rattle.std.specs.Prelude.{◌≡◌, ◌≤◌, ◌==◌, Some, true, length, IfSome, option_map};
 ghost use Rattle.std.specs.List.{common_prefix_len, take_while};
 ghost use Rattle.tl_html_spec.specs.References.{ends_with_semicolon, first_row, named, not_equals, rows};
-ghost use Rattle.tl_text.specs.Order.{are_in_order, is_past};
-ghost use Rattle.tl_text.specs.View.{row_view};
+ghost use Rattle.tl_text.specs.Inner.Order.{are_in_order, is_past};
+ghost use Rattle.tl_text.specs.Inner.View.{row_view};
 
 use crate::split::{bytes_after, split_at_byte};
 use tl_names::table_of;

@@ -2,7 +2,7 @@
 ghost use Rattle.std.specs.Prelude.{◌≡◌, ◌+◌, ◌*◌, ◌<◌, ◌≤◌, length, encode_utf8};
 ghost use Rattle.tl_html_spec.specs.References.{is_no_character, number_value, windows_1252};
 ghost use Rattle.tl_html_spec.specs.Unescaped.{number_from};
-ghost use Rattle.tl_text.specs.View.{base_of, capped, is_digit_of, number_reference, reference_view};
+ghost use Rattle.tl_text.specs.Inner.View.{base_of, capped, is_digit_of, number_reference, reference_view};
 
 use crate::base::Base;
 use crate::reference::{Characters, Reference};

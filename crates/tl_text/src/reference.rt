@@ -2,7 +2,7 @@
 ghost use Rattle.std.specs.Prelude.{◌≡◌, ◌<◌, ◌≤◌, ◌^◌, ◌++◌, length, option_map, OnOk, IfSome};
 ghost use Rattle.tl_html_spec.specs.References.{begins_with, goes_on, is_left, named_reference};
 ghost use Rattle.tl_html_spec.specs.Unescaped.{number, numeric_reference, one_before, reference};
-ghost use Rattle.tl_text.specs.View.{base_of, is_digit_of, reference_view, characters_view};
+ghost use Rattle.tl_text.specs.Inner.View.{base_of, is_digit_of, reference_view, characters_view};
 
 use crate::base::Base;
 use crate::names::{ends_with_semicolon, longest_name};

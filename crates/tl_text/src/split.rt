@@ -1,7 +1,7 @@
 //! Bytes up to one of them.
 ghost use Rattle.std.specs.Prelude.{◌≡◌, ◌≤◌, ◌++◌, suc, drop, length, take, OnOk};
 ghost use Rattle.std.specs.List.{prefix_len, take_while};
-ghost use Rattle.tl_text.specs.View.{is_not};
+ghost use Rattle.tl_text.specs.Inner.View.{is_not};
 
 use std::alloc::AllocError;
 

@@ -10,7 +10,7 @@ use Rattle.tl_spec.specs.Lex.AttributeList.{AreOthers, Attributes, pair_if_some}
 use Rattle.tl_spec.specs.Tree.Inline.{pair_image, room, with_entry}
 use Rattle.tl_spec.proofs.Lex.ByKey.{choose_by_key-other}
 use Rattle.tl_spec.proofs.Print.Images.{image-pairs_in_order}
-use Rattle.tl_attributes.specs.Listing.{as_borrowed, listed}
+use Rattle.tl_attributes.specs.Inner.Listing.{as_borrowed, listed}
 use Rattle.tl_attributes.specs.AttributesView.{attributes_view, bytes_view, value_view}
 use Rattle.uses.specs.Fields.{Fields, attributes_with, text_with}
 use Rattle.uses.specs.Filling.{pair_with, insert_pair}

@@ -10,7 +10,7 @@ use Rattle.tl_spec.specs.Lex.Token.{tokens}
 use Rattle.tl_spec.specs.Walk.{all_tags, trees, walk}
 use Rattle.tl_spec.proofs.Tree.Order.{document-whole}
 use Rattle.tl.specs.View.{HTMLNode, HTMLTable, document_of, node_view}
-use Rattle.tl.specs.TableLends.{with_nodes}
+use Rattle.tl.specs.Inner.TableLends.{with_nodes}
 use Rattle.tl.proofs.Written.{written-document}
 use Rattle.uses.specs.Fields.{Fields, document_with, node_with, trees_with}
 use Rattle.uses.proofs.Trees.{clean-document, trees-of-document}

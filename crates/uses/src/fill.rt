@@ -12,7 +12,7 @@ ghost use Rattle.tl_spec.specs.Tree.Forest.{forest, plain};
 ghost use Rattle.tl_spec.specs.Print.Normal.{ReadsAs};
 ghost use Rattle.tl_spec.specs.Print.{document_print};
 ghost use Rattle.tl_spec.specs.Lex.Token.{tokens};
-ghost use Rattle.tl_attributes.specs.Listing.{listed};
+ghost use Rattle.tl_attributes.specs.Inner.Listing.{listed};
 ghost use Rattle.tl_attributes.specs.AttributesView.{attributes_view, bytes_view};
 ghost use Rattle.tl.specs.View.{document_of, node_view};
 ghost use Rattle.uses.specs.Fields.{attributes_with, document_with, fields_of, node_with, text_with, trees_with};

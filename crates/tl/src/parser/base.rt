@@ -6,8 +6,8 @@
 ghost use Rattle.std.specs.Prelude.{◌≡◌, ◌<◌, ◌^◌, length, slice_get, IsTrue, Option};
 ghost use Rattle.std.specs.Borrow.{sem};
 ghost use Rattle.std.specs.Option.{option_copied, option_copied_mut};
-ghost use Rattle.tl.specs.Preorder.{IsInPreorder};
-ghost use Rattle.tl.specs.TableLends.{LendsNode, LendsTableNodes, LendsTableTop, with_node};
+ghost use Rattle.tl.specs.Inner.Preorder.{IsInPreorder};
+ghost use Rattle.tl.specs.Inner.TableLends.{LendsNode, LendsTableNodes, LendsTableTop, with_node};
 
 use crate::parser::tag::node::{Node, NodeOf};
 use std::alloc::Global;
@@ -60,7 +60,7 @@ pub type Parser<'a> = ParserOf<Attributes<'a>, Bytes<'a>, Summary, Tracking<'a>>
 impl<A, B, O: SummaryOf<A>, M> Model for ParserOf<A, B, O, M> {
     ghost use Rattle.std.specs.Prelude.{◌≡◌, ◌<◌, ◌^◌, length, true};
     ghost use Rattle.tl.specs.Table.{Table};
-    ghost use Rattle.tl.specs.Preorder.{IsInPreorder};
+    ghost use Rattle.tl.specs.Inner.Preorder.{IsInPreorder};
 
     ghost Value = { Table A B O M };
 

@@ -102,7 +102,7 @@ impl<A: Drop, B: Drop, O: SummaryOf<A>> TagOf<A, B, O> {
 impl<A, B, O: SummaryOf<A>> TagOf<A, B, O> {
     ghost use Rattle.std.specs.Borrow.{sem};
     ghost use Rattle.tl_spec.specs.Tree.Inline.{room, with_last};
-    ghost use Rattle.tl.specs.TagLends.{LendsName, LendsAttributes, LendsChildren};
+    ghost use Rattle.tl.specs.Inner.TagLends.{LendsName, LendsAttributes, LendsChildren};
 
     // Makes `child` the last child.
     pub(crate) fn push_child(&mut self, child: NodeHandle) -> Result<(), AllocError>

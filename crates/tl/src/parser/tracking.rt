@@ -7,7 +7,7 @@ ghost use Rattle.tl_spec.specs.Tree.Document.{Node, Tag};
 ghost use Rattle.tl_spec.specs.Lookup.Scan.{id_of, class_of};
 ghost use Rattle.tl_tracking.specs.NameKey.{HasNames, number_of_names};
 ghost use Rattle.tl_tracking.specs.Tracking.{no_maps};
-ghost use Rattle.tl.specs.Names.{key_of, name_list, names_in, names_of};
+ghost use Rattle.tl.specs.Inner.Names.{key_of, name_list, names_in, names_of};
 ghost use Rattle.tl.specs.View.{node_view, tag_view};
 ghost use Rattle.tl.specs.Tracked.{AreAsked, AnswerIds, AnswerClasses, AnswerMembers};
 

@@ -2,7 +2,7 @@
 ghost use Rattle.std.specs.Prelude.{◌≡◌, ◌≤◌, ◌^◌, ℕ, ⊤, IfOk, List, Ok, Option, Result, Some, length, map, slice_get};
 ghost use Rattle.std.specs.Option.{option_map};
 ghost use Rattle.tl_table.specs.Answer.{Answers, WantsNoMemory};
-ghost use Rattle.tl_table.specs.Way.{RisesBelow};
+ghost use Rattle.tl_table.specs.Inner.Way.{RisesBelow};
 ghost use Rattle.tl_spec.specs.Tree.Document.{Node};
 ghost use Rattle.tl_spec.specs.Walk.Range.{range_of};
 ghost use Rattle.tl_spec.specs.Walk.{TreeFault};

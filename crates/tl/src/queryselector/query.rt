@@ -3,7 +3,7 @@ ghost use Rattle.std.specs.Prelude.{◌≡◌, Err, IfOk, IfErr, IfSome, IsOk, O
 ghost use Rattle.std.specs.Result.{result_err};
 ghost use Rattle.tl_table.specs.Answer.{WantsNoMemory};
 ghost use Rattle.tl_table.specs.TreeFault.{IsRefusal, error_of};
-ghost use Rattle.tl_table.specs.Way.{RisesBelow};
+ghost use Rattle.tl_table.specs.Inner.Way.{RisesBelow};
 ghost use Rattle.tl_table.specs.declared.errors.TreeError.TheVariants.{OutOfMemory};
 ghost use Rattle.tl_selector.specs.MissingSimple.{LacksFirst, LacksSecond};
 ghost use Rattle.tl_selector.specs.View.{selector as selector_of};

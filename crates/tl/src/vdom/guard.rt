@@ -1,7 +1,7 @@
 //! Documents that keep their text.
 ghost use Rattle.std.specs.Prelude.{◌≡◌};
 ghost use Rattle.std.specs.Borrow.{sem};
-ghost use Rattle.tl.specs.TableLends.{LendsDocument};
+ghost use Rattle.tl.specs.Inner.TableLends.{LendsDocument};
 
 use crate::parser::base::Tracking;
 use crate::vdom::VDomOf;

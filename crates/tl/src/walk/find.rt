@@ -6,7 +6,7 @@ ghost use Rattle.std.specs.Prelude.{◌≡◌, ℕ, map, Ok, Err, None};
 ghost use Rattle.tl_table.specs.TreeFault.{FirstDangles};
 ghost use Rattle.tl_spec.specs.Tree.Element.{children_of};
 ghost use Rattle.tl.specs.Find.{FindsNode, FindsNodeOrStops, sight, sights, sights_below};
-ghost use Rattle.tl.specs.Node.{tag_of};
+ghost use Rattle.tl.specs.Inner.Node.{tag_of};
 ghost use Rattle.tl.specs.View.{node_view};
 ghost use Rattle.tl.specs.Walker.{IsMarked, events_to_come};
 

@@ -7,9 +7,9 @@ ghost use Rattle.tl_spec.specs.Tree.Element.{children_of};
 ghost use Rattle.tl_spec.specs.Print.Text.{inner_text, text_of, event_text};
 ghost use Rattle.tl_spec.specs.Walk.{all_tags, fault_among, first_fault, trees, walk, walk_of};
 ghost use Rattle.tl.specs.View.{node_view, tag_view};
-ghost use Rattle.tl.specs.Node.{comment_of};
+ghost use Rattle.tl.specs.Inner.Node.{comment_of};
 ghost use Rattle.tl.specs.Walker.{IsMarked, events_to_come, event_view, Writes, own_text};
-ghost use Rattle.tl.specs.Preorder.{IsInPreorder};
+ghost use Rattle.tl.specs.Inner.Preorder.{IsInPreorder};
 
 use crate::errors::TreeError;
 use crate::parser::base::Parser;

@@ -49,7 +49,7 @@ impl<K: Eq + Hash, V, const N: usize> Model for InlineHashMap<K, V, N> {
 
     ghost coded = { inline_map_code K.code V.code };
 
-    ghost use Rattle.tl_inline.specs.PairStorage.{storage_view};
+    ghost use Rattle.tl_inline.specs.Inner.PairStorage.{storage_view};
 
     ghost view = { λ m. storage_view m.held };
 
@@ -57,7 +57,7 @@ impl<K: Eq + Hash, V, const N: usize> Model for InlineHashMap<K, V, N> {
 }
 
 impl<K: Eq + Hash, V, const N: usize> InlineHashMap<K, V, N> {
-    ghost use Rattle.tl_inline.specs.InlineMapLends.{lends_value};
+    ghost use Rattle.tl_inline.specs.Inner.InlineMapLends.{lends_value};
 
     /// The number of pairs.
     pub fn len(&self) -> usize

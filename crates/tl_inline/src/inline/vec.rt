@@ -41,13 +41,13 @@ impl<T, const N: usize> Model for InlineVec<T, N> {
 
     ghost coded = { inline_vec_code T.code };
 
-    ghost use Rattle.tl_inline.specs.ItemStorage.{storage_view};
+    ghost use Rattle.tl_inline.specs.Inner.ItemStorage.{storage_view};
 
     ghost view = { λ v. storage_view v.held };
 }
 
 impl<T, const N: usize> InlineVec<T, N> {
-    ghost use Rattle.tl_inline.specs.InlineVecLends.{lends_item, lends_inline, lends_items};
+    ghost use Rattle.tl_inline.specs.Inner.InlineVecLends.{lends_item, lends_inline, lends_items};
 
     /// The number of items.
     pub fn len(&self) -> usize

@@ -7,7 +7,7 @@ ghost use Rattle.tl_program.specs.Steps.{change_of, changes_in};
 ghost use Rattle.std.specs.Fn.{FnOnceReturnsAtMut};
 ghost use Rattle.tl_program.specs.TableEdit.{edited_table, table_after, done_edits, takes_memory, TakesMemoryAt};
 ghost use Rattle.tl_program.specs.Script.{Changes, ChangesTagAt, ReplacesNode, StopsAt, IsTagAt};
-ghost use Rattle.tl_program.specs.TagLent.{LendsTagAt};
+ghost use Rattle.tl_program.specs.Inner.TagLent.{LendsTagAt};
 
 use crate::script::step::{Step, StepError};
 use crate::script::tag::{

@@ -1,8 +1,8 @@
 use Rattle.std.proofs.Common.{map, ap, ap₂, subst, ◌∙◌}
 use Rattle.tl.specs.View.{node_view}
 use Rattle.tl_safe.specs.Policies.{lists_of}
-use Rattle.tl_safe.specs.Runs.{row_run}
-use Rattle.tl_safe.specs.Writers.{Writes, place_of, words_by}
+use Rattle.tl_safe.specs.Inner.Runs.{row_run}
+use Rattle.tl_safe.specs.Inner.Writers.{Writes, place_of, words_by}
 use Rattle.tl_safe.specs.declared.writer.Writer.{Writer}
 use Rattle.tl_safe.proofs.WalkFacts.{page-text}
 use Rattle.tl_safe.proofs.print_kept.Goals as goal

@@ -2,7 +2,7 @@
 ghost use Rattle.std.specs.Prelude.{◌≡◌, option_map, IfOk, IsOk, Ok, None, []};
 ghost use Rattle.tl_selector.specs.View.{selector};
 ghost use Rattle.tl_selector.specs.MissingSimple.{LacksFirst, LacksSecond};
-ghost use Rattle.tl_selector.specs.ParserViews.{separator, next};
+ghost use Rattle.tl_selector.specs.Inner.ParserViews.{separator, next};
 ghost use Rattle.tl_spec.specs.Select.Reading as r;
 ghost use Rattle.tl_spec.specs.Select.Reading.{combine, push_complex, nest, starts_with_space, separator_at, next_at, parts_at, selector_at};
 ghost use Rattle.tl_spec.specs.Select.Text.{StandsAlone};

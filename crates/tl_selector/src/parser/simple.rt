@@ -3,7 +3,7 @@
 ghost use Rattle.std.specs.Prelude.{◌≡◌, option_map, length};
 ghost use Rattle.std.specs.List.{take_while};
 ghost use Rattle.tl_selector.specs.View.{selector};
-ghost use Rattle.tl_selector.specs.ParserViews.{operator};
+ghost use Rattle.tl_selector.specs.Inner.ParserViews.{operator};
 ghost use Rattle.tl_spec.specs.Lex.ByteClass.{is_ident};
 ghost use Rattle.tl_spec.specs.Lex.Runs.{drop_while};
 ghost use Rattle.tl_spec.specs.Lex.ByteClass.{is_space};

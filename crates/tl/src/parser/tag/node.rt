@@ -3,8 +3,8 @@ ghost use Rattle.std.specs.Prelude.{◌≡◌, IfOk, IfSome, IsOk};
 ghost use Rattle.std.specs.Borrow.{sem};
 ghost use Rattle.std.specs.Option.{option_copied, option_copied_mut};
 ghost use Rattle.tl_bytes.specs.Held.{borrowed};
-ghost use Rattle.tl.specs.Node.{tag_of, raw_of, comment_of};
-ghost use Rattle.tl.specs.NodeLends.{LendsTag, LendsRaw, LendsComment};
+ghost use Rattle.tl.specs.Inner.Node.{tag_of, raw_of, comment_of};
+ghost use Rattle.tl.specs.Inner.NodeLends.{LendsTag, LendsRaw, LendsComment};
 
 use crate::parser::tag::TagOf;
 use crate::parser::tag::children::ChildrenOf;

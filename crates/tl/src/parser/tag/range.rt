@@ -2,7 +2,7 @@
 ghost use Rattle.std.specs.Prelude.{◌≡◌, ◌<◌, ◌≤◌, ◌^◌, IfOk, None, length, map, slice_get};
 ghost use Rattle.std.specs.List.{last_or};
 ghost use Rattle.tl_table.specs.Answer.{Answers, WantsNoMemory};
-ghost use Rattle.tl_table.specs.Way.{RisesBelow};
+ghost use Rattle.tl_table.specs.Inner.Way.{RisesBelow};
 ghost use Rattle.tl_spec.specs.Walk.Range.{last_below, boundaries_of, range_of};
 ghost use Rattle.tl.specs.View.{node_view};
 ghost use Rattle.tl.specs.Query.{ReadsNodes};

@@ -1,6 +1,6 @@
 use Rattle.std.proofs.Common.{◌≡◌, drop}
 use Rattle.tl_spec.specs.Tree.Element.{children_of}
-use Rattle.tl_css_select.specs.Shape.{are_orphans}
+use Rattle.tl_css_select.specs.Inner.Shape.{are_orphans}
 use Rattle.tl_css_select.proofs.shape.are_orphans.Given as goal
 
 abbrev pub invariant-loop-place : goal.invariant-loop-place

@@ -1,7 +1,7 @@
 use Rattle.std.proofs.Common.{◌≡◌, ◌+◌, ◌∙◌, ℕ, List, false, true, length, map, ap, arith, rules, refl, subst, sym}
 use Rattle.std.proofs.lemmas.Bool.{false≢true}
 use Rattle.std.proofs.lemmas.List.{length-map}
-use Rattle.tl_css_select.specs.Shape.{fits_at}
+use Rattle.tl_css_select.specs.Inner.Shape.{fits_at}
 use Rattle.tl_css_select.proofs.Shapes.{Looked, one_looked, all_looked, forest_fits}
 use Rattle.tl_css_select.proofs.shape.is_forest.Goals as goal
 

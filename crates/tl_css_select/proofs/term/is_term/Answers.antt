@@ -2,7 +2,7 @@ use Rattle.std.proofs.Common.{◌≡◌, ◌%◌, ◌∙◌, ℕ, ℤ, Bool, sub
 use Rattle.std.specs.Int.RustNames.{unsigned_abs, FitsSigned}
 use Rattle.std.proofs.lemmas.Bool.{false≢true, eqb-true, eq-eqb}
 use Rattle.std.proofs.lemmas.Int.{to_z-of_z}
-use Rattle.tl_css_select.specs.Terms.{IsDistance, is_natural}
+use Rattle.tl_css_select.specs.Inner.Terms.{IsDistance, is_natural}
 use Rattle.tl_css_select.proofs.Formulas.{term_is, term_isnt}
 use Rattle.tl_css_select.proofs.term.is_term.Goals as goal
 

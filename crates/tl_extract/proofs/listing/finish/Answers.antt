@@ -2,7 +2,7 @@ use Rattle.std.proofs.Common.{◌≡◌, ℕ, List, ◌++◌, length, ap, append
 use Rattle.tl.specs.Remaining.{Remaining, remaining_of}
 use Rattle.tl.specs.Walker.{event_view}
 use Rattle.tl.proofs.Remaining.{entered-step}
-use Rattle.tl_extract.specs.Events.{depth_after, event_lines, lines_left}
+use Rattle.tl_extract.specs.Inner.Events.{depth_after, event_lines, lines_left}
 use Rattle.tl_extract.proofs.Outlines.{goes_step}
 use Rattle.tl_extract.proofs.listing.finish.Goals as goal
 

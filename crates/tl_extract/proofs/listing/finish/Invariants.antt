@@ -1,7 +1,7 @@
 use Rattle.std.proofs.Common.{◌≡◌, ◌≤◌, ◌++◌, length, vec_len}
 use Rattle.tl.specs.Remaining.{events_of, remaining_of}
 use Rattle.tl.proofs.Remaining.{IsEntered}
-use Rattle.tl_extract.specs.Events.{first_fault_left, lines_left}
+use Rattle.tl_extract.specs.Inner.Events.{first_fault_left, lines_left}
 use Rattle.tl_extract.proofs.listing.finish.Given as goal
 
 -- what is written, and then what is left of the walk, is all

@@ -2,7 +2,7 @@ use Rattle.std.proofs.Common.{◌++◌, ap, ap₂, append_assoc, subst, sym, ◌
 use Rattle.tl.specs.Remaining.{remaining_of}
 use Rattle.tl.specs.Walker.{event_view}
 use Rattle.tl.proofs.Remaining.{IsEntered}
-use Rattle.tl_extract.specs.Flow.{after_event, event_flow, remaining_fault, remaining_flow}
+use Rattle.tl_extract.specs.Inner.Flow.{after_event, event_flow, remaining_fault, remaining_flow}
 use Rattle.tl_extract.proofs.Flows.{entered-after, goes-step}
 use Rattle.tl_extract.proofs.text.finish.Goals as goal
 

@@ -1,7 +1,7 @@
 use Rattle.std.proofs.Common.{◌≡◌, ◌++◌, length}
 use Rattle.tl.specs.Remaining.{events_of, remaining_of}
 use Rattle.tl.proofs.Remaining.{IsEntered}
-use Rattle.tl_extract.specs.Flow.{remaining_fault, remaining_flow}
+use Rattle.tl_extract.specs.Inner.Flow.{remaining_fault, remaining_flow}
 use Rattle.tl_extract.proofs.text.finish.Given as goal
 
 -- what is written, and then what is left of the walk, is all

@@ -3,7 +3,7 @@ use Rattle.tl_html_tokens.specs.Characters.{characters_of}
 use Rattle.tl_html_spec.specs.HtmlForm.{has_doctype}
 use Rattle.tl_html_tokens.specs.declared.stage.TokenKind.TheVariants as kind
 use Rattle.tl_html_tokens.specs.Whole.{bytes_at}
-use Rattle.tl_html.specs.Parts.{Says}
+use Rattle.tl_html.specs.Inner.Parts.{Says}
 use Rattle.tl_html.proofs.Whole.{end_first, start_first, white_after}
 use Rattle.tl_html.proofs.doctype.doctype_in.Goals as goal
 

@@ -1,7 +1,7 @@
 use Rattle.std.proofs.Common.{◌≡◌, List, drop}
 use Rattle.tl_html_spec.specs.HtmlForm.{has_doctype}
 use Rattle.tl_html_spec.specs.HtmlTokenizer.{HtmlToken, html_tokens}
-use Rattle.tl_html.specs.Parts.{AreParts}
+use Rattle.tl_html.specs.Inner.Parts.{AreParts}
 use Rattle.tl_html.proofs.Whole.{joined}
 use Rattle.tl_html.proofs.doctype.has_doctype.Given as goal
 

@@ -3,7 +3,7 @@ use Rattle.tl_html_spec.specs.HtmlTokenizer.{EndTag}
 use Rattle.tl_html_spec.specs.Coded.{coded_token}
 use Rattle.tl_html_spec.specs.Written.{written_token}
 use Rattle.tl_html_balance.specs.View.{open_names}
-use Rattle.tl_html.specs.Written.{written_form}
+use Rattle.tl_html.specs.Inner.Written.{written_form}
 use Rattle.tl_html.proofs.Growing.{ends_all, ends_more}
 use Rattle.tl_html.proofs.form.write_end_tags.Goals as goal
 

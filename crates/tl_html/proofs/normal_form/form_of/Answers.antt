@@ -3,8 +3,8 @@ use Rattle.tl_html_spec.specs.HtmlForm.{doctype_of}
 use Rattle.tl_html_spec.specs.HtmlTokenizer.{HtmlToken, html_tokens}
 use Rattle.tl_html_spec.specs.Balanced.{Balance, balanced}
 use Rattle.tl_html.specs.Noted.{Noted, noted}
-use Rattle.tl_html.specs.Sourced.{emits_at}
-use Rattle.tl_html.specs.Written.{written_form}
+use Rattle.tl_html.specs.Inner.Sourced.{emits_at}
+use Rattle.tl_html.specs.Inner.Written.{written_form}
 use Rattle.tl_html.proofs.Growing.{whole_form}
 use Rattle.tl_html.proofs.Noting.{all_sources, page_tokens}
 use Rattle.tl_html.proofs.normal_form.form_of.Goals as goal

@@ -1,6 +1,6 @@
 use Rattle.std.proofs.Common.{[], ap, sym, subst, refl, ◌∙◌}
-use Rattle.tl_html.specs.Forms.{Grows}
-use Rattle.tl_html.specs.Sourced.{Notes}
+use Rattle.tl_html.specs.Inner.Forms.{Grows}
+use Rattle.tl_html.specs.Inner.Sourced.{Notes}
 use Rattle.tl_html_spec.proofs.NodesWritten.{bare}
 use Rattle.tl_html.proofs.Growing.{grows_none}
 use Rattle.tl_html.proofs.Noting.{page_tokens}

@@ -2,9 +2,9 @@ use Rattle.std.proofs.Common.{◌≡◌, ◌++◌, List, drop}
 use Rattle.tl_html_spec.specs.HtmlTokenizer.{HtmlToken}
 use Rattle.tl_html_spec.specs.Nodes.{SourcedToken}
 use Rattle.tl_html_spec.proofs.NodesWritten.{bare}
-use Rattle.tl_html.specs.Forms.{Grows}
-use Rattle.tl_html.specs.Parts.{AreParts}
-use Rattle.tl_html.specs.Sourced.{Notes}
+use Rattle.tl_html.specs.Inner.Forms.{Grows}
+use Rattle.tl_html.specs.Inner.Parts.{AreParts}
+use Rattle.tl_html.specs.Inner.Sourced.{Notes}
 use Rattle.tl_html.proofs.Noting.{page_tokens}
 use Rattle.tl_html.proofs.SourcedParts.{joined_at}
 use Rattle.tl_html.proofs.normal_form.push_tokens.Given as goal

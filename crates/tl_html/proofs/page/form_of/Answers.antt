@@ -2,7 +2,7 @@ use Rattle.std.proofs.Common.{◌++◌, List, ap, ◌∙◌}
 use Rattle.tl_html_spec.specs.HtmlForm.{doctype_of}
 use Rattle.tl_html_spec.specs.HtmlTokenizer.{HtmlToken, html_tokens}
 use Rattle.tl_html_spec.specs.Balanced.{balanced}
-use Rattle.tl_html.specs.Written.{written_form}
+use Rattle.tl_html.specs.Inner.Written.{written_form}
 use Rattle.tl_html.proofs.Growing.{whole_form}
 use Rattle.tl_html.proofs.page.form_of.Goals as goal
 

@@ -1,7 +1,7 @@
 use Rattle.std.proofs.Common.{◌≡◌, ◌++◌, List, drop}
 use Rattle.tl_html_spec.specs.HtmlTokenizer.{HtmlToken, html_tokens}
-use Rattle.tl_html.specs.Forms.{Grows}
-use Rattle.tl_html.specs.Parts.{AreParts}
+use Rattle.tl_html.specs.Inner.Forms.{Grows}
+use Rattle.tl_html.specs.Inner.Parts.{AreParts}
 use Rattle.tl_html.proofs.Whole.{joined}
 use Rattle.tl_html.proofs.page.push_tokens.Given as goal
 

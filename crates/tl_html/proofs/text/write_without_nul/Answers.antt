@@ -1,6 +1,6 @@
 use Rattle.std.proofs.Common.{◌++◌, ℕ, List, ap, ap₂, sym, ◌∙◌}
 use Rattle.std.specs.Prelude.{filter}
-use Rattle.tl_html.specs.Written.{is_some_byte}
+use Rattle.tl_html.specs.Inner.Written.{is_some_byte}
 use Rattle.tl_html.proofs.Plain.{nul_found, nul_none, texts}
 use Rattle.tl_html.proofs.text.write_without_nul.Goals as goal
 

@@ -1,6 +1,6 @@
 use Rattle.std.proofs.Common.{◌≡◌, ◌++◌, length}
 use Rattle.std.specs.Prelude.{filter}
-use Rattle.tl_html.specs.Written.{is_some_byte}
+use Rattle.tl_html.specs.Inner.Written.{is_some_byte}
 use Rattle.tl_html.proofs.Plain.{texts}
 use Rattle.tl_html.proofs.text.write_without_nul.Given as goal
 

@@ -1,5 +1,5 @@
 use Rattle.std.proofs.Common.{◌≡◌, ◌+◌, ◌≤◌, drop, length}
-use Rattle.tl_html_balance.specs.Rules.{rules_for, total}
+use Rattle.tl_html_balance.specs.Inner.Rules.{rules_for, total}
 use Rattle.tl_html_balance.specs.View.{name_of, names_left}
 use Rattle.tl_html_balance.proofs.rule.count_all.Given as goal
 

@@ -1,6 +1,6 @@
 use Rattle.std.proofs.Common.{◌≡◌, ◌<◌, ◌≤◌, ◌+◌, ℕ, List, Some, length, length-drop, drop, take, refl, arith}
 use Rattle.std.proofs.lemmas.List.{take_rest}
-use Rattle.tl_html_tokens.specs.Through.{through}
+use Rattle.tl_html_tokens.specs.Inner.Through.{through}
 use Rattle.tl_html_tokens.specs.declared.stage.Tag.{Tag}
 use Rattle.tl_html_tokens.specs.declared.stage.Stage.TheVariants.{AfterValue, BeforeKey}
 use Rattle.tl_html_tokens.proofs.Through.{join, one}

@@ -1,5 +1,5 @@
 use Rattle.std.proofs.Common.{◌≡◌, ◌≤◌, ◌-◌, Some, length, take}
-use Rattle.tl_html_tokens.specs.Through.{through}
+use Rattle.tl_html_tokens.specs.Inner.Through.{through}
 use Rattle.tl_html_tokens.specs.declared.stage.Stage.TheVariants.{BeforeKey}
 use Rattle.tl_html_tokens.proofs.attributes.attributes_in_front.Given as goal
 

@@ -1,5 +1,5 @@
 use Rattle.std.proofs.Common.{◌≡◌, ◌+◌, ℕ, List, Option, Some, take, refl, ap, sym, ◌∙◌}
-use Rattle.tl_html_tokens.specs.Machine as M
+use Rattle.tl_html_tokens.specs.Inner.Machine as M
 use Rattle.tl_html_tokens.specs.declared.stage.Stage.{Stage}
 use Rattle.tl_html_tokens.specs.declared.stage.Stage.TheVariants as stage
 use Rattle.tl_html_tokens.specs.declared.stage.Tag.{Tag}

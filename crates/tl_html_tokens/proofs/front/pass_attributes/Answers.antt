@@ -1,6 +1,6 @@
 use Rattle.std.proofs.Common.{◌≡◌, ◌+◌, ◌-◌, ℕ, List, Some, drop, take, ap, ◌∙◌, arith}
 use Rattle.std.proofs.lemmas.List.{take_rest}
-use Rattle.tl_html_tokens.specs.Through.{through}
+use Rattle.tl_html_tokens.specs.Inner.Through.{through}
 use Rattle.tl_html_tokens.specs.declared.stage.Stage.TheVariants.{BeforeKey}
 use Rattle.tl_html_tokens.proofs.front.pass_attributes.Goals as goal
 

@@ -5,7 +5,7 @@ use Rattle.std.proofs.lemmas.List.{take_rest}
 use Rattle.tl_html_tokens.specs.declared.front.Scan.{Scan}
 use Rattle.tl_html_tokens.proofs.Passing.{pass_on}
 use Rattle.tl_html_tokens.proofs.Ending.{scan_end}
-use Rattle.tl_html_tokens.specs.Scans.{first_scan}
+use Rattle.tl_html_tokens.specs.Inner.Scans.{first_scan}
 use Rattle.tl_html_tokens.proofs.Beginning.{passed_to, scanned_to}
 use Rattle.tl_html_tokens.proofs.Through.{attributes_on}
 use Rattle.tl_html_tokens.proofs.Reading.{Follows, IsScan, scan_first, scan_next}

@@ -1,6 +1,6 @@
 use Rattle.std.proofs.Common.{◌≡◌, ◌==◌, ℕ, ◌+◌, false, List, [], ◌∷◌, ◌++◌, drop, get_or, refl, ap, sym, ◌∙◌}
 use Rattle.std.proofs.lemmas.Bool.{ne_eqb}
-use Rattle.tl_html_tokens.specs.Machine as machine
+use Rattle.tl_html_tokens.specs.Inner.Machine as machine
 use Rattle.tl_html_tokens.proofs.Places.{between, between_more, feed_plain}
 use Rattle.tl_html_tokens.proofs.turn.declaration.Goals as goal
 

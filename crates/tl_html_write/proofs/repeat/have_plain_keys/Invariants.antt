@@ -1,5 +1,5 @@
 use Rattle.std.proofs.Common.{take}
-use Rattle.tl_html_write.specs.Attributes.{HavePlainKeys}
+use Rattle.tl_html_write.specs.Inner.Attributes.{HavePlainKeys}
 use Rattle.tl_html_write.proofs.repeat.have_plain_keys.Given as goal
 
 abbrev pub invariant-loop-attribute : goal.invariant-loop-attribute

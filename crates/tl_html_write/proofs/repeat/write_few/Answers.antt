@@ -1,7 +1,7 @@
 use Rattle.std.proofs.Common.{◌++◌, ℕ, List, take, get_or, ap, ap₂, sym, ◌∙◌, append_assoc}
 use Rattle.tl_html_spec.specs.HtmlTokenizer.{HtmlAttribute}
 use Rattle.tl_html_parts.specs.Parts.{attribute_of, attribute_view}
-use Rattle.tl_html_write.specs.Attributes.{attributes_in, first_attribute, written_attributes}
+use Rattle.tl_html_write.specs.Inner.Attributes.{attributes_in, first_attribute, written_attributes}
 use Rattle.tl_html_write.proofs.Repeats.{nothing, written_more}
 use Rattle.tl_html_write.proofs.repeat.write_few.Goals as goal
 

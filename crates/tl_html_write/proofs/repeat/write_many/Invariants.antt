@@ -1,5 +1,5 @@
 use Rattle.std.proofs.Common.{◌≡◌, ◌++◌, take}
-use Rattle.tl_html_write.specs.Attributes.{attributes_in, written_attributes}
+use Rattle.tl_html_write.specs.Inner.Attributes.{attributes_in, written_attributes}
 use Rattle.tl_html_write.proofs.KeySets.{KnowsKeys}
 use Rattle.tl_html_write.proofs.repeat.write_many.Given as goal
 

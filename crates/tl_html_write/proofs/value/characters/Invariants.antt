@@ -1,5 +1,5 @@
 use Rattle.std.proofs.Common.{◌≡◌, ◌++◌, drop}
-use Rattle.tl_html_write.specs.Values.{characters_of}
+use Rattle.tl_html_write.specs.Inner.Values.{characters_of}
 use Rattle.tl_html_write.proofs.value.characters.Given as goal
 
 abbrev pub invariant-loop-at : goal.invariant-loop-at

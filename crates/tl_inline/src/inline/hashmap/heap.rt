@@ -47,7 +47,7 @@ impl<K: Eq + Hash, V> Model for HeapPairs<K, V> {
 
     ghost coded = { coded_list (coded× K.code V.code) };
 
-    ghost use Rattle.tl_inline.specs.HeapForm.{form_entries};
+    ghost use Rattle.tl_inline.specs.Inner.HeapForm.{form_entries};
 
     ghost view = { λ h. form_entries h.form };
 
@@ -55,7 +55,7 @@ impl<K: Eq + Hash, V> Model for HeapPairs<K, V> {
 }
 
 impl<K: Eq + Hash, V> HeapPairs<K, V> {
-    ghost use Rattle.tl_inline.specs.HeapPairsLends.{lends_index};
+    ghost use Rattle.tl_inline.specs.Inner.HeapPairsLends.{lends_index};
 
     pub(super) fn len(&self) -> usize
         ensures len { result ≡ length self.now }

@@ -18,8 +18,8 @@ pub(super) enum PairStorage<K: Eq + Hash, V, const N: usize> {
 }
 
 impl<K: Eq + Hash, V, const N: usize> PairStorage<K, V, N> {
-    ghost use Rattle.tl_inline.specs.PairStorage.{storage_view};
-    ghost use Rattle.tl_inline.specs.PairStorageLends.{lends_value_at};
+    ghost use Rattle.tl_inline.specs.Inner.PairStorage.{storage_view};
+    ghost use Rattle.tl_inline.specs.Inner.PairStorageLends.{lends_value_at};
 
     pub(super) fn value_at_mut(&mut self, index: usize) -> Option<&mut V>
         ensures* writes_back { sem 𝓛

@@ -12,8 +12,8 @@ pub(super) enum ItemStorage<T, const N: usize> {
 }
 
 impl<T, const N: usize> ItemStorage<T, N> {
-    ghost use Rattle.tl_inline.specs.ItemStorage.{storage_view};
-    ghost use Rattle.tl_inline.specs.ItemStorageLends.{lends_item, lends_items};
+    ghost use Rattle.tl_inline.specs.Inner.ItemStorage.{storage_view};
+    ghost use Rattle.tl_inline.specs.Inner.ItemStorageLends.{lends_item, lends_items};
 
     pub(super) fn get_mut(&mut self, index: usize) -> Option<&mut T>
         ensures* writes_back { sem 𝓛 (lends_item T.row N.row self.entry index result) }

@@ -1,7 +1,7 @@
 use Rattle.std.proofs.Common.{◌≡◌, ◌++◌, false, length, string_bytes}
 use Rattle.tl.specs.Remaining.{events_of, remaining_of}
 use Rattle.tl.proofs.Remaining.{IsEntered}
-use Rattle.tl_extract.specs.Events.{first_fault_left}
+use Rattle.tl_extract.specs.Inner.Events.{first_fault_left}
 use Rattle.tl_json.specs.Left.{text_left}
 use Rattle.tl_json.proofs.tree.finish.Given as goal
 

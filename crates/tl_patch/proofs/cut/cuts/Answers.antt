@@ -2,7 +2,7 @@ use Rattle.std.proofs.Common.{◌≡◌, ◌∙◌, ◌-◌, ◌+◌, ◌<◌, �
 use Rattle.std.specs.Str.{bytes_eq}
 use Rattle.tl_html_parts.specs.Parts.{name_of}
 use Rattle.tl_patch.specs.View.{splice_view}
-use Rattle.tl_patch.specs.Cuts.{cuts_of, last_before}
+use Rattle.tl_patch.specs.Inner.Cuts.{cuts_of, last_before}
 use Rattle.tl_patch.specs.declared.stage.Place.{Place}
 use Rattle.tl_patch.proofs.Found.{cuts_step, view_reverse}
 use Rattle.tl_patch.proofs.cut.cuts.Goals as goal

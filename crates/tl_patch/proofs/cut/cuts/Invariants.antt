@@ -1,6 +1,6 @@
 use Rattle.std.proofs.Common.{◌≡◌, ◌≤◌, length, drop, map, reverse}
 use Rattle.tl_patch.specs.View.{splice_view}
-use Rattle.tl_patch.specs.Cuts.{cuts_of, last_before}
+use Rattle.tl_patch.specs.Inner.Cuts.{cuts_of, last_before}
 use Rattle.tl_patch.proofs.cut.cuts.Given as goal
 
 abbrev pub invariant-loop-number : goal.invariant-loop-number

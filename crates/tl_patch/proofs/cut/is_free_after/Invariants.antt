@@ -1,5 +1,5 @@
 use Rattle.std.proofs.Common.{◌≡◌, ◌-◌, length, drop}
-use Rattle.tl_patch.specs.Cuts.{free_after}
+use Rattle.tl_patch.specs.Inner.Cuts.{free_after}
 use Rattle.tl_patch.proofs.cut.is_free_after.Given as goal
 
 abbrev pub invariant-loop-at : goal.invariant-loop-at

@@ -1,5 +1,5 @@
 use Rattle.std.proofs.Common.{◌≡◌, ◌-◌}
-use Rattle.tl_patch.specs.Cuts.{space_before}
+use Rattle.tl_patch.specs.Inner.Cuts.{space_before}
 use Rattle.tl_patch.proofs.cut.space_start.Given as goal
 
 abbrev pub invariant-loop-start : goal.invariant-loop-start

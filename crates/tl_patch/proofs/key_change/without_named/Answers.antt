@@ -2,7 +2,7 @@ use Rattle.std.proofs.Common.{◌≡◌, ◌∙◌, ◌++◌, ℕ, List, length,
 use Rattle.std.proofs.lemmas.List.{take_rest}
 use Rattle.tl_patch.specs.View.{splice_view}
 use Rattle.tl_patch_spec.specs.Splices.{Splice, are_ordered, with_splices}
-use Rattle.tl_patch.specs.Cuts.{cuts_of}
+use Rattle.tl_patch.specs.Inner.Cuts.{cuts_of}
 use Rattle.tl_patch.specs.AttributePlaces.{places_of}
 use Rattle.tl_patch.specs.declared.stage.Place.{Place}
 use Rattle.tl_patch.proofs.Begins.{start_alone}

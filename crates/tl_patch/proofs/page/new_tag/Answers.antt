@@ -1,5 +1,5 @@
 use Rattle.std.proofs.Common.{◌∙◌, ℕ, List, map, sym, subst}
-use Rattle.tl_patch.specs.Steps.{AreTagChanges}
+use Rattle.tl_patch.specs.Inner.Steps.{AreTagChanges}
 use Rattle.tl_patch.specs.PatchView.{change_of, patch_view}
 use Rattle.tl_patch.proofs.Tags.{some_of}
 use Rattle.tl_patch.proofs.Written.{made_as}

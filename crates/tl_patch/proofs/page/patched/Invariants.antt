@@ -1,5 +1,5 @@
 use Rattle.std.proofs.Common.{◌≤◌, ℕ, List, ◌++◌, length, map, drop}
-use Rattle.tl_patch.specs.Steps.{AreWritten, IsPage}
+use Rattle.tl_patch.specs.Inner.Steps.{AreWritten, IsPage}
 use Rattle.tl_patch.specs.PatchView.{patch_view}
 use Rattle.tl_patch.proofs.Reasons.{ArePassed}
 use Rattle.tl_patch.proofs.page.patched.Given as goal

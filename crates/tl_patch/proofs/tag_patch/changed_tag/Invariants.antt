@@ -1,5 +1,5 @@
 use Rattle.std.proofs.Common.{◌≡◌, ℕ, true, List, map, drop}
-use Rattle.tl_patch.specs.Steps.{AreTagChanges}
+use Rattle.tl_patch.specs.Inner.Steps.{AreTagChanges}
 use Rattle.tl_patch.specs.PatchView.{change_of, patch_view}
 use Rattle.tl_patch.specs.StartTags.{is_start_tag}
 use Rattle.tl_patch.proofs.tag_patch.changed_tag.Given as goal

@@ -1,7 +1,7 @@
 use Rattle.std.proofs.Common.{◌+◌, ◌<◌, List, length, sym, subst₂}
 use Rattle.tl_patch.proofs.Tags.{some_of}
 use Rattle.tl_patch_edit.specs.declared.part.Part.{Part}
-use Rattle.tl_patch_edit.specs.Parts.{SayOtherwise, parts_view}
+use Rattle.tl_patch_edit.specs.Inner.Parts.{SayOtherwise, parts_view}
 use Rattle.tl_patch_edit.proofs.Refusals.{none_of}
 use Rattle.tl_patch_edit.proofs.Steps.{Otherwise, Same, otherwise_more, same_end, same_more, step_smaller}
 use Rattle.tl_patch_edit.proofs.compare.are_same.Goals as goal

@@ -1,5 +1,5 @@
 use Rattle.std.proofs.Common.{◌+◌, length}
-use Rattle.tl_patch_edit.specs.Parts.{SayOtherwise, SaySame, parts_view}
+use Rattle.tl_patch_edit.specs.Inner.Parts.{SayOtherwise, SaySame, parts_view}
 use Rattle.tl_patch_edit.proofs.Steps.{Otherwise, Same}
 use Rattle.tl_patch_edit.proofs.compare.are_same.Given as goal
 

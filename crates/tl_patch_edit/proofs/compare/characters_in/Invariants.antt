@@ -1,5 +1,5 @@
 use Rattle.std.proofs.Common.{◌≡◌, take}
-use Rattle.tl_patch_edit.specs.Parts.{characters_in, parts_view}
+use Rattle.tl_patch_edit.specs.Inner.Parts.{characters_in, parts_view}
 use Rattle.tl_patch_edit.proofs.compare.characters_in.Given as goal
 
 abbrev pub invariant-loop-at : goal.invariant-loop-at

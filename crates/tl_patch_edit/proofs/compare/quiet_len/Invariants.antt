@@ -1,5 +1,5 @@
 use Rattle.std.proofs.Common.{◌≡◌, true, take}
-use Rattle.tl_patch_edit.specs.Parts.{are_quiet, parts_view}
+use Rattle.tl_patch_edit.specs.Inner.Parts.{are_quiet, parts_view}
 use Rattle.tl_patch_edit.proofs.compare.quiet_len.Given as goal
 
 abbrev pub invariant-loop-at : goal.invariant-loop-at

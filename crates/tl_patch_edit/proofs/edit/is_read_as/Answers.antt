@@ -1,5 +1,5 @@
 use Rattle.std.proofs.Common.{List, subst}
-use Rattle.tl_patch_edit.specs.Parts.{SayOtherwise, SaySame, parts_view}
+use Rattle.tl_patch_edit.specs.Inner.Parts.{SayOtherwise, SaySame, parts_view}
 use Rattle.tl_patch_edit.specs.declared.part.Part.{Part}
 use Rattle.tl_patch_edit.proofs.Edited.{read_is, read_not}
 use Rattle.tl_patch_edit.proofs.edit.is_read_as.Goals as goal

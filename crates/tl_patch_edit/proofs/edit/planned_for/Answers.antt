@@ -2,7 +2,7 @@ use Rattle.std.proofs.Common.{◌≡◌, rules, ℕ, List, Err, Option, sym, sub
 use Rattle.tl_html_spec.specs.Pieces.{pieces, runs}
 use Rattle.tl_patch_spec.specs.Patches.{Put, asked, asked_of}
 use Rattle.tl_patch_spec.specs.Splices.{Splice}
-use Rattle.tl_patch_edit.specs.Causes.{IsPlanError}
+use Rattle.tl_patch_edit.specs.Inner.Causes.{IsPlanError}
 use Rattle.tl_patch_edit.proofs.Refusals.{err_is}
 use Rattle.tl_html_parts.specs.Parts.{name_of}
 use Rattle.tl_patch_edit.specs.Found.{IsTagName}

@@ -1,7 +1,7 @@
 use Rattle.std.proofs.Common.{refl, sym, ap, ◌∙◌}
 use Rattle.tl_html_spec.specs.Pieces.{pieces}
 use Rattle.tl_patch_edit.specs.Found.{has_mark}
-use Rattle.tl_patch_edit.specs.Parts.{parts_view}
+use Rattle.tl_patch_edit.specs.Inner.Parts.{parts_view}
 use Rattle.tl_patch_edit.specs.Sayings.{sayings}
 use Rattle.tl_patch_edit.proofs.Edited.{never_marked, never_read, read_as}
 use Rattle.tl_patch_edit.proofs.edit.read_again.Goals as goal

@@ -1,11 +1,11 @@
 use Rattle.std.proofs.Common.{rules, Err, ◌≡◌, List, length, sym, subst, ◌∙◌, ap}
 use Rattle.std.specs.List.{All}
 use Rattle.tl_patch_edit.specs.Asks.{IsEscaped, IsTagged, IsWanted, asks_view, placed_of}
-use Rattle.tl_patch_edit.specs.Causes.{IsReadError, IsSpliceError, IsWithin}
+use Rattle.tl_patch_edit.specs.Inner.Causes.{IsReadError, IsSpliceError, IsWithin}
 use Rattle.tl_patch_edit.specs.declared.ask.PlacedAsk.{PlacedAsk}
 use Rattle.tl_patch_edit.proofs.Refusals.{err_is, page_refused, read_refused}
 use Rattle.tl_patch_edit.specs.Found.{IsReadAs}
-use Rattle.tl_patch_edit.specs.Parts.{parts_view}
+use Rattle.tl_patch_edit.specs.Inner.Parts.{parts_view}
 use Rattle.tl_patch_edit.specs.declared.part.Part.{Part}
 use Rattle.tl_patch_edit.specs.declared.tag.ReadyAsk.{ReadyAsk}
 use Rattle.tl_patch_edit.proofs.Edited.{spliced}

@@ -1,5 +1,5 @@
 use Rattle.std.proofs.Common.{◌≡◌, ◌++◌, take}
-use Rattle.tl_patch_edit.specs.Parts.{parts_view}
+use Rattle.tl_patch_edit.specs.Inner.Parts.{parts_view}
 use Rattle.tl_patch_edit.proofs.part.copy.Given as goal
 
 abbrev pub invariant-loop-at : goal.invariant-loop-at

@@ -1,6 +1,6 @@
 use Rattle.std.proofs.Common.{ap, sym, subst, ◌∙◌, ◌++◌, ◌∷◌, []}
 use Rattle.tl_html_spec.specs.Pieces.{pieces, runs}
-use Rattle.tl_patch_edit.specs.Parts.{ArePieces, parts_view}
+use Rattle.tl_patch_edit.specs.Inner.Parts.{ArePieces, parts_view}
 use Rattle.tl_patch_edit.proofs.Lists.{tokens_all, tokens_more}
 use Rattle.tl_patch_edit.proofs.Said.{page_pieces}
 use Rattle.tl_patch_edit.proofs.part.parts_of.Goals as goal

@@ -1,5 +1,5 @@
 use Rattle.std.proofs.Common.{◌≡◌, ◌++◌, take}
-use Rattle.tl_patch_edit.specs.Parts.{part_bytes, parts_view}
+use Rattle.tl_patch_edit.specs.Inner.Parts.{part_bytes, parts_view}
 use Rattle.tl_patch_edit.proofs.part.write.Given as goal
 
 abbrev pub invariant-loop-at : goal.invariant-loop-at

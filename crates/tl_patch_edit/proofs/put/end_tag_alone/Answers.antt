@@ -3,7 +3,7 @@ use Rattle.tl_html_spec.specs.HtmlTokenizer.{EndTag}
 use Rattle.tl_html_tokens.specs.Whole.{IsWhole}
 use Rattle.tl_html_tokens.specs.declared.mode.Mode.TheVariants as mode
 use Rattle.tl_html_tokens.specs.declared.stage.TokenKind.TheVariants as kind
-use Rattle.tl_patch_edit.specs.Parts.{Part, part_view, parts_view}
+use Rattle.tl_patch_edit.specs.Inner.Parts.{Part, part_view, parts_view}
 use Rattle.tl_patch_edit.proofs.Puts.{end_tag_put}
 use Rattle.tl_patch_edit.proofs.put.end_tag_alone.Goals as goal
 

@@ -1,5 +1,5 @@
 use Rattle.std.proofs.Common.{refl, sym, ◌∙◌}
-use Rattle.tl_patch_edit.specs.Parts.{part_view, parts_view}
+use Rattle.tl_patch_edit.specs.Inner.Parts.{part_view, parts_view}
 use Rattle.tl_patch_edit.proofs.Puts.{markup_put}
 use Rattle.tl_patch_edit.proofs.put.markup_parts.Goals as goal
 

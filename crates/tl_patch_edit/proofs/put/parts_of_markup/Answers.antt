@@ -1,4 +1,4 @@
-use Rattle.tl_patch_edit.specs.Parts.{parts_view}
+use Rattle.tl_patch_edit.specs.Inner.Parts.{parts_view}
 use Rattle.tl_patch_edit.proofs.EndTags.{markup_gives}
 use Rattle.tl_patch_edit.proofs.put.parts_of_markup.Goals as goal
 

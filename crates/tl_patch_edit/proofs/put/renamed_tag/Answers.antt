@@ -1,5 +1,5 @@
 use Rattle.std.proofs.Common.{◌++◌, ◌∷◌, [], ap, ◌∙◌}
-use Rattle.tl_patch_edit.specs.Parts.{part_view, parts_view}
+use Rattle.tl_patch_edit.specs.Inner.Parts.{part_view, parts_view}
 use Rattle.tl_patch_edit.proofs.Puts.{renamed_put}
 use Rattle.tl_patch_edit.proofs.put.renamed_tag.Goals as goal
 

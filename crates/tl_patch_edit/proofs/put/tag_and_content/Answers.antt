@@ -5,7 +5,7 @@ use Rattle.tl_html_tokens.specs.Whole.{IsWhole}
 use Rattle.tl_html_tokens.specs.declared.mode.Mode.TheVariants as mode
 use Rattle.tl_html_tokens.specs.declared.stage.TokenKind.TheVariants as kind
 use Rattle.tl_patch.proofs.Tags.{some_of}
-use Rattle.tl_patch_edit.specs.Parts.{Part, part_view, parts_view}
+use Rattle.tl_patch_edit.specs.Inner.Parts.{Part, part_view, parts_view}
 use Rattle.tl_patch_edit.specs.View.{content_view}
 use Rattle.tl_patch_edit.proofs.Puts.{tag_put}
 use Rattle.tl_patch_edit.proofs.put.tag_and_content.Goals as goal

@@ -1,6 +1,6 @@
 use Rattle.std.proofs.Common.{◌++◌, ◌∷◌, [], ap, ◌∙◌}
 use Rattle.tl_patch.proofs.Tags.{some_of}
-use Rattle.tl_patch_edit.specs.Parts.{part_view, parts_view}
+use Rattle.tl_patch_edit.specs.Inner.Parts.{part_view, parts_view}
 use Rattle.tl_patch_edit.proofs.Puts.{text_put}
 use Rattle.tl_patch_edit.proofs.put.text_parts.Goals as goal
 

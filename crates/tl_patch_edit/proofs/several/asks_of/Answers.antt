@@ -3,7 +3,7 @@ use Rattle.std.specs.List.{All}
 use Rattle.tl_html_spec.specs.Pieces.{Piece, pieces, runs}
 use Rattle.tl_patch_spec.specs.Together.{Asked, asked_each, none_gone}
 use Rattle.tl_patch_edit.specs.Asks.{placed_view}
-use Rattle.tl_patch_edit.specs.Causes.{IsPlanned}
+use Rattle.tl_patch_edit.specs.Inner.Causes.{IsPlanned}
 use Rattle.tl_patch_edit.specs.Several.{asked_view}
 use Rattle.tl_patch_edit.specs.View.{gone_view, meant_view}
 use Rattle.tl_patch_edit.specs.declared.ask.Gone.{Gone}

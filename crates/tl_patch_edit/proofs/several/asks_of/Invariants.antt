@@ -2,7 +2,7 @@ use Rattle.std.proofs.Common.{◌≡◌, drop}
 use Rattle.std.specs.List.{All}
 use Rattle.tl_html_spec.specs.Pieces.{pieces, runs}
 use Rattle.tl_patch_spec.specs.Together.{asked_each, none_gone}
-use Rattle.tl_patch_edit.specs.Causes.{IsPlanned}
+use Rattle.tl_patch_edit.specs.Inner.Causes.{IsPlanned}
 use Rattle.tl_patch_edit.specs.Several.{asked_view}
 use Rattle.tl_patch_edit.specs.View.{gone_view, meant_view}
 use Rattle.tl_patch_edit.proofs.Together.{AskedFrom, before}

@@ -1,5 +1,5 @@
 use Rattle.std.proofs.Common.{◌++◌, List, drop, take}
-use Rattle.tl_patch_edit.specs.Causes.{ReachesFrom}
+use Rattle.tl_patch_edit.specs.Inner.Causes.{ReachesFrom}
 use Rattle.tl_patch_edit.specs.Several.{AreMeantAt, places_of}
 use Rattle.tl_patch_edit.specs.View.{patches_view}
 use Rattle.tl_patch_edit.specs.declared.ask.MeantPatch.{MeantPatch}

@@ -1,5 +1,5 @@
 use Rattle.tl_html_spec.specs.Pieces.{pieces, runs}
-use Rattle.tl_patch_edit.specs.Causes.{IsPlanned}
+use Rattle.tl_patch_edit.specs.Inner.Causes.{IsPlanned}
 use Rattle.std.proofs.lemmas.List.Sorted.{All-permutation}
 use Rattle.tl_patch_edit.specs.View.{meant_view}
 use Rattle.tl_patch_edit.proofs.Together.{sorted}

@@ -6,9 +6,9 @@ use Rattle.tl_patch_elements.specs.View.{elements_view}
 use Rattle.tl_patch_spec.specs.Elements.{Element}
 use Rattle.tl_patch_spec.specs.Tail.{elements_up_to_tail}
 use Rattle.tl_patch_edit.specs.Asks.{asks_view}
-use Rattle.tl_patch_edit.specs.Causes.{IsAsksError, IsPageError, IsPlanned, IsStartsError}
+use Rattle.tl_patch_edit.specs.Inner.Causes.{IsAsksError, IsPageError, IsPlanned, IsStartsError}
 use Rattle.tl_patch_edit.specs.Found.{IsSplicedPageOf}
-use Rattle.tl_patch_edit.specs.Parts.{parts_view}
+use Rattle.tl_patch_edit.specs.Inner.Parts.{parts_view}
 use Rattle.tl_patch_edit.specs.Several.{AreExtents, AreMeantAt, AreSorted, IsMeantOfPage, places_of}
 use Rattle.tl_patch_edit.specs.View.{meant_view, patches_view}
 use Rattle.tl_patch_edit.specs.declared.ask.Extent.{Extent as CodeExtent}

@@ -3,9 +3,9 @@ use Rattle.std.specs.List.{All}
 use Rattle.std.proofs.lemmas.List.{map-append, take_all, take_more}
 use Rattle.std.proofs.lemmas.List.Elements.{All-push, Contains-get_or}
 use Rattle.tl_patch_edit.specs.Asks.{IsEscaped, IsTagged, placed_of}
-use Rattle.tl_patch_edit.specs.Causes.{IsWithin}
+use Rattle.tl_patch_edit.specs.Inner.Causes.{IsWithin}
 use Rattle.tl_patch_edit.proofs.Refusals.{err_is, one_refused}
-use Rattle.tl_patch_edit.specs.Parts.{parts_view}
+use Rattle.tl_patch_edit.specs.Inner.Parts.{parts_view}
 use Rattle.tl_patch_edit.specs.declared.ask.PlacedAsk.{PlacedAsk}
 use Rattle.tl_patch_edit.specs.declared.tag.ReadyAsk.{ReadyAsk}
 use Rattle.tl_patch_edit.proofs.tag.ready_asks.Goals as goal

@@ -1,6 +1,6 @@
 use Rattle.std.proofs.Common.{refl, sym, inl, ◌∙◌, arith, length, List, ◌≤◌}
 use Rattle.std.proofs.lemmas.Option.{slice_get-get_or}
-use Rattle.tl_patch_edit.specs.Parts.{Part, end_part, parts_view, with_end_part}
+use Rattle.tl_patch_edit.specs.Inner.Parts.{Part, end_part, parts_view, with_end_part}
 use Rattle.tl_patch_edit.proofs.Lists.{length_view}
 use Rattle.tl_patch_edit.proofs.Refusals.{cannot_put, none_of}
 use Rattle.tl_patch_edit.proofs.Splicing.{before_end}

@@ -1,6 +1,6 @@
 use Rattle.std.proofs.Common.{List, ℕ, Bool, sym, subst, ◌∙◌}
 use Rattle.std.specs.Str.{bytes_eq}
-use Rattle.tl_patch_edit.specs.Tails.{IsEndFor, end_at}
+use Rattle.tl_patch_edit.specs.Inner.Tails.{IsEndFor, end_at}
 use Rattle.tl_patch_edit.specs.declared.tail.Tail.{Tail}
 use Rattle.tl_patch_edit.proofs.Tails.{body_name, html_ends, not_either, other_ends}
 use Rattle.tl_patch_edit.proofs.tail.end_for.Goals as goal

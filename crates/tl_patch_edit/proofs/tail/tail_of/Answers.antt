@@ -1,5 +1,5 @@
 use Rattle.std.proofs.Common.{◌-◌, subst, sym, ◌∙◌}
-use Rattle.tl_patch_edit.specs.Parts.{IsPieceOf, Part}
+use Rattle.tl_patch_edit.specs.Inner.Parts.{IsPieceOf, Part}
 use Rattle.tl_patch_edit.specs.declared.tail.Tail.{Tail}
 use Rattle.tl_patch_edit.proofs.Tails.{IsTailSoFar, ends_there, goes_on, none_yet}
 use Rattle.tl_patch_edit.proofs.tail.tail_of.Goals as goal

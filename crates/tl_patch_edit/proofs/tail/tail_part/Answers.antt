@@ -5,8 +5,8 @@ use Rattle.tl_html_spec.specs.Pieces.{Piece}
 use Rattle.tl_html_tokens.specs.Kinds.{IsEndTag, IsKind}
 use Rattle.tl_html_tokens.specs.Whole.{IsWhole}
 use Rattle.tl_html_tokens.specs.declared.mode.Mode.{Mode}
-use Rattle.tl_patch_edit.specs.Parts.{IsPieceOf, Says, part_view}
-use Rattle.tl_patch_edit.specs.Tails.{IsTailPart}
+use Rattle.tl_patch_edit.specs.Inner.Parts.{IsPieceOf, Says, part_view}
+use Rattle.tl_patch_edit.specs.Inner.Tails.{IsTailPart}
 use Rattle.tl_patch_edit.specs.declared.tail.TailPart.{TailPart}
 use Rattle.tl_patch_edit.proofs.tail.tail_part.Goals as goal
 

@@ -1,7 +1,7 @@
 use Rattle.std.proofs.Common.{refl, inr}
 use Rattle.tl_patch.proofs.Tags.{some_of}
 use Rattle.tl_patch_edit.specs.Asks.{GivePut, puts_view}
-use Rattle.tl_patch_edit.specs.Parts.{Part, part_view, parts_view, with_end_part}
+use Rattle.tl_patch_edit.specs.Inner.Parts.{Part, part_view, parts_view, with_end_part}
 use Rattle.tl_patch_edit.proofs.Refusals.{cannot_put, none_of, there}
 use Rattle.tl_patch_edit.proofs.wanted.put_of.Goals as goal
 

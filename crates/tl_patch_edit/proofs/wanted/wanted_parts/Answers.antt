@@ -1,8 +1,8 @@
 use Rattle.std.proofs.Common.{Err, rules, ◌≡◌, ◌≤◌, ◌-◌, ◌++◌, drop, length, take, ℕ, ◌+◌, Bool, true, false, refl, List, [], ◌∷◌, ap, sym, subst, ◌∙◌, arith}
 use Rattle.std.proofs.lemmas.List.{drop_all, drop_more, length-drop, take_all}
 use Rattle.tl_patch_edit.specs.Asks.{IsWantedFrom, ask_view, asks_view, placed_of}
-use Rattle.tl_patch_edit.specs.Parts.{Part, parts_view, separator_parts}
-use Rattle.tl_patch_edit.specs.Causes.{IsWithin}
+use Rattle.tl_patch_edit.specs.Inner.Parts.{Part, parts_view, separator_parts}
+use Rattle.tl_patch_edit.specs.Inner.Causes.{IsWithin}
 use Rattle.tl_patch_edit.proofs.Lists.{length_view}
 use Rattle.tl_patch_edit.proofs.Refusals.{err_is, one_among, one_refused, ordered_more}
 use Rattle.tl_patch_edit.specs.declared.part.Part.{Part as CodePart}

@@ -1,7 +1,7 @@
 use Rattle.std.proofs.Common.{◌≡◌, ◌≤◌, ◌++◌, List, drop, length}
 use Rattle.tl_patch_spec.specs.Splices.{are_ordered}
 use Rattle.tl_patch_edit.specs.Asks.{IsWantedFrom, asks_view, placed_of}
-use Rattle.tl_patch_edit.specs.Parts.{Part, parts_view}
+use Rattle.tl_patch_edit.specs.Inner.Parts.{Part, parts_view}
 use Rattle.tl_patch_edit.proofs.wanted.wanted_parts.Given as goal
 
 -- what is written, before the rest of what is wanted, is all that is wanted

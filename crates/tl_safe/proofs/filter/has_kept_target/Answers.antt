@@ -3,7 +3,7 @@ use Rattle.std.specs.List.{list_any}
 use Rattle.tl_attributes.specs.AttributesView.{pair_view}
 use Rattle.tl.proofs.Printing.{pairs-listed}
 use Rattle.tl_safe.specs.Policies.{lists_of}
-use Rattle.tl_safe.specs.Writes.{is_kept_at}
+use Rattle.tl_safe.specs.Inner.Writes.{is_kept_at}
 use Rattle.tl_safe.proofs.filter.has_kept_target.Goals as goal
 
 pub loop-pair-init : goal.loop-pair-init

@@ -9,7 +9,7 @@ use Rattle.tl_safe_fit.specs.Words.{is_among}
 use Rattle.tl_safe.specs.Filter.{has_key, kept_attributes, linking_names}
 use Rattle.tl_safe.specs.Lists.{ListedWords}
 use Rattle.tl_safe.specs.Policies.{lists_of}
-use Rattle.tl_safe.specs.Writes.{is_kept_at}
+use Rattle.tl_safe.specs.Inner.Writes.{is_kept_at}
 use Rattle.tl_safe.proofs.Marks.{kept_target}
 use Rattle.tl_safe.proofs.Trees.{kept-pairs}
 use Rattle.tl_safe.proofs.filter.is_marked_link.Goals as goal

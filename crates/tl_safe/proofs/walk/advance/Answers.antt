@@ -4,9 +4,9 @@ use Rattle.tl_spec.specs.Tree.Document.{Node}
 use Rattle.tl.specs.View.{node_view}
 use Rattle.tl_safe.specs.Fitted.{Run, sequence}
 use Rattle.tl_safe.specs.Lists.{ListedWords}
-use Rattle.tl_safe.specs.Remaining.{owed, steps}
-use Rattle.tl_safe.specs.Runs.{left, unchanged, written}
-use Rattle.tl_safe.specs.Writers.{place_of, words_by}
+use Rattle.tl_safe.specs.Inner.Remaining.{owed, steps}
+use Rattle.tl_safe.specs.Inner.Runs.{left, unchanged, written}
+use Rattle.tl_safe.specs.Inner.Writers.{place_of, words_by}
 use Rattle.tl_safe.specs.declared.walk.Frame.{Frame}
 use Rattle.tl_safe.specs.declared.writer.Writer.{Writer}
 use Rattle.tl_safe.proofs.WalkFacts.{closed_run, steps_on, went_further}

@@ -2,8 +2,8 @@ use Rattle.std.proofs.Common.{◌≡◌, ◌+◌, ◌<◌, List, map, refl, ap, 
 use Rattle.tl_spec.specs.Tree.Document.{Node}
 use Rattle.tl.specs.View.{node_view}
 use Rattle.tl.proofs.Frames.{empty_of_length}
-use Rattle.tl_safe.specs.Remaining.{frame_steps, owed, steps}
-use Rattle.tl_safe.specs.Writers.{place_of, words_by}
+use Rattle.tl_safe.specs.Inner.Remaining.{frame_steps, owed, steps}
+use Rattle.tl_safe.specs.Inner.Writers.{place_of, words_by}
 use Rattle.tl_safe.specs.declared.writer.Writer.{Writer}
 use Rattle.tl_safe.proofs.WalkFacts.{finish-done, finish-step, steps-push}
 use Rattle.tl_safe.proofs.WriterFacts.{goes-further, stays-on}

@@ -1,8 +1,8 @@
 use Rattle.std.proofs.Common.{◌≡◌, map, string_bytes}
 use Rattle.tl.specs.View.{node_view}
-use Rattle.tl_safe.specs.Remaining.{owed, steps}
-use Rattle.tl_safe.specs.Runs.{written}
-use Rattle.tl_safe.specs.Writers.{GoesOn, place_of, words_by}
+use Rattle.tl_safe.specs.Inner.Remaining.{owed, steps}
+use Rattle.tl_safe.specs.Inner.Runs.{written}
+use Rattle.tl_safe.specs.Inner.Writers.{GoesOn, place_of, words_by}
 use Rattle.tl_safe.proofs.walk.finish.Given as goal
 
 abbrev pub invariant-loop-frame : goal.invariant-loop-frame

@@ -8,9 +8,9 @@ use Rattle.tl.proofs.Frames.{shown_at}
 use Rattle.tl_safe.specs.Filter.{is_text_byte}
 use Rattle.tl_safe.specs.Fitted.{sequence}
 use Rattle.tl_safe.specs.Lists.{ListedWords}
-use Rattle.tl_safe.specs.Remaining.{owed, steps}
-use Rattle.tl_safe.specs.Runs.{handle_run, text_run, written}
-use Rattle.tl_safe.specs.Writers.{Writes, place_of, words_by}
+use Rattle.tl_safe.specs.Inner.Remaining.{owed, steps}
+use Rattle.tl_safe.specs.Inner.Runs.{handle_run, text_run, written}
+use Rattle.tl_safe.specs.Inner.Writers.{Writes, place_of, words_by}
 use Rattle.tl_safe.specs.declared.writer.Writer.{Writer}
 use Rattle.tl_safe.proofs.WalkFacts.{tag-shown}
 use Rattle.tl_safe.proofs.WriterFacts.{stays-on, writes-written}

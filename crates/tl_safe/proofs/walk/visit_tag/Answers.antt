@@ -6,9 +6,9 @@ use Rattle.tl_spec.specs.Walk.Length.{met}
 use Rattle.tl.specs.View.{tag_view}
 use Rattle.tl_safe.specs.Fitted.{Place, Run}
 use Rattle.tl_safe.specs.Lists.{ListedWords}
-use Rattle.tl_safe.specs.Remaining.{owed}
-use Rattle.tl_safe.specs.Runs.{kept_run, left, row_run, unchanged, written}
-use Rattle.tl_safe.specs.Writers.{entered, place_of, words_by}
+use Rattle.tl_safe.specs.Inner.Remaining.{owed}
+use Rattle.tl_safe.specs.Inner.Runs.{kept_run, left, row_run, unchanged, written}
+use Rattle.tl_safe.specs.Inner.Writers.{entered, place_of, words_by}
 use Rattle.tl_safe.specs.declared.walk.Frame.{Frame}
 use Rattle.tl_safe.specs.declared.writer.Writer.{Writer}
 use Rattle.tl_safe.proofs.RowRuns.{written-more}

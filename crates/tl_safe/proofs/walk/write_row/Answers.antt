@@ -3,9 +3,9 @@ use Rattle.std.proofs.lemmas.List.{drop_all}
 use Rattle.tl_spec.specs.Tree.Document.{Node}
 use Rattle.tl.specs.View.{node_view}
 use Rattle.tl_safe.specs.Fitted.{sequence}
-use Rattle.tl_safe.specs.Remaining.{owed}
-use Rattle.tl_safe.specs.Runs.{handle_run, row_run, written}
-use Rattle.tl_safe.specs.Writers.{place_of, words_by}
+use Rattle.tl_safe.specs.Inner.Remaining.{owed}
+use Rattle.tl_safe.specs.Inner.Runs.{handle_run, row_run, written}
+use Rattle.tl_safe.specs.Inner.Writers.{place_of, words_by}
 use Rattle.tl_safe.specs.declared.writer.Writer.{Writer}
 use Rattle.tl_safe.proofs.WalkFacts.{row-done, row-step}
 use Rattle.tl_safe.proofs.WriterFacts.{goes-further, stays-on}

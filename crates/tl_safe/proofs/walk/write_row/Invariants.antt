@@ -1,7 +1,7 @@
 use Rattle.std.proofs.Common.{◌≡◌, [], drop, map, string_bytes}
 use Rattle.tl.specs.View.{node_view}
-use Rattle.tl_safe.specs.Runs.{row_run, written}
-use Rattle.tl_safe.specs.Writers.{GoesOn, place_of, words_by}
+use Rattle.tl_safe.specs.Inner.Runs.{row_run, written}
+use Rattle.tl_safe.specs.Inner.Writers.{GoesOn, place_of, words_by}
 use Rattle.tl_safe.proofs.walk.write_row.Given as goal
 
 abbrev pub invariant-loop-handle : goal.invariant-loop-handle

@@ -2,7 +2,7 @@ use Rattle.std.proofs.Common.{◌≡◌, ◌++◌, [], ◌∷◌, true, ap, ap�
 use Rattle.std.proofs.lemmas.Grind.{common_steps}
 use Rattle.tl_spec.proofs.Print.Ascii.{lossy-ascii}
 use Rattle.tl_safe.specs.Filter.{rel_key, rel_value}
-use Rattle.tl_safe.specs.Writes.{mark_print}
+use Rattle.tl_safe.specs.Inner.Writes.{mark_print}
 use Rattle.tl_safe.proofs.write.write_mark.Goals as goal
 
 printed : mark_print true ≡ codes " rel=\"nofollow noopener\""

@@ -4,7 +4,7 @@ use Rattle.tl_spec.specs.Lex.Attribute.{Pair}
 use Rattle.tl_attributes.specs.AttributesView.{pair_view}
 use Rattle.tl.proofs.Printing.{pairs-listed}
 use Rattle.tl_safe.specs.Policies.{lists_of}
-use Rattle.tl_safe.specs.Writes.{kept_pairs, pair_of, stays_beside}
+use Rattle.tl_safe.specs.Inner.Writes.{kept_pairs, pair_of, stays_beside}
 use Rattle.tl_safe.proofs.Writes.{pairs_more}
 use Rattle.tl_safe.proofs.write.write_pairs.Goals as goal
 

@@ -1,7 +1,7 @@
 use Rattle.std.proofs.Common.{◌≡◌, ◌++◌, map, string_bytes}
 use Rattle.tl_spec.specs.Lex.AttributeList.{printed_pairs}
 use Rattle.tl_attributes.specs.AttributesView.{plain, pair_view}
-use Rattle.tl_safe.specs.Writes.{kept_pairs}
+use Rattle.tl_safe.specs.Inner.Writes.{kept_pairs}
 use Rattle.tl_safe.proofs.write.write_pairs.Given as goal
 
 abbrev pub invariant-loop-pair : goal.invariant-loop-pair

@@ -6,7 +6,7 @@ use Rattle.tl_spec.specs.Walk.{plain_node}
 use Rattle.tl_attributes.specs.AttributesView.{plain}
 use Rattle.tl.specs.View.{tag_view}
 use Rattle.tl_safe.specs.Policies.{lists_of}
-use Rattle.tl_safe.specs.Writes.{kept_pairs, mark_print}
+use Rattle.tl_safe.specs.Inner.Writes.{kept_pairs, mark_print}
 use Rattle.tl_safe.proofs.Writes.{kept_start}
 use Rattle.tl_safe.proofs.write.write_start.Goals as goal
 

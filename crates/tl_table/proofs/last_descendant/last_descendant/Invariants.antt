@@ -1,6 +1,6 @@
 use Rattle.std.proofs.Common.{◌≡◌, ℕ, ◌-◌, List, [], Some, map, length}
 use Rattle.tl_spec.specs.Walk.Range.{end_below}
-use Rattle.tl_table.specs.Way.{after_steps}
+use Rattle.tl_table.specs.Inner.Way.{after_steps}
 use Rattle.tl_table.proofs.Way.{AreBelow}
 use Rattle.tl_table.proofs.last_descendant.last_descendant.Given as goal
 

@@ -1,6 +1,6 @@
 use Rattle.std.proofs.Common.{◌+◌, ◌∙◌, ℕ, Option, ap, ap₂, drop}
 use Rattle.tl_spec.specs.Tree.Element.{children_of}
-use Rattle.tl_table.specs.Steps.{with_child, with_row}
+use Rattle.tl_table.specs.Inner.Steps.{with_child, with_row}
 use Rattle.tl_table.proofs.Rows.{row_next}
 use Rattle.tl_table.proofs.links.link_children.Goals as goal
 

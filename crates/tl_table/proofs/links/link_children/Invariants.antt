@@ -1,6 +1,6 @@
 use Rattle.std.proofs.Common.{◌≡◌, drop}
 use Rattle.tl_spec.specs.Tree.Element.{children_of}
-use Rattle.tl_table.specs.Steps.{with_row}
+use Rattle.tl_table.specs.Inner.Steps.{with_row}
 use Rattle.tl_table.proofs.links.link_children.Given as goal
 
 abbrev pub invariant-loop-place : goal.invariant-loop-place

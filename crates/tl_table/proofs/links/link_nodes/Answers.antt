@@ -4,7 +4,7 @@ use Rattle.std.proofs.lemmas.List.{length-map}
 use Rattle.tl_spec.specs.Tree.Element.{children_of}
 use Rattle.tl_table.specs.declared.links.Links.{Links}
 use Rattle.tl_table.specs.Links.{AreLinks}
-use Rattle.tl_table.specs.Steps.{with_top}
+use Rattle.tl_table.specs.Inner.Steps.{with_top}
 use Rattle.tl_table.proofs.Rows.{equal_at, item_at, made_at, rows_next, with_rows}
 use Rattle.tl_table.proofs.Top.{are_links, linked_by}
 use Rattle.tl_table.proofs.links.link_nodes.Goals as goal

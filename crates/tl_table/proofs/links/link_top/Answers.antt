@@ -1,5 +1,5 @@
 use Rattle.std.proofs.Common.{◌+◌, ◌<◌, ◌∙◌, ℕ, Option, ap, ap₂, drop, length, arith}
-use Rattle.tl_table.specs.Steps.{with_top, with_top_node}
+use Rattle.tl_table.specs.Inner.Steps.{with_top, with_top_node}
 use Rattle.tl_table.proofs.Rows.{item_at}
 use Rattle.tl_table.proofs.Top.{top_next}
 use Rattle.tl_table.proofs.links.link_top.Goals as goal

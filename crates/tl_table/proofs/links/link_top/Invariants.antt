@@ -1,5 +1,5 @@
 use Rattle.std.proofs.Common.{◌≡◌, drop}
-use Rattle.tl_table.specs.Steps.{with_top}
+use Rattle.tl_table.specs.Inner.Steps.{with_top}
 use Rattle.tl_table.proofs.links.link_top.Given as goal
 
 abbrev pub invariant-loop-place : goal.invariant-loop-place

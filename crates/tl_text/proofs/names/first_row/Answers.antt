@@ -4,7 +4,7 @@ use Rattle.std.proofs.lemmas.Bool.{eqb-false}
 use Rattle.std.proofs.lemmas.List.{length-take-le}
 use Rattle.std.proofs.lemmas.List.Sums.{common_prefix_len-le}
 use Rattle.tl_html_spec.specs.References.{Row, first_row, not_zero, rows}
-use Rattle.tl_text.specs.Order.{are_in_order, is_past}
+use Rattle.tl_text.specs.Inner.Order.{are_in_order, is_past}
 use Rattle.tl_text.proofs.Order.{later_less, later_order, past_row, row_before, shared_begins, unshared_unfit}
 use Rattle.tl_text.proofs.Rows.{later_in, row_here, row_in}
 use Rattle.tl_text.proofs.names.first_row.Goals as goal

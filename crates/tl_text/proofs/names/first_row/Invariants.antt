@@ -1,6 +1,6 @@
 use Rattle.std.proofs.Common.{◌≡◌, ◌≤◌, true, length}
 use Rattle.tl_html_spec.specs.References.{first_row, rows}
-use Rattle.tl_text.specs.Order.{are_in_order}
+use Rattle.tl_text.specs.Inner.Order.{are_in_order}
 use Rattle.tl_text.proofs.names.first_row.Given as goal
 
 abbrev pub invariant-loop-fits : goal.invariant-loop-fits

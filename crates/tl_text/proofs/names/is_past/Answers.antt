@@ -2,7 +2,7 @@ use Rattle.std.proofs.Common.{◌==◌, List, ℕ, sym, subst, ◌≡◌, ◌<�
 use Rattle.std.specs.List.{common_prefix_len}
 use Rattle.std.proofs.lemmas.Bool.{eq-eqb, le-ltb}
 use Rattle.std.proofs.lemmas.List.Sums.{common_prefix_len-le}
-use Rattle.tl_text.specs.Order.{is_past}
+use Rattle.tl_text.specs.Inner.Order.{is_past}
 use Rattle.tl_text.proofs.Order.{past_all, past_at, past_short}
 use Rattle.tl_text.proofs.names.is_past.Goals as goal
 

@@ -1,7 +1,7 @@
 use Rattle.std.proofs.Common.{◌≡◌, ◌/◌, ℕ, suc, List, true, length, length-drop, drop, le_refl, arith, sym, ap, subst, ◌∙◌}
 use Rattle.std.specs.List.{prefix_len}
 use Rattle.tl_html_spec.specs.References.{first_row, not_zero, rows}
-use Rattle.tl_text.specs.Order.{are_in_order, is_past}
+use Rattle.tl_text.specs.Inner.Order.{are_in_order, is_past}
 use Rattle.tl_text.proofs.Order.{Passed, behind, passed}
 use Rattle.tl_text.proofs.Rows.{row_in}
 use Rattle.tl_text.proofs.names.rows_near.Goals as goal

@@ -1,7 +1,7 @@
 use Rattle.std.proofs.Common.{◌≡◌, ℕ, ◌+◌, ◌*◌, ◌<◌, ◌==◌, Bool, true, false, length, List, slice_index_or, ap, ap₂, sym, ◌∙◌, arith}
 use Rattle.std.proofs.lemmas.Bool.{ne_eqb}
 use Rattle.tl_html_spec.specs.HtmlTokenizer.{digit_value}
-use Rattle.tl_text.specs.View.{base_of, capped, is_digit_of, number_reference}
+use Rattle.tl_text.specs.Inner.View.{base_of, capped, is_digit_of, number_reference}
 use Rattle.tl_text.proofs.Digits.{digit-read, is-digit, no-digit, no-digit-read, value-is}
 use Rattle.tl_text.proofs.numbers.number_from.Goals as goal
 

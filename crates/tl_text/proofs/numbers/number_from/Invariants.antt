@@ -1,6 +1,6 @@
 use Rattle.std.proofs.Common.{◌≡◌, ◌<◌, drop}
 use Rattle.tl_html_spec.specs.Unescaped.{number_from}
-use Rattle.tl_text.specs.View.{base_of, is_digit_of}
+use Rattle.tl_text.specs.Inner.View.{base_of, is_digit_of}
 use Rattle.tl_text.proofs.Digits.{ahead}
 use Rattle.tl_text.proofs.numbers.number_from.Given as goal
 

@@ -1,7 +1,7 @@
 use Rattle.std.proofs.Common.{not, length, List, ℕ, slice_index_or, ap, sym, arith}
 use Rattle.std.proofs.lemmas.Bool.{eq-eqb}
 use Rattle.std.proofs.lemmas.List.Sums.{prefix_len_is}
-use Rattle.tl_text.specs.View.{is_not}
+use Rattle.tl_text.specs.Inner.View.{is_not}
 use Rattle.tl_text.proofs.split.first_place.Goals as goal
 
 pub returns-else-bytes-at-clause-place : goal.returns-else-bytes-at-clause-place

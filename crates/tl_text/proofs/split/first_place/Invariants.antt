@@ -1,5 +1,5 @@
 use Rattle.std.proofs.Common.{◌≡◌, ℕ, ◌-◌, ◌<◌, ◌≤◌, true, get_or, length}
-use Rattle.tl_text.specs.View.{is_not}
+use Rattle.tl_text.specs.Inner.View.{is_not}
 use Rattle.tl_text.proofs.split.first_place.Given as goal
 
 abbrev pub invariant-loop-at : goal.invariant-loop-at

@@ -1,6 +1,6 @@
 use Rattle.std.proofs.Common.{map, take}
 use Rattle.tl_tracking.specs.NameKey.{HasNames}
-use Rattle.tl.specs.Names.{names_in}
+use Rattle.tl.specs.Inner.Names.{names_in}
 use Rattle.tl.specs.View.{node_view}
 use Rattle.tl.proofs.parser.tracking.key_of_names.Given as goal
 

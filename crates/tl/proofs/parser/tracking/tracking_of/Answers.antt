@@ -3,7 +3,7 @@ use Rattle.std.proofs.lemmas.List.{map-append, length-map, length-take-le, take_
 use Rattle.tl_bytes.specs.Held.{Kept}
 use Rattle.tl_bytes.specs.Keys.{same_list}
 use Rattle.tl_tracking.specs.Tracking.{Tracking, TracksIds, TracksClasses}
-use Rattle.tl.specs.Names.{key_of}
+use Rattle.tl.specs.Inner.Names.{key_of}
 use Rattle.tl.specs.View.{node_view}
 use Rattle.tl.specs.Tracked.{AnswerIds, AnswerClasses}
 use Rattle.tl.proofs.Tracked.{asked-first}

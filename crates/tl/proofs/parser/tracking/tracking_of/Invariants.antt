@@ -1,5 +1,5 @@
 use Rattle.std.proofs.Common.{◌≡◌, map, take}
-use Rattle.tl.specs.Names.{key_of}
+use Rattle.tl.specs.Inner.Names.{key_of}
 use Rattle.tl.specs.View.{node_view}
 use Rattle.tl.specs.Tracked.{AreAsked, AnswerIds, AnswerClasses}
 use Rattle.tl.proofs.parser.tracking.tracking_of.Given as goal

@@ -1,7 +1,7 @@
 use Rattle.std.proofs.Common.{List, [], map, string_bytes, subst, sym}
 use Rattle.tl_spec.specs.Print.Text.{text_of}
 use Rattle.tl_spec.specs.Walk.{all_tags, first_fault, trees, walk}
-use Rattle.tl.specs.Preorder.{IsInPreorder}
+use Rattle.tl.specs.Inner.Preorder.{IsInPreorder}
 use Rattle.tl.specs.View.{HTMLNode, node_view}
 use Rattle.tl.specs.Walker.{events_to_come, Writes}
 use Rattle.tl.proofs.Printing.{writes-texts}

@@ -44,7 +44,7 @@ use types.Kit.{‵, raw, ◌⊛◌, some, later, ◌$◌, ◌∵◌, !, qed, by,
 use types.Run.{enter, addr, stop, of_opd, no_more, and_then, returns}
 use Rattle.tl_spec.specs.Edit.Attribute.{value_at, with_value_at}
 use Rattle.tl_attributes.specs.Attributes.{nest}
-use Rattle.tl_attributes.specs.AttributesLends.{LendsValueAtOk, PieceMembers}
+use Rattle.tl_attributes.specs.Inner.AttributesLends.{LendsValueAtOk, PieceMembers}
 use Rattle.tl_attributes.specs.contracts.attributes.AttributesOf.{the_row as attributes_row}
 use Rattle.tl_attributes.specs.contracts.attributes.AttributesOf.get_mut as f
 use Rattle.tl_attributes.specs.contracts.attributes.AttributesOf.value_or_presence_mut as g

@@ -5,8 +5,8 @@ use Rattle.tl_html_spec.specs.Written.{written_token}
 use Rattle.tl_html_balance.specs.Tokens.{Opens}
 use Rattle.tl_html_balance.specs.View.{open_names}
 use Rattle.tl_html_parts.specs.Parts.{attribute_view, attributes_of, name_of, parts_view, start_tag}
-use Rattle.tl_html.specs.Opened.{opened_tags, opened_tokens}
-use Rattle.tl_html.specs.Written.{written_form}
+use Rattle.tl_html.specs.Inner.Opened.{opened_tags, opened_tokens}
+use Rattle.tl_html.specs.Inner.Written.{written_form}
 use Rattle.tl_html.proofs.Grown.{start_stays}
 use Rattle.tl_html.proofs.form.Form.push_kept_tag.Goals as goal
 

@@ -1,7 +1,7 @@
 use Rattle.std.proofs.Common.{◌+◌, ◌++◌, ◌∷◌, [], ℕ, List, map, take, take_all, get_or, ap, sym, subst, ◌∙◌, arith}
 use Rattle.std.proofs.lemmas.List.{take-append-drop, take_more}
 use Rattle.tl_html_spec.specs.HtmlTokenizer.{Character}
-use Rattle.tl_html.specs.Forms.{Grows}
+use Rattle.tl_html.specs.Inner.Forms.{Grows}
 use Rattle.tl_html.proofs.Growing.{grows_none, grows_text}
 use Rattle.tl_html.proofs.form.Form.push_text.Goals as goal
 

@@ -1,6 +1,6 @@
 use Rattle.std.proofs.Common.{◌≤◌, ◌-◌, length, map, take}
 use Rattle.tl_html_spec.specs.HtmlTokenizer.{Character}
-use Rattle.tl_html.specs.Forms.{Grows}
+use Rattle.tl_html.specs.Inner.Forms.{Grows}
 use Rattle.tl_html.proofs.form.Form.push_text.Given as goal
 
 abbrev pub invariant-loop-at : goal.invariant-loop-at

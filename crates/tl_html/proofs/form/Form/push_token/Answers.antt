@@ -1,7 +1,7 @@
 use Rattle.std.proofs.Common.{sym, subst}
 use Rattle.tl_html_tokens.specs.Whole.{IsWhole}
 use Rattle.tl_html_tokens.specs.declared.stage.TokenKind.TheVariants as kind
-use Rattle.tl_html.specs.Parts.{Says}
+use Rattle.tl_html.specs.Inner.Parts.{Says}
 use Rattle.tl_html.proofs.form.Form.push_token.Goals as goal
 
 pub returns-in_ok-push_start-in-StartTag : goal.returns-in_ok-push_start-in-StartTag

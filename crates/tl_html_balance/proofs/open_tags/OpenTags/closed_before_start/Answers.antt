@@ -1,6 +1,6 @@
 use Rattle.std.proofs.Common.{ap, ◌∙◌, sym, drop, length, length-drop, arith}
 use Rattle.tl_html_spec.specs.Balanced.{is_foreign}
-use Rattle.tl_html_balance.specs.Rules.{rules_for, total}
+use Rattle.tl_html_balance.specs.Inner.Rules.{rules_for, total}
 use Rattle.tl_html_balance.specs.declared.rule.TheConstants.{BEFORE_START}
 use Rattle.tl_html_balance.specs.View.{name_of, open_names}
 use Rattle.tl_html_balance.proofs.Opened.{left-small}

@@ -1,5 +1,5 @@
 use Rattle.std.proofs.Common.{ap, ◌∙◌}
-use Rattle.tl_html_balance.specs.Rules.{rule_of}
+use Rattle.tl_html_balance.specs.Inner.Rules.{rule_of}
 use Rattle.tl_html_balance.specs.View.{name_of, open_names}
 use Rattle.tl_html_balance.proofs.Rules.{end-closes}
 use Rattle.tl_html_balance.proofs.open_tags.OpenTags.closed_by_end.Goals as goal

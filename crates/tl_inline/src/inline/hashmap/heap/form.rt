@@ -39,8 +39,8 @@ pub(super) enum HeapForm<K: Eq + Hash, V> {
 }
 
 impl<K: Eq + Hash, V> HeapForm<K, V> {
-    ghost use Rattle.tl_inline.specs.HeapForm.{form_entries};
-    ghost use Rattle.tl_inline.specs.HeapFormLends.{lends_value_at};
+    ghost use Rattle.tl_inline.specs.Inner.HeapForm.{form_entries};
+    ghost use Rattle.tl_inline.specs.Inner.HeapFormLends.{lends_value_at};
 
     pub(super) fn value_at_mut(&mut self, index: usize) -> Option<&mut V>
         ensures* writes_back { sem 𝓛 (lends_value_at K.row V.row K.Hash self.entry index result) }

@@ -51,7 +51,7 @@ impl<K: Eq + Hash, V> Model for PairTable<K, V> {
 }
 
 impl<K: Eq + Hash, V> PairTable<K, V> {
-    ghost use Rattle.tl_inline.specs.PairTableLends.{lends_index};
+    ghost use Rattle.tl_inline.specs.Inner.PairTableLends.{lends_index};
 
     pub(super) fn len(&self) -> usize
         ensures len { result ≡ length self.now }

@@ -2,7 +2,7 @@ use Rattle.std.proofs.Common.{ℕ, Bool, List, ◌∷◌, drop, refl, ap, sym, �
 use Rattle.tl_html_spec.specs.HtmlTokenizer.{EndTag}
 use Rattle.tl_html_balance.specs.View.{open_names}
 use Rattle.tl_patch_spec.specs.Elements.{PlacedToken, at_piece}
-use Rattle.tl_patch_elements.specs.Finding.{elements_with}
+use Rattle.tl_patch_elements.specs.Inner.Finding.{elements_with}
 use Rattle.tl_patch_elements.proofs.Closing.{close_end, close_step}
 use Rattle.tl_patch_elements.proofs.finder.Finder.close.Goals as goal
 

@@ -1,7 +1,7 @@
 use Rattle.std.proofs.Common.{◌≡◌, ◌++◌, List, take, drop}
 use Rattle.tl_html_balance.specs.View.{open_names}
 use Rattle.tl_patch_spec.specs.Elements.{PlacedToken}
-use Rattle.tl_patch_elements.specs.Finding.{elements_with}
+use Rattle.tl_patch_elements.specs.Inner.Finding.{elements_with}
 use Rattle.tl_patch_elements.proofs.Closing.{EndsOf}
 use Rattle.tl_patch_elements.proofs.finder.Finder.close.Given as goal
 

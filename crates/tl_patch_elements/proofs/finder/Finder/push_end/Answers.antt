@@ -1,5 +1,5 @@
 use Rattle.std.proofs.Common.{sym, subst}
-use Rattle.tl_patch_elements.specs.Finding.{Finds}
+use Rattle.tl_patch_elements.specs.Inner.Finding.{Finds}
 use Rattle.tl_patch_elements.proofs.finder.Finder.push_end.Goals as goal
 
 pub returns : goal.returns

@@ -6,7 +6,7 @@ use Rattle.tl_html_balance.specs.View.{name_of as tag_name, open_names}
 use Rattle.tl_html_balance.specs.declared.balance.PutIn.{PutIn}
 use Rattle.tl_html_parts.specs.Parts.{name_of}
 use Rattle.tl_patch_spec.specs.Elements.{PlacedToken, tokens_at}
-use Rattle.tl_patch_elements.specs.Finding.{elements_with}
+use Rattle.tl_patch_elements.specs.Inner.Finding.{elements_with}
 use Rattle.tl_patch_elements.proofs.Tags.{end_goes, put_named}
 use Rattle.tl_patch_elements.proofs.finder.Finder.push_end_tag.Goals as goal
 

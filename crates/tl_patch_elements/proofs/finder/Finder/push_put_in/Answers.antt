@@ -1,7 +1,7 @@
 use Rattle.std.proofs.Common.{ℕ, Bool, List, ◌∷◌, ◌++◌, ap, sym, ◌∙◌}
 use Rattle.tl_html_parts.specs.Parts.{name_of}
 use Rattle.tl_patch_spec.specs.Elements.{PlacedToken, elements_of, ended_element}
-use Rattle.tl_patch_elements.specs.Finding.{stack_of}
+use Rattle.tl_patch_elements.specs.Inner.Finding.{stack_of}
 use Rattle.tl_patch_elements.specs.View.{elements_view}
 use Rattle.tl_patch_elements.proofs.Tags.{none_put, put_found}
 use Rattle.tl_patch_elements.proofs.finder.Finder.push_put_in.Goals as goal

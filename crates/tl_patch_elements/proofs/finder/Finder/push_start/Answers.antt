@@ -1,6 +1,6 @@
 use Rattle.std.proofs.Common.{map, sym, subst}
 use Rattle.tl_html_parts.specs.Parts.{attribute_view, attributes_of}
-use Rattle.tl_patch_elements.specs.Finding.{Finds}
+use Rattle.tl_patch_elements.specs.Inner.Finding.{Finds}
 use Rattle.tl_patch_elements.proofs.finder.Finder.push_start.Goals as goal
 
 pub returns : goal.returns

@@ -2,7 +2,7 @@ use Rattle.std.proofs.Common.{◌≡◌, ℕ, List, ap, sym, ◌∙◌}
 use Rattle.std.specs.List.{list_any}
 use Rattle.tl_html_tokens.specs.Characters.{characters_of}
 use Rattle.tl_html_balance.specs.View.{open_names}
-use Rattle.tl_patch_elements.specs.Finding.{is_seen}
+use Rattle.tl_patch_elements.specs.Inner.Finding.{is_seen}
 use Rattle.tl_patch_elements.proofs.Texts.{headless_kept, seen_count, text_found, unseen_kept}
 use Rattle.tl_patch_elements.proofs.finder.Finder.push_text.Goals as goal
 

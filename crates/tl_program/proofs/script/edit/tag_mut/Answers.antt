@@ -1,6 +1,6 @@
 use Rattle.std.proofs.Common.{◌≡◌, None, inr, sym, ap, subst}
 use Rattle.std.specs.Prelude.{IsSomeAnd}
-use Rattle.tl.specs.Node.{tag_of}
+use Rattle.tl.specs.Inner.Node.{tag_of}
 use Rattle.tl.proofs.Nodes.{set_same}
 use Rattle.tl_program.proofs.script.edit.tag_mut.Goals as goal
 

@@ -6,8 +6,8 @@ use Rattle.tl_safe.specs.Fitted.{Run}
 use Rattle.tl_safe_fit.specs.Words.{is_among}
 use Rattle.tl_safe_fit.specs.Levels.{missing_parts}
 use Rattle.tl_safe_fit.specs.Words.{words_of}
-use Rattle.tl_safe.specs.Runs.{parts_run, written}
-use Rattle.tl_safe.specs.Writers.{place_of, words_by}
+use Rattle.tl_safe.specs.Inner.Runs.{parts_run, written}
+use Rattle.tl_safe.specs.Inner.Writers.{place_of, words_by}
 use Rattle.tl_safe.specs.declared.writer.Writer.{Writer}
 use Rattle.tl_safe.proofs.WriterFacts.{goes-further, part-further, part-listed, part_next, parts-done, parts-listed, same-open, stays-on}
 use Rattle.tl_safe.proofs.writer.Writer.add_parts.Goals as goal

@@ -2,8 +2,8 @@ use Rattle.std.proofs.Common.{◌≡◌, drop, false, true, string_bytes}
 use Rattle.std.specs.List.{list_all}
 use Rattle.tl_safe_fit.specs.Words.{is_among}
 use Rattle.tl_safe_fit.specs.Words.{words_of}
-use Rattle.tl_safe.specs.Runs.{parts_run, written}
-use Rattle.tl_safe.specs.Writers.{GoesOn, place_of, words_by}
+use Rattle.tl_safe.specs.Inner.Runs.{parts_run, written}
+use Rattle.tl_safe.specs.Inner.Writers.{GoesOn, place_of, words_by}
 use Rattle.tl_safe.proofs.writer.Writer.add_parts.Given as goal
 
 abbrev pub invariant-loop-part : goal.invariant-loop-part

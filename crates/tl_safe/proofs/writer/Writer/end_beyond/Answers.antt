@@ -1,6 +1,6 @@
 use Rattle.std.proofs.Common.{false, refl, ◌∙◌, arith, string_bytes}
 use Rattle.tl_safe.specs.Fitted.{Run, end_tags_to}
-use Rattle.tl_safe.specs.Writers.{place_of}
+use Rattle.tl_safe.specs.Inner.Writers.{place_of}
 use Rattle.tl_safe.specs.declared.writer.Writer.{Writer}
 use Rattle.tl_safe.proofs.WriterFacts.{ended-one, ends-rest, goes-further, many-open, same-open, stays-on, written-writes}
 use Rattle.tl_safe.proofs.writer.Writer.end_beyond.Goals as goal

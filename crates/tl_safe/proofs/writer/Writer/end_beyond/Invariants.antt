@@ -1,7 +1,7 @@
 use Rattle.std.proofs.Common.{◌≡◌, length, string_bytes}
 use Rattle.tl_safe.specs.Fitted.{end_tags_to}
-use Rattle.tl_safe.specs.Runs.{written}
-use Rattle.tl_safe.specs.Writers.{GoesOn, place_of}
+use Rattle.tl_safe.specs.Inner.Runs.{written}
+use Rattle.tl_safe.specs.Inner.Writers.{GoesOn, place_of}
 use Rattle.tl_safe.proofs.writer.Writer.end_beyond.Given as goal
 
 abbrev pub invariant-loop-self : goal.invariant-loop-self

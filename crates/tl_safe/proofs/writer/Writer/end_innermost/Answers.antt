@@ -2,7 +2,7 @@ use Rattle.std.proofs.Common.{◌++◌, refl, ap, sym, ◌∙◌, append-nil, ar
 use Rattle.std.proofs.lemmas.Result.{on_ok_weaker}
 use Rattle.tl_spec.specs.Print.{print_end}
 use Rattle.tl.proofs.Frames.{empty_of_length}
-use Rattle.tl_safe.specs.Writers.{opened_tag, words_by}
+use Rattle.tl_safe.specs.Inner.Writers.{opened_tag, words_by}
 use Rattle.tl_safe.specs.declared.writer.Opener.{Opener}
 use Rattle.tl_safe.proofs.WriterFacts.{ended-on, ended-writes, none-ended-to, same-open}
 use Rattle.tl_safe.proofs.writer.Writer.end_innermost.Goals as goal

@@ -1,8 +1,8 @@
 use Rattle.std.proofs.Common.{ap, sym, subst, ◌∙◌, arith}
 use Rattle.std.proofs.lemmas.Result.{on_ok_weaker}
 use Rattle.tl_safe.specs.Fitted.{Run}
-use Rattle.tl_safe.specs.Runs.{left, unchanged}
-use Rattle.tl_safe.specs.Writers.{Writes, place_of}
+use Rattle.tl_safe.specs.Inner.Runs.{left, unchanged}
+use Rattle.tl_safe.specs.Inner.Writers.{Writes, place_of}
 use Rattle.tl_safe.proofs.WriterFacts.{left-ends, left-kept, nothing-written, stays-on}
 use Rattle.tl_safe.proofs.writer.Writer.leave.Goals as goal
 

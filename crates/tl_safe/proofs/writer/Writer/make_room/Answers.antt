@@ -1,8 +1,8 @@
 use Rattle.std.proofs.Common.{◌≡◌, List, ℕ, Some, None, true, false, refl, ap, sym, subst, ◌∙◌, if◌then◌else◌}
 use Rattle.tl_safe_fit.specs.Kinds.{kind_of}
 use Rattle.tl_safe_fit.specs.Levels.{has_room, missing_parts}
-use Rattle.tl_safe.specs.Runs.{parts_run}
-use Rattle.tl_safe.specs.Writers.{Writes, place_of}
+use Rattle.tl_safe.specs.Inner.Runs.{parts_run}
+use Rattle.tl_safe.specs.Inner.Writers.{Writes, place_of}
 use Rattle.tl_safe_fit.specs.declared.kinds.Kind.{Kind}
 use Rattle.tl_safe.specs.declared.writer.Writer.{Writer}
 use Rattle.tl_safe.proofs.WriterFacts.{goes-further, listed-by, no-room-there, room-found, room-further, room-made, stays-on, words-by}

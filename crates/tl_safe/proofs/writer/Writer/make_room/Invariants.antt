@@ -2,8 +2,8 @@ use Rattle.std.proofs.Common.{◌≡◌, length, true, string_bytes}
 use Rattle.tl_safe.specs.Fitted.{room_for}
 use Rattle.tl_safe.specs.KeptFitted.{adds_of}
 use Rattle.tl_safe_fit.specs.Levels.{has_room}
-use Rattle.tl_safe.specs.Runs.{or_unchanged, written}
-use Rattle.tl_safe.specs.Writers.{GoesOn, place_of, words_by}
+use Rattle.tl_safe.specs.Inner.Runs.{or_unchanged, written}
+use Rattle.tl_safe.specs.Inner.Writers.{GoesOn, place_of, words_by}
 use Rattle.tl_safe.proofs.writer.Writer.make_room.Given as goal
 
 abbrev pub invariant-loop-self : goal.invariant-loop-self

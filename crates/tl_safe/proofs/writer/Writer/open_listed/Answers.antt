@@ -5,8 +5,8 @@ use Rattle.tl_spec.specs.Walk.{plain_node}
 use Rattle.tl.specs.View.{tag_view}
 use Rattle.tl_safe.specs.Filter.{kept_tag}
 use Rattle.tl_safe_fit.specs.Words.{is_among}
-use Rattle.tl_safe.specs.Runs.{opened_in, unless_void}
-use Rattle.tl_safe.specs.Writers.{place_of, words_by}
+use Rattle.tl_safe.specs.Inner.Runs.{opened_in, unless_void}
+use Rattle.tl_safe.specs.Inner.Writers.{place_of, words_by}
 use Rattle.tl_safe.specs.declared.writer.Writer.{Writer}
 use Rattle.tl_safe.proofs.WriterFacts.{Made, goes-further, listed-by, made-by, made-kind, no-room-entry, opened-entry, same-open, void-entry, words-by}
 use Rattle.tl_safe.proofs.writer.Writer.open_listed.Goals as goal

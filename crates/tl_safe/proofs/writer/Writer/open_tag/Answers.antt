@@ -3,7 +3,7 @@ use Rattle.tl_spec.specs.Lex.ByteClass.{is_among_in_any_case}
 use Rattle.tl.specs.View.{tag_view}
 use Rattle.tl_safe_fit.specs.Words.{is_among}
 use Rattle.tl_safe.specs.Lists.{opaque_names}
-use Rattle.tl_safe.specs.Writers.{words_by}
+use Rattle.tl_safe.specs.Inner.Writers.{words_by}
 use Rattle.tl_safe.specs.declared.writer.Entry.TheVariants.{Passed, Unwrapped}
 use Rattle.tl_safe.proofs.WriterFacts.{listed-kept, unlisted-kept}
 use Rattle.tl_safe.proofs.writer.Writer.open_tag.Goals as goal

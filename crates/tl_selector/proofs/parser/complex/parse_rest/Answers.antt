@@ -1,6 +1,6 @@
 use Rattle.std.proofs.Common.{◌≡◌, ap, sym, ◌∙◌, subst, option_map}
 use Rattle.tl_selector.specs.View.{selector}
-use Rattle.tl_selector.specs.ParserViews.{separator}
+use Rattle.tl_selector.specs.Inner.ParserViews.{separator}
 use Rattle.tl_spec.specs.Select.Reading.{nest, list_after, complex_after}
 use Rattle.tl_spec.specs.Select.Reading.{parts_at, next_at, End, Bad, Part}
 use Rattle.tl_spec.proofs.Select.Text.{rest_part, next_lt}

@@ -2,7 +2,7 @@ use Rattle.std.proofs.Common.{◌≡◌, ◌∙◌, ap, sym, subst, true, false}
 use Rattle.std.specs.List.{All, IsDistinct}
 use Rattle.std.specs.Map.{keys_of, values_of}
 use Rattle.tl_spec.specs.Tree.Inline.{InlineMap}
-use Rattle.tl_inline.specs.PairStorage.{storage_view}
+use Rattle.tl_inline.specs.Inner.PairStorage.{storage_view}
 use Rattle.tl_inline.proofs.Maps.{all_pairs, clone_is, same_map}
 use Rattle.tl_inline.proofs.inline.hashmap.InlineHashMap.clone.Goals as goal
 

@@ -1,7 +1,7 @@
 use borrow.Follows.Closed.{read_of}
 use Rattle.std.proofs.Common.{refl}
 use Rattle.std.specs.Option.{ghost_name_of, option_copied_mut}
-use Rattle.tl_inline.specs.PairStorage.{storage_view}
+use Rattle.tl_inline.specs.Inner.PairStorage.{storage_view}
 use Rattle.tl_inline.proofs.Maps.{value-at_place, no_value-at_place}
 use Rattle.tl_inline.proofs.PairStorageLemmas.{distinct_with_value, view_with_value}
 use Rattle.tl_inline.proofs.inline.hashmap.InlineHashMap.get_mut.Goals as goal

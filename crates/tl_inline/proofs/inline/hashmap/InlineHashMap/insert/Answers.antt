@@ -1,5 +1,5 @@
 use Rattle.std.proofs.Common.{◌≡◌, sym}
-use Rattle.tl_inline.specs.PairStorage.{storage_view}
+use Rattle.tl_inline.specs.Inner.PairStorage.{storage_view}
 use Rattle.tl_inline.proofs.Maps.{moved_in}
 use Rattle.tl_inline.proofs.inline.hashmap.InlineHashMap.insert.Goals as goal
 

@@ -1,6 +1,6 @@
 use Rattle.std.proofs.Common.{◌≡◌, ap, sym, subst, true, false}
 use Rattle.std.specs.List.{All}
-use Rattle.tl_inline.specs.ItemStorage.{storage_view}
+use Rattle.tl_inline.specs.Inner.ItemStorage.{storage_view}
 use Rattle.tl_spec.specs.Tree.Inline.{InlineVec}
 use Rattle.tl_inline.proofs.Lists.{clone_is}
 use Rattle.tl_inline.proofs.inline.vec.InlineVec.clone.Goals as goal

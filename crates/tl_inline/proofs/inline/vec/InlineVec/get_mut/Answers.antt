@@ -2,7 +2,7 @@ use borrow.Follows.Closed.{read_of}
 use Rattle.std.proofs.Common.{◌<◌, length}
 use Rattle.std.specs.Prelude.{◌↔◌, IsSome}
 use Rattle.std.specs.Option.{ghost_name_of}
-use Rattle.tl_inline.specs.ItemStorage.{storage_view}
+use Rattle.tl_inline.specs.Inner.ItemStorage.{storage_view}
 use Rattle.tl_inline.proofs.Lists.{view_with_item}
 use Rattle.tl_inline.proofs.inline.vec.InlineVec.get_mut.Goals as goal
 

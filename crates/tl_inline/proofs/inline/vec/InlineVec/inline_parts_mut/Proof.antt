@@ -43,7 +43,7 @@ use types.Match.{live}
 use types.Part.{agg, sub, whole}
 use types.Run.{addr, and_then, branches, enter, exec, first, fld, from, hop, lit, no_more, of_opd, returns, stop}
 use Rattle.tl_spec.specs.Tree.Inline.{InlineVec, with_items}
-use Rattle.tl_inline.specs.InlineVecLends.{lends_items}
+use Rattle.tl_inline.specs.Inner.InlineVecLends.{lends_items}
 use Rattle.tl_inline.specs.contracts.inline.vec.InlineVec.{the_row}
 use Rattle.tl_inline.specs.contracts.inline.vec.InlineVec.inline_parts_mut as f
 use Rattle.tl_inline.specs.contracts.inline.vec.InlineVec.items_mut as g

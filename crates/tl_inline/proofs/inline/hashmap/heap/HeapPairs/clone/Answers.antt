@@ -1,7 +1,7 @@
 use Rattle.std.proofs.Common.{◌≡◌, ◌∙◌, sym, subst}
 use Rattle.std.specs.List.{IsDistinct}
 use Rattle.std.specs.Map.{keys_of}
-use Rattle.tl_inline.specs.HeapForm.{form_entries}
+use Rattle.tl_inline.specs.Inner.HeapForm.{form_entries}
 use Rattle.tl_inline.proofs.Maps.{list_clone_is}
 use Rattle.tl_inline.proofs.inline.hashmap.heap.HeapPairs.clone.Goals as goal
 

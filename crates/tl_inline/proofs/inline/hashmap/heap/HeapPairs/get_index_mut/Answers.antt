@@ -1,6 +1,6 @@
 use borrow.Follows.Closed.{read_of}
 use Rattle.std.specs.Option.{ghost_name_of}
-use Rattle.tl_inline.specs.HeapForm.{form_entries}
+use Rattle.tl_inline.specs.Inner.HeapForm.{form_entries}
 use Rattle.tl_inline.proofs.HeapFormLemmas.{distinct_with_value, entries_with_value}
 use Rattle.tl_inline.proofs.inline.hashmap.heap.HeapPairs.get_index_mut.Goals as goal
 

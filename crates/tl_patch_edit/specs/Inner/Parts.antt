@@ -13,7 +13,7 @@ use Rattle.tl_html_tokens.specs.declared.stage.TokenKind.{TokenKind}
 use Rattle.tl_html_tokens.specs.declared.stage.TokenKind.TheVariants as kind
 use Rattle.tl_html_tokens.specs.declared.token.Token.{Token}
 use Rattle.tl_html_tokens.specs.declared.mode.Mode.TheVariants as mode
-use Rattle.tl_patch.specs.Steps.{mode_number}
+use Rattle.tl_patch.specs.Inner.Steps.{mode_number}
 use Rattle.tl_patch_spec.specs.Markup.{separator}
 use Rattle.tl_patch_edit.specs.Sayings.{Other, Saying, Tag, character}
 use Rattle.tl_patch_edit.specs.declared.part.Part.{Part as CodePart}

@@ -5,7 +5,7 @@ use Rattle.tl_html_spec.specs.Balanced.{Balance, balance}
 use Rattle.tl_html_spec.specs.Nodes.{SourcedToken, mark_size, sourced, tokens_at}
 use Rattle.tl_html_spec.specs.Pieces.{pieces, placed, runs}
 use Rattle.tl_html_tokens.specs.declared.token.Token.{Token}
-use Rattle.tl_html.specs.Forms.{balance_of}
+use Rattle.tl_html.specs.Inner.Forms.{balance_of}
 use Rattle.tl_html.specs.Noted.{noted, noted_of}
 use Rattle.tl_html.specs.declared.form.Form.{Form}
 use Rattle.tl_html.specs.declared.source.Sources.{Sources}

@@ -2,7 +2,7 @@
 use Rattle.std.specs.Prelude.{ℕ, Option}
 use Rattle.std.specs.Borrow.{LendsIf, Fml, RattleType, MutBor}
 use Rattle.std.specs.HashMap.Lent.{HashMembers}
-use Rattle.tl_inline.specs.HeapForm.{form_with_value_at}
+use Rattle.tl_inline.specs.Inner.HeapForm.{form_with_value_at}
 use Rattle.tl_inline.specs.contracts.inline.hashmap.heap.form.HeapForm.{the_row}
 
 module _ (K V : RattleType) (key : HashMembers K.Denot) where

@@ -6,7 +6,7 @@ use Rattle.tl_spec.specs.Walk.Length.{met}
 use Rattle.tl.specs.View.{node_view}
 use Rattle.tl_safe.specs.Fitted.{Place, Run, sequence}
 use Rattle.tl_safe.specs.Lists.{ListedWords}
-use Rattle.tl_safe.specs.Runs.{left, row_run, unchanged}
+use Rattle.tl_safe.specs.Inner.Runs.{left, row_run, unchanged}
 use Rattle.tl_safe.specs.declared.walk.Frame.{Frame}
 
 module _ (p : ListedWords) (nodes : List Node) where

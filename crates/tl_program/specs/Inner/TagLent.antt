@@ -3,7 +3,7 @@ use Rattle.std.specs.Prelude.{ℕ, Result}
 use Rattle.std.specs.Borrow.{LendsIfOk, Fml, RattleType, MutBor}
 use Rattle.tl.specs.Table.{Table}
 use Rattle.tl.specs.Tag.{Tag}
-use Rattle.tl.specs.TableLends.{with_node}
+use Rattle.tl.specs.Inner.TableLends.{with_node}
 use Rattle.tl_attributes.specs.declared.summary.SummaryOf.{Ghosts}
 use Rattle.tl.specs.declared.parser.tag.node.NodeOf.TheVariants.{Tag as ATag}
 use Rattle.tl.specs.contracts.parser.base.ParserOf.{the_row as parser_row}

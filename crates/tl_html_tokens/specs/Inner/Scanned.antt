@@ -1,6 +1,6 @@
 -- A piece after some of its bytes.
 use Rattle.std.specs.Prelude.{ℕ, zero, suc, ◌+◌, List}
-use Rattle.tl_html_tokens.specs.Scans.{next_scan}
+use Rattle.tl_html_tokens.specs.Inner.Scans.{next_scan}
 use Rattle.tl_html_tokens.specs.declared.front.Scan.{Scan}
 use Rattle.tl_html_tokens.specs.declared.front.Scanned.{Scanned}
 use Rattle.tl_html_tokens.specs.declared.front.Scanned.TheVariants.{On, Before}

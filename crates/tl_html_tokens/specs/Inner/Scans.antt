@@ -1,8 +1,8 @@
 -- A page from the first byte of a piece on, byte by byte.
 use Rattle.std.specs.Prelude.{ℕ, ◌+◌, ◌-◌, Bool, ◌&&◌, ◌==◌, List, drop, take, slice_index, if◌then◌else◌}
 use Rattle.tl_html_spec.specs.Reader.{feed}
-use Rattle.tl_html_tokens.specs.Machine.{first, turn}
-use Rattle.tl_html_tokens.specs.Stages.{has_word}
+use Rattle.tl_html_tokens.specs.Inner.Machine.{first, turn}
+use Rattle.tl_html_tokens.specs.Inner.Stages.{has_word}
 use Rattle.tl_html_tokens.specs.declared.mode.Mode.{Mode}
 use Rattle.tl_html_tokens.specs.declared.front.Scan.{Scan}
 use Rattle.tl_html_tokens.specs.declared.front.Scanned.{Scanned}

@@ -5,11 +5,11 @@ use Rattle.tl_spec.specs.Walk.{plain_node}
 use Rattle.tl.specs.View.{tag_view}
 use Rattle.tl_safe.specs.Filter.{kept_tag}
 use Rattle.tl_safe.specs.Fitted.{Place, Run, part_tag, print_pieces}
-use Rattle.tl_safe.specs.Levels.{level_of, parts_of}
+use Rattle.tl_safe.specs.Inner.Levels.{level_of, parts_of}
 use Rattle.tl_safe_fit.specs.Words.{is_among}
 use Rattle.tl_safe.specs.Lists.{ListedWords}
 use Rattle.tl_safe.specs.Policies.{lists_of}
-use Rattle.tl_safe.specs.Runs.{Written, left, unchanged, written}
+use Rattle.tl_safe.specs.Inner.Runs.{Written, left, unchanged, written}
 use Rattle.tl_safe.specs.declared.writer.Entry.{Entry}
 use Rattle.tl_safe.specs.declared.writer.Entry.TheVariants.{Passed, Unwrapped, Opened}
 use Rattle.tl_safe.specs.declared.writer.Open.{Open}

@@ -2,7 +2,7 @@
 use Rattle.std.specs.Prelude.{ℕ, Option}
 use Rattle.std.specs.Borrow.{LendsIf, Fml, RattleType, MutBor}
 use Rattle.std.specs.HashMap.Lent.{HashMembers}
-use Rattle.tl_inline.specs.PairStorage.{storage_with_value_at}
+use Rattle.tl_inline.specs.Inner.PairStorage.{storage_with_value_at}
 use Rattle.tl_inline.specs.contracts.inline.hashmap.storage.PairStorage.{the_row}
 
 module _ (K V N : RattleType) (key : HashMembers K.Denot) where

@@ -2,7 +2,7 @@
 use Rattle.std.specs.Prelude.{ℕ, ◌+◌, Bool, false, not, ◌||◌, ◌==◌, if◌then◌else◌}
 use Rattle.memchr.specs.Find.{is_byte3}
 use Rattle.tl_html_spec.specs.HtmlTokenizer.{ends_name}
-use Rattle.tl_html_tokens.specs.Stages.{has_word}
+use Rattle.tl_html_tokens.specs.Inner.Stages.{has_word}
 use Rattle.tl_html_tokens.specs.declared.front.Scan.{Scan}
 use Rattle.tl_html_tokens.specs.declared.stage.Quote.TheVariants as quote
 use Rattle.tl_html_tokens.specs.declared.stage.Stage.{Stage}

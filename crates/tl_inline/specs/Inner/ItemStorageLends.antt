@@ -2,7 +2,7 @@
 -- module.
 use Rattle.std.specs.Prelude.{ℕ, Bool, List, Option}
 use Rattle.std.specs.Borrow.{follows, LendsIf, Fml, RattleType, MutBor, Array}
-use Rattle.tl_inline.specs.ItemStorage.{storage_with_item, storage_with_items}
+use Rattle.tl_inline.specs.Inner.ItemStorage.{storage_with_item, storage_with_items}
 use Rattle.tl_inline.specs.contracts.inline.vec.storage.ItemStorage.{the_row}
 
 module _ (T N : RattleType) (h : MutBor (the_row T N).Denot) where

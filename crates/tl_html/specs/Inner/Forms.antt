@@ -3,7 +3,7 @@ use Rattle.std.specs.Prelude.{◌≡◌, List, ◌++◌}
 use Rattle.tl_html_spec.specs.HtmlTokenizer.{HtmlToken}
 use Rattle.tl_html_spec.specs.Balanced.{Balance}
 use Rattle.tl_html_balance.specs.View.{open_names}
-use Rattle.tl_html.specs.Written.{emits_of, next_after, written_form}
+use Rattle.tl_html.specs.Inner.Written.{emits_of, next_after, written_form}
 use Rattle.tl_html.specs.declared.form.Form.{Form}
 
 -- the open tags, and whether a line feed goes

@@ -1,7 +1,7 @@
 -- The stages of a tag that bytes lead to one after the other.
 use Rattle.std.specs.Prelude.{ℕ, Bool, ◌||◌, ◌==◌, List, [], ◌∷◌, Option, Some, None, if◌then◌else◌}
-use Rattle.tl_html_tokens.specs.Machine.{turn}
-use Rattle.tl_html_tokens.specs.Stages.{has_word}
+use Rattle.tl_html_tokens.specs.Inner.Machine.{turn}
+use Rattle.tl_html_tokens.specs.Inner.Stages.{has_word}
 use Rattle.tl_html_tokens.specs.declared.stage.Stage.{Stage}
 use Rattle.tl_html_tokens.specs.declared.stage.Turn.{Turn}
 use Rattle.tl_html_tokens.specs.declared.stage.Turn.TheVariants.{Goes, Ends}

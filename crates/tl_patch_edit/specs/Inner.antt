@@ -1,0 +1,4 @@
+-- What the proofs and private functions of this crate cite, and no public clause.
+pub mod Parts
+pub mod Tails
+pub mod Causes
