@@ -1,11 +1,10 @@
-//! Arenas and slots: what their values are, and when their memory goes back.
+//! Arenas: what their values are, and when their memory goes back.
 use bumpalo::Bump;
 use linked_list_allocator::LocalHeap;
 use std::alloc::{AllocError, Global};
 use std::test::Fail;
 use tl_room::arena::{Arena, Block};
 use tl_room::shared::Shared;
-use tl_room::slot::Slot;
 
 // A block of a heap that counts what is out.
 type Counted<'h> = Block<&'h LocalHeap>;
@@ -88,42 +87,6 @@ fn a_block_does_not_grow(rt: HostRuntime) -> Result<(), Fail> {
     assert!(rt; Box::new(block.clone()?, [0u8; 400]).is_ok());
     assert!(rt; Box::new(block.clone()?, [0u8; 448]).is_err());
     assert_eq!(rt; heap.used(), used);
-    Ok(())
-}
-
-// Whether a slot holds what it must, first empty, then with one value after the other.
-fn slot_obeys(slot: &mut Slot<u64, Counted<'_>>) -> bool {
-    if slot.get().is_some() || slot.replace(7).is_some() {
-        return false;
-    }
-    if let Some(value) = slot.get_mut() {
-        *value += 1;
-    }
-    slot.replace(9) == Some(8) && slot.get() == Some(&9)
-}
-
-#[test]
-fn a_slot_is_filled_without_memory(rt: HostRuntime) -> Result<(), Fail> {
-    let heap = LocalHeap::new(rt.alloc(), 1 << 16)?;
-    let arena = Shared::new(rt.alloc(), Bump::new(&heap))?;
-    let mut slot = Slot::new(arena)?;
-    let used = heap.used();
-    assert!(rt; slot_obeys(&mut slot));
-    assert_eq!(rt; heap.used(), used);
-    drop(slot);
-    assert_eq!(rt; heap.used(), 0);
-    Ok(())
-}
-
-#[test]
-fn a_slot_drops_its_value(rt: HostRuntime) -> Result<(), Fail> {
-    let heap = LocalHeap::new(rt.alloc(), 1 << 16)?;
-    let value = Box::new(&heap, 7u64)?;
-    let mut slot = Slot::new(rt.alloc())?;
-    assert!(rt; slot.replace(value).is_none());
-    assert!(rt; 0 < heap.used());
-    drop(slot);
-    assert_eq!(rt; heap.used(), 0);
     Ok(())
 }
 

@@ -3,4 +3,3 @@
 
 pub mod arena;
 pub mod shared;
-pub mod slot;
