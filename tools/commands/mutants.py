@@ -1,10 +1,10 @@
 """Tries mutants, wrong bodies that the prover has to refuse.
 
-    ./x mutants [--all] [--jobs N] [NAME..]    tries those of crates/*/mutants, or of the named crates, on at most N crates side by
-                                               side; of NAME/WORD those whose file names begin with the word. The gate doesn't try
-                                               them. With --all those of crates/*/must-fail too, which the gate does try
-    ./x mutants --look                         says which of both folders don't fit the text that they change, and proves nothing
-    ./x mutants --test                         tries the samples of tools/mutants/samples.txt, whose readings are known
+    ./x mutants [--jobs N] [NAME..]    tries those of crates/*/mutants, or of the named crates, on at most N crates side by side; of
+                                       NAME/WORD those whose file names begin with the word
+    ./x mutants --gate [--jobs N]      tries those of tools/mutants/gate.list, as the gate does, over crates that are proved
+    ./x mutants --look                 says which don't fit the text that they change, and proves nothing
+    ./x mutants --test                 tries the samples of tools/mutants/samples.txt, whose readings are known
 
 A crate is proved first, over what `rt` kept. Many mutants are tried in one check, over a copy of that work: at most one of a
 function, since the prover says of each function whether what it has to show is shown. What it says of a mutant is one of these,
@@ -22,11 +22,15 @@ and the first alone is well:
                                  another mutant of the same meaning, of a plainer form
     it doesn't fit               the text that it changes isn't there once: write the line as it stands now
 
+With --gate a crate is not proved first: each function but the changed ones is taken by its contract (tools/mutants/alone.py), so a
+check costs the load of the crate and a proof of these functions. That is done right after `rt ci`, which proves the others.
+
 Answers that don't fit are left out, and the mutant is tried again: what is left then counts as refused, and a line says so where
-those answers name what the mutant took away; better change a value and keep the names there too. `rt must-fail` takes a refusal by
-a name or by an answer for one that shows something, so a mutant is tried here, with --all, before it is put into must-fail.
+those answers name what the mutant took away; better change a value and keep the names there too. `rt must-fail` and `rt ci` take a
+refusal by a name or by an answer for one that shows something, and prove a crate once more for the first of its edits: so there is
+no folder `must-fail`.
 What isn't refused is tried again, without those that are, before it is said. What the prover said stands in
-crates/NAME/out/mutants.log. Before a release: --all. Where what tries mutants changed, or the toolchain: --test.
+crates/NAME/out/mutants.log. Before a release: all. Where what tries mutants changed, or the toolchain: --test.
 """
 import os
 import tempfile
@@ -35,50 +39,77 @@ import time
 from ..mutants.crate import Crate
 from ..mutants.trial import Trials, minutes
 from ..mutants.verdict import REFUSED
-from ..workspace import ROOT, Workspace, put, text_of
+from ..workspace import ROOT, Workspace, cores, put, text_of
 
-FOLDER, OF_THE_GATE = "mutants", "must-fail"
+# Where mutants stand, and where none does.
+FOLDER, STRAYS = "mutants", ("edits", "must-fail")
+# The mutants that the gate tries, a line each.
+OF_THE_GATE = "tools/mutants/gate.list"
 
 
-def fitting(crate, folders, words, say):
+def fitting(crate, words, say):
     """The mutants of a crate that begin with these words and fit its text, and how many don't."""
-    mutants = [it for it in crate.mutants(folders) if it.name.startswith(words)]
+    mutants = [it for it in crate.mutants(FOLDER) if it.name.startswith(words)]
     lost = [it for it in mutants if not it.pairs or it.put_into({}) is None]
     for it in lost:
         say(f"{crate.name}/{it.name}: IT DOESN'T FIT the text that it changes")
     return [it for it in mutants if it not in lost], len(lost)
 
 
-def mutants_of(workspace, names, folders, say):
+def mutants_of(workspace, names, say):
     """The crates that are named, by NAME or NAME/WORD, each with those of its mutants that fit, and how many don't."""
     work, lost, words = [], 0, {}
     for name, _, word in [it.partition("/") for it in names]:
         words[name] = (*words.get(name, ()), word)
     for crate in [Crate(workspace, it) for it in words]:
-        mutants, number = fitting(crate, folders, words[crate.name], say)
+        mutants, number = fitting(crate, words[crate.name], say)
         work, lost = work + [(crate, mutants)] * bool(mutants), lost + number
     return work, lost
 
 
-def try_mutants(workspace, names, folders, jobs):
+def try_mutants(workspace, names, jobs, is_alone=False):
     """What each mutant of the named crates is, and how many don't fit."""
-    trials = Trials()
-    work, lost = mutants_of(workspace, names, folders, trials.say)
+    trials = Trials(is_alone)
+    work, lost = mutants_of(workspace, names, trials.say)
     for crate, _ in work:
-        trials.prove(crate, jobs)
+        if not is_alone:
+            trials.prove(crate, jobs)
     return trials.try_all(work, jobs), lost
 
 
 def look(names=()):
-    """Says which mutants don't fit the text that they change. Whether all do."""
+    """Says which mutants don't fit the text that they change, and which of the gate's are not there. Whether all is well."""
     workspace, say = Workspace(), Trials().say
-    work, lost = mutants_of(workspace, names or workspace.libraries, [FOLDER, OF_THE_GATE], say)
-    strays = [it for it in workspace.libraries if os.path.isdir(f"{workspace.folder(it)}/edits")]
+    work, lost = mutants_of(workspace, names or workspace.libraries, say)
+    strays = [f"{it}/{folder}" for it in workspace.libraries for folder in STRAYS if os.path.isdir(f"{workspace.folder(it)}/{folder}")]
     for it in strays:
-        say(f"crates/{it}/edits: mutants stand in crates/{it}/{FOLDER}")
-    if not lost and not strays:
+        say(f"crates/{it}: mutants stand in the crate's folder {FOLDER}")
+    gone = [it for it in of_the_gate() if not os.path.isfile("{}/{}/{}".format(workspace.folder(it.split("/")[0]), FOLDER, it.split("/")[1]))]
+    for it in gone:
+        say(f"{OF_THE_GATE}: {it} is not there")
+    if not lost and not strays and not gone:
         say(f"{sum(len(mutants) for _, mutants in work)} fit the texts that they change")
-    return not lost and not strays
+    return not lost and not strays and not gone
+
+
+def of_the_gate():
+    """The mutants that the gate tries, as CRATE/FILE."""
+    lines = [it.partition("#")[0].strip() for it in text_of(f"{ROOT}/{OF_THE_GATE}").splitlines()]
+    return [it for it in lines if it]
+
+
+def check_gate(jobs=None):
+    """Tries the mutants of the gate over crates that are proved. Whether each is refused."""
+    started, names = time.time(), of_the_gate()
+    found, lost = try_mutants(Workspace(), names, jobs or min(3, cores()), is_alone=True)
+    return tell(found, lost, started) and len(found) == len(names)
+
+
+def tell(found, lost, started):
+    """Says how many were refused. Whether all were."""
+    refused = sum(kind == REFUSED for kind, _ in found.values())
+    print(f"mutants: {refused} of {len(found) + lost} refused in {minutes(started)}", flush=True)
+    return not lost and refused == len(found)
 
 
 def check_samples():
@@ -92,7 +123,7 @@ def check_samples():
             if kind:
                 expected[os.path.basename(path)] = kind
         workspace = Workspace(room)
-        found, _ = try_mutants(workspace, workspace.libraries, [FOLDER], 1)
+        found, _ = try_mutants(workspace, workspace.libraries, 1)
         read = {it.name: kind + " without its answers" * (kind == REFUSED and bool(why)) for it, (kind, why) in found.items()}
     wrong = [it for it in expected if read.get(it) != expected[it]]
     for it in wrong:
@@ -102,7 +133,7 @@ def check_samples():
 
 
 def main(parser, words):
-    for it in ("--all", "--look", "--test"):
+    for it in ("--gate", "--look", "--test"):
         parser.add_argument(it, action="store_true")
     parser.add_argument("--jobs", type=int, default=len(os.sched_getaffinity(0)), metavar="N")
     parser.add_argument("names", nargs="*", metavar="NAME")
@@ -114,8 +145,7 @@ def main(parser, words):
         parser.error("a NAME is a crate of crates.txt, and N a number above 0")
     if given.look:
         return 0 if look(given.names) else 1
-    folders = [FOLDER, OF_THE_GATE] if given.all else [FOLDER]
-    found, lost = try_mutants(workspace, given.names or workspace.libraries, folders, given.jobs)
-    refused = sum(kind == REFUSED for kind, _ in found.values())
-    print(f"mutants: {refused} of {len(found) + lost} refused in {minutes(started)}")
-    return 1 if lost or refused < len(found) else 0
+    if given.gate:
+        return 0 if check_gate(given.jobs) else 1
+    found, lost = try_mutants(workspace, given.names or workspace.libraries, given.jobs)
+    return 0 if tell(found, lost, started) else 1

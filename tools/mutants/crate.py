@@ -5,6 +5,7 @@ import subprocess
 import tempfile
 
 from ..workspace import Stop, put, text_of
+from .alone import without_other_proofs
 from .function import HEAD, Function
 from .mutant import Mutant
 from .verdict import Said
@@ -44,12 +45,9 @@ class Crate:
         found = [(it.has_lemmas, it.among(names)) for it in functions]
         return set().union(*[its for lemmas, its in found if not lemmas]).difference(*[its for lemmas, its in found if lemmas])
 
-    def mutants(self, folders):
-        found = []
-        for folder in folders:
-            at = f"{self.folder}/{folder}"
-            found += [Mutant(self, f"{at}/{it}") for it in sorted(os.listdir(at))] if os.path.isdir(at) else []
-        return found
+    def mutants(self, folder):
+        at = f"{self.folder}/{folder}"
+        return [Mutant(self, f"{at}/{it}") for it in sorted(os.listdir(at))] if os.path.isdir(at) else []
 
     def needs(self):
         """The memory that a check takes: 0.7 GB, and some three times what is kept (1.2 GB for 270 MB, 3 GB for 690 MB)."""
@@ -74,17 +72,28 @@ class Crate:
             kept = f"{room}/kept"
             if os.path.isdir(f"{self.folder}/out/incremental"):
                 shutil.copytree(f"{self.folder}/out/incremental", kept)
-            for part in PARTS:
-                if os.path.isdir(f"{self.folder}/{part}"):
-                    shutil.copytree(f"{self.folder}/{part}", f"{room}/{part}")
-            for path, text in texts.items():
-                if text is None:
-                    os.remove(f"{room}/{path}")
-                else:
-                    put(f"{room}/{path}", text)
-            words = [f"{self.workspace.kit}/bin/rattle", "check", *self.words(), "--incremental", kept]
-            how = {"stdin": subprocess.DEVNULL, "stdout": subprocess.PIPE, "stderr": subprocess.STDOUT}
-            ran = subprocess.run(words, cwd=room, universal_newlines=True, errors="replace", **how)
+            return self.said(room, texts, ["--incremental", kept])
+
+    def check_alone(self, texts, functions):
+        """What the prover says of these functions with these texts in place of the crate's own, each other one taken by its contract."""
+        others, paths = without_other_proofs(self, functions)
+        only = [word for it in paths for word in ("--only", it)]
+        with tempfile.TemporaryDirectory(prefix="mutants-") as room:
+            return self.said(room, {**others, **texts}, ["--allow-holes", *only])
+
+    def said(self, room, texts, more):
+        """What the prover says of a copy of the crate in a folder, with these texts in place of its own."""
+        for part in PARTS:
+            if os.path.isdir(f"{self.folder}/{part}"):
+                shutil.copytree(f"{self.folder}/{part}", f"{room}/{part}")
+        for path, text in texts.items():
+            if text is None:
+                os.remove(f"{room}/{path}")
+            else:
+                put(f"{room}/{path}", text)
+        words = [f"{self.workspace.kit}/bin/rattle", "check", *self.words(), *more]
+        how = {"stdin": subprocess.DEVNULL, "stdout": subprocess.PIPE, "stderr": subprocess.STDOUT}
+        ran = subprocess.run(words, cwd=room, universal_newlines=True, errors="replace", **how)
         if ran.returncode < 0:
             raise Stop(f"a check of {self.name} was stopped by signal {-ran.returncode}, most likely for memory: try --jobs 1")
         return Said(ran.stdout)

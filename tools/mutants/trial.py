@@ -47,10 +47,10 @@ def minutes(since):
 
 
 class Trials:
-    """Trials of the mutants of a workspace's crates."""
+    """Trials of the mutants of a workspace's crates: over all that `rt` kept of a crate, or each in its function alone."""
 
-    def __init__(self):
-        self.printing = threading.Lock()
+    def __init__(self, is_alone=False):
+        self.printing, self.is_alone = threading.Lock(), is_alone
 
     def say(self, words):
         with self.printing:
@@ -67,12 +67,18 @@ class Trials:
         if ran.returncode or crate.workspace.is_program(crate.name) and "\nlogic=proved" not in ran.stdout:
             raise Stop(f"{crate.name} itself is not proved; `rt check` in crates/{crate.name} says why")
 
+    def check(self, crate, batch, texts):
+        """What the prover says of a crate with these mutants in it."""
+        if not self.is_alone:
+            return crate.check(texts)
+        return crate.check_alone(texts, [it for mutant in batch for it in mutant.functions()])
+
     def try_crate(self, crate, mutants):
         """What each mutant of a crate is; says so of those that are not simply refused."""
         started, found, left, checks = time.time(), {}, mutants, 0
         while left:
             batch, texts = next_batch(left)
-            said = crate.check(texts)
+            said = self.check(crate, batch, texts)
             now, checks = verdicts(batch, said), checks + 1
             crate.keep(batch, said, checks)
             for it, (kind, why) in now.items():
