@@ -12,7 +12,7 @@ each before those that it begins with.
 
 Who changes a definition of `crates/tl_html_spec` changes html_tokenizer.py too. With --row it writes what it reads of a text, and the text's form, in the words of the worked rows of `crates/tl_html_spec`.
 
-With --form the forms that the program `tl_form` writes of such inputs, of tags in any order, and of the pages of `./x stress`
+With --form the forms that the program of tools/forms writes of such inputs, of tags in any order, and of the pages of `./x stress`
 cut at every character, are compared with those of html_form.py. With --trees what is read of the forms of the standard's own
 tests of tree construction is compared with the trees that they expect (html_trees.py): it says how many are the same, and of
 which kind the others are, --show N with N of each. The program is built unproved, unless --program names one.

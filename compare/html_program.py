@@ -1,10 +1,10 @@
-"""The forms that the built program `tl_form` writes, beside those of html_form.py."""
+"""The forms that the program of tools/forms writes, beside those of html_form.py."""
 import random
 import sys
 
-from tools import programs
 from tools.running import must
 from tools.stress import pages as stress
+from tools.unproved import helper_build
 
 from .html_form import html_form
 
@@ -57,7 +57,7 @@ def cut_pages():
 
 def compared(words, made, pages):
     """How many of the cut pages, and of the inputs that the seed gives, have another form by the program than by the model."""
-    program = words.program or programs.unproved_build("tl_form")
+    program = words.program or helper_build("forms")
     cuts = cut_pages()
     wrong = 0
     for page, ours, model in differing(program, cuts):

@@ -1,4 +1,4 @@
-"""The standard's own tests of tree construction, beside what is read of the forms that `tl_form` writes.
+"""The standard's own tests of tree construction, beside what is read of the forms that the program of tools/forms writes.
 
 Debian has the tests in golang-golang-x-net-dev: FOLDER is testdata/webkit of it. Two trees are the same where they have the same
 elements in the same order and depth, with the same attributes, and the same texts between them. What the form leaves out isn't
@@ -9,7 +9,7 @@ import collections
 import glob
 import re
 
-from tools import programs
+from tools.unproved import helper_build
 
 from .html_form import VOID
 from .html_program import forms
@@ -157,7 +157,7 @@ def compared(words):
     found = [it for file in sorted(glob.glob(f"{words.trees}/*.dat")) for it in cases(file)]
     tried = [it for it in found if "document-fragment" not in it and "script-on" not in it]
     pages = ["\n".join(it["data"]) for it in tried]
-    program = words.program or programs.unproved_build("tl_form")
+    program = words.program or helper_build("forms")
     same_elements, same, kinds = 0, 0, collections.defaultdict(list)
     for it, page, form in zip(tried, pages, forms(program, pages)):
         theirs, ours = expected(it["document"]), written(form)

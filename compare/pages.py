@@ -13,7 +13,7 @@ import subprocess
 import sys
 import warnings
 
-from tools.programs import unproved_build
+from tools.unproved import unproved_build
 
 # What is asked: the words of `tl`, and how many pages in 100 have to agree.
 QUESTIONS = {

@@ -119,6 +119,11 @@ class Costs:
             last = before
         return found
 
+    def sums(self):
+        """What all crates cost, by kind of work."""
+        minutes = self.minutes().values()
+        return ", ".join(f"{kind} {sum(it[kind] for it in minutes):.1f}" for kind in KINDS)
+
     def lines(self):
         """What is said of the costs."""
         minutes = self.minutes()
@@ -126,7 +131,6 @@ class Costs:
             kinds = [f"{kind} {it:.1f}" for kind, it in minutes.get(crate, {}).items() if it >= 0.05]
             if kinds:
                 yield f"{crate}: {', '.join(kinds)}"
-        sums = [f"{kind} {sum(it[kind] for it in minutes.values()):.1f}" for kind in KINDS]
-        yield f"{count(len(minutes), 'crate')}, minutes of the processor: {', '.join(sums)}"
+        yield f"{count(len(minutes), 'crate')}, minutes of the processor: {self.sums()}"
         chain = [f"{crate} {seconds / 60:.1f}" for crate, seconds in self.chain()]
         yield f"the longest chain, minutes on the clock that each ended after the one before it: {', '.join(chain)}"

@@ -6,7 +6,6 @@ import re
 
 from .commands import new
 from .transcripts import rows_of
-from . import readmes
 from .workspace import ROOT, text_of
 
 BY_HAND = "tests/by_hand.list"
@@ -18,7 +17,7 @@ BUILT = {".git", "out", "target", "__pycache__"}
 SOURCES = (".rt", ".antt", ".py", ".h", ".t", ".txt", ".toml", ".rs", ".c")
 # Documents whose names are all of this repository.
 ON_CODE = {"README.md", "ARCHITECTURE.md", "CONTRIBUTING.md", "docs/CALLING.md", "docs/DECISIONS.md"}
-PLACES = ("*.md", "docs/*.md", "crates/*/*.md")
+PLACES = ("*.md", "docs/*.md", "crates/*/*.md", "tools/*/*.md")
 # How a document calls a program that stands in a transcript by its name.
 CALLS = re.compile(r"\./x (?:try )?(?=(?:tlq|tl|uses)\b)")
 # A remark behind a command.
@@ -154,13 +153,3 @@ def name_faults():
         lines = [] if document.startswith("crates/") else enumerate(text_of(f"{ROOT}/{document}").split("\n"), 1)
         for number, code in ((number, it) for number, line in lines for it in re.findall(r"`([^`]+)`", line)):
             yield from (f"{document}:{number}: `{code}`: {it} is nowhere" for it in names.missing(code, document in ON_CODE))
-
-
-def check():
-    """Says what is wrong in the documents. Whether nothing is."""
-    found = [*faults(), *readmes.faults()]
-    for it in found:
-        print(f"runs: {it}")
-    if not found:
-        print(f"runs: what the documents show was run, but for what {BY_HAND} names", flush=True)
-    return not found

@@ -50,11 +50,20 @@ class Workspace:
         """The crates of this workspace that a crate's line names."""
         return [it for it in self.libraries[name] if it in self.libraries]
 
+    def of_kit(self, libraries):
+        """Those of some libraries that the kit has."""
+        return [it for it in libraries if it not in self.libraries]
+
     def below(self, name):
         """The crates of this workspace that a crate stands on, the lowest first."""
+        return self.closure(self.libraries[name])
+
+    def closure(self, libraries):
+        """The crates of this workspace among some libraries, and those that these stand on, the lowest first."""
         found = []
-        for it in self.own(name):
-            found += [other for other in [*self.below(it), it] if other not in found]
+        for it in libraries:
+            if it in self.libraries:
+                found += [other for other in [*self.below(it), it] if other not in found]
         return found
 
     def files(self, name, left_out=()):

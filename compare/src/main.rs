@@ -1,4 +1,4 @@
-//! The words of `crates/tl_bench` over the Rust crate, for `./x bench --against compare/target/release/compare`.
+//! The words of `tools/bench` over the Rust crate, for `./x bench --against compare/target/release/compare`.
 use std::hint::black_box;
 use std::process::exit;
 use std::time::{Duration, Instant};

@@ -5,8 +5,8 @@
 
 Prints a table of each page: nanoseconds a byte, growth, memory, page faults. The pages come of the seed, the same bytes for the
 same seed and size, and stay in the folder. Where files are named and no kinds, the files alone are timed, without `edit` unless
-it is asked for: the first node of a file may be no tag. What is timed is the program `crates/tl_bench`, which is proved and
-built first unless --program names one. --against names another program of the same words, as that of `compare/`: both are run
+it is asked for: the first node of a file may be no tag. What is timed is the program in tools/bench, which isn't proved: it is
+compiled with optimisation and without run-time checks, unless --program names another. --against names another program of the same words, as that of `compare/`: both are run
 by turns, and its figures stand beside ours with the ratio of ours to its.
 
 The Rust crate's words are built by `cargo build --release` in compare, as compare/target/release/compare. Its print takes time
@@ -20,9 +20,9 @@ and `time` counts them (Debian: time). On a loaded machine trust the ratios, and
 import os
 import tempfile
 
-from .. import programs
 from ..bench.pages import KINDS, page
 from ..running import must
+from ..unproved import helper_build
 
 WORKS = {
     "parse": "-",
@@ -110,7 +110,7 @@ def main(parser, words):
         parser.add_argument(f"--{it}", type=int, default=otherwise, metavar="N")
     given = parser.parse_args(words)
     os.makedirs(given.pages, exist_ok=True)
-    ours = given.program or programs.proved_build("tl_bench")
+    ours = given.program or helper_build("bench")
     beside_us = [ours, given.against] if given.against else [ours]
     for kind in parts(given.kinds, [] if given.files else KINDS):
         before = {}

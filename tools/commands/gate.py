@@ -3,20 +3,24 @@
     ./x gate              all parts, in this order; ends at the first that fails
     ./x gate PART..       these alone, as ./x gate wants mutants
 
+    text         what documents and READMEs show and name is there, and the sources are laid out as `rt fmt` does it
     widths       no line of a definition, a clause or a comment is too wide
     wants        want of memory is made up nowhere, and ./x wants reads its samples as what they are
     mutants      all mutants still fit the texts that they change
     proofs       `rt ci`, the test command of the README: each proof from nothing, the mutants of must-fail, the tests, the programs
-    runs         what the transcripts and the documents show is what the programs write
+    runs         what the transcripts show is what the programs write
     bindings     the library for C, called from other languages
     vendor       what ./x vendor copies is enough for a program in another workspace
     oom          each request for memory refused in turn
     stress       hostile use
 
+The first four take seconds: run them before you push. `runs` and `stress` take the programs that `rt ci` built, `bindings` its
+libraries; what `oom` and `stress` run besides is compiled and not proved.
+
 It needs the toolchain and Python alone, and 8 GB of memory that is free. Where fewer than 40 GB are, `rt ci` runs one check of one
 job on each core, four at most and one for each 7 GB (RT_JOBS, which is kept where it is set).
-It says what each crate cost, in minutes of the processor, and which chain of crates was the longest; its last line after how
-many minutes each part had ended. It is meant to take 60 minutes on 4 cores and 120 on 2, without other load. Each crate is proved from
+It says what each crate cost, in minutes of the processor, and which chain of crates was the longest; its last lines after how many
+minutes each part had ended, and what each cost. It is meant to take 60 minutes on 4 cores and 120 on 2, without other load. Each crate is proved from
 nothing once, and a second time with its tests if it has any; the mutants of must-fail of one crate are tried one after the other,
 the first of them at the cost of a proof of the crate. A check of one job takes 1 to 3 GB, of tl 5, of tl_c and tl_cli 7.5.
 
@@ -32,13 +36,14 @@ No clause is weakened and no row of a test is dropped for it.
 """
 import os
 import re
+import resource
 import subprocess
 import sys
 import time
 
 from ..costs import Costs
 from ..workspace import NO_RT, ROOT, Stop, Workspace, cores, free_memory
-from . import bindings, mutants, oom, runs, stress, vendor, wants, widths
+from . import bindings, mutants, oom, runs, stress, text, vendor, wants, widths
 
 GIGABYTE = 1_000_000_000
 NEEDED = 8
@@ -55,11 +60,17 @@ def checks(number, free):
     return str(min(4, number, free // OF_A_CHECK)) if free < ENOUGH else ""
 
 
+def processor():
+    """Minutes of the processor that this process took, and those that it made and that ended."""
+    used = (resource.getrusage(it) for it in (resource.RUSAGE_SELF, resource.RUSAGE_CHILDREN))
+    return sum(it.ru_utime + it.ru_stime for it in used) / 60
+
+
 class Gate:
-    """A run of the gate: when it began, and after how many minutes what it names had ended."""
+    """A run of the gate: when it began, after how many minutes what it names had ended, and what that cost."""
 
     def __init__(self):
-        self.began, self.ends = time.monotonic(), {}
+        self.began, self.ends, self.used, self.kinds = time.monotonic(), {}, {}, {}
 
     def seconds(self):
         return time.monotonic() - self.began
@@ -67,10 +78,25 @@ class Gate:
     def note(self, name):
         self.ends[name] = round(self.seconds() / 60)
 
+    def passes(self, name, check):
+        """Whether a part passes, which is run."""
+        before = processor()
+        try:
+            is_well = check()
+        except Stop as stop:
+            print(f"{name}: {stop}", flush=True)
+            is_well = False
+        self.note(name)
+        self.used[name] = processor() - before
+        if not is_well:
+            print(f"gate: failed at {name}", flush=True)
+        return is_well
+
     def say(self):
-        names = ("proofs", "mutants of must-fail", "tests and programs", "requests refused", "hostile use")
-        parts = ", ".join(f"{it} {self.ends.get(it, 'none')}" for it in names)
-        print(f"gate: minutes from the start to the end of: {parts}", flush=True)
+        ends = ", ".join(f"{name} {minutes}" for name, minutes in self.ends.items())
+        print(f"gate: minutes from the start to the end of: {ends}", flush=True)
+        used = ", ".join(f"{name} {minutes:.1f}{self.kinds.get(name, '')}" for name, minutes in self.used.items())
+        print(f"gate: minutes of the processor: {used}; in all {sum(self.used.values()):.0f}", flush=True)
 
     def prove(self):
         """Runs `rt ci`, passes on what it says, and says what it cost. It tells of the mutants only once all of them were tried."""
@@ -86,31 +112,22 @@ class Gate:
             sys.stdout.flush()
             costs.hear(line, self.seconds())
             if line.startswith("rt: ") and line.rstrip().endswith(" proved"):
-                self.note("proofs")
-            if line.startswith("rt: must-fail ") and "mutants of must-fail" not in self.ends:
-                self.note("mutants of must-fail")
+                self.note("all proofs")
+            if line.startswith("rt: must-fail ") and "must-fail" not in self.ends:
+                self.note("must-fail")
             if FAULT.match(line):
                 faults.append(line.rstrip())
         status = ran.wait()
         end()
-        self.note("tests and programs")
+        self.kinds["proofs"] = f" ({costs.sums()})"
         # (what failed stands far above, where a log may be cut)
         for it in [*costs.lines(), *faults]:
             print(f"gate: {it}", flush=True)
         return status == 0
 
-    def refuse(self):
-        is_well = oom.check()
-        self.note("requests refused")
-        return is_well
-
-    def use(self):
-        is_well = stress.check()
-        self.note("hostile use")
-        return is_well
-
     def parts(self):
         return {
+            "text": text.check,
             "widths": widths.check,
             "wants": lambda: wants.check_samples() and wants.check(),
             "mutants": mutants.look,
@@ -118,8 +135,8 @@ class Gate:
             "runs": runs.check,
             "bindings": lambda: bindings.check(over_ci=True),
             "vendor": vendor.check,
-            "oom": self.refuse,
-            "stress": self.use,
+            "oom": oom.check,
+            "stress": stress.check,
         }
 
 
@@ -142,16 +159,7 @@ def main(parser, words):
         if it not in parts:
             parser.error(f"no part is called {it}: there are {', '.join(parts)}")
     prepare()
-    is_well = True
-    for name, check in parts.items():
-        if is_well and name in (given.parts or parts):
-            try:
-                is_well = check()
-            except Stop as stop:
-                print(f"{name}: {stop}", flush=True)
-                is_well = False
-            if not is_well:
-                print(f"gate: failed at {name}", flush=True)
-    if "proofs" in (given.parts or parts):
-        gate.say()
+    wanted = [it for it in parts if it in (given.parts or parts)]
+    is_well = all(gate.passes(it, parts[it]) for it in wanted)
+    gate.say()
     return 0 if is_well else 1

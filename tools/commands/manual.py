@@ -10,6 +10,7 @@ one place: help, manual and completions follow it.
 import os
 
 from .. import help_pages, programs
+from ..unproved import unproved_build
 from ..workspace import ROOT, Workspace, put, text_of
 
 
@@ -35,7 +36,7 @@ def main(parser, words):
     parser.add_argument("--check", action="store_true", help="looks, and writes nothing")
     given = parser.parse_args(words)
     hint = ", or take a build that proves nothing: ./x manual --unproved"
-    file = programs.unproved_build("tl") if given.unproved else programs.gate_build("tl", hint)
+    file = unproved_build("tl") if given.unproved else programs.gate_build("tl", hint)
     if given.check:
         return 0 if check(file) else 1
     write(file)

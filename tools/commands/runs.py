@@ -1,24 +1,22 @@
 """Runs the programs as the transcripts of tests/*.t say, and looks at what each run writes and at its status.
 
-    ./x runs [FILE[:LINE]..]      all transcripts and what the documents show; or these; or the one row that stands on a line
+    ./x runs [FILE[:LINE]..]      all transcripts; or these; or the one row that stands on a line
 
 A transcript has commands and what each writes (tools/transcripts.py has its form). The rows of a file share a new folder, and
 `tl`, `tlq` and `uses` are the programs that the gate built. Of a row alone those before it that write nothing, which make its
 files, are run first.
 
-With no words it also looks whether each command that README.md, docs/*.md and other documents show after a `$` stands in a
-transcript with the output that is shown (`./x tlq` for `tlq`, `./x try NAME` for NAME), or in tests/by_hand.list, with the reason
-why nothing runs it; whether the code that documents show stands in a source; whether the paths, commands and names between
-backticks are there; and whether the manual page and the completions are what `tl --help` says (./x help manual). A new row of a
-document goes into tests/documents.t; --write fills in what is written.
+With no words it also looks whether the manual page and the completions are what `tl --help` says (./x help manual). What a
+document shows stands in tests/documents.t, and ./x text looks whether it does; --write fills in what is written.
 """
 import os
 import re
 import tempfile
 
-from .. import documents, programs
+from .. import programs
 from ..running import count, short_path
 from ..transcripts import output_of, rewrite, rows_of
+from ..unproved import unproved_build
 from ..workspace import ROOT, Stop, Workspace, put, text_of
 from . import manual
 
@@ -97,7 +95,7 @@ def check(words=(), find=None, folder=None, **how):
     says = "is found wrong once it is turned" if how.get("is_turned") else "writes what it should"
     where = count(len(files), "file")
     print(f"runs: {tally.made - tally.wrong} of {count(tally.made, 'command')} in {where}: each {says}{left}", flush=True)
-    return is_manual and (is_alone or documents.check()) and not tally.wrong
+    return is_manual and not tally.wrong
 
 
 def main(parser, words):
@@ -107,7 +105,7 @@ def main(parser, words):
     parser.add_argument("--write", action="store_true", help="puts what is written into the files: look at the difference")
     parser.add_argument("--test", action="store_true", help="turns what each row expects, and looks whether it is found wrong")
     given = parser.parse_args(words)
-    find = programs.unproved_build if given.unproved else None
+    find = unproved_build if given.unproved else None
     how = {"leaves_out": given.unproved, "is_turned": given.test, "writes": given.write}
     folder = os.path.abspath(given.bin) if given.bin else None
     return 0 if check(given.files, find, folder, **how) else 1

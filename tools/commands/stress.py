@@ -4,8 +4,8 @@
 
 Six parts, each with a stack of 8 MB:
 
-- Cuts: broken pages of crates/tl_stress, each text in the tests and in the runs with memory refused, and ten thousand open tags,
-  cut at each character boundary. What is read fits its text, borrowed or kept, and the print of a clean document is read as it
+- Cuts: broken pages of tools/stress, each text in the tests and in the runs with memory refused, and ten thousand open tags, cut
+  at each character boundary. What is read fits its text, borrowed or kept, and the print of a clean document is read as it
   stands.
 - Depth: tables of some more than 1,000,000 tags, nested, side by side or falling, selectors of as many parts, and as many
   lines of steps.
@@ -16,10 +16,13 @@ Six parts, each with a stack of 8 MB:
 - Meeting: names of attributes whose hashes are alike in the bits by which a map finds them, 1,024 or 2,048 in each of many tags.
 
 A run at the larger size, or at a million, may take at most 2.5 times as much for each byte or part as at the smaller, or at a
-quarter, by the processor's clock; one on names that meet at most 3 times as much as one on as many others of their length. --list
-prints the figures of all runs. At most N run side by side. It takes some four minutes of processor time and 3 GB.
-A page that was once read wrongly or slowly gets a row in crates/tl_stress/src/pages.rt, or in tools/stress/pages.py.
-The programs are those that the gate builds, unless others are named; what isn't there yet is proved and built first.
+quarter, by the processor's clock: square time takes four times as much, and maps that outgrow the processor's cache up to 1.6. One
+on names that meet may take at most 3 times as much as one on as many others of their length. --list prints the figures of all runs.
+At most N run side by side. It takes some four minutes of processor time and 3 GB.
+A page that was once read wrongly or slowly gets a row in tools/stress/pages.rs, or in tools/stress/pages.py.
+`tl` and `tlq` are those that the gate builds, unless others are named; what isn't there yet is proved and built first. The program
+that cuts and makes tables, and the one that writes forms (tools/stress, tools/forms), are not proved: they are compiled as ./x try
+does it, and an access to memory that isn't theirs ends them. --program and --form name others.
 """
 import contextlib
 import resource
@@ -28,7 +31,8 @@ from concurrent.futures import ThreadPoolExecutor
 from .. import programs
 from ..stress import names, pages, texts
 from ..stress.growth import complete, growth
-from ..workspace import Stop, cores
+from ..unproved import helper_build
+from ..workspace import ROOT, Stop, cores, text_of
 
 STACK = 8192 * 1024
 # Some more than a million, and a quarter of them is whole.
@@ -39,6 +43,8 @@ OPEN_TAGS = 10000
 LONG = 64000000
 # So many places a page is cut at whose form is written, and its bytes.
 CUTS, CUT_SIZE = 23, 20000
+# A page, and its form.
+PAGE, FORM = b"<P>a<LI>x & y<li>z", b"<p>a</p><li>x &amp; y</li><li>z</li>\x1e"
 # The least number of texts that the tests have.
 TEXTS = 500
 # How much more names whose hashes meet may take than others.
@@ -55,6 +61,12 @@ def cut(program, name, word, given=(), limit=100):
         return f"stress: {name}: {complete([program, word], page, limit).out.decode()}"
     except Stop as wrong:
         raise Stop(f"{name}: {wrong}") from None
+
+
+def check_own(program):
+    """Runs the program without words, by which it does all that it does on small tables."""
+    if complete([program]).out.decode() != text_of(f"{ROOT}/tools/stress/own.txt"):
+        raise Stop("the program of tools/stress writes something else than own.txt beside it")
 
 
 def check_cuts(program):
@@ -78,7 +90,9 @@ def check_length(tlq):
 
 
 def check_forms(form):
-    """Writes the forms of pages that are cut."""
+    """Writes the forms of pages that are cut, and looks at that of one page."""
+    if complete([form], PAGE).out != FORM:
+        raise Stop(f"another form of {PAGE} than {FORM}")
     whole = [made(CUT_SIZE) for _, made in pages.forms()]
     given = [page[: place * len(page) // CUTS + place] for page in whole for place in range(CUTS)]
     try:
@@ -163,11 +177,12 @@ def limited_stack():
 
 def check(program=None, tlq=None, tl=None, form=None, sizes=(1000000, 4000000), jobs=None, lists=False):
     """Looks at all parts; a Stop says what is wrong."""
-    asked = ((program, "tl_stress"), (tlq, "tlq"), (tl, "tl"), (form, "tl_form"))
-    program, tlq, tl, form = (it or programs.proved_build(name) for it, name in asked)
+    tlq, tl = (it or programs.proved_build(name) for it, name in ((tlq, "tlq"), (tl, "tl")))
+    program, form = (it or helper_build(name) for it, name in ((program, "stress"), (form, "forms")))
     workers = ThreadPoolExecutor(jobs or min(4, cores()))
     with limited_stack():
         try:
+            check_own(program)
             check_length(tlq)
             open_tags = workers.submit(cut, program, f"{OPEN_TAGS} open tags", "cuts", ["<p>" * OPEN_TAGS], 1000)
             check_cuts(program)

@@ -1,20 +1,22 @@
-"""Runs a program unproved, within a minute or two, and at once the next time.
+"""Runs a program unproved, within two minutes or so, and at once the next time.
 
     ./x try PROGRAM WORDS..       as ./x try tl select -a href 'nav a' page.html
 
-PROGRAM is `tl`, `tlq` or any other program of crates.txt. It gets the words as they stand and standard input, and its status is
-the program's. What runs is the same source, compiled without optimisation and with checks, and nothing that is proved: an index
-out of range, a sum that wraps or a bad access ends it there. What was compiled is kept, until a source changes.
+PROGRAM is `tl`, `tlq` or any other program of crates.txt, or one that ./x itself uses: `oom`, `stress`, `forms`, `bench`. It gets
+the words as they stand and standard input, and its status is the program's. What runs is the same source, compiled with optimisation
+and with checks, and nothing that is proved: an index out of range, a sum that wraps or an access to memory that isn't the program's
+ends it there (`bench`, which is timed, has no checks). With RATTLE_REFUSED=3 in the environment the third request for memory of the
+run is refused. What was compiled is kept, until a source changes; a line every ten seconds says how far that is.
 Status 127: there is no such program, or it doesn't compile.
 """
 import os
 
-from .. import programs
+from ..unproved import unproved_build
 
 
 def main(parser, words):
     if words[:1] in ([], ["--help"], ["-h"]):
         parser.parse_args(words or ["--help"])
     program, *rest = words
-    file = programs.unproved_build(program)
+    file = unproved_build(program)
     os.execv(file, [program, *rest])

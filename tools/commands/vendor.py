@@ -10,8 +10,8 @@ of a crate that lists the library proves it again.
 import re
 import tempfile
 
-from ..programs import unproved_build
 from ..running import count, run
+from ..unproved import unproved_build
 from ..vendoring import vendor
 from ..workspace import Stop, Workspace, text_of
 from .new import BELOW, PROGRAM, make_workspace

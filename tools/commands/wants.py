@@ -21,8 +21,8 @@ import re
 from ..wants.source import Source
 from ..workspace import ROOT, Workspace, text_of
 
-# Crates that are not built to be used.
-OTHERS = re.compile(r".*_tests|tl_(oom|stress|bench)")
+# Crates of tests.
+OTHERS = re.compile(r".*_tests")
 ALLOWED = "tools/wants/allowed.list"
 
 

@@ -27,7 +27,7 @@ def unescape(literal):
 def texts():
     """The texts of all literals in the tests and in the runs with memory refused, each once."""
     found = {}
-    for file in sorted(glob.glob(f"{ROOT}/crates/tl_*tests/src/*.rt") + glob.glob(f"{ROOT}/crates/tl_oom/src/*.rt")):
+    for file in sorted(glob.glob(f"{ROOT}/crates/tl_*tests/src/*.rt") + glob.glob(f"{ROOT}/tools/oom/*.rs")):
         for literal in LITERAL.finditer(text_of(file)):
             if literal[1] is not None:
                 # (bytes that are no text can be no page)

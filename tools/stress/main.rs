@@ -30,7 +30,7 @@ fn main(rt: HostRuntime) -> ExitCode {
     match run(&rt) {
         Ok(()) => ExitCode::SUCCESS,
         Err(wrong) => {
-            let _ = eprintln!(rt; "tl_stress: {}", wrong.line());
+            let _ = eprintln!(rt; "stress: {}", wrong.line());
             ExitCode::from(wrong.status())
         }
     }

@@ -29,7 +29,7 @@ fn main(rt: HostRuntime) -> ExitCode {
     match bench(&rt) {
         Ok(()) => ExitCode::SUCCESS,
         Err(failed) => {
-            let _ = eprintln!(rt; "tl_bench: {}", failed.line());
+            let _ = eprintln!(rt; "bench: {}", failed.line());
             ExitCode::from(failed as u8)
         }
     }
