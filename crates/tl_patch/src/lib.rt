@@ -1,5 +1,6 @@
 //! Edits of a page in its own bytes: bytes put in the place of bytes, start tags with a key set or
-//! unset or with another name, and pages with changes of their tags. Each other byte stays as it is.
+//! unset or with another name, and pages with changes of their tags. Each other byte stays as it
+//! is.
 #![tactic(auto)]
 
 mod cut;

@@ -1,6 +1,6 @@
 //! What is seen of a table of nodes, whatever their type: its nodes by their handles, lookups by a
-//! scan, where the nodes that hang below a tag begin and end, and the parent and the next sibling of
-//! each node. What fails answers a [`TreeError`](errors::TreeError).
+//! scan, where the nodes that hang below a tag begin and end, and the parent and the next sibling
+//! of each node. What fails answers a [`TreeError`](errors::TreeError).
 #![tactic(auto)]
 
 pub mod element;
