@@ -17,13 +17,25 @@ use tl_attributes::piece::Piece;
 
 /// The number of the first tag of each id, and those of the tags of each member of classes, where
 /// they are tracked.
-#[derive(Debug, Drop)]
+#[derive(Debug)]
 pub struct TrackingOf<B: Piece> {
     alloc: Global,
     // What the maps hash by.
     key: u64,
     ids: Option<Ids<B>>,
     classes: Option<Classes<B>>,
+}
+
+// By hand, so that a caller's proof has one step for a drop.
+impl<B: Piece + Drop> Drop for TrackingOf<B> {
+    fn drop(self) {
+        let TrackingOf {
+            alloc: _,
+            key: _,
+            ids: _,
+            classes: _,
+        } = self;
+    }
 }
 
 impl<B: Piece> Model for TrackingOf<B> {
