@@ -5,7 +5,7 @@ import threading
 
 from .running import count
 
-KINDS = ("proof", "build", "tests", "mutants")
+KINDS = ("proof", "build", "tests")
 COMPILERS = ("clang", "ld.lld", "rattle-link", "rattle-x64")
 # Seconds between two looks at the processes: of each that ends in between as many may be missed.
 PAUSE = 2
@@ -25,9 +25,6 @@ class Process:
     def words(self):
         with open(f"/proc/{self.pid}/cmdline", encoding="utf-8", errors="replace") as it:
             return it.read().split("\0")
-
-    def folder(self):
-        return os.readlink(f"/proc/{self.pid}/cwd")
 
 
 def descendants(pid):
@@ -81,8 +78,7 @@ class Costs:
             return crate, "tests"
         if "--crate-checked" in words:
             return crate, "build"
-        # (a mutant stands in a copy of its crate)
-        return crate, "proof" if process.folder() == os.path.realpath(self.workspace.folder(crate)) else "mutants"
+        return crate, "proof"
 
     def watch(self, pid):
         """Looks again and again, until what is returned is called."""

@@ -4,7 +4,7 @@
     ./x vendor --test         has ./x new make a workspace, copies its libraries once more, and runs the program there, unproved
 
 The folders come to stand in DIR/crates, each with its README, in the place of those that stand there, and their lines in
-DIR/crates.txt, as far as it lacks them. Mutants (`mutants`, `must-fail`) stay here, and so does what was proved: the first check
+DIR/crates.txt, as far as it lacks them. Mutants stay here, and so does what was proved: the first check
 of a crate that lists the library proves it again.
 """
 import re
