@@ -7,7 +7,8 @@
     widths       no line of a definition, a clause or a comment is too wide
     wants        want of memory is made up nowhere, and ./x wants reads its samples as what they are
     mutants      all mutants still fit the texts that they change
-    proofs       `rt ci`, the test command of the README: each proof from nothing, the mutants of must-fail, the tests, the programs
+    proofs       `rt ci`, the test command of the README: each proof from nothing, the tests, the programs
+    refused      the prover refuses the mutants of tools/mutants/gate.list
     runs         what the transcripts show is what the programs write
     bindings     the library for C, called from other languages
     vendor       what ./x vendor copies is enough for a program in another workspace
@@ -20,13 +21,13 @@ libraries; what `oom` and `stress` run besides is compiled and not proved.
 It needs the toolchain and Python alone, and 8 GB of memory that is free. Where fewer than 40 GB are, `rt ci` runs one check of one
 job on each core, four at most and one for each 7 GB (RT_JOBS, which is kept where it is set).
 It says what each crate cost, in minutes of the processor, and which chain of crates was the longest; its last lines after how many
-minutes each part had ended, and what each cost. It is meant to take 60 minutes on 4 cores and 120 on 2, without other load. Each crate is proved from
-nothing once, and a second time with its tests if it has any; the mutants of must-fail of one crate are tried one after the other,
-the first of them at the cost of a proof of the crate. A check of one job takes 1 to 3 GB, of tl 5, of tl_c and tl_cli 7.5.
+minutes each part had ended, and what each cost. It is meant to take 60 minutes on 4 cores and 120 on 2, without other load. Each
+crate is proved from nothing once, and a second time with its tests if it has any. A mutant costs the load of its crate and a proof of
+one function. A check of one job takes 1 to 3 GB, of tl 5, of tl_c and tl_cli 7.5.
 
 Where it takes longer:
-- See which part grew, and which crate begins to try its must-fail edits last. A crate above some 15 of these or 100 functions is
-  cut in two, by the rule of docs/DECISIONS.md (Crates); a mutant that shows what another one shows, of one clause, goes.
+- See which part grew, and which crate. One far above 100 functions is cut in two, by the rule of docs/DECISIONS.md (Crates); a mutant
+  of the list that shows what another one shows, of one clause, leaves it.
 - A slow function: `rattle check --jobs 1 --incremental NEWDIR` (`rattle` is in the `bin` of the kit) in a crate's folder writes
   one file for each module as it ends. What is live at each point costs most, so split it, or take its parts by reference. A clause
   whose search is long gets its answer by hand, in one line.
@@ -52,7 +53,7 @@ NEEDED = 8
 # of 4 cores idle. The dearest checks take 7.5 GB of one job (`tl_c`, `tl_cli`), the next ones 5.
 ENOUGH, OF_A_CHECK = 40, 7
 # A line of `rt ci` on something that failed.
-FAULT = re.compile(r"rt: .*(NOT PROVED|NOT REFUSED|BAD EDIT|FAILED)")
+FAULT = re.compile(r"rt: .*(NOT PROVED|FAILED)")
 
 
 def checks(number, free):
@@ -99,7 +100,7 @@ class Gate:
         print(f"gate: minutes of the processor: {used}; in all {sum(self.used.values()):.0f}", flush=True)
 
     def prove(self):
-        """Runs `rt ci`, passes on what it says, and says what it cost. It tells of the mutants only once all of them were tried."""
+        """Runs `rt ci`, passes on what it says, and says what it cost."""
         costs = Costs(Workspace())
         how = {"stdin": subprocess.DEVNULL, "stdout": subprocess.PIPE, "stderr": subprocess.STDOUT, "errors": "replace"}
         try:
@@ -113,8 +114,6 @@ class Gate:
             costs.hear(line, self.seconds())
             if line.startswith("rt: ") and line.rstrip().endswith(" proved"):
                 self.note("all proofs")
-            if line.startswith("rt: must-fail ") and "must-fail" not in self.ends:
-                self.note("must-fail")
             if FAULT.match(line):
                 faults.append(line.rstrip())
         status = ran.wait()
@@ -132,6 +131,7 @@ class Gate:
             "wants": lambda: wants.check_samples() and wants.check(),
             "mutants": mutants.look,
             "proofs": self.prove,
+            "refused": mutants.check_gate,
             "runs": runs.check,
             "bindings": lambda: bindings.check(over_ci=True),
             "vendor": vendor.check,
