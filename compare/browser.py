@@ -2,7 +2,7 @@
 
     ./x compare browser [--program FILE] [--runs N] [--trees N [--ammonia FILE]] [--seed N]
 
-The pages are those of `crates/tl_safe_tests/src/pages.rt`, which attack a browser, and N made up of pieces of such pages.
+The pages are those of `tests/safe.t`, which attack a browser, and N made up of pieces of such pages.
 Each is handed to Chromium as it stands and once it is sanitized: as a document in a frame, put into a live element, and put
 there once more as the browser writes it. It says of how many pages a script ran, and of how many a link would run one.
 It is sanitized by the policy of a blog, as browsers read the page and as it is, and with links marked. Of that it says too which
@@ -25,7 +25,8 @@ import sys
 import tempfile
 
 from tools.programs import gate_build
-from tools.workspace import ROOT, Stop
+from tools.transcripts import rows_of
+from tools.workspace import ROOT, Stop, text_of
 
 from .chromium import Missing, all_answers, chromium, version
 from .fitting import Unchanged
@@ -61,31 +62,11 @@ PIECES = [
 ]
 
 
-def literals(text):
-    """The string literals of a file of Rust, in order."""
-    out = []
-    for literal in re.findall(r'"((?:[^"\\]|\\.)*)"', text, re.S):
-        out.append(re.sub(r"\\(x[0-9a-fA-F]{2}|u\{[0-9a-fA-F]+\}|\n\s*|.)", unescaped, literal, flags=re.S))
-    return out
-
-
-def unescaped(match):
-    word = match.group(1)
-    if word[0] == "\n":
-        return ""
-    if word[0] == "x":
-        return chr(int(word[1:], 16))
-    if word[0] == "u":
-        return chr(int(word[2:-1], 16))
-    return {"n": "\n", "t": "\t", "r": "\r", "0": "\0"}.get(word, word)
-
-
 def written_pages():
-    """The pages of the tests: of each row the first literal."""
-    with open(f"{ROOT}/crates/tl_safe_tests/src/pages.rt", encoding="utf-8") as file:
-        text = re.sub(r"^\s*//.*$", "", file.read(), flags=re.M)
-    tables = re.findall(r"^static (\w+_ROWS): .*? = \[\n(.*?)^\];", text, re.S | re.M)
-    return [page for name, rows in tables if name != "OTHER_ROWS" for page in literals(rows)[::2]]
+    """The pages of the transcript, but those for which `video` is listed."""
+    rows = rows_of("tests/safe.t", text_of(f"{ROOT}/tests/safe.t"))
+    pages = (re.fullmatch(r"(printf .*) \| tl sanitize --as-is(.*)", it.command) for it in rows)
+    return [said_by(["sh", "-c", it[1]]) for it in pages if it and "videos" not in it[2]]
 
 
 def made_up(chance):

@@ -179,29 +179,8 @@ fn depth_is_limited(rt: HostRuntime) {
     assert_eq!(rt; depth_place(rt.alloc(), 1000), Some(291));
 }
 
-// An error, and what is said of it.
-#[rattlefmt::skip]
-static MESSAGES: [(&str, &str); 14] = [
-    ("a:hover", "at byte 2: no such pseudo-class: `hover` (a page has no states)"),
-    ("a:Link", "at byte 2: no such pseudo-class: `Link` (write `[href]`)"),
-    ("fb:like", "at byte 3: no such pseudo-class: `like` (a colon in a name is written `\\:`)"),
-    ("[k=v x]", "at byte 5: the only flags are `i` and `s`: `x`"),
-    ("a!", "at byte 1: this can't stand here: `!` (it may stand in quotes in a value, and behind `\\` in a name)"),
-    ("[@click]", "at byte 1: a name is missing: `@` (it may stand in quotes in a value, and behind `\\` in a name)"),
-    ("[src=a.png]", "at byte 6: this can't stand here: `.` (it may stand in quotes in a value, and behind `\\` in a name)"),
-    ("[src$=.png]", "at byte 6: a value is missing: `.` (a value that is no name stands in quotes)"),
-    ("[k=]", "at byte 3: a value is missing: `]`"),
-    ("[k!=v]", "at byte 2: `=`, `~=`, `|=`, `^=`, `$=`, `*=` or `]` is missing: `!` (write `:not([key=value])`)"),
-    ("svg|a", "at byte 3: namespaces are not known here: `|` (a bar in a name is written `\\|`)"),
-    ("p::before", "at byte 1: a pseudo-element is no tag: `:`"),
-    ("a,", "at byte 2: a selector is missing"),
-    ("a:not(b", "at byte 5: this is opened and never closed: `(`"),
-];
-
-fn is_said(alloc: Global, text: &str, wanted: &str) -> bool {
-    let Err(error) = parse(alloc, text) else {
-        return false;
-    };
+// Whether this is what is said of an error about a text.
+fn is_described(alloc: Global, error: SelectorError, text: &str, wanted: &str) -> bool {
     match format!(in alloc; "{}", error.describe(text)) {
         Ok(said) => said.as_str() == wanted,
         Err(_) => false,
@@ -209,8 +188,7 @@ fn is_said(alloc: Global, text: &str, wanted: &str) -> bool {
 }
 
 #[test]
-fn errors_are_described(rt: HostRuntime) {
-    for (row, (text, wanted)) in MESSAGES.iter().enumerate() {
-        assert!(rt; is_said(rt.alloc(), text, wanted), "row {row}");
-    }
+fn errors_without_a_word_are_described(rt: HostRuntime) {
+    let memory = SelectorError::OutOfMemory;
+    assert!(rt; is_described(rt.alloc(), memory, "a", "out of memory"));
 }

@@ -1,8 +1,46 @@
-//! Worked rows of the tokens of pages and of what their tags say, over the public calls of
-//! `tl_html_tokens` and `tl_html_parts`.
+//! Worked rows of pages as browsers read them, over the public calls of the crates below `tl_html`
+//! and of those that edit a page in its own bytes.
 #![tactic(auto)]
 
 #[cfg(test)]
-mod rows;
+mod answers;
 #[cfg(test)]
-mod tags;
+mod balanced_tags;
+#[cfg(test)]
+mod characters;
+#[cfg(test)]
+mod closed_tags;
+#[cfg(test)]
+mod coded_names;
+#[cfg(test)]
+mod comments;
+#[cfg(test)]
+mod element_edits;
+#[cfg(test)]
+mod elements;
+#[cfg(test)]
+mod encodings;
+#[cfg(test)]
+mod forms;
+#[cfg(test)]
+mod keys;
+#[cfg(test)]
+mod names;
+#[cfg(test)]
+mod page_edits;
+#[cfg(test)]
+mod references;
+#[cfg(test)]
+mod sources;
+#[cfg(test)]
+mod splices;
+#[cfg(test)]
+mod tag_edits;
+#[cfg(test)]
+mod tag_parts;
+#[cfg(test)]
+mod tokens;
+#[cfg(test)]
+mod written_tags;
+#[cfg(test)]
+mod written_texts;

@@ -1,0 +1,108 @@
+//! Pages, and where each of their tokens ends and what it is.
+use std::alloc::Global;
+use tl_html_tokens::{Token, TokenKind, tokens};
+
+// A page, the kinds of its tokens by their letters, and where they end.
+#[rattlefmt::skip]
+static ROWS: [(&[u8], &[u8], &[usize]); 62] = [
+    (b"", b"", &[]),
+    (b"\xEF\xBB\xBF", b"", &[]),
+    (b"\xEF\xBB\xBF<p>x", b"st", &[6, 7]),
+    (b"a", b"t", &[1]),
+    (b"a < b & c &amp; d &#65; e", b"t", &[25]),
+    (b"<p>a</p>", b"ste", &[3, 4, 8]),
+    (b"a</>b", b"tnt", &[1, 4, 5]),
+    (b"<", b"t", &[1]),
+    (b"</", b"t", &[2]),
+    (b"</p", b"n", &[3]),
+    (b"<p", b"n", &[2]),
+    (b"<p a='>'>b", b"st", &[9, 10]),
+    (b"<p a=\">&quot;>\" b>c", b"st", &[18, 19]),
+    (b"<p a=b/>c", b"st", &[8, 9]),
+    (b"<p/ a>b", b"st", &[6, 7]),
+    (b"<p a = b c>d", b"st", &[11, 12]),
+    (b"<p a==b>c", b"st", &[8, 9]),
+    (b"<P CLASS=x>y</P >z", b"stet", &[11, 12, 17, 18]),
+    (b"<a&b>c", b"st", &[5, 6]),
+    (b"<!-- a -->b", b"ct", &[10, 11]),
+    (b"<!-->b", b"ct", &[5, 6]),
+    (b"<!--->b", b"ct", &[6, 7]),
+    (b"<!-- a --!>b", b"ct", &[11, 12]),
+    (b"<!-- a -- > b", b"c", &[13]),
+    (b"<!-- <!-- a --> b", b"ct", &[15, 17]),
+    (b"<!x>a", b"ct", &[4, 5]),
+    (b"<?x>a", b"ct", &[4, 5]),
+    (b"<!>a", b"ct", &[3, 4]),
+    (b"<!doctype html>a", b"dt", &[15, 16]),
+    (b"<!DocType>a", b"dt", &[10, 11]),
+    (b"<!doctyp>a", b"ct", &[9, 10]),
+    (b"<!-a>b", b"ct", &[5, 6]),
+    (b"</ p>a", b"ct", &[5, 6]),
+    (b"<![CDATA[a]]>b", b"ct", &[13, 14]),
+    (b"<title>a<b>&lt;</TITLE>c", b"stet", &[7, 15, 23, 24]),
+    (b"<textarea></p></textarea x>b", b"stet", &[10, 14, 27, 28]),
+    (b"<style><p></style>a", b"stet", &[7, 10, 18, 19]),
+    (b"<style></styles></style/>a", b"stet", &[7, 16, 25, 26]),
+    (b"<script>a<b</script>c", b"stet", &[8, 11, 20, 21]),
+    (b"<script><!-- <script> </script> --> </script>a", b"stet", &[8, 36, 45, 46]),
+    (b"<script><!--<script></script></script>a", b"stet", &[8, 29, 38, 39]),
+    (b"<script><!--a--></script>b", b"stet", &[8, 16, 25, 26]),
+    (b"<script><!-- --><p></script>", b"ste", &[8, 19, 28]),
+    (b"<plaintext></plaintext>a", b"st", &[11, 24]),
+    (b"<xmp><p></xmp>a", b"stet", &[5, 8, 14, 15]),
+    (b"<noscript><p></noscript>", b"sse", &[10, 13, 24]),
+    (b"a\r\nb<p\r\nc>\r", b"tst", &[4, 10, 11]),
+    (b"a\x00b<p\x00>", b"ts", &[3, 7]),
+    (b"&", b"t", &[1]),
+    (b"&#", b"t", &[2]),
+    (b"&#x", b"t", &[3]),
+    (b"&amp", b"t", &[4]),
+    (b"&am<p>", b"ts", &[3, 6]),
+    (b"<p a=&amp>b", b"st", &[10, 11]),
+    (b"<p a='&#65'>b", b"st", &[12, 13]),
+    (b"<script><!--<script ", b"st", &[8, 20]),
+    (b"<title>&amp", b"st", &[7, 11]),
+    (b"<!--", b"c", &[4]),
+    (b"<!doctype", b"d", &[9]),
+    (b"<p a=\"", b"n", &[6]),
+    (b"<iframe><iframe></iframe>", b"ste", &[8, 16, 25]),
+    (b"\xC3\xA9<b>\xE2\x82\xAC", b"tst", &[2, 5, 8]),
+];
+
+fn letter(kind: TokenKind) -> u8 {
+    match kind {
+        TokenKind::Text => b't',
+        TokenKind::StartTag => b's',
+        TokenKind::EndTag => b'e',
+        TokenKind::Comment => b'c',
+        TokenKind::Doctype => b'd',
+        TokenKind::Nothing => b'n',
+    }
+}
+
+// Whether tokens are those of a row, each beginning where the one before it ends.
+fn are(tokens: &[Token], kinds: &[u8], ends: &[usize]) -> bool {
+    if tokens.len() != ends.len() {
+        return false;
+    }
+    for ((token, kind), end) in tokens.iter().zip(kinds).zip(ends) {
+        if letter(token.kind) != *kind || token.end != *end || token.start >= token.end {
+            return false;
+        }
+    }
+    true
+}
+
+fn is_read(alloc: Global, page: &[u8], kinds: &[u8], ends: &[usize]) -> bool {
+    match tokens(alloc, page) {
+        Ok(found) => are(&found, kinds, ends),
+        Err(_) => false,
+    }
+}
+
+#[test]
+fn pages_are_read(rt: HostRuntime) {
+    for (page, kinds, ends) in &ROWS {
+        assert!(rt; is_read(rt.alloc(), page, kinds, ends));
+    }
+}
