@@ -15,8 +15,9 @@
     oom          each request for memory refused in turn
     stress       hostile use
 
-The first four take seconds: run them before you push. `runs` and `stress` take the programs that `rt ci` built, `bindings` its
-libraries; what `oom` and `stress` run besides is compiled and not proved.
+The first four need no program and no proof, and take seconds: run them before the others. `runs` and `stress` take the programs that
+`rt ci` built, and `bindings` its libraries, over which the calls for C alone are proved once more, since it keeps nothing of a static
+library. What `oom` and `stress` run besides is compiled and not proved.
 
 It needs the toolchain and Python alone, and 8 GB of memory that is free. Where fewer than 40 GB are, `rt ci` runs one check of one
 job on each core, four at most and one for each 7 GB (RT_JOBS, which is kept where it is set).
