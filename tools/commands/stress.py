@@ -21,9 +21,8 @@ on names that meet may take at most 3 times as much as one on as many others of 
 At most N run side by side. It takes some four minutes of processor time and 3 GB.
 A page that was once read wrongly or slowly gets a row in tools/stress/pages.rs, or in tools/stress/pages.py.
 `tl` and `tlq` are those that the gate builds, unless others are named; what isn't there yet is proved and built first. The program
-that cuts and makes tables, and the one that writes forms (tools/stress, tools/forms), are not proved. They are compiled as ./x try
-does it: the second with run-time checks, so that an access to memory that isn't its own ends it, the first without, since it is
-timed. --program and --form name others.
+that cuts and makes tables, and the one that writes forms (tools/stress, tools/forms), are not proved. They are compiled with
+optimisation, and without run-time checks, since they are timed; --program and --form name others.
 """
 import contextlib
 import resource
