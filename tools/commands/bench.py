@@ -6,8 +6,8 @@
 Prints a table of each page: nanoseconds a byte, growth, memory, page faults. The pages come of the seed, the same bytes for the
 same seed and size, and stay in the folder. Where files are named and no kinds, the files alone are timed, without `edit` unless
 it is asked for: the first node of a file may be no tag. What is timed is the program in tools/bench, which isn't proved: it is
-compiled with optimisation and without run-time checks, unless --program names another. --against names another program of the same words, as that of `compare/`: both are run
-by turns, and its figures stand beside ours with the ratio of ours to its.
+compiled with optimisation and without run-time checks, unless --program names another. --against names another program of the same
+words, as that of `compare/`: both are run by turns, and its figures stand beside ours with the ratio of ours to its.
 
 The Rust crate's words are built by `cargo build --release` in compare, as compare/target/release/compare. Its print takes time
 with the square of the page on news and deep: above 1 MB leave `print` and `again` out (--works).
