@@ -3,7 +3,6 @@ use crate::documents::{Question, answers};
 use std::alloc::Global;
 use tl::{NodeHandle, ParserOptions, SummaryOf, TagOf, VDom};
 use tl_css::parse;
-use tl_css::selector::Selector;
 use tl_css_select::document::{select, select_decoded};
 use tl_css_select::forest::SelectError;
 use tl_css_select::known_forest::{Forest, FreshDocument};
@@ -47,13 +46,11 @@ fn push(document: &mut VDom<'static>, number: u32, child: u32) -> bool {
 }
 
 fn set_top(document: &mut VDom<'static>, handle: u32) -> bool {
-    match document.children_mut().first_mut() {
-        Some(top) => {
-            *top = NodeHandle::new(handle);
-            true
-        }
-        None => false,
-    }
+    let Some(top) = document.children_mut().first_mut() else {
+        return false;
+    };
+    *top = NodeHandle::new(handle);
+    true
 }
 
 /// Does edits, up to the first that can't be done. Whether all are.
