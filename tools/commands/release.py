@@ -4,7 +4,7 @@
 
 It has the programs, `tl-static`, which is `tl` with the C library inside, their manual page and completions, the library for C, static and shared, with its headers and libtl.pc, the
 packages for Rust and Python and the callers in C, the documents, the licence, the README, and a note that says what they were proved
-and built with. First the gate and ./x mutants --all have to pass. VERSION is that of the sources
+and built with. First the gate and ./x mutants have to pass. VERSION is that of the sources
 (`VERSION` of crates/tl_page) and of a heading of CHANGELOG.md, and what is packed is a commit, without times, owners and an order of
 files of its own. It is tried as it is packed; where root runs it, each program too where there is nothing but the C library, and
 `tl-static` where there is nothing at all. The same commit, the same kit and the same C library give the same bytes. It takes cc, the
