@@ -2,8 +2,11 @@
 
     ./x compare html [--runs N] [--seed N] [--page FILE..]
     ./x compare html --form [--runs N] [--seed N] [--page FILE..] [--program FILE]
-    ./x compare html --trees FOLDER [--show N] [--program FILE]
+    ./x compare html --form --trees FOLDER [--show N] [--program FILE]
+    ./x compare html --trees FOLDER [--runs N] [--seed N]
+    ./x compare html --clauses [--show N]
     ./x compare html --row TEXT
+    ./x compare html --tree TEXT [--inside NAME] [--scripting]
 
 The inputs come of the seed: pieces of markup that are hard to read, side by side, and with --page cuts of these files with such
 pieces put in. What differs is said. Where it is a known fault of html5lib (`FAULTS`), that is said too and doesn't count.
@@ -13,11 +16,17 @@ each before those that it begins with.
 Who changes a definition of `crates/tl_html_spec` changes html_tokenizer.py too. With --row it writes what it reads of a text, and the text's form, in the words of the worked rows of `crates/tl_html_spec`.
 
 With --form the forms that the program of tools/forms writes of such inputs, of tags in any order, and of the pages of `./x stress`
-cut at every character, are compared with those of html_form.py. With --trees what is read of the forms of the standard's own
-tests of tree construction is compared with the trees that they expect (html_trees.py): it says how many are the same, and of
-which kind the others are, --show N with N of each. The program is built unproved, unless --program names one.
+cut at every character, are compared with those of html_form.py. With --form and --trees what is read of the forms of the
+standard's own tests of tree construction is compared with the trees that they expect (html_trees.py): it says how many are the
+same, and of which kind the others are, --show N with N of each. The program is built unproved, unless --program names one.
 
-Status: 0 where nothing differs, but for --trees, where much does; 1 where something does, 2 for words that aren't understood, 3 where html5lib isn't installed
+With --trees alone the definition of tree construction, the text of `crates/tl_dom_spec` run by Python (definition.py), and a model
+that was written from the standard alone (tree_model.py) are compared with the trees of these tests, pages and fragments, and with
+one another on made-up ones. Tests that are older than a rule are named with it. With --clauses the worked rows of that crate are
+computed in the same way, and for each clause of its definitions rows are named, --show N of them (3), that would be others without
+it; NO ROW stands where none would. With --tree it writes the trees of a text as these rows have them.
+
+Status: 0 where nothing differs, but for --form --trees, where much does; 1 where something does, 2 for words that aren't understood, 3 where html5lib isn't installed
 (Debian: python3-html5lib).
 """
 import collections
@@ -27,9 +36,10 @@ import re
 import sys
 import warnings
 
-from . import html_program, html_trees
+from . import html_program, html_trees, tree_rows
 from .html_form import balanced, html_form
 from .html_tokenizer import NAMES, html_tokens
+from .tree_definition import TreeDefinition, with_room
 
 ROOT = os.path.dirname(os.path.dirname(os.path.realpath(__file__)))
 PIECES = (
@@ -172,6 +182,10 @@ def main(parser, words):
     parser.add_argument("--row", metavar="TEXT")
     parser.add_argument("--form", action="store_true")
     parser.add_argument("--trees", metavar="FOLDER")
+    parser.add_argument("--clauses", action="store_true")
+    parser.add_argument("--tree", metavar="TEXT")
+    parser.add_argument("--inside", metavar="NAME")
+    parser.add_argument("--scripting", action="store_true")
     parser.add_argument("--show", type=int, default=0, metavar="N")
     parser.add_argument("--program", metavar="FILE")
     words = parser.parse_args(words)
@@ -180,17 +194,26 @@ def main(parser, words):
         print(f"balanced: {listed(balanced(html_tokens(words.row)))}")
         print(f"form:     {quoted(html_form(words.row))}")
         return 0
-    if words.trees is not None:
+    if words.tree is not None:
+        print(with_room(lambda: TreeDefinition().shown(words.tree, words.inside, words.scripting)))
+        return 0
+    if words.clauses:
+        return tree_rows.compared(words)
+    if words.trees is not None and words.form:
         return html_trees.compared(words)
     if words.form:
         return 1 if html_program.compared(words, made, pages_of(words.page)) else 0
     try:
         from html5lib._tokenizer import HTMLTokenizer
         from html5lib.constants import tokenTypes
+
+        from . import tree_tests
     except ImportError:
         print("compare html: html5lib isn't installed", file=sys.stderr)
         return 3
     warnings.simplefilter("ignore")
+    if words.trees is not None:
+        return 1 if tree_tests.compared(words) else 0
     wrong = wrong_names()
     print("\n".join(wrong) if wrong else f"{len(NAMES)} names of references, all as they are in the standard")
     return 1 if compared(words, HTMLTokenizer, tokenTypes) + len(wrong) else 0

@@ -1,0 +1,79 @@
+"""The worked rows of `crates/tl_dom_spec`, computed by its own definitions; and which clauses of these a row depends on."""
+import collections
+import glob
+import os
+import re
+
+from .definition import CRATES, Definitions, Module
+from .tree_definition import SPECS, with_room
+
+ROW = re.compile(r"^    ensures (\w+) \{ (.*?) \}$", re.DOTALL | re.MULTILINE)
+SECTION = re.compile(r"^pub fn (\w+)\(\)\n(.*?)^\{\}$", re.DOTALL | re.MULTILINE)
+USE = re.compile(r"^ghost (use .*);$", re.MULTILINE)
+
+
+def rows(words):
+    """Each row: its name, and both of its sides, as functions."""
+    for path in sorted(glob.glob(os.path.join(CRATES, "tl_dom_spec", "src", "*.rt"))):
+        with open(path, encoding="utf-8") as it:
+            text = it.read()
+        file = os.path.basename(path)[:-3]
+        scope = "rows of " + file
+        words.modules[scope] = Module.of_items(USE.findall(text))
+        for section, body in SECTION.findall(text):
+            for name, fact in ROW.findall(body):
+                left, right = re.split(r"\s+≡ ", fact)
+                yield f"{file}::{section}.{name}", words.compute(scope, left), words.compute(scope, right)
+
+
+def outcome(compute):
+    """What is computed, or that no clause fits or no end is come to."""
+    try:
+        return compute()
+    except (ValueError, TypeError, KeyError, RecursionError) as fault:
+        return type(fault)
+
+
+def clause_text(words, module, name, at):
+    tokens = words.module(module).clauses[name][at]
+    text = ""
+    for word, kind, is_apart in tokens:
+        if word == "=":
+            break
+        text += (" " if is_apart else "") + (f'"{word}"' if kind == "string" else word)
+    return f"{module.removeprefix(SPECS)} {name}{text}"
+
+
+def dependents(words, found):
+    """For each clause the rows that come to it, and those that would be others without it."""
+    known = {}
+    taken = collections.defaultdict(list)
+    for name, left, _ in found:
+        words.seen.clear()
+        known[name] = left()
+        for clause in words.seen:
+            taken[clause].append((name, left))
+    for clause in range(len(words.clauses)):
+        words.left_out[0] = clause
+        yield clause, taken[clause], [name for name, left in taken[clause] if outcome(left) != known[name]]
+    words.left_out[0] = None
+
+
+def compared(words_of_command):
+    return with_room(lambda: listed_clauses(words_of_command.show or 3))
+
+
+def listed_clauses(most):
+    """Computes all rows, and lists for each clause some that depend on it. 1 where a row is false."""
+    words = Definitions(watched=SPECS)
+    found = list(rows(words))
+    false = [name for name, left, right in found if left() != right()]
+    print("\n".join(f"false: {it}" for it in false) or f"{len(found)} rows, all true", flush=True)
+    without = 0
+    for clause, taken, names in dependents(words, found):
+        module, name, at = words.clauses[clause]
+        without += not names
+        none = "NO ROW: all are the same without it" if taken else "NO ROW: none comes to it"
+        print(f"{clause_text(words, module, name, at)}: {', '.join(names[:most]) or none}")
+    print(f"{len(words.clauses)} clauses, {without} without a row that depends on them")
+    return 1 if false else 0

@@ -1,0 +1,135 @@
+-- Words for worked rows. No contract cites them.
+use Prim.Native.String.{String}
+use Rattle.std.specs.Prelude.{Bool, List, None, Option, [], codes, if◌then◌else◌, true, ℕ, ◌++◌, ◌∷◌}
+use Rattle.tl_html_spec.specs.HtmlTokenizer.{html_tokens}
+use Rattle.tl_dom_spec.specs.Tags.{Attribute, AttributeSpace, Namespace, html_space, is_named, math_space, no_space, svg_space, xlink_space, xml_space, xmlns_space}
+use Rattle.tl_dom_spec.specs.Doctypes.{or_empty}
+use Rattle.tl_dom_spec.specs.Builder.{Flags}
+use Rattle.tl_dom_spec.specs.HtmlForest.{HtmlForest, comment, doctype, element, has_contents, no_trees, text}
+use Rattle.tl_dom_spec.specs.HtmlTree.{Context, context_of, fragment_of_tokens, html_fragment_by, html_tree, html_tree_by, page_read, standard, tree_of_tokens, with_scripting, without_search}
+
+abbrev pub space_shown : Namespace → List ℕ
+space_shown html_space = []
+space_shown svg_space = codes "svg "
+space_shown math_space = codes "math "
+
+abbrev pub key_shown : AttributeSpace → List ℕ
+key_shown no_space = []
+key_shown xlink_space = codes "xlink "
+key_shown xml_space = codes "xml "
+key_shown xmlns_space = codes "xmlns "
+
+abbrev pub attributes_shown : List Attribute → List ℕ
+attributes_shown [] = []
+attributes_shown (a ∷ attributes) =
+    codes " " ++ key_shown a.space ++ a.key ++ codes "=" ++ a.value ++ attributes_shown attributes
+
+abbrev pub ids_shown : Option (List ℕ) → Option (List ℕ) → List ℕ
+ids_shown None None = []
+ids_shown public_id system_id =
+    codes " '" ++ or_empty public_id ++ codes "' '" ++ or_empty system_id ++ codes "'"
+
+-- what stands below an element: its children as `[..]`, contents of a template as `{..}`
+abbrev pub below : Bool → List ℕ → List ℕ
+below is_contents [] = if is_contents then codes "{}" else []
+below is_contents (b ∷ bytes) =
+    if is_contents then codes "{" ++ b ∷ bytes ++ codes "}" else codes "[" ++ b ∷ bytes ++ codes "]"
+
+-- trees on one line: `<name key=value>[children]`, texts between quotes
+abbrev pub shown : HtmlForest → List ℕ
+shown no_trees = []
+shown (text bytes more) = codes "'" ++ bytes ++ codes "'" ++ shown more
+shown (comment bytes more) = codes "<!--" ++ bytes ++ codes "-->" ++ shown more
+shown (doctype own more) =
+    codes "<!" ++ own.name ++ ids_shown own.public_id own.system_id ++ codes ">" ++ shown more
+shown (element tag children more) =
+    codes "<" ++ space_shown tag.space ++ tag.name ++ attributes_shown tag.attributes
+    ++ codes ">" ++ below (has_contents tag) (shown children) ++ shown more
+
+abbrev pub page_by : Flags → String → List ℕ
+page_by flags bytes = shown (html_tree_by flags (codes bytes)).trees
+
+-- the document of a page
+abbrev pub page : String → List ℕ
+page bytes = page_by standard bytes
+
+-- the same with scripting
+abbrev pub scripted : String → List ℕ
+scripted bytes = page_by with_scripting bytes
+
+abbrev pub is_quirks : String → Bool
+is_quirks bytes = (html_tree (codes bytes)).is_quirks
+
+-- what is in the first element of a name
+abbrev pub inside_of_first : List ℕ → HtmlForest → HtmlForest
+inside_of_first name no_trees = no_trees
+inside_of_first name (text bytes more) = inside_of_first name more
+inside_of_first name (comment bytes more) = inside_of_first name more
+inside_of_first name (doctype own more) = inside_of_first name more
+inside_of_first name (element tag children more) =
+    if is_named name tag then children else inside_of_first name more
+
+abbrev pub in_body_by : Flags → List ℕ → List ℕ
+in_body_by flags bytes =
+    shown
+    (inside_of_first (codes "body")
+    (inside_of_first (codes "html") (html_tree_by flags bytes).trees))
+
+-- what the `body` element holds, in no quirks mode
+abbrev pub in_body : String → List ℕ
+in_body bytes = in_body_by standard (codes "<!DOCTYPE html><body>" ++ codes bytes)
+
+-- the same where `search` is no special element
+abbrev pub in_body_without_search : String → List ℕ
+in_body_without_search bytes =
+    in_body_by without_search (codes "<!DOCTYPE html><body>" ++ codes bytes)
+
+-- the same in quirks mode
+abbrev pub in_quirks : String → List ℕ
+in_quirks bytes = in_body_by standard (codes "<body>" ++ codes bytes)
+
+abbrev pub context_named : Namespace → String → Context
+context_named space name =
+    context_of (record { space = space; name = codes name; attributes = [] })
+
+abbrev pub inside_by : Flags → Context → String → List ℕ
+inside_by flags context bytes = shown (html_fragment_by flags context (codes bytes))
+
+-- the trees of a text in a context element of a name
+abbrev pub inside : String → String → List ℕ
+inside name bytes = inside_by standard (context_named html_space name) bytes
+
+abbrev pub inside_svg : String → String → List ℕ
+inside_svg name bytes = inside_by standard (context_named svg_space name) bytes
+
+abbrev pub inside_math : String → String → List ℕ
+inside_math name bytes = inside_by standard (context_named math_space name) bytes
+
+abbrev pub scripted_inside : String → String → List ℕ
+scripted_inside name bytes = inside_by with_scripting (context_named html_space name) bytes
+
+-- the same where the context element stands in a `form`
+abbrev pub inside_a_form : String → String → List ℕ
+inside_a_form name bytes =
+    inside_by standard (record (context_named html_space name) { is_in_form = true }) bytes
+
+-- and where its document is in quirks mode
+abbrev pub inside_quirks : String → String → List ℕ
+inside_quirks name bytes =
+    inside_by standard (record (context_named html_space name) { is_quirks = true }) bytes
+
+-- the same by the tokens that are read by names alone
+abbrev pub tokens_inside : String → String → List ℕ
+tokens_inside name bytes =
+    shown
+    (fragment_of_tokens standard (context_named html_space name) (html_tokens (codes bytes)))
+
+abbrev pub tokens_page : String → List ℕ
+tokens_page bytes = shown (tree_of_tokens standard (html_tokens (codes bytes))).trees
+
+-- how many elements were put in or opened again, and by how many they were too many at most
+abbrev pub added : String → ℕ
+added bytes = (page_read standard (codes bytes)).added
+
+abbrev pub excess : String → ℕ
+excess bytes = (page_read standard (codes bytes)).excess

@@ -1,0 +1,11 @@
+//! The HTML standard's tree construction, whole: definitions that contracts cite, and worked rows.
+#![tactic(auto)]
+
+mod body;
+mod foreign;
+mod formatting;
+mod head;
+mod others;
+mod proportion;
+mod start;
+mod tables;
