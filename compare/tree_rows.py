@@ -1,6 +1,7 @@
 """The worked rows of `crates/tl_dom_spec`, computed by its own definitions; and which clauses of these a row depends on."""
 import collections
 import glob
+import itertools
 import os
 import re
 
@@ -44,18 +45,19 @@ def clause_text(words, module, name, at):
     return f"{module.removeprefix(SPECS)} {name}{text}"
 
 
-def dependents(words, found):
-    """For each clause the rows that come to it, and those that would be others without it."""
-    known = {}
-    taken = collections.defaultdict(list)
+def dependents(words, found, most):
+    """For each clause the rows that come to it, and some that would be others without it: those first that come to few clauses."""
+    known, sizes, taken = {}, {}, collections.defaultdict(list)
     for name, left, _ in found:
         words.seen.clear()
-        known[name] = left()
+        known[name], sizes[name] = left(), len(words.seen)
         for clause in words.seen:
             taken[clause].append((name, left))
     for clause in range(len(words.clauses)):
         words.left_out[0] = clause
-        yield clause, taken[clause], [name for name, left in taken[clause] if outcome(left) != known[name]]
+        by_size = sorted(taken[clause], key=lambda row: sizes[row[0]])
+        others = (name for name, left in by_size if outcome(left) != known[name])
+        yield clause, taken[clause], list(itertools.islice(others, most))
     words.left_out[0] = None
 
 
@@ -70,10 +72,10 @@ def listed_clauses(most):
     false = [name for name, left, right in found if left() != right()]
     print("\n".join(f"false: {it}" for it in false) or f"{len(found)} rows, all true", flush=True)
     without = 0
-    for clause, taken, names in dependents(words, found):
+    for clause, taken, names in dependents(words, found, most):
         module, name, at = words.clauses[clause]
         without += not names
         none = "NO ROW: all are the same without it" if taken else "NO ROW: none comes to it"
-        print(f"{clause_text(words, module, name, at)}: {', '.join(names[:most]) or none}")
+        print(f"{clause_text(words, module, name, at)}: {', '.join(names) or none}")
     print(f"{len(words.clauses)} clauses, {without} without a row that depends on them")
     return 1 if false else 0
