@@ -2,5 +2,5 @@ pub mod Splits
 pub mod Flows
 pub mod Steps
 pub mod Outlines
-pub mod Listing
+pub mod AttributeLists
 mod Outcomes

@@ -6,7 +6,7 @@ use Rattle.tl_spec.specs.Lex.AttributeList.{printed_pairs}
 use Rattle.tl_attributes.specs.AttributesView.{bytes_view, plain, pair_view}
 use Rattle.tl.proofs.Printing.{pairs-listed}
 use Rattle.tl_extract.specs.Node.{ended_keys}
-use Rattle.tl_extract.proofs.Listing.{more_keys}
+use Rattle.tl_extract.proofs.AttributeLists.{more_keys}
 use Rattle.tl_extract.proofs.node.keys.keys_of_attributes.Goals as goal
 
 pub loop-pair-preserved : goal.loop-pair-preserved
