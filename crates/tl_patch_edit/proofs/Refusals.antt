@@ -410,7 +410,7 @@ pub record AreAskedOf (page : List ℕ) (patches : List (ℕ × Patch)) (parts :
   pub sorted : AreSorted (pieces_in page) (meant_view meant) asks
 
 -- an ask at a place
-one_at : (page : List ℕ) (patches : List (ℕ × Patch)) (parts : List Part) (meant : List MeantPatch) (asks : List PlacedAsk) (p : ℕ) (one : PlacedAsk) → AreAskedOf page patches parts meant asks →
+pub one_at : (page : List ℕ) (patches : List (ℕ × Patch)) (parts : List Part) (meant : List MeantPatch) (asks : List PlacedAsk) (p : ℕ) (one : PlacedAsk) → AreAskedOf page patches parts meant asks →
     IsOneAt asks p one → IsAskAt page patches p (ask_view one.ask)
 one_at page patches parts meant asks p one a o =
     let all : AreAsksAt page patches asks = asks_at page patches meant asks a.of_page a.are_given a.planned in

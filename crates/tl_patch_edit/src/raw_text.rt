@@ -1,5 +1,5 @@
 //! Raw texts that browsers may read as markup.
-ghost use Rattle.std.specs.Prelude.{◌≡◌, List, IfErr, IfOk, OnOk};
+ghost use Rattle.std.specs.Prelude.{◌≡◌, ◌<◌, ◌&&◌, List, IfErr, IfOk, OnOk, length};
 ghost use Rattle.std.specs.List.{list_any};
 ghost use Rattle.tl_html_spec.specs.HtmlTokenizer.{HtmlToken};
 ghost use Rattle.tl_html_spec.specs.Pieces.{Piece};
@@ -11,8 +11,8 @@ ghost use Rattle.tl_html_tokens.specs.declared.mode.Mode.{Mode};
 ghost use Rattle.tl_patch_spec.specs.RawTexts.{begins_unsure, cause_at, is_markup, is_markup_put, is_raw_markup, is_unescaped, is_unsure_name, is_unsure_put, raw_until, unsure_at, unsure_from, unsure_with};
 ghost use Rattle.tl_patch_edit.specs.Asks.{ask_view, asks_view, puts_view, text_of};
 ghost use Rattle.tl_patch_edit.specs.Errors.{pieces_in};
-ghost use Rattle.tl_patch_edit.specs.Inner.Limits.{AreKept, AreLimits, IsMisreadError, is_misread_in, is_raw_at, is_start_kind};
-ghost use Rattle.tl_patch_edit.specs.Inner.Parts.{IsPieceOf, part_view};
+ghost use Rattle.tl_patch_edit.specs.Inner.Limits.{AreKept, AreLimits, BeginsToken, IsMisreadError, is_misread_in, is_raw_at, is_start_kind};
+ghost use Rattle.tl_patch_edit.specs.Inner.Parts.{IsPieceOf, is_text_kind, part_view};
 ghost use Rattle.tl_patch_edit.specs.View.{content_view};
 
 use crate::ask::{Ask, Content, PlacedAsk, Put};
@@ -131,12 +131,19 @@ fn is_markup(text: &[u8]) -> bool
     text.iter().any(|byte| *byte == b'&' || *byte == b'<')
 }
 
-// Whether a part is a raw text that may be.
+// Whether a part is a raw text.
+fn is_raw_text(part: Part<'_>) -> bool
+    ensures { result ≡ (is_text_kind part.entry.kind && is_unescaped (state_of part.entry.mode)) }
+{
+    is_text(part.kind) && is_unescaped(part.mode)
+}
+
+// Whether a part is a raw text that may be read as markup.
 fn is_raw_markup(alloc: Global, part: Part<'_>) -> Result<bool, AllocError>
     ensures { IfOk result (λ is. (p : Piece) → IsPieceOf (part_view part.entry) p →
         is_raw_markup p ≡ is) }
 {
-    let is_raw = is_text(part.kind) && is_unescaped(part.mode);
+    let is_raw = is_raw_text(part);
     if !is_raw {
         return Ok(false);
     }
@@ -223,6 +230,14 @@ fn cause(limits: Limits, ask: Ask<'_>) -> usize
     }
 }
 
+// Where the token of a number begins.
+fn begin_of(tokens: &[Token], number: usize) -> usize
+    requires { number < length tokens.now }
+    ensures { BeginsToken tokens.now number result }
+{
+    tokens[number].start
+}
+
 // Refuses what a browser may read as markup: a text with `&` or `<` in a raw text behind the start
 // tag of a `svg` and its like, and such a name for a tag before such raw texts.
 pub(crate) fn refuse_misread(
@@ -240,8 +255,8 @@ pub(crate) fn refuse_misread(
         let one = asks[at];
         let is_misread = is_misread(tokens, limits, one.ask);
         if is_misread {
-            let cause = cause(limits, one.ask);
-            return Err(EditError::Misread(one.start.token.start, tokens[cause].start));
+            let cause = begin_of(tokens, cause(limits, one.ask));
+            return Err(EditError::Misread(one.start.token.start, cause));
         }
     }
     Ok(())

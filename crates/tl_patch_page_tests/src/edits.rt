@@ -213,7 +213,7 @@ static EACH_ROWS: [EachRow; 22] = [
     (&[PlacedPatch { place: 0, patch: ElementPatch::Unwrap }, PlacedPatch { place: 8, patch: ElementPatch::Append { content: Content::Markup { markup: b"<!-- " } } }], b"<i>a</i><i>b</i>", Err(EditError::ReadOtherwise(0))),
 ];
 
-fn is_wanted(found: Result<Vec<u8>, EditError>, wanted: Result<&[u8], EditError>) -> bool {
+pub fn is_wanted(found: Result<Vec<u8>, EditError>, wanted: Result<&[u8], EditError>) -> bool {
     match found {
         Ok(text) => match wanted {
             Ok(wanted) => text.as_slice() == wanted,

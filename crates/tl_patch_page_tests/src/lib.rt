@@ -8,4 +8,6 @@ mod elements;
 #[cfg(test)]
 mod pages;
 #[cfg(test)]
+mod raw_texts;
+#[cfg(test)]
 mod tags;

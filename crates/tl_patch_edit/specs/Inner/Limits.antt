@@ -42,12 +42,16 @@ abbrev pub AreKept : List Piece → List PlacedAsk → Type 0
 AreKept ps asks =
     All (λ (one : PlacedAsk). is_misread ps (asks_view asks) (ask_view one.ask) ≡ false) asks
 
+-- the token of this number begins at a place
+abbrev pub BeginsToken : List Token → ℕ → ℕ → Type 0
+BeginsToken tokens number place =
+    (token : Token) × (slice_get tokens number ≡ Some token) × (token.start ≡ place)
+
 -- a browser may read this ask as markup, and that tag is the one behind which it may
 abbrev pub IsMisreadBy : List Piece → List Token → List PlacedAsk → PlacedAsk → ℕ → Type 0
 IsMisreadBy ps tokens asks one place =
     (is_misread ps (asks_view asks) (ask_view one.ask) ≡ true)
-    × ((token : Token) × (slice_get tokens (cause_of ps (asks_view asks) (ask_view one.ask)) ≡ Some token)
-    × (token.start ≡ place))
+    × BeginsToken tokens (cause_of ps (asks_view asks) (ask_view one.ask)) place
 
 abbrev pub IsMisreadError : List Piece → List Token → List PlacedAsk → EditError → Type 0
 IsMisreadError ps tokens asks error.OutOfMemory = ⊤
