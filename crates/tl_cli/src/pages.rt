@@ -195,7 +195,7 @@ fn report_dropped(
     if leaves_out(print.text.as_bytes(), text) {
         pages.terminal.clear(rt);
         let _ = eprintln!(rt;
-            "tl: {file}: not all of it is printed: print and edit read by the grammar of tl, not as browsers do; set, unset, rename and their like change a page in its own bytes"
+            "tl: {file}: some of it is dropped or moved: print and edit read by the grammar of tl, not as browsers do; set, unset, rename and their like change a page in its own bytes"
         );
     }
     Ok(())

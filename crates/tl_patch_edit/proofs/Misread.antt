@@ -306,6 +306,10 @@ cause_inside page tokens limits asks ask h l m =
     let within : limits.raw_until ≤ length tokens = omega (arith, until, l.raw_until, count_pieces page tokens h) in
     either_inside (list_any is_markup_put ask.put) (list_any is_unsure_put ask.put) (is_raw_at tokens ask.from) limits.unsure ask.from limits.raw_until (length tokens) m (raw_inside tokens ask.from) within
 
+pub cause_within : (page : List ℕ) (tokens : List Token) (limits : Limits) (asks : List PlacedAsk) (one : PlacedAsk) (cause : ℕ) → AreTokensOf page tokens → AreLimits (pieces_in page) (asks_view asks) limits →
+    is_misread_in tokens limits (ask_view one.ask) ≡ true → cause ≡ cause_at limits.unsure (ask_view one.ask) → cause < length tokens
+cause_within page tokens limits asks one cause h l m c = subst (λ n. n < length tokens) (sym c) (cause_inside page tokens limits (asks_view asks) (ask_view one.ask) h l m)
+
 pub cause_same : (ps : List Piece) (asks : List (Splice Put)) (limits : Limits) (ask : Splice Put) → AreLimits ps asks limits → cause_at limits.unsure ask ≡ cause_of ps asks ask
 cause_same ps asks limits ask l = ap (λ n. cause_at n ask) l.unsure
 

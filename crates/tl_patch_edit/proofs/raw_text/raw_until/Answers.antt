@@ -14,12 +14,12 @@ loop-at-preserved c =
       | then-is_it w ↦
           ap (λ n. raw_until n (at + 1) (drop (at + 1) (pieces_in page))) w.until-is
           ∙ sym (raw_step page c.args.tokens.now at c.loop-at.until _ true c.requires c.loop-at-test.true
-          (λ p h. c.in_ok-is_it.ensures p (subst (λ (x : Part). IsPieceOf x p) (sym c.part_at.ensures) h) ∙ w.if-is_it))
+          (λ p h. c.in_ok-is_it.ensures p (subst (λ (x : Part). IsPieceOf x p) (sym c.part_at.ensures) h) ∙ w.if-is_it.true))
           ∙ c.loop-at.invariant
       | else-is_it w ↦
           ap (λ n. raw_until n (at + 1) (drop (at + 1) (pieces_in page))) w.until-is
           ∙ sym (raw_step page c.args.tokens.now at c.loop-at.until _ false c.requires c.loop-at-test.true
-          (λ p h. c.in_ok-is_it.ensures p (subst (λ (x : Part). IsPieceOf x p) (sym c.part_at.ensures) h) ∙ w.if-is_it))
+          (λ p h. c.in_ok-is_it.ensures p (subst (λ (x : Part). IsPieceOf x p) (sym c.part_at.ensures) h) ∙ w.if-is_it.false))
           ∙ c.loop-at.invariant
     ]
 

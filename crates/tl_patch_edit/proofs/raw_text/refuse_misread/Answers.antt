@@ -1,19 +1,28 @@
-use Rattle.std.proofs.Common.{◌≡◌, ◌<◌, ℕ, List, false, length, subst, sym, ◌∙◌}
+use Rattle.std.proofs.Common.{◌≡◌, false, get_or, subst, sym, ◌∙◌}
 use Rattle.std.specs.List.{All}
 use Rattle.std.proofs.lemmas.List.{take_all}
 use Rattle.std.proofs.lemmas.List.Elements.{All-more}
-use Rattle.tl_html_tokens.specs.declared.token.Token.{Token}
-use Rattle.tl_patch_edit.specs.Asks.{ask_view, asks_view}
+use Rattle.tl_html_tokens.specs.declared.mode.Mode.TheVariants as mode
+use Rattle.tl_html_tokens.specs.declared.stage.TokenKind.TheVariants as kind
+use Rattle.tl_patch_edit.specs.Asks.{ask_view}
 use Rattle.tl_patch_edit.specs.Inner.Limits.{is_misread_in}
 use Rattle.tl_patch_edit.specs.declared.ask.PlacedAsk.{PlacedAsk}
-use Rattle.tl_patch_edit.proofs.Misread.{are_kept, cause_inside, misread_by}
+use Rattle.tl_patch_edit.specs.declared.ask.Put.TheVariants as put
+use Rattle.tl_patch_edit.proofs.Misread.{are_kept, cause_within, misread_by}
 use Rattle.tl_patch_edit.proofs.raw_text.refuse_misread.Goals as goal
 
-pub begin_of-requires : goal.begin_of-requires
-begin_of-requires c =
-    let tokens : List Token = c.args.tokens.now in
-    subst (λ n. n < length tokens) (sym c.cause.ensures)
-    (cause_inside c.args.page.now tokens c.in_ok-limits.limits (asks_view c.args.asks.now) _ c.requires c.in_ok-limits.ensures (sym c.is_misread-is_misread.ensures ∙ c.if-is_misread.true))
+-- what the goals have where no ask stands
+abbrev nothing_asked : PlacedAsk
+nothing_asked = record {
+  start = record { number = 0; token = record { start = 0; end = 0; kind = kind.Text; mode = mode.Data } };
+  turn = record { depth = 0; rank = 0; at = 0 };
+  ask = record { from = 0; until = 0; put = put.Nothing };
+}
+
+pub begin_of-cause-requires : goal.begin_of-cause-requires
+begin_of-cause-requires c =
+    cause_within c.args.page.now c.args.tokens.now c.in_ok-limits.limits c.args.asks.now (get_or c.args.asks.now c.loop-at.at nothing_asked) c.cause.result c.requires c.in_ok-limits.ensures
+    (sym c.is_misread-is_misread.ensures ∙ c.if-is_misread.true) c.cause.ensures
 
 pub returns-then-is_misread-clause-error : goal.returns-then-is_misread-clause-error
 returns-then-is_misread-clause-error c =
