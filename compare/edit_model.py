@@ -310,7 +310,8 @@ def put(page, place, what):
         slash = "/" if page.tokens[token][0] == "end" else ""
         tail = re.sub(r"^</?[^\t\n\r\f />]*", "", page.text[begin:end])
         return [(page.tokens[token][0], text, *page.tokens[token][2:])], f"<{slash}{text}{tail}"
-    raw = page.raw_name(token)
+    # Where a page ends something is put as in markup, and read again.
+    raw = page.raw_name(token) if token < len(page.tokens) else None
     if kind == "markup":
         if raw:
             raise NotMeant
