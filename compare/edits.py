@@ -29,7 +29,7 @@ from tools.programs import gate_build
 from . import html_program, markup, misnested
 from .css import definition
 from .edit_model import NotMeant, Page, Unknown, asked_of, changed, misread, spliced
-from .edit_scripts import compared_scripts
+from .edit_scripts import FRONTS, compared_scripts
 from .edit_trees import compared_trees
 from .html_form import RAW
 from .html_tokenizer import lower
@@ -40,7 +40,7 @@ WORDS = ("set", "unset", "remove", "replace", "fill", "prepend", "append", "befo
 SELECTORS = (
     ["*", "*", "*", "body *", "a", "p", "li", "b", "td", "svg *", "div > *", "p + *", "[title]", "[class]", ":first-child", ":empty", "p, a"]
     + [":not(:root)", "table td", "x-y", "option", "br", "a[href]", "[id=x]", ".k", "#x", "li:nth-child(2n)", "title", "script", "z"]
-    + ["body", "html", "body > :last-child"]
+    + ["body", "html", "body > :last-child", "style", "script, style, xmp", "iframe, noframes", "div, b"]
 )
 KEYS = ["title", "class", "ID", "href", "onclick", "data-x", "a:b", "é", "x", "y"]
 VALUES = ["", "v", "a b", '"', "'", "&", "&amp;", "&copy", "<i>", "a>b", "\n", "é", "=", "`", "/", "&#10;", "&notit;"]
@@ -85,10 +85,19 @@ def is_read_so(page, written, tokens):
     return html5lib_tokens(page.text) != page.tokens or html5lib_tokens(written) == tokens
 
 
+def raw_page(chance):
+    """A page with a raw text, behind what may have a browser read it as markup."""
+    name, text = chance.choice(sorted(RAW)), chance.choice(["", "a", "&", "a<b", "</b>", "&amp;"])
+    raw = f"<{name}>{text}</{name}>"
+    return "".join([chance.choice(["", "<p>\n"]), chance.choice(FRONTS), chance.choice([raw, f"<div>{raw}</div>", f"<b>x</b>{raw}"])])
+
+
 def made_page(chance):
     """A page: tags in any order with odd pairs, and texts between them that are cut anywhere."""
     if chance.random() < 0.2:
         return html_program.tag_soup(chance)
+    if chance.random() < 0.15:
+        return raw_page(chance)
     if chance.random() < 0.2:
         return misnested.misnested(chance, misnested.POLICIES["all"].split())
     out = ["\ufeff"] if chance.random() < 0.03 else []

@@ -3,8 +3,12 @@
 use crate::edits::is_wanted;
 use tl_patch_edit::{Content, EditError, ElementPatch, PlacedPatch, patch_each};
 
-const BROKEN: Content<'static> = Content::Text { text: b"</noscript><img src=x>" };
+const BROKEN: Content<'static> = Content::Text {
+    text: b"</noscript><img src=x>",
+};
+
 const AND: Content<'static> = Content::Text { text: b"&" };
+
 const PLAIN: Content<'static> = Content::Text { text: b"a>b" };
 
 // Patches of a page, and what comes of it.
