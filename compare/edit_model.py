@@ -160,9 +160,9 @@ class Page:
         return token < len(self.tokens) and self.raw_name(token) in RAW.difference(RCDATA)
 
     def has_raw_markup(self, token):
-        """Whether a text that isn't escaped, and has `&` or `<`, stands behind a token."""
+        """Whether a raw text that has `&` or `<`, or a title, stands behind a token."""
         later = range(token + 1, len(self.tokens))
-        return any(self.tokens[at][0] == "text" and has_markup(self.tokens[at][1]) and self.is_unescaped(at) for at in later)
+        return any(self.tokens[at][0] == "text" and has_markup(self.tokens[at][1]) and self.raw_name(at) for at in later)
 
     def found(self, selector):
         """The tokens from which the tags come where a selector holds, in order."""

@@ -497,10 +497,10 @@ Nor does an element get such a name before a raw text with one of them.
 
   $ printf '<p>\n<div class=d><style>p{content:"<img src=x onerror=f()>"}</style></div>' >styled
   $ tl rename .d svg styled
-  tl: styled: by that name for the element at line 2 a browser may read a style or script in it or behind it as markup, as that has a '<' or '&' (err)
+  tl: styled: by that name for the element at line 2 a browser may read a style, script or title in it or behind it as markup, as that has a '<' or '&' (err)
   [2]
   $ tl rename -i p noscript styled
-  tl: styled: by that name for the element at line 1 a browser may read a style or script in it or behind it as markup, as that has a '<' or '&' (err)
+  tl: styled: by that name for the element at line 1 a browser may read a style, script or title in it or behind it as markup, as that has a '<' or '&' (err)
   [2]
   $ tl rename .d section styled
   <p>

@@ -50,7 +50,7 @@ impl fmt::Display for Misread<'_> {
         if self.place == self.cause {
             return write!(
                 f,
-                "by that name for the element at line {line} a browser may read a style or script in it or behind it as markup, as that has a '<' or '&'"
+                "by that name for the element at line {line} a browser may read a style, script or title in it or behind it as markup, as that has a '<' or '&'"
             );
         }
         let page = self.page;

@@ -19,7 +19,7 @@ use Rattle.tl_html_tokens.specs.declared.stage.TokenKind.{TokenKind}
 use Rattle.tl_html_tokens.specs.declared.stage.TokenKind.TheVariants as kind
 use Rattle.tl_html_tokens.specs.declared.token.Token.{Token}
 use Rattle.tl_patch_spec.specs.Patches.{Patch, Put, start_name, with_end}
-use Rattle.tl_patch_spec.specs.RawTexts.{begins_unsure, cause_at, cause_of, is_markup, is_markup_put, is_markup_token, is_misread, is_misread_at, is_raw_markup, is_raw_place, is_unescaped, is_unsure_name, is_unsure_put, raw_until, unsure_at, unsure_from, unsure_with}
+use Rattle.tl_patch_spec.specs.RawTexts.{begins_unsure, cause_at, cause_of, is_markup, is_markup_put, is_markup_token, is_misread, is_misread_at, is_raw, is_raw_markup, is_raw_place, is_unescaped, is_unsure_name, is_unsure_put, raw_until, unsure_at, unsure_from, unsure_with}
 use Rattle.tl_patch_spec.specs.Splices.{Splice}
 use Rattle.tl_patch_spec.specs.Together.{ask_of}
 use Rattle.tl_patch_edit.specs.Asks.{ask_view, asks_view}
@@ -168,15 +168,15 @@ no_markup kind.Doctype (Character b ∷ ts) n h = absurd h
 no_markup kind.Doctype (CommentToken m ∷ ts) n h = absurd h
 no_markup kind.Nothing ts n h = ap (list_any is_markup_token) h
 
-not_raw_kind : (k : TokenKind) (s t : State) (ts : List HtmlToken) → s ≡ t → (is_text_kind k && is_unescaped t) ≡ false → IsKind k ts → (is_unescaped s && list_any is_markup_token ts) ≡ false
-not_raw_kind kind.Text s t ts e n h = ap (λ (v : Bool). v && list_any is_markup_token ts) (ap is_unescaped e ∙ n)
-not_raw_kind kind.StartTag s t ts e n h = ap (λ (v : Bool). is_unescaped s && v) (no_markup kind.StartTag ts refl h) ∙ never (is_unescaped s)
-not_raw_kind kind.EndTag s t ts e n h = ap (λ (v : Bool). is_unescaped s && v) (no_markup kind.EndTag ts refl h) ∙ never (is_unescaped s)
-not_raw_kind kind.Comment s t ts e n h = ap (λ (v : Bool). is_unescaped s && v) (no_markup kind.Comment ts refl h) ∙ never (is_unescaped s)
-not_raw_kind kind.Doctype s t ts e n h = ap (λ (v : Bool). is_unescaped s && v) (no_markup kind.Doctype ts refl h) ∙ never (is_unescaped s)
-not_raw_kind kind.Nothing s t ts e n h = ap (λ (v : Bool). is_unescaped s && v) (no_markup kind.Nothing ts refl h) ∙ never (is_unescaped s)
+not_raw_kind : (k : TokenKind) (s t : State) (ts : List HtmlToken) → s ≡ t → (is_text_kind k && is_raw t) ≡ false → IsKind k ts → (is_raw s && list_any is_markup_token ts) ≡ false
+not_raw_kind kind.Text s t ts e n h = ap (λ (v : Bool). v && list_any is_markup_token ts) (ap is_raw e ∙ n)
+not_raw_kind kind.StartTag s t ts e n h = ap (λ (v : Bool). is_raw s && v) (no_markup kind.StartTag ts refl h) ∙ never (is_raw s)
+not_raw_kind kind.EndTag s t ts e n h = ap (λ (v : Bool). is_raw s && v) (no_markup kind.EndTag ts refl h) ∙ never (is_raw s)
+not_raw_kind kind.Comment s t ts e n h = ap (λ (v : Bool). is_raw s && v) (no_markup kind.Comment ts refl h) ∙ never (is_raw s)
+not_raw_kind kind.Doctype s t ts e n h = ap (λ (v : Bool). is_raw s && v) (no_markup kind.Doctype ts refl h) ∙ never (is_raw s)
+not_raw_kind kind.Nothing s t ts e n h = ap (λ (v : Bool). is_raw s && v) (no_markup kind.Nothing ts refl h) ∙ never (is_raw s)
 
-pub not_raw : (x : Part) (p : Piece) → (is_text_kind x.kind && is_unescaped (state_of x.mode)) ≡ false → IsPieceOf x p → is_raw_markup p ≡ false
+pub not_raw : (x : Part) (p : Piece) → (is_text_kind x.kind && is_raw (state_of x.mode)) ≡ false → IsPieceOf x p → is_raw_markup p ≡ false
 not_raw x p n i = not_raw_kind x.kind p.rest (state_of x.mode) p.tokens i.rest n i.kind
 
 raw_kind : (k : TokenKind) (v : Bool) → (is_text_kind k && v) ≡ true → (k ≡ kind.Text) × (v ≡ true)
@@ -187,11 +187,11 @@ raw_kind kind.Comment v h = cc
 raw_kind kind.Doctype v h = cc
 raw_kind kind.Nothing v h = cc
 
-pub raw_text : (x : Part) (p : Piece) → (is_text_kind x.kind && is_unescaped (state_of x.mode)) ≡ true → IsPieceOf x p → is_raw_markup p ≡ is_markup (characters_of x.mode x.bytes)
+pub raw_text : (x : Part) (p : Piece) → (is_text_kind x.kind && is_raw (state_of x.mode)) ≡ true → IsPieceOf x p → is_raw_markup p ≡ is_markup (characters_of x.mode x.bytes)
 raw_text x p n i =
-    let k = raw_kind x.kind (is_unescaped (state_of x.mode)) n in
+    let k = raw_kind x.kind (is_raw (state_of x.mode)) n in
     let said : p.tokens ≡ map Character (characters_of x.mode x.bytes) = subst (λ (l : TokenKind). Says l x.mode x.bytes p.tokens) k.0 i.says in
-    ap₂ (λ (v w : Bool). v && w) (ap is_unescaped i.rest ∙ k.1) (ap (list_any is_markup_token) said ∙ said_markup (characters_of x.mode x.bytes))
+    ap₂ (λ (v w : Bool). v && w) (ap is_raw i.rest ∙ k.1) (ap (list_any is_markup_token) said ∙ said_markup (characters_of x.mode x.bytes))
 
 -- the tokens of a page, one by one
 

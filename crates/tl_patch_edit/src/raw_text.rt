@@ -8,7 +8,7 @@ ghost use Rattle.tl_html_tokens.specs.Modes.{state_of};
 ghost use Rattle.tl_html_tokens.specs.Tokens.{AreTokensOf};
 ghost use Rattle.tl_html_tokens.specs.Whole.{IsWhole};
 ghost use Rattle.tl_html_tokens.specs.declared.mode.Mode.{Mode};
-ghost use Rattle.tl_patch_spec.specs.RawTexts.{begins_unsure, cause_at, is_markup, is_markup_put, is_raw_markup, is_unescaped, is_unsure_name, is_unsure_put, raw_until, unsure_at, unsure_from, unsure_with};
+ghost use Rattle.tl_patch_spec.specs.RawTexts.{begins_unsure, cause_at, is_markup, is_markup_put, is_raw, is_raw_markup, is_unescaped, is_unsure_name, is_unsure_put, raw_until, unsure_at, unsure_from, unsure_with};
 ghost use Rattle.tl_patch_edit.specs.Asks.{ask_view, asks_view, puts_view, text_of};
 ghost use Rattle.tl_patch_edit.specs.Errors.{pieces_in};
 ghost use Rattle.tl_patch_edit.specs.Inner.Limits.{AreKept, AreLimits, BeginsToken, IsMisreadError, is_misread_in, is_raw_at, is_start_kind};
@@ -131,11 +131,18 @@ fn is_markup(text: &[u8]) -> bool
     text.iter().any(|byte| *byte == b'&' || *byte == b'<')
 }
 
-// Whether a part is a raw text.
-fn is_raw_text(part: Part<'_>) -> bool
-    ensures { result ≡ (is_text_kind part.entry.kind && is_unescaped (state_of part.entry.mode)) }
+// Whether a text that its own end tag alone ends is read in this mode.
+fn is_raw(mode: Mode) -> bool
+    ensures { result ≡ is_raw (state_of mode) }
 {
-    is_text(part.kind) && is_unescaped(part.mode)
+    !matches!(mode, Mode::Data)
+}
+
+// Whether a part is a raw text, a title too.
+fn is_raw_text(part: Part<'_>) -> bool
+    ensures { result ≡ (is_text_kind part.entry.kind && is_raw (state_of part.entry.mode)) }
+{
+    is_text(part.kind) && is_raw(part.mode)
 }
 
 // Whether a part is a raw text that may be read as markup.

@@ -48,7 +48,7 @@ static ROWS: [Row; 36] = [
     (&[PlacedPatch { place: 0, patch: ElementPatch::Rename { name: b"template" } }], b"<div><noembed>a<</noembed></div>", Err(EditError::Misread(0, 0))),
     (&[PlacedPatch { place: 0, patch: ElementPatch::Rename { name: b"frameset" } }], b"<div><noframes>a<</noframes></div>", Err(EditError::Misread(0, 0))),
     (&[PlacedPatch { place: 0, patch: ElementPatch::Rename { name: b"select" } }], b"<div><style>a</style><p>&lt;</div>", Ok(b"<select><style>a</style><p>&lt;</select>")),
-    (&[PlacedPatch { place: 0, patch: ElementPatch::Rename { name: b"select" } }], b"<div><title>&lt;</title></div>", Ok(b"<select><title>&lt;</title></select>")),
+    (&[PlacedPatch { place: 0, patch: ElementPatch::Rename { name: b"select" } }], b"<div><title><i></title></div>", Err(EditError::Misread(0, 0))),
     (&[PlacedPatch { place: 16, patch: ElementPatch::Rename { name: b"svg" } }], b"<style>&</style><b></b>", Ok(b"<style>&</style><svg></svg>")),
     (&[PlacedPatch { place: 0, patch: ElementPatch::Rename { name: b"p" } }], b"<svg><style>&</style></svg>", Ok(b"<p><style>&</style></p>")),
     (&[PlacedPatch { place: 5, patch: ElementPatch::Rename { name: b"svg" } }], b"<svg><g><style>&</style></g></svg>", Err(EditError::Misread(5, 5))),

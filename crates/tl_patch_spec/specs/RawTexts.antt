@@ -58,9 +58,15 @@ abbrev pub is_markup_token : HtmlToken → Bool
 is_markup_token (Character b) = is_markup_byte b
 is_markup_token _ = false
 
--- a raw text that has one of them
+-- a text that its own end tag alone ends is read in this state, a title too
+abbrev pub is_raw : State → Bool
+is_raw (raw r) = true
+is_raw plaintext = true
+is_raw _ = false
+
+-- such a text that has one of them
 abbrev pub is_raw_markup : Piece → Bool
-is_raw_markup p = is_unescaped p.rest && list_any is_markup_token p.tokens
+is_raw_markup p = is_raw p.rest && list_any is_markup_token p.tokens
 
 -- the number behind the last such raw text of pieces from a number on; `last` where there is none
 abbrev pub raw_until : ℕ → ℕ → List Piece → ℕ

@@ -36,8 +36,8 @@ pub fn tags_renamed()
         ≡ Some false }
     ensures neither { misread_in "<div><style>a</style></div>"
         ((0, RenameElement (codes "svg")) ∷ []) ≡ Some false }
-    ensures escaped { misread_in "<div><title>&lt;</title></div>"
-        ((0, RenameElement (codes "math")) ∷ []) ≡ Some false }
+    ensures title { misread_in "<div><title><i></title></div>"
+        ((0, RenameElement (codes "math")) ∷ []) ≡ Some true }
     ensures other { misread_in "<div><style><</style></div>" ((0, RenameElement (codes "p")) ∷ [])
         ≡ Some false }
     ensures together { misread_in "<div><style>a</style></div>"
