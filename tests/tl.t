@@ -1006,5 +1006,5 @@ A selector that finds nothing, and names a tag that browsers put in.
   $ tl text --in 'body' rows
   tl: nothing is found: body is found only where a page has its tag, as html, head, body, tbody and colgroup are not put in (err)
   [1]
-  $ printf '<tbody><tr><td>b' | tl select -t 'tbody > tr' rows -
+  $ printf '<table><tbody><tr><td>b' | tl select -t 'tbody > tr' rows -
   -:b
