@@ -11,6 +11,8 @@ from .css import definition
 from .html_form import IMPLIED, PARTS, RAW, VOID, Balance, characters
 from .html_tokenizer import RCDATA, Tokenizer
 
+# Behind the start tags of these a browser may read a raw text as markup.
+UNSURE = {"svg", "math", "frameset", "template", "noscript", "select"}
 MAY_LACK_END_TAG = IMPLIED | PARTS | {"html", "head", "body"}
 
 
@@ -149,17 +151,18 @@ class Page:
         self.nodes.append(node)
         self.sources.append(source)
 
-    def raw_in_foreign(self):
-        """The tokens of the elements in `svg` and `math` whose names begin a raw text that can't be escaped."""
-        inside, tokens = set(), set()
-        for number, node in enumerate(self.nodes):
-            if node[0] != "tag":
-                continue
-            if number in inside or node[1] in (b"svg", b"math"):
-                inside.update(node[3])
-            if number in inside and node[1].decode() in RAW.difference(RCDATA):
-                tokens.add(self.sources[number])
-        return tokens
+    def unsure(self):
+        """The first start tag behind which a browser may read a raw text as markup."""
+        return next((at for at, token in enumerate(self.tokens) if token[0] == "start" and token[1] in UNSURE), len(self.tokens))
+
+    def is_unescaped(self, token):
+        """Whether a token stands where no text is escaped."""
+        return token < len(self.tokens) and self.raw_name(token) in RAW.difference(RCDATA)
+
+    def has_raw_markup(self, token):
+        """Whether a raw text that has `&` or `<`, or a title, stands behind a token."""
+        later = range(token + 1, len(self.tokens))
+        return any(self.tokens[at][0] == "text" and has_markup(self.tokens[at][1]) and self.raw_name(at) for at in later)
 
     def found(self, selector):
         """The tokens from which the tags come where a selector holds, in order."""
@@ -184,6 +187,26 @@ class Page:
             token -= 1
         before = self.tokens[token - 1] if token else ("", "")
         return before[1] if before[0] == "start" and before[1] in RAW else None
+
+
+def has_markup(text):
+    return "&" in text or "<" in text
+
+
+def misread(page, found, word, content):
+    """The first element of which a browser may read what is asked for as markup, and the tag behind which it may, by their tokens; None
+    where there is none. In order of the places where something is put."""
+    asked = []
+    for at in gone_without(page, found, word, content):
+        asked += [(begin, until, -at, contents) for begin, until, contents in splices(page, at, word, content)]
+    for begin, _, at, contents in sorted(asked):
+        token = sum(begin)
+        for kind, text in contents:
+            if kind == "text" and has_markup(text) and page.is_unescaped(token) and page.unsure() < token:
+                return -at, page.unsure()
+            if kind == "renamed" and text in UNSURE and page.has_raw_markup(token):
+                return -at, token
+    return None
 
 
 def changed(token, key, value):
@@ -258,17 +281,22 @@ def renamed(page, at, name, kind, end):
     return [*own, (before(end), before(end), (("end", name),))] if kind == "implied" else own
 
 
+def gone_without(page, found, word, content):
+    """The elements that don't begin in what another one of them takes away."""
+    covered = before(0)
+    for at in sorted(set(found)):
+        if before(at) >= covered:
+            yield at
+            if word in ("remove", "replace", "fill"):
+                covered = splices(page, at, word, content)[0][1]
+
+
 def asked_of(page, found, word, content):
     """The splices of several elements, in order. One that begins in what another takes away goes with it; of what is put at one place that
     of the inner element comes first."""
-    asked, covered = [], before(0)
-    for at in sorted(set(found)):
-        if before(at) < covered:
-            continue
-        own = splices(page, at, word, content)
-        asked += [(begin, until, -at, contents) for begin, until, contents in own]
-        if word in ("remove", "replace", "fill"):
-            covered = own[0][1]
+    asked = []
+    for at in gone_without(page, found, word, content):
+        asked += [(begin, until, -at, contents) for begin, until, contents in splices(page, at, word, content)]
     return [(begin, until, contents) for begin, until, _, contents in sorted(asked)]
 
 
@@ -282,7 +310,8 @@ def put(page, place, what):
         slash = "/" if page.tokens[token][0] == "end" else ""
         tail = re.sub(r"^</?[^\t\n\r\f />]*", "", page.text[begin:end])
         return [(page.tokens[token][0], text, *page.tokens[token][2:])], f"<{slash}{text}{tail}"
-    raw = page.raw_name(token)
+    # Where a page ends something is put as in markup, and read again.
+    raw = page.raw_name(token) if token < len(page.tokens) else None
     if kind == "markup":
         if raw:
             raise NotMeant

@@ -1,17 +1,21 @@
 """Compares what the words of `tl` that edit a page in its own bytes make of made-up pages, most of them broken, with a plain reader.
 
-    ./x compare edits [--program FILE] [--edits N] [--seed N] [--words set,remove] [FOLDER ..]
+    ./x compare edits [--program FILE] [--edits N] [--seed N] [--words set,remove] [--chromium] [FOLDER ..]
 
 Of each page the plain reader (edit_model.py) says which tags a selector finds, where they and their elements stand, and what comes of
 the page. Each byte outside of these places has to be as it was; html5lib's tokenizer has to read the tokens that are asked for, where
 it reads the page itself as the plain reader does. What is refused is counted by what is said; of keys that are set or unset the plain
-reader knows it: a tag is found that no start tag begins (`</p>` alone); and of texts that are put into a `style` in an `svg` and its like.
+reader knows it: a tag is found that no start tag begins (`</p>` alone); and of texts that are put into a `style` behind an `svg` and its
+like, and elements that get such a name before a `style`.
 
 With folders the pages in them are edited too, and html5lib's trees compared: with a key set or unset at all tags of a name, or with
 such elements gone, it has to be the tree of the page with just that done.
 
+With --chromium texts that hold a script are put into each place of pages of each kind, and elements renamed around such texts: none may
+run in Chromium that didn't before (edit_scripts.py).
+
 The program is the `tl` that the gate built unless another is named. Ends with 1 where something differs. Of a Debian: apt-get install
-python3-html5lib.
+python3-html5lib, and chromium for --chromium.
 """
 import os
 import random
@@ -24,7 +28,8 @@ from tools.programs import gate_build
 
 from . import html_program, markup, misnested
 from .css import definition
-from .edit_model import NotMeant, Page, Unknown, asked_of, changed, spliced
+from .edit_model import NotMeant, Page, Unknown, asked_of, changed, misread, spliced
+from .edit_scripts import FRONTS, compared_scripts
 from .edit_trees import compared_trees
 from .html_form import RAW
 from .html_tokenizer import lower
@@ -35,11 +40,11 @@ WORDS = ("set", "unset", "remove", "replace", "fill", "prepend", "append", "befo
 SELECTORS = (
     ["*", "*", "*", "body *", "a", "p", "li", "b", "td", "svg *", "div > *", "p + *", "[title]", "[class]", ":first-child", ":empty", "p, a"]
     + [":not(:root)", "table td", "x-y", "option", "br", "a[href]", "[id=x]", ".k", "#x", "li:nth-child(2n)", "title", "script", "z"]
-    + ["body", "html", "body > :last-child"]
+    + ["body", "html", "body > :last-child", "style", "script, style, xmp", "iframe, noframes", "div, b"]
 )
 KEYS = ["title", "class", "ID", "href", "onclick", "data-x", "a:b", "é", "x", "y"]
 VALUES = ["", "v", "a b", '"', "'", "&", "&amp;", "&copy", "<i>", "a>b", "\n", "é", "=", "`", "/", "&#10;", "&notit;"]
-NAMES = ["div", "b", "x-y", "h1", "li", "td", "br", "title"]
+NAMES = ["div", "b", "x-y", "h1", "li", "td", "br", "title", "svg", "noscript", "select", "template"]
 MARKUP = ["<i>x</i>", "<hr>", "<!--c-->", "a&lt;b", "</b>", "<li>", "&am", "<", "<i", "<!--", "<script>", "é<br/>", "</>"]
 PAIRS = (
     ["", "", "", " ", " title=v", ' title="a b"', " TITLE='x'", " class=k", " class", ' class = "k"', " id=x ID='y'", " href=/x/", "/", " /"]
@@ -80,10 +85,19 @@ def is_read_so(page, written, tokens):
     return html5lib_tokens(page.text) != page.tokens or html5lib_tokens(written) == tokens
 
 
+def raw_page(chance):
+    """A page with a raw text, behind what may have a browser read it as markup."""
+    name, text = chance.choice(sorted(RAW)), chance.choice(["", "a", "&", "a<b", "</b>", "&amp;"])
+    raw = f"<{name}>{text}</{name}>"
+    return "".join([chance.choice(["", "<p>\n"]), chance.choice(FRONTS), chance.choice([raw, f"<div>{raw}</div>", f"<b>x</b>{raw}"])])
+
+
 def made_page(chance):
     """A page: tags in any order with odd pairs, and texts between them that are cut anywhere."""
     if chance.random() < 0.2:
         return html_program.tag_soup(chance)
+    if chance.random() < 0.15:
+        return raw_page(chance)
     if chance.random() < 0.2:
         return misnested.misnested(chance, misnested.POLICIES["all"].split())
     out = ["\ufeff"] if chance.random() < 0.03 else []
@@ -122,14 +136,21 @@ class Edit:
             given = [] if self.word in ("remove", "unwrap") else [self.content[1]]
         return [self.word, "-i", *options, "--", self.selector, *given]
 
-    def foreign_place(self, page, found):
-        """The byte of the first element found into which the text can't be put, as it has `&` or `<` and a browser would read markup there;
-        None where there is none."""
-        if self.word not in ("fill", "prepend", "append") or self.content[0] != "text" or not {"&", "<"}.intersection(self.content[1]):
+    def misread_lines(self, page, found):
+        """What is said where a browser may read as markup what is asked for: an expression for it; None where it is done."""
+        if self.is_tag or not all(page.tokens[it][0] == "start" for it in found):
             return None
-        raw = page.raw_in_foreign()
-        bytes_before = (len(page.text[: page.places[it][0]].encode()) for it in found if it in raw)
-        return next(bytes_before, None)
+        try:
+            asked_of(page, found, self.word, self.content)
+            it = misread(page, found, self.word, self.content)
+        except (NotMeant, Unknown):
+            return None
+        if it is None:
+            return None
+        at, cause = (page.text.count("\n", 0, page.places[token][0]) + 1 for token in it)
+        if self.word == "rename":
+            return f"by that name for the element at line {at} a browser may read .*"
+        return f"a browser may read the text as markup in the element at line {at}, as {page.tokens[it[1]][1]} begins before it, at line {cause}: .*"
 
     def is_refused(self, page, found, why):
         """Whether that may be said of a page. That it would be read otherwise, and which content a raw text can't hold isn't looked
@@ -193,11 +214,10 @@ def judged(edit, text, written, why, tally):
     is_tagged = all(page.tokens[it][0] == "start" for it in found)
     tally["edits"] += 1
     tally["edits of what is found"] += bool(found)
-    foreign = edit.foreign_place(page, found)
-    if foreign is not None:
-        tally[f"{edit.word}: of a raw text in svg or math"] += 1
-        wanted = f"what is put can't stand there, for the element at byte {foreign}"
-        return None if written == text and why == wanted else f"not refused at byte {foreign}: {why}"
+    wanted = edit.misread_lines(page, found)
+    if wanted is not None:
+        tally[f"{edit.word}: that a browser may read as markup"] += 1
+        return None if written == text and re.fullmatch(wanted, why or "") else f"not refused by {wanted}: {why}"
     if why:
         tally[f"{edit.word}: refused: " + re.sub(r"\d+", "N", why)] += 1
         return None if written == text and edit.is_refused(page, found, why) else f"refused: {why}"
@@ -229,6 +249,7 @@ def main(parser, words):
     parser.add_argument("--program", metavar="FILE")
     parser.add_argument("--edits", type=int, default=10000, metavar="N")
     parser.add_argument("--words", default=",".join(WORDS))
+    parser.add_argument("--chromium", action="store_true")
     parser.add_argument("--limit", type=int, default=200, metavar="N", help="so many pages of folders at most")
     parser.add_argument("--seed", type=int, default=1, metavar="N")
     given = parser.parse_args(words)
@@ -238,6 +259,8 @@ def main(parser, words):
         while tally["edits"] < given.edits:
             pages = [made_page(chance) for _ in range(BATCH)]
             differ += compared(program, Edit(chance, given.words.split(",")), pages, room, tally)
+        if given.chromium:
+            differ += compared_scripts(program, room, tally)
         differ += compared_trees(program, given.folders, given.words.split(","), given.limit, room, tally)
     for what, count in sorted(tally.items()):
         print(f"{count} {what}")

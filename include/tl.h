@@ -307,6 +307,7 @@ static inline const char *tl_cause_text(uint8_t cause) {
     case 20: return "this change and that of another element cut across each other";
     case 21: return "nothing can stand behind the end of the page";
     case 22: return "what is put can't stand there";
+    case 23: return "a browser may read a raw text as markup there";
     default: return "no cause";
     }
 }
@@ -381,8 +382,10 @@ enum {
                             a body or html, after which nothing can stand */
     TL_ACROSS = 20,      /* its change and that of another element cut across each other */
     TL_END_OF_PAGE = 21, /* what is put would stand behind the end of the page; none does */
-    TL_NO_CONTENT = 22   /* what is put can't stand there: markup in a raw text, a text that would be read otherwise, or one
-                            with `&` or `<` in a `style`, `script` and the like in `svg` or `math`, where browsers read markup */
+    TL_NO_CONTENT = 22,  /* what is put can't stand there: markup in a raw text, or a text that would be read otherwise */
+    TL_MISREAD = 23      /* a browser may read as markup a text with `&` or `<` in a `style`, `script` and the like, as it stands
+                            behind a `svg`, `math`, `frameset`, `template`, `noscript` or `select`: such a text would be put
+                            there, or the element would get such a name before such a text */
 };
 
 /* The page with each element changed where a selector of CSS holds, and with each other byte as it was. It is read as browsers read it;

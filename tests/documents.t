@@ -17,8 +17,8 @@ README.md, Try it:
 
   $ printf '<nav><a href="/x">y</a></nav>' | tl select -a href 'nav a'
   /x
-  $ printf '<a>y</a>' | tl edit 'set 0 href /x y' 'name 0 b'
-  <b href="/x y">y</b> (no-eol)
+  $ printf '<A HREF=/x>y</A>' | tl set a href /z
+  <A HREF="/z">y</A> (no-eol)
 
 docs/COMMANDS.md, `tl`:
 

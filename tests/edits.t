@@ -444,29 +444,81 @@ What is refused.
   tl: -: the element at byte 8 has no start tag (err)
   [2]
 
-A browser reads what is in a `style` or `script` in `svg` and `math` as markup: no text with `&` or `<` is put there.
+A browser may read a `style` or `script` behind an `svg` and its like as markup: no text with `&` or `<` is put there.
 
-  $ printf '<svg><style>a</style></svg><style>b</style>' >drawing
+  $ printf '<svg>\n<style>a</style></svg><style>b</style>' >drawing
   $ tl fill 'svg style' 'a<b' drawing
-  tl: drawing: what is put can't stand there, for the element at byte 5 (err)
+  tl: drawing: a browser may read the text as markup in the element at line 2, as svg begins before it, at line 1: put no '<' and '&' there, or move it before that (err)
   [2]
-  $ tl fill style 'a&b' drawing
-  tl: drawing: what is put can't stand there, for the element at byte 5 (err)
+  $ tl fill -i style 'a&b' drawing
+  tl: drawing: a browser may read the text as markup in the element at line 2, as svg begins before it, at line 1: put no '<' and '&' there, or move it before that (err)
   [2]
-  $ tl fill 'svg ~ style' 'a<b' drawing
-  <svg><style>a</style></svg><style>a<b</style> (no-eol)
+  $ tl append 'svg ~ style' 'a<b' drawing
+  tl: drawing: a browser may read the text as markup in the element at line 2, as svg begins before it, at line 1: put no '<' and '&' there, or move it before that (err)
+  [2]
   $ tl fill 'svg style' 'a>b' drawing
-  <svg><style>a>b</style></svg><style>b</style> (no-eol)
+  <svg>
+  <style>a>b</style></svg><style>b</style> (no-eol)
   $ tl fill --html 'svg style' '<g/>' drawing
-  tl: drawing: what is put can't stand there, for the element at byte 5 (err)
+  tl: drawing: what is put can't stand there, for the element at byte 6 (err)
   [2]
   $ tl before 'svg style' 'a<b' drawing
-  <svg>a&lt;b<style>a</style></svg><style>b</style> (no-eol)
-  $ printf '<math>\n<SCRIPT>a</SCRIPT></math>' | tl prepend 'math script' '&'
-  tl: -: what is put can't stand there, for the element at byte 7 (err)
+  <svg>
+  a&lt;b<style>a</style></svg><style>b</style> (no-eol)
+  $ printf '<MATH>\n\n<SCRIPT>a</SCRIPT></MATH>' | tl prepend 'math script' '&'
+  tl: -: a browser may read the text as markup in the element at line 3, as math begins before it, at line 1: put no '<' and '&' there, or move it before that (err)
+  [2]
+  $ printf '<svg><p><xmp>a</xmp>' | tl append xmp '<'
+  tl: -: a browser may read the text as markup in the element at line 1, as svg begins before it, at line 1: put no '<' and '&' there, or move it before that (err)
   [2]
   $ printf '<svg><p><xmp>a' | tl append xmp '<'
-  tl: -: what is put can't stand there, for the element at byte 8 (err)
+  tl: -: the element at byte 8 can't be changed so (err)
   [2]
   $ printf '<svg><title>a</title></svg>' | tl fill title '<'
   <svg><title>&lt;</title></svg> (no-eol)
+  $ printf '<style>a</style><svg></svg>' | tl fill style '<'
+  <style><</style><svg></svg> (no-eol)
+  $ printf '</svg><style>a</style>' | tl fill style '<'
+  </svg><style><</style> (no-eol)
+  $ printf '<body><noscript><style></style></noscript>' | tl fill style 'a</noscript><img src=x onerror=alert(1)>'
+  tl: -: a browser may read the text as markup in the element at line 1, as noscript begins before it, at line 1: put no '<' and '&' there, or move it before that (err)
+  [2]
+  $ for front in '<frameset></frameset>' '<template><col>' '<select>' '<svg><b><math></svg>' '<svg></p><math></svg>' '<noscript></noscript>'; do
+  >   printf '%s<style>a</style>' "$front" | tl fill style '<' 2>&1 | grep -o 'as [a-z]* begins'
+  > done
+  as frameset begins
+  as template begins
+  as select begins
+  as svg begins
+  as svg begins
+  as noscript begins
+
+Nor does an element get such a name before a raw text with one of them.
+
+  $ printf '<p>\n<div class=d><style>p{content:"<img src=x onerror=f()>"}</style></div>' >styled
+  $ tl rename .d svg styled
+  tl: styled: by that name for the element at line 2 a browser may read a style, script or title in it or behind it as markup, as that has a '<' or '&' (err)
+  [2]
+  $ tl rename -i p noscript styled
+  tl: styled: by that name for the element at line 1 a browser may read a style, script or title in it or behind it as markup, as that has a '<' or '&' (err)
+  [2]
+  $ tl rename .d section styled
+  <p>
+  <section class=d><style>p{content:"<img src=x onerror=f()>"}</style></section> (no-eol)
+  $ printf '<div><style>a</style>&lt;</div>' | tl rename div template
+  <template><style>a</style>&lt;</template> (no-eol)
+  $ printf '<script>1 < 2</script><b>a</b>' | tl rename b svg
+  <script>1 < 2</script><svg>a</svg> (no-eol)
+
+A selector that finds nothing and names a tag that browsers put in.
+
+  $ printf '<table><tr><td>a</table>' >rows
+  $ tl set 'table > tbody > tr' class k rows
+  <table><tr><td>a</table> (no-eol)
+  tl: nothing is found: tbody is found only where a page has its tag, as html, head, body, tbody and colgroup are not put in (err)
+  [1]
+  $ tl remove -i 'body *' rows rows
+  tl: nothing is found: body is found only where a page has its tag, as html, head, body, tbody and colgroup are not put in (err)
+  [1]
+  $ tl set 'table > tr' class k rows
+  <table><tr class="k"><td>a</table> (no-eol)

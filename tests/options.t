@@ -37,9 +37,12 @@ No names of files, of each command that names them.
   0
   0
   0
+  tl: one: some of it is dropped or moved: print and edit read by the grammar of tl, not as browsers do; set, unset, rename and their like change a page in its own bytes (err)
   [1]
   $ tl edit --no-name 'name 0 b' -- one one | grep -c :
   0
+  tl: one: some of it is dropped or moved: print and edit read by the grammar of tl, not as browsers do; set, unset, rename and their like change a page in its own bytes (err)
+  tl: one: some of it is dropped or moved: print and edit read by the grammar of tl, not as browsers do; set, unset, rename and their like change a page in its own bytes (err)
   [1]
 
 Values and texts of nodes as the form has them, and by the grammar of `tl`.

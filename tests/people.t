@@ -387,6 +387,7 @@ Encodings.
   [2]
   $ tl print meta.html
   <meta charset="ISO-8859-1"><p>café €</p> (no-eol)
+  tl: meta.html: some of it is dropped or moved: print and edit read by the grammar of tl, not as browsers do; set, unset, rename and their like change a page in its own bytes (err)
   $ tl print --encoding latin1 latin1.html
   <p>café €</p> (no-eol)
   $ tl sanitize meta.html

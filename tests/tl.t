@@ -979,3 +979,32 @@ A page longer than the memory, and pages that are long or deep.
   x
   $ tl select -c b deep
   4000
+
+What a print leaves out or moves is said.
+
+  $ printf '<a href=/x>y</a>' | tl print
+  x>y (no-eol)
+  tl: -: some of it is dropped or moved: print and edit read by the grammar of tl, not as browsers do; set, unset, rename and their like change a page in its own bytes (err)
+  $ printf '<!doctype html><p>a' | tl edit 'set 0 id x'
+  <p id="x">a</p> (no-eol)
+  tl: -: some of it is dropped or moved: print and edit read by the grammar of tl, not as browsers do; set, unset, rename and their like change a page in its own bytes (err)
+  $ printf '<p>a<br/><p  k=\047v\047>b' | tl print
+  <p>a<br><p k="v">b</p></p> (no-eol)
+  $ printf '<p>a</p>' | tl edit 'name 0 b'
+  <b>a</b> (no-eol)
+
+A selector that finds nothing, and names a tag that browsers put in.
+
+  $ printf '<table><tr><td>a</table>' >rows
+  $ tl select -t 'TBODY > tr' rows
+  tl: nothing is found: tbody is found only where a page has its tag, as html, head, body, tbody and colgroup are not put in (err)
+  [1]
+  $ tl select -q 'table > tbody' rows
+  [1]
+  $ tl select .tbody rows
+  [1]
+  $ tl text --in 'body' rows
+  tl: nothing is found: body is found only where a page has its tag, as html, head, body, tbody and colgroup are not put in (err)
+  [1]
+  $ printf '<table><tbody><tr><td>b' | tl select -t 'tbody > tr' rows -
+  -:b

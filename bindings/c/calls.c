@@ -296,6 +296,10 @@ static void of_elements(void) {
     CHECK(is_told(1, TL_NO_CONTENT));
     LEAVES(TL_REFUSED, 0, EDIT(TL_FILL, TL_AS_TEXT, "style", "</style>", "x<style></style>"));
     CHECK(is_told(1, TL_READ_OTHERWISE));
+    LEAVES(TL_REFUSED, 0, EDIT(TL_FILL, TL_AS_TEXT, "style", "a</noscript><img>", "<noscript><style></style></noscript>"));
+    CHECK(is_told(10, TL_MISREAD));
+    LEAVES(TL_REFUSED, 0, EDIT(TL_RENAME, 9, "b", "svg", "<b><style>&</style></b>"));
+    CHECK(is_told(0, TL_MISREAD));
     LEAVES(TL_REFUSED, 0, EDIT(TL_REMOVE, 0, "p", "", "x</p>"));
     CHECK(is_told(1, TL_NO_START_TAG));
     PUTS("<p>xy", EDIT(TL_APPEND, TL_AS_TEXT, "p", "y", "<p>x"));

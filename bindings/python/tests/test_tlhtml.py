@@ -191,6 +191,9 @@ class Elements(unittest.TestCase):
         with self.assertRaises(ChangeError) as it:
             edit(self.page, "br", "fill", text="x")
         self.assertEqual((self.page[it.exception.place :][:4], it.exception.cause), ("<BR>", 19))
+        with self.assertRaises(ChangeError) as it:
+            edit("<svg><style>a</style></svg>", "style", "fill", text="<")
+        self.assertEqual((it.exception.place, it.exception.cause), (5, 23))
         with self.assertRaises(SelectorError):
             edit(self.page, "p:hover", "remove")
         for what, words in (

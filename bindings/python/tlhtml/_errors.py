@@ -24,6 +24,7 @@ CAUSES = {
     20: "this change and that of another element cut across each other",
     21: "nothing can stand behind the end of the page",
     22: "what is put can't stand there",
+    23: "a browser may read a raw text as markup there",
 }
 
 REASONS = {

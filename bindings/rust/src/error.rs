@@ -124,8 +124,10 @@ causes! {
     Across = 20, "this change and that of another element cut across each other";
     /// What is put would stand behind the end of the page; none does.
     EndOfPage = 21, "nothing can stand behind the end of the page";
-    /// What is put can't stand there: markup in a raw text, a text that would be read otherwise, or
-    /// one with `&` or `<` in a `style`, `script` and the like in `svg` or `math`, where browsers read
-    /// markup.
+    /// What is put can't stand there: markup in a raw text, or a text that would be read otherwise.
     NoContent = 22, "what is put can't stand there";
+    /// A browser may read as markup a text with `&` or `<` in a `style`, `script` and the like, as it
+    /// stands behind a `svg`, `math`, `frameset`, `template`, `noscript` or `select`: such a text
+    /// would be put there, or the element would get such a name before such a text.
+    Misread = 23, "a browser may read a raw text as markup there";
 }

@@ -275,6 +275,11 @@ fn elements() {
         edit(page, "br", Edit::Fill(Content::Text("x"))),
         Err(Error::NotChanged { place, cause })
     );
+    let (place, cause) = (5, Cause::Misread);
+    assert_eq!(
+        edit("<svg><style>a</style></svg>", "style", Edit::Fill(Content::Text("<"))),
+        Err(Error::NotChanged { place, cause })
+    );
     let (place, cause) = (2, Cause::NoPseudoClass);
     assert_eq!(
         edit(page, "p:hover", Edit::Remove),

@@ -66,6 +66,7 @@ fn report(error: SelectionEditError, place: &mut usize, cause: &mut u8) -> Failu
         SelectionEditError::Refused(EditError::Across(at)) => (at, 20, Failure::Refused),
         SelectionEditError::Refused(EditError::EndOfPage(at)) => (at, 21, Failure::Refused),
         SelectionEditError::Refused(EditError::NotWritten(at)) => (at, 22, Failure::Refused),
+        SelectionEditError::Refused(EditError::Misread(at, _)) => (at, 23, Failure::Refused),
         SelectionEditError::Refused(EditError::ReadOtherwise(at)) => (at, 18, Failure::Refused),
         SelectionEditError::Refused(EditError::OutOfMemory) => (0, 0, Failure::OutOfMemory),
         SelectionEditError::TooLong => (0, 0, Failure::NotUnderstood),

@@ -1,6 +1,7 @@
 //! What is done with each page.
 use crate::args::Pages;
 use crate::output::Output;
+use crate::question::Question;
 use crate::selected::Selected;
 use crate::task::{Task, execute};
 use std::alloc::Global;
@@ -31,6 +32,11 @@ impl<'w> Job<'_, 'w> {
             Job::Task(Task::Edit(steps)) => Some(steps.as_slice()),
             _ => None,
         }
+    }
+
+    /// Whether the page is printed, by the grammar of `tl`, which drops what is broken to it.
+    pub fn prints(&self) -> bool {
+        matches!(self, Job::Task(Task::Ask(Question::Print) | Task::Edit(_)))
     }
 
     /// What is made of the text of the page in a file.

@@ -8,12 +8,15 @@ ghost use Rattle.tl_cli.specs.UsageErrors.{IsWrongWord};
 
 mod args;
 mod csv_lines;
+mod dropped;
 mod edit_words;
 mod edits;
 mod filename;
+mod implied;
 mod in_place;
 mod job;
 mod lines;
+mod misread;
 mod output;
 mod pages;
 mod patching;
@@ -26,12 +29,13 @@ mod selection;
 mod task;
 mod terminal;
 
-use args::{Action, Pages, UsageError, read};
+use args::{Action, Pages, UsageError, Writing, read};
 use clap::Error;
+use implied::report_implied;
 use job::Job;
 use pages::{process_pages, report, unwritten_status, write};
 use patching::patch_pages;
-use reports::exit_status;
+use reports::{NOTHING, exit_status};
 use selected::Selected;
 use std::alloc::AllocError;
 use std::env;
@@ -178,7 +182,11 @@ fn process(rt: &HostRuntime, task: &Task<'_>, pages: &Pages<'_>) -> Result<u8, F
 fn select(rt: &HostRuntime, selected: &Selected<'_>, pages: &Pages<'_>) -> Result<u8, Failure> {
     let key = key_of(rt, selected)?;
     let job = Job::Select(selected, key.as_str());
-    process_pages(rt, &job, pages)
+    let status = process_pages(rt, &job, pages)?;
+    if status == NOTHING && pages.writing != Writing::Nothing {
+        report_implied(rt, &selected.selector);
+    }
+    Ok(status)
 }
 
 // The lists that texts say.

@@ -6,11 +6,14 @@ ghost use Rattle.tl_cli.specs.Reports.{AreReports};
 ghost use Rattle.tl_cli.specs.declared.reports.Answer.TheVariants.{Failed};
 
 use crate::args::{Pages, Writing};
+use crate::dropped::leaves_out;
 use crate::filename::with_prefix;
 use crate::job::Job;
 use crate::output::Output;
+use crate::question::Question;
 use crate::refusal::report_refusal;
 use crate::reports::{Answer, Report, Tally, status_of};
+use crate::task::{Task, execute};
 use std::alloc::{AllocError, Global};
 use std::fs::File;
 use std::io::{ErrorKind, Read, Write};
@@ -171,6 +174,33 @@ fn refused(rt: &HostRuntime, job: &Job<'_, '_>, file: &str, text: &[u8]) {
     }
 }
 
+// Says on standard error that a print leaves out something of the page.
+fn report_dropped(
+    rt: &HostRuntime,
+    job: &Job<'_, '_>,
+    pages: &Pages<'_>,
+    file: &str,
+    text: &[u8],
+) -> Result<(), Failure> {
+    if !job.prints() {
+        return Ok(());
+    }
+    let print = execute(
+        rt.alloc(),
+        &Task::Ask(Question::Print),
+        pages.reading,
+        "",
+        text,
+    )?;
+    if leaves_out(print.text.as_bytes(), text) {
+        pages.terminal.clear(rt);
+        let _ = eprintln!(rt;
+            "tl: {file}: some of it is dropped or moved: print and edit read by the grammar of tl, not as browsers do; set, unset, rename and their like change a page in its own bytes"
+        );
+    }
+    Ok(())
+}
+
 // What comes of the text of a page.
 fn process_text(
     rt: &HostRuntime,
@@ -188,6 +218,7 @@ fn process_text(
         }
         Err(failure) => return Err(failure),
     };
+    report_dropped(rt, job, pages, file, text)?;
     let is_found = output.is_found;
     let written = page_output(rt, job, pages, file, output)?;
     pages.terminal.clear(rt);

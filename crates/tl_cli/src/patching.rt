@@ -4,18 +4,21 @@ ghost use Rattle.tl_page.specs.declared.failure.Failure.TheVariants.{OutOfMemory
 
 use crate::args::Pages;
 use crate::edits::{Edit, Refusal};
+use crate::implied::report_implied;
 use crate::in_place::replace;
+use crate::misread::Misread;
 use crate::pages::{
     STANDARD_INPUT, not_understood, page_of, report, report_error, unwritten, write,
 };
-use crate::reports::{Answer, Report, status_of};
+use crate::reports::{Answer, NOTHING, Report, status_of};
 use std::alloc::{AllocError, Global};
 use std::fmt;
 use std::io::ErrorKind;
 use tl_css::Selector;
 use tl_encoding::{Encoding, encoding_of, encoding_said};
 use tl_page::{Failure, text};
-use tl_patch_select::Patched;
+use tl_patch_edit::EditError;
+use tl_patch_select::{Patched, SelectionEditError};
 
 /// Where pages with changes go.
 #[derive(Clone, Copy)]
@@ -171,6 +174,11 @@ fn patch_page(rt: &HostRuntime, patching: &Patching<'_>, file: &str) -> Result<A
         Ok(patched) => Ok(put(rt, &patching.target, file, page, &patched)?),
         Err(Refusal::OutOfMemory) => Err(Failure::OutOfMemory),
         Err(Refusal::Tag(error)) => Ok(not_understood(rt, file, &error)),
+        Err(Refusal::Element(SelectionEditError::Refused(EditError::Misread(place, cause)))) => {
+            let page = page.as_bytes();
+            let misread = Misread { page, place, cause };
+            Ok(not_understood(rt, file, &misread))
+        }
         Err(Refusal::Element(error)) => Ok(not_understood(rt, file, &error)),
     }
 }
@@ -217,5 +225,9 @@ pub fn patch_pages(
     } else {
         pages.files.as_slice()
     };
-    Ok(status_of(false, &patch_files(rt, patching, files)?))
+    let status = status_of(false, &patch_files(rt, patching, files)?);
+    if status == NOTHING {
+        report_implied(rt, &patching.selector);
+    }
+    Ok(status)
 }

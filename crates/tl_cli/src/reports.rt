@@ -7,6 +7,9 @@ use tl_page::Failure;
 // The status of a program that nobody reads any more, as shells give it.
 const UNREAD: u8 = 141;
 
+/// The status of a program that found nothing.
+pub const NOTHING: u8 = 1;
+
 /// The status of a program that ends with a failure. 1 is none: it says that nothing is found.
 pub fn exit_status(failure: Failure) -> u8
     ensures { result ≡ exit_status failure }
@@ -106,7 +109,7 @@ impl Tally {
         } else if self.is_found {
             0
         } else {
-            1
+            NOTHING
         }
     }
 }

@@ -29,6 +29,8 @@ mod names;
 #[cfg(test)]
 mod page_edits;
 #[cfg(test)]
+mod raw_texts;
+#[cfg(test)]
 mod references;
 #[cfg(test)]
 mod sources;

@@ -119,12 +119,12 @@ spliced asks parts wanted page text w r = λ ps h.
 
 -- the piece of a token
 
-record Meant (page : List ℕ) (t : Token) (place number : ℕ) (ps : List Piece) : Type 0 where
-  piece : Piece
-  begins : slice_get (placed place ps) number ≡ Some (t.start, piece)
-  stands : slice_get ps number ≡ Some piece
-  whole : is_tag_kind t.kind ≡ true → IsWhole t.mode (bytes_at page t) piece.tokens
-  kind : IsKind t.kind piece.tokens
+pub record Meant (page : List ℕ) (t : Token) (place number : ℕ) (ps : List Piece) : Type 0 where
+  pub piece : Piece
+  pub begins : slice_get (placed place ps) number ≡ Some (t.start, piece)
+  pub stands : slice_get ps number ≡ Some piece
+  pub whole : is_tag_kind t.kind ≡ true → IsWhole t.mode (bytes_at page t) piece.tokens
+  pub kind : IsKind t.kind piece.tokens
 
 meant : (page : List ℕ) (ts : List Token) (place : ℕ) (ps : List Piece) (number : ℕ) (t : Token) → AreTokens page ts (placed place ps) → AreWholeTags page ts (placed place ps) →
     slice_get ts number ≡ Some t → Meant page t place number ps
@@ -143,9 +143,12 @@ meant page (u ∷ ts) place (p ∷ ps) (suc number) t h w e =
     let r = meant page ts (place + length p.bytes) ps number t h.1 w.1 e in
     record { piece = r.piece; begins = r.begins; stands = r.stands; whole = r.whole; kind = r.kind }
 
+pub token_meant : (page : List ℕ) (ts : List Token) (number : ℕ) (t : Token) → AreTokensOf page ts → slice_get ts number ≡ Some t → Meant page t (mark_len page) number (runs (pieces page))
+token_meant page ts number t h e = meant page ts (mark_len page) (runs (pieces page)) number t h (tags_are_whole page ts h) e
+
 pub start_of : (page : List ℕ) (ts : List Token) (place number : ℕ) (t : Token) → AreTokensOf page ts → IsStartAt ts place number t → IsStartOf page number t
 start_of page ts place number t h s =
-    let m : Meant page t (mark_len page) number (runs (pieces page)) = meant page ts (mark_len page) (runs (pieces page)) number t h (tags_are_whole page ts h) s.is in
+    let m : Meant page t (mark_len page) number (runs (pieces page)) = token_meant page ts number t h s.is in
     record {
       piece = m.piece;
       begins = m.begins;

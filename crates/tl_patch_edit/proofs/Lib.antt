@@ -15,3 +15,4 @@ pub mod Turns
 pub mod Together
 pub mod Missing
 pub mod Refusals
+pub mod Misread

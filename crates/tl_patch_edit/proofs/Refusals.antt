@@ -74,6 +74,7 @@ missing tokens places at from d (error.NoStartTag p) l r h = record {
 missing tokens places at from d error.OutOfMemory l r h = tt
 missing tokens places at from d (error.NotMeant p) l r h = absurd h
 missing tokens places at from d (error.Across p) l r h = absurd h
+missing tokens places at from d (error.Misread p by) l r h = absurd h
 missing tokens places at from d (error.EndOfPage p) l r h = absurd h
 missing tokens places at from d (error.NotWritten p) l r h = absurd h
 missing tokens places at from d (error.ReadOtherwise p) l r h = absurd h
@@ -84,6 +85,7 @@ starts_refused page tokens patches (error.NoStartTag p) t h = lacks page tokens 
 starts_refused page tokens patches error.OutOfMemory t h = tt
 starts_refused page tokens patches (error.NotMeant p) t h = absurd h
 starts_refused page tokens patches (error.Across p) t h = absurd h
+starts_refused page tokens patches (error.Misread p by) t h = absurd h
 starts_refused page tokens patches (error.EndOfPage p) t h = absurd h
 starts_refused page tokens patches (error.NotWritten p) t h = absurd h
 starts_refused page tokens patches (error.ReadOtherwise p) t h = absurd h
@@ -160,6 +162,7 @@ unmeant page meant at m d (error.NotMeant p) l i h = record { meant = m; among =
 unmeant page meant at m d error.OutOfMemory l i h = tt
 unmeant page meant at m d (error.NoStartTag p) l i h = absurd h
 unmeant page meant at m d (error.Across p) l i h = absurd h
+unmeant page meant at m d (error.Misread p by) l i h = absurd h
 unmeant page meant at m d (error.EndOfPage p) l i h = absurd h
 unmeant page meant at m d (error.NotWritten p) l i h = absurd h
 unmeant page meant at m d (error.ReadOtherwise p) l i h = absurd h
@@ -194,6 +197,7 @@ pub asks_refused : (page : List ℕ) (patches : List (ℕ × Patch)) (meant : Li
 asks_refused page patches meant error.OutOfMemory o m h = tt
 asks_refused page patches meant (error.NotMeant p) o m h = unmeant_at page patches meant p o m h
 asks_refused page patches meant (error.Across p) o m h = absurd h
+asks_refused page patches meant (error.Misread p by) o m h = absurd h
 asks_refused page patches meant (error.NoStartTag p) o m h = absurd h
 asks_refused page patches meant (error.EndOfPage p) o m h = absurd h
 asks_refused page patches meant (error.NotWritten p) o m h = absurd h
@@ -223,6 +227,7 @@ one_refused parts asks one (error.ReadOtherwise p) k h = absurd h
 one_refused parts asks one (error.NoStartTag p) k h = absurd h
 one_refused parts asks one (error.NotMeant p) k h = absurd h
 one_refused parts asks one (error.Across p) k h = absurd h
+one_refused parts asks one (error.Misread p by) k h = absurd h
 
 pub read_refused : (page : List ℕ) (parts wanted : List Part) (asks : List PlacedAsk) (place : ℕ) (e : EditError) → IsWanted (asks_view asks) parts wanted → IsReadError page wanted place e →
     IsPageError page place parts asks e
@@ -233,6 +238,7 @@ read_refused page parts wanted asks place (error.NotWritten p) w h = absurd h
 read_refused page parts wanted asks place (error.NoStartTag p) w h = absurd h
 read_refused page parts wanted asks place (error.NotMeant p) w h = absurd h
 read_refused page parts wanted asks place (error.Across p) w h = absurd h
+read_refused page parts wanted asks place (error.Misread p by) w h = absurd h
 
 pub page_refused : (page : List ℕ) (place : ℕ) (parts : List Part) (asks : List PlacedAsk) (e : EditError) → IsSpliceError parts asks e → IsPageError page place parts asks e
 page_refused page place parts asks error.OutOfMemory h = h
@@ -242,6 +248,7 @@ page_refused page place parts asks (error.NotWritten p) h = h
 page_refused page place parts asks (error.NoStartTag p) h = h
 page_refused page place parts asks (error.NotMeant p) h = h
 page_refused page place parts asks (error.Across p) h = h
+page_refused page place parts asks (error.Misread p by) h = h
 
 pub there : (parts : List Part) (n : ℕ) (here : Part) (P : Part → Type 0) → slice_get parts n ≡ Some here → P here → (place : Part) → slice_get parts n ≡ Some place → P place
 there parts n here P s h = λ place e.
@@ -403,7 +410,7 @@ pub record AreAskedOf (page : List ℕ) (patches : List (ℕ × Patch)) (parts :
   pub sorted : AreSorted (pieces_in page) (meant_view meant) asks
 
 -- an ask at a place
-one_at : (page : List ℕ) (patches : List (ℕ × Patch)) (parts : List Part) (meant : List MeantPatch) (asks : List PlacedAsk) (p : ℕ) (one : PlacedAsk) → AreAskedOf page patches parts meant asks →
+pub one_at : (page : List ℕ) (patches : List (ℕ × Patch)) (parts : List Part) (meant : List MeantPatch) (asks : List PlacedAsk) (p : ℕ) (one : PlacedAsk) → AreAskedOf page patches parts meant asks →
     IsOneAt asks p one → IsAskAt page patches p (ask_view one.ask)
 one_at page patches parts meant asks p one a o =
     let all : AreAsksAt page patches asks = asks_at page patches meant asks a.of_page a.are_given a.planned in
@@ -447,6 +454,7 @@ splice_refused page first more patches parts meant asks (error.ReadOtherwise p) 
       whole = r.whole;
       never = r.never;
     }
+splice_refused page first more patches parts meant asks (error.Misread p by) f a h = absurd h
 splice_refused page first more patches parts meant asks (error.NoStartTag p) f a h = absurd h
 splice_refused page first more patches parts meant asks (error.NotMeant p) f a h = absurd h
 

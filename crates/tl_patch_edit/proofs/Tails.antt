@@ -109,7 +109,7 @@ start_there (DoctypeToken ∷ ts) h = absurd h
 
 -- one piece more, before those that are in the tail
 
-drop_at : (ps : List Piece) (k : ℕ) (p : Piece) → slice_get ps k ≡ Some p → drop k ps ≡ p ∷ drop (suc k) ps
+pub drop_at : (ps : List Piece) (k : ℕ) (p : Piece) → slice_get ps k ≡ Some p → drop k ps ≡ p ∷ drop (suc k) ps
 drop_at [] k p h = cc
 drop_at (q ∷ ps) zero p h = ap (λ (x : Piece). x ∷ ps) (let same : q ≡ p = cc in same)
 drop_at (q ∷ ps) (suc k) p h = drop_at ps k p h
@@ -220,7 +220,7 @@ none_yet page tokens h =
       };
     }
 
-part_stands : (page : List ℕ) (tokens : List Token) (k : ℕ) (d : Token) → AreTokensOf page tokens → k < length tokens → Stands (view_at page (get_or tokens k d)) (runs (pieces page)) k
+pub part_stands : (page : List ℕ) (tokens : List Token) (k : ℕ) (d : Token) → AreTokensOf page tokens → k < length tokens → Stands (view_at page (get_or tokens k d)) (runs (pieces page)) k
 part_stands page tokens k d h l =
     let ps : List Piece = runs (pieces page) in
     let xs : List Part = map (view_at page) tokens in

@@ -12,6 +12,7 @@ use Rattle.tl_html_tokens.specs.declared.mode.Mode.{Mode}
 use Rattle.tl_patch.specs.Places.{begins_end_tag}
 use Rattle.tl_patch_spec.specs.Markup.{is_name}
 use Rattle.tl_patch_spec.specs.Patches.{Changed, Content, Markup, NewContent, NewEndTag, Patch, Put, Text, asked_of, content_pieces, with_end}
+use Rattle.tl_patch_spec.specs.RawTexts.{cause_of, is_misread}
 use Rattle.tl_patch_spec.specs.Splices.{Splice, with_splices}
 use Rattle.tl_patch_spec.specs.TagChanges.{Rename}
 use Rattle.tl_patch_spec.specs.Together.{AreAskedTogether, Asked, ask_of, asked_each, none_gone}
@@ -133,6 +134,24 @@ pub record StandAcross (page : List ℕ) (patches : List (ℕ × Patch)) (place 
   pub same : IsPermutation each asks
   pub across : AreAcross (length (pieces_in page)) (map ask_of asks)
 
+-- of the splices that these patches ask for, in some order, one that a patch asks for at this place
+-- may be read as markup by a browser, behind the start tag at that place
+pub record MayBeMisread (page : List ℕ) (patches : List (ℕ × Patch)) (place cause : ℕ) :
+    Type 0 where
+  pub numbered : List (ℕ × Patch)
+  pub begin : BeginAt 0 (placed_pieces page) patches numbered
+  pub each : List Asked
+  pub asked : asked_each (pieces_in page) 0 none_gone numbered ≡ Some each
+  pub asks : List Asked
+  pub same : IsPermutation each asks
+  pub ask : Splice Put
+  pub among : Contains (map ask_of asks) ask
+  pub at : IsAskAt page patches place ask
+  pub misread : is_misread (pieces_in page) (map ask_of asks) ask ≡ true
+  pub piece : Piece
+  pub begins : slice_get (placed_pieces page) (cause_of (pieces_in page) (map ask_of asks) ask)
+      ≡ Some (cause, piece)
+
 -- a place is the first of those of these patches, they ask for splices of the page's pieces, each
 -- tag that these leave is read so by itself, and yet no text with the bytes of what comes of them
 -- says what that says, token by token, and each tag in its bytes
@@ -153,5 +172,6 @@ IsRefused page patches (error.NotMeant place) = CannotBeMeant page patches place
 IsRefused page patches (error.Across place) = StandAcross page patches place
 IsRefused page patches (error.EndOfPage place) = StandsPastEnd page patches place
 IsRefused page patches (error.NotWritten place) = CannotBeWritten page patches place
+IsRefused page patches (error.Misread place cause) = MayBeMisread page patches place cause
 IsRefused page patches (error.ReadOtherwise place) = CannotBeRead page patches place
 IsRefused page patches error.OutOfMemory = ⊤

@@ -2,3 +2,4 @@
 pub mod Parts
 pub mod Tails
 pub mod Causes
+pub mod Limits

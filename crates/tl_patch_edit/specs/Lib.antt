@@ -4,4 +4,5 @@ pub mod Asks
 pub mod Found
 pub mod Several
 pub mod Errors
+pub mod Kept
 pub mod Inner

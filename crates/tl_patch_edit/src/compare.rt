@@ -107,7 +107,7 @@ fn quiet_len(parts: &[Part<'_>]) -> usize
     parts.len()
 }
 
-fn is_text(kind: TokenKind) -> bool
+pub(crate) fn is_text(kind: TokenKind) -> bool
     ensures { result ≡ is_text_kind kind }
 {
     matches!(kind, TokenKind::Text)

@@ -55,7 +55,7 @@ fn start_from(tokens: &[Token], from: usize, place: usize) -> Option<Start>
 }
 
 // The name of a start tag, as it stands there.
-fn tag_name<'p>(alloc: Global, bytes: &'p [u8]) -> Result<&'p [u8], AllocError>
+pub(crate) fn tag_name<'p>(alloc: Global, bytes: &'p [u8]) -> Result<&'p [u8], AllocError>
     ensures { IfOk result (λ name. IsTagName bytes.now (name_of name.now)) }
 {
     let parts = tag_parts(alloc, bytes)?;

@@ -25,6 +25,13 @@ pub enum EditError {
     /// a text that would be read otherwise.
     #[error("what is put can't stand there, for the element at byte {0}")]
     NotWritten(usize),
+    /// A browser may read as markup what is to be put into the element at the first place, or what
+    /// stands in raw texts behind the name that it would get: a text with `&` or `<` can't be
+    /// escaped in a `style`, `script` or other raw text, and at the second place the start tag of a
+    /// `svg`, `math`, `frameset`, `template`, `noscript` or `select` stands before that, or the tag
+    /// that would become one.
+    #[error("a browser may read a raw text behind byte {1} as markup, for the element at byte {0}")]
+    Misread(usize, usize),
     /// The page would be read otherwise than asked, for the element at this place.
     #[error("the page would be read otherwise, for the element at byte {0}")]
     ReadOtherwise(usize),

@@ -10,6 +10,7 @@ mod extent;
 mod part;
 mod plan;
 mod put;
+mod raw_text;
 mod ready;
 mod several;
 mod tag;

@@ -7,10 +7,11 @@ ghost use Rattle.tl_patch_spec.specs.Tail.{elements_up_to_tail};
 ghost use Rattle.tl_patch_spec.specs.Together.{asked_each, at_each, depth_of, gone_after, is_gone, none_gone, rank_of, turn_of};
 ghost use Rattle.tl_patch_edit.specs.Asks.{planned_view};
 ghost use Rattle.tl_patch_edit.specs.Inner.Causes.{IsAsksError, IsPlanError, IsPlanned, IsStartsError};
-ghost use Rattle.tl_patch_edit.specs.Errors.{CannotBeMeant, CannotBeRead, CannotBeWritten, IsRefused, LacksStartTag, StandAcross, StandsPastEnd, pieces_in};
+ghost use Rattle.tl_patch_edit.specs.Errors.{CannotBeMeant, CannotBeRead, CannotBeWritten, IsRefused, LacksStartTag, MayBeMisread, StandAcross, StandsPastEnd, pieces_in};
 ghost use Rattle.tl_patch_edit.specs.declared.ask.PlacedPatch.{PlacedPatch};
-ghost use Rattle.tl_patch_edit.specs.declared.error.EditError.TheVariants.{Across, EndOfPage, NoStartTag, NotMeant, NotWritten, OutOfMemory, ReadOtherwise};
+ghost use Rattle.tl_patch_edit.specs.declared.error.EditError.TheVariants.{Across, EndOfPage, Misread, NoStartTag, NotMeant, NotWritten, OutOfMemory, ReadOtherwise};
 ghost use Rattle.tl_patch_edit.specs.Several.{AreEdited, AreExtents, AreInTurn, AreMeantAt, AreSorted, IsMeantOfPage, asked_view, places_of, stands_twice};
+ghost use Rattle.tl_patch_edit.specs.Kept.{KeepRawTexts};
 ghost use Rattle.tl_patch_edit.specs.View.{gone_view, meant_view, patch_view, patches_view, turn_view};
 
 use crate::ask::{ElementPatch, Extent, Gone, MeantPatch, PlacedAsk, PlacedPatch, Planned, Turn};
@@ -18,6 +19,7 @@ use crate::edit::{meant_start, planned_for, push_asks, spliced_page};
 use crate::error::EditError;
 use crate::extent::extents_of;
 use crate::part::parts_of;
+use crate::raw_text::refuse_misread;
 use crate::tail::elements_up_to_tail;
 use std::alloc::{AllocError, Global};
 use std::cmp::Reverse;
@@ -217,6 +219,7 @@ fn with_patches<'p>(
     requires { 0 < length patches.now }
     ensures edited { IfOk result (λ text.
         AreEdited (patches_view patches.now) page.now text.items) }
+    ensures kept { IfOk result (λ _. KeepRawTexts (patches_view patches.now) page.now) }
     ensures error { IfErr result (IsRefused page.now (patches_view patches.now)) }
 {
     let place = first_of(patches);
@@ -225,6 +228,7 @@ fn with_patches<'p>(
     let meant = meant_at(alloc, found.tokens.as_slice(), patches)?;
     let extents = extents_of(alloc, found.elements.as_slice(), parts.len())?;
     let asks = sorted_asks(alloc, page, meant.as_slice(), extents.as_slice())?;
+    refuse_misread(alloc, page, found.tokens.as_slice(), asks.as_slice())?;
     let text = spliced_page(alloc, page, parts.as_slice(), asks.as_slice(), place)?;
     Ok(text)
 }
@@ -233,7 +237,8 @@ fn with_patches<'p>(
 /// the page; the places stand in order, and one may stand several times. An element that begins in
 /// what another patch takes away, by `Remove`, `ReplaceWith` or `Fill`, goes with it; patches that
 /// cut across each other are refused. No other byte changes. `</>`, which is read as nothing,
-/// stands where two texts would become something else together. The text is read again, and is
+/// stands where two texts would become something else together. What a browser may read as markup,
+/// as a text with `<` in a `style` behind an `svg`, isn't put. The text is read again, and is
 /// refused where it isn't read as asked, with the place of the first element.
 pub fn patch_each(
     alloc: Global,
@@ -242,6 +247,7 @@ pub fn patch_each(
 ) -> Result<Vec<u8>, EditError>
     ensures edited { IfOk result (λ text.
         AreEdited (patches_view patches.now) page.now text.items) }
+    ensures kept { IfOk result (λ _. KeepRawTexts (patches_view patches.now) page.now) }
     ensures unchanged { patches.now ≡ [] →
         MatchResult result (λ text. text.items ≡ page.now) (λ error. error ≡ OutOfMemory) }
     ensures no_start { (place : ℕ) → result ≡ Err (NoStartTag place) →
@@ -254,6 +260,8 @@ pub fn patch_each(
         StandsPastEnd page.now (patches_view patches.now) place }
     ensures not_written { (place : ℕ) → result ≡ Err (NotWritten place) →
         CannotBeWritten page.now (patches_view patches.now) place }
+    ensures misread { (place cause : ℕ) → result ≡ Err (Misread place cause) →
+        MayBeMisread page.now (patches_view patches.now) place cause }
     ensures read_otherwise { (place : ℕ) → result ≡ Err (ReadOtherwise place) →
         CannotBeRead page.now (patches_view patches.now) place }
 {
@@ -311,6 +319,8 @@ pub fn patch_elements(
 ) -> Result<Vec<u8>, EditError>
     ensures edited { IfOk result (λ text.
         AreEdited (at_each (patch_view patch.entry) places.now) page.now text.items) }
+    ensures kept { IfOk result (λ _.
+        KeepRawTexts (at_each (patch_view patch.entry) places.now) page.now) }
     ensures unchanged { places.now ≡ [] →
         MatchResult result (λ text. text.items ≡ page.now) (λ error. error ≡ OutOfMemory) }
     ensures no_start { (place : ℕ) → result ≡ Err (NoStartTag place) →
@@ -323,6 +333,8 @@ pub fn patch_elements(
         StandsPastEnd page.now (at_each (patch_view patch.entry) places.now) place }
     ensures not_written { (place : ℕ) → result ≡ Err (NotWritten place) →
         CannotBeWritten page.now (at_each (patch_view patch.entry) places.now) place }
+    ensures misread { (place cause : ℕ) → result ≡ Err (Misread place cause) →
+        MayBeMisread page.now (at_each (patch_view patch.entry) places.now) place cause }
     ensures read_otherwise { (place : ℕ) → result ≡ Err (ReadOtherwise place) →
         CannotBeRead page.now (at_each (patch_view patch.entry) places.now) place }
 {
@@ -339,6 +351,8 @@ pub fn patch_element(
 ) -> Result<Vec<u8>, EditError>
     ensures edited { IfOk result (λ text.
         AreEdited ((place, patch_view patch.entry) ∷ []) page.now text.items) }
+    ensures kept { IfOk result (λ _.
+        KeepRawTexts ((place, patch_view patch.entry) ∷ []) page.now) }
     ensures no_start { (p : ℕ) → result ≡ Err (NoStartTag p) →
         LacksStartTag page.now (place ∷ []) p }
     ensures not_meant { (p : ℕ) → result ≡ Err (NotMeant p) →
@@ -349,6 +363,8 @@ pub fn patch_element(
         StandsPastEnd page.now ((place, patch_view patch.entry) ∷ []) p }
     ensures not_written { (p : ℕ) → result ≡ Err (NotWritten p) →
         CannotBeWritten page.now ((place, patch_view patch.entry) ∷ []) p }
+    ensures misread { (p cause : ℕ) → result ≡ Err (Misread p cause) →
+        MayBeMisread page.now ((place, patch_view patch.entry) ∷ []) p cause }
     ensures read_otherwise { (p : ℕ) → result ≡ Err (ReadOtherwise p) →
         CannotBeRead page.now ((place, patch_view patch.entry) ∷ []) p }
 {

@@ -1,8 +1,8 @@
 -- Why an edit is refused.
-use Rattle.std.proofs.Common.{◌≡◌, ℕ, List, inl, subst}
+use Rattle.std.proofs.Common.{◌≡◌, ℕ, List, subst}
 use Rattle.std.specs.Prelude.{Err, Result}
 use Rattle.tl_css.specs.Selector.{Css}
-use Rattle.tl_patch_edit.specs.Errors.{CannotBeMeant, CannotBeRead, CannotBeWritten, IsRefused, LacksStartTag, StandAcross, StandsPastEnd}
+use Rattle.tl_patch_edit.specs.Errors.{CannotBeMeant, CannotBeRead, CannotBeWritten, IsRefused, LacksStartTag, MayBeMisread, StandAcross, StandsPastEnd}
 use Rattle.tl_patch_edit.specs.Several.{places_of}
 use Rattle.tl_patch_edit.specs.declared.error.EditError.{EditError}
 use Rattle.tl_patch_edit.specs.declared.error.EditError.TheVariants as edit
@@ -23,6 +23,7 @@ pub record Says {T : Type 0} (page : List ℕ) (patches : List (ℕ × Patch)) (
   pub past_end : (p : ℕ) → r ≡ Err (edit.EndOfPage p) → StandsPastEnd page patches p
   pub not_written : (p : ℕ) → r ≡ Err (edit.NotWritten p) → CannotBeWritten page patches p
   pub across : (p : ℕ) → r ≡ Err (edit.Across p) → StandAcross page patches p
+  pub misread : (p by : ℕ) → r ≡ Err (edit.Misread p by) → MayBeMisread page patches p by
   pub read_otherwise : (p : ℕ) → r ≡ Err (edit.ReadOtherwise p) → CannotBeRead page patches p
 
 why : {T : Type 0} (page : List ℕ) (patches : List (ℕ × Patch)) (r : Result T EditError) (e : EditError) → r ≡ Err e → Says page patches r → IsRefused page patches e
@@ -31,6 +32,7 @@ why page patches r (edit.NotMeant p) q s = s.not_meant p q
 why page patches r (edit.EndOfPage p) q s = s.past_end p q
 why page patches r (edit.NotWritten p) q s = s.not_written p q
 why page patches r (edit.Across p) q s = s.across p q
+why page patches r (edit.Misread p by) q s = s.misread p by q
 why page patches r (edit.ReadOtherwise p) q s = s.read_otherwise p q
 why page patches r edit.OutOfMemory q s = tt
 
@@ -43,6 +45,7 @@ same (edit.NotMeant p) error h = cc
 same (edit.EndOfPage p) error h = cc
 same (edit.NotWritten p) error h = cc
 same (edit.Across p) error h = cc
+same (edit.Misread p by) error h = cc
 same (edit.ReadOtherwise p) error h = cc
 same edit.OutOfMemory error h = cc
 
@@ -53,6 +56,7 @@ no_memory (edit.NotMeant p) error h = tt
 no_memory (edit.EndOfPage p) error h = tt
 no_memory (edit.NotWritten p) error h = tt
 no_memory (edit.Across p) error h = tt
+no_memory (edit.Misread p by) error h = tt
 no_memory (edit.ReadOtherwise p) error h = tt
 no_memory edit.OutOfMemory error h = cc
 
@@ -64,7 +68,7 @@ refused_where sel page places patch r e u error a q s h k =
     record {
       places = places;
       selected = a;
-      refused = inl (subst (IsRefused page (at_each patch places)) is (why page (at_each patch places) r e q s));
+      refused = subst (IsRefused page (at_each patch places)) is (why page (at_each patch places) r e q s);
       reason = subst IsEditReason is (no_memory e error becomes);
     }
 

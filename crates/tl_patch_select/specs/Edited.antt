@@ -1,5 +1,5 @@
 -- A page with the elements changed where a selector holds.
-use Rattle.std.specs.Prelude.{◌≡◌, ◌⊎◌, ℕ, List, ⊤}
+use Rattle.std.specs.Prelude.{◌≡◌, ℕ, List, ⊤}
 use Rattle.tl_spec.specs.Tree.Document.{document}
 use Rattle.tl_css.specs.Meaning.{AreFound}
 use Rattle.tl_css.specs.Selector.{Css}
@@ -12,7 +12,6 @@ use Rattle.tl_patch_edit.specs.declared.error.EditError.{EditError}
 use Rattle.tl_patch_edit.specs.declared.error.EditError.TheVariants as edit
 use Rattle.tl_patch_spec.specs.Patches.{Patch}
 use Rattle.tl_patch_spec.specs.Together.{at_each}
-use Rattle.tl_patch_select.specs.Foreign.{IsRefusedInForeign}
 use Rattle.tl_patch_select.specs.Selected.{AreSelected, places_of}
 
 -- text is the page with this patch of each element of its form where the selector holds, and of
@@ -33,6 +32,5 @@ pub record IsRefusedWhere (e : Css) (patch : Patch) (page : List ℕ) (error : E
     Type 0 where
   pub places : List ℕ
   pub selected : AreSelected e page places
-  pub refused :
-      IsRefused page (at_each patch places) error ⊎ IsRefusedInForeign patch page places error
+  pub refused : IsRefused page (at_each patch places) error
   pub reason : IsEditReason error

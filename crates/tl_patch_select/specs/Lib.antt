@@ -1,5 +1,4 @@
 pub mod Errors
 pub mod Selected
 pub mod Patched
-pub mod Foreign
 pub mod Edited

@@ -4,7 +4,6 @@
 mod edit_error;
 mod edited;
 mod error;
-mod foreign;
 mod patched;
 mod selected;
 

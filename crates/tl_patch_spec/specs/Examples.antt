@@ -1,13 +1,15 @@
 -- Words for worked rows. No contract cites them.
 use Prim.Native.String.{String}
-use Rattle.std.specs.Prelude.{ℕ, true, false, List, [], ◌∷◌, Option, codes}
+use Rattle.std.specs.Prelude.{ℕ, Bool, true, false, List, [], ◌∷◌, Option, codes, map, option_map}
+use Rattle.std.specs.List.{list_any}
 use Rattle.tl_html_spec.specs.HtmlTokenizer.{HtmlToken}
 use Rattle.tl_html_spec.specs.Pieces.{Piece, pieces, runs}
 use Rattle.tl_patch_spec.specs.Elements.{Element, elements}
 use Rattle.tl_patch_spec.specs.Patches.{Content, NewContent, Patch, Put, Text, asked_of, tokens_asked}
+use Rattle.tl_patch_spec.specs.RawTexts.{is_misread}
 use Rattle.tl_patch_spec.specs.Splices.{Splice}
 use Rattle.tl_patch_spec.specs.Tail.{elements_up_to_tail}
-use Rattle.tl_patch_spec.specs.Together.{Asked, asked_each, at_each, none_gone}
+use Rattle.tl_patch_spec.specs.Together.{Asked, ask_of, asked_each, at_each, none_gone}
 
 -- the pieces of a page, where characters are joined
 abbrev pub cut_page : String → List Piece
@@ -77,3 +79,12 @@ all_asked page patches = asked_each (cut_page page) 0 none_gone patches
 
 abbrev pub each_asked : String → Patch → List ℕ → Option (List Asked)
 each_asked page patch numbers = all_asked page (at_each patch numbers)
+
+-- whether what they ask for may be read as markup by a browser
+abbrev pub are_misread : List Piece → List (Splice Put) → Bool
+are_misread ps asks = list_any (is_misread ps asks) asks
+
+abbrev pub misread_in : String → List (ℕ × Patch) → Option Bool
+misread_in page patches =
+    option_map (λ (each : List Asked). are_misread (cut_page page) (map ask_of each))
+    (all_asked page patches)

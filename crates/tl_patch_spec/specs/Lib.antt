@@ -7,4 +7,5 @@ pub mod Elements
 pub mod Tail
 pub mod Patches
 pub mod Together
+pub mod RawTexts
 pub mod Examples

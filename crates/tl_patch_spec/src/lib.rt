@@ -5,5 +5,6 @@ mod examples;
 pub mod laws;
 mod markup_examples;
 mod patch_examples;
+mod raw_text_examples;
 mod tail_examples;
 mod together_examples;

@@ -2,7 +2,8 @@ use Rattle.std.proofs.Common.{◌≡◌, ℕ, List, ap, subst, ◌∙◌}
 use Rattle.std.specs.Prelude.{IfOk}
 use Rattle.tl_patch_spec.specs.Patches.{Patch}
 use Rattle.tl_patch_spec.specs.Together.{at_each}
-use Rattle.tl_patch_edit.specs.Errors.{CannotBeMeant, CannotBeRead, CannotBeWritten, LacksStartTag, StandAcross, StandsPastEnd}
+use Rattle.tl_patch_edit.specs.Errors.{CannotBeMeant, CannotBeRead, CannotBeWritten, LacksStartTag, MayBeMisread, StandAcross, StandsPastEnd}
+use Rattle.tl_patch_edit.specs.Kept.{KeepRawTexts}
 use Rattle.tl_patch_edit.specs.Several.{AreEdited, places_of}
 use Rattle.tl_patch_edit.specs.View.{patch_view, patches_view}
 use Rattle.tl_patch_edit.proofs.Together.{none_viewed}
@@ -12,6 +13,11 @@ pub returns-clause-edited : goal.returns-clause-edited
 returns-clause-edited c =
     let same : patches_view c.as_slice.result.now ≡ at_each (patch_view c.args.patch) c.args.places.now = ap patches_view c.as_slice.ensures.value ∙ c.in_ok-patches.ensures in
     subst (λ (ps : List (ℕ × Patch)). IfOk c.patch_each.result (λ text. AreEdited ps c.args.page.now text.items)) same c.patch_each.ensures.edited
+
+pub returns-clause-kept : goal.returns-clause-kept
+returns-clause-kept c =
+    let same : patches_view c.as_slice.result.now ≡ at_each (patch_view c.args.patch) c.args.places.now = ap patches_view c.as_slice.ensures.value ∙ c.in_ok-patches.ensures in
+    subst (λ (ps : List (ℕ × Patch)). IfOk c.patch_each.result (λ _. KeepRawTexts ps c.args.page.now)) same c.patch_each.ensures.kept
 
 pub returns-clause-unchanged : goal.returns-clause-unchanged
 returns-clause-unchanged c = λ e.
@@ -47,3 +53,8 @@ pub returns-clause-read_otherwise : goal.returns-clause-read_otherwise
 returns-clause-read_otherwise c = λ p e.
     let same : patches_view c.as_slice.result.now ≡ at_each (patch_view c.args.patch) c.args.places.now = ap patches_view c.as_slice.ensures.value ∙ c.in_ok-patches.ensures in
     subst (λ (ps : List (ℕ × Patch)). CannotBeRead c.args.page.now ps p) same (c.patch_each.ensures.read_otherwise p e)
+
+pub returns-clause-misread : goal.returns-clause-misread
+returns-clause-misread c = λ p by e.
+    let same : patches_view c.as_slice.result.now ≡ at_each (patch_view c.args.patch) c.args.places.now = ap patches_view c.as_slice.ensures.value ∙ c.in_ok-patches.ensures in
+    subst (λ (ps : List (ℕ × Patch)). MayBeMisread c.args.page.now ps p by) same (c.patch_each.ensures.misread p by e)

@@ -1,6 +1,7 @@
 use Rattle.std.proofs.Common.{rules, Err, ◌≡◌, ℕ, List, arith, drop, length, ap, subst, sym, ◌∙◌}
 use Rattle.std.specs.List.{All}
 use Rattle.tl_html_spec.specs.Pieces.{pieces, runs}
+use Rattle.tl_html_tokens.specs.Tokens.{AreTokensOf}
 use Rattle.tl_html_tokens.specs.declared.token.Token.{Token}
 use Rattle.tl_patch_elements.specs.View.{elements_view}
 use Rattle.tl_patch_spec.specs.Elements.{Element}
@@ -8,6 +9,7 @@ use Rattle.tl_patch_spec.specs.Tail.{elements_up_to_tail}
 use Rattle.tl_patch_edit.specs.Asks.{asks_view}
 use Rattle.tl_patch_edit.specs.Inner.Causes.{IsAsksError, IsPageError, IsPlanned, IsStartsError}
 use Rattle.tl_patch_edit.specs.Found.{IsSplicedPageOf}
+use Rattle.tl_patch_edit.specs.Inner.Limits.{AreKept, IsMisreadError}
 use Rattle.tl_patch_edit.specs.Inner.Parts.{parts_view}
 use Rattle.tl_patch_edit.specs.Several.{AreExtents, AreMeantAt, AreSorted, IsMeantOfPage, places_of}
 use Rattle.tl_patch_edit.specs.View.{meant_view, patches_view}
@@ -18,6 +20,7 @@ use Rattle.tl_patch_edit.specs.declared.ask.PlacedPatch.{PlacedPatch}
 use Rattle.tl_patch_edit.specs.declared.part.Part.{Part}
 use Rattle.tl_patch_edit.proofs.Together.{meant_are, meant_begin, meant_given, several}
 use Rattle.tl_patch_edit.proofs.Lists.{length_view}
+use Rattle.tl_patch_edit.proofs.Misread.{kept_where, misread_refused}
 use Rattle.tl_patch_edit.proofs.Refusals.{asks_refused, err_is, splice_refused, starts_refused}
 use Rattle.tl_patch_edit.proofs.Splicing.{length_pieces}
 use Rattle.tl_patch_edit.proofs.several.with_patches.Goals as goal
@@ -60,9 +63,24 @@ returns-clause-edited c =
     let sorted : AreSorted (runs (pieces page)) (meant_view meant) asks =
     subst (λ (ms : List MeantPatch). AreSorted (runs (pieces page)) (meant_view ms) asks) c.as_slice-4.ensures.value c.in_ok-asks.ensures.sorted in
     several page text tokens c.args.patches.now meant asks (parts_view parts) c.in_ok-found.ensures.tokens at sorted c.in_ok-parts.ensures
-    (subst (λ (bs : List PlacedAsk). IsSplicedPageOf (asks_view bs) (parts_view parts) page text) c.as_slice-7.ensures.value
-    (subst (λ (xs : List Part). IsSplicedPageOf (asks_view c.as_slice-7.result.now) (parts_view xs) page text) c.as_slice-6.ensures.value
+    (subst (λ (bs : List PlacedAsk). IsSplicedPageOf (asks_view bs) (parts_view parts) page text) c.as_slice-9.ensures.value
+    (subst (λ (xs : List Part). IsSplicedPageOf (asks_view c.as_slice-9.result.now) (parts_view xs) page text) c.as_slice-8.ensures.value
     c.in_ok-text.ensures.text))
+
+pub refuse_misread-requires : goal.refuse_misread-requires
+refuse_misread-requires c =
+    subst (λ (ts : List Token). AreTokensOf c.args.page.now ts) (sym c.as_slice-6.ensures.value) c.in_ok-found.ensures.tokens
+
+pub returns-clause-kept : goal.returns-clause-kept
+returns-clause-kept c =
+    let page : List ℕ = c.args.page.now in
+    let tokens : List Token = c.in_ok-found.found.tokens.items in
+    let meant : List MeantPatch = c.in_ok-meant.meant.items in
+    let asks : List PlacedAsk = c.in_ok-asks.asks.items in
+    kept_where page tokens c.args.patches.now meant asks c.in_ok-found.ensures.tokens
+    (subst (λ (ts : List Token). AreMeantAt 0 ts c.args.patches.now meant) c.as_slice-2.ensures.value c.in_ok-meant.ensures.meant)
+    (subst (λ (ms : List MeantPatch). AreSorted (runs (pieces page)) (meant_view ms) asks) c.as_slice-4.ensures.value c.in_ok-asks.ensures.sorted)
+    (subst (λ (bs : List PlacedAsk). AreKept (runs (pieces page)) bs) c.as_slice-7.ensures.value c.in_ok-refuse_misread.ensures.kept)
 
 pub returns-in_err-meant-clause-error : goal.returns-in_err-meant-clause-error
 returns-in_err-meant-clause-error c =
@@ -82,6 +100,30 @@ returns-in_err-asks-clause-error c =
     err_is _ _ _ is (asks_refused page (patches_view c.args.patches.now) meant c.in_err-asks.field-0.0 (meant_are page tokens c.args.patches.now 0 meant c.in_ok-found.ensures.tokens at)
     (meant_given tokens c.args.patches.now 0 meant at)
     (subst (λ (ms : List MeantPatch). IsAsksError page ms c.in_err-asks.field-0.0) c.as_slice-4.ensures.value c.in_err-asks.ensures.error))
+
+pub returns-in_err-refuse_misread-clause-error : goal.returns-in_err-refuse_misread-clause-error
+returns-in_err-refuse_misread-clause-error c =
+    let page : List ℕ = c.args.page.now in
+    let tokens : List Token = c.in_ok-found.found.tokens.items in
+    let patches : List PlacedPatch = c.args.patches.now in
+    let meant : List MeantPatch = c.in_ok-meant.meant.items in
+    let parts : List Part = c.in_ok-parts.parts.items in
+    let asks : List PlacedAsk = c.in_ok-asks.asks.items in
+    let at : AreMeantAt 0 tokens patches meant =
+    subst (λ (ts : List Token). AreMeantAt 0 ts patches meant) c.as_slice-2.ensures.value c.in_ok-meant.ensures.meant in
+    let is : c.from_residual-in_err-refuse_misread.result ≡ Err c.in_err-refuse_misread.field-0.0 = search rules in
+    err_is _ _ _ is (misread_refused page tokens (patches_view patches) (parts_view parts) meant asks c.in_err-refuse_misread.field-0.0 c.in_ok-found.ensures.tokens
+    (record {
+      are_pieces = c.in_ok-parts.ensures;
+      of_page = meant_are page tokens patches 0 meant c.in_ok-found.ensures.tokens at;
+      are_given = meant_given tokens patches 0 meant at;
+      begin = meant_begin page tokens patches 0 meant c.in_ok-found.ensures.tokens at;
+      planned = subst (λ (ms : List MeantPatch). All (IsPlanned page ms) asks) c.as_slice-4.ensures.value c.in_ok-asks.ensures.planned;
+      sorted = subst (λ (ms : List MeantPatch). AreSorted (runs (pieces page)) (meant_view ms) asks) c.as_slice-4.ensures.value c.in_ok-asks.ensures.sorted;
+    })
+    (subst (λ (bs : List PlacedAsk). IsMisreadError (runs (pieces page)) tokens bs c.in_err-refuse_misread.field-0.0) c.as_slice-7.ensures.value
+    (subst (λ (ts : List Token). IsMisreadError (runs (pieces page)) ts c.as_slice-7.result.now c.in_err-refuse_misread.field-0.0) c.as_slice-6.ensures.value
+    c.in_err-refuse_misread.ensures.error)))
 
 pub returns-in_err-text-clause-error : goal.returns-in_err-text-clause-error
 returns-in_err-text-clause-error c =
@@ -103,6 +145,6 @@ returns-in_err-text-clause-error c =
       planned = subst (λ (ms : List MeantPatch). All (IsPlanned page ms) asks) c.as_slice-4.ensures.value c.in_ok-asks.ensures.planned;
       sorted = subst (λ (ms : List MeantPatch). AreSorted (runs (pieces page)) (meant_view ms) asks) c.as_slice-4.ensures.value c.in_ok-asks.ensures.sorted;
     })
-    (subst (λ (bs : List PlacedAsk). IsPageError page c.first_of-place.result (parts_view parts) bs c.in_err-text.field-0.0) c.as_slice-7.ensures.value
-    (subst (λ (xs : List Part). IsPageError page c.first_of-place.result (parts_view xs) c.as_slice-7.result.now c.in_err-text.field-0.0) c.as_slice-6.ensures.value
+    (subst (λ (bs : List PlacedAsk). IsPageError page c.first_of-place.result (parts_view parts) bs c.in_err-text.field-0.0) c.as_slice-9.ensures.value
+    (subst (λ (xs : List Part). IsPageError page c.first_of-place.result (parts_view xs) c.as_slice-9.result.now c.in_err-text.field-0.0) c.as_slice-8.ensures.value
     c.in_err-text.ensures.error)))

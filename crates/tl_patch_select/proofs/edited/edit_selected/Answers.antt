@@ -1,4 +1,5 @@
 use Rattle.std.proofs.Common.{rules, ◌≡◌, Err, List, ℕ, subst, sym}
+use Rattle.tl_patch_edit.specs.Kept.{KeepRawTexts}
 use Rattle.tl_patch_edit.specs.Several.{AreEdited}
 use Rattle.tl_patch_edit.specs.View.{patch_view}
 use Rattle.tl_patch_edit.specs.declared.error.EditError.{EditError}
@@ -21,6 +22,12 @@ returns-clause-edited c =
       edited = subst (λ (places : List ℕ). AreEdited (at_each (patch_view c.args.patch) places) page text) c.as_slice.ensures.value made;
     }
 
+pub returns-clause-kept : goal.returns-clause-kept
+returns-clause-kept c =
+    let page : List ℕ = c.args.page.now in
+    let kept : KeepRawTexts (at_each (patch_view c.args.patch) c.as_slice.result.now) page = search rules in
+    subst (λ (places : List ℕ). KeepRawTexts (at_each (patch_view c.args.patch) places) page) c.as_slice.ensures.value kept
+
 pub returns-in_err-bytes-clause-refused : goal.returns-in_err-bytes-clause-refused
 returns-in_err-bytes-clause-refused c = λ error h.
     let page : List ℕ = c.args.page.now in
@@ -34,6 +41,7 @@ returns-in_err-bytes-clause-refused c = λ error h.
       past_end = λ p q. search (rules, q);
       not_written = λ p q. search (rules, q);
       across = λ p q. search (rules, q);
+      misread = λ p by q. search (rules, q);
       read_otherwise = λ p q. search (rules, q);
     } in
     refused_where c.args.selector.now page c.as_slice.result.now patch c.patch_elements.result e c.from_residual-in_err-bytes.result error
