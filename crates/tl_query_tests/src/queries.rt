@@ -418,7 +418,7 @@ fn collections_are_asked_by_another_table(rt: HostRuntime) -> Result<(), Fail> {
             place: *place,
             wanted,
         };
-        let answered = both_answer(rt.alloc(), (*page, options), ("y", options), &asked)?;
+        let answered = both_answer(rt.alloc(), &(*page, options), &("y", options), &asked)?;
         assert!(rt; answered, "{page} {wanted:?}");
     }
     Ok(())
@@ -657,7 +657,7 @@ impl AskBoth for IteratorEnds {
 fn iterators_end(rt: HostRuntime) -> Result<(), Fail> {
     let options = ParserOptions::new();
     let page = ("<a>x<b></b></a>", options);
-    let end = both_answer(rt.alloc(), page, ("y", options), &IteratorEnds)?;
+    let end = both_answer(rt.alloc(), &page, &("y", options), &IteratorEnds)?;
     assert!(rt; end);
     Ok(())
 }

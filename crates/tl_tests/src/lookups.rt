@@ -175,7 +175,7 @@ fn maps_and_scans(rt: HostRuntime) -> Result<(), Fail> {
     for (page, _, _) in &READ {
         let tracked = (*page, both());
         let untracked = (*page, ParserOptions::new());
-        let agree = both_answer(rt.alloc(), tracked, untracked, &Alike)?;
+        let agree = both_answer(rt.alloc(), &tracked, &untracked, &Alike)?;
         assert!(rt; agree, "{page}");
     }
     Ok(())

@@ -51,8 +51,12 @@ pub fn answers<A: Ask>(
 }
 
 // The document of a page, which keeps it or borrows it.
-fn read(alloc: Global, page: Page, keeps: bool) -> Result<VDom<'static>, Fail> {
-    let (text, options) = page;
+fn read(
+    alloc: Global,
+    text: &'static str,
+    options: ParserOptions,
+    keeps: bool,
+) -> Result<VDom<'static>, Fail> {
     let mut document = parse(alloc, text, options)?;
     if keeps {
         let mut guard = owned_page(alloc, text, options)?;
@@ -65,13 +69,13 @@ fn read(alloc: Global, page: Page, keeps: bool) -> Result<VDom<'static>, Fail> {
 /// them.
 pub fn both_answer<A: AskBoth>(
     alloc: Global,
-    first: Page,
-    second: Page,
+    first: &Page,
+    second: &Page,
     asked: &A,
 ) -> Result<bool, Fail> {
     for keeps in [false, true] {
-        let document = read(alloc, first, keeps)?;
-        let other = read(alloc, second, keeps)?;
+        let document = read(alloc, first.0, first.1, keeps)?;
+        let other = read(alloc, second.0, second.1, keeps)?;
         if !asked.is_answered(alloc, &document, &other)? {
             return Ok(false);
         }

@@ -170,7 +170,7 @@ fn prints_over_tables(rt: HostRuntime) -> Result<(), Fail> {
     let options = ParserOptions::new();
     for (other, wanted) in &OVER {
         let asked = PrintsOver(wanted);
-        let holds = both_answer(rt.alloc(), (NESTED, options), (*other, options), &asked)?;
+        let holds = both_answer(rt.alloc(), &(NESTED, options), &(*other, options), &asked)?;
         assert!(rt; holds, "over {other}");
     }
     Ok(())
