@@ -1,10 +1,10 @@
 //! The calls of a tag's attributes.
-use crate::edits::{Edit, Part};
-use crate::owned_pages::read;
+use crate::page_edits::{Edit, Part};
+use crate::pages::{Ask, answers};
 use crate::show::{Look, Row, all_show, first_of, show_pairs, show_value};
 use std::alloc::{AllocError, Global};
 use std::test::Fail;
-use tl::{Attributes, Bytes, ParserOptions};
+use tl::{Attributes, Bytes, ParserOptions, VDom};
 
 const PAGE: &str = "<p a=1 b=2 c=3 id=i class=k a=4>";
 
@@ -98,7 +98,7 @@ static CALLS: [(&[Call], &str); 12] = [
 ];
 
 fn remove(
-    attributes: &mut Attributes<'static>,
+    attributes: &mut Attributes<'_>,
     key: &'static str,
     out: &mut String,
 ) -> Result<(), AllocError> {
@@ -109,7 +109,7 @@ fn remove(
 }
 
 fn remove_value(
-    attributes: &mut Attributes<'static>,
+    attributes: &mut Attributes<'_>,
     key: &'static str,
     out: &mut String,
 ) -> Result<(), AllocError> {
@@ -117,18 +117,14 @@ fn remove_value(
     show_value(value.as_ref(), out)
 }
 
-fn write(attributes: &mut Attributes<'static>, key: &'static str) {
+fn write(attributes: &mut Attributes<'_>, key: &'static str) {
     if let Some(Some(value)) = attributes.get_mut(Bytes::from(key)) {
         *value = Bytes::from("w");
     }
 }
 
 // Makes a call, and writes what it takes out.
-fn make(
-    attributes: &mut Attributes<'static>,
-    call: &Call,
-    out: &mut String,
-) -> Result<(), AllocError> {
+fn make(attributes: &mut Attributes<'_>, call: &Call, out: &mut String) -> Result<(), AllocError> {
     match call {
         Call::Remove(key) => remove(attributes, key, out),
         Call::RemoveValue(key) => remove_value(attributes, key, out),
@@ -144,7 +140,7 @@ fn make(
 }
 
 fn make_all(
-    attributes: &mut Attributes<'static>,
+    attributes: &mut Attributes<'_>,
     calls: &[Call],
     out: &mut String,
 ) -> Result<(), AllocError> {
@@ -157,38 +153,36 @@ fn make_all(
     Ok(())
 }
 
-// A clone of the attributes of the page's tag.
-fn copy_attributes(alloc: Global, keeps: bool) -> Result<Attributes<'static>, Fail> {
-    let document = read(alloc, PAGE, ParserOptions::new(), keeps)?;
-    Ok(first_of(&document)?.clone()?)
+// Whether the calls in turn, on a clone of the attributes of the first tag, show this.
+#[derive(Clone, Copy)]
+struct Calls<'r> {
+    calls: &'r [Call],
+    wanted: &'r str,
 }
 
-fn calls_on(
+fn calls_show(
     alloc: Global,
-    attributes: &mut Attributes<'static>,
-    calls: &[Call],
-    wanted: &str,
+    attributes: &mut Attributes<'_>,
+    asked: &Calls<'_>,
 ) -> Result<bool, Fail> {
     let mut out = String::new(alloc);
-    make_all(attributes, calls, &mut out)?;
-    Ok(out.as_str() == wanted)
+    make_all(attributes, asked.calls, &mut out)?;
+    Ok(out.as_str() == asked.wanted)
 }
 
-// Whether the calls in turn, on a clone of the page's attributes, show this.
-fn calls_show(alloc: Global, calls: &[Call], wanted: &str, keeps: bool) -> Result<bool, Fail> {
-    match copy_attributes(alloc, keeps) {
-        Ok(mut attributes) => calls_on(alloc, &mut attributes, calls, wanted),
-        Err(fail) => Err(fail),
+impl Ask for Calls<'_> {
+    fn is_answered(&self, alloc: Global, document: &VDom<'_>) -> Result<bool, Fail> {
+        let mut attributes = first_of(document)?.clone()?;
+        calls_show(alloc, &mut attributes, self)
     }
 }
 
 #[test]
 fn calls_that_write(rt: HostRuntime) -> Result<(), Fail> {
     for (calls, wanted) in &CALLS {
-        let borrowed = calls_show(rt.alloc(), calls, wanted, false)?;
-        assert!(rt; borrowed, "{wanted}");
-        let kept = calls_show(rt.alloc(), calls, wanted, true)?;
-        assert!(rt; kept, "kept: {wanted}");
+        let asked = Calls { calls, wanted };
+        let shown = answers(rt.alloc(), PAGE, ParserOptions::new(), &[], &asked)?;
+        assert!(rt; shown, "{wanted}");
     }
     Ok(())
 }

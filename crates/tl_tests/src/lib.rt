@@ -1,10 +1,9 @@
-//! Worked rows and vectors, over the public calls of `tl`.
+//! Worked rows and vectors, over the public calls of `tl`; and pages as tests ask them, each read
+//! twice, so that its document borrows it and keeps it, and edited.
 #![tactic(auto)]
 
 #[cfg(test)]
 mod attributes;
-#[cfg(test)]
-mod chains;
 #[cfg(test)]
 mod edits;
 #[cfg(test)]
@@ -13,16 +12,12 @@ mod errors;
 mod lookups;
 #[cfg(test)]
 mod owned_pages;
-#[cfg(test)]
-mod paths;
+pub mod page_edits;
+pub mod pages;
 #[cfg(test)]
 mod prints;
 #[cfg(test)]
-mod queries;
-#[cfg(test)]
 mod reading;
-#[cfg(test)]
-mod selector_texts;
 #[cfg(test)]
 mod show;
 #[cfg(test)]

@@ -1,6 +1,6 @@
 //! Lookups by id and by class, with maps and without.
-use crate::edits::{Edit, Part, edit_all};
-use crate::owned_pages::{owned_page, read};
+use crate::page_edits::{Edit, Part};
+use crate::pages::{Ask, AskBoth, answers, both_answer, owned_page};
 use std::alloc::Global;
 use std::test::Fail;
 use tl::{Bytes, ElementsByClassName, NodeHandle, ParserOptions, VDom, parse};
@@ -30,10 +30,20 @@ fn is_first(handle: Option<NodeHandle>, wanted: &[u32]) -> bool {
     }
 }
 
-fn finds(document: &VDom<'_>, sought: &Sought, wanted: &[u32]) -> bool {
-    match sought {
-        Sought::Id(id) => is_first(document.get_element_by_id(Bytes::from(*id)), wanted),
-        Sought::Class(member) => gives(document.get_elements_by_class_name(member), wanted),
+// Whether what is looked up is found where it must.
+#[derive(Clone, Copy)]
+struct Finds<'r> {
+    sought: &'r Sought,
+    wanted: &'r [u32],
+}
+
+impl Ask for Finds<'_> {
+    fn is_answered(&self, _alloc: Global, document: &VDom<'_>) -> Result<bool, Fail> {
+        let wanted = self.wanted;
+        match self.sought {
+            Sought::Id(id) => Ok(is_first(document.get_element_by_id(Bytes::from(*id)), wanted)),
+            Sought::Class(member) => Ok(gives(document.get_elements_by_class_name(member), wanted)),
+        }
     }
 }
 
@@ -115,25 +125,13 @@ const TWICE: &str = "<img id=\"x\"><p id=\"x\" class=\"k k\">";
 
 const SPACES: &str = "<p class=\"a\tb\nc\x0cd\re f\">";
 
-// Whether a page is answered so.
-fn reads(
-    alloc: Global,
-    page: &'static str,
-    options: ParserOptions,
-    sought: &Sought,
-    wanted: &[u32],
-) -> Result<bool, Fail> {
-    let document = parse(alloc, page, options)?;
-    let guard = owned_page(alloc, page, options)?;
-    Ok(finds(&document, sought, wanted) && finds(guard.get_ref(), sought, wanted))
-}
-
 #[test]
 fn what_was_read(rt: HostRuntime) -> Result<(), Fail> {
     for (page, sought, wanted) in &READ {
+        let asked = Finds { sought, wanted };
         for number in 0..4 {
             let options = ParserOptions::from_raw_checked(number).unwrap_or_default();
-            let found = reads(rt.alloc(), page, options, sought, wanted)?;
+            let found = answers(rt.alloc(), page, options, &[], &asked)?;
             assert!(rt; found, "{page} with the options {number}");
         }
     }
@@ -152,29 +150,33 @@ fn agree(one: &VDom<'_>, other: &VDom<'_>, sought: &Sought) -> bool {
     }
 }
 
-fn agree_on_all(tracked: &VDom<'_>, untracked: &VDom<'_>) -> bool {
-    for (_, sought, _) in &READ {
-        if !agree(tracked, untracked, sought) {
-            return false;
-        }
-    }
-    true
-}
+// Whether whatever any row looks up is found alike, with maps and without.
+#[derive(Clone, Copy)]
+struct Alike;
 
-// Whether whatever any row looks up is found alike in a page, with maps and without.
-fn agrees(alloc: Global, page: &'static str, keeps: bool) -> Result<bool, Fail> {
-    let tracked = read(alloc, page, both(), keeps)?;
-    let untracked = read(alloc, page, ParserOptions::new(), keeps)?;
-    Ok(agree_on_all(&tracked, &untracked))
+impl AskBoth for Alike {
+    fn is_answered<'a>(
+        &self,
+        _alloc: Global,
+        first: &VDom<'a>,
+        second: &VDom<'a>,
+    ) -> Result<bool, Fail> {
+        for (_, sought, _) in &READ {
+            if !agree(first, second, sought) {
+                return Ok(false);
+            }
+        }
+        Ok(true)
+    }
 }
 
 #[test]
 fn maps_and_scans(rt: HostRuntime) -> Result<(), Fail> {
     for (page, _, _) in &READ {
-        let borrowed = agrees(rt.alloc(), page, false)?;
-        assert!(rt; borrowed, "{page}");
-        let kept = agrees(rt.alloc(), page, true)?;
-        assert!(rt; kept, "{page}, kept");
+        let tracked = (*page, both());
+        let untracked = (*page, ParserOptions::new());
+        let agree = both_answer(rt.alloc(), &tracked, &untracked, &Alike)?;
+        assert!(rt; agree, "{page}");
     }
     Ok(())
 }
@@ -224,85 +226,83 @@ static EDITED: [EditedRow; 20] = [
     (TWO, &[Edit::Push(0, 1)], Sought::Id(b"b"), &[1], &[1]),
 ];
 
-// Whether a document is answered so once it was edited.
-fn finds_then(document: &mut VDom<'static>, row: &EditedRow, wanted: &[u32]) -> Result<bool, Fail> {
-    let (_, edits, sought, _, _) = row;
-    edit_all(document, edits)?;
-    Ok(finds(document, sought, wanted))
-}
-
-// Whether an edited page is answered so, whether its document borrows its text or keeps it.
-fn finds_edited(
-    alloc: Global,
-    row: &EditedRow,
-    options: ParserOptions,
-    wanted: &[u32],
-) -> Result<bool, Fail> {
-    let (page, _, _, _, _) = *row;
-    let mut document = parse(alloc, page, options)?;
-    if !finds_then(&mut document, row, wanted)? {
-        return Ok(false);
-    }
-    let mut guard = owned_page(alloc, page, options)?;
-    finds_then(guard.get_mut_ref(), row, wanted)
-}
-
 #[test]
 fn what_was_edited(rt: HostRuntime) -> Result<(), Fail> {
-    for (at, row) in EDITED.iter().enumerate() {
-        let (_, _, _, by_maps, by_scans) = row;
-        let tracked = finds_edited(rt.alloc(), row, both(), by_maps)?;
+    for (at, (page, edits, sought, by_maps, by_scans)) in EDITED.iter().enumerate() {
+        let asked = Finds {
+            sought,
+            wanted: by_maps,
+        };
+        let tracked = answers(rt.alloc(), page, both(), edits, &asked)?;
         assert!(rt; tracked, "row {at} with maps");
-        let untracked = finds_edited(rt.alloc(), row, ParserOptions::new(), by_scans)?;
+        let asked = Finds {
+            sought,
+            wanted: by_scans,
+        };
+        let untracked = answers(rt.alloc(), page, ParserOptions::new(), edits, &asked)?;
         assert!(rt; untracked, "row {at} without");
     }
     Ok(())
 }
 
 // Whether a clone of what is left goes on where it was taken, and leaves the first one as it is.
-fn clone_goes_on(document: &VDom<'_>) -> Result<bool, Fail> {
-    let mut handles = document.get_elements_by_class_name("k");
-    let first = handles.next();
-    let copy = handles.clone()?;
-    Ok(first == Some(NodeHandle::new(0)) && gives(copy, &[1, 2]) && gives(handles, &[1, 2]))
-}
+#[derive(Clone, Copy)]
+struct CloneGoesOn;
 
-fn clones(alloc: Global, options: ParserOptions) -> Result<bool, Fail> {
-    let document = parse(alloc, "<p class=k><p class=k><p class=k>", options)?;
-    let guard = owned_page(alloc, "<p class=k><p class=k><p class=k>", options)?;
-    Ok(clone_goes_on(&document)? && clone_goes_on(guard.get_ref())?)
+impl Ask for CloneGoesOn {
+    fn is_answered(&self, _alloc: Global, document: &VDom<'_>) -> Result<bool, Fail> {
+        let mut handles = document.get_elements_by_class_name("k");
+        let first = handles.next();
+        let copy = handles.clone()?;
+        Ok(first == Some(NodeHandle::new(0)) && gives(copy, &[1, 2]) && gives(handles, &[1, 2]))
+    }
 }
 
 #[test]
 fn clones_of_what_is_left(rt: HostRuntime) -> Result<(), Fail> {
-    let tracked = clones(rt.alloc(), both())?;
-    assert!(rt; tracked, "with maps");
-    let untracked = clones(rt.alloc(), ParserOptions::new())?;
-    assert!(rt; untracked, "without");
+    for options in [both(), ParserOptions::new()] {
+        let page = "<p class=k><p class=k><p class=k>";
+        let goes_on = answers(rt.alloc(), page, options, &[], &CloneGoesOn)?;
+        assert!(rt; goes_on, "{options:?}");
+    }
     Ok(())
 }
 
 // Whether the tag with an id, which need not live as long as the document, has this text.
-fn has_text(alloc: Global, document: &VDom<'_>, id: &str, wanted: &str) -> Result<bool, Fail> {
-    let parser = document.parser();
-    match document.get_element_by_id(Bytes::from(id)) {
-        Some(handle) => match handle.get(parser) {
-            Some(node) => Ok(node.inner_text(alloc, parser)?.as_str() == wanted),
+#[derive(Clone, Copy)]
+struct HasText<'r> {
+    id: &'r str,
+    wanted: &'r str,
+}
+
+impl Ask for HasText<'_> {
+    fn is_answered(&self, alloc: Global, document: &VDom<'_>) -> Result<bool, Fail> {
+        let parser = document.parser();
+        match document.get_element_by_id(Bytes::from(self.id)) {
+            Some(handle) => match handle.get(parser) {
+                Some(node) => Ok(node.inner_text(alloc, parser)?.as_str() == self.wanted),
+                None => Ok(false),
+            },
             None => Ok(false),
-        },
-        None => Ok(false),
+        }
     }
 }
 
 #[test]
 fn text_of_an_id(rt: HostRuntime) -> Result<(), Fail> {
-    let document = parse(rt.alloc(), "<a id=u54423>Hello World</a>", both())?;
-    let guard = owned_page(rt.alloc(), "<a id=u54423>Hello World</a>", both())?;
     let id = format!(in rt.alloc(); "u{}", 54423)?;
-    let found = has_text(rt.alloc(), &document, id.as_str(), "Hello World")?;
+    let asked = HasText {
+        id: id.as_str(),
+        wanted: "Hello World",
+    };
+    let found = answers(
+        rt.alloc(),
+        "<a id=u54423>Hello World</a>",
+        both(),
+        &[],
+        &asked,
+    )?;
     assert!(rt; found);
-    let kept = has_text(rt.alloc(), guard.get_ref(), id.as_str(), "Hello World")?;
-    assert!(rt; kept);
     Ok(())
 }
 

@@ -1,30 +1,10 @@
 //! Documents that keep their text.
+use crate::pages::{Ask, answers, owned_page};
 use std::alloc::Global;
+use std::io;
 use std::io::Read;
 use std::test::Fail;
-use std::{io, mem};
 use tl::{Bytes, Node, NodeHandle, ParserOptions, VDom, VDomGuard, parse, parse_owned};
-
-// A page that its document keeps.
-pub fn owned_page(alloc: Global, page: &str, options: ParserOptions) -> Result<VDomGuard, Fail> {
-    let text = String::from_str(alloc, page)?;
-    Ok(parse_owned(alloc, text, options)?)
-}
-
-// The document of a page, which keeps it or borrows it.
-pub fn read(
-    alloc: Global,
-    page: &'static str,
-    options: ParserOptions,
-    keeps: bool,
-) -> Result<VDom<'static>, Fail> {
-    let mut document = parse(alloc, page, options)?;
-    if keeps {
-        let mut guard = owned_page(alloc, page, options)?;
-        mem::swap(document.parser_mut(), guard.get_mut_ref().parser_mut());
-    }
-    Ok(document)
-}
 
 // Whether the document is one comment without bytes, which are there for good or not.
 fn is_empty_comment(document: &VDom<'_>, for_good: bool) -> bool {
@@ -38,12 +18,17 @@ fn is_empty_comment(document: &VDom<'_>, for_good: bool) -> bool {
     }
 }
 
+// Whether they are there for good where the page is borrowed, and not where it is kept.
+fn empty_pieces_are_shared(alloc: Global) -> Result<bool, Fail> {
+    let document = parse(alloc, "<!--a", ParserOptions::new())?;
+    let guard = owned_page(alloc, "<!--a", ParserOptions::new())?;
+    Ok(is_empty_comment(&document, true) && is_empty_comment(guard.get_ref(), false))
+}
+
 #[test]
 fn empty_pieces_are_shares(rt: HostRuntime) -> Result<(), Fail> {
-    let document = parse(rt.alloc(), "<!--a", ParserOptions::new())?;
-    assert!(rt; is_empty_comment(&document, true));
-    let guard = owned_page(rt.alloc(), "<!--a", ParserOptions::new())?;
-    assert!(rt; is_empty_comment(guard.get_ref(), false));
+    let shared = empty_pieces_are_shared(rt.alloc())?;
+    assert!(rt; shared);
     Ok(())
 }
 
@@ -61,21 +46,22 @@ fn has_text(alloc: Global, document: &VDom<'_>, wanted: &str) -> bool {
 }
 
 // Whether the page has its text and its id.
-fn is_hello(alloc: Global, options: ParserOptions, keeps: bool) -> Result<bool, Fail> {
-    let document = read(alloc, HELLO, options, keeps)?;
-    let found = document.get_element_by_id(Bytes::from("test"));
-    Ok(found == Some(NodeHandle::new(0)) && has_text(alloc, &document, "hello"))
+#[derive(Clone, Copy)]
+struct IsHello;
+
+impl Ask for IsHello {
+    fn is_answered(&self, alloc: Global, document: &VDom<'_>) -> Result<bool, Fail> {
+        let found = document.get_element_by_id(Bytes::from("test"));
+        Ok(found == Some(NodeHandle::new(0)) && has_text(alloc, document, "hello"))
+    }
 }
 
 #[test]
 fn texts_and_ids(rt: HostRuntime) -> Result<(), Fail> {
-    let alloc = rt.alloc();
     for number in 0..4 {
         let options = ParserOptions::from_raw_checked(number).unwrap_or_default();
-        let borrowed = is_hello(alloc, options, false)?;
-        assert!(rt; borrowed, "with the options {number}");
-        let kept = is_hello(alloc, options, true)?;
-        assert!(rt; kept, "kept, with the options {number}");
+        let is_hello = answers(rt.alloc(), HELLO, options, &[], &IsHello)?;
+        assert!(rt; is_hello, "with the options {number}");
     }
     Ok(())
 }
@@ -108,14 +94,16 @@ fn names_are_set(alloc: Global, document: &mut VDom<'static>) -> Result<bool, Fa
     )
 }
 
+fn names_are_set_in_both(alloc: Global) -> Result<bool, Fail> {
+    let mut guard = owned_page(alloc, HELLO, ParserOptions::new())?;
+    let mut document = parse(alloc, HELLO, ParserOptions::new())?;
+    Ok(names_are_set(alloc, guard.get_mut_ref())? && names_are_set(alloc, &mut document)?)
+}
+
 #[test]
 fn a_name_that_is_set_is_owned(rt: HostRuntime) -> Result<(), Fail> {
-    let mut guard = owned_page(rt.alloc(), HELLO, ParserOptions::new())?;
-    let kept = names_are_set(rt.alloc(), guard.get_mut_ref())?;
-    assert!(rt; kept);
-    let mut document = parse(rt.alloc(), HELLO, ParserOptions::new())?;
-    let borrowed = names_are_set(rt.alloc(), &mut document)?;
-    assert!(rt; borrowed);
+    let set = names_are_set_in_both(rt.alloc())?;
+    assert!(rt; set);
     Ok(())
 }
 

@@ -1,5 +1,5 @@
 //! Pages, and what they print.
-use crate::show::{Look, all_look, shows};
+use crate::show::{Look, all_look};
 use std::test::Fail;
 
 #[rattlefmt::skip]
@@ -24,8 +24,7 @@ static UNCHANGED: [&str; 15] = [
 #[test]
 fn pages_that_print_themselves(rt: HostRuntime) -> Result<(), Fail> {
     for page in &UNCHANGED {
-        let shown = shows(rt.alloc(), page, &[], &Look::Print, page)?;
-        assert!(rt; shown, "{page}");
+        all_look(&rt, rt.alloc(), &Look::Print, &[(*page, *page)])?;
     }
     Ok(())
 }

@@ -1,5 +1,5 @@
 //! Pages, and the tables that are read.
-use crate::owned_pages::{owned_page, read};
+use crate::pages::{Ask, AskBoth, answers, both_answer, owned_page};
 use crate::show::{Look, all_look};
 use std::alloc::Global;
 use std::mem::size_of;
@@ -95,23 +95,21 @@ static VERSIONS: [(&str, Option<HTMLVersion>); 9] = [
     ("<p>x</p>", None),
 ];
 
-fn has_version(
-    alloc: Global,
-    page: &'static str,
-    version: &Option<HTMLVersion>,
-    keeps: bool,
-) -> Result<bool, Fail> {
-    let document = read(alloc, page, ParserOptions::default(), keeps)?;
-    Ok(document.version() == *version)
+#[derive(Clone, Copy)]
+struct HasVersion(Option<HTMLVersion>);
+
+impl Ask for HasVersion {
+    fn is_answered(&self, _alloc: Global, document: &VDom<'_>) -> Result<bool, Fail> {
+        Ok(document.version() == self.0)
+    }
 }
 
 #[test]
 fn versions(rt: HostRuntime) -> Result<(), Fail> {
     for (page, version) in &VERSIONS {
-        let borrowed = has_version(rt.alloc(), page, version, false)?;
-        assert!(rt; borrowed, "{page}");
-        let kept = has_version(rt.alloc(), page, version, true)?;
-        assert!(rt; kept, "{page}, kept");
+        let asked = HasVersion(*version);
+        let holds = answers(rt.alloc(), page, ParserOptions::default(), &[], &asked)?;
+        assert!(rt; holds, "{page}");
     }
     Ok(())
 }
@@ -150,36 +148,30 @@ fn is_wanted(made: &Result<String, TreeError>, wanted: &Result<&str, u32>) -> bo
 }
 
 // Whether the print of node 1 over the table of the other document is the one that is wanted.
-fn prints_over(
-    alloc: Global,
-    document: &VDom<'static>,
-    other: &VDom<'static>,
-    wanted: &Result<&str, u32>,
-) -> bool {
-    match NodeHandle::new(1).get(document.parser()) {
-        Some(node) => is_wanted(&node.outer_html(alloc, other.parser()), wanted),
-        None => false,
-    }
-}
+#[derive(Clone, Copy)]
+struct PrintsOver(&'static Result<&'static str, u32>);
 
-fn page_prints_over(
-    alloc: Global,
-    other: &'static str,
-    wanted: &Result<&str, u32>,
-    keeps: bool,
-) -> Result<bool, Fail> {
-    let document = read(alloc, NESTED, ParserOptions::new(), keeps)?;
-    let other = read(alloc, other, ParserOptions::new(), keeps)?;
-    Ok(prints_over(alloc, &document, &other, wanted))
+impl AskBoth for PrintsOver {
+    fn is_answered<'a>(
+        &self,
+        alloc: Global,
+        first: &VDom<'a>,
+        second: &VDom<'a>,
+    ) -> Result<bool, Fail> {
+        match NodeHandle::new(1).get(first.parser()) {
+            Some(node) => Ok(is_wanted(&node.outer_html(alloc, second.parser()), self.0)),
+            None => Ok(false),
+        }
+    }
 }
 
 #[test]
 fn prints_over_tables(rt: HostRuntime) -> Result<(), Fail> {
+    let options = ParserOptions::new();
     for (other, wanted) in &OVER {
-        let borrowed = page_prints_over(rt.alloc(), other, wanted, false)?;
-        assert!(rt; borrowed, "over {other}");
-        let kept = page_prints_over(rt.alloc(), other, wanted, true)?;
-        assert!(rt; kept, "over {other}, kept");
+        let asked = PrintsOver(wanted);
+        let holds = both_answer(rt.alloc(), &(NESTED, options), &(*other, options), &asked)?;
+        assert!(rt; holds, "over {other}");
     }
     Ok(())
 }

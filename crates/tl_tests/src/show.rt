@@ -1,6 +1,6 @@
 //! Rows of pages: what is done to a document, what is looked at then, and what that shows.
-use crate::edits::{Edit, edit_all};
-use crate::owned_pages::owned_page;
+use crate::page_edits::Edit;
+use crate::pages::{Ask, answers};
 use std::alloc::{AllocError, Global};
 use std::fmt::Write;
 use std::process::Abort;
@@ -8,7 +8,7 @@ use std::test::Fail;
 use tl::errors::TreeError;
 use tl::{
     Attributes, Bytes, HTMLTag, IdSummary, Node, NodeHandle, Parser, ParserOptions, Summary,
-    SummaryOf, VDom, parse,
+    SummaryOf, VDom,
 };
 
 // What is looked at.
@@ -41,10 +41,26 @@ pub enum Look {
 // A page, what is done to its document, what is looked at then, and what that shows.
 pub type Row = (&'static str, &'static [Edit], Look, &'static str);
 
+// Whether what is looked at shows this.
+#[derive(Clone, Copy)]
+struct Shown<'r> {
+    look: &'r Look,
+    wanted: &'r str,
+}
+
+impl Ask for Shown<'_> {
+    fn is_answered(&self, alloc: Global, document: &VDom<'_>) -> Result<bool, Fail> {
+        let mut out = String::new(alloc);
+        show(alloc, document, self.look, &mut out)?;
+        Ok(out.as_str() == self.wanted)
+    }
+}
+
 // Each row shows what it must.
 pub fn all_show(rt: &impl Abort, alloc: Global, rows: &[Row]) -> Result<(), Fail> {
     for (at, (page, edits, look, wanted)) in rows.iter().enumerate() {
-        let shown = shows(alloc, page, edits, look, wanted)?;
+        let asked = Shown { look, wanted };
+        let shown = answers(alloc, page, ParserOptions::new(), edits, &asked)?;
         assert!(rt; shown, "row {at}: {page} must show {wanted}");
     }
     Ok(())
@@ -58,48 +74,14 @@ pub fn all_look(
     rows: &[(&'static str, &'static str)],
 ) -> Result<(), Fail> {
     for (page, wanted) in rows {
-        let shown = shows(alloc, page, &[], look, wanted)?;
+        let asked = Shown { look, wanted };
+        let shown = answers(alloc, page, ParserOptions::new(), &[], &asked)?;
         assert!(rt; shown, "{page} must show {wanted}");
     }
     Ok(())
 }
 
-// Whether a page shows this, whether its document borrows its text or keeps it.
-pub fn shows(
-    alloc: Global,
-    page: &'static str,
-    edits: &[Edit],
-    look: &Look,
-    wanted: &str,
-) -> Result<bool, Fail> {
-    let mut document = parse(alloc, page, ParserOptions::new())?;
-    if !shows_then(alloc, &mut document, edits, look, wanted)? {
-        return Ok(false);
-    }
-    let mut guard = owned_page(alloc, page, ParserOptions::new())?;
-    shows_then(alloc, guard.get_mut_ref(), edits, look, wanted)
-}
-
-// Whether a document shows this once it was edited.
-fn shows_then(
-    alloc: Global,
-    document: &mut VDom<'static>,
-    edits: &[Edit],
-    look: &Look,
-    wanted: &str,
-) -> Result<bool, Fail> {
-    edit_all(document, edits)?;
-    let mut out = String::new(alloc);
-    show(alloc, document, look, &mut out)?;
-    Ok(out.as_str() == wanted)
-}
-
-fn show(
-    alloc: Global,
-    document: &VDom<'static>,
-    look: &Look,
-    out: &mut String,
-) -> Result<(), Fail> {
+fn show(alloc: Global, document: &VDom<'_>, look: &Look, out: &mut String) -> Result<(), Fail> {
     match look {
         Look::Print => show_reading(document.outer_html(alloc), out),
         Look::Text => show_reading(document.inner_text(alloc), out),
@@ -179,9 +161,9 @@ fn show_numbers(handles: &[NodeHandle], out: &mut String) -> Result<(), AllocErr
 }
 
 // Writes a tag: name, pairs, children, where it stands, raw.
-fn show_tag(
-    tag: &HTMLTag<'static>,
-    parser: &Parser<'static>,
+fn show_tag<'a>(
+    tag: &HTMLTag<'a>,
+    parser: &Parser<'a>,
     out: &mut String,
 ) -> Result<(), AllocError> {
     out.push_str("tag ")?;
@@ -200,11 +182,7 @@ fn show_text(kind: &str, text: &Bytes<'_>, out: &mut String) -> Result<(), Alloc
     show_bytes(text, out)
 }
 
-fn show_node(
-    node: &Node<'static>,
-    parser: &Parser<'static>,
-    out: &mut String,
-) -> Result<(), AllocError> {
+fn show_node<'a>(node: &Node<'a>, parser: &Parser<'a>, out: &mut String) -> Result<(), AllocError> {
     match node {
         Node::Tag(tag) => show_tag(tag, parser, out),
         Node::Raw(bytes) => show_text("text ", bytes, out),
@@ -212,7 +190,7 @@ fn show_node(
     }
 }
 
-fn show_table(document: &VDom<'static>, out: &mut String) -> Result<(), Fail> {
+fn show_table(document: &VDom<'_>, out: &mut String) -> Result<(), Fail> {
     for node in document.nodes() {
         show_node(node, document.parser(), out)?;
         out.push('|')?;
@@ -221,7 +199,7 @@ fn show_table(document: &VDom<'static>, out: &mut String) -> Result<(), Fail> {
 }
 
 // The node of a number.
-fn node_of<'d>(document: &'d VDom<'static>, number: u32) -> Result<&'d Node<'static>, Fail> {
+fn node_of<'d, 'a>(document: &'d VDom<'a>, number: u32) -> Result<&'d Node<'a>, Fail> {
     match NodeHandle::new(number).get(document.parser()) {
         Some(node) => Ok(node),
         None => Err(Fail::from("no such node")),
@@ -230,7 +208,7 @@ fn node_of<'d>(document: &'d VDom<'static>, number: u32) -> Result<&'d Node<'sta
 
 fn show_texts(
     alloc: Global,
-    document: &VDom<'static>,
+    document: &VDom<'_>,
     number: u32,
     out: &mut String,
 ) -> Result<(), Fail> {
@@ -247,10 +225,10 @@ fn show_texts(
     }
 }
 
-fn show_tag_texts(
+fn show_tag_texts<'a>(
     alloc: Global,
-    tag: &HTMLTag<'static>,
-    parser: &Parser<'static>,
+    tag: &HTMLTag<'a>,
+    parser: &Parser<'a>,
     out: &mut String,
 ) -> Result<(), Fail> {
     show_reading(tag.inner_text(alloc, parser), out)?;
@@ -296,10 +274,10 @@ fn show_search(
 
 // What is seen is a text of the function's own: a closure that writes to what was lent gets no
 // proof here.
-fn show_search_below(
+fn show_search_below<'a>(
     alloc: Global,
-    node: &Node<'static>,
-    parser: &Parser<'static>,
+    node: &Node<'a>,
+    parser: &Parser<'a>,
     wanted: &str,
     out: &mut String,
 ) -> Result<(), Fail> {
@@ -308,10 +286,10 @@ fn show_search_below(
     show_search(seen.as_str(), answer, out)
 }
 
-fn show_search_among(
+fn show_search_among<'a>(
     alloc: Global,
-    tag: &HTMLTag<'static>,
-    parser: &Parser<'static>,
+    tag: &HTMLTag<'a>,
+    parser: &Parser<'a>,
     wanted: &str,
     out: &mut String,
 ) -> Result<(), Fail> {
@@ -322,7 +300,7 @@ fn show_search_among(
 
 fn show_searches(
     alloc: Global,
-    document: &VDom<'static>,
+    document: &VDom<'_>,
     number: u32,
     wanted: &str,
     out: &mut String,
@@ -344,7 +322,7 @@ pub fn first_of<'s, 'a>(document: &'s VDom<'a>) -> Result<&'s Attributes<'a>, Fa
     }
 }
 
-fn show_key(document: &VDom<'static>, key: &'static str, out: &mut String) -> Result<(), Fail> {
+fn show_key(document: &VDom<'_>, key: &'static str, out: &mut String) -> Result<(), Fail> {
     let attributes = first_of(document)?;
     match attributes.get(Bytes::from(key)) {
         Some(value) => show_value(value, out)?,
@@ -356,7 +334,7 @@ fn show_key(document: &VDom<'static>, key: &'static str, out: &mut String) -> Re
     Ok(())
 }
 
-fn show_measures(document: &VDom<'static>, out: &mut String) -> Result<(), Fail> {
+fn show_measures(document: &VDom<'_>, out: &mut String) -> Result<(), Fail> {
     let attributes = first_of(document)?;
     let others = attributes.unstable_raw();
     write!(out, "{} of {}: ", others.len(), attributes.len())?;
@@ -372,7 +350,7 @@ fn show_measures(document: &VDom<'static>, out: &mut String) -> Result<(), Fail>
     Ok(())
 }
 
-fn show_members(document: &VDom<'static>, out: &mut String) -> Result<(), Fail> {
+fn show_members(document: &VDom<'_>, out: &mut String) -> Result<(), Fail> {
     match first_of(document)?.class_iter() {
         Some(parts) => {
             for part in parts {
@@ -385,12 +363,12 @@ fn show_members(document: &VDom<'static>, out: &mut String) -> Result<(), Fail> 
     Ok(())
 }
 
-fn show_member(document: &VDom<'static>, class: &[u8], out: &mut String) -> Result<(), Fail> {
+fn show_member(document: &VDom<'_>, class: &[u8], out: &mut String) -> Result<(), Fail> {
     let found = first_of(document)?.is_class_member(class);
     Ok(write!(out, "{found}")?)
 }
 
-fn show_outlines(document: &VDom<'static>, out: &mut String) -> Result<(), Fail> {
+fn show_outlines(document: &VDom<'_>, out: &mut String) -> Result<(), Fail> {
     let attributes = first_of(document)?;
     show_summary(Summary::from_attributes(attributes), out)?;
     out.push('/')?;

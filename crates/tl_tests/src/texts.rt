@@ -1,5 +1,5 @@
 //! Texts of nodes, what they hold as markup, and searches below them.
-use crate::edits::Edit;
+use crate::page_edits::Edit;
 use crate::show::{Look, Row, all_show};
 use std::test::Fail;
 

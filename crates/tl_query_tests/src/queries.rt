@@ -1,6 +1,4 @@
 //! Selectors in documents: where they hold, and what queries and ranges give.
-use crate::edits::{Edit, Part, edit_all};
-use crate::owned_pages::read;
 use std::alloc::Global;
 use std::fmt::Write;
 use std::test::Fail;
@@ -9,6 +7,8 @@ use tl::queryselector::{QuerySelectorIterator, Selector};
 use tl::{
     Element, Node, NodeHandle, Parser, ParserOptions, QueryIterable, VDom, parse_query_selector,
 };
+use tl_tests::page_edits::{Edit, Part};
+use tl_tests::pages::{Ask, AskBoth, answers, both_answer};
 
 // Writes the numbers that a query gives, each with a space after it.
 fn show_all(found: QuerySelectorIterator<'_, '_>, out: &mut String) -> bool {
@@ -106,41 +106,39 @@ type Row = (
     &'static str,
 );
 
-fn query(alloc: Global, document: &VDom<'_>, row: &Row, out: &mut String) -> bool {
-    let (_, _, place, selector, _) = row;
-    match place {
-        Place::Document => show_found(document.query_selector(alloc, *selector), out),
-        Place::Tag(number) => query_tag(alloc, document, *number, *selector, out),
+// Whether a query gives what it must, by the text and by the selector that was read before.
+#[derive(Clone, Copy)]
+struct Gives<'r> {
+    place: &'r Place,
+    selector: &'r str,
+    wanted: &'r str,
+}
+
+fn query(alloc: Global, document: &VDom<'_>, asked: &Gives<'_>, out: &mut String) -> bool {
+    match asked.place {
+        Place::Document => show_found(document.query_selector(alloc, asked.selector), out),
+        Place::Tag(number) => query_tag(alloc, document, *number, asked.selector, out),
     }
 }
 
-fn query_by_new(alloc: Global, document: &VDom<'_>, row: &Row, out: &mut String) -> bool {
-    let (_, _, place, selector, _) = row;
-    match place {
-        Place::Document => ask(alloc, document.parser(), document, *selector, out),
-        Place::Tag(number) => ask_tag(alloc, document, *number, *selector, out),
+fn query_by_new(alloc: Global, document: &VDom<'_>, asked: &Gives<'_>, out: &mut String) -> bool {
+    match asked.place {
+        Place::Document => ask(alloc, document.parser(), document, asked.selector, out),
+        Place::Tag(number) => ask_tag(alloc, document, *number, asked.selector, out),
     }
 }
 
-// Whether a query gives what it must once the document was edited, by the text and by the selector
-// that was read before.
-fn gives(alloc: Global, document: &mut VDom<'static>, row: &Row) -> Result<bool, Fail> {
-    let (_, edits, _, _, wanted) = *row;
-    edit_all(document, edits)?;
-    let mut by_text = String::new(alloc);
-    let mut by_new = String::new(alloc);
-    Ok(
-        query(alloc, document, row, &mut by_text)
-            && by_text.as_str() == wanted
-            && query_by_new(alloc, document, row, &mut by_new)
-            && by_new.as_str() == wanted,
-    )
-}
-
-fn page_gives(alloc: Global, row: &Row, keeps: bool) -> Result<bool, Fail> {
-    let (page, _, _, _, _) = *row;
-    let mut document = read(alloc, page, ParserOptions::new(), keeps)?;
-    gives(alloc, &mut document, row)
+impl Ask for Gives<'_> {
+    fn is_answered(&self, alloc: Global, document: &VDom<'_>) -> Result<bool, Fail> {
+        let mut by_text = String::new(alloc);
+        let mut by_new = String::new(alloc);
+        Ok(
+            query(alloc, document, self, &mut by_text)
+                && by_text.as_str() == self.wanted
+                && query_by_new(alloc, document, self, &mut by_new)
+                && by_new.as_str() == self.wanted,
+        )
+    }
 }
 
 #[rattlefmt::skip]
@@ -214,12 +212,14 @@ static ROWS: [Row; 63] = [
 
 #[test]
 fn queries_give_what_selectors_hold_at(rt: HostRuntime) -> Result<(), Fail> {
-    for row in &ROWS {
-        let (page, _, _, selector, _) = row;
-        let borrowed = page_gives(rt.alloc(), row, false)?;
-        assert!(rt; borrowed, "{page} {selector:?}");
-        let kept = page_gives(rt.alloc(), row, true)?;
-        assert!(rt; kept, "{page} {selector:?}, kept");
+    for (page, edits, place, selector, wanted) in &ROWS {
+        let asked = Gives {
+            place,
+            selector,
+            wanted,
+        };
+        let given = answers(rt.alloc(), page, ParserOptions::new(), edits, &asked)?;
+        assert!(rt; given, "{page} {selector:?}");
     }
     Ok(())
 }
@@ -248,17 +248,17 @@ fn show_range(document: &VDom<'_>, number: u32, out: &mut String) -> bool {
 // number of nodes.
 type Range = (&'static str, &'static [Edit], u32, &'static str);
 
-fn has_range(alloc: Global, document: &mut VDom<'static>, row: &Range) -> Result<bool, Fail> {
-    let (_, edits, number, wanted) = *row;
-    edit_all(document, edits)?;
-    let mut out = String::new(alloc);
-    Ok(show_range(document, number, &mut out) && out.as_str() == wanted)
+#[derive(Clone, Copy)]
+struct HasRange<'r> {
+    number: u32,
+    wanted: &'r str,
 }
 
-fn page_has_range(alloc: Global, row: &Range, keeps: bool) -> Result<bool, Fail> {
-    let (page, _, _, _) = *row;
-    let mut document = read(alloc, page, ParserOptions::new(), keeps)?;
-    has_range(alloc, &mut document, row)
+impl Ask for HasRange<'_> {
+    fn is_answered(&self, alloc: Global, document: &VDom<'_>) -> Result<bool, Fail> {
+        let mut out = String::new(alloc);
+        Ok(show_range(document, self.number, &mut out) && out.as_str() == self.wanted)
+    }
 }
 
 #[rattlefmt::skip]
@@ -281,12 +281,13 @@ static RANGES: [Range; 12] = [
 
 #[test]
 fn ranges_end_at_the_last_on_the_way(rt: HostRuntime) -> Result<(), Fail> {
-    for row in &RANGES {
-        let (page, _, _, wanted) = row;
-        let borrowed = page_has_range(rt.alloc(), row, false)?;
-        assert!(rt; borrowed, "{page} {wanted:?}");
-        let kept = page_has_range(rt.alloc(), row, true)?;
-        assert!(rt; kept, "{page} {wanted:?}, kept");
+    for (page, edits, number, wanted) in &RANGES {
+        let asked = HasRange {
+            number: *number,
+            wanted,
+        };
+        let has = answers(rt.alloc(), page, ParserOptions::new(), edits, &asked)?;
+        assert!(rt; has, "{page} {wanted:?}");
     }
     Ok(())
 }
@@ -322,43 +323,36 @@ fn show_collection<'p, 'a, Q: QueryIterable<'a>>(
 // A page, what is done to its document, what is asked of it, a place, and what is answered there.
 type Collection = (&'static str, &'static [Edit], Place, usize, &'static str);
 
-fn show_asked<'p, 'a>(
-    document: &'p VDom<'a>,
-    parser: &'p Parser<'a>,
-    row: &Collection,
-    out: &mut String,
-) -> bool {
-    let (_, _, asked, place, _) = row;
-    match asked {
-        Place::Document => show_collection(document, parser, *place, out),
-        Place::Tag(number) => match NodeHandle::new(*number).get(document.parser()) {
-            Some(Node::Tag(tag)) => show_collection(tag, parser, *place, out),
-            _ => false,
-        },
-    }
+// What is asked of a document or a tag, and what is answered there.
+#[derive(Clone, Copy)]
+struct Asked<'r> {
+    asked: &'r Place,
+    place: usize,
+    wanted: &'r str,
 }
 
-// By the document's own table, or by that of another document.
+// Whether it is answered so by this table.
 fn is_asked<'p, 'a>(
     alloc: Global,
     document: &'p VDom<'a>,
-    handed: Option<&'p VDom<'a>>,
-    row: &Collection,
+    parser: &'p Parser<'a>,
+    asked: &Asked<'_>,
 ) -> bool {
-    let (_, _, _, _, wanted) = *row;
     let mut out = String::new(alloc);
-    let parser = match handed {
-        Some(other) => other.parser(),
-        None => document.parser(),
+    let shown = match asked.asked {
+        Place::Document => show_collection(document, parser, asked.place, &mut out),
+        Place::Tag(number) => match NodeHandle::new(*number).get(document.parser()) {
+            Some(Node::Tag(tag)) => show_collection(tag, parser, asked.place, &mut out),
+            _ => false,
+        },
     };
-    show_asked(document, parser, row, &mut out) && out.as_str() == wanted
+    shown && out.as_str() == asked.wanted
 }
 
-fn page_is_asked(alloc: Global, row: &Collection, keeps: bool) -> Result<bool, Fail> {
-    let (page, edits, _, _, _) = *row;
-    let mut document = read(alloc, page, ParserOptions::new(), keeps)?;
-    edit_all(&mut document, edits)?;
-    Ok(is_asked(alloc, &document, None, row))
+impl Ask for Asked<'_> {
+    fn is_answered(&self, alloc: Global, document: &VDom<'_>) -> Result<bool, Fail> {
+        Ok(is_asked(alloc, document, document.parser(), self))
+    }
 }
 
 #[rattlefmt::skip]
@@ -382,12 +376,14 @@ static COLLECTIONS: [Collection; 14] = [
 
 #[test]
 fn collections_are_asked(rt: HostRuntime) -> Result<(), Fail> {
-    for row in &COLLECTIONS {
-        let (page, _, _, _, wanted) = row;
-        let borrowed = page_is_asked(rt.alloc(), row, false)?;
-        assert!(rt; borrowed, "{page} {wanted:?}");
-        let kept = page_is_asked(rt.alloc(), row, true)?;
-        assert!(rt; kept, "{page} {wanted:?}, kept");
+    for (page, edits, asked, place, wanted) in &COLLECTIONS {
+        let asked = Asked {
+            asked,
+            place: *place,
+            wanted,
+        };
+        let answered = answers(rt.alloc(), page, ParserOptions::new(), edits, &asked)?;
+        assert!(rt; answered, "{page} {wanted:?}");
     }
     Ok(())
 }
@@ -402,19 +398,28 @@ static HANDED: [Collection; 4] = [
     ("<a></a>", &[], Place::Tag(0), 0, "None Ok(0) none"),
 ];
 
-fn other_is_asked(alloc: Global, row: &Collection) -> Result<bool, Fail> {
-    let (page, _, _, _, _) = *row;
-    let document = read(alloc, page, ParserOptions::new(), false)?;
-    let other = read(alloc, "y", ParserOptions::new(), false)?;
-    Ok(is_asked(alloc, &document, Some(&other), row))
+impl AskBoth for Asked<'_> {
+    fn is_answered<'a>(
+        &self,
+        alloc: Global,
+        first: &VDom<'a>,
+        second: &VDom<'a>,
+    ) -> Result<bool, Fail> {
+        Ok(is_asked(alloc, first, second.parser(), self))
+    }
 }
 
 #[test]
 fn collections_are_asked_by_another_table(rt: HostRuntime) -> Result<(), Fail> {
-    for row in &HANDED {
-        let (page, _, _, _, wanted) = row;
-        let holds = other_is_asked(rt.alloc(), row)?;
-        assert!(rt; holds, "{page} {wanted:?}");
+    let options = ParserOptions::new();
+    for (page, _, asked, place, wanted) in &HANDED {
+        let asked = Asked {
+            asked,
+            place: *place,
+            wanted,
+        };
+        let answered = both_answer(rt.alloc(), &(*page, options), &("y", options), &asked)?;
+        assert!(rt; answered, "{page} {wanted:?}");
     }
     Ok(())
 }
@@ -446,31 +451,39 @@ fn first_found(
     }
 }
 
+// Whether this is read of the first node that a query gives.
+#[derive(Clone, Copy)]
+struct FirstReads<'r> {
+    place: &'r Place,
+    selector: &'r str,
+    reading: &'r Reading,
+    wanted: &'r str,
+}
+
 // Whether this is read of a node.
-fn reads<'a>(alloc: Global, node: &Node<'a>, parser: &Parser<'a>, row: &Found) -> bool {
-    let (_, _, _, reading, wanted) = row;
-    match reading {
+fn reads<'a>(alloc: Global, node: &Node<'a>, parser: &Parser<'a>, asked: &FirstReads<'_>) -> bool {
+    match asked.reading {
         Reading::Value(key) => match node.attribute(key) {
-            Some(Some(value)) => value == wanted.as_bytes(),
+            Some(Some(value)) => value == asked.wanted.as_bytes(),
             _ => false,
         },
         Reading::Text => match node.inner_text(alloc, parser) {
-            Ok(text) => text.as_str() == *wanted,
+            Ok(text) => text.as_str() == asked.wanted,
             Err(_) => false,
         },
     }
 }
 
-fn page_reads(alloc: Global, row: &Found, keeps: bool) -> Result<bool, Fail> {
-    let (page, place, selector, _, _) = row;
-    let document = read(alloc, *page, ParserOptions::new(), keeps)?;
-    let parser = document.parser();
-    let Some(handle) = first_found(alloc, &document, place, selector) else {
-        return Ok(false);
-    };
-    match handle.get(parser) {
-        Some(node) => Ok(reads(alloc, node, parser, row)),
-        None => Ok(false),
+impl Ask for FirstReads<'_> {
+    fn is_answered(&self, alloc: Global, document: &VDom<'_>) -> Result<bool, Fail> {
+        let parser = document.parser();
+        let Some(handle) = first_found(alloc, document, self.place, self.selector) else {
+            return Ok(false);
+        };
+        match handle.get(parser) {
+            Some(node) => Ok(reads(alloc, node, parser, self)),
+            None => Ok(false),
+        }
     }
 }
 
@@ -484,24 +497,21 @@ static FOUND: [Found; 4] = [
 
 #[test]
 fn nodes_that_are_found_are_read(rt: HostRuntime) -> Result<(), Fail> {
-    for row in &FOUND {
-        let (page, _, selector, _, _) = row;
-        let borrowed = page_reads(rt.alloc(), row, false)?;
-        assert!(rt; borrowed, "{page} {selector}");
-        let kept = page_reads(rt.alloc(), row, true)?;
-        assert!(rt; kept, "{page} {selector}, kept");
+    for (page, place, selector, reading, wanted) in &FOUND {
+        let asked = FirstReads {
+            place,
+            selector,
+            reading,
+            wanted,
+        };
+        let read = answers(rt.alloc(), page, ParserOptions::new(), &[], &asked)?;
+        assert!(rt; read, "{page} {selector}");
     }
     Ok(())
 }
 
 // What a selector answers at a node alone, and by its table.
-fn answers(
-    alloc: Global,
-    parser: &Parser<'_>,
-    selector: &Selector<'_>,
-    number: u32,
-    out: &mut String,
-) -> bool {
+fn show_match(parser: &Parser<'_>, selector: &Selector<'_>, number: u32, out: &mut String) -> bool {
     let handle = NodeHandle::new(number);
     let alone = match handle.get(parser) {
         Some(node) => Some(selector.matches(node)),
@@ -513,19 +523,22 @@ fn answers(
 // A page, a selector, the number of a node, and what is answered at it alone and by the table.
 type Match = (&'static str, &'static str, u32, &'static str);
 
-fn answers_on(alloc: Global, document: &VDom<'_>, row: &Match) -> Result<bool, Fail> {
-    let (_, text, number, wanted) = *row;
-    let Some(selector) = parse_query_selector(alloc, text)? else {
-        return Ok(false);
-    };
-    let mut out = String::new(alloc);
-    Ok(answers(alloc, document.parser(), &selector, number, &mut out) && out.as_str() == wanted)
+#[derive(Clone, Copy)]
+struct Matches<'r> {
+    selector: &'r str,
+    number: u32,
+    wanted: &'r str,
 }
 
-fn page_answers(alloc: Global, row: &Match, keeps: bool) -> Result<bool, Fail> {
-    let (page, _, _, _) = *row;
-    let document = read(alloc, page, ParserOptions::new(), keeps)?;
-    answers_on(alloc, &document, row)
+impl Ask for Matches<'_> {
+    fn is_answered(&self, alloc: Global, document: &VDom<'_>) -> Result<bool, Fail> {
+        let Some(selector) = parse_query_selector(alloc, self.selector)? else {
+            return Ok(false);
+        };
+        let mut out = String::new(alloc);
+        let shown = show_match(document.parser(), &selector, self.number, &mut out);
+        Ok(shown && out.as_str() == self.wanted)
+    }
 }
 
 #[rattlefmt::skip]
@@ -548,12 +561,14 @@ static MATCHES: [Match; 13] = [
 
 #[test]
 fn selectors_match_alone_and_by_the_table(rt: HostRuntime) -> Result<(), Fail> {
-    for row in &MATCHES {
-        let (page, selector, _, _) = row;
-        let borrowed = page_answers(rt.alloc(), row, false)?;
-        assert!(rt; borrowed, "{page} {selector}");
-        let kept = page_answers(rt.alloc(), row, true)?;
-        assert!(rt; kept, "{page} {selector}, kept");
+    for (page, selector, number, wanted) in &MATCHES {
+        let asked = Matches {
+            selector,
+            number: *number,
+            wanted,
+        };
+        let matched = answers(rt.alloc(), page, ParserOptions::new(), &[], &asked)?;
+        assert!(rt; matched, "{page} {selector}");
     }
     Ok(())
 }
@@ -564,20 +579,35 @@ static BROKEN: [(&[u8], bool); 2] = [(b"\xfe", true), (b"x", false)];
 static BREAKING: [Edit; 1] = [Edit::Part(0, Part::Bytes("a", b"\xff"))];
 
 // Whether it is answered so at a tag whose key `a` has a value that is no UTF-8.
-fn compares_broken(alloc: Global, value: &[u8], wanted: bool, keeps: bool) -> Result<bool, Fail> {
-    let mut document = read(alloc, "<p a=x>", ParserOptions::new(), keeps)?;
-    edit_all(&mut document, &BREAKING)?;
-    let selector = Selector::AttributeValue(b"a", value);
-    Ok(selector.matches_in(document.parser(), NodeHandle::new(0)) == Ok(wanted))
+#[derive(Clone, Copy)]
+struct Compares<'r> {
+    value: &'r [u8],
+    wanted: bool,
+}
+
+impl Ask for Compares<'_> {
+    fn is_answered(&self, _alloc: Global, document: &VDom<'_>) -> Result<bool, Fail> {
+        let selector = Selector::AttributeValue(b"a", self.value);
+        let answer = selector.matches_in(document.parser(), NodeHandle::new(0));
+        Ok(answer == Ok(self.wanted))
+    }
 }
 
 #[test]
 fn broken_values_are_compared_by_their_texts(rt: HostRuntime) -> Result<(), Fail> {
     for (value, wanted) in &BROKEN {
-        let borrowed = compares_broken(rt.alloc(), value, *wanted, false)?;
-        assert!(rt; borrowed, "{value:?}");
-        let kept = compares_broken(rt.alloc(), value, *wanted, true)?;
-        assert!(rt; kept, "{value:?}, kept");
+        let asked = Compares {
+            value,
+            wanted: *wanted,
+        };
+        let compared = answers(
+            rt.alloc(),
+            "<p a=x>",
+            ParserOptions::new(),
+            &BREAKING,
+            &asked,
+        )?;
+        assert!(rt; compared, "{value:?}");
     }
     Ok(())
 }
@@ -609,17 +639,25 @@ fn ends(document: &VDom<'_>, alloc: Global) -> bool {
         && found.next() == None
 }
 
-fn iterator_ends(alloc: Global, keeps: bool) -> Result<bool, Fail> {
-    let document = read(alloc, "<a>x<b></b></a>", ParserOptions::new(), keeps)?;
-    let other = read(alloc, "y", ParserOptions::new(), keeps)?;
-    Ok(passes_over(alloc, &other, &document) && ends(&document, alloc))
+#[derive(Clone, Copy)]
+struct IteratorEnds;
+
+impl AskBoth for IteratorEnds {
+    fn is_answered<'a>(
+        &self,
+        alloc: Global,
+        first: &VDom<'a>,
+        second: &VDom<'a>,
+    ) -> Result<bool, Fail> {
+        Ok(passes_over(alloc, second, first) && ends(first, alloc))
+    }
 }
 
 #[test]
 fn iterators_end(rt: HostRuntime) -> Result<(), Fail> {
-    let borrowed = iterator_ends(rt.alloc(), false)?;
-    assert!(rt; borrowed);
-    let kept = iterator_ends(rt.alloc(), true)?;
-    assert!(rt; kept);
+    let options = ParserOptions::new();
+    let page = ("<a>x<b></b></a>", options);
+    let end = both_answer(rt.alloc(), &page, &("y", options), &IteratorEnds)?;
+    assert!(rt; end);
     Ok(())
 }

@@ -1,8 +1,11 @@
-//! Worked rows of selectors of CSS, of what is asked of documents, and of policies.
+//! Worked rows of selectors, those of `tl` and those of CSS: their texts, where they hold, and what
+//! queries give; of what is asked of documents; and of policies.
 #![tactic(auto)]
 
 #[cfg(test)]
 mod below;
+#[cfg(test)]
+mod chains;
 #[cfg(test)]
 mod documents;
 #[cfg(test)]
@@ -12,9 +15,15 @@ mod fields;
 #[cfg(test)]
 mod pages;
 #[cfg(test)]
+mod paths;
+#[cfg(test)]
 mod policies;
 #[cfg(test)]
+mod queries;
+#[cfg(test)]
 mod refused;
+#[cfg(test)]
+mod selector_texts;
 #[cfg(test)]
 mod selectors;
 #[cfg(test)]
