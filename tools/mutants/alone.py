@@ -48,11 +48,11 @@ def place(function, known):
 def without_other_proofs(crate, functions):
     """The texts of proof files that take each function but these by its contract (None leaves a file out), and the paths of these."""
     known, texts, paths = types(crate), {}, []
-    changed = {(it.modules[-1:] and it.modules[-1], it.owner, it.name) for it in functions}
+    changed = {it.key for it in functions}
     for path in sources(crate):
         for it in crate.functions_in(path):
             at = place(it, known)
-            if (it.modules[-1:] and it.modules[-1], it.owner, it.name) in changed:
+            if it.key in changed:
                 paths.append("::".join(at or it.modules))
             elif at and not it.cycle:
                 folder = "proofs/" + "/".join(at)
