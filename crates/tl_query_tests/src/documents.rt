@@ -1,7 +1,7 @@
 //! Documents, and what is asked of them. One function owns each document: whatever is live there
 //! counts at each step of its proof.
 use crate::edited::{Edit, are_done, is_forest_or};
-use crate::fields::{Selected, has_count, is_refused, is_selected};
+use crate::fields::{has_count, is_refused, is_selected};
 use crate::walks::{ends_by, is_walk, is_walk_below};
 use crate::written::{has_cells, has_outline};
 use std::alloc::Global;
@@ -15,7 +15,9 @@ use tl_page::{Failure, read};
 pub enum Question {
     /// Nothing but whether the page is read.
     Read,
-    Selected(&'static Selected),
+    /// The number of a row of `fields`. (What holds a reference to a type of another module is not
+    /// covered here.)
+    Selected(usize),
     Counted(&'static str, usize),
     Refused(&'static str),
     /// The names of tags that are passed over, and the letters of a walk.
@@ -34,7 +36,7 @@ fn is_answer(
 ) -> Result<bool, Failure> {
     match question {
         Question::Read => Ok(true),
-        Question::Selected(row) => is_selected(alloc, document, row),
+        Question::Selected(number) => is_selected(alloc, document, *number),
         Question::Counted(selector, wanted) => has_count(alloc, document, selector, *wanted),
         Question::Refused(selector) => Ok(is_refused(alloc, document, selector)),
         Question::Walk(skips, letters) => is_walk(alloc, document, skips, letters),

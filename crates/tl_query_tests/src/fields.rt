@@ -8,7 +8,7 @@ use tl_page::Failure;
 static PAGE: &str =
     "<p id=\"a\">x<b>y</b></p>\u{e9}<p>z<img src=\"i.png\" srcset=\"j.png 2x\"><a href=\"/q\"></a></p>";
 
-pub struct Selected {
+struct Selected {
     selector: &'static str,
     field: Field<'static>,
     // each with a line feed
@@ -55,20 +55,24 @@ fn picks_first(alloc: Global, document: &VDom<'static>, row: &Selected) -> Resul
     }
 }
 
-/// Whether a field is these texts, and the first of them.
+/// Whether the field of a row is its texts, and the first of them.
 pub fn is_selected(
     alloc: Global,
     document: &VDom<'static>,
-    row: &'static Selected,
+    number: usize,
 ) -> Result<bool, Failure> {
-    Ok(selects(alloc, document, row)? && picks_first(alloc, document, row)?)
+    match SELECTED.get(number) {
+        Some(row) => Ok(selects(alloc, document, row)? && picks_first(alloc, document, row)?),
+        None => Ok(false),
+    }
 }
 
 #[test]
 fn fields_of_nodes_are_selected(rt: HostRuntime) {
-    for row in &SELECTED {
-        let answer = answers(rt.alloc(), PAGE.as_bytes(), &[], &Question::Selected(row));
-        assert!(rt; answer == Ok(true), "{}", row.selector);
+    for number in 0..SELECTED.len() {
+        let question = Question::Selected(number);
+        let answer = answers(rt.alloc(), PAGE.as_bytes(), &[], &question);
+        assert!(rt; answer == Ok(true), "row {number}");
     }
 }
 
