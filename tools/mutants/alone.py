@@ -38,11 +38,14 @@ def types(crate):
     return {it: modules[0] for it, modules in found.items() if len(modules) == 1}
 
 
-def place(function, known):
+def place(crate, function, known):
     """The path of a function's proof, as its parts; None of a method of a trait, whose place the text doesn't tell."""
     if function.of_trait or function.owner and function.owner not in known:
         return None
-    return [*known[function.owner], function.owner, function.name] if function.owner else [*function.modules, function.name]
+    if function.owner:
+        return [*known[function.owner], function.owner, function.name]
+    is_inside = crate.text(function.path).split("\n")[function.first].startswith(" ")
+    return None if is_inside else [*function.modules, function.name]
 
 
 def without_other_proofs(crate, functions):
@@ -51,7 +54,7 @@ def without_other_proofs(crate, functions):
     changed = {it.key for it in functions}
     for path in sources(crate):
         for it in crate.functions_in(path):
-            at = place(it, known)
+            at = place(crate, it, known)
             if it.key in changed:
                 paths.append("::".join(at or it.modules))
             elif at and not it.cycle:

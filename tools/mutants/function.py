@@ -13,7 +13,7 @@ class Function:
 
     def __init__(self, path, lines, at):
         depth, self.name = len(HEAD.match(lines[at])[1]), HEAD.match(lines[at])[2]
-        self.first, self.last = at, self.end(lines, at, depth)
+        self.path, self.first, self.last = path, at, self.end(lines, at, depth)
         parts = path[len("src/") : -len(".rt")].split("/")
         self.modules = [it for it in parts if it not in ("lib", "main", "mod")]
         above = [it for it in lines[:at] if it.strip() and indent(it) < depth and not it.strip().startswith(("{", ")", "where"))]
