@@ -62,3 +62,9 @@ def without_other_proofs(crate, functions):
                 texts.update({f"{folder}/{file}": None for file in BY_HAND if os.path.isfile(f"{crate.folder}/{folder}/{file}")})
                 texts[f"{folder}/Proof.antt"] = HOLE.format(crate=crate.name, path=".".join(at), name=at[-1])
     return texts, sorted(set(paths))
+
+
+def fitting(texts, said):
+    """These texts of proof files without those that the front end refuses: the text of a function doesn't always tell its place."""
+    strays = set(re.findall(r"(?m)^(?:\./)?(proofs/\S+)/Proof\.antt\S*: error", said))
+    return {path: text for path, text in texts.items() if os.path.dirname(path) not in strays}

@@ -5,7 +5,7 @@ import subprocess
 import tempfile
 
 from ..workspace import Stop, put, text_of
-from .alone import without_other_proofs
+from .alone import fitting, without_other_proofs
 from .function import HEAD, Function
 from .mutant import Mutant
 from .verdict import Said
@@ -77,6 +77,8 @@ class Crate:
     def check_alone(self, texts, functions):
         """What the prover says of these functions with these texts in place of the crate's own, each other one taken by its contract."""
         others, paths = without_other_proofs(self, functions)
+        with tempfile.TemporaryDirectory(prefix="mutants-") as room:
+            others = fitting(others, self.said(room, others, ["--only", ""]).text)
         only = [word for it in paths for word in ("--only", it)]
         with tempfile.TemporaryDirectory(prefix="mutants-") as room:
             return self.said(room, {**others, **texts}, ["--allow-holes", *only])
