@@ -20,7 +20,7 @@ driven_apart d s x (b ∷ y) t rest e =
     let inner = mapped_some (λ (r : DrivenRest). record { state = r.state; emits = driven_emits d s x ++ r.emits }) (driven_rest_before (after_driven d s x) b) rest e in
     tokens_append d s x (b ∷ (y ++ t))
     ∙ ap (λ es. driven_emits d s x ++ es)
-      (tokens_rest d (after_driven d s x) b (y ++ t) inner.0 inner.1 ∙ ap (λ (v : Driving _). (inner.0).emits ++ driven_tokens d v (b ∷ (y ++ t))) (rested_is d s x inner.0))
+    (tokens_rest d (after_driven d s x) b (y ++ t) inner.0 inner.1 ∙ ap (λ (v : Driving _). (inner.0).emits ++ driven_tokens d v (b ∷ (y ++ t))) (rested_is d s x inner.0))
     ∙ sym (append_assoc (driven_emits d s x) (inner.0).emits (driven_tokens d (rested d s.memory (record { state = (inner.0).state; emits = driven_emits d s x ++ (inner.0).emits })) (b ∷ (y ++ t))))
     ∙ ap (λ (r : DrivenRest). r.emits ++ driven_tokens d (rested d s.memory r) (b ∷ (y ++ t))) inner.2
 

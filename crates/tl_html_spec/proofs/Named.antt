@@ -125,7 +125,7 @@ names_read d v (b ∷ text) o h =
     let rest = goes_on d v.memory x.emits more h in
     bare_both x.emits more
     ∙ ap₂ (λ (ts us : List HtmlToken). ts ++ us) g.tokens
-      (names_read d (next_driven d v b) text g.own rest ∙ ap (λ s. tokens_of (reader s (b == 13)) text) g.state)
+    (names_read d (next_driven d v b) text g.own rest ∙ ap (λ s. tokens_of (reader s (b == 13)) text) g.state)
 
 -- so does the one that remembers the tokens
 
