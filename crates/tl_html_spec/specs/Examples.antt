@@ -77,8 +77,8 @@ text_node text = TextNode (codes text) ∷ []
 abbrev pub comment_node : String → List HtmlNode
 comment_node bytes = CommentNode (codes bytes) ∷ []
 
--- a driver that remembers the tokens, and finds what is foreign everywhere or nowhere; after a start
--- tag it goes on with data, whatever its name is
+-- a driver that remembers the tokens, and finds foreign what stands anywhere or nothing; after a
+-- start tag it goes on with data, whatever its name is
 abbrev pub data_driver : Bool → Driver (List Emission)
 data_driver is_foreign = record {
   take = λ emissions e. emissions ++ e ∷ [];
