@@ -33,7 +33,7 @@ pub record Driver (Memory : Type 0) : Type 0 where
   -- whether the adjusted current node is no HTML element
   pub is_foreign : Memory → Bool
 
-abbrev pub taken : {Memory : Type 0} → Driver Memory → Memory → List Emission → Memory
+abbrev pub taken : {M : Type 0} → Driver M → M → List Emission → M
 taken d memory [] = memory
 taken d memory (e ∷ emissions) = taken d (d.take memory e) emissions
 
@@ -111,11 +111,11 @@ ends_with_start (e ∷ []) = false
 ends_with_start (e ∷ f ∷ emissions) = ends_with_start (f ∷ emissions)
 
 -- the state after what a byte emitted, which was taken
-abbrev pub state_after : {Memory : Type 0} → Driver Memory → Memory → DrivenStep → DrivenState
+abbrev pub state_after : {M : Type 0} → Driver M → M → DrivenStep → DrivenState
 state_after d memory x = if ends_with_start x.emits then in_state (d.sets memory) else x.next
 
 -- what the driver remembers after a text, and its end
-abbrev pub driven : {Memory : Type 0} → Driver Memory → Memory → DrivenState → List ℕ → Memory
+abbrev pub driven : {M : Type 0} → Driver M → M → DrivenState → List ℕ → M
 driven d memory state [] = taken d memory (driven_end state)
 driven d memory state (c ∷ text) =
     let x = driven_step (d.is_foreign memory) state c in
@@ -144,12 +144,12 @@ abbrev pub no_tokens : Named
 no_tokens = record { tokens = []; sets = data_state }
 
 -- where a driver goes by names: the state that it sets after a start tag is its name's
-abbrev pub SetsByName : {Memory : Type 0} → Driver Memory → Memory → HtmlToken → Type 0
+abbrev pub SetsByName : {M : Type 0} → Driver M → M → HtmlToken → Type 0
 SetsByName d memory (StartTag name attributes closes) = d.sets memory ≡ after_start name
 SetsByName d memory token = ⊤
 
 -- after each of these tokens, and nothing is foreign
-abbrev pub GoesByName : {Memory : Type 0} → Driver Memory → Memory → List Emission → Type 0
+abbrev pub GoesByName : {M : Type 0} → Driver M → M → List Emission → Type 0
 GoesByName d memory [] = d.is_foreign memory ≡ false
 GoesByName d memory (e ∷ emissions) =
     (d.is_foreign memory ≡ false) × SetsByName d (d.take memory e) (bare e)
@@ -163,20 +163,20 @@ pub record Driving (Memory : Type 0) : Type 0 where
   pub state : DrivenState
   pub after_return : Bool
 
-abbrev pub driving : {Memory : Type 0} → Memory → DrivenState → Driving Memory
+abbrev pub driving : {M : Type 0} → M → DrivenState → Driving M
 driving memory state = record { memory = memory; state = state; after_return = false }
 
 abbrev pub byte_driven : Bool → Bool → DrivenState → ℕ → DrivenStep
 byte_driven true is_foreign state b = record { next = state; emits = [] }
 byte_driven false is_foreign state b = driven_step is_foreign state (feed b)
 
-abbrev pub passes : {Memory : Type 0} → Driving Memory → ℕ → Bool
+abbrev pub passes : {M : Type 0} → Driving M → ℕ → Bool
 passes v b = v.after_return && (b == 10)
 
-unfoldable pub drive : {Memory : Type 0} → Driver Memory → Driving Memory → ℕ → DrivenStep
+unfoldable pub drive : {M : Type 0} → Driver M → Driving M → ℕ → DrivenStep
 drive d v b = byte_driven (passes v b) (d.is_foreign v.memory) v.state b
 
-abbrev pub moved : {Memory : Type 0} → Driver Memory → Memory → DrivenStep → ℕ → Driving Memory
+abbrev pub moved : {M : Type 0} → Driver M → M → DrivenStep → ℕ → Driving M
 moved d memory x b = record {
   memory = memory;
   state = state_after d memory x;
@@ -184,21 +184,21 @@ moved d memory x b = record {
 }
 
 -- after a byte
-abbrev pub next_driven : {Memory : Type 0} → Driver Memory → Driving Memory → ℕ → Driving Memory
+abbrev pub next_driven : {M : Type 0} → Driver M → Driving M → ℕ → Driving M
 next_driven d v b = moved d (taken d v.memory (drive d v b).emits) (drive d v b) b
 
 -- after a text
-abbrev pub after_driven : {Memory : Type 0} → Driver Memory → Driving Memory → List ℕ → Driving Memory
+abbrev pub after_driven : {M : Type 0} → Driver M → Driving M → List ℕ → Driving M
 after_driven d v [] = v
 after_driven d v (b ∷ text) = after_driven d (next_driven d v b) text
 
 -- what a text emits, and may leave something pending
-abbrev pub driven_emits : {Memory : Type 0} → Driver Memory → Driving Memory → List ℕ → List Emission
+abbrev pub driven_emits : {M : Type 0} → Driver M → Driving M → List ℕ → List Emission
 driven_emits d v [] = []
 driven_emits d v (b ∷ text) = (drive d v b).emits ++ driven_emits d (next_driven d v b) text
 
 -- the tokens of a text that ends there
-abbrev pub driven_tokens : {Memory : Type 0} → Driver Memory → Driving Memory → List ℕ → List Emission
+abbrev pub driven_tokens : {M : Type 0} → Driver M → Driving M → List ℕ → List Emission
 driven_tokens d v [] = driven_end v.state
 driven_tokens d v (b ∷ text) = (drive d v b).emits ++ driven_tokens d (next_driven d v b) text
 
@@ -228,7 +228,7 @@ abbrev pub driven_rest_if : Bool → DrivenState → ℕ → Option DrivenRest
 driven_rest_if true state b = None
 driven_rest_if false state b = driven_rest state (feed b)
 
-unfoldable pub driven_rest_before : {Memory : Type 0} → Driving Memory → ℕ → Option DrivenRest
+unfoldable pub driven_rest_before : {M : Type 0} → Driving M → ℕ → Option DrivenRest
 driven_rest_before v b = driven_rest_if (passes v b) v.state b
 
 -- a tag, a comment, a doctype, a character, or what is dropped: the state of rest before it, what
@@ -239,15 +239,15 @@ pub record DrivenPiece (Memory : Type 0) : Type 0 where
   pub bytes : List ℕ
   pub tokens : List Emission
 
-abbrev pub driven_bytes : {Memory : Type 0} → List (DrivenPiece Memory) → List ℕ
+abbrev pub driven_bytes : {M : Type 0} → List (DrivenPiece M) → List ℕ
 driven_bytes ps = flat_map (λ (p : DrivenPiece _). p.bytes) ps
 
-abbrev pub tokens_driven : {Memory : Type 0} → List (DrivenPiece Memory) → List Emission
+abbrev pub tokens_driven : {M : Type 0} → List (DrivenPiece M) → List Emission
 tokens_driven ps = flat_map (λ (p : DrivenPiece _). p.tokens) ps
 
 -- a piece that begins where the first reader stands
 abbrev pub driven_piece
-    : {Memory : Type 0} → Driving Memory → List ℕ → List Emission → DrivenPiece Memory
+    : {M : Type 0} → Driving M → List ℕ → List Emission → DrivenPiece M
 driven_piece v bytes tokens = record {
   memory = v.memory;
   rest = v.state;
@@ -256,16 +256,17 @@ driven_piece v bytes tokens = record {
 }
 
 -- how the reader stands where a piece begins, with what is pending taken
-abbrev pub rested : {Memory : Type 0} → Driver Memory → Memory → DrivenRest → Driving Memory
+abbrev pub rested : {M : Type 0} → Driver M → M → DrivenRest → Driving M
 rested d memory rest = driving (taken d memory rest.emits) rest.state
 
 -- the pieces of a text, of which the first begins there, and has these bytes and tokens already
 abbrev pub driven_pieces_from
-    : {Memory : Type 0} → Driver Memory → Driving Memory → Driving Memory → List ℕ → List Emission → List ℕ → List (DrivenPiece Memory)
-driven_pieces_from {Memory = Memory} d start v bytes tokens [] =
+    : {M : Type 0} → Driver M → Driving M → Driving M → List ℕ → List Emission → List ℕ
+    → List (DrivenPiece M)
+driven_pieces_from {M = M} d start v bytes tokens [] =
     driven_piece start bytes (tokens ++ driven_end v.state) ∷ []
-driven_pieces_from {Memory = Memory} d start v bytes tokens (b ∷ text) =
-    elim (driven_rest_before v b) as (λ _. List (DrivenPiece Memory)) [
+driven_pieces_from {M = M} d start v bytes tokens (b ∷ text) =
+    elim (driven_rest_before v b) as (λ _. List (DrivenPiece M)) [
       | None ↦ (
           driven_pieces_from d start (next_driven d v b) (bytes ++ b ∷ [])
           (tokens ++ (drive d v b).emits) text)
@@ -278,14 +279,14 @@ driven_pieces_from {Memory = Memory} d start v bytes tokens (b ∷ text) =
 
 -- the pieces of a text from a state of rest
 abbrev pub driven_pieces
-    : {Memory : Type 0} → Driver Memory → Driving Memory → List ℕ → List (DrivenPiece Memory)
+    : {M : Type 0} → Driver M → Driving M → List ℕ → List (DrivenPiece M)
 driven_pieces d start [] = []
 driven_pieces d start (b ∷ text) =
     driven_pieces_from d start (next_driven d start b) (b ∷ []) (drive d start b).emits text
 
 -- what a text emits from there, with what is pending, before a byte that finds the machine at rest
 abbrev pub driven_before
-    : {Memory : Type 0} → Driver Memory → Driving Memory → List ℕ → Option ℕ → Option DrivenRest
+    : {M : Type 0} → Driver M → Driving M → List ℕ → Option ℕ → Option DrivenRest
 driven_before d start text None = None
 driven_before d start text (Some b) =
     option_map (λ (rest : DrivenRest). record {
@@ -296,7 +297,7 @@ driven_before d start text (Some b) =
 -- each piece stands for its tokens where it stands: what the driver remembers there, and the state
 -- of rest, are what the piece before leaves
 abbrev pub AreDriven
-    : {Memory : Type 0} → Driver Memory → Driving Memory → List (DrivenPiece Memory) → Type 0
+    : {M : Type 0} → Driver M → Driving M → List (DrivenPiece M) → Type 0
 AreDriven d start [] = ⊤
 AreDriven d start (p ∷ []) =
     (driving p.memory p.rest ≡ start) × (p.tokens ≡ driven_tokens d start p.bytes)
