@@ -15,4 +15,5 @@ pub mod Dispatcher
 pub mod Driven
 pub mod HtmlForest
 pub mod HtmlTree
+pub mod Lawful
 pub mod Examples
