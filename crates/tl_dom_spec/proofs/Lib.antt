@@ -6,3 +6,5 @@ pub mod HeadRules
 pub mod BodyRules
 pub mod TableRules
 pub mod OuterRules
+pub mod DispatcherRules
+pub mod TreesFollow
