@@ -100,7 +100,7 @@ pub table_start_in_body-Holds : (R : Allowed) (b : Builder) (t : Tag) → R.Open
 table_start_in_body-Holds R b t o h = insert-Holds R t (if b.is_quirks then b else close_p b) o (either R b.is_quirks b (close_p b) h (close_p-Holds R b h))
 
 pub body_start-Holds : (R : Allowed) (b : Builder) (g : Group) (t : Tag) (closes : Bool) → Starts R g t → Holds R b → HoldsAfter R (body_start b g t closes)
-body_start-Holds R b the_html t closes k h = html_start-Holds R b t k.more h
+body_start-Holds R b the_html t closes k h = html_start-Holds R b t (k.more refl) h
 body_start-Holds R b a_base t closes k h = in_head_start-Holds R b a_base t k h
 body_start-Holds R b a_link t closes k h = in_head_start-Holds R b a_link t k h
 body_start-Holds R b a_noframes t closes k h = in_head_start-Holds R b a_noframes t k h
@@ -108,7 +108,7 @@ body_start-Holds R b a_script t closes k h = in_head_start-Holds R b a_script t 
 body_start-Holds R b a_style t closes k h = in_head_start-Holds R b a_style t k h
 body_start-Holds R b a_template t closes k h = in_head_start-Holds R b a_template t k h
 body_start-Holds R b a_title t closes k h = in_head_start-Holds R b a_title t k h
-body_start-Holds R b the_body t closes k h = body_start_at-Holds R (body_number (elements b.path)) b t k.more h
+body_start-Holds R b the_body t closes k h = body_start_at-Holds R (body_number (elements b.path)) b t (k.more refl) h
 body_start-Holds R b a_frameset t closes k h = frameset_start_at-Holds R (body_number (elements b.path)) b t (k.opens refl) h
 body_start-Holds R b a_paragraph t closes k h = insert-Holds R t (close_p b) (k.opens refl) (close_p-Holds R b h)
 body_start-Holds R b a_block t closes k h = insert-Holds R t (close_p b) (k.opens refl) (close_p-Holds R b h)
@@ -140,8 +140,8 @@ body_start-Holds R b an_option t closes k h = option_start-Holds R (is_any (code
 body_start-Holds R b an_option_group t closes k h = option_start-Holds R no_tag b t (k.opens refl) h
 body_start-Holds R b a_ruby_base t closes k h = insert-Holds R t (ruby_closed no_tag b) (k.opens refl) (ruby_closed-Holds R no_tag b h)
 body_start-Holds R b a_ruby_text t closes k h = insert-Holds R t (ruby_closed (is_any (codes "rtc")) b) (k.opens refl) (ruby_closed-Holds R (is_any (codes "rtc")) b h)
-body_start-Holds R b a_math t closes k h = foreign-Holds R math_space t closes (reconstruct_formatting b) k.math (reconstruct-Holds R b h)
-body_start-Holds R b an_svg t closes k h = foreign-Holds R svg_space t closes (reconstruct_formatting b) k.svg (reconstruct-Holds R b h)
+body_start-Holds R b a_math t closes k h = foreign-Holds R math_space t closes (reconstruct_formatting b) (k.math refl) (reconstruct-Holds R b h)
+body_start-Holds R b an_svg t closes k h = foreign-Holds R svg_space t closes (reconstruct_formatting b) (k.svg refl) (reconstruct-Holds R b h)
 body_start-Holds R b a_caption t closes k h = h
 body_start-Holds R b a_column t closes k h = h
 body_start-Holds R b a_column_group t closes k h = h

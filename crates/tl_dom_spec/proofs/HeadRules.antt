@@ -4,11 +4,13 @@ use Rattle.std.specs.Prelude.{⊤}
 use Rattle.std.specs.Char.{is_ascii_whitespace}
 use Rattle.tl_html_spec.specs.HtmlTokenizer.{after_start}
 use Rattle.tl_dom_spec.specs.Tags.{Namespace, Tag, bare_tag, by_space, math_space, svg_space}
-use Rattle.tl_dom_spec.specs.Groups.{Group, a_base, a_break, a_column, a_detail, a_frame, a_frameset, a_link, a_noframes, a_noscript, a_rule, a_script, a_style, a_template, a_title, a_void, an_image, an_input, the_body, the_head, the_html}
+use Rattle.tl_dom_spec.specs.Groups.{Group, a_base, a_break, a_column, a_detail, a_frame, a_frameset, a_link, a_math, a_noframes, a_noscript, a_rule, a_script, a_style, a_template, a_title, a_void, an_image, an_input, the_body, the_head, the_html}
 use Rattle.tl_dom_spec.specs.Path.{Place, and_doctype, here, into_head, no_nodes}
 use Rattle.tl_dom_spec.specs.Builder.{Again, Builder, Done, Outcome, Token, a_character, a_comment, a_doctype, a_start, add_attributes, an_end, appropriate_place, end_of_file, frameset_not_ok, has_template, in_head_noscript, insert_character, insert_element, insert_element_at, insert_marker, parse_raw_text, state_inside, switch_to}
 use Rattle.tl_dom_spec.specs.Adjusted.{foreign_name, foreign_tag}
 use Rattle.tl_dom_spec.specs.Head.{after_head_end, after_head_start, after_head_step, before_head_start, before_head_step, before_html_start, before_html_step, body_implied, done_or, head_closed, head_implied, head_opened, head_part, html_implied, html_opened, html_start, in_head_end, in_head_noscript_step, in_head_start, in_head_step, initial_step, is_body_end, is_head_end, noscript_closed, noscript_end, noscript_in_head, noscript_start, template_opened, text_closed, text_step, without_doctype}
+use Rattle.tl_dom_spec.specs.Dispatcher.{is_svg_start}
+use Rattle.tl_dom_spec.specs.Lawful.{adds_attributes}
 use Rattle.tl_dom_spec.proofs.Allowed.{Allowed}
 use Rattle.tl_dom_spec.proofs.Paths.{put-Frames}
 use Rattle.tl_dom_spec.proofs.Builders.{Holds, HoldsAfter, alone_at-Holds, attributes-Holds, character-Holds, comment-Holds, either, either-after, insert-Holds, insert_at-Holds, marker-Holds, pop-Holds, raw_text-Holds, raw_text_at-Holds, template_end_tag-Holds}
@@ -31,16 +33,20 @@ abbrev pub is_image : Group → Bool
 is_image an_image = true
 is_image _ = false
 
+abbrev pub is_math_start : Group → Bool
+is_math_start a_math = true
+is_math_start _ = false
+
 -- what a start tag of a group gives
 pub record Starts (R : Allowed) (g : Group) (t : Tag) : Type 0 where
   pub opens : is_alone g ≡ false → R.Opens t
   pub alone : R.Stands t
   pub image : is_image g ≡ true → R.Stands (record t { name = codes "img" })
-  pub math : R.Opens (foreign_tag math_space t)
-  pub svg : R.Opens (foreign_tag svg_space t)
+  pub math : is_math_start g ≡ true → R.Opens (foreign_tag math_space t)
+  pub svg : is_svg_start g ≡ true → R.Opens (foreign_tag svg_space t)
   pub foreign : (space : Namespace) → by_space space true false false ≡ false →
       R.Opens (foreign_tag space (record t { name = foreign_name space t.name }))
-  pub more : R.Adds t.attributes
+  pub more : adds_attributes g ≡ true → R.Adds t.attributes
   pub inside : R.Reads (state_inside t.name)
   pub after : R.Reads (after_start t.name)
 
@@ -94,7 +100,7 @@ pub head_implied-Holds : (R : Allowed) (b : Builder) → Holds R b → HoldsAfte
 head_implied-Holds R b h = head_opened-Holds R b (bare_tag (codes "head")) R.head h
 
 pub before_head_start-Holds : (R : Allowed) (b : Builder) (g : Group) (t : Tag) → Starts R g t → Holds R b → HoldsAfter R (before_head_start b g t)
-before_head_start-Holds R b the_html t k h = html_start-Holds R b t k.more h
+before_head_start-Holds R b the_html t k h = html_start-Holds R b t (k.more refl) h
 before_head_start-Holds R b the_head t k h = head_opened-Holds R b t (k.opens refl) h
 before_head_start-Holds R b g t k h = head_implied-Holds R b h
 
@@ -138,7 +144,7 @@ done_or-Holds R other None h k = h
 done_or-Holds R other (Some b) h k = k
 
 pub in_head_start-Holds : (R : Allowed) (b : Builder) (g : Group) (t : Tag) → Starts R g t → Holds R b → HoldsAfter R (in_head_start b g t)
-in_head_start-Holds R b the_html t k h = html_start-Holds R b t k.more h
+in_head_start-Holds R b the_html t k h = html_start-Holds R b t (k.more refl) h
 in_head_start-Holds R b the_head t k h = h
 in_head_start-Holds R b a_noscript t k h = noscript_in_head-Holds R b t (k.opens refl) k.inside h
 in_head_start-Holds R b g t k h =
@@ -153,7 +159,7 @@ in_head_step-Holds R b (an_end g name) k h = in_head_end-Holds R b g h
 in_head_step-Holds R b end_of_file k h = head_closed-Holds R b h
 
 pub noscript_start-Holds : (R : Allowed) (b : Builder) (g : Group) (t : Tag) → Starts R g t → Holds R b → HoldsAfter R (noscript_start b g t)
-noscript_start-Holds R b the_html t k h = html_start-Holds R b t k.more h
+noscript_start-Holds R b the_html t k h = html_start-Holds R b t (k.more refl) h
 noscript_start-Holds R b a_link t k h = in_head_start-Holds R b a_link t k h
 noscript_start-Holds R b a_noframes t k h = in_head_start-Holds R b a_noframes t k h
 noscript_start-Holds R b a_style t k h = in_head_start-Holds R b a_style t k h
@@ -182,7 +188,7 @@ after_head_end-Holds R b a_template h = template_end_tag-Holds R b h
 after_head_end-Holds R b g h = either-after R (is_body_end g) (body_implied b) (Done b) (body_implied-Holds R b h) h
 
 pub after_head_start-Holds : (R : Allowed) (b : Builder) (g : Group) (t : Tag) → Starts R g t → Holds R b → HoldsAfter R (after_head_start b g t)
-after_head_start-Holds R b the_html t k h = html_start-Holds R b t k.more h
+after_head_start-Holds R b the_html t k h = html_start-Holds R b t (k.more refl) h
 after_head_start-Holds R b the_body t k h = insert-Holds R t b (k.opens refl) h
 after_head_start-Holds R b a_frameset t k h = insert-Holds R t b (k.opens refl) h
 after_head_start-Holds R b the_head t k h = h

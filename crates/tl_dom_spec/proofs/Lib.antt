@@ -8,3 +8,7 @@ pub mod TableRules
 pub mod OuterRules
 pub mod DispatcherRules
 pub mod TreesFollow
+pub mod TextLaw
+pub mod NameLaw
+pub mod VoidLaw
+pub mod SourceLaw

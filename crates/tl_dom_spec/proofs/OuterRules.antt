@@ -34,9 +34,9 @@ in_template_step-Holds R b token k h = in_body_step-Holds R b token k h
 pub back_in_body-Holds : (R : Allowed) (b : Builder) → Holds R b → HoldsAfter R (back_in_body b)
 back_in_body-Holds R b h = h
 
-pub after_body_start-Holds : (R : Allowed) (b : Builder) (g : Group) (t : Tag) → R.Adds t.attributes → Holds R b → HoldsAfter R (after_body_start b g t)
-after_body_start-Holds R b the_html t a h = html_start-Holds R b t a h
-after_body_start-Holds R b g t a h = back_in_body-Holds R b h
+pub after_body_start-Holds : (R : Allowed) (b : Builder) (g : Group) (t : Tag) → Starts R g t → Holds R b → HoldsAfter R (after_body_start b g t)
+after_body_start-Holds R b the_html t k h = html_start-Holds R b t (k.more refl) h
+after_body_start-Holds R b g t k h = back_in_body-Holds R b h
 
 pub after_body_end-Holds : (R : Allowed) (b : Builder) (g : Group) → Holds R b → HoldsAfter R (after_body_end b g)
 after_body_end-Holds R b the_html h = either R (is_fragment b) b (switch_to after_after_body b) h h
@@ -46,12 +46,12 @@ pub after_body_step-Holds : (R : Allowed) (b : Builder) (token : Token) → Allo
 after_body_step-Holds R b (a_character c) k h = either-after R (is_ascii_whitespace c) (in_body_step b (a_character c)) (back_in_body b) (in_body_step-Holds R b (a_character c) k h) (back_in_body-Holds R b h)
 after_body_step-Holds R b (a_comment bytes) k h = comment_at-Holds R (behind 1) bytes b k h
 after_body_step-Holds R b (a_doctype own) k h = h
-after_body_step-Holds R b (a_start g t closes) k h = after_body_start-Holds R b g t k.more h
+after_body_step-Holds R b (a_start g t closes) k h = after_body_start-Holds R b g t k h
 after_body_step-Holds R b (an_end g name) k h = after_body_end-Holds R b g h
 after_body_step-Holds R b end_of_file k h = h
 
 pub frameset_start-Holds : (R : Allowed) (b : Builder) (g : Group) (t : Tag) → Starts R g t → Holds R b → HoldsAfter R (frameset_start b g t)
-frameset_start-Holds R b the_html t k h = html_start-Holds R b t k.more h
+frameset_start-Holds R b the_html t k h = html_start-Holds R b t (k.more refl) h
 frameset_start-Holds R b a_frameset t k h = insert-Holds R t b (k.opens refl) h
 frameset_start-Holds R b a_frame t k h = alone-Holds R t b k.alone h
 frameset_start-Holds R b a_noframes t k h = in_head_start-Holds R b a_noframes t k h
@@ -73,7 +73,7 @@ in_frameset_step-Holds R b (an_end g name) k h = frameset_end-Holds R b g h
 in_frameset_step-Holds R b end_of_file k h = h
 
 pub after_frameset_start-Holds : (R : Allowed) (b : Builder) (g : Group) (t : Tag) → Starts R g t → Holds R b → HoldsAfter R (after_frameset_start b g t)
-after_frameset_start-Holds R b the_html t k h = html_start-Holds R b t k.more h
+after_frameset_start-Holds R b the_html t k h = html_start-Holds R b t (k.more refl) h
 after_frameset_start-Holds R b a_noframes t k h = in_head_start-Holds R b a_noframes t k h
 after_frameset_start-Holds R b g t k h = h
 
@@ -93,7 +93,7 @@ pub after_after_body_step-Holds : (R : Allowed) (b : Builder) (token : Token) �
 after_after_body_step-Holds R b (a_character c) k h = either-after R (is_ascii_whitespace c) (in_body_step b (a_character c)) (back_in_body b) (in_body_step-Holds R b (a_character c) k h) (back_in_body-Holds R b h)
 after_after_body_step-Holds R b (a_comment bytes) k h = comment_at-Holds R (behind 0) bytes b k h
 after_after_body_step-Holds R b (a_doctype own) k h = h
-after_after_body_step-Holds R b (a_start g t closes) k h = after_body_start-Holds R b g t k.more h
+after_after_body_step-Holds R b (a_start g t closes) k h = after_body_start-Holds R b g t k h
 after_after_body_step-Holds R b (an_end g name) k h = back_in_body-Holds R b h
 after_after_body_step-Holds R b end_of_file k h = h
 

@@ -144,7 +144,7 @@ pub after_column_group-Holds : (R : Allowed) (b : Builder) → Holds R b → Hol
 after_column_group-Holds R b h = either-after R (is_in_column_group b) (Again (column_group_closed b)) (Done b) (column_group_closed-Holds R b h) h
 
 pub column_start-Holds : (R : Allowed) (b : Builder) (g : Group) (t : Tag) → Starts R g t → Holds R b → HoldsAfter R (column_start b g t)
-column_start-Holds R b the_html t k h = html_start-Holds R b t k.more h
+column_start-Holds R b the_html t k h = html_start-Holds R b t (k.more refl) h
 column_start-Holds R b a_column t k h = alone-Holds R t b k.alone h
 column_start-Holds R b a_template t k h = in_head_start-Holds R b a_template t k h
 column_start-Holds R b g t k h = after_column_group-Holds R b h

@@ -1,8 +1,13 @@
 -- Laws of trees that are built of tokens: what holds of each element, text and comment in them.
-use Rattle.std.specs.Prelude.{Bool, List, false, true, ℕ, ◌≡◌, ⊤}
+use Rattle.std.specs.Prelude.{Bool, List, [], codes, false, true, ℕ, ◌∷◌, ◌≡◌, ◌⊎◌, ⊤}
+use Rattle.tl_html_spec.specs.Balanced.{is_one_of}
+use Rattle.tl_html_spec.specs.HtmlTokenizer.{replacement}
 use Rattle.tl_html_spec.specs.Sound.{IsSome}
-use Rattle.tl_dom_spec.specs.Tags.{Tag}
+use Rattle.tl_dom_spec.specs.Tags.{Namespace, Tag, bare_tag, by_space, is_any, math_space, svg_space}
 use Rattle.tl_dom_spec.specs.Doctypes.{Doctype}
+use Rattle.tl_dom_spec.specs.Groups.{Group, a_math, an_image, an_svg, the_body, the_html}
+use Rattle.tl_dom_spec.specs.Builder.{Token, a_character, a_comment, a_doctype, a_start, with_more}
+use Rattle.tl_dom_spec.specs.Adjusted.{foreign_name, foreign_tag}
 use Rattle.tl_dom_spec.specs.HtmlForest.{HtmlForest, comment, doctype, element, no_trees, text}
 
 -- what holds of each element, with what stands below it
@@ -38,6 +43,11 @@ EachDoctype P (comment bytes more) = EachDoctype P more
 EachDoctype P (doctype own more) = P own × EachDoctype P more
 EachDoctype P (element tag below more) = EachDoctype P below × EachDoctype P more
 
+-- what holds of each character of a text
+abbrev pub EachCharacter : (ℕ → Type 0) → List ℕ → Type 0
+EachCharacter P [] = ⊤
+EachCharacter P (c ∷ bytes) = P c × EachCharacter P bytes
+
 -- Texts
 
 abbrev pub begins_with_text : HtmlForest → Bool
@@ -55,3 +65,68 @@ AreApart (element tag below more) = AreApart below × AreApart more
 -- no text is empty, or stands right beside another one
 abbrev pub AreTexts : HtmlForest → Type 0
 AreTexts trees = EachText IsSome trees × AreApart trees
+
+-- Void elements
+
+-- elements that are written without an end tag (13.3), so that nothing can stand below them
+abbrev pub is_void : Tag → Bool
+is_void t =
+    is_any
+    (codes "area base basefont bgsound br col embed frame hr img input keygen link meta param source track wbr") t
+
+abbrev pub AreVoidEmpty : HtmlForest → Type 0
+AreVoidEmpty trees = EachElement (λ tag below. is_void tag ≡ true → below ≡ no_trees) trees
+
+-- Names
+
+abbrev pub AreNamed : HtmlForest → Type 0
+AreNamed trees = EachElement (λ tag below. IsSome tag.name) trees
+
+-- Where it all comes from
+
+abbrev pub IsIn : {X : Type 0} → X → List X → Type 0
+IsIn x [] = ⊥
+IsIn x (y ∷ ys) = (x ≡ y) ⊎ IsIn x ys
+
+-- the names of the elements that are put in where their start tags are missing
+abbrev pub put_in_names : List ℕ
+put_in_names = codes "html head body tbody tr colgroup p br"
+
+-- `html` and `body`, whose start tags add attributes to the elements that are open already
+abbrev pub adds_attributes : Group → Bool
+adds_attributes the_html = true
+adds_attributes the_body = true
+adds_attributes _ = false
+
+-- what the tag of an element is by the tokens
+pub data IsTagOf (tokens : List Token) : Tag → Type 0 where
+  -- that of a start tag
+  started : (g : Group) (t : Tag) (closes : Bool) →
+      IsIn (a_start g t closes) tokens → IsTagOf tokens t
+  -- `img` for `image`
+  as_image : (t : Tag) (closes : Bool) →
+      IsIn (a_start an_image t closes) tokens → IsTagOf tokens (record t { name = codes "img" })
+  -- of the start tag of `math` or `svg`
+  as_math : (t : Tag) (closes : Bool) →
+      IsIn (a_start a_math t closes) tokens → IsTagOf tokens (foreign_tag math_space t)
+  as_svg : (t : Tag) (closes : Bool) →
+      IsIn (a_start an_svg t closes) tokens → IsTagOf tokens (foreign_tag svg_space t)
+  -- of a start tag in foreign content, adjusted
+  adjusted : (g : Group) (t : Tag) (closes : Bool) (space : Namespace) →
+      by_space space true false false ≡ false →
+      IsIn (a_start g t closes) tokens →
+      IsTagOf tokens (foreign_tag space (record t { name = foreign_name space t.name }))
+  -- of an element that is put in
+  put_in : (name : List ℕ) → is_one_of put_in_names name ≡ true → IsTagOf tokens (bare_tag name)
+  -- one of these with the attributes of a start tag of `html` or `body` that it had not
+  with_added : (g : Group) (t own : Tag) (closes : Bool) → adds_attributes g ≡ true →
+      IsIn (a_start g t closes) tokens → IsTagOf tokens own →
+      IsTagOf tokens (with_more t.attributes own)
+
+-- each element, comment and doctype comes from a token, or is an element that is put in; and each
+-- character of a text is one of a character token, or of U+FFFD
+pub record ComeFrom (tokens : List Token) (trees : HtmlForest) : Type 0 where
+  pub elements : EachElement (λ tag below. IsTagOf tokens tag) trees
+  pub texts : EachText (EachCharacter (λ c. IsIn (a_character c) tokens ⊎ IsIn c replacement)) trees
+  pub comments : EachComment (λ bytes. IsIn (a_comment bytes) tokens) trees
+  pub doctypes : EachDoctype (λ own. IsIn (a_doctype own) tokens) trees
