@@ -5,7 +5,7 @@ use Rattle.std.proofs.lemmas.Bool.{cond_both}
 use Rattle.tl_html_spec.specs.HtmlTokenizer.{State, data_state, replacement}
 use Rattle.tl_html_spec.specs.Sound.{IsSome}
 use Rattle.tl_dom_spec.specs.Tags.{Attribute, Tag, bare_tag, is_any}
-use Rattle.tl_dom_spec.specs.Doctypes.{Doctype}
+use Rattle.tl_html_spec.specs.Doctypes.{Doctype}
 use Rattle.tl_dom_spec.specs.Path.{Nodes, and_comment, and_doctype, and_element, and_text, at_head, joined, no_nodes, with_text}
 use Rattle.tl_dom_spec.specs.Builder.{with_more}
 

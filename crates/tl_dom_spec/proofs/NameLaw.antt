@@ -12,7 +12,7 @@ use Rattle.tl_dom_spec.specs.Groups.{Group, group}
 use Rattle.tl_dom_spec.specs.Path.{elements}
 use Rattle.tl_dom_spec.specs.Builder.{Flags}
 use Rattle.tl_dom_spec.specs.Adjusted.{cased, foreign_name, svg_names}
-use Rattle.tl_dom_spec.specs.Driven.{token_of}
+use Rattle.tl_dom_spec.specs.Driver.{token_of}
 use Rattle.tl_dom_spec.specs.HtmlForest.{HtmlForest}
 use Rattle.tl_dom_spec.specs.HtmlTree.{Context, fragment_of_tokens, tree_of_tokens}
 use Rattle.tl_dom_spec.specs.Lawful.{AreNamed}
@@ -89,8 +89,8 @@ pub names_of : (trees : HtmlForest) → Follows named trees → AreNamed trees
 names_of trees f = elements-weaken (Owned named) (λ tag below. IsSome tag.name) trees some_name f.elements
 
 pub page_names : (flags : Flags) (tokens : List HtmlToken) → AreSound tokens → AreNamed (tree_of_tokens flags tokens).trees
-page_names flags tokens s = names_of (tree_of_tokens flags tokens).trees (page-Follows named flags tokens (named_tokens tokens s))
+page_names flags tokens s = names_of (tree_of_tokens flags tokens).trees (page-Follows named flags (map token_of tokens) (named_tokens tokens s))
 
 pub fragment_names : (flags : Flags) (context : Context) (tokens : List HtmlToken) → AreSound tokens → AreNamed (fragment_of_tokens flags context tokens)
 fragment_names flags context tokens s =
-    names_of (fragment_of_tokens flags context tokens) (fragment-Follows named flags context tokens (named_tokens tokens s))
+    names_of (fragment_of_tokens flags context tokens) (fragment-Follows named flags context (map token_of tokens) (named_tokens tokens s))

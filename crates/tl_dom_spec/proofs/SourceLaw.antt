@@ -1,20 +1,19 @@
 -- All that stands in a tree comes from a token, or is put in by the standard.
-use Rattle.std.proofs.Common.{Bool, List, [], codes, inl, inr, map, refl, subst, sym, true, true≢false, ℕ, ◌∷◌, ◌≡◌, ◌⊎◌}
+use Rattle.std.proofs.Common.{Bool, List, [], codes, inl, inr, refl, subst, sym, true, true≢false, ℕ, ◌∷◌, ◌≡◌, ◌⊎◌}
 use Rattle.std.specs.Prelude.{⊤}
-use Rattle.tl_html_spec.specs.HtmlTokenizer.{HtmlToken, replacement}
+use Rattle.tl_html_spec.specs.HtmlTokenizer.{replacement}
 use Rattle.tl_dom_spec.specs.Tags.{Tag, math_space, svg_space}
 use Rattle.tl_dom_spec.specs.Groups.{Group, a_math, an_image, an_svg}
 use Rattle.tl_dom_spec.specs.Path.{elements}
 use Rattle.tl_dom_spec.specs.Builder.{Flags, Token, a_character, a_comment, a_doctype, a_start, an_end, end_of_file, with_more}
 use Rattle.tl_dom_spec.specs.Adjusted.{foreign_tag}
 use Rattle.tl_dom_spec.specs.Dispatcher.{is_svg_start}
-use Rattle.tl_dom_spec.specs.Driven.{token_of}
 use Rattle.tl_dom_spec.specs.HtmlForest.{HtmlForest}
-use Rattle.tl_dom_spec.specs.HtmlTree.{Context, fragment_of_tokens, tree_of_tokens}
-use Rattle.tl_dom_spec.specs.Lawful.{ComeFrom, EachCharacter, IsIn, IsTagOf, adds_attributes, adjusted, as_image, as_math, as_svg, put_in, started, with_added}
+use Rattle.tl_dom_spec.specs.HtmlTree.{Context, html_fragment_by, html_tree_by}
+use Rattle.tl_dom_spec.specs.Lawful.{ComeFrom, EachCharacter, IsIn, IsTagOf, adds_attributes, adjusted, as_image, as_math, as_svg, fragment_built, page_built, put_in, started, tokens_of_fragment, tokens_of_page, with_added}
 use Rattle.tl_dom_spec.proofs.Allowed.{Allowed, Each, IsText}
 use Rattle.tl_dom_spec.proofs.HeadRules.{Allows, is_image, is_math_start}
-use Rattle.tl_dom_spec.proofs.TreesFollow.{Follows, Owned, fragment-Follows, page-Follows}
+use Rattle.tl_dom_spec.proofs.TreesFollow.{Follows, Owned, fragment-Follows, fragment_is, page-Follows, page_is}
 use Rattle.tl_dom_spec.proofs.TextLaw.{elements-weaken, texts-weaken}
 
 in_front : {X : Type 0} → (x : X) (xs : List X) → IsIn x (x ∷ xs)
@@ -97,11 +96,18 @@ sources_of tokens trees f = record {
   doctypes = f.doctypes;
 }
 
-pub page_sources : (flags : Flags) (tokens : List HtmlToken) → ComeFrom (map token_of tokens) (tree_of_tokens flags tokens).trees
-page_sources flags tokens =
-    sources_of (map token_of tokens) (tree_of_tokens flags tokens).trees (page-Follows (from (map token_of tokens)) flags tokens (tokens_from (map token_of tokens)))
+pub built_sources : (flags : Flags) (tokens : List Token) → ComeFrom tokens (page_built flags tokens).trees
+built_sources flags tokens = sources_of tokens (page_built flags tokens).trees (page-Follows (from tokens) flags tokens (tokens_from tokens))
 
-pub fragment_sources : (flags : Flags) (context : Context) (tokens : List HtmlToken) → ComeFrom (map token_of tokens) (fragment_of_tokens flags context tokens)
-fragment_sources flags context tokens =
-    sources_of (map token_of tokens) (fragment_of_tokens flags context tokens)
-    (fragment-Follows (from (map token_of tokens)) flags context tokens (tokens_from (map token_of tokens)))
+pub built_fragment_sources : (flags : Flags) (context : Context) (tokens : List Token) → ComeFrom tokens (fragment_built flags context tokens)
+built_fragment_sources flags context tokens =
+    sources_of tokens (fragment_built flags context tokens) (fragment-Follows (from tokens) flags context tokens (tokens_from tokens))
+
+pub page_sources : (flags : Flags) (page : List ℕ) → ComeFrom (tokens_of_page flags page) (html_tree_by flags page).trees
+page_sources flags page =
+    subst (λ d. ComeFrom (tokens_of_page flags page) d.trees) (sym (page_is flags page)) (built_sources flags (tokens_of_page flags page))
+
+pub fragment_sources : (flags : Flags) (context : Context) (bytes : List ℕ) → ComeFrom (tokens_of_fragment flags context bytes) (html_fragment_by flags context bytes)
+fragment_sources flags context bytes =
+    subst (ComeFrom (tokens_of_fragment flags context bytes)) (sym (fragment_is flags context bytes))
+    (built_fragment_sources flags context (tokens_of_fragment flags context bytes))

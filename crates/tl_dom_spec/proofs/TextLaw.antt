@@ -1,18 +1,16 @@
 -- No text of a tree is empty, or beside another one.
-use Rattle.std.proofs.Common.{List, [], map, ℕ, ◌∷◌}
+use Rattle.std.proofs.Common.{List, [], subst, sym, ℕ, ◌∷◌}
 use Rattle.std.specs.Prelude.{⊤}
-use Rattle.tl_html_spec.specs.HtmlTokenizer.{HtmlToken}
 use Rattle.tl_html_spec.specs.Sound.{IsSome}
 use Rattle.tl_dom_spec.specs.Tags.{Tag}
 use Rattle.tl_dom_spec.specs.Groups.{Group}
 use Rattle.tl_dom_spec.specs.Builder.{Flags, Token, a_character, a_comment, a_doctype, a_start, an_end, end_of_file}
-use Rattle.tl_dom_spec.specs.Driven.{token_of}
 use Rattle.tl_dom_spec.specs.HtmlForest.{HtmlForest, comment, doctype, element, no_trees, text}
-use Rattle.tl_dom_spec.specs.HtmlTree.{Context, fragment_of_tokens, tree_of_tokens}
-use Rattle.tl_dom_spec.specs.Lawful.{AreTexts, EachElement, EachText}
+use Rattle.tl_dom_spec.specs.HtmlTree.{Context, html_fragment_by, html_tree_by}
+use Rattle.tl_dom_spec.specs.Lawful.{AreTexts, EachElement, EachText, fragment_built, page_built, tokens_of_fragment, tokens_of_page}
 use Rattle.tl_dom_spec.proofs.Allowed.{Allowed, Each, IsText}
 use Rattle.tl_dom_spec.proofs.HeadRules.{Allows, Starts}
-use Rattle.tl_dom_spec.proofs.TreesFollow.{Follows, fragment-Follows, page-Follows}
+use Rattle.tl_dom_spec.proofs.TreesFollow.{Follows, fragment-Follows, fragment_is, page-Follows, page_is}
 
 -- what holds of each node is weakened
 
@@ -84,9 +82,17 @@ any_tokens (token ∷ tokens) = (any_token token, any_tokens tokens)
 pub texts_of : (trees : HtmlForest) → Follows anything trees → AreTexts trees
 texts_of trees f = (texts-weaken (IsText anything) IsSome trees (λ bytes t. t.0) f.texts, f.apart)
 
-pub page_texts : (flags : Flags) (tokens : List HtmlToken) → AreTexts (tree_of_tokens flags tokens).trees
-page_texts flags tokens = texts_of (tree_of_tokens flags tokens).trees (page-Follows anything flags tokens (any_tokens (map token_of tokens)))
+pub built_texts : (flags : Flags) (tokens : List Token) → AreTexts (page_built flags tokens).trees
+built_texts flags tokens = texts_of (page_built flags tokens).trees (page-Follows anything flags tokens (any_tokens tokens))
 
-pub fragment_texts : (flags : Flags) (context : Context) (tokens : List HtmlToken) → AreTexts (fragment_of_tokens flags context tokens)
-fragment_texts flags context tokens =
-    texts_of (fragment_of_tokens flags context tokens) (fragment-Follows anything flags context tokens (any_tokens (map token_of tokens)))
+pub built_fragment_texts : (flags : Flags) (context : Context) (tokens : List Token) → AreTexts (fragment_built flags context tokens)
+built_fragment_texts flags context tokens =
+    texts_of (fragment_built flags context tokens) (fragment-Follows anything flags context tokens (any_tokens tokens))
+
+pub page_texts : (flags : Flags) (page : List ℕ) → AreTexts (html_tree_by flags page).trees
+page_texts flags page =
+    subst (λ d. AreTexts d.trees) (sym (page_is flags page)) (built_texts flags (tokens_of_page flags page))
+
+pub fragment_texts : (flags : Flags) (context : Context) (bytes : List ℕ) → AreTexts (html_fragment_by flags context bytes)
+fragment_texts flags context bytes =
+    subst AreTexts (sym (fragment_is flags context bytes)) (built_fragment_texts flags context (tokens_of_fragment flags context bytes))

@@ -1,14 +1,16 @@
--- The trees of any tokens: in them all is allowed that the tokens give.
-use Rattle.std.proofs.Common.{List, ap, false, inl, inr, map, refl, sym, true, true≢false, ◌∙◌, ◌≡◌, ◌⊎◌}
-use Rattle.tl_html_spec.specs.HtmlTokenizer.{HtmlToken}
+-- The trees of any tokens: in them all is allowed that the tokens give. And pages and fragments are built of tokens.
+use Rattle.std.proofs.Common.{List, [], ap, false, inl, inr, map, refl, sym, true, true≢false, ℕ, ◌∙◌, ◌∷◌, ◌≡◌, ◌⊎◌}
+use Rattle.tl_html_spec.specs.Driven.{Emission, driven_tokens, driving, in_state, taken}
+use Rattle.tl_html_spec.specs.HtmlTokenizer.{data_state, without_mark}
+use Rattle.tl_html_spec.proofs.Driving.{text_driven}
 use Rattle.tl_dom_spec.specs.Tags.{Tag}
 use Rattle.tl_dom_spec.specs.Path.{Frame, Nodes, and_comment, and_doctype, and_element, and_text, has_number, joined, no_nodes, popped_to, settled_while, top}
-use Rattle.tl_dom_spec.specs.Builder.{Builder, Flags, end_of_file}
-use Rattle.tl_dom_spec.specs.Dispatcher.{tokens_done}
-use Rattle.tl_dom_spec.specs.Driven.{token_of}
+use Rattle.tl_dom_spec.specs.Builder.{Builder, Flags, Token, end_of_file}
+use Rattle.tl_dom_spec.specs.Dispatcher.{token_done, tokens_done}
+use Rattle.tl_dom_spec.specs.Driver.{builder, emitted_token}
 use Rattle.tl_dom_spec.specs.HtmlForest.{HtmlForest, before, comment, doctype, element, no_trees, text}
-use Rattle.tl_dom_spec.specs.HtmlTree.{Context, after_tokens, any_frame, children_of, document_of, fragment_of_tokens, fragment_start, page_start, tree_of_tokens, trees_in}
-use Rattle.tl_dom_spec.specs.Lawful.{AreApart, EachComment, EachDoctype, EachElement, EachText, begins_with_text}
+use Rattle.tl_dom_spec.specs.HtmlTree.{Context, any_frame, children_of, context_state, document_of, fragment_start, html_fragment_by, html_tree_by, page_start, trees_in}
+use Rattle.tl_dom_spec.specs.Lawful.{AreApart, EachComment, EachDoctype, EachElement, EachText, begins_with_text, fragment_built, page_built, tokens_of_fragment, tokens_of_page}
 use Rattle.tl_dom_spec.proofs.Allowed.{Allowed, Each, Good, IsText, ends_with_text, joined-Good}
 use Rattle.tl_dom_spec.proofs.Paths.{Inner, popped_to-Frames, settled_while-Frames, top-Inner}
 use Rattle.tl_dom_spec.proofs.Builders.{Holds}
@@ -81,12 +83,30 @@ children-Follows R b h =
 
 -- of tokens
 
-pub page-Follows : (R : Allowed) (flags : Flags) (tokens : List HtmlToken) → Each (Allows R) (map token_of tokens) → Follows R (tree_of_tokens flags tokens).trees
+pub page-Follows : (R : Allowed) (flags : Flags) (tokens : List Token) → Each (Allows R) tokens → Follows R (page_built flags tokens).trees
 page-Follows R flags tokens k =
-    document-Follows R (after_tokens (page_start flags) tokens)
-    (token-Holds R (tokens_done (page_start flags) (map token_of tokens)) end_of_file tt (tokens-Holds R (page_start flags) (map token_of tokens) k (page_start-Holds R flags)))
+    document-Follows R (token_done (tokens_done (page_start flags) tokens) end_of_file)
+    (token-Holds R (tokens_done (page_start flags) tokens) end_of_file tt (tokens-Holds R (page_start flags) tokens k (page_start-Holds R flags)))
 
-pub fragment-Follows : (R : Allowed) (flags : Flags) (context : Context) (tokens : List HtmlToken) → Each (Allows R) (map token_of tokens) → Follows R (fragment_of_tokens flags context tokens)
+pub fragment-Follows : (R : Allowed) (flags : Flags) (context : Context) (tokens : List Token) → Each (Allows R) tokens → Follows R (fragment_built flags context tokens)
 fragment-Follows R flags context tokens k =
-    children-Follows R (after_tokens (fragment_start flags context) tokens)
-    (token-Holds R (tokens_done (fragment_start flags context) (map token_of tokens)) end_of_file tt (tokens-Holds R (fragment_start flags context) (map token_of tokens) k (fragment_start-Holds R flags context)))
+    children-Follows R (token_done (tokens_done (fragment_start flags context) tokens) end_of_file)
+    (token-Holds R (tokens_done (fragment_start flags context) tokens) end_of_file tt (tokens-Holds R (fragment_start flags context) tokens k (fragment_start-Holds R flags context)))
+
+-- a page is built of its tokens, and a fragment too
+
+taken-tokens : (b : Builder) (emissions : List Emission) → taken builder b emissions ≡ tokens_done b (map emitted_token emissions)
+taken-tokens b [] = refl
+taken-tokens b (e ∷ emissions) = taken-tokens (token_done b (emitted_token e)) emissions
+
+pub page_is : (flags : Flags) (page : List ℕ) → html_tree_by flags page ≡ page_built flags (tokens_of_page flags page)
+page_is flags page =
+    ap (λ b. document_of (token_done b end_of_file))
+    (text_driven builder (page_start flags) (in_state data_state) (without_mark page)
+    ∙ taken-tokens (page_start flags) (driven_tokens builder (driving (page_start flags) (in_state data_state)) (without_mark page)))
+
+pub fragment_is : (flags : Flags) (context : Context) (bytes : List ℕ) → html_fragment_by flags context bytes ≡ fragment_built flags context (tokens_of_fragment flags context bytes)
+fragment_is flags context bytes =
+    ap (λ b. children_of (token_done b end_of_file))
+    (text_driven builder (fragment_start flags context) (in_state (context_state flags context.tag)) bytes
+    ∙ taken-tokens (fragment_start flags context) (driven_tokens builder (driving (fragment_start flags context) (in_state (context_state flags context.tag))) bytes))

@@ -5,20 +5,21 @@ use Rattle.std.specs.Str.{bytes_eq}
 use Rattle.std.specs.List.{list_any}
 use Rattle.std.proofs.lemmas.Slice.Eq.{bytes_eq-Decides}
 use Rattle.std.proofs.lemmas.Bool.{and_left, and_parts, and_right, cases_Bool}
-use Rattle.tl_html_spec.specs.HtmlTokenizer.{Character, CommentToken, DoctypeToken, EndTag, HtmlAttribute, HtmlToken, StartTag}
+use Rattle.tl_html_spec.specs.Driven.{Emission, doctype_of, driven_tokens, driving, in_state, plain}
+use Rattle.tl_html_spec.specs.HtmlTokenizer.{Character, CommentToken, DoctypeToken, EndTag, HtmlAttribute, HtmlToken, StartTag, data_state, without_mark}
 use Rattle.tl_html_spec.specs.Balanced.{is_one_of, words}
 use Rattle.tl_dom_spec.specs.Tags.{Tag, by_space, html_tag, is_any, is_html}
 use Rattle.tl_dom_spec.specs.Groups.{group}
 use Rattle.tl_dom_spec.specs.Path.{elements}
 use Rattle.tl_dom_spec.specs.Builder.{Flags}
 use Rattle.tl_dom_spec.specs.Adjusted.{foreign_name}
-use Rattle.tl_dom_spec.specs.Driven.{token_of}
+use Rattle.tl_dom_spec.specs.Driver.{builder, emitted_token, token_of}
 use Rattle.tl_dom_spec.specs.HtmlForest.{HtmlForest, no_trees}
-use Rattle.tl_dom_spec.specs.HtmlTree.{Context, fragment_of_tokens, tree_of_tokens}
-use Rattle.tl_dom_spec.specs.Lawful.{AreVoidEmpty, is_void}
+use Rattle.tl_dom_spec.specs.HtmlTree.{Context, context_state, fragment_of_tokens, fragment_start, html_fragment_by, html_tree_by, page_start, tree_of_tokens}
+use Rattle.tl_dom_spec.specs.Lawful.{AreVoidEmpty, fragment_built, is_void, page_built, tokens_of_fragment, tokens_of_page}
 use Rattle.tl_dom_spec.proofs.Allowed.{Allowed, Each}
 use Rattle.tl_dom_spec.proofs.HeadRules.{Allows, Starts, is_alone}
-use Rattle.tl_dom_spec.proofs.TreesFollow.{Follows, Owned, fragment-Follows, page-Follows}
+use Rattle.tl_dom_spec.proofs.TreesFollow.{Follows, Owned, fragment-Follows, fragment_is, page-Follows, page_is}
 use Rattle.tl_dom_spec.proofs.TextLaw.{elements-weaken}
 
 -- what holds of some words holds of each name that is one of them
@@ -104,6 +105,14 @@ pub void_tokens : (tokens : List HtmlToken) → Each (Allows voids) (map token_o
 void_tokens [] = tt
 void_tokens (token ∷ tokens) = (void_token token, void_tokens tokens)
 
+void_emission : (e : Emission) → Allows voids (emitted_token e)
+void_emission (plain token) = void_token token
+void_emission (doctype_of own) = tt
+
+void_emissions : (emissions : List Emission) → Each (Allows voids) (map emitted_token emissions)
+void_emissions [] = tt
+void_emissions (e ∷ emissions) = (void_emission e, void_emissions emissions)
+
 nothing_below : (tag : Tag) (below : HtmlForest) → Owned voids tag below → is_void tag ≡ true → below ≡ no_trees
 nothing_below tag below (inl o) v = absurd (true≢false (sym v ∙ o))
 nothing_below tag below (inr s) v = s.1
@@ -111,9 +120,22 @@ nothing_below tag below (inr s) v = s.1
 pub voids_of : (trees : HtmlForest) → Follows voids trees → AreVoidEmpty trees
 voids_of trees f = elements-weaken (Owned voids) (λ tag below. is_void tag ≡ true → below ≡ no_trees) trees nothing_below f.elements
 
-pub page_voids : (flags : Flags) (tokens : List HtmlToken) → AreVoidEmpty (tree_of_tokens flags tokens).trees
-page_voids flags tokens = voids_of (tree_of_tokens flags tokens).trees (page-Follows voids flags tokens (void_tokens tokens))
+pub built_voids : (flags : Flags) (tokens : List HtmlToken) → AreVoidEmpty (tree_of_tokens flags tokens).trees
+built_voids flags tokens = voids_of (tree_of_tokens flags tokens).trees (page-Follows voids flags (map token_of tokens) (void_tokens tokens))
 
-pub fragment_voids : (flags : Flags) (context : Context) (tokens : List HtmlToken) → AreVoidEmpty (fragment_of_tokens flags context tokens)
-fragment_voids flags context tokens =
-    voids_of (fragment_of_tokens flags context tokens) (fragment-Follows voids flags context tokens (void_tokens tokens))
+pub built_fragment_voids : (flags : Flags) (context : Context) (tokens : List HtmlToken) → AreVoidEmpty (fragment_of_tokens flags context tokens)
+built_fragment_voids flags context tokens =
+    voids_of (fragment_of_tokens flags context tokens) (fragment-Follows voids flags context (map token_of tokens) (void_tokens tokens))
+
+pub page_voids : (flags : Flags) (page : List ℕ) → AreVoidEmpty (html_tree_by flags page).trees
+page_voids flags page =
+    let emissions : List Emission = driven_tokens builder (driving (page_start flags) (in_state data_state)) (without_mark page) in
+    subst (λ d. AreVoidEmpty d.trees) (sym (page_is flags page))
+    (voids_of (page_built flags (tokens_of_page flags page)).trees (page-Follows voids flags (tokens_of_page flags page) (void_emissions emissions)))
+
+pub fragment_voids : (flags : Flags) (context : Context) (bytes : List ℕ) → AreVoidEmpty (html_fragment_by flags context bytes)
+fragment_voids flags context bytes =
+    let emissions : List Emission = driven_tokens builder (driving (fragment_start flags context) (in_state (context_state flags context.tag))) bytes in
+    subst AreVoidEmpty (sym (fragment_is flags context bytes))
+    (voids_of (fragment_built flags context (tokens_of_fragment flags context bytes))
+    (fragment-Follows voids flags context (tokens_of_fragment flags context bytes) (void_emissions emissions)))

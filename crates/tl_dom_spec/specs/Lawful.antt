@@ -1,14 +1,18 @@
 -- Laws of trees that are built of tokens: what holds of each element, text and comment in them.
-use Rattle.std.specs.Prelude.{Bool, List, [], codes, false, true, ℕ, ◌∷◌, ◌≡◌, ◌⊎◌, ⊤}
+use Rattle.std.specs.Prelude.{Bool, List, [], codes, false, map, true, ℕ, ◌∷◌, ◌≡◌, ◌⊎◌, ⊤}
 use Rattle.tl_html_spec.specs.Balanced.{is_one_of}
-use Rattle.tl_html_spec.specs.HtmlTokenizer.{replacement}
+use Rattle.tl_html_spec.specs.HtmlTokenizer.{data_state, replacement, without_mark}
 use Rattle.tl_html_spec.specs.Sound.{IsSome}
+use Rattle.tl_html_spec.specs.Doctypes.{Doctype}
+use Rattle.tl_html_spec.specs.Driven.{driven_tokens, driving, in_state}
 use Rattle.tl_dom_spec.specs.Tags.{Namespace, Tag, bare_tag, by_space, is_any, math_space, svg_space}
-use Rattle.tl_dom_spec.specs.Doctypes.{Doctype}
 use Rattle.tl_dom_spec.specs.Groups.{Group, a_math, an_image, an_svg, the_body, the_html}
-use Rattle.tl_dom_spec.specs.Builder.{Token, a_character, a_comment, a_doctype, a_start, with_more}
+use Rattle.tl_dom_spec.specs.Builder.{Flags, Token, a_character, a_comment, a_doctype, a_start, end_of_file, with_more}
 use Rattle.tl_dom_spec.specs.Adjusted.{foreign_name, foreign_tag}
+use Rattle.tl_dom_spec.specs.Dispatcher.{token_done, tokens_done}
+use Rattle.tl_dom_spec.specs.Driver.{builder, emitted_token}
 use Rattle.tl_dom_spec.specs.HtmlForest.{HtmlForest, comment, doctype, element, no_trees, text}
+use Rattle.tl_dom_spec.specs.HtmlTree.{Context, Document, children_of, context_state, document_of, fragment_start, page_start}
 
 -- what holds of each element, with what stands below it
 abbrev pub EachElement : (Tag → HtmlForest → Type 0) → HtmlForest → Type 0
@@ -130,3 +134,27 @@ pub record ComeFrom (tokens : List Token) (trees : HtmlForest) : Type 0 where
   pub texts : EachText (EachCharacter (λ c. IsIn (a_character c) tokens ⊎ IsIn c replacement)) trees
   pub comments : EachComment (λ bytes. IsIn (a_comment bytes) tokens) trees
   pub doctypes : EachDoctype (λ own. IsIn (a_doctype own) tokens) trees
+
+-- Tokens of pages: as tree construction drives the tokenizer
+
+abbrev pub tokens_of_page : Flags → List ℕ → List Token
+tokens_of_page flags page =
+    map emitted_token
+    (driven_tokens builder (driving (page_start flags) (in_state data_state)) (without_mark page))
+
+abbrev pub tokens_of_fragment : Flags → Context → List ℕ → List Token
+tokens_of_fragment flags context bytes =
+    map emitted_token
+    (driven_tokens builder
+    (driving (fragment_start flags context) (in_state (context_state flags context.tag)))
+    bytes)
+
+-- what is built of tokens
+
+abbrev pub page_built : Flags → List Token → Document
+page_built flags tokens =
+    document_of (token_done (tokens_done (page_start flags) tokens) end_of_file)
+
+abbrev pub fragment_built : Flags → Context → List Token → HtmlForest
+fragment_built flags context tokens =
+    children_of (token_done (tokens_done (fragment_start flags context) tokens) end_of_file)
