@@ -1,15 +1,15 @@
 -- The adoption agency keeps what holds of a builder.
-use Rattle.std.proofs.Common.{◌≡◌, ℕ, zero, suc, ◌==◌, Bool, true, false, not, ◌||◌, ◌&&◌, List, [], ◌∷◌, ◌++◌, Option, Some, None, map, refl, ap, sym, ◌∙◌, true≢false, arith, if◌then◌else◌}
+use Rattle.std.proofs.Common.{◌≡◌, ℕ, suc, ◌==◌, Bool, true, false, not, ◌||◌, ◌&&◌, List, [], ◌∷◌, ◌++◌, Option, Some, None, sym, true≢false, arith, if◌then◌else◌}
 use Rattle.std.specs.Prelude.{⊤, nat_lt}
 use Rattle.std.specs.Str.{bytes_eq}
-use Rattle.std.proofs.lemmas.Bool.{cases_Bool, cond_both, or_left, or_right}
+use Rattle.std.proofs.lemmas.Bool.{cond_both, or_left, or_right}
 use Rattle.std.proofs.lemmas.Bool.Decides.{nat_tests}
 use Rattle.tl_dom_spec.specs.Tags.{Tag, is_named, is_scope, is_special}
-use Rattle.tl_dom_spec.specs.Path.{Frame, Path, Place, elements, has_number, has_tag, here, into, behind, into_head, is_open_number, new_frame, no_nodes, place_in, popped_through, settled_while, within}
-use Rattle.tl_dom_spec.specs.Builder.{Again, Builder, Done, Entry, Outcome, close_except_for, current_node, formatting, marker, pop_current_node, repeated}
+use Rattle.tl_dom_spec.specs.Path.{Frame, Path, Place, elements, has_number, has_tag, here, is_open_number, new_frame, no_nodes, place_in, within}
+use Rattle.tl_dom_spec.specs.Builder.{Again, Builder, Done, Entry, close_except_for, current_node, formatting, marker, pop_current_node, repeated}
 use Rattle.tl_dom_spec.specs.Formatting.{Listed, is_entry, is_listed, listed, listed_behind, relisted, unlisted}
-use Rattle.tl_dom_spec.specs.Adoption.{Clones, adopted, adoption_agency, adoption_round, any_other_end_tag, cloned, entry_moved, first, furthest_block, inside_of, is_inside_of, moved_into, moved_place, outermost, outermost_at, outside_of, readopted, settled_to, with_block, with_formatting}
-use Rattle.tl_dom_spec.proofs.Allowed.{Allowed, Each, Good}
+use Rattle.tl_dom_spec.specs.Adoption.{Clones, adopted, adoption_agency, adoption_round, any_other_end_tag, cloned, entry_moved, first, furthest_block, inside_of, moved_into, outermost, outermost_at, outside_of, readopted, settled_to, with_block, with_formatting}
+use Rattle.tl_dom_spec.proofs.Allowed.{Allowed, Each}
 use Rattle.tl_dom_spec.proofs.Paths.{Frames, Inner, Tagged, open_opens, popped_through-Frames, settled_while-Frames, tagged_opens}
 use Rattle.tl_dom_spec.proofs.Builders.{Entered, Entries, Holds, HoldsAfter, close-Holds, either, either-after, pop-Holds, repeated-Holds}
 
@@ -47,7 +47,7 @@ module _ (R : Allowed) where
   elements-open [] h = tt
   elements-open (f ∷ path) h =
       let more : Each (OpenIn (f ∷ path)) (elements path) =
-          each-weaken (OpenIn path) (OpenIn (f ∷ path)) (elements path) (λ g o. (o.0, or_right (f.number == g.number) (has_in g.number path) o.1)) (elements-open path h.2) in
+      each-weaken (OpenIn path) (OpenIn (f ∷ path)) (elements path) (λ g o. (o.0, or_right (f.number == g.number) (has_in g.number path) o.1)) (elements-open path h.2) in
       cond_both f.is_open (f ∷ elements path) (elements path) (Each (OpenIn (f ∷ path)))
       (λ o. (((h.0, open_opens R f path h.1 o), or_left (f.number == f.number) (has_in f.number path) (same_number f.number)), more))
       (λ _. more)
@@ -173,12 +173,14 @@ module _ (R : Allowed) where
   adopted-Holds : (b : Builder) (own : Listed) (block : Frame) (clones : Clones) (outer : Path) →
       Holds R b → OpenIn b.path block → R.Opens own.tag → AreClones clones → Frames R outer → HoldsAfter R (adopted b own block clones outer)
   adopted-Holds b own block clones outer h w o c k =
-      let inside = inside-whole block.number b.path w.1 h.0 in
-      (whole-append (moved_into block.number clones.next (inside_of block.number b.path)) (readopted (place_in b.is_fostering outer) block own clones outer)
-      (moved-whole block.number clones.next (inside_of block.number b.path) inside)
-      (readopted-Frames (place_in b.is_fostering outer) block own clones outer w.0 o c.0 k),
-      moved-Entries own.number clones.next own.tag clones.frames clones.entries o c.1,
-      h.2, h.3)
+      let inside = inside-whole block.number b.path w.1 h.0 in (
+        whole-append (moved_into block.number clones.next (inside_of block.number b.path)) (readopted (place_in b.is_fostering outer) block own clones outer)
+            (moved-whole block.number clones.next (inside_of block.number b.path) inside)
+            (readopted-Frames (place_in b.is_fostering outer) block own clones outer w.0 o c.0 k),
+        moved-Entries own.number clones.next own.tag clones.frames clones.entries o c.1,
+        h.2,
+        h.3,
+      )
 
   with_block-Holds : (b : Builder) (own : Listed) (block : Option Frame) → Holds R b → R.Opens own.tag → IfSome (OpenIn b.path) block → HoldsAfter R (with_block b own block)
   with_block-Holds b own None h o w = (popped_through-Frames R _ b.path h.0, unlisted-Entries own.number b.active h.1, h.2, h.3)

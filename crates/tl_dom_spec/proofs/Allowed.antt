@@ -1,5 +1,5 @@
 -- What tokens allow of trees, as parameters: of this each rule of tree construction makes its trees. And nodes of which all is allowed.
-use Rattle.std.proofs.Common.{◌≡◌, ℕ, ◌==◌, Bool, true, false, List, [], ◌∷◌, ◌++◌, ◌⊎◌, codes, refl, ap, sym, ◌∙◌, inl, inr, if◌then◌else◌}
+use Rattle.std.proofs.Common.{◌≡◌, ℕ, Bool, true, false, List, [], ◌∷◌, ◌++◌, ◌⊎◌, codes, refl, inl, inr}
 use Rattle.std.specs.Prelude.{⊤}
 use Rattle.std.proofs.lemmas.Bool.{cond_both}
 use Rattle.tl_html_spec.specs.HtmlTokenizer.{State, data_state, replacement}

@@ -62,9 +62,13 @@ anchor_ended-Holds R None b h = h
 anchor_ended-Holds R (Some own) b h =
     let ended : Builder = adoption_agency own.tag.name b in
     let k : Holds R ended = agency-Holds R own.tag.name b h in
-    let listed = unlisted-Holds R own.number ended k in
-    (cond_both (is_open_number own.number ended.path) (taken_out own.number ended.path) ended.path (Frames R)
-    (λ _. taken_out-Frames R own.number ended.path k.0) (λ _. k.0), listed.1, k.2, k.3)
+    let listed = unlisted-Holds R own.number ended k in (
+      cond_both (is_open_number own.number ended.path) (taken_out own.number ended.path) ended.path (Frames R)
+          (λ _. taken_out-Frames R own.number ended.path k.0) (λ _. k.0),
+      listed.1,
+      k.2,
+      k.3,
+    )
 
 pub nobr_ended-Holds : (R : Allowed) (name : List ℕ) (b : Builder) → Holds R b → Holds R (nobr_ended name b)
 nobr_ended-Holds R name b h = either R (has_in_scope (is_named name) b) (reconstruct_formatting (adoption_agency name b)) b (reconstruct-Holds R (adoption_agency name b) (agency-Holds R name b h)) h

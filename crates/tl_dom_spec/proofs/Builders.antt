@@ -1,15 +1,13 @@
 -- What holds of a builder between two rules, and what is done to it: it keeps that.
-use Rattle.std.proofs.Common.{◌≡◌, ℕ, zero, suc, ◌==◌, Bool, true, false, not, ◌||◌, ◌&&◌, List, [], ◌∷◌, ◌++◌, Option, Some, None, map, codes, refl, ap, sym, ◌∙◌, subst, inl, inr, true≢false, if◌then◌else◌}
+use Rattle.std.proofs.Common.{ℕ, zero, suc, ◌==◌, Bool, true, false, ◌&&◌, List, [], ◌∷◌, refl, if◌then◌else◌}
 use Rattle.std.specs.Prelude.{⊤, nat_lt}
-use Rattle.std.specs.Str.{bytes_eq}
-use Rattle.std.proofs.lemmas.Bool.{cases_Bool, cond_both}
-use Rattle.tl_html_spec.specs.HtmlTokenizer.{State}
-use Rattle.tl_dom_spec.specs.Tags.{Attribute, Tag, bare_tag, is_implied_thoroughly, is_template}
-use Rattle.tl_dom_spec.specs.Path.{Frame, Nodes, Path, Place, and_comment, and_element, and_text, here, is_open_number, no_nodes, popped_while, put}
-use Rattle.tl_dom_spec.specs.Builder.{Again, Builder, Done, Entry, Mode, Outcome, add_attributes, add_one, appropriate_place, clear_stack_back_to, clear_to_last_marker, close_except_for, formatting, generate_implied_end_tags, generate_implied_end_tags_except_for, has_template, insert_and_pop, insert_and_pop_at, insert_bytes, insert_character, insert_comment, insert_comment_at, insert_element, insert_element_at, insert_implied, insert_marker, marker, outcome_map, parse_raw_text, parse_raw_text_at, pop_current_node, pop_until, repeated, state_inside, switch_to, with_path, without_last_marker}
+use Rattle.std.proofs.lemmas.Bool.{cond_both}
+use Rattle.tl_dom_spec.specs.Tags.{Attribute, Tag, is_implied_thoroughly, is_template}
+use Rattle.tl_dom_spec.specs.Path.{Frame, Path, Place, and_comment, and_element, and_text, is_open_number, no_nodes, popped_while}
+use Rattle.tl_dom_spec.specs.Builder.{Again, Builder, Done, Entry, Outcome, add_attributes, appropriate_place, clear_stack_back_to, clear_to_last_marker, close_except_for, formatting, generate_implied_end_tags_except_for, has_template, insert_and_pop, insert_and_pop_at, insert_bytes, insert_character, insert_comment, insert_comment_at, insert_element, insert_element_at, insert_marker, marker, outcome_map, parse_raw_text, parse_raw_text_at, pop_current_node, pop_until, repeated, state_inside, with_path, without_last_marker}
 use Rattle.tl_dom_spec.specs.Formatting.{alike_count, insert_formatting_element, is_alike, reconstruct_formatting, reopen, reopen_each, with_room, without_earliest}
 use Rattle.tl_dom_spec.specs.Reset.{close_template, reset_insertion_mode, template_end_tag}
-use Rattle.tl_dom_spec.proofs.Allowed.{Allowed, Each, Good, IsText, alone-Good}
+use Rattle.tl_dom_spec.proofs.Allowed.{Allowed, Each, IsText, alone-Good}
 use Rattle.tl_dom_spec.proofs.Paths.{Frames, implied_closed-Frames, more-Frames, popped-Frames, popped_through-Frames, popped_to-Frames, popped_while-Frames, pushed_at-Frames, put-Frames}
 
 module _ (R : Allowed) where

@@ -3,7 +3,6 @@ use Rattle.std.proofs.Common.{Bool, List, [], codes, false, if◌then◌else◌,
 use Rattle.std.specs.Prelude.{nat_lt}
 use Rattle.std.specs.Char.{is_ascii_whitespace}
 use Rattle.std.proofs.lemmas.Bool.{cond_both}
-use Rattle.tl_html_spec.specs.Driven.{taken}
 use Rattle.tl_html_spec.specs.HtmlTokenizer.{replacement}
 use Rattle.tl_html_spec.specs.Balanced.{is_one_of}
 use Rattle.tl_dom_spec.specs.Tags.{Namespace, Tag, is_annotation, is_html, is_html_integration_point, is_text_integration_point}

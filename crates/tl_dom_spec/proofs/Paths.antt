@@ -1,12 +1,12 @@
 -- Paths whose frames hold what tokens allow, and what is done to them: it keeps that.
-use Rattle.std.proofs.Common.{◌≡◌, ℕ, ◌==◌, Bool, true, false, not, ◌||◌, List, [], ◌∷◌, ◌++◌, Option, Some, None, map, codes, refl, ap, sym, ◌∙◌, subst, inl, inr, true≢false, if◌then◌else◌}
+use Rattle.std.proofs.Common.{◌≡◌, ℕ, ◌==◌, Bool, true, false, not, ◌||◌, List, [], ◌∷◌, map, sym, true≢false, if◌then◌else◌}
 use Rattle.std.specs.Prelude.{⊤}
-use Rattle.std.proofs.lemmas.Bool.{cases_Bool, cond_both}
-use Rattle.tl_dom_spec.specs.Tags.{Attribute, Tag, bare_tag}
-use Rattle.tl_dom_spec.specs.Path.{Frame, Nodes, Path, Place, at_head, at_number, behind, caught_up, elements, here, implied_closed, into, into_head, joined, new_frame, no_nodes, node_of, on_top, popped, popped_through, popped_to, popped_while, put, settled, settled_at, settled_while, taken_out, top, top_settled, with_nodes, with_waiting}
+use Rattle.std.proofs.lemmas.Bool.{cond_both}
+use Rattle.tl_dom_spec.specs.Tags.{Attribute, Tag}
+use Rattle.tl_dom_spec.specs.Path.{Frame, Nodes, Path, Place, at_head, at_number, behind, caught_up, here, implied_closed, into, into_head, joined, new_frame, node_of, on_top, popped, popped_through, popped_to, popped_while, put, settled_at, settled_while, taken_out, top, top_settled, with_nodes, with_waiting}
 use Rattle.tl_dom_spec.specs.Builder.{pushed_at, with_more}
 use Rattle.tl_dom_spec.specs.Body.{from_html}
-use Rattle.tl_dom_spec.proofs.Allowed.{Allowed, Each, Good, at_head-Good, element-Good, joined-Good}
+use Rattle.tl_dom_spec.proofs.Allowed.{Allowed, Good, at_head-Good, element-Good, joined-Good}
 
 module _ (R : Allowed) where
   abbrev pub Inner : Frame → Type 0

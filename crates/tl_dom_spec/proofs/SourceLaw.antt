@@ -4,7 +4,6 @@ use Rattle.std.specs.Prelude.{⊤}
 use Rattle.tl_html_spec.specs.HtmlTokenizer.{replacement}
 use Rattle.tl_dom_spec.specs.Tags.{Tag, math_space, svg_space}
 use Rattle.tl_dom_spec.specs.Groups.{Group, a_math, an_image, an_svg}
-use Rattle.tl_dom_spec.specs.Path.{elements}
 use Rattle.tl_dom_spec.specs.Builder.{Flags, Token, a_character, a_comment, a_doctype, a_start, an_end, end_of_file, with_more}
 use Rattle.tl_dom_spec.specs.Adjusted.{foreign_tag}
 use Rattle.tl_dom_spec.specs.Dispatcher.{is_svg_start}

@@ -10,7 +10,6 @@ use Rattle.tl_html_spec.specs.HtmlTokenizer.{Character, CommentToken, DoctypeTok
 use Rattle.tl_html_spec.specs.Balanced.{is_one_of, words}
 use Rattle.tl_dom_spec.specs.Tags.{Tag, by_space, html_tag, is_any, is_html}
 use Rattle.tl_dom_spec.specs.Groups.{group}
-use Rattle.tl_dom_spec.specs.Path.{elements}
 use Rattle.tl_dom_spec.specs.Builder.{Flags}
 use Rattle.tl_dom_spec.specs.Adjusted.{foreign_name}
 use Rattle.tl_dom_spec.specs.Driver.{builder, emitted_token, token_of}

@@ -86,6 +86,12 @@ AreVoidEmpty trees = EachElement (λ tag below. is_void tag ≡ true → below �
 abbrev pub AreNamed : HtmlForest → Type 0
 AreNamed trees = EachElement (λ tag below. IsSome tag.name) trees
 
+-- the names of start tags are not empty
+abbrev pub HaveNames : List Token → Type 0
+HaveNames [] = ⊤
+HaveNames (a_start g t closes ∷ tokens) = IsSome t.name × HaveNames tokens
+HaveNames (token ∷ tokens) = HaveNames tokens
+
 -- Where it all comes from
 
 abbrev pub IsIn : {X : Type 0} → X → List X → Type 0

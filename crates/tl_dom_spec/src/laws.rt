@@ -1,11 +1,12 @@
 //! Laws of the trees of any page, any fragment and any tokens.
 
 ghost use Rattle.std.specs.Prelude.{◌≡◌, List, map, ℕ};
-ghost use Rattle.tl_html_spec.specs.HtmlTokenizer.{HtmlToken};
+ghost use Rattle.tl_html_spec.specs.HtmlTokenizer.{HtmlToken, html_tokens};
 ghost use Rattle.tl_html_spec.specs.Sound.{AreSound};
 ghost use Rattle.tl_dom_spec.specs.Builder.{Flags, Token};
+ghost use Rattle.tl_dom_spec.specs.Driver.{token_of};
 ghost use Rattle.tl_dom_spec.specs.HtmlTree.{Context, fragment_of_tokens, html_fragment_by, html_tree_by, tree_of_tokens};
-ghost use Rattle.tl_dom_spec.specs.Lawful.{AreNamed, AreTexts, AreVoidEmpty, ComeFrom, fragment_built, page_built, tokens_of_fragment, tokens_of_page};
+ghost use Rattle.tl_dom_spec.specs.Lawful.{AreNamed, AreTexts, AreVoidEmpty, ComeFrom, HaveNames, fragment_built, page_built, tokens_of_fragment, tokens_of_page};
 
 /// A page is built of its tokens, and a fragment too: what holds of what any tokens build holds of
 /// any page.
@@ -30,13 +31,23 @@ pub fn texts_are_whole()
         AreTexts (fragment_built flags context tokens) }
 {}
 
-/// No name is empty, where those of the tokens aren't.
-#[tactic(auto, using(crate::proofs::NameLaw::page_names, crate::proofs::NameLaw::fragment_names))]
+/// No name is empty, where those of the start tags aren't; so where the tokenizer goes by names
+/// alone none is.
+#[tactic(auto, using(crate::proofs::NameLaw::page_names, crate::proofs::NameLaw::fragment_names, crate::proofs::NameLaw::built_names, crate::proofs::NameLaw::built_fragment_names, crate::proofs::NameLaw::sound_names, crate::proofs::NameLaw::names_by_name))]
 pub fn elements_have_names()
-    ensures page_of_tokens { (flags : Flags) (tokens : List HtmlToken) → AreSound tokens →
-        AreNamed (tree_of_tokens flags tokens).trees }
-    ensures fragment_of_tokens { (flags : Flags) (context : Context) (tokens : List HtmlToken) →
-        AreSound tokens → AreNamed (fragment_of_tokens flags context tokens) }
+    ensures page { (flags : Flags) (page : List ℕ) → HaveNames (tokens_of_page flags page) →
+        AreNamed (html_tree_by flags page).trees }
+    ensures fragment { (flags : Flags) (context : Context) (bytes : List ℕ) →
+        HaveNames (tokens_of_fragment flags context bytes) →
+        AreNamed (html_fragment_by flags context bytes) }
+    ensures page_of_tokens { (flags : Flags) (tokens : List Token) → HaveNames tokens →
+        AreNamed (page_built flags tokens).trees }
+    ensures fragment_of_tokens { (flags : Flags) (context : Context) (tokens : List Token) →
+        HaveNames tokens → AreNamed (fragment_built flags context tokens) }
+    ensures sound_tokens { (tokens : List HtmlToken) → AreSound tokens →
+        HaveNames (map token_of tokens) }
+    ensures page_by_names { (flags : Flags) (page : List ℕ) →
+        AreNamed (tree_of_tokens flags (html_tokens page)).trees }
 {}
 
 /// Nothing stands below a void element.
