@@ -12,3 +12,4 @@ pub mod TextLaw
 pub mod NameLaw
 pub mod VoidLaw
 pub mod SourceLaw
+pub mod ContentsLaw

@@ -10,7 +10,6 @@ use Rattle.tl_html_spec.specs.Balanced.{words}
 use Rattle.tl_html_spec.specs.Sound.{AreSound, IsSome}
 use Rattle.tl_dom_spec.specs.Tags.{Namespace, Tag, html_space, math_space, svg_space}
 use Rattle.tl_dom_spec.specs.Groups.{Group}
-use Rattle.tl_dom_spec.specs.Path.{elements}
 use Rattle.tl_dom_spec.specs.Builder.{Flags, Token, a_character, a_comment, a_doctype, a_start, an_end, end_of_file}
 use Rattle.tl_dom_spec.specs.Adjusted.{cased, foreign_name, svg_names}
 use Rattle.tl_dom_spec.specs.Driver.{token_of}

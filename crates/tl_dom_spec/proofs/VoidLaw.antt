@@ -22,7 +22,7 @@ use Rattle.tl_dom_spec.proofs.TreesFollow.{Follows, Owned, fragment-Follows, fra
 use Rattle.tl_dom_spec.proofs.TextLaw.{elements-weaken}
 
 -- what holds of some words holds of each name that is one of them
-any_word : (P : List ℕ → Type 0) (list : List (List ℕ)) (name : List ℕ) → Each P list → list_any (bytes_eq name) list ≡ true → P name
+pub any_word : (P : List ℕ → Type 0) (list : List (List ℕ)) (name : List ℕ) → Each P list → list_any (bytes_eq name) list ≡ true → P name
 any_word P [] name h e = absurd (true≢false (sym e))
 any_word P (word ∷ list) name h e =
     elim (cases_Bool (bytes_eq name word)) [

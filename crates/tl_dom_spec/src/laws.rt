@@ -1,12 +1,14 @@
 //! Laws of the trees of any page, any fragment and any tokens.
 
-ghost use Rattle.std.specs.Prelude.{◌≡◌, List, map, ℕ};
+ghost use Rattle.std.specs.Prelude.{◌≡◌, ◌↔◌, List, codes, map, true, ℕ};
 ghost use Rattle.tl_html_spec.specs.HtmlTokenizer.{HtmlToken, html_tokens};
 ghost use Rattle.tl_html_spec.specs.Sound.{AreSound};
 ghost use Rattle.tl_dom_spec.specs.Builder.{Flags, Token};
 ghost use Rattle.tl_dom_spec.specs.Driver.{token_of};
+ghost use Rattle.tl_dom_spec.specs.HtmlForest.{has_contents};
 ghost use Rattle.tl_dom_spec.specs.HtmlTree.{Context, fragment_of_tokens, html_fragment_by, html_tree_by, tree_of_tokens};
 ghost use Rattle.tl_dom_spec.specs.Lawful.{AreNamed, AreTexts, AreVoidEmpty, ComeFrom, HaveNames, fragment_built, page_built, tokens_of_fragment, tokens_of_page};
+ghost use Rattle.tl_dom_spec.specs.Tags.{Tag, html_space};
 
 /// A page is built of its tokens, and a fragment too: what holds of what any tokens build holds of
 /// any page.
@@ -75,4 +77,11 @@ pub fn trees_come_from_tokens()
         ComeFrom tokens (page_built flags tokens).trees }
     ensures fragment_of_tokens { (flags : Flags) (context : Context) (tokens : List Token) →
         ComeFrom tokens (fragment_built flags context tokens) }
+{}
+
+/// A `template` alone has contents, and it is no element of `svg` or `math`.
+#[tactic(auto, using(crate::proofs::ContentsLaw::template_alone))]
+pub fn templates_alone_have_contents()
+    ensures { (tag : Tag) → (has_contents tag ≡ true)
+        ↔ ((tag.space ≡ html_space) × (tag.name ≡ codes "template")) }
 {}

@@ -1,4 +1,5 @@
-//! The HTML standard's tree construction, whole: definitions that contracts cite, their laws, and worked rows.
+//! The HTML standard's tree construction, whole: definitions that contracts cite, their laws, and
+//! worked rows.
 #![tactic(auto)]
 
 mod body;
