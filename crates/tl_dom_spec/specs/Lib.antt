@@ -15,4 +15,5 @@ pub mod Dispatcher
 pub mod Driver
 pub mod HtmlForest
 pub mod HtmlTree
+pub mod Lawful
 pub mod Examples
