@@ -108,7 +108,11 @@ fn class_of(hash: u64) -> usize
 }
 
 // Inserts a pair where there is room.
-pub(super) fn put_in_room<K: Eq + Hash + Drop, V: Drop>(indexed: &mut PairMap<K, V>, key: K, value: V)
+pub(super) fn put_in_room<K: Eq + Hash + Drop, V: Drop>(
+    indexed: &mut PairMap<K, V>,
+    key: K,
+    value: V,
+)
     requires { 0 < spare indexed.old }
     ensures entries { indexed.new.entries ≡ insert_entry K.eq indexed.old.entries key value }
     ensures room { spare indexed.old ≤ spare indexed.new + 1 }

@@ -1,16 +1,16 @@
-//! How keys on the heap are hashed, which is cheap on short ones.
+//! How the index map of pairs on the heap hashes keys: cheaply where they are short.
 //!
-//! A byte costs an exclusive or and a product, and so do eight that come at once, as the length of
-//! a text does. There is no secret, so names can be made whose hashes meet: `takes_more` looks
-//! for them.
+//! A byte costs an exclusive or and a product, and so do eight that are fed at once, as the length
+//! of a text is. There is no secret, so names can be made whose hashes meet: `takes_more` looks for
+//! those.
 ghost use Rattle.std.specs.Prelude.{◌≡◌};
 
 use std::hash::{BuildHasher, Hasher};
 
-// What a hash begins with: an odd number, as the next one.
+// What a hash begins with.
 const BEGIN: u64 = 0x243F_6A88_85A3_08D3;
 
-// What is multiplied by.
+// What is multiplied by: an odd number, so that no two states become one.
 const FACTOR: u64 = 0x9E37_79B9_7F4A_7C15;
 
 // Makes the hashers of an index map, which are all the same.
