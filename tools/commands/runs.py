@@ -77,7 +77,9 @@ class Tally:
 
 
 def environment(folder):
-    return {**os.environ, "PATH": f"{folder}:{os.environ['PATH']}", "VERSION": Workspace().version}
+    """What rows find: the programs, the version, and the folder of tools, whose calls.py says in which order files are changed."""
+    path = f"{folder}:{os.environ['PATH']}"
+    return {**os.environ, "PATH": path, "VERSION": Workspace().version, "TOOLS": f"{ROOT}/tools"}
 
 
 def check(words=(), find=None, folder=None, **how):
