@@ -91,6 +91,20 @@ fn a_block_does_not_grow(rt: HostRuntime) -> Result<(), Fail> {
 }
 
 #[test]
+fn a_value_keeps_64_kilobytes_at_most(rt: HostRuntime) -> Result<(), Fail> {
+    // The first eight blocks hold 114,240 bytes, and the next one would hold as much as they do.
+    let heap = LocalHeap::new(rt.alloc(), 1 << 20)?;
+    let mut made = boxes(rt.alloc(), &heap, 20_000)?;
+    let last = made.pop();
+    drop(made);
+    let kept = heap.used();
+    assert!(rt; 0 < kept && kept <= (1 << 16) + 64);
+    drop(last);
+    assert_eq!(rt; heap.used(), 0);
+    Ok(())
+}
+
+#[test]
 fn handles_outlive_each_other(rt: HostRuntime) -> Result<(), Fail> {
     let first = Shared::new(rt.alloc(), rt.alloc())?;
     let other = first.clone()?;
