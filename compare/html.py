@@ -10,8 +10,7 @@
 
 The inputs come of the seed: pieces of markup that are hard to read, side by side, and with --page cuts of these files with such
 pieces put in. What differs is said. Where it is a known fault of html5lib (`FAULTS`), that is said too and doesn't count.
-Before, the tables of `crates/tl_names` are compared with the names of references that Python has: they have to be the same ones,
-each before those that it begins with.
+Before, the tables of `crates/tl_names` are compared with the names of references that Python has, as ./x text does.
 
 Who changes a definition of `crates/tl_html_spec` changes html_tokenizer.py too. With --row it writes what it reads of a text, and the text's form, in the words of the worked rows of `crates/tl_html_spec`.
 
@@ -31,18 +30,18 @@ Status: 0 where nothing differs, but for --form --trees, where much does; 1 wher
 (Debian: python3-html5lib).
 """
 import collections
-import os
 import random
 import re
 import sys
 import warnings
 
+from tools import references
+
 from . import html_program, html_trees, tree_rows
 from .html_form import balanced, html_form
-from .html_tokenizer import NAMES, html_tokens
+from .html_tokenizer import html_tokens
 from .tree_definition import TreeDefinition, with_room
 
-ROOT = os.path.dirname(os.path.dirname(os.path.realpath(__file__)))
 PIECES = (
     ["<", ">", "/", "&", '"', "'", "=", "!", "-", "--", "-->", "--!>", "<!--", "<!", " ", "\n", "\t", "\f", "a", "B", "x", "#", ";", "0", "9"]
     + ["&#", "&#x", "&amp", "&amp;", "&lt", "&copy", "&notin", "&notit;", "&not", "&AElig", "&#128;", "&#x80", "&#0;", "&#xD800;"]
@@ -93,21 +92,6 @@ def made(chance, pages):
             text = text[:at] + chance.choice(PIECES) + text[at + chance.randrange(3) :]
         return text
     return "".join(chance.choice(PIECES) for _ in range(chance.randrange(1, 14)))
-
-
-def wrong_names():
-    """What is wrong with the tables of references."""
-    with open(f"{ROOT}/crates/tl_names/src/references.rt", encoding="utf-8") as it:
-        tables = re.findall(r'static (\w+): \[u8; \d+\] = \*b"(.*?)";', it.read(), re.DOTALL)
-    found, wrong = {}, []
-    for letter, table in tables:
-        rows = re.sub(r"\\\n *", "", table).encode().decode("unicode_escape").encode("latin-1").decode().split("\0")[:-1]
-        names = [row.split("=", 1)[0] for row in rows]
-        found |= dict(row.split("=", 1) for row in rows)
-        wrong += [f"{name} doesn't stand in the table of its letter" for name in names if letter != f"{'UPPER' if name[0].isupper() else 'LOWER'}_{name[0].upper()}"]
-        wrong += [f"{late} begins with {early}, and stands after it" for at, early in enumerate(names) for late in names[at + 1 :] if late.startswith(early)]
-    wrong += [f"{name} isn't as it is in the standard" for name in sorted(found.keys() | NAMES.keys()) if found.get(name) != NAMES.get(name)]
-    return wrong
 
 
 def quoted(text):
@@ -216,6 +200,6 @@ def main(parser, words):
     warnings.simplefilter("ignore")
     if words.trees is not None or words.chromium:
         return 1 if tree_tests.compared(words) else 0
-    wrong = wrong_names()
-    print("\n".join(wrong) if wrong else f"{len(NAMES)} names of references, all as they are in the standard")
+    wrong = references.faults()
+    print("\n".join(wrong) if wrong else f"{len(references.NAMES)} names of references, all as they are in the standard")
     return 1 if compared(words, HTMLTokenizer, tokenTypes) + len(wrong) else 0

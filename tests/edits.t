@@ -21,6 +21,20 @@ Edits of pages in their own bytes: what `tl set` and its like write, where, and 
   $ tl set i k v page | cmp - page
   $ tl set i k v page >/dev/null
   [1]
+  $ printf '<img src=x>' | tl set img alt ''
+  <img alt="" src=x> (no-eol)
+  $ printf '<img alt=y src=x>' | tl set img alt ''
+  <img alt="" src=x> (no-eol)
+
+What is found and has nothing to change is found.
+
+  $ printf '<p k="v">x' | tl set p k v
+  <p k="v">x (no-eol)
+  $ printf '<p>x' | tl unset p k
+  <p>x (no-eol)
+  $ tl unset -i a class page
+  $ tl set -i i k v page
+  [1]
   $ printf '\357\273\277<p id=1 ID=2>\r\n' | tl set p id 3 | od -An -c | tr -d ' \n'
   357273277<pid="3"ID=2>\r\n (no-eol)
 
@@ -380,6 +394,9 @@ What is refused.
   $ tl rename p '' break
   tl: no name:\x20 (esc) (err)
   [2]
+  $ tl rename p ' b ' break
+  tl: no name:  b\x20 (esc) (err)
+  [2]
   $ tl append --html p '<!-- ' break
   tl: break: the page would be read otherwise, for the element at byte 0 (err)
   [2]
@@ -400,6 +417,15 @@ What is refused.
   [2]
   $ tl remove 'b[' break
   tl: no selector: at byte 2: a name is missing (err)
+  [2]
+  $ tl set -i 'p[' k v
+  tl: no selector: at byte 2: a name is missing (err)
+  [2]
+  $ tl set -i 'p[' k v missing
+  tl: no selector: at byte 2: a name is missing (err)
+  [2]
+  $ tl set -i p 'k=' v <break
+  tl: no key: k= (err)
   [2]
   $ tl remove -i b <break
   tl: standard input has no file to be written (err)

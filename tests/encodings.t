@@ -211,6 +211,21 @@ Pages in encodings that are not read, by their labels, and in UTF-16, by their m
   $ printf '\351<meta charset=nope><meta charset=big5>' | tl text
   tl: -: the encoding `big5` is not read (err)
   [2]
+  $ printf '\360<meta charset=iso-8859-9>' | tl text
+  tl: -: the encoding `iso-8859-9` is not read (err)
+  [2]
+  $ printf '\244<meta charset=iso_8859-15>' | tl text
+  tl: -: the encoding `iso_8859-15` is not read (err)
+  [2]
+  $ printf '\351<meta charset=koi8-u><meta charset=latin1>' | tl text
+  tl: -: the encoding `koi8-u` is not read (err)
+  [2]
+  $ printf '\351<meta charset=euc-kr><meta charset=latin1>' | tl text
+  tl: -: the encoding `euc-kr` is not read (err)
+  [2]
+  $ printf '\351<meta charset=utf-16be><meta charset=latin1>' | tl text
+  tl: -: no UTF-8 at byte 0; --encoding says what a page is in (err)
+  [2]
   $ printf '\351<meta http-equiv=content-type content="text/html; charset=iso-8859-2">' | tl text
   tl: -: the encoding `iso-8859-2` is not read (err)
   [2]
@@ -312,6 +327,8 @@ Bytes, and the text that they stand for.
   \u{feff}café (esc) (no-eol)
   $ printf 'caf\351' | tl text --as-is --encoding windows-1252
   café (no-eol)
+  $ head -c 1000000 /dev/zero | tr '\0' '\351' | tl text --as-is --encoding windows-1252 | wc -c
+  2000000
   $ printf 'café' | tl text --as-is --encoding windows-1252
   cafÃ© (no-eol)
   $ printf '\200\202\203\204\205\206\207\210\211\212\213\214\216\221\222\223\224\225\226\227\230\231\232\233\234\236\237' | tl text --as-is --encoding windows-1252

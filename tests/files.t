@@ -21,6 +21,19 @@ An owner that may not be set is not; the mode stays. (A superuser gives up that 
   604
   $ chown 1:2 page 2>/dev/null; tl set -i a k v page
 
+The mode stays whole, also where setting an owner takes bits of it away.
+
+  $ printf '<p>1' >bits
+  $ chmod 6755 bits
+  $ tl set -i p k v bits
+  $ stat -c %a bits
+  6755
+  $ tl set --backup .old p k v bits
+  $ stat -c %a bits bits.old
+  6755
+  6755
+  $ rm bits bits.old
+
 A link is followed: the file and its backup stand where the file stands. A later backup takes the place of an earlier one.
 
   $ mkdir links
@@ -53,6 +66,80 @@ The backup has the owner and the mode of the page, and stays where a later write
   page
   page.old
   $ rm page.old
+
+So does an earlier backup where the new page can't be written whole, which shows before the backup is made.
+
+  $ printf '<p>1' >small
+  $ echo earlier >small.old
+  $ (trap '' XFSZ; ulimit -f 2; tl set --backup .old p k "$(head -c 5000 /dev/zero | tr '\0' v)" small 2>&1; echo $?) | cat
+  tl: small: File too large (os error 27)
+  4
+  $ cat small small.old
+  <p>1earlier
+  $ ls small*
+  small
+  small.old
+  $ (printf '<p>'; head -c 100000 /dev/zero | tr '\0' a) >long
+  $ cp long same
+  $ (trap '' XFSZ; ulimit -f 50; tl set -i p k v long 2>&1; echo $?) | cat
+  tl: long: File too large (os error 27)
+  4
+  $ (trap '' XFSZ; ulimit -f 50; tl fill -i p "$(cat long)" small 2>&1; echo $?) | cat
+  tl: small: File too large (os error 27)
+  4
+  $ cmp long same; cat small; ls long* small*
+  <p>1long
+  small
+  small.old
+
+What is written is made to last before it takes a name. The backup is a copy, so that the page is never without a file.
+
+  $ python3 "$TOOLS/calls.py" tl set -i p k v small
+  open small.tl-0
+  write small.tl-0
+  owner small.tl-0
+  mode small.tl-0
+  sync small.tl-0
+  rename small.tl-0 small
+  $ python3 "$TOOLS/calls.py" tl remove --backup .old p small
+  open small.tl-0
+  owner small.tl-0
+  mode small.tl-0
+  sync small.tl-0
+  open small.tl-1
+  open small.tl-1
+  mode small.tl-1
+  write small.tl-1
+  owner small.tl-1
+  mode small.tl-1
+  sync small.tl-1
+  rename small.tl-1 small.old
+  rename small.tl-0 small
+  $ python3 "$TOOLS/calls.py" tl set -i b k v small
+  [1]
+  $ printf '<p>1' >small
+  $ ln small other.small
+  $ tl set --backup .old p k v small
+  $ test other.small -ef small.old
+  [1]
+  $ rm small small.old other.small long same
+
+A page of which nothing is left is written as any other.
+
+  $ printf '<p>x</p>' >all
+  $ tl remove --backup .old p all
+  $ wc -c <all
+  0
+  $ cat all.old
+  <p>x</p> (no-eol)
+  $ printf '<p>x</p>' >all
+  $ tl remove -i p all
+  $ wc -c <all
+  0
+  $ printf '<p>x</p>' | tl remove p
+  $ tl remove --dry-run p all.old
+  all.old:1:1
+  $ rm all all.old
 
 The name of the new file is one that is free; where a hundred are taken, that is said.
 
@@ -91,6 +178,39 @@ What can't be done leaves the old page, and nothing beside it: where a backup ca
   $ test -p pipe
   $ ls pipe*
   pipe
+
+A page that may not be read, and one in a folder that may not be written, are told, and those after them are done. (A superuser gives up both rights here.)
+
+  $ setpriv --bounding-set -dac_override,-dac_read_search true 2>/dev/null && without='setpriv --bounding-set -dac_override,-dac_read_search'; echo "exec $without \"\$@\"" >plainly
+  $ mkdir kept
+  $ printf '<p>1' >closed
+  $ cp closed kept/page
+  $ cp closed third
+  $ chmod 0 closed
+  $ chmod 555 kept
+  $ sh plainly tl set -i p k v closed kept/page third
+  tl: closed: Permission denied (os error 13) (err)
+  tl: kept/page: Permission denied (os error 13) (err)
+  [4]
+  $ sh plainly tl set --backup .old p k v closed kept/page
+  tl: closed: Permission denied (os error 13) (err)
+  tl: kept/page: Permission denied (os error 13) (err)
+  [4]
+  $ sh plainly tl select -c p closed kept third
+  third:1
+  tl: closed: Permission denied (os error 13) (err)
+  tl: kept: Is a directory (os error 21) (err)
+  [4]
+  $ sh plainly tl text closed third
+  third:1
+  tl: closed: Permission denied (os error 13) (err)
+  [4]
+  $ chmod 600 closed
+  $ cat closed kept/page third
+  <p>1<p>1<p k="v">1 (no-eol)
+  $ ls kept
+  page
+  $ rm -r closed kept third plainly
 
 Until it is whole, none but its owner may read the new file, which stays where the program is killed.
 

@@ -504,6 +504,9 @@ What is said of texts that are no selectors: each cause, and each thing to write
   $ tl select :first-childs none
   tl: no selector: at byte 1: no such pseudo-class: `first-childs` (a colon in a name is written `\:`) (err)
   [2]
+  $ tl select :first-child-whose-name-goes-on-for-more-than-forty-bytes-é none
+  tl: no selector: at byte 1: no such pseudo-class: `first-child-whose-name-goes-on-for-more-than-forty-bytes-é` (a colon in a name is written `\:`) (err)
+  [2]
   $ tl select ::before none
   tl: no selector: at byte 0: a pseudo-element is no tag: `:` (err)
   [2]

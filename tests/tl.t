@@ -184,6 +184,10 @@ Of each page the first nodes alone; whether there are some; the files that have 
   [1]
   $ tl select -q -a id li shelf
   [1]
+  $ tl select -q -m 0 li shelf
+  [1]
+  $ python3 -c 'print("<p>" * 70001)' | tl select -c -m 70000 p
+  70000
   $ tl select --quiet -a class li none shelf none
   tl: none: No such file or directory (os error 2) (err)
   $ tl select -q b page none
@@ -327,10 +331,23 @@ The text inside of nodes.
   $ tl text --in nav: none
   tl: no selector: at byte 4: a name is missing (err)
   [2]
+  $ tl text --in '' articles
+  tl: no selector: at byte 0: a selector is missing (err)
+  [2]
   $ tl text -w --in article articles page
   articles:a
   articles:b c
   articles:e
+
+The names of files are taken as they stand.
+
+  $ printf '<p>a' >'x '
+  $ tl print 'x '
+  <p>a</p> (no-eol)
+  $ tl print x ' x'
+  tl: x: No such file or directory (os error 2) (err)
+  tl:  x: No such file or directory (os error 2) (err)
+  [4]
 
 Nothing was found, or something is refused or not understood.
 
@@ -658,6 +675,26 @@ Their lists.
   $ tl sanitize --policy --tags script
   tl: no policy may list the tag `script`: what stands in it is no markup of HTML (err)
   [2]
+  $ tl sanitize --policy --tags p --keys title --link-keys cite --links /x --prefix z-
+  --tags p
+  --keys title
+  --link-keys cite
+  --links /x
+  --prefix z-
+  $ tl sanitize --policy --documents
+  --tags article,aside,caption,col,colgroup,footer,header,main,nav,section,table,tbody,td,tfoot,th,thead,tr,a,abbr,b,bdi,bdo,blockquote,br,cite,code,dd,del,details,dfn,div,dl,dt,em,figcaption,figure,h1,h2,h3,h4,h5,h6,hr,i,img,ins,kbd,li,mark,ol,p,pre,q,s,samp,small,span,strong,sub,summary,sup,time,u,ul,var,wbr
+  --keys alt,cite,class,colspan,datetime,dir,height,href,id,lang,rowspan,scope,span,src,start,title,width
+  --link-keys cite,href,src
+  --links https://,http://,mailto:,/,#
+  --relative-links
+  --prefix user-
+  $ tl sanitize --policy --documents --tags p --keys title --prefix z-
+  --tags p
+  --keys title
+  --link-keys cite,href,src
+  --links https://,http://,mailto:,/,#
+  --relative-links
+  --prefix z-
 
 Policies for other pages, and links beside the page.
 

@@ -4,7 +4,7 @@
 
 A transcript has commands and what each writes (tools/transcripts.py has its form). The rows of a file share a new folder, and
 `tl`, `tlq` and `uses` are the programs that the gate built. Of a row alone those before it that write nothing, which make its
-files, are run first.
+files, are run first. $TOOLS is the folder of tools/calls.py, by which a row shows in which order a program changes files.
 
 With no words it also looks whether the manual page and the completions are what `tl --help` says (./x help manual). What a
 document shows stands in tests/documents.t, and ./x text looks whether it does; --write fills in what is written.
@@ -77,7 +77,9 @@ class Tally:
 
 
 def environment(folder):
-    return {**os.environ, "PATH": f"{folder}:{os.environ['PATH']}", "VERSION": Workspace().version}
+    """What rows find: the programs, the version, and the folder of tools, whose calls.py says in which order files are changed."""
+    path = f"{folder}:{os.environ['PATH']}"
+    return {**os.environ, "PATH": path, "VERSION": Workspace().version, "TOOLS": f"{ROOT}/tools"}
 
 
 def check(words=(), find=None, folder=None, **how):

@@ -5,6 +5,7 @@
 - Documents: whether each command that README.md, docs/*.md and other documents show after a `$` stands in a transcript with the
   output that is shown (`./x tlq` for `tlq`, `./x try NAME` for NAME), or in tests/by_hand.list, with the reason why nothing runs it;
   whether the code that they show stands in a source; whether the paths, commands and names between backticks are there.
+- Character references: whether each of the 2,231 is as Python has it (tools/references.py).
 - The README of each crate: whether there is one, and what it names is there (tools/readmes.py).
 - Layout: whether each crate's sources are laid out as `rt fmt` lays them out.
 
@@ -12,7 +13,7 @@ A new row of a document goes into tests/documents.t, and ./x runs tries it.
 """
 from concurrent.futures import ThreadPoolExecutor
 
-from .. import documents, readmes
+from .. import documents, readmes, references
 from ..running import run
 from ..workspace import Workspace, cores
 
@@ -34,11 +35,11 @@ def other_layouts(workspace):
 
 def check():
     """Says what is wrong. Whether nothing is."""
-    found = [*documents.faults(), *readmes.faults(), *other_layouts(Workspace())]
+    found = [*documents.faults(), *readmes.faults(), *references.faults(), *other_layouts(Workspace())]
     for it in found:
         print(f"text: {it}")
     if not found:
-        print("text: what the documents and READMEs show and name is there, and the sources are laid out", flush=True)
+        print("text: what the documents and READMEs show and name is there, references are the standard's, and sources are laid out", flush=True)
     return not found
 
 

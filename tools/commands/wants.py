@@ -1,4 +1,4 @@
-"""Looks whether a body makes up want of memory, which no contract refuses.
+"""Looks whether a body makes up want of memory, or tells it as something else, which no contract refuses.
 
     ./x wants             names each place where a body does
     ./x wants --list      prints all lines of the product crates where such a value is named
@@ -12,9 +12,11 @@ Clauses say that a call may fail for want of memory, and can't say that memory i
     where it is only compared: `error.kind() == ErrorKind::OutOfMemory`, `matches!(..)`;
     on a line of tools/wants/allowed.list, each of which has its reason.
 
+And an arm whose pattern matches one has to give one, alone, in an `Err` or its like, or beside other things; or its text.
+
 Types, `use` lines, clauses and comments don't count. Another name for one, by `as`, `type`, `const`, `let` or a function that
-returns it, names it too. What no reading of names shows is a call that asks for more memory than it needs, and a number in the
-place of a status.
+returns it, names it too. What no reading of names shows is a call that asks for more memory than it needs, an arm
+`Err(_)` that takes a want of memory with other errors, and a number in the place of a status.
 """
 import re
 
@@ -87,7 +89,7 @@ def check():
     for it in found:
         print(f"wants: {it}")
     if not found:
-        print("wants: want of memory is made up nowhere", flush=True)
+        print("wants: want of memory is made up nowhere, and told as what it is", flush=True)
     return not found
 
 

@@ -1,6 +1,6 @@
 """Reads code: which expressions may name a want of memory that came in, and which name one that nothing gave."""
 from .names import MAKERS, NAMES, Names
-from .trees import Unread, all_within, end_of_expression, find, is_group, is_sign, is_word, item
+from .trees import Unread, all_within, end_of_expression, find, is_group, is_sign, is_word, item, path_of
 
 
 class Code(Names):
@@ -109,5 +109,32 @@ class Code(Names):
             body = its[arrow + 1 : end]
             if any(is_sign(it, "=>") for it in body):
                 raise Unread(its[arrow].at)
+            if self.names_want(its[at:guard]) and not self.tells_want(body):
+                self.refuse(its[at], "want of memory is told as something else")
             self.read(body, inner)
             at = end + 1 if is_sign(item(its, end), ",") else end
+
+    def tells_want(self, body):
+        """Whether a want of memory is all that the body of an arm gives, alone, in an `Err` or its like, or behind what stands
+        beside it in a tuple or a block; or the words for it."""
+        first, last = item(body, 0), item(body, len(body) - 1)
+        if len(body) == 1 and first.kind == "group":
+            return self.tells_want(last_part(first.trees))
+        if len(body) == 1 and first.kind == "text":
+            return first.text == '"out of memory"'
+        if is_word(first, "return"):
+            return self.tells_want(body[1:])
+        if is_sign(last, "?"):
+            return self.tells_want(body[:-1])
+        if is_word(item(body, len(body) - 2), "as"):
+            return self.tells_want(body[:-2])
+        if len(body) == 2 and is_word(first, "Err", "Some") and is_group(last, "("):
+            return self.tells_want(body[1:])
+        return is_word(last, *NAMES) and path_of(body, len(body) - 1)[1] == 0
+
+
+def last_part(its):
+    """The last of the parts that stand between signs `;` or `,`, one of which may stand behind it."""
+    end = len(its) - is_sign(item(its, len(its) - 1), ";", ",")
+    begin = max((at + 1 for at, it in enumerate(its[:end]) if is_sign(it, ";", ",")), default=0)
+    return its[begin:end]

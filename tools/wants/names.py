@@ -19,8 +19,10 @@ class Names:
 
     def matches_want(self, its):
         """Whether a pattern matches a want of memory and nothing else."""
-        if any(is_sign(it, "|", "!") for it in all_within(its)):
-            return False
+        return self.names_want(its) and not any(is_sign(it, "|", "!") for it in all_within(its))
+
+    def names_want(self, its):
+        """Whether a pattern matches a want of memory, maybe among others."""
         return any(self.is_pattern_of_want(group, at) for group in self.groups(its) for at in range(len(group)))
 
     def groups(self, its):

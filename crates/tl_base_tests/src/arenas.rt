@@ -91,6 +91,21 @@ fn a_block_does_not_grow(rt: HostRuntime) -> Result<(), Fail> {
 }
 
 #[test]
+fn a_value_keeps_one_block_at_most(rt: HostRuntime) -> Result<(), Fail> {
+    // The first eight blocks have room for 114,240 bytes, and the next one has no room for as much
+    // again: it takes 64 KB, rounded up to a page.
+    let heap = LocalHeap::new(rt.alloc(), 1 << 20)?;
+    let mut made = boxes(rt.alloc(), &heap, 20_000)?;
+    let last = made.pop();
+    drop(made);
+    let kept = heap.used();
+    assert!(rt; 0 < kept && kept <= 17 << 12);
+    drop(last);
+    assert_eq!(rt; heap.used(), 0);
+    Ok(())
+}
+
+#[test]
 fn handles_outlive_each_other(rt: HostRuntime) -> Result<(), Fail> {
     let first = Shared::new(rt.alloc(), rt.alloc())?;
     let other = first.clone()?;

@@ -188,7 +188,7 @@ const Y: Content<'static> = Content::Text { text: b"y" };
 const Z: Content<'static> = Content::Text { text: b"z" };
 
 #[rattlefmt::skip]
-static EACH_ROWS: [EachRow; 22] = [
+static EACH_ROWS: [EachRow; 23] = [
     (&[], b"a<b>x</b>c", Ok(b"a<b>x</b>c")),
     (&[PlacedPatch { place: 1, patch: ElementPatch::Remove }, PlacedPatch { place: 10, patch: ElementPatch::Append { content: Z } }], b"a<b>x</b>c<i>y</i>d", Ok(b"ac<i>yz</i>d")),
     (&[PlacedPatch { place: 0, patch: ElementPatch::Append { content: Y } }, PlacedPatch { place: 0, patch: ElementPatch::Append { content: Z } }], b"<b>x</b>", Ok(b"<b>xyz</b>")),
@@ -205,6 +205,7 @@ static EACH_ROWS: [EachRow; 22] = [
     (&[PlacedPatch { place: 0, patch: ElementPatch::Remove }, PlacedPatch { place: 0, patch: ElementPatch::PutAfter { content: Y } }], b"<b>x</b>z", Ok(b"yz")),
     (&[PlacedPatch { place: 0, patch: ElementPatch::PutBefore { content: Y } }, PlacedPatch { place: 0, patch: ElementPatch::Remove }], b"<b>x</b>z", Ok(b"yz")),
     (&[PlacedPatch { place: 0, patch: ElementPatch::Remove }, PlacedPatch { place: 0, patch: ElementPatch::Unwrap }], b"<b>x</b>", Err(EditError::Across(0))),
+    (&[PlacedPatch { place: 0, patch: ElementPatch::Append { content: Y } }, PlacedPatch { place: 8, patch: ElementPatch::Remove }, PlacedPatch { place: 8, patch: ElementPatch::Unwrap }], b"<i>a</i><b>x</b>", Err(EditError::Across(8))),
     (&[PlacedPatch { place: 0, patch: ElementPatch::Append { content: Y } }, PlacedPatch { place: 0, patch: ElementPatch::Fill { content: Z } }], b"<b>x</b>", Ok(b"<b>zy</b>")),
     (&[PlacedPatch { place: 1, patch: ElementPatch::Rename { name: b"u" } }, PlacedPatch { place: 1, patch: ElementPatch::Rename { name: b"i" } }], b"a<b>x</b>", Err(EditError::Across(1))),
     (&[PlacedPatch { place: 0, patch: ElementPatch::Unwrap }, PlacedPatch { place: 5, patch: ElementPatch::Remove }], b"<div><b>x</div>y", Err(EditError::NotMeant(5))),

@@ -21,6 +21,8 @@ mod elements;
 #[cfg(test)]
 mod encodings;
 #[cfg(test)]
+mod errors;
+#[cfg(test)]
 mod forms;
 #[cfg(test)]
 mod keys;

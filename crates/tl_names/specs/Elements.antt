@@ -1,13 +1,19 @@
--- Names of elements among others: the lists are those of the code, which says their sections.
-use Rattle.std.specs.Prelude.{ℕ, Bool, List, map}
+-- Names of elements among others: the lists are those of the code, and `laws` has each once more,
+-- name by name, with its section.
+use Prim.Native.String.{String}
+use Rattle.std.specs.Prelude.{ℕ, Bool, ◌==◌, List, codes, map}
 use Rattle.std.specs.Borrow.{Bor}
-use Rattle.std.specs.List.{list_any}
+use Rattle.std.specs.List.{list_any, slice_split}
 use Rattle.std.specs.Str.{bytes_eq}
 use Rattle.tl_names.specs.declared.elements.TheConstants.{RCDATA_NAMES, RAWTEXT_NAMES, SPECIAL_NAMES, SCOPE_BOUNDS, LIST_SCOPE_BOUNDS, TABLE_SCOPE_BOUNDS, IMPLIED_ENDS, HEADINGS, TABLE_SECTIONS, TABLE_PARTS, PARAGRAPH_ENDS, SCOPED_ENDS, HEAD_PARTS, FEED_DROPPERS, CLOSED_AT_ONCE}
 
 -- lent words as lists of bytes
 abbrev pub words_of : List (Bor (List ℕ)) → List (List ℕ)
 words_of words = map (λ own. own.now) words
+
+-- the words of a text, with one space between two of them
+abbrev pub words : String → List (List ℕ)
+words text = slice_split (λ b. b == 32) (codes text)
 
 -- one of these names, in exact case
 abbrev pub is_among : List (List ℕ) → List ℕ → Bool

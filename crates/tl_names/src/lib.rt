@@ -6,6 +6,7 @@ ghost use Rattle.tl_names.specs.Elements.{is_among, words_of};
 ghost use Rattle.tl_names.specs.References.{table_of};
 
 pub mod elements;
+pub mod laws;
 mod references;
 
 /// Whether a name is one of these, in exact case.

@@ -11,6 +11,8 @@ mod documents;
 #[cfg(test)]
 mod edited;
 #[cfg(test)]
+mod errors;
+#[cfg(test)]
 mod fields;
 #[cfg(test)]
 mod pages;

@@ -1,0 +1,45 @@
+//! The texts of errors of edits where a selector holds.
+use std::alloc::Global;
+use std::fmt::Display;
+use tl_patch_edit::EditError;
+use tl_patch_select::{SelectionEditError, SelectionPatchError};
+
+static OF_PATCH: [(SelectionPatchError, &str); 4] = [
+    (
+        SelectionPatchError::NoStartTag(7),
+        "the element at byte 7 has no start tag",
+    ),
+    (
+        SelectionPatchError::NotWritten(7),
+        "the tag at byte 7 can't be changed so",
+    ),
+    (SelectionPatchError::TooLong, "too long"),
+    (SelectionPatchError::OutOfMemory, "out of memory"),
+];
+
+static OF_EDIT: [(SelectionEditError, &str); 3] = [
+    (
+        SelectionEditError::Refused(EditError::NotMeant(7)),
+        "the element at byte 7 can't be changed so",
+    ),
+    (SelectionEditError::TooLong, "too long"),
+    (SelectionEditError::OutOfMemory, "out of memory"),
+];
+
+// Whether an error says this.
+fn says<E: Display>(alloc: Global, error: &E, text: &str) -> bool {
+    match format!(in alloc; "{error}") {
+        Ok(made) => made.as_str() == text,
+        Err(_) => false,
+    }
+}
+
+#[test]
+fn errors_of_edits_have_texts(rt: HostRuntime) {
+    for (error, text) in &OF_PATCH {
+        assert!(rt; says(rt.alloc(), error, text), "{text}");
+    }
+    for (error, text) in &OF_EDIT {
+        assert!(rt; says(rt.alloc(), error, text), "{text}");
+    }
+}
