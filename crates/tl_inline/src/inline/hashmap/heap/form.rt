@@ -16,7 +16,7 @@ use indexmap::IndexMap;
 use std::alloc::{AllocError, Global};
 use std::hash::{BuildHasher, Hash};
 
-// Up to how many pairs an index map holds them.
+// Up to how many pairs an index map holds.
 const MOST: usize = 1024;
 
 // Of how many keys that came last it is counted which of them an index map compares with one
@@ -63,8 +63,8 @@ pub(super) fn insert_indexed<K: Eq + Hash + Drop, V: Drop>(
     key: K,
     value: V,
 ) -> Result<(), (K, V)>
-    ensures ok { OnOk result (indexed.new.entries
-        ≡ insert_entry K.eq indexed.old.entries key value) }
+    ensures ok { OnOk result
+        (indexed.new.entries ≡ insert_entry K.eq indexed.old.entries key value) }
     ensures err { OnErr result (indexed.new.entries ≡ indexed.old.entries) }
     ensures returned { IfErr result (λ pair. pair ≡ (key, value)) }
     ensures absent { OnErr result (lookup (K.eq key) indexed.old.entries ≡ None) }
