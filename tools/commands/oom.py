@@ -8,13 +8,14 @@ The calls are those of the program in tools/oom, whose README says what has to h
 many requests each call makes, and how many are made before it for what it needs. There is a run for each request, in which it alone
 is refused and the call has to answer that, and one more for each call that takes all it wants: so a call that makes one request more
 than the table says, or one less, is named; where that is meant, --table counts anew. Then the requests for the words of the program
-`tlq` are refused too. Nothing of what runs is proved: both programs are compiled once, as ./x try does it, and an access to memory
-that isn't theirs ends a run.
+`tlq` are refused too, and those of commands of `tl` (tools/refusals.py). Nothing of what runs is proved: these programs are compiled
+once, as ./x try does it, and an access to memory that isn't theirs ends a run.
 """
 import os
 import re
 from concurrent.futures import ThreadPoolExecutor
 
+from .. import refusals
 from ..running import count, run
 from ..unproved import unproved_build
 from ..workspace import ROOT, Stop, cores, put, text_of
@@ -125,10 +126,25 @@ def check_words():
     print("oom: no memory for the words of the program", flush=True)
 
 
+def check_people(jobs):
+    """Refuses the requests of commands of `tl`."""
+    program = unproved_build("tl")
+    each = [(words, page, number == 0) for number, (words, page) in enumerate(refusals.COMMANDS)]
+    with ThreadPoolExecutor(jobs) as workers:
+        found = list(workers.map(lambda it: refusals.refuse_each(program, *it), each))
+    wrong = [it for _, said in found for it in said]
+    if wrong:
+        raise Stop("\n".join(wrong))
+    refused = sum(it for it, _ in found)
+    print(f"oom: {count(len(each), 'command')} of tl, {count(refused, 'request')}, each refused in turn", flush=True)
+
+
 def check(jobs=None):
     """Refuses each request; a Stop says what is wrong."""
-    check_calls(jobs or min(4, cores()))
+    jobs = jobs or min(4, cores())
+    check_calls(jobs)
     check_words()
+    check_people(jobs)
     return True
 
 

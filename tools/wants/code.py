@@ -2,6 +2,9 @@
 from .names import MAKERS, NAMES, Names
 from .trees import Unread, all_within, end_of_expression, find, is_group, is_sign, is_word, item, path_of
 
+# What gives back what it is given last. (`report_failure` of `tl_cli` says it first.)
+PASSES_ON = ("Err", "Some", "report_failure")
+
 
 class Code(Names):
     """Reads code. Items in it are read by `read`, which a class above has."""
@@ -128,7 +131,7 @@ class Code(Names):
             return self.tells_want(body[:-1])
         if is_word(item(body, len(body) - 2), "as"):
             return self.tells_want(body[:-2])
-        if len(body) == 2 and is_word(first, "Err", "Some") and is_group(last, "("):
+        if len(body) == 2 and is_word(first, *PASSES_ON) and is_group(last, "("):
             return self.tells_want(body[1:])
         return is_word(last, *NAMES) and path_of(body, len(body) - 1)[1] == 0
 

@@ -33,7 +33,7 @@ use args::{Action, Pages, UsageError, Writing, read};
 use clap::Error;
 use implied::report_implied;
 use job::Job;
-use pages::{process_pages, report, unwritten_status, write};
+use pages::{process_pages, report_failure, unwritten_status, write};
 use patching::patch_pages;
 use reports::{NOTHING, exit_status};
 use selected::Selected;
@@ -95,14 +95,6 @@ fn run(rt: &HostRuntime) -> Result<u8, Failure> {
         },
         Err(usage_error) => report_usage_error(rt, &usage_error),
     }
-}
-
-// A failure, once it is said.
-fn report_failure(rt: &HostRuntime, name: &str, failure: Failure) -> Failure
-    ensures { result ≡ failure }
-{
-    report(rt, name, failure);
-    failure
 }
 
 // Says what `clap` does: what is wrong with the words, or what was asked for, as help.

@@ -41,6 +41,14 @@ pub fn report(rt: &HostRuntime, name: &str, failure: Failure) {
     let _ = eprintln!(rt; "tl: {name}: {failure}");
 }
 
+/// A failure, once it is said.
+pub fn report_failure(rt: &HostRuntime, name: &str, failure: Failure) -> Failure
+    ensures { result ≡ failure }
+{
+    report(rt, name, failure);
+    failure
+}
+
 /// Says on standard error why a read or a write of what is named failed, in the system's words.
 pub fn report_error(rt: &HostRuntime, name: &str, error: &io::Error) -> Failure {
     let failure = failure_of(error);
@@ -297,7 +305,7 @@ fn process_files<'f>(
 ) -> Result<Vec<Report<'f>>, AllocError>
     ensures { IfOk result (λ reports. AreReports is_quiet (words_of files.now) reports.items) }
 {
-    let mut reports = Vec::new(rt.alloc());
+    let mut reports = Vec::with_capacity(rt.alloc(), files.len())?;
     for file in files {
         pages.terminal.show_file(rt, reports.len(), files.len());
         let answer = answer(rt, job, pages, file);
@@ -321,6 +329,8 @@ pub fn process_pages(rt: &HostRuntime, job: &Job<'_, '_>, pages: &Pages<'_>) -> 
         pages.files.as_slice()
     };
     let is_quiet = pages.writing == Writing::Nothing;
-    let reports = process_files(rt, job, pages, is_quiet, files)?;
-    Ok(status_of(is_quiet, &reports))
+    match process_files(rt, job, pages, is_quiet, files) {
+        Ok(reports) => Ok(status_of(is_quiet, &reports)),
+        Err(AllocError) => Err(report_failure(rt, "files", Failure::OutOfMemory)),
+    }
 }

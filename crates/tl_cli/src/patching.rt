@@ -8,7 +8,7 @@ use crate::implied::report_implied;
 use crate::in_place::replace;
 use crate::misread::Misread;
 use crate::pages::{
-    STANDARD_INPUT, not_understood, page_of, report, report_error, unwritten, write,
+    STANDARD_INPUT, not_understood, page_of, report, report_error, report_failure, unwritten, write,
 };
 use crate::reports::{Answer, NOTHING, Report, status_of};
 use std::alloc::{AllocError, Global};
@@ -200,7 +200,7 @@ fn patch_files<'f>(
     patching: &Patching<'_>,
     files: &[&'f str],
 ) -> Result<Vec<Report<'f>>, AllocError> {
-    let mut reports = Vec::new(rt.alloc());
+    let mut reports = Vec::with_capacity(rt.alloc(), files.len())?;
     for file in files {
         let answer = answer(rt, patching, file);
         reports.push(Report { file, answer })?;
@@ -225,7 +225,11 @@ pub fn patch_pages(
     } else {
         pages.files.as_slice()
     };
-    let status = status_of(false, &patch_files(rt, patching, files)?);
+    let reports = match patch_files(rt, patching, files) {
+        Ok(reports) => reports,
+        Err(AllocError) => return Err(report_failure(rt, "files", Failure::OutOfMemory)),
+    };
+    let status = status_of(false, &reports);
     if status == NOTHING {
         report_implied(rt, &patching.selector);
     }
