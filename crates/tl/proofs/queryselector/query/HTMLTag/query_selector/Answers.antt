@@ -1,4 +1,3 @@
-use Rattle.std.proofs.Common.{absurd}
 use Rattle.tl_spec.proofs.Select.Text.{alone-text}
 use Rattle.tl.proofs.queryselector.query.HTMLTag.query_selector.Goals as goal
 
