@@ -62,4 +62,5 @@ ReadsNodes is nodes (Err error) = IsRefusal (result_err is) error
 
 -- what is found below a tag of these children by the text of a selector
 abbrev pub FindsBelow : List Node → List ℕ → List ℕ → Option (List ℕ) → Type 0
-FindsBelow nodes children text found = FindsMatches text (AreIn nodes (range_of nodes children)) found
+FindsBelow nodes children text found =
+    FindsMatches text (AreIn nodes (range_of nodes children)) found

@@ -96,9 +96,9 @@ remaining_of p = record {
 abbrev pub events_of : Place → List Event
 events_of p = events_left (remaining_of p)
 
--- a tag was met at the first place, whose next handle is its own: what hangs below it comes, then it
--- is left, and then comes what comes after it; where what hangs below it is skipped it is left at
--- once
+-- a tag was met at the first place, whose next handle is its own: what hangs below it comes, then
+-- it is left, and then comes what comes after it; where what hangs below it is skipped it is left
+-- at once
 pub record MeetsTag (h : ℕ) (own : TagNode) (p q : Place) : Type 0 where
   pub rest : List ℕ
   pub next : p.next ≡ h ∷ rest
