@@ -1,12 +1,14 @@
 -- Words for worked rows. No contract cites them.
 use Prim.Native.String.{String}
-use Rattle.std.specs.Prelude.{ℕ, true, List, [], ◌∷◌, codes}
+use Rattle.std.specs.Prelude.{ℕ, Bool, true, List, [], ◌∷◌, codes}
+use Rattle.tl_html_spec.specs.HtmlTokenizer.{tokens_in_page}
 use Rattle.tl_html_spec.specs.Written.{written}
 use Rattle.tl_tree_spec.specs.HtmlForest.{html_tokens_of}
 use Rattle.tl_safe.specs.HtmlTrees.{as_html}
 use Rattle.tl_safe.specs.Filter.{trees_of}
 use Rattle.tl_safe.specs.KeptFitted.{kept_fitted}
-use Rattle.tl_safe.specs.Lists.{ListedWords, blog_lists}
+use Rattle.tl_safe.specs.Listed.{are_listed}
+use Rattle.tl_safe.specs.Lists.{ListedWords, blog_lists, comment_lists, document_lists}
 
 -- the lists of the page, with these tags beside its own
 abbrev pub lists_with : List (List ℕ) → ListedWords
@@ -28,3 +30,14 @@ marking_lists = record blog_lists {
 abbrev pub marked_in : String → List ℕ
 marked_in page =
     written (html_tokens_of (as_html (kept_fitted marking_lists (trees_of (codes page)))))
+
+-- whether what is read of a text is listed for comments, for a blog, and for documents
+
+abbrev pub is_for_comments : String → Bool
+is_for_comments page = are_listed comment_lists (tokens_in_page (codes page))
+
+abbrev pub is_for_a_blog : String → Bool
+is_for_a_blog page = are_listed blog_lists (tokens_in_page (codes page))
+
+abbrev pub is_for_documents : String → Bool
+is_for_documents page = are_listed document_lists (tokens_in_page (codes page))

@@ -20,6 +20,7 @@ mod filter;
 mod fitted_rows;
 mod indexed;
 pub mod laws;
+mod listed_rows;
 mod lists;
 mod names;
 mod policy;

@@ -1,0 +1,44 @@
+//! Worked rows: what is listed of what is read, and what may follow a text.
+
+ghost use Rattle.std.specs.Prelude.{◌≡◌, ◌∷◌, [], codes, true, false};
+ghost use Rattle.tl_safe.specs.Around.{may_follow};
+ghost use Rattle.tl_safe.specs.Listed.{begins_as_listed};
+ghost use Rattle.tl_safe.specs.Rows.{is_for_a_blog, is_for_comments, is_for_documents};
+
+/// Tags of listed names with listed keys, and texts.
+pub fn listed_tags()
+    ensures element { is_for_comments "x<p lang='en'>y</p>" ≡ true }
+    ensures name { is_for_comments "<img>" ≡ false }
+    ensures end_tag { is_for_comments "</img>" ≡ false }
+    ensures key { is_for_comments "<p onclick='f()'>" ≡ false }
+    ensures other_key { is_for_comments "<p lang='en' id='x'>" ≡ false }
+    ensures comment { is_for_comments "<!--x-->" ≡ false }
+    ensures doctype { is_for_comments "<!doctype html>" ≡ false }
+{}
+
+/// Links as they are read.
+pub fn listed_links()
+    ensures web { is_for_a_blog "<a href='https://x'>" ≡ true }
+    ensures scheme { is_for_a_blog "<a href='javascript:f()'>" ≡ false }
+    ensures path { is_for_a_blog "<a href='/x'>" ≡ true }
+    ensures host { is_for_a_blog "<a href='//x'>" ≡ false }
+    ensures reference { is_for_a_blog "<a href='/&#47;x'>" ≡ false }
+    ensures relative { is_for_documents "<a href='x.png'>" ≡ true }
+    ensures no_relative { is_for_a_blog "<a href='x.png'>" ≡ false }
+    // what stands behind a `&` may have been a reference
+    ensures front { begins_as_listed (codes "/?a<b") (codes "/?a&lt;") ≡ true }
+{}
+
+/// What may follow a text.
+#[tactic(auto, unfolding(tl_html_spec::specs::Reader::read, tl_html_spec::specs::Reader::rest_before))]
+pub fn what_may_follow()
+    ensures reference { may_follow (codes "x &l") (codes "t;") ≡ false }
+    ensures number { may_follow (codes "x &#3") (codes "4") ≡ false }
+    ensures end { may_follow (codes "x &#3") (codes ";") ≡ false }
+    ensures tag { may_follow (codes "x &l") (codes "</div>") ≡ true }
+    ensures space { may_follow (codes "x &l") (codes " t;") ≡ true }
+    ensures whole { may_follow (codes "x &lt;") (codes "t;") ≡ true }
+    ensures line { may_follow (120 ∷ 13 ∷ []) (10 ∷ []) ≡ false }
+    ensures no_line { may_follow (120 ∷ 13 ∷ []) (codes "y") ≡ true }
+    ensures nothing { may_follow (codes "x &l") [] ≡ true }
+{}
