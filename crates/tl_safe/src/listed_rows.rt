@@ -3,30 +3,39 @@
 ghost use Rattle.std.specs.Prelude.{◌≡◌, ◌∷◌, [], codes, true, false};
 ghost use Rattle.tl_safe.specs.Around.{may_follow};
 ghost use Rattle.tl_safe.specs.Listed.{begins_as_listed};
-ghost use Rattle.tl_safe.specs.Rows.{is_for_a_blog, is_for_comments, is_for_documents};
+ghost use Rattle.tl_safe.specs.Lists.{blog_lists, comment_lists, document_lists};
+ghost use Rattle.tl_safe.specs.Rows.{is_kept_as_listed, is_read_as_listed, keyless_lists};
 
 /// Tags of listed names with listed keys, and texts.
 pub fn listed_tags()
-    ensures element { is_for_comments "x<p lang='en'>y</p>" ≡ true }
-    ensures name { is_for_comments "<img>" ≡ false }
-    ensures end_tag { is_for_comments "</img>" ≡ false }
-    ensures key { is_for_comments "<p onclick='f()'>" ≡ false }
-    ensures other_key { is_for_comments "<p lang='en' id='x'>" ≡ false }
-    ensures comment { is_for_comments "<!--x-->" ≡ false }
-    ensures doctype { is_for_comments "<!doctype html>" ≡ false }
+    ensures element { is_read_as_listed comment_lists "x<p lang='en'>y</p>" ≡ true }
+    ensures name { is_read_as_listed comment_lists "<img>" ≡ false }
+    ensures end_tag { is_read_as_listed comment_lists "</img>" ≡ false }
+    ensures key { is_read_as_listed comment_lists "<p onclick='f()'>" ≡ false }
+    ensures other_key { is_read_as_listed comment_lists "<p lang='en' id='x'>" ≡ false }
+    ensures comment { is_read_as_listed comment_lists "<!--x-->" ≡ false }
+    ensures doctype { is_read_as_listed comment_lists "<!doctype html>" ≡ false }
 {}
 
 /// Links as they are read.
 pub fn listed_links()
-    ensures web { is_for_a_blog "<a href='https://x'>" ≡ true }
-    ensures scheme { is_for_a_blog "<a href='javascript:f()'>" ≡ false }
-    ensures path { is_for_a_blog "<a href='/x'>" ≡ true }
-    ensures host { is_for_a_blog "<a href='//x'>" ≡ false }
-    ensures reference { is_for_a_blog "<a href='/&#47;x'>" ≡ false }
-    ensures relative { is_for_documents "<a href='x.png'>" ≡ true }
-    ensures no_relative { is_for_a_blog "<a href='x.png'>" ≡ false }
+    ensures web { is_read_as_listed blog_lists "<a href='https://x'>" ≡ true }
+    ensures scheme { is_read_as_listed blog_lists "<a href='javascript:f()'>" ≡ false }
+    ensures path { is_read_as_listed blog_lists "<a href='/x'>" ≡ true }
+    ensures host { is_read_as_listed blog_lists "<a href='//x'>" ≡ false }
+    ensures reference { is_read_as_listed blog_lists "<a href='/&#47;x'>" ≡ false }
+    ensures relative { is_read_as_listed document_lists "<a href='x.png'>" ≡ true }
+    ensures no_relative { is_read_as_listed blog_lists "<a href='x.png'>" ≡ false }
     // what stands behind a `&` may have been a reference
     ensures front { begins_as_listed (codes "/?a<b") (codes "/?a&lt;") ≡ true }
+{}
+
+/// What is kept of a page is listed.
+pub fn what_is_kept()
+    ensures name { is_kept_as_listed blog_lists "<dir>x</dir>" ≡ true }
+    ensures key { is_kept_as_listed keyless_lists "<a href=\"https://x\">y</a>" ≡ true }
+    ensures link { is_kept_as_listed blog_lists "<a href=\"/&#47;x\">y</a>" ≡ true }
+    ensures value { is_kept_as_listed blog_lists "<a href=\"/x\">y</a>" ≡ true }
 {}
 
 /// What may follow a text.
