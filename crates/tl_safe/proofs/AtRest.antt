@@ -647,9 +647,12 @@ module _ (p : ListedWords) (lawful : are_lawful p ≡ true) where
 
   -- and between two texts of a page
   pub in_page : (front s more : List ℕ) → IsSafe p s → EndsInData front → may_follow s more ≡ true →
-      tokens_in_page (front ++ (s ++ more)) ≡ reader.emitted (at data_state) front ++ (tokens_in_page s ++ tokens_in_page more)
+      tokens_in_page (front ++ (s ++ more)) ≡ tokens_in_page front ++ (tokens_in_page s ++ tokens_in_page more)
   in_page front s more safe ends h =
+      let out : List HtmlToken = reader.emitted (at data_state) front in
+      let alone : tokens_in_page front ≡ out =
+      page_read front ∙ sym (tokens_end (at data_state) front) ∙ ap (λ (x : Reader). out ++ at_end x.state) ends ∙ append-nil out in
       page_read (front ++ (s ++ more))
       ∙ tokens_append (at data_state) front (s ++ more)
-      ∙ ap (λ (x : Reader). reader.emitted (at data_state) front ++ tokens_of x (s ++ more)) ends
-      ∙ ap (λ ts. reader.emitted (at data_state) front ++ ts) (sym (page_read (s ++ more)) ∙ followed s more safe h)
+      ∙ ap (λ (x : Reader). out ++ tokens_of x (s ++ more)) ends
+      ∙ ap₂ (λ (xs ys : List HtmlToken). xs ++ ys) (sym alone) (sym (page_read (s ++ more)) ∙ followed s more safe h)

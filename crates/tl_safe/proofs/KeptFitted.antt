@@ -4,8 +4,7 @@ use Rattle.tl_spec.specs.Print.Clean.{HaveOwnKeys}
 use Rattle.tl_spec.specs.Tree.Forest.{Forest, PlainTag}
 use Rattle.tl_spec.specs.Print.Normal.{ReadsAs, norm}
 use Rattle.tl_spec.specs.Print.{print}
-use Rattle.tl_html_spec.specs.HtmlTokenizer.{data_state, tokens_in_page}
-use Rattle.tl_html_spec.specs.Reader.{at, emitted}
+use Rattle.tl_html_spec.specs.HtmlTokenizer.{tokens_in_page}
 use Rattle.tl_tree_spec.specs.HtmlTreeBuilder.{html_trees, html_trees_without_search}
 use Rattle.tl_safe.specs.Fitted.{pieces_of, print_pieces}
 use Rattle.tl_safe.specs.HtmlTrees.{as_html, stays}
@@ -48,7 +47,7 @@ module _ (p : ListedWords) (lawful : are_lawful p ≡ true) (f : Forest PlainTag
   standard = standard_of p lawful (kept_fitted p f) fitted-kept fitted-keys
 
   pub in_page : (front more : List ℕ) → EndsInData front → may_follow (print (kept_fitted p f)) more ≡ true →
-      tokens_in_page (front ++ (print (kept_fitted p f) ++ more)) ≡ emitted (at data_state) front ++ (tokens_in_page (print (kept_fitted p f)) ++ tokens_in_page more)
+      tokens_in_page (front ++ (print (kept_fitted p f) ++ more)) ≡ tokens_in_page front ++ (tokens_in_page (print (kept_fitted p f)) ++ tokens_in_page more)
   in_page front more ends follows = rest.in_page p lawful front (print (kept_fitted p f)) more form ends follows
 
   pub listed : are_listed p (tokens_in_page (print (kept_fitted p f))) ≡ true

@@ -6,8 +6,7 @@ ghost use Rattle.tl_spec.specs.Print.Clean.{HaveOwnKeys};
 ghost use Rattle.tl_spec.specs.Tree.Forest.{Forest, PlainTag};
 ghost use Rattle.tl_spec.specs.Print.Normal.{ReadsAs, norm};
 ghost use Rattle.tl_spec.specs.Print.{print};
-ghost use Rattle.tl_html_spec.specs.HtmlTokenizer.{data_state, tokens_in_page};
-ghost use Rattle.tl_html_spec.specs.Reader.{at, emitted};
+ghost use Rattle.tl_html_spec.specs.HtmlTokenizer.{tokens_in_page};
 ghost use Rattle.tl_tree_spec.specs.HtmlTreeBuilder.{html_trees, html_trees_without_search};
 ghost use Rattle.tl_safe.specs.Fitted.{at_top, fitted, pieces_of, print_pieces};
 ghost use Rattle.tl_safe.specs.Settled.{settled};
@@ -85,7 +84,7 @@ pub fn kept_trees_that_are_fitted_stay()
     ensures in_page { (p : ListedWords) → are_lawful p ≡ true → (f : Forest PlainTag) →
         HaveOwnKeys f → (front more : List ℕ) → EndsInData front →
         may_follow (print (kept_fitted p f)) more ≡ true →
-        tokens_in_page (front ++ (print (kept_fitted p f) ++ more)) ≡ emitted (at data_state) front
+        tokens_in_page (front ++ (print (kept_fitted p f) ++ more)) ≡ tokens_in_page front
         ++ (tokens_in_page (print (kept_fitted p f)) ++ tokens_in_page more) }
     ensures listed { (p : ListedWords) → are_lawful p ≡ true → (f : Forest PlainTag) →
         HaveOwnKeys f → are_listed p (tokens_in_page (print (kept_fitted p f))) ≡ true }

@@ -6,8 +6,7 @@ ghost use Rattle.std.specs.Prelude.{◌≡◌, ◌↔◌, ◌<◌, ◌++◌, ℕ
 ghost use Rattle.tl_spec.specs.Print.Normal.{norm};
 ghost use Rattle.tl_spec.specs.Print.{print};
 ghost use Rattle.tl.specs.declared.errors.ParseError.TheVariants.{InvalidLength};
-ghost use Rattle.tl_html_spec.specs.HtmlTokenizer.{data_state, tokens_in_page};
-ghost use Rattle.tl_html_spec.specs.Reader.{at, emitted};
+ghost use Rattle.tl_html_spec.specs.HtmlTokenizer.{tokens_in_page};
 ghost use Rattle.tl_tree_spec.specs.HtmlTreeBuilder.{html_trees, html_trees_without_search};
 ghost use Rattle.tl_safe.specs.HtmlTrees.{as_html};
 ghost use Rattle.tl_safe.specs.Around.{EndsInData, may_follow};
@@ -89,7 +88,7 @@ pub fn sanitize(alloc: Global, policy: &Policy<'_>, page: &str) -> Result<String
     // what may follow, as each `<`; and what stands around it is read as without it.
     ensures in_page { IfOk result (λ safe. (front more : List ℕ) → EndsInData front →
         may_follow (string_bytes safe) more ≡ true →
-        tokens_in_page (front ++ (string_bytes safe ++ more)) ≡ emitted (at data_state) front
+        tokens_in_page (front ++ (string_bytes safe ++ more)) ≡ tokens_in_page front
         ++ (tokens_in_page (string_bytes safe) ++ tokens_in_page more)) }
 
     // Each tag that is read of it has a listed name and listed keys, and its links, with their

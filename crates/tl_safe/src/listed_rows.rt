@@ -1,7 +1,7 @@
 //! Worked rows: what is listed of what is read, and what may follow a text.
 
 ghost use Rattle.std.specs.Prelude.{◌≡◌, ◌∷◌, [], codes, true, false};
-ghost use Rattle.tl_safe.specs.Around.{may_follow};
+ghost use Rattle.tl_safe.specs.Around.{EndsInData, may_follow};
 ghost use Rattle.tl_safe.specs.Listed.{begins_as_listed};
 ghost use Rattle.tl_safe.specs.Lists.{blog_lists, comment_lists, document_lists};
 ghost use Rattle.tl_safe.specs.Rows.{is_kept_as_listed, is_read_as_listed, keyless_lists};
@@ -38,7 +38,7 @@ pub fn what_is_kept()
     ensures value { is_kept_as_listed blog_lists "<a href=\"/x\">y</a>" ≡ true }
 {}
 
-/// What may follow a text.
+/// What may follow a text, and what may stand before it.
 #[tactic(auto, unfolding(tl_html_spec::specs::Reader::read, tl_html_spec::specs::Reader::rest_before))]
 pub fn what_may_follow()
     ensures reference { may_follow (codes "x &l") (codes "t;") ≡ false }
@@ -50,4 +50,5 @@ pub fn what_may_follow()
     ensures line { may_follow (120 ∷ 13 ∷ []) (10 ∷ []) ≡ false }
     ensures no_line { may_follow (120 ∷ 13 ∷ []) (codes "y") ≡ true }
     ensures nothing { may_follow (codes "x &l") [] ≡ true }
+    ensures front { EndsInData (codes "<!doctype html><body><div id='a'>x ") }
 {}

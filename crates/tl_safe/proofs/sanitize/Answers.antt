@@ -2,8 +2,7 @@ use Rattle.std.proofs.Common.{◌≡◌, ℕ, List, ◌++◌, true, ap, sym, sub
 use Rattle.tl_spec.specs.Tree.Forest.{Forest, PlainTag, forest, plain}
 use Rattle.tl_spec.specs.Lex.Token.{tokens}
 use Rattle.tl_spec.proofs.Print.Fresh.{fresh_has_own_keys}
-use Rattle.tl_html_spec.specs.HtmlTokenizer.{data_state, tokens_in_page}
-use Rattle.tl_html_spec.specs.Reader.{at, emitted}
+use Rattle.tl_html_spec.specs.HtmlTokenizer.{tokens_in_page}
 use Rattle.tl_tree_spec.specs.HtmlTreeBuilder.{html_trees, html_trees_without_search}
 use Rattle.tl_safe.specs.Around.{EndsInData, may_follow}
 use Rattle.tl_safe.specs.IsSafe.{IsSafe}
@@ -36,7 +35,7 @@ returns-clause-in_page c =
     let p : ListedWords = lists_of c.args.policy.now in
     let f : Forest PlainTag = plain (forest (tokens c.args.page.now)) in
     subst (λ s. (front more : List ℕ) → EndsInData front → may_follow s more ≡ true →
-    tokens_in_page (front ++ (s ++ more)) ≡ emitted (at data_state) front ++ (tokens_in_page s ++ tokens_in_page more))
+    tokens_in_page (front ++ (s ++ more)) ≡ tokens_in_page front ++ (tokens_in_page s ++ tokens_in_page more))
     (sym c.in_ok-safe.ensures.prints) (in_page p c.args.policy.now.lawful f (fresh_has_own_keys c.args.page.now))
 
 pub returns-clause-listed : goal.returns-clause-listed
