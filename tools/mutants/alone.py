@@ -54,11 +54,11 @@ def place(crate, function, known):
 
 def opening(lines, function):
     """The line that opens a function's body; None where it stands on the line that closes it."""
-    within = range(function.first, function.last)
+    within = range(function.first, min(function.last, len(lines)))
     pad = lines[function.first][: indent(lines[function.first])]
     alone = [it for it in within if lines[it] == pad + "{"]
     at_an_end = [it for it in within if lines[it].endswith(" {") and indent(lines[it]) == len(pad)]
-    return next(iter([*alone, *at_an_end]), None) if lines[function.last] == pad + "}" else None
+    return next(iter([*alone, *at_an_end]), None) if lines[function.last : function.last + 1] == [pad + "}"] else None
 
 
 def without_body(lines, function):
