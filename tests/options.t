@@ -80,11 +80,11 @@ Values and texts of nodes as the form has them, and by the grammar of `tl`.
 A page is not read as it is and by its form; a text that is empty is found as others are.
 
   $ for words in 'select p' links text table outline; do tl $words --as-is --raw one 2>&1 | head -1; done
-  error: the argument '--raw' cannot be used with '--as-is'
-  error: the argument '--raw' cannot be used with '--as-is'
-  error: the argument '--raw' cannot be used with '--as-is'
-  error: the argument '--raw' cannot be used with '--as-is'
-  error: the argument '--raw' cannot be used with '--as-is'
+  error: the argument '--as-is' cannot be used with '--raw'
+  error: the argument '--as-is' cannot be used with '--raw'
+  error: the argument '--as-is' cannot be used with '--raw'
+  error: the argument '--as-is' cannot be used with '--raw'
+  error: the argument '--as-is' cannot be used with '--raw'
   $ printf '<p>a<br>b' | tl text --in br
   (empty)
   $ printf '<p>a<br>b' | tl text -w --in br
