@@ -1,14 +1,15 @@
 -- What a loop over a walk sees.
-use Rattle.std.proofs.Common.{◌≡◌, ◌≢◌, ℕ, ◌≤◌, ◌<◌, Bool, true, false, inl, inr, List, [], ◌∷◌, ◌++◌, length, length-append, Option, Some, None, Result, Ok, Err, refl, ap, sym, ◌∙◌, subst, arith, append_assoc, append-nil}
+use Rattle.std.proofs.Common.{◌≡◌, ◌≢◌, ℕ, ◌≤◌, ◌<◌, Bool, true, false, true≢false, inl, inr, List, [], ◌∷◌, ◌++◌, length, length-append, Option, Some, None, Result, Ok, Err, refl, ap, sym, ◌∙◌, subst, arith, append_assoc, append-nil}
 use Rattle.std.specs.Prelude.{IfSome}
 use Rattle.std.specs.List.{slice_get}
 use Rattle.tl_spec.specs.Tree.Document.{Node, Tag, Raw, Comment, TagNode}
 use Rattle.tl_spec.specs.Walk.{Cycle, Dangling, Event, TreeFault, Walk, end, events, all_tags, faulty, handle_walk, leaves, meets, meets_comment, meets_fault, meets_tag, meets_text, passes_tag, stands_on, walk}
+use Rattle.tl_spec.proofs.Walk.Events.{Enters, Enters-walk}
 use Rattle.tl_spec.proofs.Walk.Walks.{walk-cons, walk-nil}
 use Rattle.tl_table.specs.declared.errors.TreeError.{TreeError}
 use Rattle.tl_table.specs.declared.errors.TreeError.TheVariants.{Dangling as DanglingError, Cycle as CycleError, OutOfMemory}
 use Rattle.tl_table.specs.TreeFault.{fault_of}
-use Rattle.tl.specs.Remaining.{Around, FailsAt, MeetsTag, Place, Remaining, Within, around_within, events_around, events_left, events_of, nothing_left, path_within, remaining_of, step, step_in, step_out}
+use Rattle.tl.specs.Remaining.{Around, FailsAt, MeetsTag, Place, Remaining, around_within, events_around, events_left, events_of, nothing_left, path_within, remaining_of, step, step_in, step_out}
 use Rattle.tl.specs.Walker.{IsLedBy, IsNext, event_view}
 use Rattle.tl.specs.declared.walk.WalkEvent.{WalkEvent}
 use Rattle.tl.specs.declared.walk.WalkEvent.TheVariants.{Meets, Leaves}
@@ -67,6 +68,12 @@ module _ (p q : Place) where
   pub given-fewer : (given : Result WalkEvent TreeError) → IsNext p (Some given) q → length (events_of q) < length (events_of p)
   given-fewer (Ok e) s = fewer-step (remaining_of p) (event_view e) (remaining_of q) s
   given-fewer (Err error) s = fewer-error (remaining_of p) (remaining_of q) error s.0 s.1
+
+-- a tag that is met is entered
+pub none-passed : (p : Place) (h : ℕ) (own : TagNode) (more : Walk) → (remaining_of p).inside ≡ passes_tag h own more → ⊥
+none-passed p h own more is =
+    let enters : Enters all_tags (passes_tag h own more) = subst (Enters all_tags) is (Enters-walk all_tags p.nodes (path_within p.within) p.next) in
+    true≢false enters.0
 
 -- what is left where the rest of the innermost tag is skipped
 

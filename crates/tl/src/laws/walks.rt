@@ -1,7 +1,7 @@
 //! Laws of walks: what a loop over one sees, and that it ends.
 ghost use Rattle.std.specs.Prelude.{◌≡◌, ◌∷◌, ◌≤◌, ◌<◌, ℕ, [], length, IfSome, List, None, Some, Ok, Err, Result};
 ghost use Rattle.tl_spec.specs.Tree.Document.{Node, TagNode, Tag};
-ghost use Rattle.tl_spec.specs.Walk.{all_tags, events, faulty, meets, walk};
+ghost use Rattle.tl_spec.specs.Walk.{Walk, all_tags, events, faulty, meets, passes_tag, walk};
 ghost use Rattle.tl_table.specs.TreeFault.{fault_of};
 ghost use Rattle.tl_table.specs.declared.errors.TreeError.{TreeError};
 ghost use Rattle.tl.specs.Remaining.{MeetsTag, Place, events_around, events_of, remaining_of};
@@ -24,6 +24,10 @@ pub fn walks_give_events()
         (events_of q ≡ []) }
     ensures fewer { (p q : Place) (given : Result WalkEvent TreeError) → IsNext p (Some given) q →
         length (events_of q) < length (events_of p) }
+
+    // No tag is passed by: each that is met is entered.
+    ensures enters { (p : Place) (h : ℕ) (own : TagNode) (more : Walk) →
+        (remaining_of p).inside ≡ passes_tag h own more → ⊥ }
 {}
 
 /// What `skip_subtree` leaves: the tags that the walk is in, and what comes after them. So no loop

@@ -1,4 +1,4 @@
-use Rattle.tl.proofs.Loops.{events-begun, given-events, given-fault, given-fewer, given-none}
+use Rattle.tl.proofs.Loops.{events-begun, given-events, given-fault, given-fewer, given-none, none-passed}
 use Rattle.tl.proofs.laws.walks.walks_give_events.Goals as goal
 
 pub returns-clause-begin : goal.returns-clause-begin
@@ -15,3 +15,6 @@ returns-clause-error c = given-fault
 
 pub returns-clause-fewer : goal.returns-clause-fewer
 returns-clause-fewer c = given-fewer
+
+pub returns-clause-enters : goal.returns-clause-enters
+returns-clause-enters c = none-passed
