@@ -21,7 +21,8 @@ same, and of which kind the others are, --show N with N of each. The program is 
 
 With --trees alone the definition of tree construction, the text of `crates/tl_dom_spec` run by Python (definition.py), and a model
 that was written from the standard alone (tree_model.py) are compared with the trees of these tests, pages and fragments, and with
-one another on made-up ones. Tests that are older than a rule are named with it. With --clauses the worked rows of that crate are
+one another on made-up ones. Tests that are older than a rule are named with it. With --chromium both are compared with Chromium on
+made-up pages. With --clauses the worked rows of that crate are
 computed in the same way, and for each clause of its definitions rows are named, --show N of them (3), that would be others without
 it; NO ROW stands where none would. With --tree it writes the trees of a text as these rows have them.
 
@@ -166,6 +167,7 @@ def main(parser, words):
     parser.add_argument("--row", metavar="TEXT")
     parser.add_argument("--form", action="store_true")
     parser.add_argument("--trees", metavar="FOLDER")
+    parser.add_argument("--chromium", action="store_true")
     parser.add_argument("--clauses", action="store_true")
     parser.add_argument("--tree", metavar="TEXT")
     parser.add_argument("--inside", metavar="NAME")
@@ -196,7 +198,7 @@ def main(parser, words):
         print("compare html: html5lib isn't installed", file=sys.stderr)
         return 3
     warnings.simplefilter("ignore")
-    if words.trees is not None:
+    if words.trees is not None or words.chromium:
         return 1 if tree_tests.compared(words) else 0
     wrong = references.faults()
     print("\n".join(wrong) if wrong else f"{len(references.NAMES)} names of references, all as they are in the standard")

@@ -1,13 +1,15 @@
 """The definition of tree construction (`crates/tl_dom_spec`), run by Python, and a model written from the standard alone.
 
-Both are compared with the standard's own tests, which Debian has in golang-golang-x-net-dev, and with one another on made-up pages
-and fragments. Tests that don't say whether scripting is on have one tree, and are read both ways.
+Both are compared with the standard's own tests, which Debian has in golang-golang-x-net-dev, with one another on made-up pages and
+fragments, and, where that is asked for, with Chromium on made-up pages. Tests that don't say whether scripting is on have one tree,
+and are read both ways.
 """
 import glob
 import os
 import random
 
 from . import tree_model
+from .chromium import all_answers, chromium, version
 from .html_trees import cases
 from .tree_definition import TreeDefinition, with_room
 
@@ -29,6 +31,9 @@ CONTEXTS += ["svg g", "svg desc", "svg title", "math math", "math mi", "math ann
 KEYS = ["", "", "", " id=x", " class=a", "/", " type=hidden", " color=r", " encoding=text/html"]
 BETWEEN = ["x", " ", "y z", "\n", "&amp;", "<!--c-->", "<![CDATA[q>r]]>", "<!doctype html>", "</>", "<!x>"]
 DOCTYPES = ["<!doctype html>", "", '<!DOCTYPE html PUBLIC "-//W3C//DTD HTML 3.2//EN">']
+
+# Pages in one run of the browser.
+BATCH = 2000
 
 
 def made(chance):
@@ -100,6 +105,30 @@ def against_each_other(words, readers):
     return differ
 
 
+def wholly_made(chance):
+    """A page that is made up, to be read with scripting off."""
+    while True:
+        page, context, _ = made(chance)
+        if context is None:
+            return page
+
+
+def against_browser(words, readers):
+    """Compares readers with Chromium on made-up pages. How many differ."""
+    browser, chance, differ = chromium(), random.Random(words.seed), dict.fromkeys(readers, 0)
+    pages = [wholly_made(chance) for _ in range(words.runs)]
+    for page, wanted in zip(pages, all_answers(browser, "documents.html", pages, BATCH)):
+        for reader, lines in readers.items():
+            if (found := lines(page, None, False)) != wanted:
+                differ[reader] += 1
+                if differ[reader] <= 20:
+                    print(f"{page!r}\n  {reader}: {found}\n  Chromium: {wanted}", flush=True)
+    print(f"{version(browser)}, {words.runs} made-up pages: {', '.join(f'{it} differ from the {reader}' for reader, it in differ.items())}")
+    return sum(differ.values())
+
+
 def compared(words):
     readers = {"definition": TreeDefinition().lines, "model": lines_of_model}
+    if words.chromium:
+        return with_room(lambda: against_browser(words, readers))
     return with_room(lambda: against_tests(words.trees, readers) + against_each_other(words, readers))

@@ -18,6 +18,8 @@ Edits of pages in their own bytes: what `tl set` and its like write, where, and 
   $ tl unset a class page | cmp - page
   $ printf '<a k=1 b="x"K=2/><p k/><i b="1"k=2 =c>' | tl unset '[k]' K
   <a b="x"><p /><i b="1"/ =c> (no-eol)
+  $ printf '<br k="v"/><br k=v/><br k/>' | tl unset br k
+  <br /><br><br /> (no-eol)
   $ tl set i k v page | cmp - page
   $ tl set i k v page >/dev/null
   [1]

@@ -12,13 +12,12 @@ Of two that say where pages go, of two policies, and of two that say what is wri
   error: the argument '--backup <SUFFIX>' cannot be used with '--dry-run'
   $ tl sanitize --comments --documents one 2>&1 | head -1
   error: the argument '--comments' cannot be used with '--documents'
-  $ for flag in '-a a.b' -t -H -n -c -1; do tl select --tree $flag p one 2>&1 | head -1; done
+  $ for flag in '-a a.b' -t -H -n -c; do tl select --tree $flag p one 2>&1 | head -1; done
   error: the argument '--tree' cannot be used with '--attribute <KEY>'
   error: the argument '--tree' cannot be used with '--text'
   error: the argument '--tree' cannot be used with '--inside'
   error: the argument '--tree' cannot be used with '--number'
   error: the argument '--tree' cannot be used with '--count'
-  error: the argument '--tree' cannot be used with '--first'
   $ for flag in '-a a.b' -t -H -n -c; do tl select --json $flag p one 2>&1 | head -1; done
   error: the argument '--json' cannot be used with '--attribute <KEY>'
   error: the argument '--json' cannot be used with '--text'
@@ -77,6 +76,22 @@ Values and texts of nodes as the form has them, and by the grammar of `tl`.
   z
   $ tl text -w --as-is --in '[a="1&amp;2"]' three
   x
+
+A page is not read as it is and by its form; a text that is empty is found as others are.
+
+  $ for words in 'select p' links text table outline; do tl $words --as-is --raw one 2>&1 | head -1; done
+  error: the argument '--as-is' cannot be used with '--raw'
+  error: the argument '--as-is' cannot be used with '--raw'
+  error: the argument '--as-is' cannot be used with '--raw'
+  error: the argument '--as-is' cannot be used with '--raw'
+  error: the argument '--as-is' cannot be used with '--raw'
+  $ printf '<p>a<br>b' | tl text --in br
+  (empty)
+  $ printf '<p>a<br>b' | tl text -w --in br
+  $ printf '<p>a<br>b' | tl text --in i
+  [1]
+  $ printf '<p>a<br>b' | tl text -w --in i
+  [1]
 
 What is wrong with the words is said on standard error; where that can't be written, a write failed.
 

@@ -52,6 +52,10 @@ Each command, and each option of `select`.
   [{"attributes":{},"name":"br","node":6,"text":"","children":[]}]\x00 (esc) (no-eol)
   $ tl select --json --tree 'ul, li:last-child' below
   [{"attributes":{},"name":"ul","node":7,"text":"12","children":[{"attributes":{},"name":"li","node":8,"children":[{"attributes":{},"name":null,"node":9,"text":"1"}]},{"attributes":{},"name":"li","node":10,"children":[{"attributes":{},"name":null,"node":11,"text":"2"}]}]},{"attributes":{},"name":"li","node":10,"text":"2","children":[{"attributes":{},"name":null,"node":11,"text":"2"}]}]
+  $ tl select -1 --json --tree li below
+  [{"attributes":{},"name":"li","node":8,"text":"1","children":[{"attributes":{},"name":null,"node":9,"text":"1"}]}]
+  $ tl select -1 --json li below
+  [{"attributes":{},"name":"li","node":8,"text":"1"}]
   $ tl select --json --tree i below
   []
   [1]
@@ -414,10 +418,6 @@ Nothing was found, or something is refused or not understood.
   error: the argument '--first' cannot be used with '--count' (err)
   ...
   [2]
-  $ tl select -1 --json p
-  error: the argument '--first' cannot be used with '--json' (err)
-  ...
-  [2]
   $ tl select --tree p
   error: the following required arguments were not provided: (err)
     --json (err)
@@ -425,12 +425,6 @@ Nothing was found, or something is refused or not understood.
   [2]
   $ tl select -c --tree p
   error: the argument '--count' cannot be used with '--tree' (err)
-  ...
-  [2]
-  $ tl select -1 --json --tree p
-  error: the argument '--first' cannot be used with: (err)
-    --json (err)
-    --tree (err)
   ...
   [2]
   $ tl select -t --json p

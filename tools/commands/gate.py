@@ -16,8 +16,8 @@
     stress       hostile use
 
 The first four need no program and no proof, and take seconds: run them before the others. `runs` and `stress` take the programs that
-`rt ci` built, and `bindings` its libraries, over which the calls for C alone are proved once more, since it keeps nothing of a static
-library. What `oom` and `stress` run besides is compiled and not proved.
+`rt ci` built. It keeps nothing of a static library, so `bindings` compiles the sources that it proved, and proves none of them again.
+What `oom` and `stress` run besides is compiled and not proved.
 
 It needs the toolchain and Python alone, and 8 GB of memory that is free. Where fewer than 40 GB are, `rt ci` runs one check of one
 job on each core, four at most and one for each 7 GB (RT_JOBS, which is kept where it is set).
@@ -134,7 +134,7 @@ class Gate:
             "proofs": self.prove,
             "refused": mutants.check_gate,
             "runs": runs.check,
-            "bindings": lambda: bindings.check(over_ci=True),
+            "bindings": lambda: bindings.check(unproved=True),
             "vendor": vendor.check,
             "oom": oom.check,
             "stress": stress.check,

@@ -22,8 +22,9 @@ and the first alone is well:
                                  another mutant of the same meaning, of a plainer form
     it doesn't fit               the text that it changes isn't there once: write the line as it stands now
 
-With --gate a crate is not proved first: each function but the changed ones is taken by its contract (tools/mutants/alone.py), so a
-check costs the load of the crate and a proof of these functions. That is done right after `rt ci`, which proves the others.
+With --gate a crate is not proved first: each function but the changed ones is taken by its contract, without its body and its proof
+(tools/mutants/alone.py), so a check costs the load of the crate and a proof of these functions. That is done right after `rt ci`, which
+proves the others, and over the libraries that it has left.
 
 Answers that don't fit are left out, and the mutant is tried again: what is left then counts as refused, and a line says so where
 those answers name what the mutant took away; better change a value and keep the names there too. `rt must-fail` and `rt ci` take a

@@ -5,7 +5,7 @@ import subprocess
 import tempfile
 
 from ..workspace import Stop, put, text_of
-from .alone import fitting, without_other_proofs
+from .alone import Alone, strays
 from .function import HEAD, Function
 from .mutant import Mutant
 from .verdict import Said
@@ -74,14 +74,19 @@ class Crate:
                 shutil.copytree(f"{self.folder}/out/incremental", kept)
             return self.said(room, texts, ["--incremental", kept])
 
-    def check_alone(self, texts, functions):
-        """What the prover says of these functions with these texts in place of the crate's own, each other one taken by its contract."""
-        others, paths = without_other_proofs(self, functions)
+    def check_alone(self, batch):
+        """What the prover says of these mutants, all other functions than theirs taken by their contracts."""
+        alone = Alone(self, [it for mutant in batch for it in mutant.functions()])
+        only = [word for it in alone.paths for word in ("--only", it)]
+        said = self.said_alone(batch, alone.texts(), only)
+        refused = {} if said.functions else strays(said.text)
+        return self.said_alone(batch, alone.texts(refused), only) if refused else said
+
+    def said_alone(self, batch, texts, only):
+        for it in batch:
+            texts = it.put_into(texts)
         with tempfile.TemporaryDirectory(prefix="mutants-") as room:
-            others = fitting(others, self.said(room, others, ["--only", ""]).text)
-        only = [word for it in paths for word in ("--only", it)]
-        with tempfile.TemporaryDirectory(prefix="mutants-") as room:
-            return self.said(room, {**others, **texts}, ["--allow-holes", *only])
+            return self.said(room, texts, ["--allow-holes", *only])
 
     def said(self, room, texts, more):
         """What the prover says of a copy of the crate in a folder, with these texts in place of its own."""

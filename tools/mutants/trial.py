@@ -69,9 +69,7 @@ class Trials:
 
     def check(self, crate, batch, texts):
         """What the prover says of a crate with these mutants in it."""
-        if not self.is_alone:
-            return crate.check(texts)
-        return crate.check_alone(texts, [it for mutant in batch for it in mutant.functions()])
+        return crate.check_alone(batch) if self.is_alone else crate.check(texts)
 
     def try_crate(self, crate, mutants):
         """What each mutant of a crate is; says so of those that are not simply refused."""

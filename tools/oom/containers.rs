@@ -47,13 +47,18 @@ enum MapCall {
 // The name of a call, the room inline, the pairs that are held, and the call.
 type MapRow = (&'static str, Room, &'static [(u8, u8)], MapCall);
 
+// As many pairs as there is room for on the heap when the first comes there.
+const NINE: &[(u8, u8)] = &[
+    (1, 9), (2, 8), (3, 7), (4, 6), (5, 5), (6, 4), (7, 3), (8, 2), (9, 1),
+];
+
 #[rattlefmt::skip]
 static MAPS: [MapRow; 11] = [
     ("insert of a first pair, with no room inline", Room::None, &[], MapCall::Insert(1)),
-    ("insert of a fourth pair, with no room inline", Room::None, &[(1, 9), (2, 8), (3, 7)], MapCall::Insert(4)),
+    ("insert of a tenth pair, with no room inline", Room::None, NINE, MapCall::Insert(10)),
     ("insert into inline room", Room::Two, &[(1, 9)], MapCall::Insert(2)),
     ("insert of a third pair, with room for two inline", Room::Two, &[(1, 9), (2, 8)], MapCall::Insert(3)),
-    ("insert of a sixth pair, with room for two inline", Room::Two, &[(1, 9), (2, 8), (3, 7), (4, 6), (5, 5)], MapCall::Insert(6)),
+    ("insert of a tenth pair, with room for two inline", Room::Two, NINE, MapCall::Insert(10)),
     ("insert of a key that is there, inline", Room::Two, &[(1, 9), (2, 8)], MapCall::Insert(1)),
     ("insert of a key that is there, on the heap", Room::Two, &[(1, 9), (2, 8), (3, 7)], MapCall::Insert(2)),
     ("clone of a map inline", Room::Two, &[(1, 9), (2, 8)], MapCall::Clone),

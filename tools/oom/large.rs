@@ -34,7 +34,7 @@ type MapRow = (&'static str, u16, Past, MapCall);
 
 #[rattlefmt::skip]
 static MAPS: [MapRow; 24] = [
-    ("insert of a 17th pair", 16, Past::Filled, MapCall::Insert(16)),
+    ("insert of a 10th pair", 9, Past::Filled, MapCall::Insert(9)),
     ("insert of a 19th pair", 18, Past::Filled, MapCall::Insert(18)),
     ("insert of a 37th pair", 36, Past::Filled, MapCall::Insert(36)),
     ("insert of a 71st pair", 70, Past::Filled, MapCall::Insert(70)),
@@ -55,7 +55,7 @@ static MAPS: [MapRow; 24] = [
     ("insert after a remove, of 70 pairs", 70, Past::Taken, MapCall::Insert(99)),
     ("insert after a remove, of 1025 pairs", 1025, Past::Taken, MapCall::Insert(1999)),
     ("second insert after a remove, inline", 2, Past::Swapped, MapCall::Insert(9)),
-    ("second insert after a remove, on the heap", 5, Past::Swapped, MapCall::Insert(9)),
+    ("second insert after a remove, on the heap", 9, Past::Swapped, MapCall::Insert(9)),
     ("second insert after a remove, of 36 pairs", 36, Past::Swapped, MapCall::Insert(99)),
     ("clone after a remove, of 70 pairs", 70, Past::Swapped, MapCall::Clone),
 ];

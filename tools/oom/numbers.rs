@@ -6,7 +6,10 @@ use crate::{Named, measured};
 use std::alloc::AllocError;
 use tl::errors::TreeError;
 use tl::queryselector::{QueryIterable, QuerySelectorIterator, Selector};
-use tl::{HTMLTag, Node, NodeHandle, Parser, ParserOptions, VDom, parse, parse_query_selector};
+use tl::{
+    HTMLTag, Node, NodeHandle, Parser, ParserOptions, VDom, Walk, WalkEvent, parse,
+    parse_query_selector,
+};
 use tl_program::script::Step;
 
 /// What is called, of a document or of a tag of it. A search is for the last node of the walk, of
@@ -27,6 +30,8 @@ pub enum NumberCall {
     Clone(&'static str),
     CloneAtEnd(&'static str),
     MatchesIn(&'static str),
+    Walk,
+    WalkBelow,
 }
 
 /// The name of a call, the call, how the document is made, the number of the node, and the numbers
@@ -47,7 +52,7 @@ pub const FALLS: Page = Page {
 };
 
 #[rattlefmt::skip]
-static ROWS: [Row; 28] = [
+static ROWS: [Row; 31] = [
     ("find_node of a node", NumberCall::Find(b"bxcb"), PLAIN, 0, &[4]),
     ("find_node of a node with marks", NumberCall::Find(b"acb"), FALLS, 3, &[1]),
     ("find_node of a tag", NumberCall::FindChild(b"bb"), PLAIN, 0, &[4]),
@@ -76,6 +81,9 @@ static ROWS: [Row; 28] = [
     ("clone of a query at its end, ancestors", NumberCall::CloneAtEnd("a > b, b c"), PLAIN, 0, &[1, 3, 4]),
     ("matches_in, one part", NumberCall::MatchesIn("b"), PLAIN, 4, &[1]),
     ("matches_in, ancestors", NumberCall::MatchesIn("a > b, b c"), PLAIN, 3, &[1]),
+    ("each next of a walk", NumberCall::Walk, PLAIN, 0, &[0, 1, 2, 3, 4]),
+    ("each next of a walk with marks", NumberCall::Walk, FALLS, 3, &[0, 1, 2, 1, 3, 0, 2, 1]),
+    ("each next of a walk below a tag", NumberCall::WalkBelow, PLAIN, 0, &[1, 2, 3, 4]),
 ];
 
 /// A call that answers numbers, if there is one of this number.
@@ -105,6 +113,7 @@ pub fn call_on_document(document: &VDom<'_>, row: &Row, case: &mut Case) -> Resu
         NumberCall::Clone(text) => clone(document, text, wanted, 0, case),
         NumberCall::CloneAtEnd(text) => clone(document, text, wanted, wanted.len(), case),
         NumberCall::MatchesIn(text) => matches_in(document, text, row, case),
+        NumberCall::Walk => walk(document.walk(case.alloc()), wanted, case),
         _ => match document.parser().resolve_node_id(number) {
             Some(node) => call_on_node(document, node, row, case),
             None => Err(Stop::WrongValue),
@@ -207,6 +216,32 @@ fn matches_in(document: &VDom<'_>, text: &str, row: &Row, case: &mut Case) -> Re
         selector.matches_in(document.parser(), NodeHandle::new(number))
     );
     value(answer? == (wanted == [1].as_slice()))
+}
+
+// Where memory was refused, a beginning of the numbers was met, and nothing follows.
+fn walk(mut walk: Walk<'_, '_>, wanted: &[u32], case: &mut Case) -> Result<(), Stop> {
+    let answer = measured!(case, meets(&mut walk, wanted));
+    match answer {
+        Err(TreeError::OutOfMemory) => refused(walk.next().is_none()),
+        _ => value(answer?),
+    }
+}
+
+// Whether a walk meets these numbers, and then ends.
+fn meets(walk: &mut Walk<'_, '_>, wanted: &[u32]) -> Result<bool, TreeError> {
+    let mut left = wanted;
+    while let Some(event) = walk.next() {
+        if let WalkEvent::Meets(handle, _) = event? {
+            let Some((number, rest)) = left.split_first() else {
+                return Ok(false);
+            };
+            if handle != NodeHandle::new(*number) {
+                return Ok(false);
+            }
+            left = rest;
+        }
+    }
+    Ok(left.is_empty())
 }
 
 fn call_on_node<'a>(
@@ -317,6 +352,10 @@ fn call_on_tag<'a>(
         NumberCall::FindChild(walk) => find_child(document.parser(), tag, walk, wanted, case),
         NumberCall::QueryBelow(text) => query_below(document.parser(), tag, text, wanted, case),
         NumberCall::NewBelow(text) => new(document, tag, text, wanted, case),
+        NumberCall::WalkBelow => {
+            let below = tag.walk(case.alloc(), document.parser());
+            walk(below, wanted, case)
+        }
         NumberCall::LenOfTag => {
             let answer = measured!(case, tag.len(document.parser()));
             value(are(&[answer?], wanted))

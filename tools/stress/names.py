@@ -4,7 +4,7 @@ import itertools
 
 from ..workspace import Stop
 
-# The hasher of the kit's maps: what it begins with, and what it multiplies by.
+# The hasher of attributes on the heap: what it begins with, and what it multiplies by.
 SEED, MULTIPLIER, WORD = 0x243F6A8885A308D3, 0x9E3779B97F4A7C15, 1 << 64
 # An index map compares names whose hashes share the upper eight bits of 32, if they stand near each other in its table, where they
 # come to be by the lower ones: of the seven that it takes for 1,024 names these are the upper three.
@@ -13,20 +13,16 @@ LETTERS = "abcdefghijklmnopqrstuvwxyz0123456789"
 LENGTH = 7
 
 
-def fold(product):
-    """A product of two words, with its halves joined."""
-    return (product ^ product >> 64) % WORD
+def feed(state, number):
+    """The state of the hasher after a number: the length of a name, or one of its letters."""
+    return (state ^ number) * MULTIPLIER % WORD
 
 
-def begin(length):
-    """The state of the hasher once the length of a name is fed, as eight bytes."""
-    return fold((SEED ^ length) * (MULTIPLIER ^ 16))
-
-
-def feed(state, letters):
-    """The state after letters, which are fed one by one."""
-    for letter in letters:
-        state = fold((state ^ ord(letter) * 0x10101) * (MULTIPLIER ^ 2))
+def state_of(name, length):
+    """The state after the length of a name, and letters that it begins with."""
+    state = feed(SEED, length)
+    for letter in name:
+        state = feed(state, ord(letter))
     return state
 
 
@@ -37,20 +33,19 @@ def join_halves(state):
 
 def met_names(count):
     """Names that an index map compares with one another, found by trying."""
-    last = [(it, ord(it) * 0x10101) for it in LETTERS]
-    names, factor, wanted = [], MULTIPLIER ^ 2, None
+    names, wanted = [], None
     for front in itertools.product(LETTERS, repeat=LENGTH - 1):
         front = "".join(front)
-        state = feed(begin(LENGTH), front)
-        for letter, number in last:
-            bits = join_halves(fold((state ^ number) * factor)) & COMPARED
+        state = state_of(front, LENGTH)
+        for letter in LETTERS:
+            bits = join_halves(feed(state, ord(letter))) & COMPARED
             wanted = bits if wanted is None else wanted
             if bits == wanted:
                 names.append(front + letter)
         if len(names) >= count:
             break
     names = names[:count]
-    if len({join_halves(feed(begin(LENGTH), it)) & COMPARED for it in names}) != 1 or len(set(names)) != count:
+    if len({join_halves(state_of(it, LENGTH)) & COMPARED for it in names}) != 1 or len(set(names)) != count:
         raise Stop("the names that were made don't meet")
     return names
 
@@ -58,7 +53,7 @@ def met_names(count):
 def other_names(count):
     """As many other names of the same length."""
     names = [format(number * 7919 % 1000003 + 1000003, f"0{LENGTH}") for number in range(count)]
-    if max(collections.Counter(join_halves(feed(begin(LENGTH), it)) & COMPARED for it in names).values()) > count / 100 + 10:
+    if max(collections.Counter(join_halves(state_of(it, LENGTH)) & COMPARED for it in names).values()) > count / 100 + 10:
         raise Stop("the names that were made meet")
     return names
 

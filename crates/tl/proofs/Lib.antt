@@ -8,6 +8,7 @@ pub mod Following
 pub mod Marks
 pub mod Frames
 pub mod Remaining
+pub mod Loops
 pub mod OwnKeys
 pub mod Printing
 pub mod Nodes

@@ -1,8 +1,8 @@
 -- What a walk that enters every tag has still to give.
-use Rattle.std.proofs.Common.{◌≡◌, ℕ, ◌+◌, ◌<◌, ◌≤◌, Bool, true, false, ◌⊎◌, inl, inr, List, [], ◌∷◌, ◌++◌, length, map, Option, Some, None, Ok, Err, refl, ap, sym, ◌∙◌, subst, arith, append_assoc}
+use Rattle.std.proofs.Common.{◌≡◌, ℕ, ◌<◌, Bool, true, false, ◌⊎◌, inl, inr, List, [], ◌∷◌, ◌++◌, length, map, Option, Some, None, Ok, Err, refl, ap, sym, ◌∙◌, subst, arith, append_assoc}
 use Rattle.std.specs.List.{slice_get, AllByRecursion}
 use Rattle.tl_spec.specs.Tree.Document.{Node, Tag, Raw, Comment, TagNode}
-use Rattle.tl_spec.specs.Walk.{Cycle, Dangling, Event, Walk, end, events, all_tags, faulty, handle_walk, leaves, meets, meets_comment, meets_fault, meets_tag, meets_text, passes_tag, stands_on, walk}
+use Rattle.tl_spec.specs.Walk.{Cycle, Dangling, Event, Walk, end, events, all_tags, faulty, handle_walk, leaves, meets, meets_comment, meets_fault, meets_tag, meets_text, passes_tag, stands_on, TreeFault, walk}
 use Rattle.tl_spec.proofs.Walk.Events.{Enters, Enters-walk}
 use Rattle.tl_spec.proofs.Walk.Walks.{walk-cons, walk-nil}
 use Rattle.tl_table.specs.declared.errors.TreeError.TheVariants.{Dangling as DanglingError, Cycle as CycleError, OutOfMemory}
@@ -118,8 +118,9 @@ next_same e f left other s =
 
 -- a step takes the first of the events that are left, but that nothing comes after a fault
 
+-- the first of these is the event; what is left are the others, but nothing after a fault
 abbrev pub FollowsIn : List Event → Event → Remaining → Type 0
-FollowsIn before e after = (before ≡ e ∷ events_left after) ⊎ ((after ≡ nothing_left) × IsLedBy e before)
+FollowsIn before e after = (before ≡ e ∷ events_left after) ⊎ ((fault : TreeFault) × (e ≡ faulty fault) × (after ≡ nothing_left) × IsLedBy e before)
 
 module _ (e : Event) (after : Remaining) where
   follows : (f : Event) (left : Remaining) (before : List Event) → next_at f left ≡ next_at e after → before ≡ f ∷ events_left left → FollowsIn before e after
@@ -139,7 +140,7 @@ module _ (e : Event) (after : Remaining) where
   follows-in outer (passes_tag h own more) s = follows (meets h (Tag own)) (record { inside = more; around = outer }) (events (passes_tag h own more) ++ events_around outer) s refl
   follows-in outer (meets_fault f more) s =
       let same = next_same (faulty f) e nothing_left after s in
-      inr (sym same.1, (events more ++ events_around outer, (λ i. same.0 i ∷ (events more ++ events_around outer))))
+      inr (f, sym same.0, sym same.1, (events more ++ events_around outer, (λ i. same.0 i ∷ (events more ++ events_around outer))))
 
 pub follows-step : (r : Remaining) (e : Event) (after : Remaining) → step r ≡ Some (e, after) → FollowsIn (events_left r) e after
 follows-step r e after s = follows-in e after r.around r.inside s
@@ -148,7 +149,7 @@ follows-step r e after s = follows-in e after r.around r.inside s
 pub fewer-step : (r : Remaining) (e : Event) (after : Remaining) → step r ≡ Some (e, after) → length (events_left after) < length (events_left r)
 fewer-step r e after s = elim (follows-step r e after s) [
   | inl f ↦ let n = ap length f in omega arith
-  | inr f ↦ let n = ap length f.1.1 in let none : length (events_left after) ≡ 0 = ap (λ (q : Remaining). length (events_left q)) f.0 in omega arith
+  | inr f ↦ let n = ap length f.3.1 in let none : length (events_left after) ≡ 0 = ap (λ (q : Remaining). length (events_left q)) f.2 in omega arith
 ]
 
 fewer-at : (r q : Remaining) (error : TreeError) (o : Option (Event × Remaining)) → step r ≡ o → FailsAt o error → q ≡ nothing_left → length (events_left q) < length (events_left r)

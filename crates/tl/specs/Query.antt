@@ -8,6 +8,7 @@ use Rattle.tl_spec.specs.Select.Meaning.{AreMatches}
 use Rattle.tl_spec.specs.Select.Search.{matches_between}
 use Rattle.tl_spec.specs.Select.Text.{IsSelectorText}
 use Rattle.tl_spec.specs.Walk.{TreeFault}
+use Rattle.tl_spec.specs.Walk.Range.{range_of}
 use Rattle.tl.specs.View.{HTMLTable, node_view}
 use Rattle.std.specs.List.{between}
 use Rattle.std.specs.Result.{result_err}
@@ -58,3 +59,8 @@ abbrev pub ReadsNodes : {N : Type 0} → Result (ℕ × ℕ) TreeFault → List 
 ReadsNodes is nodes (Ok part) =
     (range : ℕ × ℕ) × (is ≡ Ok range) × (part.now ≡ between range.0 range.1 nodes)
 ReadsNodes is nodes (Err error) = IsRefusal (result_err is) error
+
+-- what is found below a tag of these children by the text of a selector
+abbrev pub FindsBelow : List Node → List ℕ → List ℕ → Option (List ℕ) → Type 0
+FindsBelow nodes children text found =
+    FindsMatches text (AreIn nodes (range_of nodes children)) found

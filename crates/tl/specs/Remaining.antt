@@ -95,3 +95,15 @@ remaining_of p = record {
 -- its events, if nothing is skipped
 abbrev pub events_of : Place → List Event
 events_of p = events_left (remaining_of p)
+
+-- a tag was met at the first place, whose next handle is its own: what hangs below it comes, then
+-- it is left, and then comes what comes after it; where what hangs below it is skipped it is left
+-- at once
+pub record MeetsTag (h : ℕ) (own : TagNode) (p q : Place) : Type 0 where
+  pub rest : List ℕ
+  pub next : p.next ≡ h ∷ rest
+  pub whole : events_of p ≡ meets h (Tag own)
+      ∷ events (walk all_tags p.nodes (h ∷ path_within p.within) own.children.items)
+      ++ leaves own ∷ events_of (record p { next = rest })
+  pub skipped : events_of (record q { next = [] })
+      ≡ leaves own ∷ events_of (record p { next = rest })

@@ -1,20 +1,27 @@
 //! Laws of what calls answer together, and of what a loan for writing leaves; and those of the
 //! definitions that a caller needs.
-ghost use Rattle.std.specs.Prelude.{◌≡◌, ◌<◌, ◌^◌, All, List, None, Option, Some, ℕ, length, map, option_map};
+ghost use Rattle.std.specs.Prelude.{◌≡◌, ◌<◌, ◌^◌, All, List, None, Ok, Option, Some, ℕ, length, map, option_map, slice_get};
 ghost use Rattle.std.specs.Option.{ForSome};
+ghost use Rattle.tl_attributes.specs.AttributesView.{bytes_view, pair_view, plain};
+ghost use Rattle.tl_attributes.specs.Inner.Listing.{listed};
 ghost use Rattle.tl_bytes.specs.Held.{Kept};
 ghost use Rattle.tl_tracking.specs.Options.{Options};
+ghost use Rattle.tl_spec.specs.Lex.AttributeList.{Attributes, printed_pairs};
 ghost use Rattle.tl_spec.specs.Tree.Document.{Node, document};
 ghost use Rattle.tl_spec.specs.Tree.EveryNode.{HoldOfNode, IsCleanAlone, Tests};
 ghost use Rattle.tl_spec.specs.Select.Selector.{Selector};
 ghost use Rattle.tl_spec.specs.Select.Reading.{selector_at};
+ghost use Rattle.tl_spec.specs.Select.Search.{matches_between};
 ghost use Rattle.tl_spec.specs.Select.Text.{IsSelectorText};
+ghost use Rattle.tl_spec.specs.Walk.Range.{range_of};
 ghost use Rattle.tl_spec.specs.Lookup.Scan.{has_id, is_in_class, IsFirstPlace, ArePlaces};
 ghost use Rattle.tl.specs.Lookup.{with_id, with_member};
-ghost use Rattle.tl.specs.Query.{FindsIn, matches_in};
+ghost use Rattle.tl.specs.Query.{FindsBelow, FindsIn, matches_in};
 ghost use Rattle.tl.specs.View.{document_of, node_view, HTMLNode, HTMLTable};
-ghost use Rattle.tl.specs.Inner.TableLends.{with_nodes};
+ghost use Rattle.tl.specs.Inner.TableLends.{with_node, with_nodes};
 ghost use Rattle.tl.specs.Tracked.{AreAsked, AnswerIds, AnswerClasses};
+
+pub mod walks;
 
 pub use tl_spec::laws::nodes::{clean_nodes, nodes_of_a_walk, trees_of_the_normal_form};
 pub use tl_spec::laws::ranges::{end_by_step, end_of_the_walk, ranges_are_descendants};
@@ -68,6 +75,10 @@ pub fn written_nodes()
         → length nodes ≡ length d.nodes →
         All (λ n. HoldOfNode tests (node_view n)) nodes →
         All (HoldOfNode tests) (document_of (with_nodes d nodes)).nodes }
+
+    // A node that is lent alone, and stays as it is, leaves all as it was.
+    ensures same { (d : HTMLTable) (n : ℕ) (node : HTMLNode) → slice_get d.nodes n ≡ Some node →
+        with_node d n node ≡ d }
 {}
 
 /// A query of a document finds all nodes where the selector of its text holds, and nothing where
@@ -86,4 +97,26 @@ pub fn queries_find()
         → found ≡ option_map (matches_in (document_of d)) (selector_at text) }
     ensures few { (d : HTMLTable) (text : List ℕ) (found : Option (List ℕ)) → FindsIn d text found
         → length d.nodes < 2 ^ 32 → ForSome found (λ numbers. length numbers < 2 ^ 32) }
+{}
+
+/// A query below a tag finds all nodes in the tag's range where the selector of its text holds, and
+/// nothing where the text is no selector's. The premise is what `query_selector` of the tag
+/// ensures. No more nodes are found than there are.
+pub fn queries_below_find()
+    ensures some { (nodes : List Node) (children text : List ℕ) (found : Option (List ℕ))
+        (e : Selector) → FindsBelow nodes children text found → IsSelectorText text e →
+        (range : ℕ × ℕ) × (range_of nodes children ≡ Ok range) ×
+        (found ≡ Some (matches_between nodes e range.0 range.1)) }
+    ensures none { (nodes : List Node) (children text : List ℕ) (found : Option (List ℕ)) →
+        FindsBelow nodes children text found
+        → ((e : Selector) → IsSelectorText text e → ⊥) → found ≡ None }
+    ensures few { (nodes : List Node) (children text : List ℕ) (found : Option (List ℕ)) →
+        FindsBelow nodes children text found
+        → length nodes < 2 ^ 32 → ForSome found (λ numbers. length numbers < 2 ^ 32) }
+{}
+
+/// The attributes that `iter` gives are those that are printed, in this order.
+pub fn attributes_in_order()
+    ensures { (a : Attributes Kept) → map pair_view (listed bytes_view a)
+        ≡ printed_pairs (plain a) }
 {}

@@ -122,7 +122,7 @@ pub fn parse<'a>(
 /// Reads a text into a document that keeps it: its pieces are shares of the one text, which is not
 /// copied.
 ///
-/// It reads, tracks and refuses as [`parse`] does.
+/// It reads, tracks and refuses as [`parse`] does. A text that is refused is given up.
 pub fn parse_owned(
     alloc: Global,
     text: String,

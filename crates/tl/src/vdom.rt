@@ -120,7 +120,8 @@ impl<A, B, O: SummaryOf<A>, M> VDomOf<A, B, O, M> {
 
 impl<'a> VDom<'a> {
     /// The document as markup: its top nodes in order, without a doctype. What is printed of a
-    /// clean table is read as that table.
+    /// clean table is read as the normal form of its trees: adjacent texts are one, and empty ones
+    /// are gone.
     pub fn outer_html(&self, alloc: Global) -> Result<String, TreeError>
         ensures answers { Answers string_bytes (document_print (document_of self.now)) result }
         ensures identity { let d = document_of self.now in

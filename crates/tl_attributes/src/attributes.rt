@@ -166,8 +166,9 @@ impl<B: Piece> AttributesOf<B> {
 
 impl<B: Piece + Default + Drop> AttributesOf<B> {
     /// Puts `value` at `key`. A key that is there keeps its place, and a new one goes last; `id`
-    /// and `class` without a value are taken out. `Err` means that memory was refused; at `id`,
-    /// `class` and a key that is there none is taken.
+    /// and `class` without a value are taken out. `Err` means that memory was refused, and
+    /// that the key and the value are given up; at `id`, `class` and a key that is there none is
+    /// taken.
     #[inline(always)]
     pub fn insert(&mut self, key: B, value: Option<B>) -> Result<(), AllocError>
         ensures ok { OnOk result (self.new ≡ with_attribute B.list B.eq self.old key value) }

@@ -4,6 +4,7 @@ use Rattle.std.specs.Option.{option_map_or}
 use Rattle.tl_spec.specs.Tree.Document.{Node}
 use Rattle.tl_page.specs.Outcome.{Outcome, joined, outcome_map, success}
 use Rattle.tl_extract.specs.declared.field.Field.{Field}
+use Rattle.tl_extract.specs.declared.field.Field.TheVariants.{Lines as InsideLines}
 use Rattle.tl_extract.specs.Field.{field_at}
 use Rattle.tl_json.specs.Listing.{array_of_nodes, object_lines}
 use Rattle.tl_cli.specs.Findings.{Finding, listed, number_line, of_nodes}
@@ -11,7 +12,7 @@ use Rattle.tl_css_select.specs.Spelling.{decoded_nodes}
 use Rattle.tl_cli.specs.declared.reading.Reading.{Reading}
 use Rattle.tl_cli.specs.declared.reading.Reading.TheVariants.{Browser, AsIs}
 use Rattle.tl_cli.specs.declared.selection.Listing.{Listing}
-use Rattle.tl_cli.specs.declared.selection.Listing.TheVariants.{Fields, Count, Objects, Lines}
+use Rattle.tl_cli.specs.declared.selection.Listing.TheVariants.{Fields, Texts, Count, Objects, Lines}
 
 -- the nodes of a document as selectors see them: in the form of a page names and values are seen as
 -- what they say
@@ -40,6 +41,8 @@ front (Some most) numbers = take most numbers
 abbrev pub listing_of : Listing → List ℕ → List Node → List ℕ → Outcome Finding
 listing_of (Fields field) end nodes numbers =
     outcome_map listed (field_lines field end nodes numbers)
+listing_of (Texts spelling) end nodes numbers =
+    outcome_map (of_nodes numbers) (field_lines (InsideLines spelling) end nodes numbers)
 listing_of Count end nodes numbers = success (number_line end (length numbers))
 listing_of (Objects format) end nodes numbers =
     outcome_map (of_nodes numbers) (array_of_nodes format end nodes numbers)

@@ -3,6 +3,7 @@ ghost use Rattle.std.specs.Prelude.{◌≡◌, ◌++◌, IfOk, OnOk, flat_map, o
 ghost use Rattle.tl.specs.View.{document_of};
 ghost use Rattle.tl_page.specs.Outcome.{Gives, outcome_map};
 ghost use Rattle.tl_extract.specs.Links.{links_of};
+ghost use Rattle.tl_extract.specs.declared.field.Field.TheVariants.{Lines};
 ghost use Rattle.tl_json.specs.Listing.{array_of_nodes, object_lines};
 ghost use Rattle.tl_cli.specs.Findings.{finding_of, listed, number_line, of_nodes};
 ghost use Rattle.tl_cli.specs.Lines.{link_line};
@@ -60,6 +61,22 @@ pub fn field_lines(
         Gives finding_of (outcome_map listed lines) result }
 {
     Ok(Output::from_lines(lines_of(alloc, document, numbers, field, end)?))
+}
+
+/// The texts inside the nodes of these numbers, line by line, each with what ends it.
+pub fn text_lines(
+    alloc: Global,
+    document: &VDom<'_>,
+    numbers: &[u32],
+    spelling: Spelling,
+    end: &str,
+) -> Result<Output, Failure>
+    ensures { let nodes = (document_of document.now).nodes in
+        let lines = field_lines (Lines spelling) end.now nodes numbers.now in
+        Gives finding_of (outcome_map (of_nodes numbers.now) lines) result }
+{
+    let text = lines_of(alloc, document, numbers, &Field::Lines(spelling), end)?;
+    Ok(Output::of_nodes(numbers, text))
 }
 
 /// An array of JSON with an object for each node of these numbers.

@@ -19,7 +19,7 @@ use std::fs::File;
 use std::io::{ErrorKind, Read, Write};
 use std::{fmt, io};
 use tl_encoding::{DecodeError, Encoding, EncodingError, decode, encoding_of};
-use tl_page::Failure;
+use tl_page::{Failure, text};
 
 /// The files where none are said.
 pub static STANDARD_INPUT: [&str; 1] = ["-"];
@@ -174,6 +174,26 @@ fn no_text(rt: &HostRuntime, pages: &Pages<'_>, file: &str, error: &DecodeError)
     }
 }
 
+// Why there is nothing of a page whose form can't be read.
+#[derive(Clone, Copy)]
+struct LongForm;
+
+impl fmt::Display for LongForm {
+    fn fmt<W: fmt::Write>(&self, f: &mut fmt::Formatter<W>) -> fmt::Result {
+        f.write_str("its form is too long")
+    }
+}
+
+// Says on standard error why the text of a page is not understood: it is too long, or its form is.
+fn too_long(rt: &HostRuntime, file: &str, page: &[u8]) -> Answer
+    ensures { result ≡ Failed NotUnderstood }
+{
+    match text(page) {
+        Ok(_) => not_understood(rt, file, &LongForm),
+        Err(error) => not_understood(rt, file, &error),
+    }
+}
+
 // Says on standard error why the text of a page is refused.
 fn refused(rt: &HostRuntime, job: &Job<'_, '_>, file: &str, text: &[u8]) {
     match job.steps() {
@@ -223,6 +243,10 @@ fn process_text(
             pages.terminal.clear(rt);
             refused(rt, job, file, text);
             return Ok(Answer::Failed(Failure::Refused));
+        }
+        Err(Failure::NotUnderstood) => {
+            pages.terminal.clear(rt);
+            return Ok(too_long(rt, file, text));
         }
         Err(failure) => return Err(failure),
     };

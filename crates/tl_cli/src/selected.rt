@@ -71,7 +71,6 @@ impl Selected<'_> {
             (Wanted::InnerHtml, _) => Field::InnerHtml,
             (Wanted::Text, Spelling::Raw) => Field::InnerText,
             (Wanted::Text, Spelling::Decoded) => Field::Characters,
-            (Wanted::Lines, spelling) => Field::Lines(spelling),
             (Wanted::Value, Spelling::Raw) => Field::Attribute(key),
             (Wanted::Value, Spelling::Decoded) => Field::Value(key),
             _ => Field::OuterHtml,
@@ -93,6 +92,7 @@ impl Selected<'_> {
             (true, None) => Listing::Objects(self.object_format(None)),
             (true, Some(_)) => Listing::Lines(self.object_format(file)),
             _ if self.wanted == Wanted::Count => Listing::Count,
+            _ if self.wanted == Wanted::Lines => Listing::Texts(self.spelling),
             _ => Listing::Fields(self.field(key)),
         }
     }

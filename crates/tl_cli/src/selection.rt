@@ -6,14 +6,14 @@ ghost use Rattle.tl_page.specs.Outcome.{Gives};
 ghost use Rattle.tl_cli.specs.Findings.{finding_of};
 ghost use Rattle.tl_cli.specs.Selection.{front, listing_of, nodes_read};
 
-use crate::lines::{count_line, field_lines, object_array, object_lines};
+use crate::lines::{count_line, field_lines, object_array, object_lines, text_lines};
 use crate::output::Output;
 use crate::reading::Reading;
 use std::alloc::{AllocError, Global};
 use tl::VDom;
 use tl_css::Selector;
 use tl_css_select::known_forest::Forest;
-use tl_extract::Field;
+use tl_extract::{Field, Spelling};
 use tl_json::ObjectFormat;
 use tl_page::Failure;
 
@@ -22,6 +22,8 @@ use tl_page::Failure;
 pub enum Listing<'w> {
     /// A field of each.
     Fields(Field<'w>),
+    /// The text inside each, line by line, which may be empty.
+    Texts(Spelling),
     /// How many there are.
     Count,
     /// An array of JSON, with an object for each.
@@ -81,6 +83,7 @@ fn list(
 {
     match listing {
         Listing::Fields(field) => field_lines(alloc, document, numbers, field, end),
+        Listing::Texts(spelling) => text_lines(alloc, document, numbers, *spelling, end),
         Listing::Count => Ok(count_line(alloc, numbers.len(), end)?),
         Listing::Objects(format) => object_array(alloc, document, numbers, format, end),
         Listing::Lines(format) => object_lines(alloc, document, numbers, format, end),

@@ -189,9 +189,10 @@ impl Verb {
 
 // A command with what says how pages are read and written.
 fn with_reading<'w>(alloc: Global, command: Command<'w>) -> Result<Command<'w>, AllocError> {
+    let raw = RAW.argument(alloc).conflicts_with("as-is")?;
     command
         .arg(AS_IS.argument(alloc))?
-        .arg(RAW.argument(alloc))?
+        .arg(raw)?
         .arg(ENCODING.argument(alloc))
 }
 
@@ -212,7 +213,6 @@ fn with_selection<'w>(alloc: Global, command: Command<'w>) -> Result<Command<'w>
     let first = FIRST
         .argument(alloc)
         .conflicts_with("count")?
-        .conflicts_with("json")?
         .conflicts_with("max-count")?;
     command
         .arg(selector)?
@@ -224,7 +224,6 @@ fn with_selection<'w>(alloc: Global, command: Command<'w>) -> Result<Command<'w>
 fn tree<'w>(alloc: Global) -> Result<Arg<'w>, AllocError> {
     TREE.argument(alloc)
         .requires_arg("json")?
-        .conflicts_with("first")?
         .conflicts_with("attribute")?
         .conflicts_with("text")?
         .conflicts_with("inside")?

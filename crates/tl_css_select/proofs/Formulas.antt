@@ -9,7 +9,7 @@ use Rattle.tl_css_select.specs.Inner.Terms.{IsDistance, is_natural}
 abbrev pub IsReached : ℤ → ℤ → ℕ → Type 0
 IsReached a b count = (k : ℕ) × (pos count ≡ (a *ℤ pos k) +ℤ b)
 
-above_same : (x y count : ℕ) (b : ℤ) → pos count ≡ pos x +ℤ b → pos count ≡ pos y +ℤ b → x ≡ y
+pub above_same : (x y count : ℕ) (b : ℤ) → pos count ≡ pos x +ℤ b → pos count ≡ pos y +ℤ b → x ≡ y
 above_same x y count b h k = omega (arith, ints)
 
 below_same : (x y count : ℕ) (b : ℤ) → b ≡ pos count +ℤ pos x → pos count ≡ neg_ℤ (pos y) +ℤ b → x ≡ y

@@ -20,6 +20,7 @@ pub mod Pairs
 pub mod Fresh
 pub mod Found
 pub mod Turned
+pub mod Decided
 pub mod Spellings
 pub mod PlainWords
 pub mod Plain

@@ -50,7 +50,7 @@ child_above nodes forest m n h =
     let above : m < slice_index_or t.0.children.items k n = rising 0 (suc k) n (omega arith) (omega (arith, t.2.1)) in
     omega (arith, above, at)
 
-lower_before : (nodes : List Node) → IsForest nodes → (link : Link) (m n : ℕ) → IsBefore nodes link m n → m < n
+pub lower_before : (nodes : List Node) → IsForest nodes → (link : Link) (m n : ℕ) → IsBefore nodes link m n → m < n
 lower_before nodes forest Parent m n h = child_above nodes forest m n h
 lower_before nodes forest Sibling m n h = h.0
 lower_before nodes forest Twin m n h = h.0

@@ -14,7 +14,7 @@ not_in m n ns other none (inl e) = other e
 not_in m n ns other none (inr h) = none h
 
 -- whether a number is in a list can be told
-tells : (ns : List ℕ) (n : ℕ) → Contains ns n ⊎ (Contains ns n → ⊥)
+pub tells : (ns : List ℕ) (n : ℕ) → Contains ns n ⊎ (Contains ns n → ⊥)
 tells [] n = inr (in_nothing n)
 tells (m ∷ ns) n = by_front (eqb_tells m n) (tells ns n)
   where
@@ -25,7 +25,7 @@ tells (m ∷ ns) n = by_front (eqb_tells m n) (tells ns n)
     by_front (inr other) (inr none) = inr (λ h. not_in m n ns other.1 none (cases m ns n h))
 
 -- a selector holds at tags alone
-holds_at_tag : (nodes : List Node) (e : Css) (n : ℕ) → Holds nodes e n → IsTag nodes n
+pub holds_at_tag : (nodes : List Node) (e : Css) (n : ℕ) → Holds nodes e n → IsTag nodes n
 holds_at_tag nodes (Is test) n h = h.0
 holds_at_tag nodes (Not e) n h = h.0
 holds_at_tag nodes (Both a b) n h = holds_at_tag nodes a n h.0

@@ -6,16 +6,20 @@ use crate::shape::is_forest;
 use crate::stack::matches;
 use crate::styled::Styled;
 use std::alloc::{AllocError, Global};
+use thiserror::Error;
 use tl_css::Selector;
 
 /// Why there is no answer.
-#[derive(Clone, Copy, PartialEq, Eq, Debug, Drop)]
+#[derive(Clone, Copy, PartialEq, Eq, Debug, Error)]
 pub enum SelectError {
     /// Some node is the child of two, or of one whose number is not below its own, or the children
     /// of a node don't rise, or one isn't in the table.
+    #[error("the nodes are no forest")]
     NotForest,
     /// The table has 4294967296 nodes or more.
+    #[error("more than 4294967295 nodes")]
     TooLong,
+    #[error("out of memory")]
     OutOfMemory,
 }
 

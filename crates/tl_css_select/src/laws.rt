@@ -12,6 +12,7 @@ ghost use Rattle.tl_css.specs.Reading.{css_at};
 ghost use Rattle.tl_css.specs.Selector.{Css, Not};
 ghost use Rattle.tl.specs.Query.{FindsIn};
 ghost use Rattle.tl.specs.View.{HTMLTable, document_of};
+ghost use Rattle.tl_css_select.specs.Below.{AreFoundBelow};
 ghost use Rattle.tl_css_select.specs.Plain.{IsPlain, IsTame, css_of};
 ghost use Rattle.tl_css_select.specs.Shared.{AreTagsAmong, asks_for_tags, is_shared_text};
 ghost use Rattle.tl_css_select.specs.Spelling.{decoded_nodes};
@@ -30,6 +31,18 @@ pub fn decoded_forests_are_forests()
 pub fn selectors_find_once()
     ensures { (nodes : List Node) (e : Css) (ms ns : List ℕ) → AreFound nodes e ms
         → AreFound nodes e ns → ms ≡ ns }
+{}
+
+/// On a forest a selector is found, and so it is below a node: there is the list of which searches
+/// say that it is answered. So it is in a document that was just read, and in one seen decoded.
+pub fn selectors_are_found()
+    ensures forests { (nodes : List Node) → IsForest nodes → (e : Css)
+        → (ns : List ℕ) × AreFound nodes e ns }
+    ensures below { (nodes : List Node) → IsForest nodes → (m : ℕ) (e : Css)
+        → (ns : List ℕ) × AreFoundBelow nodes m e ns }
+    ensures documents { (t : List ℕ) (e : Css) → (ns : List ℕ) × AreFound (document t).nodes e ns }
+    ensures decoded { (t : List ℕ) (e : Css)
+        → (ns : List ℕ) × AreFound (decoded_nodes (document t).nodes) e ns }
 {}
 
 /// `:not(:not(e))` holds where `e` does, on a table where `e` can be found.

@@ -3,7 +3,7 @@ use Rattle.std.specs.Prelude.{Bool, List, None, Option, Some, [], codes, false, 
 use Rattle.std.specs.Str.{bytes_eq}
 use Rattle.tl_html_spec.specs.HtmlTokenizer.{State, after_start, raw, rawtext}
 use Rattle.tl_dom_spec.specs.Tags.{Attribute, Tag, bare_tag, is_button_scope, is_list_scope, is_scope, is_table_scope, is_template, no_tag, with_missing}
-use Rattle.tl_dom_spec.specs.Doctypes.{Doctype}
+use Rattle.tl_html_spec.specs.Doctypes.{Doctype}
 use Rattle.tl_dom_spec.specs.Groups.{Group}
 use Rattle.tl_dom_spec.specs.Path.{Frame, Path, Place, and_comment, and_element, and_text, at_number, caught_up, elements, has_open, has_tag, has_within, here, implied_closed, new_frame, no_nodes, on_top, place_in, popped, popped_through, popped_to, put, top}
 

@@ -3,7 +3,7 @@ use Prim.Native.String.{String}
 use Rattle.std.specs.Prelude.{Bool, List, None, Option, [], codes, if◌then◌else◌, true, ℕ, ◌++◌, ◌∷◌}
 use Rattle.tl_html_spec.specs.HtmlTokenizer.{html_tokens}
 use Rattle.tl_dom_spec.specs.Tags.{Attribute, AttributeSpace, Namespace, html_space, is_named, math_space, no_space, svg_space, xlink_space, xml_space, xmlns_space}
-use Rattle.tl_dom_spec.specs.Doctypes.{or_empty}
+use Rattle.tl_html_spec.specs.Doctypes.{or_empty}
 use Rattle.tl_dom_spec.specs.Builder.{Flags}
 use Rattle.tl_dom_spec.specs.HtmlForest.{HtmlForest, comment, doctype, element, has_contents, no_trees, text}
 use Rattle.tl_dom_spec.specs.HtmlTree.{Context, context_of, fragment_of_tokens, html_fragment_by, html_tree, html_tree_by, page_read, standard, tree_of_tokens, with_scripting, without_search}

@@ -3,7 +3,7 @@
 use Rattle.std.specs.Char.{is_ascii_whitespace}
 use Rattle.std.specs.Prelude.{Bool, None, Option, Some, codes, false, if◌then◌else◌, true, ◌∷◌}
 use Rattle.tl_dom_spec.specs.Tags.{Tag, bare_tag}
-use Rattle.tl_dom_spec.specs.Doctypes.{is_quirky}
+use Rattle.tl_dom_spec.specs.Quirks.{is_quirky}
 use Rattle.tl_dom_spec.specs.Groups.{Group, a_base, a_break, a_frameset, a_link, a_noframes, a_noscript, a_script, a_style, a_template, a_title, the_body, the_head, the_html}
 use Rattle.tl_dom_spec.specs.Path.{Place, and_doctype, here, into_head, no_nodes, put}
 use Rattle.tl_dom_spec.specs.Builder.{Again, Builder, Done, Outcome, Token, a_character, a_comment, a_doctype, a_start, add_attributes, add_one, after_head, an_end, appropriate_place, before_head, before_html, end_of_file, frameset_not_ok, has_template, in_body, in_frameset, in_head, in_head_noscript, in_template, insert_and_pop_at, insert_character, insert_comment, insert_element, insert_element_at, insert_implied, insert_marker, parse_raw_text, parse_raw_text_at, pop_current_node, switch_to}

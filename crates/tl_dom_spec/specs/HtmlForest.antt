@@ -1,7 +1,7 @@
 -- Trees in a row, in the order of the page.
 use Rattle.std.specs.Prelude.{Bool, List, ℕ}
 use Rattle.tl_dom_spec.specs.Tags.{Tag, is_template}
-use Rattle.tl_dom_spec.specs.Doctypes.{Doctype}
+use Rattle.tl_html_spec.specs.Doctypes.{Doctype}
 use Rattle.tl_dom_spec.specs.Path.{Nodes, and_comment, and_doctype, and_element, and_text, no_nodes}
 
 -- an element with what stands below it: its children, or of a `template` its contents

@@ -8,7 +8,8 @@ use Rattle.tl_dom_spec.specs.Path.{Frame, document, has_number, here, joined, ne
 use Rattle.tl_dom_spec.specs.Builder.{Builder, Flags, end_of_file, in_template, initial}
 use Rattle.tl_dom_spec.specs.Reset.{reset_insertion_mode}
 use Rattle.tl_dom_spec.specs.Dispatcher.{token_done, tokens_done}
-use Rattle.tl_dom_spec.specs.Driven.{in_state, read_from, token_of}
+use Rattle.tl_html_spec.specs.Driven.{in_state}
+use Rattle.tl_dom_spec.specs.Driver.{read_from, token_of}
 use Rattle.tl_dom_spec.specs.HtmlForest.{HtmlForest, before, no_trees}
 
 -- what a page is: whether its document is in quirks mode, and the trees in it, of which one is the

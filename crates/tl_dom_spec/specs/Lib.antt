@@ -1,5 +1,5 @@
 pub mod Tags
-pub mod Doctypes
+pub mod Quirks
 pub mod Groups
 pub mod Path
 pub mod Builder
@@ -12,7 +12,8 @@ pub mod Body
 pub mod Tables
 pub mod Outer
 pub mod Dispatcher
-pub mod Driven
+pub mod Driver
 pub mod HtmlForest
 pub mod HtmlTree
+pub mod Lawful
 pub mod Examples

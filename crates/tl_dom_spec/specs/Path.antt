@@ -3,7 +3,7 @@
 -- with all that is in it, and what the standard moves is moved by taking frames of the path apart.
 use Rattle.std.specs.Prelude.{Bool, List, [], codes, false, filter, if◌then◌else◌, map, not, true, ℕ, ◌&&◌, ◌++◌, ◌==◌, ◌||◌, ◌∷◌}
 use Rattle.tl_dom_spec.specs.Tags.{Tag, bare_tag, is_any, is_foster_target, is_implied, is_table, is_template}
-use Rattle.tl_dom_spec.specs.Doctypes.{Doctype}
+use Rattle.tl_html_spec.specs.Doctypes.{Doctype}
 
 -- nodes in a row, the last one outside
 pub data Nodes : Type 0 where

@@ -1,10 +1,12 @@
-//! The HTML standard's tree construction, whole: definitions that contracts cite, and worked rows.
+//! The HTML standard's tree construction, whole: definitions that contracts cite, their laws, and
+//! worked rows.
 #![tactic(auto)]
 
 mod body;
 mod foreign;
 mod formatting;
 mod head;
+mod laws;
 mod others;
 mod proportion;
 mod start;

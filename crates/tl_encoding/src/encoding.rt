@@ -9,8 +9,7 @@ use crate::charset::charset_of;
 use crate::declaration::{is_utf_16_declared, label_declared};
 use crate::labels::{names_user_defined, names_utf_8, names_utf_16, names_windows_1252, trimmed};
 use bstr::ByteSlice;
-use std::error::Error;
-use std::fmt;
+use thiserror::Error;
 
 /// How bytes stand for characters.
 #[derive(Clone, Copy, PartialEq, Eq, Debug)]
@@ -21,27 +20,15 @@ pub enum Encoding {
 }
 
 /// Why a page is in no encoding that is read.
-#[derive(Clone, Copy, PartialEq, Eq, Debug)]
+#[derive(Clone, Copy, PartialEq, Eq, Debug, Error)]
 pub enum EncodingError<'p> {
     /// It begins with the byte-order mark of UTF-16, or with an XML declaration in UTF-16.
+    #[error("UTF-16 is not read")]
     Utf16,
     /// It says another one, by this label.
+    #[error("the encoding `{label}` is not read", label = .0.as_bstr())]
     Unknown(&'p [u8]),
 }
-
-impl fmt::Display for EncodingError<'_> {
-    fn fmt<W: fmt::Write>(&self, f: &mut fmt::Formatter<W>) -> fmt::Result {
-        match self {
-            EncodingError::Utf16 => write!(f, "UTF-16 is not read"),
-            EncodingError::Unknown(label) => {
-                let label = label.as_bstr();
-                write!(f, "the encoding `{label}` is not read")
-            }
-        }
-    }
-}
-
-impl Error for EncodingError<'_> {}
 
 impl Encoding {
     // The encoding of a label that has no white space around it.

@@ -37,3 +37,8 @@ pub mod Utf8Unescaped
 pub mod NodeTokens
 pub mod NodesWritten
 pub mod FormNodes
+pub mod Starts
+pub mod Driving
+pub mod DrivenKept
+pub mod DrivenPieces
+pub mod Named

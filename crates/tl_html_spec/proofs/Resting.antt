@@ -20,7 +20,7 @@ raw_at_once script_data_escaped_dash b = neither_again (b == 45) _ _ refl (neith
 raw_at_once script_data_escaped_dash_dash b =
     neither_again (b == 45) _ _ refl (neither_again (b == 60) _ _ refl (neither_again (b == 62) _ _ refl refl))
 
-rest_at_once : (s : State) (b : ℕ) → is_at_rest s ≡ true → (step s b).again ≡ false
+pub rest_at_once : (s : State) (b : ℕ) → is_at_rest s ≡ true → (step s b).again ≡ false
 rest_at_once data_state b h = neither_again (b == 38) _ _ refl (neither_again (b == 60) _ _ refl refl)
 rest_at_once (raw r) b h = raw_at_once r b
 rest_at_once plaintext b h = refl
@@ -31,10 +31,10 @@ settled_at_once zero x b h = refl
 settled_at_once (suc n) x b h = rw h refl
 
 -- a step that passes a state of rest is what is emitted before it, and the step from there
-record Passes (x : Step) (b : ℕ) (rest : Rest) : Type 0 where
-  rests : is_at_rest rest.state ≡ true
-  tokens_are : x.emits ≡ rest.emits ++ (step rest.state b).emits
-  next_is : x.next ≡ (step rest.state b).next
+pub record Passes (x : Step) (b : ℕ) (rest : Rest) : Type 0 where
+  pub rests : is_at_rest rest.state ≡ true
+  pub tokens_are : x.emits ≡ rest.emits ++ (step rest.state b).emits
+  pub next_is : x.next ≡ (step rest.state b).next
 
 passes_here : (n : ℕ) (s : State) (b : ℕ) (rest : Rest) → is_at_rest s ≡ true → Some (resting s) ≡ Some rest → Passes (settled n (step s b) b) b rest
 passes_here n s b rest h e =
@@ -49,7 +49,7 @@ mapped_some f (Some x) y h = (x, refl, cc)
 settled_again : (n : ℕ) (x : Step) (b : ℕ) → x.again ≡ true → settled (suc n) x b ≡ (record (settled n (step x.next b) b) { emits = x.emits ++ (settled n (step x.next b) b).emits })
 settled_again n x b h = rw h refl
 
-settles : (n : ℕ) (s : State) (b : ℕ) (rest : Rest) → rest_within n s b ≡ Some rest → Passes (settled (suc n) (step s b) b) b rest
+pub settles : (n : ℕ) (s : State) (b : ℕ) (rest : Rest) → rest_within n s b ≡ Some rest → Passes (settled (suc n) (step s b) b) b rest
 settles zero s b rest e = elim (cases_Bool (is_at_rest s)) [
   | inl y ↦ passes_here 1 s b rest y (rw y at e)
   | inr n ↦ (let never : None ≡ Some rest = rw n at e in cc)

@@ -1,9 +1,10 @@
 -- Words for worked rows: what a row says is written out, and a quoted text stands for its bytes. No
 -- contract cites them.
 use Prim.Native.String.{String}
-use Rattle.std.specs.Prelude.{ℕ, true, false, List, [], ◌∷◌, map, codes}
-use Rattle.tl_html_spec.specs.HtmlTokenizer.{HtmlAttribute, HtmlToken, Character, StartTag, EndTag, CommentToken, DoctypeToken, html_tokens}
+use Rattle.std.specs.Prelude.{ℕ, Bool, true, false, List, [], ◌∷◌, ◌++◌, Option, option_map, map, codes}
+use Rattle.tl_html_spec.specs.HtmlTokenizer.{HtmlAttribute, HtmlToken, Character, StartTag, EndTag, CommentToken, DoctypeToken, data_state, html_tokens, with_feeds}
 use Rattle.tl_html_spec.specs.Balanced.{balanced}
+use Rattle.tl_html_spec.specs.Driven.{Driver, Emission, doctype_of, driven, in_state, plain}
 use Rattle.tl_html_spec.specs.HtmlForm.{html_form}
 use Rattle.tl_html_spec.specs.Nodes.{HtmlNode, SourcedNode, Span, TagNode, TextNode, CommentNode, html_nodes, node_data, read_node, sources, tag_of}
 use Rattle.tl_html_spec.specs.Pieces.{Piece, pieces, placed, runs}
@@ -75,3 +76,33 @@ text_node text = TextNode (codes text) ∷ []
 
 abbrev pub comment_node : String → List HtmlNode
 comment_node bytes = CommentNode (codes bytes) ∷ []
+
+-- a driver that remembers the tokens, and finds foreign what stands anywhere or nothing; after a
+-- start tag it goes on with data, whatever its name is
+abbrev pub data_driver : Bool → Driver (List Emission)
+data_driver is_foreign = record {
+  take = λ emissions e. emissions ++ e ∷ [];
+  sets = λ emissions. data_state;
+  is_foreign = λ emissions. is_foreign;
+}
+
+-- what is read of a text that is driven so, in foreign content and in HTML
+abbrev pub read_foreign : String → List Emission
+read_foreign text = driven (data_driver true) [] (in_state data_state) (with_feeds (codes text))
+
+abbrev pub read_driven : String → List Emission
+read_driven text = driven (data_driver false) [] (in_state data_state) (with_feeds (codes text))
+
+abbrev pub these : List HtmlToken → List Emission
+these tokens = map plain tokens
+
+-- a doctype with its name and identifiers, and whether it asks for quirks mode by its form
+abbrev pub parts : String → Option String → Option String → Bool → List Emission
+parts name public_id system_id forces_quirks =
+    doctype_of (record {
+      name = codes name;
+      public_id = option_map codes public_id;
+      system_id = option_map codes system_id;
+      forces_quirks = forces_quirks;
+    })
+    ∷ []

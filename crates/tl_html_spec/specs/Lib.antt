@@ -12,3 +12,5 @@ pub mod HtmlForm
 pub mod Nodes
 pub mod Examples
 pub mod Utf8
+pub mod Doctypes
+pub mod Driven

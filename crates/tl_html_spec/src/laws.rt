@@ -12,9 +12,10 @@ ghost use Rattle.tl_spec.specs.Lex.Token.{tokens};
 ghost use Rattle.tl_names.specs.References.{table_of};
 ghost use Rattle.tl_html_spec.specs.Balanced.{balanced, left_open};
 ghost use Rattle.tl_html_spec.specs.Coded.{AreBytes, coded, coded_tag, uncoded};
+ghost use Rattle.tl_html_spec.specs.Driven.{AreDriven, DrivenPiece, DrivenState, Driver, Driving, Emission, GoesByName, after_driven, bare, by_name, driven, driven_before, driven_bytes, driven_emits, driven_pieces, driven_tokens, driving, in_state, no_tokens, taken, tokens_driven};
 ghost use Rattle.tl_html_spec.specs.Escapes.{escaped_text, escaped_value};
 ghost use Rattle.tl_html_spec.specs.HtmlForm.{doctype_in, form_tokens, has_doctype, html_form};
-ghost use Rattle.tl_html_spec.specs.HtmlTokenizer.{HtmlToken, State, data_state, html_tokens, without_mark, Character, OpenTag, after_attribute_value, double_quoted, tokens_from, with_attribute};
+ghost use Rattle.tl_html_spec.specs.HtmlTokenizer.{HtmlToken, State, data_state, html_tokens, without_mark, Character, OpenTag, after_attribute_value, double_quoted, tokens_from, with_attribute, with_feeds};
 ghost use Rattle.tl_html_spec.specs.Nodes.{form_tokens_at, html_nodes, node_data, read_node, sources, written_node};
 ghost use Rattle.tl_html_spec.specs.Pieces.{AreRead, Piece, bytes_of, first_byte, pieces, placed, read_before, runs, tokens_in};
 ghost use Rattle.tl_html_spec.specs.Reader.{Reader, after, at, emitted, page_tokens, read, tokens_of};
@@ -83,6 +84,63 @@ pub fn pieces_are_read_together()
         ≡ read_before z k.bytes (first_byte y.bytes)) →
         ((z : State) → AreRead z (x ∷ xs) → AreRead z (y ∷ ys)) →
         AreRead s (front ++ k ∷ x ∷ xs) → AreRead s (front ++ k ∷ y ∷ ys) }
+{}
+
+/// A driven page is read as a fold, over its bytes as they stand. A driver may remember all tokens
+/// that were read, so what these laws say holds of any.
+#[tactic(auto, using(crate::proofs::Driving::text_driven, crate::proofs::Driving::tokens_append))]
+pub fn driven_tokens_are_a_fold()
+    ensures taken { (d : Driver (List Emission)) (memory : List Emission) (state : DrivenState)
+        (text : List ℕ) → driven d memory state (with_feeds text)
+        ≡ taken d memory (driven_tokens d (driving memory state) text) }
+    ensures append { (d : Driver (List Emission)) (start : Driving (List Emission))
+        (front rest : List ℕ) → driven_tokens d start (front ++ rest)
+        ≡ driven_emits d start front ++ driven_tokens d (after_driven d start front) rest }
+{}
+
+/// Each byte of a driven text stands in one piece, the pieces' tokens are the text's, and each
+/// piece is read where it stands: what the driver remembers there, and the state of rest, are what
+/// the piece before it leaves.
+#[tactic(auto, using(crate::proofs::DrivenPieces::bytes_are, crate::proofs::DrivenPieces::tokens_are, crate::proofs::DrivenPieces::text_is_driven))]
+pub fn driven_pieces_are_the_page()
+    ensures bytes { (d : Driver (List Emission)) (start : Driving (List Emission)) (text : List ℕ) →
+        driven_bytes (driven_pieces d start text) ≡ text }
+    ensures tokens { (d : Driver (List Emission)) (start : Driving (List Emission)) (b : ℕ)
+        (text : List ℕ) → tokens_driven (driven_pieces d start (b ∷ text))
+        ≡ driven_tokens d start (b ∷ text) }
+    ensures read { (d : Driver (List Emission)) (memory : List Emission) (state : DrivenState)
+        (text : List ℕ) →
+        AreDriven d (driving memory state) (driven_pieces d (driving memory state) text) }
+{}
+
+/// Pieces that are driven one by one are read the same as one text, whatever page they came of.
+#[tactic(auto, using(crate::proofs::DrivenKept::driven_together, crate::proofs::DrivenKept::driven_kept))]
+pub fn driven_pieces_are_read_together()
+    ensures together { (d : Driver (List Emission)) (start : Driving (List Emission))
+        (p : DrivenPiece (List Emission)) (ps : List (DrivenPiece (List Emission))) →
+        AreDriven d start (p ∷ ps) →
+        driven_tokens d start (driven_bytes (p ∷ ps)) ≡ tokens_driven (p ∷ ps) }
+    // what stands before a piece stays read when another one comes in its place, where the piece
+    // right before is read the same before both
+    ensures kept { (d : Driver (List Emission)) (s : Driving (List Emission))
+        (front : List (DrivenPiece (List Emission))) (k x y : DrivenPiece (List Emission))
+        (xs ys : List (DrivenPiece (List Emission))) →
+        ((z : Driving (List Emission)) → driven_before d z k.bytes (first_byte x.bytes)
+        ≡ driven_before d z k.bytes (first_byte y.bytes)) →
+        ((z : Driving (List Emission)) → AreDriven d z (x ∷ xs) → AreDriven d z (y ∷ ys)) →
+        AreDriven d s (front ++ k ∷ x ∷ xs) → AreDriven d s (front ++ k ∷ y ∷ ys) }
+{}
+
+/// The driver that goes by names reads what the tokenizer reads by itself; and so does each one,
+/// where each state that it sets is that of the start tag's name, and nothing is foreign.
+#[tactic(auto, using(crate::proofs::Named::page_named, crate::proofs::Named::page_goes))]
+pub fn names_drive_the_tokenizer()
+    ensures by_name { (page : List ℕ) →
+        (driven by_name no_tokens (in_state data_state) (with_feeds (without_mark page))).tokens
+        ≡ html_tokens page }
+    ensures as_named { (d : Driver (List Emission)) (memory : List Emission) (page : List ℕ) →
+        let tokens = driven_tokens d (driving memory (in_state data_state)) (without_mark page) in
+        GoesByName d memory tokens → map bare tokens ≡ html_tokens page }
 {}
 
 /// Balanced tokens nest: each end tag closes the innermost tag that is open, and none stays open.

@@ -2,6 +2,7 @@
 //! `tl`: the definitions that contracts cite, and their laws.
 #![tactic(auto)]
 
+mod driven_examples;
 mod examples;
 mod form_examples;
 pub mod laws;

@@ -8,7 +8,7 @@ use Rattle.std.specs.Option.{IfSome, IfNone, option_map}
 use Rattle.std.specs.Map.{keys_of, values_of, lookup, set_value}
 use Rattle.std.proofs.lemmas.List.{get_or-map, length-map}
 use Rattle.std.proofs.lemmas.List.Elements.{Contains-get_or, Contains-append_right}
-use Rattle.std.proofs.lemmas.Option.{slice_get-get_or, slice_get-map, slice_get_past, get_or_from_slice_get}
+use Rattle.std.proofs.lemmas.Option.{slice_get-get_or, slice_get-map, slice_get_past}
 use Rattle.indexmap.specs.Layout.{length-set_value_at}
 use Rattle.indexmap.specs.IndexMap.{insert_entry, swap_remove_entry, set_value_at}
 use Rattle.indexmap.proofs.MapLemmas.{Found-position, Missing-position, swap_remove_entry-found, swap_remove_entry-missing, absent_before, some_index, lookup_permutation}
@@ -181,16 +181,6 @@ module _ {K V : Type 0} (es : List (K × V)) (i : ℕ) where
 
   pub no_value_at : length es ≤ i → None ≡ slice_get (values_of es) i
   no_value_at le = sym (slice_get-map (λ p. p.1) es i ∙ ap (option_map (λ p. p.1)) (slice_get_past es i le))
-
-  -- a write of the second part of the pair that was found at i
-  pub set-found : (p : K × V) (w : V) → slice_get es i ≡ Some p → slice_set es i (p.0, w) ≡ set_value_at es i w
-  set-found p w found = set-part p w (sym (get_or_from_slice_get es i p p found))
-
--- past the end there is nothing to write
-pub set-past : {K V : Type 0} (es : List (K × V)) (i : ℕ) (w : V) → slice_get es i ≡ None → set_value_at es i w ≡ es
-set-past [] i w past = refl
-set-past (e ∷ es) zero w past = absurd (true≢false (ap is_some past))
-set-past (e ∷ es) (suc i) w past = ap (λ l. e ∷ l) (set-past es i w past)
 
 module _ {K V : Type 0} (eq : K → K → Bool) (k : K) (w : V) where
   -- at a key that is there an insert only changes the value

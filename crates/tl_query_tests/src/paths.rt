@@ -1,14 +1,16 @@
-//! Each path of the public surface is given again here: one that goes is a module that can't be
-//! read.
+//! The paths of `tl` that the Rust crate has too, and those of the iterators that have names here,
+//! are given again: one that goes is a module that can't be read. What else `tl` adds isn't here,
+//! nor are the calls and methods of these types.
 use std::alloc::Global;
 use std::test::Fail;
 
 // What stands at the root.
 pub mod root {
     pub use tl::{
-        Attributes, Bytes, Children, ChildrenMut, ClassVec, HTMLTag, HTMLVersion, InnerNodeHandle,
-        IntoOwnedBytes, Node, NodeHandle, ParseError, Parser, ParserOptions, RawAttributesMap,
-        RawChildren, Tree, VDom, VDomGuard, parse, parse_owned, parse_query_selector,
+        Attributes, AttributesIter, Bytes, Children, ChildrenMut, ClassIter, ClassVec,
+        ElementsByClassName, HTMLTag, HTMLVersion, InnerNodeHandle, IntoOwnedBytes, Node,
+        NodeHandle, ParseError, Parser, ParserOptions, RawAttributesMap, RawChildren, Tree, VDom,
+        VDomGuard, parse, parse_owned, parse_query_selector,
     };
 }
 
@@ -38,7 +40,7 @@ pub mod fallback {
 
 // What stands at `queryselector` itself.
 pub mod queries {
-    pub use tl::queryselector::{Parser, QuerySelectorIterator, Selector};
+    pub use tl::queryselector::{Parser, QueryIterable, QuerySelectorIterator, Selector};
 }
 
 // What stands in its modules.

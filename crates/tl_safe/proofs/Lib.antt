@@ -8,6 +8,8 @@ pub mod Whole
 pub mod Tokenizer
 pub mod Trees
 pub mod Printed
+pub mod ListedTokens
+pub mod AtRest
 pub mod HtmlTrees
 pub mod Characters
 pub mod HtmlNormal

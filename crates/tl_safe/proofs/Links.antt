@@ -18,7 +18,7 @@ link_no_return : (b : ℕ) → is_link_byte b ≡ true → (b == 13) ≡ false
 link_no_return b h = grind (arith, nat_tests)
 
 -- a byte that is no return and no reference says itself
-says-itself : (b : ℕ) (w : List ℕ) → is_link_byte b ≡ true → (b == 38) ≡ false → unescaped true (with_feeds (b ∷ w)) ≡ b ∷ unescaped true (with_feeds w)
+pub says-itself : (b : ℕ) (w : List ℕ) → is_link_byte b ≡ true → (b == 38) ≡ false → unescaped true (with_feeds (b ∷ w)) ≡ b ∷ unescaped true (with_feeds w)
 says-itself b w link plain = ap (unescaped true) (feed-byte b w (link_no_return b link)) ∙ byte-plain true b (with_feeds w) plain
 
 no_solidus : (b : ℕ) (s : List ℕ) → (b == 47) ≡ false → leaves_site (b ∷ s) ≡ false
@@ -42,7 +42,7 @@ within b (c ∷ u) h plain out =
           ap (λ s. leaves_site (b ∷ s)) (says-itself c u (and_parts (is_link_byte c) (list_all is_link_byte u) here.1).0 (second_plain c no)) ∙ out
     ]
 
-one_within : (front v : List ℕ) → begins_plainly front ≡ true → leaves_site front ≡ false → begins_link v front ≡ true → list_all is_link_byte v ≡ true → leaves_site (value_characters v) ≡ false
+pub one_within : (front v : List ℕ) → begins_plainly front ≡ true → leaves_site front ≡ false → begins_link v front ≡ true → list_all is_link_byte v ≡ true → leaves_site (value_characters v) ≡ false
 one_within [] v plain site begins h = absurd (true≢false (sym plain))
 one_within (f ∷ front) [] plain site begins h = refl
 one_within (f ∷ front) (b ∷ w) plain site begins h =
@@ -74,7 +74,7 @@ unschemed_plain b h =
 stop_plain : (b : ℕ) → ((b == 47) || (b == 63) || (b == 35)) ≡ true → (b == 38) ≡ false
 stop_plain b h = grind (arith, nat_tests)
 
-front_plain : (b : ℕ) (v : List ℕ) → has_no_scheme (b ∷ v) ≡ true → (b == 38) ≡ false
+pub front_plain : (b : ℕ) (v : List ℕ) → has_no_scheme (b ∷ v) ≡ true → (b == 38) ≡ false
 front_plain b v h = elim (cases_Bool ((b == 47) || (b == 63) || (b == 35))) [
   | inl y ↦ stop_plain b y
   | inr n ↦

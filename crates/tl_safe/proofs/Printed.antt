@@ -145,7 +145,7 @@ text-read t (b ∷ r) h follows =
     subst (λ c. read data_state (t ++ c ∷ r) ≡ map Character (text_characters t) ++ read data_state (c ∷ r)) (sym follows) (text-run t r h)
 
 module _ (p : ListedWords) (lawful : are_lawful p ≡ true) where
-  lossy-stay : (ps : List Pair) → list_all (is_written p) ps ≡ true → list_all (is_written p) (map lossy_pair ps) ≡ true
+  pub lossy-stay : (ps : List Pair) → list_all (is_written p) ps ≡ true → list_all (is_written p) (map lossy_pair ps) ≡ true
   lossy-stay [] h = refl
   lossy-stay (q ∷ ps) h =
       let here = and_parts (is_written p q) (list_all (is_written p) ps) h in
@@ -184,7 +184,7 @@ module _ (p : ListedWords) (lawful : are_lawful p ≡ true) where
       ap₂ (λ k ks. k ∷ ks) (key-lossy q here.0) (keys-lossy ps here.1)
 
   -- the pairs of a tag, and that they are written so when they are made text
-  stays-of : (own : PlainTag) → are_written p own.name (printed_pairs own.attributes) ≡ true → list_all (is_written p) (printed_pairs own.attributes) ≡ true
+  pub stays-of : (own : PlainTag) → are_written p own.name (printed_pairs own.attributes) ≡ true → list_all (is_written p) (printed_pairs own.attributes) ≡ true
   stays-of own h = (and_parts (list_all (is_written p) (printed_pairs own.attributes)) _ h).0
 
   written-own : (own : PlainTag) → are_written p own.name (printed_pairs own.attributes) ≡ true → are_written p own.name (map lossy_pair (printed_pairs own.attributes)) ≡ true
@@ -218,10 +218,10 @@ module _ (p : ListedWords) (lawful : are_lawful p ≡ true) where
   abbrev page : List ℕ → List HtmlToken
   page s = read data_state s
 
-  abbrev trees : Forest PlainTag → List HtmlToken
+  abbrev pub trees : Forest PlainTag → List HtmlToken
   trees f = tokens_of (norm f)
 
-  tag-tokens : (own : PlainTag) (children more : Forest PlainTag) (v : Bool) → is_among p.tags own.name ≡ true → is_void own.name ≡ v →
+  pub tag-tokens : (own : PlainTag) (children more : Forest PlainTag) (v : Bool) → is_among p.tags own.name ≡ true → is_void own.name ≡ v →
       trees (tag own children more) ≡ StartTag own.name (map html_attribute (map lossy_pair (printed_pairs own.attributes))) false
       ∷ (if v then trees more else trees children ++ (EndTag own.name ∷ trees more))
   tag-tokens own children more v a e =

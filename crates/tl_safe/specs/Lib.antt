@@ -1,6 +1,8 @@
 pub mod Lists
 pub mod Filter
 pub mod IsSafe
+pub mod Listed
+pub mod Around
 pub mod Fitted
 pub mod KeptFitted
 pub mod Settled

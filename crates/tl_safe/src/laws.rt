@@ -1,6 +1,6 @@
 //! Laws of the definitions.
 
-ghost use Rattle.std.specs.Prelude.{◌≡◌, ℕ, Bool, List, Some, true, false};
+ghost use Rattle.std.specs.Prelude.{◌≡◌, ◌++◌, ℕ, Bool, List, Some, true, false};
 ghost use Rattle.std.specs.List.{list_all, list_any};
 ghost use Rattle.tl_spec.specs.Print.Clean.{HaveOwnKeys};
 ghost use Rattle.tl_spec.specs.Tree.Forest.{Forest, PlainTag};
@@ -12,7 +12,9 @@ ghost use Rattle.tl_safe.specs.Fitted.{at_top, fitted, pieces_of, print_pieces};
 ghost use Rattle.tl_safe.specs.Settled.{settled};
 ghost use Rattle.tl_safe.specs.Shown.{lists_no_table, shown_characters};
 ghost use Rattle.tl_safe.specs.HtmlTrees.{as_html};
+ghost use Rattle.tl_safe.specs.Around.{EndsInData, may_follow};
 ghost use Rattle.tl_safe.specs.IsSafe.{IsSafe, tokens_of, value_characters};
+ghost use Rattle.tl_safe.specs.Listed.{are_listed};
 ghost use Rattle.tl_safe.specs.Filter.{is_link, kept, written_value};
 ghost use Rattle.tl_safe.specs.KeptFitted.{adds_of, kept_fitted};
 ghost use Rattle.tl_safe.specs.Lists.{ListedWords, has_no_scheme, is_link_byte, is_relative, leaves_site};
@@ -65,7 +67,7 @@ pub fn kept_texts_stay()
 
 /// The print of what a lawful policy keeps of trees, made to stay: it is safe, `tl` reads it as
 /// these trees, and so do the tokenizer and the tree builder of the HTML standard.
-#[tactic(auto, using(crate::proofs::KeptFitted::form, crate::proofs::KeptFitted::pieces, crate::proofs::KeptFitted::reads, crate::proofs::KeptFitted::standard, crate::proofs::KeptFitted::browser, crate::proofs::KeptFitted::without_search))]
+#[tactic(auto, using(crate::proofs::KeptFitted::form, crate::proofs::KeptFitted::pieces, crate::proofs::KeptFitted::reads, crate::proofs::KeptFitted::standard, crate::proofs::KeptFitted::in_page, crate::proofs::KeptFitted::listed, crate::proofs::KeptFitted::browser, crate::proofs::KeptFitted::without_search))]
 pub fn kept_trees_that_are_fitted_stay()
     ensures form { (p : ListedWords) → are_lawful p ≡ true → (f : Forest PlainTag) →
         HaveOwnKeys f → IsSafe p (print (kept_fitted p f)) }
@@ -78,6 +80,14 @@ pub fn kept_trees_that_are_fitted_stay()
     ensures standard { (p : ListedWords) → are_lawful p ≡ true → (f : Forest PlainTag) →
         HaveOwnKeys f → tokens_in_page (print (kept_fitted p f))
         ≡ tokens_of (norm (kept_fitted p f)) }
+    // and where it stands in a page
+    ensures in_page { (p : ListedWords) → are_lawful p ≡ true → (f : Forest PlainTag) →
+        HaveOwnKeys f → (front more : List ℕ) → EndsInData front →
+        may_follow (print (kept_fitted p f)) more ≡ true →
+        tokens_in_page (front ++ (print (kept_fitted p f) ++ more)) ≡ tokens_in_page front
+        ++ (tokens_in_page (print (kept_fitted p f)) ++ tokens_in_page more) }
+    ensures listed { (p : ListedWords) → are_lawful p ≡ true → (f : Forest PlainTag) →
+        HaveOwnKeys f → are_listed p (tokens_in_page (print (kept_fitted p f))) ≡ true }
     ensures browser { (p : ListedWords) → are_lawful p ≡ true → (f : Forest PlainTag) →
         HaveOwnKeys f → html_trees (tokens_in_page (print (kept_fitted p f)))
         ≡ Some (as_html (norm (kept_fitted p f))) }

@@ -2,14 +2,16 @@
 //! browser builds just that.
 #![tactic(auto)]
 
-ghost use Rattle.std.specs.Prelude.{◌≡◌, ◌↔◌, ◌<◌, length, string_bytes, IfOk, IsErrOf, Some};
+ghost use Rattle.std.specs.Prelude.{◌≡◌, ◌↔◌, ◌<◌, ◌++◌, ℕ, List, length, string_bytes, IfOk, IsErrOf, Some, true};
 ghost use Rattle.tl_spec.specs.Print.Normal.{norm};
 ghost use Rattle.tl_spec.specs.Print.{print};
 ghost use Rattle.tl.specs.declared.errors.ParseError.TheVariants.{InvalidLength};
 ghost use Rattle.tl_html_spec.specs.HtmlTokenizer.{tokens_in_page};
 ghost use Rattle.tl_tree_spec.specs.HtmlTreeBuilder.{html_trees, html_trees_without_search};
 ghost use Rattle.tl_safe.specs.HtmlTrees.{as_html};
+ghost use Rattle.tl_safe.specs.Around.{EndsInData, may_follow};
 ghost use Rattle.tl_safe.specs.IsSafe.{IsSafe, tokens_of};
+ghost use Rattle.tl_safe.specs.Listed.{are_listed};
 ghost use Rattle.tl_safe.specs.Filter.{trees_of};
 ghost use Rattle.tl_safe.specs.Policies.{kept_fitted_of, lists_of};
 
@@ -17,6 +19,7 @@ mod filter;
 mod fitted_rows;
 mod indexed;
 pub mod laws;
+mod listed_rows;
 mod lists;
 mod names;
 mod policy;
@@ -76,10 +79,22 @@ pub fn sanitize(alloc: Global, policy: &Policy<'_>, page: &str) -> Result<String
     // Its bytes are texts and balanced elements of listed names, with values between double quotes.
     ensures form { IfOk result (λ safe. IsSafe (lists_of policy.now) (string_bytes safe)) }
 
-    // Where it stands in a page, the tokenizer of the HTML standard emits the start tags, end tags
-    // and characters of those trees, in order, and nothing else.
+    // At the end of a page, the tokenizer of the HTML standard emits of it the start tags, end
+    // tags and characters of those trees, in order, and nothing else.
     ensures standard { IfOk result (λ safe. tokens_in_page (string_bytes safe)
         ≡ tokens_of (norm (kept_fitted_of policy.now page.now))) }
+
+    // So it does where the print stands elsewhere, behind what ends in the data state and before
+    // what may follow, as each `<`; and what stands around it is read as without it.
+    ensures in_page { IfOk result (λ safe. (front more : List ℕ) → EndsInData front →
+        may_follow (string_bytes safe) more ≡ true →
+        tokens_in_page (front ++ (string_bytes safe ++ more)) ≡ tokens_in_page front
+        ++ (tokens_in_page (string_bytes safe) ++ tokens_in_page more)) }
+
+    // Each tag that is read of it has a listed name and listed keys, and its links, with their
+    // references read, begin as the policy lets links begin.
+    ensures listed { IfOk result (λ safe.
+        are_listed (lists_of policy.now) (tokens_in_page (string_bytes safe)) ≡ true) }
 
     // And its tree builder makes of it just these trees.
     ensures browser { IfOk result (λ safe. html_trees (tokens_in_page (string_bytes safe))

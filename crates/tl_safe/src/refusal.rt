@@ -14,8 +14,8 @@ use crate::names::{
     begins_with_any, has_scheme, is_active_key, is_among, is_opaque_in_lowercase, is_structural,
     is_word_of,
 };
-use std::error::Error;
 use std::fmt;
+use thiserror::Error;
 
 /// Why no policy may list a word. Each says too where the word is listed.
 #[derive(Clone, Copy, PartialEq, Eq, Debug)]
@@ -89,22 +89,12 @@ impl fmt::Display for Reason {
 }
 
 /// The word for which lists are no policy, and why.
-#[derive(Clone, Copy, PartialEq, Eq, Debug)]
+#[derive(Clone, Copy, PartialEq, Eq, Debug, Error)]
+#[error("{subject} `{word}`: {reason}", subject = .reason.subject())]
 pub struct PolicyError<'w> {
     pub word: &'w str,
     pub reason: Reason,
 }
-
-impl fmt::Display for PolicyError<'_> {
-    fn fmt<W: fmt::Write>(&self, f: &mut fmt::Formatter<W>) -> fmt::Result {
-        let subject = self.reason.subject();
-        let word = self.word;
-        let reason = self.reason;
-        write!(f, "{subject} `{word}`: {reason}")
-    }
-}
-
-impl Error for PolicyError<'_> {}
 
 // Where a word is listed.
 #[derive(Clone, Copy)]

@@ -7,6 +7,7 @@ ghost use Rattle.tl_table.specs.Inner.Steps.{with_child, with_row, with_top, wit
 use crate::element::Element;
 use crate::handle::NodeHandle;
 use std::alloc::{AllocError, Global};
+use thiserror::Error;
 
 /// Where a node stands.
 #[derive(Clone, Copy, PartialEq, Eq, Debug)]
@@ -18,10 +19,12 @@ pub struct Links {
 }
 
 /// Why there are no links.
-#[derive(Clone, Copy, PartialEq, Eq, Debug, Drop)]
+#[derive(Clone, Copy, PartialEq, Eq, Debug, Error)]
 pub enum LinksError {
     /// The table has 4294967296 nodes or more.
+    #[error("more than 4294967295 nodes")]
     TooLong,
+    #[error("out of memory")]
     OutOfMemory,
 }
 

@@ -1,10 +1,11 @@
 -- Trees that stay at a place of a page.
-use Rattle.std.proofs.Common.{◌≡◌, Bool, true, false, List, [], ◌∷◌, ◌++◌, map, Some, codes, refl, ap, ap₂, sym, ◌∙◌, append-nil, arith}
+use Rattle.std.proofs.Common.{◌≡◌, Bool, true, false, List, [], ◌∷◌, ◌++◌, map, Option, Some, None, codes, refl, ap, ap₂, sym, ◌∙◌, append-nil, arith}
 use Rattle.tl_spec.specs.Tree.Forest.{none}
+use Rattle.tl_html_spec.specs.HtmlTokenizer.{HtmlToken}
 use Rattle.tl_tree_spec.specs.HtmlForest.{HtmlForest, HtmlTag, html_tokens_of, normal_form}
 use Rattle.tl_tree_spec.specs.Groups.{group}
 use Rattle.tl_tree_spec.specs.Builder.{Builder, Mode, Nodes, elements, mode_by, mode_of, names, new_element, no_nodes}
-use Rattle.tl_tree_spec.specs.HtmlTreeBuilder.{before, run}
+use Rattle.tl_tree_spec.specs.HtmlTreeBuilder.{before, run, step}
 use Rattle.tl_tree_spec.specs.Stays.{stay}
 use Rattle.tl_tree_spec.specs.Places.{Puts, placed}
 use Rattle.tl_tree_spec.proofs.Active.{Ordered, Sound, over}
@@ -64,3 +65,9 @@ stays_placed counts tags f h =
 pub names_placed : (counts : Bool) (tags : List HtmlTag) → names (placed counts tags).stack ≡ map (λ (own : HtmlTag). own.name) tags ++ (codes "html" ∷ [])
 names_placed counts [] = refl
 names_placed counts (own ∷ tags) = ap (λ ns. own.name ∷ ns) (names_placed counts tags)
+
+-- tokens are taken one after the other
+pub run_append : (b : Option Builder) (first more : List HtmlToken) → run b (first ++ more) ≡ run (run b first) more
+run_append None first more = refl
+run_append (Some b) [] more = refl
+run_append (Some b) (token ∷ first) more = run_append (step b token) first more

@@ -1,9 +1,10 @@
 //! Laws of the definitions.
 
-ghost use Rattle.std.specs.Prelude.{◌≡◌, Bool, Some, true, List, [], ◌∷◌, ◌++◌, map, codes};
+ghost use Rattle.std.specs.Prelude.{◌≡◌, Bool, Option, Some, true, List, [], ◌∷◌, ◌++◌, map, codes};
+ghost use Rattle.tl_html_spec.specs.HtmlTokenizer.{HtmlToken};
 ghost use Rattle.tl_tree_spec.specs.HtmlForest.{HtmlForest, HtmlTag, html_tokens_of, is_normal, normal_form};
-ghost use Rattle.tl_tree_spec.specs.Builder.{names};
-ghost use Rattle.tl_tree_spec.specs.HtmlTreeBuilder.{html_trees, html_trees_without_search};
+ghost use Rattle.tl_tree_spec.specs.Builder.{Builder, names};
+ghost use Rattle.tl_tree_spec.specs.HtmlTreeBuilder.{html_trees, html_trees_without_search, run};
 ghost use Rattle.tl_tree_spec.specs.Places.{Puts, placed};
 ghost use Rattle.tl_tree_spec.specs.Stays.{stay};
 
@@ -29,4 +30,11 @@ pub fn trees_stay_anywhere()
     ensures names { (counts_search : Bool) (tags : List HtmlTag) →
         names (placed counts_search tags).stack
         ≡ map (λ own. own.name) tags ++ (codes "html" ∷ []) }
+{}
+
+/// What follows other tokens is built from where these left the tree builder.
+#[tactic(auto, using(crate::proofs::Places::run_append))]
+pub fn tokens_are_taken_in_order()
+    ensures { (b : Option Builder) (first more : List HtmlToken) →
+        run b (first ++ more) ≡ run (run b first) more }
 {}

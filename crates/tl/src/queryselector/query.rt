@@ -106,6 +106,13 @@ impl<'a> HTMLTag<'a> {
             → RisesBelow (map node_view parser.now.nodes) self.now.children.items
             → WantsNoMemory result }
 
+        // So want of memory hides no fault of the range there.
+        ensures fault { let nodes = map node_view parser.now.nodes in
+            StandsAlone selector.now
+            → RisesBelow nodes self.now.children.items
+            → IfSome (result_err (range_of nodes self.now.children.items))
+            (λ fault. result ≡ Err (error_of fault)) }
+
         // Nor does a text take any that lacks its first part, or the second: no want of memory
         // hides that it is no selector.
         ensures no_part { LacksFirst selector.now → result ≡ Ok None }

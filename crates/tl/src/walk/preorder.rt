@@ -6,6 +6,7 @@ ghost use Rattle.tl.specs.View.{document_of, node_view};
 
 use crate::errors::TreeError;
 use crate::parser::base::Parser;
+use crate::parser::tag::HTMLTag;
 use crate::parser::tag::node::Node;
 use crate::vdom::VDom;
 use crate::walk::{Entered, WalkEvent, Walker};
@@ -102,11 +103,21 @@ impl<'a> Node<'a> {
         } }
     {
         match self {
-            Node::Tag(tag) => {
-                let children = tag.child_handles().as_slice();
-                Walk::new(alloc, parser.nodes(), children)
-            }
+            Node::Tag(tag) => tag.walk(alloc, parser),
             Node::Raw(_) | Node::Comment(_) => Walk::new(alloc, parser.nodes(), &[]),
         }
+    }
+}
+
+impl<'a> HTMLTag<'a> {
+    /// A walk over what hangs below the tag by the table of `parser`.
+    pub fn walk<'s>(&'s self, alloc: Global, parser: &'s Parser<'a>) -> Walk<'s, 'a>
+        ensures { result ≡ record {
+          nodes = map node_view parser.now.nodes;
+          next = self.now.children.items;
+          within = [];
+        } }
+    {
+        Walk::new(alloc, parser.nodes(), self.child_handles().as_slice())
     }
 }

@@ -224,7 +224,8 @@ pub(crate) fn lossy_text(alloc: Global, bytes: &[u8]) -> Result<String, TreeErro
 
 impl<'a> HTMLTag<'a> {
     /// The tag as markup, with all that it holds by the table of `parser`. An end tag is written
-    /// whether or not the text had one. What is printed of a clean tag is read as that one tree.
+    /// whether or not the text had one. What is printed of a clean tag is read as the normal form
+    /// of that one tree.
     pub fn outer_html(&self, alloc: Global, parser: &Parser<'a>) -> Result<String, TreeError>
         ensures answers { Answers string_bytes (outer_html (map node_view parser.now.nodes)
             (Tag (tag_view self.now))) result }
@@ -261,7 +262,7 @@ impl<'a> HTMLTag<'a> {
 
 impl<'a> Node<'a> {
     /// The node as markup, with all that it holds by the table of `parser`. What is printed of a
-    /// clean node is read as that one tree.
+    /// clean node is read as the normal form of that one tree.
     pub fn outer_html(&self, alloc: Global, parser: &Parser<'a>) -> Result<String, TreeError>
         ensures answers { Answers string_bytes (outer_html (map node_view parser.now.nodes)
             (node_view self.now)) result }

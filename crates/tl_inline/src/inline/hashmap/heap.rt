@@ -9,29 +9,21 @@ ghost use Rattle.tl_inline.specs.InlineVec.{ClonesAreEqual};
 
 mod digest;
 mod form;
+mod hasher;
 mod index;
 mod pair_table;
 
 use super::iter::{InlineHashMapIterator, RemainingPairs};
-use super::pairs::{find, put_value};
-use crate::inline::spill::move_out;
 use arrayvec::ArrayVec;
-use form::{HeapForm, insert_many, map_of, push_few, put_in_room, remove_few, takes_more};
+use form::{HeapForm, insert_indexed, map_of, put_in_room, takes_more};
 use pair_table::PairTable;
 use std::alloc::{AllocError, Global};
 use std::hash::Hash;
 use std::marker::Model;
 
-// Up to how many pairs a list is looked through one by one, which takes one request for memory and
-// no hash.
-const FEW: usize = 16;
-
-// For how many more pairs there is room as they come to the heap.
-const MORE: usize = 3;
-
-// A map that keeps the order in which its keys came: a list of few pairs, an index map of many, and
-// a list with digests of more, or of keys that are made for the index map to compare. It doesn't go
-// back when pairs are removed. A clause sees the pairs in order, with distinct keys.
+// A map that keeps the order in which its keys came: an index map, and a list with digests where
+// there are more pairs, or keys that are made for the index map to compare. It doesn't go back when
+// pairs are removed. A clause sees the pairs in order, with distinct keys.
 #[derive(Drop)]
 pub(super) struct HeapPairs<K: Eq + Hash, V> {
     form: HeapForm<K, V>,
@@ -62,8 +54,7 @@ impl<K: Eq + Hash, V> HeapPairs<K, V> {
         ensures small { result < 2 ^ 63 }
     {
         match &self.form {
-            HeapForm::Few(few) => few.len(),
-            HeapForm::Many(many) => many.len(),
+            HeapForm::Indexed(indexed) => indexed.len(),
             HeapForm::Noted(noted) => noted.len(),
         }
     }
@@ -72,11 +63,7 @@ impl<K: Eq + Hash, V> HeapPairs<K, V> {
         ensures { option_copied result ≡ lookup (K.eq key.now) self.now }
     {
         match &self.form {
-            HeapForm::Few(few) => {
-                let i = find(few.as_slice(), key)?;
-                Some(&few.as_slice()[i].1)
-            }
-            HeapForm::Many(many) => many.get(key),
+            HeapForm::Indexed(indexed) => indexed.get(key),
             HeapForm::Noted(noted) => noted.get(key),
         }
     }
@@ -85,8 +72,7 @@ impl<K: Eq + Hash, V> HeapPairs<K, V> {
         ensures { result ≡ position (K.eq key.now) (keys_of self.now) }
     {
         match &self.form {
-            HeapForm::Few(few) => find(few.as_slice(), key),
-            HeapForm::Many(many) => many.get_index_of(key),
+            HeapForm::Indexed(indexed) => indexed.get_index_of(key),
             HeapForm::Noted(noted) => noted.get_index_of(key),
         }
     }
@@ -103,11 +89,8 @@ impl<K: Eq + Hash, V> HeapPairs<K, V> {
         ensures fits { length self.now < 2 ^ 63 }
     {
         match &self.form {
-            HeapForm::Few(few) => InlineHashMapIterator {
-                left: RemainingPairs::Slice(few.as_slice().iter()),
-            },
-            HeapForm::Many(many) => InlineHashMapIterator {
-                left: RemainingPairs::Map(many.iter()),
+            HeapForm::Indexed(indexed) => InlineHashMapIterator {
+                left: RemainingPairs::Map(indexed.iter()),
             },
             HeapForm::Noted(noted) => InlineHashMapIterator {
                 left: RemainingPairs::Slice(noted.as_slice().iter()),
@@ -132,11 +115,11 @@ impl<K: Default + Eq + Hash + Drop, V: Default + Drop> HeapPairs<K, V> {
         ensures err { OnErr result (inline.new ≡ inline.old) }
         ensures returned { IfErr result (λ pair. pair ≡ (key, value)) }
     {
-        match move_out(alloc, inline, MORE) {
-            Ok(mut few) => {
-                few.push_reserved((key, value));
+        match map_of(alloc, inline) {
+            Ok(mut indexed) => {
+                put_in_room(&mut indexed, key, value);
                 Ok(HeapPairs {
-                    form: HeapForm::Few(few),
+                    form: HeapForm::Indexed(indexed),
                 })
             }
             Err(_) => Err((key, value)),
@@ -151,28 +134,11 @@ impl<K: Default + Eq + Hash + Drop, V: Default + Drop> HeapPairs<K, V> {
         ensures unique { IsDistinct K.eq (keys_of self.new) }
     {
         match &mut self.form {
-            HeapForm::Few(few) => {
-                if let Some(i) = find(few.as_slice(), &key) {
-                    put_value(few.as_mut_slice(), i, value);
-                    return Ok(());
+            HeapForm::Indexed(indexed) => {
+                if takes_more(indexed) || indexed.contains_key(&key) {
+                    return insert_indexed(indexed, key, value);
                 }
-                if few.len() < FEW {
-                    return push_few(few, key, value);
-                }
-                match map_of(few) {
-                    Ok(mut many) => {
-                        put_in_room(&mut many, key, value);
-                        self.form = HeapForm::Many(many);
-                        Ok(())
-                    }
-                    Err(_) => Err((key, value)),
-                }
-            }
-            HeapForm::Many(many) => {
-                if takes_more(many) || many.contains_key(&key) {
-                    return insert_many(many, key, value);
-                }
-                match PairTable::take(many, key, value) {
+                match PairTable::take(indexed, key, value) {
                     Ok(noted) => {
                         self.form = HeapForm::Noted(noted);
                         Ok(())
@@ -190,8 +156,7 @@ impl<K: Default + Eq + Hash + Drop, V: Default + Drop> HeapPairs<K, V> {
         ensures unique { IsDistinct K.eq (keys_of self.new) }
     {
         match &mut self.form {
-            HeapForm::Few(few) => remove_few(few, key),
-            HeapForm::Many(many) => many.swap_remove(key),
+            HeapForm::Indexed(indexed) => indexed.swap_remove(key),
             HeapForm::Noted(noted) => noted.swap_remove(key),
         }
     }
@@ -206,11 +171,8 @@ impl<K: Default + Eq + Hash + Clone, V: Default + Clone> HeapPairs<K, V> {
         ensures { IfOk result (λ h. h ≡ self.now) }
     {
         match &self.form {
-            HeapForm::Few(few) => Ok(HeapPairs {
-                form: HeapForm::Few(few.clone()?),
-            }),
-            HeapForm::Many(many) => Ok(HeapPairs {
-                form: HeapForm::Many(many.clone()?),
+            HeapForm::Indexed(indexed) => Ok(HeapPairs {
+                form: HeapForm::Indexed(indexed.clone()?),
             }),
             HeapForm::Noted(noted) => Ok(HeapPairs {
                 form: HeapForm::Noted(noted.clone()?),

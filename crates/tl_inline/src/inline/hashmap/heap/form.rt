@@ -1,8 +1,7 @@
 //! The forms of pairs on the heap.
 //!
 //! They don't go back. A move to the next form is made whole before the old one goes, so a refused
-//! request leaves the pairs where they are. A list stands in front, since an index map takes three
-//! requests for memory, and hashes each key.
+//! request leaves the pairs where they are.
 ghost use Rattle.std.specs.Prelude.{◌≡◌, ◌+◌, ◌<◌, ◌≤◌, None, slice_get, IfOk, IfErr, OnOk, OnErr};
 ghost use Rattle.std.specs.List.{IsDistinct};
 ghost use Rattle.std.specs.Map.{lookup, keys_of, values_of};
@@ -10,14 +9,15 @@ ghost use Rattle.std.specs.Option.{option_copied_mut};
 ghost use Rattle.std.specs.Borrow.{sem};
 ghost use Rattle.indexmap.specs.IndexMap.{insert_entry, swap_remove_entry, spare, IsUnique};
 
+use super::hasher::ShortHash;
 use super::pair_table::PairTable;
-use crate::inline::hashmap::pairs::find;
+use arrayvec::ArrayVec;
 use indexmap::IndexMap;
-use std::alloc::AllocError;
+use std::alloc::{AllocError, Global};
 use std::hash::{BuildHasher, Hash};
 
-// Up to how many pairs an index map holds them.
-const MANY: usize = 1024;
+// Up to how many pairs an index map holds.
+const MOST: usize = 1024;
 
 // Of how many keys that came last it is counted which of them an index map compares with one
 // another.
@@ -31,10 +31,12 @@ const ALIKE: u8 = 3;
 // two of the lower bits.
 const CLASSES: usize = 1024;
 
+// The pairs in order, found by their keys' hashes.
+pub(super) type PairMap<K, V> = IndexMap<K, V, ShortHash>;
+
 #[derive(Drop)]
 pub(super) enum HeapForm<K: Eq + Hash, V> {
-    Few(Vec<(K, V)>),
-    Many(IndexMap<K, V>),
+    Indexed(PairMap<K, V>),
     Noted(PairTable<K, V>),
 }
 
@@ -48,65 +50,27 @@ impl<K: Eq + Hash, V> HeapForm<K, V> {
             ≡ slice_get (values_of (form_entries self.old)) index }
     {
         match self {
-            HeapForm::Few(few) => match few.get_mut(index) {
-                Some(pair) => Some(&mut pair.1),
-                None => None,
-            },
-            HeapForm::Many(many) => many.get_index_mut(index),
+            HeapForm::Indexed(indexed) => indexed.get_index_mut(index),
             HeapForm::Noted(noted) => noted.get_index_mut(index),
         }
     }
 }
 
-// Puts a new pair after the others. Where memory is refused it hands the pair back.
-pub(super) fn push_few<K: Eq + Drop, V: Drop>(
-    few: &mut Vec<(K, V)>,
-    key: K,
-    value: V,
-) -> Result<(), (K, V)>
-    requires new { lookup (K.eq key) few.old.items ≡ None }
-    ensures ok { OnOk result (few.new.items ≡ insert_entry K.eq few.old.items key value) }
-    ensures err { OnErr result (few.new.items ≡ few.old.items) }
-    ensures returned { IfErr result (λ pair. pair ≡ (key, value)) }
-    ensures unique { IsDistinct K.eq (keys_of few.old.items)
-        → IsDistinct K.eq (keys_of few.new.items) }
-{
-    match few.push((key, value)) {
-        Ok(()) => Ok(()),
-        Err(failed) => Err(failed.value),
-    }
-}
-
-// Removes the pair with this key, and moves the last one into its place.
-pub(super) fn remove_few<K: Eq + Drop, V: Drop>(few: &mut Vec<(K, V)>, key: &K) -> Option<V>
-    ensures value { result ≡ lookup (K.eq key.now) few.old.items }
-    ensures entries { few.new.items ≡ swap_remove_entry (K.eq key.now) few.old.items }
-    ensures unique { IsDistinct K.eq (keys_of few.old.items)
-        → IsDistinct K.eq (keys_of few.new.items) }
-{
-    match find(few.as_slice(), key) {
-        Some(i) => {
-            let (_, value) = few.swap_remove(i);
-            Some(value)
-        }
-        None => None,
-    }
-}
-
 // Puts `value` at `key`. Where memory is refused it hands the pair back.
 #[inline(never)]
-pub(super) fn insert_many<K: Eq + Hash + Drop, V: Drop>(
-    many: &mut IndexMap<K, V>,
+pub(super) fn insert_indexed<K: Eq + Hash + Drop, V: Drop>(
+    indexed: &mut PairMap<K, V>,
     key: K,
     value: V,
 ) -> Result<(), (K, V)>
-    ensures ok { OnOk result (many.new.entries ≡ insert_entry K.eq many.old.entries key value) }
-    ensures err { OnErr result (many.new.entries ≡ many.old.entries) }
+    ensures ok { OnOk result
+        (indexed.new.entries ≡ insert_entry K.eq indexed.old.entries key value) }
+    ensures err { OnErr result (indexed.new.entries ≡ indexed.old.entries) }
     ensures returned { IfErr result (λ pair. pair ≡ (key, value)) }
-    ensures absent { OnErr result (lookup (K.eq key) many.old.entries ≡ None) }
-    ensures unique { IsUnique K.eq many.new }
+    ensures absent { OnErr result (lookup (K.eq key) indexed.old.entries ≡ None) }
+    ensures unique { IsUnique K.eq indexed.new }
 {
-    match many.insert(key, value) {
+    match indexed.insert(key, value) {
         Ok(_) => Ok(()),
         Err(failed) => Err(failed.value),
     }
@@ -115,20 +79,20 @@ pub(super) fn insert_many<K: Eq + Hash + Drop, V: Drop>(
 // Whether one more pair may come to the pairs of an index map. It hashes without a secret, so names
 // can be made that it compares with one another: those go where digests find a key. No clause asks
 // what is answered.
-pub(super) fn takes_more<K: Eq + Hash, V>(many: &IndexMap<K, V>) -> bool {
-    many.len() < MANY && (many.len() % RECENT != 0 || !are_alike(many))
+pub(super) fn takes_more<K: Eq + Hash, V>(indexed: &PairMap<K, V>) -> bool {
+    indexed.len() < MOST && (indexed.len() % RECENT != 0 || !are_alike(indexed))
 }
 
 // Whether more of the keys that came last are alike than come to be by chance.
 #[inline(never)]
-fn are_alike<K: Eq + Hash, V>(many: &IndexMap<K, V>) -> bool {
-    let keys = many.keys().as_slice();
+fn are_alike<K: Eq + Hash, V>(indexed: &PairMap<K, V>) -> bool {
+    let keys = indexed.keys().as_slice();
     let Some(first) = keys.len().checked_sub(RECENT) else {
         return false;
     };
     let mut counts = [0u8; CLASSES];
     for key in &keys[first..] {
-        let class = class_of(many.hasher().hash_one(key));
+        let class = class_of(indexed.hasher().hash_one(key));
         counts[class] = counts[class].saturating_add(1);
         if counts[class] > ALIKE {
             return true;
@@ -145,32 +109,37 @@ fn class_of(hash: u64) -> usize
 }
 
 // Inserts a pair where there is room.
-pub(super) fn put_in_room<K: Eq + Hash + Drop, V: Drop>(many: &mut IndexMap<K, V>, key: K, value: V)
-    requires { 0 < spare many.old }
-    ensures entries { many.new.entries ≡ insert_entry K.eq many.old.entries key value }
-    ensures room { spare many.old ≤ spare many.new + 1 }
-    ensures unique { IsUnique K.eq many.new }
+pub(super) fn put_in_room<K: Eq + Hash + Drop, V: Drop>(
+    indexed: &mut PairMap<K, V>,
+    key: K,
+    value: V,
+)
+    requires { 0 < spare indexed.old }
+    ensures entries { indexed.new.entries ≡ insert_entry K.eq indexed.old.entries key value }
+    ensures room { spare indexed.old ≤ spare indexed.new + 1 }
+    ensures unique { IsUnique K.eq indexed.new }
 {
-    match many.insert(key, value) {
+    match indexed.insert(key, value) {
         Ok(_) => {}
         Err(_) => unreachable!(),
     }
 }
 
-// Moves the pairs to a map with room for one more. What can fail comes first, so an `Err` moves
-// none.
-pub(super) fn map_of<K: Eq + Hash + Drop, V: Drop>(
-    few: &mut Vec<(K, V)>,
-) -> Result<IndexMap<K, V>, AllocError>
-    requires { IsDistinct K.eq (keys_of few.old.items) }
-    ensures entries { IfOk result (λ m. m.entries ≡ few.old.items) }
+// Moves the pairs from inline to a map with room for one more. What can fail comes first, so an
+// `Err` moves none.
+pub(super) fn map_of<K: Default + Eq + Hash + Drop, V: Default + Drop, const N: usize>(
+    alloc: Global,
+    inline: &mut ArrayVec<(K, V), N>,
+) -> Result<PairMap<K, V>, AllocError>
+    requires { IsDistinct K.eq (keys_of inline.old.items) }
+    ensures entries { IfOk result (λ m. m.entries ≡ inline.old.items) }
     ensures room { IfOk result (λ m. 0 < spare m) }
-    ensures err { OnErr result (few.new ≡ few.old) }
+    ensures err { OnErr result (inline.new ≡ inline.old) }
 {
-    let room = few.len().checked_add(1).ok_or(AllocError)?;
-    let mut many = IndexMap::with_capacity(*few.allocator(), room)?;
-    for (key, value) in few.drain(..) {
-        put_in_room(&mut many, key, value);
+    let room = inline.len().checked_add(1).ok_or(AllocError)?;
+    let mut indexed = IndexMap::with_capacity_and_hasher(alloc, room, ShortHash)?;
+    for (key, value) in inline.drain(..) {
+        put_in_room(&mut indexed, key, value);
     }
-    Ok(many)
+    Ok(indexed)
 }

@@ -15,11 +15,11 @@ ghost use Rattle.tl_inline.specs.InlineVec.{ClonesAreEqual};
 ghost use Rattle.tl_inline.specs.Places.{AllowsKeys, Notes, note_of, with_key};
 
 use super::digest::digest_of;
+use super::form::PairMap;
 use super::index::{
     Place, copy_places, note, note_of_digest, note_swap, place_by_note, place_of, places_with,
 };
 use crate::inline::hashmap::pairs::put_value;
-use indexmap::IndexMap;
 use std::alloc::AllocError;
 use std::collections::BTreeMap;
 use std::hash::Hash;
@@ -98,18 +98,18 @@ impl<K: Eq + Hash, V> PairTable<K, V> {
 impl<K: Eq + Hash + Drop, V: Drop> PairTable<K, V> {
     // Takes the pairs from a map, and a new one after them. Where memory is refused it hands that
     // back, and the others stay.
-    pub(super) fn take(many: &mut IndexMap<K, V>, key: K, value: V) -> Result<Self, (K, V)>
-        requires distinct { IsDistinct K.eq (keys_of many.old.entries) }
-        requires new { lookup (K.eq key) many.old.entries ≡ None }
-        ensures ok { IfOk result (λ h. h ≡ insert_entry K.eq many.old.entries key value) }
+    pub(super) fn take(indexed: &mut PairMap<K, V>, key: K, value: V) -> Result<Self, (K, V)>
+        requires distinct { IsDistinct K.eq (keys_of indexed.old.entries) }
+        requires new { lookup (K.eq key) indexed.old.entries ≡ None }
+        ensures ok { IfOk result (λ h. h ≡ insert_entry K.eq indexed.old.entries key value) }
         ensures unique { IfOk result (λ h. IsDistinct K.eq (keys_of h)) }
-        ensures err { OnErr result (many.new.entries ≡ many.old.entries) }
+        ensures err { OnErr result (indexed.new.entries ≡ indexed.old.entries) }
         ensures returned { IfErr result (λ pair. pair ≡ (key, value)) }
     {
-        let Ok(places) = places_with(*many.allocator(), many.keys().as_slice(), &key) else {
+        let Ok(places) = places_with(*indexed.allocator(), indexed.keys().as_slice(), &key) else {
             return Err((key, value));
         };
-        match list_of(many) {
+        match list_of(indexed) {
             Ok(mut pairs) => {
                 pairs.push_reserved((key, value));
                 Ok(PairTable { pairs, places })
@@ -206,15 +206,15 @@ fn remove_at<K: Eq + Hash + Drop, V: Drop>(
 // Moves the pairs to a list with room for one more. What can fail comes first, so an `Err` moves
 // none.
 fn list_of<K: Eq + Hash + Drop, V: Drop>(
-    many: &mut IndexMap<K, V>,
+    indexed: &mut PairMap<K, V>,
 ) -> Result<Vec<(K, V)>, AllocError>
-    ensures items { IfOk result (λ v. v.items ≡ many.old.entries) }
+    ensures items { IfOk result (λ v. v.items ≡ indexed.old.entries) }
     ensures room { IfOk result (λ v. vec_len v < vec_capacity v) }
-    ensures err { OnErr result (many.new.entries ≡ many.old.entries) }
+    ensures err { OnErr result (indexed.new.entries ≡ indexed.old.entries) }
 {
-    let room = many.len().checked_add(1).ok_or(AllocError)?;
-    let mut pairs = Vec::with_capacity(*many.allocator(), room)?;
-    for pair in many.drain(..) {
+    let room = indexed.len().checked_add(1).ok_or(AllocError)?;
+    let mut pairs = Vec::with_capacity(*indexed.allocator(), room)?;
+    for pair in indexed.drain(..) {
         pairs.push_reserved(pair);
     }
     Ok(pairs)

@@ -1,5 +1,5 @@
 use Rattle.std.proofs.Common.{◌++◌, ◌∙◌, arith, rules, ap, sym, length, append-nil}
-use Rattle.std.specs.Vec.Iter.{drain_items}
+use Rattle.arrayvec.specs.Iter.{drain_items}
 use Rattle.tl_inline.proofs.Maps.{moved_one}
 use Rattle.tl_inline.proofs.inline.hashmap.heap.form.map_of.Goals as goal
 
@@ -12,7 +12,7 @@ loop-key-preserved g c =
     let before = at.invariant.3 in (
       search rules,
       search rules,
-      moved_one g.K.PartialEq.eq g.met.K.Eq.laws c.args.few.now.items at.many.entries c.put_in_room.new.many.entries
+      moved_one g.K.PartialEq.eq g.met.K.Eq.laws c.args.inline.now.items at.indexed.entries c.put_in_room.new.indexed.entries
           (drain_items at.key-iterator) (drain_items c.next.new.self) c.in-Some.key c.in-Some.value c.requires at.invariant.2 step put.entries,
       omega (arith, shorter, before, put.room),
     )
@@ -24,7 +24,7 @@ returns g c =
     let counted = ap length none in
     let before = at.invariant.3 in
     record {
-      entries = sym (append-nil at.many.entries) ∙ ap (λ l. at.many.entries ++ l) (sym none) ∙ at.invariant.2;
+      entries = sym (append-nil at.indexed.entries) ∙ ap (λ l. at.indexed.entries ++ l) (sym none) ∙ at.invariant.2;
       room = omega (arith, counted, before);
       err = tt;
     }

@@ -12,7 +12,7 @@ loop-pair-preserved g c =
     let before = at.invariant.3 in (
       search rules,
       search rules,
-      moved_item c.args.many.now.entries at.pairs.items c.push_reserved.new.self.items (drain_rest at.pair-iterator)
+      moved_item c.args.indexed.now.entries at.pairs.items c.push_reserved.new.self.items (drain_rest at.pair-iterator)
           (drain_rest c.next.new.self) c.in-Some.pair at.invariant.2 step put.items,
       omega (arith, shorter, before, put.len, put.capacity),
     )

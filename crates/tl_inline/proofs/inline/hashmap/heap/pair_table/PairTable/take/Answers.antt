@@ -8,7 +8,7 @@ use Rattle.tl_inline.proofs.inline.hashmap.heap.pair_table.PairTable.take.Goals 
 
 pub invariant_of-result : goal.invariant_of-result
 invariant_of-result g c =
-    let es = c.args.many.now.entries in
+    let es = c.args.indexed.now.entries in
     let k = c.args.key in
     let v = c.args.value in
     let pair : g.row.K.Denot × g.row.V.Denot = (k, v) in
@@ -22,11 +22,11 @@ invariant_of-result g c =
 pub returns-in-Ok-list_of-clause-ok : goal.returns-in-Ok-list_of-clause-ok
 returns-in-Ok-list_of-clause-ok g c =
     c.push_reserved.ensures.items ∙ ap (λ l. l ++ (c.args.key, c.args.value) ∷ []) c.in-Ok-list_of.ensures.items
-    ∙ sym (insert_new g.K.PartialEq.eq c.args.many.now.entries c.args.key c.args.value c.requires.new)
+    ∙ sym (insert_new g.K.PartialEq.eq c.args.indexed.now.entries c.args.key c.args.value c.requires.new)
 
 pub returns-in-Ok-list_of-clause-unique : goal.returns-in-Ok-list_of-clause-unique
 returns-in-Ok-list_of-clause-unique g c =
-    let es = c.args.many.now.entries in
+    let es = c.args.indexed.now.entries in
     let k = c.args.key in
     let v = c.args.value in
     let after = c.push_reserved.ensures.items ∙ ap (λ l. l ++ (k, v) ∷ []) c.in-Ok-list_of.ensures.items ∙ sym (insert_new g.K.PartialEq.eq es k v c.requires.new) in

@@ -1,0 +1,129 @@
+-- The dispatcher, foreign content and tokens: what holds of a builder holds after each token, and at the start.
+use Rattle.std.proofs.Common.{Bool, List, [], codes, false, if◌then◌else◌, not, refl, suc, sym, true, true≢false, ℕ, ◌&&◌, ◌==◌, ◌||◌, ◌∷◌, ◌≡◌}
+use Rattle.std.specs.Prelude.{nat_lt}
+use Rattle.std.specs.Char.{is_ascii_whitespace}
+use Rattle.std.proofs.lemmas.Bool.{cond_both}
+use Rattle.tl_html_spec.specs.HtmlTokenizer.{replacement}
+use Rattle.tl_html_spec.specs.Balanced.{is_one_of}
+use Rattle.tl_dom_spec.specs.Tags.{Namespace, Tag, is_annotation, is_html, is_html_integration_point, is_text_integration_point}
+use Rattle.tl_dom_spec.specs.Groups.{Group, a_break, a_paragraph}
+use Rattle.tl_dom_spec.specs.Path.{elements, has_number}
+use Rattle.tl_dom_spec.specs.Builder.{Again, Builder, Done, Flags, Mode, Token, a_character, a_comment, a_doctype, a_start, adjusted_current_node, after_after_body, after_after_frameset, after_body, after_frameset, after_head, an_end, before_head, before_html, end_of_file, frameset_not_ok, in_body, in_caption, in_cell, in_column_group, in_frameset, in_head, in_head_noscript, in_row, in_table, in_table_body, in_table_text, in_template, initial, insert_bytes, insert_character, repeated, text_mode}
+use Rattle.tl_dom_spec.specs.Adjusted.{foreign_name, insert_foreign_element}
+use Rattle.tl_dom_spec.specs.Dispatcher.{Found, bound, breaks_out, broken_out, by_mode, calm, count_token, dispatch, excess_of, foreign_character, foreign_end, foreign_end_at, foreign_start, foreign_step, found_in, html_step, is_html_content, is_html_place, is_line_feed, is_svg_start, mode_step, nothing, the_frame, token_done, tokens_done}
+use Rattle.tl_dom_spec.specs.HtmlTree.{Context, fragment_start, page_start}
+use Rattle.tl_dom_spec.proofs.Allowed.{Allowed, Each}
+use Rattle.tl_dom_spec.proofs.Paths.{popped_through-Frames, popped_to-Frames}
+use Rattle.tl_dom_spec.proofs.Builders.{Holds, HoldsAfter, bytes-Holds, character-Holds, comment-Holds, either, either-after, repeated-Holds}
+use Rattle.tl_dom_spec.proofs.HeadRules.{Allows, Starts, after_head_step-Holds, before_head_step-Holds, before_html_step-Holds, in_head_noscript_step-Holds, in_head_step-Holds, initial_step-Holds, text_step-Holds}
+use Rattle.tl_dom_spec.proofs.BodyRules.{foreign-Holds, in_body_step-Holds}
+use Rattle.tl_dom_spec.proofs.TableRules.{in_caption_step-Holds, in_cell_step-Holds, in_column_group_step-Holds, in_row_step-Holds, in_table_body_step-Holds, in_table_step-Holds, in_table_text_step-Holds}
+use Rattle.tl_dom_spec.proofs.OuterRules.{after_after_body_step-Holds, after_after_frameset_step-Holds, after_body_step-Holds, after_frameset_step-Holds, in_frameset_step-Holds, in_template_step-Holds}
+
+pub mode_step-Holds : (R : Allowed) (m : Mode) (b : Builder) (token : Token) → Allows R token → Holds R b → HoldsAfter R (mode_step m b token)
+mode_step-Holds R initial b token k h = initial_step-Holds R b token k h
+mode_step-Holds R before_html b token k h = before_html_step-Holds R b token k h
+mode_step-Holds R before_head b token k h = before_head_step-Holds R b token k h
+mode_step-Holds R in_head b token k h = in_head_step-Holds R b token k h
+mode_step-Holds R in_head_noscript b token k h = in_head_noscript_step-Holds R b token k h
+mode_step-Holds R after_head b token k h = after_head_step-Holds R b token k h
+mode_step-Holds R in_body b token k h = in_body_step-Holds R b token k h
+mode_step-Holds R text_mode b token k h = text_step-Holds R b token k h
+mode_step-Holds R in_table b token k h = in_table_step-Holds R b token k h
+mode_step-Holds R in_table_text b token k h = in_table_text_step-Holds R b token k h
+mode_step-Holds R in_caption b token k h = in_caption_step-Holds R b token k h
+mode_step-Holds R in_column_group b token k h = in_column_group_step-Holds R b token k h
+mode_step-Holds R in_table_body b token k h = in_table_body_step-Holds R b token k h
+mode_step-Holds R in_row b token k h = in_row_step-Holds R b token k h
+mode_step-Holds R in_cell b token k h = in_cell_step-Holds R b token k h
+mode_step-Holds R in_template b token k h = in_template_step-Holds R b token k h
+mode_step-Holds R after_body b token k h = after_body_step-Holds R b token k h
+mode_step-Holds R in_frameset b token k h = in_frameset_step-Holds R b token k h
+mode_step-Holds R after_frameset b token k h = after_frameset_step-Holds R b token k h
+mode_step-Holds R after_after_body b token k h = after_after_body_step-Holds R b token k h
+mode_step-Holds R after_after_frameset b token k h = after_after_frameset_step-Holds R b token k h
+
+html_step-Holds : (R : Allowed) (b : Builder) (token : Token) → Allows R token → Holds R b → HoldsAfter R (html_step b token)
+html_step-Holds R b token k h = mode_step-Holds R b.mode b token k h
+
+-- foreign content
+
+broken_out-Holds : (R : Allowed) (b : Builder) → Holds R b → Holds R (broken_out b)
+broken_out-Holds R b h = (popped_to-Frames R is_html_place b.path h.0, h.1, h.2, h.3)
+
+foreign_character-Holds : (R : Allowed) (c : ℕ) (b : Builder) → R.Says c → Holds R b → Holds R (foreign_character c b)
+foreign_character-Holds R c b k h =
+    either R (c == 0) (insert_bytes replacement b) (if is_ascii_whitespace c then insert_character c b else frameset_not_ok (insert_character c b))
+    (bytes-Holds R replacement b (tt, R.replaced) h)
+    (either R (is_ascii_whitespace c) (insert_character c b) (frameset_not_ok (insert_character c b)) (character-Holds R c b k h) (character-Holds R c b k h))
+
+foreign_start-Holds : (R : Allowed) (b : Builder) (g : Group) (t : Tag) (closes : Bool) → is_html (adjusted_current_node b) ≡ false → Starts R g t → Holds R b → HoldsAfter R (foreign_start b g t closes)
+foreign_start-Holds R b g t closes e k h =
+    let space : Namespace = (adjusted_current_node b).space in
+    let own : Tag = record t { name = foreign_name space t.name } in
+    either-after R (breaks_out t) (html_step (broken_out b) (a_start g t closes)) (Done (insert_foreign_element space own closes b))
+    (html_step-Holds R (broken_out b) (a_start g t closes) k (broken_out-Holds R b h))
+    (foreign-Holds R space own closes b (k.foreign space e) h)
+
+foreign_end_at-Holds : (R : Allowed) (found : Found) (b : Builder) (g : Group) (name : List ℕ) → Holds R b → HoldsAfter R (foreign_end_at found b g name)
+foreign_end_at-Holds R (the_frame k) b g name h = (popped_through-Frames R (has_number k) b.path h.0, h.1, h.2, h.3)
+foreign_end_at-Holds R by_mode b g name h = html_step-Holds R b (an_end g name) tt h
+foreign_end_at-Holds R nothing b g name h = h
+
+foreign_end-Holds : (R : Allowed) (b : Builder) (g : Group) (name : List ℕ) → Holds R b → HoldsAfter R (foreign_end b g name)
+foreign_end-Holds R b a_break name h = html_step-Holds R (broken_out b) (an_end a_break name) tt (broken_out-Holds R b h)
+foreign_end-Holds R b a_paragraph name h = html_step-Holds R (broken_out b) (an_end a_paragraph name) tt (broken_out-Holds R b h)
+foreign_end-Holds R b g name h = foreign_end_at-Holds R (found_in name (elements b.path)) b g name h
+
+first_false : (x y z w : Bool) → (x || y || z || w) ≡ false → x ≡ false
+first_false true y z w e = e
+first_false false y z w e = refl
+
+no_html : (own : Tag) (g : Group) (t : Tag) (closes : Bool) → is_html_content own (a_start g t closes) ≡ false → is_html own ≡ false
+no_html own g t closes e =
+    first_false (is_html own) (is_html_integration_point own)
+    (is_text_integration_point own && not (is_one_of (codes "mglyph malignmark") t.name)) (is_annotation own && is_svg_start g) e
+
+foreign_step-Holds : (R : Allowed) (b : Builder) (token : Token) → is_html_content (adjusted_current_node b) token ≡ false → Allows R token → Holds R b → HoldsAfter R (foreign_step b token)
+foreign_step-Holds R b (a_character c) e k h = foreign_character-Holds R c b k h
+foreign_step-Holds R b (a_comment bytes) e k h = comment-Holds R bytes b k h
+foreign_step-Holds R b (a_doctype own) e k h = h
+foreign_step-Holds R b (a_start g t closes) e k h = foreign_start-Holds R b g t closes (no_html (adjusted_current_node b) g t closes e) k h
+foreign_step-Holds R b (an_end g name) e k h = foreign_end-Holds R b g name h
+foreign_step-Holds R b end_of_file e k h = html_step-Holds R b end_of_file tt h
+
+-- tokens
+
+dispatch-Holds : (R : Allowed) (token : Token) (b : Builder) → Allows R token → Holds R b → HoldsAfter R (dispatch token b)
+dispatch-Holds R token b k h =
+    cond_both (is_html_content (adjusted_current_node b) token) (html_step b token) (foreign_step b token) (HoldsAfter R)
+    (λ _. html_step-Holds R b token k h) (λ e. foreign_step-Holds R b token e k h)
+
+calm-Holds : (R : Allowed) (b : Builder) → Holds R b → Holds R (calm b)
+calm-Holds R b h = (h.0, h.1, h.2, R.data_read)
+
+count-Holds : (R : Allowed) (b : Builder) → Holds R b → Holds R (count_token b)
+count-Holds R b h =
+    let taken : Builder = record b { tokens = suc b.tokens } in
+    either R (nat_lt taken.excess (excess_of taken)) (record taken { excess = excess_of taken }) taken h h
+
+pub token-Holds : (R : Allowed) (b : Builder) (token : Token) → Allows R token → Holds R b → Holds R (token_done b token)
+token-Holds R b token k h =
+    let taken : Builder = if b.skips && is_line_feed token then calm b else repeated (bound b) (dispatch token) (Again (calm b)) in
+    count-Holds R taken
+    (either R (b.skips && is_line_feed token) (calm b) (repeated (bound b) (dispatch token) (Again (calm b)))
+    (calm-Holds R b h)
+    (repeated-Holds R (bound b) (dispatch token) (Again (calm b)) (λ c i. dispatch-Holds R token c k i) (calm-Holds R b h)))
+
+pub tokens-Holds : (R : Allowed) (b : Builder) (tokens : List Token) → Each (Allows R) tokens → Holds R b → Holds R (tokens_done b tokens)
+tokens-Holds R b [] k h = h
+tokens-Holds R b (token ∷ tokens) k h = tokens-Holds R (token_done b token) tokens k.1 (token-Holds R b token k.0 h)
+
+-- before the first token
+
+pub page_start-Holds : (R : Allowed) (flags : Flags) → Holds R (page_start flags)
+page_start-Holds R flags = (((tt, tt), (λ e. absurd (true≢false (sym e))), tt), tt, tt, R.data_read)
+
+pub fragment_start-Holds : (R : Allowed) (flags : Flags) (context : Context) → Holds R (fragment_start flags context)
+fragment_start-Holds R flags context =
+    (((tt, tt), R.html, ((tt, tt), (λ e. absurd (true≢false (sym e))), tt)), tt, tt, R.data_read)

@@ -1,0 +1,15 @@
+pub mod Allowed
+pub mod Paths
+pub mod Builders
+pub mod Adopting
+pub mod HeadRules
+pub mod BodyRules
+pub mod TableRules
+pub mod OuterRules
+pub mod DispatcherRules
+pub mod TreesFollow
+pub mod TextLaw
+pub mod NameLaw
+pub mod VoidLaw
+pub mod SourceLaw
+pub mod ContentsLaw

@@ -1,0 +1,116 @@
+-- The name of no element is empty.
+use Rattle.std.proofs.Common.{List, [], inl, inr, map, subst, sym, true, true≢false, ℕ, ◌∷◌, ◌≡◌}
+use Rattle.std.specs.Prelude.{⊤}
+use Rattle.std.specs.Char.{to_ascii_lowercase}
+use Rattle.std.specs.Str.{bytes_eq}
+use Rattle.std.proofs.lemmas.Bool.{cond_both}
+use Rattle.tl_html_spec.proofs.Emits.{page_sound}
+use Rattle.tl_html_spec.specs.HtmlTokenizer.{html_tokens, Character, CommentToken, DoctypeToken, EndTag, HtmlToken, StartTag}
+use Rattle.tl_html_spec.specs.Balanced.{words}
+use Rattle.tl_html_spec.specs.Sound.{AreSound, IsSome}
+use Rattle.tl_dom_spec.specs.Tags.{Namespace, Tag, html_space, math_space, svg_space}
+use Rattle.tl_dom_spec.specs.Groups.{Group}
+use Rattle.tl_dom_spec.specs.Builder.{Flags, Token, a_character, a_comment, a_doctype, a_start, an_end, end_of_file}
+use Rattle.tl_dom_spec.specs.Adjusted.{cased, foreign_name, svg_names}
+use Rattle.tl_dom_spec.specs.Driver.{token_of}
+use Rattle.tl_dom_spec.specs.HtmlForest.{HtmlForest}
+use Rattle.tl_dom_spec.specs.HtmlTree.{Context, html_fragment_by, html_tree_by, tree_of_tokens}
+use Rattle.tl_dom_spec.specs.Lawful.{AreNamed, HaveNames, fragment_built, page_built, tokens_of_fragment, tokens_of_page}
+use Rattle.tl_dom_spec.proofs.Allowed.{Allowed, Each}
+use Rattle.tl_dom_spec.proofs.HeadRules.{Allows, Starts}
+use Rattle.tl_dom_spec.proofs.TreesFollow.{Follows, Owned, fragment-Follows, fragment_is, page-Follows, page_is}
+use Rattle.tl_dom_spec.proofs.TextLaw.{elements-weaken}
+
+word_some : (name word : List ℕ) → bytes_eq name (map to_ascii_lowercase word) ≡ true → IsSome name → IsSome word
+word_some name (c ∷ word) e s = tt
+word_some (c ∷ name) [] e s = absurd (true≢false (sym e))
+word_some [] [] e s = absurd s
+
+cased_some : (name : List ℕ) (list : List (List ℕ)) → IsSome name → IsSome (cased name list)
+cased_some name [] s = s
+cased_some name (word ∷ list) s =
+    cond_both (bytes_eq name (map to_ascii_lowercase word)) word (cased name list) IsSome (λ e. word_some name word e s) (λ _. cased_some name list s)
+
+foreign_some : (space : Namespace) (name : List ℕ) → IsSome name → IsSome (foreign_name space name)
+foreign_some html_space name s = s
+foreign_some math_space name s = s
+foreign_some svg_space name s = cased_some name (words svg_names) s
+
+abbrev pub named : Allowed
+named = record {
+  Opens = λ t. IsSome t.name;
+  Stands = λ t. IsSome t.name;
+  Says = λ _. ⊤;
+  Notes = λ _. ⊤;
+  Types = λ _. ⊤;
+  Adds = λ _. ⊤;
+  Reads = λ _. ⊤;
+  stands = λ _ s. s;
+  headed = λ _ _ s. s;
+  adds = λ _ _ s _. s;
+  html = tt;
+  head = tt;
+  body = tt;
+  paragraph = tt;
+  column_group = tt;
+  table_body = tt;
+  row = tt;
+  line_break = tt;
+  replaced = (tt, (tt, (tt, tt)));
+  data_read = tt;
+}
+
+named_start : (g : Group) (t : Tag) → IsSome t.name → Starts named g t
+named_start g t s = record {
+  opens = λ _. s;
+  alone = s;
+  image = λ _. tt;
+  math = λ _. s;
+  svg = λ _. s;
+  foreign = λ space _. foreign_some space t.name s;
+  more = λ _. tt;
+  inside = tt;
+  after = tt;
+}
+
+pub named_tokens : (tokens : List Token) → HaveNames tokens → Each (Allows named) tokens
+named_tokens [] s = tt
+named_tokens (a_character c ∷ tokens) s = (tt, named_tokens tokens s)
+named_tokens (a_start g t closes ∷ tokens) s = (named_start g t s.0, named_tokens tokens s.1)
+named_tokens (an_end g name ∷ tokens) s = (tt, named_tokens tokens s)
+named_tokens (a_comment bytes ∷ tokens) s = (tt, named_tokens tokens s)
+named_tokens (a_doctype own ∷ tokens) s = (tt, named_tokens tokens s)
+named_tokens (end_of_file ∷ tokens) s = (tt, named_tokens tokens s)
+
+pub sound_names : (tokens : List HtmlToken) → AreSound tokens → HaveNames (map token_of tokens)
+sound_names [] s = tt
+sound_names (Character c ∷ tokens) s = sound_names tokens s.1
+sound_names (StartTag name attributes closes ∷ tokens) s = (s.0.0, sound_names tokens s.1)
+sound_names (EndTag name ∷ tokens) s = sound_names tokens s.1
+sound_names (CommentToken bytes ∷ tokens) s = sound_names tokens s.1
+sound_names (DoctypeToken ∷ tokens) s = sound_names tokens s.1
+
+some_name : (tag : Tag) (below : HtmlForest) → Owned named tag below → IsSome tag.name
+some_name tag below (inl o) = o
+some_name tag below (inr s) = s.0
+
+pub names_of : (trees : HtmlForest) → Follows named trees → AreNamed trees
+names_of trees f = elements-weaken (Owned named) (λ tag below. IsSome tag.name) trees some_name f.elements
+
+pub built_names : (flags : Flags) (tokens : List Token) → HaveNames tokens → AreNamed (page_built flags tokens).trees
+built_names flags tokens s = names_of (page_built flags tokens).trees (page-Follows named flags tokens (named_tokens tokens s))
+
+pub built_fragment_names : (flags : Flags) (context : Context) (tokens : List Token) → HaveNames tokens → AreNamed (fragment_built flags context tokens)
+built_fragment_names flags context tokens s =
+    names_of (fragment_built flags context tokens) (fragment-Follows named flags context tokens (named_tokens tokens s))
+
+pub page_names : (flags : Flags) (page : List ℕ) → HaveNames (tokens_of_page flags page) → AreNamed (html_tree_by flags page).trees
+page_names flags page s =
+    subst (λ d. AreNamed d.trees) (sym (page_is flags page)) (built_names flags (tokens_of_page flags page) s)
+
+pub fragment_names : (flags : Flags) (context : Context) (bytes : List ℕ) → HaveNames (tokens_of_fragment flags context bytes) → AreNamed (html_fragment_by flags context bytes)
+fragment_names flags context bytes s =
+    subst AreNamed (sym (fragment_is flags context bytes)) (built_fragment_names flags context (tokens_of_fragment flags context bytes) s)
+
+pub names_by_name : (flags : Flags) (page : List ℕ) → AreNamed (tree_of_tokens flags (html_tokens page)).trees
+names_by_name flags page = built_names flags (map token_of (html_tokens page)) (sound_names (html_tokens page) (page_sound page))

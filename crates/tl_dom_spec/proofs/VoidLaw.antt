@@ -1,0 +1,140 @@
+-- Nothing stands below a void element.
+use Rattle.std.proofs.Common.{List, [], ap, codes, false, inl, inr, map, refl, subst, sym, true, true≢false, ℕ, ◌||◌, ◌∙◌, ◌∷◌, ◌≡◌}
+use Rattle.std.specs.Prelude.{⊤}
+use Rattle.std.specs.Str.{bytes_eq}
+use Rattle.std.specs.List.{list_any}
+use Rattle.std.proofs.lemmas.Slice.Eq.{bytes_eq-Decides}
+use Rattle.std.proofs.lemmas.Bool.{and_left, and_parts, and_right, cases_Bool}
+use Rattle.tl_html_spec.specs.Driven.{Emission, doctype_of, driven_tokens, driving, in_state, plain}
+use Rattle.tl_html_spec.specs.HtmlTokenizer.{Character, CommentToken, DoctypeToken, EndTag, HtmlAttribute, HtmlToken, StartTag, data_state, without_mark}
+use Rattle.tl_html_spec.specs.Balanced.{is_one_of, words}
+use Rattle.tl_dom_spec.specs.Tags.{Tag, by_space, html_tag, is_any, is_html}
+use Rattle.tl_dom_spec.specs.Groups.{group}
+use Rattle.tl_dom_spec.specs.Builder.{Flags}
+use Rattle.tl_dom_spec.specs.Adjusted.{foreign_name}
+use Rattle.tl_dom_spec.specs.Driver.{builder, emitted_token, token_of}
+use Rattle.tl_dom_spec.specs.HtmlForest.{HtmlForest, no_trees}
+use Rattle.tl_dom_spec.specs.HtmlTree.{Context, context_state, fragment_of_tokens, fragment_start, html_fragment_by, html_tree_by, page_start, tree_of_tokens}
+use Rattle.tl_dom_spec.specs.Lawful.{AreVoidEmpty, fragment_built, is_void, page_built, tokens_of_fragment, tokens_of_page}
+use Rattle.tl_dom_spec.proofs.Allowed.{Allowed, Each}
+use Rattle.tl_dom_spec.proofs.HeadRules.{Allows, Starts, is_alone}
+use Rattle.tl_dom_spec.proofs.TreesFollow.{Follows, Owned, fragment-Follows, fragment_is, page-Follows, page_is}
+use Rattle.tl_dom_spec.proofs.TextLaw.{elements-weaken}
+
+-- what holds of some words holds of each name that is one of them
+pub any_word : (P : List ℕ → Type 0) (list : List (List ℕ)) (name : List ℕ) → Each P list → list_any (bytes_eq name) list ≡ true → P name
+any_word P [] name h e = absurd (true≢false (sym e))
+any_word P (word ∷ list) name h e =
+    elim (cases_Bool (bytes_eq name word)) [
+      | inl y ↦ subst P (sym ((bytes_eq-Decides name word).0 y)) h.0
+      | inr n ↦ any_word P list name h.1 (sym (ap (λ x. x || list_any (bytes_eq name) list) n) ∙ e)
+    ]
+
+abbrev IsAlone : List ℕ → Type 0
+IsAlone name = is_alone (group name) ≡ true
+
+abbrev void_names : List ℕ
+void_names = codes "area base basefont bgsound br col embed frame hr img input keygen link meta param source track wbr"
+
+-- elements of these names are inserted and popped at once
+void_alone : (name : List ℕ) → is_one_of void_names name ≡ true → is_alone (group name) ≡ true
+void_alone name e =
+    any_word IsAlone (words void_names) name
+    (refl, (refl, (refl, (refl, (refl, (refl, (refl, (refl, (refl, (refl, (refl, (refl, (refl, (refl, (refl, (refl, (refl, (refl, tt))))))))))))))))))
+    e
+
+not_void : (name : List ℕ) → is_alone (group name) ≡ false → is_one_of void_names name ≡ false
+not_void name a =
+    elim (cases_Bool (is_one_of void_names name)) [
+      | inl y ↦ absurd (true≢false (sym (void_alone name y) ∙ a))
+      | inr n ↦ n
+    ]
+
+pub head_is_no_void : (t : Tag) → is_any (codes "head") t ≡ true → is_void t ≡ false
+head_is_no_void t e =
+    and_right (is_html t) (is_one_of void_names t.name)
+    (any_word (λ name. is_one_of void_names name ≡ false) (words (codes "head")) t.name (refl, tt)
+    (and_parts (is_html t) (is_one_of (codes "head") t.name) e).1)
+
+abbrev pub voids : Allowed
+voids = record {
+  Opens = λ t. is_void t ≡ false;
+  Stands = λ _. ⊤;
+  Says = λ _. ⊤;
+  Notes = λ _. ⊤;
+  Types = λ _. ⊤;
+  Adds = λ _. ⊤;
+  Reads = λ _. ⊤;
+  stands = λ _ _. tt;
+  headed = λ t e _. head_is_no_void t e;
+  adds = λ _ _ o _. o;
+  html = refl;
+  head = refl;
+  body = refl;
+  paragraph = refl;
+  column_group = refl;
+  table_body = refl;
+  row = refl;
+  line_break = tt;
+  replaced = (tt, (tt, (tt, tt)));
+  data_read = tt;
+}
+
+pub void_start : (name : List ℕ) (attributes : List HtmlAttribute) → Starts voids (group name) (html_tag name attributes)
+void_start name attributes = record {
+  opens = λ a. not_void name a;
+  alone = tt;
+  image = λ _. tt;
+  math = λ _. refl;
+  svg = λ _. refl;
+  foreign = λ space e. and_left (by_space space true false false) (is_one_of void_names (foreign_name space name)) e;
+  more = λ _. tt;
+  inside = tt;
+  after = tt;
+}
+
+pub void_token : (token : HtmlToken) → Allows voids (token_of token)
+void_token (Character c) = tt
+void_token (StartTag name attributes closes) = void_start name attributes
+void_token (EndTag name) = tt
+void_token (CommentToken bytes) = tt
+void_token DoctypeToken = tt
+
+pub void_tokens : (tokens : List HtmlToken) → Each (Allows voids) (map token_of tokens)
+void_tokens [] = tt
+void_tokens (token ∷ tokens) = (void_token token, void_tokens tokens)
+
+void_emission : (e : Emission) → Allows voids (emitted_token e)
+void_emission (plain token) = void_token token
+void_emission (doctype_of own) = tt
+
+void_emissions : (emissions : List Emission) → Each (Allows voids) (map emitted_token emissions)
+void_emissions [] = tt
+void_emissions (e ∷ emissions) = (void_emission e, void_emissions emissions)
+
+nothing_below : (tag : Tag) (below : HtmlForest) → Owned voids tag below → is_void tag ≡ true → below ≡ no_trees
+nothing_below tag below (inl o) v = absurd (true≢false (sym v ∙ o))
+nothing_below tag below (inr s) v = s.1
+
+pub voids_of : (trees : HtmlForest) → Follows voids trees → AreVoidEmpty trees
+voids_of trees f = elements-weaken (Owned voids) (λ tag below. is_void tag ≡ true → below ≡ no_trees) trees nothing_below f.elements
+
+pub built_voids : (flags : Flags) (tokens : List HtmlToken) → AreVoidEmpty (tree_of_tokens flags tokens).trees
+built_voids flags tokens = voids_of (tree_of_tokens flags tokens).trees (page-Follows voids flags (map token_of tokens) (void_tokens tokens))
+
+pub built_fragment_voids : (flags : Flags) (context : Context) (tokens : List HtmlToken) → AreVoidEmpty (fragment_of_tokens flags context tokens)
+built_fragment_voids flags context tokens =
+    voids_of (fragment_of_tokens flags context tokens) (fragment-Follows voids flags context (map token_of tokens) (void_tokens tokens))
+
+pub page_voids : (flags : Flags) (page : List ℕ) → AreVoidEmpty (html_tree_by flags page).trees
+page_voids flags page =
+    let emissions : List Emission = driven_tokens builder (driving (page_start flags) (in_state data_state)) (without_mark page) in
+    subst (λ d. AreVoidEmpty d.trees) (sym (page_is flags page))
+    (voids_of (page_built flags (tokens_of_page flags page)).trees (page-Follows voids flags (tokens_of_page flags page) (void_emissions emissions)))
+
+pub fragment_voids : (flags : Flags) (context : Context) (bytes : List ℕ) → AreVoidEmpty (html_fragment_by flags context bytes)
+fragment_voids flags context bytes =
+    let emissions : List Emission = driven_tokens builder (driving (fragment_start flags context) (in_state (context_state flags context.tag))) bytes in
+    subst AreVoidEmpty (sym (fragment_is flags context bytes))
+    (voids_of (fragment_built flags context (tokens_of_fragment flags context bytes))
+    (fragment-Follows voids flags context (tokens_of_fragment flags context bytes) (void_emissions emissions)))

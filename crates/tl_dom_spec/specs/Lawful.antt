@@ -1,0 +1,166 @@
+-- Laws of trees that are built of tokens: what holds of each element, text and comment in them.
+use Rattle.std.specs.Prelude.{Bool, List, [], codes, false, map, true, ℕ, ◌∷◌, ◌≡◌, ◌⊎◌, ⊤}
+use Rattle.tl_html_spec.specs.Balanced.{is_one_of}
+use Rattle.tl_html_spec.specs.HtmlTokenizer.{data_state, replacement, without_mark}
+use Rattle.tl_html_spec.specs.Sound.{IsSome}
+use Rattle.tl_html_spec.specs.Doctypes.{Doctype}
+use Rattle.tl_html_spec.specs.Driven.{driven_tokens, driving, in_state}
+use Rattle.tl_dom_spec.specs.Tags.{Namespace, Tag, bare_tag, by_space, is_any, math_space, svg_space}
+use Rattle.tl_dom_spec.specs.Groups.{Group, a_math, an_image, an_svg, the_body, the_html}
+use Rattle.tl_dom_spec.specs.Builder.{Flags, Token, a_character, a_comment, a_doctype, a_start, end_of_file, with_more}
+use Rattle.tl_dom_spec.specs.Adjusted.{foreign_name, foreign_tag}
+use Rattle.tl_dom_spec.specs.Dispatcher.{token_done, tokens_done}
+use Rattle.tl_dom_spec.specs.Driver.{builder, emitted_token}
+use Rattle.tl_dom_spec.specs.HtmlForest.{HtmlForest, comment, doctype, element, no_trees, text}
+use Rattle.tl_dom_spec.specs.HtmlTree.{Context, Document, children_of, context_state, document_of, fragment_start, page_start}
+
+-- what holds of each element, with what stands below it
+abbrev pub EachElement : (Tag → HtmlForest → Type 0) → HtmlForest → Type 0
+EachElement P no_trees = ⊤
+EachElement P (text bytes more) = EachElement P more
+EachElement P (comment bytes more) = EachElement P more
+EachElement P (doctype own more) = EachElement P more
+EachElement P (element tag below more) =
+    P tag below × EachElement P below × EachElement P more
+
+-- what holds of each text
+abbrev pub EachText : (List ℕ → Type 0) → HtmlForest → Type 0
+EachText P no_trees = ⊤
+EachText P (text bytes more) = P bytes × EachText P more
+EachText P (comment bytes more) = EachText P more
+EachText P (doctype own more) = EachText P more
+EachText P (element tag below more) = EachText P below × EachText P more
+
+-- what holds of each comment
+abbrev pub EachComment : (List ℕ → Type 0) → HtmlForest → Type 0
+EachComment P no_trees = ⊤
+EachComment P (text bytes more) = EachComment P more
+EachComment P (comment bytes more) = P bytes × EachComment P more
+EachComment P (doctype own more) = EachComment P more
+EachComment P (element tag below more) = EachComment P below × EachComment P more
+
+-- what holds of each doctype
+abbrev pub EachDoctype : (Doctype → Type 0) → HtmlForest → Type 0
+EachDoctype P no_trees = ⊤
+EachDoctype P (text bytes more) = EachDoctype P more
+EachDoctype P (comment bytes more) = EachDoctype P more
+EachDoctype P (doctype own more) = P own × EachDoctype P more
+EachDoctype P (element tag below more) = EachDoctype P below × EachDoctype P more
+
+-- what holds of each character of a text
+abbrev pub EachCharacter : (ℕ → Type 0) → List ℕ → Type 0
+EachCharacter P [] = ⊤
+EachCharacter P (c ∷ bytes) = P c × EachCharacter P bytes
+
+-- Texts
+
+abbrev pub begins_with_text : HtmlForest → Bool
+begins_with_text (text bytes more) = true
+begins_with_text _ = false
+
+-- no text stands right beside another one
+abbrev pub AreApart : HtmlForest → Type 0
+AreApart no_trees = ⊤
+AreApart (text bytes more) = (begins_with_text more ≡ false) × AreApart more
+AreApart (comment bytes more) = AreApart more
+AreApart (doctype own more) = AreApart more
+AreApart (element tag below more) = AreApart below × AreApart more
+
+-- no text is empty, or stands right beside another one
+abbrev pub AreTexts : HtmlForest → Type 0
+AreTexts trees = EachText IsSome trees × AreApart trees
+
+-- Void elements
+
+-- elements that are written without an end tag (13.3), so that nothing can stand below them
+abbrev pub is_void : Tag → Bool
+is_void t =
+    is_any
+    (codes "area base basefont bgsound br col embed frame hr img input keygen link meta param source track wbr") t
+
+abbrev pub AreVoidEmpty : HtmlForest → Type 0
+AreVoidEmpty trees = EachElement (λ tag below. is_void tag ≡ true → below ≡ no_trees) trees
+
+-- Names
+
+abbrev pub AreNamed : HtmlForest → Type 0
+AreNamed trees = EachElement (λ tag below. IsSome tag.name) trees
+
+-- the names of start tags are not empty
+abbrev pub HaveNames : List Token → Type 0
+HaveNames [] = ⊤
+HaveNames (a_start g t closes ∷ tokens) = IsSome t.name × HaveNames tokens
+HaveNames (token ∷ tokens) = HaveNames tokens
+
+-- Where it all comes from
+
+abbrev pub IsIn : {X : Type 0} → X → List X → Type 0
+IsIn x [] = ⊥
+IsIn x (y ∷ ys) = (x ≡ y) ⊎ IsIn x ys
+
+-- the names of the elements that are put in where their start tags are missing
+abbrev pub put_in_names : List ℕ
+put_in_names = codes "html head body tbody tr colgroup p br"
+
+-- `html` and `body`, whose start tags add attributes to the elements that are open already
+abbrev pub adds_attributes : Group → Bool
+adds_attributes the_html = true
+adds_attributes the_body = true
+adds_attributes _ = false
+
+-- what the tag of an element is by the tokens
+pub data IsTagOf (tokens : List Token) : Tag → Type 0 where
+  -- that of a start tag
+  started : (g : Group) (t : Tag) (closes : Bool) →
+      IsIn (a_start g t closes) tokens → IsTagOf tokens t
+  -- `img` for `image`
+  as_image : (t : Tag) (closes : Bool) →
+      IsIn (a_start an_image t closes) tokens → IsTagOf tokens (record t { name = codes "img" })
+  -- of the start tag of `math` or `svg`
+  as_math : (t : Tag) (closes : Bool) →
+      IsIn (a_start a_math t closes) tokens → IsTagOf tokens (foreign_tag math_space t)
+  as_svg : (t : Tag) (closes : Bool) →
+      IsIn (a_start an_svg t closes) tokens → IsTagOf tokens (foreign_tag svg_space t)
+  -- of a start tag in foreign content, adjusted
+  adjusted : (g : Group) (t : Tag) (closes : Bool) (space : Namespace) →
+      by_space space true false false ≡ false →
+      IsIn (a_start g t closes) tokens →
+      IsTagOf tokens (foreign_tag space (record t { name = foreign_name space t.name }))
+  -- of an element that is put in
+  put_in : (name : List ℕ) → is_one_of put_in_names name ≡ true → IsTagOf tokens (bare_tag name)
+  -- one of these with the attributes of a start tag of `html` or `body` that it had not
+  with_added : (g : Group) (t own : Tag) (closes : Bool) → adds_attributes g ≡ true →
+      IsIn (a_start g t closes) tokens → IsTagOf tokens own →
+      IsTagOf tokens (with_more t.attributes own)
+
+-- each element, comment and doctype comes from a token, or is an element that is put in; and each
+-- character of a text is one of a character token, or of U+FFFD
+pub record ComeFrom (tokens : List Token) (trees : HtmlForest) : Type 0 where
+  pub elements : EachElement (λ tag below. IsTagOf tokens tag) trees
+  pub texts : EachText (EachCharacter (λ c. IsIn (a_character c) tokens ⊎ IsIn c replacement)) trees
+  pub comments : EachComment (λ bytes. IsIn (a_comment bytes) tokens) trees
+  pub doctypes : EachDoctype (λ own. IsIn (a_doctype own) tokens) trees
+
+-- Tokens of pages: as tree construction drives the tokenizer
+
+abbrev pub tokens_of_page : Flags → List ℕ → List Token
+tokens_of_page flags page =
+    map emitted_token
+    (driven_tokens builder (driving (page_start flags) (in_state data_state)) (without_mark page))
+
+abbrev pub tokens_of_fragment : Flags → Context → List ℕ → List Token
+tokens_of_fragment flags context bytes =
+    map emitted_token
+    (driven_tokens builder
+    (driving (fragment_start flags context) (in_state (context_state flags context.tag)))
+    bytes)
+
+-- what is built of tokens
+
+abbrev pub page_built : Flags → List Token → Document
+page_built flags tokens =
+    document_of (token_done (tokens_done (page_start flags) tokens) end_of_file)
+
+abbrev pub fragment_built : Flags → Context → List Token → HtmlForest
+fragment_built flags context tokens =
+    children_of (token_done (tokens_done (fragment_start flags context) tokens) end_of_file)

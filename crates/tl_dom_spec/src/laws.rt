@@ -1,0 +1,87 @@
+//! Laws of the trees of any page, any fragment and any tokens.
+
+ghost use Rattle.std.specs.Prelude.{◌≡◌, ◌↔◌, List, codes, map, true, ℕ};
+ghost use Rattle.tl_html_spec.specs.HtmlTokenizer.{HtmlToken, html_tokens};
+ghost use Rattle.tl_html_spec.specs.Sound.{AreSound};
+ghost use Rattle.tl_dom_spec.specs.Builder.{Flags, Token};
+ghost use Rattle.tl_dom_spec.specs.Driver.{token_of};
+ghost use Rattle.tl_dom_spec.specs.HtmlForest.{has_contents};
+ghost use Rattle.tl_dom_spec.specs.HtmlTree.{Context, fragment_of_tokens, html_fragment_by, html_tree_by, tree_of_tokens};
+ghost use Rattle.tl_dom_spec.specs.Lawful.{AreNamed, AreTexts, AreVoidEmpty, ComeFrom, HaveNames, fragment_built, page_built, tokens_of_fragment, tokens_of_page};
+ghost use Rattle.tl_dom_spec.specs.Tags.{Tag, html_space};
+
+/// A page is built of its tokens, and a fragment too: what holds of what any tokens build holds of
+/// any page.
+#[tactic(auto, using(crate::proofs::TreesFollow::page_is, crate::proofs::TreesFollow::fragment_is))]
+pub fn pages_are_built_of_tokens()
+    ensures page { (flags : Flags) (page : List ℕ) →
+        html_tree_by flags page ≡ page_built flags (tokens_of_page flags page) }
+    ensures fragment { (flags : Flags) (context : Context) (bytes : List ℕ) →
+        html_fragment_by flags context bytes
+        ≡ fragment_built flags context (tokens_of_fragment flags context bytes) }
+{}
+
+/// No text is empty, and none stands right beside another one.
+#[tactic(auto, using(crate::proofs::TextLaw::page_texts, crate::proofs::TextLaw::fragment_texts, crate::proofs::TextLaw::built_texts, crate::proofs::TextLaw::built_fragment_texts))]
+pub fn texts_are_whole()
+    ensures page { (flags : Flags) (page : List ℕ) → AreTexts (html_tree_by flags page).trees }
+    ensures fragment { (flags : Flags) (context : Context) (bytes : List ℕ) →
+        AreTexts (html_fragment_by flags context bytes) }
+    ensures page_of_tokens { (flags : Flags) (tokens : List Token) →
+        AreTexts (page_built flags tokens).trees }
+    ensures fragment_of_tokens { (flags : Flags) (context : Context) (tokens : List Token) →
+        AreTexts (fragment_built flags context tokens) }
+{}
+
+/// No name is empty, where those of the start tags aren't; so where the tokenizer goes by names
+/// alone none is.
+#[tactic(auto, using(crate::proofs::NameLaw::page_names, crate::proofs::NameLaw::fragment_names, crate::proofs::NameLaw::built_names, crate::proofs::NameLaw::built_fragment_names, crate::proofs::NameLaw::sound_names, crate::proofs::NameLaw::names_by_name))]
+pub fn elements_have_names()
+    ensures page { (flags : Flags) (page : List ℕ) → HaveNames (tokens_of_page flags page) →
+        AreNamed (html_tree_by flags page).trees }
+    ensures fragment { (flags : Flags) (context : Context) (bytes : List ℕ) →
+        HaveNames (tokens_of_fragment flags context bytes) →
+        AreNamed (html_fragment_by flags context bytes) }
+    ensures page_of_tokens { (flags : Flags) (tokens : List Token) → HaveNames tokens →
+        AreNamed (page_built flags tokens).trees }
+    ensures fragment_of_tokens { (flags : Flags) (context : Context) (tokens : List Token) →
+        HaveNames tokens → AreNamed (fragment_built flags context tokens) }
+    ensures sound_tokens { (tokens : List HtmlToken) → AreSound tokens →
+        HaveNames (map token_of tokens) }
+    ensures page_by_names { (flags : Flags) (page : List ℕ) →
+        AreNamed (tree_of_tokens flags (html_tokens page)).trees }
+{}
+
+/// Nothing stands below a void element.
+#[tactic(auto, using(crate::proofs::VoidLaw::page_voids, crate::proofs::VoidLaw::fragment_voids, crate::proofs::VoidLaw::built_voids, crate::proofs::VoidLaw::built_fragment_voids))]
+pub fn void_elements_are_empty()
+    ensures page { (flags : Flags) (page : List ℕ) →
+        AreVoidEmpty (html_tree_by flags page).trees }
+    ensures fragment { (flags : Flags) (context : Context) (bytes : List ℕ) →
+        AreVoidEmpty (html_fragment_by flags context bytes) }
+    ensures page_of_tokens { (flags : Flags) (tokens : List HtmlToken) →
+        AreVoidEmpty (tree_of_tokens flags tokens).trees }
+    ensures fragment_of_tokens { (flags : Flags) (context : Context) (tokens : List HtmlToken) →
+        AreVoidEmpty (fragment_of_tokens flags context tokens) }
+{}
+
+/// Each element, text, comment and doctype comes from a token, or is an element that is put in.
+#[tactic(auto, using(crate::proofs::SourceLaw::page_sources, crate::proofs::SourceLaw::fragment_sources, crate::proofs::SourceLaw::built_sources, crate::proofs::SourceLaw::built_fragment_sources))]
+pub fn trees_come_from_tokens()
+    ensures page { (flags : Flags) (page : List ℕ) →
+        ComeFrom (tokens_of_page flags page) (html_tree_by flags page).trees }
+    ensures fragment { (flags : Flags) (context : Context) (bytes : List ℕ) →
+        ComeFrom (tokens_of_fragment flags context bytes)
+        (html_fragment_by flags context bytes) }
+    ensures page_of_tokens { (flags : Flags) (tokens : List Token) →
+        ComeFrom tokens (page_built flags tokens).trees }
+    ensures fragment_of_tokens { (flags : Flags) (context : Context) (tokens : List Token) →
+        ComeFrom tokens (fragment_built flags context tokens) }
+{}
+
+/// A `template` alone has contents, and it is no element of `svg` or `math`.
+#[tactic(auto, using(crate::proofs::ContentsLaw::template_alone))]
+pub fn templates_alone_have_contents()
+    ensures { (tag : Tag) → (has_contents tag ≡ true)
+        ↔ ((tag.space ≡ html_space) × (tag.name ≡ codes "template")) }
+{}
