@@ -206,6 +206,7 @@ A page that may not be read, and one in a folder that may not be written, are to
   tl: closed: Permission denied (os error 13) (err)
   [4]
   $ chmod 600 closed
+  $ chmod 755 kept
   $ cat closed kept/page third
   <p>1<p>1<p k="v">1 (no-eol)
   $ ls kept
