@@ -13,3 +13,5 @@ pub mod NameLaw
 pub mod VoidLaw
 pub mod SourceLaw
 pub mod ContentsLaw
+pub mod Seats
+pub mod Seating
