@@ -45,6 +45,7 @@ named = record {
   Types = λ _. ⊤;
   Adds = λ _. ⊤;
   Reads = λ _. ⊤;
+  Seated = ⊥;
   stands = λ _ s. s;
   headed = λ _ _ s. s;
   adds = λ _ _ s _. s;

@@ -1,16 +1,19 @@
 -- What is done to a builder keeps `html` and `head` where they stand.
-use Rattle.std.proofs.Common.{◌≡◌, ℕ, zero, suc, ◌<◌, ◌≤◌, ◌==◌, Bool, true, false, not, ◌||◌, ◌&&◌, List, [], ◌∷◌, ◌++◌, Option, Some, None, map, refl, ap, sym, ◌∙◌, true≢false, arith, if◌then◌else◌}
+use Rattle.std.proofs.Common.{codes, is_none, subst, ◌≡◌, ℕ, zero, suc, ◌<◌, ◌≤◌, ◌==◌, Bool, true, false, not, ◌||◌, ◌&&◌, List, [], ◌∷◌, ◌++◌, Option, Some, None, map, refl, ap, sym, ◌∙◌, true≢false, arith, if◌then◌else◌}
 use Rattle.std.specs.Prelude.{⊤, nat_lt}
 use Rattle.std.specs.Str.{bytes_eq}
-use Rattle.std.proofs.lemmas.Bool.{cond_both, or_left, or_right}
+use Rattle.std.proofs.lemmas.Bool.{and_parts, and_right, cond_both, or_left, or_right}
 use Rattle.std.proofs.lemmas.Bool.Decides.{nat_tests}
-use Rattle.tl_dom_spec.specs.Tags.{Attribute, Tag, is_named, is_scope, is_special, is_template}
+use Rattle.tl_html_spec.specs.Balanced.{is_one_of, words}
+use Rattle.tl_dom_spec.specs.Body.{body_number, from_html}
+use Rattle.tl_dom_spec.proofs.VoidLaw.{any_word}
+use Rattle.tl_dom_spec.specs.Tags.{is_any, is_html, Attribute, Tag, is_named, is_scope, is_special, is_template}
 use Rattle.tl_dom_spec.specs.Path.{Frame, Nodes, Path, Place, and_comment, and_element, and_text, behind, elements, has_number, has_tag, here, into, into_head, is_open_number, new_frame, no_nodes, place_in, popped_through, put, settled_while, taken_out, within}
 use Rattle.tl_dom_spec.specs.Builder.{Again, Builder, Done, Entry, Outcome, add_attributes, appropriate_place, clear_to_last_marker, close_except_for, current_node, formatting, generate_implied_end_tags_except_for, insert_and_pop_at, insert_bytes, insert_comment_at, insert_element, insert_element_at, insert_marker, marker, pop_current_node, pop_until, repeated, without_last_marker}
 use Rattle.tl_dom_spec.specs.Formatting.{Listed, alike_count, insert_formatting_element, is_alike, is_entry, is_listed, listed, listed_behind, reconstruct_formatting, relisted, reopen, reopen_each, unlisted, with_room, without_earliest}
 use Rattle.tl_dom_spec.specs.Adoption.{Clones, adopted, adoption_agency, adoption_round, any_other_end_tag, cloned, entry_moved, first, furthest_block, inside_of, is_inside_of, moved_into, moved_place, outermost, outermost_at, outside_of, readopted, settled_to, with_block, with_formatting}
 use Rattle.tl_dom_spec.proofs.Allowed.{Each}
-use Rattle.tl_dom_spec.proofs.Seats.{Below, Placed, Seated, Seats, anywhere-Seated, ended, headed, heading, inside, left-Seated, low_most, more-Stays, new-Seats, place_in-Placed, placed-below, popped-Seats, popped_through-Seats, put-Seated, settled_while-Below, settled_while-Seats}
+use Rattle.tl_dom_spec.proofs.Seats.{IsDocument, IsHead, IsHeadFrame, IsRoot, Below, Placed, Seated, Seats, anywhere-Seated, ended, headed, heading, inside, left-Seated, low_most, more-Stays, new-Seats, place_in-Placed, placed-below, popped-Seats, popped_through-Seats, put-Seated, settled_while-Below, settled_while-Seats}
 
 abbrev pub IfSome : {X : Type 0} → (X → Type 0) → Option X → Type 0
 IfSome P None = ⊤
@@ -340,3 +343,50 @@ agency-Seating name b s =
     cond_both (is_named name (current_node b).tag && not (is_listed (current_node b).number b.active)) (pop_current_node b) (repeated 8 (adoption_round name) (Again b)) SeatingOf
     (λ _. on_path _ (popped-Seats b.path) s)
     (λ _. repeated-Seating 8 (adoption_round name) (Again b) (λ c t. with_formatting-Seating name c (listed name c.active) t (listed-above name c.active t.active)) s)
+
+-- the path up to `html`, where a `body` stands in it
+
+from_inside : (f : Frame) (low : ℕ) (path : Path) → Seated low path → from_html (f ∷ path) ≡ (if f.number == 1 then f ∷ path else from_html path)
+from_inside f low path (ended d n h) = refl
+from_inside f low path (headed h d r i b) = refl
+from_inside f low path (heading g h d r q i b) = refl
+from_inside f low path (inside o g p n q s) = refl
+
+from_html-Seated : (low : ℕ) (path : Path) → (low ≡ 2 → ⊥) → Seated low path → Seated low (from_html path)
+from_html-Seated low path e (ended d n h) = ended d n h
+from_html-Seated low path e (headed h d r i b) =
+    subst (λ (x : Bool). Seated 1 (if x then h ∷ d ∷ [] else from_html (d ∷ []))) (sym (ap (λ x. x == 1) r.number)) (headed h d r i b)
+from_html-Seated low path e (heading f h d r q i b) = absurd (e refl)
+from_html-Seated low path e (inside o f p n q s) =
+    subst (Seated o) (sym (from_inside f o p s))
+    (cond_both (f.number == 1) (f ∷ p) (from_html p) (Seated o) (λ _. inside o f p n q s) (λ _. from_html-Seated o p e s))
+
+head_no_body : (t : Tag) → IsHead t → is_any (codes "body") t ≡ false
+head_no_body t e =
+    and_right (is_html t) (is_one_of (codes "body") t.name)
+    (any_word (λ name. is_one_of (codes "body") name ≡ false) (words (codes "head")) t.name (refl, tt) (and_parts (is_html t) (is_one_of (codes "head") t.name) e).1)
+
+-- two elements at least, of which the second to last is no body
+abbrev NoBody : List Frame → Type 0
+NoBody fs = (g : Frame) × (h : Frame) × (more : List Frame) × (fs ≡ g ∷ h ∷ more) × (body_number (g ∷ h ∷ more) ≡ None)
+
+heading-elements : (f h d : Frame) → IsHeadFrame f → IsRoot h → IsDocument d → elements (f ∷ h ∷ d ∷ []) ≡ f ∷ h ∷ []
+heading-elements f h d r q b =
+    ap (λ (x : Bool). if x then f ∷ elements (h ∷ d ∷ []) else elements (h ∷ d ∷ [])) r.open_still
+    ∙ ap (λ (x : Bool). f ∷ (if x then h ∷ elements (d ∷ []) else elements (d ∷ []))) q.open_still
+    ∙ ap (λ (x : Bool). f ∷ h ∷ (if x then d ∷ [] else [])) b.closed
+
+no_body : (low : ℕ) (path : Path) → low ≡ 2 → Seated low path → NoBody (elements path)
+no_body low path e (ended d n h) = absurd (omega (arith, e))
+no_body low path e (headed h d r i b) = absurd (omega (arith, e))
+no_body low path e (heading f h d r q i b) =
+    (f, h, [], heading-elements f h d r q b, ap (λ (x : Bool). if x then Some f.number else None) (head_no_body f.tag r.tag))
+no_body low path e (inside o f p n q s) =
+    let more = no_body o p e s in
+    cond_both f.is_open (f ∷ elements p) (elements p) NoBody
+    (λ _. (f, more.0, more.1 ∷ more.2, ap (λ x. f ∷ x) more.3, more.4)) (λ _. more)
+
+pub from_html-Seats : (k : ℕ) (path : Path) → body_number (elements path) ≡ Some k → Seats path → Seats (from_html path)
+from_html-Seats k path e s =
+    (s.0, from_html-Seated s.0 path (λ two. let more = no_body s.0 path two s.1 in
+    true≢false (ap is_none (sym more.4 ∙ sym (ap body_number more.3) ∙ e))) s.1)

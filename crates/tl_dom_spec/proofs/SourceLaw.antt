@@ -27,6 +27,7 @@ from tokens = record {
   Types = λ own. IsIn (a_doctype own) tokens;
   Adds = λ more. (g : Group) × (t : Tag) × (closes : Bool) × (adds_attributes g ≡ true) × IsIn (a_start g t closes) tokens × (t.attributes ≡ more);
   Reads = λ _. ⊤;
+  Seated = ⊥;
   stands = λ _ s. s;
   headed = λ _ _ s. s;
   adds = λ own more o a. subst (λ x. IsTagOf tokens (with_more x own)) a.5 (with_added a.0 a.1 own a.2 a.3 a.4 o);

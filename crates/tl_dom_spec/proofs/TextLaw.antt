@@ -39,6 +39,7 @@ anything = record {
   Types = λ _. ⊤;
   Adds = λ _. ⊤;
   Reads = λ _. ⊤;
+  Seated = ⊥;
   stands = λ _ _. tt;
   headed = λ _ _ _. tt;
   adds = λ _ _ _ _. tt;

@@ -65,6 +65,7 @@ voids = record {
   Types = λ _. ⊤;
   Adds = λ _. ⊤;
   Reads = λ _. ⊤;
+  Seated = ⊥;
   stands = λ _ _. tt;
   headed = λ t e _. head_is_no_void t e;
   adds = λ _ _ o _. o;
