@@ -1,17 +1,17 @@
 -- What is done to a builder keeps `html` and `head` where they stand.
-use Rattle.std.proofs.Common.{codes, is_none, subst, ◌≡◌, ℕ, zero, suc, ◌<◌, ◌≤◌, ◌==◌, Bool, true, false, not, ◌||◌, ◌&&◌, List, [], ◌∷◌, ◌++◌, Option, Some, None, map, refl, ap, sym, ◌∙◌, true≢false, arith, if◌then◌else◌}
+use Rattle.std.proofs.Common.{codes, is_none, subst, ◌≡◌, ℕ, zero, suc, ◌<◌, ◌≤◌, ◌==◌, Bool, true, false, not, ◌||◌, ◌&&◌, List, [], ◌∷◌, ◌++◌, Option, Some, None, refl, ap, sym, ◌∙◌, true≢false, arith, if◌then◌else◌}
 use Rattle.std.specs.Prelude.{⊤, nat_lt}
 use Rattle.std.specs.Str.{bytes_eq}
 use Rattle.std.proofs.lemmas.Bool.{and_parts, and_right, cond_both, or_left, or_right}
 use Rattle.std.proofs.lemmas.Bool.Decides.{nat_tests}
 use Rattle.tl_html_spec.specs.Balanced.{is_one_of, words}
 use Rattle.tl_dom_spec.specs.Body.{body_number, from_html}
-use Rattle.tl_dom_spec.proofs.VoidLaw.{any_word}
-use Rattle.tl_dom_spec.specs.Tags.{is_any, is_html, Attribute, Tag, is_named, is_scope, is_special, is_template}
-use Rattle.tl_dom_spec.specs.Path.{Frame, Nodes, Path, Place, and_comment, and_element, and_text, behind, elements, has_number, has_tag, here, into, into_head, is_open_number, new_frame, no_nodes, place_in, popped_through, put, settled_while, taken_out, within}
-use Rattle.tl_dom_spec.specs.Builder.{Again, Builder, Done, Entry, Outcome, add_attributes, appropriate_place, clear_to_last_marker, close_except_for, current_node, formatting, generate_implied_end_tags_except_for, insert_and_pop_at, insert_bytes, insert_comment_at, insert_element, insert_element_at, insert_marker, marker, pop_current_node, pop_until, repeated, without_last_marker}
+use Rattle.tl_dom_spec.proofs.Words.{any_word}
+use Rattle.tl_dom_spec.specs.Tags.{is_any, is_html, Attribute, Tag, is_named, is_scope, is_special}
+use Rattle.tl_dom_spec.specs.Path.{Frame, Nodes, Path, Place, and_element, behind, elements, has_number, has_tag, here, into, into_head, is_open_number, new_frame, no_nodes, place_in, put, taken_out, within}
+use Rattle.tl_dom_spec.specs.Builder.{Again, Builder, Done, Entry, Outcome, add_attributes, appropriate_place, close_except_for, current_node, formatting, insert_and_pop_at, insert_element_at, marker, pop_current_node, repeated, without_last_marker}
 use Rattle.tl_dom_spec.specs.Formatting.{Listed, alike_count, insert_formatting_element, is_alike, is_entry, is_listed, listed, listed_behind, reconstruct_formatting, relisted, reopen, reopen_each, unlisted, with_room, without_earliest}
-use Rattle.tl_dom_spec.specs.Adoption.{Clones, adopted, adoption_agency, adoption_round, any_other_end_tag, cloned, entry_moved, first, furthest_block, inside_of, is_inside_of, moved_into, moved_place, outermost, outermost_at, outside_of, readopted, settled_to, with_block, with_formatting}
+use Rattle.tl_dom_spec.specs.Adoption.{Clones, adopted, adoption_agency, adoption_round, any_other_end_tag, cloned, entry_moved, first, furthest_block, inside_of, moved_into, moved_place, outermost, outermost_at, outside_of, settled_to, with_block, with_formatting}
 use Rattle.tl_dom_spec.proofs.Allowed.{Each}
 use Rattle.tl_dom_spec.proofs.Seats.{IsDocument, IsHead, IsHeadFrame, IsRoot, Below, Placed, Seated, Seats, anywhere-Seated, ended, headed, heading, inside, left-Seated, low_most, more-Stays, new-Seats, place_in-Placed, placed-below, popped-Seats, popped_through-Seats, put-Seated, settled_while-Below, settled_while-Seats}
 
@@ -294,13 +294,16 @@ adopted-Seating b own block clones outer s w c t =
     let front : Path = record block { children = no_nodes; waiting = no_nodes; place = here } ∷ clones.frames in
     let place : Place = place_in b.is_fostering outer in
     let around = loose-append low (outermost_at place front) outer
-        (outermost_at-loose low place front (place_in-Placed b.is_fostering outer (low, t.2)) ((w.0, tt), free-loose low clones.frames c.frames)) t.2 in
+    (outermost_at-loose low place front (place_in-Placed b.is_fostering outer (low, t.2)) ((w.0, tt), free-loose low clones.frames c.frames)) t.2 in
     let new : Frame = record (new_frame clones.next own.tag here) { children = block.children; waiting = block.waiting } in
     let readopted_is = inside low new (outermost_at place front ++ outer) c.next tt around in
     record {
-      seats = (low, loose-append low (moved_into block.number clones.next (inside_of block.number b.path)) (new ∷ (outermost_at place front ++ outer))
-          (moved-loose low s.seats.0 block.number clones.next (inside_of block.number b.path) t.1 within (inside-loose block.number s.seats.0 b.path w.0 w.1 s.seats.1))
-          readopted_is);
+      seats = (
+        low,
+        loose-append low (moved_into block.number clones.next (inside_of block.number b.path)) (new ∷ (outermost_at place front ++ outer))
+            (moved-loose low s.seats.0 block.number clones.next (inside_of block.number b.path) t.1 within (inside-loose block.number s.seats.0 b.path w.0 w.1 s.seats.1))
+            readopted_is,
+      );
       active = moved-above own.number clones.next own.tag clones.frames clones.entries c.next c.entries;
       next = omega (arith, c.next);
       form = s.form;
@@ -387,6 +390,8 @@ no_body low path e (inside o f p n q s) =
     (λ _. (f, more.0, more.1 ∷ more.2, ap (λ x. f ∷ x) more.3, more.4)) (λ _. more)
 
 pub from_html-Seats : (k : ℕ) (path : Path) → body_number (elements path) ≡ Some k → Seats path → Seats (from_html path)
-from_html-Seats k path e s =
-    (s.0, from_html-Seated s.0 path (λ two. let more = no_body s.0 path two s.1 in
-    true≢false (ap is_none (sym more.4 ∙ sym (ap body_number more.3) ∙ e))) s.1)
+from_html-Seats k path e s = (
+  s.0,
+  from_html-Seated s.0 path (λ two. let more = no_body s.0 path two s.1 in
+      true≢false (ap is_none (sym more.4 ∙ sym (ap body_number more.3) ∙ e))) s.1,
+)

@@ -1,14 +1,14 @@
 -- Where `html` and `head` stand on the path of a page, from the start tag of `head` on: whatever is done to the path, the first
 -- element of the document is the one, and the first element in it the other.
-use Rattle.std.proofs.Common.{◌≡◌, ℕ, zero, suc, ◌<◌, ◌≤◌, ◌==◌, Bool, true, false, not, ◌||◌, ◌&&◌, List, [], ◌∷◌, ◌++◌, ◌⊎◌, Option, Some, None, map, codes, refl, ap, sym, ◌∙◌, subst, inl, inr, true≢false, arith, if◌then◌else◌}
+use Rattle.std.proofs.Common.{◌≡◌, ℕ, ◌<◌, ◌≤◌, ◌==◌, Bool, true, false, not, ◌||◌, ◌&&◌, List, [], ◌∷◌, ◌⊎◌, codes, refl, ap, sym, ◌∙◌, subst, inl, inr, arith, if◌then◌else◌}
 use Rattle.std.specs.Prelude.{⊤}
 use Rattle.std.proofs.lemmas.Bool.{and_left, and_parts, and_right, cond_both}
 use Rattle.std.proofs.lemmas.Bool.Decides.{nat_tests}
 use Rattle.tl_html_spec.specs.Balanced.{is_one_of, words}
 use Rattle.tl_dom_spec.specs.Tags.{Attribute, Tag, is_any, is_html, is_table, is_template}
-use Rattle.tl_dom_spec.specs.Path.{Frame, Nodes, Path, Place, and_comment, and_doctype, and_element, and_text, at_head, at_number, behind, caught_up, document, foster_place, here, into, into_head, joined, new_frame, no_nodes, node_of, on_top, place_in, place_of, popped, popped_through, popped_to, put, settled_at, settled_while, top, top_settled, with_nodes, with_text, with_waiting}
+use Rattle.tl_dom_spec.specs.Path.{Frame, Nodes, Path, Place, and_comment, and_doctype, and_element, and_text, at_head, at_number, behind, caught_up, foster_place, here, into, into_head, joined, new_frame, no_nodes, node_of, on_top, place_in, place_of, popped, popped_through, popped_to, put, settled_at, settled_while, top, top_settled, with_nodes, with_text, with_waiting}
 use Rattle.tl_dom_spec.specs.Builder.{pushed_at, with_more}
-use Rattle.tl_dom_spec.proofs.VoidLaw.{any_word}
+use Rattle.tl_dom_spec.proofs.Words.{any_word}
 
 -- nodes
 
