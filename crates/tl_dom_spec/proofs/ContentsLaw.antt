@@ -4,7 +4,7 @@ use Rattle.std.proofs.lemmas.Bool.{and_parts}
 use Rattle.tl_html_spec.specs.Balanced.{is_one_of, words}
 use Rattle.tl_dom_spec.specs.Tags.{Namespace, Tag, html_space, is_html, is_template, math_space, svg_space}
 use Rattle.tl_dom_spec.specs.HtmlForest.{has_contents}
-use Rattle.tl_dom_spec.proofs.VoidLaw.{any_word}
+use Rattle.tl_dom_spec.proofs.Words.{any_word}
 
 space_of : (t : Tag) (space : Namespace) → t.space ≡ space → is_html t ≡ true → t.space ≡ html_space
 space_of t html_space e h = e

@@ -3,7 +3,7 @@ use Rattle.std.proofs.Common.{Bool, List, [], codes, false, if◌then◌else◌,
 use Rattle.std.specs.Prelude.{nat_lt}
 use Rattle.std.specs.Char.{is_ascii_whitespace}
 use Rattle.std.proofs.lemmas.Bool.{cond_both}
-use Rattle.tl_html_spec.specs.HtmlTokenizer.{replacement}
+use Rattle.tl_html_spec.specs.HtmlTokenizer.{data_state, replacement}
 use Rattle.tl_html_spec.specs.Balanced.{is_one_of}
 use Rattle.tl_dom_spec.specs.Tags.{Namespace, Tag, is_annotation, is_html, is_html_integration_point, is_text_integration_point}
 use Rattle.tl_dom_spec.specs.Groups.{Group, a_break, a_paragraph}
@@ -13,8 +13,7 @@ use Rattle.tl_dom_spec.specs.Adjusted.{foreign_name, insert_foreign_element}
 use Rattle.tl_dom_spec.specs.Dispatcher.{Found, bound, breaks_out, broken_out, by_mode, calm, count_token, dispatch, excess_of, foreign_character, foreign_end, foreign_end_at, foreign_start, foreign_step, found_in, html_step, is_html_content, is_html_place, is_line_feed, is_svg_start, mode_step, nothing, the_frame, token_done, tokens_done}
 use Rattle.tl_dom_spec.specs.HtmlTree.{Context, fragment_start, page_start}
 use Rattle.tl_dom_spec.proofs.Allowed.{Allowed, Each}
-use Rattle.tl_dom_spec.proofs.Paths.{popped_through-Frames, popped_to-Frames}
-use Rattle.tl_dom_spec.proofs.Builders.{Holds, HoldsAfter, bytes-Holds, character-Holds, comment-Holds, either, either-after, repeated-Holds}
+use Rattle.tl_dom_spec.proofs.Kept.{Holds, HoldsAfter, bytes-Holds, character-Holds, comment-Holds, either, either-after, popped_through-Holds, popped_to-Holds, reads-Holds, repeated-Holds}
 use Rattle.tl_dom_spec.proofs.HeadRules.{Allows, Starts, after_head_step-Holds, before_head_step-Holds, before_html_step-Holds, in_head_noscript_step-Holds, in_head_step-Holds, initial_step-Holds, text_step-Holds}
 use Rattle.tl_dom_spec.proofs.BodyRules.{foreign-Holds, in_body_step-Holds}
 use Rattle.tl_dom_spec.proofs.TableRules.{in_caption_step-Holds, in_cell_step-Holds, in_column_group_step-Holds, in_row_step-Holds, in_table_body_step-Holds, in_table_step-Holds, in_table_text_step-Holds}
@@ -49,7 +48,7 @@ html_step-Holds R b token k h = mode_step-Holds R b.mode b token k h
 -- foreign content
 
 broken_out-Holds : (R : Allowed) (b : Builder) → Holds R b → Holds R (broken_out b)
-broken_out-Holds R b h = (popped_to-Frames R is_html_place b.path h.0, h.1, h.2, h.3)
+broken_out-Holds R b h = popped_to-Holds R is_html_place b h
 
 foreign_character-Holds : (R : Allowed) (c : ℕ) (b : Builder) → R.Says c → Holds R b → Holds R (foreign_character c b)
 foreign_character-Holds R c b k h =
@@ -66,7 +65,7 @@ foreign_start-Holds R b g t closes e k h =
     (foreign-Holds R space own closes b (k.foreign space e) h)
 
 foreign_end_at-Holds : (R : Allowed) (found : Found) (b : Builder) (g : Group) (name : List ℕ) → Holds R b → HoldsAfter R (foreign_end_at found b g name)
-foreign_end_at-Holds R (the_frame k) b g name h = (popped_through-Frames R (has_number k) b.path h.0, h.1, h.2, h.3)
+foreign_end_at-Holds R (the_frame k) b g name h = popped_through-Holds R (has_number k) b h
 foreign_end_at-Holds R by_mode b g name h = html_step-Holds R b (an_end g name) tt h
 foreign_end_at-Holds R nothing b g name h = h
 
@@ -100,7 +99,7 @@ dispatch-Holds R token b k h =
     (λ _. html_step-Holds R b token k h) (λ e. foreign_step-Holds R b token e k h)
 
 calm-Holds : (R : Allowed) (b : Builder) → Holds R b → Holds R (calm b)
-calm-Holds R b h = (h.0, h.1, h.2, R.data_read)
+calm-Holds R b h = reads-Holds R data_state b R.data_read h
 
 count-Holds : (R : Allowed) (b : Builder) → Holds R b → Holds R (count_token b)
 count-Holds R b h =
@@ -121,9 +120,9 @@ tokens-Holds R b (token ∷ tokens) k h = tokens-Holds R (token_done b token) to
 
 -- before the first token
 
-pub page_start-Holds : (R : Allowed) (flags : Flags) → Holds R (page_start flags)
-page_start-Holds R flags = (((tt, tt), (λ e. absurd (true≢false (sym e))), tt), tt, tt, R.data_read)
+pub page_start-Holds : (R : Allowed) (flags : Flags) → (R.Seated → ⊥) → Holds R (page_start flags)
+page_start-Holds R flags n = ((((tt, tt), (λ e. absurd (true≢false (sym e))), tt), tt, tt, R.data_read), λ s. absurd (n s))
 
-pub fragment_start-Holds : (R : Allowed) (flags : Flags) (context : Context) → Holds R (fragment_start flags context)
-fragment_start-Holds R flags context =
-    (((tt, tt), R.html, ((tt, tt), (λ e. absurd (true≢false (sym e))), tt)), tt, tt, R.data_read)
+pub fragment_start-Holds : (R : Allowed) (flags : Flags) (context : Context) → (R.Seated → ⊥) → Holds R (fragment_start flags context)
+fragment_start-Holds R flags context n =
+    ((((tt, tt), R.html, ((tt, tt), (λ e. absurd (true≢false (sym e))), tt)), tt, tt, R.data_read), λ s. absurd (n s))

@@ -5,15 +5,15 @@ use Rattle.std.specs.Char.{is_ascii_whitespace}
 use Rattle.tl_html_spec.specs.HtmlTokenizer.{after_start}
 use Rattle.tl_dom_spec.specs.Tags.{Namespace, Tag, bare_tag, by_space, math_space, svg_space}
 use Rattle.tl_dom_spec.specs.Groups.{Group, a_base, a_break, a_column, a_detail, a_frame, a_frameset, a_link, a_math, a_noframes, a_noscript, a_rule, a_script, a_style, a_template, a_title, a_void, an_image, an_input, the_body, the_head, the_html}
-use Rattle.tl_dom_spec.specs.Path.{Place, and_doctype, here, into_head, no_nodes}
+use Rattle.tl_dom_spec.specs.Path.{Place, into_head}
 use Rattle.tl_dom_spec.specs.Builder.{Again, Builder, Done, Outcome, Token, a_character, a_comment, a_doctype, a_start, add_attributes, an_end, appropriate_place, end_of_file, frameset_not_ok, has_template, in_head_noscript, insert_character, insert_element, insert_element_at, insert_marker, parse_raw_text, state_inside, switch_to}
 use Rattle.tl_dom_spec.specs.Adjusted.{foreign_name, foreign_tag}
 use Rattle.tl_dom_spec.specs.Head.{after_head_end, after_head_start, after_head_step, before_head_start, before_head_step, before_html_start, before_html_step, body_implied, done_or, head_closed, head_implied, head_opened, head_part, html_implied, html_opened, html_start, in_head_end, in_head_noscript_step, in_head_start, in_head_step, initial_step, is_body_end, is_head_end, noscript_closed, noscript_end, noscript_in_head, noscript_start, template_opened, text_closed, text_step, without_doctype}
 use Rattle.tl_dom_spec.specs.Dispatcher.{is_svg_start}
 use Rattle.tl_dom_spec.specs.Lawful.{adds_attributes}
 use Rattle.tl_dom_spec.proofs.Allowed.{Allowed}
-use Rattle.tl_dom_spec.proofs.Paths.{put-Frames}
-use Rattle.tl_dom_spec.proofs.Builders.{Holds, HoldsAfter, alone_at-Holds, attributes-Holds, character-Holds, comment-Holds, either, either-after, insert-Holds, insert_at-Holds, marker-Holds, pop-Holds, raw_text-Holds, raw_text_at-Holds, template_end_tag-Holds}
+use Rattle.tl_dom_spec.proofs.Seating.{Fits, appropriate-Fits}
+use Rattle.tl_dom_spec.proofs.Kept.{Holds, HoldsAfter, alone_at-Holds, attributes-Holds, character-Holds, comment-Holds, doctype-Holds, either, either-after, insert-Holds, insert_at-Holds, marker-Holds, pop-Holds, raw_text-Holds, raw_text_at-Holds, template_end_tag-Holds}
 
 -- whether an element of the group is inserted and popped at once, so that nothing stands below it
 abbrev pub is_alone : Group → Bool
@@ -72,7 +72,7 @@ without_doctype-Holds R b h = h
 pub initial_step-Holds : (R : Allowed) (b : Builder) (token : Token) → Allows R token → Holds R b → HoldsAfter R (initial_step b token)
 initial_step-Holds R b (a_character c) k h = either-after R (is_ascii_whitespace c) (Done b) (without_doctype b) h (without_doctype-Holds R b h)
 initial_step-Holds R b (a_comment bytes) k h = comment-Holds R bytes b k h
-initial_step-Holds R b (a_doctype own) k h = (put-Frames R here (and_doctype no_nodes own) b.path (k, tt) h.0, h.1, h.2, h.3)
+initial_step-Holds R b (a_doctype own) k h = doctype-Holds R own b k h
 initial_step-Holds R b _ k h = without_doctype-Holds R b h
 
 pub html_opened-Holds : (R : Allowed) (b : Builder) (t : Tag) → R.Opens t → Holds R b → Holds R (html_opened b t)
@@ -115,8 +115,8 @@ before_head_step-Holds R b end_of_file k h = head_implied-Holds R b h
 pub head_closed-Holds : (R : Allowed) (b : Builder) → Holds R b → Holds R (head_closed b)
 head_closed-Holds R b h = pop-Holds R b h
 
-pub template_opened-Holds : (R : Allowed) (place : Place) (t : Tag) (b : Builder) → R.Opens t → Holds R b → Holds R (template_opened place t b)
-template_opened-Holds R where_to t b o h = let opened = insert_element_at where_to t (frameset_not_ok (insert_marker b)) in (insert_at-Holds R where_to t (frameset_not_ok (insert_marker b)) o (marker-Holds R b h))
+pub template_opened-Holds : (R : Allowed) (place : Place) (t : Tag) (b : Builder) → Fits place b.path → R.Opens t → Holds R b → Holds R (template_opened place t b)
+template_opened-Holds R where_to t b f o h = let opened = insert_element_at where_to t (frameset_not_ok (insert_marker b)) in (insert_at-Holds R where_to t (frameset_not_ok (insert_marker b)) f o (marker-Holds R b h))
 
 pub noscript_in_head-Holds : (R : Allowed) (b : Builder) (t : Tag) → R.Opens t → R.Reads (state_inside t.name) → Holds R b → Holds R (noscript_in_head b t)
 noscript_in_head-Holds R b t o r h = either R b.flags.is_scripting (parse_raw_text t b) (switch_to in_head_noscript (insert_element t b)) (raw_text-Holds R t b o r h) (insert-Holds R t b o h)
@@ -129,15 +129,15 @@ in_head_end-Holds R b g h = either-after R (is_body_end g) (Again (head_closed b
 pub noscript_closed-Holds : (R : Allowed) (b : Builder) → Holds R b → Holds R (noscript_closed b)
 noscript_closed-Holds R b h = pop-Holds R b h
 
-pub head_part-Holds : (R : Allowed) (place : Place) (g : Group) (t : Tag) (b : Builder) → Starts R g t → Holds R b → HoldsIf R (head_part place g t b)
-head_part-Holds R place a_base t b k h = alone_at-Holds R place t b k.alone h
-head_part-Holds R place a_link t b k h = alone_at-Holds R place t b k.alone h
-head_part-Holds R place a_title t b k h = raw_text_at-Holds R place t b (k.opens refl) k.inside h
-head_part-Holds R place a_noframes t b k h = raw_text_at-Holds R place t b (k.opens refl) k.inside h
-head_part-Holds R place a_style t b k h = raw_text_at-Holds R place t b (k.opens refl) k.inside h
-head_part-Holds R place a_script t b k h = raw_text_at-Holds R place t b (k.opens refl) k.inside h
-head_part-Holds R place a_template t b k h = template_opened-Holds R place t b (k.opens refl) h
-head_part-Holds R place g t b k h = tt
+pub head_part-Holds : (R : Allowed) (place : Place) (g : Group) (t : Tag) (b : Builder) → Fits place b.path → Starts R g t → Holds R b → HoldsIf R (head_part place g t b)
+head_part-Holds R place a_base t b f k h = alone_at-Holds R place t b f k.alone h
+head_part-Holds R place a_link t b f k h = alone_at-Holds R place t b f k.alone h
+head_part-Holds R place a_title t b f k h = raw_text_at-Holds R place t b f (k.opens refl) k.inside h
+head_part-Holds R place a_noframes t b f k h = raw_text_at-Holds R place t b f (k.opens refl) k.inside h
+head_part-Holds R place a_style t b f k h = raw_text_at-Holds R place t b f (k.opens refl) k.inside h
+head_part-Holds R place a_script t b f k h = raw_text_at-Holds R place t b f (k.opens refl) k.inside h
+head_part-Holds R place a_template t b f k h = template_opened-Holds R place t b f (k.opens refl) h
+head_part-Holds R place g t b f k h = tt
 
 done_or-Holds : (R : Allowed) (other : Outcome) (b : Option Builder) → HoldsAfter R other → HoldsIf R b → HoldsAfter R (done_or other b)
 done_or-Holds R other None h k = h
@@ -148,7 +148,7 @@ in_head_start-Holds R b the_html t k h = html_start-Holds R b t (k.more refl) h
 in_head_start-Holds R b the_head t k h = h
 in_head_start-Holds R b a_noscript t k h = noscript_in_head-Holds R b t (k.opens refl) k.inside h
 in_head_start-Holds R b g t k h =
-    done_or-Holds R (Again (head_closed b)) (head_part (appropriate_place b) g t b) (head_closed-Holds R b h) (head_part-Holds R (appropriate_place b) g t b k h)
+    done_or-Holds R (Again (head_closed b)) (head_part (appropriate_place b) g t b) (head_closed-Holds R b h) (head_part-Holds R (appropriate_place b) g t b (appropriate-Fits b) k h)
 
 pub in_head_step-Holds : (R : Allowed) (b : Builder) (token : Token) → Allows R token → Holds R b → HoldsAfter R (in_head_step b token)
 in_head_step-Holds R b (a_character c) k h = either-after R (is_ascii_whitespace c) (Done (insert_character c b)) (Again (head_closed b)) (character-Holds R c b k h) (head_closed-Holds R b h)
@@ -192,7 +192,7 @@ after_head_start-Holds R b the_html t k h = html_start-Holds R b t (k.more refl)
 after_head_start-Holds R b the_body t k h = insert-Holds R t b (k.opens refl) h
 after_head_start-Holds R b a_frameset t k h = insert-Holds R t b (k.opens refl) h
 after_head_start-Holds R b the_head t k h = h
-after_head_start-Holds R b g t k h = done_or-Holds R (body_implied b) (head_part into_head g t b) (body_implied-Holds R b h) (head_part-Holds R into_head g t b k h)
+after_head_start-Holds R b g t k h = done_or-Holds R (body_implied b) (head_part into_head g t b) (body_implied-Holds R b h) (head_part-Holds R into_head g t b (λ _. tt) k h)
 
 pub after_head_step-Holds : (R : Allowed) (b : Builder) (token : Token) → Allows R token → Holds R b → HoldsAfter R (after_head_step b token)
 after_head_step-Holds R b (a_character c) k h = either-after R (is_ascii_whitespace c) (Done (insert_character c b)) (body_implied b) (character-Holds R c b k h) (body_implied-Holds R b h)

@@ -1,7 +1,11 @@
 pub mod Allowed
+pub mod Words
 pub mod Paths
 pub mod Builders
 pub mod Adopting
+pub mod Seats
+pub mod Seating
+pub mod Kept
 pub mod HeadRules
 pub mod BodyRules
 pub mod TableRules

@@ -8,7 +8,7 @@ use Rattle.tl_dom_spec.specs.Builder.{Builder, Done, Token, a_character, a_comme
 use Rattle.tl_dom_spec.specs.Body.{in_body_step}
 use Rattle.tl_dom_spec.specs.Outer.{after_after_body_step, after_after_frameset_step, after_body_end, after_body_start, after_body_step, after_frameset_end, after_frameset_start, after_frameset_step, back_in_body, frameset_closed, frameset_end, frameset_start, in_frameset_step, in_template_step, template_end, template_start}
 use Rattle.tl_dom_spec.proofs.Allowed.{Allowed}
-use Rattle.tl_dom_spec.proofs.Builders.{Holds, HoldsAfter, alone-Holds, character-Holds, comment-Holds, comment_at-Holds, either, either-after, insert-Holds, pop-Holds, template_end_tag-Holds}
+use Rattle.tl_dom_spec.proofs.Kept.{Holds, HoldsAfter, alone-Holds, character-Holds, comment-Holds, comment_at-Holds, either, either-after, insert-Holds, pop-Holds, template_end_tag-Holds}
 use Rattle.tl_dom_spec.proofs.HeadRules.{Allows, Starts, html_start-Holds, in_head_start-Holds}
 use Rattle.tl_dom_spec.proofs.BodyRules.{in_body_step-Holds}
 
@@ -44,7 +44,7 @@ after_body_end-Holds R b g h = back_in_body-Holds R b h
 
 pub after_body_step-Holds : (R : Allowed) (b : Builder) (token : Token) → Allows R token → Holds R b → HoldsAfter R (after_body_step b token)
 after_body_step-Holds R b (a_character c) k h = either-after R (is_ascii_whitespace c) (in_body_step b (a_character c)) (back_in_body b) (in_body_step-Holds R b (a_character c) k h) (back_in_body-Holds R b h)
-after_body_step-Holds R b (a_comment bytes) k h = comment_at-Holds R (behind 1) bytes b k h
+after_body_step-Holds R b (a_comment bytes) k h = comment_at-Holds R (behind 1) bytes b (λ _. tt) k h
 after_body_step-Holds R b (a_doctype own) k h = h
 after_body_step-Holds R b (a_start g t closes) k h = after_body_start-Holds R b g t k h
 after_body_step-Holds R b (an_end g name) k h = after_body_end-Holds R b g h
@@ -91,7 +91,7 @@ after_frameset_step-Holds R b end_of_file k h = h
 
 pub after_after_body_step-Holds : (R : Allowed) (b : Builder) (token : Token) → Allows R token → Holds R b → HoldsAfter R (after_after_body_step b token)
 after_after_body_step-Holds R b (a_character c) k h = either-after R (is_ascii_whitespace c) (in_body_step b (a_character c)) (back_in_body b) (in_body_step-Holds R b (a_character c) k h) (back_in_body-Holds R b h)
-after_after_body_step-Holds R b (a_comment bytes) k h = comment_at-Holds R (behind 0) bytes b k h
+after_after_body_step-Holds R b (a_comment bytes) k h = comment_at-Holds R (behind 0) bytes b (λ _. tt) k h
 after_after_body_step-Holds R b (a_doctype own) k h = h
 after_after_body_step-Holds R b (a_start g t closes) k h = after_body_start-Holds R b g t k h
 after_after_body_step-Holds R b (an_end g name) k h = back_in_body-Holds R b h
@@ -99,7 +99,7 @@ after_after_body_step-Holds R b end_of_file k h = h
 
 pub after_after_frameset_step-Holds : (R : Allowed) (b : Builder) (token : Token) → Allows R token → Holds R b → HoldsAfter R (after_after_frameset_step b token)
 after_after_frameset_step-Holds R b (a_character c) k h = either-after R (is_ascii_whitespace c) (in_body_step b (a_character c)) (Done b) (in_body_step-Holds R b (a_character c) k h) h
-after_after_frameset_step-Holds R b (a_comment bytes) k h = comment_at-Holds R (behind 0) bytes b k h
+after_after_frameset_step-Holds R b (a_comment bytes) k h = comment_at-Holds R (behind 0) bytes b (λ _. tt) k h
 after_after_frameset_step-Holds R b (a_doctype own) k h = h
 after_after_frameset_step-Holds R b (a_start g t closes) k h = after_frameset_start-Holds R b g t k h
 after_after_frameset_step-Holds R b (an_end g name) k h = h

@@ -174,7 +174,8 @@ module _ (R : Allowed) where
 
   pub from_html-Frames : (path : Path) → Frames path → Frames (from_html path)
   from_html-Frames [] h = tt
-  from_html-Frames (f ∷ path) h = cond_both (f.number == 1) _ _ Frames (λ _. h) (λ _. from_html-Frames path h.2)
+  from_html-Frames (f ∷ []) h = h
+  from_html-Frames (f ∷ g ∷ path) h = cond_both (f.number == 1) _ _ Frames (λ _. h) (λ _. from_html-Frames (g ∷ path) h.2)
 
   -- what is on top, at the end
   pub top-Inner : (path : Path) → Frames path → Inner (top path)

@@ -27,6 +27,7 @@ from tokens = record {
   Types = λ own. IsIn (a_doctype own) tokens;
   Adds = λ more. (g : Group) × (t : Tag) × (closes : Bool) × (adds_attributes g ≡ true) × IsIn (a_start g t closes) tokens × (t.attributes ≡ more);
   Reads = λ _. ⊤;
+  Seated = ⊥;
   stands = λ _ s. s;
   headed = λ _ _ s. s;
   adds = λ own more o a. subst (λ x. IsTagOf tokens (with_more x own)) a.5 (with_added a.0 a.1 own a.2 a.3 a.4 o);
@@ -96,11 +97,11 @@ sources_of tokens trees f = record {
 }
 
 pub built_sources : (flags : Flags) (tokens : List Token) → ComeFrom tokens (page_built flags tokens).trees
-built_sources flags tokens = sources_of tokens (page_built flags tokens).trees (page-Follows (from tokens) flags tokens (tokens_from tokens))
+built_sources flags tokens = sources_of tokens (page_built flags tokens).trees (page-Follows (from tokens) flags tokens (λ s. s) (tokens_from tokens))
 
 pub built_fragment_sources : (flags : Flags) (context : Context) (tokens : List Token) → ComeFrom tokens (fragment_built flags context tokens)
 built_fragment_sources flags context tokens =
-    sources_of tokens (fragment_built flags context tokens) (fragment-Follows (from tokens) flags context tokens (tokens_from tokens))
+    sources_of tokens (fragment_built flags context tokens) (fragment-Follows (from tokens) flags context tokens (λ s. s) (tokens_from tokens))
 
 pub page_sources : (flags : Flags) (page : List ℕ) → ComeFrom (tokens_of_page flags page) (html_tree_by flags page).trees
 page_sources flags page =

@@ -9,8 +9,8 @@ use Rattle.tl_dom_spec.specs.Groups.{Group, a_caption, a_cell, a_column, a_colum
 use Rattle.tl_dom_spec.specs.Builder.{Again, Builder, Done, Token, a_character, a_comment, a_doctype, a_start, an_end, close_except_for, current_tag, end_of_file, fostering, has_in_table_scope, has_template, in_table_text, insert_and_pop, insert_bytes, insert_character, insert_element, insert_marker}
 use Rattle.tl_dom_spec.specs.Body.{body_character, in_body_step}
 use Rattle.tl_dom_spec.specs.Tables.{after_caption, after_cell, after_cell_in, after_column_group, after_row, after_table_body, body_characters, body_closed, body_implied, body_opened, caption_closed, caption_end, caption_start, cell_closed, cell_end, cell_start, clear_stack_back_to_table_body_context, clear_stack_back_to_table_context, clear_stack_back_to_table_row_context, column_end, column_group_closed, column_start, in_caption_step, in_cell_step, in_column_group_step, in_row_step, in_table_body_step, in_table_step, in_table_text_step, is_caption, is_cell, is_in_column_group, is_row, is_table_body_context, is_table_context, is_table_row_context, is_text_in_table, no_bytes, pending_inserted, row_closed, row_end, row_opened, row_start, table_body_end, table_body_start, table_character, table_closed, table_end, table_form, table_start, with_foster_parenting}
-use Rattle.tl_dom_spec.proofs.Allowed.{Allowed, Each, each_append}
-use Rattle.tl_dom_spec.proofs.Builders.{Holds, HoldsAfter, alone-Holds, back_to-Holds, bytes-Holds, character-Holds, clear-Holds, close-Holds, comment-Holds, either, either-after, insert-Holds, map-Holds, marker-Holds, pop-Holds, pop_until-Holds, template_end_tag-Holds}
+use Rattle.tl_dom_spec.proofs.Allowed.{Allowed, Each}
+use Rattle.tl_dom_spec.proofs.Kept.{Holds, HoldsAfter, alone-Holds, back_to-Holds, bytes-Holds, character-Holds, clear-Holds, close-Holds, comment-Holds, either, either-after, form-Holds, insert-Holds, map-Holds, marker-Holds, none_pending-Holds, pending-Holds, pop-Holds, pop_until-Holds, template_end_tag-Holds}
 use Rattle.tl_dom_spec.proofs.HeadRules.{Allows, Starts, html_start-Holds, in_head_start-Holds}
 use Rattle.tl_dom_spec.proofs.BodyRules.{body_character-Holds, file_ended-Holds, in_body_step-Holds}
 
@@ -38,7 +38,7 @@ body_implied-Holds R b h = body_opened-Holds R b (bare_tag (codes "tbody")) R.ta
 
 pub table_form-Holds : (R : Allowed) (form : Option ℕ) (b : Builder) (t : Tag) → R.Opens t → Holds R b → Holds R (table_form form b t)
 table_form-Holds R (Some k) b t o h = h
-table_form-Holds R None b t o h = either R (has_template b) b (record (insert_and_pop t b) { form = Some b.next }) h (alone-Holds R t b (R.stands t o) h)
+table_form-Holds R None b t o h = either R (has_template b) b (record (insert_and_pop t b) { form = Some b.next }) h (form-Holds R (Some b.next) (insert_and_pop t b) (λ s. (h.1 s).next) (alone-Holds R t b (R.stands t o) h))
 
 pub table_start-Holds : (R : Allowed) (b : Builder) (g : Group) (t : Tag) (closes : Bool) → Starts R g t → Holds R b → HoldsAfter R (table_start b g t closes)
 table_start-Holds R b a_caption t closes k h = insert-Holds R t (insert_marker (clear_stack_back_to_table_context b)) (k.opens refl) (marker-Holds R (clear_stack_back_to_table_context b) (clear_stack_back_to_table_context-Holds R b h))
@@ -69,7 +69,7 @@ table_end-Holds R b a_template name h = template_end_tag-Holds R b h
 table_end-Holds R b g name h = fostered-Holds R b (an_end g name) tt h
 
 pub table_character-Holds : (R : Allowed) (b : Builder) (c : ℕ) → R.Says c → Holds R b → HoldsAfter R (table_character b c)
-table_character-Holds R b c k h = either-after R (is_text_in_table (current_tag b)) (Again (record b { pending = []; original = b.mode; mode = in_table_text })) (with_foster_parenting b (a_character c)) (let w = h in (w.0, w.1, tt, w.3)) (fostered-Holds R b (a_character c) k h)
+table_character-Holds R b c k h = either-after R (is_text_in_table (current_tag b)) (Again (record b { pending = []; original = b.mode; mode = in_table_text })) (with_foster_parenting b (a_character c)) (none_pending-Holds R b h) (fostered-Holds R b (a_character c) k h)
 
 pub in_table_step-Holds : (R : Allowed) (b : Builder) (token : Token) → Allows R token → Holds R b → HoldsAfter R (in_table_step b token)
 in_table_step-Holds R b (a_character c) k h = table_character-Holds R b c k h
@@ -87,23 +87,23 @@ some_bytes : (bytes : List ℕ) → no_bytes bytes ≡ false → IsSome bytes
 some_bytes [] e = absurd (true≢false e)
 some_bytes (c ∷ bytes) e = tt
 
-pending-Holds : (R : Allowed) (b : Builder) → Holds R b → Holds R (pending_inserted b)
-pending-Holds R b h =
+waiting-Holds : (R : Allowed) (b : Builder) → Holds R b → Holds R (pending_inserted b)
+waiting-Holds R b h =
     cond_both (no_bytes b.pending) b _ (Holds R) (λ _. h)
     (λ e. either R (list_all is_ascii_whitespace b.pending) (insert_bytes b.pending b) (fostering false (body_characters b.pending (fostering true b)))
-    (bytes-Holds R b.pending b (some_bytes b.pending e, h.2) h) (body_characters-Holds R b.pending (fostering true b) h.2 h))
+    (bytes-Holds R b.pending b (some_bytes b.pending e, h.0.2) h) (body_characters-Holds R b.pending (fostering true b) h.0.2 h))
 
 pended-Holds : (R : Allowed) (c : ℕ) (b : Builder) → R.Says c → Holds R b → Holds R (if c == 0 then b else record b { pending = b.pending ++ c ∷ [] })
 pended-Holds R c b k h =
-    either R (c == 0) b (record b { pending = b.pending ++ c ∷ [] }) h (h.0, h.1, each_append R.Says b.pending (c ∷ []) h.2 (k, tt), h.3)
+    either R (c == 0) b (record b { pending = b.pending ++ c ∷ [] }) h (pending-Holds R c b k h)
 
 pub in_table_text_step-Holds : (R : Allowed) (b : Builder) (token : Token) → Allows R token → Holds R b → HoldsAfter R (in_table_text_step b token)
 in_table_text_step-Holds R b (a_character c) k h = pended-Holds R c b k h
-in_table_text_step-Holds R b (a_start g t closes) k h = pending-Holds R b h
-in_table_text_step-Holds R b (an_end g name) k h = pending-Holds R b h
-in_table_text_step-Holds R b (a_comment bytes) k h = pending-Holds R b h
-in_table_text_step-Holds R b (a_doctype own) k h = pending-Holds R b h
-in_table_text_step-Holds R b end_of_file k h = pending-Holds R b h
+in_table_text_step-Holds R b (a_start g t closes) k h = waiting-Holds R b h
+in_table_text_step-Holds R b (an_end g name) k h = waiting-Holds R b h
+in_table_text_step-Holds R b (a_comment bytes) k h = waiting-Holds R b h
+in_table_text_step-Holds R b (a_doctype own) k h = waiting-Holds R b h
+in_table_text_step-Holds R b end_of_file k h = waiting-Holds R b h
 
 pub caption_closed-Holds : (R : Allowed) (b : Builder) → Holds R b → Holds R (caption_closed b)
 caption_closed-Holds R b h = clear-Holds R (close_except_for no_tag is_caption b) (close-Holds R no_tag is_caption b h)

@@ -3,6 +3,7 @@ use Rattle.std.proofs.Common.{List, [], ap, false, inl, inr, map, refl, sym, tru
 use Rattle.tl_html_spec.specs.Driven.{Emission, driven_tokens, driving, in_state, taken}
 use Rattle.tl_html_spec.specs.HtmlTokenizer.{data_state, without_mark}
 use Rattle.tl_html_spec.proofs.Driving.{text_driven}
+use Rattle.tl_dom_spec.proofs.Paths.{Inner, popped_to-Frames, settled_while-Frames, top-Inner}
 use Rattle.tl_dom_spec.specs.Tags.{Tag}
 use Rattle.tl_dom_spec.specs.Path.{Frame, Nodes, and_comment, and_doctype, and_element, and_text, has_number, joined, no_nodes, popped_to, settled_while, top}
 use Rattle.tl_dom_spec.specs.Builder.{Builder, Flags, Token, end_of_file}
@@ -12,8 +13,7 @@ use Rattle.tl_dom_spec.specs.HtmlForest.{HtmlForest, before, comment, doctype, e
 use Rattle.tl_dom_spec.specs.HtmlTree.{Context, any_frame, children_of, context_state, document_of, fragment_start, html_fragment_by, html_tree_by, page_start, trees_in}
 use Rattle.tl_dom_spec.specs.Lawful.{AreApart, EachComment, EachDoctype, EachElement, EachText, begins_with_text, fragment_built, page_built, tokens_of_fragment, tokens_of_page}
 use Rattle.tl_dom_spec.proofs.Allowed.{Allowed, Each, Good, IsText, ends_with_text, joined-Good}
-use Rattle.tl_dom_spec.proofs.Paths.{Inner, popped_to-Frames, settled_while-Frames, top-Inner}
-use Rattle.tl_dom_spec.proofs.Builders.{Holds}
+use Rattle.tl_dom_spec.proofs.Kept.{Holds}
 use Rattle.tl_dom_spec.proofs.HeadRules.{Allows}
 use Rattle.tl_dom_spec.proofs.DispatcherRules.{fragment_start-Holds, page_start-Holds, token-Holds, tokens-Holds}
 
@@ -74,24 +74,24 @@ trees_in-Follows R f i = before-Follows R (joined f.children f.waiting) no_trees
 pub document-Follows : (R : Allowed) (b : Builder) → Holds R b → Follows R (document_of b).trees
 document-Follows R b h =
     trees_in-Follows R (top (settled_while any_frame b.path b.path))
-    (top-Inner R (settled_while any_frame b.path b.path) (settled_while-Frames R any_frame b.path b.path h.0))
+    (top-Inner R (settled_while any_frame b.path b.path) (settled_while-Frames R any_frame b.path b.path h.0.0))
 
 pub children-Follows : (R : Allowed) (b : Builder) → Holds R b → Follows R (children_of b)
 children-Follows R b h =
     trees_in-Follows R (top (popped_to (has_number 1) b.path))
-    (top-Inner R (popped_to (has_number 1) b.path) (popped_to-Frames R (has_number 1) b.path h.0))
+    (top-Inner R (popped_to (has_number 1) b.path) (popped_to-Frames R (has_number 1) b.path h.0.0))
 
 -- of tokens
 
-pub page-Follows : (R : Allowed) (flags : Flags) (tokens : List Token) → Each (Allows R) tokens → Follows R (page_built flags tokens).trees
-page-Follows R flags tokens k =
+pub page-Follows : (R : Allowed) (flags : Flags) (tokens : List Token) → (R.Seated → ⊥) → Each (Allows R) tokens → Follows R (page_built flags tokens).trees
+page-Follows R flags tokens n k =
     document-Follows R (token_done (tokens_done (page_start flags) tokens) end_of_file)
-    (token-Holds R (tokens_done (page_start flags) tokens) end_of_file tt (tokens-Holds R (page_start flags) tokens k (page_start-Holds R flags)))
+    (token-Holds R (tokens_done (page_start flags) tokens) end_of_file tt (tokens-Holds R (page_start flags) tokens k (page_start-Holds R flags n)))
 
-pub fragment-Follows : (R : Allowed) (flags : Flags) (context : Context) (tokens : List Token) → Each (Allows R) tokens → Follows R (fragment_built flags context tokens)
-fragment-Follows R flags context tokens k =
+pub fragment-Follows : (R : Allowed) (flags : Flags) (context : Context) (tokens : List Token) → (R.Seated → ⊥) → Each (Allows R) tokens → Follows R (fragment_built flags context tokens)
+fragment-Follows R flags context tokens n k =
     children-Follows R (token_done (tokens_done (fragment_start flags context) tokens) end_of_file)
-    (token-Holds R (tokens_done (fragment_start flags context) tokens) end_of_file tt (tokens-Holds R (fragment_start flags context) tokens k (fragment_start-Holds R flags context)))
+    (token-Holds R (tokens_done (fragment_start flags context) tokens) end_of_file tt (tokens-Holds R (fragment_start flags context) tokens k (fragment_start-Holds R flags context n)))
 
 -- a page is built of its tokens, and a fragment too
 

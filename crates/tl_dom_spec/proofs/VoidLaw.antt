@@ -1,9 +1,6 @@
 -- Nothing stands below a void element.
-use Rattle.std.proofs.Common.{List, [], ap, codes, false, inl, inr, map, refl, subst, sym, true, true≢false, ℕ, ◌||◌, ◌∙◌, ◌∷◌, ◌≡◌}
+use Rattle.std.proofs.Common.{List, [], codes, false, inl, inr, map, refl, subst, sym, true, true≢false, ℕ, ◌∙◌, ◌∷◌, ◌≡◌}
 use Rattle.std.specs.Prelude.{⊤}
-use Rattle.std.specs.Str.{bytes_eq}
-use Rattle.std.specs.List.{list_any}
-use Rattle.std.proofs.lemmas.Slice.Eq.{bytes_eq-Decides}
 use Rattle.std.proofs.lemmas.Bool.{and_left, and_parts, and_right, cases_Bool}
 use Rattle.tl_html_spec.specs.Driven.{Emission, doctype_of, driven_tokens, driving, in_state, plain}
 use Rattle.tl_html_spec.specs.HtmlTokenizer.{Character, CommentToken, DoctypeToken, EndTag, HtmlAttribute, HtmlToken, StartTag, data_state, without_mark}
@@ -16,19 +13,11 @@ use Rattle.tl_dom_spec.specs.Driver.{builder, emitted_token, token_of}
 use Rattle.tl_dom_spec.specs.HtmlForest.{HtmlForest, no_trees}
 use Rattle.tl_dom_spec.specs.HtmlTree.{Context, context_state, fragment_of_tokens, fragment_start, html_fragment_by, html_tree_by, page_start, tree_of_tokens}
 use Rattle.tl_dom_spec.specs.Lawful.{AreVoidEmpty, fragment_built, is_void, page_built, tokens_of_fragment, tokens_of_page}
+use Rattle.tl_dom_spec.proofs.Words.{any_word}
 use Rattle.tl_dom_spec.proofs.Allowed.{Allowed, Each}
 use Rattle.tl_dom_spec.proofs.HeadRules.{Allows, Starts, is_alone}
 use Rattle.tl_dom_spec.proofs.TreesFollow.{Follows, Owned, fragment-Follows, fragment_is, page-Follows, page_is}
 use Rattle.tl_dom_spec.proofs.TextLaw.{elements-weaken}
-
--- what holds of some words holds of each name that is one of them
-pub any_word : (P : List ℕ → Type 0) (list : List (List ℕ)) (name : List ℕ) → Each P list → list_any (bytes_eq name) list ≡ true → P name
-any_word P [] name h e = absurd (true≢false (sym e))
-any_word P (word ∷ list) name h e =
-    elim (cases_Bool (bytes_eq name word)) [
-      | inl y ↦ subst P (sym ((bytes_eq-Decides name word).0 y)) h.0
-      | inr n ↦ any_word P list name h.1 (sym (ap (λ x. x || list_any (bytes_eq name) list) n) ∙ e)
-    ]
 
 abbrev IsAlone : List ℕ → Type 0
 IsAlone name = is_alone (group name) ≡ true
@@ -65,6 +54,7 @@ voids = record {
   Types = λ _. ⊤;
   Adds = λ _. ⊤;
   Reads = λ _. ⊤;
+  Seated = ⊥;
   stands = λ _ _. tt;
   headed = λ t e _. head_is_no_void t e;
   adds = λ _ _ o _. o;
@@ -120,21 +110,21 @@ pub voids_of : (trees : HtmlForest) → Follows voids trees → AreVoidEmpty tre
 voids_of trees f = elements-weaken (Owned voids) (λ tag below. is_void tag ≡ true → below ≡ no_trees) trees nothing_below f.elements
 
 pub built_voids : (flags : Flags) (tokens : List HtmlToken) → AreVoidEmpty (tree_of_tokens flags tokens).trees
-built_voids flags tokens = voids_of (tree_of_tokens flags tokens).trees (page-Follows voids flags (map token_of tokens) (void_tokens tokens))
+built_voids flags tokens = voids_of (tree_of_tokens flags tokens).trees (page-Follows voids flags (map token_of tokens) (λ s. s) (void_tokens tokens))
 
 pub built_fragment_voids : (flags : Flags) (context : Context) (tokens : List HtmlToken) → AreVoidEmpty (fragment_of_tokens flags context tokens)
 built_fragment_voids flags context tokens =
-    voids_of (fragment_of_tokens flags context tokens) (fragment-Follows voids flags context (map token_of tokens) (void_tokens tokens))
+    voids_of (fragment_of_tokens flags context tokens) (fragment-Follows voids flags context (map token_of tokens) (λ s. s) (void_tokens tokens))
 
 pub page_voids : (flags : Flags) (page : List ℕ) → AreVoidEmpty (html_tree_by flags page).trees
 page_voids flags page =
     let emissions : List Emission = driven_tokens builder (driving (page_start flags) (in_state data_state)) (without_mark page) in
     subst (λ d. AreVoidEmpty d.trees) (sym (page_is flags page))
-    (voids_of (page_built flags (tokens_of_page flags page)).trees (page-Follows voids flags (tokens_of_page flags page) (void_emissions emissions)))
+    (voids_of (page_built flags (tokens_of_page flags page)).trees (page-Follows voids flags (tokens_of_page flags page) (λ s. s) (void_emissions emissions)))
 
 pub fragment_voids : (flags : Flags) (context : Context) (bytes : List ℕ) → AreVoidEmpty (html_fragment_by flags context bytes)
 fragment_voids flags context bytes =
     let emissions : List Emission = driven_tokens builder (driving (fragment_start flags context) (in_state (context_state flags context.tag))) bytes in
     subst AreVoidEmpty (sym (fragment_is flags context bytes))
     (voids_of (fragment_built flags context (tokens_of_fragment flags context bytes))
-    (fragment-Follows voids flags context (tokens_of_fragment flags context bytes) (void_emissions emissions)))
+    (fragment-Follows voids flags context (tokens_of_fragment flags context bytes) (λ s. s) (void_emissions emissions)))

@@ -65,10 +65,12 @@ body_start_at None b t = b
 body_start_at (Some k) b t =
     if has_template b then b else frameset_not_ok (add_attributes k t.attributes b)
 
--- the path up to the `html` element: what was in it last is not in the tree any more
+-- the path up to the `html` element, or to the document: what was in it last is not in the tree
+-- any more
 abbrev pub from_html : Path → Path
 from_html [] = []
-from_html (f ∷ path) = if f.number == 1 then f ∷ path else from_html path
+from_html (f ∷ []) = f ∷ []
+from_html (f ∷ g ∷ path) = if f.number == 1 then f ∷ g ∷ path else from_html (g ∷ path)
 
 abbrev pub frameset_start_at : Option ℕ → Builder → Tag → Builder
 frameset_start_at None b t = b
