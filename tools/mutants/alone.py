@@ -44,10 +44,11 @@ def types(crate):
 
 def place(crate, function, known):
     """The path of a function's proof, as its parts; None of a method of a trait, whose place the text doesn't tell."""
-    if function.of_trait or function.owner and function.owner not in known:
+    if function.of_trait:
         return None
     if function.owner:
-        return [*known[function.owner], function.owner, function.name]
+        # (a method of a type under another name stands in the module of its `impl`)
+        return [*known.get(function.owner, function.modules), function.owner, function.name]
     is_inside = crate.text(function.path).split("\n")[function.first].startswith(" ")
     return None if is_inside else [*function.modules, function.name]
 
