@@ -44,10 +44,11 @@ def types(crate):
 
 def place(crate, function, known):
     """The path of a function's proof, as its parts; None of a method of a trait, whose place the text doesn't tell."""
-    if function.of_trait or function.owner and function.owner not in known:
+    if function.of_trait:
         return None
     if function.owner:
-        return [*known[function.owner], function.owner, function.name]
+        # (a method of a type under another name stands in the module of its `impl`)
+        return [*known.get(function.owner, function.modules), function.owner, function.name]
     is_inside = crate.text(function.path).split("\n")[function.first].startswith(" ")
     return None if is_inside else [*function.modules, function.name]
 
@@ -89,17 +90,23 @@ class Alone:
     def texts(self, strays=()):
         """The texts of sources and of proof files of such a crate (None leaves a file out). Functions whose proofs don't stand where
         the text of the crate says it are left as they are: strays, the folders that the front end refuses."""
-        texts = {}
+        texts, whole = {}, self.whole_cycles()
         for path in sources(self.crate):
             lines = self.crate.text(path).split("\n")
             for it in self.crate.functions_in(path):
                 at = place(self.crate, it, self.known)
-                if it.key not in self.changed and at and "/".join(["proofs", *at]) not in strays and without_body(lines, it):
+                is_left = it.key in self.changed or it.cycle in whole or not at or "/".join(["proofs", *at]) in strays
+                if not is_left and without_body(lines, it):
                     texts.update(self.proof(at, it))
                     texts[path] = ""
             if path in texts:
                 texts[path] = "\n".join(lines)
         return texts
+
+    def whole_cycles(self):
+        """The cycles of calls of which a function keeps its body, and so all do."""
+        functions = [it for path in sources(self.crate) for it in self.crate.functions_in(path) if it.cycle]
+        return {it.cycle for it in functions if it.key in self.changed or not place(self.crate, it, self.known)}
 
     def proof(self, at, function):
         """The texts of proof files that take a function by its contract."""
