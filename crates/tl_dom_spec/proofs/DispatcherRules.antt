@@ -93,12 +93,12 @@ foreign_step-Holds R b end_of_file e k h = html_step-Holds R b end_of_file tt h
 
 -- tokens
 
-dispatch-Holds : (R : Allowed) (token : Token) (b : Builder) → Allows R token → Holds R b → HoldsAfter R (dispatch token b)
+pub dispatch-Holds : (R : Allowed) (token : Token) (b : Builder) → Allows R token → Holds R b → HoldsAfter R (dispatch token b)
 dispatch-Holds R token b k h =
     cond_both (is_html_content (adjusted_current_node b) token) (html_step b token) (foreign_step b token) (HoldsAfter R)
     (λ _. html_step-Holds R b token k h) (λ e. foreign_step-Holds R b token e k h)
 
-calm-Holds : (R : Allowed) (b : Builder) → Holds R b → Holds R (calm b)
+pub calm-Holds : (R : Allowed) (b : Builder) → Holds R b → Holds R (calm b)
 calm-Holds R b h = reads-Holds R data_state b R.data_read h
 
 count-Holds : (R : Allowed) (b : Builder) → Holds R b → Holds R (count_token b)

@@ -17,3 +17,6 @@ pub mod NameLaw
 pub mod VoidLaw
 pub mod SourceLaw
 pub mod ContentsLaw
+pub mod RootNames
+pub mod Stages
+pub mod PageLaw

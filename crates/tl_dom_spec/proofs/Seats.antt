@@ -46,7 +46,7 @@ with_text-head (and_comment nodes own) bytes h = h
 with_text-head (and_doctype nodes own) bytes h = h
 with_text-head (and_element nodes tag children) bytes h = h
 
-joined-head : (nodes more : Nodes) → HeadFirst nodes → HeadFirst (joined nodes more)
+pub joined-head : (nodes more : Nodes) → HeadFirst nodes → HeadFirst (joined nodes more)
 joined-head nodes no_nodes h = h
 joined-head nodes (and_text more bytes) h = with_text-head (joined nodes more) bytes (joined-head nodes more h)
 joined-head nodes (and_comment more bytes) h = joined-head nodes more h
@@ -60,7 +60,7 @@ with_text-html (and_comment nodes own) bytes h = h
 with_text-html (and_doctype nodes own) bytes h = h
 with_text-html (and_element nodes tag children) bytes h = h
 
-joined-html : (nodes more : Nodes) → HtmlFirst nodes → HtmlFirst (joined nodes more)
+pub joined-html : (nodes more : Nodes) → HtmlFirst nodes → HtmlFirst (joined nodes more)
 joined-html nodes no_nodes h = h
 joined-html nodes (and_text more bytes) h = with_text-html (joined nodes more) bytes (joined-html nodes more h)
 joined-html nodes (and_comment more bytes) h = joined-html nodes more h

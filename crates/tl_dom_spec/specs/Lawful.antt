@@ -164,3 +164,21 @@ page_built flags tokens =
 abbrev pub fragment_built : Flags → Context → List Token → HtmlForest
 fragment_built flags context tokens =
     children_of (token_done (tokens_done (fragment_start flags context) tokens) end_of_file)
+
+-- Pages
+
+-- comments, and then `head`
+abbrev pub BeginsWithHead : HtmlForest → Type 0
+BeginsWithHead no_trees = ⊥
+BeginsWithHead (text bytes more) = ⊥
+BeginsWithHead (comment bytes more) = BeginsWithHead more
+BeginsWithHead (doctype own more) = BeginsWithHead more
+BeginsWithHead (element tag below more) = is_any (codes "head") tag ≡ true
+
+-- doctypes and comments, and then `html`, in which `head` is the first element
+abbrev pub IsPage : HtmlForest → Type 0
+IsPage no_trees = ⊥
+IsPage (text bytes more) = ⊥
+IsPage (comment bytes more) = IsPage more
+IsPage (doctype own more) = IsPage more
+IsPage (element tag below more) = (is_any (codes "html") tag ≡ true) × BeginsWithHead below

@@ -7,7 +7,7 @@ ghost use Rattle.tl_dom_spec.specs.Builder.{Flags, Token};
 ghost use Rattle.tl_dom_spec.specs.Driver.{token_of};
 ghost use Rattle.tl_dom_spec.specs.HtmlForest.{has_contents};
 ghost use Rattle.tl_dom_spec.specs.HtmlTree.{Context, fragment_of_tokens, html_fragment_by, html_tree_by, tree_of_tokens};
-ghost use Rattle.tl_dom_spec.specs.Lawful.{AreNamed, AreTexts, AreVoidEmpty, ComeFrom, HaveNames, fragment_built, page_built, tokens_of_fragment, tokens_of_page};
+ghost use Rattle.tl_dom_spec.specs.Lawful.{AreNamed, AreTexts, AreVoidEmpty, ComeFrom, HaveNames, IsPage, fragment_built, page_built, tokens_of_fragment, tokens_of_page};
 ghost use Rattle.tl_dom_spec.specs.Tags.{Tag, html_space};
 
 /// A page is built of its tokens, and a fragment too: what holds of what any tokens build holds of
@@ -84,4 +84,11 @@ pub fn trees_come_from_tokens()
 pub fn templates_alone_have_contents()
     ensures { (tag : Tag) → (has_contents tag ≡ true)
         ↔ ((tag.space ≡ html_space) × (tag.name ≡ codes "template")) }
+{}
+
+/// The first element of a page is `html`, before which stand doctypes and comments alone, and the
+/// first one in it is `head`, before which stand comments.
+#[tactic(auto, using(crate::proofs::PageLaw::page_page))]
+pub fn pages_begin_with_html_and_head()
+    ensures { (flags : Flags) (page : List ℕ) → IsPage (html_tree_by flags page).trees }
 {}
