@@ -6,6 +6,7 @@ pub mod PieceChanges
 pub mod Elements
 pub mod Tail
 pub mod Patches
+pub mod LeftOpen
 pub mod Together
 pub mod RawTexts
 pub mod Examples
