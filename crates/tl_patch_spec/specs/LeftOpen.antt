@@ -1,6 +1,7 @@
 -- The end tags that are put in before a start tag, where what stands before it ends there without
 -- one: so what is put before the tag, or in its place, doesn't come into the element before.
 use Rattle.std.specs.Prelude.{ℕ, zero, suc, Bool, true, false, ◌&&◌, ◌==◌, List, [], ◌∷◌, length, replicate, slice_set, Option, Some, None, if◌then◌else◌}
+use Rattle.std.specs.Option.{option_to_list}
 use Rattle.tl_html_spec.specs.Pieces.{Piece}
 use Rattle.tl_patch_spec.specs.Elements.{Element, OpenElement}
 use Rattle.tl_patch_spec.specs.Patches.{Extent, Implied, Patch, PutAfter, PutBefore, Remove, RenameElement, ReplaceWith, Unwrap, Whole, extent_of}
@@ -28,15 +29,23 @@ open_with_all (e ∷ es) left = open_with_all es (open_with (e.name, e.start) (e
 abbrev pub left_open : List Piece → LeftOpen
 left_open ps = open_with_all (elements_up_to_tail ps) (replicate (suc (length ps)) None)
 
--- before which pieces a patch puts such an end tag: before the start tag, and before the end tag
--- that goes where what is in the element stays
+-- what such a patch puts at a start tag stands before it or in its place
+abbrev pub closes_before : Patch → Bool
+closes_before (RenameElement new) = true
+closes_before Unwrap = true
+closes_before (ReplaceWith c) = true
+closes_before (PutBefore c) = true
+closes_before patch = false
+
+-- the end tag that goes where what is in the element stays
+abbrev pub end_taken : Patch → Extent → Option ℕ
+end_taken Unwrap (Whole m) = Some m
+end_taken patch extent = None
+
+-- the pieces before which a patch puts in such end tags
 abbrev pub places_closed : Patch → ℕ → Extent → List ℕ
-places_closed (RenameElement new) n extent = n ∷ []
-places_closed Unwrap n (Whole m) = n ∷ m ∷ []
-places_closed Unwrap n extent = n ∷ []
-places_closed (ReplaceWith c) n extent = n ∷ []
-places_closed (PutBefore c) n extent = n ∷ []
-places_closed patch n extent = []
+places_closed patch n extent =
+    if closes_before patch then n ∷ option_to_list (end_taken patch extent) else []
 
 abbrev pub closed_at : LeftOpen → ℕ → LeftOpen
 closed_at left n = slice_set left n None

@@ -86,8 +86,8 @@ end_tags at left [] = []
 end_tags at left (n ∷ ns) = end_tag_at at n (open_at left n) ++ end_tags at (closed_at left n) ns
 
 -- how far the element that begins at a piece goes
-abbrev pub extent_at : List Piece → ℕ → Extent
-extent_at ps n = extent_in n (elements_up_to_tail ps)
+abbrev pub piece_extent : List Piece → ℕ → Extent
+piece_extent ps n = extent_in n (elements_up_to_tail ps)
 
 abbrev pub with_asks : Turn → List (Splice Put) → List Asked → Option (List Asked)
     → Option (List Asked)
@@ -104,9 +104,9 @@ asked_from ps at gone left (p ∷ patches) =
     else elim (asked_of ps p.0 p.1) as (λ _. Option (List Asked)) [
       | None ↦ None
       | Some asks ↦ with_asks (turn_of p.1 p.0 at) asks
-          (end_tags at left (places_closed p.1 p.0 (extent_at ps p.0)))
+          (end_tags at left (places_closed p.1 p.0 (piece_extent ps p.0)))
           (asked_from ps (suc at) (gone_after p.1 p.0 asks gone)
-          (open_after p.1 p.0 (extent_at ps p.0) left) patches)
+          (open_after p.1 p.0 (piece_extent ps p.0) left) patches)
     ]
 
 abbrev pub asked_each : List Piece → List (ℕ × Patch) → Option (List Asked)

@@ -72,18 +72,16 @@ IsAsksError page patches error.OutOfMemory = ⊤
 IsAsksError page patches (error.NotMeant p) = IsUnmeant page patches p
 IsAsksError page patches _ = ⊥
 
--- an ask of one of these patches
-pub record IsPlanned (page : List ℕ) (patches : List MeantPatch) (one : PlacedAsk) : Type 0 where
+-- an ask of the patch that has its number
+pub record IsPlanned (patches : List MeantPatch) (one : PlacedAsk) : Type 0 where
   pub meant : MeantPatch
-  pub among : Contains patches meant
+  pub at : slice_get patches one.turn.at ≡ Some meant
   pub start : meant.start ≡ one.start
-  pub asks : List (Splice Put)
-  pub asked : asked_of (runs (pieces page)) meant.start.number (patch_view meant.patch) ≡ Some asks
-  pub is : Contains asks (ask_view one.ask)
 
 -- whether the name of a tag that is put can stand as it is
 abbrev pub has_name : CodePut → Bool
 has_name (put.EndTagAndContent raw content) = is_name (name_of raw.now)
+has_name (put.LeftOut raw) = is_name (name_of raw.now)
 has_name (put.EndTag name) = is_name name.now
 has_name (put.Renamed name) = is_name name.now
 has_name _ = true
