@@ -168,7 +168,11 @@ unmeant_at : (page : List ℕ) (patches : List (ℕ × Patch)) (meant : List Mea
     IsUnmeant page meant place → CannotBeMeant page patches place
 unfolding patch_at
 unmeant_at page patches meant place o e u =
-    let one : CannotBeMeant page patches u.meant.start.token.start = record { at = patch_at page patches meant u.meant o e u.among; none = u.none } in
+    let one : CannotBeMeant page patches u.meant.start.token.start = record {
+      at = patch_at page patches meant u.meant o e u.among;
+      start = (All-contains (IsMeantOfPage page) meant u.meant o u.among).start;
+      none = u.none;
+    } in
     subst (λ n. CannotBeMeant page patches n) u.begins one
 
 pub asks_refused : (page : List ℕ) (patches : List (ℕ × Patch)) (meant : List MeantPatch) (e : EditError) → All (IsMeantOfPage page) meant →

@@ -52,9 +52,10 @@ pub record IsPatchAt (page : List ℕ) (patches : List (ℕ × Patch)) (place : 
   pub piece : Piece
   pub begins : slice_get (placed_pieces page) number ≡ Some (place, piece)
 
--- such a patch can't be meant for its element
+-- such a patch can't be meant for its element, whose start tag stands there
 pub record CannotBeMeant (page : List ℕ) (patches : List (ℕ × Patch)) (place : ℕ) : Type 0 where
   pub at : IsPatchAt page patches place
+  pub start : IsStartTag at.piece.tokens
   pub none : asked_of (pieces_in page) at.number at.patch ≡ None
 
 -- of what these patches ask for together this splice is asked for by one of the element at a place

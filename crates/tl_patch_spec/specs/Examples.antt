@@ -7,6 +7,7 @@ use Rattle.tl_html_spec.specs.Pieces.{Piece, pieces, runs}
 use Rattle.tl_patch_spec.specs.Elements.{Element, elements}
 use Rattle.tl_patch_spec.specs.Patches.{Content, NewContent, NewEndTag, Patch, Put, Text, asked_of, put_at, tokens_asked}
 use Rattle.tl_patch_spec.specs.RawTexts.{is_misread}
+use Rattle.tl_patch_spec.specs.Seams.{is_apart_from}
 use Rattle.tl_patch_spec.specs.Splices.{Splice}
 use Rattle.tl_patch_spec.specs.Tail.{elements_up_to_tail}
 use Rattle.tl_patch_spec.specs.Together.{Asked, ask_of, asked_at, asked_each, at_each}
@@ -68,6 +69,10 @@ words bytes = Text (codes bytes)
 -- a text that is put
 abbrev pub put_words : String → List Put
 put_words bytes = NewContent (words bytes) ∷ []
+
+-- whether these bytes go on with what follows them
+abbrev pub is_apart_in : String → String → Bool
+is_apart_in bytes next = is_apart_from (codes bytes) (codes next)
 
 -- the tokens that a patch asks for
 abbrev pub with_patch : String → ℕ → Patch → Option (List HtmlToken)

@@ -1,4 +1,5 @@
 pub mod Splices
+pub mod Seams
 pub mod TagChanges
 pub mod TagNames
 pub mod Markup

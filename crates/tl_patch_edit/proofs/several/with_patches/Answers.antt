@@ -58,7 +58,7 @@ sorted_asks-requires-clause-left c =
     let es : List Element = elements_up_to_tail (runs (pieces page)) in
     let same : elements_view c.as_slice-4.result.now ≡ es = ap elements_view c.as_slice-4.ensures.value ∙ c.in_ok-found.ensures.elements in
     let all : length (runs (pieces page)) ≡ length (parts_view parts) = length_pieces (parts_view parts) (runs (pieces page)) c.in_ok-parts.ensures in
-    let len : c.len-2.result ≡ length (runs (pieces page)) = c.len-2.ensures ∙ sym (all ∙ length_view parts) in
+    let len : c.len-2.result ≡ length (runs (pieces page)) = omega (arith, length_view parts) in
     c.in_ok-left.ensures ∙ ap₂ (λ (fs : List Element) n. open_with_all fs (replicate (suc n) None)) same len
 
 pub returns-clause-edited : goal.returns-clause-edited
