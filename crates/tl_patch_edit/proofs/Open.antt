@@ -1,17 +1,16 @@
 -- What is left open before each piece, and the end tags that are put in there.
-use Rattle.std.proofs.Common.{◌≡◌, ◌≤◌, ◌<◌, ℕ, zero, suc, ◌+◌, Bool, true, false, ◌&&◌, List, [], ◌∷◌, ◌++◌, length, drop, get_or, set, replicate, map, Option, Some, None, refl, ap, ap₂, sym, subst, ◌∙◌, append_assoc, append-nil, arith, if◌then◌else◌}
+use Rattle.std.proofs.Common.{◌≡◌, ◌≤◌, ◌<◌, ℕ, zero, suc, ◌+◌, Bool, true, false, ◌&&◌, List, [], ◌∷◌, ◌++◌, length, drop, get_or, set, replicate, map, Option, Some, None, refl, ap, ap₂, sym, ◌∙◌, append_assoc, append-nil, arith, if◌then◌else◌}
 use Rattle.std.specs.List.{All}
 use Rattle.std.specs.Option.{option_to_list}
-use Rattle.std.proofs.lemmas.List.{drop_more, map-append, set_past}
+use Rattle.std.proofs.lemmas.List.{drop_more, map-append}
 use Rattle.std.proofs.lemmas.List.Elements.{All-append, All-cons, All-nil}
 use Rattle.tl_patch_spec.specs.Elements.{Element, OpenElement}
-use Rattle.tl_patch_spec.specs.LeftOpen.{LeftOpen, begins_at, closed_all, closed_at, closes_before, end_taken, ended_at, ends_element, open_after, open_at, open_with, open_with_all, places_closed}
-use Rattle.tl_patch_spec.specs.Patches.{Extent, Patch, Put, extent_of}
-use Rattle.tl_patch_spec.specs.Splices.{Splice}
+use Rattle.tl_patch_spec.specs.LeftOpen.{LeftOpen, begins_at, closed_all, closed_at, closes_before, end_taken, ended_at, ends_element, open_at, open_with, open_with_all, places_closed}
+use Rattle.tl_patch_spec.specs.Patches.{Extent, Patch, extent_of}
 use Rattle.tl_patch_spec.specs.Together.{Asked, Turn, asked_at, end_tag_at, end_tags, turn_of}
 use Rattle.tl_patch_elements.specs.View.{element_view, elements_view}
 use Rattle.tl_patch_elements.specs.declared.found.Element.{Element as CodeElement}
-use Rattle.tl_patch_edit.specs.Asks.{ask_view, placed_at, placed_view, planned_view}
+use Rattle.tl_patch_edit.specs.Asks.{placed_at, placed_view, planned_view}
 use Rattle.tl_patch_edit.specs.Open.{AreNone, ArePushed, ArePutIn, IsOf, end_tag_asks, left_view, open_of, open_view}
 use Rattle.tl_patch_edit.specs.Several.{asked_one, asked_view}
 use Rattle.tl_patch_edit.specs.View.{extent_view, patch_view, turn_view}

@@ -1,11 +1,10 @@
 -- Why an edit is refused.
 use Rattle.std.proofs.Common.{◌≡◌, ◌==◌, ◌≤◌, ◌<◌, ℕ, zero, suc, ◌+◌, Bool, true, false, ◌&&◌, List, [], ◌∷◌, ◌++◌, length, get_or, take, drop, map, Option, Some, None, slice_get, refl, ap, sym, subst, ◌∙◌, arith, inl, inr, true≢false, ◌⊎◌}
 use Rattle.std.specs.List.{All, Contains}
-use Rattle.std.specs.Option.{option_to_list}
 use Rattle.std.specs.Prelude.{Err, IfErr, IfNone, Result, nat_le}
 use Rattle.std.proofs.lemmas.List.Sorted.{Contains-permutation, IsPermutation-refl, IsPermutation-sym}
 use Rattle.std.proofs.lemmas.List.{drop_more, get_or-map, length-map, take-append-drop, take_more}
-use Rattle.std.proofs.lemmas.List.Elements.{All-append, All-cons, All-contains, All-nil, Contains-append_right, Contains-get_or}
+use Rattle.std.proofs.lemmas.List.Elements.{All-append, All-contains, Contains-append_right, Contains-get_or}
 use Rattle.std.proofs.lemmas.Option.{get_or_from_slice_get, slice_get-get_or, slice_get_within}
 use Rattle.tl_html_spec.specs.HtmlTokenizer.{Character, CommentToken, DoctypeToken, EndTag, HtmlToken, StartTag, State, data_state}
 use Rattle.tl_html_spec.specs.Pieces.{Piece, pieces, runs}
@@ -24,7 +23,7 @@ use Rattle.tl_patch_spec.specs.Patches.{Changed, Content, Markup, NewContent, Ne
 use Rattle.tl_patch_spec.specs.Splices.{Splice, are_ordered}
 use Rattle.tl_patch_spec.specs.TagChanges.{Rename}
 use Rattle.tl_html_parts.specs.Parts.{name_of}
-use Rattle.tl_patch_edit.specs.Asks.{IsWanted, ask_view, asks_view, is_data, placed_at, placed_of, placed_view, planned_view, puts_view}
+use Rattle.tl_patch_edit.specs.Asks.{IsWanted, ask_view, asks_view, is_data, placed_of, puts_view}
 use Rattle.tl_patch_edit.specs.Inner.Causes.{CannotPut, CannotPutIn, CannotStandIn, IsAsksError, IsOneAt, IsPageError, IsPlanError, IsPlanned, IsReadError, IsReadyError, IsSpliceError, IsStartError, IsStartsError, IsUnmeant, NoStartFrom, ReachesFrom, begins_as, has_name, has_tag}
 use Rattle.tl_patch_edit.specs.Errors.{AreAcross, AreTag, CannotBeMeant, CannotBePut, CannotBeWritten, CannotStand, IsAskAt, IsPatchAt, IsRefused, IsTag, pieces_in, placed_pieces}
 use Rattle.tl_patch_edit.specs.Found.{IsStartAt}
@@ -36,8 +35,6 @@ use Rattle.tl_patch_edit.specs.declared.ask.Ask.{Ask}
 use Rattle.tl_patch_edit.specs.declared.ask.MeantPatch.{MeantPatch}
 use Rattle.tl_patch_edit.specs.declared.ask.PlacedAsk.{PlacedAsk}
 use Rattle.tl_patch_edit.specs.declared.ask.PlacedPatch.{PlacedPatch}
-use Rattle.tl_patch_edit.specs.declared.ask.Turn.{Turn}
-use Rattle.tl_patch_edit.specs.declared.ask.Planned.{Planned}
 use Rattle.tl_patch_edit.specs.declared.ask.Put.{Put as CodePut}
 use Rattle.tl_patch_edit.specs.declared.ask.Put.TheVariants as put
 use Rattle.tl_patch_edit.specs.declared.ask.Start.{Start}

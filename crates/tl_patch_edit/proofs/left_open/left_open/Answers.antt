@@ -1,4 +1,4 @@
-use Rattle.std.proofs.Common.{None, ap, replicate, suc}
+use Rattle.std.proofs.Common.{ap}
 use Rattle.tl_patch_spec.specs.LeftOpen.{LeftOpen, open_with_all}
 use Rattle.tl_patch_elements.specs.View.{elements_view}
 use Rattle.tl_patch_edit.proofs.Open.{none_all}

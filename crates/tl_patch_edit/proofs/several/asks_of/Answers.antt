@@ -4,9 +4,9 @@ use Rattle.tl_html_spec.specs.Pieces.{Piece, pieces, runs}
 use Rattle.tl_patch_spec.specs.LeftOpen.{LeftOpen}
 use Rattle.tl_patch_spec.specs.Together.{Asked, asked_each}
 use Rattle.tl_patch_edit.specs.Inner.Causes.{IsPlanned}
-use Rattle.tl_patch_edit.specs.Open.{ArePushed, left_view}
+use Rattle.tl_patch_edit.specs.Open.{left_view}
 use Rattle.tl_patch_edit.specs.Several.{asked_view}
-use Rattle.tl_patch_edit.specs.View.{extent_view, gone_view, meant_view}
+use Rattle.tl_patch_edit.specs.View.{gone_view, meant_view}
 use Rattle.tl_patch_edit.specs.declared.ask.Gone.{Gone}
 use Rattle.tl_patch_edit.specs.declared.ask.MeantPatch.{MeantPatch}
 use Rattle.tl_patch_edit.specs.declared.ask.PlacedAsk.{PlacedAsk}
