@@ -291,12 +291,36 @@ def gone_without(page, found, word, content):
                 covered = splices(page, at, word, content)[0][1]
 
 
+def left_open(page):
+    """For each token before which elements end with their end tags left out the outermost of them: the start tag that stands first."""
+    found = {}
+    for at, end in page.ends.items():
+        if end is not None and extent(page, at)[0] == "implied":
+            found[end[0]] = min(at, found.get(end[0], at))
+    return found
+
+
+def end_tags(page, at, word, left):
+    """The end tags that a word puts in for the element of a start tag, of what is left open before it, or before the end tag that goes with
+    `unwrap`; and takes what it ends from what is left open."""
+    kind, end = extent(page, at)
+    places = [at] if word in ("before", "replace", "rename", "unwrap") else []
+    if word == "unwrap" and kind == "whole":
+        places.append(end)
+    outer = [(token, left.pop(token)) for token in places if token in left]
+    if word in ("remove", "replace", "rename", "unwrap", "after") and kind == "implied" and left.get(end) == at:
+        del left[end]
+    return [(before(token), before(token), -start, (("end", page.tokens[start][1]),)) for token, start in outer]
+
+
 def asked_of(page, found, word, content):
     """The splices of several elements, in order. One that begins in what another takes away goes with it; of what is put at one place that
-    of the inner element comes first."""
-    asked = []
+    of the inner element comes first, and what stands before an element last."""
+    asked, left = [], left_open(page)
     for at in gone_without(page, found, word, content):
-        asked += [(begin, until, -at, contents) for begin, until, contents in splices(page, at, word, content)]
+        turn = 1 if word == "before" else -at
+        asked += [(begin, until, turn, contents) for begin, until, contents in splices(page, at, word, content)]
+        asked += end_tags(page, at, word, left)
     return [(begin, until, contents) for begin, until, _, contents in sorted(asked)]
 
 

@@ -230,7 +230,7 @@ Something stands in their place, in them, before or after them: a text, or marku
   $ tl before --html li '<hr>' list
   <ul>
   <hr><LI a=1>one
-  <hr><li>two</ul>
+  </li><hr><li>two</ul>
   <CENTER>x</center >
   $ tl after li '&' list
   <ul>
@@ -252,6 +252,36 @@ Something stands in their place, in them, before or after them: a text, or marku
   <script>1 < 2</script>b (no-eol)
   $ printf '<title>a &amp; b</title>c' | tl unwrap title
   a &amp; bc (no-eol)
+
+What is put before an element, or in its place, stands outside of the one before: an end tag that is left out there is put in, once,
+and none where nothing is open.
+
+  $ printf '<ul><li>a<li>b</ul>' | tl before 'li:nth-child(2)' X
+  <ul><li>a</li>X<li>b</ul> (no-eol)
+  $ printf '<p>a<hr>b' | tl replace hr X
+  <p>a</p>Xb (no-eol)
+  $ printf '<p>a<div>b</div>c' | tl rename div span
+  <p>a</p><span>b</span>c (no-eol)
+  $ printf '<p>a<div>b</div>c' | tl unwrap div
+  <p>a</p>bc (no-eol)
+  $ printf '<select><OPTION>a<option>b</select>c' | tl unwrap select
+  <OPTION>a<option>b</option>c (no-eol)
+  $ printf '<table><tr><td>a<tr><td>b</table>' | tl before --html 'tr:nth-child(2)' '<tr>'
+  <table><tr><td>a</tr><tr><tr><td>b</table> (no-eol)
+  $ printf '<p>a<p>b' | tl before p X
+  X<p>a</p>X<p>b (no-eol)
+  $ printf '<p>a</p><p>b' | tl before p X
+  X<p>a</p>X<p>b (no-eol)
+  $ printf '<p>a<p>b<p>c' | tl replace p X
+  XXX (no-eol)
+  $ printf '<p>a<p>b<p>c' | tl rename p b
+  <b>a</b><b>b</b><b>c</b> (no-eol)
+  $ printf '<p>a<p>b<p>c' | tl unwrap p
+  abc (no-eol)
+  $ printf '<p>a<p>b<p>c' | tl remove 'p:nth-child(2)'
+  <p>a<p>c (no-eol)
+  $ printf '<p>a<p>b<p>c' | tl prepend 'p:nth-child(2)' X
+  <p>a<p>Xb<p>c (no-eol)
 
 A body ends at its end tag, where that stands last in the page.
 
@@ -532,7 +562,7 @@ Nor does an element get such a name before a raw text with one of them.
   [2]
   $ tl rename .d section styled
   <p>
-  <section class=d><style>p{content:"<img src=x onerror=f()>"}</style></section> (no-eol)
+  </p><section class=d><style>p{content:"<img src=x onerror=f()>"}</style></section> (no-eol)
   $ printf '<div><style>a</style>&lt;</div>' | tl rename div template
   <template><style>a</style>&lt;</template> (no-eol)
   $ printf '<script>1 < 2</script><b>a</b>' | tl rename b svg

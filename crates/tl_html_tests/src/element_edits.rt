@@ -18,7 +18,7 @@ type Row = (
 );
 
 #[rattlefmt::skip]
-static PAGE_ROWS: [Row; 82] = [
+static PAGE_ROWS: [Row; 86] = [
     (ElementPatch::Remove, 1, b"a<b>x</b>c", Ok(b"ac")),
     (ElementPatch::Remove, 4, b"<ul><li>a<li>b</ul>", Ok(b"<ul><li>b</ul>")),
     (ElementPatch::Remove, 9, b"<ul><li>a<li>b</ul>", Ok(b"<ul><li>a</ul>")),
@@ -101,6 +101,10 @@ static PAGE_ROWS: [Row; 82] = [
     (ElementPatch::Rename { name: b"" }, 0, b"<b>x</b>", Err(EditError::NotWritten(0))),
     (ElementPatch::Rename { name: b"i" }, 5, b"<div><b>x</div>y", Err(EditError::NotMeant(5))),
     (ElementPatch::Rename { name: b"i" }, 0, b"<p>a", Ok(b"<i>a</i>")),
+    (ElementPatch::PutBefore { content: Content::Text { text: b"x" } }, 9, b"<ul><LI>a<li>b</ul>", Ok(b"<ul><LI>a</li>x<li>b</ul>")),
+    (ElementPatch::ReplaceWith { content: Content::Text { text: b"x" } }, 4, b"<p>a<hr>b", Ok(b"<p>a</p>xb")),
+    (ElementPatch::Rename { name: b"b" }, 4, b"<p>a<div>b</div>", Ok(b"<p>a</p><b>b</b>")),
+    (ElementPatch::Unwrap, 0, b"<select><option>a</select>b", Ok(b"<option>a</option>b")),
 ];
 
 // What is open where `</body>` and `</html>` stand last in the page.
@@ -138,7 +142,7 @@ type SeveralRow = (
 );
 
 #[rattlefmt::skip]
-static SEVERAL_ROWS: [SeveralRow; 35] = [
+static SEVERAL_ROWS: [SeveralRow; 37] = [
     (ElementPatch::Remove, &[], b"a<b>x</b>c", Ok(b"a<b>x</b>c")),
     (ElementPatch::Remove, &[1, 10], b"a<b>x</b>c<i>y</i>d", Ok(b"acd")),
     (ElementPatch::Remove, &[1, 1, 1], b"a<b>x</b>c", Ok(b"ac")),
@@ -174,6 +178,8 @@ static SEVERAL_ROWS: [SeveralRow; 35] = [
     (ElementPatch::Append { content: Content::Markup { markup: b"<!-- " } }, &[], b"<i>a</i><i>b", Ok(b"<i>a</i><i>b")),
     (ElementPatch::PutBefore { content: Content::Markup { markup: b"\xEF\xBB\xBFx" } }, &[1, 5], b"y<br><br>z", Err(EditError::NotWritten(1))),
     (ElementPatch::PutBefore { content: Content::Markup { markup: b"\xEF\xBB\xBFx" } }, &[], b"\xEF\xBB\xBFy", Ok(b"\xEF\xBB\xBFy")),
+    (ElementPatch::PutBefore { content: Content::Text { text: b"x" } }, &[0, 4, 8], b"<p>a<p>b<p>c", Ok(b"x<p>a</p>x<p>b</p>x<p>c")),
+    (ElementPatch::ReplaceWith { content: Content::Text { text: b"x" } }, &[0, 4, 8], b"<p>a<p>b<p>c", Ok(b"xxx")),
 ];
 
 // The patches with the bytes where the start tags begin, the page, and what comes of it.
@@ -188,7 +194,7 @@ const Y: Content<'static> = Content::Text { text: b"y" };
 const Z: Content<'static> = Content::Text { text: b"z" };
 
 #[rattlefmt::skip]
-static EACH_ROWS: [EachRow; 23] = [
+static EACH_ROWS: [EachRow; 26] = [
     (&[], b"a<b>x</b>c", Ok(b"a<b>x</b>c")),
     (&[PlacedPatch { place: 1, patch: ElementPatch::Remove }, PlacedPatch { place: 10, patch: ElementPatch::Append { content: Z } }], b"a<b>x</b>c<i>y</i>d", Ok(b"ac<i>yz</i>d")),
     (&[PlacedPatch { place: 0, patch: ElementPatch::Append { content: Y } }, PlacedPatch { place: 0, patch: ElementPatch::Append { content: Z } }], b"<b>x</b>", Ok(b"<b>xyz</b>")),
@@ -212,6 +218,9 @@ static EACH_ROWS: [EachRow; 23] = [
     (&[PlacedPatch { place: 8, patch: ElementPatch::Remove }, PlacedPatch { place: 0, patch: ElementPatch::Unwrap }], b"<i>a</i><b>c</b>", Err(EditError::NoStartTag(0))),
     (&[PlacedPatch { place: 0, patch: ElementPatch::Fill { content: TEXT } }, PlacedPatch { place: 8, patch: ElementPatch::Fill { content: MARKUP } }], b"<i>a</i><title>b</title>", Err(EditError::NotWritten(8))),
     (&[PlacedPatch { place: 0, patch: ElementPatch::Unwrap }, PlacedPatch { place: 8, patch: ElementPatch::Append { content: Content::Markup { markup: b"<!-- " } } }], b"<i>a</i><i>b</i>", Err(EditError::ReadOtherwise(0))),
+    (&[PlacedPatch { place: 4, patch: ElementPatch::Rename { name: b"b" } }, PlacedPatch { place: 4, patch: ElementPatch::PutBefore { content: Z } }], b"<p>a<p>b", Ok(b"<p>a</p>z<b>b</b>")),
+    (&[PlacedPatch { place: 4, patch: ElementPatch::PutBefore { content: Y } }, PlacedPatch { place: 4, patch: ElementPatch::PutBefore { content: Z } }], b"<p>a<p>b", Ok(b"<p>a</p>yz<p>b")),
+    (&[PlacedPatch { place: 0, patch: ElementPatch::Remove }, PlacedPatch { place: 4, patch: ElementPatch::PutBefore { content: Z } }], b"<p>a<p>b", Ok(b"z<p>b")),
 ];
 
 #[test]

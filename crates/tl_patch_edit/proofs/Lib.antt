@@ -13,6 +13,7 @@ pub mod Edited
 pub mod Starts
 pub mod Turns
 pub mod Together
+pub mod Open
 pub mod Missing
 pub mod Refusals
 pub mod Misread

@@ -1,12 +1,11 @@
 -- Why an edit is refused.
 use Rattle.std.proofs.Common.{◌≡◌, ◌==◌, ◌≤◌, ◌<◌, ℕ, zero, suc, ◌+◌, Bool, true, false, ◌&&◌, List, [], ◌∷◌, ◌++◌, length, get_or, take, drop, map, Option, Some, None, slice_get, refl, ap, sym, subst, ◌∙◌, arith, inl, inr, true≢false, ◌⊎◌}
 use Rattle.std.specs.List.{All, Contains}
-use Rattle.std.specs.Option.{option_to_list}
 use Rattle.std.specs.Prelude.{Err, IfErr, IfNone, Result, nat_le}
-use Rattle.std.proofs.lemmas.List.Sorted.{IsPermutation-refl}
+use Rattle.std.proofs.lemmas.List.Sorted.{Contains-permutation, IsPermutation-refl, IsPermutation-sym}
 use Rattle.std.proofs.lemmas.List.{drop_more, get_or-map, length-map, take-append-drop, take_more}
-use Rattle.std.proofs.lemmas.List.Elements.{All-append, All-cons, All-contains, All-nil, Contains-append_right, Contains-get_or}
-use Rattle.std.proofs.lemmas.Option.{slice_get-get_or, slice_get_within}
+use Rattle.std.proofs.lemmas.List.Elements.{All-append, All-contains, Contains-append_right, Contains-get_or}
+use Rattle.std.proofs.lemmas.Option.{get_or_from_slice_get, slice_get-get_or, slice_get_within}
 use Rattle.tl_html_spec.specs.HtmlTokenizer.{Character, CommentToken, DoctypeToken, EndTag, HtmlToken, StartTag, State, data_state}
 use Rattle.tl_html_spec.specs.Pieces.{Piece, pieces, runs}
 use Rattle.tl_html_spec.proofs.Cutting.{bytes_are, runs_bytes, runs_tokens, tokens_are}
@@ -24,19 +23,18 @@ use Rattle.tl_patch_spec.specs.Patches.{Changed, Content, Markup, NewContent, Ne
 use Rattle.tl_patch_spec.specs.Splices.{Splice, are_ordered}
 use Rattle.tl_patch_spec.specs.TagChanges.{Rename}
 use Rattle.tl_html_parts.specs.Parts.{name_of}
-use Rattle.tl_patch_edit.specs.Asks.{IsWanted, ask_view, asks_view, is_data, placed_at, placed_of, placed_view, planned_view, puts_view}
+use Rattle.tl_patch_edit.specs.Asks.{IsWanted, ask_view, asks_view, is_data, placed_of, puts_view}
 use Rattle.tl_patch_edit.specs.Inner.Causes.{CannotPut, CannotPutIn, CannotStandIn, IsAsksError, IsOneAt, IsPageError, IsPlanError, IsPlanned, IsReadError, IsReadyError, IsSpliceError, IsStartError, IsStartsError, IsUnmeant, NoStartFrom, ReachesFrom, begins_as, has_name, has_tag}
 use Rattle.tl_patch_edit.specs.Errors.{AreAcross, AreTag, CannotBeMeant, CannotBePut, CannotBeWritten, CannotStand, IsAskAt, IsPatchAt, IsRefused, IsTag, pieces_in, placed_pieces}
 use Rattle.tl_patch_edit.specs.Found.{IsStartAt}
 use Rattle.tl_patch_edit.specs.Inner.Parts.{ArePieces, IsPieceOf, Part, Says, with_end_part}
-use Rattle.tl_patch_edit.specs.Several.{AreEdited, AreInTurn, AreSorted, BeginAt, IsMeantOfPage, asked_view, places_of}
+use Rattle.tl_patch_edit.specs.Several.{AreEdited, AreInTurn, AreSorted, BeginAt, IsMeantOfPage, asked_one, asked_view, places_of}
+use Rattle.tl_patch_edit.specs.Open.{IsOf}
 use Rattle.tl_patch_edit.specs.View.{content_view, meant_view, patch_view, patches_view}
 use Rattle.tl_patch_edit.specs.declared.ask.Ask.{Ask}
 use Rattle.tl_patch_edit.specs.declared.ask.MeantPatch.{MeantPatch}
 use Rattle.tl_patch_edit.specs.declared.ask.PlacedAsk.{PlacedAsk}
 use Rattle.tl_patch_edit.specs.declared.ask.PlacedPatch.{PlacedPatch}
-use Rattle.tl_patch_edit.specs.declared.ask.Turn.{Turn}
-use Rattle.tl_patch_edit.specs.declared.ask.Planned.{Planned}
 use Rattle.tl_patch_edit.specs.declared.ask.Put.{Put as CodePut}
 use Rattle.tl_patch_edit.specs.declared.ask.Put.TheVariants as put
 use Rattle.tl_patch_edit.specs.declared.ask.Start.{Start}
@@ -115,39 +113,17 @@ patch_missing tokens patches at from d e l r h =
 
 -- what is asked for of an element
 
-second_planned : (page : List ℕ) (meant : List MeantPatch) (m : MeantPatch) (t : Turn) (first : Splice Put) (o : Option Ask) → Contains meant m →
-    asked_of (runs (pieces page)) m.start.number (patch_view m.patch) ≡ Some (first ∷ map ask_view (option_to_list o)) → All (IsPlanned page meant) (map (placed_at m.start t) (option_to_list o))
-second_planned page meant m t first None k a = All-nil (IsPlanned page meant)
-second_planned page meant m t first (Some ask) k a =
-    All-cons (IsPlanned page meant) (placed_at m.start t ask) [] (record {
-      meant = m;
-      among = k;
-      start = refl;
-      asks = first ∷ ask_view ask ∷ [];
-      asked = a;
-      is = (1, omega arith, refl);
-    }) (All-nil (IsPlanned page meant))
-
-both_planned : (page : List ℕ) (meant : List MeantPatch) (m : MeantPatch) (t : Turn) (p : Planned) → Contains meant m →
-    asked_of (runs (pieces page)) m.start.number (patch_view m.patch) ≡ Some (planned_view p) → All (IsPlanned page meant) (placed_view m.start t p)
-both_planned page meant m t p k a =
-    All-cons (IsPlanned page meant) (placed_at m.start t p.first) (map (placed_at m.start t) (option_to_list p.second)) (record {
-      meant = m;
-      among = k;
-      start = refl;
-      asks = planned_view p;
-      asked = a;
-      is = (0, omega arith, refl);
-    }) (second_planned page meant m t (ask_view p.first) p.second k a)
-
 pub one_meant : (meant : List MeantPatch) (at : ℕ) (m d : MeantPatch) → at < length meant → m ≡ get_or meant at d → Contains meant m
 one_meant meant at m d l e = subst (λ (x : MeantPatch). Contains meant x) (sym e) (Contains-get_or meant at d l)
 
-pub planned_more : (page : List ℕ) (meant : List MeantPatch) (at : ℕ) (m d : MeantPatch) (t : Turn) (p : Planned) (old now : List PlacedAsk) → at < length meant → m ≡ get_or meant at d →
-    asked_of (runs (pieces page)) m.start.number (patch_view m.patch) ≡ Some (planned_view p) → now ≡ old ++ placed_view m.start t p →
-    All (IsPlanned page meant) old → All (IsPlanned page meant) now
-planned_more page meant at m d t p old now l i a e h =
-    subst (All (IsPlanned page meant)) (sym e) (All-append (IsPlanned page meant) old (placed_view m.start t p) h (both_planned page meant m t p (one_meant meant at m d l i) a))
+pub planned_more : (meant : List MeantPatch) (at : ℕ) (m d : MeantPatch) (old now more : List PlacedAsk) → at < length meant → m ≡ get_or meant at d → now ≡ old ++ more →
+    All (IsOf m.start at) more → All (IsPlanned meant) old → All (IsPlanned meant) now
+planned_more meant at m d old now more l i e o h =
+    let these : All (IsPlanned meant) more = λ k x s. (
+    let of : IsOf m.start at (get_or more k x) = o k x s in
+    record { meant = m; at = ap (slice_get meant) of.number ∙ slice_get-get_or meant at d l ∙ ap (λ (y : MeantPatch). Some y) (sym i); start = sym of.same }
+    ) in
+    subst (All (IsPlanned meant)) (sym e) (All-append (IsPlanned meant) old more h these)
 
 pub within_extents : (page : List ℕ) (meant : List MeantPatch) (at len : ℕ) (m d : MeantPatch) → at < length meant → m ≡ get_or meant at d → All (IsMeantOfPage page) meant →
     length (runs (pieces page)) ≤ len → m.start.number < len
@@ -189,7 +165,11 @@ unmeant_at : (page : List ℕ) (patches : List (ℕ × Patch)) (meant : List Mea
     IsUnmeant page meant place → CannotBeMeant page patches place
 unfolding patch_at
 unmeant_at page patches meant place o e u =
-    let one : CannotBeMeant page patches u.meant.start.token.start = record { at = patch_at page patches meant u.meant o e u.among; none = u.none } in
+    let one : CannotBeMeant page patches u.meant.start.token.start = record {
+      at = patch_at page patches meant u.meant o e u.among;
+      start = (All-contains (IsMeantOfPage page) meant u.meant o u.among).start;
+      none = u.none;
+    } in
     subst (λ n. CannotBeMeant page patches n) u.begins one
 
 pub asks_refused : (page : List ℕ) (patches : List (ℕ × Patch)) (meant : List MeantPatch) (e : EditError) → All (IsMeantOfPage page) meant →
@@ -202,20 +182,6 @@ asks_refused page patches meant (error.NoStartTag p) o m h = absurd h
 asks_refused page patches meant (error.EndOfPage p) o m h = absurd h
 asks_refused page patches meant (error.NotWritten p) o m h = absurd h
 asks_refused page patches meant (error.ReadOtherwise p) o m h = absurd h
-
-ask_at : (page : List ℕ) (patches : List (ℕ × Patch)) (meant : List MeantPatch) (one : PlacedAsk) → All (IsMeantOfPage page) meant → map given meant ≡ patches → IsPlanned page meant one →
-    IsAskAt page patches one.start.token.start (ask_view one.ask)
-unfolding patch_at
-ask_at page patches meant one o e p =
-    let at : IsAskAt page patches p.meant.start.token.start (ask_view one.ask) = record { at = patch_at page patches meant p.meant o e p.among; asks = p.asks; asked = p.asked; among = p.is } in
-    subst (λ (x : Start). IsAskAt page patches x.token.start (ask_view one.ask)) p.start at
-
-abbrev AreAsksAt : List ℕ → List (ℕ × Patch) → List PlacedAsk → Type 0
-AreAsksAt page patches asks = All (λ (one : PlacedAsk). IsAskAt page patches one.start.token.start (ask_view one.ask)) asks
-
-asks_at : (page : List ℕ) (patches : List (ℕ × Patch)) (meant : List MeantPatch) (asks : List PlacedAsk) → All (IsMeantOfPage page) meant → map given meant ≡ patches →
-    All (IsPlanned page meant) asks → AreAsksAt page patches asks
-asks_at page patches meant asks o e h = λ k d l. ask_at page patches meant (get_or asks k d) o e (h k d l)
 
 -- asks that can't be written
 
@@ -339,6 +305,9 @@ put_there place p (put.Content c) i (inr (inr h)) = record { put = NewContent (c
 put_there place p (put.EndTagAndContent raw c) i (inl h) = record { put = NewEndTag (name_of raw.now); among = (0, omega arith, refl); cannot = h }
 put_there place p (put.EndTagAndContent raw c) i (inr (inl h)) = absurd (true≢false h)
 put_there place p (put.EndTagAndContent raw c) i (inr (inr h)) = record { put = NewContent (content_view c); among = (1, omega arith, refl); cannot = cannot_stand (content_view c) place.mode p.rest i.rest h }
+put_there place p (put.LeftOut raw) i (inl h) = record { put = NewEndTag (name_of raw.now); among = (0, omega arith, refl); cannot = h }
+put_there place p (put.LeftOut raw) i (inr (inl h)) = absurd (true≢false h)
+put_there place p (put.LeftOut raw) i (inr (inr h)) = absurd h
 put_there place p (put.EndTag name) i (inl h) = record { put = NewEndTag name.now; among = (0, omega arith, refl); cannot = h }
 put_there place p (put.EndTag name) i (inr (inl h)) = absurd (true≢false h)
 put_there place p (put.EndTag name) i (inr (inr h)) = absurd h
@@ -406,19 +375,38 @@ pub record AreAskedOf (page : List ℕ) (patches : List (ℕ × Patch)) (parts :
   pub of_page : All (IsMeantOfPage page) meant
   pub are_given : map given meant ≡ patches
   pub begin : BeginAt 0 (placed_pieces page) patches (meant_view meant)
-  pub planned : All (IsPlanned page meant) asks
+  pub planned : All (IsPlanned meant) asks
   pub sorted : AreSorted (pieces_in page) (meant_view meant) asks
 
 -- an ask at a place
+
+given_place : (meant : List MeantPatch) (at : ℕ) (m : MeantPatch) → slice_get meant at ≡ Some m → slice_get (places_of (map given meant)) at ≡ Some m.start.token.start
+given_place [] at m e = cc
+given_place (x ∷ meant) zero m e = (let same : x ≡ m = cc in ap (λ (y : MeantPatch). Some y.start.token.start) same)
+given_place (x ∷ meant) (suc at) m e = given_place meant at m e
+
 pub one_at : (page : List ℕ) (patches : List (ℕ × Patch)) (parts : List Part) (meant : List MeantPatch) (asks : List PlacedAsk) (p : ℕ) (one : PlacedAsk) → AreAskedOf page patches parts meant asks →
     IsOneAt asks p one → IsAskAt page patches p (ask_view one.ask)
 one_at page patches parts meant asks p one a o =
-    let all : AreAsksAt page patches asks = asks_at page patches meant asks a.of_page a.are_given a.planned in
-    let at : IsAskAt page patches one.start.token.start (ask_view one.ask) = All-contains (λ (x : PlacedAsk). IsAskAt page patches x.start.token.start (ask_view x.ask)) asks one all o.among in
-    subst (λ n. IsAskAt page patches n (ask_view one.ask)) o.begins at
+    let planned : IsPlanned meant one = All-contains (IsPlanned meant) asks one a.planned o.among in
+    let place : slice_get (places_of patches) one.turn.at ≡ Some p =
+    ap (λ (xs : List (ℕ × Patch)). slice_get (places_of xs) one.turn.at) (sym a.are_given) ∙ given_place meant one.turn.at planned.meant planned.at
+    ∙ ap (λ (x : Start). Some x.token.start) planned.start ∙ ap (λ n. Some n) o.begins in
+    record {
+      numbered = meant_view meant;
+      begin = a.begin;
+      each = a.sorted.each;
+      asked = a.sorted.asked;
+      one = asked_one one;
+      among = Contains-permutation (asked_view asks) a.sorted.each (asked_one one) (IsPermutation-sym a.sorted.each (asked_view asks) a.sorted.same) (contains_map asked_one asks one o.among);
+      is = refl;
+      patch = place;
+    }
 
-place_among : (page : List ℕ) (patches : List (ℕ × Patch)) (p : ℕ) → IsPatchAt page patches p → Contains (places_of patches) p
-place_among page patches p a = contains_map (λ (x : ℕ × Patch). x.0) patches (p, a.patch) a.among
+place_among : (page : List ℕ) (patches : List (ℕ × Patch)) (p : ℕ) (ask : Splice Put) → IsAskAt page patches p ask → Contains (places_of patches) p
+place_among page patches p ask a =
+    let l : (a.one).turn.at < length (places_of patches) = slice_get_within (places_of patches) (a.one).turn.at p a.patch in
+    ((a.one).turn.at, l, get_or_from_slice_get (places_of patches) (a.one).turn.at p p a.patch)
 
 pub splice_refused : (page : List ℕ) (first : ℕ) (more : List ℕ) (patches : List (ℕ × Patch)) (parts : List Part) (meant : List MeantPatch) (asks : List PlacedAsk) (e : EditError) →
     places_of patches ≡ first ∷ more → AreAskedOf page patches parts meant asks → IsPageError page first parts asks e → IsRefused page patches e
@@ -433,7 +421,7 @@ splice_refused page first more patches parts meant asks (error.Across p) f a h =
     let len : length (pieces_in page) ≡ length parts = length_pieces parts (pieces_in page) a.are_pieces in
     let order : are_ordered 0 (length (pieces_in page)) (asks_view asks) ≡ false = ap (λ n. are_ordered 0 n (asks_view asks)) len ∙ h.2 in
     record {
-      among = place_among page patches p at.at;
+      among = place_among page patches p (ask_view (h.0).ask) at;
       numbered = meant_view meant;
       begin = a.begin;
       each = a.sorted.each;

@@ -12,9 +12,10 @@ use Rattle.tl_html_spec.specs.Pieces.{Piece, pieces, placed, runs}
 use Rattle.tl_html_tokens.specs.Tokens.{AreTokensOf, mark_len}
 use Rattle.tl_html_tokens.specs.declared.token.Token.{Token}
 use Rattle.tl_patch_spec.specs.Elements.{Element}
-use Rattle.tl_patch_spec.specs.Patches.{AreAskedOne, Dropped, Patch, Put, asked_of, extent_in, extent_of}
+use Rattle.tl_patch_spec.specs.LeftOpen.{LeftOpen, open_after, places_closed}
+use Rattle.tl_patch_spec.specs.Patches.{AreAskedOne, Dropped, Extent, Patch, Put, asked_of, extent_in, extent_of}
 use Rattle.tl_patch_spec.specs.Splices.{Splice, are_ordered}
-use Rattle.tl_patch_spec.specs.Together.{AreAskedTogether, Asked, Gone, Turn, ask_of, asked_at, asked_each, at_each, gone_after, is_gone, none_gone, turn_of, with_asks}
+use Rattle.tl_patch_spec.specs.Together.{AreAskedTogether, Asked, Gone, Turn, ask_of, asked_at, asked_each, asked_from, at_each, end_tags, gone_after, is_gone, piece_extent, turn_of, with_asks}
 use Rattle.tl_patch_edit.specs.Asks.{ask_view, asks_view, placed_at, placed_view, planned_view}
 use Rattle.tl_patch_edit.specs.Found.{IsSplicedPage, IsSplicedPageOf, IsStartAt}
 use Rattle.tl_patch_edit.specs.Inner.Parts.{ArePieces, Part}
@@ -139,9 +140,11 @@ abbrev pub before : List Asked → Option (List Asked) → Option (List Asked)
 before xs None = None
 before xs (Some more) = Some (xs ++ more)
 
-before_asks : (xs : List Asked) (t : Turn) (asks : List (Splice Put)) (o : Option (List Asked)) → before xs (with_asks t asks o) ≡ before (xs ++ map (asked_at t) asks) o
-before_asks xs t asks None = refl
-before_asks xs t asks (Some more) = ap (λ (ys : List Asked). Some ys) (sym (append_assoc xs (map (asked_at t) asks) more))
+before_asks : (xs : List Asked) (t : Turn) (asks : List (Splice Put)) (tags : List Asked) (o : Option (List Asked)) → before xs (with_asks t asks tags o) ≡ before (xs ++ (map (asked_at t) asks ++ tags)) o
+before_asks xs t asks tags None = refl
+before_asks xs t asks tags (Some more) =
+    let own : List Asked = map (asked_at t) asks in
+    ap (λ (ys : List Asked). Some ys) (ap (λ (ys : List Asked). xs ++ ys) (sym (append_assoc own tags more)) ∙ sym (append_assoc xs (own ++ tags) more))
 
 pub before_none : (o : Option (List Asked)) → before [] o ≡ o
 before_none None = refl
@@ -151,31 +154,35 @@ second_view : (s : Start) (t : CodeTurn) (o : Option Ask) → asked_view (map (p
 second_view s t None = refl
 second_view s t (Some a) = refl
 
-placed_asked : (s : Start) (t : CodeTurn) (p : Planned) → asked_view (placed_view s t p) ≡ map (asked_at (turn_view t)) (planned_view p)
+pub placed_asked : (s : Start) (t : CodeTurn) (p : Planned) → asked_view (placed_view s t p) ≡ map (asked_at (turn_view t)) (planned_view p)
 placed_asked s t p = ap (λ (xs : List Asked). asked_one (placed_at s t p.first) ∷ xs) (second_view s t p.second)
 
-counts : (ps : List Piece) (at : ℕ) (gone : Gone) (q : ℕ × Patch) (qs : List (ℕ × Patch)) (asks : List (Splice Put)) → is_gone gone q.0 ≡ false → asked_of ps q.0 q.1 ≡ Some asks →
-    asked_each ps at gone (q ∷ qs) ≡ with_asks (turn_of q.1 q.0 at) asks (asked_each ps (suc at) (gone_after q.1 q.0 asks gone) qs)
-counts ps at gone q qs asks l a =
-    ap (λ (v : Bool). if v then asked_each ps (suc at) gone qs else elim (asked_of ps q.0 q.1) as (λ _. Option (List Asked)) [
+counts : (ps : List Piece) (at : ℕ) (gone : Gone) (left : LeftOpen) (q : ℕ × Patch) (qs : List (ℕ × Patch)) (asks : List (Splice Put)) → is_gone gone q.0 ≡ false → asked_of ps q.0 q.1 ≡ Some asks →
+    asked_from ps at gone left (q ∷ qs) ≡ with_asks (turn_of q.1 q.0 at) asks (end_tags at left (places_closed q.1 q.0 (piece_extent ps q.0)))
+    (asked_from ps (suc at) (gone_after q.1 q.0 asks gone) (open_after q.1 q.0 (piece_extent ps q.0) left) qs)
+counts ps at gone left q qs asks l a =
+    let tags : List Asked = end_tags at left (places_closed q.1 q.0 (piece_extent ps q.0)) in
+    let next : LeftOpen = open_after q.1 q.0 (piece_extent ps q.0) left in
+    ap (λ (v : Bool). if v then asked_from ps (suc at) gone left qs else elim (asked_of ps q.0 q.1) as (λ _. Option (List Asked)) [
       | None ↦ None
-      | Some as2 ↦ with_asks (turn_of q.1 q.0 at) as2 (asked_each ps (suc at) (gone_after q.1 q.0 as2 gone) qs)
+      | Some as2 ↦ with_asks (turn_of q.1 q.0 at) as2 tags (asked_from ps (suc at) (gone_after q.1 q.0 as2 gone) next qs)
     ]) l
     ∙ ap (λ (o : Option (List (Splice Put))). elim o as (λ _. Option (List Asked)) [
       | None ↦ None
-      | Some as2 ↦ with_asks (turn_of q.1 q.0 at) as2 (asked_each ps (suc at) (gone_after q.1 q.0 as2 gone) qs)
+      | Some as2 ↦ with_asks (turn_of q.1 q.0 at) as2 tags (asked_from ps (suc at) (gone_after q.1 q.0 as2 gone) next qs)
     ]) a
 
-skipped : (ps : List Piece) (at : ℕ) (gone : Gone) (q : ℕ × Patch) (qs : List (ℕ × Patch)) → is_gone gone q.0 ≡ true → asked_each ps at gone (q ∷ qs) ≡ asked_each ps (suc at) gone qs
-skipped ps at gone q qs l =
-    ap (λ (v : Bool). if v then asked_each ps (suc at) gone qs else elim (asked_of ps q.0 q.1) as (λ _. Option (List Asked)) [
+skipped : (ps : List Piece) (at : ℕ) (gone : Gone) (left : LeftOpen) (q : ℕ × Patch) (qs : List (ℕ × Patch)) → is_gone gone q.0 ≡ true → asked_from ps at gone left (q ∷ qs) ≡ asked_from ps (suc at) gone left qs
+skipped ps at gone left q qs l =
+    ap (λ (v : Bool). if v then asked_from ps (suc at) gone left qs else elim (asked_of ps q.0 q.1) as (λ _. Option (List Asked)) [
       | None ↦ None
-      | Some as2 ↦ with_asks (turn_of q.1 q.0 at) as2 (asked_each ps (suc at) (gone_after q.1 q.0 as2 gone) qs)
+      | Some as2 ↦ with_asks (turn_of q.1 q.0 at) as2 (end_tags at left (places_closed q.1 q.0 (piece_extent ps q.0)))
+          (asked_from ps (suc at) (gone_after q.1 q.0 as2 gone) (open_after q.1 q.0 (piece_extent ps q.0) left) qs)
     ]) l
 
 -- those of the patches from a number on
-abbrev pub AskedFrom : List Piece → ℕ → Gone → List MeantPatch → Option (List Asked)
-AskedFrom ps at gone meant = asked_each ps at gone (meant_view meant)
+abbrev pub AskedFrom : List Piece → ℕ → Gone → LeftOpen → List MeantPatch → Option (List Asked)
+AskedFrom ps at gone left meant = asked_from ps at gone left (meant_view meant)
 
 abbrev numbered : MeantPatch → ℕ × Patch
 numbered m = (m.start.number, patch_view m.patch)
@@ -183,45 +190,53 @@ numbered m = (m.start.number, patch_view m.patch)
 view_drop : (meant : List MeantPatch) (at : ℕ) (d : MeantPatch) → at < length meant → meant_view (drop at meant) ≡ numbered (get_or meant at d) ∷ meant_view (drop (at + 1) meant)
 view_drop meant at d l = ap meant_view (drop_more meant at d l)
 
-pub asks_more : (ps : List Piece) (meant : List MeantPatch) (at : ℕ) (gone after : Gone) (t : CodeTurn) (m d : MeantPatch) (planned : Planned) (old now : List PlacedAsk) (all : Option (List Asked)) →
+pub asks_more : (ps : List Piece) (meant : List MeantPatch) (at : ℕ) (gone after : Gone) (left next_left : LeftOpen) (extent : Extent) (m d : MeantPatch) (planned : Planned) (old now more : List PlacedAsk)
+    (all : Option (List Asked)) →
     at < length meant → m ≡ get_or meant at d → is_gone gone m.start.number ≡ false → asked_of ps m.start.number (patch_view m.patch) ≡ Some (planned_view planned) →
-    turn_view t ≡ turn_of (patch_view m.patch) m.start.number at →
-    now ≡ old ++ placed_view m.start t planned → after ≡ gone_after (patch_view m.patch) m.start.number (planned_view planned) gone →
-    all ≡ before (asked_view old) (AskedFrom ps at gone (drop at meant)) → all ≡ before (asked_view now) (AskedFrom ps (at + 1) after (drop (at + 1) meant))
-asks_more ps meant at gone after t m d planned old now all l is o a v e k h =
+    extent ≡ piece_extent ps m.start.number → now ≡ old ++ more →
+    asked_view more ≡ map (asked_at (turn_of (patch_view m.patch) m.start.number at)) (planned_view planned) ++ end_tags at left (places_closed (patch_view m.patch) m.start.number extent) →
+    next_left ≡ open_after (patch_view m.patch) m.start.number extent left → after ≡ gone_after (patch_view m.patch) m.start.number (planned_view planned) gone →
+    all ≡ before (asked_view old) (AskedFrom ps at gone left (drop at meant)) → all ≡ before (asked_view now) (AskedFrom ps (at + 1) after next_left (drop (at + 1) meant))
+asks_more ps meant at gone after left next_left extent m d planned old now more all l is o a x e w f k h =
+    let q : ℕ × Patch = numbered m in
     let asks : List (Splice Put) = planned_view planned in
-    let more : List (ℕ × Patch) = meant_view (drop (at + 1) meant) in
-    let viewed : asked_view now ≡ asked_view old ++ map (asked_at (turn_view t)) asks =
-    ap asked_view e ∙ map-append asked_one old (placed_view m.start t planned) ∙ ap (λ (xs : List Asked). asked_view old ++ xs) (placed_asked m.start t planned) in
-    let left : meant_view (drop at meant) ≡ numbered m ∷ more = view_drop meant at d l ∙ ap (λ (x : MeantPatch). numbered x ∷ more) (sym is) in
+    let qs : List (ℕ × Patch) = meant_view (drop (at + 1) meant) in
+    let turn : Turn = turn_of q.1 q.0 at in
+    let tags : List Asked = end_tags at left (places_closed q.1 q.0 (piece_extent ps q.0)) in
+    let own : List Asked = map (asked_at turn) asks ++ tags in
+    let viewed : asked_view now ≡ asked_view old ++ own =
+    ap asked_view e ∙ map-append asked_one old more
+    ∙ ap (λ (xs : List Asked). asked_view old ++ xs) (w ∙ ap (λ (y : Extent). map (asked_at turn) asks ++ end_tags at left (places_closed q.1 q.0 y)) x) in
+    let opened : next_left ≡ open_after q.1 q.0 (piece_extent ps q.0) left = f ∙ ap (λ (y : Extent). open_after q.1 q.0 y left) x in
+    let these : meant_view (drop at meant) ≡ q ∷ qs = view_drop meant at d l ∙ ap (λ (y : MeantPatch). numbered y ∷ qs) (sym is) in
     let next : suc at ≡ at + 1 = omega arith in
     h
-    ∙ ap (λ (ns : List (ℕ × Patch)). before (asked_view old) (asked_each ps at gone ns)) left
-    ∙ ap (before (asked_view old)) (counts ps at gone (numbered m) more asks o a)
-    ∙ before_asks (asked_view old) (turn_of (patch_view m.patch) m.start.number at) asks (asked_each ps (suc at) (gone_after (patch_view m.patch) m.start.number asks gone) more)
-    ∙ ap (λ (u : Turn). before (asked_view old ++ map (asked_at u) asks) (asked_each ps (suc at) (gone_after (patch_view m.patch) m.start.number asks gone) more)) (sym v)
-    ∙ ap₂ (λ (xs : List Asked) (g : Gone). before xs (asked_each ps (suc at) g more)) (sym viewed) (sym k)
-    ∙ ap (λ n. before (asked_view now) (asked_each ps n after more)) next
+    ∙ ap (λ (ns : List (ℕ × Patch)). before (asked_view old) (asked_from ps at gone left ns)) these
+    ∙ ap (before (asked_view old)) (counts ps at gone left q qs asks o a)
+    ∙ before_asks (asked_view old) turn asks tags (asked_from ps (suc at) (gone_after q.1 q.0 asks gone) (open_after q.1 q.0 (piece_extent ps q.0) left) qs)
+    ∙ ap (λ (ys : LeftOpen). before (asked_view old ++ own) (asked_from ps (suc at) (gone_after q.1 q.0 asks gone) ys qs)) (sym opened)
+    ∙ ap₂ (λ (xs : List Asked) (g : Gone). before xs (asked_from ps (suc at) g next_left qs)) (sym viewed) (sym k)
+    ∙ ap (λ n. before (asked_view now) (asked_from ps n after next_left qs)) next
 
-pub asks_same : (ps : List Piece) (meant : List MeantPatch) (at : ℕ) (gone : Gone) (m d : MeantPatch) (old : List Asked) (all : Option (List Asked)) →
+pub asks_same : (ps : List Piece) (meant : List MeantPatch) (at : ℕ) (gone : Gone) (left : LeftOpen) (m d : MeantPatch) (old : List Asked) (all : Option (List Asked)) →
     at < length meant → m ≡ get_or meant at d → is_gone gone m.start.number ≡ true →
-    all ≡ before old (AskedFrom ps at gone (drop at meant)) → all ≡ before old (AskedFrom ps (at + 1) gone (drop (at + 1) meant))
-asks_same ps meant at gone m d old all l is o h =
-    let more : List (ℕ × Patch) = meant_view (drop (at + 1) meant) in
-    let left : meant_view (drop at meant) ≡ numbered m ∷ more = view_drop meant at d l ∙ ap (λ (x : MeantPatch). numbered x ∷ more) (sym is) in
+    all ≡ before old (AskedFrom ps at gone left (drop at meant)) → all ≡ before old (AskedFrom ps (at + 1) gone left (drop (at + 1) meant))
+asks_same ps meant at gone left m d old all l is o h =
+    let qs : List (ℕ × Patch) = meant_view (drop (at + 1) meant) in
+    let these : meant_view (drop at meant) ≡ numbered m ∷ qs = view_drop meant at d l ∙ ap (λ (x : MeantPatch). numbered x ∷ qs) (sym is) in
     let next : suc at ≡ at + 1 = omega arith in
-    h ∙ ap (λ (ns : List (ℕ × Patch)). before old (asked_each ps at gone ns)) left
-    ∙ ap (before old) (skipped ps at gone (numbered m) more o)
-    ∙ ap (λ n. before old (asked_each ps n gone more)) next
+    h ∙ ap (λ (ns : List (ℕ × Patch)). before old (asked_from ps at gone left ns)) these
+    ∙ ap (before old) (skipped ps at gone left (numbered m) qs o)
+    ∙ ap (λ n. before old (asked_from ps n gone left qs)) next
 
-pub asks_end : (ps : List Piece) (meant : List MeantPatch) (at : ℕ) (gone : Gone) (old : List Asked) (all : Option (List Asked)) → drop at meant ≡ [] →
-    all ≡ before old (AskedFrom ps at gone (drop at meant)) → all ≡ Some old
-asks_end ps meant at gone old all e h =
-    h ∙ ap (λ (xs : List MeantPatch). before old (AskedFrom ps at gone xs)) e ∙ ap (λ (xs : List Asked). Some xs) (append-nil old)
+pub asks_end : (ps : List Piece) (meant : List MeantPatch) (at : ℕ) (gone : Gone) (left : LeftOpen) (old : List Asked) (all : Option (List Asked)) → drop at meant ≡ [] →
+    all ≡ before old (AskedFrom ps at gone left (drop at meant)) → all ≡ Some old
+asks_end ps meant at gone left old all e h =
+    h ∙ ap (λ (xs : List MeantPatch). before old (AskedFrom ps at gone left xs)) e ∙ ap (λ (xs : List Asked). Some xs) (append-nil old)
 
 -- in order
 
-pub sorted : (ps : List Piece) (patches : List (ℕ × Patch)) (old new : List PlacedAsk) → asked_each ps 0 none_gone patches ≡ Some (asked_view old) → IsPermutation old new →
+pub sorted : (ps : List Piece) (patches : List (ℕ × Patch)) (old new : List PlacedAsk) → asked_each ps patches ≡ Some (asked_view old) → IsPermutation old new →
     AreInTurn new → AreSorted ps patches new
 sorted ps patches old new a p t = record {
   each = asked_view old;

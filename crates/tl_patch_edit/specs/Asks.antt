@@ -35,6 +35,7 @@ puts_view put.Nothing = []
 puts_view (put.Content content) = NewContent (content_view content) ∷ []
 puts_view (put.EndTagAndContent raw content) =
     NewEndTag (name_of raw.now) ∷ NewContent (content_view content) ∷ []
+puts_view (put.LeftOut raw) = NewEndTag (name_of raw.now) ∷ []
 puts_view (put.EndTag name) = NewEndTag name.now ∷ []
 puts_view (put.Renamed name) = Changed (Rename name.now) ∷ []
 
@@ -151,6 +152,7 @@ abbrev pub IsTagFor : CodePut → Part → List ℕ → Type 0
 IsTagFor put.Nothing place tag = ⊤
 IsTagFor (put.Content content) place tag = ⊤
 IsTagFor (put.EndTagAndContent raw content) place tag = IsEndTagOf (name_of raw.now) tag
+IsTagFor (put.LeftOut raw) place tag = IsEndTagOf (name_of raw.now) tag
 IsTagFor (put.EndTag name) place tag = IsEndTagOf name.now tag
 IsTagFor (put.Renamed name) place tag = IsRenamedTag name.now place tag
 

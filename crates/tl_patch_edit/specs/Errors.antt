@@ -15,7 +15,7 @@ use Rattle.tl_patch_spec.specs.Patches.{Changed, Content, Markup, NewContent, Ne
 use Rattle.tl_patch_spec.specs.RawTexts.{cause_of, is_misread}
 use Rattle.tl_patch_spec.specs.Splices.{Splice, with_splices}
 use Rattle.tl_patch_spec.specs.TagChanges.{Rename}
-use Rattle.tl_patch_spec.specs.Together.{AreAskedTogether, Asked, ask_of, asked_each, none_gone}
+use Rattle.tl_patch_spec.specs.Together.{AreAskedTogether, Asked, ask_of, asked_each}
 use Rattle.tl_patch_edit.specs.Asks.{text_form}
 use Rattle.tl_patch_edit.specs.Found.{IsNeverSaid, has_mark}
 use Rattle.tl_patch_edit.specs.Sayings.{AreWhole, sayings}
@@ -52,18 +52,23 @@ pub record IsPatchAt (page : List ℕ) (patches : List (ℕ × Patch)) (place : 
   pub piece : Piece
   pub begins : slice_get (placed_pieces page) number ≡ Some (place, piece)
 
--- such a patch can't be meant for its element
+-- such a patch can't be meant for its element, whose start tag stands there
 pub record CannotBeMeant (page : List ℕ) (patches : List (ℕ × Patch)) (place : ℕ) : Type 0 where
   pub at : IsPatchAt page patches place
+  pub start : IsStartTag at.piece.tokens
   pub none : asked_of (pieces_in page) at.number at.patch ≡ None
 
--- such a patch asks for this splice
+-- of what these patches ask for together this splice is asked for by one of the element at a place
 pub record IsAskAt (page : List ℕ) (patches : List (ℕ × Patch)) (place : ℕ) (ask : Splice Put) :
     Type 0 where
-  pub at : IsPatchAt page patches place
-  pub asks : List (Splice Put)
-  pub asked : asked_of (pieces_in page) at.number at.patch ≡ Some asks
-  pub among : Contains asks ask
+  pub numbered : List (ℕ × Patch)
+  pub begin : BeginAt 0 (placed_pieces page) patches numbered
+  pub each : List Asked
+  pub asked : asked_each (pieces_in page) numbered ≡ Some each
+  pub one : Asked
+  pub among : Contains each one
+  pub is : one.ask ≡ ask
+  pub patch : slice_get (places_of patches) one.turn.at ≡ Some place
 
 -- which begins behind the end of the page
 pub record StandsPastEnd (page : List ℕ) (patches : List (ℕ × Patch)) (place : ℕ) : Type 0 where
@@ -129,7 +134,7 @@ pub record StandAcross (page : List ℕ) (patches : List (ℕ × Patch)) (place 
   pub numbered : List (ℕ × Patch)
   pub begin : BeginAt 0 (placed_pieces page) patches numbered
   pub each : List Asked
-  pub asked : asked_each (pieces_in page) 0 none_gone numbered ≡ Some each
+  pub asked : asked_each (pieces_in page) numbered ≡ Some each
   pub asks : List Asked
   pub same : IsPermutation each asks
   pub across : AreAcross (length (pieces_in page)) (map ask_of asks)
@@ -141,7 +146,7 @@ pub record MayBeMisread (page : List ℕ) (patches : List (ℕ × Patch)) (place
   pub numbered : List (ℕ × Patch)
   pub begin : BeginAt 0 (placed_pieces page) patches numbered
   pub each : List Asked
-  pub asked : asked_each (pieces_in page) 0 none_gone numbered ≡ Some each
+  pub asked : asked_each (pieces_in page) numbered ≡ Some each
   pub asks : List Asked
   pub same : IsPermutation each asks
   pub ask : Splice Put

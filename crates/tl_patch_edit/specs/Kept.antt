@@ -4,7 +4,7 @@ use Rattle.std.specs.List.{All}
 use Rattle.std.specs.List.Sorted.{IsPermutation}
 use Rattle.tl_patch_spec.specs.Patches.{Patch}
 use Rattle.tl_patch_spec.specs.RawTexts.{is_misread}
-use Rattle.tl_patch_spec.specs.Together.{Asked, ask_of, asked_each, none_gone}
+use Rattle.tl_patch_spec.specs.Together.{Asked, ask_of, asked_each}
 use Rattle.tl_patch_edit.specs.Errors.{pieces_in, placed_pieces}
 use Rattle.tl_patch_edit.specs.Several.{BeginAt}
 
@@ -14,7 +14,7 @@ pub record KeepRawTexts (patches : List (ℕ × Patch)) (page : List ℕ) : Type
   pub numbered : List (ℕ × Patch)
   pub begin : BeginAt 0 (placed_pieces page) patches numbered
   pub each : List Asked
-  pub asked : asked_each (pieces_in page) 0 none_gone numbered ≡ Some each
+  pub asked : asked_each (pieces_in page) numbered ≡ Some each
   pub asks : List Asked
   pub same : IsPermutation each asks
   pub kept : All (λ ask. is_misread (pieces_in page) (map ask_of asks) ask ≡ false)

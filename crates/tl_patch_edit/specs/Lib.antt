@@ -3,6 +3,7 @@ pub mod Sayings
 pub mod Asks
 pub mod Found
 pub mod Several
+pub mod Open
 pub mod Errors
 pub mod Kept
 pub mod Inner

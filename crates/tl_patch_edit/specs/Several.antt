@@ -9,7 +9,7 @@ use Rattle.tl_html_tokens.specs.declared.token.Token.{Token}
 use Rattle.tl_patch_spec.specs.Elements.{Element}
 use Rattle.tl_patch_spec.specs.Patches.{Dropped, Patch, extent_in}
 use Rattle.tl_patch_spec.specs.Splices.{Splice, with_splices}
-use Rattle.tl_patch_spec.specs.Together.{AreAskedTogether, Asked, asked_at, asked_each, comes_first, none_gone}
+use Rattle.tl_patch_spec.specs.Together.{AreAskedTogether, Asked, asked_at, asked_each, comes_first}
 use Rattle.tl_patch_edit.specs.Asks.{ask_view}
 use Rattle.tl_patch_edit.specs.Found.{IsStartAt, IsStartOf}
 use Rattle.tl_patch_edit.specs.View.{extent_view, turn_view}
@@ -95,6 +95,6 @@ AreInTurn (a ∷ b ∷ asks) = Precedes a b × AreInTurn (b ∷ asks)
 pub record AreSorted (ps : List Piece) (patches : List (ℕ × Patch)) (asks : List PlacedAsk) :
     Type 0 where
   pub each : List Asked
-  pub asked : asked_each ps 0 none_gone patches ≡ Some each
+  pub asked : asked_each ps patches ≡ Some each
   pub same : IsPermutation each (asked_view asks)
   pub in_turn : AreInTurn asks

@@ -175,6 +175,7 @@ pub(crate) fn put_parts<'p>(
         Put::EndTagAndContent { raw, content } => {
             tag_and_content(alloc, place, content, escaped, raw, tag)
         }
+        Put::LeftOut { raw } => left_out(alloc, place, raw, tag),
         Put::EndTag { name } => end_tag_alone(alloc, place, name, tag),
         Put::Renamed { name } => renamed_tag(alloc, place, name, tag),
     }
@@ -203,6 +204,24 @@ fn tag_and_content<'p>(
     let mut parts = Vec::new(alloc);
     push(end_tag_part(tag), &mut parts)?;
     copy(found.as_slice(), &mut parts)?;
+    Ok(Some(parts))
+}
+
+// An end tag that is left out.
+fn left_out<'p>(
+    alloc: Global,
+    place: Part<'p>,
+    raw: &[u8],
+    tag: &'p [u8],
+) -> Result<Option<Vec<Part<'p>>>, AllocError>
+    requires { IsEndTagOf (name_of raw.now) tag.now }
+    ensures parts { IfOk result (λ found. IfSome found (λ parts.
+        GivePut (NewEndTag (name_of raw.now) ∷ []) (part_view place.entry)
+        (parts_view parts.items))) }
+    ensures some { IfOk result (λ found. IsSome found) }
+{
+    let mut parts = Vec::new(alloc);
+    push(end_tag_part(tag), &mut parts)?;
     Ok(Some(parts))
 }
 

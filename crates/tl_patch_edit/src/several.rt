@@ -4,7 +4,9 @@ ghost use Rattle.std.specs.List.{All};
 ghost use Rattle.std.specs.List.Sorted.{IsPermutation};
 ghost use Rattle.tl_patch_spec.specs.Patches.{asked_of};
 ghost use Rattle.tl_patch_spec.specs.Tail.{elements_up_to_tail};
-ghost use Rattle.tl_patch_spec.specs.Together.{asked_each, at_each, depth_of, gone_after, is_gone, none_gone, rank_of, turn_of};
+ghost use Rattle.tl_patch_spec.specs.LeftOpen.{left_open};
+ghost use Rattle.tl_patch_spec.specs.Together.{asked_each, at_each, depth_of, gone_after, is_gone, rank_of, turn_of};
+ghost use Rattle.tl_patch_edit.specs.Open.{ArePushed, left_view};
 ghost use Rattle.tl_patch_edit.specs.Asks.{planned_view};
 ghost use Rattle.tl_patch_edit.specs.Inner.Causes.{IsAsksError, IsPlanError, IsPlanned, IsStartsError};
 ghost use Rattle.tl_patch_edit.specs.Errors.{CannotBeMeant, CannotBeRead, CannotBeWritten, IsRefused, LacksStartTag, MayBeMisread, StandAcross, StandsPastEnd, pieces_in};
@@ -12,12 +14,13 @@ ghost use Rattle.tl_patch_edit.specs.declared.ask.PlacedPatch.{PlacedPatch};
 ghost use Rattle.tl_patch_edit.specs.declared.error.EditError.TheVariants.{Across, EndOfPage, Misread, NoStartTag, NotMeant, NotWritten, OutOfMemory, ReadOtherwise};
 ghost use Rattle.tl_patch_edit.specs.Several.{AreEdited, AreExtents, AreInTurn, AreMeantAt, AreSorted, IsMeantOfPage, asked_view, places_of, stands_twice};
 ghost use Rattle.tl_patch_edit.specs.Kept.{KeepRawTexts};
-ghost use Rattle.tl_patch_edit.specs.View.{gone_view, meant_view, patch_view, patches_view, turn_view};
+ghost use Rattle.tl_patch_edit.specs.View.{extent_view, gone_view, meant_view, patch_view, patches_view, turn_view};
 
 use crate::ask::{ElementPatch, Extent, Gone, MeantPatch, PlacedAsk, PlacedPatch, Planned, Turn};
 use crate::edit::{meant_start, planned_for, push_asks, spliced_page};
 use crate::error::EditError;
 use crate::extent::extents_of;
+use crate::left_open::{OpenElement, end_own, left_open, push_end_tags};
 use crate::part::parts_of;
 use crate::raw_text::refuse_misread;
 use crate::tail::elements_up_to_tail;
@@ -134,22 +137,43 @@ fn turn_of(patch: ElementPatch<'_>, number: usize, at: usize) -> Turn
     }
 }
 
-// What these patches ask for.
+// Adds what a patch asks for of its element, with these end tags.
+fn push_all<'n>(
+    one: MeantPatch<'n>,
+    at: usize,
+    extent: Extent,
+    planned: Planned<'n>,
+    left: &mut Vec<Option<OpenElement<'n>>>,
+    out: &mut Vec<PlacedAsk<'n>>,
+) -> Result<(), AllocError>
+    ensures { OnOk result (ArePushed one.entry at (extent_view extent) planned.entry left.old.items
+        out.old.items left.new.items out.new.items) }
+{
+    let turn = turn_of(one.patch, one.start.number, at);
+    push_asks(one.start, turn, planned, out)?;
+    push_end_tags(one, at, extent, left, out)?;
+    end_own(one.patch, one.start.number, extent, left);
+    Ok(())
+}
+
+// What these patches ask for, where this is left open.
 fn asks_of<'n>(
     alloc: Global,
     page: &'n [u8],
     meant: &[MeantPatch<'n>],
     extents: &[Extent],
+    all_left: Vec<Option<OpenElement<'n>>>,
 ) -> Result<Vec<PlacedAsk<'n>>, EditError>
     requires meant { All (IsMeantOfPage page.now) meant.now }
     requires extents { AreExtents (elements_up_to_tail (pieces_in page.now)) extents.now }
     requires within { length (pieces_in page.now) ≤ length extents.now }
+    requires left { left_view all_left.items ≡ left_open (pieces_in page.now) }
     ensures asks { IfOk result (λ asks.
-        asked_each (pieces_in page.now) 0 none_gone (meant_view meant.now)
-        ≡ Some (asked_view asks.items)) }
-    ensures planned { IfOk result (λ asks. All (IsPlanned page.now meant.now) asks.items) }
+        asked_each (pieces_in page.now) (meant_view meant.now) ≡ Some (asked_view asks.items)) }
+    ensures planned { IfOk result (λ asks. All (IsPlanned meant.now) asks.items) }
     ensures error { IfErr result (IsAsksError page.now meant.now) }
 {
+    let mut left = all_left;
     let mut asks = Vec::with_capacity(alloc, meant.len())?;
     let mut gone = Gone { from: 0, until: 0 };
     for at in 0..meant.len() {
@@ -157,8 +181,8 @@ fn asks_of<'n>(
         let is_gone = is_gone(gone, one.start.number);
         if !is_gone {
             let planned = planned_by(alloc, page, one, extents)?;
-            let turn = turn_of(one.patch, one.start.number, at);
-            push_asks(one.start, turn, planned, &mut asks)?;
+            let extent = extents[one.start.number];
+            push_all(one, at, extent, planned, &mut left, &mut asks)?;
             gone = gone_after(one.patch, one.start.number, planned, gone);
         }
     }
@@ -187,16 +211,18 @@ fn sorted_asks<'n>(
     page: &'n [u8],
     meant: &[MeantPatch<'n>],
     extents: &[Extent],
+    all_left: Vec<Option<OpenElement<'n>>>,
 ) -> Result<Vec<PlacedAsk<'n>>, EditError>
     requires meant { All (IsMeantOfPage page.now) meant.now }
     requires extents { AreExtents (elements_up_to_tail (pieces_in page.now)) extents.now }
     requires within { length (pieces_in page.now) ≤ length extents.now }
+    requires left { left_view all_left.items ≡ left_open (pieces_in page.now) }
     ensures sorted { IfOk result (λ asks.
         AreSorted (pieces_in page.now) (meant_view meant.now) asks.items) }
-    ensures planned { IfOk result (λ asks. All (IsPlanned page.now meant.now) asks.items) }
+    ensures planned { IfOk result (λ asks. All (IsPlanned meant.now) asks.items) }
     ensures error { IfErr result (IsAsksError page.now meant.now) }
 {
-    let mut asks = asks_of(alloc, page, meant, extents)?;
+    let mut asks = asks_of(alloc, page, meant, extents, all_left)?;
     sort_asks(&mut asks)?;
     Ok(asks)
 }
@@ -227,7 +253,8 @@ fn with_patches<'p>(
     let parts = parts_of(alloc, page, found.tokens.as_slice())?;
     let meant = meant_at(alloc, found.tokens.as_slice(), patches)?;
     let extents = extents_of(alloc, found.elements.as_slice(), parts.len())?;
-    let asks = sorted_asks(alloc, page, meant.as_slice(), extents.as_slice())?;
+    let left = left_open(alloc, found.elements.as_slice(), parts.len())?;
+    let asks = sorted_asks(alloc, page, meant.as_slice(), extents.as_slice(), left)?;
     refuse_misread(alloc, page, found.tokens.as_slice(), asks.as_slice())?;
     let text = spliced_page(alloc, page, parts.as_slice(), asks.as_slice(), place)?;
     Ok(text)

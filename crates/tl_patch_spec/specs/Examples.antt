@@ -5,11 +5,12 @@ use Rattle.std.specs.List.{list_any}
 use Rattle.tl_html_spec.specs.HtmlTokenizer.{HtmlToken}
 use Rattle.tl_html_spec.specs.Pieces.{Piece, pieces, runs}
 use Rattle.tl_patch_spec.specs.Elements.{Element, elements}
-use Rattle.tl_patch_spec.specs.Patches.{Content, NewContent, Patch, Put, Text, asked_of, tokens_asked}
+use Rattle.tl_patch_spec.specs.Patches.{Content, NewContent, NewEndTag, Patch, Put, Text, asked_of, put_at, tokens_asked}
 use Rattle.tl_patch_spec.specs.RawTexts.{is_misread}
+use Rattle.tl_patch_spec.specs.Seams.{is_apart_from}
 use Rattle.tl_patch_spec.specs.Splices.{Splice}
 use Rattle.tl_patch_spec.specs.Tail.{elements_up_to_tail}
-use Rattle.tl_patch_spec.specs.Together.{Asked, ask_of, asked_each, at_each, none_gone}
+use Rattle.tl_patch_spec.specs.Together.{Asked, ask_of, asked_at, asked_each, at_each}
 
 -- the pieces of a page, where characters are joined
 abbrev pub cut_page : String → List Piece
@@ -69,16 +70,27 @@ words bytes = Text (codes bytes)
 abbrev pub put_words : String → List Put
 put_words bytes = NewContent (words bytes) ∷ []
 
+-- whether these bytes go on with what follows them
+abbrev pub is_apart_in : String → String → Bool
+is_apart_in bytes next = is_apart_from (codes bytes) (codes next)
+
 -- the tokens that a patch asks for
 abbrev pub with_patch : String → ℕ → Patch → Option (List HtmlToken)
 with_patch page place patch = tokens_asked (cut_page page) place patch
 
 -- what patches ask for of the elements that begin at these pieces, and one patch of each
 abbrev pub all_asked : String → List (ℕ × Patch) → Option (List Asked)
-all_asked page patches = asked_each (cut_page page) 0 none_gone patches
+all_asked page patches = asked_each (cut_page page) patches
 
 abbrev pub each_asked : String → Patch → List ℕ → Option (List Asked)
 each_asked page patch numbers = all_asked page (at_each patch numbers)
+
+-- the end tag of an element that begins at a piece, put in before another piece by the patch of a
+-- number
+abbrev pub end_tag_put : String → ℕ → ℕ → ℕ → Asked
+end_tag_put name start at place =
+    asked_at (record { depth = start; rank = 3; at = at })
+    (put_at place (NewEndTag (codes name) ∷ []))
 
 -- whether what they ask for may be read as markup by a browser
 abbrev pub are_misread : List Piece → List (Splice Put) → Bool

@@ -1,4 +1,5 @@
 pub mod Splices
+pub mod Seams
 pub mod TagChanges
 pub mod TagNames
 pub mod Markup
@@ -6,6 +7,7 @@ pub mod PieceChanges
 pub mod Elements
 pub mod Tail
 pub mod Patches
+pub mod LeftOpen
 pub mod Together
 pub mod RawTexts
 pub mod Examples

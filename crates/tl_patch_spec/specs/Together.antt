@@ -2,8 +2,11 @@
 use Rattle.std.specs.Prelude.{◌≡◌, ℕ, suc, Bool, true, ◌||◌, ◌&&◌, not, ◌==◌, nat_le, nat_lt, List, [], ◌∷◌, ◌++◌, length, map, Option, Some, None, if◌then◌else◌}
 use Rattle.std.specs.List.Sorted.{IsPermutation}
 use Rattle.tl_html_spec.specs.Pieces.{Piece}
-use Rattle.tl_patch_spec.specs.Patches.{Append, AreAskedOne, Fill, Patch, Prepend, Put, PutAfter, PutBefore, Remove, RenameElement, ReplaceWith, asked_of}
+use Rattle.tl_patch_spec.specs.Elements.{OpenElement}
+use Rattle.tl_patch_spec.specs.LeftOpen.{LeftOpen, closed_at, left_open, open_after, open_at, places_closed}
+use Rattle.tl_patch_spec.specs.Patches.{Append, AreAskedOne, Extent, Fill, NewEndTag, Patch, Prepend, Put, PutAfter, PutBefore, Remove, RenameElement, ReplaceWith, asked_of, extent_in, put_at}
 use Rattle.tl_patch_spec.specs.Splices.{Splice, are_ordered}
+use Rattle.tl_patch_spec.specs.Tail.{elements_up_to_tail}
 
 -- this patch of each element that is named here in order; one that is named twice counts once
 abbrev pub at_each : Patch → List ℕ → List (ℕ × Patch)
@@ -71,22 +74,43 @@ gone_after (ReplaceWith c) n (s ∷ splices) gone = record { from = n; until = s
 gone_after (Fill c) n (s ∷ splices) gone = record { from = n; until = s.until }
 gone_after patch n splices gone = gone
 
-abbrev pub with_asks : Turn → List (Splice Put) → Option (List Asked) → Option (List Asked)
-with_asks turn asks None = None
-with_asks turn asks (Some more) = Some (map (asked_at turn) asks ++ more)
+-- the end tag of an element that is left open before a piece: it has its turn with that element
+abbrev pub end_tag_at : ℕ → ℕ → Option OpenElement → List Asked
+end_tag_at at place None = []
+end_tag_at at place (Some o) =
+    asked_at (record { depth = o.1; rank = 3; at = at }) (put_at place (NewEndTag o.0 ∷ [])) ∷ []
+
+-- those that the patch of a number puts in before these pieces
+abbrev pub end_tags : ℕ → LeftOpen → List ℕ → List Asked
+end_tags at left [] = []
+end_tags at left (n ∷ ns) = end_tag_at at n (open_at left n) ++ end_tags at (closed_at left n) ns
+
+-- how far the element that begins at a piece goes
+abbrev pub piece_extent : List Piece → ℕ → Extent
+piece_extent ps n = extent_in n (elements_up_to_tail ps)
+
+abbrev pub with_asks : Turn → List (Splice Put) → List Asked → Option (List Asked)
+    → Option (List Asked)
+with_asks turn asks tags None = None
+with_asks turn asks tags (Some more) = Some (map (asked_at turn) asks ++ (tags ++ more))
 
 -- what patches ask for, from the one of a number on, each of the element whose start tag is the
 -- piece of a number, in the order of these; one that begins in what another takes away doesn't
 -- count
-abbrev pub asked_each : List Piece → ℕ → Gone → List (ℕ × Patch) → Option (List Asked)
-asked_each ps at gone [] = Some []
-asked_each ps at gone (p ∷ patches) =
-    if is_gone gone p.0 then asked_each ps (suc at) gone patches
+abbrev pub asked_from : List Piece → ℕ → Gone → LeftOpen → List (ℕ × Patch) → Option (List Asked)
+asked_from ps at gone left [] = Some []
+asked_from ps at gone left (p ∷ patches) =
+    if is_gone gone p.0 then asked_from ps (suc at) gone left patches
     else elim (asked_of ps p.0 p.1) as (λ _. Option (List Asked)) [
       | None ↦ None
       | Some asks ↦ with_asks (turn_of p.1 p.0 at) asks
-          (asked_each ps (suc at) (gone_after p.1 p.0 asks gone) patches)
+          (end_tags at left (places_closed p.1 p.0 (piece_extent ps p.0)))
+          (asked_from ps (suc at) (gone_after p.1 p.0 asks gone)
+          (open_after p.1 p.0 (piece_extent ps p.0) left) patches)
     ]
+
+abbrev pub asked_each : List Piece → List (ℕ × Patch) → Option (List Asked)
+asked_each ps patches = asked_from ps 0 none_gone (left_open ps) patches
 
 -- whether what is put at one place is put in turn
 abbrev pub is_in_turn : Asked → Asked → Bool
@@ -102,7 +126,7 @@ are_in_turn (a ∷ b ∷ asks) = is_in_turn a b && are_in_turn (b ∷ asks)
 pub record AreAskedTogether (ps : List Piece) (patches : List (ℕ × Patch))
     (splices : List (Splice Piece)) : Type 0 where
   pub each : List Asked
-  pub asked : asked_each ps 0 none_gone patches ≡ Some each
+  pub asked : asked_each ps patches ≡ Some each
   pub asks : List Asked
   pub same : IsPermutation each asks
   pub ordered : are_ordered 0 (length ps) (map ask_of asks) ≡ true

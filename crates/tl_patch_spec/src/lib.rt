@@ -6,5 +6,6 @@ pub mod laws;
 mod markup_examples;
 mod patch_examples;
 mod raw_text_examples;
+mod seam_examples;
 mod tail_examples;
 mod together_examples;

@@ -1,7 +1,7 @@
 //! Worked rows: what patches ask for of several elements.
 
 ghost use Rattle.std.specs.Prelude.{◌≡◌, ◌∷◌, [], None, Some, codes, false, true};
-ghost use Rattle.tl_patch_spec.specs.Examples.{all_asked, each_asked, put_words, words};
+ghost use Rattle.tl_patch_spec.specs.Examples.{all_asked, each_asked, end_tag_put, put_words, words};
 ghost use Rattle.tl_patch_spec.specs.Patches.{Append, Fill, NewEndTag, Prepend, PutAfter, PutBefore, Remove, RenameElement, ReplaceWith, Unwrap, change_tag, cut_out, put_at, put_instead};
 ghost use Rattle.tl_patch_spec.specs.TagChanges.{Rename};
 ghost use Rattle.tl_patch_spec.specs.Together.{are_in_turn, asked_at, turn_of};
@@ -83,4 +83,67 @@ pub fn order()
         ∷ asked_at (turn_of (PutAfter (words "y")) 1 0) (put_at 5 []) ∷ []) ≡ true }
     ensures of_two { are_in_turn (asked_at (turn_of (Append (words "y")) 1 1) (put_at 5 [])
         ∷ asked_at (turn_of (Append (words "z")) 1 0) (put_at 5 []) ∷ []) ≡ false }
+{}
+
+/// The end tag of the element before is put in, where it is left out: before what is put before the
+/// next one, or in its place, and once.
+#[tactic(auto, unfolding(tl_html_spec::specs::Reader::read, tl_html_spec::specs::Reader::rest_before))]
+pub fn end_tags_of_the_element_before()
+    ensures before { all_asked "<ul><li>a<li>b</ul>" ((3, PutBefore (words "x")) ∷ [])
+        ≡ Some (asked_at (turn_of (PutBefore (words "x")) 3 0) (put_at 3 (put_words "x"))
+        ∷ end_tag_put "li" 1 0 3 ∷ []) }
+    ensures replace { all_asked "<p>a<hr>b" ((2, ReplaceWith (words "x")) ∷ [])
+        ≡ Some (asked_at (turn_of (ReplaceWith (words "x")) 2 0) (put_instead 2 3 (put_words "x"))
+        ∷ end_tag_put "p" 0 0 2 ∷ []) }
+    ensures rename { all_asked "<p>a<div>b</div>" ((2, RenameElement (codes "b")) ∷ [])
+        ≡ Some (asked_at (turn_of (RenameElement (codes "b")) 2 0) (change_tag 2 (Rename (codes "b")))
+        ∷ asked_at (turn_of (RenameElement (codes "b")) 2 0) (change_tag 4 (Rename (codes "b")))
+        ∷ end_tag_put "p" 0 0 2 ∷ []) }
+    ensures unwrap { all_asked "<p>a<div>b</div>" ((2, Unwrap) ∷ [])
+        ≡ Some (asked_at (turn_of Unwrap 2 0) (cut_out 2 3)
+        ∷ asked_at (turn_of Unwrap 2 0) (cut_out 4 5) ∷ end_tag_put "p" 0 0 2 ∷ []) }
+    ensures unwrap_its_own { all_asked "<select><option>a</select>" ((0, Unwrap) ∷ [])
+        ≡ Some (asked_at (turn_of Unwrap 0 0) (cut_out 0 1)
+        ∷ asked_at (turn_of Unwrap 0 0) (cut_out 3 4) ∷ end_tag_put "option" 1 0 3 ∷ []) }
+    ensures outermost { all_asked "<table><tr><td>a<tr>" ((4, PutBefore (words "x")) ∷ [])
+        ≡ Some (asked_at (turn_of (PutBefore (words "x")) 4 0) (put_at 4 (put_words "x"))
+        ∷ end_tag_put "tr" 1 0 4 ∷ []) }
+    ensures several { each_asked "<p>a<p>b<p>c" (PutBefore (words "x")) (0 ∷ 2 ∷ 4 ∷ [])
+        ≡ Some (asked_at (turn_of (PutBefore (words "x")) 0 0) (put_at 0 (put_words "x"))
+        ∷ asked_at (turn_of (PutBefore (words "x")) 2 1) (put_at 2 (put_words "x"))
+        ∷ end_tag_put "p" 0 1 2
+        ∷ asked_at (turn_of (PutBefore (words "x")) 4 2) (put_at 4 (put_words "x"))
+        ∷ end_tag_put "p" 2 2 4 ∷ []) }
+    ensures twice { all_asked "<p>a<p>b"
+        ((2, PutBefore (words "x")) ∷ (2, PutBefore (words "y")) ∷ [])
+        ≡ Some (asked_at (turn_of (PutBefore (words "x")) 2 0) (put_at 2 (put_words "x"))
+        ∷ end_tag_put "p" 0 0 2
+        ∷ asked_at (turn_of (PutBefore (words "y")) 2 1) (put_at 2 (put_words "y")) ∷ []) }
+{}
+
+/// None is put in where none is left open: the element before ends with its own end tag or isn't
+/// there, it goes, or it gets an end tag there by itself.
+#[tactic(auto, unfolding(tl_html_spec::specs::Reader::read, tl_html_spec::specs::Reader::rest_before))]
+pub fn no_end_tags()
+    ensures closed { all_asked "<p>a</p><p>b" ((3, PutBefore (words "x")) ∷ [])
+        ≡ Some (asked_at (turn_of (PutBefore (words "x")) 3 0) (put_at 3 (put_words "x")) ∷ []) }
+    ensures first { all_asked "<ul><li>a<li>b</ul>" ((1, PutBefore (words "x")) ∷ [])
+        ≡ Some (asked_at (turn_of (PutBefore (words "x")) 1 0) (put_at 1 (put_words "x")) ∷ []) }
+    ensures within { all_asked "<p>a<p>b" ((2, Prepend (words "x")) ∷ [])
+        ≡ Some (asked_at (turn_of (Prepend (words "x")) 2 0) (put_at 3 (put_words "x")) ∷ []) }
+    ensures replaced { each_asked "<p>a<p>b" (ReplaceWith (words "x")) (0 ∷ 2 ∷ [])
+        ≡ Some (asked_at (turn_of (ReplaceWith (words "x")) 0 0) (put_instead 0 2 (put_words "x"))
+        ∷ asked_at (turn_of (ReplaceWith (words "x")) 2 1) (put_instead 2 4 (put_words "x"))
+        ∷ []) }
+    ensures unwrapped { each_asked "<p>a<p>b" Unwrap (0 ∷ 2 ∷ [])
+        ≡ Some (asked_at (turn_of Unwrap 0 0) (cut_out 0 1)
+        ∷ asked_at (turn_of Unwrap 2 1) (cut_out 2 3) ∷ []) }
+    ensures put_after { all_asked "<p>a<p>b"
+        ((0, PutAfter (words "x")) ∷ (2, PutBefore (words "y")) ∷ [])
+        ≡ Some (asked_at (turn_of (PutAfter (words "x")) 0 0)
+        (put_at 2 (NewEndTag (codes "p") ∷ put_words "x"))
+        ∷ asked_at (turn_of (PutBefore (words "y")) 2 1) (put_at 2 (put_words "y")) ∷ []) }
+    ensures removed { all_asked "<p>a<p>b" ((0, Remove) ∷ (2, PutBefore (words "y")) ∷ [])
+        ≡ Some (asked_at (turn_of Remove 0 0) (cut_out 0 2)
+        ∷ asked_at (turn_of (PutBefore (words "y")) 2 1) (put_at 2 (put_words "y")) ∷ []) }
 {}

@@ -13,7 +13,7 @@ use Rattle.tl_patch_spec.specs.Markup.{is_name}
 use Rattle.tl_patch_spec.specs.Patches.{Content, Markup, Put, Text, asked_of}
 use Rattle.tl_patch_spec.specs.Splices.{Splice, are_ordered}
 use Rattle.tl_patch.specs.StartTags.{is_start_tag}
-use Rattle.tl_patch_edit.specs.Asks.{ask_view, asks_view, is_data, text_form}
+use Rattle.tl_patch_edit.specs.Asks.{asks_view, is_data, text_form}
 use Rattle.tl_patch_edit.specs.Found.{IsNeverRead, IsNeverSplicedOf, IsStartAt, has_mark}
 use Rattle.tl_patch_edit.specs.Inner.Parts.{Part, with_end_part}
 use Rattle.tl_patch_edit.specs.View.{content_view, patch_view}
@@ -72,18 +72,16 @@ IsAsksError page patches error.OutOfMemory = ⊤
 IsAsksError page patches (error.NotMeant p) = IsUnmeant page patches p
 IsAsksError page patches _ = ⊥
 
--- an ask of one of these patches
-pub record IsPlanned (page : List ℕ) (patches : List MeantPatch) (one : PlacedAsk) : Type 0 where
+-- an ask of the patch that has its number
+pub record IsPlanned (patches : List MeantPatch) (one : PlacedAsk) : Type 0 where
   pub meant : MeantPatch
-  pub among : Contains patches meant
+  pub at : slice_get patches one.turn.at ≡ Some meant
   pub start : meant.start ≡ one.start
-  pub asks : List (Splice Put)
-  pub asked : asked_of (runs (pieces page)) meant.start.number (patch_view meant.patch) ≡ Some asks
-  pub is : Contains asks (ask_view one.ask)
 
 -- whether the name of a tag that is put can stand as it is
 abbrev pub has_name : CodePut → Bool
 has_name (put.EndTagAndContent raw content) = is_name (name_of raw.now)
+has_name (put.LeftOut raw) = is_name (name_of raw.now)
 has_name (put.EndTag name) = is_name name.now
 has_name (put.Renamed name) = is_name name.now
 has_name _ = true

@@ -12,4 +12,4 @@ returns-clause-sorted c =
 
 pub returns-clause-planned : goal.returns-clause-planned
 returns-clause-planned c =
-    All-permutation (IsPlanned c.args.page.now c.args.meant.now) c.in_ok-asks.asks.items c.sort_asks.new.asks.items c.sort_asks.ensures.permutation c.in_ok-asks.ensures.planned
+    All-permutation (IsPlanned c.args.meant.now) c.in_ok-asks.asks.items c.sort_asks.new.asks.items c.sort_asks.ensures.permutation c.in_ok-asks.ensures.planned
