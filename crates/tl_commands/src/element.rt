@@ -1,6 +1,7 @@
 //! The commands that change elements.
 use crate::flag::HTML;
-use clap::{Arg, Command};
+use crate::word::{ELEMENTS, ELEMENTS_AND_NAME, ELEMENTS_AND_TEXT, Word, with_words};
+use clap::Command;
 use std::alloc::{AllocError, Global};
 
 /// A command that changes the elements where a selector holds.
@@ -65,36 +66,27 @@ impl ElementVerb {
         }
     }
 
+    // Its words before the files.
+    fn words(self) -> &'static [Word] {
+        match self {
+            ElementVerb::Rename => &ELEMENTS_AND_NAME,
+            ElementVerb::Remove | ElementVerb::Unwrap => &ELEMENTS,
+            _ => &ELEMENTS_AND_TEXT,
+        }
+    }
+
     /// A command with its words before the files.
     pub fn with_words<'w>(
         self,
         alloc: Global,
         command: Command<'w>,
     ) -> Result<Command<'w>, AllocError> {
-        let selector = Arg::new(alloc, "SELECTOR")
-            .required(true)
-            .help("What holds of the elements, as for select");
-        let command = command.arg(selector)?;
+        let command = with_words(alloc, command, self.words())?;
         match self {
-            ElementVerb::Rename => command.arg(name(alloc)),
-            ElementVerb::Remove | ElementVerb::Unwrap => Ok(command),
-            _ => command.arg(text(alloc))?.arg(HTML.argument(alloc)),
+            ElementVerb::Rename | ElementVerb::Remove | ElementVerb::Unwrap => Ok(command),
+            _ => command.arg(HTML.argument(alloc)?),
         }
     }
-}
-
-// The word NAME.
-fn name<'w>(alloc: Global) -> Arg<'w> {
-    Arg::new(alloc, "NAME")
-        .required(true)
-        .help("The name, in any case")
-}
-
-// The word TEXT.
-fn text<'w>(alloc: Global) -> Arg<'w> {
-    Arg::new(alloc, "TEXT")
-        .required(true)
-        .help("What is put, as characters; with --html as markup")
 }
 
 const RENAMES: &str = "\

@@ -1,6 +1,6 @@
 //! The options of commands.
 use clap::{Arg, ArgAction};
-use std::alloc::Global;
+use std::alloc::{AllocError, Global};
 
 /// An option.
 pub struct Flag {
@@ -8,83 +8,96 @@ pub struct Flag {
     pub short: Option<char>,
     pub value: Option<&'static str>,
     pub help: &'static str,
+    /// The options beside which it can't stand.
+    pub excludes: &'static [&'static str],
 }
 
-pub static NO_NAME: Flag = Flag {
+pub const NO_NAME: Flag = Flag {
     name: "no-name",
     short: None,
     value: None,
     help: "No `FILE:` before each line, where there are several",
+    excludes: &[],
 };
 
-pub static AS_IS: Flag = Flag {
+const AS_IS: Flag = Flag {
     name: "as-is",
     short: None,
     value: None,
     help: "Read by the grammar of tl, and write what stands",
+    excludes: &[],
 };
 
-pub static RAW: Flag = Flag {
+const RAW: Flag = Flag {
     name: "raw",
     short: None,
     value: None,
     help: "Write names and references as the form has them",
+    excludes: &["as-is"],
 };
 
-pub static ENCODING: Flag = Flag {
+pub const ENCODING: Flag = Flag {
     name: "encoding",
     short: None,
     value: Some("LABEL"),
     help: "What the pages are in: utf-8, latin1 or windows-1252",
+    excludes: &[],
 };
 
-pub static NULL: Flag = Flag {
+const NULL: Flag = Flag {
     name: "null",
     short: Some('0'),
     value: None,
     help: "End answers with a byte 0, not with a line feed",
+    excludes: &[],
 };
 
-pub static FIRST: Flag = Flag {
+const FIRST: Flag = Flag {
     name: "first",
     short: Some('1'),
     value: None,
     help: "The first node of each page alone",
+    excludes: &["count", "max-count"],
 };
 
-pub static QUIET: Flag = Flag {
+const QUIET: Flag = Flag {
     name: "quiet",
     short: Some('q'),
     value: None,
     help: "Write nothing: the status says what is found",
+    excludes: &[],
 };
 
-pub static NAMES: Flag = Flag {
+const NAMES: Flag = Flag {
     name: "files-with-matches",
     short: Some('l'),
     value: None,
     help: "Write the names of files where something is found",
+    excludes: &["quiet"],
 };
 
-pub static MAX_COUNT: Flag = Flag {
+const MAX_COUNT: Flag = Flag {
     name: "max-count",
     short: Some('m'),
     value: Some("N"),
     help: "The first N nodes of each page alone",
+    excludes: &[],
 };
 
-pub static WHITESPACE: Flag = Flag {
+const WHITESPACE: Flag = Flag {
     name: "whitespace",
     short: Some('w'),
     value: None,
     help: "Blocks on lines, one space between words, no scripts",
+    excludes: &[],
 };
 
-pub static INSIDE: Flag = Flag {
+const INSIDE: Flag = Flag {
     name: "in",
     short: None,
     value: Some("SELECTOR"),
     help: "Of what is inside each node where the selector holds",
+    excludes: &[],
 };
 
 pub static TABLE_NUMBER: Flag = Flag {
@@ -92,6 +105,7 @@ pub static TABLE_NUMBER: Flag = Flag {
     short: Some('n'),
     value: Some("N"),
     help: "The Nth table of each page; without it the first",
+    excludes: &[],
 };
 
 pub static NODE_NUMBERS: Flag = Flag {
@@ -99,6 +113,7 @@ pub static NODE_NUMBERS: Flag = Flag {
     short: Some('n'),
     value: None,
     help: "Its number before each node, and no node left out",
+    excludes: &[],
 };
 
 // What may be written of a node; without one of these its print.
@@ -108,36 +123,42 @@ pub static NODE_FLAGS: [Flag; 6] = [
         short: Some('a'),
         value: Some("KEY"),
         help: "The value at KEY, of nodes that have one",
+        excludes: &[],
     },
     Flag {
         name: "text",
         short: Some('t'),
         value: None,
         help: "The characters of the texts at or below the node",
+        excludes: &[],
     },
     Flag {
         name: "inside",
         short: Some('H'),
         value: None,
         help: "The print of what is inside",
+        excludes: &[],
     },
     Flag {
         name: "number",
         short: Some('n'),
         value: None,
         help: "Its number, from 0; edit takes those of --as-is",
+        excludes: &[],
     },
     Flag {
         name: "count",
         short: Some('c'),
         value: None,
         help: "How many nodes there are, once for each page",
+        excludes: &[],
     },
     Flag {
         name: "json",
         short: None,
         value: None,
         help: "JSON: its number, name, attributes and text",
+        excludes: &[],
     },
 ];
 
@@ -146,13 +167,15 @@ pub static TREE: Flag = Flag {
     short: None,
     value: None,
     help: "With --json: its children too, as a tree",
+    excludes: &["attribute", "text", "inside", "number", "count"],
 };
 
-pub static POLICY: Flag = Flag {
+const POLICY: Flag = Flag {
     name: "policy",
     short: None,
     value: None,
     help: "Write these lists, one on each line, and read no page",
+    excludes: &[],
 };
 
 // Where pages with changes go; without one of these to standard output.
@@ -162,18 +185,21 @@ pub static TARGETS: [Flag; 3] = [
         short: Some('i'),
         value: None,
         help: "Into their files, each of which is replaced at once",
+        excludes: &[],
     },
     Flag {
         name: "backup",
         short: None,
         value: Some("SUFFIX"),
         help: "So too, and the old page stays in FILESUFFIX",
+        excludes: &[],
     },
     Flag {
         name: "dry-run",
         short: None,
         value: None,
         help: "Nowhere: write FILE:LINE:COLUMN of what would change",
+        excludes: &[],
     },
 ];
 
@@ -182,20 +208,23 @@ pub static HTML: Flag = Flag {
     short: None,
     value: None,
     help: "TEXT is markup, and stands as it is",
+    excludes: &[],
 };
 
-pub static RELATIVE_LINKS: Flag = Flag {
+const RELATIVE_LINKS: Flag = Flag {
     name: "relative-links",
     short: None,
     value: None,
     help: "Links beside the page may stand too, as x.png",
+    excludes: &[],
 };
 
-pub static NOFOLLOW_LINKS: Flag = Flag {
+const NOFOLLOW_LINKS: Flag = Flag {
     name: "nofollow-links",
     short: None,
     value: None,
     help: "Links get rel=\"nofollow noopener\"",
+    excludes: &[],
 };
 
 // The policies to begin with.
@@ -205,12 +234,14 @@ pub static BASES: [Flag; 2] = [
         short: None,
         value: None,
         help: "Begin with the lists for comments of readers",
+        excludes: &[],
     },
     Flag {
         name: "documents",
         short: None,
         value: None,
         help: "Begin with those for documents, as with tables",
+        excludes: &[],
     },
 ];
 
@@ -221,36 +252,56 @@ pub static LISTS: [Flag; 5] = [
         short: None,
         value: Some("WORDS"),
         help: "The tags that stand, as a,p",
+        excludes: &[],
     },
     Flag {
         name: "keys",
         short: None,
         value: Some("WORDS"),
         help: "The keys of attributes that stand",
+        excludes: &[],
     },
     Flag {
         name: "link-keys",
         short: None,
         value: Some("WORDS"),
         help: "Those of them whose values are links",
+        excludes: &[],
     },
     Flag {
         name: "links",
         short: None,
         value: Some("WORDS"),
         help: "What links begin with, as https:,/",
+        excludes: &[],
     },
     Flag {
         name: "prefix",
         short: None,
         value: Some("WORD"),
         help: "What values of id, name and class begin with",
+        excludes: &[],
     },
 ];
 
+// How pages are read and written.
+pub static READING: [Flag; 3] = [AS_IS, RAW, ENCODING];
+
+// Whether something is found.
+pub static SEARCH: [Flag; 3] = [QUIET, NAMES, NULL];
+
+// Which nodes of those where a selector holds are meant.
+pub static SELECTION: [Flag; 2] = [FIRST, MAX_COUNT];
+
+// How texts are written, and which.
+pub static TEXT_FLAGS: [Flag; 2] = [WHITESPACE, INSIDE];
+
+// What a policy lets stand beside its lists, and how pages are read and written.
+pub static POLICIES: [Flag; 5] = [RELATIVE_LINKS, NOFOLLOW_LINKS, POLICY, AS_IS, ENCODING];
+
 impl Flag {
-    /// It as an argument.
-    pub fn argument<'w>(&self, alloc: Global) -> Arg<'w> {
+    // It as an argument that can stand beside each other one.
+    fn lone_argument<'w>(&self, alloc: Global) -> Arg<'w> {
         let argument = Arg::new(alloc, self.name).long(self.name).help(self.help);
         let argument = match self.value {
             Some(value) => argument.value_name(value).action(ArgAction::Set),
@@ -260,5 +311,14 @@ impl Flag {
             Some(short) => argument.short(short),
             None => argument,
         }
+    }
+
+    /// It as an argument.
+    pub fn argument<'w>(&self, alloc: Global) -> Result<Arg<'w>, AllocError> {
+        let mut argument = self.lone_argument(alloc);
+        for other in self.excludes {
+            argument = argument.conflicts_with(*other)?;
+        }
+        Ok(argument)
     }
 }

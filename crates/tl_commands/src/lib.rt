@@ -5,6 +5,7 @@ mod element;
 mod flag;
 mod help;
 mod verb;
+mod word;
 
 pub use element::ElementVerb;
 pub use verb::{Verb, program};

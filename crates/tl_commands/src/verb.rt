@@ -1,14 +1,14 @@
 //! The commands.
 use crate::element::ElementVerb;
 use crate::flag::{
-    AS_IS, BASES, ENCODING, FIRST, Flag, INSIDE, LISTS, MAX_COUNT, NAMES, NO_NAME, NODE_FLAGS,
-    NODE_NUMBERS, NOFOLLOW_LINKS, NULL, POLICY, QUIET, RAW, RELATIVE_LINKS, TABLE_NUMBER, TARGETS,
-    TREE, WHITESPACE,
+    BASES, ENCODING, Flag, LISTS, NO_NAME, NODE_FLAGS, NODE_NUMBERS, POLICIES, READING, SEARCH,
+    SELECTION, TABLE_NUMBER, TARGETS, TEXT_FLAGS, TREE,
 };
 use crate::help::{
     ABOUT, LINKS, OUTLINES, PRINTS, PROGRAM, SAFE, SELECTORS, SETTINGS, STEPS, TABLES, TEXTS,
     UNSETTINGS,
 };
+use crate::word::{NODES, TAGS_AND_KEY, TAGS_KEY_AND_VALUE, with_words};
 use clap::{Arg, ArgGroup, Command};
 use std::alloc::{AllocError, Global};
 
@@ -27,7 +27,7 @@ fn with_flags<'w>(
 ) -> Result<Command<'w>, AllocError> {
     let mut all = command;
     for flag in flags {
-        all = all.arg(flag.argument(alloc))?;
+        all = all.arg(flag.argument(alloc)?)?;
     }
     Ok(all)
 }
@@ -146,25 +146,25 @@ impl Verb {
     // It over files, without options of its own.
     fn plain_command<'w>(self, alloc: Global) -> Result<Command<'w>, AllocError> {
         self.bare_command(alloc)
-            .arg(NO_NAME.argument(alloc))?
+            .arg(NO_NAME.argument(alloc)?)?
             .arg(files(alloc))
     }
 
     // It over files, with what says how pages are read and written.
     fn reading_command<'w>(self, alloc: Global) -> Result<Command<'w>, AllocError> {
-        with_reading(alloc, self.plain_command(alloc)?)
+        with_flags(alloc, self.plain_command(alloc)?, &READING)
     }
 
     // It with all its words.
     fn command<'w>(self, alloc: Global) -> Result<Command<'w>, AllocError> {
         match self {
             Verb::Select => select(alloc, self.bare_command(alloc)),
-            Verb::Links => with_search(alloc, self.reading_command(alloc)?),
+            Verb::Links => with_flags(alloc, self.reading_command(alloc)?, &SEARCH),
             Verb::Text => text(alloc, self.reading_command(alloc)?),
             Verb::Table => self
                 .reading_command(alloc)?
-                .arg(TABLE_NUMBER.argument(alloc)),
-            Verb::Print => self.plain_command(alloc)?.arg(ENCODING.argument(alloc)),
+                .arg(TABLE_NUMBER.argument(alloc)?),
+            Verb::Print => self.plain_command(alloc)?.arg(ENCODING.argument(alloc)?),
             Verb::Outline => outline(alloc, self.reading_command(alloc)?),
             Verb::Edit => edit(alloc, self.bare_command(alloc)),
             Verb::Set => set(alloc, self.bare_command(alloc)),
@@ -187,68 +187,28 @@ impl Verb {
     }
 }
 
-// A command with what says how pages are read and written.
-fn with_reading<'w>(alloc: Global, command: Command<'w>) -> Result<Command<'w>, AllocError> {
-    let raw = RAW.argument(alloc).conflicts_with("as-is")?;
-    command
-        .arg(AS_IS.argument(alloc))?
-        .arg(raw)?
-        .arg(ENCODING.argument(alloc))
-}
-
-// A command with what asks whether something is found.
-fn with_search<'w>(alloc: Global, command: Command<'w>) -> Result<Command<'w>, AllocError> {
-    let names = NAMES.argument(alloc).conflicts_with("quiet")?;
-    command
-        .arg(QUIET.argument(alloc))?
-        .arg(names)?
-        .arg(NULL.argument(alloc))
-}
-
-// `select` with what says which nodes of those where its selector holds are meant.
-fn with_selection<'w>(alloc: Global, command: Command<'w>) -> Result<Command<'w>, AllocError> {
-    let selector = Arg::new(alloc, "SELECTOR")
-        .required(true)
-        .help("What holds of the nodes");
-    let first = FIRST
-        .argument(alloc)
-        .conflicts_with("count")?
-        .conflicts_with("max-count")?;
-    command
-        .arg(selector)?
-        .arg(first)?
-        .arg(MAX_COUNT.argument(alloc))
-}
-
-// Children, of objects of JSON alone. What can't stand beside `json` would lift what is required.
-fn tree<'w>(alloc: Global) -> Result<Arg<'w>, AllocError> {
-    TREE.argument(alloc)
-        .requires_arg("json")?
-        .conflicts_with("attribute")?
-        .conflicts_with("text")?
-        .conflicts_with("inside")?
-        .conflicts_with("number")?
-        .conflicts_with("count")
-}
-
 fn select<'w>(alloc: Global, command: Command<'w>) -> Result<Command<'w>, AllocError> {
-    let command = with_reading(alloc, with_selection(alloc, command)?)?;
-    let command = with_flags(alloc, with_search(alloc, command)?, &NODE_FLAGS)?;
+    let command = with_words(alloc, command, &NODES)?;
+    let command = with_flags(alloc, command, &SELECTION)?;
+    let command = with_flags(alloc, command, &READING)?;
+    let command = with_flags(alloc, command, &SEARCH)?;
+    let command = with_flags(alloc, command, &NODE_FLAGS)?;
+
+    // (what can't stand beside `json` would lift what is required)
+    let tree = TREE.argument(alloc)?.requires_arg("json")?;
     command
-        .arg(tree(alloc)?)?
+        .arg(tree)?
         .group(one_of(alloc, "wanted", &NODE_FLAGS)?)?
-        .arg(NO_NAME.argument(alloc))?
+        .arg(NO_NAME.argument(alloc)?)?
         .arg(files(alloc))
 }
 
 fn text<'w>(alloc: Global, command: Command<'w>) -> Result<Command<'w>, AllocError> {
-    command
-        .arg(WHITESPACE.argument(alloc))?
-        .arg(INSIDE.argument(alloc))
+    with_flags(alloc, command, &TEXT_FLAGS)
 }
 
 fn outline<'w>(alloc: Global, command: Command<'w>) -> Result<Command<'w>, AllocError> {
-    command.arg(NODE_NUMBERS.argument(alloc))
+    command.arg(NODE_NUMBERS.argument(alloc)?)
 }
 
 fn edit<'w>(alloc: Global, command: Command<'w>) -> Result<Command<'w>, AllocError> {
@@ -258,7 +218,7 @@ fn edit<'w>(alloc: Global, command: Command<'w>) -> Result<Command<'w>, AllocErr
         .help("What is done with the page, one step after the other");
     command
         .arg(steps)?
-        .arg(NO_NAME.argument(alloc))?
+        .arg(NO_NAME.argument(alloc)?)?
         .arg(files(alloc).last(true))
 }
 
@@ -269,40 +229,19 @@ fn with_targets<'w>(alloc: Global, command: Command<'w>) -> Result<Command<'w>, 
         .arg(files(alloc))
 }
 
-// The words SELECTOR and KEY.
-fn with_tags<'w>(alloc: Global, command: Command<'w>) -> Result<Command<'w>, AllocError> {
-    let selector = Arg::new(alloc, "SELECTOR")
-        .required(true)
-        .help("What holds of the tags, as for select");
-    let key = Arg::new(alloc, "KEY")
-        .required(true)
-        .help("The key, in any case");
-    command.arg(selector)?.arg(key)
-}
-
 fn set<'w>(alloc: Global, command: Command<'w>) -> Result<Command<'w>, AllocError> {
-    let value = Arg::new(alloc, "VALUE")
-        .required(true)
-        .help("Its value, as characters");
-    with_targets(alloc, with_tags(alloc, command)?.arg(value)?)
+    with_targets(alloc, with_words(alloc, command, &TAGS_KEY_AND_VALUE)?)
 }
 
 fn unset<'w>(alloc: Global, command: Command<'w>) -> Result<Command<'w>, AllocError> {
-    with_targets(alloc, with_tags(alloc, command)?)
+    with_targets(alloc, with_words(alloc, command, &TAGS_AND_KEY)?)
 }
 
 fn sanitize<'w>(alloc: Global, command: Command<'w>) -> Result<Command<'w>, AllocError> {
     let command = with_flags(alloc, command, &BASES)?;
-    with_flags(
-        alloc,
-        command.group(one_of(alloc, "base", &BASES)?)?,
-        &LISTS,
-    )?
-    .arg(RELATIVE_LINKS.argument(alloc))?
-    .arg(NOFOLLOW_LINKS.argument(alloc))?
-    .arg(POLICY.argument(alloc))?
-    .arg(AS_IS.argument(alloc))?
-    .arg(ENCODING.argument(alloc))
+    let command = command.group(one_of(alloc, "base", &BASES)?)?;
+    let command = with_flags(alloc, command, &LISTS)?;
+    with_flags(alloc, command, &POLICIES)
 }
 
 /// The program of a version.

@@ -1,0 +1,81 @@
+//! The words of commands that are no options.
+use clap::{Arg, Command};
+use std::alloc::{AllocError, Global};
+
+/// A word that has to be there.
+pub struct Word {
+    pub name: &'static str,
+    pub help: &'static str,
+}
+
+const ELEMENT_SELECTOR: Word = Word {
+    name: "SELECTOR",
+    help: "What holds of the elements, as for select",
+};
+
+const TAG_SELECTOR: Word = Word {
+    name: "SELECTOR",
+    help: "What holds of the tags, as for select",
+};
+
+const KEY: Word = Word {
+    name: "KEY",
+    help: "The key, in any case",
+};
+
+// The words of `select`.
+pub static NODES: [Word; 1] = [Word {
+    name: "SELECTOR",
+    help: "What holds of the nodes",
+}];
+
+// Those of `unset`, and of `set`.
+pub static TAGS_AND_KEY: [Word; 2] = [TAG_SELECTOR, KEY];
+
+pub static TAGS_KEY_AND_VALUE: [Word; 3] = [
+    TAG_SELECTOR,
+    KEY,
+    Word {
+        name: "VALUE",
+        help: "Its value, as characters",
+    },
+];
+
+// Those of commands that change elements.
+pub static ELEMENTS: [Word; 1] = [ELEMENT_SELECTOR];
+
+pub static ELEMENTS_AND_NAME: [Word; 2] = [
+    ELEMENT_SELECTOR,
+    Word {
+        name: "NAME",
+        help: "The name, in any case",
+    },
+];
+
+pub static ELEMENTS_AND_TEXT: [Word; 2] = [
+    ELEMENT_SELECTOR,
+    Word {
+        name: "TEXT",
+        help: "What is put, as characters; with --html as markup",
+    },
+];
+
+impl Word {
+    // It as an argument.
+    fn argument<'w>(&self, alloc: Global) -> Arg<'w> {
+        Arg::new(alloc, self.name).required(true).help(self.help)
+    }
+}
+
+/// A command with these words.
+pub fn with_words<'w>(
+    alloc: Global,
+    command: Command<'w>,
+    words: &[Word],
+) -> Result<Command<'w>, AllocError> {
+    let mut all = command;
+    for word in words {
+        all = all.arg(word.argument(alloc))?;
+    }
+    Ok(all)
+}
