@@ -172,7 +172,7 @@ abbrev pub BeginsWithHead : HtmlForest → Type 0
 BeginsWithHead no_trees = ⊥
 BeginsWithHead (text bytes more) = ⊥
 BeginsWithHead (comment bytes more) = BeginsWithHead more
-BeginsWithHead (doctype own more) = BeginsWithHead more
+BeginsWithHead (doctype own more) = ⊥
 BeginsWithHead (element tag below more) = is_any (codes "head") tag ≡ true
 
 -- doctypes and comments, and then `html`, in which `head` is the first element
