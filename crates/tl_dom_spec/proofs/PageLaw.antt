@@ -14,18 +14,18 @@ use Rattle.tl_dom_spec.proofs.Allowed.{Each}
 use Rattle.tl_dom_spec.proofs.DispatcherRules.{page_start-Holds}
 use Rattle.tl_dom_spec.proofs.TextLaw.{anything}
 use Rattle.tl_dom_spec.proofs.TreesFollow.{page_is}
-use Rattle.tl_dom_spec.proofs.Seats.{ArePlain, HeadFirst, HtmlFirst, Seated, Seats, ended, headed, heading, inside, joined-html, top_settled-Seats}
+use Rattle.tl_dom_spec.proofs.Seats.{AreComments, ArePlain, HeadFirst, HtmlFirst, Seated, Seats, ended, headed, heading, inside, joined-html, top_settled-Seats}
 use Rattle.tl_dom_spec.proofs.Seating.{SeatingOf}
 use Rattle.tl_dom_spec.proofs.Stages.{IsTied, file_ended, page_stage, tied_emissions, tokens-Stage}
 
 -- trees
 
-plain-head : (nodes : Nodes) (later : HtmlForest) → ArePlain nodes → BeginsWithHead later → BeginsWithHead (before nodes later)
-plain-head no_nodes later p h = h
-plain-head (and_text nodes bytes) later p h = absurd p
-plain-head (and_comment nodes bytes) later p h = plain-head nodes (comment bytes later) p h
-plain-head (and_doctype nodes own) later p h = plain-head nodes (doctype own later) p h
-plain-head (and_element nodes tag children) later p h = absurd p
+comments-head : (nodes : Nodes) (later : HtmlForest) → AreComments nodes → BeginsWithHead later → BeginsWithHead (before nodes later)
+comments-head no_nodes later p h = h
+comments-head (and_text nodes bytes) later p h = absurd p
+comments-head (and_comment nodes bytes) later p h = comments-head nodes (comment bytes later) p h
+comments-head (and_doctype nodes own) later p h = absurd p
+comments-head (and_element nodes tag children) later p h = absurd p
 
 head_begins : (nodes : Nodes) (later : HtmlForest) → HeadFirst nodes → BeginsWithHead (before nodes later)
 head_begins no_nodes later h = absurd h
@@ -33,7 +33,7 @@ head_begins (and_text nodes bytes) later h = head_begins nodes (text bytes later
 head_begins (and_comment nodes bytes) later h = head_begins nodes (comment bytes later) h
 head_begins (and_doctype nodes own) later h = head_begins nodes (doctype own later) h
 head_begins (and_element nodes tag children) later (inl h) = head_begins nodes (element tag (before children no_trees) later) h
-head_begins (and_element nodes tag children) later (inr h) = plain-head nodes (element tag (before children no_trees) later) h.1 h.0
+head_begins (and_element nodes tag children) later (inr h) = comments-head nodes (element tag (before children no_trees) later) h.1 h.0
 
 plain-page : (nodes : Nodes) (later : HtmlForest) → ArePlain nodes → IsPage later → IsPage (before nodes later)
 plain-page no_nodes later p h = h

@@ -25,12 +25,19 @@ ArePlain (and_comment nodes bytes) = ArePlain nodes
 ArePlain (and_doctype nodes own) = ArePlain nodes
 ArePlain (and_element nodes tag children) = ⊥
 
+abbrev pub AreComments : Nodes → Type 0
+AreComments no_nodes = ⊤
+AreComments (and_text nodes bytes) = ⊥
+AreComments (and_comment nodes bytes) = AreComments nodes
+AreComments (and_doctype nodes own) = ⊥
+AreComments (and_element nodes tag children) = ⊥
+
 abbrev pub HeadFirst : Nodes → Type 0
 HeadFirst no_nodes = ⊥
 HeadFirst (and_text nodes bytes) = HeadFirst nodes
 HeadFirst (and_comment nodes bytes) = HeadFirst nodes
 HeadFirst (and_doctype nodes own) = HeadFirst nodes
-HeadFirst (and_element nodes tag children) = HeadFirst nodes ⊎ (IsHead tag × ArePlain nodes)
+HeadFirst (and_element nodes tag children) = HeadFirst nodes ⊎ (IsHead tag × AreComments nodes)
 
 abbrev pub HtmlFirst : Nodes → Type 0
 HtmlFirst no_nodes = ⊥
@@ -74,6 +81,20 @@ joined-plain nodes (and_comment more bytes) h k = joined-plain nodes more h k
 joined-plain nodes (and_doctype more own) h k = joined-plain nodes more h k
 joined-plain nodes (and_element more tag children) h k = absurd k
 
+pub joined-comments : (nodes more : Nodes) → AreComments nodes → AreComments more → AreComments (joined nodes more)
+joined-comments nodes no_nodes h k = h
+joined-comments nodes (and_text more bytes) h k = absurd k
+joined-comments nodes (and_comment more bytes) h k = joined-comments nodes more h k
+joined-comments nodes (and_doctype more own) h k = absurd k
+joined-comments nodes (and_element more tag children) h k = absurd k
+
+at_head-comments : (nodes new : Nodes) → AreComments nodes → AreComments (at_head nodes new)
+at_head-comments no_nodes new h = tt
+at_head-comments (and_text nodes bytes) new h = absurd h
+at_head-comments (and_comment nodes bytes) new h = at_head-comments nodes new h
+at_head-comments (and_doctype nodes own) new h = absurd h
+at_head-comments (and_element nodes tag children) new h = absurd h
+
 at_head-plain : (nodes new : Nodes) → ArePlain nodes → ArePlain (at_head nodes new)
 at_head-plain no_nodes new h = tt
 at_head-plain (and_text nodes bytes) new h = absurd h
@@ -88,7 +109,7 @@ at_head-head (and_comment nodes bytes) new h = at_head-head nodes new h
 at_head-head (and_doctype nodes own) new h = at_head-head nodes new h
 at_head-head (and_element nodes tag children) new h =
     cond_both (is_any (codes "head") tag) _ _ HeadFirst (λ _. h)
-    (λ _. elim h [ inl x ↦ inl (at_head-head nodes new x) | inr x ↦ inr (x.0, at_head-plain nodes new x.1) ])
+    (λ _. elim h [ inl x ↦ inl (at_head-head nodes new x) | inr x ↦ inr (x.0, at_head-comments nodes new x.1) ])
 
 at_head-html : (nodes new : Nodes) → HtmlFirst nodes → HtmlFirst (at_head nodes new)
 at_head-html no_nodes new h = h
@@ -131,7 +152,7 @@ pub data Seated : ℕ → Path → Type 0 where
   -- `head` is settled
   headed : (h d : Frame) → IsRoot h → HeadFirst h.children → IsDocument d → Seated 1 (h ∷ d ∷ [])
   -- `head` is open
-  heading : (f h d : Frame) → IsHeadFrame f → IsRoot h → ArePlain h.children → IsDocument d → Seated 2 (f ∷ h ∷ d ∷ [])
+  heading : (f h d : Frame) → IsHeadFrame f → IsRoot h → AreComments h.children → IsDocument d → Seated 2 (f ∷ h ∷ d ∷ [])
   inside : (low : ℕ) (f : Frame) (path : Path) → 2 < f.number → Placed low f.place → Seated low path → Seated low (f ∷ path)
 
 abbrev pub Seats : Path → Type 0
@@ -227,7 +248,7 @@ anywhere-Seated k c low path s (headed h d r i b) =
 anywhere-Seated k c low path s (heading f h d r q i b) =
     let g = chosen-grows k c s.grows in
     heading (chosen k c f) (chosen k c h) (chosen k c d) (head-grown (chosen k c) f g r) (root-grown (chosen k c) h g q)
-    (cond_both (h.number == k) (c h) h (λ x. ArePlain x.children) (λ _. subst ArePlain (sym (s.children h)) i) (λ _. i))
+    (cond_both (h.number == k) (c h) h (λ x. AreComments x.children) (λ _. subst AreComments (sym (s.children h)) i) (λ _. i))
     (document-chosen k c d s b)
 anywhere-Seated k c low path s (inside o f p n q m) =
     let g = chosen-grows k c s.grows in
@@ -345,7 +366,7 @@ top_inside f low path (heading g h d r q i b) = refl
 top_inside f low path (inside o g p n q s) = refl
 
 -- `head` goes into `html`, and that one into the document
-head_settled : (f h d : Frame) → IsHeadFrame f → IsRoot h → ArePlain h.children → IsDocument d → Seated 1 (settled_at f.place (node_of f) (h ∷ d ∷ []))
+head_settled : (f h d : Frame) → IsHeadFrame f → IsRoot h → AreComments h.children → IsDocument d → Seated 1 (settled_at f.place (node_of f) (h ∷ d ∷ []))
 head_settled f h d r q i b =
     subst (λ x. Seated 1 (settled_at x (node_of f) (h ∷ d ∷ []))) (sym r.place)
     (headed (caught_up (with_nodes (node_of f) h)) d

@@ -21,7 +21,7 @@ use Rattle.tl_dom_spec.proofs.HeadRules.{Allows}
 use Rattle.tl_dom_spec.proofs.DispatcherRules.{calm-Holds, dispatch-Holds, token-Holds}
 use Rattle.tl_dom_spec.proofs.TextLaw.{any_token, anything}
 use Rattle.tl_dom_spec.proofs.RootNames.{is_head_group, is_head_group-named, is_html_group, is_html_group-named}
-use Rattle.tl_dom_spec.proofs.Seats.{ArePlain, IsHead, IsHtml, Seats, heading, joined-plain}
+use Rattle.tl_dom_spec.proofs.Seats.{AreComments, ArePlain, IsHead, IsHtml, Seats, heading, joined-comments, joined-plain}
 use Rattle.tl_dom_spec.proofs.Seating.{SeatingOf}
 
 -- all is allowed, and `html` and `head` stand where they do
@@ -59,7 +59,7 @@ pub data Stage : Builder → Type 0 where
       Stage (record b { path = document_with c w ∷ []; mode = initial; next = 1; active = []; form = None; is_fostering = false; context = None })
   at_html : (b : Builder) (c w : Nodes) → ArePlain c → ArePlain w →
       Stage (record b { path = document_with c w ∷ []; mode = before_html; next = 1; active = []; form = None; is_fostering = false; context = None })
-  at_head : (b : Builder) (t : Tag) (c w e v : Nodes) → IsHtml t → ArePlain c → ArePlain w → ArePlain e →
+  at_head : (b : Builder) (t : Tag) (c w e v : Nodes) → IsHtml t → AreComments c → AreComments w → ArePlain e →
       Stage (record b { path = root_with t c w ∷ document_with e v ∷ []; mode = before_head; next = 2; active = []; form = None; is_fostering = false; context = None })
   seated : (b : Builder) → SeatingOf b → Stage b
 
@@ -106,18 +106,18 @@ abbrev rooted : Builder → Tag → Nodes → Nodes → Nodes → Nodes → Buil
 rooted b t c w e v =
     record b { path = root_with t c w ∷ document_with e v ∷ []; mode = before_head; next = 2; active = []; form = None; is_fostering = false; context = None }
 
-head_opened-Seating : (t own : Tag) (c w e v : Nodes) → IsHtml t → IsHead own → ArePlain c → ArePlain w → ArePlain e →
+head_opened-Seating : (t own : Tag) (c w e v : Nodes) → IsHtml t → IsHead own → AreComments c → AreComments w → ArePlain e →
     Seats (new_frame 2 own here ∷ root_with t (joined c w) no_nodes ∷ document_with e v ∷ [])
 head_opened-Seating t own c w e v i j p q r = (
   2,
   heading (new_frame 2 own here) (root_with t (joined c w) no_nodes) (document_with e v)
       (record { number = refl; open_still = refl; tag = j; place = refl })
       (record { number = refl; open_still = refl; tag = i; place = refl })
-      (joined-plain c w p q)
+      (joined-comments c w p q)
       (record { number = refl; closed = refl; plain = r }),
 )
 
-head_implied-Stage : (b : Builder) (t : Tag) (c w e v : Nodes) → IsHtml t → ArePlain c → ArePlain w → ArePlain e → StageAfter (head_implied (rooted b t c w e v))
+head_implied-Stage : (b : Builder) (t : Tag) (c w e v : Nodes) → IsHtml t → AreComments c → AreComments w → ArePlain e → StageAfter (head_implied (rooted b t c w e v))
 head_implied-Stage b t c w e v i p q r =
     seated _ (record { seats = head_opened-Seating t (bare_tag (codes "head")) c w e v i refl p q r; active = tt; next = omega arith; form = tt })
 
@@ -138,10 +138,10 @@ html_content t (a_comment bytes) e = e
 html_content t (a_doctype own) e = e
 html_content t end_of_file e = refl
 
-head_step-Stage : (b : Builder) (t : Tag) (c w e v : Nodes) (token : Token) → IsTied token → IsHtml t → ArePlain c → ArePlain w → ArePlain e →
+head_step-Stage : (b : Builder) (t : Tag) (c w e v : Nodes) (token : Token) → IsTied token → IsHtml t → AreComments c → AreComments w → ArePlain e →
     StageAfter (before_head_step (rooted b t c w e v) token)
 head_step-Stage b t c w e v (a_character x) k i p q r = either-Stage (is_ascii_whitespace x) _ _ (at_head b t c w e v i p q r) (head_implied-Stage b t c w e v i p q r)
-head_step-Stage b t c w e v (a_comment bytes) k i p q r = at_head b t (and_comment (joined c w) bytes) no_nodes e v i (joined-plain c w p q) tt r
+head_step-Stage b t c w e v (a_comment bytes) k i p q r = at_head b t (and_comment (joined c w) bytes) no_nodes e v i (joined-comments c w p q) tt r
 head_step-Stage b t c w e v (a_doctype own) k i p q r = at_head b t c w e v i p q r
 head_step-Stage b t c w e v (a_start the_html own closes) k i p q r =
     cond_both (has_template (rooted b t c w e v)) (rooted b t c w e v) (add_attributes 1 own.attributes (rooted b t c w e v)) Stage
@@ -152,7 +152,7 @@ head_step-Stage b t c w e v (a_start g own closes) k i p q r = head_implied-Stag
 head_step-Stage b t c w e v (an_end g name) k i p q r = either-Stage (is_head_end g) _ _ (head_implied-Stage b t c w e v i p q r) (at_head b t c w e v i p q r)
 head_step-Stage b t c w e v end_of_file k i p q r = head_implied-Stage b t c w e v i p q r
 
-head-Stage : (b : Builder) (t : Tag) (c w e v : Nodes) (token : Token) → IsTied token → IsHtml t → ArePlain c → ArePlain w → ArePlain e →
+head-Stage : (b : Builder) (t : Tag) (c w e v : Nodes) (token : Token) → IsTied token → IsHtml t → AreComments c → AreComments w → ArePlain e →
     StageAfter (dispatch token (rooted b t c w e v))
 head-Stage b t c w e v token k i p q r =
     cond_both (is_html_content t token) (before_head_step (rooted b t c w e v) token) (foreign_step (rooted b t c w e v) token) StageAfter
@@ -224,7 +224,7 @@ tokens-Stage b (token ∷ tokens) k h s =
 seated_still : (n : ℕ) (b : Builder) → B.Holds anything b → SeatingOf b → SeatingOf (repeated n (dispatch end_of_file) (Again b))
 seated_still n b h s = (repeated-Holds placed n (dispatch end_of_file) (Again b) (λ c i. dispatch-Holds placed end_of_file c tt i) (h, λ _. s)).1 tt
 
-ended_at_head : (n : ℕ) (b : Builder) (t : Tag) (c w e v : Nodes) → IsHtml t → ArePlain c → ArePlain w → ArePlain e → Holds anything (rooted b t c w e v) →
+ended_at_head : (n : ℕ) (b : Builder) (t : Tag) (c w e v : Nodes) → IsHtml t → AreComments c → AreComments w → ArePlain e → Holds anything (rooted b t c w e v) →
     SeatingOf (repeated (suc n) (dispatch end_of_file) (Again (rooted b t c w e v)))
 ended_at_head n b t c w e v i p q r h =
     let after = dispatch-Holds anything end_of_file (rooted b t c w e v) tt h in

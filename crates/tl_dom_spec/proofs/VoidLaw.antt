@@ -12,7 +12,7 @@ use Rattle.tl_dom_spec.specs.Adjusted.{foreign_name}
 use Rattle.tl_dom_spec.specs.Driver.{builder, emitted_token, token_of}
 use Rattle.tl_dom_spec.specs.HtmlForest.{HtmlForest, no_trees}
 use Rattle.tl_dom_spec.specs.HtmlTree.{Context, context_state, fragment_of_tokens, fragment_start, html_fragment_by, html_tree_by, page_start, tree_of_tokens}
-use Rattle.tl_dom_spec.specs.Lawful.{AreVoidEmpty, fragment_built, is_void, page_built, tokens_of_fragment, tokens_of_page}
+use Rattle.tl_dom_spec.specs.Lawful.{AreVoidEmpty, void_names, fragment_built, is_void, page_built, tokens_of_fragment, tokens_of_page}
 use Rattle.tl_dom_spec.proofs.Words.{any_word}
 use Rattle.tl_dom_spec.proofs.Allowed.{Allowed, Each}
 use Rattle.tl_dom_spec.proofs.HeadRules.{Allows, Starts, is_alone}
@@ -21,9 +21,6 @@ use Rattle.tl_dom_spec.proofs.TextLaw.{elements-weaken}
 
 abbrev IsAlone : List ℕ → Type 0
 IsAlone name = is_alone (group name) ≡ true
-
-abbrev void_names : List ℕ
-void_names = codes "area base basefont bgsound br col embed frame hr img input keygen link meta param source track wbr"
 
 -- elements of these names are inserted and popped at once
 void_alone : (name : List ℕ) → is_one_of void_names name ≡ true → is_alone (group name) ≡ true

@@ -73,10 +73,12 @@ AreTexts trees = EachText IsSome trees × AreApart trees
 -- Void elements
 
 -- elements that are written without an end tag (13.3), so that nothing can stand below them
+abbrev pub void_names : List ℕ
+void_names =
+    codes "area base basefont bgsound br col embed frame hr img input keygen link meta param source track wbr"
+
 abbrev pub is_void : Tag → Bool
-is_void t =
-    is_any
-    (codes "area base basefont bgsound br col embed frame hr img input keygen link meta param source track wbr") t
+is_void t = is_any void_names t
 
 abbrev pub AreVoidEmpty : HtmlForest → Type 0
 AreVoidEmpty trees = EachElement (λ tag below. is_void tag ≡ true → below ≡ no_trees) trees
@@ -172,7 +174,7 @@ abbrev pub BeginsWithHead : HtmlForest → Type 0
 BeginsWithHead no_trees = ⊥
 BeginsWithHead (text bytes more) = ⊥
 BeginsWithHead (comment bytes more) = BeginsWithHead more
-BeginsWithHead (doctype own more) = BeginsWithHead more
+BeginsWithHead (doctype own more) = ⊥
 BeginsWithHead (element tag below more) = is_any (codes "head") tag ≡ true
 
 -- doctypes and comments, and then `html`, in which `head` is the first element
