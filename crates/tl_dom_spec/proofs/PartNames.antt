@@ -60,6 +60,10 @@ abbrev pub is_elsewhere : T.Group → Bool
 is_elsewhere T.elsewhere = true
 is_elsewhere _ = false
 
+abbrev pub is_option : T.Group → Bool
+is_option T.an_option = true
+is_option _ = false
+
 -- a number for each group of the whole builder
 abbrev code : D.Group → ℕ
 code D.the_html = 0
@@ -136,6 +140,7 @@ beq-true false false e = refl
 pub record Facts (n : List ℕ) : Type 0 where
   pub twins : has_twin (T.group n) ≡ true → D.group n ≡ twin (T.group n)
   pub lost : is_misplaced (T.group n) ≡ true → (D.group n ≡ D.the_head) ⊎ (D.group n ≡ D.a_frame)
+  pub options : is_option (T.group n) ≡ true → (D.group n ≡ D.an_option) ⊎ (D.group n ≡ D.an_option_group)
   pub scope : is_elsewhere (T.group n) ≡ false → is_scope n ≡ is_one_of scope_names n
   pub paragraph : T.is_paragraph n ≡ is_one_of (codes "p") n
   pub heading : T.is_heading n ≡ is_among headings n
@@ -158,6 +163,7 @@ abbrev agrees : List ℕ → Bool
 agrees n =
     (not (has_twin (T.group n)) || (code (D.group n) == code (twin (T.group n))))
     && ((not (is_misplaced (T.group n)) || ((code (D.group n) == 1) || (code (D.group n) == 4)))
+    && ((not (is_option (T.group n)) || ((code (D.group n) == 38) || (code (D.group n) == 39)))
     && ((is_elsewhere (T.group n) || beq (is_scope n) (is_one_of scope_names n))
     && (beq (T.is_paragraph n) (is_one_of (codes "p") n)
     && (beq (T.is_heading n) (is_among headings n)
@@ -172,7 +178,7 @@ agrees n =
     && (beq (T.is_cell n) (is_one_of (codes "td th") n)
     && (beq (T.is_table_context n) (is_one_of (codes "table template html") n)
     && (beq (T.is_body_context n) (is_one_of (codes "tbody tfoot thead template html") n)
-    && beq (T.is_row_context n) (is_one_of (codes "tr template html") n))))))))))))))))
+    && beq (T.is_row_context n) (is_one_of (codes "tr template html") n)))))))))))))))))
 
 or_else : (x y : Bool) → (not x || y) ≡ true → x ≡ true → y ≡ true
 or_else true y h k = h
@@ -188,11 +194,18 @@ one_of_two g h = elim (cases_Bool (code g == 1)) [
   | inr n ↦ inr (same_code g D.a_frame (or_other (code g == 1) (code g == 4) h n))
 ]
 
+one_option : (g : D.Group) → ((code g == 38) || (code g == 39)) ≡ true → (g ≡ D.an_option) ⊎ (g ≡ D.an_option_group)
+one_option g h = elim (cases_Bool (code g == 38)) [
+  | inl y ↦ inl (same_code g D.an_option y)
+  | inr n ↦ inr (same_code g D.an_option_group (or_other (code g == 38) (code g == 39) h n))
+]
+
 facts_of : (n : List ℕ) → agrees n ≡ true → Facts n
 facts_of n h =
     let a = and_parts _ _ h in
     let b = and_parts _ _ a.1 in
-    let c = and_parts _ _ b.1 in
+    let s = and_parts _ _ b.1 in
+    let c = and_parts _ _ s.1 in
     let d = and_parts _ _ c.1 in
     let e = and_parts _ _ d.1 in
     let f = and_parts _ _ e.1 in
@@ -209,6 +222,7 @@ facts_of n h =
     record {
       twins = λ t. same_code (D.group n) (twin (T.group n)) (or_else (has_twin (T.group n)) _ a.0 t);
       lost = λ t. one_of_two (D.group n) (or_else (is_misplaced (T.group n)) _ b.0 t);
+      options = λ t. one_option (D.group n) (or_else (is_option (T.group n)) _ s.0 t);
       scope = λ t. beq-true _ _ (or_other (is_elsewhere (T.group n)) _ c.0 t);
       paragraph = beq-true _ _ d.0;
       heading = beq-true _ _ e.0;
@@ -362,6 +376,7 @@ module _ (n : List ℕ) (none : is_among known n ≡ false) where
       record {
         twins = λ _. whole_other ∙ sym (ap twin g);
         lost = λ t. absurd (true≢false (sym t ∙ ap is_misplaced g));
+        options = λ t. absurd (true≢false (sym t ∙ ap is_option g));
         scope = λ _. both _ _ (no scope_bounds refl) (no (words scope_names) refl);
         paragraph = both _ _ (ap T.is_paragraph_group g) (no (words (codes "p")) refl);
         heading = both _ _ (ap T.is_heading_group g) (no headings refl);

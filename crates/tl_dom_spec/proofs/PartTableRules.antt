@@ -1,0 +1,244 @@
+-- The rules of the modes of tables: where the partial builder calls the rules of the next mode, the whole one reprocesses the token in it.
+use Rattle.std.proofs.Common.{◌≡◌, ℕ, suc, zero, Bool, true, false, not, ◌||◌, ◌&&◌, ◌==◌, ◌+◌, ◌⊎◌, List, [], ◌∷◌, ◌++◌, map, Option, Some, None, codes, refl, ap, ap₂, sym, ◌∙◌, subst, inl, inr, true≢false, arith, if◌then◌else◌}
+use Rattle.std.specs.Prelude.{⊤}
+use Rattle.std.specs.Str.{bytes_eq}
+use Rattle.std.proofs.lemmas.Bool.{and_parts, cases_Bool, cond-false, cond-true, false_from_ne_true}
+use Rattle.std.proofs.lemmas.Slice.Eq.{bytes_eq-Decides}
+use Rattle.tl_names.specs.Elements.{is_among, table_scope_bounds}
+use Rattle.tl_html_spec.specs.Balanced.{is_one_of}
+use Rattle.tl_tree_spec.specs.Builder as P
+use Rattle.tl_tree_spec.specs.HtmlTreeBuilder as R
+use Rattle.tl_tree_spec.specs.HtmlForest.{HtmlTag}
+use Rattle.tl_tree_spec.specs.Groups as G
+use Rattle.tl_dom_spec.specs.Tags as T
+use Rattle.tl_dom_spec.specs.Tags.{Tag, bare_tag}
+use Rattle.tl_dom_spec.specs.Groups as D
+use Rattle.tl_dom_spec.specs.Path as W
+use Rattle.tl_dom_spec.specs.Builder as B
+use Rattle.tl_dom_spec.specs.Body as Body
+use Rattle.tl_dom_spec.specs.Tables as S
+use Rattle.tl_dom_spec.specs.Dispatcher as M
+use Rattle.tl_dom_spec.proofs.PartNames.{facts, has_twin, is_elsewhere, is_misplaced, is_option, twin}
+use Rattle.tl_dom_spec.proofs.PartPaths.{IsStack, frame_of, frames_of, name_of, path_of, tag_of}
+use Rattle.tl_dom_spec.proofs.PartBuilders.{Alike, Like, Sound, Stand, is_flow_group, mode_is, stands_in}
+use Rattle.tl_dom_spec.proofs.PartOps as O
+use Rattle.tl_dom_spec.proofs.PartSound.{alone_sound, group_of, names_in}
+use Rattle.tl_dom_spec.proofs.PartBodyGiven.{Finishes, character_in_body, end_in_body, start_in_body}
+use Rattle.tl_dom_spec.proofs.PartTables as A
+use Rattle.tl_dom_spec.proofs.PartTables.{Leads, current_at, in_table_scope, mode_in}
+
+-- A run of the whole builder
+
+-- an outcome that is done, after at most so many further steps, with a builder that is alike
+abbrev pub Reaches : B.Outcome → ℕ → (B.Builder → B.Outcome) → P.Builder → Type 0
+Reaches (B.Done d) n step after = Alike after d
+Reaches (B.Again d) zero step after = ⊥
+Reaches (B.Again d) (suc n) step after = Reaches (step d) n step after
+
+abbrev pub more : ℕ → ℕ → ℕ
+more zero k = k
+more (suc n) k = suc (more n k)
+
+pub reaches_repeated : (n k : ℕ) (step : B.Builder → B.Outcome) (o : B.Outcome) (after : P.Builder) → Reaches o n step after → Alike after (B.repeated (more n k) step o)
+reaches_repeated zero zero step (B.Done d) after h = h
+reaches_repeated zero (suc k) step (B.Done d) after h = h
+reaches_repeated (suc n) k step (B.Done d) after h = h
+reaches_repeated zero k step (B.Again d) after h = absurd h
+reaches_repeated (suc n) k step (B.Again d) after h = reaches_repeated n k step (step d) after h
+
+pub enough : (k : ℕ) → more 8 k ≡ 8 + k
+enough k = omega arith
+
+-- The dispatcher: all elements are those of HTML
+
+html_content : (own : HtmlTag) (token : B.Token) → M.is_html_content (tag_of own) token ≡ true
+html_content own B.end_of_file = refl
+html_content own _ = refl
+
+content_of : (token : B.Token) (f : P.Frame) (v : Bool) → M.is_html_content (if v then bare_tag (codes "div") else tag_of f.element.own) token ≡ true
+content_of token f true = html_content (record { name = codes "div"; attributes = [] }) token
+content_of token f false = html_content f.element.own token
+
+pub dispatched : {b : P.Builder} {c : B.Builder} → Like b c → (token : B.Token) → M.dispatch token c ≡ M.mode_step (mode_is b.mode) c token
+dispatched {b = b} {c = c} h token =
+    cond-true _ _ _ (
+        ap₂ (λ x p. M.is_html_content (B.adjusted_tag x p) token) h.context h.path
+        ∙ content_of token b.stack.current (B.is_only (W.elements (path_of (frames_of b.stack)))))
+    ∙ ap (λ m. M.mode_step m c token) h.mode
+
+pub again : {b : P.Builder} {c : B.Builder} → Alike b c → (token : B.Token) (n : ℕ) (after : P.Builder) →
+    Reaches (M.mode_step (mode_is b.mode) c token) n (M.dispatch token) after → Reaches (B.Again c) (suc n) (M.dispatch token) after
+again h token n after r = subst (λ o. Reaches o n (M.dispatch token) after) (sym (dispatched h.like token)) r
+
+-- What the partial builder answers
+
+abbrev is_answer : Option P.Builder → Bool
+is_answer None = false
+is_answer (Some b) = true
+
+pub no_answer : (after : P.Builder) → None ≡ Some after → ⊥
+no_answer after e = true≢false (sym (ap is_answer e))
+
+abbrev answer_or : P.Builder → Option P.Builder → P.Builder
+answer_or b None = b
+answer_or b (Some c) = c
+
+pub done : {b after : P.Builder} {c : B.Builder} → Some b ≡ Some after → Alike b c → Alike after c
+done {b = b} {c = c} e h = subst (λ x. Alike x c) (ap (answer_or b) e) h
+
+pub either : (v w : Bool) {x y : P.Builder} {c d : B.Builder} → w ≡ v → (v ≡ true → Alike x c) → Alike y d → Alike (if v then x else y) (if w then c else d)
+either true true e h k = h refl
+either false false e h k = k
+either true false e h k = absurd (true≢false (sym e))
+either false true e h k = absurd (true≢false e)
+
+module _ (n : ℕ) (step : B.Builder → B.Outcome) (after : P.Builder) where
+  pub either_way : (v w : Bool) (p q : Option P.Builder) (x y : B.Outcome) → w ≡ v →
+      (v ≡ true → p ≡ Some after → Reaches x n step after) → (q ≡ Some after → Reaches y n step after) →
+      (if v then p else q) ≡ Some after → Reaches (if w then x else y) n step after
+  either_way true true p q x y e h k a = h refl a
+  either_way false false p q x y e h k a = k a
+  either_way true false p q x y e h k a = absurd (true≢false (sym e))
+  either_way false true p q x y e h k a = absurd (true≢false e)
+
+-- Openings
+
+table_context_same : (own : HtmlTag) → G.is_table_context own.name ≡ S.is_table_context (tag_of own)
+table_context_same own = (facts own.name).table_context
+
+body_context_same : (own : HtmlTag) → G.is_body_context own.name ≡ S.is_table_body_context (tag_of own)
+body_context_same own = (facts own.name).body_context
+
+row_context_same : (own : HtmlTag) → G.is_row_context own.name ≡ S.is_table_row_context (tag_of own)
+row_context_same own = (facts own.name).row_context
+
+module _ {b : P.Builder} {c : B.Builder} (h : Alike b c) where
+  at_table : b.mode ≡ P.in_table → Alike (R.cleared G.is_table_context b) (S.clear_stack_back_to_table_context c)
+  at_table m = A.cleared h G.is_table_context S.is_table_context table_context_same refl
+      (ap (λ v. v || is_one_of (codes "html template") (name_of b.stack.current)) (current_at b h.sound P.in_table m))
+
+  at_body : b.mode ≡ P.in_table_body → Alike (R.cleared G.is_body_context b) (S.clear_stack_back_to_table_body_context c)
+  at_body m = A.cleared h G.is_body_context S.is_table_body_context body_context_same refl
+      (ap (λ v. v || is_one_of (codes "html template") (name_of b.stack.current)) (current_at b h.sound P.in_table_body m))
+
+  at_row : b.mode ≡ P.in_row → Alike (R.cleared G.is_row_context b) (S.clear_stack_back_to_table_row_context c)
+  at_row m = A.cleared h G.is_row_context S.is_table_row_context row_context_same refl
+      (ap (λ v. v || is_one_of (codes "html template") (name_of b.stack.current)) (current_at b h.sound P.in_row m))
+
+  body_opened : b.mode ≡ P.in_table → (own : HtmlTag) → G.group own.name ≡ G.a_table_body → Alike (R.body_opened b own) (S.body_opened c (tag_of own))
+  body_opened m own e =
+      let k = at_table m in
+      A.opened k own G.a_table_body P.in_table_body e refl (current_at (R.cleared G.is_table_context b) k.sound P.in_table m) refl
+
+  row_opened : b.mode ≡ P.in_table_body → (own : HtmlTag) → G.group own.name ≡ G.a_row → Alike (R.row_opened b own) (S.row_opened c (tag_of own))
+  row_opened m own e =
+      let k = at_body m in
+      A.opened k own G.a_row P.in_row e refl (current_at (R.cleared G.is_body_context b) k.sound P.in_table_body m) refl
+
+  cell_opened : b.mode ≡ P.in_row → (own : HtmlTag) → G.group own.name ≡ G.a_cell →
+      Alike (R.cell_opened b own) (B.switch_to B.in_cell (B.insert_marker (B.insert_element (tag_of own) (S.clear_stack_back_to_table_row_context c))))
+  cell_opened m own e =
+      let k = at_row m in
+      A.marked (A.opened k own G.a_cell P.in_cell e refl (current_at (R.cleared G.is_row_context b) k.sound P.in_row m) refl)
+
+  caption_opened : b.mode ≡ P.in_table → (own : HtmlTag) → G.group own.name ≡ G.a_caption →
+      Alike (R.to_mode P.in_caption (P.inserted (R.with_marker (R.cleared G.is_table_context b)) own))
+      (B.switch_to B.in_caption (B.insert_element (tag_of own) (B.insert_marker (S.clear_stack_back_to_table_context c))))
+  caption_opened m own e =
+      let k = at_table m in
+      A.opened (A.marked k) own G.a_caption P.in_caption e refl (current_at (R.cleared G.is_table_context b) k.sound P.in_table m) refl
+
+  column_group_opened : b.mode ≡ P.in_table → (own : HtmlTag) → G.group own.name ≡ G.a_column_group →
+      Alike (R.to_mode P.in_column_group (P.inserted (R.cleared G.is_table_context b) own))
+      (B.switch_to B.in_column_group (B.insert_element (tag_of own) (S.clear_stack_back_to_table_context c)))
+  column_group_opened m own e =
+      let k = at_table m in
+      A.opened k own G.a_column_group P.in_column_group e refl (current_at (R.cleared G.is_table_context b) k.sound P.in_table m) refl
+
+  alone : (own : HtmlTag) → Alike (P.alone b own) (B.insert_and_pop (tag_of own) c)
+  alone own = record { sound = alone_sound b own h.sound; like = O.alone h.like own }
+
+
+around_table : (around : G.Group) (outer : P.Mode) → G.is_table_group around ≡ true → P.mode_by around outer ≡ P.in_table
+around_table G.a_table outer h = refl
+around_table _ outer h = absurd (true≢false (sym h))
+
+around_body : (around : G.Group) (outer : P.Mode) → G.is_table_body_group around ≡ true → P.mode_by around outer ≡ P.in_table_body
+around_body G.a_table_body outer h = refl
+around_body _ outer h = absurd (true≢false (sym h))
+
+around_row : (around : G.Group) (outer : P.Mode) → G.is_row_group around ≡ true → P.mode_by around outer ≡ P.in_row
+around_row G.a_row outer h = refl
+around_row _ outer h = absurd (true≢false (sym h))
+
+by_body : (g around : G.Group) (outer : P.Mode) → G.is_table_body_group g ≡ true → stands_in g around ≡ true → P.mode_by around outer ≡ P.in_table
+by_body G.a_table_body around outer h k = around_table around outer k
+by_body _ around outer h k = absurd (true≢false (sym h))
+
+by_row : (g around : G.Group) (outer : P.Mode) → G.is_row_group g ≡ true → stands_in g around ≡ true → P.mode_by around outer ≡ P.in_table_body
+by_row G.a_row around outer h k = around_body around outer k
+by_row _ around outer h k = absurd (true≢false (sym h))
+
+by_cell : (g around : G.Group) (outer : P.Mode) → G.is_cell_group g ≡ true → stands_in g around ≡ true → P.mode_by around outer ≡ P.in_row
+by_cell G.a_cell around outer h k = around_row around outer k
+by_cell _ around outer h k = absurd (true≢false (sym h))
+
+by_caption : (g around : G.Group) (outer : P.Mode) → G.is_caption_group g ≡ true → stands_in g around ≡ true → P.mode_by around outer ≡ P.in_table
+by_caption G.a_caption around outer h k = around_table around outer k
+by_caption _ around outer h k = absurd (true≢false (sym h))
+
+by_column_group : (g around : G.Group) (outer : P.Mode) → G.is_column_group_group g ≡ true → stands_in g around ≡ true → P.mode_by around outer ≡ P.in_table
+by_column_group G.a_column_group around outer h k = around_table around outer k
+by_column_group _ around outer h k = absurd (true≢false (sym h))
+
+-- implied end tags close no part of a table
+cell_off : (g : G.Group) → G.is_implied_group g ≡ true → G.is_cell_group g ≡ false
+cell_off G.a_cell h = absurd (true≢false (sym h))
+cell_off _ h = refl
+
+caption_off : (g : G.Group) → G.is_implied_group g ≡ true → G.is_caption_group g ≡ false
+caption_off G.a_caption h = absurd (true≢false (sym h))
+caption_off _ h = refl
+
+module _ {b : P.Builder} {c : B.Builder} (h : Alike b c) where
+  body_closed : b.mode ≡ P.in_table_body → Alike (R.body_closed b) (S.body_closed c)
+  body_closed m =
+      let k = at_body h m in
+      A.current_popped k G.is_table_body P.in_table (λ n a o. by_body (G.group n) (G.group a) o) refl (current_at (R.cleared G.is_body_context b) k.sound P.in_table_body m)
+
+  row_closed : b.mode ≡ P.in_row → Alike (R.row_closed b) (S.row_closed c)
+  row_closed m =
+      let k = at_row h m in
+      A.current_popped k G.is_row P.in_table_body (λ n a o. by_row (G.group n) (G.group a) o) refl (current_at (R.cleared G.is_row_context b) k.sound P.in_row m)
+
+  column_group_closed : b.mode ≡ P.in_column_group → Alike (R.column_group_closed b) (S.column_group_closed c)
+  column_group_closed m = A.current_popped h G.is_column_group P.in_table (λ n a o. by_column_group (G.group n) (G.group a) o) refl (current_at b h.sound P.in_column_group m)
+
+  cell_same : (own : HtmlTag) → G.is_cell own.name ≡ S.is_cell (tag_of own)
+  cell_same own = (facts own.name).cell
+
+  caption_same : (own : HtmlTag) → G.is_caption own.name ≡ S.is_caption (tag_of own)
+  caption_same own = (facts own.name).caption
+
+  caption_closed : R.has_in_table_scope G.is_caption b ≡ true → Alike (R.caption_closed b) (S.caption_closed c)
+  caption_closed opens = A.marked_closed h G.is_caption S.is_caption caption_same refl P.in_table (λ n a o. by_caption (G.group n) (G.group a) o) (λ n. caption_off (G.group n)) opens
+
+  cell_closed : R.has_in_table_scope G.is_cell b ≡ true → Alike (R.cell_closed b) (S.cell_closed S.is_cell c)
+  cell_closed opens = A.marked_closed h G.is_cell S.is_cell cell_same refl P.in_row (λ n a o. by_cell (G.group n) (G.group a) o) (λ n. cell_off (G.group n)) opens
+
+  -- the cell of a name
+  module _ (name : List ℕ) (e : G.group name ≡ G.a_cell) where
+    named_group : (n : List ℕ) → bytes_eq name n ≡ true → G.group n ≡ G.a_cell
+    named_group n y = ap G.group (sym ((bytes_eq-Decides name n).0 y)) ∙ e
+
+    never_html : (v : Bool) → bytes_eq name (codes "html") ≡ v → v ≡ false
+    never_html true y = absurd (true≢false (sym (ap G.is_cell_group (named_group (codes "html") y))))
+    never_html false y = refl
+
+    named_closed : R.has_in_table_scope (bytes_eq name) b ≡ true → Alike (R.marked_closed (bytes_eq name) P.in_row b) (S.cell_closed (T.is_named name) c)
+    named_closed opens =
+        A.marked_closed h (bytes_eq name) (T.is_named name) (λ own. refl)
+        (never_html (bytes_eq name (codes "html")) refl ) P.in_row
+        (λ n a o y. by_cell (G.group n) (G.group a) o (ap G.is_cell_group (named_group n y)))
+        (λ n y. false_from_ne_true (bytes_eq name n) (λ z. true≢false (sym y ∙ ap G.is_implied_group (named_group n z))))
+        opens
