@@ -11,7 +11,7 @@ use Rattle.tl_dom_spec.proofs.PartPaths.{tag_of}
 use Rattle.tl_dom_spec.proofs.PartBuilders.{Alike}
 
 -- Result of a rule of the whole builder that is done at once: alike to what the partial one answers.
-pub Finishes : P.Builder → B.Outcome → Type 0
+abbrev pub Finishes : P.Builder → B.Outcome → Type 0
 Finishes b o = (r : B.Builder) × (o ≡ B.Done r) × Alike b r
 
 pub start_in_body : (b : P.Builder) (c : B.Builder) → Alike b c → P.is_flow b.mode ≡ true →

@@ -1,6 +1,7 @@
 -- The rules of the modes of tables: where the partial builder calls the rules of the next mode, the whole one reprocesses the token in it.
 use Rattle.std.proofs.Common.{◌≡◌, ℕ, suc, zero, Bool, true, false, not, ◌||◌, ◌&&◌, ◌==◌, ◌+◌, ◌⊎◌, List, [], ◌∷◌, ◌++◌, map, Option, Some, None, codes, refl, ap, ap₂, sym, ◌∙◌, subst, inl, inr, true≢false, arith, if◌then◌else◌}
 use Rattle.std.specs.Prelude.{⊤}
+use Rattle.std.specs.List.{list_all}
 use Rattle.std.specs.Str.{bytes_eq}
 use Rattle.std.proofs.lemmas.Bool.{and_parts, cases_Bool, cond-false, cond-true, false_from_ne_true}
 use Rattle.std.proofs.lemmas.Slice.Eq.{bytes_eq-Decides}
@@ -242,3 +243,230 @@ module _ {b : P.Builder} {c : B.Builder} (h : Alike b c) where
         (λ n a o y. by_cell (G.group n) (G.group a) o (ap G.is_cell_group (named_group n y)))
         (λ n y. false_from_ne_true (bytes_eq name n) (λ z. true≢false (sym y ∙ ap G.is_implied_group (named_group n z))))
         opens
+
+-- In a cell one is in table scope
+
+bound_among : (ws : List (List ℕ)) (n : List ℕ) → list_all (λ w. not (has_twin (G.group w)) || G.is_table_group (G.group w)) ws ≡ true → is_among ws n ≡ true →
+    (not (has_twin (G.group n)) || G.is_table_group (G.group n)) ≡ true
+bound_among [] n h k = absurd (true≢false (sym k))
+bound_among (w ∷ ws) n h k =
+    let two = and_parts (not (has_twin (G.group w)) || G.is_table_group (G.group w)) _ h in
+    elim (cases_Bool (bytes_eq n w)) [
+      | inl y ↦ ap (λ x. not (has_twin (G.group x)) || G.is_table_group (G.group x)) ((bytes_eq-Decides n w).0 y) ∙ two.0
+      | inr m ↦ bound_among ws n two.1 (sym (ap (λ v. v || is_among ws n) m) ∙ k)
+    ]
+
+no_bound : (n : List ℕ) → has_twin (G.group n) ≡ true → G.is_table_group (G.group n) ≡ false → G.is_table_scope n ≡ false
+no_bound n h k = false_from_ne_true (G.is_table_scope n) (λ y.
+    true≢false (sym (bound_among table_scope_bounds n refl y) ∙ ap (λ v. not v || G.is_table_group (G.group n)) h ∙ k))
+
+abbrev is_cell_mode : P.Mode → Bool
+is_cell_mode P.in_cell = true
+is_cell_mode _ = false
+
+no_cell : (m : P.Mode) → m ≡ P.in_cell → is_cell_mode m ≡ false → ⊥
+no_cell m e k = true≢false (sym (ap is_cell_mode e) ∙ k)
+
+cell_or : (g : G.Group) (m : P.Mode) → P.mode_by g m ≡ P.in_cell → (g ≡ G.a_cell) ⊎ ((G.is_table_group g ≡ false) × (m ≡ P.in_cell))
+cell_or G.a_cell m h = inl refl
+cell_or G.a_table m h = absurd (no_cell P.in_table h refl)
+cell_or G.a_caption m h = absurd (no_cell P.in_caption h refl)
+cell_or G.a_column_group m h = absurd (no_cell P.in_column_group h refl)
+cell_or G.a_table_body m h = absurd (no_cell P.in_table_body h refl)
+cell_or G.a_row m h = absurd (no_cell P.in_row h refl)
+cell_or _ m h = inr (refl, h)
+
+or_rest : (x s r : Bool) → s ≡ false → r ≡ true → (x || (not s && r)) ≡ true
+or_rest true s r h k = refl
+or_rest false s r h k = ap (λ v. not v && r) h ∙ k
+
+cell_within : (f : P.Frame) (os : List P.Frame) → IsStack f os → mode_in f os ≡ P.in_cell → P.within G.is_cell G.is_table_scope (names_in f os) ≡ true
+cell_within f [] k m = absurd (no_cell P.in_body (ap (λ n. P.mode_by (G.group n) P.in_body) (sym k) ∙ m) refl)
+cell_within f (o ∷ os) k m = elim (cell_or (group_of f) (mode_in o os) m) [
+  | inl y ↦ ap (λ g. G.is_cell_group g || (not (G.is_table_scope (name_of f)) && P.within G.is_cell G.is_table_scope (names_in o os))) y
+  | inr r ↦ or_rest (G.is_cell (name_of f)) (G.is_table_scope (name_of f)) _ (no_bound (name_of f) k.0 r.0) (cell_within o os k.1 r.1)
+]
+
+pub cell_in_scope : (b : P.Builder) → Sound b → b.mode ≡ P.in_cell → R.has_in_table_scope G.is_cell b ≡ true
+cell_in_scope b h m = cell_within b.stack.current b.stack.others h.stack (sym h.mode ∙ m)
+
+-- Start tags
+
+body_same : (own : HtmlTag) → G.is_table_body own.name ≡ T.is_any (codes "tbody tfoot thead") (tag_of own)
+body_same own = (facts own.name).table_body
+
+row_same : (own : HtmlTag) → G.is_row own.name ≡ S.is_row (tag_of own)
+row_same own = (facts own.name).row
+
+module _ (own : HtmlTag) (closes : Bool) (after : P.Builder) where
+  abbrev start : G.Group → B.Token
+  start g = B.a_start (twin g) (tag_of own) closes
+
+  abbrev starts : G.Group → B.Builder → B.Outcome
+  starts g = M.dispatch (start g)
+
+  -- by the rules of "in body"
+  pub body_start : (b : P.Builder) (c : B.Builder) → Alike b c → P.is_flow b.mode ≡ true → (g : G.Group) → G.group own.name ≡ g → has_twin g ≡ true →
+      R.body_start b g own ≡ Some after → (n : ℕ) → Reaches (Body.body_start c (twin g) (tag_of own) closes) n (starts g) after
+  body_start b c h k g e t eq n =
+      let f = start_in_body b c h k own closes after (ap (λ x. R.body_start b x own) e ∙ eq) in
+      let d : D.group own.name ≡ twin g = (facts own.name).twins (ap has_twin e ∙ t) ∙ ap twin e in
+      subst (λ o. Reaches o n (starts g) after) (sym (ap (λ x. Body.body_start c x (tag_of own) closes) (sym d) ∙ f.1)) f.2
+
+  -- in a mode where the rules of "in body" are used for it, a table is opened by them
+  flow_start : (m : P.Mode) (d : B.Builder) → P.is_flow m ≡ true → M.mode_step (mode_is m) d (start G.a_table) ≡ Body.body_start d D.a_table (tag_of own) closes
+  flow_start P.in_body d k = refl
+  flow_start P.in_cell d k = refl
+  flow_start P.in_caption d k = refl
+  flow_start _ d k = absurd (true≢false (sym k))
+
+  outer_table : (b : P.Builder) (c : B.Builder) → Alike b c → R.has_in_table_scope G.is_table b ≡ true → G.group own.name ≡ G.a_table → (n : ℕ) →
+      (if P.is_flow (R.table_closed b).mode then R.body_start (R.table_closed b) G.a_table own else None) ≡ Some after →
+      Reaches (B.Again (S.table_closed c)) (suc n) (starts G.a_table) after
+  outer_table b c h opens e n eq =
+      let k = A.table_closed h opens in
+      elim (cases_Bool (P.is_flow (R.table_closed b).mode)) [
+        | inl y ↦ again k (start G.a_table) n after
+            (subst (λ o. Reaches o n (starts G.a_table) after) (sym (flow_start (R.table_closed b).mode (S.table_closed c) y))
+            (body_start (R.table_closed b) (S.table_closed c) k y G.a_table e refl (sym (cond-true _ _ _ y) ∙ eq) n))
+        | inr m ↦ absurd (no_answer after (sym (cond-false _ _ _ m) ∙ eq))
+      ]
+
+  table_again : (b : P.Builder) (c : B.Builder) → Alike b c → G.group own.name ≡ G.a_table → (n : ℕ) → R.table_start b G.a_table own ≡ Some after →
+      Reaches (S.table_start c D.a_table (tag_of own) closes) (suc n) (starts G.a_table) after
+  table_again b c h e n eq = elim (cases_Bool (R.has_in_table_scope G.is_table b)) [
+    | inl y ↦ subst (λ o. Reaches o (suc n) (starts G.a_table) after)
+        (sym (cond-true _ _ _ (in_table_scope h.like G.is_table T.is_table A.table_same ∙ y)))
+        (outer_table b c h y e n (sym (cond-false _ _ _ (ap not y)) ∙ eq))
+    | inr m ↦ subst (λ o. Reaches o (suc n) (starts G.a_table) after)
+        (sym (cond-false _ _ _ (in_table_scope h.like G.is_table T.is_table A.table_same ∙ m)))
+        (done (sym (cond-true _ _ _ (ap not m)) ∙ eq) h)
+  ]
+
+  -- what is no part of a table, in one
+  table_other : (b : P.Builder) (c : B.Builder) → Alike b c → (g : G.Group) → G.group own.name ≡ g → G.is_part g ≡ false → (n : ℕ) → R.table_start b g own ≡ Some after →
+      Reaches (S.table_start c (twin g) (tag_of own) closes) (suc n) (starts g) after
+  table_other b c h G.a_table e k n eq = table_again b c h e n eq
+  table_other b c h G.a_caption e k n eq = absurd (true≢false k)
+  table_other b c h G.a_column_group e k n eq = absurd (true≢false k)
+  table_other b c h G.a_column e k n eq = absurd (true≢false k)
+  table_other b c h G.a_table_body e k n eq = absurd (true≢false k)
+  table_other b c h G.a_row e k n eq = absurd (true≢false k)
+  table_other b c h G.a_cell e k n eq = absurd (true≢false k)
+  table_other b c h _ e k n eq = absurd (no_answer after eq)
+
+  abbrev implied : List ℕ → HtmlTag
+  implied n = R.implied_tag n
+
+  table_start : (b : P.Builder) (c : B.Builder) → Alike b c → b.mode ≡ P.in_table → (g : G.Group) → G.group own.name ≡ g → (n : ℕ) → R.table_start b g own ≡ Some after →
+      Reaches (S.table_start c (twin g) (tag_of own) closes) (suc (suc n)) (starts g) after
+  table_start b c h m G.a_caption e n eq = done eq (caption_opened h m own e)
+  table_start b c h m G.a_column_group e n eq = done eq (column_group_opened h m own e)
+  table_start b c h m G.a_column e n eq =
+      let o = A.counted (column_group_opened h m (implied (codes "colgroup")) refl) in
+      again o (start G.a_column) (suc n) after (done eq (alone o own))
+  table_start b c h m G.a_table_body e n eq = done eq (body_opened h m own e)
+  table_start b c h m G.a_row e n eq =
+      let o = A.counted (body_opened h m (implied (codes "tbody")) refl) in
+      again o (start G.a_row) (suc n) after (done eq (row_opened o refl own e))
+  table_start b c h m G.a_cell e n eq =
+      let o = A.counted (body_opened h m (implied (codes "tbody")) refl) in
+      let p = A.counted (row_opened o refl (implied (codes "tr")) refl) in
+      again o (start G.a_cell) (suc n) after (again p (start G.a_cell) n after (done eq (cell_opened p refl own e)))
+  table_start b c h m G.a_table e n eq = table_again b c h e (suc n) eq
+  table_start b c h m _ e n eq = absurd (no_answer after eq)
+
+  -- the next mode's rules, where a part of a table is closed for them
+  body_part : (b : P.Builder) (c : B.Builder) → Alike b c → b.mode ≡ P.in_table_body → (g : G.Group) → G.group own.name ≡ g → (n : ℕ) → R.body_part_start b g own ≡ Some after →
+      (M.mode_step B.in_table (S.body_closed c) (start g) ≡ S.table_start (S.body_closed c) (twin g) (tag_of own) closes) →
+      Reaches (S.after_table_body c) (suc (suc (suc n))) (starts g) after
+  body_part b c h m g e n eq same =
+      either_way (suc (suc (suc n))) (starts g) after (R.has_in_table_scope G.is_table_body b) (B.has_in_table_scope (T.is_any (codes "tbody tfoot thead")) c)
+      (R.table_start (R.body_closed b) g own) (Some b) (B.Again (S.body_closed c)) (B.Done c)
+      (in_table_scope h.like G.is_table_body (T.is_any (codes "tbody tfoot thead")) body_same)
+      (λ y a. (let k = body_closed h m in again k (start g) (suc (suc n)) after
+        (subst (λ o. Reaches o (suc (suc n)) (starts g) after) (sym same) (table_start (R.body_closed b) (S.body_closed c) k refl g e n a))))
+      (λ a. done a h) eq
+
+  table_body_start : (b : P.Builder) (c : B.Builder) → Alike b c → b.mode ≡ P.in_table_body → (g : G.Group) → G.group own.name ≡ g → (n : ℕ) → R.table_body_start b g own ≡ Some after →
+      Reaches (S.table_body_start c (twin g) (tag_of own) closes) (suc (suc (suc n))) (starts g) after
+  table_body_start b c h m G.a_row e n eq = done eq (row_opened h m own e)
+  table_body_start b c h m G.a_cell e n eq =
+      let o = A.counted (row_opened h m (implied (codes "tr")) refl) in
+      again o (start G.a_cell) (suc (suc n)) after (done eq (cell_opened o refl own e))
+  table_body_start b c h m G.a_caption e n eq = body_part b c h m G.a_caption e n eq refl
+  table_body_start b c h m G.a_column_group e n eq = body_part b c h m G.a_column_group e n eq refl
+  table_body_start b c h m G.a_column e n eq = body_part b c h m G.a_column e n eq refl
+  table_body_start b c h m G.a_table_body e n eq = body_part b c h m G.a_table_body e n eq refl
+  table_body_start b c h m G.a_table e n eq = table_again b c h e (suc (suc n)) eq
+  table_body_start b c h m _ e n eq = absurd (no_answer after eq)
+
+  row_part : (b : P.Builder) (c : B.Builder) → Alike b c → b.mode ≡ P.in_row → (g : G.Group) → G.group own.name ≡ g → (n : ℕ) → R.row_part_start b g own ≡ Some after →
+      (M.mode_step B.in_table_body (S.row_closed c) (start g) ≡ S.table_body_start (S.row_closed c) (twin g) (tag_of own) closes) →
+      Reaches (S.after_row c) (suc (suc (suc (suc n)))) (starts g) after
+  row_part b c h m g e n eq same =
+      either_way (suc (suc (suc (suc n)))) (starts g) after (R.has_in_table_scope G.is_row b) (B.has_in_table_scope S.is_row c)
+      (R.table_body_start (R.row_closed b) g own) (Some b) (B.Again (S.row_closed c)) (B.Done c)
+      (in_table_scope h.like G.is_row S.is_row row_same)
+      (λ y a. (let k = row_closed h m in again k (start g) (suc (suc (suc n))) after
+        (subst (λ o. Reaches o (suc (suc (suc n))) (starts g) after) (sym same) (table_body_start (R.row_closed b) (S.row_closed c) k refl g e n a))))
+      (λ a. done a h) eq
+
+  row_start : (b : P.Builder) (c : B.Builder) → Alike b c → b.mode ≡ P.in_row → (g : G.Group) → G.group own.name ≡ g → (n : ℕ) → R.row_start b g own ≡ Some after →
+      Reaches (S.row_start c (twin g) (tag_of own) closes) (suc (suc (suc (suc n)))) (starts g) after
+  row_start b c h m G.a_cell e n eq = done eq (cell_opened h m own e)
+  row_start b c h m G.a_caption e n eq = row_part b c h m G.a_caption e n eq refl
+  row_start b c h m G.a_column_group e n eq = row_part b c h m G.a_column_group e n eq refl
+  row_start b c h m G.a_column e n eq = row_part b c h m G.a_column e n eq refl
+  row_start b c h m G.a_table_body e n eq = row_part b c h m G.a_table_body e n eq refl
+  row_start b c h m G.a_row e n eq = row_part b c h m G.a_row e n eq refl
+  row_start b c h m G.a_table e n eq = table_again b c h e (suc (suc (suc n))) eq
+  row_start b c h m _ e n eq = absurd (no_answer after eq)
+
+  -- a part of a table ends a cell
+  cell_part : (b : P.Builder) (c : B.Builder) → Alike b c → b.mode ≡ P.in_cell → (g : G.Group) → G.group own.name ≡ g → (n : ℕ) → R.row_start (R.cell_closed b) g own ≡ Some after →
+      (M.mode_step B.in_row (S.cell_closed S.is_cell c) (start g) ≡ S.row_start (S.cell_closed S.is_cell c) (twin g) (tag_of own) closes) →
+      Reaches (S.after_cell c) (suc (suc (suc (suc (suc n))))) (starts g) after
+  cell_part b c h m g e n eq same =
+      let opens = cell_in_scope b h.sound m in
+      let k = cell_closed h opens in
+      subst (λ o. Reaches o (suc (suc (suc (suc (suc n))))) (starts g) after)
+      (sym (cond-true _ _ _ (in_table_scope h.like G.is_cell S.is_cell (cell_same h) ∙ opens)))
+      (again k (start g) (suc (suc (suc (suc n)))) after
+        (subst (λ o. Reaches o (suc (suc (suc (suc n)))) (starts g) after) (sym same) (row_start (R.cell_closed b) (S.cell_closed S.is_cell c) k refl g e n eq)))
+
+  -- and a caption
+  caption_part : (b : P.Builder) (c : B.Builder) → Alike b c → b.mode ≡ P.in_caption → (g : G.Group) → G.group own.name ≡ g → (n : ℕ) → R.caption_part_start b g own ≡ Some after →
+      (M.mode_step B.in_table (S.caption_closed c) (start g) ≡ S.table_start (S.caption_closed c) (twin g) (tag_of own) closes) →
+      Reaches (S.after_caption c) (suc (suc (suc n))) (starts g) after
+  caption_part b c h m g e n eq same =
+      either_way (suc (suc (suc n))) (starts g) after (R.has_in_table_scope G.is_caption b) (B.has_in_table_scope S.is_caption c)
+      (R.table_start (R.caption_closed b) g own) (Some b) (B.Again (S.caption_closed c)) (B.Done c)
+      (in_table_scope h.like G.is_caption S.is_caption (caption_same h))
+      (λ y a. (let k = caption_closed h y in again k (start g) (suc (suc n)) after
+        (subst (λ o. Reaches o (suc (suc n)) (starts g) after) (sym same) (table_start (R.caption_closed b) (S.caption_closed c) k refl g e n a))))
+      (λ a. done a h) eq
+
+  column_same : {b : P.Builder} {c : B.Builder} → Like b c → S.is_in_column_group c ≡ R.is_in_column_group b
+  column_same {b = b} h = ap (λ p. T.is_any (codes "colgroup") (W.top p).tag) h.path ∙ sym (facts (name_of b.stack.current)).column_group
+
+  -- anything else ends a column group
+  column_other : (b : P.Builder) (c : B.Builder) → Alike b c → b.mode ≡ P.in_column_group → (g : G.Group) → G.group own.name ≡ g → (n : ℕ) →
+      (if R.is_in_column_group b then R.table_start (R.column_group_closed b) g own else Some b) ≡ Some after →
+      (M.mode_step B.in_table (S.column_group_closed c) (start g) ≡ S.table_start (S.column_group_closed c) (twin g) (tag_of own) closes) →
+      Reaches (S.after_column_group c) (suc (suc (suc n))) (starts g) after
+  column_other b c h m g e n eq same =
+      either_way (suc (suc (suc n))) (starts g) after (R.is_in_column_group b) (S.is_in_column_group c)
+      (R.table_start (R.column_group_closed b) g own) (Some b) (B.Again (S.column_group_closed c)) (B.Done c)
+      (column_same h.like)
+      (λ y a. (let k = column_group_closed h m in again k (start g) (suc (suc n)) after
+        (subst (λ o. Reaches o (suc (suc n)) (starts g) after) (sym same) (table_start (R.column_group_closed b) (S.column_group_closed c) k refl g e n a))))
+      (λ a. done a h) eq
+
+  column_start : (b : P.Builder) (c : B.Builder) → Alike b c → b.mode ≡ P.in_column_group → (g : G.Group) → G.group own.name ≡ g → has_twin g ≡ true → (n : ℕ) → R.column_start b g own ≡ Some after →
+      Reaches (S.column_start c (twin g) (tag_of own)) (suc (suc (suc n))) (starts g) after
+  column_start b c h m G.a_column e t n eq = done eq (alone h own)
+  column_start b c h m G.elsewhere e t n eq = absurd (no_answer after eq)
+  column_start b c h m G.misplaced e t n eq = absurd (true≢false (sym t))
+  column_start b c h m G.an_option e t n eq = absurd (true≢false (sym t))
+  column_start b c h m g e t n eq = column_other b c h m g e n eq refl
