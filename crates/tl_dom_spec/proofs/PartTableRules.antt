@@ -470,3 +470,242 @@ module _ (own : HtmlTag) (closes : Bool) (after : P.Builder) where
   column_start b c h m G.misplaced e t n eq = absurd (true≢false (sym t))
   column_start b c h m G.an_option e t n eq = absurd (true≢false (sym t))
   column_start b c h m g e t n eq = column_other b c h m g e n eq refl
+
+  caption_start : (b : P.Builder) (c : B.Builder) → Alike b c → b.mode ≡ P.in_caption → (g : G.Group) → G.group own.name ≡ g → has_twin g ≡ true → (n : ℕ) → R.caption_start b g own ≡ Some after →
+      Reaches (S.caption_start c (twin g) (tag_of own) closes) (suc (suc (suc n))) (starts g) after
+  caption_start b c h m G.a_caption e t n eq = caption_part b c h m G.a_caption e n eq refl
+  caption_start b c h m G.a_column_group e t n eq = caption_part b c h m G.a_column_group e n eq refl
+  caption_start b c h m G.a_column e t n eq = caption_part b c h m G.a_column e n eq refl
+  caption_start b c h m G.a_table_body e t n eq = caption_part b c h m G.a_table_body e n eq refl
+  caption_start b c h m G.a_row e t n eq = caption_part b c h m G.a_row e n eq refl
+  caption_start b c h m G.a_cell e t n eq = caption_part b c h m G.a_cell e n eq refl
+  caption_start b c h m g e t n eq = body_start b c h (ap P.is_flow m) g e t eq (suc (suc (suc n)))
+
+  cell_start : (b : P.Builder) (c : B.Builder) → Alike b c → b.mode ≡ P.in_cell → (g : G.Group) → G.group own.name ≡ g → has_twin g ≡ true → (n : ℕ) → R.cell_start b g own ≡ Some after →
+      Reaches (S.cell_start c (twin g) (tag_of own) closes) (suc (suc (suc (suc (suc n))))) (starts g) after
+  cell_start b c h m G.a_caption e t n eq = cell_part b c h m G.a_caption e n eq refl
+  cell_start b c h m G.a_column_group e t n eq = cell_part b c h m G.a_column_group e n eq refl
+  cell_start b c h m G.a_column e t n eq = cell_part b c h m G.a_column e n eq refl
+  cell_start b c h m G.a_table_body e t n eq = cell_part b c h m G.a_table_body e n eq refl
+  cell_start b c h m G.a_row e t n eq = cell_part b c h m G.a_row e n eq refl
+  cell_start b c h m G.a_cell e t n eq = cell_part b c h m G.a_cell e n eq refl
+  cell_start b c h m g e t n eq = body_start b c h (ap P.is_flow m) g e t eq (suc (suc (suc (suc (suc n)))))
+
+  -- in any mode
+  twin_start : (b : P.Builder) (c : B.Builder) → Alike b c → (m : P.Mode) → b.mode ≡ m → (g : G.Group) → G.group own.name ≡ g → has_twin g ≡ true → (n : ℕ) → R.start_tag m b g own ≡ Some after →
+      Reaches (M.mode_step (mode_is m) c (start g)) (suc (suc (suc (suc (suc n))))) (starts g) after
+  twin_start b c h P.in_body m g e t n eq = body_start b c h (ap P.is_flow m) g e t eq (suc (suc (suc (suc (suc n)))))
+  twin_start b c h P.in_table m g e t n eq = table_start b c h m g e (suc (suc (suc n))) eq
+  twin_start b c h P.in_caption m g e t n eq = caption_start b c h m g e t (suc (suc n)) eq
+  twin_start b c h P.in_column_group m g e t n eq = column_start b c h m g e t (suc (suc n)) eq
+  twin_start b c h P.in_table_body m g e t n eq = table_body_start b c h m g e (suc (suc n)) eq
+  twin_start b c h P.in_row m g e t n eq = row_start b c h m g e (suc n) eq
+  twin_start b c h P.in_cell m g e t n eq = cell_start b c h m g e t n eq
+
+  -- names that the partial builder has no rule for, or takes for nothing
+
+  lost_misplaced : (b : P.Builder) → Sound b → (m : P.Mode) → b.mode ≡ m → R.start_tag m b G.misplaced own ≡ Some after → P.is_flow m ≡ true
+  lost_misplaced b h P.in_body m eq = refl
+  lost_misplaced b h P.in_caption m eq = refl
+  lost_misplaced b h P.in_cell m eq = refl
+  lost_misplaced b h P.in_column_group m eq = absurd (no_answer after (sym (cond-true _ _ _ (current_at b h P.in_column_group m)) ∙ eq))
+  lost_misplaced b h _ m eq = absurd (no_answer after eq)
+
+  lost_option : (b : P.Builder) → Sound b → (m : P.Mode) → b.mode ≡ m → R.start_tag m b G.an_option own ≡ Some after → ⊥
+  lost_option b h P.in_column_group m eq = no_answer after (sym (cond-true _ _ _ (current_at b h P.in_column_group m)) ∙ eq)
+  lost_option b h _ m eq = no_answer after eq
+
+  lost_elsewhere : (b : P.Builder) (m : P.Mode) → R.start_tag m b G.elsewhere own ≡ Some after → ⊥
+  lost_elsewhere b P.in_column_group eq = no_answer after eq
+  lost_elsewhere b _ eq = no_answer after eq
+
+  lost : (b : P.Builder) → Sound b → (m : P.Mode) → b.mode ≡ m → (g : G.Group) → has_twin g ≡ false → R.start_tag m b g own ≡ Some after → (P.is_flow m ≡ true) × (is_misplaced g ≡ true)
+  lost b h m e G.misplaced t eq = (lost_misplaced b h m e eq, refl)
+  lost b h m e G.an_option t eq = absurd (lost_option b h m e eq)
+  lost b h m e G.elsewhere t eq = absurd (lost_elsewhere b m eq)
+  lost b h m e _ t eq = absurd (true≢false t)
+
+  lost_step : (d : D.Group) → (d ≡ D.the_head) ⊎ (d ≡ D.a_frame) → (m : P.Mode) (c : B.Builder) → P.is_flow m ≡ true →
+      M.mode_step (mode_is m) c (B.a_start d (tag_of own) closes) ≡ Body.body_start c d (tag_of own) closes
+  lost_step d (inl y) m c k = ap (λ x. M.mode_step (mode_is m) c (B.a_start x (tag_of own) closes)) y ∙ at_head m c k ∙ ap (λ x. Body.body_start c x (tag_of own) closes) (sym y)
+    where
+      at_head : (m : P.Mode) (c : B.Builder) → P.is_flow m ≡ true → M.mode_step (mode_is m) c (B.a_start D.the_head (tag_of own) closes) ≡ Body.body_start c D.the_head (tag_of own) closes
+      at_head P.in_body c k = refl
+      at_head P.in_caption c k = refl
+      at_head P.in_cell c k = refl
+      at_head _ c k = absurd (true≢false (sym k))
+  lost_step d (inr y) m c k = ap (λ x. M.mode_step (mode_is m) c (B.a_start x (tag_of own) closes)) y ∙ at_frame m c k ∙ ap (λ x. Body.body_start c x (tag_of own) closes) (sym y)
+    where
+      at_frame : (m : P.Mode) (c : B.Builder) → P.is_flow m ≡ true → M.mode_step (mode_is m) c (B.a_start D.a_frame (tag_of own) closes) ≡ Body.body_start c D.a_frame (tag_of own) closes
+      at_frame P.in_body c k = refl
+      at_frame P.in_caption c k = refl
+      at_frame P.in_cell c k = refl
+      at_frame _ c k = absurd (true≢false (sym k))
+
+  -- a start tag, in any mode
+  abbrev started : B.Token
+  started = B.a_start (D.group own.name) (tag_of own) closes
+
+  pub a_start : (b : P.Builder) (c : B.Builder) → Alike b c → (n : ℕ) → R.start_tag b.mode b (G.group own.name) own ≡ Some after →
+      Reaches (M.mode_step (mode_is b.mode) c started) (suc (suc (suc (suc (suc n))))) (M.dispatch started) after
+  a_start b c h n eq = elim (cases_Bool (has_twin (G.group own.name))) [
+    | inl t ↦ subst (λ d. Reaches (M.mode_step (mode_is b.mode) c (B.a_start d (tag_of own) closes)) (suc (suc (suc (suc (suc n))))) (M.dispatch (B.a_start d (tag_of own) closes)) after)
+        (sym ((facts own.name).twins t)) (twin_start b c h b.mode refl (G.group own.name) refl t n eq)
+    | inr t ↦ (
+        let l = lost b h.sound b.mode refl (G.group own.name) t eq in
+        let f = start_in_body b c h l.0 own closes after (flow_rule b b.mode (G.group own.name) l.0 l.1 eq) in
+        subst (λ o. Reaches o (suc (suc (suc (suc (suc n))))) (M.dispatch started) after)
+        (sym (lost_step (D.group own.name) ((facts own.name).lost l.1) b.mode c l.0 ∙ f.1)) f.2)
+  ]
+    where
+      flow_rule : (b : P.Builder) (m : P.Mode) (g : G.Group) → P.is_flow m ≡ true → is_misplaced g ≡ true → R.start_tag m b g own ≡ Some after → R.body_start b g own ≡ Some after
+      flow_rule b P.in_body G.misplaced k l eq = eq
+      flow_rule b P.in_caption G.misplaced k l eq = eq
+      flow_rule b P.in_cell G.misplaced k l eq = eq
+      flow_rule b _ G.misplaced k l eq = absurd (true≢false (sym k))
+      flow_rule b m _ k l eq = absurd (true≢false (sym l))
+
+-- End tags
+
+module _ (name : List ℕ) (after : P.Builder) where
+  abbrev finish : G.Group → B.Token
+  finish g = B.an_end (twin g) name
+
+  abbrev ends : G.Group → B.Builder → B.Outcome
+  ends g = M.dispatch (finish g)
+
+  pub body_end : (b : P.Builder) (c : B.Builder) → Alike b c → P.is_flow b.mode ≡ true → (g : G.Group) → G.group name ≡ g → has_twin g ≡ true →
+      R.body_end b g name ≡ Some after → (n : ℕ) → Reaches (Body.body_end c (twin g) name) n (ends g) after
+  body_end b c h k g e t eq n =
+      let f = end_in_body b c h k name after (ap (λ x. R.body_end b x name) e ∙ eq) in
+      let d : D.group name ≡ twin g = (facts name).twins (ap has_twin e ∙ t) ∙ ap twin e in
+      subst (λ o. Reaches o n (ends g) after) (sym (ap (λ x. Body.body_end c x name) (sym d) ∙ f.1)) f.2
+
+  table_end : (b : P.Builder) (c : B.Builder) → Alike b c → (g : G.Group) (n : ℕ) → R.table_end b g name ≡ Some after → Reaches (S.table_end c (twin g) name) n (ends g) after
+  table_end b c h G.a_table n eq =
+      done eq (either (R.has_in_table_scope G.is_table b) (B.has_in_table_scope T.is_table c) (in_table_scope h.like G.is_table T.is_table A.table_same) (λ y. A.table_closed h y) h)
+  table_end b c h G.a_caption n eq = done eq h
+  table_end b c h G.a_column_group n eq = done eq h
+  table_end b c h G.a_column n eq = done eq h
+  table_end b c h G.a_table_body n eq = done eq h
+  table_end b c h G.a_row n eq = done eq h
+  table_end b c h G.a_cell n eq = done eq h
+  table_end b c h _ n eq = absurd (no_answer after eq)
+
+  caption_end : (b : P.Builder) (c : B.Builder) → Alike b c → b.mode ≡ P.in_caption → (g : G.Group) → G.group name ≡ g → has_twin g ≡ true → (n : ℕ) → R.caption_end b g name ≡ Some after →
+      Reaches (S.caption_end c (twin g) name) (suc n) (ends g) after
+  caption_end b c h m G.a_caption e t n eq =
+      done eq (either (R.has_in_table_scope G.is_caption b) (B.has_in_table_scope S.is_caption c) (in_table_scope h.like G.is_caption S.is_caption (caption_same h)) (λ y. caption_closed h y) h)
+  caption_end b c h m G.a_table e t n eq =
+      either_way (suc n) (ends G.a_table) after (R.has_in_table_scope G.is_caption b) (B.has_in_table_scope S.is_caption c)
+      (R.table_end (R.caption_closed b) G.a_table name) (Some b) (B.Again (S.caption_closed c)) (B.Done c)
+      (in_table_scope h.like G.is_caption S.is_caption (caption_same h))
+      (λ y a. (let k = caption_closed h y in again k (finish G.a_table) n after (table_end (R.caption_closed b) (S.caption_closed c) k G.a_table n a)))
+      (λ a. done a h) eq
+  caption_end b c h m G.a_column_group e t n eq = done eq h
+  caption_end b c h m G.a_column e t n eq = done eq h
+  caption_end b c h m G.a_table_body e t n eq = done eq h
+  caption_end b c h m G.a_row e t n eq = done eq h
+  caption_end b c h m G.a_cell e t n eq = done eq h
+  caption_end b c h m G.elsewhere e t n eq = absurd (no_answer after eq)
+  caption_end b c h m g e t n eq = body_end b c h (ap P.is_flow m) g e t eq (suc n)
+
+  column_part_end : (b : P.Builder) (c : B.Builder) → Alike b c → b.mode ≡ P.in_column_group → (g : G.Group) (n : ℕ) →
+      (if R.is_in_column_group b then R.table_end (R.column_group_closed b) g name else Some b) ≡ Some after →
+      (M.mode_step B.in_table (S.column_group_closed c) (finish g) ≡ S.table_end (S.column_group_closed c) (twin g) name) →
+      Reaches (S.after_column_group c) (suc n) (ends g) after
+  column_part_end b c h m g n eq same =
+      either_way (suc n) (ends g) after (R.is_in_column_group b) (S.is_in_column_group c)
+      (R.table_end (R.column_group_closed b) g name) (Some b) (B.Again (S.column_group_closed c)) (B.Done c)
+      (column_named h.like)
+      (λ y a. (let k = column_group_closed h m in again k (finish g) n after
+        (subst (λ o. Reaches o n (ends g) after) (sym same) (table_end (R.column_group_closed b) (S.column_group_closed c) k g n a))))
+      (λ a. done a h) eq
+    where
+      column_named : {b : P.Builder} {c : B.Builder} → Like b c → S.is_in_column_group c ≡ R.is_in_column_group b
+      column_named {b = b} h = ap (λ p. T.is_any (codes "colgroup") (W.top p).tag) h.path ∙ sym (facts (name_of b.stack.current)).column_group
+
+  column_end : (b : P.Builder) (c : B.Builder) → Alike b c → b.mode ≡ P.in_column_group → (g : G.Group) → has_twin g ≡ true → (n : ℕ) → R.column_end b g name ≡ Some after →
+      Reaches (S.column_end c (twin g)) (suc n) (ends g) after
+  column_end b c h m G.a_column_group t n eq =
+      done eq (either (R.is_in_column_group b) (S.is_in_column_group c)
+      (ap (λ p. T.is_any (codes "colgroup") (W.top p).tag) h.like.path ∙ sym (facts (name_of b.stack.current)).column_group) (λ y. column_group_closed h m) h)
+  column_end b c h m G.a_column t n eq = done eq h
+  column_end b c h m G.elsewhere t n eq = absurd (no_answer after eq)
+  column_end b c h m g t n eq = column_part_end b c h m g n eq refl
+
+  named_same : (own : HtmlTag) → bytes_eq name own.name ≡ T.is_named name (tag_of own)
+  named_same own = refl
+
+  table_body_end : (b : P.Builder) (c : B.Builder) → Alike b c → b.mode ≡ P.in_table_body → (g : G.Group) (n : ℕ) → R.table_body_end b g name ≡ Some after →
+      Reaches (S.table_body_end c (twin g) name) (suc n) (ends g) after
+  table_body_end b c h m G.a_table_body n eq =
+      done eq (either (R.has_in_table_scope (bytes_eq name) b) (B.has_in_table_scope (T.is_named name) c) (in_table_scope h.like (bytes_eq name) (T.is_named name) named_same) (λ y. body_closed h m) h)
+  table_body_end b c h m G.a_table n eq =
+      either_way (suc n) (ends G.a_table) after (R.has_in_table_scope G.is_table_body b) (B.has_in_table_scope (T.is_any (codes "tbody tfoot thead")) c)
+      (R.table_end (R.body_closed b) G.a_table name) (Some b) (B.Again (S.body_closed c)) (B.Done c)
+      (in_table_scope h.like G.is_table_body (T.is_any (codes "tbody tfoot thead")) body_same)
+      (λ y a. (let k = body_closed h m in again k (finish G.a_table) n after (table_end (R.body_closed b) (S.body_closed c) k G.a_table n a)))
+      (λ a. done a h) eq
+  table_body_end b c h m g n eq = table_end b c h g (suc n) eq
+
+  -- the row is closed first
+  row_first : (b : P.Builder) (c : B.Builder) → Alike b c → b.mode ≡ P.in_row → (g : G.Group) (n : ℕ) →
+      (if R.has_in_table_scope G.is_row b then R.table_body_end (R.row_closed b) g name else Some b) ≡ Some after →
+      (M.mode_step B.in_table_body (S.row_closed c) (finish g) ≡ S.table_body_end (S.row_closed c) (twin g) name) →
+      Reaches (S.after_row c) (suc (suc n)) (ends g) after
+  row_first b c h m g n eq same =
+      either_way (suc (suc n)) (ends g) after (R.has_in_table_scope G.is_row b) (B.has_in_table_scope S.is_row c)
+      (R.table_body_end (R.row_closed b) g name) (Some b) (B.Again (S.row_closed c)) (B.Done c)
+      (in_table_scope h.like G.is_row S.is_row row_same)
+      (λ y a. (let k = row_closed h m in again k (finish g) (suc n) after
+        (subst (λ o. Reaches o (suc n) (ends g) after) (sym same) (table_body_end (R.row_closed b) (S.row_closed c) k refl g n a))))
+      (λ a. done a h) eq
+
+  row_end : (b : P.Builder) (c : B.Builder) → Alike b c → b.mode ≡ P.in_row → (g : G.Group) (n : ℕ) → R.row_end b g name ≡ Some after →
+      Reaches (S.row_end c (twin g) name) (suc (suc n)) (ends g) after
+  row_end b c h m G.a_row n eq =
+      done eq (either (R.has_in_table_scope G.is_row b) (B.has_in_table_scope S.is_row c) (in_table_scope h.like G.is_row S.is_row row_same) (λ y. row_closed h m) h)
+  row_end b c h m G.a_table n eq = row_first b c h m G.a_table n eq refl
+  row_end b c h m G.a_table_body n eq = elim (cases_Bool (R.has_in_table_scope (bytes_eq name) b)) [
+    | inl y ↦ subst (λ o. Reaches o (suc (suc n)) (ends G.a_table_body) after) (sym (cond-true _ _ _ (in_table_scope h.like (bytes_eq name) (T.is_named name) named_same ∙ y)))
+        (row_first b c h m G.a_table_body n
+        (sym (ap (λ v. if v && R.has_in_table_scope G.is_row b then R.table_body_end (R.row_closed b) G.a_table_body name else Some b) y) ∙ eq) refl)
+    | inr z ↦ subst (λ o. Reaches o (suc (suc n)) (ends G.a_table_body) after) (sym (cond-false _ _ _ (in_table_scope h.like (bytes_eq name) (T.is_named name) named_same ∙ z)))
+        (done (sym (ap (λ v. if v && R.has_in_table_scope G.is_row b then R.table_body_end (R.row_closed b) G.a_table_body name else Some b) z) ∙ eq) h)
+  ]
+  row_end b c h m g n eq = table_end b c h g (suc (suc n)) eq
+
+  cell_outer_end : (b : P.Builder) (c : B.Builder) → Alike b c → b.mode ≡ P.in_cell → (g : G.Group) (n : ℕ) → R.cell_outer_end b g name ≡ Some after →
+      (M.mode_step B.in_row (S.cell_closed S.is_cell c) (finish g) ≡ S.row_end (S.cell_closed S.is_cell c) (twin g) name) →
+      Reaches (S.after_cell_in name c) (suc (suc (suc n))) (ends g) after
+  cell_outer_end b c h m g n eq same =
+      either_way (suc (suc (suc n))) (ends g) after (R.has_in_table_scope (bytes_eq name) b) (B.has_in_table_scope (T.is_named name) c)
+      (R.row_end (R.cell_closed b) g name) (Some b) (B.Again (S.cell_closed S.is_cell c)) (B.Done c)
+      (in_table_scope h.like (bytes_eq name) (T.is_named name) named_same)
+      (λ y a. (let k = cell_closed h (cell_in_scope b h.sound m) in again k (finish g) (suc (suc n)) after
+        (subst (λ o. Reaches o (suc (suc n)) (ends g) after) (sym same) (row_end (R.cell_closed b) (S.cell_closed S.is_cell c) k refl g n a))))
+      (λ a. done a h) eq
+
+  cell_end : (b : P.Builder) (c : B.Builder) → Alike b c → b.mode ≡ P.in_cell → (g : G.Group) → G.group name ≡ g → has_twin g ≡ true → (n : ℕ) → R.cell_end b g name ≡ Some after →
+      Reaches (S.cell_end c (twin g) name) (suc (suc (suc n))) (ends g) after
+  cell_end b c h m G.a_cell e t n eq =
+      done eq (either (R.has_in_table_scope (bytes_eq name) b) (B.has_in_table_scope (T.is_named name) c) (in_table_scope h.like (bytes_eq name) (T.is_named name) named_same) (λ y. named_closed h name e y) h)
+  cell_end b c h m G.a_caption e t n eq = done eq h
+  cell_end b c h m G.a_column_group e t n eq = done eq h
+  cell_end b c h m G.a_column e t n eq = done eq h
+  cell_end b c h m G.a_table e t n eq = cell_outer_end b c h m G.a_table n eq refl
+  cell_end b c h m G.a_table_body e t n eq = cell_outer_end b c h m G.a_table_body n eq refl
+  cell_end b c h m G.a_row e t n eq = cell_outer_end b c h m G.a_row n eq refl
+  cell_end b c h m G.elsewhere e t n eq = absurd (no_answer after eq)
+  cell_end b c h m g e t n eq = body_end b c h (ap P.is_flow m) g e t eq (suc (suc (suc n)))
+
+  twin_end : (b : P.Builder) (c : B.Builder) → Alike b c → (m : P.Mode) → b.mode ≡ m → (g : G.Group) → G.group name ≡ g → has_twin g ≡ true → (n : ℕ) → R.end_tag m b g name ≡ Some after →
+      Reaches (M.mode_step (mode_is m) c (finish g)) (suc (suc (suc n))) (ends g) after
+  twin_end b c h P.in_body m g e t n eq = body_end b c h (ap P.is_flow m) g e t eq (suc (suc (suc n)))
+  twin_end b c h P.in_table m g e t n eq = table_end b c h g (suc (suc (suc n))) eq
+  twin_end b c h P.in_caption m g e t n eq = caption_end b c h m g e t (suc (suc n)) eq
+  twin_end b c h P.in_column_group m g e t n eq = column_end b c h m g t (suc (suc n)) eq
+  twin_end b c h P.in_table_body m g e t n eq = table_body_end b c h m g (suc (suc n)) eq
+  twin_end b c h P.in_row m g e t n eq = row_end b c h m g (suc n) eq
+  twin_end b c h P.in_cell m g e t n eq = cell_end b c h m g e t n eq
