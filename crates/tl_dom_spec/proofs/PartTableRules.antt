@@ -709,3 +709,97 @@ module _ (name : List ℕ) (after : P.Builder) where
   twin_end b c h P.in_table_body m g e t n eq = table_body_end b c h m g (suc (suc n)) eq
   twin_end b c h P.in_row m g e t n eq = row_end b c h m g (suc n) eq
   twin_end b c h P.in_cell m g e t n eq = cell_end b c h m g e t n eq
+
+  -- names that the partial builder has no rule for, or takes for nothing
+
+  lost_end_table : (b : P.Builder) → Sound b → (m : P.Mode) → b.mode ≡ m → (g : G.Group) → has_twin g ≡ false → R.end_tag m b g name ≡ Some after → (P.is_flow m ≡ true) × (is_elsewhere g ≡ false)
+  lost_end_table b h P.in_body m G.misplaced t eq = (refl, refl)
+  lost_end_table b h P.in_body m G.an_option t eq = (refl, refl)
+  lost_end_table b h P.in_body m G.elsewhere t eq = absurd (no_answer after eq)
+  lost_end_table b h P.in_caption m G.misplaced t eq = (refl, refl)
+  lost_end_table b h P.in_caption m G.an_option t eq = (refl, refl)
+  lost_end_table b h P.in_caption m G.elsewhere t eq = absurd (no_answer after eq)
+  lost_end_table b h P.in_cell m G.misplaced t eq = (refl, refl)
+  lost_end_table b h P.in_cell m G.an_option t eq = (refl, refl)
+  lost_end_table b h P.in_cell m G.elsewhere t eq = absurd (no_answer after eq)
+  lost_end_table b h P.in_column_group m G.misplaced t eq = absurd (no_answer after (sym (cond-true _ _ _ (current_at b h P.in_column_group m)) ∙ eq))
+  lost_end_table b h P.in_column_group m G.an_option t eq = absurd (no_answer after (sym (cond-true _ _ _ (current_at b h P.in_column_group m)) ∙ eq))
+  lost_end_table b h P.in_column_group m G.elsewhere t eq = absurd (no_answer after eq)
+  lost_end_table b h P.in_table m G.misplaced t eq = absurd (no_answer after eq)
+  lost_end_table b h P.in_table m G.an_option t eq = absurd (no_answer after eq)
+  lost_end_table b h P.in_table m G.elsewhere t eq = absurd (no_answer after eq)
+  lost_end_table b h P.in_table_body m G.misplaced t eq = absurd (no_answer after eq)
+  lost_end_table b h P.in_table_body m G.an_option t eq = absurd (no_answer after eq)
+  lost_end_table b h P.in_table_body m G.elsewhere t eq = absurd (no_answer after eq)
+  lost_end_table b h P.in_row m G.misplaced t eq = absurd (no_answer after eq)
+  lost_end_table b h P.in_row m G.an_option t eq = absurd (no_answer after eq)
+  lost_end_table b h P.in_row m G.elsewhere t eq = absurd (no_answer after eq)
+  lost_end_table b h _ m _ t eq = absurd (true≢false t)
+
+  -- the groups that these names have in the whole builder
+  abbrev is_lost : D.Group → Bool
+  is_lost D.the_head = true
+  is_lost D.a_frame = true
+  is_lost D.an_option = true
+  is_lost D.an_option_group = true
+  is_lost _ = false
+
+  lost_group : (g : G.Group) → (is_misplaced g ≡ true → (D.group name ≡ D.the_head) ⊎ (D.group name ≡ D.a_frame)) →
+      (is_option g ≡ true → (D.group name ≡ D.an_option) ⊎ (D.group name ≡ D.an_option_group)) →
+      has_twin g ≡ false → is_elsewhere g ≡ false → is_lost (D.group name) ≡ true
+  lost_group G.misplaced l o t e = elim (l refl) [
+    | inl y ↦ ap is_lost y
+    | inr y ↦ ap is_lost y
+  ]
+  lost_group G.an_option l o t e = elim (o refl) [
+    | inl y ↦ ap is_lost y
+    | inr y ↦ ap is_lost y
+  ]
+  lost_group G.elsewhere l o t e = absurd (true≢false e)
+  lost_group _ l o t e = absurd (true≢false t)
+
+  lost_end_step : (m : P.Mode) (d : D.Group) (c : B.Builder) → is_lost d ≡ true → P.is_flow m ≡ true → M.mode_step (mode_is m) c (B.an_end d name) ≡ Body.body_end c d name
+  lost_end_step P.in_body D.the_head c l k = refl
+  lost_end_step P.in_body D.a_frame c l k = refl
+  lost_end_step P.in_body D.an_option c l k = refl
+  lost_end_step P.in_body D.an_option_group c l k = refl
+  lost_end_step P.in_caption D.the_head c l k = refl
+  lost_end_step P.in_caption D.a_frame c l k = refl
+  lost_end_step P.in_caption D.an_option c l k = refl
+  lost_end_step P.in_caption D.an_option_group c l k = refl
+  lost_end_step P.in_cell D.the_head c l k = refl
+  lost_end_step P.in_cell D.a_frame c l k = refl
+  lost_end_step P.in_cell D.an_option c l k = refl
+  lost_end_step P.in_cell D.an_option_group c l k = refl
+  lost_end_step P.in_body _ c l k = absurd (true≢false (sym l))
+  lost_end_step P.in_caption _ c l k = absurd (true≢false (sym l))
+  lost_end_step P.in_cell _ c l k = absurd (true≢false (sym l))
+  lost_end_step _ d c l k = absurd (true≢false (sym k))
+
+  flow_end : (b : P.Builder) (m : P.Mode) (g : G.Group) → P.is_flow m ≡ true → has_twin g ≡ false → R.end_tag m b g name ≡ Some after → R.body_end b g name ≡ Some after
+  flow_end b P.in_body g k t eq = eq
+  flow_end b P.in_caption G.misplaced k t eq = eq
+  flow_end b P.in_caption G.an_option k t eq = eq
+  flow_end b P.in_caption G.elsewhere k t eq = eq
+  flow_end b P.in_cell G.misplaced k t eq = eq
+  flow_end b P.in_cell G.an_option k t eq = eq
+  flow_end b P.in_cell G.elsewhere k t eq = eq
+  flow_end b P.in_caption _ k t eq = absurd (true≢false t)
+  flow_end b P.in_cell _ k t eq = absurd (true≢false t)
+  flow_end b _ g k t eq = absurd (true≢false (sym k))
+
+  -- an end tag, in any mode
+  abbrev finished : B.Token
+  finished = B.an_end (D.group name) name
+
+  pub an_end : (b : P.Builder) (c : B.Builder) → Alike b c → (n : ℕ) → R.end_tag b.mode b (G.group name) name ≡ Some after →
+      Reaches (M.mode_step (mode_is b.mode) c finished) (suc (suc (suc n))) (M.dispatch finished) after
+  an_end b c h n eq = elim (cases_Bool (has_twin (G.group name))) [
+    | inl t ↦ subst (λ d. Reaches (M.mode_step (mode_is b.mode) c (B.an_end d name)) (suc (suc (suc n))) (M.dispatch (B.an_end d name)) after)
+        (sym ((facts name).twins t)) (twin_end b c h b.mode refl (G.group name) refl t n eq)
+    | inr t ↦ (
+        let l = lost_end_table b h.sound b.mode refl (G.group name) t eq in
+        let f = end_in_body b c h l.0 name after (flow_end b b.mode (G.group name) l.0 t eq) in
+        subst (λ o. Reaches o (suc (suc (suc n))) (M.dispatch finished) after)
+        (sym (lost_end_step b.mode (D.group name) c (lost_group (G.group name) (facts name).lost (facts name).options t l.1) l.0 ∙ f.1)) f.2)
+  ]
