@@ -131,10 +131,10 @@ popped_is f o os = refl
 
 -- frames while a test holds: at most as many as a path is long
 module _ (test : W.Frame → Bool) (g f : P.Frame) where
-  stays_on : (os fs : List P.Frame) → test (frame_of f) ≡ false → W.settled_while test (frame_of g ∷ path_of os) (path_of (f ∷ fs)) ≡ path_of (f ∷ fs)
+  pub stays_on : (os fs : List P.Frame) → test (frame_of f) ≡ false → W.settled_while test (frame_of g ∷ path_of os) (path_of (f ∷ fs)) ≡ path_of (f ∷ fs)
   stays_on os fs h = rw h refl
 
-  pops_on : (o p : P.Frame) (os fs : List P.Frame) → test (frame_of f) ≡ true →
+  pub pops_on : (o p : P.Frame) (os fs : List P.Frame) → test (frame_of f) ≡ true →
       W.settled_while test (frame_of g ∷ path_of (o ∷ os)) (path_of (f ∷ p ∷ fs)) ≡ W.settled_while test (frame_of o ∷ path_of os) (path_of (P.closed_into p f ∷ fs))
   pops_on o p os fs h = rw h refl
 

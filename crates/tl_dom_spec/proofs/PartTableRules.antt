@@ -56,7 +56,7 @@ html_content : (own : HtmlTag) (token : B.Token) → M.is_html_content (tag_of o
 html_content own B.end_of_file = refl
 html_content own _ = refl
 
-content_of : (token : B.Token) (f : P.Frame) (v : Bool) → M.is_html_content (if v then bare_tag (codes "div") else tag_of f.element.own) token ≡ true
+pub content_of : (token : B.Token) (f : P.Frame) (v : Bool) → M.is_html_content (if v then bare_tag (codes "div") else tag_of f.element.own) token ≡ true
 content_of token f true = html_content (record { name = codes "div"; attributes = [] }) token
 content_of token f false = html_content f.element.own token
 
