@@ -31,6 +31,8 @@ use Rattle.tl_dom_spec.proofs.PartBuilders.{Alike, Like, Sound, mode_is}
 use Rattle.tl_dom_spec.proofs.PartOps as O
 use Rattle.tl_dom_spec.proofs.PartSound.{character_sound, group_of}
 use Rattle.tl_dom_spec.proofs.PartBodyGiven.{character_in_body}
+use Rattle.tl_dom_spec.proofs.PartRoots.{MayHaveRoot, Rooted, root_around}
+use Rattle.tl_dom_spec.proofs.PartRoots as Roots
 use Rattle.tl_dom_spec.proofs.PartTables.{current_at}
 use Rattle.tl_dom_spec.proofs.PartTableRules.{Reaches, a_start, again, an_end, content_of, dispatched, done, enough, more, no_answer, reaches_repeated}
 
@@ -384,3 +386,163 @@ token_taken b c (inr w) (EndTag name) n after eq =
     (after_flush w token refl 7 after (again w.alike token 6 after (an_end name after b (flushed w) w.alike 3 eq))))
 token_taken b c h (CommentToken bytes) n after eq = absurd (no_answer after eq)
 token_taken b c h DoctypeToken n after eq = absurd (no_answer after eq)
+
+-- Tokens
+
+line_same : (token : HtmlToken) → M.is_line_feed (token_of token) ≡ R.is_line_feed token
+line_same (Character x) = refl
+line_same (StartTag name attributes closes) = refl
+line_same (EndTag name) = refl
+line_same (CommentToken bytes) = refl
+line_same DoctypeToken = refl
+
+enough_steps : (c : B.Builder) (step : B.Builder → B.Outcome) (o : B.Outcome) → B.repeated (M.bound c) step o ≡ B.repeated (more 8 (2 * length c.path)) step o
+enough_steps c step o = ap (λ n. B.repeated n step o) (sym (enough (2 * length c.path)))
+
+some_same : {b d : P.Builder} → Some b ≡ Some d → b ≡ d
+some_same e = cc
+
+token_goes : (b : P.Builder) (c : B.Builder) → Goes b c → (token : HtmlToken) (after : P.Builder) → R.step b token ≡ Some after → Goes after (M.token_done c (token_of token))
+token_goes b c h token after eq =
+    let same : (c.skips && M.is_line_feed (token_of token)) ≡ (b.skips && R.is_line_feed token) = ap₂ (λ v w. v && w) (skips_is h) (line_same token) in
+    count_token (elim (cases_Bool (b.skips && R.is_line_feed token)) [
+      | inl y ↦ subst (Goes after) (sym (cond-true _ _ _ (same ∙ y)))
+          (subst (λ d. Goes d (M.calm c)) (some_same (sym (cond-true _ _ _ y) ∙ eq)) (calm h))
+      | inr z ↦ subst (Goes after) (sym (cond-false _ _ _ (same ∙ z) ∙ enough_steps c (M.dispatch (token_of token)) (B.Again (M.calm c))))
+          (token_taken (R.calm b) (M.calm c) (calm h) token (2 * length c.path) after (sym (cond-false _ _ _ z) ∙ eq))
+    ])
+
+no_run : (tokens : List HtmlToken) → R.run None tokens ≡ None
+no_run tokens = refl
+
+tokens_go : (tokens : List HtmlToken) (b : P.Builder) (c : B.Builder) → Goes b c → (after : P.Builder) → R.run (Some b) tokens ≡ Some after → Goes after (M.tokens_done c (map token_of tokens))
+tokens_go [] b c h after eq = subst (λ d. Goes d c) (some_same eq) h
+tokens_go (token ∷ tokens) b c h after eq =
+    by_step b c token tokens h after (λ d k r. tokens_go tokens d (M.token_done c (token_of token)) k after r) (R.step b token) refl eq
+  where
+    by_step : (b : P.Builder) (c : B.Builder) (token : HtmlToken) (tokens : List HtmlToken) → Goes b c → (after : P.Builder) →
+        ((d : P.Builder) → Goes d (M.token_done c (token_of token)) → R.run (Some d) tokens ≡ Some after → Goes after (M.tokens_done (M.token_done c (token_of token)) (map token_of tokens))) →
+        (o : Option P.Builder) → R.step b token ≡ o → R.run o tokens ≡ Some after → Goes after (M.tokens_done (M.token_done c (token_of token)) (map token_of tokens))
+    by_step b c token tokens h after onward None e r = absurd (no_answer after r)
+    by_step b c token tokens h after onward (Some d) e r = onward d (token_goes b c h token d e) r
+
+-- The beginning
+
+pub starts_alike : (v : Bool) → Alike (R.fragment v) (H.fragment_start (record H.standard { counts_search = v }) (H.context_of (bare_tag (codes "div"))))
+starts_alike v = record {
+  sound = record { stack = refl; stand = tt; entries = tt; numbers = ((let z : 0 < 1 = omega arith in z), tt, tt); mode = refl };
+  like = record {
+    path = refl;
+    active = refl;
+    next = refl;
+    mode = refl;
+    skips = refl;
+    fostering = refl;
+    quirks = refl;
+    templates = refl;
+    context = refl;
+    search = refl;
+  };
+}
+
+-- The end
+
+template_off : (n : List ℕ) → has_twin (G.group n) ≡ true → is_one_of (codes "template") n ≡ false
+template_off n h = false_from_ne_true (is_one_of (codes "template") n) (λ y. true≢false (sym h ∙ named n y))
+  where
+    named : (n : List ℕ) → is_one_of (codes "template") n ≡ true → has_twin (G.group n) ≡ false
+    named n y = elim (cases_Bool (bytes_eq n (codes "template"))) [
+      | inl e ↦ ap (λ m. has_twin (G.group m)) ((bytes_eq-Decides n (codes "template")).0 e)
+      | inr e ↦ absurd (true≢false (sym y ∙ ap (λ v. v || false) e))
+    ]
+
+no_template : (f : P.Frame) (os : List P.Frame) → IsStack f os → W.within (W.has_tag T.is_template) W.no_frame (map frame_of (f ∷ os)) ≡ false
+no_template f [] k = ap (λ n. is_one_of (codes "template") n || false) k
+no_template f (o ∷ os) k =
+    ap (λ v. v || W.within (W.has_tag T.is_template) W.no_frame (map frame_of (o ∷ os))) (template_off (name_of f) k.0)
+    ∙ no_template o os k.1
+
+ended : {b : P.Builder} {c : B.Builder} → Alike b c → Body.file_ended c ≡ B.Done c
+ended {b = b} {c = c} h =
+    cond-false _ _ _ (ap (W.has_open T.is_template) h.like.path
+    ∙ ap (W.within (W.has_tag T.is_template) W.no_frame) (elements_are (frames_of b.stack))
+    ∙ no_template b.stack.current b.stack.others h.sound.stack)
+
+end_step : (m : P.Mode) (c : B.Builder) → M.mode_step (mode_is m) c B.end_of_file ≡ Body.file_ended c
+end_step P.in_body c = refl
+end_step P.in_table c = refl
+end_step P.in_caption c = refl
+end_step P.in_column_group c = refl
+end_step P.in_table_body c = refl
+end_step P.in_row c = refl
+end_step P.in_cell c = refl
+
+end_reaches : (b : P.Builder) (c : B.Builder) → Alike b c → (n : ℕ) → Reaches (B.Again c) (suc n) (M.dispatch B.end_of_file) b
+end_reaches b c h n = again h B.end_of_file n b (subst (λ o. Reaches o n (M.dispatch B.end_of_file) b) (sym (end_step b.mode c ∙ ended h)) h)
+
+file_reaches : (b : P.Builder) (c : B.Builder) → Goes b c → (n : ℕ) → Alike b (B.repeated (more 8 n) (M.dispatch B.end_of_file) (B.Again c))
+file_reaches b c (inl h) n = reaches_repeated 8 n (M.dispatch B.end_of_file) (B.Again c) b (end_reaches b c h 7)
+file_reaches b c (inr w) n = reaches_repeated 8 n (M.dispatch B.end_of_file) (B.Again c) b (after_flush w B.end_of_file refl 7 b (end_reaches b (flushed w) w.alike 6))
+
+counted_alike : (b : P.Builder) (c : B.Builder) → Alike b c → Alike b (M.count_token c)
+counted_alike b c h = by_count (nat_lt c.excess (M.excess_of (record c { tokens = suc c.tokens })))
+  where
+    by_count : (v : Bool) → Alike b (if v then record c { tokens = suc c.tokens; excess = M.excess_of (record c { tokens = suc c.tokens }) } else record c { tokens = suc c.tokens })
+    by_count true = record { sound = h.sound; like = O.counting h.like c.added (suc c.tokens) (M.excess_of (record c { tokens = suc c.tokens })) }
+    by_count false = record { sound = h.sound; like = O.counting h.like c.added (suc c.tokens) c.excess }
+
+pub file_goes : (b : P.Builder) (c : B.Builder) → Goes b c → Alike (R.calm b) (M.token_done c B.end_of_file)
+file_goes b c h =
+    let idle : (v : Bool) → (v && false) ≡ false = λ v. by_value v in
+    counted_alike (R.calm b) _ (subst (Alike (R.calm b)) (sym (cond-false _ _ _ (idle c.skips) ∙ enough_steps c (M.dispatch B.end_of_file) (B.Again (M.calm c))))
+    (file_reaches (R.calm b) (M.calm c) (calm h) (2 * length c.path)))
+  where
+    by_value : (v : Bool) → (v && false) ≡ false
+    by_value true = refl
+    by_value false = refl
+
+-- Trees
+
+before_is : (nodes : P.Nodes) (later : HtmlForest) → F.before (nodes_of nodes) (whole later) ≡ whole (R.before nodes later)
+before_is P.no_nodes later = refl
+before_is (P.and_text nodes bytes) later = before_is nodes (text bytes later)
+before_is (P.and_element nodes own children) later =
+    ap (λ inner. F.before (nodes_of nodes) (F.element (tag_of own) inner (whole later))) (before_is children none)
+    ∙ before_is nodes (tag own (R.before children none) later)
+
+abbrev off_root : W.Frame → Bool
+off_root f = not (W.has_number 1 f)
+
+root_from : (g f : P.Frame) (os : List P.Frame) → Rooted f os →
+    H.trees_in (W.top (W.settled_while off_root (frame_of g ∷ path_of os) (path_of (f ∷ os)))) ≡ whole (R.before (R.whole f os) none)
+root_from g f [] h =
+    ap (λ p. H.trees_in (W.top p)) (stays_on off_root g f [] [] (ap not (eq_suc f.element.number 0 ∙ h)))
+    ∙ before_is f.children none
+root_from g f (o ∷ os) h =
+    ap (λ p. H.trees_in (W.top p)) (pops_on off_root g f o o os os (ap not (eq_suc f.element.number 0 ∙ h.0)))
+    ∙ root_from o (P.closed_into o f) os (root_around o f os h.1)
+
+pub trees_are : (b : P.Builder) (c : B.Builder) → Like b c → Rooted b.stack.current b.stack.others → H.children_of c ≡ whole (R.trees_of b)
+trees_are b c h r =
+    ap (λ p. H.trees_in (W.top (W.popped_to (W.has_number 1) p))) h.path ∙ root_from b.stack.current b.stack.current b.stack.others r
+
+-- where the partial builder has an outcome, the whole one has the same trees
+pub partial_is_whole : (v : Bool) (tokens : List HtmlToken) (forest : HtmlForest) → R.html_trees_where v tokens ≡ Some forest →
+    H.fragment_of_tokens (record H.standard { counts_search = v }) (H.context_of (bare_tag (codes "div"))) tokens ≡ whole forest
+partial_is_whole v tokens forest eq = by_run (R.run (Some (R.fragment v)) tokens) refl (Roots.run tokens (Some (R.fragment v)) (refl, refl)) eq
+  where
+    forest_same : {x y : HtmlForest} → Some x ≡ Some y → x ≡ y
+    forest_same e = cc
+
+    by_run : (o : Option P.Builder) → R.run (Some (R.fragment v)) tokens ≡ o → MayHaveRoot o → option_map R.trees_of o ≡ Some forest →
+        H.fragment_of_tokens (record H.standard { counts_search = v }) (H.context_of (bare_tag (codes "div"))) tokens ≡ whole forest
+    by_run None e r k = absurd (true≢false (sym (ap is_forest k)))
+      where
+        is_forest : Option HtmlForest → Bool
+        is_forest None = false
+        is_forest (Some x) = true
+    by_run (Some after) e r k =
+        let start : B.Builder = H.fragment_start (record H.standard { counts_search = v }) (H.context_of (bare_tag (codes "div"))) in
+        let goes = tokens_go tokens (R.fragment v) start (inl (starts_alike v)) after e in
+        let ends = file_goes after (M.tokens_done start (map token_of tokens)) goes in
+        trees_are (R.calm after) (M.token_done (M.tokens_done start (map token_of tokens)) B.end_of_file) ends.like r.1 ∙ ap whole (forest_same k)
