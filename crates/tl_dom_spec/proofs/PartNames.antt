@@ -60,6 +60,10 @@ abbrev pub is_elsewhere : T.Group → Bool
 is_elsewhere T.elsewhere = true
 is_elsewhere _ = false
 
+abbrev pub is_button_group : T.Group → Bool
+is_button_group T.a_button = true
+is_button_group _ = false
+
 -- a number for each group of the whole builder
 abbrev code : D.Group → ℕ
 code D.the_html = 0
@@ -150,6 +154,7 @@ pub record Facts (n : List ℕ) : Type 0 where
   pub cell : T.is_cell n ≡ is_one_of (codes "td th") n
   pub table_context : T.is_table_context n ≡ is_one_of (codes "table template html") n
   pub body_context : T.is_body_context n ≡ is_one_of (codes "tbody tfoot thead template html") n
+  pub button : is_button_group (T.group n) ≡ is_one_of (codes "button") n
   pub row_context : T.is_row_context n ≡ is_one_of (codes "tr template html") n
 
 -- the same, which computes
@@ -172,7 +177,8 @@ agrees n =
     && (beq (T.is_cell n) (is_one_of (codes "td th") n)
     && (beq (T.is_table_context n) (is_one_of (codes "table template html") n)
     && (beq (T.is_body_context n) (is_one_of (codes "tbody tfoot thead template html") n)
-    && beq (T.is_row_context n) (is_one_of (codes "tr template html") n))))))))))))))))
+    && (beq (is_button_group (T.group n)) (is_one_of (codes "button") n)
+    && beq (T.is_row_context n) (is_one_of (codes "tr template html") n)))))))))))))))))
 
 or_else : (x y : Bool) → (not x || y) ≡ true → x ≡ true → y ≡ true
 or_else true y h k = h
@@ -206,6 +212,7 @@ facts_of n h =
     let p = and_parts _ _ o.1 in
     let q = and_parts _ _ p.1 in
     let r = and_parts _ _ q.1 in
+    let t = and_parts _ _ r.1 in
     record {
       twins = λ t. same_code (D.group n) (twin (T.group n)) (or_else (has_twin (T.group n)) _ a.0 t);
       lost = λ t. one_of_two (D.group n) (or_else (is_misplaced (T.group n)) _ b.0 t);
@@ -223,7 +230,8 @@ facts_of n h =
       cell = beq-true _ _ p.0;
       table_context = beq-true _ _ q.0;
       body_context = beq-true _ _ r.0;
-      row_context = beq-true _ _ r.1;
+      button = beq-true _ _ t.0;
+      row_context = beq-true _ _ t.1;
     }
 
 -- the names that a rule knows
@@ -376,6 +384,7 @@ module _ (n : List ℕ) (none : is_among known n ≡ false) where
         cell = both _ _ (ap T.is_cell_group g) (no (words (codes "td th")) refl);
         table_context = both_or _ _ _ (ap T.is_table_group g) (no (words (codes "html template")) refl) (no (words (codes "table template html")) refl);
         body_context = both_or _ _ _ (ap T.is_table_body_group g) (no (words (codes "html template")) refl) (no (words (codes "tbody tfoot thead template html")) refl);
+        button = both _ _ (ap is_button_group g) (no (words (codes "button")) refl);
         row_context = both_or _ _ _ (ap T.is_row_group g) (no (words (codes "html template")) refl) (no (words (codes "tr template html")) refl);
       }
 

@@ -263,7 +263,7 @@ names_in f os = P.names (record { current = f; others = os })
 
 module _ (next : ℕ) (es : List P.Entry) where
   -- one plain frame is popped
-  plain_popped : (f o : P.Frame) (os : List P.Frame) (s : P.Stack) → is_plain (group_of f) ≡ true →
+  pub plain_popped : (f o : P.Frame) (os : List P.Frame) (s : P.Stack) → is_plain (group_of f) ≡ true →
       Popped (names_in (P.closed_into o f) os) next es s → Popped (names_in f (o ∷ os)) next es s
   plain_popped f o os s h p = record {
     stack = p.stack;
@@ -274,7 +274,7 @@ module _ (next : ℕ) (es : List P.Entry) where
   }
 
   -- what is left then
-  under : (f o : P.Frame) (os : List P.Frame) → is_plain (group_of f) ≡ true → IsStack f (o ∷ os) → Stand f (o ∷ os) → AreNumbered next es (f ∷ o ∷ os) →
+  pub under : (f o : P.Frame) (os : List P.Frame) → is_plain (group_of f) ≡ true → IsStack f (o ∷ os) → Stand f (o ∷ os) → AreNumbered next es (f ∷ o ∷ os) →
       IsStack (P.closed_into o f) os × Stand (P.closed_into o f) os × AreNumbered next es (P.closed_into o f ∷ os) × (is_flow_group (group_of o) ≡ true)
   under f o os h k l n = (
     stack_same o (P.closed_into o f) os refl k.1,
@@ -285,22 +285,20 @@ module _ (next : ℕ) (es : List P.Entry) where
 
   -- up to an element that passes a test, where none that bounds it stands further in
   module _ (test : P.Element → Bool) (bounds : List ℕ → Bool) (cover : (n : List ℕ) → bounds n ≡ false → is_cell_or_caption (G.group n) ≡ false)
-      (plain : (f : P.Frame) → P.within test (P.has_name bounds) (map element_of (f ∷ [])) ≡ true → test f.element ≡ true → Agrees f es → is_plain (group_of f) ≡ true) where
+      (other : (f : P.Frame) → test f.element ≡ true → Agrees f es → is_cell_or_caption (group_of f) ≡ false)
+      (last : (f : P.Frame) → name_of f ≡ codes "html" → Agrees f es → test f.element ≡ false) where
     pub through_sound : (f : P.Frame) (os : List P.Frame) → IsStack f os → Stand f os → AreNumbered next es (f ∷ os) → is_flow_group (group_of f) ≡ true →
         P.within test (P.has_name bounds) (map element_of (f ∷ os)) ≡ true →
         (has_in test f os ≡ true) × Popped (names_in f os) next es (P.popped_through test f os)
-    through_sound f [] k l n top w = absurd (never (test f.element) refl)
+    through_sound f [] k l n top w =
+        absurd (true≢false (sym w ∙ ap (λ v. v || (not (bounds (name_of f)) && false)) (last f k n.1) ∙ nothing (not (bounds (name_of f)))))
       where
-        never : (v : Bool) → test f.element ≡ v → ⊥
-        never true y = true≢false (sym (plain f w y n.1) ∙ ap (λ m. is_plain (G.group m)) k)
-        never false y = true≢false (sym w ∙ ap (λ v. v || (not (bounds (name_of f)) && false)) y ∙ nothing (not (bounds (name_of f))))
-          where
-            nothing : (v : Bool) → (v && false) ≡ false
-            nothing true = refl
-            nothing false = refl
+        nothing : (v : Bool) → (v && false) ≡ false
+        nothing true = refl
+        nothing false = refl
     through_sound f (o ∷ os) k l n top w = elim (cases_Bool (test f.element)) [
       | inl y ↦ (
-          let p = plain f (one f y) y n.1 in
+          let p = flow_plain (group_of f) k.0 top (other f y n.1) in
           let u = under f o os p k l n in (
             ap (λ v. v || has_in test o os) y,
             subst (Popped (names_in f (o ∷ os)) next es) (sym (cond-true _ _ _ y))
@@ -318,9 +316,6 @@ module _ (next : ℕ) (es : List P.Entry) where
           ))
     ]
       where
-        one : (f : P.Frame) → test f.element ≡ true → P.within test (P.has_name bounds) (map element_of (f ∷ [])) ≡ true
-        one f y = ap (λ v. v || (not (bounds (name_of f)) && false)) y
-
         was_false : (v : Bool) → not v ≡ true → v ≡ false
         was_false true h = absurd (true≢false (sym h))
         was_false false h = refl
