@@ -33,55 +33,55 @@ pub record Goes (b r : P.Builder) (c : B.Builder) : Type 0 where
   pub alike : Alike r c
   pub mode : r.mode ≡ b.mode
 
-flows : {b r : P.Builder} {c : B.Builder} → Goes b r c → P.is_flow b.mode ≡ true → P.is_flow r.mode ≡ true
+pub flows : {b r : P.Builder} {c : B.Builder} → Goes b r c → P.is_flow b.mode ≡ true → P.is_flow r.mode ≡ true
 flows g k = ap P.is_flow g.mode ∙ k
 
-after : {b r q : P.Builder} {c d : B.Builder} → Goes b r c → Goes r q d → Goes b q d
+pub after : {b r q : P.Builder} {c d : B.Builder} → Goes b r c → Goes r q d → Goes b q d
 after g h = record { alike = h.alike; mode = h.mode ∙ g.mode }
 
-stays : {b : P.Builder} {c : B.Builder} → Alike b c → Goes b b c
+pub stays : {b : P.Builder} {c : B.Builder} → Alike b c → Goes b b c
 stays a = record { alike = a; mode = refl }
 
 -- what only the whole builder does
-lets : {b r : P.Builder} {c d : B.Builder} → Goes b r c → Like r d → Goes b r d
+pub lets : {b r : P.Builder} {c d : B.Builder} → Goes b r c → Like r d → Goes b r d
 lets g l = record { alike = record { sound = (g.alike).sound; like = l }; mode = g.mode }
 
-either_way : {r : P.Builder} {x y : B.Builder} (v : Bool) → Alike r x → Alike r y → Alike r (if v then x else y)
+pub either_way : {r : P.Builder} {x y : B.Builder} (v : Bool) → Alike r x → Alike r y → Alike r (if v then x else y)
 either_way true h k = h
 either_way false h k = k
 
-closed_mode : (bounds but test : List ℕ → Bool) (b : P.Builder) → (R.closed_in bounds but test b).mode ≡ b.mode
+pub closed_mode : (bounds but test : List ℕ → Bool) (b : P.Builder) → (R.closed_in bounds but test b).mode ≡ b.mode
 closed_mode bounds but test b = elim (cases_Bool (P.within test bounds (P.names b.stack))) [
   | inl y ↦ ap (λ (r : P.Builder). r.mode) (cond-true _ _ _ y)
   | inr n ↦ ap (λ (r : P.Builder). r.mode) (cond-false _ _ _ n)
 ]
 
 module _ {b : P.Builder} {c : B.Builder} (a : Alike b c) (k : P.is_flow b.mode ≡ true) where
-  p_closed : Goes b (R.p_closed b) (D.close_p c)
+  pub p_closed : Goes b (R.p_closed b) (D.close_p c)
   p_closed = record {
     alike = close_in a k G.is_paragraph G.is_paragraph H.is_button_scope T.is_paragraph T.is_paragraph T.is_button_scope closes_p (button_scope_same b.stack (a.sound).stack);
     mode = closed_mode H.is_button_scope G.is_paragraph G.is_paragraph b;
   }
 
-  put : (own : HtmlTag) → is_plain (G.group own.name) ≡ true → Goes b (P.inserted b own) (B.insert_element (tag_of own) c)
+  pub put : (own : HtmlTag) → is_plain (G.group own.name) ≡ true → Goes b (P.inserted b own) (B.insert_element (tag_of own) c)
   put own plain = record {
     alike = record { sound = inserted_sound b own a.sound k plain; like = inserted a.like own };
     mode = refl;
   }
 
-  put_alone : (own : HtmlTag) → Goes b (P.alone b own) (B.insert_and_pop (tag_of own) c)
+  pub put_alone : (own : HtmlTag) → Goes b (P.alone b own) (B.insert_and_pop (tag_of own) c)
   put_alone own = record {
     alike = record { sound = alone_sound b own a.sound; like = alone a.like own };
     mode = refl;
   }
 
-  put_formatting : (own : HtmlTag) → is_formatting_group (G.group own.name) ≡ true → Goes b (P.formatted b own) (F.insert_formatting_element (tag_of own) c)
+  pub put_formatting : (own : HtmlTag) → is_formatting_group (G.group own.name) ≡ true → Goes b (P.formatted b own) (F.insert_formatting_element (tag_of own) c)
   put_formatting own g = record {
     alike = record { sound = formatted_sound b own a.sound k g; like = formatted a.like own };
     mode = refl;
   }
 
-  rebuilt : Goes b (P.reconstructed b) (F.reconstruct_formatting c)
+  pub rebuilt : Goes b (P.reconstructed b) (F.reconstruct_formatting c)
   rebuilt =
       let s = reconstructed_sound b a.sound k in
       record { alike = record { sound = s.0; like = reconstructed a.like }; mode = s.1 }
@@ -99,7 +99,7 @@ module _ {b : P.Builder} {c : B.Builder} (a : Alike b c) (k : P.is_flow b.mode �
       }
 
 -- an element that is current, and plain, is popped
-popped_current : {b : P.Builder} {c : B.Builder} (a : Alike b c) → P.is_flow b.mode ≡ true → is_plain (group_of b.stack.current) ≡ true →
+pub popped_current : {b : P.Builder} {c : B.Builder} (a : Alike b c) → P.is_flow b.mode ≡ true → is_plain (group_of b.stack.current) ≡ true →
     Goes b (P.with_stack b (P.popped b.stack.current b.stack.others)) (B.pop_current_node c)
 popped_current {b = b} {c = c} a k plain = from b.stack.others refl
   where
@@ -123,14 +123,14 @@ popped_current {b = b} {c = c} a k plain = from b.stack.others refl
         }
 
 -- tests of the current element
-current_tag_is : {b : P.Builder} {c : B.Builder} (h : Like b c) → B.current_tag c ≡ tag_of b.stack.current.element.own
+pub current_tag_is : {b : P.Builder} {c : B.Builder} (h : Like b c) → B.current_tag c ≡ tag_of b.stack.current.element.own
 current_tag_is h = ap (λ (p : W.Path). (W.top p).tag) h.path
 
 heading_plain : (g : G.Group) → G.is_heading_group g ≡ true → is_plain g ≡ true
 heading_plain G.a_heading h = refl
 heading_plain _ h = absurd (true≢false (sym h))
 
-heading_closed : {b : P.Builder} {c : B.Builder} (a : Alike b c) → P.is_flow b.mode ≡ true → Goes b (R.heading_closed b) (D.heading_closed c)
+pub heading_closed : {b : P.Builder} {c : B.Builder} (a : Alike b c) → P.is_flow b.mode ≡ true → Goes b (R.heading_closed b) (D.heading_closed c)
 heading_closed {b = b} {c = c} a k =
     let e : T.is_heading (B.current_tag c) ≡ G.is_heading (name_of b.stack.current) = ap T.is_heading (current_tag_is a.like) ∙ sym (facts (name_of b.stack.current)).heading in
     elim (cases_Bool (G.is_heading (name_of b.stack.current))) [
@@ -199,10 +199,10 @@ item_bound_same {b = b} {c = c} h own =
     swapped true false false = refl
     swapped false y z = refl
 
-special_same : {b : P.Builder} {c : B.Builder} (h : Like b c) (own : HtmlTag) → R.is_special_in b own.name ≡ T.is_special c.flags.counts_search (tag_of own)
+pub special_same : {b : P.Builder} {c : B.Builder} (h : Like b c) (own : HtmlTag) → R.is_special_in b own.name ≡ T.is_special c.flags.counts_search (tag_of own)
 special_same h own = ap (λ v. T.is_special v (tag_of own)) (sym h.search)
 
-names_are : (s : P.Stack) → P.names s ≡ map name_of (frames_of s)
+pub names_are : (s : P.Stack) → P.names s ≡ map name_of (frames_of s)
 names_are s = ap (λ ns. name_of s.current ∷ ns) (others s.others)
   where
     others : (fs : List P.Frame) → map (λ (e : P.Element). e.own.name) (map (λ (f : P.Frame). f.element) fs) ≡ map name_of fs
@@ -223,7 +223,7 @@ module _ {b : P.Builder} {c : B.Builder} (a : Alike b c) (k : P.is_flow b.mode �
   same_bounds = same_all (R.is_item_bound_in b) bounded (item_bound_same a.like) (frames_of b.stack)
 
   -- li
-  item_closed : Goes b (R.item_closed b) (D.item_closed_at (looked (T.is_any (codes "li"))) c)
+  pub item_closed : Goes b (R.item_closed b) (D.item_closed_at (looked (T.is_any (codes "li"))) c)
   item_closed = elim (cases_Bool (P.within G.is_item (R.is_item_bound_in b) (P.names b.stack))) [
     | inl y ↦ (
         let e = earlier-some G.is_item (R.is_item_bound_in b) (T.is_any (codes "li")) bounded (frames_of b.stack)
@@ -249,7 +249,7 @@ module _ {b : P.Builder} {c : B.Builder} (a : Alike b c) (k : P.is_flow b.mode �
       or_none false = refl
 
   -- dd, dt
-  description_closed : Goes b (R.description_closed b) (D.item_closed_at (looked (T.is_any (codes "dd dt"))) c)
+  pub description_closed : Goes b (R.description_closed b) (D.item_closed_at (looked (T.is_any (codes "dd dt"))) c)
   description_closed = elim (cases_Bool (P.within G.is_description (R.is_item_bound_in b) (P.names b.stack))) [
     | inl y ↦ (
         let e = earlier-some G.is_description (R.is_item_bound_in b) (T.is_any (codes "dd dt")) bounded (frames_of b.stack)
