@@ -56,7 +56,7 @@ pub record Entry (n : List ℕ) (e : P.Element) (next : ℕ) (es : List P.Entry)
   pub name : n ≡ e.own.name
   pub agrees : (f : P.Frame) → Agrees f es → (f.element.number == e.number) ≡ true → f.element.own ≡ e.own
 
-found_entry : (n : List ℕ) (e : P.Element) (next : ℕ) (es : List P.Entry) → P.listed n es ≡ Some e → AreListed next es → Entry n e next es
+pub found_entry : (n : List ℕ) (e : P.Element) (next : ℕ) (es : List P.Entry) → P.listed n es ≡ Some e → AreListed next es → Entry n e next es
 found_entry n e next [] h k = cc
 found_entry n e next (P.marker ∷ es) h k = cc
 found_entry n e next (P.formatting x ∷ es) h k = elim (cases_Bool (bytes_eq n x.own.name)) [
@@ -73,7 +73,7 @@ found_entry n e next (P.formatting x ∷ es) h k = elim (cases_Bool (bytes_eq n 
       record { formatting = more.formatting; name = more.name; agrees = λ f a. more.agrees f a.1 })
 ]
 
-any_other : {b : P.Builder} {c : B.Builder} (a : Alike b c) → P.is_flow b.mode ≡ true → (n : List ℕ) → is_cell_or_caption (G.group n) ≡ false → bytes_eq n (codes "html") ≡ false →
+pub any_other : {b : P.Builder} {c : B.Builder} (a : Alike b c) → P.is_flow b.mode ≡ true → (n : List ℕ) → is_cell_or_caption (G.group n) ≡ false → bytes_eq n (codes "html") ≡ false →
     Goes b (R.other_ended b n) (A.any_other_end_tag n c)
 any_other {b = b} {c = c} a k n apart last = record {
   alike = close_in a k (bytes_eq n) (bytes_eq n) (R.is_special_in b) (T.is_named n) (T.is_named n) (T.is_special c.flags.counts_search)
