@@ -32,7 +32,7 @@ is_listed_is k (P.formatting e ∷ es) =
     ap (λ v. v || F.is_listed (suc k) (map entry_of es)) (eq_suc e.number k) ∙ ap (λ v. (e.number == k) || v) (is_listed_is k es)
 
 -- an entry that is not there is not taken away
-nothing_unlisted : (k : ℕ) (es : List P.Entry) → P.is_listed k es ≡ false → F.unlisted (suc k) (map entry_of es) ≡ map entry_of es
+pub nothing_unlisted : (k : ℕ) (es : List P.Entry) → P.is_listed k es ≡ false → F.unlisted (suc k) (map entry_of es) ≡ map entry_of es
 nothing_unlisted k [] h = refl
 nothing_unlisted k (P.marker ∷ es) h = ap (λ fs. B.marker ∷ fs) (nothing_unlisted k es h)
 nothing_unlisted k (P.formatting e ∷ es) h =

@@ -38,6 +38,16 @@ AreListed next (P.marker ∷ entries) = AreListed next entries
 AreListed next (P.formatting e ∷ entries) =
     (is_formatting_group (G.group e.own.name) ≡ true) × (P.is_listed e.number entries ≡ false) × (e.number < next) × AreListed next entries
 
+-- an element that is open and listed is one
+abbrev pub Agrees : P.Frame → List P.Entry → Type 0
+Agrees f [] = ⊤
+Agrees f (P.marker ∷ entries) = Agrees f entries
+Agrees f (P.formatting e ∷ entries) = ((f.element.number == e.number) ≡ true → f.element.own ≡ e.own) × Agrees f entries
+
+abbrev pub AreNumbered : ℕ → List P.Entry → List P.Frame → Type 0
+AreNumbered next entries [] = ⊤
+AreNumbered next entries (f ∷ fs) = (f.element.number < next) × Agrees f entries × AreNumbered next entries fs
+
 -- which element stands right in which: parts of a table in one another, and nothing else in a table, a row or what is around rows
 
 abbrev pub is_cell_or_caption : G.Group → Bool
@@ -70,6 +80,7 @@ pub record Sound (b : P.Builder) : Type 0 where
   pub stack : IsStack b.stack.current b.stack.others
   pub stand : Stand b.stack.current b.stack.others
   pub entries : AreListed b.next b.active
+  pub numbers : AreNumbered b.next b.active (frames_of b.stack)
   pub mode : b.mode ≡ P.mode_of (P.names b.stack)
 
 -- what the whole builder holds besides is no matter

@@ -60,9 +60,17 @@ abbrev pub is_elsewhere : T.Group → Bool
 is_elsewhere T.elsewhere = true
 is_elsewhere _ = false
 
-abbrev pub is_option : T.Group → Bool
-is_option T.an_option = true
-is_option _ = false
+abbrev pub is_button_group : T.Group → Bool
+is_button_group T.a_button = true
+is_button_group _ = false
+
+abbrev pub is_break_group : T.Group → Bool
+is_break_group T.a_break = true
+is_break_group _ = false
+
+abbrev pub is_option_group : T.Group → Bool
+is_option_group T.an_option = true
+is_option_group _ = false
 
 -- a number for each group of the whole builder
 abbrev code : D.Group → ℕ
@@ -140,7 +148,6 @@ beq-true false false e = refl
 pub record Facts (n : List ℕ) : Type 0 where
   pub twins : has_twin (T.group n) ≡ true → D.group n ≡ twin (T.group n)
   pub lost : is_misplaced (T.group n) ≡ true → (D.group n ≡ D.the_head) ⊎ (D.group n ≡ D.a_frame)
-  pub options : is_option (T.group n) ≡ true → (D.group n ≡ D.an_option) ⊎ (D.group n ≡ D.an_option_group)
   pub scope : is_elsewhere (T.group n) ≡ false → is_scope n ≡ is_one_of scope_names n
   pub paragraph : T.is_paragraph n ≡ is_one_of (codes "p") n
   pub heading : T.is_heading n ≡ is_among headings n
@@ -155,6 +162,9 @@ pub record Facts (n : List ℕ) : Type 0 where
   pub cell : T.is_cell n ≡ is_one_of (codes "td th") n
   pub table_context : T.is_table_context n ≡ is_one_of (codes "table template html") n
   pub body_context : T.is_body_context n ≡ is_one_of (codes "tbody tfoot thead template html") n
+  pub options : is_option_group (T.group n) ≡ true → (D.group n ≡ D.an_option) ⊎ (D.group n ≡ D.an_option_group)
+  pub line_break : is_break_group (T.group n) ≡ is_one_of (codes "br") n
+  pub button : is_button_group (T.group n) ≡ is_one_of (codes "button") n
   pub row_context : T.is_row_context n ≡ is_one_of (codes "tr template html") n
 
 -- the same, which computes
@@ -163,7 +173,6 @@ abbrev agrees : List ℕ → Bool
 agrees n =
     (not (has_twin (T.group n)) || (code (D.group n) == code (twin (T.group n))))
     && ((not (is_misplaced (T.group n)) || ((code (D.group n) == 1) || (code (D.group n) == 4)))
-    && ((not (is_option (T.group n)) || ((code (D.group n) == 38) || (code (D.group n) == 39)))
     && ((is_elsewhere (T.group n) || beq (is_scope n) (is_one_of scope_names n))
     && (beq (T.is_paragraph n) (is_one_of (codes "p") n)
     && (beq (T.is_heading n) (is_among headings n)
@@ -178,7 +187,10 @@ agrees n =
     && (beq (T.is_cell n) (is_one_of (codes "td th") n)
     && (beq (T.is_table_context n) (is_one_of (codes "table template html") n)
     && (beq (T.is_body_context n) (is_one_of (codes "tbody tfoot thead template html") n)
-    && beq (T.is_row_context n) (is_one_of (codes "tr template html") n)))))))))))))))))
+    && ((not (is_option_group (T.group n)) || ((code (D.group n) == 38) || (code (D.group n) == 39)))
+    && (beq (is_break_group (T.group n)) (is_one_of (codes "br") n)
+    && (beq (is_button_group (T.group n)) (is_one_of (codes "button") n)
+    && beq (T.is_row_context n) (is_one_of (codes "tr template html") n)))))))))))))))))))
 
 or_else : (x y : Bool) → (not x || y) ≡ true → x ≡ true → y ≡ true
 or_else true y h k = h
@@ -194,8 +206,8 @@ one_of_two g h = elim (cases_Bool (code g == 1)) [
   | inr n ↦ inr (same_code g D.a_frame (or_other (code g == 1) (code g == 4) h n))
 ]
 
-one_option : (g : D.Group) → ((code g == 38) || (code g == 39)) ≡ true → (g ≡ D.an_option) ⊎ (g ≡ D.an_option_group)
-one_option g h = elim (cases_Bool (code g == 38)) [
+one_of_options : (g : D.Group) → ((code g == 38) || (code g == 39)) ≡ true → (g ≡ D.an_option) ⊎ (g ≡ D.an_option_group)
+one_of_options g h = elim (cases_Bool (code g == 38)) [
   | inl y ↦ inl (same_code g D.an_option y)
   | inr n ↦ inr (same_code g D.an_option_group (or_other (code g == 38) (code g == 39) h n))
 ]
@@ -204,8 +216,7 @@ facts_of : (n : List ℕ) → agrees n ≡ true → Facts n
 facts_of n h =
     let a = and_parts _ _ h in
     let b = and_parts _ _ a.1 in
-    let s = and_parts _ _ b.1 in
-    let c = and_parts _ _ s.1 in
+    let c = and_parts _ _ b.1 in
     let d = and_parts _ _ c.1 in
     let e = and_parts _ _ d.1 in
     let f = and_parts _ _ e.1 in
@@ -219,10 +230,12 @@ facts_of n h =
     let p = and_parts _ _ o.1 in
     let q = and_parts _ _ p.1 in
     let r = and_parts _ _ q.1 in
+    let t = and_parts _ _ r.1 in
+    let u = and_parts _ _ t.1 in
+    let v = and_parts _ _ u.1 in
     record {
       twins = λ t. same_code (D.group n) (twin (T.group n)) (or_else (has_twin (T.group n)) _ a.0 t);
       lost = λ t. one_of_two (D.group n) (or_else (is_misplaced (T.group n)) _ b.0 t);
-      options = λ t. one_option (D.group n) (or_else (is_option (T.group n)) _ s.0 t);
       scope = λ t. beq-true _ _ (or_other (is_elsewhere (T.group n)) _ c.0 t);
       paragraph = beq-true _ _ d.0;
       heading = beq-true _ _ e.0;
@@ -237,7 +250,10 @@ facts_of n h =
       cell = beq-true _ _ p.0;
       table_context = beq-true _ _ q.0;
       body_context = beq-true _ _ r.0;
-      row_context = beq-true _ _ r.1;
+      options = λ z. one_of_options (D.group n) (or_else (is_option_group (T.group n)) _ t.0 z);
+      line_break = beq-true _ _ u.0;
+      button = beq-true _ _ v.0;
+      row_context = beq-true _ _ v.1;
     }
 
 -- the names that a rule knows
@@ -376,7 +392,6 @@ module _ (n : List ℕ) (none : is_among known n ≡ false) where
       record {
         twins = λ _. whole_other ∙ sym (ap twin g);
         lost = λ t. absurd (true≢false (sym t ∙ ap is_misplaced g));
-        options = λ t. absurd (true≢false (sym t ∙ ap is_option g));
         scope = λ _. both _ _ (no scope_bounds refl) (no (words scope_names) refl);
         paragraph = both _ _ (ap T.is_paragraph_group g) (no (words (codes "p")) refl);
         heading = both _ _ (ap T.is_heading_group g) (no headings refl);
@@ -391,6 +406,9 @@ module _ (n : List ℕ) (none : is_among known n ≡ false) where
         cell = both _ _ (ap T.is_cell_group g) (no (words (codes "td th")) refl);
         table_context = both_or _ _ _ (ap T.is_table_group g) (no (words (codes "html template")) refl) (no (words (codes "table template html")) refl);
         body_context = both_or _ _ _ (ap T.is_table_body_group g) (no (words (codes "html template")) refl) (no (words (codes "tbody tfoot thead template html")) refl);
+        options = λ t. absurd (true≢false (sym t ∙ ap is_option_group g));
+        line_break = both _ _ (ap is_break_group g) (no (words (codes "br")) refl);
+        button = both _ _ (ap is_button_group g) (no (words (codes "button")) refl);
         row_context = both_or _ _ _ (ap T.is_row_group g) (no (words (codes "html template")) refl) (no (words (codes "tr template html")) refl);
       }
 

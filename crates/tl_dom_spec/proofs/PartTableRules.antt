@@ -19,12 +19,12 @@ use Rattle.tl_dom_spec.specs.Builder as B
 use Rattle.tl_dom_spec.specs.Body as Body
 use Rattle.tl_dom_spec.specs.Tables as S
 use Rattle.tl_dom_spec.specs.Dispatcher as M
-use Rattle.tl_dom_spec.proofs.PartNames.{facts, has_twin, is_elsewhere, is_misplaced, is_option, twin}
+use Rattle.tl_dom_spec.proofs.PartNames.{facts, has_twin, is_elsewhere, is_misplaced, is_option_group, twin}
 use Rattle.tl_dom_spec.proofs.PartPaths.{IsStack, frame_of, frames_of, name_of, path_of, tag_of}
 use Rattle.tl_dom_spec.proofs.PartBuilders.{Alike, Like, Sound, Stand, is_flow_group, mode_is, stands_in}
 use Rattle.tl_dom_spec.proofs.PartOps as O
 use Rattle.tl_dom_spec.proofs.PartSound.{alone_sound, group_of, names_in}
-use Rattle.tl_dom_spec.proofs.PartBodyGiven.{Finishes, character_in_body, end_in_body, start_in_body}
+use Rattle.tl_dom_spec.proofs.PartRules.{end_in_body, start_in_body}
 use Rattle.tl_dom_spec.proofs.PartTables as A
 use Rattle.tl_dom_spec.proofs.PartTables.{Leads, current_at, in_table_scope, mode_in}
 
@@ -575,9 +575,9 @@ module _ (name : List ℕ) (after : P.Builder) where
   ends g = M.dispatch (finish g)
 
   pub body_end : (b : P.Builder) (c : B.Builder) → Alike b c → P.is_flow b.mode ≡ true → (g : G.Group) → G.group name ≡ g → has_twin g ≡ true →
-      R.body_end b g name ≡ Some after → (n : ℕ) → Reaches (Body.body_end c (twin g) name) n (ends g) after
-  body_end b c h k g e t eq n =
-      let f = end_in_body b c h k name after (ap (λ x. R.body_end b x name) e ∙ eq) in
+      (G.is_part g ≡ false) ⊎ (b.mode ≡ P.in_body) → R.body_end b g name ≡ Some after → (n : ℕ) → Reaches (Body.body_end c (twin g) name) n (ends g) after
+  body_end b c h k g e t p eq n =
+      let f = end_in_body b c h k name after (subst (λ x. (G.is_part x ≡ false) ⊎ (b.mode ≡ P.in_body)) (sym e) p) (ap (λ x. R.body_end b x name) e ∙ eq) in
       let d : D.group name ≡ twin g = (facts name).twins (ap has_twin e ∙ t) ∙ ap twin e in
       subst (λ o. Reaches o n (ends g) after) (sym (ap (λ x. Body.body_end c x name) (sym d) ∙ f.1)) f.2
 
@@ -608,7 +608,7 @@ module _ (name : List ℕ) (after : P.Builder) where
   caption_end b c h m G.a_row e t n eq = done eq h
   caption_end b c h m G.a_cell e t n eq = done eq h
   caption_end b c h m G.elsewhere e t n eq = absurd (no_answer after eq)
-  caption_end b c h m g e t n eq = body_end b c h (ap P.is_flow m) g e t eq (suc n)
+  caption_end b c h m g e t n eq = body_end b c h (ap P.is_flow m) g e t (inl refl) eq (suc n)
 
   column_part_end : (b : P.Builder) (c : B.Builder) → Alike b c → b.mode ≡ P.in_column_group → (g : G.Group) (n : ℕ) →
       (if R.is_in_column_group b then R.table_end (R.column_group_closed b) g name else Some b) ≡ Some after →
@@ -698,11 +698,11 @@ module _ (name : List ℕ) (after : P.Builder) where
   cell_end b c h m G.a_table_body e t n eq = cell_outer_end b c h m G.a_table_body n eq refl
   cell_end b c h m G.a_row e t n eq = cell_outer_end b c h m G.a_row n eq refl
   cell_end b c h m G.elsewhere e t n eq = absurd (no_answer after eq)
-  cell_end b c h m g e t n eq = body_end b c h (ap P.is_flow m) g e t eq (suc (suc (suc n)))
+  cell_end b c h m g e t n eq = body_end b c h (ap P.is_flow m) g e t (inl refl) eq (suc (suc (suc n)))
 
   twin_end : (b : P.Builder) (c : B.Builder) → Alike b c → (m : P.Mode) → b.mode ≡ m → (g : G.Group) → G.group name ≡ g → has_twin g ≡ true → (n : ℕ) → R.end_tag m b g name ≡ Some after →
       Reaches (M.mode_step (mode_is m) c (finish g)) (suc (suc (suc n))) (ends g) after
-  twin_end b c h P.in_body m g e t n eq = body_end b c h (ap P.is_flow m) g e t eq (suc (suc (suc n)))
+  twin_end b c h P.in_body m g e t n eq = body_end b c h (ap P.is_flow m) g e t (inr m) eq (suc (suc (suc n)))
   twin_end b c h P.in_table m g e t n eq = table_end b c h g (suc (suc (suc n))) eq
   twin_end b c h P.in_caption m g e t n eq = caption_end b c h m g e t (suc (suc n)) eq
   twin_end b c h P.in_column_group m g e t n eq = column_end b c h m g t (suc (suc n)) eq
@@ -745,7 +745,7 @@ module _ (name : List ℕ) (after : P.Builder) where
   is_lost _ = false
 
   lost_group : (g : G.Group) → (is_misplaced g ≡ true → (D.group name ≡ D.the_head) ⊎ (D.group name ≡ D.a_frame)) →
-      (is_option g ≡ true → (D.group name ≡ D.an_option) ⊎ (D.group name ≡ D.an_option_group)) →
+      (is_option_group g ≡ true → (D.group name ≡ D.an_option) ⊎ (D.group name ≡ D.an_option_group)) →
       has_twin g ≡ false → is_elsewhere g ≡ false → is_lost (D.group name) ≡ true
   lost_group G.misplaced l o t e = elim (l refl) [
     | inl y ↦ ap is_lost y
@@ -788,6 +788,12 @@ module _ (name : List ℕ) (after : P.Builder) where
   flow_end b P.in_cell _ k t eq = absurd (true≢false t)
   flow_end b _ g k t eq = absurd (true≢false (sym k))
 
+  no_part : (g : G.Group) → has_twin g ≡ false → G.is_part g ≡ false
+  no_part G.misplaced t = refl
+  no_part G.an_option t = refl
+  no_part G.elsewhere t = refl
+  no_part _ t = absurd (true≢false t)
+
   -- an end tag, in any mode
   abbrev finished : B.Token
   finished = B.an_end (D.group name) name
@@ -799,7 +805,7 @@ module _ (name : List ℕ) (after : P.Builder) where
         (sym ((facts name).twins t)) (twin_end b c h b.mode refl (G.group name) refl t n eq)
     | inr t ↦ (
         let l = lost_end_table b h.sound b.mode refl (G.group name) t eq in
-        let f = end_in_body b c h l.0 name after (flow_end b b.mode (G.group name) l.0 t eq) in
+        let f = end_in_body b c h l.0 name after (inl (no_part (G.group name) t)) (flow_end b b.mode (G.group name) l.0 t eq) in
         subst (λ o. Reaches o (suc (suc (suc n))) (M.dispatch finished) after)
         (sym (lost_end_step b.mode (D.group name) c (lost_group (G.group name) (facts name).lost (facts name).options t l.1) l.0 ∙ f.1)) f.2)
   ]

@@ -30,7 +30,7 @@ use Rattle.tl_dom_spec.proofs.PartPaths.{IsStack, elements_are, eq_suc, frame_of
 use Rattle.tl_dom_spec.proofs.PartBuilders.{Alike, Like, Sound, mode_is}
 use Rattle.tl_dom_spec.proofs.PartOps as O
 use Rattle.tl_dom_spec.proofs.PartSound.{character_sound, group_of}
-use Rattle.tl_dom_spec.proofs.PartBodyGiven.{character_in_body}
+use Rattle.tl_dom_spec.proofs.PartBody.{character_in_body}
 use Rattle.tl_dom_spec.proofs.PartRoots.{MayHaveRoot, Rooted, root_around}
 use Rattle.tl_dom_spec.proofs.PartRoots as Roots
 use Rattle.tl_dom_spec.proofs.PartTables.{current_at}
@@ -314,7 +314,7 @@ module _ (x n : ℕ) (after : P.Builder) where
       Some (if x == 0 then b else P.with_character (P.reconstructed b) x) ≡ Some after → Goes after (taken c)
   flow_character b c h k same eq =
       inl (reaches_repeated 8 n by_character (B.Again c) after (again h (B.a_character x) 7 after
-      (subst (λ o. Reaches o 7 by_character after) (sym same) (done eq (character_in_body b c h k x)))))
+      (subst (λ o. Reaches o 7 by_character after) (sym same) (done eq (character_in_body h k x)))))
 
   -- in a column group
   column_character : (b : P.Builder) (c : B.Builder) → Alike b c → b.mode ≡ P.in_column_group → (if is_ascii_whitespace x then Some (P.with_character b x) else None) ≡ Some after → Goes after (taken c)
