@@ -1,6 +1,5 @@
 -- The rules of the modes of tables: where the partial builder calls the rules of the next mode, the whole one reprocesses the token in it.
-use Rattle.std.proofs.Common.{◌≡◌, ℕ, suc, zero, Bool, true, false, not, ◌||◌, ◌&&◌, ◌==◌, ◌+◌, ◌⊎◌, List, [], ◌∷◌, ◌++◌, map, Option, Some, None, codes, refl, ap, ap₂, sym, ◌∙◌, subst, inl, inr, true≢false, arith, if◌then◌else◌}
-use Rattle.std.specs.Prelude.{⊤}
+use Rattle.std.proofs.Common.{◌≡◌, ℕ, suc, zero, Bool, true, false, not, ◌||◌, ◌&&◌, ◌+◌, ◌⊎◌, List, [], ◌∷◌, Option, Some, None, codes, refl, ap, ap₂, sym, ◌∙◌, subst, inl, inr, true≢false, arith, if◌then◌else◌}
 use Rattle.std.specs.List.{list_all}
 use Rattle.std.specs.Str.{bytes_eq}
 use Rattle.std.proofs.lemmas.Bool.{and_parts, cases_Bool, cond-false, cond-true, false_from_ne_true}
@@ -20,8 +19,8 @@ use Rattle.tl_dom_spec.specs.Body as Body
 use Rattle.tl_dom_spec.specs.Tables as S
 use Rattle.tl_dom_spec.specs.Dispatcher as M
 use Rattle.tl_dom_spec.proofs.PartNames.{facts, has_twin, is_elsewhere, is_misplaced, is_option_group, twin}
-use Rattle.tl_dom_spec.proofs.PartPaths.{IsStack, frame_of, frames_of, name_of, path_of, tag_of}
-use Rattle.tl_dom_spec.proofs.PartBuilders.{Alike, Like, Sound, Stand, is_flow_group, mode_is, stands_in}
+use Rattle.tl_dom_spec.proofs.PartPaths.{IsStack, frames_of, name_of, path_of, tag_of}
+use Rattle.tl_dom_spec.proofs.PartBuilders.{Alike, Like, Sound, mode_is, stands_in}
 use Rattle.tl_dom_spec.proofs.PartOps as O
 use Rattle.tl_dom_spec.proofs.PartSound.{alone_sound, group_of, names_in}
 use Rattle.tl_dom_spec.proofs.PartRules.{end_in_body, start_in_body}
@@ -290,6 +289,9 @@ cell_within f (o ∷ os) k m = elim (cell_or (group_of f) (mode_in o os) m) [
 pub cell_in_scope : (b : P.Builder) → Sound b → b.mode ≡ P.in_cell → R.has_in_table_scope G.is_cell b ≡ true
 cell_in_scope b h m = cell_within b.stack.current b.stack.others h.stack (sym h.mode ∙ m)
 
+column_same : {b : P.Builder} {c : B.Builder} → Like b c → S.is_in_column_group c ≡ R.is_in_column_group b
+column_same {b = b} h = ap (λ p. T.is_any (codes "colgroup") (W.top p).tag) h.path ∙ sym (facts (name_of b.stack.current)).column_group
+
 -- Start tags
 
 body_same : (own : HtmlTag) → G.is_table_body own.name ≡ T.is_any (codes "tbody tfoot thead") (tag_of own)
@@ -446,9 +448,6 @@ module _ (own : HtmlTag) (closes : Bool) (after : P.Builder) where
       (λ y a. (let k = caption_closed h y in again k (start g) (suc (suc n)) after
         (subst (λ o. Reaches o (suc (suc n)) (starts g) after) (sym same) (table_start (R.caption_closed b) (S.caption_closed c) k refl g e n a))))
       (λ a. done a h) eq
-
-  column_same : {b : P.Builder} {c : B.Builder} → Like b c → S.is_in_column_group c ≡ R.is_in_column_group b
-  column_same {b = b} h = ap (λ p. T.is_any (codes "colgroup") (W.top p).tag) h.path ∙ sym (facts (name_of b.stack.current)).column_group
 
   -- anything else ends a column group
   column_other : (b : P.Builder) (c : B.Builder) → Alike b c → b.mode ≡ P.in_column_group → (g : G.Group) → G.group own.name ≡ g → (n : ℕ) →
@@ -617,19 +616,15 @@ module _ (name : List ℕ) (after : P.Builder) where
   column_part_end b c h m g n eq same =
       either_way (suc n) (ends g) after (R.is_in_column_group b) (S.is_in_column_group c)
       (R.table_end (R.column_group_closed b) g name) (Some b) (B.Again (S.column_group_closed c)) (B.Done c)
-      (column_named h.like)
+      (column_same h.like)
       (λ y a. (let k = column_group_closed h m in again k (finish g) n after
         (subst (λ o. Reaches o n (ends g) after) (sym same) (table_end (R.column_group_closed b) (S.column_group_closed c) k g n a))))
       (λ a. done a h) eq
-    where
-      column_named : {b : P.Builder} {c : B.Builder} → Like b c → S.is_in_column_group c ≡ R.is_in_column_group b
-      column_named {b = b} h = ap (λ p. T.is_any (codes "colgroup") (W.top p).tag) h.path ∙ sym (facts (name_of b.stack.current)).column_group
 
   column_end : (b : P.Builder) (c : B.Builder) → Alike b c → b.mode ≡ P.in_column_group → (g : G.Group) → has_twin g ≡ true → (n : ℕ) → R.column_end b g name ≡ Some after →
       Reaches (S.column_end c (twin g)) (suc n) (ends g) after
   column_end b c h m G.a_column_group t n eq =
-      done eq (either (R.is_in_column_group b) (S.is_in_column_group c)
-      (ap (λ p. T.is_any (codes "colgroup") (W.top p).tag) h.like.path ∙ sym (facts (name_of b.stack.current)).column_group) (λ y. column_group_closed h m) h)
+      done eq (either (R.is_in_column_group b) (S.is_in_column_group c) (column_same h.like) (λ y. column_group_closed h m) h)
   column_end b c h m G.a_column t n eq = done eq h
   column_end b c h m G.elsewhere t n eq = absurd (no_answer after eq)
   column_end b c h m g t n eq = column_part_end b c h m g n eq refl

@@ -1,10 +1,6 @@
 -- The operations of the modes of tables leave both builders alike.
-use Rattle.std.proofs.Common.{◌≡◌, ℕ, suc, Bool, true, false, not, ◌||◌, ◌&&◌, ◌==◌, ◌⊎◌, List, [], ◌∷◌, ◌++◌, map, Option, Some, None, codes, refl, ap, ap₂, sym, ◌∙◌, subst, inl, inr, true≢false, if◌then◌else◌}
-use Rattle.std.specs.Prelude.{⊤}
-use Rattle.std.specs.List.{list_any}
-use Rattle.std.specs.Str.{bytes_eq}
-use Rattle.std.proofs.lemmas.Bool.{and_parts, cases_Bool, cond-false, cond-true, false_from_ne_true}
-use Rattle.std.proofs.lemmas.Slice.Eq.{bytes_eq-Decides}
+use Rattle.std.proofs.Common.{◌≡◌, ℕ, suc, Bool, true, false, not, ◌||◌, ◌&&◌, ◌⊎◌, List, [], ◌∷◌, map, Some, codes, refl, ap, sym, ◌∙◌, subst, inl, inr, true≢false}
+use Rattle.std.proofs.lemmas.Bool.{and_parts, cases_Bool, cond-false, cond-true}
 use Rattle.tl_tree_spec.specs.Builder as P
 use Rattle.tl_tree_spec.specs.HtmlTreeBuilder as R
 use Rattle.tl_tree_spec.specs.HtmlForest.{HtmlTag}
@@ -19,7 +15,7 @@ use Rattle.tl_dom_spec.specs.Tables as S
 use Rattle.tl_dom_spec.proofs.PartNames.{facts, has_twin, twin}
 use Rattle.tl_dom_spec.proofs.PartPaths.{IsStack, back_is, elements_are, frame_of, frames_of, has_in, has_within, name_of, path_of, same_all, tag_of}
 use Rattle.tl_dom_spec.proofs.PartActive.{marker_listed, without_last_marker_is}
-use Rattle.tl_dom_spec.proofs.PartBuilders.{Alike, AreListed, AreNumbered, Like, Sound, Stand, is_flow_group, mode_is, stands_in}
+use Rattle.tl_dom_spec.proofs.PartBuilders.{Alike, AreNumbered, Like, Sound, Stand, is_flow_group, mode_is, stands_in}
 use Rattle.tl_dom_spec.proofs.PartOps as O
 use Rattle.tl_dom_spec.proofs.PartSound.{agrees_marker, group_of, names_in, numbers_by, numbers_same, pushed_sound, stack_same, stand_same}
 
@@ -128,9 +124,6 @@ module _ (next : ℕ) (es : List P.Entry) where
 -- the mode that comes then, where it follows from what stands around what was popped
 abbrev pub Leads : (List ℕ → Bool) → P.Mode → Type 0
 Leads test m = (n around : List ℕ) (outer : P.Mode) → test n ≡ true → stands_in (G.group n) (G.group around) ≡ true → P.mode_by (G.group around) outer ≡ m
-
-pub closed_mode : (f o : P.Frame) (os : List P.Frame) → mode_in (P.closed_into o f) os ≡ mode_in o os
-closed_mode f o os = refl
 
 module _ (test : List ℕ → Bool) where
   same_in : (o f : P.Frame) (os : List P.Frame) → has_in (P.has_name test) o os ≡ true → has_in (P.has_name test) (P.closed_into o f) os ≡ true

@@ -1,21 +1,20 @@
 -- Tokens by both builders: where the partial one of `tl_tree_spec` has trees, the whole one has the same.
-use Rattle.std.proofs.Common.{◌≡◌, ◌<◌, ℕ, suc, zero, Bool, true, false, not, ◌||◌, ◌&&◌, ◌==◌, ◌+◌, ◌*◌, ◌⊎◌, List, [], ◌∷◌, ◌++◌, length, map, Option, Some, None, codes, refl, ap, ap₂, sym, ◌∙◌, subst, inl, inr, true≢false, arith, if◌then◌else◌}
-use Rattle.std.specs.Prelude.{⊤, nat_lt, option_map}
+use Rattle.std.proofs.Common.{◌≡◌, ◌<◌, ℕ, suc, Bool, true, false, not, ◌||◌, ◌&&◌, ◌==◌, ◌*◌, ◌⊎◌, List, [], ◌∷◌, ◌++◌, length, map, Option, Some, None, codes, refl, ap, ap₂, sym, ◌∙◌, subst, inl, inr, true≢false, arith, if◌then◌else◌}
+use Rattle.std.specs.Prelude.{nat_lt, option_map}
 use Rattle.std.specs.Char.{is_ascii_whitespace}
 use Rattle.std.specs.List.{list_all, list_any}
 use Rattle.std.specs.Str.{bytes_eq}
 use Rattle.std.proofs.lemmas.Bool.{and_parts, cases_Bool, cond-false, cond-true, eqb-true, false_from_ne_true}
 use Rattle.std.proofs.lemmas.Slice.Eq.{bytes_eq-Decides}
 use Rattle.tl_html_spec.specs.Balanced.{is_one_of, words}
-use Rattle.tl_html_spec.specs.HtmlTokenizer.{Character, CommentToken, DoctypeToken, EndTag, HtmlAttribute, HtmlToken, StartTag, data_state}
-use Rattle.tl_spec.specs.Tree.Forest.{comment, none, tag, text}
+use Rattle.tl_html_spec.specs.HtmlTokenizer.{Character, CommentToken, DoctypeToken, EndTag, HtmlToken, StartTag, data_state}
+use Rattle.tl_spec.specs.Tree.Forest.{none, tag, text}
 use Rattle.tl_tree_spec.specs.Builder as P
 use Rattle.tl_tree_spec.specs.HtmlTreeBuilder as R
 use Rattle.tl_tree_spec.specs.HtmlForest.{HtmlForest, HtmlTag}
 use Rattle.tl_tree_spec.specs.Groups as G
 use Rattle.tl_dom_spec.specs.Tags as T
 use Rattle.tl_dom_spec.specs.Tags.{Tag, bare_tag}
-use Rattle.tl_dom_spec.specs.Groups as D
 use Rattle.tl_dom_spec.specs.Path as W
 use Rattle.tl_dom_spec.specs.Builder as B
 use Rattle.tl_dom_spec.specs.Body as Body
@@ -29,7 +28,7 @@ use Rattle.tl_dom_spec.proofs.PartNames.{facts, has_twin}
 use Rattle.tl_dom_spec.proofs.PartPaths.{IsStack, elements_are, eq_suc, frame_of, frames_of, name_of, nodes_of, path_of, pops_on, stays_on, tag_of}
 use Rattle.tl_dom_spec.proofs.PartBuilders.{Alike, Like, Sound, mode_is}
 use Rattle.tl_dom_spec.proofs.PartOps as O
-use Rattle.tl_dom_spec.proofs.PartSound.{character_sound, group_of}
+use Rattle.tl_dom_spec.proofs.PartSound.{character_sound}
 use Rattle.tl_dom_spec.proofs.PartBody.{character_in_body}
 use Rattle.tl_dom_spec.proofs.PartRoots.{MayHaveRoot, Rooted, root_around}
 use Rattle.tl_dom_spec.proofs.PartRoots as Roots
@@ -301,6 +300,12 @@ module _ {b : P.Builder} {c : B.Builder} (h : Alike b c) (x : ℕ) (m : is_betwe
 
 -- One token
 
+some_same : {b d : P.Builder} → Some b ≡ Some d → b ≡ d
+some_same e = cc
+
+became : {b after : P.Builder} {c : B.Builder} → Some b ≡ Some after → Waits b c → Waits after c
+became {c = c} e w = subst (λ y. Waits y c) (some_same e) w
+
 module _ (x n : ℕ) (after : P.Builder) where
   abbrev taken : B.Builder → B.Builder
   taken c = B.repeated (more 8 n) (M.dispatch (B.a_character x)) (B.Again c)
@@ -331,12 +336,6 @@ module _ (x n : ℕ) (after : P.Builder) where
     | inl y ↦ inr (subst (Waits after) (sym (begins h x m y n)) (became (sym (cond-true _ _ _ y) ∙ eq) (waits h x m y)))
     | inr z ↦ absurd (no_answer after (sym (cond-false _ _ _ z) ∙ eq))
   ]
-    where
-      became : {b : P.Builder} {c : B.Builder} → Some b ≡ Some after → Waits b c → Waits after c
-      became {b = b} {c = c} e w = subst (λ y. Waits y c) (inner e) w
-        where
-          inner : {b : P.Builder} → Some b ≡ Some after → b ≡ after
-          inner e = cc
 
   alike_character : (b : P.Builder) (c : B.Builder) → Alike b c → (m : P.Mode) → b.mode ≡ m → R.a_character (P.is_flow m) b x ≡ Some after → Goes after (taken c)
   alike_character b c h P.in_body m eq = flow_character b c h (ap P.is_flow m) (ap (λ k. M.mode_step (mode_is k) c (B.a_character x)) m) eq
@@ -357,12 +356,6 @@ module _ (x n : ℕ) (after : P.Builder) where
             (became (sym (cond-true _ _ _ y) ∙ other) (more_waits w x y)))
         | inr z ↦ absurd (no_answer after (sym (cond-false _ _ _ z) ∙ other))
       ]
-    where
-      became : {b : P.Builder} {c : B.Builder} → Some b ≡ Some after → Waits b c → Waits after c
-      became {b = b} {c = c} e w = subst (λ y. Waits y c) (inner e) w
-        where
-          inner : {b : P.Builder} → Some b ≡ Some after → b ≡ after
-          inner e = cc
 
 token_taken : (b : P.Builder) (c : B.Builder) → Goes b c → (token : HtmlToken) (n : ℕ) (after : P.Builder) → R.of_token b token ≡ Some after →
     Goes after (B.repeated (more 8 n) (M.dispatch (token_of token)) (B.Again c))
@@ -399,9 +392,6 @@ line_same DoctypeToken = refl
 enough_steps : (c : B.Builder) (step : B.Builder → B.Outcome) (o : B.Outcome) → B.repeated (M.bound c) step o ≡ B.repeated (more 8 (2 * length c.path)) step o
 enough_steps c step o = ap (λ n. B.repeated n step o) (sym (enough (2 * length c.path)))
 
-some_same : {b d : P.Builder} → Some b ≡ Some d → b ≡ d
-some_same e = cc
-
 token_goes : (b : P.Builder) (c : B.Builder) → Goes b c → (token : HtmlToken) (after : P.Builder) → R.step b token ≡ Some after → Goes after (M.token_done c (token_of token))
 token_goes b c h token after eq =
     let same : (c.skips && M.is_line_feed (token_of token)) ≡ (b.skips && R.is_line_feed token) = ap₂ (λ v w. v && w) (skips_is h) (line_same token) in
@@ -411,9 +401,6 @@ token_goes b c h token after eq =
       | inr z ↦ subst (Goes after) (sym (cond-false _ _ _ (same ∙ z) ∙ enough_steps c (M.dispatch (token_of token)) (B.Again (M.calm c))))
           (token_taken (R.calm b) (M.calm c) (calm h) token (2 * length c.path) after (sym (cond-false _ _ _ z) ∙ eq))
     ])
-
-no_run : (tokens : List HtmlToken) → R.run None tokens ≡ None
-no_run tokens = refl
 
 tokens_go : (tokens : List HtmlToken) (b : P.Builder) (c : B.Builder) → Goes b c → (after : P.Builder) → R.run (Some b) tokens ≡ Some after → Goes after (M.tokens_done c (map token_of tokens))
 tokens_go [] b c h after eq = subst (λ d. Goes d c) (some_same eq) h
