@@ -62,8 +62,8 @@ content_of token f false = html_content f.element.own token
 pub dispatched : {b : P.Builder} {c : B.Builder} → Like b c → (token : B.Token) → M.dispatch token c ≡ M.mode_step (mode_is b.mode) c token
 dispatched {b = b} {c = c} h token =
     cond-true _ _ _ (
-        ap₂ (λ x p. M.is_html_content (B.adjusted_tag x p) token) h.context h.path
-        ∙ content_of token b.stack.current (B.is_only (W.elements (path_of (frames_of b.stack)))))
+    ap₂ (λ x p. M.is_html_content (B.adjusted_tag x p) token) h.context h.path
+    ∙ content_of token b.stack.current (B.is_only (W.elements (path_of (frames_of b.stack)))))
     ∙ ap (λ m. M.mode_step m c token) h.mode
 
 pub again : {b : P.Builder} {c : B.Builder} → Alike b c → (token : B.Token) (n : ℕ) (after : P.Builder) →
@@ -158,7 +158,6 @@ module _ {b : P.Builder} {c : B.Builder} (h : Alike b c) where
   alone : (own : HtmlTag) → Alike (P.alone b own) (B.insert_and_pop (tag_of own) c)
   alone own = record { sound = alone_sound b own h.sound; like = O.alone h.like own }
 
-
 around_table : (around : G.Group) (outer : P.Mode) → G.is_table_group around ≡ true → P.mode_by around outer ≡ P.in_table
 around_table G.a_table outer h = refl
 around_table _ outer h = absurd (true≢false (sym h))
@@ -238,7 +237,7 @@ module _ {b : P.Builder} {c : B.Builder} (h : Alike b c) where
     named_closed : R.has_in_table_scope (bytes_eq name) b ≡ true → Alike (R.marked_closed (bytes_eq name) P.in_row b) (S.cell_closed (T.is_named name) c)
     named_closed opens =
         A.marked_closed h (bytes_eq name) (T.is_named name) (λ own. refl)
-        (never_html (bytes_eq name (codes "html")) refl ) P.in_row
+        (never_html (bytes_eq name (codes "html")) refl) P.in_row
         (λ n a o y. by_cell (G.group n) (G.group a) o (ap G.is_cell_group (named_group n y)))
         (λ n y. false_from_ne_true (bytes_eq name n) (λ z. true≢false (sym y ∙ ap G.is_implied_group (named_group n z))))
         opens
@@ -387,7 +386,7 @@ module _ (own : HtmlTag) (closes : Bool) (after : P.Builder) where
       (R.table_start (R.body_closed b) g own) (Some b) (B.Again (S.body_closed c)) (B.Done c)
       (in_table_scope h.like G.is_table_body (T.is_any (codes "tbody tfoot thead")) body_same)
       (λ y a. (let k = body_closed h m in again k (start g) (suc (suc n)) after
-        (subst (λ o. Reaches o (suc (suc n)) (starts g) after) (sym same) (table_start (R.body_closed b) (S.body_closed c) k refl g e n a))))
+      (subst (λ o. Reaches o (suc (suc n)) (starts g) after) (sym same) (table_start (R.body_closed b) (S.body_closed c) k refl g e n a))))
       (λ a. done a h) eq
 
   table_body_start : (b : P.Builder) (c : B.Builder) → Alike b c → b.mode ≡ P.in_table_body → (g : G.Group) → G.group own.name ≡ g → (n : ℕ) → R.table_body_start b g own ≡ Some after →
@@ -411,7 +410,7 @@ module _ (own : HtmlTag) (closes : Bool) (after : P.Builder) where
       (R.table_body_start (R.row_closed b) g own) (Some b) (B.Again (S.row_closed c)) (B.Done c)
       (in_table_scope h.like G.is_row S.is_row row_same)
       (λ y a. (let k = row_closed h m in again k (start g) (suc (suc (suc n))) after
-        (subst (λ o. Reaches o (suc (suc (suc n))) (starts g) after) (sym same) (table_body_start (R.row_closed b) (S.row_closed c) k refl g e n a))))
+      (subst (λ o. Reaches o (suc (suc (suc n))) (starts g) after) (sym same) (table_body_start (R.row_closed b) (S.row_closed c) k refl g e n a))))
       (λ a. done a h) eq
 
   row_start : (b : P.Builder) (c : B.Builder) → Alike b c → b.mode ≡ P.in_row → (g : G.Group) → G.group own.name ≡ g → (n : ℕ) → R.row_start b g own ≡ Some after →
@@ -435,7 +434,7 @@ module _ (own : HtmlTag) (closes : Bool) (after : P.Builder) where
       subst (λ o. Reaches o (suc (suc (suc (suc (suc n))))) (starts g) after)
       (sym (cond-true _ _ _ (in_table_scope h.like G.is_cell S.is_cell (cell_same h) ∙ opens)))
       (again k (start g) (suc (suc (suc (suc n)))) after
-        (subst (λ o. Reaches o (suc (suc (suc (suc n)))) (starts g) after) (sym same) (row_start (R.cell_closed b) (S.cell_closed S.is_cell c) k refl g e n eq)))
+      (subst (λ o. Reaches o (suc (suc (suc (suc n)))) (starts g) after) (sym same) (row_start (R.cell_closed b) (S.cell_closed S.is_cell c) k refl g e n eq)))
 
   -- and a caption
   caption_part : (b : P.Builder) (c : B.Builder) → Alike b c → b.mode ≡ P.in_caption → (g : G.Group) → G.group own.name ≡ g → (n : ℕ) → R.caption_part_start b g own ≡ Some after →
@@ -446,7 +445,7 @@ module _ (own : HtmlTag) (closes : Bool) (after : P.Builder) where
       (R.table_start (R.caption_closed b) g own) (Some b) (B.Again (S.caption_closed c)) (B.Done c)
       (in_table_scope h.like G.is_caption S.is_caption (caption_same h))
       (λ y a. (let k = caption_closed h y in again k (start g) (suc (suc n)) after
-        (subst (λ o. Reaches o (suc (suc n)) (starts g) after) (sym same) (table_start (R.caption_closed b) (S.caption_closed c) k refl g e n a))))
+      (subst (λ o. Reaches o (suc (suc n)) (starts g) after) (sym same) (table_start (R.caption_closed b) (S.caption_closed c) k refl g e n a))))
       (λ a. done a h) eq
 
   -- anything else ends a column group
@@ -459,7 +458,7 @@ module _ (own : HtmlTag) (closes : Bool) (after : P.Builder) where
       (R.table_start (R.column_group_closed b) g own) (Some b) (B.Again (S.column_group_closed c)) (B.Done c)
       (column_same h.like)
       (λ y a. (let k = column_group_closed h m in again k (start g) (suc (suc n)) after
-        (subst (λ o. Reaches o (suc (suc n)) (starts g) after) (sym same) (table_start (R.column_group_closed b) (S.column_group_closed c) k refl g e n a))))
+      (subst (λ o. Reaches o (suc (suc n)) (starts g) after) (sym same) (table_start (R.column_group_closed b) (S.column_group_closed c) k refl g e n a))))
       (λ a. done a h) eq
 
   column_start : (b : P.Builder) (c : B.Builder) → Alike b c → b.mode ≡ P.in_column_group → (g : G.Group) → G.group own.name ≡ g → has_twin g ≡ true → (n : ℕ) → R.column_start b g own ≡ Some after →
@@ -618,7 +617,7 @@ module _ (name : List ℕ) (after : P.Builder) where
       (R.table_end (R.column_group_closed b) g name) (Some b) (B.Again (S.column_group_closed c)) (B.Done c)
       (column_same h.like)
       (λ y a. (let k = column_group_closed h m in again k (finish g) n after
-        (subst (λ o. Reaches o n (ends g) after) (sym same) (table_end (R.column_group_closed b) (S.column_group_closed c) k g n a))))
+      (subst (λ o. Reaches o n (ends g) after) (sym same) (table_end (R.column_group_closed b) (S.column_group_closed c) k g n a))))
       (λ a. done a h) eq
 
   column_end : (b : P.Builder) (c : B.Builder) → Alike b c → b.mode ≡ P.in_column_group → (g : G.Group) → has_twin g ≡ true → (n : ℕ) → R.column_end b g name ≡ Some after →
@@ -654,7 +653,7 @@ module _ (name : List ℕ) (after : P.Builder) where
       (R.table_body_end (R.row_closed b) g name) (Some b) (B.Again (S.row_closed c)) (B.Done c)
       (in_table_scope h.like G.is_row S.is_row row_same)
       (λ y a. (let k = row_closed h m in again k (finish g) (suc n) after
-        (subst (λ o. Reaches o (suc n) (ends g) after) (sym same) (table_body_end (R.row_closed b) (S.row_closed c) k refl g n a))))
+      (subst (λ o. Reaches o (suc n) (ends g) after) (sym same) (table_body_end (R.row_closed b) (S.row_closed c) k refl g n a))))
       (λ a. done a h) eq
 
   row_end : (b : P.Builder) (c : B.Builder) → Alike b c → b.mode ≡ P.in_row → (g : G.Group) (n : ℕ) → R.row_end b g name ≡ Some after →
@@ -679,7 +678,7 @@ module _ (name : List ℕ) (after : P.Builder) where
       (R.row_end (R.cell_closed b) g name) (Some b) (B.Again (S.cell_closed S.is_cell c)) (B.Done c)
       (in_table_scope h.like (bytes_eq name) (T.is_named name) named_same)
       (λ y a. (let k = cell_closed h (cell_in_scope b h.sound m) in again k (finish g) (suc (suc n)) after
-        (subst (λ o. Reaches o (suc (suc n)) (ends g) after) (sym same) (row_end (R.cell_closed b) (S.cell_closed S.is_cell c) k refl g n a))))
+      (subst (λ o. Reaches o (suc (suc n)) (ends g) after) (sym same) (row_end (R.cell_closed b) (S.cell_closed S.is_cell c) k refl g n a))))
       (λ a. done a h) eq
 
   cell_end : (b : P.Builder) (c : B.Builder) → Alike b c → b.mode ≡ P.in_cell → (g : G.Group) → G.group name ≡ g → has_twin g ≡ true → (n : ℕ) → R.cell_end b g name ≡ Some after →
