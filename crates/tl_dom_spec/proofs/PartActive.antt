@@ -1,14 +1,13 @@
 -- The list of active formatting elements of the partial builder, and that of the whole one.
-use Rattle.std.proofs.Common.{◌≡◌, ℕ, suc, Bool, true, false, not, ◌||◌, ◌&&◌, ◌==◌, ◌⊎◌, ◌<◌, List, [], ◌∷◌, length, map, Option, Some, None, refl, ap, ap₂, sym, ◌∙◌, subst, inl, inr, true≢false, arith, if◌then◌else◌}
-use Rattle.std.specs.Prelude.{⊤, nat_lt, option_map}
+use Rattle.std.proofs.Common.{◌≡◌, ℕ, suc, Bool, false, ◌||◌, ◌&&◌, ◌==◌, ◌<◌, List, [], ◌∷◌, length, map, refl, ap, ap₂, sym, ◌∙◌, subst, inl, inr, arith, if◌then◌else◌}
+use Rattle.std.specs.Prelude.{nat_lt, option_map}
 use Rattle.std.specs.List.{list_all, list_any}
 use Rattle.std.specs.Str.{bytes_eq}
 use Rattle.std.proofs.lemmas.Bool.{cases_Bool, cond-false, cond-true, eqb-true, or_parts}
-use Rattle.std.proofs.lemmas.List.Folds.{list_all-map}
 use Rattle.tl_html_spec.specs.HtmlTokenizer.{HtmlAttribute}
 use Rattle.tl_tree_spec.specs.HtmlForest.{HtmlTag}
 use Rattle.tl_tree_spec.specs.Builder as P
-use Rattle.tl_dom_spec.specs.Tags.{Attribute, Tag, plain_attribute}
+use Rattle.tl_dom_spec.specs.Tags.{Attribute, plain_attribute}
 use Rattle.tl_dom_spec.specs.Builder as B
 use Rattle.tl_dom_spec.specs.Formatting as F
 use Rattle.tl_dom_spec.proofs.PartPaths.{eq_suc, tag_of}

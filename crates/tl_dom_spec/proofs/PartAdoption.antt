@@ -1,9 +1,8 @@
 -- The adoption agency algorithm, where it has no furthest block, side by side.
-use Rattle.std.proofs.Common.{◌≡◌, ◌⊎◌, ℕ, suc, Bool, true, false, not, ◌||◌, ◌&&◌, ◌==◌, List, [], ◌∷◌, map, Option, Some, None, codes, refl, ap, ap₂, sym, ◌∙◌, subst, inl, inr, true≢false, if◌then◌else◌}
-use Rattle.std.specs.Prelude.{⊤, option_map}
-use Rattle.std.specs.List.{list_any}
+use Rattle.std.proofs.Common.{◌≡◌, ℕ, suc, Bool, true, false, not, ◌&&◌, ◌==◌, List, [], ◌∷◌, map, Option, Some, None, codes, refl, ap, ap₂, sym, ◌∙◌, subst, inl, inr, true≢false}
+use Rattle.std.specs.Prelude.{option_map}
 use Rattle.std.specs.Str.{bytes_eq}
-use Rattle.std.proofs.lemmas.Bool.{and_parts, cases_Bool, cond-false, cond-true, eqb-true, or_parts}
+use Rattle.std.proofs.lemmas.Bool.{and_parts, cases_Bool, cond-false, cond-true, or_parts}
 use Rattle.tl_html_spec.specs.Balanced as H
 use Rattle.tl_tree_spec.specs.Builder as P
 use Rattle.tl_tree_spec.specs.HtmlTreeBuilder as R
@@ -15,13 +14,11 @@ use Rattle.tl_dom_spec.specs.Path as W
 use Rattle.tl_dom_spec.specs.Builder as B
 use Rattle.tl_dom_spec.specs.Formatting as F
 use Rattle.tl_dom_spec.specs.Adoption as A
-use Rattle.tl_dom_spec.specs.Body as D
-use Rattle.tl_dom_spec.proofs.PartNames.{has_twin}
-use Rattle.tl_dom_spec.proofs.PartPaths.{AreSame, IsStack, elements_are, eq_suc, frame_of, frames_of, has_number_within, is_open_number, name_of, path_of, same_all, tag_of, through_is}
-use Rattle.tl_dom_spec.proofs.PartActive.{is_listed_is, listed_as, listed_is, nothing_unlisted, unlisted_is, unlisted_listed}
-use Rattle.tl_dom_spec.proofs.PartBuilders.{Agrees, Alike, AreListed, AreNumbered, Like, Sound, Stand, entry_of, is_cell_or_caption, is_formatting_group}
+use Rattle.tl_dom_spec.proofs.PartPaths.{elements_are, eq_suc, frame_of, frames_of, has_number_within, is_open_number, name_of, same_all, tag_of, through_is}
+use Rattle.tl_dom_spec.proofs.PartActive.{is_listed_is, listed_as, listed_is, unlisted_is, unlisted_listed}
+use Rattle.tl_dom_spec.proofs.PartBuilders.{Agrees, Alike, AreListed, is_cell_or_caption, is_formatting_group}
 use Rattle.tl_dom_spec.proofs.PartOps.{with_active, with_path}
-use Rattle.tl_dom_spec.proofs.PartSound.{active_sound, agrees_unlisted, flow_top, formatting_plain, group_of, is_plain, numbers_by, popped_sound, through_sound}
+use Rattle.tl_dom_spec.proofs.PartSound.{active_sound, agrees_unlisted, flow_top, formatting_plain, group_of, numbers_by, popped_sound, through_sound}
 use Rattle.tl_dom_spec.proofs.PartClose.{close_in, scope_same}
 use Rattle.tl_dom_spec.proofs.PartTests.{closes_named, not_html, same_name, scope_covers, special_covers}
 use Rattle.tl_dom_spec.proofs.PartBody.{Goes, closed_mode, popped_current, special_same, stays}

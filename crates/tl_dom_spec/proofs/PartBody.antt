@@ -1,12 +1,9 @@
 -- The rules of "in body", side by side.
-use Rattle.std.proofs.Common.{◌≡◌, ◌⊎◌, ℕ, suc, Bool, true, false, not, ◌||◌, ◌&&◌, ◌==◌, List, [], ◌∷◌, map, Option, Some, None, codes, refl, ap, ap₂, sym, ◌∙◌, subst, inl, inr, true≢false, if◌then◌else◌}
-use Rattle.std.specs.Prelude.{⊤, option_map}
-use Rattle.std.specs.List.{list_any}
+use Rattle.std.proofs.Common.{◌≡◌, ℕ, Bool, true, false, not, ◌||◌, ◌&&◌, ◌==◌, List, [], ◌∷◌, map, Option, Some, None, codes, refl, ap, ap₂, sym, ◌∙◌, subst, inl, inr, true≢false, if◌then◌else◌}
 use Rattle.std.specs.Char.{is_ascii_whitespace}
 use Rattle.std.specs.Str.{bytes_eq}
 use Rattle.std.proofs.lemmas.Bool.{and_parts, cases_Bool, cond-false, cond-true, or_parts, or_right}
 use Rattle.std.proofs.lemmas.Slice.Eq.{bytes_eq-Decides}
-use Rattle.tl_names.specs.Elements.{is_among, special_names}
 use Rattle.tl_html_spec.specs.Balanced as H
 use Rattle.tl_tree_spec.specs.Builder as P
 use Rattle.tl_tree_spec.specs.HtmlTreeBuilder as R
@@ -17,16 +14,14 @@ use Rattle.tl_dom_spec.specs.Tags.{Tag, bare_tag}
 use Rattle.tl_dom_spec.specs.Path as W
 use Rattle.tl_dom_spec.specs.Builder as B
 use Rattle.tl_dom_spec.specs.Formatting as F
-use Rattle.tl_dom_spec.specs.Adoption as A
 use Rattle.tl_dom_spec.specs.Body as D
-use Rattle.tl_dom_spec.proofs.PartNames.{Facts, facts, has_twin, twin}
-use Rattle.tl_dom_spec.proofs.PartPaths.{AreSame, IsStack, elements_are, frame_of, frames_of, has_number_within, is_open_number, name_of, path_of, same_all, tag_of, through_is}
-use Rattle.tl_dom_spec.proofs.PartActive.{is_listed_is, listed_as, listed_is, marker_listed, unlisted_is, unlisted_listed}
-use Rattle.tl_dom_spec.proofs.PartBuilders.{Agrees, Alike, AreListed, AreNumbered, Like, Sound, Stand, entry_of, is_cell_or_caption, is_flow_group, is_formatting_group, mode_is}
-use Rattle.tl_dom_spec.proofs.PartOps.{alone, character, counting, formatted, frameset_not_ok, implied, in_mode, inserted, reading, reconstructed, skipping, with_active, with_path}
-use Rattle.tl_dom_spec.proofs.PartSound.{Popped, active_sound, agrees_marker, agrees_unlisted, alone_sound, character_sound, flow_top, formatted_sound, group_of, implied_sound, inserted_sound, is_plain, numbers_by, plain_popped, popped_sound, pushed_sound, reconstructed_sound, through_sound, under}
-use Rattle.tl_dom_spec.proofs.PartClose.{button_scope_same, close, close_in, list_scope_same, scope_same}
-use Rattle.tl_dom_spec.proofs.PartTests.{each_name, closes_block, closes_heading, closes_item, closes_named, closes_p, item_bound_covers, list_scope_covers, not_html, same_name, scope_covers, special_covers, turned}
+use Rattle.tl_dom_spec.proofs.PartNames.{facts}
+use Rattle.tl_dom_spec.proofs.PartPaths.{AreSame, IsStack, elements_are, frame_of, frames_of, name_of, path_of, same_all, tag_of}
+use Rattle.tl_dom_spec.proofs.PartBuilders.{Alike, AreNumbered, Like, Sound, Stand, is_cell_or_caption, is_formatting_group}
+use Rattle.tl_dom_spec.proofs.PartOps.{alone, character, formatted, frameset_not_ok, inserted, reconstructed, with_path}
+use Rattle.tl_dom_spec.proofs.PartSound.{Popped, alone_sound, character_sound, formatted_sound, group_of, inserted_sound, is_plain, plain_popped, popped_sound, reconstructed_sound, under}
+use Rattle.tl_dom_spec.proofs.PartClose.{button_scope_same, close, close_in}
+use Rattle.tl_dom_spec.proofs.PartTests.{each_name, closes_item, closes_named, closes_p, item_bound_covers, not_html, turned}
 
 -- both after a rule, with the mode of before
 pub record Goes (b r : P.Builder) (c : B.Builder) : Type 0 where

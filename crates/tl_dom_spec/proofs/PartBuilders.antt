@@ -1,15 +1,11 @@
 -- The partial builder of `tl_tree_spec` and the whole one, side by side: what they hold alike, and what is done to both.
-use Rattle.std.proofs.Common.{◌≡◌, ℕ, suc, Bool, true, false, not, ◌||◌, ◌&&◌, ◌==◌, ◌⊎◌, List, [], ◌∷◌, ◌++◌, map, Option, Some, None, codes, refl, ap, ap₂, sym, ◌∙◌, subst, inl, inr, true≢false, if◌then◌else◌}
+use Rattle.std.proofs.Common.{◌≡◌, ℕ, suc, Bool, true, false, ◌==◌, List, [], ◌∷◌, map, Some, codes}
 use Rattle.std.specs.Prelude.{⊤, ◌<◌}
 use Rattle.tl_tree_spec.specs.Builder as P
-use Rattle.tl_tree_spec.specs.HtmlTreeBuilder as R
-use Rattle.tl_tree_spec.specs.HtmlForest.{HtmlTag}
 use Rattle.tl_tree_spec.specs.Groups as G
-use Rattle.tl_dom_spec.specs.Tags.{Tag, bare_tag}
-use Rattle.tl_dom_spec.specs.Path as W
+use Rattle.tl_dom_spec.specs.Tags.{bare_tag}
 use Rattle.tl_dom_spec.specs.Builder as B
-use Rattle.tl_dom_spec.proofs.PartNames.{has_twin}
-use Rattle.tl_dom_spec.proofs.PartPaths.{IsStack, frame_of, frames_of, name_of, nodes_of, path_of, tag_of}
+use Rattle.tl_dom_spec.proofs.PartPaths.{IsStack, frames_of, name_of, path_of, tag_of}
 
 abbrev pub mode_is : P.Mode → B.Mode
 mode_is P.in_body = B.in_body

@@ -1,10 +1,6 @@
 -- Elements are closed side by side, by the rules of "in body".
-use Rattle.std.proofs.Common.{◌≡◌, ℕ, suc, Bool, true, false, not, ◌||◌, ◌&&◌, ◌==◌, ◌⊎◌, List, [], ◌∷◌, ◌++◌, map, Option, Some, None, codes, refl, ap, ap₂, sym, ◌∙◌, subst, inl, inr, true≢false, if◌then◌else◌}
-use Rattle.std.specs.Prelude.{⊤}
-use Rattle.std.specs.List.{list_any}
-use Rattle.std.specs.Str.{bytes_eq}
-use Rattle.std.proofs.lemmas.Bool.{and_parts, cases_Bool, cond-false, cond-true, or_parts}
-use Rattle.std.proofs.lemmas.Slice.Eq.{bytes_eq-Decides}
+use Rattle.std.proofs.Common.{◌≡◌, ℕ, Bool, true, false, not, ◌||◌, ◌&&◌, List, [], ◌∷◌, map, codes, refl, ap, ap₂, sym, ◌∙◌, subst, inl, inr, true≢false, if◌then◌else◌}
+use Rattle.std.proofs.lemmas.Bool.{cases_Bool, cond-false, cond-true}
 use Rattle.tl_names.specs.Elements.{is_among, list_scope_bounds}
 use Rattle.tl_html_spec.specs.Balanced as H
 use Rattle.tl_tree_spec.specs.Builder as P
@@ -15,12 +11,11 @@ use Rattle.tl_dom_spec.specs.Tags as T
 use Rattle.tl_dom_spec.specs.Tags.{Tag}
 use Rattle.tl_dom_spec.specs.Path as W
 use Rattle.tl_dom_spec.specs.Builder as B
-use Rattle.tl_dom_spec.specs.Body as D
-use Rattle.tl_dom_spec.proofs.PartNames.{Facts, facts, has_twin, is_elsewhere}
-use Rattle.tl_dom_spec.proofs.PartPaths.{AreSame, IsStack, frames_of, has_in, has_within, name_of, path_of, same_all, tag_of}
-use Rattle.tl_dom_spec.proofs.PartBuilders.{Agrees, Alike, Like, Sound, Stand, is_cell_or_caption, is_flow_group}
-use Rattle.tl_dom_spec.proofs.PartOps.{implied, popped_until, with_path}
-use Rattle.tl_dom_spec.proofs.PartSound.{Popped, flow_top, group_of, implied_sound, implied_within, is_plain, popped_sound, through_sound}
+use Rattle.tl_dom_spec.proofs.PartNames.{facts, has_twin, is_elsewhere}
+use Rattle.tl_dom_spec.proofs.PartPaths.{AreSame, IsStack, frames_of, has_within, name_of, same_all, tag_of}
+use Rattle.tl_dom_spec.proofs.PartBuilders.{Alike, Like, is_cell_or_caption}
+use Rattle.tl_dom_spec.proofs.PartOps.{implied, popped_until}
+use Rattle.tl_dom_spec.proofs.PartSound.{Popped, flow_top, group_of, implied_sound, implied_within, popped_sound, through_sound}
 
 -- what bounds a scope
 

@@ -1,13 +1,12 @@
 -- What the partial builder of `tl_tree_spec` and the whole one say of a name.
-use Rattle.std.proofs.Common.{◌≡◌, ℕ, Bool, true, false, not, ◌||◌, ◌&&◌, ◌==◌, ◌⊎◌, List, [], ◌∷◌, ◌++◌, get_or, map, codes, refl, ap, sym, ◌∙◌, subst, inl, inr, true≢false, if◌then◌else◌}
+use Rattle.std.proofs.Common.{◌≡◌, ℕ, Bool, true, false, not, ◌||◌, ◌&&◌, ◌==◌, ◌⊎◌, List, [], ◌∷◌, ◌++◌, get_or, codes, refl, ap, sym, ◌∙◌, subst, inl, inr, true≢false, if◌then◌else◌}
 use Rattle.std.specs.Prelude.{⊤}
 use mathlib.Core.Bool.{beq}
 use Rattle.std.specs.List.{list_all, list_any}
 use Rattle.std.specs.Str.{bytes_eq}
 use Rattle.std.proofs.lemmas.Bool.{and_parts, cases_Bool, cond-false, eqb-true, false_from_ne_true, or_from}
-use Rattle.std.proofs.lemmas.List.Folds.{list_any-append}
 use Rattle.std.proofs.lemmas.Slice.Eq.{bytes_eq-Decides}
-use Rattle.tl_names.specs.Elements.{headings, implied_ends, is_among, scope_bounds, special_names, table_sections}
+use Rattle.tl_names.specs.Elements.{headings, implied_ends, is_among, scope_bounds, table_sections}
 use Rattle.tl_html_spec.specs.Balanced.{is_one_of, is_scope, words}
 use Rattle.tl_tree_spec.specs.Groups as T
 use Rattle.tl_dom_spec.specs.Groups as D
@@ -342,10 +341,34 @@ module _ (n : List ℕ) (none : is_among known n ≡ false) where
       ∷ (bytes_eq (codes "noscript") n, D.a_noscript) ∷ (bytes_eq (codes "script") n, D.a_script) ∷ (bytes_eq (codes "template") n, D.a_template)
       ∷ (bytes_eq (codes "textarea") n, D.a_textarea) ∷ (bytes_eq (codes "xmp") n, D.an_example) ∷ (bytes_eq (codes "iframe") n, D.an_iframe)
       ∷ (bytes_eq (codes "noembed") n, D.a_noembed) ∷ (bytes_eq (codes "plaintext") n, D.a_plaintext) ∷ [])
-      D.any_other
-      (turned (codes "base") refl, (no (words (codes "basefont bgsound link meta")) refl, (turned (codes "title") refl, (turned (codes "noframes") refl,
-      (turned (codes "style") refl, (turned (codes "noscript") refl, (turned (codes "script") refl, (turned (codes "template") refl, (turned (codes "textarea") refl,
-      (turned (codes "xmp") refl, (turned (codes "iframe") refl, (turned (codes "noembed") refl, (turned (codes "plaintext") refl, tt)))))))))))))
+      D.any_other (
+        turned (codes "base") refl,
+        (
+          no (words (codes "basefont bgsound link meta")) refl,
+          (
+            turned (codes "title") refl,
+            (
+              turned (codes "noframes") refl,
+              (
+                turned (codes "style") refl,
+                (
+                  turned (codes "noscript") refl,
+                  (
+                    turned (codes "script") refl,
+                    (
+                      turned (codes "template") refl,
+                      (
+                        turned (codes "textarea") refl,
+                        (turned (codes "xmp") refl, (turned (codes "iframe") refl, (turned (codes "noembed") refl, (turned (codes "plaintext") refl, tt)))),
+                      ),
+                    ),
+                  ),
+                ),
+              ),
+            ),
+          ),
+        ),
+      )
 
   inner_other : D.inner_group n ≡ D.any_other
   inner_other = unnested (
@@ -354,11 +377,46 @@ module _ (n : List ℕ) (none : is_among known n ≡ false) where
       ∷ (bytes_eq (codes "input") n, D.an_input) ∷ (is_one_of (codes "param source track") n, D.a_detail) ∷ (bytes_eq (codes "select") n, D.a_select)
       ∷ (bytes_eq (codes "option") n, D.an_option) ∷ (bytes_eq (codes "optgroup") n, D.an_option_group) ∷ (is_one_of (codes "rb rtc") n, D.a_ruby_base)
       ∷ (is_one_of (codes "rp rt") n, D.a_ruby_text) ∷ (bytes_eq (codes "math") n, D.a_math) ∷ (bytes_eq (codes "svg") n, D.an_svg) ∷ [])
-      (D.head_group n)
-      (turned (codes "button") refl, (turned (codes "nobr") refl, (no (words (codes "applet marquee object")) refl, (turned (codes "br") refl,
-      (no (words (codes "area embed img keygen wbr")) refl, (turned (codes "image") refl, (turned (codes "input") refl, (no (words (codes "param source track")) refl,
-      (turned (codes "select") refl, (turned (codes "option") refl, (turned (codes "optgroup") refl, (no (words (codes "rb rtc")) refl, (no (words (codes "rp rt")) refl,
-      (turned (codes "math") refl, (turned (codes "svg") refl, tt)))))))))))))))
+      (D.head_group n) (
+        turned (codes "button") refl,
+        (
+          turned (codes "nobr") refl,
+          (
+            no (words (codes "applet marquee object")) refl,
+            (
+              turned (codes "br") refl,
+              (
+                no (words (codes "area embed img keygen wbr")) refl,
+                (
+                  turned (codes "image") refl,
+                  (
+                    turned (codes "input") refl,
+                    (
+                      no (words (codes "param source track")) refl,
+                      (
+                        turned (codes "select") refl,
+                        (
+                          turned (codes "option") refl,
+                          (
+                            turned (codes "optgroup") refl,
+                            (
+                              no (words (codes "rb rtc")) refl,
+                              (
+                                no (words (codes "rp rt")) refl,
+                                (turned (codes "math") refl, (turned (codes "svg") refl, tt)),
+                              ),
+                            ),
+                          ),
+                        ),
+                      ),
+                    ),
+                  ),
+                ),
+              ),
+            ),
+          ),
+        ),
+      )
       ∙ head_other
 
   whole_other : D.group n ≡ D.any_other
@@ -371,12 +429,67 @@ module _ (n : List ℕ) (none : is_among known n ≡ false) where
       ∷ (is_one_of (codes "pre listing") n, D.a_preformatted) ∷ (bytes_eq (codes "form") n, D.a_form) ∷ (bytes_eq (codes "li") n, D.an_item)
       ∷ (is_one_of (codes "dd dt") n, D.a_description) ∷ (bytes_eq (codes "hr") n, D.a_rule) ∷ (bytes_eq (codes "frameset") n, D.a_frameset)
       ∷ (bytes_eq (codes "frame") n, D.a_frame) ∷ [])
-      (D.inner_group n)
-      (turned (codes "html") refl, (turned (codes "head") refl, (turned (codes "body") refl, (turned (codes "p") refl, (turned (codes "a") refl,
-      (no (words D.format_names) refl, (turned (codes "table") refl, (turned (codes "caption") refl, (turned (codes "colgroup") refl, (turned (codes "col") refl,
-      (no table_sections refl, (turned (codes "tr") refl, (no (words (codes "td th")) refl, (no (words D.block_names) refl, (no headings refl,
-      (no (words (codes "pre listing")) refl, (turned (codes "form") refl, (turned (codes "li") refl, (no (words (codes "dd dt")) refl, (turned (codes "hr") refl,
-      (turned (codes "frameset") refl, (turned (codes "frame") refl, tt))))))))))))))))))))))
+      (D.inner_group n) (
+        turned (codes "html") refl,
+        (
+          turned (codes "head") refl,
+          (
+            turned (codes "body") refl,
+            (
+              turned (codes "p") refl,
+              (
+                turned (codes "a") refl,
+                (
+                  no (words D.format_names) refl,
+                  (
+                    turned (codes "table") refl,
+                    (
+                      turned (codes "caption") refl,
+                      (
+                        turned (codes "colgroup") refl,
+                        (
+                          turned (codes "col") refl,
+                          (
+                            no table_sections refl,
+                            (
+                              turned (codes "tr") refl,
+                              (
+                                no (words (codes "td th")) refl,
+                                (
+                                  no (words D.block_names) refl,
+                                  (
+                                    no headings refl,
+                                    (
+                                      no (words (codes "pre listing")) refl,
+                                      (
+                                        turned (codes "form") refl,
+                                        (
+                                          turned (codes "li") refl,
+                                          (
+                                            no (words (codes "dd dt")) refl,
+                                            (
+                                              turned (codes "hr") refl,
+                                              (turned (codes "frameset") refl, (turned (codes "frame") refl, tt)),
+                                            ),
+                                          ),
+                                        ),
+                                      ),
+                                    ),
+                                  ),
+                                ),
+                              ),
+                            ),
+                          ),
+                        ),
+                      ),
+                    ),
+                  ),
+                ),
+              ),
+            ),
+          ),
+        ),
+      )
       ∙ inner_other
 
   both : (x y : Bool) → x ≡ false → y ≡ false → x ≡ y

@@ -1,16 +1,13 @@
 -- What is done to both builders side by side leaves them alike.
-use Rattle.std.proofs.Common.{◌≡◌, ℕ, suc, Bool, true, false, not, ◌||◌, ◌&&◌, ◌==◌, ◌⊎◌, List, [], ◌∷◌, ◌++◌, map, Option, Some, None, codes, refl, ap, ap₂, sym, ◌∙◌, subst, inl, inr, true≢false, if◌then◌else◌}
-use Rattle.std.specs.Prelude.{⊤}
-use Rattle.std.proofs.lemmas.Bool.{cases_Bool, cond-false, cond-true}
+use Rattle.std.proofs.Common.{◌≡◌, ℕ, suc, Bool, true, false, List, [], ◌∷◌, map, refl, ap, ap₂, sym, ◌∙◌, subst, if◌then◌else◌}
 use Rattle.tl_html_spec.specs.HtmlTokenizer.{State}
 use Rattle.tl_tree_spec.specs.Builder as P
-use Rattle.tl_tree_spec.specs.HtmlTreeBuilder as R
 use Rattle.tl_tree_spec.specs.HtmlForest.{HtmlTag}
-use Rattle.tl_dom_spec.specs.Tags.{Tag, bare_tag}
+use Rattle.tl_dom_spec.specs.Tags.{Tag}
 use Rattle.tl_dom_spec.specs.Path as W
 use Rattle.tl_dom_spec.specs.Builder as B
 use Rattle.tl_dom_spec.specs.Formatting as F
-use Rattle.tl_dom_spec.proofs.PartPaths.{AreSame, IsStack, frame_of, frames_of, has_in, implied_is, is_open_number, name_of, nodes_of, path_of, tag_of, through_is}
+use Rattle.tl_dom_spec.proofs.PartPaths.{IsStack, frame_of, frames_of, has_in, implied_is, is_open_number, nodes_of, path_of, tag_of, through_is}
 use Rattle.tl_dom_spec.proofs.PartActive.{with_room_is}
 use Rattle.tl_dom_spec.proofs.PartBuilders.{Like, entry_of, mode_is}
 

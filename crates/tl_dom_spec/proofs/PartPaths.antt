@@ -1,8 +1,7 @@
 -- The stack of the partial builder of `tl_tree_spec` as a path of the whole one, and what is asked of it and popped from it.
-use Rattle.std.proofs.Common.{◌≡◌, ℕ, suc, Bool, true, false, not, ◌||◌, ◌&&◌, ◌==◌, ◌⊎◌, List, [], ◌∷◌, map, codes, refl, ap, ap₂, sym, ◌∙◌, subst, inl, inr, true≢false, if◌then◌else◌}
+use Rattle.std.proofs.Common.{◌≡◌, ℕ, suc, Bool, true, false, not, ◌||◌, ◌&&◌, ◌==◌, List, [], ◌∷◌, map, codes, refl, ap, ap₂, sym, ◌∙◌, inl, inr, true≢false}
 use Rattle.std.specs.Prelude.{⊤}
 use Rattle.std.specs.List.{list_any}
-use Rattle.std.specs.Str.{bytes_eq}
 use Rattle.std.proofs.lemmas.Bool.{and_left, cases_Bool, cond-false, cond-true, eq-eqb, eqb-true, false_from_ne_true}
 use Rattle.tl_names.specs.Elements.{implied_ends, is_among}
 use Rattle.tl_tree_spec.specs.HtmlForest.{HtmlTag}
@@ -12,7 +11,7 @@ use Rattle.tl_tree_spec.specs.HtmlTreeBuilder as R
 use Rattle.tl_dom_spec.specs.Tags as T
 use Rattle.tl_dom_spec.specs.Tags.{Tag, html_tag}
 use Rattle.tl_dom_spec.specs.Path as W
-use Rattle.tl_dom_spec.proofs.PartNames.{Facts, facts, has_twin}
+use Rattle.tl_dom_spec.proofs.PartNames.{facts, has_twin}
 
 -- nodes, frames and paths
 

@@ -1,9 +1,8 @@
 -- The rules of "in body" for tags, side by side.
-use Rattle.std.proofs.Common.{◌≡◌, ◌⊎◌, ℕ, suc, Bool, true, false, not, ◌||◌, ◌&&◌, ◌==◌, List, [], ◌∷◌, map, Option, Some, None, codes, refl, ap, ap₂, sym, ◌∙◌, subst, inl, inr, true≢false, if◌then◌else◌}
-use Rattle.std.specs.Prelude.{⊤, option_map}
-use Rattle.std.specs.List.{list_any}
+use Rattle.std.proofs.Common.{◌≡◌, ◌⊎◌, ℕ, suc, Bool, true, false, not, ◌||◌, ◌&&◌, List, [], ◌∷◌, map, Option, Some, None, codes, refl, ap, ap₂, sym, ◌∙◌, subst, inl, inr, true≢false, if◌then◌else◌}
+use Rattle.std.specs.Prelude.{option_map}
 use Rattle.std.specs.Str.{bytes_eq}
-use Rattle.std.proofs.lemmas.Bool.{and_parts, cases_Bool, cond-false, cond-true, false_from_ne_true, or_parts}
+use Rattle.std.proofs.lemmas.Bool.{cases_Bool, cond-false, cond-true, false_from_ne_true, or_parts}
 use Rattle.tl_html_spec.specs.Balanced as H
 use Rattle.tl_tree_spec.specs.Builder as P
 use Rattle.tl_tree_spec.specs.HtmlTreeBuilder as R
@@ -17,16 +16,16 @@ use Rattle.tl_dom_spec.specs.Builder as B
 use Rattle.tl_dom_spec.specs.Formatting as F
 use Rattle.tl_dom_spec.specs.Adoption as A
 use Rattle.tl_dom_spec.specs.Body as D
-use Rattle.tl_dom_spec.proofs.PartNames.{Facts, facts, has_twin, is_break_group, is_button_group, is_elsewhere, is_misplaced, is_option_group, twin}
-use Rattle.tl_dom_spec.proofs.PartPaths.{AreSame, IsStack, frame_of, frames_of, has_within, is_open_number, name_of, path_of, same_all, tag_of}
+use Rattle.tl_dom_spec.proofs.PartNames.{facts, has_twin, is_break_group, is_button_group, is_elsewhere, is_misplaced, is_option_group, twin}
+use Rattle.tl_dom_spec.proofs.PartPaths.{AreSame, IsStack, frames_of, has_within, is_open_number, name_of, path_of, same_all, tag_of}
 use Rattle.tl_dom_spec.proofs.PartActive.{listed_as, listed_is, marker_listed, nothing_unlisted, without_last_marker_is}
-use Rattle.tl_dom_spec.proofs.PartBuilders.{Alike, AreListed, AreNumbered, Like, Sound, entry_of, is_cell_or_caption, is_flow_group, is_formatting_group, mode_is, stands_in}
+use Rattle.tl_dom_spec.proofs.PartBuilders.{Alike, Like, Sound, entry_of, is_cell_or_caption, is_formatting_group, stands_in}
 use Rattle.tl_dom_spec.proofs.PartOps.{counting, frameset_not_ok, implied, in_mode, inserted, skipping, with_active, with_path}
 use Rattle.tl_dom_spec.proofs.PartSound.{active_sound, agrees_marker, flow_top, group_of, implied_sound, is_plain, numbers_by, popped_sound, pushed_sound}
 use Rattle.tl_dom_spec.proofs.PartClose.{button_scope_same, close, close_in, list_scope_same, scope_same}
 use Rattle.tl_dom_spec.proofs.PartTests.{closes_block, closes_heading, closes_item, closes_named, closes_p, each_name, list_scope_covers, not_html, same_name, scope_covers, turned}
 use Rattle.tl_dom_spec.proofs.PartBody.{Goes, after, closed_mode, description_closed, flows, heading_closed, item_closed, lets, names_are, p_closed, put, put_alone, put_formatting, rebuilt, special_same, stays}
-use Rattle.tl_dom_spec.proofs.PartAdoption.{Entry, adoption, any_other, found_entry}
+use Rattle.tl_dom_spec.proofs.PartAdoption.{adoption, any_other, found_entry}
 
 abbrev is_in_body : P.Mode → Bool
 is_in_body P.in_body = true
@@ -73,7 +72,7 @@ module _ {b : P.Builder} {c : B.Builder} (a : Alike b c) (k : P.is_flow b.mode �
       let e : B.has_in_scope (T.is_any (codes "ruby")) c ≡ P.within (H.is_one_of (codes "ruby")) H.is_scope (P.names b.stack) =
       ap (W.has_within (T.is_any (codes "ruby")) T.is_scope) (a.like).path
       ∙ has_within (H.is_one_of (codes "ruby")) H.is_scope (T.is_any (codes "ruby")) T.is_scope b.stack
-        (same_all (H.is_one_of (codes "ruby")) (T.is_any (codes "ruby")) (λ own. refl) (frames_of b.stack)) (scope_same b.stack.current b.stack.others (a.sound).stack) in
+      (same_all (H.is_one_of (codes "ruby")) (T.is_any (codes "ruby")) (λ own. refl) (frames_of b.stack)) (scope_same b.stack.current b.stack.others (a.sound).stack) in
       let h = a.sound in
       let s : P.Stack = P.implied_closed but b.stack.current b.stack.others in
       let closed : Goes b (P.with_stack b s) (B.generate_implied_end_tags_except_for excepted c) = record {
@@ -93,7 +92,7 @@ module _ {b : P.Builder} {c : B.Builder} (a : Alike b c) (k : P.is_flow b.mode �
   no_select =
       ap (W.has_within T.is_select T.is_scope) (a.like).path
       ∙ has_within (H.is_one_of (codes "select")) H.is_scope T.is_select T.is_scope b.stack
-        (same_all (H.is_one_of (codes "select")) T.is_select (λ own. refl) (frames_of b.stack)) (scope_same b.stack.current b.stack.others (a.sound).stack)
+      (same_all (H.is_one_of (codes "select")) T.is_select (λ own. refl) (frames_of b.stack)) (scope_same b.stack.current b.stack.others (a.sound).stack)
       ∙ ap (P.within (H.is_one_of (codes "select")) H.is_scope) (names_are b.stack)
       ∙ none b.stack.current b.stack.others (a.sound).stack
     where
@@ -216,7 +215,7 @@ module _ {b : P.Builder} {c : B.Builder} (a : Alike b c) (k : P.is_flow b.mode �
       let e : B.has_in_scope (T.is_named own.name) d ≡ P.within (bytes_eq own.name) H.is_scope (P.names p.stack) =
       ap (W.has_within (T.is_named own.name) T.is_scope) (a₁.like).path
       ∙ has_within (bytes_eq own.name) H.is_scope (T.is_named own.name) T.is_scope p.stack
-        (same_all (bytes_eq own.name) (T.is_named own.name) (λ own. refl) (frames_of p.stack)) (scope_same p.stack.current p.stack.others (a₁.sound).stack) in
+      (same_all (bytes_eq own.name) (T.is_named own.name) (λ own. refl) (frames_of p.stack)) (scope_same p.stack.current p.stack.others (a₁.sound).stack) in
       elim (cases_Bool (P.within (bytes_eq own.name) H.is_scope (P.names p.stack))) [
         | inl y ↦ (
             let w : option_map (λ (q : P.Builder). P.formatted (P.reconstructed q) own) (R.adoption p own.name) ≡ Some r = sym (cond-true _ _ _ y) ∙ h in
@@ -303,10 +302,11 @@ module _ {b : P.Builder} {c : B.Builder} (a : Alike b c) (k : P.is_flow b.mode �
       let sound : Sound (record (P.inserted q own) { mode = P.in_table }) =
       pushed_sound q own P.in_table (g₁.alike).sound (ap has_twin e) (ap (λ g. stands_in g (group_of q.stack.current)) e ∙ top) (sym (ap (λ g. P.mode_by g q.mode) e)) in
       let like : Like (record (P.inserted q own) { mode = P.in_table }) (record (B.frameset_not_ok (B.insert_element tag d)) { mode = B.in_table }) =
-      in_mode (frameset_not_ok (inserted (g₁.alike).like own)) P.in_table in
-      (record (B.frameset_not_ok (B.insert_element tag d)) { mode = B.in_table },
-      ap (λ v. B.Done (B.switch_to B.in_table (B.frameset_not_ok (B.insert_element tag (if v then c else D.close_p c))))) (a.like).quirks,
-      subst (λ (x : P.Builder). Alike x (record (B.frameset_not_ok (B.insert_element tag d)) { mode = B.in_table })) (some_is h) (record { sound = sound; like = like }))
+      in_mode (frameset_not_ok (inserted (g₁.alike).like own)) P.in_table in (
+        record (B.frameset_not_ok (B.insert_element tag d)) { mode = B.in_table },
+        ap (λ v. B.Done (B.switch_to B.in_table (B.frameset_not_ok (B.insert_element tag (if v then c else D.close_p c))))) (a.like).quirks,
+        subst (λ (x : P.Builder). Alike x (record (B.frameset_not_ok (B.insert_element tag d)) { mode = B.in_table })) (some_is h) (record { sound = sound; like = like }),
+      )
   start_of G.a_caption e t h = done h (stays a) _ refl
   start_of G.a_column_group e t h = done h (stays a) _ refl
   start_of G.a_column e t h = done h (stays a) _ refl
@@ -393,7 +393,7 @@ module _ {b : P.Builder} {c : B.Builder} (a : Alike b c) (k : P.is_flow b.mode �
       let test : B.has_in_button_scope T.is_paragraph c ≡ P.within G.is_paragraph H.is_button_scope (P.names b.stack) =
       ap (W.has_within T.is_paragraph T.is_button_scope) (a.like).path
       ∙ has_within G.is_paragraph H.is_button_scope T.is_paragraph T.is_button_scope b.stack
-        (same_all G.is_paragraph T.is_paragraph (λ own. (facts own.name).paragraph) (frames_of b.stack)) (button_scope_same b.stack (a.sound).stack) in
+      (same_all G.is_paragraph T.is_paragraph (λ own. (facts own.name).paragraph) (frames_of b.stack)) (button_scope_same b.stack (a.sound).stack) in
       elim (cases_Bool (P.within G.is_paragraph H.is_button_scope (P.names b.stack))) [
         | inl y ↦ subst (λ (q : P.Builder). Goes b q (D.p_ended c)) (sym (cond-true _ _ _ y))
             (subst (λ v. Goes b (P.with_stack b (P.closed_through G.is_paragraph G.is_paragraph b.stack)) (ended_in v)) (sym (test ∙ y))
@@ -458,7 +458,7 @@ module _ {b : P.Builder} {c : B.Builder} (a : Alike b c) (k : P.is_flow b.mode �
       let test : W.within (W.has_tag (T.is_named m)) (W.has_tag (T.is_special c.flags.counts_search)) (W.elements c.path) ≡ P.within (bytes_eq m) (R.is_special_in b) (P.names b.stack) =
       ap (λ (p : W.Path). W.within (W.has_tag (T.is_named m)) (W.has_tag (T.is_special c.flags.counts_search)) (W.elements p)) (a.like).path
       ∙ has_within (bytes_eq m) (R.is_special_in b) (T.is_named m) (T.is_special c.flags.counts_search) b.stack
-        (same_all (bytes_eq m) (T.is_named m) (λ own. refl) (frames_of b.stack)) (same_all (R.is_special_in b) (T.is_special c.flags.counts_search) (special_same a.like) (frames_of b.stack)) in
+      (same_all (bytes_eq m) (T.is_named m) (λ own. refl) (frames_of b.stack)) (same_all (R.is_special_in b) (T.is_special c.flags.counts_search) (special_same a.like) (frames_of b.stack)) in
       subst (λ (q : P.Builder). Goes b q (A.any_other_end_tag m c)) (sym (cond-false _ _ _ off)) (subst (Goes b b) (sym (cond-false _ _ _ (test ∙ off))) (stays a))
 
   -- what is ended as any other element is

@@ -1,16 +1,13 @@
 -- What holds of the partial builder stays so, by the rules of "in body".
-use Rattle.std.proofs.Common.{◌≡◌, ◌<◌, ℕ, suc, Bool, true, false, not, ◌||◌, ◌&&◌, ◌==◌, ◌⊎◌, List, [], ◌∷◌, ◌++◌, map, Option, Some, None, codes, refl, ap, ap₂, sym, ◌∙◌, subst, inl, inr, true≢false, arith, if◌then◌else◌}
-use Rattle.std.specs.Prelude.{⊤, nat_lt}
-use Rattle.std.specs.List.{list_any}
-use Rattle.std.specs.Str.{bytes_eq}
-use Rattle.std.proofs.lemmas.Bool.{and_parts, cases_Bool, cond-false, cond-true, eqb-true, false_from_ne_true, or_parts}
+use Rattle.std.proofs.Common.{◌≡◌, ◌<◌, ℕ, suc, Bool, true, false, not, ◌||◌, ◌&&◌, ◌==◌, List, [], ◌∷◌, map, codes, refl, ap, sym, ◌∙◌, subst, inl, inr, true≢false, arith}
+use Rattle.std.specs.Prelude.{nat_lt}
+use Rattle.std.proofs.lemmas.Bool.{and_parts, cases_Bool, cond-false, cond-true, eqb-true, false_from_ne_true}
 use Rattle.tl_tree_spec.specs.Builder as P
-use Rattle.tl_tree_spec.specs.HtmlTreeBuilder as R
 use Rattle.tl_tree_spec.specs.HtmlForest.{HtmlTag}
 use Rattle.tl_tree_spec.specs.Groups as G
 use Rattle.tl_dom_spec.proofs.PartNames.{has_twin}
 use Rattle.tl_dom_spec.proofs.PartPaths.{IsStack, frames_of, has_in, name_of}
-use Rattle.tl_dom_spec.proofs.PartActive.{marker_listed, more_listed, not_listed, room_listed, unlisted_listed}
+use Rattle.tl_dom_spec.proofs.PartActive.{more_listed, not_listed, room_listed}
 use Rattle.tl_dom_spec.proofs.PartBuilders.{Agrees, AreListed, AreNumbered, Sound, Stand, is_cell_or_caption, is_flow_group, is_formatting_group, stands_in}
 
 -- groups
@@ -302,7 +299,7 @@ module _ (next : ℕ) (es : List P.Entry) where
           let u = under f o os p k l n in (
             ap (λ v. v || has_in test o os) y,
             subst (Popped (names_in f (o ∷ os)) next es) (sym (cond-true _ _ _ y))
-            (plain_popped f o os (record { current = P.closed_into o f; others = os }) p (record { stack = u.0; stand = u.1; numbers = u.2; mode = refl; top = u.3 })),
+                (plain_popped f o os (record { current = P.closed_into o f; others = os }) p (record { stack = u.0; stand = u.1; numbers = u.2; mode = refl; top = u.3 })),
           ))
       | inr m ↦ (
           let deeper : (not (bounds (name_of f)) && P.within test (P.has_name bounds) (map element_of (o ∷ os))) ≡ true =

@@ -1,19 +1,18 @@
 -- The tests by which elements are closed, side by side.
-use Rattle.std.proofs.Common.{◌≡◌, ◌⊎◌, ℕ, Bool, true, false, not, ◌||◌, ◌&&◌, List, [], ◌∷◌, codes, refl, ap, ap₂, sym, ◌∙◌, subst, inl, inr, true≢false}
+use Rattle.std.proofs.Common.{◌≡◌, ◌⊎◌, ℕ, Bool, true, false, not, ◌||◌, ◌&&◌, List, [], ◌∷◌, codes, refl, ap, sym, ◌∙◌, subst, inl, inr, true≢false}
 use Rattle.std.specs.Prelude.{⊤}
 use Rattle.std.specs.List.{list_any}
 use Rattle.std.specs.Str.{bytes_eq}
-use Rattle.std.proofs.lemmas.Bool.{and_right, cases_Bool, false_from_ne_true, or_right}
+use Rattle.std.proofs.lemmas.Bool.{and_right, cases_Bool, false_from_ne_true}
 use Rattle.std.proofs.lemmas.Slice.Eq.{bytes_eq-Decides}
-use Rattle.tl_names.specs.Elements.{headings, is_among}
-use Rattle.tl_html_spec.specs.Balanced.{is_button_scope, is_item_bound, is_list_scope, is_one_of, is_scope, is_special, words}
+use Rattle.tl_html_spec.specs.Balanced.{is_button_scope, is_list_scope, is_scope, words}
 use Rattle.tl_tree_spec.specs.Builder as P
 use Rattle.tl_tree_spec.specs.HtmlTreeBuilder as R
 use Rattle.tl_tree_spec.specs.Groups as G
 use Rattle.tl_tree_spec.specs.HtmlForest.{HtmlTag}
 use Rattle.tl_dom_spec.specs.Tags as T
 use Rattle.tl_dom_spec.specs.Tags.{Tag}
-use Rattle.tl_dom_spec.proofs.PartNames.{Facts, facts, is_button_group}
+use Rattle.tl_dom_spec.proofs.PartNames.{facts}
 use Rattle.tl_dom_spec.proofs.PartPaths.{tag_of}
 use Rattle.tl_dom_spec.proofs.PartBuilders.{is_cell_or_caption}
 use Rattle.tl_dom_spec.proofs.PartClose.{Closes}
