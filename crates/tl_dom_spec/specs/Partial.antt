@@ -1,5 +1,4 @@
 -- Trees of the partial tree builder of `tl_tree_spec` as those of the whole one.
-use Rattle.std.specs.Prelude.{List, ◌∷◌}
 use Rattle.tl_spec.specs.Tree.Forest.{comment, none, tag, text}
 use Rattle.tl_tree_spec.specs.HtmlForest as P
 use Rattle.tl_dom_spec.specs.Tags.{html_tag}
