@@ -16,4 +16,5 @@ pub mod Driver
 pub mod HtmlForest
 pub mod HtmlTree
 pub mod Lawful
+pub mod Partial
 pub mod Examples

@@ -1,14 +1,17 @@
 //! Laws of the trees of any page, any fragment and any tokens.
 
-ghost use Rattle.std.specs.Prelude.{◌≡◌, ◌↔◌, List, codes, map, true, ℕ};
+ghost use Rattle.std.specs.Prelude.{◌≡◌, ◌↔◌, Bool, List, Some, codes, map, true, ℕ};
 ghost use Rattle.tl_html_spec.specs.HtmlTokenizer.{HtmlToken, html_tokens};
 ghost use Rattle.tl_html_spec.specs.Sound.{AreSound};
+ghost use Rattle.tl_tree_spec.specs.HtmlForest.{HtmlForest};
+ghost use Rattle.tl_tree_spec.specs.HtmlTreeBuilder.{html_trees_where};
 ghost use Rattle.tl_dom_spec.specs.Builder.{Flags, Token};
 ghost use Rattle.tl_dom_spec.specs.Driver.{token_of};
 ghost use Rattle.tl_dom_spec.specs.HtmlForest.{has_contents};
-ghost use Rattle.tl_dom_spec.specs.HtmlTree.{Context, fragment_of_tokens, html_fragment_by, html_tree_by, tree_of_tokens};
+ghost use Rattle.tl_dom_spec.specs.HtmlTree.{Context, context_of, fragment_of_tokens, html_fragment_by, html_tree_by, standard, tree_of_tokens};
 ghost use Rattle.tl_dom_spec.specs.Lawful.{AreNamed, AreTexts, AreVoidEmpty, ComeFrom, HaveNames, IsPage, fragment_built, page_built, tokens_of_fragment, tokens_of_page};
-ghost use Rattle.tl_dom_spec.specs.Tags.{Tag, html_space};
+ghost use Rattle.tl_dom_spec.specs.Partial.{whole};
+ghost use Rattle.tl_dom_spec.specs.Tags.{Tag, bare_tag, html_space};
 
 /// A page is built of its tokens, and a fragment too: what holds of what any tokens build holds of
 /// any page.
@@ -91,4 +94,14 @@ pub fn templates_alone_have_contents()
 #[tactic(auto, using(crate::proofs::PageLaw::page_page))]
 pub fn pages_begin_with_html_and_head()
     ensures { (flags : Flags) (page : List ℕ) → IsPage (html_tree_by flags page).trees }
+{}
+
+/// Where the partial builder of `tl_tree_spec` has an outcome, the whole definition has the same
+/// trees, in the context of a `div`, whether `search` is a special element or not.
+#[tactic(auto, using(crate::proofs::PartTrees::partial_is_whole))]
+pub fn partial_trees_are_whole()
+    ensures { (counts_search : Bool) (tokens : List HtmlToken) (forest : HtmlForest) →
+        html_trees_where counts_search tokens ≡ Some forest →
+        fragment_of_tokens (record standard { counts_search = counts_search })
+        (context_of (bare_tag (codes "div"))) tokens ≡ whole forest }
 {}
