@@ -10,6 +10,7 @@ ghost use Rattle.tl_c.specs.Queries.{numbers_in, value_in};
 use crate::parsed_page::ParsedPage;
 use crate::text::text_of;
 use std::alloc::{AllocError, Global};
+use tl::laws::queries_find;
 use tl::queryselector::QuerySelectorIterator;
 use tl::{Element, NodeHandle};
 use tl_page::Failure;
@@ -43,6 +44,7 @@ pub(crate) fn find(
     ensures no_text { IsSome (option_map (λ own. own.value) held.now) → ¬ (IsUtf8 selector.now)
         → result ≡ Err NotUnderstood }
 {
+    queries_find();
     let Some(own) = held else {
         return Err(Failure::Refused);
     };

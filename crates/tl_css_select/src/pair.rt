@@ -12,6 +12,7 @@ use crate::spelling::{Spelling, said_name, said_value};
 use crate::value::passes_value;
 use std::alloc::{AllocError, Global};
 use tl_attributes::attributes::Attributes;
+use tl::laws::attributes_in_order;
 use tl_bytes::byte_string::Bytes;
 use tl_css::selector::Test;
 
@@ -60,6 +61,7 @@ pub fn has_pair(
     ensures { IfOk result (λ has. (has ≡ true) ↔ HasPair (test_of test.now)
         (map (pair_as spelling) (printed_pairs (plain attributes.now)))) }
 {
+    attributes_in_order();
     for pair in attributes.iter() {
         let key = pair.0.as_bytes();
         let met = is_pair_met(alloc, spelling, test, key, value_bytes(pair.1))?;

@@ -10,14 +10,13 @@ use Rattle.tl_spec.proofs.Edit.Shape.{apply_changes-refused}
 use Rattle.tl.specs.View.{HTMLTag, HTMLNode, document_of, HTMLTable}
 use Rattle.tl.specs.Inner.TableLends.{with_node}
 use Rattle.tl.specs.declared.parser.tag.node.NodeOf.TheVariants.{Tag}
-use Rattle.tl.proofs.Nodes.{set_same}
 use Rattle.tl_program.specs.Steps.{change_of}
 use Rattle.tl_program.specs.declared.script.step.Step.{Step}
 use Rattle.tl_program.specs.declared.script.step.StepError.{StepError}
 use Rattle.tl_program.specs.declared.script.step.StepError.TheVariants.{NoNode, NotTag, NoPlace, OutOfMemory}
 use Rattle.tl_program.specs.TableEdit.{of_tag, of_node, at_node, edited_table, table_after, takes_memory}
 use Rattle.tl_program.specs.Script.{IsRefused, Changes, StopsAt}
-use Rattle.tl_program.proofs.Tables.{image-edited_table, image-table_after, table_after-more}
+use Rattle.tl_program.proofs.Tables.{image-edited_table, image-table_after, set_same, table_after-more}
 
 -- an edit within another is refused alike
 IsRefused-on_ok : {A B : Type 0} (takes : Bool) (f : A → B) (r : Result A Refusal) (e : StepError) → IsRefused takes r e → IsRefused takes (map_ok f r) e

@@ -2,8 +2,8 @@
 use Rattle.std.proofs.Common.{◌≡◌, ℕ, zero, suc, Bool, true, false, nat_lt, if◌then◌else◌, List, [], ◌∷◌, length, map, take, slice_set, Option, Some, None, option_map, Result, Ok, Err, refl, sym, ap, ◌∙◌}
 use Rattle.std.specs.List.{slice_get}
 use Rattle.std.specs.Str.{bytes_eq}
-use Rattle.std.proofs.lemmas.Option.{slice_get-map}
-use Rattle.std.proofs.lemmas.List.{map-set}
+use Rattle.std.proofs.lemmas.Option.{get_or_from_slice_get, slice_get-map}
+use Rattle.std.proofs.lemmas.List.{map-set, set-get_or}
 use Rattle.tl_bytes.specs.Held.{Kept, as_owned}
 use Rattle.tl_spec.specs.Tree.Document.{Handles, TagNode, Node, Document}
 use Rattle.tl_spec.specs.Tree.Document as shown_node
@@ -17,6 +17,10 @@ use Rattle.tl.specs.Inner.TableLends.{with_node}
 use Rattle.tl.specs.View.{HTMLTag, HTMLNode, tag_view, node_view, document_of, HTMLTable}
 use Rattle.tl.specs.declared.parser.tag.node.NodeOf.TheVariants.{Tag, Raw, Comment}
 use Rattle.tl_program.specs.TableEdit.{with_attribute, without_attribute, without_value, of_tag, of_node, at_node, at_tag, edited_table, next, table_after}
+
+-- an item that is written as it is
+pub set_same : {X : Type 0} (xs : List X) (i : ℕ) (x : X) → Some x ≡ slice_get xs i → slice_set xs i x ≡ xs
+set_same xs i x is = ap (slice_set xs i) (sym (get_or_from_slice_get xs i x x (sym is))) ∙ set-get_or xs i x
 
 -- what is refused makes nothing
 pub apart : {A : Type 0} {x : A} (refusal : Refusal) → Err refusal ≡ Ok x → ⊥

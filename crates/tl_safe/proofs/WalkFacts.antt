@@ -1,5 +1,6 @@
 -- What frames owe.
-use Rattle.std.proofs.Common.{◌≡◌, ℕ, ◌+◌, ◌*◌, ◌<◌, Bool, true, false, nat_lt, List, [], ◌∷◌, ◌++◌, drop, length, slice_get, Option, Some, None, map, refl, ap, ap₂, sym, ◌∙◌, subst, append_assoc, append-nil, arith, string_bytes, if◌then◌else◌}
+use Rattle.std.proofs.Common.{◌≡◌, ℕ, ◌+◌, ◌*◌, ◌<◌, Bool, true, false, nat_lt, List, [], ◌∷◌, ◌++◌, drop, length, slice_get, Option, Some, None, option_map, map, refl, ap, ap₂, sym, ◌∙◌, subst, append_assoc, append-nil, arith, string_bytes, if◌then◌else◌}
+use Rattle.std.proofs.lemmas.Option.{slice_get-map}
 use Rattle.tl_spec.specs.Tree.Document.{Node, Tag, TagNode}
 use Rattle.tl_spec.specs.Tree.Element.{children_of}
 use Rattle.tl_spec.specs.Tree.Order.{ChildrenFollowParents}
@@ -11,7 +12,7 @@ use Rattle.tl_spec.specs.Print.{print}
 use Rattle.tl_spec.specs.Walk.{all_tags, trees, walk}
 use Rattle.tl_spec.proofs.Print.Fresh.{fresh_has_own_keys}
 use Rattle.tl_spec.proofs.Tree.Order.{document-whole}
-use Rattle.tl.specs.View.{HTMLTable, document_of, node_view}
+use Rattle.tl.specs.View.{HTMLNode, HTMLTable, document_of, node_view}
 use Rattle.tl_safe.specs.Filter.{kept, trees_of}
 use Rattle.tl_safe.specs.Fitted.{Piece, Place, Run, at_top, end_tags_to, fit, print_pieces, sequence}
 use Rattle.tl_safe.specs.KeptFitted.{adds_of}
@@ -27,6 +28,10 @@ use Rattle.tl_safe.proofs.KeptFitted.{pieces}
 use Rattle.tl_safe.proofs.PiecesPrint.{print-append}
 use Rattle.tl_safe.proofs.RowRuns.{row-run-cons, row-run-nil, sequence-assoc, sequence-at, written-more}
 use Rattle.tl_safe.proofs.WriterFacts.{words-by, writes-written, written-writes}
+
+-- a handle's node, as the definitions see it
+pub shown_at : (nodes : List HTMLNode) (h : ℕ) (node : HTMLNode) → Some node ≡ slice_get nodes h → slice_get (map node_view nodes) h ≡ Some (node_view node)
+shown_at nodes h node is = slice_get-map node_view nodes h ∙ ap (option_map node_view) (sym is)
 
 module _ (p : ListedWords) (nodes : List Node) where
   owed_from-push : (later : Place → Run) (fs : List Frame) (f : Frame) (place : Place) → owed_from p nodes later (fs ++ f ∷ []) place ≡ sequence (frame_run p nodes f place) (owed_from p nodes later fs)

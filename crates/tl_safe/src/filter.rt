@@ -14,6 +14,7 @@ use crate::names::{
     is_relative, is_whole_value,
 };
 use crate::policy::Policy;
+use tl::laws::attributes_in_order;
 use tl::{Attributes, Bytes, HTMLTag};
 
 // Whether a value is a link that may stand.
@@ -75,6 +76,7 @@ fn has_kept_target(policy: &Policy<'_>, attributes: &Attributes<'_>) -> bool
     ensures { result ≡ list_any (is_kept_at (lists_of policy.now) (codes "href"))
         (printed_pairs (plain attributes.now)) }
 {
+    attributes_in_order();
     for pair in attributes.iter() {
         let key = pair.0.as_bytes();
         if key == b"href".as_slice() && is_allowed(policy, key, pair.1) {

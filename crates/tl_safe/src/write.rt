@@ -18,6 +18,7 @@ use crate::names::{ByteClass, all_have_class, has_class, is_whole_text, is_writt
 use crate::policy::Policy;
 use bstr::ByteSlice;
 use std::alloc::{AllocError, Global};
+use tl::laws::attributes_in_order;
 use tl::{Attributes, Bytes, HTMLTag};
 
 // Writes bytes as text.
@@ -155,6 +156,7 @@ fn write_pairs(
     ensures { OnOk result (Adds out.old out.new
         (kept_pairs policy.now marked (printed_pairs (plain attributes.now)))) }
 {
+    attributes_in_order();
     for pair in attributes.iter() {
         write_kept_pair(alloc, policy, marked, pair.0.as_bytes(), pair.1, out)?;
     }

@@ -11,17 +11,20 @@ use Rattle.tl_spec.specs.Walk.{all_tags, trees, walk}
 use Rattle.tl_spec.proofs.Tree.Order.{document-whole}
 use Rattle.tl.specs.View.{HTMLNode, HTMLTable, document_of, node_view}
 use Rattle.tl.specs.Inner.TableLends.{with_nodes}
-use Rattle.tl.proofs.Written.{written-document}
 use Rattle.uses.specs.Fields.{Fields, document_with, node_with, trees_with}
 use Rattle.uses.proofs.Trees.{clean-document, trees-of-document}
 
+-- what is written through lent nodes is the document's (tl's law)
+abbrev pub WritesDocument : Type 0
+WritesDocument = (d : HTMLTable) (nodes : List HTMLNode) → length nodes ≡ length d.nodes → document_of (with_nodes d nodes) ≡ record (document_of d) { nodes = map node_view nodes }
+
 -- a document whose nodes were written, each with fields
-pub written_with : (fields : Fields) (d : HTMLTable) (nodes : List HTMLNode) → map node_view nodes ≡ map (node_with fields) (map node_view d.nodes) →
+pub written_with : WritesDocument → (fields : Fields) (d : HTMLTable) (nodes : List HTMLNode) → map node_view nodes ≡ map (node_with fields) (map node_view d.nodes) →
     document_of (with_nodes d nodes) ≡ document_with fields (document_of d)
-written_with fields d nodes e =
+written_with whole fields d nodes e =
     let long : length nodes ≡ length d.nodes =
     sym (length-map nodes node_view) ∙ ap length e ∙ length-map (map node_view d.nodes) (node_with fields) ∙ length-map d.nodes node_view in
-    written-document d nodes long ∙ ap (λ ns. record (document_of d) { nodes = ns }) e
+    whole d nodes long ∙ ap (λ ns. record (document_of d) { nodes = ns }) e
 
 -- the document of a text, and that with fields
 module _ (fields : Fields) (t : List ℕ) (read filled : Document) (first : read ≡ document t) (then_ : filled ≡ document_with fields read) where

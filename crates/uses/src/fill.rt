@@ -21,6 +21,7 @@ ghost use Rattle.uses.specs.Filling.{pair_with, insert_pair};
 use crate::field::{Field, text_with};
 use anyhow::Result as AnyResult;
 use std::alloc::{AllocError, Global};
+use tl::laws::written_nodes;
 use tl::{Attributes, Bytes, Node, ParserOptions, VDom, parse};
 use tl_bytes::byte_string::copied;
 
@@ -139,6 +140,7 @@ fn fill_document<'a>(
     ensures { let all = fields_of fields.now in
         OnOk result (document_of document.new ≡ document_with all (document_of document.old)) }
 {
+    written_nodes();
     fill_nodes(alloc, fields, document.nodes_mut())
 }
 

@@ -10,6 +10,7 @@ ghost use Rattle.tl_program.specs.Output.{number_line, number_lines, outcome_of_
 
 use super::failure::Failure;
 use std::alloc::{AllocError, Global};
+use tl::laws::queries_find;
 use tl::queryselector::QuerySelectorIterator;
 use tl::{Bytes, NodeHandle, VDom};
 
@@ -77,6 +78,7 @@ pub fn selector_lines(alloc: Global, document: &VDom<'_>, selector: &str) -> Res
     ensures { let made = outcome_of_query (selector_at selector.now) (document_of document.now) in
         Gives string_bytes made result }
 {
+    queries_find();
     let found = document.query_selector(alloc, selector)?;
     lines_or_refusal(alloc, found)
 }

@@ -5,7 +5,6 @@ use Rattle.std.proofs.lemmas.Grind.{common_steps}
 use Rattle.tl_spec.specs.Lex.Attribute.{Pair}
 use Rattle.tl_spec.specs.Lex.AttributeList.{printed_pairs}
 use Rattle.tl_attributes.specs.AttributesView.{bytes_view, plain, pair_view}
-use Rattle.tl.proofs.Printing.{pairs-listed}
 use Rattle.tl_css.specs.View.{test}
 use Rattle.tl_css.specs.Selector.{Test}
 use Rattle.tl_css_select.specs.Pair.{HasPair, IsPairMet}
@@ -31,7 +30,7 @@ loop-pair-init c =
     let s = c.args.spelling in
     let all = map (pair_as s) (printed_pairs (plain c.args.attributes.now)) in
     subst (λ (ps : List Pair). HasPair t (map (pair_as s) ps) ↔ HasPair t all)
-    (sym (pairs-listed c.args.attributes.now) ∙ ap (map pair_view) (sym c.iter-pair-items.ensures.value) ∙ ap (map pair_view) (sym c.into_iter-pair-iterator.ensures.into_iter_gives))
+    (sym (c.attributes_in_order.ensures c.args.attributes.now) ∙ ap (map pair_view) (sym c.iter-pair-items.ensures.value) ∙ ap (map pair_view) (sym c.into_iter-pair-iterator.ensures.into_iter_gives))
     (λ h. h, λ h. h)
 
 pub loop-pair-preserved : goal.loop-pair-preserved

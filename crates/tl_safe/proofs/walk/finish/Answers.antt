@@ -1,7 +1,7 @@
 use Rattle.std.proofs.Common.{◌≡◌, ◌+◌, ◌<◌, List, map, refl, ap, sym, subst, ◌∙◌, arith}
+use Rattle.std.proofs.lemmas.List.{nil_from_length}
 use Rattle.tl_spec.specs.Tree.Document.{Node}
 use Rattle.tl.specs.View.{node_view}
-use Rattle.tl.proofs.Frames.{empty_of_length}
 use Rattle.tl_safe.specs.Inner.Remaining.{frame_steps, owed, steps}
 use Rattle.tl_safe.specs.Inner.Writers.{place_of, words_by}
 use Rattle.tl_safe.specs.declared.writer.Writer.{Writer}
@@ -38,5 +38,5 @@ pub returns-clause-writes : goal.returns-clause-writes
 returns-clause-writes c =
     let w : Writer = c.args.writer.now in
     let ns : List Node = map node_view c.args.nodes.now in
-    let none = empty_of_length c.loop-frame.frames.items (omega (arith, c.in_default.ensures.cases.0, c.loop-frame.frames.ok.0)) in
+    let none = nil_from_length c.loop-frame.frames.items (omega (arith, c.in_default.ensures.cases.0, c.loop-frame.frames.ok.0)) in
     finish-done w c.loop-frame.writer ns c.loop-frame.frames.items (owed (words_by w) ns c.args.frames.now.items (place_of w)) none c.loop-frame.invariant.same

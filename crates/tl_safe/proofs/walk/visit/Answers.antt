@@ -4,7 +4,6 @@ use Rattle.std.proofs.lemmas.Result.{on_ok_weaker}
 use Rattle.tl_spec.specs.Tree.Document.{Node, Tag, Raw, Comment}
 use Rattle.tl_spec.specs.Walk.Length.{handle_met}
 use Rattle.tl.specs.View.{node_view, tag_view}
-use Rattle.tl.proofs.Frames.{shown_at}
 use Rattle.tl_safe.specs.Filter.{is_text_byte}
 use Rattle.tl_safe.specs.Fitted.{sequence}
 use Rattle.tl_safe.specs.Lists.{ListedWords}
@@ -12,7 +11,7 @@ use Rattle.tl_safe.specs.Inner.Remaining.{owed, steps}
 use Rattle.tl_safe.specs.Inner.Runs.{handle_run, text_run, written}
 use Rattle.tl_safe.specs.Inner.Writers.{Writes, place_of, words_by}
 use Rattle.tl_safe.specs.declared.writer.Writer.{Writer}
-use Rattle.tl_safe.proofs.WalkFacts.{tag-shown}
+use Rattle.tl_safe.proofs.WalkFacts.{shown_at, tag-shown}
 use Rattle.tl_safe.proofs.WriterFacts.{stays-on, writes-written}
 use Rattle.tl_safe.proofs.walk.visit.Goals as goal
 

@@ -2,7 +2,6 @@ use Rattle.std.proofs.Common.{◌≡◌, ◌++◌, ◌∷◌, [], List, ℕ, map
 use Rattle.std.proofs.lemmas.Grind.{common_steps}
 use Rattle.tl_spec.specs.Lex.Attribute.{Pair}
 use Rattle.tl_attributes.specs.AttributesView.{pair_view}
-use Rattle.tl.proofs.Printing.{pairs-listed}
 use Rattle.tl_safe.specs.Policies.{lists_of}
 use Rattle.tl_safe.specs.Inner.Writes.{kept_pairs, pair_of, stays_beside}
 use Rattle.tl_safe.proofs.Writes.{pairs_more}
@@ -11,7 +10,7 @@ use Rattle.tl_safe.proofs.write.write_pairs.Goals as goal
 pub loop-pair-init : goal.loop-pair-init
 loop-pair-init c =
     ap (λ ps. string_bytes c.args.out.now ++ kept_pairs c.args.policy.now c.args.marked ps)
-    (sym (pairs-listed c.args.attributes.now) ∙ ap (map pair_view) (sym c.iter-pair-items.ensures.value) ∙ ap (map pair_view) (sym c.into_iter-pair-iterator.ensures.into_iter_gives))
+    (sym (c.attributes_in_order.ensures c.args.attributes.now) ∙ ap (map pair_view) (sym c.iter-pair-items.ensures.value) ∙ ap (map pair_view) (sym c.into_iter-pair-iterator.ensures.into_iter_gives))
 
 pub loop-pair-preserved : goal.loop-pair-preserved
 loop-pair-preserved c =

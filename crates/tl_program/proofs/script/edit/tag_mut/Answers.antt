@@ -1,7 +1,7 @@
 use Rattle.std.proofs.Common.{◌≡◌, None, inr, sym, ap, subst}
 use Rattle.std.specs.Prelude.{IsSomeAnd}
 use Rattle.tl.specs.Inner.Node.{tag_of}
-use Rattle.tl.proofs.Nodes.{set_same}
+use Rattle.tl_program.proofs.Tables.{set_same}
 use Rattle.tl_program.proofs.script.edit.tag_mut.Goals as goal
 
 pub returns-in_default-as_tag_mut : goal.returns-in_default-as_tag_mut

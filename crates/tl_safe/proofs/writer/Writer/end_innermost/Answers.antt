@@ -1,7 +1,7 @@
 use Rattle.std.proofs.Common.{◌++◌, refl, ap, sym, ◌∙◌, append-nil, arith, string_bytes}
+use Rattle.std.proofs.lemmas.List.{nil_from_length}
 use Rattle.std.proofs.lemmas.Result.{on_ok_weaker}
 use Rattle.tl_spec.specs.Print.{print_end}
-use Rattle.tl.proofs.Frames.{empty_of_length}
 use Rattle.tl_safe.specs.Inner.Writers.{opened_tag, words_by}
 use Rattle.tl_safe.specs.declared.writer.Opener.{Opener}
 use Rattle.tl_safe.proofs.WriterFacts.{ended-on, ended-writes, none-ended-to, same-open}
@@ -13,7 +13,7 @@ returns-in_default-clause-goes_on c =
 
 pub returns-in_default-clause-writes : goal.returns-in_default-clause-writes
 returns-in_default-clause-writes c =
-    let none = empty_of_length c.args.self.now.open.items (omega (arith, c.in_default.ensures.cases.0, c.args.self.now.open.ok.0)) in
+    let none = nil_from_length c.args.self.now.open.items (omega (arith, c.in_default.ensures.cases.0, c.args.self.now.open.ok.0)) in
     none-ended-to c.args.self.now _ refl none (sym (c.in_default.ensures.items ∙ append-nil c.pop.new.self.items)) refl refl
 
 pub returns-in-Tag-clause-goes_on : goal.returns-in-Tag-clause-goes_on
