@@ -1,19 +1,19 @@
 -- The table of the names: each has its number in its slot.
-use Rattle.std.proofs.Common.{◌≡◌, ◌<◌, ◌≤◌, ◌+◌, ◌∙◌, ℕ, true, false, List, [], inl, inr, length, get_or, nat_eq, refl, ap, sym, subst, arith, true≢false}
-use Rattle.std.specs.Prelude.{None, Option, Some, slice_get}
+use Rattle.std.proofs.Common.{◌≡◌, ◌<◌, ◌≤◌, ◌+◌, ◌∙◌, ◌++◌, ◌∷◌, suc, zero, length-append, ℕ, true, false, List, [], inl, inr, length, get_or, nat_eq, refl, ap, sym, subst, arith, true≢false}
+use Rattle.std.specs.Prelude.{None, Option, Some, map, replicate, slice_get}
 use Rattle.std.proofs.lemmas.Bool.{cases_Bool, eq-eqb, eqb-true, false_from_ne_true}
-use Rattle.std.proofs.lemmas.List.{get_or_past}
+use Rattle.std.proofs.lemmas.List.{get_or-map, get_or_past, length-map, length-replicate}
 use Rattle.std.proofs.lemmas.Option.{slice_get-get_or, slice_get_past, slice_get_read}
 use Rattle.std.proofs.lemmas.Slice.Eq.{bytes_eq-Decides}
 use Rattle.std.specs.Borrow.{Bor}
-use Rattle.std.specs.List.{HoldsAt}
+use Rattle.std.specs.List.{HoldsAt, list_all}
 use Rattle.std.specs.Option.{IfSome, MatchOption, option_copied}
 use Rattle.std.specs.Str.{bytes_eq}
 use Rattle.tl_names.specs.declared.element_name.ElementName.{ElementName}
 use Rattle.tl_names.specs.declared.element_tables.TheConstants.{SLOTS}
 use Rattle.tl_names.specs.ElementNames.{bytes_of, element_names, name_of, place_in, slot_of, text_of}
 use Rattle.tl_names.specs.Elements.{is_among}
-use Rattle.tl_names.proofs.Numbers.{are_numbered, got_among, not_placed, numbered, placed}
+use Rattle.tl_names.proofs.Numbers.{are_numbered, got_among, listed, not_placed, numbered, placed}
 
 -- what a slice answers at a place
 pub looked_up : {X : Type 0} (xs : List X) (i : ℕ) (r : Option (Bor X)) → IfSome r (λ x. x.now ≡ get_or xs i x.now) →
@@ -101,6 +101,15 @@ by_name f outside n = elim (cases_Bool (is_among element_names n)) [
   | inr m ↦ ap f (bytes_of_other n m) ∙ sym (outside n m)
 ]
 
+-- what is none of the names is not this one of them, and not among these
+pub not_one : (x n : List ℕ) → is_among element_names x ≡ true → is_among element_names n ≡ false → bytes_eq x n ≡ false
+not_one x n m o =
+    false_from_ne_true (bytes_eq x n) (λ y.
+    true≢false (sym (subst (λ (w : List ℕ). is_among element_names w ≡ true) ((bytes_eq-Decides x n).0 y) m) ∙ o))
+
+pub not_any : (members : List (List ℕ)) (n : List ℕ) → list_all (is_among element_names) members ≡ true → is_among element_names n ≡ false → is_among members n ≡ false
+not_any members n all o = false_from_ne_true (is_among members n) (λ m. true≢false (sym (listed members element_names n all m) ∙ o))
+
 -- names with one number are the same, where it is that of a name
 same_place : (x n : List ℕ) → is_among element_names x ≡ true → (name_of n).number ≡ (name_of x).number → x ≡ n
 unfolding name_of
@@ -121,3 +130,42 @@ same_number x n m = elim (cases_Bool (bytes_eq x n)) [
       true≢false (sym ((bytes_eq-Decides x n).1 (same_place x n m (eqb-true (name_of n).number (name_of x).number e))) ∙ o))
       ∙ sym o
 ]
+
+number_within : (n : List ℕ) → (name_of n).number ≤ length element_names
+unfolding name_of
+number_within n = elim (cases_Bool (is_among element_names n)) [
+  | inl m ↦
+      let h : place_in element_names n < length element_names = (placed element_names n m).0 in
+      omega (arith, h)
+  | inr o ↦
+      let h : place_in element_names n ≡ length element_names = not_placed element_names n o in
+      omega (arith, h)
+]
+
+-- empty names behind others
+padded : (names : List (List ℕ)) (m k : ℕ) → get_or (names ++ replicate m []) k [] ≡ get_or names k []
+padded [] zero k = refl
+padded [] (suc m) zero = refl
+padded [] (suc m) (suc k) = padded [] m k
+padded (own ∷ names) m zero = refl
+padded (own ∷ names) m (suc k) = padded names m k
+
+-- so does a table with a row for each name, and m > 0 for others: that its rows are right is
+-- computed
+pub by_row : {G A : Type 0} (view : G → A) (f : List ℕ → A) (rows : List G) (other : G) (m : ℕ) → 0 < m →
+    map view rows ≡ map f (element_names ++ replicate m []) →
+    ((n : List ℕ) → is_among element_names n ≡ false → f n ≡ f []) →
+    (n : List ℕ) → view (get_or rows (name_of n).number other) ≡ f n
+unfolding bytes_of
+by_row {G} {A} view f rows other m some e outside n =
+    let k : ℕ = (name_of n).number in
+    let within : k ≤ length element_names = number_within n in
+    let all : length (element_names ++ replicate m []) ≡ length element_names + m =
+    length-append element_names (replicate m []) ∙ ap (λ (l : ℕ). length element_names + l) (length-replicate m []) in
+    let rows_all : length rows ≡ length (element_names ++ replicate m []) =
+    sym (length-map rows view) ∙ ap (λ (xs : List A). length xs) e ∙ length-map (element_names ++ replicate m []) f in
+    sym (get_or-map view rows k other (f []) (omega (arith, some, within, all, rows_all)))
+    ∙ ap (λ (xs : List A). get_or xs k (f [])) e
+    ∙ get_or-map f (element_names ++ replicate m []) k [] (f []) (omega (arith, some, within, all))
+    ∙ ap f (padded element_names m k)
+    ∙ by_name f outside n

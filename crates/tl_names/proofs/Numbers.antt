@@ -1,8 +1,8 @@
 -- Names in a list, and the numbers that a table has of them.
-use Rattle.std.proofs.Common.{◌≡◌, ◌<◌, ◌+◌, ◌∙◌, ℕ, Bool, true, false, ◌&&◌, ◌||◌, List, [], suc, ◌∷◌, inl, inr, length, get_or, nat_eq, refl, ap, sym, arith, true≢false, if◌then◌else◌}
+use Rattle.std.proofs.Common.{◌≡◌, ◌<◌, ◌+◌, ◌∙◌, ℕ, Bool, true, false, ◌&&◌, ◌||◌, List, [], suc, ◌∷◌, inl, inr, length, get_or, nat_eq, refl, ap, sym, subst, arith, true≢false, if◌then◌else◌}
 use Rattle.std.proofs.lemmas.Bool.{and_parts, cases_Bool, eqb-true}
 use Rattle.std.proofs.lemmas.Slice.Eq.{bytes_eq-Decides}
-use Rattle.std.specs.List.{list_any}
+use Rattle.std.specs.List.{list_all, list_any}
 use Rattle.std.specs.Prelude.{Some, slice_get}
 use Rattle.std.proofs.lemmas.List.Folds.{list_any_at}
 use Rattle.std.proofs.lemmas.Option.{get_or_from_slice_get, slice_get_within}
@@ -63,3 +63,13 @@ got_among names i own e =
     let lt : i < length names = slice_get_within names i own e in
     let same : get_or names i [] ≡ own = get_or_from_slice_get names i own [] e in
     list_any_at (bytes_eq own) names i [] lt ((bytes_eq-Decides own (get_or names i [])).1 (sym same))
+
+-- what is among some that are all listed is listed
+pub listed : (members names : List (List ℕ)) (n : List ℕ) → list_all (is_among names) members ≡ true → is_among members n ≡ true → is_among names n ≡ true
+listed [] names n h m = absurd (true≢false (sym m))
+listed (own ∷ members) names n h m =
+    let two = and_parts (is_among names own) (list_all (is_among names) members) h in
+    elim (cases_Bool (bytes_eq n own)) [
+      | inl y ↦ subst (λ (o : List ℕ). is_among names o ≡ true) (sym ((bytes_eq-Decides n own).0 y)) two.0
+      | inr o ↦ listed members names n two.1 (sym (ap (λ v. v || list_any (bytes_eq n) members) o) ∙ m)
+    ]

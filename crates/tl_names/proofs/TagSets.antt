@@ -1,9 +1,7 @@
 -- The table of the classes: each bit says whether a name is of a class.
-use Rattle.std.proofs.Common.{◌≡◌, ◌<◌, ◌∙◌, ◌/◌, ◌^◌, ℕ, Bool, true, false, ◌&&◌, ◌||◌, inl, inr, subst, List, [], ◌∷◌, suc, zero, length, get_or, nat_eq, bit_and, refl, ap, sym, arith, true≢false}
-use Rattle.std.proofs.lemmas.Bool.{and_parts, cases_Bool, false_from_ne_true}
-use Rattle.std.proofs.lemmas.Slice.Eq.{bytes_eq-Decides}
-use Rattle.std.specs.List.{list_all, list_any}
-use Rattle.std.specs.Str.{bytes_eq}
+use Rattle.std.proofs.Common.{◌≡◌, ◌<◌, ◌∙◌, ◌/◌, ◌^◌, ℕ, Bool, true, false, ◌&&◌, List, [], ◌∷◌, suc, zero, length, get_or, nat_eq, bit_and, refl, sym, arith, true≢false}
+use Rattle.std.proofs.lemmas.Bool.{and_parts}
+use Rattle.std.specs.List.{list_all}
 use denote.Enum.Declared.{tag_of}
 use mathlib.Core.Bool.{beq}
 use Rattle.tl_names.specs.contracts.class.Class.{the_type}
@@ -13,7 +11,7 @@ use Rattle.tl_names.specs.declared.element_tables.TheConstants.{CLASSES}
 use Rattle.tl_names.specs.ElementNames.{element_names, name_of}
 use Rattle.tl_names.specs.Elements.{is_among}
 use Rattle.tl_names.specs.TagSets.{is_of, names_in}
-use Rattle.tl_names.proofs.ElementNames.{by_name}
+use Rattle.tl_names.proofs.ElementNames.{by_name, not_any}
 
 -- whether the bits of the rows say which of the names, and of the empty ones behind them, are among
 -- some
@@ -128,19 +126,10 @@ each_filled SvgMark = refl
 each_filled SvgCased = refl
 each_filled Breakout = refl
 
-listed : (members names : List (List ℕ)) (n : List ℕ) → list_all (is_among names) members ≡ true → is_among members n ≡ true → is_among names n ≡ true
-listed [] names n h m = absurd (true≢false (sym m))
-listed (own ∷ members) names n h m =
-    let two = and_parts (is_among names own) (list_all (is_among names) members) h in
-    elim (cases_Bool (bytes_eq n own)) [
-      | inl y ↦ subst (λ (o : List ℕ). is_among names o ≡ true) (sym ((bytes_eq-Decides n own).0 y)) two.0
-      | inr o ↦ listed members names n two.1 (sym (ap (λ v. v || list_any (bytes_eq n) members) o) ∙ m)
-    ]
-
 -- the class of a name is told by its number
 pub class_of_name : (class : Class) (n : List ℕ) → is_of class (name_of n) ≡ is_among (names_in class) n
 unfolding is_of
 class_of_name class n = by_name (is_among (names_in class)) outside n
   where
     outside : (n : List ℕ) → is_among element_names n ≡ false → is_among (names_in class) n ≡ is_among (names_in class) []
-    outside n o = false_from_ne_true (is_among (names_in class) n) (λ m. true≢false (sym (listed (names_in class) element_names n (each_listed class) m) ∙ o)) ∙ sym (each_filled class)
+    outside n o = not_any (names_in class) n (each_listed class) o ∙ sym (each_filled class)

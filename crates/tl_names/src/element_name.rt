@@ -169,6 +169,14 @@ impl ElementName {
         text_in(&NAMES, self.number as usize)
     }
 
+    /// Its number, for tables that have a row for each name.
+    #[inline]
+    pub fn number(self) -> u8
+        ensures { result ≡ self.number }
+    {
+        self.number
+    }
+
     /// Whether it is of a class. No other name is of any.
     #[inline]
     pub fn is(self, class: Class) -> bool
