@@ -10,7 +10,7 @@ use Rattle.std.specs.List.{HoldsAt, list_all}
 use Rattle.std.specs.Option.{IfSome, MatchOption, option_copied}
 use Rattle.std.specs.Str.{bytes_eq}
 use Rattle.tl_names.specs.declared.element_name.ElementName.{ElementName}
-use Rattle.tl_names.specs.declared.element_tables.TheConstants.{SLOTS}
+use Rattle.tl_names.specs.declared.element_tables.TheConstants.{NAMES, SLOTS}
 use Rattle.tl_names.specs.ElementNames.{bytes_of, element_names, name_of, place_in, slot_of, text_of}
 use Rattle.tl_names.specs.Elements.{is_among}
 use Rattle.tl_names.proofs.Numbers.{are_numbered, got_among, listed, not_placed, numbered, placed}
@@ -20,6 +20,10 @@ pub looked_up : {X : Type 0} (xs : List X) (i : ℕ) (r : Option (Bor X)) → If
     MatchOption r (length xs ≤ i) (λ x. (i < length xs) × HoldsAt (λ y. x.now ≡ y) xs i) → option_copied r ≡ slice_get xs i
 looked_up xs i None got within = sym (slice_get_past xs i within)
 looked_up xs i (Some x) got within = sym (slice_get_read xs (length xs) i x.now refl within.0 got)
+
+pub text_in_names : (name : ElementName) (r : Option (Bor (List ℕ))) → option_copied r ≡ slice_get (map (λ own. own.now) NAMES) name.number → option_copied r ≡ text_of name
+unfolding element_names text_of
+text_in_names name r e = e
 
 abbrev pub number_by_slot : List ℕ → ℕ
 number_by_slot n = get_or SLOTS (slot_of n) 0

@@ -7,8 +7,9 @@ use mathlib.Core.Bool.{beq}
 use Rattle.tl_names.specs.contracts.class.Class.{the_type}
 use Rattle.tl_names.specs.declared.class.Class.{Class}
 use Rattle.tl_names.specs.declared.class.Class.TheVariants.{Special, Scope, ListScope, ButtonScope, TableScope, AddressDivParagraph, Implied, ImpliedThoroughly, Heading, FosterTarget, Void, Rcdata, RawText, Verbatim, TableSection, TablePart, TableBodyContext, TableRowContext, Cell, Description, MathText, MathMark, MathGlyph, SvgMark, SvgCased, Breakout}
+use Rattle.tl_names.specs.declared.element_name.ElementName.{ElementName}
 use Rattle.tl_names.specs.declared.element_tables.TheConstants.{CLASSES}
-use Rattle.tl_names.specs.ElementNames.{element_names, name_of}
+use Rattle.tl_names.specs.ElementNames.{bytes_of, element_names, name_of}
 use Rattle.tl_names.specs.Elements.{is_among}
 use Rattle.tl_names.specs.TagSets.{is_of, names_in}
 use Rattle.tl_names.proofs.ElementNames.{by_name, not_any}
@@ -26,7 +27,7 @@ beq_same true false h = absurd (true≢false (sym h))
 beq_same false true h = absurd (true≢false (sym h))
 beq_same false false h = refl
 
-pub row_agrees : (test : ℕ → Bool) (members names : List (List ℕ)) (rows : List ℕ) → rows_agree test members names rows ≡ true →
+row_agrees : (test : ℕ → Bool) (members names : List (List ℕ)) (rows : List ℕ) → rows_agree test members names rows ≡ true →
     (k : ℕ) → k < length rows → test (get_or rows k 0) ≡ is_among members (get_or names k [])
 row_agrees test members names [] h k lt = absurd (omega arith)
 row_agrees test members [] (bits ∷ rows) h zero lt = beq_same (test bits) (is_among members []) (and_parts (beq (test bits) (is_among members [])) (rows_agree test members [] rows) h).0
@@ -38,7 +39,7 @@ abbrev pub bit : ℕ → ℕ → Bool
 bit place bits = nat_eq (bit_and (bits / 2 ^ place) 1) 1
 
 -- by computing, the bit of each class says which names are in it
-pub each_agrees : (class : Class) → rows_agree (bit (tag_of the_type class)) (names_in class) element_names CLASSES ≡ true
+each_agrees : (class : Class) → rows_agree (bit (tag_of the_type class)) (names_in class) element_names CLASSES ≡ true
 unfolding element_names names_in
 each_agrees Special = refl
 each_agrees Scope = refl
@@ -66,6 +67,11 @@ each_agrees MathGlyph = refl
 each_agrees SvgMark = refl
 each_agrees SvgCased = refl
 each_agrees Breakout = refl
+
+-- the bit of a class in the row of a name says whether it is of it
+pub bit_of_row : (class : Class) (name : ElementName) → name.number < 256 → bit (tag_of the_type class) (get_or CLASSES name.number 0) ≡ is_of class name
+unfolding bytes_of is_of
+bit_of_row class name lt = row_agrees (bit (tag_of the_type class)) (names_in class) element_names CLASSES (each_agrees class) name.number lt
 
 -- by computing, each name of a class is one of the table
 each_listed : (class : Class) → list_all (is_among element_names) (names_in class) ≡ true

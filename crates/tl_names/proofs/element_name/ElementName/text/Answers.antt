@@ -1,6 +1,5 @@
-use Rattle.tl_names.specs.ElementNames.{element_names, text_of}
+use Rattle.tl_names.proofs.ElementNames.{text_in_names}
 use Rattle.tl_names.proofs.element_name.ElementName.text.Goals as goal
 
 pub returns : goal.returns
-unfolding element_names text_of
-returns c = c.text_in.ensures
+returns c = text_in_names c.args.self c.text_in.result c.text_in.ensures
