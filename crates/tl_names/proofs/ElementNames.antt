@@ -11,7 +11,7 @@ use Rattle.std.specs.Option.{IfSome, MatchOption, option_copied}
 use Rattle.std.specs.Str.{bytes_eq}
 use Rattle.tl_names.specs.declared.element_name.ElementName.{ElementName}
 use Rattle.tl_names.specs.declared.element_tables.TheConstants.{NAMES, SLOTS}
-use Rattle.tl_names.specs.ElementNames.{bytes_of, element_names, name_of, place_in, slot_of, text_of}
+use Rattle.tl_names.specs.ElementNames.{bytes_of, element_names, name_of, number_of, place_in, slot_of, text_of}
 use Rattle.tl_names.specs.Elements.{is_among}
 use Rattle.tl_names.proofs.Numbers.{are_numbered, got_among, listed, not_placed, numbered, placed}
 
@@ -159,7 +159,7 @@ padded (own ∷ names) m (suc k) = padded names m k
 pub by_row : {G A : Type 0} (view : G → A) (f : List ℕ → A) (rows : List G) (other : G) (m : ℕ) → 0 < m →
     map view rows ≡ map f (element_names ++ replicate m []) →
     ((n : List ℕ) → is_among element_names n ≡ false → f n ≡ f []) →
-    (n : List ℕ) → view (get_or rows (name_of n).number other) ≡ f n
+    (n : List ℕ) → view (get_or rows (number_of (name_of n)) other) ≡ f n
 unfolding bytes_of
 by_row {G} {A} view f rows other m some e outside n =
     let k : ℕ = (name_of n).number in

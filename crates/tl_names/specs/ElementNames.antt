@@ -17,6 +17,9 @@ place_in (own ∷ names) n = if bytes_eq n own then 0 else suc (place_in names n
 unfoldable pub name_of : List ℕ → ElementName
 name_of n = record { number = place_in element_names n }
 
+abbrev pub number_of : ElementName → ℕ
+number_of name = name.number
+
 unfoldable pub text_of : ElementName → Option (List ℕ)
 text_of name = slice_get element_names name.number
 

@@ -2,7 +2,7 @@
 
 ghost use Rattle.std.specs.Prelude.{◌≡◌, ◌≢◌, ◌<◌, [], get_or, slice_get};
 ghost use Rattle.std.specs.Option.{option_copied};
-ghost use Rattle.tl_names.specs.ElementNames.{name_of, slot_of, text_of};
+ghost use Rattle.tl_names.specs.ElementNames.{name_of, number_of, slot_of, text_of};
 ghost use Rattle.tl_names.specs.Elements.{words_of};
 ghost use Rattle.tl_names.specs.TagSets.{is_of};
 ghost use Rattle.tl_names.specs.declared.element_tables.TheConstants.{SLOTS};
@@ -172,7 +172,7 @@ impl ElementName {
     /// Its number, for tables that have a row for each name.
     #[inline]
     pub fn number(self) -> u8
-        ensures { result ≡ self.number }
+        ensures { result ≡ number_of self }
     {
         self.number
     }

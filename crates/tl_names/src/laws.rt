@@ -3,7 +3,7 @@
 
 ghost use Rattle.std.specs.Prelude.{◌≡◌, ◌++◌, List, false, map, nat_eq, true, ℕ};
 ghost use Rattle.std.specs.Str.{bytes_eq};
-ghost use Rattle.tl_names.specs.ElementNames.{bytes_of, element_names, name_of};
+ghost use Rattle.tl_names.specs.ElementNames.{bytes_of, element_names, name_of, number_of};
 ghost use Rattle.tl_names.specs.Elements.{closed_at_once, feed_droppers, head_parts, headings, implied_ends, list_scope_bounds, paragraph_ends, rawtext_names, rcdata_names, scope_bounds, scoped_ends, special_names, table_parts, table_scope_bounds, table_sections, is_among, words};
 ghost use Rattle.tl_names.specs.NamedElements.{named_elements};
 ghost use Rattle.tl_names.specs.TagSets.{heading_words, implied_words, is_of, names_in, raw_text_words, rcdata_words, special_words, table_part_words, table_scope_words, table_section_words};
@@ -102,7 +102,7 @@ pub fn numbers()
     ensures name { (n : List ℕ) → is_among element_names n ≡ true → bytes_of (name_of n) ≡ n }
     ensures other { (n : List ℕ) → is_among element_names n ≡ false → name_of n ≡ OTHER }
     ensures same { (own n : List ℕ) → is_among element_names own ≡ true →
-        nat_eq (name_of n).number (name_of own).number ≡ bytes_eq own n }
+        nat_eq (number_of (name_of n)) (number_of (name_of own)) ≡ bytes_eq own n }
     ensures class { (class : Class) (n : List ℕ) →
         is_of class (name_of n) ≡ is_among (names_in class) n }
 {}
