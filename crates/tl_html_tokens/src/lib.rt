@@ -24,6 +24,7 @@ mod tag;
 mod token;
 mod turn;
 
+pub use front::{Front, next_token};
 pub use mode::Mode;
 pub use page::tokens;
 pub use stage::TokenKind;
