@@ -2,14 +2,15 @@
 use Rattle.std.proofs.Common.{◌≡◌, ◌⊎◌, ℕ, zero, suc, Bool, true, false, ◌==◌, ◌&&◌, ◌||◌, List, [], ◌∷◌, ◌++◌, map, Some, None, codes, refl, ap, ap₂, sym, subst, ◌∙◌, inl, inr, true≢false, append-nil, append_assoc, arith, drop, drop-drop, subst₂, take, ◌+◌, ◌-◌, ◌≤◌, if◌then◌else◌}
 use Rattle.std.specs.Prelude.{⊤, option_map}
 use Rattle.std.proofs.lemmas.List.{take-append-drop}
-use Rattle.std.proofs.lemmas.Bool.{cases_Bool, cond_both}
+use Rattle.std.specs.List.{starts_with}
+use Rattle.std.proofs.lemmas.Bool.{cases_Bool, cond_both, eqb-true}
 use Rattle.std.specs.Str.{bytes_eq}
 use Rattle.tl_names.specs.Elements.{is_among, rawtext_names, rcdata_names}
 use Rattle.tl_html_spec.specs.References.{named_value, number_value}
 use Rattle.tl_html_spec.specs.HtmlTokenizer as T
 use Rattle.tl_html_spec.specs.HtmlTokenizer.{HtmlToken, Character, StartTag, EndTag, CommentToken, DoctypeToken, State, Step, at_end, step, whole_step, with_feeds}
 use Rattle.tl_html_spec.specs.Reader.{Reader, Rest, after, at, byte_step, emitted, feed, is_passed, next, read, rest_before, rest_if, rest_within, resting, is_at_rest}
-use Rattle.tl_html_spec.specs.Driven.{Driver, Driving, DrivenRest, DrivenState, DrivenStep, Emission, bare, byte_driven, cdata_section, cdata_section_bracket, cdata_section_end, cdata_start, doctype_of, drive, driven, driven_end, driven_rest, driven_rest_before, driven_rest_if, driven_step, driven_tokens, driving, ends_with_start, entered, in_doctype, in_state, moved, next_driven, of_rest, of_step, opens_cdata, passes, plain, state_after, taken}
+use Rattle.tl_html_spec.specs.Driven.{Driver, Driving, DrivenRest, DrivenState, DrivenStep, Emission, bare, byte_driven, cdata_section, cdata_section_bracket, cdata_section_end, cdata_start, doctype_of, drive, driven, driven_end, driven_rest, driven_rest_before, driven_rest_if, driven_step, driven_tokens, driving, ends_with_start, entered, going, in_doctype, in_state, moved, next_driven, of_rest, of_step, opens_cdata, passes, plain, state_after, taken}
 use Rattle.tl_html_spec.proofs.Driving.{taken_append, text_driven, tokens_rest}
 use Rattle.tl_html_spec.proofs.Resting.{mapped_some}
 use Rattle.tl_html_spec.proofs.Starts as S
@@ -246,14 +247,14 @@ next_both d v r b s n =
     let is = plain_state d (taken d v.memory (drive d v b).emits) (drive d v b) (subst NoStart (sym s.tokens) n) in
     record { same = subst (λ (x : DrivenState). Same x (read r b).next) (sym is) s.same; returned = refl }
 
-step_on : {M : Type 0} (d : Driver M) (v : Driving M) (r : Reader) (b : ℕ) (text rest : List ℕ) (tokens : List HtmlToken) (state : State) → Steps (drive d v b) (read r b) →
+step_on : {M : Type 0} (d : Driver M) (v : Driving M) (r : Reader) (b : ℕ) (text rest : List ℕ) (tokens : List HtmlToken) (state : State) → map bare (drive d v b).emits ≡ (read r b).emits →
     NoStart (read r b).emits → Goes d (next_driven d v b) text rest tokens state → Goes d v (b ∷ text) rest ((read r b).emits ++ tokens) state
 step_on {M = M} d v r b text rest tokens state s n g =
     let es = (drive d v b).emits in
     let m : M = taken d v.memory es in
     record {
       emits = es ++ g.emits;
-      tokens_are = bare_both es g.emits ∙ ap₂ (λ (ts us : List HtmlToken). ts ++ us) s.tokens g.tokens_are;
+      tokens_are = bare_both es g.emits ∙ ap₂ (λ (ts us : List HtmlToken). ts ++ us) s g.tokens_are;
       goes_on = taken_append d v.memory es (driven_tokens d (next_driven d v b) (text ++ rest))
           ∙ g.goes_on
           ∙ ap₂ (λ (k : M) (w : Bool). taken d k (driven_tokens d (driving k (in_state (if w then d.sets k else state))) rest))
@@ -348,91 +349,174 @@ goes d (b ∷ []) rest v r state pending h o l i p =
     subst (λ ts. Goes d v (b ∷ []) rest (ts ++ pending) state) (sym (append-nil (read r b).emits)) (elim (read_ends r b) [
       | inl n ↦ (
           let quiet = quiet_of (read r b).emits n in
-          step_on d v r b [] rest pending state s quiet (pending_goes d rest (next_driven d v b) (next r b) state pending (next_both d v r b s quiet) i p))
+          step_on d v r b [] rest pending state s.tokens quiet (pending_goes d rest (next_driven d v b) (next r b) state pending (next_both d v r b s quiet) i p))
       | inr e ↦ start_goes d v r b rest state pending s e p
     ])
 goes d (b ∷ c ∷ text) rest v r state pending h o l i p =
     let q = or_parts (opens_cdata r.state (feed b)) (opens (next r b) (c ∷ text)) o in
     let s = drive_same d v r b h (and_false (d.is_foreign v.memory) (opens_cdata r.state (feed b)) q.0) in
     subst (λ ts. Goes d v (b ∷ c ∷ text) rest ts state) (sym (append_assoc (read r b).emits (emitted (next r b) (c ∷ text)) pending))
-    (step_on d v r b (c ∷ text) rest (emitted (next r b) (c ∷ text) ++ pending) state s l.0
+    (step_on d v r b (c ∷ text) rest (emitted (next r b) (c ∷ text) ++ pending) state s.tokens l.0
     (goes d (c ∷ text) rest (next_driven d v b) (next r b) state pending (next_both d v r b s l.0) q.1 l.1 i p))
 
--- `<![` where the driver says that nothing is foreign
-
-none_emitted : (es : List Emission) → map bare es ≡ [] → es ≡ []
-none_emitted [] h = refl
-none_emitted (e ∷ es) h = cc
+-- `<![`, where the driver may say that it is foreign
 
 -- a byte that emits nothing
-record Quietly {M : Type 0} (d : Driver M) (v : Driving M) (r : Reader) (b : ℕ) : Type 0 where
-  steps : Steps (drive d v b) (read r b)
-  both : Both (next_driven d v b) (next r b)
-  memory : (next_driven d v b).memory ≡ v.memory
-
-quietly : {M : Type 0} (d : Driver M) (v : Driving M) (r : Reader) (b : ℕ) → Both v r → (d.is_foreign v.memory && opens_cdata r.state (feed b)) ≡ false → (read r b).emits ≡ [] →
-    Quietly d v r b
-quietly d v r b h f e =
-    let s = drive_same d v r b h f in
-    record {
-      steps = s;
-      both = next_both d v r b s (subst NoStart (sym e) tt);
-      memory = ap (taken d v.memory) (none_emitted (drive d v b).emits (s.tokens ∙ e));
-    }
-
-quiet_goes : {M : Type 0} (d : Driver M) (v : Driving M) (r : Reader) (b : ℕ) (text rest : List ℕ) (state : State) (pending : List HtmlToken) → Quietly d v r b → (read r b).emits ≡ [] →
-    Goes d (next_driven d v b) text rest (emitted (next r b) text ++ pending) state → Goes d v (b ∷ text) rest (emitted r (b ∷ text) ++ pending) state
-quiet_goes d v r b text rest state pending q e g =
+byte_on : {M : Type 0} (d : Driver M) (v : Driving M) (r : Reader) (b : ℕ) (ds : DrivenState) (text rest : List ℕ) (state : State) (pending : List HtmlToken) →
+    drive d v b ≡ going ds [] → (read r b).emits ≡ [] →
+    Goes d (record { memory = v.memory; state = ds; after_return = b == 13 }) text rest (emitted (next r b) text ++ pending) state →
+    Goes d v (b ∷ text) rest (emitted r (b ∷ text) ++ pending) state
+byte_on {M = M} d v r b ds text rest state pending e n g =
+    let on : next_driven d v b ≡ record { memory = v.memory; state = ds; after_return = b == 13 } = ap (λ (x : DrivenStep). moved d (taken d v.memory x.emits) x b) e in
     subst (λ ts. Goes d v (b ∷ text) rest ts state) (sym (append_assoc (read r b).emits (emitted (next r b) text) pending))
-    (step_on d v r b text rest (emitted (next r b) text ++ pending) state q.steps (subst NoStart (sym e) tt) g)
-
-first_none : (read (at T.data_state) 60).emits ≡ []
-unfolding read
-first_none = refl
-
-second_none : (read (next (at T.data_state) 60) 33).emits ≡ []
-unfolding read
-second_none = refl
-
-third_none : (read (next (next (at T.data_state) 60) 33) 91).emits ≡ []
-unfolding read
-third_none = refl
-
-second_state : opens_cdata (next (at T.data_state) 60).state (feed 33) ≡ false
-unfolding read
-second_state = refl
+    (step_on d v r b text rest (emitted (next r b) text ++ pending) state (ap (λ (x : DrivenStep). map bare x.emits) e ∙ sym n) (subst NoStart (sym n) tt)
+    (subst (λ (w : Driving M). Goes d w text rest (emitted (next r b) text ++ pending) state) (sym on) g))
 
 starts_tail : (r : Reader) (b : ℕ) (text : List ℕ) → StartsLast r (b ∷ text) → StartsLast (next r b) text
 starts_tail r b [] h = tt
 starts_tail r b (c ∷ text) h = h.1
 
-off_foreign : (f c : Bool) → f ≡ false → (f && c) ≡ false
-off_foreign true c h = absurd (true≢false h)
-off_foreign false c h = refl
+-- the comment that is read there otherwise
+abbrev commented : List ℕ → Reader
+commented buffer = at (T.bogus_comment buffer)
 
-first_goes : {M : Type 0} (d : Driver M) (m : M) (text rest : List ℕ) (state : State) (pending : List HtmlToken) → d.is_foreign m ≡ false →
-    opens (after (at T.data_state) (60 ∷ 33 ∷ 91 ∷ [])) text ≡ false → StartsLast (at T.data_state) (60 ∷ 33 ∷ 91 ∷ text) → is_at_rest state ≡ true →
-    Pends (after (at T.data_state) (60 ∷ 33 ∷ 91 ∷ text)) rest state pending →
-    Goes d (driving m (in_state T.data_state)) (60 ∷ 33 ∷ 91 ∷ text) rest (emitted (at T.data_state) (60 ∷ 33 ∷ 91 ∷ text) ++ pending) state
-first_goes d m text rest state pending f o l i p =
-    let r0 : Reader = at T.data_state in
-    let r1 : Reader = next r0 60 in
-    let r2 : Reader = next r1 33 in
-    let r3 : Reader = next r2 91 in
-    let v0 = driving m (in_state T.data_state) in
-    let v1 = next_driven d v0 60 in
-    let v2 = next_driven d v1 33 in
-    let v3 = next_driven d v2 91 in
-    let a = quietly d v0 r0 60 (record { same = refl; returned = refl }) (off_foreign (d.is_foreign m) _ f) first_none in
-    let k = quietly d v1 r1 33 a.both (and_false (d.is_foreign v1.memory) (opens_cdata r1.state (feed 33)) second_state) second_none in
-    let still : d.is_foreign v2.memory ≡ false = ap d.is_foreign (k.memory ∙ a.memory) ∙ f in
-    let c = quietly d v2 r2 91 k.both (off_foreign (d.is_foreign v2.memory) (opens_cdata r2.state (feed 91)) still) third_none in
-    let l1 = starts_tail r0 60 (33 ∷ 91 ∷ text) l in
-    let l2 = starts_tail r1 33 (91 ∷ text) l1 in
-    let l3 = starts_tail r2 91 text l2 in
-    quiet_goes d v0 r0 60 (33 ∷ 91 ∷ text) rest state pending a first_none
-    (quiet_goes d v1 r1 33 (91 ∷ text) rest state pending k second_none
-    (quiet_goes d v2 r2 91 text rest state pending c third_none (goes d text rest v3 r3 state pending c.both o l3 i p)))
+abbrev section : List ℕ
+section = codes "[CDATA["
+
+module _ {M : Type 0} (d : Driver M) (m : M) (rest : List ℕ) (state : State) (pending : List HtmlToken) (i : is_at_rest state ≡ true) where
+  -- a text in such a comment goes as by itself
+  abbrev Commented : List ℕ → List ℕ → Type 0
+  Commented buffer text =
+      opens (commented buffer) text ≡ false → StartsLast (commented buffer) text → Pends (after (commented buffer) text) rest state pending →
+      Goes d (driving m (cdata_start buffer)) text rest (emitted (commented buffer) text ++ pending) state
+
+  comment_no_rest : (buffer : List ℕ) (c : ℕ) → rest_within 2 (T.bogus_comment buffer) c ≡ None
+  comment_no_rest buffer c = elim (cases_Bool (c == 62)) [
+    | inl y ↦ rw y refl
+    | inr n ↦ rw n refl
+  ]
+
+  comment_quiet : (buffer : List ℕ) (c : ℕ) → NoStart (whole_step (T.bogus_comment buffer) c).emits
+  comment_quiet buffer c = elim (cases_Bool (c == 62)) [
+    | inl y ↦ rw y tt
+    | inr n ↦ rw n tt
+  ]
+
+  ended : (buffer t : List ℕ) → Pends (commented buffer) t state pending → Goes d (driving m (cdata_start buffer)) [] t pending state
+  ended buffer [] p =
+      let es = driven_end (cdata_start buffer) in
+      let k : M = taken d m es in
+      let quiet : NoStart pending = subst NoStart (sym p) tt in
+      let none : driven_end (in_state (set_after d k pending state)) ≡ [] = ap (λ (s : State). map plain (at_end s)) (quiet_set d k pending state quiet) ∙ ap (map plain) (rest_end state i) in
+      record { emits = es; tokens_are = sym p; goes_on = sym (ap (taken d k) none) }
+  ended buffer (b ∷ t) p =
+      let x : Rest = record { state = state; emits = pending } in
+      let never : None ≡ Some x = sym (comment_no_rest buffer (feed b)) ∙ (not_passed (commented buffer) b x p).1 in cc
+
+  -- a byte that is none of the section's name
+  leaves : (buffer : List ℕ) (b : ℕ) → bytes_eq (buffer ++ feed b ∷ []) section ≡ false → starts_with ◌==◌ section (buffer ++ feed b ∷ []) ≡ false →
+      Steps (drive d (driving m (cdata_start buffer)) b) (read (commented buffer) b)
+  unfolding drive read
+  leaves buffer b e f = rw (e, f) (of_same (whole_step (T.bogus_comment buffer) (feed b)))
+
+  read_quiet : (buffer : List ℕ) (b : ℕ) → NoStart (read (commented buffer) b).emits
+  unfolding read
+  read_quiet buffer b = comment_quiet buffer (feed b)
+
+  left : (buffer : List ℕ) (b : ℕ) (text : List ℕ) → bytes_eq (buffer ++ feed b ∷ []) section ≡ false → starts_with ◌==◌ section (buffer ++ feed b ∷ []) ≡ false → Commented buffer (b ∷ text)
+  left buffer b text e f o l p =
+      let v = driving m (cdata_start buffer) in
+      let r : Reader = commented buffer in
+      let s = leaves buffer b e f in
+      let n = read_quiet buffer b in
+      subst (λ ts. Goes d v (b ∷ text) rest ts state) (sym (append_assoc (read r b).emits (emitted (next r b) text) pending))
+      (step_on d v r b text rest (emitted (next r b) text ++ pending) state s.tokens n
+      (goes d text rest (next_driven d v b) (next r b) state pending (next_both d v r b s n) o (starts_tail r b text l) i p))
+
+  feed_differs : (b x : ℕ) → (b == x) ≡ false → (10 == x) ≡ false → (feed b == x) ≡ false
+  feed_differs b x h k = cond_both (b == 13) 10 b (λ c. (c == x) ≡ false) (λ _. k) (λ _. h)
+
+  -- up to such a byte
+  by_byte : (buffer : List ℕ) (x : ℕ) (text : List ℕ) → (10 == x) ≡ false →
+      ((c : ℕ) → (c == x) ≡ false → (bytes_eq (buffer ++ c ∷ []) section ≡ false) × (starts_with ◌==◌ section (buffer ++ c ∷ []) ≡ false)) →
+      ((t : List ℕ) → text ≡ x ∷ t → Commented buffer (x ∷ t)) → Commented buffer text
+  by_byte buffer x [] k off on o l p = ended buffer rest p
+  by_byte buffer x (b ∷ text) k off on o l p = elim (cases_Bool (b == x)) [
+    | inl y ↦ (
+        let e = eqb-true b x y in
+        subst (λ c. Commented buffer (c ∷ text)) (sym e) (on text (ap (λ c. c ∷ text) e)) o l p)
+    | inr n ↦ (
+        let q = off (feed b) (feed_differs b x n k) in
+        left buffer b text q.0 q.1 o l p)
+  ]
+
+  sixth : (text : List ℕ) → starts_with ◌==◌ text (codes "[") ≡ false → Commented (codes "[CDATA") text
+  sixth text h = by_byte (codes "[CDATA") 91 text refl (λ c n. (rw n refl, rw n refl))
+      (λ t e. absurd (true≢false (sym (ap (λ v. starts_with ◌==◌ v (codes "[")) e) ∙ h)))
+
+  fifth : (text : List ℕ) → starts_with ◌==◌ text (codes "A[") ≡ false → Commented (codes "[CDAT") text
+  unfolding drive read
+  fifth text h = by_byte (codes "[CDAT") 65 text refl (λ c n. (rw n refl, rw n refl))
+      (λ t e o l p. byte_on d (driving m (cdata_start (codes "[CDAT"))) (commented (codes "[CDAT")) 65 (cdata_start (codes "[CDATA")) t rest state pending refl refl
+          (sixth t (sym (ap (λ v. starts_with ◌==◌ v (codes "A[")) e) ∙ h) o (starts_tail (commented (codes "[CDAT")) 65 t l) p))
+
+  fourth : (text : List ℕ) → starts_with ◌==◌ text (codes "TA[") ≡ false → Commented (codes "[CDA") text
+  unfolding drive read
+  fourth text h = by_byte (codes "[CDA") 84 text refl (λ c n. (rw n refl, rw n refl))
+      (λ t e o l p. byte_on d (driving m (cdata_start (codes "[CDA"))) (commented (codes "[CDA")) 84 (cdata_start (codes "[CDAT")) t rest state pending refl refl
+          (fifth t (sym (ap (λ v. starts_with ◌==◌ v (codes "TA[")) e) ∙ h) o (starts_tail (commented (codes "[CDA")) 84 t l) p))
+
+  third : (text : List ℕ) → starts_with ◌==◌ text (codes "ATA[") ≡ false → Commented (codes "[CD") text
+  unfolding drive read
+  third text h = by_byte (codes "[CD") 65 text refl (λ c n. (rw n refl, rw n refl))
+      (λ t e o l p. byte_on d (driving m (cdata_start (codes "[CD"))) (commented (codes "[CD")) 65 (cdata_start (codes "[CDA")) t rest state pending refl refl
+          (fourth t (sym (ap (λ v. starts_with ◌==◌ v (codes "ATA[")) e) ∙ h) o (starts_tail (commented (codes "[CD")) 65 t l) p))
+
+  second : (text : List ℕ) → starts_with ◌==◌ text (codes "DATA[") ≡ false → Commented (codes "[C") text
+  unfolding drive read
+  second text h = by_byte (codes "[C") 68 text refl (λ c n. (rw n refl, rw n refl))
+      (λ t e o l p. byte_on d (driving m (cdata_start (codes "[C"))) (commented (codes "[C")) 68 (cdata_start (codes "[CD")) t rest state pending refl refl
+          (third t (sym (ap (λ v. starts_with ◌==◌ v (codes "DATA[")) e) ∙ h) o (starts_tail (commented (codes "[C")) 68 t l) p))
+
+  first : (text : List ℕ) → starts_with ◌==◌ text (codes "CDATA[") ≡ false → Commented (codes "[") text
+  unfolding drive read
+  first text h = by_byte (codes "[") 67 text refl (λ c n. (rw n refl, rw n refl))
+      (λ t e o l p. byte_on d (driving m (cdata_start (codes "["))) (commented (codes "[")) 67 (cdata_start (codes "[C")) t rest state pending refl refl
+          (second t (sym (ap (λ v. starts_with ◌==◌ v (codes "CDATA[")) e) ∙ h) o (starts_tail (commented (codes "[")) 67 t l) p))
+
+  -- its first three bytes
+
+  less_goes : (f : Bool) → byte_driven false f (in_state T.data_state) 60 ≡ going (in_state T.tag_open) []
+  less_goes true = refl
+  less_goes false = refl
+
+  bang_goes : (f : Bool) → byte_driven false f (in_state T.tag_open) 33 ≡ going (in_state (T.markup_declaration_open [])) []
+  bang_goes true = refl
+  bang_goes false = refl
+
+  opening : (text : List ℕ) (ds : DrivenState) → byte_driven false (d.is_foreign m) (in_state (T.markup_declaration_open [])) 91 ≡ going ds [] →
+      Goes d (driving m ds) text rest (emitted (commented (91 ∷ [])) text ++ pending) state →
+      Goes d (driving m (in_state T.data_state)) (60 ∷ 33 ∷ 91 ∷ text) rest (emitted (at T.data_state) (60 ∷ 33 ∷ 91 ∷ text) ++ pending) state
+  unfolding drive read
+  opening text ds e g =
+      byte_on d (driving m (in_state T.data_state)) (at T.data_state) 60 (in_state T.tag_open) (33 ∷ 91 ∷ text) rest state pending (less_goes (d.is_foreign m)) refl
+      (byte_on d (driving m (in_state T.tag_open)) (at T.tag_open) 33 (in_state (T.markup_declaration_open [])) (91 ∷ text) rest state pending (bang_goes (d.is_foreign m)) refl
+      (byte_on d (driving m (in_state (T.markup_declaration_open []))) (at (T.markup_declaration_open [])) 91 ds text rest state pending e refl g))
+
+  section_or_comment : (text : List ℕ) → opens (after (at T.data_state) (60 ∷ 33 ∷ 91 ∷ [])) text ≡ false → StartsLast (at T.data_state) (60 ∷ 33 ∷ 91 ∷ text) →
+      Pends (after (at T.data_state) (60 ∷ 33 ∷ 91 ∷ text)) rest state pending → (d.is_foreign m ≡ false) ⊎ (starts_with ◌==◌ text (codes "CDATA[") ≡ false) →
+      Goes d (driving m (in_state T.data_state)) (60 ∷ 33 ∷ 91 ∷ text) rest (emitted (at T.data_state) (60 ∷ 33 ∷ 91 ∷ text) ++ pending) state
+  unfolding read
+  section_or_comment text o l p f =
+      let l3 = starts_tail (at (T.markup_declaration_open [])) 91 text (starts_tail (at T.tag_open) 33 (91 ∷ text) (starts_tail (at T.data_state) 60 (33 ∷ 91 ∷ text) l)) in
+      elim (cases_Bool (d.is_foreign m)) [
+        | inr n ↦ opening text (in_state (T.bogus_comment (91 ∷ []))) (ap (λ v. byte_driven false v (in_state (T.markup_declaration_open [])) 91) n)
+            (goes d text rest (driving m (in_state (T.bogus_comment (91 ∷ [])))) (commented (91 ∷ [])) state pending (record { same = refl; returned = refl }) o l3 i p)
+        | inl y ↦ elim f [
+          | inl n ↦ absurd (true≢false (sym y ∙ n))
+          | inr n ↦ opening text (cdata_start (91 ∷ [])) (ap (λ v. byte_driven false v (in_state (T.markup_declaration_open [])) 91) y) (first text n o l3 p)
+        ]
+      ]
 
 -- what stands in front of a page
 
@@ -441,14 +525,14 @@ stands_goes : {M : Type 0} (d : Driver M) (m : M) (state next : State) (bytes re
 stands_goes d m state next bytes rest tokens s i f =
     subst (λ ts. Goes d (driving m (in_state state)) bytes rest ts next) (sym s.told) (elim s.opens_first [
       | inl z ↦ goes d bytes rest (driving m (in_state state)) (at state) next s.pending (record { same = refl; returned = refl }) z s.starts_last i s.ends
-      | inr q ↦ elim f [
-        | inl n ↦ (
-            let l = subst₂ (λ (x : State) v. StartsLast (at x) v) q.1 q.2 s.starts_last in
-            let p = subst₂ (λ (x : State) v. Pends (after (at x) v) rest next s.pending) q.1 q.2 s.ends in
-            subst₂ (λ (x : State) v. Goes d (driving m (in_state x)) v rest (emitted (at x) v ++ s.pending) next) (sym q.1) (sym q.2)
-            (first_goes d m q.0 rest next s.pending n q.3 l i p))
-        | inr n ↦ absurd (true≢false (sym (ap begins_section q.2) ∙ n))
-      ]
+      | inr q ↦ (
+          let l = subst₂ (λ (x : State) v. StartsLast (at x) v) q.1 q.2 s.starts_last in
+          let p = subst₂ (λ (x : State) v. Pends (after (at x) v) rest next s.pending) q.1 q.2 s.ends in
+          subst₂ (λ (x : State) v. Goes d (driving m (in_state x)) v rest (emitted (at x) v ++ s.pending) next) (sym q.1) (sym q.2)
+          (section_or_comment d m rest next s.pending i q.0 q.3 l p (elim f [
+            | inl n ↦ inl n
+            | inr n ↦ inr (sym (ap begins_section q.2) ∙ n)
+          ])))
     ])
 
 start_last_is : (ts : List HtmlToken) → IsKind kind.StartTag ts → ends_with_start (map plain ts) ≡ true
@@ -468,11 +552,15 @@ cut t a e h =
     let sum : a + (e - a) ≡ e = omega arith in
     ap (λ v. take (e - a) (drop a t) ++ v) (ap (λ n. drop n t) (sym sum) ∙ sym (drop-drop (e - a) a t)) ∙ take-append-drop (e - a) (drop a t)
 
-begins_less : (x y : List ℕ) → begins_section (x ++ y) ≡ false → begins_section x ≡ false
-begins_less [] y h = refl
-begins_less (a ∷ []) y h = and_false (a == 60) _ refl
-begins_less (a ∷ b ∷ []) y h = and_false (a == 60) _ (and_false (b == 33) _ refl)
-begins_less (a ∷ b ∷ c ∷ x) y h = h
+and_left : (v w u : Bool) → (w ≡ false → u ≡ false) → (v && w) ≡ false → (v && u) ≡ false
+and_left true w u h k = h k
+and_left false w u h k = refl
+
+-- bytes that what begins with them doesn't begin with
+begins_less : (x y p : List ℕ) → starts_with ◌==◌ (x ++ y) p ≡ false → starts_with ◌==◌ x p ≡ false
+begins_less x y [] h = absurd (true≢false h)
+begins_less [] y (c ∷ p) h = refl
+begins_less (b ∷ x) y (c ∷ p) h = and_left (c == b) (starts_with ◌==◌ (x ++ y) p) (starts_with ◌==◌ x p) (begins_less x y p) h
 
 -- for any driver
 pub front_driven : {M : Type 0} (d : Driver M) (m : M) (page : List ℕ) (start : ℕ) (mode : Mode) (front : Front) (f : IsFront page start mode front) →
@@ -484,7 +572,7 @@ front_driven {M = M} d m page start mode front f h =
     let all : bytes ++ rest ≡ drop start page = cut page start front.end (omega arith) in
     let g = stands_goes d m (state_of mode) (state_of front.mode) bytes rest f.tokens f.stands (rests front.mode) (elim h [
       | inl n ↦ inl n
-      | inr n ↦ inr (begins_less bytes rest (ap begins_section all ∙ n))
+      | inr n ↦ inr (begins_less bytes rest (codes "<![CDATA[") (ap begins_section all ∙ n))
     ]) in
     let after : M = taken d m g.emits in
     record {

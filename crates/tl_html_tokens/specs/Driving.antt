@@ -11,7 +11,7 @@ use Rattle.tl_html_tokens.specs.declared.stage.TokenKind.TheVariants as kind
 
 -- what begins a CDATA section where the driver says that it is foreign
 abbrev pub begins_section : List ℕ → Bool
-begins_section text = starts_with ◌==◌ text (codes "<![")
+begins_section text = starts_with ◌==◌ text (codes "<![CDATA[")
 
 abbrev pub is_start : TokenKind → Bool
 is_start kind.StartTag = true

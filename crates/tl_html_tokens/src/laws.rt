@@ -29,7 +29,7 @@ pub fn texts_and_comments_are_said()
 {}
 
 /// What stands in front is what any driver reads there that says that nothing is foreign, and also
-/// one that says so, where no `<![` stands there: it takes these tokens and goes on behind them,
+/// one that says so, where no `<![CDATA[` stands there: it takes these tokens and goes on behind them,
 /// after a start tag in the state that it sets. What it remembers may be all that it has taken.
 #[tactic(auto, using(crate::proofs::Drives::front_driven))]
 pub fn fronts_are_driven()
