@@ -258,7 +258,7 @@ step_on {M = M} d v r b text rest tokens state s n g =
       goes_on = taken_append d v.memory es (driven_tokens d (next_driven d v b) (text ++ rest))
           ∙ g.goes_on
           ∙ ap₂ (λ (k : M) (w : Bool). taken d k (driven_tokens d (driving k (in_state (if w then d.sets k else state))) rest))
-              (sym (taken_append d v.memory es g.emits)) (sym (last_of (read r b).emits tokens n));
+          (sym (taken_append d v.memory es g.emits)) (sym (last_of (read r b).emits tokens n));
     }
 
 -- a start tag
@@ -458,31 +458,31 @@ module _ {M : Type 0} (d : Driver M) (m : M) (rest : List ℕ) (state : State) (
   unfolding drive read
   fifth text h = by_byte (codes "[CDAT") 65 text refl (λ c n. (rw n refl, rw n refl))
       (λ t e o l p. byte_on d (driving m (cdata_start (codes "[CDAT"))) (commented (codes "[CDAT")) 65 (cdata_start (codes "[CDATA")) t rest state pending refl refl
-          (sixth t (sym (ap (λ v. starts_with ◌==◌ v (codes "A[")) e) ∙ h) o (starts_tail (commented (codes "[CDAT")) 65 t l) p))
+      (sixth t (sym (ap (λ v. starts_with ◌==◌ v (codes "A[")) e) ∙ h) o (starts_tail (commented (codes "[CDAT")) 65 t l) p))
 
   fourth : (text : List ℕ) → starts_with ◌==◌ text (codes "TA[") ≡ false → Commented (codes "[CDA") text
   unfolding drive read
   fourth text h = by_byte (codes "[CDA") 84 text refl (λ c n. (rw n refl, rw n refl))
       (λ t e o l p. byte_on d (driving m (cdata_start (codes "[CDA"))) (commented (codes "[CDA")) 84 (cdata_start (codes "[CDAT")) t rest state pending refl refl
-          (fifth t (sym (ap (λ v. starts_with ◌==◌ v (codes "TA[")) e) ∙ h) o (starts_tail (commented (codes "[CDA")) 84 t l) p))
+      (fifth t (sym (ap (λ v. starts_with ◌==◌ v (codes "TA[")) e) ∙ h) o (starts_tail (commented (codes "[CDA")) 84 t l) p))
 
   third : (text : List ℕ) → starts_with ◌==◌ text (codes "ATA[") ≡ false → Commented (codes "[CD") text
   unfolding drive read
   third text h = by_byte (codes "[CD") 65 text refl (λ c n. (rw n refl, rw n refl))
       (λ t e o l p. byte_on d (driving m (cdata_start (codes "[CD"))) (commented (codes "[CD")) 65 (cdata_start (codes "[CDA")) t rest state pending refl refl
-          (fourth t (sym (ap (λ v. starts_with ◌==◌ v (codes "ATA[")) e) ∙ h) o (starts_tail (commented (codes "[CD")) 65 t l) p))
+      (fourth t (sym (ap (λ v. starts_with ◌==◌ v (codes "ATA[")) e) ∙ h) o (starts_tail (commented (codes "[CD")) 65 t l) p))
 
   second : (text : List ℕ) → starts_with ◌==◌ text (codes "DATA[") ≡ false → Commented (codes "[C") text
   unfolding drive read
   second text h = by_byte (codes "[C") 68 text refl (λ c n. (rw n refl, rw n refl))
       (λ t e o l p. byte_on d (driving m (cdata_start (codes "[C"))) (commented (codes "[C")) 68 (cdata_start (codes "[CD")) t rest state pending refl refl
-          (third t (sym (ap (λ v. starts_with ◌==◌ v (codes "DATA[")) e) ∙ h) o (starts_tail (commented (codes "[C")) 68 t l) p))
+      (third t (sym (ap (λ v. starts_with ◌==◌ v (codes "DATA[")) e) ∙ h) o (starts_tail (commented (codes "[C")) 68 t l) p))
 
   first : (text : List ℕ) → starts_with ◌==◌ text (codes "CDATA[") ≡ false → Commented (codes "[") text
   unfolding drive read
   first text h = by_byte (codes "[") 67 text refl (λ c n. (rw n refl, rw n refl))
       (λ t e o l p. byte_on d (driving m (cdata_start (codes "["))) (commented (codes "[")) 67 (cdata_start (codes "[C")) t rest state pending refl refl
-          (second t (sym (ap (λ v. starts_with ◌==◌ v (codes "CDATA[")) e) ∙ h) o (starts_tail (commented (codes "[")) 67 t l) p))
+      (second t (sym (ap (λ v. starts_with ◌==◌ v (codes "CDATA[")) e) ∙ h) o (starts_tail (commented (codes "[")) 67 t l) p))
 
   -- its first three bytes
 

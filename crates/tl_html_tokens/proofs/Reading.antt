@@ -338,8 +338,13 @@ module _ (page : List ℕ) (start : ℕ) (m : Mode) (place : ℕ) (scan : Scan) 
   opened_still n (inl z) = inl (opens_append (at o) bs (b ∷ []) ∙ ap₂ ◌||◌ z (no_opening (after (at o) bs) h.reached n))
   opened_still n (inr q) =
       let r : Reader = after (at T.data_state) (60 ∷ 33 ∷ 91 ∷ []) in
-      inr (q.0 ++ b ∷ [], q.1, ap (λ v. v ++ b ∷ []) q.2, opens_append r q.0 (b ∷ []) ∙ ap₂ ◌||◌ q.3
-      (no_opening (after r q.0) (sym (ap₂ (λ (x : State) v. after (at x) v) q.1 q.2) ∙ h.reached) n))
+      inr (
+        q.0 ++ b ∷ [],
+        q.1,
+        ap (λ v. v ++ b ∷ []) q.2,
+        opens_append r q.0 (b ∷ []) ∙ ap₂ ◌||◌ q.3
+            (no_opening (after r q.0) (sym (ap₂ (λ (x : State) v. after (at x) v) q.1 q.2) ∙ h.reached) n),
+      )
 
   opened_on : OpensAtMostFirst o (between page start (place + 1))
   opened_on = subst (OpensAtMostFirst o) (sym more) (elim (cases_Bool (opens_cdata h.state (feed b))) [

@@ -29,8 +29,8 @@ pub fn texts_and_comments_are_said()
 {}
 
 /// What stands in front is what any driver reads there that says that nothing is foreign, and also
-/// one that says so, where no `<![CDATA[` stands there: it takes these tokens and goes on behind them,
-/// after a start tag in the state that it sets. What it remembers may be all that it has taken.
+/// one that says it is, where no `<![CDATA[` stands there. It takes these tokens and goes on behind
+/// them, after a start tag in the state that it sets. Its memory may be all that it has taken.
 #[tactic(auto, using(crate::proofs::Drives::front_driven))]
 pub fn fronts_are_driven()
     ensures { (d : Driver (List Emission)) (memory : List Emission) (page : List ℕ) (start : ℕ)
