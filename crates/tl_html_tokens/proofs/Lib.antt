@@ -28,3 +28,4 @@ pub mod Alone
 pub mod Through
 pub mod Beginning
 pub mod Drives
+pub mod Sections

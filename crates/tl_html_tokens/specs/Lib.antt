@@ -3,6 +3,7 @@ pub mod Kinds
 pub mod Ends
 pub mod Fronts
 pub mod Driving
+pub mod Sections
 pub mod Tokens
 pub mod Characters
 pub mod Comments

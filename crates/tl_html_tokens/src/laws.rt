@@ -1,16 +1,18 @@
 //! Laws of the tokens of pages.
 
-ghost use Rattle.std.specs.Prelude.{◌≡◌, ◌⊎◌, ℕ, List, drop, false};
+ghost use Rattle.std.specs.Prelude.{◌≡◌, ◌⊎◌, ℕ, List, drop, false, true};
 ghost use Rattle.tl_html_spec.specs.Driven.{Driver, Emission};
 ghost use Rattle.tl_html_spec.specs.HtmlTokenizer.{after_start};
 ghost use Rattle.tl_html_tokens.specs.Driving.{IsDriven, begins_section};
 ghost use Rattle.tl_html_tokens.specs.Fronts.{IsFront};
 ghost use Rattle.tl_html_tokens.specs.Modes.{letters, mode_after, state_of};
 ghost use Rattle.tl_html_tokens.specs.Said.{AreSaidOf};
+ghost use Rattle.tl_html_tokens.specs.Sections.{IsSection, IsSectionDriven};
 ghost use Rattle.tl_html_tokens.specs.Tokens.{AreTokensOf};
 ghost use Rattle.tl_html_tokens.specs.Whole.{TagsAreWhole};
 ghost use Rattle.tl_html_tokens.specs.declared.front.Front.{Front};
 ghost use Rattle.tl_html_tokens.specs.declared.mode.Mode.{Mode};
+ghost use Rattle.tl_html_tokens.specs.declared.section.Section.{Section};
 ghost use Rattle.tl_html_tokens.specs.declared.token.Token.{Token};
 
 /// The bytes of a tag of a page, read by themselves from the state of rest before it, are that tag.
@@ -37,6 +39,15 @@ pub fn fronts_are_driven()
         (mode : Mode) (front : Front) (f : IsFront page start mode front) →
         (d.is_foreign memory ≡ false) ⊎ (begins_section (drop start page) ≡ false) →
         IsDriven d memory page start mode front f.tokens }
+{}
+
+/// A CDATA section is what any driver reads there that says that it is foreign: it takes the
+/// section's characters, with line feeds at the ends of lines, and goes on behind it.
+#[tactic(auto, using(crate::proofs::Sections::section_driven))]
+pub fn sections_are_driven()
+    ensures { (d : Driver (List Emission)) (memory : List Emission) (page : List ℕ) (start : ℕ)
+        (section : Section) → IsSection page start section → d.is_foreign memory ≡ true →
+        IsSectionDriven d memory page start section }
 {}
 
 /// The mode by the name of a start tag is the state that the name sets.
