@@ -1,6 +1,6 @@
 -- A piece that is read by names is what any driver reads there.
 use Rattle.std.proofs.Common.{◌≡◌, ◌⊎◌, ℕ, zero, suc, Bool, true, false, ◌==◌, ◌&&◌, ◌||◌, List, [], ◌∷◌, ◌++◌, map, Some, None, codes, refl, ap, ap₂, sym, subst, ◌∙◌, inl, inr, true≢false, append-nil, append_assoc, arith, drop, drop-drop, subst₂, take, ◌+◌, ◌-◌, ◌≤◌, if◌then◌else◌}
-use Rattle.std.specs.Prelude.{⊤, option_map}
+use Rattle.std.specs.Prelude.{option_map}
 use Rattle.std.proofs.lemmas.List.{take-append-drop}
 use Rattle.std.specs.List.{starts_with}
 use Rattle.std.proofs.lemmas.Bool.{cases_Bool, cond_both, eqb-true}
@@ -10,7 +10,7 @@ use Rattle.tl_html_spec.specs.References.{named_value, number_value}
 use Rattle.tl_html_spec.specs.HtmlTokenizer as T
 use Rattle.tl_html_spec.specs.HtmlTokenizer.{HtmlToken, Character, StartTag, EndTag, CommentToken, DoctypeToken, State, Step, at_end, step, whole_step, with_feeds}
 use Rattle.tl_html_spec.specs.Reader.{Reader, Rest, after, at, byte_step, emitted, feed, is_passed, next, read, rest_before, rest_if, rest_within, resting, is_at_rest}
-use Rattle.tl_html_spec.specs.Driven.{Driver, Driving, DrivenRest, DrivenState, DrivenStep, Emission, bare, byte_driven, cdata_section, cdata_section_bracket, cdata_section_end, cdata_start, doctype_of, drive, driven, driven_end, driven_rest, driven_rest_before, driven_rest_if, driven_step, driven_tokens, driving, ends_with_start, entered, going, in_doctype, in_state, moved, next_driven, of_rest, of_step, opens_cdata, passes, plain, state_after, taken}
+use Rattle.tl_html_spec.specs.Driven.{Driver, Driving, DrivenState, DrivenStep, Emission, bare, byte_driven, cdata_section, cdata_section_bracket, cdata_section_end, cdata_start, doctype_of, drive, driven_end, driven_rest, driven_rest_before, driven_rest_if, driven_step, driven_tokens, driving, ends_with_start, entered, going, in_doctype, in_state, moved, next_driven, of_rest, of_step, opens_cdata, passes, plain, state_after, taken}
 use Rattle.tl_html_spec.proofs.Driving.{taken_append, text_driven, tokens_rest}
 use Rattle.tl_html_spec.proofs.Resting.{mapped_some}
 use Rattle.tl_html_spec.proofs.Starts as S

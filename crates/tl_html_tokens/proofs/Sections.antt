@@ -3,13 +3,12 @@ use Rattle.std.proofs.Common.{◌≡◌, ◌<◌, ◌≤◌, ℕ, suc, ◌+◌, 
 use Rattle.std.specs.Prelude.{⊤}
 use Rattle.std.specs.List.{starts_with}
 use Rattle.std.proofs.lemmas.List.{drop_all, drop_more}
-use Rattle.std.proofs.lemmas.Bool.{and_parts, cases_Bool, cond_both, eqb-true}
+use Rattle.std.proofs.lemmas.Bool.{and_parts, cases_Bool, eqb-true}
 use Rattle.tl_html_spec.specs.HtmlTokenizer as T
 use Rattle.tl_html_spec.specs.HtmlTokenizer.{Character, with_feeds}
 use Rattle.tl_html_spec.specs.Reader.{feed}
 use Rattle.tl_html_spec.specs.Driven.{Driver, DrivenState, DrivenStep, cdata_section, cdata_section_bracket, cdata_section_end, cdata_start, characters, driven, driven_step, going, in_state, plain, state_after, taken}
 use Rattle.tl_html_spec.proofs.Fold.{all_stays, feeds_cons, without_feed}
-use Rattle.tl_html_tokens.specs.Driving.{begins_section}
 use Rattle.tl_html_tokens.specs.Sections.{IsSection, IsSectionDriven, begin_len, ends_section, section_len, section_past}
 use Rattle.tl_html_tokens.specs.declared.section.Section.{Section}
 

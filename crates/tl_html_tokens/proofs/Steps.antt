@@ -1,6 +1,6 @@
 -- What a byte does at a stage is what it does in the state.
 use Rattle.std.proofs.Common.{◌≡◌, ℕ, zero, suc, Bool, true, false, not, ◌==◌, ◌&&◌, ◌||◌, List, [], ◌∷◌, ◌++◌, drop, map, codes, refl, ap, ap₂, sym, subst, ◌∙◌, inl, inr, true≢false, arith, append-nil, append_assoc, if◌then◌else◌}
-use Rattle.std.specs.Prelude.{⊤, ◌+◌, ◌*◌, flat_map}
+use Rattle.std.specs.Prelude.{⊤, ◌+◌, ◌*◌}
 use Rattle.std.specs.Char.{is_ascii_alphabetic, is_ascii_alphanumeric, is_ascii_digit, is_ascii_hexdigit, to_ascii_lowercase}
 use Rattle.std.specs.List.{list_all, list_any, starts_with}
 use Rattle.std.specs.Str.{bytes_eq}
