@@ -6,6 +6,8 @@ use Rattle.tl_html_spec.specs.HtmlTokenizer as T
 use Rattle.tl_html_spec.specs.HtmlTokenizer.{HtmlToken, Character, State, at_end}
 use Rattle.tl_html_spec.specs.Pieces.{piece, pieces_from, runs, with_piece}
 use Rattle.tl_html_spec.specs.Sound.{IsSome}
+use Rattle.tl_html_spec.specs.Reader.{Reader, after, at, emitted}
+use Rattle.tl_html_tokens.specs.Ends.{OpensAtMostFirst, Pends, StartsLast}
 use Rattle.tl_html_tokens.specs.Fronts.{IsFront, pieces_at}
 use Rattle.tl_html_tokens.specs.Kinds.{IsKind}
 use Rattle.tl_html_tokens.specs.Modes.{state_of}
@@ -119,4 +121,12 @@ scan_end page start m n place scan h e =
       within = le_refl (length page);
       read = ap runs (h.pieces ∙ ap (pieces_from o (reader h.state scan.after_return) (between page start place) h.tokens) (none place e))
           ∙ ap₂ (λ k v. with_piece (piece o (between page start k) (h.tokens ++ at_end h.state)) (runs (pieces_at (state_of n) v))) e (sym (none (length page) refl));
+      stands = record {
+        pending = at_end h.state;
+        told = ap (λ ts. ts ++ at_end h.state) (sym h.told ∙ ap (λ k. emitted (at o) (between page start k)) e);
+        ends = subst (λ t. Pends (after (at o) (between page start (length page))) t (state_of n) (at_end h.state)) (sym (none (length page) refl))
+            (sym (ap (λ (r : Reader). at_end r.state) (ap (λ k. after (at o) (between page start k)) (sym e) ∙ h.reached)));
+        opens_first = subst (λ k. OpensAtMostFirst o (between page start k)) e h.opened;
+        starts_last = subst (λ k. StartsLast (at o) (between page start k)) e h.starts;
+      };
     }

@@ -4,6 +4,8 @@ pub mod Steps
 pub mod Turns
 pub mod Defaults
 pub mod Places
+pub mod Early
+pub mod Reached
 pub mod Reading
 pub mod Ending
 pub mod Joining
@@ -25,3 +27,5 @@ pub mod Opening
 pub mod Alone
 pub mod Through
 pub mod Beginning
+pub mod Drives
+pub mod Sections

@@ -1,20 +1,22 @@
 -- A run of characters is one piece.
-use Rattle.std.proofs.Common.{◌≡◌, ◌≤◌, ◌<◌, ℕ, zero, suc, ◌+◌, ◌-◌, Bool, true, false, not, ◌==◌, ◌||◌, List, [], ◌∷◌, ◌++◌, length, length-drop, length-take, take, drop, drop-drop, map, get_or, refl, ap, ap₂, sym, ◌∙◌, true≢false, arith, append-nil}
+use Rattle.std.proofs.Common.{◌≡◌, ◌≤◌, ◌<◌, ℕ, zero, suc, ◌+◌, ◌-◌, Bool, true, false, not, ◌==◌, ◌||◌, List, [], ◌∷◌, ◌++◌, length, length-drop, length-take, take, drop, drop-drop, map, get_or, refl, ap, ap₂, sym, subst, subst₂, ◌∙◌, inl, true≢false, arith, append-nil}
 use Rattle.std.specs.List.{list_all}
 use Rattle.std.proofs.lemmas.Bool.{and_from, and_parts}
 use Rattle.std.proofs.lemmas.List.{take-append-drop}
 use Rattle.tl_html_spec.specs.HtmlTokenizer as T
 use Rattle.tl_html_spec.specs.HtmlTokenizer.{HtmlToken, Character, State, Step, at_end, char_of, step}
 use Rattle.tl_html_spec.specs.Pieces.{Piece, are_characters, piece, pieces_from, runs, with_piece}
-use Rattle.tl_html_spec.specs.Reader.{at, feed, read, resting}
+use Rattle.tl_html_spec.specs.Reader.{Reader, after, at, emitted, feed, next, read, resting}
 use Rattle.tl_html_spec.specs.Sound.{IsSome}
 use Rattle.tl_html_spec.proofs.Resting.{settled_at_once, strict_rest}
+use Rattle.tl_html_tokens.specs.Ends.{NoStart, Pends, StandsFor, StartsLast, opens}
 use Rattle.tl_html_tokens.specs.Fronts.{IsFront, pieces_at}
 use Rattle.tl_html_tokens.specs.Modes.{state_of}
 use Rattle.tl_html_tokens.specs.Inner.Runs.{is_plain, reads_plain}
 use Rattle.tl_html_tokens.specs.declared.mode.Mode.{Mode}
 use Rattle.tl_html_tokens.specs.declared.mode.Mode.TheVariants as mode
 use Rattle.tl_html_tokens.specs.declared.stage.TokenKind.TheVariants as kind
+use Rattle.tl_html_tokens.proofs.Early.{chars_quiet, mode_opens_none}
 use Rattle.tl_html_tokens.proofs.Ending.{mode_ends}
 use Rattle.tl_html_tokens.proofs.Joining.{chars_join, joins}
 use Rattle.tl_html_tokens.proofs.Reading.{pieces_before, read_plain, reader}
@@ -118,26 +120,63 @@ record IsRun (m : Mode) (x t : List ℕ) : Type 0 where
   tokens : List HtmlToken
   chars : are_characters tokens ≡ true
   read : runs (pieces_at (state_of m) (x ++ t)) ≡ with_piece (piece (state_of m) x tokens) (runs (pieces_at (state_of m) t))
+  reached : after (at (state_of m)) x ≡ at (state_of m)
+  told : emitted (at (state_of m)) x ≡ tokens
+  opened : opens (at (state_of m)) x ≡ false
+  starts : StartsLast (at (state_of m)) x
+
+next_is : (m : Mode) (b : ℕ) → reads_plain m ≡ true → IsPlain b → next (at (state_of m)) b ≡ at (state_of m)
+next_is m b h p = ap₂ (λ (s : State) v. reader s v) (ap (λ (x : Step). x.next) (read_is m b h p)) p.returns
+
+emits_are : (m : Mode) (b : ℕ) → reads_plain m ≡ true → IsPlain b → (read (at (state_of m)) b).emits ≡ tokens_in m b
+emits_are m b h p = ap (λ (x : Step). x.emits) (read_is m b h p)
 
 run_is : (m : Mode) (b : ℕ) (x t : List ℕ) → reads_plain m ≡ true → list_all is_plain (b ∷ x) ≡ true → IsRun m (b ∷ x) t
 run_is m b [] t h k =
-    let p = and_parts (is_plain b) true k in
-    record { tokens = tokens_in m b; chars = chars (bytes_in m b) (some_in m b); read = ap runs (one_plain m b t h (plain_is b p.0)) }
+    let p = plain_is b (and_parts (is_plain b) true k).0 in
+    record {
+      tokens = tokens_in m b;
+      chars = chars (bytes_in m b) (some_in m b);
+      read = ap runs (one_plain m b t h p);
+      reached = next_is m b h p;
+      told = append-nil (read (at (state_of m)) b).emits ∙ emits_are m b h p;
+      opened = ap (λ v. v || false) (mode_opens_none m (feed b));
+      starts = tt;
+    }
 run_is m b (c ∷ x) t h k =
     let p = and_parts (is_plain b) (list_all is_plain (c ∷ x)) k in
     let more = run_is m c x t h p.1 in
     let first = chars (bytes_in m b) (some_in m b) in
+    let on = next_is m b h (plain_is b p.0) in
+    let now = emits_are m b h (plain_is b p.0) in
     record {
       tokens = tokens_in m b ++ more.tokens;
       chars = chars_join (tokens_in m b) more.tokens first more.chars;
       read = ap runs (one_plain m b (c ∷ x ++ t) h (plain_is b p.0))
           ∙ ap (with_piece (one m b)) more.read
           ∙ joins (one m b) (piece (state_of m) (c ∷ x) more.tokens) (runs (pieces_at (state_of m) t)) first more.chars;
+      reached = ap (λ (r : Reader). after r (c ∷ x)) on ∙ more.reached;
+      told = ap₂ (λ (ts : List HtmlToken) (r : Reader). ts ++ emitted r (c ∷ x)) now on ∙ ap (λ ts. tokens_in m b ++ ts) more.told;
+      opened = ap₂ (λ v (r : Reader). v || opens r (c ∷ x)) (mode_opens_none m (feed b)) on ∙ more.opened;
+      starts = (subst NoStart (sym now) (chars_quiet (tokens_in m b) first), subst (λ (r : Reader). StartsLast r (c ∷ x)) (sym on) more.starts);
     }
 
 run_of : (m : Mode) (x t : List ℕ) → reads_plain m ≡ true → 0 < length x → list_all is_plain x ≡ true → IsRun m x t
 run_of m [] t h l k = absurd (omega arith)
 run_of m (b ∷ x) t h l k = run_is m b x t h k
+
+run_ends : (m : Mode) (t : List ℕ) → Pends (at (state_of m)) t (state_of m) []
+run_ends m [] = sym (mode_ends m)
+run_ends m (c ∷ t) = strict_rest (state_of m) c (rests m)
+
+run_stands : (m : Mode) (x t : List ℕ) (r : IsRun m x t) → StandsFor (state_of m) x t (state_of m) r.tokens
+run_stands m x t r = record {
+  pending = [];
+  told = sym r.told ∙ sym (append-nil (emitted (at (state_of m)) x));
+  ends = subst (λ (y : Reader). Pends y t (state_of m) []) (sym r.reached) (run_ends m t);
+  opens_first = inl r.opened;
+  starts_last = r.starts;
+}
 
 pub run_front : (page : List ℕ) (start : ℕ) (m : Mode) (n : ℕ) → reads_plain m ≡ true → 0 < n → n ≤ length (drop start page) → start < length page →
     list_all is_plain (take n (drop start page)) ≡ true → IsFront page start m (record { kind = kind.Text; end = start + n; mode = m })
@@ -155,4 +194,5 @@ run_front page start m n h l k i a =
       read = ap (λ t. runs (pieces_at (state_of m) t)) (sym (take-append-drop n s))
           ∙ r.read
           ∙ ap₂ (λ v t. with_piece (piece (state_of m) (take v s) r.tokens) (runs (pieces_at (state_of m) t))) (sym sum) (drop-drop n start page);
+      stands = subst₂ (λ k t. StandsFor (state_of m) (take k s) t (state_of m) r.tokens) (sym sum) (drop-drop n start page) (run_stands m (take n s) (drop n s) r);
     }

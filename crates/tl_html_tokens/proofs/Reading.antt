@@ -1,12 +1,16 @@
 -- A piece is read byte by byte.
-use Rattle.std.proofs.Common.{◌≡◌, ◌≤◌, ◌<◌, ◌⊎◌, ℕ, ◌+◌, Bool, true, false, ◌==◌, ◌&&◌, List, [], ◌∷◌, ◌++◌, length, drop, get_or, Some, None, codes, refl, ap, ap₂, sym, subst, ◌∙◌, inl, inr, true≢false, arith, append-nil, if◌then◌else◌}
+use Rattle.std.proofs.Common.{◌≡◌, ◌≤◌, ◌<◌, ◌⊎◌, ℕ, ◌+◌, Bool, true, false, ◌==◌, ◌&&◌, List, [], ◌∷◌, ◌++◌, length, drop, get_or, Some, None, codes, refl, ap, ap₂, sym, subst, subst₂, ◌∙◌, ◌||◌, inl, inr, true≢false, arith, append-nil, if◌then◌else◌}
 use Rattle.std.proofs.lemmas.Bool.{cases_Bool, cond_both, eqb-true}
 use Rattle.std.proofs.lemmas.List.{drop_more}
 use Rattle.tl_html_spec.specs.HtmlTokenizer as T
 use Rattle.tl_html_spec.specs.HtmlTokenizer.{HtmlToken, Character, State, Step, at_end, char_of, settled, step, whole_step}
 use Rattle.tl_html_spec.specs.Pieces.{piece, pieces_from, runs}
-use Rattle.tl_html_spec.specs.Reader.{Reader, Rest, at, byte_step, feed, is_at_rest, read, rest_before, rest_if, rest_within}
+use Rattle.tl_html_spec.specs.Reader.{Reader, Rest, after, at, byte_step, emitted, feed, is_at_rest, next, read, rest_before, rest_if, rest_within}
+use Rattle.tl_html_spec.specs.Driven.{opens_cdata}
+use Rattle.tl_html_spec.proofs.Fold.{after_append, emitted_append}
 use Rattle.tl_html_spec.proofs.Resting.{settled_at_once}
+use Rattle.tl_html_spec.proofs.Starts.{rest_quiet}
+use Rattle.tl_html_tokens.specs.Ends.{NoStart, OpensAtMostFirst, Pends, StartsLast, opens}
 use Rattle.tl_html_tokens.specs.Fronts.{IsFront, pieces_at}
 use Rattle.tl_html_tokens.specs.Kinds.{IsKind}
 use Rattle.tl_html_tokens.specs.Inner.Machine as M
@@ -28,8 +32,10 @@ use Rattle.tl_html_tokens.specs.declared.stage.Stage.{Stage}
 use Rattle.tl_html_tokens.specs.declared.stage.Stage.TheVariants as stage
 use Rattle.tl_html_tokens.specs.declared.stage.Turn.{Turn}
 use Rattle.tl_html_tokens.specs.declared.stage.Turn.TheVariants.{Goes, Ends}
+use Rattle.tl_html_tokens.proofs.Early.{begun_starts, early_before, feed_starts, is_early, mode_opens_none, no_open, opening, stage_quiet, starts_stage, turn_starts}
+use Rattle.tl_html_tokens.proofs.Reached.{BegunBy, begun_passed, early_begun, first_begun, opens_append, quiet_of, starts_more}
 use Rattle.tl_html_tokens.proofs.Places.{between, between_more, between_none, feed_plain}
-use Rattle.tl_html_tokens.proofs.Steps.{IsBegun, IsRaw, IsStage, IsValue, Met, char_some, chars, met, raw_of, rests}
+use Rattle.tl_html_tokens.proofs.Steps.{IsBegun, IsRaw, IsStage, IsValue, Met, char_some, chars, met, next_word, raw_of, rests}
 use Rattle.tl_html_tokens.proofs.Turns.{rest_here, turned}
 use Rattle.tl_html_spec.specs.Sound.{IsSome}
 
@@ -172,6 +178,12 @@ pub record IsScan (page : List ℕ) (start : ℕ) (m : Mode) (place : ℕ) (scan
   pub stage : IsStage (between page scan.word place) scan.stage state tokens
   pub plain : has_word scan.stage ≡ false → scan.word ≡ place
   pub returned : scan.after_return ≡ true → has_word scan.stage ≡ false
+  pub reached : after (at (state_of m)) (between page start place) ≡ reader state scan.after_return
+  pub told : emitted (at (state_of m)) (between page start place) ≡ tokens
+  pub opened : OpensAtMostFirst (state_of m) (between page start place)
+  pub begun : BegunBy m scan.stage scan.after_return (between page start place) (between page scan.word place)
+  pub starts : StartsLast (at (state_of m)) (between page start place)
+  pub closed : scan.after_return ≡ true → NoStart tokens
   pub pieces : pieces_at (state_of m) (drop start page) ≡ pieces_from (state_of m) (reader state scan.after_return) (between page start place) tokens (drop place page)
 
 -- the first byte
@@ -244,6 +256,12 @@ scan_first page start m h =
       stage = subst (λ (w : List ℕ). IsStage w (M.first m (feed b)) x.next x.emits) (sym (between_none page (start + 1))) f.stage;
       plain = λ _. refl;
       returned = λ _. f.plain;
+      reached = ap (after (at s)) one ∙ ap (λ (y : Step). reader y.next (b == 13)) is;
+      told = ap (emitted (at s)) one ∙ append-nil (read (at s) b).emits ∙ ap (λ (y : Step). y.emits) is;
+      opened = inl (ap (opens (at s)) one ∙ ap (λ v. v || false) (mode_opens_none m (feed b)));
+      begun = subst₂ (BegunBy m (M.first m (feed b)) (b == 13)) (sym one) (sym (between_none page (start + 1))) (first_begun b m);
+      starts = subst (StartsLast (at s)) (sym one) tt;
+      closed = λ _. quiet_of x.emits (rest_quiet s (feed b) (rests m));
       pieces = ap (pieces_at s) (drop_more page start 0 h)
           ∙ ap₂ (λ (y : State) us. pieces_from s (reader y (b == 13)) (b ∷ []) us rest) (ap (λ (y : Step). y.next) is) (append-nil (read (at s) b).emits ∙ ap (λ (y : Step). y.emits) is)
           ∙ ap (λ v. pieces_from s (reader x.next (b == 13)) v x.emits rest) (sym one);
@@ -287,6 +305,53 @@ module _ (page : List ℕ) (start : ℕ) (m : Mode) (place : ℕ) (scan : Scan) 
       front_is ∙ pieces_on o (reader h.state scan.after_return) (between page start place) h.tokens b rest x e k
       ∙ ap (λ v. pieces_from o (reader x.next (b == 13)) v (h.tokens ++ x.emits) rest) (sym more)
 
+  abbrev bs : List ℕ
+  bs = between page start place
+
+  reached_on : (x : Step) → read (reader h.state scan.after_return) b ≡ x → after (at o) (between page start (place + 1)) ≡ reader x.next (b == 13)
+  reached_on x k =
+      ap (after (at o)) more ∙ after_append (at o) bs (b ∷ []) ∙ ap (λ (r : Reader). next r b) h.reached ∙ ap (λ (y : Step). reader y.next (b == 13)) k
+
+  told_on : (x : Step) → read (reader h.state scan.after_return) b ≡ x → emitted (at o) (between page start (place + 1)) ≡ h.tokens ++ x.emits
+  told_on x k =
+      ap (emitted (at o)) more ∙ emitted_append (at o) bs (b ∷ []) ∙ ap₂ (λ ts (r : Reader). ts ++ emitted r (b ∷ [])) h.told h.reached
+      ∙ ap (λ us. h.tokens ++ us) (append-nil (read (reader h.state scan.after_return) b).emits ∙ ap (λ (y : Step). y.emits) k)
+
+  starts_on : NoStart h.tokens → StartsLast (at o) (between page start (place + 1))
+  starts_on n = subst (StartsLast (at o)) (sym more) (starts_more (at o) bs b h.starts (subst NoStart (sym h.told) n))
+
+  no_opening : (r : Reader) → r ≡ reader h.state scan.after_return → opens_cdata h.state (feed b) ≡ false → opens r (b ∷ []) ≡ false
+  no_opening r e n = ap (λ (x : Reader). opens x (b ∷ [])) e ∙ ap (λ v. v || false) n
+
+  opened_at : opens_cdata h.state (feed b) ≡ true → OpensAtMostFirst o (bs ++ b ∷ [])
+  opened_at y =
+      let k = opening w scan.stage h.state h.tokens (feed b) h.stage y in
+      let p = early_begun m scan.stage scan.after_return bs w h.begun (ap is_early k.stage) in
+      let all : bs ≡ 60 ∷ 33 ∷ [] = p.1 ∙ ap (λ v. 60 ∷ v) k.word in
+      let is : b ≡ 91 = sym (feed_plain b (ap (λ c. c == 10) k.byte)) ∙ k.byte in
+      elim h.opened [
+        | inl z ↦ inr ([], ap state_of p.0, ap (λ v. v ++ b ∷ []) all ∙ ap (λ c. 60 ∷ 33 ∷ c ∷ []) is, refl)
+        | inr q ↦ (let never : 60 ∷ 33 ∷ [] ≡ 60 ∷ 33 ∷ 91 ∷ q.0 = sym all ∙ q.2 in cc)
+      ]
+
+  opened_still : opens_cdata h.state (feed b) ≡ false → OpensAtMostFirst o bs → OpensAtMostFirst o (bs ++ b ∷ [])
+  opened_still n (inl z) = inl (opens_append (at o) bs (b ∷ []) ∙ ap₂ ◌||◌ z (no_opening (after (at o) bs) h.reached n))
+  opened_still n (inr q) =
+      let r : Reader = after (at T.data_state) (60 ∷ 33 ∷ 91 ∷ []) in
+      inr (
+        q.0 ++ b ∷ [],
+        q.1,
+        ap (λ v. v ++ b ∷ []) q.2,
+        opens_append r q.0 (b ∷ []) ∙ ap₂ ◌||◌ q.3
+            (no_opening (after r q.0) (sym (ap₂ (λ (x : State) v. after (at x) v) q.1 q.2) ∙ h.reached) n),
+      )
+
+  opened_on : OpensAtMostFirst o (between page start (place + 1))
+  opened_on = subst (OpensAtMostFirst o) (sym more) (elim (cases_Bool (opens_cdata h.state (feed b))) [
+    | inl y ↦ opened_at y
+    | inr n ↦ opened_still n h.opened
+  ])
+
   passed : (scan.after_return && (b == 10)) ≡ true → IsScan page start m (place + 1) (record { stage = scan.stage; after_return = b == 13; word = place + 1 })
   passed p =
       let q = false_first scan.after_return (b == 10) p in
@@ -302,6 +367,12 @@ module _ (page : List ℕ) (start : ℕ) (m : Mode) (place : ℕ) (scan : Scan) 
         stage = subst (λ (v : List ℕ). IsStage v scan.stage h.state h.tokens) (empty ∙ sym (between_none page (place + 1))) h.stage;
         plain = λ _. refl;
         returned = λ r. absurd (true≢false (sym r ∙ no));
+        reached = reached_on (T.to h.state) (read_passed h.state scan.after_return b p);
+        told = told_on (T.to h.state) (read_passed h.state scan.after_return b p) ∙ append-nil h.tokens;
+        opened = opened_on;
+        begun = begun_passed m scan.stage scan.after_return bs w h.begun q.0 plain (b == 13) (between page start (place + 1)) (between page (place + 1) (place + 1));
+        starts = starts_on (h.closed q.0);
+        closed = λ r. absurd (true≢false (sym r ∙ no));
         pieces = goes_on (T.to h.state) (rest_passed h.state scan.after_return b p) (read_passed h.state scan.after_return b p)
             ∙ ap (λ us. pieces_from o (reader h.state (b == 13)) (between page start (place + 1)) us rest) (append-nil h.tokens);
       }
@@ -329,6 +400,18 @@ module _ (page : List ℕ) (start : ℕ) (m : Mode) (place : ℕ) (scan : Scan) 
   word_plain true k = absurd (true≢false k)
   word_plain false k = refl
 
+  begun_on : (c : Stage) → M.turn scan.stage w (feed b) ≡ Goes c →
+      BegunBy m c (b == 13) (between page start (place + 1)) (between page (if has_word c then scan.word else place + 1) (place + 1))
+  begun_on stage.TagOpen e = absurd (no_open scan.stage w (feed b) e)
+  begun_on stage.Declaration e =
+      let p = early_begun m scan.stage scan.after_return bs w h.begun (early_before scan.stage stage.Declaration w (feed b) e refl) in
+      (p.0, more ∙ ap (λ v. v ++ b ∷ []) p.1 ∙ ap (λ v. 60 ∷ v) (sym (between_more page scan.word place h.order inside)))
+  begun_on _ e = tt
+
+  no_start : (c : Stage) → M.turn scan.stage w (feed b) ≡ Goes c → (feed b == 10) ≡ true → starts_stage c ≡ false
+  no_start c e y =
+      sym (ap turn_starts e) ∙ ap (λ x. turn_starts (M.turn scan.stage w x)) (eqb-true (feed b) 10 y) ∙ feed_starts scan.stage w
+
   scan_on : (scan.after_return && (b == 10)) ≡ false → (c : Stage) → M.turn scan.stage w (feed b) ≡ Goes c → IsBegun scan.stage →
       IsScan page start m (place + 1) (record { stage = c; after_return = b == 13; word = if has_word c then scan.word else place + 1 })
   scan_on p c e g =
@@ -344,6 +427,12 @@ module _ (page : List ℕ) (start : ℕ) (m : Mode) (place : ℕ) (scan : Scan) 
         stage = subst (λ (v : List ℕ). IsStage v c x.next (h.tokens ++ x.emits)) (word_is c e (has_word c) refl) t.1;
         plain = word_plain (has_word c);
         returned = λ r. no_feed c e (fed r);
+        reached = reached_on x (read_plain h.state scan.after_return b p);
+        told = told_on x (read_plain h.state scan.after_return b p);
+        opened = opened_on;
+        begun = begun_on c e;
+        starts = starts_on (stage_quiet w scan.stage h.state h.tokens h.stage (begun_starts scan.stage g));
+        closed = λ r. stage_quiet (next_word c w (feed b)) c x.next (h.tokens ++ x.emits) t.1 (no_start c e (fed r));
         pieces = goes_on x (rest_plain h.state scan.after_return b p ∙ t.0) (read_plain h.state scan.after_return b p);
       }
 
@@ -358,6 +447,13 @@ module _ (page : List ℕ) (start : ℕ) (m : Mode) (place : ℕ) (scan : Scan) 
         within = omega arith;
         read = ap runs (front_is ∙ pieces_before o (reader h.state scan.after_return) (between page start place) h.tokens b rest (record { state = state_of n; emits = es }) e
             ∙ ap (λ v. piece o (between page start place) (h.tokens ++ es) ∷ pieces_at (state_of n) v) (sym (drop_more page place 0 inside)));
+        stands = record {
+          pending = es;
+          told = ap (λ ts. ts ++ es) (sym h.told);
+          ends = subst₂ (λ (r : Reader) t. Pends r t (state_of n) es) (sym h.reached) (sym (drop_more page place 0 inside)) e;
+          opens_first = h.opened;
+          starts_last = h.starts;
+        };
       }
 
   scan_ends : (scan.after_return && (b == 10)) ≡ false → (k : TokenKind) (n : Mode) → M.turn scan.stage w (feed b) ≡ Ends k n →

@@ -1,6 +1,6 @@
 -- What a byte does at a stage is what it does in the state.
 use Rattle.std.proofs.Common.{◌≡◌, ℕ, zero, suc, Bool, true, false, not, ◌==◌, ◌&&◌, ◌||◌, List, [], ◌∷◌, ◌++◌, drop, map, codes, refl, ap, ap₂, sym, subst, ◌∙◌, inl, inr, true≢false, arith, append-nil, append_assoc, if◌then◌else◌}
-use Rattle.std.specs.Prelude.{⊤, ◌+◌, ◌*◌, flat_map}
+use Rattle.std.specs.Prelude.{⊤, ◌+◌, ◌*◌}
 use Rattle.std.specs.Char.{is_ascii_alphabetic, is_ascii_alphanumeric, is_ascii_digit, is_ascii_hexdigit, to_ascii_lowercase}
 use Rattle.std.specs.List.{list_all, list_any, starts_with}
 use Rattle.std.specs.Str.{bytes_eq}
@@ -14,7 +14,7 @@ use Rattle.tl_html_spec.specs.Reader.{is_at_rest}
 use Rattle.tl_html_spec.specs.Sound.{IsSome}
 use Rattle.tl_html_tokens.specs.Kinds.{IsKind}
 use Rattle.tl_html_tokens.specs.Inner.Machine as M
-use Rattle.tl_html_tokens.specs.Modes.{mode_after, own_name, state_of}
+use Rattle.tl_html_tokens.specs.Modes.{letters, mode_after, own_name, state_of}
 use Rattle.tl_html_tokens.specs.Inner.Stages.{has_word}
 use Rattle.tl_html_tokens.specs.declared.mode.Mode.{Mode}
 use Rattle.tl_html_tokens.specs.declared.mode.Mode.TheVariants as mode
@@ -50,10 +50,6 @@ raw_of mode.Plaintext = T.rcdata []
 
 abbrev pub IsRaw : Mode → Type 0
 IsRaw m = state_of m ≡ T.raw (raw_of m)
-
--- the name of a tag, by its bytes
-abbrev pub letters : List ℕ → List ℕ
-letters word = flat_map (λ b. char_of (to_ascii_lowercase b)) word
 
 -- the state after a tag
 abbrev pub after_tag : OpenTag → State
@@ -274,7 +270,7 @@ by_letters w =
 same_mode : (v u : Bool) (x y z : Mode) → v ≡ u → y ≡ z → (if v then x else y) ≡ (if u then x else z)
 same_mode v u x y z e h = ap₂ (λ (a : Bool) (m : Mode). if a then x else m) e h
 
-after_start_is : (w : List ℕ) → T.after_start (letters w) ≡ state_of (mode_after w)
+pub after_start_is : (w : List ℕ) → T.after_start (letters w) ≡ state_of (mode_after w)
 unfolding is_letter
 after_start_is w =
     by_letters w ∙ ap state_of

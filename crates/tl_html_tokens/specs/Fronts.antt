@@ -3,6 +3,7 @@ use Rattle.std.specs.Prelude.{◌≡◌, ◌-◌, ◌≤◌, ◌<◌, ℕ, List,
 use Rattle.tl_html_spec.specs.HtmlTokenizer.{HtmlToken, State}
 use Rattle.tl_html_spec.specs.Pieces.{Piece, piece, pieces_from, runs, with_piece}
 use Rattle.tl_html_spec.specs.Reader.{at, emitted, next}
+use Rattle.tl_html_tokens.specs.Ends.{StandsFor}
 use Rattle.tl_html_tokens.specs.Kinds.{IsKind}
 use Rattle.tl_html_tokens.specs.Modes.{state_of}
 use Rattle.tl_html_tokens.specs.declared.mode.Mode.{Mode}
@@ -23,3 +24,5 @@ pub record IsFront (page : List ℕ) (start : ℕ) (mode : Mode) (front : Front)
   pub read : runs (pieces_at (state_of mode) (drop start page))
       ≡ with_piece (piece (state_of mode) (take (front.end - start) (drop start page)) tokens)
       (runs (pieces_at (state_of front.mode) (drop front.end page)))
+  pub stands : StandsFor (state_of mode) (take (front.end - start) (drop start page))
+      (drop front.end page) (state_of front.mode) tokens

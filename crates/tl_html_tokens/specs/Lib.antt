@@ -1,6 +1,9 @@
 pub mod Modes
 pub mod Kinds
+pub mod Ends
 pub mod Fronts
+pub mod Driving
+pub mod Sections
 pub mod Tokens
 pub mod Characters
 pub mod Comments

@@ -1,7 +1,8 @@
 -- The states of rest, as the code has them.
-use Rattle.std.specs.Prelude.{ℕ, List, [], codes, if◌then◌else◌}
+use Rattle.std.specs.Prelude.{ℕ, List, [], codes, flat_map, if◌then◌else◌}
+use Rattle.std.specs.Char.{to_ascii_lowercase}
 use Rattle.std.specs.Str.{str_eq_ignore_ascii_case}
-use Rattle.tl_html_spec.specs.HtmlTokenizer.{State, data_state, plaintext, raw, rawtext, rcdata, script_data, script_data_escaped, script_data_escaped_dash, script_data_escaped_dash_dash}
+use Rattle.tl_html_spec.specs.HtmlTokenizer.{State, char_of, data_state, plaintext, raw, rawtext, rcdata, script_data, script_data_escaped, script_data_escaped_dash, script_data_escaped_dash_dash}
 use Rattle.tl_html_tokens.specs.declared.mode.Mode.{Mode}
 use Rattle.tl_html_tokens.specs.declared.mode.Mode.TheVariants.{Data, Title, Textarea, Style, Xmp, Iframe, Noembed, Noframes, Script, ScriptEscaped, ScriptEscapedDash, ScriptEscapedDashDash, Plaintext}
 
@@ -19,6 +20,10 @@ state_of ScriptEscaped = raw script_data_escaped
 state_of ScriptEscapedDash = raw script_data_escaped_dash
 state_of ScriptEscapedDashDash = raw script_data_escaped_dash_dash
 state_of Plaintext = plaintext
+
+-- the name of a tag, by its bytes
+abbrev pub letters : List ℕ → List ℕ
+letters word = flat_map (λ b. char_of (to_ascii_lowercase b)) word
 
 -- after a start tag of this name, in any case
 abbrev pub mode_after : List ℕ → Mode

@@ -10,12 +10,13 @@ use crate::run::run_len;
 use crate::stage::{Stage, Tag, TokenKind, Turn};
 use crate::turn::turn;
 
-// A piece: what it is, where it ends, and how reading goes on there.
+/// What stands in front at a place of a page: what it is, where it ends, and how reading goes on
+/// there, after a start tag by its name.
 #[derive(Clone, Copy)]
-pub(crate) struct Front {
-    pub(crate) kind: TokenKind,
-    pub(crate) end: usize,
-    pub(crate) mode: Mode,
+pub struct Front {
+    pub kind: TokenKind,
+    pub end: usize,
+    pub mode: Mode,
 }
 
 // How far reading has come in a piece: a word that is read begins at `word`.
@@ -243,5 +244,23 @@ pub(crate) fn next_front(page: &[u8], start: usize, mode: Mode) -> Front
         kind: TokenKind::Text,
         end: start + len,
         mode,
+    }
+}
+
+ghost use Rattle.std.specs.Prelude.{IfSome, None};
+
+/// What stands in front at a place where reading is at rest: a tag, a comment, a doctype, some
+/// characters, or what is dropped. There is none at the end of the page.
+///
+/// It is what any driver of the tokenizer reads there (`laws::fronts_are_driven`), such as tree
+/// construction: only the mode after a start tag is the driver's to set.
+pub fn next_token(page: &[u8], start: usize, mode: Mode) -> Option<Front>
+    ensures front { IfSome result (λ front. IsFront page.now start mode front) }
+    ensures none { result ≡ None → length page.now ≤ start }
+{
+    if start < page.len() {
+        Some(next_front(page, start, mode))
+    } else {
+        None
     }
 }

@@ -19,12 +19,15 @@ mod quiet;
 mod raw;
 mod reference;
 mod run;
+mod section;
 mod stage;
 mod tag;
 mod token;
 mod turn;
 
+pub use front::{Front, next_token};
 pub use mode::Mode;
 pub use page::tokens;
+pub use section::{Section, next_section};
 pub use stage::TokenKind;
 pub use token::Token;

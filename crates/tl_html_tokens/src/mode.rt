@@ -36,8 +36,9 @@ ghost use Rattle.std.specs.Prelude.{◌≡◌};
 ghost use Rattle.tl_html_tokens.specs.Modes.{mode_after, own_name};
 
 impl Mode {
-    // How reading goes on after a start tag of this name.
-    pub(crate) fn from_tag_name(name: &[u8]) -> Mode
+    /// How reading goes on after a start tag of this name, in any case: as in the state that the
+    /// name sets (`laws::names_set_modes`).
+    pub fn from_tag_name(name: &[u8]) -> Mode
         ensures { result ≡ mode_after name.now }
     {
         if name.eq_ignore_ascii_case(b"title") {
