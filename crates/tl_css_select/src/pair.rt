@@ -11,8 +11,8 @@ use crate::letters::is_lowercase;
 use crate::spelling::{Spelling, said_name, said_value};
 use crate::value::passes_value;
 use std::alloc::{AllocError, Global};
-use tl_attributes::attributes::Attributes;
 use tl::laws::attributes_in_order;
+use tl_attributes::attributes::Attributes;
 use tl_bytes::byte_string::Bytes;
 use tl_css::selector::Test;
 
