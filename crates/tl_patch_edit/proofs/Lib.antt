@@ -1,4 +1,7 @@
 pub mod Lists
+pub mod Within
+pub mod Texts
+pub mod Edges
 pub mod Sayings
 pub mod Said
 pub mod Steps

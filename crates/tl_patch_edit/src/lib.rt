@@ -13,6 +13,7 @@ mod plan;
 mod put;
 mod raw_text;
 mod ready;
+mod seam;
 mod several;
 mod tag;
 mod tail;
