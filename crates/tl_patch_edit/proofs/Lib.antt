@@ -11,6 +11,7 @@ pub mod Plans
 pub mod Puts
 pub mod EndTags
 pub mod Splicing
+pub mod Single
 pub mod Tails
 pub mod Edited
 pub mod Starts

@@ -1,9 +1,9 @@
 -- Where separators stand around what is put: exactly where a text would go on with what stands
 -- behind it, and where a byte order mark would come to the front of a page.
 use Rattle.std.specs.Prelude.{◌≡◌, ◌-◌, ◌==◌, ℕ, Bool, true, false, ◌&&◌, not, List, [], ◌∷◌, ◌++◌, Option, Some, None, drop, take, if◌then◌else◌, ⊤}
-use Rattle.std.specs.List.{slice_get}
+use Rattle.std.specs.List.{list_all, slice_get}
 use Rattle.tl_html_spec.specs.Pieces.{Piece, are_characters, runs}
-use Rattle.tl_patch_spec.specs.Patches.{IsAsked, Put, separator_if}
+use Rattle.tl_patch_spec.specs.Patches.{Changed, IsAsked, Put, separator_if}
 use Rattle.tl_patch_spec.specs.Seams.{is_seam}
 use Rattle.tl_patch_spec.specs.Splices.{Splice}
 
@@ -66,3 +66,11 @@ AreSeparatedFrom before place ps _ _ = ⊥
 
 abbrev pub AreSeparated : List Piece → List (Splice Put) → List (Splice Piece) → Type 0
 AreSeparated ps asks splices = AreSeparatedFrom None 0 ps asks splices
+
+-- whether what is put is new, and no tag of the page that changes
+abbrev pub is_new : Put → Bool
+is_new (Changed change) = false
+is_new _ = true
+
+abbrev pub changes_none : Splice Put → Bool
+changes_none ask = list_all is_new ask.put

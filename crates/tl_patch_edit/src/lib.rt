@@ -7,6 +7,7 @@ mod edit;
 mod element_name;
 mod error;
 mod extent;
+pub mod laws;
 mod left_open;
 mod part;
 mod plan;
