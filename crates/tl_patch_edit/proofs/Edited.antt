@@ -1,5 +1,5 @@
 -- A page that is read again.
-use Rattle.std.proofs.Common.{◌≡◌, ℕ, zero, suc, ◌+◌, Bool, true, false, List, [], ◌∷◌, ◌++◌, length, drop, flat_map, Option, Some, slice_get, refl, ap, ap₂, sym, subst, ◌∙◌, if◌then◌else◌, ◌==◌, ◌&&◌, true≢false, arith}
+use Rattle.std.proofs.Common.{◌≡◌, ℕ, zero, suc, ◌+◌, Bool, true, false, List, [], ◌∷◌, ◌++◌, length, drop, flat_map, Option, None, Some, slice_get, refl, ap, ap₂, sym, subst, ◌∙◌, if◌then◌else◌, ◌==◌, ◌&&◌, true≢false, arith}
 use Rattle.std.proofs.lemmas.Bool.{and_parts, eqb-true}
 use Rattle.tl_html_spec.specs.HtmlTokenizer.{html_tokens, without_mark}
 use Rattle.tl_html_spec.specs.Pieces.{Piece, pieces, placed, runs, tokens_in}
@@ -14,6 +14,7 @@ use Rattle.tl_patch_edit.specs.Asks.{IsWanted}
 use Rattle.tl_patch_edit.specs.Found.{IsNeverRead, IsNeverSplicedOf, IsReadAs, IsSplicedPageOf, IsStartAt, IsStartOf, IsTagName, has_mark, mark_bytes}
 use Rattle.tl_patch_edit.specs.Inner.Parts.{ArePieces, Part, Say, SayOtherwise, SaySame, part_bytes}
 use Rattle.tl_patch_edit.specs.Sayings.{Saying, sayings}
+use Rattle.tl_patch_edit.proofs.Edges.{none_before}
 use Rattle.tl_patch_edit.proofs.Said.{pieces_give}
 use Rattle.tl_patch_edit.proofs.Sayings.{runs_said, say_whole, tokens_are_said, tokens_said}
 use Rattle.tl_patch_spec.specs.Patches.{Extent, Patch, Put, asked, asked_by_name, asked_of, extent_in, start_name, tokens_of_piece}
@@ -95,8 +96,8 @@ never_read b page text wanted p w n = record {
 }
 
 pub never_spliced : (asks : List (Splice Put)) (parts wanted : List Part) (page : List ℕ) → IsWanted asks parts wanted → IsNeverRead page wanted → IsNeverSplicedOf asks parts page
-never_spliced asks parts wanted page w r = λ ps h.
-    let s = w ps h in
+never_spliced asks parts wanted page w r = λ ps h t.
+    let s = w ps h t None none_before in
     record {
       splices = s.splices;
       ordered = s.ordered;
@@ -106,8 +107,8 @@ never_spliced asks parts wanted page w r = λ ps h.
     }
 
 pub spliced : (asks : List (Splice Put)) (parts wanted : List Part) (page text : List ℕ) → IsWanted asks parts wanted → IsReadAs page wanted text → IsSplicedPageOf asks parts page text
-spliced asks parts wanted page text w r = λ ps h.
-    let s = w ps h in
+spliced asks parts wanted page text w r = λ ps h t.
+    let s = w ps h t None none_before in
     record {
       splices = s.splices;
       ordered = s.ordered;

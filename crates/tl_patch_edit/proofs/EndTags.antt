@@ -12,11 +12,14 @@ use Rattle.tl_html_tokens.specs.declared.stage.TokenKind.{TokenKind}
 use Rattle.tl_patch.specs.Places.{IsRenamed, begins_end_tag}
 use Rattle.tl_patch_spec.specs.Markup.{is_name}
 use Rattle.tl_patch.proofs.EndNames.{end_tag_whole, renamed_bytes, renamed_whole}
-use Rattle.tl_patch_edit.specs.Asks.{IsEndTagOf, IsRenamedEnd, is_data}
+use Rattle.tl_patch_edit.specs.Asks.{IsEndTagOf, IsRenamedEnd}
 use Rattle.tl_patch_edit.specs.Inner.Causes.{begins_as}
 use Rattle.tl_patch_edit.specs.Found.{has_mark}
-use Rattle.tl_patch_edit.specs.Inner.Parts.{ArePieces, Give, Part}
+use Rattle.tl_patch_edit.specs.Inner.Parts.{ArePieces, Give, Part, is_data}
 use Rattle.tl_patch_edit.specs.Sayings.{Saying, sayings}
+use Rattle.tl_patch_edit.specs.Inner.Seams.{SameEdges}
+use Rattle.tl_patch_edit.proofs.Edges.{pieces_edges}
+use Rattle.tl_patch_edit.proofs.Texts.{page_texts}
 use Rattle.tl_patch_edit.proofs.Said.{pieces_give}
 use Rattle.tl_patch_edit.proofs.Sayings.{runs_said}
 
@@ -34,6 +37,10 @@ markup_gives markup parts h a =
     let is : pieces markup ≡ pieces_of markup = ap pieces_of (unmarked markup h) in
     subst₂ (λ (b : List ℕ) (ss : List Saying). Give parts b ss)
     (runs_bytes (pieces markup) ∙ ap bytes_of is) (runs_said (pieces markup) ∙ ap sayings is) (pieces_give parts (runs (pieces markup)) a)
+
+pub markup_edges : (markup : List ℕ) (parts : List Part) → has_mark markup ≡ false → ArePieces parts (runs (pieces markup)) → SameEdges parts (runs (pieces_of markup))
+markup_edges markup parts h a =
+    subst (λ (text : List ℕ). SameEdges parts (runs (pieces_of text))) (unmarked markup h) (pieces_edges parts (runs (pieces markup)) a (page_texts (without_mark markup)))
 
 -- the end tag of a name, written
 

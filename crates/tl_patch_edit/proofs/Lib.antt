@@ -1,4 +1,7 @@
 pub mod Lists
+pub mod Within
+pub mod Texts
+pub mod Edges
 pub mod Sayings
 pub mod Said
 pub mod Steps
@@ -8,6 +11,7 @@ pub mod Plans
 pub mod Puts
 pub mod EndTags
 pub mod Splicing
+pub mod Single
 pub mod Tails
 pub mod Edited
 pub mod Starts

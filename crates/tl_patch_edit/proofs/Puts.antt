@@ -1,16 +1,18 @@
 -- What is put gives the pieces that are asked for.
 use Rattle.std.proofs.Common.{◌≡◌, ℕ, true, List, [], ◌∷◌, ◌++◌, map, Some, refl, ap, sym, subst, ◌∙◌, append-nil, true≢false}
 use Rattle.tl_html_spec.specs.HtmlTokenizer.{Character, CommentToken, DoctypeToken, EndTag, HtmlToken, StartTag, State, data_state}
-use Rattle.tl_html_spec.specs.Pieces.{Piece, bytes_of, piece, pieces_of}
+use Rattle.tl_html_spec.specs.Pieces.{Piece, bytes_of, piece, pieces_of, runs}
 use Rattle.tl_html_tokens.specs.Modes.{state_of}
 use Rattle.tl_html_tokens.specs.Kinds.{IsEndTag}
 use Rattle.tl_html_tokens.specs.Whole.{IsWhole}
 use Rattle.tl_html_tokens.specs.declared.mode.Mode.{Mode}
 use Rattle.tl_html_tokens.specs.declared.mode.Mode.TheVariants as mode
 use Rattle.tl_html_tokens.specs.declared.stage.TokenKind.TheVariants as kind
-use Rattle.tl_patch_edit.specs.Asks.{GivePut, IsRenamedEnd, IsRenamedTag, IsTextPart, end_tag_bytes, is_data, text_form}
-use Rattle.tl_patch_edit.specs.Inner.Parts.{Give, Part, Says, TellsTag}
+use Rattle.tl_patch_edit.specs.Asks.{GivePut, IsRenamedEnd, IsRenamedTag, IsTextPart, end_tag_bytes, text_form}
+use Rattle.tl_patch_edit.specs.Inner.Parts.{Give, Part, Says, TellsTag, is_data}
 use Rattle.tl_patch_edit.specs.Sayings.{Tag, character, is_tag, said_by, sayings}
+use Rattle.tl_patch_edit.specs.Inner.Seams.{SameEdges}
+use Rattle.tl_patch_edit.proofs.Edges.{edges_both, end_tag_runs, nothing_edges, tag_edges, text_edges}
 use Rattle.tl_patch_edit.proofs.Said.{pieces_both}
 use Rattle.tl_patch_edit.proofs.Sayings.{characters_other, kind_is_tag, plain, tag_kind_says, tag_kind_tells, tag_tells, text_no_tag}
 use Rattle.tl_patch_spec.specs.Patches.{Changed, Content, Markup, NewContent, NewEndTag, Text, content_pieces, end_tag_piece}
@@ -52,11 +54,13 @@ text_gives m t part h =
     })
 
 pub text_put : (t : List ℕ) (place part : Part) (parts : List Part) → IsTextPart place.mode t part → parts ≡ [] ++ part ∷ [] → GivePut (NewContent (Text t) ∷ []) place parts
+unfolding text_pieces
 text_put t place part parts h e = λ p i.
     let put : List Piece = text_pieces place.mode t in (
       put,
       (put, [], sym (append-nil put), ap (λ (s : State). content_pieces s (Text t)) i.rest ∙ form_is place.mode t, refl),
       subst (λ (xs : List Part). Give xs (bytes_of put) (sayings put)) (sym e) (text_gives place.mode t part h),
+      subst (λ (xs : List Part). SameEdges xs put) (sym e) (subst (λ (x : Part). SameEdges (x ∷ []) put) (sym h.is) (text_edges place.mode t)),
     )
 
 data_is : (m : Mode) → is_data m ≡ true → state_of m ≡ data_state
@@ -74,17 +78,18 @@ data_is mode.ScriptEscapedDash e = cc
 data_is mode.ScriptEscapedDashDash e = cc
 data_is mode.Plaintext e = cc
 
-pub markup_put : (m : List ℕ) (place : Part) (given parts : List Part) → is_data place.mode ≡ true → Give given (bytes_of (pieces_of m)) (sayings (pieces_of m)) → parts ≡ [] ++ given →
+pub markup_put : (m : List ℕ) (place : Part) (given parts : List Part) → is_data place.mode ≡ true → Give given (bytes_of (pieces_of m)) (sayings (pieces_of m)) → SameEdges given (runs (pieces_of m)) → parts ≡ [] ++ given →
     GivePut (NewContent (Markup m) ∷ []) place parts
-markup_put m place given parts d g e = λ p i.
+markup_put m place given parts d g f e = λ p i.
     let put : List Piece = pieces_of m in (
       put,
       (put, [], sym (append-nil put), ap (λ (s : State). content_pieces s (Markup m)) (i.rest ∙ data_is place.mode d), refl),
       subst (λ (xs : List Part). Give xs (bytes_of put) (sayings put)) (sym e) g,
+      subst (λ (xs : List Part). SameEdges xs (runs put)) (sym e) f,
     )
 
 pub nothing_put : (place : Part) (parts : List Part) → parts ≡ [] → GivePut [] place parts
-nothing_put place parts e = λ p i. ([], refl, subst (λ (xs : List Part). Give xs [] []) (sym e) (record { bytes = refl; say = refl }))
+nothing_put place parts e = λ p i. ([], refl, subst (λ (xs : List Part). Give xs [] []) (sym e) (record { bytes = refl; say = refl }), nothing_edges parts e)
 
 tag_gives : (name : List ℕ) (part : Part) → part ≡ record { kind = kind.EndTag; mode = mode.Data; bytes = end_tag_bytes name } → IsWhole mode.Data (end_tag_bytes name) (EndTag name ∷ []) →
     Give (part ∷ []) (bytes_of (end_tag_piece name ∷ [])) (sayings (end_tag_piece name ∷ []))
@@ -93,6 +98,10 @@ tag_gives name part e w =
       bytes = refl;
       say = (Tag (end_tag_piece name) ∷ [], [], refl, (EndTag name ∷ [], refl, w), refl);
     })
+
+end_tag_edges : (name : List ℕ) (part : Part) → part ≡ record { kind = kind.EndTag; mode = mode.Data; bytes = end_tag_bytes name } → SameEdges (part ∷ []) (end_tag_piece name ∷ [])
+end_tag_edges name part e =
+    subst (λ (x : Part). SameEdges (x ∷ []) (end_tag_piece name ∷ [])) (sym e) (tag_edges kind.EndTag mode.Data (end_tag_bytes name) (end_tag_bytes name) data_state (EndTag name ∷ []) refl refl refl refl)
 
 pub tag_put : (name : List ℕ) (c : Content) (place part : Part) (content parts : List Part) → part ≡ record { kind = kind.EndTag; mode = mode.Data; bytes = end_tag_bytes name } →
     IsWhole mode.Data (end_tag_bytes name) (EndTag name ∷ []) → GivePut (NewContent c ∷ []) place content → parts ≡ (part ∷ []) ++ content → GivePut (NewEndTag name ∷ NewContent c ∷ []) place parts
@@ -104,6 +113,8 @@ tag_put name c place part content parts e w g h = λ p i.
       (tag, r.0, refl, refl, r.1),
       subst (λ (xs : List Part). Give xs (bytes_of put) (sayings put)) (sym h)
           (pieces_both (part ∷ []) content tag r.0 (tag_gives name part e w) r.2),
+      subst (λ (qs : List Piece). SameEdges parts qs) (sym (end_tag_runs name (runs r.0)))
+          (subst (λ (xs : List Part). SameEdges xs (end_tag_piece name ∷ runs r.0)) (sym h) (edges_both (part ∷ []) content tag (runs r.0) (end_tag_edges name part e) r.3)),
     )
 
 -- an end tag alone, and a tag with another name
@@ -115,6 +126,7 @@ end_tag_put name place part parts e w h = λ p i.
       put,
       (put, [], sym (append-nil put), refl, refl),
       subst (λ (xs : List Part). Give xs (bytes_of put) (sayings put)) (sym h) (tag_gives name part e w),
+      subst (λ (xs : List Part). SameEdges xs put) (sym h) (end_tag_edges name part e),
     )
 
 renamed_is_tag : (name : List ℕ) (ts : List HtmlToken) → is_tag ts ≡ true → is_tag (map (changed_token (Rename name)) ts) ≡ true
@@ -139,6 +151,7 @@ renamed_put name place tag parts r e = λ p i.
       put,
       (put, [], sym (append-nil put), (piece p.rest tag new, refl, refl, refl, subst (λ (b : List ℕ). IsNamed name b tag) (sym i.bytes) r.named), refl),
       subst (λ (xs : List Part). Give xs (bytes_of put) (sayings put)) (sym e) (record { bytes = refl; say = (said_by q, [], refl, tag_kind_tells place.kind place.mode tag (said_by q) r.tag told, refl) }),
+      subst (λ (xs : List Part). SameEdges xs put) (sym e) (tag_edges place.kind place.mode tag tag p.rest new i.rest refl r.tag is),
     )
 
 pub start_renamed : (name : List ℕ) (m : Mode) (b new : List ℕ) → m ≡ mode.Data → IsRenamed name b new → IsRenamedTag name (record { kind = kind.StartTag; mode = m; bytes = b }) new

@@ -6,7 +6,7 @@ use Rattle.std.proofs.lemmas.List.Sorted.{Contains-permutation, IsPermutation-re
 use Rattle.std.proofs.lemmas.List.{drop_more, get_or-map, length-map, take-append-drop, take_more}
 use Rattle.std.proofs.lemmas.List.Elements.{All-append, All-contains, Contains-append_right, Contains-get_or}
 use Rattle.std.proofs.lemmas.Option.{get_or_from_slice_get, slice_get-get_or, slice_get_within}
-use Rattle.tl_html_spec.specs.HtmlTokenizer.{Character, CommentToken, DoctypeToken, EndTag, HtmlToken, StartTag, State, data_state}
+use Rattle.tl_html_spec.specs.HtmlTokenizer.{Character, CommentToken, DoctypeToken, EndTag, HtmlToken, StartTag, State, data_state, without_mark}
 use Rattle.tl_html_spec.specs.Pieces.{Piece, pieces, runs}
 use Rattle.tl_html_spec.proofs.Cutting.{bytes_are, runs_bytes, runs_tokens, tokens_are}
 use Rattle.tl_html_tokens.specs.Characters.{characters_of}
@@ -23,11 +23,11 @@ use Rattle.tl_patch_spec.specs.Patches.{Changed, Content, Markup, NewContent, Ne
 use Rattle.tl_patch_spec.specs.Splices.{Splice, are_ordered}
 use Rattle.tl_patch_spec.specs.TagChanges.{Rename}
 use Rattle.tl_html_parts.specs.Parts.{name_of}
-use Rattle.tl_patch_edit.specs.Asks.{IsWanted, ask_view, asks_view, is_data, placed_of, puts_view}
+use Rattle.tl_patch_edit.specs.Asks.{IsWanted, ask_view, asks_view, placed_of, puts_view}
 use Rattle.tl_patch_edit.specs.Inner.Causes.{CannotPut, CannotPutIn, CannotStandIn, IsAsksError, IsOneAt, IsPageError, IsPlanError, IsPlanned, IsReadError, IsReadyError, IsSpliceError, IsStartError, IsStartsError, IsUnmeant, NoStartFrom, ReachesFrom, begins_as, has_name, has_tag}
 use Rattle.tl_patch_edit.specs.Errors.{AreAcross, AreTag, CannotBeMeant, CannotBePut, CannotBeWritten, CannotStand, IsAskAt, IsPatchAt, IsRefused, IsTag, pieces_in, placed_pieces}
 use Rattle.tl_patch_edit.specs.Found.{IsStartAt}
-use Rattle.tl_patch_edit.specs.Inner.Parts.{ArePieces, IsPieceOf, Part, Says, with_end_part}
+use Rattle.tl_patch_edit.specs.Inner.Parts.{ArePieces, IsPieceOf, Part, Says, is_data, with_end_part}
 use Rattle.tl_patch_edit.specs.Several.{AreEdited, AreInTurn, AreSorted, BeginAt, IsMeantOfPage, asked_one, asked_view, places_of}
 use Rattle.tl_patch_edit.specs.Open.{IsOf}
 use Rattle.tl_patch_edit.specs.View.{content_view, meant_view, patch_view, patches_view}
@@ -44,6 +44,7 @@ use Rattle.tl_patch_edit.specs.declared.tag.ReadyAsk.{ReadyAsk}
 use Rattle.tl_patch_edit.proofs.Edited.{never_spliced}
 use Rattle.tl_patch_edit.proofs.Missing.{lacks}
 use Rattle.tl_patch_edit.proofs.Splicing.{end_pieces, length_pieces, piece_at}
+use Rattle.tl_patch_edit.proofs.Texts.{page_texts}
 use Rattle.tl_patch_edit.proofs.Together.{asked_together, asks_are, given}
 use Rattle.tl_patch_edit.proofs.Turns.{are_across}
 
@@ -358,6 +359,7 @@ none_edited page = record {
     in_turn = refl;
     are_asked = tt;
   };
+  separated = tt;
   mark = refl;
   bytes = sym (runs_bytes (pieces page) ∙ bytes_are page);
   tokens = sym (runs_tokens (pieces page) ∙ tokens_are page);
@@ -431,14 +433,16 @@ splice_refused page first more patches parts meant asks (error.Across p) f a h =
       across = subst (λ (xs : List (Splice Put)). AreAcross (length (pieces_in page)) xs) (sym (asks_are asks)) (some_across (length (pieces_in page)) asks a.sorted.in_turn order);
     }
 splice_refused page first more patches parts meant asks (error.ReadOtherwise p) f a h =
-    let r = h.1 (pieces_in page) a.are_pieces in
+    let r = h.1 (pieces_in page) a.are_pieces (page_texts (without_mark page)) in
+    let together = asked_together (pieces_in page) (meant_view meant) asks r.splices a.sorted r.ordered r.asked in
     record {
       more = more;
       first = f ∙ ap (λ n. n ∷ more) (sym h.0);
       numbered = meant_view meant;
       begin = a.begin;
       splices = r.splices;
-      asked = asked_together (pieces_in page) (meant_view meant) asks r.splices a.sorted r.ordered r.asked;
+      asked = together.0;
+      separated = together.1;
       whole = r.whole;
       never = r.never;
     }

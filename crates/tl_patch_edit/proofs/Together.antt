@@ -8,6 +8,7 @@ use lib.Dec.{ltb}
 use Rattle.std.proofs.lemmas.List.{drop_more, get_or-set_other, get_or-set_same, length-set, map-append}
 use Rattle.std.proofs.lemmas.List.Elements.{All-cons, All-get_or}
 use Rattle.std.proofs.lemmas.List.Sorted.{IsPermutation-map}
+use Rattle.tl_html_spec.specs.HtmlTokenizer.{without_mark}
 use Rattle.tl_html_spec.specs.Pieces.{Piece, pieces, placed, runs}
 use Rattle.tl_html_tokens.specs.Tokens.{AreTokensOf, mark_len}
 use Rattle.tl_html_tokens.specs.declared.token.Token.{Token}
@@ -19,6 +20,8 @@ use Rattle.tl_patch_spec.specs.Together.{AreAskedTogether, Asked, Gone, Turn, as
 use Rattle.tl_patch_edit.specs.Asks.{ask_view, asks_view, placed_at, placed_view, planned_view}
 use Rattle.tl_patch_edit.specs.Found.{IsSplicedPage, IsSplicedPageOf, IsStartAt}
 use Rattle.tl_patch_edit.specs.Inner.Parts.{ArePieces, Part}
+use Rattle.tl_patch_edit.specs.Seams.{AreSeparated, AreSeparatedFrom}
+use Rattle.tl_patch_edit.proofs.Texts.{page_texts}
 use Rattle.tl_patch_edit.specs.Several.{AreDropped, AreEdited, AreExtents, AreInTurn, AreMeantAt, AreSorted, BeginAt, IsMeantOfPage, asked_one, asked_view, stands_twice}
 use Rattle.tl_patch_edit.specs.View.{extent_view, meant_view, patch_view, patches_view, turn_view}
 use Rattle.tl_patch_elements.specs.View.{element_view, elements_view}
@@ -251,31 +254,44 @@ asks_are (a ∷ asks) = ap (λ (xs : List (Splice Put)). ask_view a.ask ∷ xs) 
 
 -- a page that is read again
 
+-- as they are asked for, whatever separators stand
+are_asked_of : (ps : List Piece) (asks : List (Splice Put)) (splices : List (Splice Piece)) (last : Option Piece) (place : ℕ) → AreSeparatedFrom last place ps asks splices → AreAskedOne ps asks splices
+are_asked_of ps [] [] last place h = tt
+are_asked_of ps [] (s ∷ splices) last place h = absurd h
+are_asked_of ps (a ∷ asks) [] last place h = absurd h
+are_asked_of ps (a ∷ asks) (s ∷ splices) last place h = ((h.0).asked, are_asked_of ps asks splices _ a.until h.1)
+
 pub asked_together : (ps : List Piece) (patches : List (ℕ × Patch)) (asks : List PlacedAsk) (splices : List (Splice Piece)) → AreSorted ps patches asks →
-    are_ordered 0 (length ps) (asks_view asks) ≡ true → AreAskedOne ps (asks_view asks) splices → AreAskedTogether ps patches splices
+    are_ordered 0 (length ps) (asks_view asks) ≡ true → AreSeparated ps (asks_view asks) splices →
+    (together : AreAskedTogether ps patches splices) × AreSeparated ps (map ask_of together.asks) splices
 asked_together ps patches asks splices a o h =
     let same : asks_view asks ≡ map ask_of (asked_view asks) = sym (asks_are asks) in
-    record {
-      each = a.each;
-      asked = a.asked;
-      asks = asked_view asks;
-      same = a.same;
-      ordered = subst (λ (bs : List (Splice Put)). are_ordered 0 (length ps) bs ≡ true) same o;
-      in_turn = are_put_in_turn (length ps) 0 asks a.in_turn o;
-      are_asked = subst (λ (bs : List (Splice Put)). AreAskedOne ps bs splices) same h;
-    }
+    let separated : AreSeparated ps (map ask_of (asked_view asks)) splices = subst (λ (bs : List (Splice Put)). AreSeparated ps bs splices) same h in (
+      record {
+        each = a.each;
+        asked = a.asked;
+        asks = asked_view asks;
+        same = a.same;
+        ordered = subst (λ (bs : List (Splice Put)). are_ordered 0 (length ps) bs ≡ true) same o;
+        in_turn = are_put_in_turn (length ps) 0 asks a.in_turn o;
+        are_asked = are_asked_of ps (map ask_of (asked_view asks)) splices None 0 separated;
+      },
+      separated,
+    )
 
 pub several : (page text : List ℕ) (tokens : List Token) (patches : List PlacedPatch) (meant : List MeantPatch) (asks : List PlacedAsk) (parts : List Part) →
     AreTokensOf page tokens → AreMeantAt 0 tokens patches meant → AreSorted (runs (pieces page)) (meant_view meant) asks → ArePieces parts (runs (pieces page)) →
     IsSplicedPageOf (asks_view asks) parts page text → AreEdited (patches_view patches) page text
 several page text tokens patches meant asks parts t s a g r =
     let ps : List Piece = runs (pieces page) in
-    let page_with : IsSplicedPage (asks_view asks) page text ps = r ps g in
+    let page_with : IsSplicedPage (asks_view asks) page text ps = r ps g (page_texts (without_mark page)) in
+    let together = asked_together ps (meant_view meant) asks page_with.splices a page_with.ordered page_with.asked in
     record {
       numbered = meant_view meant;
       begin = meant_begin page tokens patches 0 meant t s;
       splices = page_with.splices;
-      asked = asked_together ps (meant_view meant) asks page_with.splices a page_with.ordered page_with.asked;
+      asked = together.0;
+      separated = together.1;
       mark = page_with.mark;
       bytes = page_with.bytes;
       tokens = page_with.tokens;

@@ -4,7 +4,7 @@ use Rattle.std.specs.List.{slice_get}
 use Rattle.std.specs.Option.{option_to_list}
 use Rattle.std.specs.Str.{bytes_eq}
 use Rattle.tl_html_spec.specs.HtmlTokenizer.{EndTag, HtmlToken}
-use Rattle.tl_html_spec.specs.Pieces.{Piece, bytes_of}
+use Rattle.tl_html_spec.specs.Pieces.{Piece, bytes_of, runs}
 use Rattle.tl_html_parts.specs.Parts.{name_of}
 use Rattle.tl_html_tokens.specs.Characters.{characters_of}
 use Rattle.tl_html_tokens.specs.Kinds.{IsEndTag, IsKind}
@@ -21,10 +21,12 @@ use Rattle.tl_patch_edit.specs.declared.ask.Put.TheVariants as put
 use Rattle.tl_patch_edit.specs.declared.tag.ReadyAsk.{ReadyAsk}
 use Rattle.tl_patch_edit.specs.declared.ask.Turn.{Turn}
 use Rattle.tl_patch_edit.specs.Inner.Parts.{ArePieces, Give, IsPieceOf, Part, Says, with_end_part}
+use Rattle.tl_patch_edit.specs.Inner.Seams.{HoldTexts, SameBefore, SameEdges}
 use Rattle.tl_patch_edit.specs.Sayings.{sayings}
+use Rattle.tl_patch_edit.specs.Seams.{AreSeparatedFrom}
 use Rattle.tl_patch_edit.specs.View.{content_view}
 use Rattle.tl_patch_spec.specs.Markup.{text_markup}
-use Rattle.tl_patch_spec.specs.Patches.{ArePut, Alone, AreAskedOne, Changed, Content, Dropped, Extent, Implied, Markup, NewContent, NewEndTag, Put, Text, Unclosed, Whole, is_page_name, put_instead}
+use Rattle.tl_patch_spec.specs.Patches.{ArePut, Alone, Changed, Content, Dropped, Extent, Implied, Markup, NewContent, NewEndTag, Put, Text, Unclosed, Whole, is_page_name, put_instead}
 use Rattle.tl_patch_spec.specs.TagNames.{IsNamed}
 use Rattle.tl_patch_spec.specs.Splices.{Splice, are_ordered, with_splices_from}
 use Rattle.tl_patch_spec.specs.TagChanges.{Rename, changed_token}
@@ -64,15 +66,12 @@ text_form mode.Title text = text_markup text
 text_form mode.Textarea text = text_markup text
 text_form _ text = text
 
-abbrev pub is_data : Mode → Bool
-is_data mode.Data = true
-is_data _ = false
-
 -- parts are what is put before a piece, or in its place
 abbrev pub GivePut : List Put → Part → List Part → Type 0
 GivePut puts place parts =
     (p : Piece) → IsPieceOf place p →
     (put : List Piece) × ArePut p puts put × Give parts (bytes_of put) (sayings put)
+    × SameEdges parts (runs put)
 
 -- where an element ends, with its own end tag, if its bytes are its own
 abbrev pub until_of : ℕ → Extent → Option ℕ
@@ -181,22 +180,24 @@ pub record IsTextPart (m : Mode) (text : List ℕ) (part : Part) : Type 0 where
   pub is : part ≡ record { kind = kind.Text; mode = m; bytes = text_form m text }
   pub said : characters_of m (text_form m text) ≡ text
 
--- parts are pieces from a place on, with the splices that are asked for
-pub record IsSplicedFrom (done : ℕ) (asks : List (Splice Put)) (ps : List Piece)
-    (wanted : List Part) : Type 0 where
+-- parts are pieces from a place on, with the splices that are asked for, behind what was written
+pub record IsSplicedFrom (before : Option Piece) (done : ℕ) (asks : List (Splice Put))
+    (ps : List Piece) (wanted : List Part) : Type 0 where
   pub splices : List (Splice Piece)
   pub ordered : are_ordered done (length ps) asks ≡ true
-  pub asked : AreAskedOne ps asks splices
+  pub asked : AreSeparatedFrom before done ps asks splices
   pub gives : Give wanted (bytes_of (with_splices_from done (drop done ps) splices))
       (sayings (with_splices_from done (drop done ps) splices))
 
-abbrev pub IsWantedFrom : ℕ → List (Splice Put) → List Part → List Part → Type 0
-IsWantedFrom done asks parts wanted =
-    (ps : List Piece) → ArePieces parts ps → IsSplicedFrom done asks ps wanted
+abbrev pub IsWantedFrom
+    : Option Part → ℕ → List (Splice Put) → List Part → List Part → Type 0
+IsWantedFrom before done asks parts wanted =
+    (ps : List Piece) → ArePieces parts ps → HoldTexts ps → (b : Option Piece) →
+    SameBefore before b → IsSplicedFrom b done asks ps wanted
 
 -- parts are a page with the splices that are asked for
 abbrev pub IsWanted : List (Splice Put) → List Part → List Part → Type 0
-IsWanted asks parts wanted = IsWantedFrom 0 asks parts wanted
+IsWanted asks parts wanted = IsWantedFrom None 0 asks parts wanted
 
 abbrev pub is_document_name : List ℕ → Bool
 is_document_name name =

@@ -19,6 +19,7 @@ use Rattle.tl_patch_spec.specs.Together.{AreAskedTogether, Asked, ask_of, asked_
 use Rattle.tl_patch_edit.specs.Asks.{text_form}
 use Rattle.tl_patch_edit.specs.Found.{IsNeverSaid, has_mark}
 use Rattle.tl_patch_edit.specs.Sayings.{AreWhole, sayings}
+use Rattle.tl_patch_edit.specs.Seams.{AreSeparated}
 use Rattle.tl_patch_edit.specs.Several.{BeginAt, places_of}
 use Rattle.tl_patch_edit.specs.declared.error.EditError.{EditError}
 use Rattle.tl_patch_edit.specs.declared.error.EditError.TheVariants as error
@@ -157,8 +158,9 @@ pub record MayBeMisread (page : List ℕ) (patches : List (ℕ × Patch)) (place
   pub begins : slice_get (placed_pieces page) (cause_of (pieces_in page) (map ask_of asks) ask)
       ≡ Some (cause, piece)
 
--- a place is the first of those of these patches, they ask for splices of the page's pieces, each
--- tag that these leave is read so by itself, and yet no text with the bytes of what comes of them
+-- a place is the first of those of these patches, they ask for splices of the page's pieces, with
+-- separators exactly where they have to stand, each tag that these leave is read so by itself, and
+-- yet no text with the bytes of what comes of them
 -- says what that says, token by token, and each tag in its bytes
 pub record CannotBeRead (page : List ℕ) (patches : List (ℕ × Patch)) (place : ℕ) : Type 0 where
   pub more : List ℕ
@@ -167,6 +169,7 @@ pub record CannotBeRead (page : List ℕ) (patches : List (ℕ × Patch)) (place
   pub begin : BeginAt 0 (placed_pieces page) patches numbered
   pub splices : List (Splice Piece)
   pub asked : AreAskedTogether (pieces_in page) numbered splices
+  pub separated : AreSeparated (pieces_in page) (map ask_of asked.asks) splices
   pub whole : AreWhole (sayings (with_splices (pieces_in page) splices))
   pub never : IsNeverSaid page (with_splices (pieces_in page) splices)
 

@@ -11,7 +11,9 @@ use Rattle.tl_html_tokens.specs.declared.stage.TokenKind.TheVariants as kind
 use Rattle.tl_html_tokens.specs.declared.token.Token.{Token}
 use Rattle.tl_patch_edit.specs.Inner.Parts.{ArePieces, Part, Say, part_bytes}
 use Rattle.tl_patch_edit.specs.Sayings.{AreWhole, Saying, sayings}
-use Rattle.tl_patch_spec.specs.Patches.{AreAskedOne, Put, start_name}
+use Rattle.tl_patch_edit.specs.Inner.Seams.{HoldTexts}
+use Rattle.tl_patch_edit.specs.Seams.{AreSeparated}
+use Rattle.tl_patch_spec.specs.Patches.{Put, start_name}
 use Rattle.tl_patch_spec.specs.Splices.{Splice, are_ordered, with_splices}
 
 -- the token of this number is a start tag at this place
@@ -58,7 +60,7 @@ pub record IsSplicedPage (asks : List (Splice Put)) (page text : List ℕ) (ps :
     Type 0 where
   pub splices : List (Splice Piece)
   pub ordered : are_ordered 0 (length ps) asks ≡ true
-  pub asked : AreAskedOne ps asks splices
+  pub asked : AreSeparated ps asks splices
   pub mark : mark_len text ≡ mark_len page
   pub bytes : without_mark text ≡ bytes_of (with_splices ps splices)
   pub tokens : html_tokens text ≡ tokens_in (with_splices ps splices)
@@ -75,14 +77,14 @@ pub record IsNeverSpliced (asks : List (Splice Put)) (page : List ℕ) (ps : Lis
     Type 0 where
   pub splices : List (Splice Piece)
   pub ordered : are_ordered 0 (length ps) asks ≡ true
-  pub asked : AreAskedOne ps asks splices
+  pub asked : AreSeparated ps asks splices
   pub whole : AreWhole (sayings (with_splices ps splices))
   pub never : IsNeverSaid page (with_splices ps splices)
 
 abbrev pub IsNeverSplicedOf : List (Splice Put) → List Part → List ℕ → Type 0
 IsNeverSplicedOf asks parts page =
-    (ps : List Piece) → ArePieces parts ps → IsNeverSpliced asks page ps
+    (ps : List Piece) → ArePieces parts ps → HoldTexts ps → IsNeverSpliced asks page ps
 
 abbrev pub IsSplicedPageOf : List (Splice Put) → List Part → List ℕ → List ℕ → Type 0
 IsSplicedPageOf asks parts page text =
-    (ps : List Piece) → ArePieces parts ps → IsSplicedPage asks page text ps
+    (ps : List Piece) → ArePieces parts ps → HoldTexts ps → IsSplicedPage asks page text ps

@@ -1,4 +1,5 @@
 pub mod View
+pub mod Seams
 pub mod Sayings
 pub mod Asks
 pub mod Found

@@ -9,9 +9,10 @@ use Rattle.tl_html_tokens.specs.declared.token.Token.{Token}
 use Rattle.tl_patch_spec.specs.Elements.{Element}
 use Rattle.tl_patch_spec.specs.Patches.{Dropped, Patch, extent_in}
 use Rattle.tl_patch_spec.specs.Splices.{Splice, with_splices}
-use Rattle.tl_patch_spec.specs.Together.{AreAskedTogether, Asked, asked_at, asked_each, comes_first}
+use Rattle.tl_patch_spec.specs.Together.{AreAskedTogether, Asked, ask_of, asked_at, asked_each, comes_first}
 use Rattle.tl_patch_edit.specs.Asks.{ask_view}
 use Rattle.tl_patch_edit.specs.Found.{IsStartAt, IsStartOf}
+use Rattle.tl_patch_edit.specs.Seams.{AreSeparated}
 use Rattle.tl_patch_edit.specs.View.{extent_view, turn_view}
 use Rattle.tl_patch_edit.specs.declared.ask.Extent.{Extent}
 use Rattle.tl_patch_edit.specs.declared.ask.MeantPatch.{MeantPatch}
@@ -31,13 +32,14 @@ BeginAt from ps (p ∷ patches) (q ∷ numbered) =
 BeginAt from ps _ _ = ⊥
 
 -- text is the page with splices of its pieces, those that these patches ask for, each of the
--- element whose start tag begins at its place; no other byte changes, and the tokens of the text
--- are those of the spliced pieces
+-- element whose start tag begins at its place, with separators exactly where they have to stand;
+-- no other byte changes, and the tokens of the text are those of the spliced pieces
 pub record AreEdited (patches : List (ℕ × Patch)) (page text : List ℕ) : Type 0 where
   pub numbered : List (ℕ × Patch)
   pub begin : BeginAt 0 (placed (mark_len page) (runs (pieces page))) patches numbered
   pub splices : List (Splice Piece)
   pub asked : AreAskedTogether (runs (pieces page)) numbered splices
+  pub separated : AreSeparated (runs (pieces page)) (map ask_of asked.asks) splices
   pub mark : mark_len text ≡ mark_len page
   pub bytes : without_mark text ≡ bytes_of (with_splices (runs (pieces page)) splices)
   pub tokens : html_tokens text ≡ tokens_in (with_splices (runs (pieces page)) splices)

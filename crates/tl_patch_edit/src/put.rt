@@ -1,11 +1,12 @@
 //! What is put into a page.
 ghost use Rattle.std.specs.Prelude.{◌≡◌, [], ◌∷◌, IfNone, IfOk, IfSome, IsSome, false};
-ghost use Rattle.tl_html_spec.specs.Pieces.{bytes_of, pieces_of};
+ghost use Rattle.tl_html_spec.specs.Pieces.{bytes_of, pieces_of, runs};
 ghost use Rattle.tl_html_tokens.specs.declared.mode.Mode.TheVariants.{Data};
 ghost use Rattle.tl_html_tokens.specs.declared.stage.TokenKind.TheVariants.{EndTag};
-ghost use Rattle.tl_patch_edit.specs.Asks.{GivePut, IsEndTagOf, IsRenamedTag, IsTagFor, IsTextPart, is_data, puts_view, text_form, text_of, text_put};
+ghost use Rattle.tl_patch_edit.specs.Asks.{GivePut, IsEndTagOf, IsRenamedTag, IsTagFor, IsTextPart, puts_view, text_form, text_of, text_put};
 ghost use Rattle.tl_patch_edit.specs.Inner.Causes.{CannotPutIn, CannotStandIn};
-ghost use Rattle.tl_patch_edit.specs.Inner.Parts.{Give, part_view, parts_view};
+ghost use Rattle.tl_patch_edit.specs.Inner.Parts.{Give, is_data, part_view, parts_view};
+ghost use Rattle.tl_patch_edit.specs.Inner.Seams.{SameEdges};
 ghost use Rattle.tl_patch_edit.specs.Sayings.{sayings};
 ghost use Rattle.tl_patch_edit.specs.Found.{has_mark};
 ghost use Rattle.tl_patch_spec.specs.Patches.{Changed, Markup, NewContent, NewEndTag, Text};
@@ -90,9 +91,11 @@ fn text_parts<'p>(
 
 // Markup as parts.
 fn parts_of_markup<'p>(alloc: Global, markup: &'p [u8]) -> Result<Vec<Part<'p>>, AllocError>
-    ensures { IfOk result (λ parts. has_mark markup.now ≡ false →
+    ensures gives { IfOk result (λ parts. has_mark markup.now ≡ false →
         Give (parts_view parts.items) (bytes_of (pieces_of markup.now))
         (sayings (pieces_of markup.now))) }
+    ensures edges { IfOk result (λ parts. has_mark markup.now ≡ false →
+        SameEdges (parts_view parts.items) (runs (pieces_of markup.now))) }
 {
     let tokens = tokens(alloc, markup)?;
     let parts = parts_of(alloc, markup, tokens.as_slice())?;

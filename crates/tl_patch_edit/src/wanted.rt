@@ -1,69 +1,20 @@
 //! The parts of a page with what patches ask for.
-ghost use Rattle.std.specs.Prelude.{◌≡◌, ◌≤◌, ◌-◌, ◌++◌, ◌&&◌, IfErr, IfOk, OnOk, drop, length, nat_le, take, true};
-ghost use Rattle.std.specs.List.{All};
+ghost use Rattle.std.specs.Prelude.{◌≡◌, ◌≤◌, ◌<◌, ◌+◌, ◌++◌, ◌&&◌, IfErr, IfOk, None, OnOk, drop, if◌then◌else◌, length, nat_le, not, option_map, true};
+ghost use Rattle.std.specs.List.{All, slice_get};
 ghost use Rattle.tl_patch_edit.specs.Asks.{GivePutFor, IsEscaped, IsTagged, IsWanted, asks_view, placed_of};
 ghost use Rattle.tl_patch_edit.specs.Inner.Causes.{IsReadyError, IsSpliceError, IsWithin};
-ghost use Rattle.tl_patch_edit.specs.Inner.Parts.{parts_view, separator_parts};
+ghost use Rattle.tl_patch_edit.specs.Inner.Parts.{part_view, parts_view, separator_parts};
+ghost use Rattle.tl_patch_edit.specs.Inner.Seams.{part_seam, parted};
+ghost use Rattle.tl_patch_edit.specs.Seams.{begins_at, is_empty, last_of};
 
 use crate::ask::Ask;
 use crate::error::EditError;
 use crate::part::{Part, copy, place_at, push};
 use crate::put::put_parts;
+use crate::seam::{first_part, is_seam, last_part};
 use crate::tag::ReadyAsk;
 use std::alloc::{AllocError, Global};
 use tl_html_tokens::{Mode, TokenKind};
-
-// How many bytes at the end of a text are looked at: more than a name of a reference has.
-const LOOKED_AT: usize = 40;
-
-// Whether what a text ends with goes on with this byte: a reference, a tag or a line end is begun.
-fn goes_on(text: &[u8], next: u8) -> bool {
-    for back in 1..LOOKED_AT {
-        if back > text.len() {
-            return false;
-        }
-        let byte = text[text.len() - back];
-        match byte {
-            b'&' => return next.is_ascii_alphanumeric() || next == b'#' || next == b';',
-            b'<' => return back > 1 || begins_tag(next),
-            b'\r' => return back == 1 && next == b'\n',
-            b'/' | b'#' => {}
-            _ => {
-                if !byte.is_ascii_alphanumeric() {
-                    return false;
-                }
-            }
-        }
-    }
-    false
-}
-
-// Whether a byte after `<` begins a tag or a comment.
-fn begins_tag(byte: u8) -> bool {
-    byte.is_ascii_alphabetic() || byte == b'/' || byte == b'!' || byte == b'?'
-}
-
-// Whether something has to keep two parts apart, so that each is read as it is.
-fn is_apart(before: Option<&Part<'_>>, after: Option<&Part<'_>>) -> bool {
-    let (Some(before), Some(after)) = (before, after) else {
-        return false;
-    };
-    let Some(next) = after.bytes.first() else {
-        return false;
-    };
-    if !matches!(before.mode, Mode::Data) || !matches!(after.mode, Mode::Data) {
-        return false;
-    }
-    matches!(before.kind, TokenKind::Text) && goes_on(before.bytes, *next)
-}
-
-// Whether a byte order mark would come to the front of a page.
-fn is_mark_in_front(before: Option<&Part<'_>>, first: Option<&Part<'_>>) -> bool {
-    match first {
-        Some(part) => before.is_none() && part.bytes.starts_with(b"\xEF\xBB\xBF"),
-        None => false,
-    }
-}
 
 fn push_separator_if<'p>(is_it: bool, out: &mut Vec<Part<'p>>) -> Result<(), AllocError>
     ensures { OnOk result (parts_view out.new.items
@@ -83,27 +34,12 @@ fn push_separator_if<'p>(is_it: bool, out: &mut Vec<Part<'p>>) -> Result<(), All
     Ok(())
 }
 
-// Whether separators stand before and after what is put.
-#[derive(Clone, Copy)]
-struct Seams {
-    is_before: bool,
-    is_after: bool,
-}
-
-// What stands before and after what is put.
-fn seams_of(before: Option<&Part<'_>>, put: &[Part<'_>], after: Option<&Part<'_>>) -> Seams {
-    let next = put.first().or(after);
-    let is_before = is_apart(before, next) || is_mark_in_front(before, next);
-    let is_after = !put.is_empty() && is_apart(put.last(), after);
-    Seams {
-        is_before,
-        is_after,
-    }
-}
-
 // Whether the ask behind one begins at a place.
-fn is_next_at(asks: &[ReadyAsk<'_>], at: usize, place: usize) -> bool {
-    let next = at.saturating_add(1);
+fn is_next_at(asks: &[ReadyAsk<'_>], at: usize, place: usize) -> bool
+    requires { at < length asks.now }
+    ensures { result ≡ begins_at (asks_view (placed_of (drop (at + 1) asks.now))) place }
+{
+    let next = at + 1;
     if next >= asks.len() {
         return false;
     }
@@ -111,48 +47,42 @@ fn is_next_at(asks: &[ReadyAsk<'_>], at: usize, place: usize) -> bool {
 }
 
 // The part behind a splice, if the next splice doesn't begin there.
-fn first_after<'r, 'p>(parts: &'r [Part<'p>], until: usize, is_next: bool) -> Option<&'r Part<'p>> {
-    if is_next {
+fn part_behind<'p>(parts: &[Part<'p>], place: usize, is_next: bool) -> Option<Part<'p>>
+    ensures { option_map part_view result
+        ≡ if is_next then None else slice_get (parts_view parts.now) place }
+{
+    if is_next || place >= parts.len() {
         return None;
     }
-    parts.get(until)
+    Some(parts[place])
 }
 
-// The seams of a splice, where the parts until a place are written.
-fn seams_at(
-    written: &[Part<'_>],
-    parts: &[Part<'_>],
-    done: usize,
-    ask: Ask<'_>,
-    put: &[Part<'_>],
-    is_next: bool,
-) -> Seams {
-    let after = first_after(parts, ask.until, is_next);
-    if done < ask.from {
-        return seams_of(parts.get(ask.from - 1), put, after);
+// Whether a separator has to stand after what is put.
+fn is_parted_after(put: &[Part<'_>], behind: Option<Part<'_>>) -> bool
+    ensures { result ≡ (not (is_empty (parts_view put.now))
+        && part_seam (last_of None (parts_view put.now)) (option_map part_view behind.entry)) }
+{
+    if put.is_empty() {
+        return false;
     }
-    seams_of(written.last(), put, after)
+    is_seam(last_part(put), behind)
 }
 
-// Adds the parts from one place until another, and what is put there.
-fn push_splice<'p>(
-    parts: &[Part<'p>],
-    done: usize,
-    from: usize,
-    seams: Seams,
+// Adds what is put, with separators where they have to stand.
+fn push_put<'p>(
     put: &[Part<'p>],
+    behind: Option<Part<'p>>,
     out: &mut Vec<Part<'p>>,
 ) -> Result<(), AllocError>
-    requires order { done ≤ from }
-    requires within { from ≤ length parts.now }
-    ensures { OnOk result (parts_view out.new.items ≡ parts_view out.old.items
-        ++ parts_view (take (from - done) (drop done parts.now)) ++ separator_parts seams.is_before
-        ++ parts_view put.now ++ separator_parts seams.is_after) }
+    ensures { OnOk result (parts_view out.new.items
+        ≡ parts_view out.old.items ++ parted (last_of None (parts_view out.old.items))
+        (parts_view put.now) (option_map part_view behind.entry)) }
 {
-    copy(&parts[done..from], out)?;
-    push_separator_if(seams.is_before, out)?;
+    let is_before = is_seam(last_part(out.as_slice()), first_part(put, behind));
+    push_separator_if(is_before, out)?;
     copy(put, out)?;
-    push_separator_if(seams.is_after, out)?;
+    let is_after = is_parted_after(put, behind);
+    push_separator_if(is_after, out)?;
     Ok(())
 }
 
@@ -218,9 +148,13 @@ pub(crate) fn wanted_parts<'p>(
             return Err(EditError::Across(one.placed.start.token.start));
         }
         let put = put_of(alloc, parts, one)?;
+        copy(&parts[done..ask.from], &mut wanted)?;
         let is_next = is_next_at(asks, at, ask.until);
-        let seams = seams_at(wanted.as_slice(), parts, done, ask, put.as_slice(), is_next);
-        push_splice(parts, done, ask.from, seams, put.as_slice(), &mut wanted)?;
+        push_put(
+            put.as_slice(),
+            part_behind(parts, ask.until, is_next),
+            &mut wanted,
+        )?;
         done = ask.until;
     }
     copy(&parts[done..], &mut wanted)?;

@@ -13,9 +13,9 @@ use Rattle.tl_patch_spec.specs.Markup.{is_name}
 use Rattle.tl_patch_spec.specs.Patches.{Content, Markup, Put, Text, asked_of}
 use Rattle.tl_patch_spec.specs.Splices.{Splice, are_ordered}
 use Rattle.tl_patch.specs.StartTags.{is_start_tag}
-use Rattle.tl_patch_edit.specs.Asks.{asks_view, is_data, text_form}
+use Rattle.tl_patch_edit.specs.Asks.{asks_view, text_form}
 use Rattle.tl_patch_edit.specs.Found.{IsNeverRead, IsNeverSplicedOf, IsStartAt, has_mark}
-use Rattle.tl_patch_edit.specs.Inner.Parts.{Part, with_end_part}
+use Rattle.tl_patch_edit.specs.Inner.Parts.{Part, is_data, with_end_part}
 use Rattle.tl_patch_edit.specs.View.{content_view, patch_view}
 use Rattle.tl_patch_edit.specs.declared.ask.Ask.{Ask}
 use Rattle.tl_patch_edit.specs.declared.ask.MeantPatch.{MeantPatch}

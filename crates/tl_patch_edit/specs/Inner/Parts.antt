@@ -99,6 +99,10 @@ pub record IsStep (count other_count : ℕ) (parts others : List Part) : Type 0 
   pub moves : 0 < count + other_count
   pub same : SaySame (take count parts) (take other_count others)
 
+abbrev pub is_data : Mode → Bool
+is_data mode.Data = true
+is_data _ = false
+
 abbrev pub is_text_kind : TokenKind → Bool
 is_text_kind kind.Text = true
 is_text_kind _ = false

@@ -1,4 +1,4 @@
-use Rattle.std.proofs.Common.{◌∙◌, sym}
+use Rattle.std.proofs.Common.{◌∙◌}
 use Rattle.tl_patch_edit.specs.Open.{left_view}
 use Rattle.tl_patch_edit.specs.View.{patch_view}
 use Rattle.tl_patch_edit.proofs.Open.{ended_is, ended_not, ended_with}

@@ -1,7 +1,9 @@
-use Rattle.std.proofs.Common.{Err, rules, ◌≡◌, ◌≤◌, ◌-◌, ◌++◌, drop, length, take, ℕ, ◌+◌, Bool, true, false, refl, List, [], ◌∷◌, ap, sym, subst, ◌∙◌, arith}
+use Rattle.std.proofs.Common.{Err, None, Option, if◌then◌else◌, option_map, slice_get, rules, ◌≡◌, ◌≤◌, ◌-◌, ◌++◌, drop, length, ℕ, ◌+◌, Bool, true, false, refl, List, [], ◌∷◌, ap, sym, subst, ◌∙◌, arith}
 use Rattle.std.proofs.lemmas.List.{drop_all, drop_more, length-drop, take_all}
 use Rattle.tl_patch_edit.specs.Asks.{IsWantedFrom, ask_view, asks_view, placed_of}
-use Rattle.tl_patch_edit.specs.Inner.Parts.{Part, parts_view, separator_parts}
+use Rattle.tl_patch_edit.specs.Inner.Parts.{Part, part_view, parts_view}
+use Rattle.tl_patch_edit.specs.Inner.Seams.{parted}
+use Rattle.tl_patch_edit.specs.Seams.{behind, last_of}
 use Rattle.tl_patch_edit.specs.Inner.Causes.{IsWithin}
 use Rattle.tl_patch_edit.proofs.Lists.{length_view}
 use Rattle.tl_patch_edit.proofs.Refusals.{err_is, one_among, one_refused, ordered_more}
@@ -24,25 +26,20 @@ loop-at-preserved c =
     let left : drop at asks ≡ one ∷ drop (at + 1) asks = drop_more asks at one c.loop-at-test.true ∙ ap (λ (r : ReadyAsk). r ∷ drop (at + 1) asks) (sym c.index-asks-at.is) in
     let more : List (Splice Put) = asks_view (placed_of (drop (at + 1) asks)) in
     let all : List (Splice Put) = asks_view (placed_of asks) in
-    let b : Bool = c.seams_at-seams.result.is_before in
-    let a : Bool = c.seams_at-seams.result.is_after in
     let old : List Part = parts_view c.loop-at.wanted.items in
-    let front : List Part = parts_view (take (one.placed.ask.from - done) (drop done xs)) in
+    let mid : List Part = parts_view c.copy.new.out.items in
+    let y : Option Part = option_map part_view c.part_behind.result in
+    let next : y ≡ behind X more one.placed.ask.until =
+    c.part_behind.ensures ∙ ap (λ (v : Bool). if v then None else slice_get X one.placed.ask.until) c.is_next_at-is_next.ensures in
     record {
       within = (c.follows-follows.ensures.until c.if-not-follows.false);
       ordered = c.loop-at.invariant.ordered ∙ ordered_more asks at done (length xs) one true left (sym c.follows-follows.ensures.is ∙ c.if-not-follows.false);
-      rest = step_more xs done (ask_view one.placed.ask) more all (parts_view c.in_ok-put.put.items) old (parts_view c.push_splice.new.out.items) b a
+      rest = step_more xs done (ask_view one.placed.ask) more all (parts_view c.in_ok-put.put.items) old mid (parts_view c.push_put.new.out.items) y
           (c.follows-follows.ensures.done c.if-not-follows.false) within (c.follows-follows.ensures.order c.if-not-follows.false) (c.follows-follows.ensures.until c.if-not-follows.false) c.in_ok-put.ensures.put
-          (c.in_ok-push_splice.ensures ∙ ap (λ (ps : List CodePart). (((old ++ front) ++ separator_parts b) ++ parts_view ps) ++ separator_parts a) c.as_slice-in-loop-at-2.ensures.value)
-          (λ rest w. c.loop-at.invariant.rest rest (subst (λ (rs : List ReadyAsk). IsWantedFrom done (asks_view (placed_of rs)) X rest) (sym left) w));
+          c.in_ok-copy.ensures next
+          (c.in_ok-push_put.ensures ∙ ap (λ (ps : List CodePart). mid ++ parted (last_of None mid) (parts_view ps) y) c.as_slice.ensures.value)
+          (λ rest w. c.loop-at.invariant.rest rest (subst (λ (rs : List ReadyAsk). IsWantedFrom (last_of None old) done (asks_view (placed_of rs)) X rest) (sym left) w));
     }
-
-pub push_splice-requires-clause-within : goal.push_splice-requires-clause-within
-push_splice-requires-clause-within c =
-    let len : ℕ = length c.args.parts.now in
-    let one : ReadyAsk = c.index-asks-at.result in
-    let within : one.placed.ask.from ≤ len = subst (IsWithin len) (sym c.index-asks-at.is) (c.requires.within c.loop-at.at one c.loop-at-test.true) in
-    omega arith
 
 pub returns-then-not-follows-clause-error : goal.returns-then-not-follows-clause-error
 returns-then-not-follows-clause-error c =
@@ -69,6 +66,6 @@ returns-clause-wanted c =
     let xs : List CodePart = c.args.parts.now in
     let all : List (Splice Put) = asks_view (placed_of asks) in
     let none : drop c.loop-at.at asks ≡ [] = drop_all c.loop-at.at asks c.loop-at-test.false in
-    all_wanted xs c.loop-at.done all (parts_view c.loop-at.wanted.items) (parts_view c.copy.new.out.items)
-    (c.in_ok-copy.ensures ∙ ap (λ (zs : List CodePart). parts_view c.loop-at.wanted.items ++ parts_view zs) (take_all (length xs - c.loop-at.done) (drop c.loop-at.done xs) (omega (arith, length-drop c.loop-at.done xs))))
-    (λ rest w. c.loop-at.invariant.rest rest (subst (λ (rs : List ReadyAsk). IsWantedFrom c.loop-at.done (asks_view (placed_of rs)) (parts_view xs) rest) (sym none) w))
+    all_wanted xs c.loop-at.done all (parts_view c.loop-at.wanted.items) (parts_view c.copy-2.new.out.items)
+    (c.in_ok-copy-2.ensures ∙ ap (λ (zs : List CodePart). parts_view c.loop-at.wanted.items ++ parts_view zs) (take_all (length xs - c.loop-at.done) (drop c.loop-at.done xs) (omega (arith, length-drop c.loop-at.done xs))))
+    (λ rest w. c.loop-at.invariant.rest rest (subst (λ (rs : List ReadyAsk). IsWantedFrom (last_of None (parts_view c.loop-at.wanted.items)) c.loop-at.done (asks_view (placed_of rs)) (parts_view xs) rest) (sym none) w))
