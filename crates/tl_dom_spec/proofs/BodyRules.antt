@@ -6,17 +6,16 @@ use Rattle.tl_html_spec.specs.HtmlTokenizer.{after_start}
 use Rattle.tl_dom_spec.specs.Tags.{Namespace, Tag, bare_tag, has_value, is_any, is_heading, is_item_bound, is_named, is_paragraph, is_scope, is_select, math_space, no_tag, svg_space}
 use Rattle.tl_dom_spec.specs.Groups.{Group, a_base, a_block, a_break, a_button, a_caption, a_cell, a_column, a_column_group, a_description, a_detail, a_form, a_format, a_frame, a_frameset, a_heading, a_link, a_mark, a_math, a_nobr, a_noembed, a_noframes, a_noscript, a_paragraph, a_plaintext, a_preformatted, a_row, a_ruby_base, a_ruby_text, a_rule, a_script, a_select, a_style, a_table, a_table_body, a_template, a_textarea, a_title, a_void, an_anchor, an_example, an_iframe, an_image, an_input, an_item, an_option, an_option_group, an_svg, the_body, the_head, the_html}
 use Rattle.tl_dom_spec.specs.Path.{elements, has_number, has_tag, is_open_number, taken_out, within}
-use Rattle.tl_dom_spec.specs.Builder.{Again, Builder, Done, Token, a_character, a_comment, a_doctype, a_start, add_attributes, after_body, an_end, clear_to_last_marker, close_except_for, current_tag, end_of_file, frameset_not_ok, generate_implied_end_tags, generate_implied_end_tags_except_for, has_in_button_scope, has_in_list_item_scope, has_in_scope, has_template, in_frameset, insert_and_pop, insert_character, insert_element, insert_implied, is_context, parse_raw_text, pop_current_node, pop_until, state_inside, switch_to, with_path}
+use Rattle.tl_dom_spec.specs.Builder.{Again, Builder, Done, Token, a_character, a_comment, a_doctype, a_start, add_attributes, after_body, an_end, clear_to_last_marker, close_except_for, current_tag, end_of_file, frameset_not_ok, generate_implied_end_tags, generate_implied_end_tags_except_for, has_in_button_scope, has_in_list_item_scope, has_in_scope, has_template, in_frameset, insert_and_pop, insert_character, insert_element, insert_implied, is_context, pop_current_node, pop_until, state_inside, switch_to, with_path}
 use Rattle.tl_dom_spec.specs.Formatting.{Listed, listed, reconstruct_formatting, unlisted}
 use Rattle.tl_dom_spec.specs.Adoption.{adoption_agency}
 use Rattle.tl_dom_spec.specs.Reset.{close_template}
 use Rattle.tl_dom_spec.specs.Adjusted.{foreign_tag, insert_foreign_element}
 use Rattle.tl_dom_spec.specs.Body.{anchor_ended, body_character, body_end, body_number, body_start, body_start_at, close_in_scope, close_p, earlier_item, file_ended, form_at, form_ended, form_taken_out, frameset_start_at, from_html, heading_closed, in_body_step, input_inserted, item_closed, item_closed_at, item_ended, mark_ended, nobr_ended, noscript_start_in_body, option_ended, option_start, p_ended, ruby_closed, rule_start, select_closed, select_start, table_start_in_body, textarea_start, void_start}
-use Rattle.tl_dom_spec.proofs.Allowed.{Allowed}
+use Rattle.tl_dom_spec.proofs.Allowed.{Allowed, IfSome}
 use Rattle.tl_dom_spec.proofs.Seating as S
-use Rattle.tl_dom_spec.proofs.Seating.{IfSome}
 use Rattle.tl_dom_spec.proofs.Kept.{Holds, HoldsAfter, agency-Holds, alone-Holds, attributes-Holds, character-Holds, clear-Holds, close-Holds, close_template-Holds, comment-Holds, either, either-after, form-Holds, formatting-Holds, from_html-Holds, implied-Holds, insert-Holds, marker-Holds, other_end-Holds, pop-Holds, pop_until-Holds, raw_text-Holds, reads-Holds, reconstruct-Holds, taken_out-Holds, template_end_tag-Holds, unlisted-Holds}
-use Rattle.tl_dom_spec.proofs.HeadRules.{Allows, Starts, html_start-Holds, in_head_start-Holds}
+use Rattle.tl_dom_spec.proofs.HeadRules.{Allows, Starts, html_start-Holds, in_head_start-Holds, scripted-Holds}
 
 pub foreign-Holds : (R : Allowed) (space : Namespace) (t : Tag) (closes : Bool) (b : Builder) → R.Opens (foreign_tag space t) → Holds R b → Holds R (insert_foreign_element space t closes b)
 foreign-Holds R space t closes b o h =
@@ -94,8 +93,9 @@ rule_start-Holds R b t s h = alone-Holds R t (if has_in_scope is_select b then g
 pub textarea_start-Holds : (R : Allowed) (b : Builder) (t : Tag) → R.Opens t → R.Reads (state_inside t.name) → Holds R b → Holds R (textarea_start b t)
 textarea_start-Holds R b t o r h = raw_text-Holds R t (frameset_not_ok b) o r h
 
-pub noscript_start_in_body-Holds : (R : Allowed) (b : Builder) (t : Tag) → R.Opens t → R.Reads (state_inside t.name) → Holds R b → Holds R (noscript_start_in_body b t)
-noscript_start_in_body-Holds R b t o r h = either R b.flags.is_scripting (parse_raw_text t b) (insert_element t (reconstruct_formatting b)) (raw_text-Holds R t b o r h) (insert-Holds R t (reconstruct_formatting b) o (reconstruct-Holds R b h))
+pub noscript_start_in_body-Holds : (R : Allowed) (b : Builder) (t : Tag) → R.Opens t → (R.Scripts true → R.Reads (state_inside t.name)) → Holds R b → Holds R (noscript_start_in_body b t)
+noscript_start_in_body-Holds R b t o r h =
+    scripted-Holds R b t (insert_element t (reconstruct_formatting b)) o r h (insert-Holds R t (reconstruct_formatting b) o (reconstruct-Holds R b h))
 
 pub table_start_in_body-Holds : (R : Allowed) (b : Builder) (t : Tag) → R.Opens t → Holds R b → Holds R (table_start_in_body b t)
 table_start_in_body-Holds R b t o h = insert-Holds R t (if b.is_quirks then b else close_p b) o (either R b.is_quirks b (close_p b) h (close_p-Holds R b h))
@@ -131,11 +131,11 @@ body_start-Holds R b an_image t closes k h = void_start-Holds R b (record t { na
 body_start-Holds R b an_input t closes k h = either R (is_context is_select b.context) b (input_inserted t b) h (input_inserted-Holds R t b k.alone h)
 body_start-Holds R b a_detail t closes k h = alone-Holds R t b k.alone h
 body_start-Holds R b a_rule t closes k h = rule_start-Holds R (close_p b) t k.alone (close_p-Holds R b h)
-body_start-Holds R b a_textarea t closes k h = textarea_start-Holds R b t (k.opens refl) k.inside h
-body_start-Holds R b an_example t closes k h = raw_text-Holds R t (frameset_not_ok (reconstruct_formatting (close_p b))) (k.opens refl) k.inside (reconstruct-Holds R (close_p b) (close_p-Holds R b h))
-body_start-Holds R b an_iframe t closes k h = raw_text-Holds R t (frameset_not_ok b) (k.opens refl) k.inside h
-body_start-Holds R b a_noembed t closes k h = raw_text-Holds R t b (k.opens refl) k.inside h
-body_start-Holds R b a_noscript t closes k h = noscript_start_in_body-Holds R b t (k.opens refl) k.inside h
+body_start-Holds R b a_textarea t closes k h = textarea_start-Holds R b t (k.opens refl) (k.inside refl) h
+body_start-Holds R b an_example t closes k h = raw_text-Holds R t (frameset_not_ok (reconstruct_formatting (close_p b))) (k.opens refl) (k.inside refl) (reconstruct-Holds R (close_p b) (close_p-Holds R b h))
+body_start-Holds R b an_iframe t closes k h = raw_text-Holds R t (frameset_not_ok b) (k.opens refl) (k.inside refl) h
+body_start-Holds R b a_noembed t closes k h = raw_text-Holds R t b (k.opens refl) (k.inside refl) h
+body_start-Holds R b a_noscript t closes k h = noscript_start_in_body-Holds R b t (k.opens refl) k.scripted h
 body_start-Holds R b a_select t closes k h = select_start-Holds R b t (k.opens refl) h
 body_start-Holds R b an_option t closes k h = option_start-Holds R (is_any (codes "optgroup")) b t (k.opens refl) h
 body_start-Holds R b an_option_group t closes k h = option_start-Holds R no_tag b t (k.opens refl) h

@@ -1,9 +1,10 @@
 -- What tokens give, and the rules of the modes up to the head and after it: each keeps what holds of a builder.
-use Rattle.std.proofs.Common.{Bool, None, Option, Some, codes, false, refl, true, ◌≡◌}
+use Rattle.std.proofs.Common.{Bool, None, Option, Some, codes, false, refl, subst, true, ◌≡◌, ◌⊎◌, if◌then◌else◌}
+use Rattle.std.proofs.lemmas.Bool.{cond_both}
 use Rattle.std.specs.Prelude.{⊤}
 use Rattle.std.specs.Char.{is_ascii_whitespace}
 use Rattle.tl_html_spec.specs.HtmlTokenizer.{after_start}
-use Rattle.tl_dom_spec.specs.Tags.{Namespace, Tag, bare_tag, by_space, math_space, svg_space}
+use Rattle.tl_dom_spec.specs.Tags.{Tag, bare_tag, is_html, math_space, svg_space}
 use Rattle.tl_dom_spec.specs.Groups.{Group, a_base, a_break, a_column, a_detail, a_frame, a_frameset, a_link, a_math, a_noframes, a_noscript, a_rule, a_script, a_style, a_template, a_title, a_void, an_image, an_input, the_body, the_head, the_html}
 use Rattle.tl_dom_spec.specs.Path.{Place, into_head}
 use Rattle.tl_dom_spec.specs.Builder.{Again, Builder, Done, Outcome, Token, a_character, a_comment, a_doctype, a_start, add_attributes, an_end, appropriate_place, end_of_file, frameset_not_ok, has_template, in_head_noscript, insert_character, insert_element, insert_element_at, insert_marker, parse_raw_text, state_inside, switch_to}
@@ -37,6 +38,10 @@ abbrev pub is_math_start : Group → Bool
 is_math_start a_math = true
 is_math_start _ = false
 
+abbrev pub is_noscript : Group → Bool
+is_noscript a_noscript = true
+is_noscript _ = false
+
 -- what a start tag of a group gives
 pub record Starts (R : Allowed) (g : Group) (t : Tag) : Type 0 where
   pub opens : is_alone g ≡ false → R.Opens t
@@ -44,10 +49,13 @@ pub record Starts (R : Allowed) (g : Group) (t : Tag) : Type 0 where
   pub image : is_image g ≡ true → R.Stands (record t { name = codes "img" })
   pub math : is_math_start g ≡ true → R.Opens (foreign_tag math_space t)
   pub svg : is_svg_start g ≡ true → R.Opens (foreign_tag svg_space t)
-  pub foreign : (space : Namespace) → by_space space true false false ≡ false →
-      R.Opens (foreign_tag space (record t { name = foreign_name space t.name }))
+  -- in foreign content, where this is the adjusted current node
+  pub foreign : (own : Tag) → is_html own ≡ false → R.Opens own ⊎ R.Around own →
+      R.Opens (foreign_tag own.space (record t { name = foreign_name own.space t.name }))
   pub more : adds_attributes g ≡ true → R.Adds t.attributes
-  pub inside : R.Reads (state_inside t.name)
+  -- in raw text; in `noscript` with scripting alone
+  pub inside : is_noscript g ≡ false → R.Reads (state_inside t.name)
+  pub scripted : R.Scripts true → R.Reads (state_inside t.name)
   pub after : R.Reads (after_start t.name)
 
 -- what a token gives
@@ -118,8 +126,14 @@ head_closed-Holds R b h = pop-Holds R b h
 pub template_opened-Holds : (R : Allowed) (place : Place) (t : Tag) (b : Builder) → Fits place b.path → R.Opens t → Holds R b → Holds R (template_opened place t b)
 template_opened-Holds R where_to t b f o h = let opened = insert_element_at where_to t (frameset_not_ok (insert_marker b)) in (insert_at-Holds R where_to t (frameset_not_ok (insert_marker b)) f o (marker-Holds R b h))
 
-pub noscript_in_head-Holds : (R : Allowed) (b : Builder) (t : Tag) → R.Opens t → R.Reads (state_inside t.name) → Holds R b → Holds R (noscript_in_head b t)
-noscript_in_head-Holds R b t o r h = either R b.flags.is_scripting (parse_raw_text t b) (switch_to in_head_noscript (insert_element t b)) (raw_text-Holds R t b o r h) (insert-Holds R t b o h)
+-- with scripting alone the state is set
+pub scripted-Holds : (R : Allowed) (b : Builder) (t : Tag) (other : Builder) → R.Opens t → (R.Scripts true → R.Reads (state_inside t.name)) → Holds R b → Holds R other →
+    Holds R (if b.flags.is_scripting then parse_raw_text t b else other)
+scripted-Holds R b t other o r h k =
+    cond_both b.flags.is_scripting (parse_raw_text t b) other (Holds R) (λ e. raw_text-Holds R t b o (r (subst R.Scripts e h.0.3.scripts)) h) (λ _. k)
+
+pub noscript_in_head-Holds : (R : Allowed) (b : Builder) (t : Tag) → R.Opens t → (R.Scripts true → R.Reads (state_inside t.name)) → Holds R b → Holds R (noscript_in_head b t)
+noscript_in_head-Holds R b t o r h = scripted-Holds R b t (switch_to in_head_noscript (insert_element t b)) o r h (insert-Holds R t b o h)
 
 pub in_head_end-Holds : (R : Allowed) (b : Builder) (g : Group) → Holds R b → HoldsAfter R (in_head_end b g)
 in_head_end-Holds R b the_head h = head_closed-Holds R b h
@@ -132,10 +146,10 @@ noscript_closed-Holds R b h = pop-Holds R b h
 pub head_part-Holds : (R : Allowed) (place : Place) (g : Group) (t : Tag) (b : Builder) → Fits place b.path → Starts R g t → Holds R b → HoldsIf R (head_part place g t b)
 head_part-Holds R place a_base t b f k h = alone_at-Holds R place t b f k.alone h
 head_part-Holds R place a_link t b f k h = alone_at-Holds R place t b f k.alone h
-head_part-Holds R place a_title t b f k h = raw_text_at-Holds R place t b f (k.opens refl) k.inside h
-head_part-Holds R place a_noframes t b f k h = raw_text_at-Holds R place t b f (k.opens refl) k.inside h
-head_part-Holds R place a_style t b f k h = raw_text_at-Holds R place t b f (k.opens refl) k.inside h
-head_part-Holds R place a_script t b f k h = raw_text_at-Holds R place t b f (k.opens refl) k.inside h
+head_part-Holds R place a_title t b f k h = raw_text_at-Holds R place t b f (k.opens refl) (k.inside refl) h
+head_part-Holds R place a_noframes t b f k h = raw_text_at-Holds R place t b f (k.opens refl) (k.inside refl) h
+head_part-Holds R place a_style t b f k h = raw_text_at-Holds R place t b f (k.opens refl) (k.inside refl) h
+head_part-Holds R place a_script t b f k h = raw_text_at-Holds R place t b f (k.opens refl) (k.inside refl) h
 head_part-Holds R place a_template t b f k h = template_opened-Holds R place t b f (k.opens refl) h
 head_part-Holds R place g t b f k h = tt
 
@@ -146,7 +160,7 @@ done_or-Holds R other (Some b) h k = k
 pub in_head_start-Holds : (R : Allowed) (b : Builder) (g : Group) (t : Tag) → Starts R g t → Holds R b → HoldsAfter R (in_head_start b g t)
 in_head_start-Holds R b the_html t k h = html_start-Holds R b t (k.more refl) h
 in_head_start-Holds R b the_head t k h = h
-in_head_start-Holds R b a_noscript t k h = noscript_in_head-Holds R b t (k.opens refl) k.inside h
+in_head_start-Holds R b a_noscript t k h = noscript_in_head-Holds R b t (k.opens refl) k.scripted h
 in_head_start-Holds R b g t k h =
     done_or-Holds R (Again (head_closed b)) (head_part (appropriate_place b) g t b) (head_closed-Holds R b h) (head_part-Holds R (appropriate_place b) g t b (appropriate-Fits b) k h)
 

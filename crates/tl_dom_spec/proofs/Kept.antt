@@ -10,13 +10,13 @@ use Rattle.tl_dom_spec.specs.Formatting.{insert_formatting_element, reconstruct_
 use Rattle.tl_dom_spec.specs.Adoption.{adoption_agency, any_other_end_tag}
 use Rattle.tl_dom_spec.specs.Reset.{close_template, template_end_tag}
 use Rattle.tl_dom_spec.specs.Body.{body_number, from_html}
-use Rattle.tl_dom_spec.proofs.Allowed.{Allowed, IsText, each_append}
+use Rattle.tl_dom_spec.proofs.Allowed.{Allowed, IfSome, IsText, each_append}
 use Rattle.tl_dom_spec.proofs.Paths.{from_html-Frames, popped_through-Frames, popped_to-Frames, popped_while-Frames, put-Frames, taken_out-Frames}
 use Rattle.tl_dom_spec.proofs.Builders as B
 use Rattle.tl_dom_spec.proofs.Adopting as A
 use Rattle.tl_dom_spec.proofs.Seats.{popped-Seats, popped_through-Seats, settled_while-Seats}
 use Rattle.tl_dom_spec.proofs.Seating as S
-use Rattle.tl_dom_spec.proofs.Seating.{Fits, IfSome, SeatingOf, appropriate-Fits, on_path}
+use Rattle.tl_dom_spec.proofs.Seating.{Fits, SeatingOf, appropriate-Fits, on_path}
 
 module _ (R : Allowed) where
   abbrev pub Holds : Builder → Type 0
@@ -44,7 +44,7 @@ module _ (R : Allowed) where
   -- what is set
 
   pub reads-Holds : (state : State) (b : Builder) → R.Reads state → Holds b → Holds (record b { reads = state })
-  reads-Holds state b r h = ((h.0.0, h.0.1, h.0.2, r), h.1)
+  reads-Holds state b r h = ((h.0.0, h.0.1, h.0.2, record { state = r; around = h.0.3.around; scripts = h.0.3.scripts }), h.1)
 
   pub none_pending-Holds : (b : Builder) → Holds b → Holds (record b { pending = [] })
   none_pending-Holds b h = ((h.0.0, h.0.1, tt, h.0.3), h.1)

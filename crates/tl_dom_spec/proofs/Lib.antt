@@ -20,6 +20,8 @@ pub mod ContentsLaw
 pub mod RootNames
 pub mod Stages
 pub mod PageLaw
+pub mod PlainNames
+pub mod PlainLaw
 pub mod PartNames
 pub mod PartPaths
 pub mod PartBuilders

@@ -45,6 +45,8 @@ named = record {
   Types = λ _. ⊤;
   Adds = λ _. ⊤;
   Reads = λ _. ⊤;
+  Around = λ _. ⊤;
+  Scripts = λ _. ⊤;
   Seated = ⊥;
   stands = λ _ s. s;
   headed = λ _ _ s. s;
@@ -68,9 +70,10 @@ named_start g t s = record {
   image = λ _. tt;
   math = λ _. s;
   svg = λ _. s;
-  foreign = λ space _. foreign_some space t.name s;
+  foreign = λ own _ _. foreign_some own.space t.name s;
   more = λ _. tt;
-  inside = tt;
+  inside = λ _. tt;
+  scripted = λ _. tt;
   after = tt;
 }
 
@@ -99,11 +102,11 @@ pub names_of : (trees : HtmlForest) → Follows named trees → AreNamed trees
 names_of trees f = elements-weaken (Owned named) (λ tag below. IsSome tag.name) trees some_name f.elements
 
 pub built_names : (flags : Flags) (tokens : List Token) → HaveNames tokens → AreNamed (page_built flags tokens).trees
-built_names flags tokens s = names_of (page_built flags tokens).trees (page-Follows named flags tokens (λ s. s) (named_tokens tokens s))
+built_names flags tokens s = names_of (page_built flags tokens).trees (page-Follows named flags tokens (λ s. s) tt (named_tokens tokens s))
 
 pub built_fragment_names : (flags : Flags) (context : Context) (tokens : List Token) → HaveNames tokens → AreNamed (fragment_built flags context tokens)
 built_fragment_names flags context tokens s =
-    names_of (fragment_built flags context tokens) (fragment-Follows named flags context tokens (λ s. s) (named_tokens tokens s))
+    names_of (fragment_built flags context tokens) (fragment-Follows named flags context tokens (λ s. s) tt tt (named_tokens tokens s))
 
 pub page_names : (flags : Flags) (page : List ℕ) → HaveNames (tokens_of_page flags page) → AreNamed (html_tree_by flags page).trees
 page_names flags page s =

@@ -167,7 +167,7 @@ after-seated (Again b) h = seated b (h.1 tt)
 
 placed_token : (token : Token) → Allows placed token
 placed_token (a_character c) = tt
-placed_token (a_start g t closes) = record { opens = λ _. tt; alone = tt; image = λ _. tt; math = λ _. tt; svg = λ _. tt; foreign = λ _ _. tt; more = λ _. tt; inside = tt; after = tt }
+placed_token (a_start g t closes) = record { opens = λ _. tt; alone = tt; image = λ _. tt; math = λ _. tt; svg = λ _. tt; foreign = λ _ _ _. tt; more = λ _. tt; inside = λ _. tt; scripted = λ _. tt; after = tt }
 placed_token (an_end g name) = tt
 placed_token (a_comment bytes) = tt
 placed_token (a_doctype own) = tt

@@ -1,17 +1,18 @@
 //! Laws of the trees of any page, any fragment and any tokens.
 
 ghost use Rattle.std.specs.Prelude.{◌≡◌, ◌↔◌, Bool, List, Some, codes, map, true, ℕ};
-ghost use Rattle.tl_html_spec.specs.HtmlTokenizer.{HtmlToken, html_tokens};
+ghost use Rattle.tl_html_spec.specs.Driven.{bare};
+ghost use Rattle.tl_html_spec.specs.HtmlTokenizer.{HtmlToken, data_state, html_tokens, tokens_in_page, without_mark};
 ghost use Rattle.tl_html_spec.specs.Sound.{AreSound};
 ghost use Rattle.tl_tree_spec.specs.HtmlForest.{HtmlForest};
 ghost use Rattle.tl_tree_spec.specs.HtmlTreeBuilder.{html_trees_where};
 ghost use Rattle.tl_dom_spec.specs.Builder.{Flags, Token};
-ghost use Rattle.tl_dom_spec.specs.Driver.{token_of};
+ghost use Rattle.tl_dom_spec.specs.Driver.{emitted_token, token_of};
 ghost use Rattle.tl_dom_spec.specs.HtmlForest.{has_contents};
-ghost use Rattle.tl_dom_spec.specs.HtmlTree.{Context, context_of, fragment_of_tokens, html_fragment_by, html_tree_by, standard, tree_of_tokens};
-ghost use Rattle.tl_dom_spec.specs.Lawful.{AreNamed, AreTexts, AreVoidEmpty, ComeFrom, HaveNames, IsPage, fragment_built, page_built, tokens_of_fragment, tokens_of_page};
+ghost use Rattle.tl_dom_spec.specs.HtmlTree.{Context, context_of, context_state, fragment_of_tokens, html_fragment_by, html_tree_by, standard, tree_of_tokens};
+ghost use Rattle.tl_dom_spec.specs.Lawful.{AreNamed, AreTexts, AreVoidEmpty, ComeFrom, HaveHtmlDoctypes, HaveNames, HavePlainNames, IsPage, driven_by_names, fragment_built, page_built, tokens_of_fragment, tokens_of_page};
 ghost use Rattle.tl_dom_spec.specs.Partial.{whole};
-ghost use Rattle.tl_dom_spec.specs.Tags.{Tag, bare_tag, html_space};
+ghost use Rattle.tl_dom_spec.specs.Tags.{Tag, bare_tag, html_space, is_html};
 
 /// A page is built of its tokens, and a fragment too: what holds of what any tokens build holds of
 /// any page.
@@ -104,4 +105,38 @@ pub fn partial_trees_are_whole()
         html_trees_where counts_search tokens ≡ Some forest →
         fragment_of_tokens (record standard { counts_search = counts_search })
         (context_of (bare_tag (codes "div"))) tokens ≡ whole forest }
+{}
+
+/// Where the names of start tags are plain, it is no matter whether they drive the tokenizer, or
+/// the tree builder does: the tokens are the same, and so the trees.
+#[tactic(auto, using(crate::proofs::PlainLaw::named_tokens, crate::proofs::PlainLaw::plain_page_tokens, crate::proofs::PlainLaw::plain_page, crate::proofs::PlainLaw::bare_page, crate::proofs::PlainLaw::plain_fragment_tokens, crate::proofs::PlainLaw::plain_fragment, crate::proofs::PlainLaw::bare_fragment))]
+pub fn plain_names_need_no_builder()
+    ensures by_names { (bytes : List ℕ) →
+        map bare (driven_by_names bytes) ≡ tokens_in_page bytes }
+    ensures page_tokens { (flags : Flags) (page : List ℕ) →
+        HavePlainNames flags (html_tokens page) →
+        tokens_of_page flags page ≡ map emitted_token (driven_by_names (without_mark page)) }
+    ensures page { (flags : Flags) (page : List ℕ) →
+        HavePlainNames flags (html_tokens page) →
+        html_tree_by flags page
+        ≡ page_built flags (map emitted_token (driven_by_names (without_mark page))) }
+    // and where each doctype is `<!DOCTYPE html>`
+    ensures page_of_tokens { (flags : Flags) (page : List ℕ) →
+        HavePlainNames flags (html_tokens page) →
+        HaveHtmlDoctypes (driven_by_names (without_mark page)) →
+        html_tree_by flags page ≡ tree_of_tokens flags (html_tokens page) }
+    ensures fragment_tokens { (flags : Flags) (context : Context) (bytes : List ℕ) →
+        is_html context.tag ≡ true → context_state flags context.tag ≡ data_state →
+        HavePlainNames flags (tokens_in_page bytes) →
+        tokens_of_fragment flags context bytes ≡ map emitted_token (driven_by_names bytes) }
+    ensures fragment { (flags : Flags) (context : Context) (bytes : List ℕ) →
+        is_html context.tag ≡ true → context_state flags context.tag ≡ data_state →
+        HavePlainNames flags (tokens_in_page bytes) →
+        html_fragment_by flags context bytes
+        ≡ fragment_built flags context (map emitted_token (driven_by_names bytes)) }
+    ensures fragment_of_tokens { (flags : Flags) (context : Context) (bytes : List ℕ) →
+        is_html context.tag ≡ true → context_state flags context.tag ≡ data_state →
+        HavePlainNames flags (tokens_in_page bytes) → HaveHtmlDoctypes (driven_by_names bytes) →
+        html_fragment_by flags context bytes
+        ≡ fragment_of_tokens flags context (tokens_in_page bytes) }
 {}
