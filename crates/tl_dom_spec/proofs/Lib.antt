@@ -13,6 +13,7 @@ pub mod OuterRules
 pub mod DispatcherRules
 pub mod TreesFollow
 pub mod TextLaw
+pub mod StartNames
 pub mod NameLaw
 pub mod VoidLaw
 pub mod SourceLaw

@@ -36,15 +36,17 @@ pub fn texts_are_whole()
         AreTexts (fragment_built flags context tokens) }
 {}
 
-/// No name is empty, where those of the start tags aren't; so where the tokenizer goes by names
-/// alone none is.
-#[tactic(auto, using(crate::proofs::NameLaw::page_names, crate::proofs::NameLaw::fragment_names, crate::proofs::NameLaw::built_names, crate::proofs::NameLaw::built_fragment_names, crate::proofs::NameLaw::sound_names, crate::proofs::NameLaw::names_by_name))]
+/// No name of an element is empty, since none of a start tag is, as any driver of the tokenizer
+/// reads it; of any tokens, where those of the start tags aren't.
+#[tactic(auto, using(crate::proofs::NameLaw::page_names, crate::proofs::NameLaw::fragment_names, crate::proofs::NameLaw::page_starts, crate::proofs::NameLaw::fragment_starts, crate::proofs::NameLaw::built_names, crate::proofs::NameLaw::built_fragment_names, crate::proofs::NameLaw::sound_names, crate::proofs::NameLaw::names_by_name))]
 pub fn elements_have_names()
-    ensures page { (flags : Flags) (page : List ℕ) → HaveNames (tokens_of_page flags page) →
-        AreNamed (html_tree_by flags page).trees }
+    ensures page { (flags : Flags) (page : List ℕ) → AreNamed (html_tree_by flags page).trees }
     ensures fragment { (flags : Flags) (context : Context) (bytes : List ℕ) →
-        HaveNames (tokens_of_fragment flags context bytes) →
         AreNamed (html_fragment_by flags context bytes) }
+    ensures start_tags_of_page { (flags : Flags) (page : List ℕ) →
+        HaveNames (tokens_of_page flags page) }
+    ensures start_tags_of_fragment { (flags : Flags) (context : Context) (bytes : List ℕ) →
+        HaveNames (tokens_of_fragment flags context bytes) }
     ensures page_of_tokens { (flags : Flags) (tokens : List Token) → HaveNames tokens →
         AreNamed (page_built flags tokens).trees }
     ensures fragment_of_tokens { (flags : Flags) (context : Context) (tokens : List Token) →
