@@ -5,6 +5,12 @@ pub mod Builders
 pub mod Adopting
 pub mod Seats
 pub mod Seating
+pub mod PathTags
+pub mod Measure
+pub mod Pending
+pub mod Falling
+pub mod Staying
+pub mod Steady
 pub mod Kept
 pub mod HeadRules
 pub mod BodyRules
@@ -18,6 +24,8 @@ pub mod NameLaw
 pub mod VoidLaw
 pub mod SourceLaw
 pub mod ContentsLaw
+pub mod Bound
+pub mod BoundLaw
 pub mod RootNames
 pub mod Stages
 pub mod PageLaw

@@ -7,7 +7,7 @@ use Rattle.std.proofs.lemmas.Bool.{cond_both}
 use Rattle.tl_html_spec.proofs.Emits.{page_sound}
 use Rattle.tl_names.specs.Elements.{is_among, rcdata_names}
 use Rattle.tl_html_spec.specs.Driven.{driven_tokens, driving, in_state}
-use Rattle.tl_html_spec.specs.HtmlTokenizer.{html_tokens, Character, CommentToken, DoctypeToken, EndTag, HtmlToken, StartTag, State, data_state, without_mark}
+use Rattle.tl_html_spec.specs.HtmlTokenizer.{Character, CommentToken, DoctypeToken, EndTag, HtmlToken, StartTag, State, data_state, html_tokens, without_mark}
 use Rattle.tl_html_spec.specs.Balanced.{words}
 use Rattle.tl_html_spec.specs.Sound.{AreSound, IsSome}
 use Rattle.tl_dom_spec.specs.Tags.{Namespace, Tag, html_space, is_html, math_space, svg_space}
@@ -16,7 +16,7 @@ use Rattle.tl_dom_spec.specs.Builder.{Builder, Flags, Token, a_character, a_comm
 use Rattle.tl_dom_spec.specs.Adjusted.{cased, foreign_name, svg_names}
 use Rattle.tl_dom_spec.specs.Driver.{builder, emitted_token, token_of}
 use Rattle.tl_dom_spec.specs.HtmlForest.{HtmlForest}
-use Rattle.tl_dom_spec.specs.HtmlTree.{Context, context_state, fragment_start, is_raw_in, page_start, html_fragment_by, html_tree_by, tree_of_tokens}
+use Rattle.tl_dom_spec.specs.HtmlTree.{Context, context_state, fragment_start, html_fragment_by, html_tree_by, is_raw_in, page_start, tree_of_tokens}
 use Rattle.tl_dom_spec.specs.Lawful.{AreNamed, HaveNames, fragment_built, page_built, tokens_of_fragment, tokens_of_page}
 use Rattle.tl_dom_spec.proofs.Allowed.{Allowed, Each}
 use Rattle.tl_dom_spec.proofs.HeadRules.{Allows, Starts}
@@ -51,6 +51,7 @@ named = record {
   Adds = λ _. ⊤;
   Reads = λ _. ⊤;
   Seated = ⊥;
+  Grouped = ⊥;
   stands = λ _ s. s;
   headed = λ _ _ s. s;
   adds = λ _ _ s _. s;
@@ -77,6 +78,7 @@ named_start g t s = record {
   more = λ _. tt;
   inside = tt;
   after = tt;
+  listed = λ y _. absurd y;
 }
 
 pub named_tokens : (tokens : List Token) → HaveNames tokens → Each (Allows named) tokens
@@ -125,6 +127,7 @@ reading_start g t = record {
   more = λ _. tt;
   inside = cond_both (bytes_eq (codes "noscript") t.name) _ _ IsNamed (λ _. tt) (λ _. after_named t.name);
   after = after_named t.name;
+  listed = λ y _. absurd y;
 }
 
 reading_token : (token : Token) → Allows reading token

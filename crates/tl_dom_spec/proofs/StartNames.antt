@@ -1,5 +1,5 @@
 -- No start tag that the tokenizer emits has an empty name, whatever drives it.
-use Rattle.std.proofs.Common.{◌≡◌, ℕ, zero, suc, Bool, true, false, not, ◌==◌, ◌&&◌, ◌||◌, List, [], ◌∷◌, ◌++◌, map, codes, refl, sym, inl, inr, true≢false, arith, if◌then◌else◌, ◌∙◌}
+use Rattle.std.proofs.Common.{Bool, List, [], arith, codes, false, if◌then◌else◌, inl, inr, map, not, refl, suc, sym, true, true≢false, zero, ℕ, ◌&&◌, ◌++◌, ◌==◌, ◌||◌, ◌∙◌, ◌∷◌, ◌≡◌}
 use Rattle.std.specs.Prelude.{⊤, ◌*◌, ◌+◌}
 use Rattle.std.specs.Char.{is_ascii_alphabetic, is_ascii_alphanumeric, is_ascii_digit, is_ascii_hexdigit, to_ascii_lowercase}
 use Rattle.std.specs.List.{list_any, starts_with}
@@ -9,7 +9,7 @@ use Rattle.tl_names.specs.Elements.{is_among, rawtext_names, rcdata_names}
 use Rattle.tl_html_spec.specs.References.{named_value, number_value}
 use Rattle.tl_html_spec.specs.HtmlTokenizer as T
 use Rattle.tl_html_spec.specs.HtmlTokenizer.{Character, CommentToken, DoctypeToken, EndTag, HtmlAttribute, HtmlToken, OpenTag, Raw, StartTag, State, Step, char_of, ends_name, is_white_space, settled, step, whole_step}
-use Rattle.tl_html_spec.specs.Driven.{DrivenState, DrivenStep, Driver, Driving, Emission, byte_driven, cdata_section, cdata_section_bracket, cdata_section_end, cdata_start, characters, doctype_of, drive, driven_end, driven_step, driven_tokens, ends_with_start, entered, in_doctype, in_state, next_driven, of_step, opens_cdata, passes, plain, taken}
+use Rattle.tl_html_spec.specs.Driven.{DrivenState, DrivenStep, Driver, Driving, Emission, byte_driven, cdata_section, cdata_section_bracket, cdata_section_end, cdata_start, doctype_of, drive, driven_end, driven_step, driven_tokens, ends_with_start, entered, in_doctype, in_state, next_driven, of_step, opens_cdata, passes, plain, taken}
 use Rattle.tl_html_spec.specs.Reader.{feed}
 use Rattle.tl_html_spec.specs.Sound.{IsSome}
 use Rattle.tl_dom_spec.specs.Driver.{emitted_token}

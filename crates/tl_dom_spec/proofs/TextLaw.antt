@@ -40,6 +40,7 @@ anything = record {
   Adds = λ _. ⊤;
   Reads = λ _. ⊤;
   Seated = ⊥;
+  Grouped = ⊥;
   stands = λ _ _. tt;
   headed = λ _ _ _. tt;
   adds = λ _ _ _ _. tt;
@@ -66,6 +67,7 @@ any_start g t = record {
   more = λ _. tt;
   inside = tt;
   after = tt;
+  listed = λ y _. absurd y;
 }
 
 pub any_token : (token : Token) → Allows anything token

@@ -52,6 +52,7 @@ voids = record {
   Adds = λ _. ⊤;
   Reads = λ _. ⊤;
   Seated = ⊥;
+  Grouped = ⊥;
   stands = λ _ _. tt;
   headed = λ t e _. head_is_no_void t e;
   adds = λ _ _ o _. o;
@@ -78,6 +79,7 @@ void_start name attributes = record {
   more = λ _. tt;
   inside = tt;
   after = tt;
+  listed = λ y _. absurd y;
 }
 
 pub void_token : (token : HtmlToken) → Allows voids (token_of token)
