@@ -18,10 +18,10 @@ has_in : ℕ → Path → Bool
 has_in k [] = false
 has_in k (f ∷ path) = (f.number == k) || has_in k path
 
-same_number : (k : ℕ) → (k == k) ≡ true
+pub same_number : (k : ℕ) → (k == k) ≡ true
 same_number k = grind (arith, nat_tests)
 
-each-weaken : {X : Type 0} → (P Q : X → Type 0) (xs : List X) → ((x : X) → P x → Q x) → Each P xs → Each Q xs
+pub each-weaken : {X : Type 0} → (P Q : X → Type 0) (xs : List X) → ((x : X) → P x → Q x) → Each P xs → Each Q xs
 each-weaken P Q [] w h = tt
 each-weaken P Q (x ∷ xs) w h = (w x h.0, each-weaken P Q xs w h.1)
 

@@ -35,6 +35,8 @@ pub record Allowed : Type 1 where
   pub Scripts : Bool → Type 0
   -- whether `html` and `head` are known to stand where they do in a page
   pub Seated : Type 0
+  -- whether each tag stands in the group of its name, so that none of a table or a template is listed as active
+  pub Grouped : Type 0
   pub stands : (t : Tag) → Opens t → Stands t
   pub headed : (t : Tag) → is_any (codes "head") t ≡ true → Stands t → Opens t
   pub adds : (t : Tag) (more : List Attribute) → Opens t → Adds more → Opens (with_more more t)

@@ -1,5 +1,5 @@
 -- The dispatcher, foreign content and tokens: what holds of a builder holds after each token, and at the start.
-use Rattle.std.proofs.Common.{Bool, List, None, Option, Some, [], codes, false, if◌then◌else◌, inl, inr, not, refl, suc, sym, true, true≢false, ℕ, ◌&&◌, ◌==◌, ◌||◌, ◌∷◌, ◌≡◌, ◌⊎◌}
+use Rattle.std.proofs.Common.{Bool, List, None, Option, Some, [], ap, codes, false, if◌then◌else◌, inl, inr, not, refl, suc, sym, true, true≢false, ℕ, ◌&&◌, ◌==◌, ◌||◌, ◌∷◌, ◌≡◌, ◌⊎◌}
 use Rattle.std.specs.Prelude.{nat_lt}
 use Rattle.std.specs.Char.{is_ascii_whitespace}
 use Rattle.std.proofs.lemmas.Bool.{cond_both}
@@ -14,37 +14,39 @@ use Rattle.tl_dom_spec.specs.Dispatcher.{Found, bound, breaks_out, broken_out, b
 use Rattle.tl_dom_spec.specs.HtmlTree.{Context, fragment_start, page_start}
 use Rattle.tl_dom_spec.proofs.Allowed.{Allowed, Each, IfSome}
 use Rattle.tl_dom_spec.proofs.Paths.{Frames, top-opens}
+use Rattle.tl_dom_spec.specs.Lawful.{is_text_mode}
+use Rattle.tl_dom_spec.proofs.Steady.{fragment-steady, page-steady}
 use Rattle.tl_dom_spec.proofs.Kept.{Holds, HoldsAfter, bytes-Holds, character-Holds, comment-Holds, either, either-after, popped_through-Holds, popped_to-Holds, reads-Holds, repeated-Holds}
 use Rattle.tl_dom_spec.proofs.HeadRules.{Allows, Starts, after_head_step-Holds, before_head_step-Holds, before_html_step-Holds, in_head_noscript_step-Holds, in_head_step-Holds, initial_step-Holds, text_step-Holds}
 use Rattle.tl_dom_spec.proofs.BodyRules.{foreign-Holds, in_body_step-Holds}
 use Rattle.tl_dom_spec.proofs.TableRules.{in_caption_step-Holds, in_cell_step-Holds, in_column_group_step-Holds, in_row_step-Holds, in_table_body_step-Holds, in_table_step-Holds, in_table_text_step-Holds}
 use Rattle.tl_dom_spec.proofs.OuterRules.{after_after_body_step-Holds, after_after_frameset_step-Holds, after_body_step-Holds, after_frameset_step-Holds, in_frameset_step-Holds, in_template_step-Holds}
 
-pub mode_step-Holds : (R : Allowed) (m : Mode) (b : Builder) (token : Token) → Allows R token → Holds R b → HoldsAfter R (mode_step m b token)
-mode_step-Holds R initial b token k h = initial_step-Holds R b token k h
-mode_step-Holds R before_html b token k h = before_html_step-Holds R b token k h
-mode_step-Holds R before_head b token k h = before_head_step-Holds R b token k h
-mode_step-Holds R in_head b token k h = in_head_step-Holds R b token k h
-mode_step-Holds R in_head_noscript b token k h = in_head_noscript_step-Holds R b token k h
-mode_step-Holds R after_head b token k h = after_head_step-Holds R b token k h
-mode_step-Holds R in_body b token k h = in_body_step-Holds R b token k h
-mode_step-Holds R text_mode b token k h = text_step-Holds R b token k h
-mode_step-Holds R in_table b token k h = in_table_step-Holds R b token k h
-mode_step-Holds R in_table_text b token k h = in_table_text_step-Holds R b token k h
-mode_step-Holds R in_caption b token k h = in_caption_step-Holds R b token k h
-mode_step-Holds R in_column_group b token k h = in_column_group_step-Holds R b token k h
-mode_step-Holds R in_table_body b token k h = in_table_body_step-Holds R b token k h
-mode_step-Holds R in_row b token k h = in_row_step-Holds R b token k h
-mode_step-Holds R in_cell b token k h = in_cell_step-Holds R b token k h
-mode_step-Holds R in_template b token k h = in_template_step-Holds R b token k h
-mode_step-Holds R after_body b token k h = after_body_step-Holds R b token k h
-mode_step-Holds R in_frameset b token k h = in_frameset_step-Holds R b token k h
-mode_step-Holds R after_frameset b token k h = after_frameset_step-Holds R b token k h
-mode_step-Holds R after_after_body b token k h = after_after_body_step-Holds R b token k h
-mode_step-Holds R after_after_frameset b token k h = after_after_frameset_step-Holds R b token k h
+pub mode_step-Holds : (R : Allowed) (m : Mode) (b : Builder) (token : Token) → b.mode ≡ m → Allows R token → Holds R b → HoldsAfter R (mode_step m b token)
+mode_step-Holds R initial b token e k h = initial_step-Holds R b token k h
+mode_step-Holds R before_html b token e k h = before_html_step-Holds R b token k h
+mode_step-Holds R before_head b token e k h = before_head_step-Holds R b token k h
+mode_step-Holds R in_head b token e k h = in_head_step-Holds R b token k (ap is_text_mode e) h
+mode_step-Holds R in_head_noscript b token e k h = in_head_noscript_step-Holds R b token k (ap is_text_mode e) h
+mode_step-Holds R after_head b token e k h = after_head_step-Holds R b token k (ap is_text_mode e) h
+mode_step-Holds R in_body b token e k h = in_body_step-Holds R b token k (ap is_text_mode e) h
+mode_step-Holds R text_mode b token e k h = text_step-Holds R b token k h
+mode_step-Holds R in_table b token e k h = in_table_step-Holds R b token k (ap is_text_mode e) h
+mode_step-Holds R in_table_text b token e k h = in_table_text_step-Holds R b token k h
+mode_step-Holds R in_caption b token e k h = in_caption_step-Holds R b token k (ap is_text_mode e) h
+mode_step-Holds R in_column_group b token e k h = in_column_group_step-Holds R b token k (ap is_text_mode e) h
+mode_step-Holds R in_table_body b token e k h = in_table_body_step-Holds R b token k (ap is_text_mode e) h
+mode_step-Holds R in_row b token e k h = in_row_step-Holds R b token k (ap is_text_mode e) h
+mode_step-Holds R in_cell b token e k h = in_cell_step-Holds R b token k (ap is_text_mode e) h
+mode_step-Holds R in_template b token e k h = in_template_step-Holds R b token k (ap is_text_mode e) h
+mode_step-Holds R after_body b token e k h = after_body_step-Holds R b token k (ap is_text_mode e) h
+mode_step-Holds R in_frameset b token e k h = in_frameset_step-Holds R b token k (ap is_text_mode e) h
+mode_step-Holds R after_frameset b token e k h = after_frameset_step-Holds R b token k (ap is_text_mode e) h
+mode_step-Holds R after_after_body b token e k h = after_after_body_step-Holds R b token k (ap is_text_mode e) h
+mode_step-Holds R after_after_frameset b token e k h = after_after_frameset_step-Holds R b token k (ap is_text_mode e) h
 
 html_step-Holds : (R : Allowed) (b : Builder) (token : Token) → Allows R token → Holds R b → HoldsAfter R (html_step b token)
-html_step-Holds R b token k h = mode_step-Holds R b.mode b token k h
+html_step-Holds R b token k h = mode_step-Holds R b.mode b token refl k h
 
 -- foreign content
 
@@ -135,8 +137,9 @@ document-Frames : (R : Allowed) → Frames R (document ∷ [])
 document-Frames R = ((tt, tt), ((λ e. absurd (true≢false (sym e))), inr refl), tt)
 
 pub page_start-Holds : (R : Allowed) (flags : Flags) → (R.Seated → ⊥) → R.Scripts flags.is_scripting → Holds R (page_start flags)
-page_start-Holds R flags n s = ((document-Frames R, tt, tt, record { state = R.data_read; around = tt; scripts = s }), λ e. absurd (n e))
+page_start-Holds R flags n s =
+    ((document-Frames R, tt, tt, record { state = R.data_read; around = tt; scripts = s }), (λ e. absurd (n e)), λ _. page-steady flags)
 
 pub fragment_start-Holds : (R : Allowed) (flags : Flags) (context : Context) → (R.Seated → ⊥) → R.Scripts flags.is_scripting → R.Around context.tag → Holds R (fragment_start flags context)
 fragment_start-Holds R flags context n s a =
-    ((((tt, tt), R.html, document-Frames R), tt, tt, record { state = R.data_read; around = a; scripts = s }), λ e. absurd (n e))
+    ((((tt, tt), R.html, document-Frames R), tt, tt, record { state = R.data_read; around = a; scripts = s }), (λ e. absurd (n e)), λ _. fragment-steady flags context)

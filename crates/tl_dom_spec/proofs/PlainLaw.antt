@@ -33,6 +33,7 @@ at_home flags = record {
   Around = λ t. is_html t ≡ true;
   Scripts = λ v. v ≡ flags.is_scripting;
   Seated = ⊥;
+  Grouped = ⊥;
   stands = λ _ _. tt;
   headed = λ t e _. (and_parts (is_html t) _ e).0;
   adds = λ _ _ o _. o;
@@ -64,6 +65,7 @@ plain_start flags name attributes p = record {
   inside = plain_inside flags name p;
   scripted = λ on. plain_scripted flags name p (sym on);
   after = plain_after flags name p;
+  listed = λ y _. absurd y;
 }
 
 -- so nothing is foreign

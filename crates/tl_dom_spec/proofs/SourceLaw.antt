@@ -30,6 +30,7 @@ from tokens = record {
   Around = λ _. ⊤;
   Scripts = λ _. ⊤;
   Seated = ⊥;
+  Grouped = ⊥;
   stands = λ _ s. s;
   headed = λ _ _ s. s;
   adds = λ own more o a. subst (λ x. IsTagOf tokens (with_more x own)) a.5 (with_added a.0 a.1 own a.2 a.3 a.4 o);
@@ -70,6 +71,7 @@ token_from tokens (a_start g t closes) i = record {
   inside = λ _. tt;
   scripted = λ _. tt;
   after = tt;
+  listed = λ y _. absurd y;
 }
 token_from tokens (an_end g name) i = tt
 token_from tokens (a_comment bytes) i = i

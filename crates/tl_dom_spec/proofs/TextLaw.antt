@@ -42,6 +42,7 @@ anything = record {
   Around = λ _. ⊤;
   Scripts = λ _. ⊤;
   Seated = ⊥;
+  Grouped = ⊥;
   stands = λ _ _. tt;
   headed = λ _ _ _. tt;
   adds = λ _ _ _ _. tt;
@@ -69,6 +70,7 @@ any_start g t = record {
   inside = λ _. tt;
   scripted = λ _. tt;
   after = tt;
+  listed = λ y _. absurd y;
 }
 
 pub any_token : (token : Token) → Allows anything token

@@ -54,6 +54,7 @@ voids = record {
   Around = λ _. ⊤;
   Scripts = λ _. ⊤;
   Seated = ⊥;
+  Grouped = ⊥;
   stands = λ _ _. tt;
   headed = λ t e _. head_is_no_void t e;
   adds = λ _ _ o _. o;
@@ -81,6 +82,7 @@ void_start name attributes = record {
   inside = λ _. tt;
   scripted = λ _. tt;
   after = tt;
+  listed = λ y _. absurd y;
 }
 
 pub void_token : (token : HtmlToken) → Allows voids (token_of token)
