@@ -1,17 +1,17 @@
 -- Laws of trees that are built of tokens: what holds of each element, text and comment in them.
-use Rattle.std.specs.Prelude.{Bool, List, [], codes, false, map, not, true, ℕ, ◌||◌, ◌∷◌, ◌≡◌, ◌⊎◌, ⊤, suc, zero}
+use Rattle.std.specs.Prelude.{Bool, List, [], codes, false, map, not, suc, true, zero, ℕ, ◌||◌, ◌∷◌, ◌≡◌, ◌⊎◌, ⊤}
 use Rattle.tl_names.specs.Elements.{is_among, rcdata_names}
 use Rattle.tl_html_spec.specs.Balanced.{is_one_of}
 use Rattle.tl_html_spec.specs.HtmlTokenizer.{HtmlToken, StartTag, data_state, replacement, without_mark}
 use Rattle.tl_html_spec.specs.Sound.{IsSome}
 use Rattle.tl_html_spec.specs.Doctypes.{Doctype}
 use Rattle.tl_html_spec.specs.Driven.{Emission, by_name, doctype_of, driven_tokens, driving, in_state, no_tokens}
-use Rattle.tl_dom_spec.specs.Tags.{Namespace, Tag, bare_tag, by_space, is_any, math_space, svg_space, is_table, is_template}
+use Rattle.tl_dom_spec.specs.Tags.{Namespace, Tag, bare_tag, by_space, is_any, is_table, is_template, math_space, svg_space}
 use Rattle.tl_dom_spec.specs.Path.{Path}
 use Rattle.tl_dom_spec.specs.Groups.{Group, a_math, an_image, an_svg, the_body, the_html}
 use Rattle.tl_dom_spec.specs.Builder.{Again, Builder, Done, Entry, Flags, Mode, Outcome, Token, a_character, a_comment, a_doctype, a_start, end_of_file, formatting, in_body, in_column_group, in_row, in_table, in_table_body, in_table_text, in_template, marker, text_mode, with_more}
 use Rattle.tl_dom_spec.specs.Adjusted.{foreign_name, foreign_tag}
-use Rattle.tl_dom_spec.specs.Dispatcher.{token_done, tokens_done, bound, calm, dispatch}
+use Rattle.tl_dom_spec.specs.Dispatcher.{bound, calm, dispatch, token_done, tokens_done}
 use Rattle.tl_dom_spec.specs.Driver.{builder, emitted_token, html_doctype}
 use Rattle.tl_dom_spec.specs.HtmlForest.{HtmlForest, comment, doctype, element, no_trees, text}
 use Rattle.tl_dom_spec.specs.HtmlTree.{Context, Document, children_of, context_state, document_of, fragment_start, is_raw_in, page_start}

@@ -1,17 +1,17 @@
 //! Laws of the trees of any page, any fragment and any tokens.
 
-ghost use Rattle.std.specs.Prelude.{◌≡◌, ◌↔◌, Bool, List, Some, codes, map, true, ℕ, ◌≤◌};
-ghost use Rattle.tl_html_spec.specs.Driven.{bare, Emission};
+ghost use Rattle.std.specs.Prelude.{◌≡◌, ◌≤◌, ◌↔◌, Bool, List, Some, codes, map, true, ℕ};
+ghost use Rattle.tl_html_spec.specs.Driven.{Emission, bare};
 ghost use Rattle.tl_html_spec.specs.HtmlTokenizer.{HtmlToken, data_state, html_tokens, tokens_in_page, without_mark};
 ghost use Rattle.tl_html_spec.specs.Sound.{AreSound};
 ghost use Rattle.tl_tree_spec.specs.HtmlForest.{HtmlForest};
 ghost use Rattle.tl_tree_spec.specs.HtmlTreeBuilder.{html_trees_where};
-ghost use Rattle.tl_dom_spec.specs.Builder.{Flags, Token, Builder, Outcome, repeated};
+ghost use Rattle.tl_dom_spec.specs.Builder.{Builder, Flags, Outcome, Token, repeated};
+ghost use Rattle.tl_dom_spec.specs.Dispatcher.{tokens_done};
 ghost use Rattle.tl_dom_spec.specs.Driver.{emitted_token, token_of};
 ghost use Rattle.tl_dom_spec.specs.HtmlForest.{has_contents};
-ghost use Rattle.tl_dom_spec.specs.HtmlTree.{Context, context_of, context_state, fragment_of_tokens, html_fragment_by, html_tree_by, standard, tree_of_tokens, fragment_start, page_start};
-ghost use Rattle.tl_dom_spec.specs.Lawful.{AreNamed, AreTexts, AreVoidEmpty, ComeFrom, HaveHtmlDoctypes, HaveNames, HavePlainNames, IsPage, driven_by_names, fragment_built, page_built, tokens_of_fragment, tokens_of_page, IsDoneWith, IsSteady, is_done_within};
-ghost use Rattle.tl_dom_spec.specs.Dispatcher.{tokens_done};
+ghost use Rattle.tl_dom_spec.specs.HtmlTree.{Context, context_of, context_state, fragment_of_tokens, fragment_start, html_fragment_by, html_tree_by, page_start, standard, tree_of_tokens};
+ghost use Rattle.tl_dom_spec.specs.Lawful.{AreNamed, AreTexts, AreVoidEmpty, ComeFrom, HaveHtmlDoctypes, HaveNames, HavePlainNames, IsDoneWith, IsPage, IsSteady, driven_by_names, fragment_built, is_done_within, page_built, tokens_of_fragment, tokens_of_page};
 ghost use Rattle.tl_dom_spec.specs.Partial.{whole};
 ghost use Rattle.tl_dom_spec.specs.Tags.{Tag, bare_tag, html_space, is_html};
 
