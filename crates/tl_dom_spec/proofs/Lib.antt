@@ -29,6 +29,11 @@ pub mod BoundLaw
 pub mod RootNames
 pub mod Stages
 pub mod PageLaw
+pub mod RunsPaths
+pub mod RunsStarts
+pub mod RunsFirst
+pub mod RunsNext
+pub mod RunsLaw
 pub mod PlainNames
 pub mod PlainLaw
 pub mod PartNames

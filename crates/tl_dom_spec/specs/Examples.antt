@@ -1,12 +1,16 @@
 -- Words for worked rows. No contract cites them.
 use Prim.Native.String.{String}
-use Rattle.std.specs.Prelude.{Bool, List, None, Option, [], codes, if◌then◌else◌, true, ℕ, ◌++◌, ◌∷◌}
-use Rattle.tl_html_spec.specs.HtmlTokenizer.{html_tokens}
+use Rattle.std.specs.Prelude.{Bool, List, None, Option, [], codes, if◌then◌else◌, map, true, ℕ, ◌++◌, ◌∷◌}
+use Rattle.tl_html_spec.specs.HtmlTokenizer.{data_state, html_tokens}
 use Rattle.tl_dom_spec.specs.Tags.{Attribute, AttributeSpace, Namespace, html_space, is_named, math_space, no_space, svg_space, xlink_space, xml_space, xmlns_space}
 use Rattle.tl_html_spec.specs.Doctypes.{or_empty}
-use Rattle.tl_dom_spec.specs.Builder.{Flags}
+use Rattle.tl_html_spec.specs.Driven.{driven, in_state}
+use Rattle.tl_dom_spec.specs.Builder.{Builder, Flags, a_character, end_of_file}
+use Rattle.tl_dom_spec.specs.Dispatcher.{token_done, tokens_done}
+use Rattle.tl_dom_spec.specs.Runs.{run_taken}
+use Rattle.tl_dom_spec.specs.Driver.{builder}
 use Rattle.tl_dom_spec.specs.HtmlForest.{HtmlForest, comment, doctype, element, has_contents, no_trees, text}
-use Rattle.tl_dom_spec.specs.HtmlTree.{Context, context_of, fragment_of_tokens, html_fragment_by, html_tree, html_tree_by, page_read, standard, tree_of_tokens, with_scripting, without_search}
+use Rattle.tl_dom_spec.specs.HtmlTree.{Context, context_of, document_of, fragment_of_tokens, html_fragment_by, html_tree, html_tree_by, page_read, page_start, standard, tree_of_tokens, with_scripting, without_search}
 
 abbrev pub space_shown : Namespace → List ℕ
 space_shown html_space = []
@@ -133,3 +137,22 @@ added bytes = (page_read standard (codes bytes)).added
 
 abbrev pub excess : String → ℕ
 excess bytes = (page_read standard (codes bytes)).excess
+
+-- what the builder holds behind the front of a page, which ends with a tag
+abbrev pub read_front : String → Builder
+read_front front = driven builder (page_start standard) (in_state data_state) (codes front)
+
+abbrev pub ended : Builder → List ℕ
+ended b = shown (document_of (token_done b end_of_file)).trees
+
+-- a page that ends with a run of characters, which are taken one by one
+abbrev pub one_by_one : String → String → List ℕ
+one_by_one front run = ended (tokens_done (read_front front) (map a_character (codes run)))
+
+-- the same with all but the first one taken at once
+abbrev pub run_from : Builder → List ℕ → Builder
+run_from b [] = b
+run_from b (c ∷ run) = run_taken run (token_done b (a_character c))
+
+abbrev pub at_once : String → String → List ℕ
+at_once front run = ended (run_from (read_front front) (codes run))

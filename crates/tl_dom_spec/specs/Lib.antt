@@ -12,6 +12,7 @@ pub mod Body
 pub mod Tables
 pub mod Outer
 pub mod Dispatcher
+pub mod Runs
 pub mod Driver
 pub mod HtmlForest
 pub mod HtmlTree

@@ -1,18 +1,20 @@
 //! Laws of the trees of any page, any fragment and any tokens.
 
-ghost use Rattle.std.specs.Prelude.{◌≡◌, ◌≤◌, ◌↔◌, Bool, List, Some, codes, map, true, ℕ};
+ghost use Rattle.std.specs.Prelude.{◌≡◌, ◌≤◌, ◌↔◌, Bool, List, Some, codes, map, true, ℕ, ◌&&◌, ◌++◌, ◌==◌, ◌∷◌, false};
 ghost use Rattle.tl_html_spec.specs.Driven.{Emission, bare};
 ghost use Rattle.tl_html_spec.specs.HtmlTokenizer.{HtmlToken, data_state, html_tokens, tokens_in_page, without_mark};
 ghost use Rattle.tl_html_spec.specs.Sound.{AreSound};
 ghost use Rattle.tl_tree_spec.specs.HtmlForest.{HtmlForest};
 ghost use Rattle.tl_tree_spec.specs.HtmlTreeBuilder.{html_trees_where};
-ghost use Rattle.tl_dom_spec.specs.Builder.{Builder, Flags, Outcome, Token, repeated};
-ghost use Rattle.tl_dom_spec.specs.Dispatcher.{tokens_done};
+ghost use Rattle.tl_dom_spec.specs.Builder.{Builder, Flags, Outcome, Token, repeated, Again, a_character, insert_bytes};
+ghost use Rattle.tl_dom_spec.specs.Dispatcher.{tokens_done, bound, calm, dispatch, token_done};
 ghost use Rattle.tl_dom_spec.specs.Driver.{emitted_token, token_of};
 ghost use Rattle.tl_dom_spec.specs.HtmlForest.{has_contents};
 ghost use Rattle.tl_dom_spec.specs.HtmlTree.{Context, context_of, context_state, fragment_of_tokens, fragment_start, html_fragment_by, html_tree_by, page_start, standard, tree_of_tokens};
-ghost use Rattle.tl_dom_spec.specs.Lawful.{AreNamed, AreTexts, AreVoidEmpty, ComeFrom, HaveHtmlDoctypes, HaveNames, HavePlainNames, IsDoneWith, IsPage, IsSteady, driven_by_names, fragment_built, is_done_within, page_built, tokens_of_fragment, tokens_of_page};
+ghost use Rattle.tl_dom_spec.specs.Lawful.{AreNamed, AreTexts, AreVoidEmpty, ComeFrom, HaveHtmlDoctypes, HaveNames, HavePlainNames, IsDoneWith, IsPage, IsSteady, driven_by_names, fragment_built, is_done_within, page_built, tokens_of_fragment, tokens_of_page, EachCharacter};
+ghost use Rattle.tl_dom_spec.specs.Formatting.{reconstruct_formatting};
 ghost use Rattle.tl_dom_spec.specs.Partial.{whole};
+ghost use Rattle.tl_dom_spec.specs.Runs.{is_of_run, kind_of, run_taken};
 ghost use Rattle.tl_dom_spec.specs.Tags.{Tag, bare_tag, html_space, is_html};
 
 /// A page is built of its tokens, and a fragment too: what holds of what any tokens build holds of
@@ -157,4 +159,26 @@ pub fn plain_names_need_no_builder()
         HavePlainNames flags (tokens_in_page bytes) → HaveHtmlDoctypes (driven_by_names bytes) →
         html_fragment_by flags context bytes
         ≡ fragment_of_tokens flags context (tokens_in_page bytes) }
+{}
+
+/// A run of characters is taken whole: once its first one was taken, the rest is taken at once
+/// (`run_taken`), by any builder, but where the first one is a line feed that is skipped. White
+/// space is a run, and so are NULs; any other character begins one that goes on with any
+/// characters, but in "after after frameset" with others alone (`is_of_run`).
+#[tactic(auto, using(crate::proofs::RunsLaw::run_is, crate::proofs::RunsLaw::kind_is, crate::proofs::RunsNext::bytes_append, crate::proofs::RunsLaw::reconstructed_once))]
+pub fn runs_are_taken_whole()
+    ensures run { (b : Builder) (c : ℕ) (run : List ℕ) → (b.skips && (c == 10)) ≡ false →
+        EachCharacter
+        (λ d. is_of_run (token_done b (a_character c)).mode (kind_of c) d ≡ true) run →
+        tokens_done b (map a_character (c ∷ run))
+        ≡ run_taken run (token_done b (a_character c)) }
+    ensures one_kind { (b : Builder) (c : ℕ) (run : List ℕ) → (b.skips && (c == 10)) ≡ false →
+        EachCharacter (λ d. kind_of d ≡ kind_of c) run →
+        tokens_done b (map a_character (c ∷ run))
+        ≡ run_taken run (token_done b (a_character c)) }
+    // two texts that are inserted one after the other are inserted as one
+    ensures texts { (b : Builder) (xs ys : List ℕ) →
+        insert_bytes ys (insert_bytes xs b) ≡ insert_bytes (xs ++ ys) b }
+    ensures reconstructed { (b : Builder) →
+        reconstruct_formatting (reconstruct_formatting b) ≡ reconstruct_formatting b }
 {}

@@ -9,5 +9,6 @@ mod head;
 mod laws;
 mod others;
 mod proportion;
+mod runs;
 mod start;
 mod tables;
