@@ -6,8 +6,8 @@ ghost use Rattle.tl_html_spec.specs.HtmlTokenizer.{HtmlToken, data_state, html_t
 ghost use Rattle.tl_html_spec.specs.Sound.{AreSound};
 ghost use Rattle.tl_tree_spec.specs.HtmlForest.{HtmlForest};
 ghost use Rattle.tl_tree_spec.specs.HtmlTreeBuilder.{html_trees_where};
-ghost use Rattle.tl_dom_spec.specs.Builder.{Builder, Flags, Outcome, Token, repeated, Again, a_character, insert_bytes};
-ghost use Rattle.tl_dom_spec.specs.Dispatcher.{tokens_done, bound, calm, dispatch, token_done};
+ghost use Rattle.tl_dom_spec.specs.Builder.{Builder, Flags, Outcome, Token, a_character, insert_bytes, repeated};
+ghost use Rattle.tl_dom_spec.specs.Dispatcher.{bound, token_done, tokens_done};
 ghost use Rattle.tl_dom_spec.specs.Driver.{emitted_token, token_of};
 ghost use Rattle.tl_dom_spec.specs.HtmlForest.{has_contents};
 ghost use Rattle.tl_dom_spec.specs.HtmlTree.{Context, context_of, context_state, fragment_of_tokens, fragment_start, html_fragment_by, html_tree_by, page_start, standard, tree_of_tokens};
