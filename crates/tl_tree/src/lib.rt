@@ -8,6 +8,8 @@
 mod cell;
 mod entries;
 mod error;
+mod frame;
+mod path;
 mod span;
 mod store;
 
