@@ -5,3 +5,8 @@ pub mod Changed
 pub mod Numbered
 pub mod Written
 pub mod Settled
+pub mod Popped
+pub mod Asked
+pub mod Inserted
+pub mod Sought
+pub mod Fostered

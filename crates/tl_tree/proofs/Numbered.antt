@@ -1,6 +1,6 @@
 -- Frames whose numbers differ: the frame of a number is one.
-use Rattle.std.proofs.Common.{ap, arith, inl, inr, sym, subst, ◌∙◌, ◌≡◌, ◌+◌, ◌≤◌, ◌<◌, ◌++◌, ◌&&◌, ◌||◌, ◌∷◌, [], Bool, IsTrue, List, None, Option, Some, cond, eqb, false, get_or, length, map, nat_eq, nat_lt, not, refl, reverse, set, slice_get, suc, take, true, zero, ℕ}
-use Rattle.std.proofs.lemmas.Bool.{and_from, and_parts, eq-eqb, eqb-true, false≢true, ltb-true, ne_eqb, or_parts}
+use Rattle.std.proofs.Common.{ap, arith, sym, subst, ◌∙◌, ◌≡◌, ◌≤◌, ◌<◌, ◌++◌, ◌&&◌, ◌||◌, ◌∷◌, [], Bool, IsTrue, List, Some, cond, false, get_or, length, map, nat_eq, not, refl, reverse, set, slice_get, suc, take, true, zero, ℕ}
+use Rattle.std.proofs.lemmas.Bool.{and_from, and_parts, eq-eqb, false≢true, ltb-true, ne_eqb, or_parts}
 use Rattle.std.proofs.lemmas.List.{length-map}
 use Rattle.std.proofs.lemmas.Option.{same_Some, slice_get_within}
 use Rattle.std.specs.List.{list_all, list_any}
@@ -44,7 +44,7 @@ changed-map s k zero change (g ∷ frames) e h =
     let p = and_parts (not (list_any (is_numbered g.number) frames)) (are_distinct frames) h in
     let is : g.number ≡ k = same_Some g.number k e in
     let none : list_any (is_numbered k) frames ≡ false =
-        subst (λ (m : ℕ). list_any (is_numbered m) frames ≡ false) is (not-false (list_any (is_numbered g.number) frames) p.0) in
+    subst (λ (m : ℕ). list_any (is_numbered m) frames ≡ false) is (not-false (list_any (is_numbered g.number) frames) p.0) in
     ap (λ (b : Bool). cond b (change (frame_of s g)) (frame_of s g) ∷ map (λ (o : dom.Frame). cond (nat_eq o.number k) (change o) o) (map (frame_of s) frames)) (eq-eqb g.number k is)
     ∙ ap (λ rest. change (frame_of s g) ∷ rest) (absent-map s k change frames none)
 changed-map s k (suc n) change (g ∷ frames) e h =

@@ -1,5 +1,5 @@
 -- Frames that are settled while they pass a test, one after the other.
-use Rattle.std.proofs.Common.{ap, arith, inl, inr, sym, subst, ◌∙◌, ◌≡◌, ◌+◌, ◌≤◌, ◌<◌, ◌∷◌, ◌||◌, [], Bool, List, false, length, map, not, refl, suc, true, zero, ℕ}
+use Rattle.std.proofs.Common.{ap, arith, sym, ◌∙◌, ◌≡◌, ◌≤◌, ◌∷◌, ◌||◌, [], Bool, List, false, length, not, refl, suc, true}
 use Rattle.std.proofs.lemmas.List.{length-map}
 use Rattle.tl_dom_spec.specs.Path.{Frame, Nodes, Path, Place, behind, here, into, into_head, node_of, popped_while, settled_at, settled_while, top_settled}
 
@@ -46,7 +46,7 @@ any-count test (c ∷ a) [] (f ∷ g ∷ path) h k = absurd (omega arith)
 any-count test (c ∷ a) (d ∷ b) (f ∷ g ∷ path) h k =
     let many = length-settled f g path in
     let rest : settled_while test a (top_settled (f ∷ g ∷ path)) ≡ settled_while test b (top_settled (f ∷ g ∷ path)) =
-        any-count test a b (top_settled (f ∷ g ∷ path)) (omega arith) (omega arith) in
+    any-count test a b (top_settled (f ∷ g ∷ path)) (omega arith) (omega arith) in
     elim (is_settled test f) as (λ x. (elim x as (λ _. Path) [ true ↦ settled_while test a (top_settled (f ∷ g ∷ path)) | false ↦ f ∷ g ∷ path ]) ≡ (elim x as (λ _. Path) [ true ↦ settled_while test b (top_settled (f ∷ g ∷ path)) | false ↦ f ∷ g ∷ path ])) [
       | true ↦ rest
       | false ↦ refl

@@ -12,5 +12,6 @@ mod frame;
 mod path;
 mod span;
 mod store;
+mod test;
 
 pub use error::ReadError;
