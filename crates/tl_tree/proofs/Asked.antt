@@ -1,16 +1,19 @@
 -- What is read of a store.
-use Rattle.std.proofs.Common.{ap, arith, inl, inr, sym, ◌∙◌, ◌≡◌, ◌+◌, ◌-◌, ◌≤◌, ◌<◌, ◌++◌, ◌&&◌, ◌∷◌, [], Bool, IsTrue, List, cond, drop, get_or, length, nat_eq, nat_le, refl, take, true, false, ℕ}
+use Rattle.std.proofs.Common.{ap, arith, inl, inr, sym, ◌∙◌, ◌≡◌, ◌+◌, ◌-◌, ◌≤◌, ◌<◌, ◌++◌, ◌&&◌, ◌∷◌, [], IsTrue, List, cond, drop, get_or, length, nat_eq, nat_le, refl, take, true, false, ℕ}
 use Rattle.std.proofs.Math.Seq.{drop-append-add}
 use Rattle.std.proofs.lemmas.Bool.{and_parts, leb-true, or_cases}
 use Rattle.std.proofs.lemmas.List.{get_or-map}
 use Rattle.std.specs.List.{onto_first, slice_split}
 use Rattle.tl_dom_spec.specs.Tags as dom
-use Rattle.tl_html_spec.specs.Balanced.{is_one_of, with_first, words}
+use Rattle.tl_html_spec.specs.Balanced.{with_first, words}
 use Rattle.tl_tree.proofs.Listed.{part-front}
-use Rattle.tl_tree.specs.Inner.Store.{bytes_of, is_span, space_of, tag_at, tag_of}
+use Rattle.tl_tree.specs.Inner.Store.{bytes_of, is_span, tag_at, tag_of}
+use Rattle.tl_tree.specs.Inner.Tests.{named, tag_test_of}
 use Rattle.tl_tree.specs.declared.entries.TagEntry.{TagEntry}
 use Rattle.tl_tree.specs.declared.span.Span.{Span}
 use Rattle.tl_tree.specs.declared.store.Store.{Store}
+use Rattle.tl_tree.specs.declared.test.TagTest.{TagTest}
+use Rattle.tl_tree.specs.declared.test.TagTest.TheVariants.{Any, Nothing, Scope, ScopeOr}
 
 pub tag-read : (s : Store) (n : ℕ) (t : TagEntry) → t ≡ get_or s.tags.items n t → n < length s.tags.items → tag_of s t ≡ tag_at s n
 unfolding tag_at
@@ -61,8 +64,18 @@ words-split (b ∷ text) =
     ]
 
 -- what is asked of a tag, by its number
-pub any-is : (s : Store) (k : ℕ) (names : List ℕ) (t : TagEntry) (html named : Bool) → tag_of s t ≡ tag_at s k → html ≡ dom.by_space (space_of t.space) true false false → named ≡ is_one_of names (bytes_of s t.name) → dom.is_any names (tag_at s k) ≡ (html && named)
+pub tag-named : (test : TagTest) (s : Store) (n : ℕ) (t : TagEntry) (name : List ℕ) → tag_of s t ≡ tag_at s n → name ≡ bytes_of s t.name → tag_test_of test (named t.space name) ≡ tag_test_of test (tag_at s n)
 unfolding tag_of
-any-is s k names t html named e h n =
-    ap (dom.is_any names) (sym e)
-    ∙ (ap (λ b. b && is_one_of names (bytes_of s t.name)) (sym h) ∙ ap (λ b. html && b) (sym n))
+tag-named Nothing s n t name e own = refl
+tag-named (Any names) s n t name e own =
+    ap (λ bytes. dom.is_any names.now (named t.space bytes)) own ∙ ap (dom.is_any names.now) e
+tag-named Scope s n t name e own =
+    ap (λ bytes. dom.is_scope (named t.space bytes)) own ∙ ap dom.is_scope e
+tag-named (ScopeOr names) s n t name e own =
+    ap (λ bytes. tag_test_of (ScopeOr names) (named t.space bytes)) own
+    ∙ ap (tag_test_of (ScopeOr names)) e
+
+pub implied-named : (s : Store) (n : ℕ) (t : TagEntry) (name : List ℕ) → tag_of s t ≡ tag_at s n → name ≡ bytes_of s t.name → dom.is_implied (named t.space name) ≡ dom.is_implied (tag_at s n)
+unfolding tag_of
+implied-named s n t name e own =
+    ap (λ bytes. dom.is_implied (named t.space bytes)) own ∙ ap dom.is_implied e

@@ -2,4 +2,5 @@
 pub mod Within
 pub mod Store
 pub mod Framed
+pub mod Tests
 pub mod Frames

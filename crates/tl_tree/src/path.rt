@@ -14,7 +14,7 @@ use crate::error::ReadError;
 use crate::frame::{Frame, Mark, Place};
 use crate::span::Span;
 use crate::store::Store;
-use crate::test::Test;
+use crate::test::{TagTest, Test};
 use std::alloc::Global;
 
 /// The path, with the outermost frame first, and the store that its frames refer to.
@@ -36,11 +36,12 @@ pub(crate) struct FramePath<'a> {
 impl<'a> FramePath<'a> {
     ghost use Rattle.std.specs.List.{list_any};
     ghost use Rattle.std.specs.Prelude.{IfOk, IfSome, None, OnOk, Some, [], false, reverse, slice_get, slice_index_or, slice_set, take, true, ◌+◌, ◌-◌, ◌^◌, ◌∷◌, ◌≡◌};
-    ghost use Rattle.tl_dom_spec.specs.Path.{and_element, at_number, behind, caught_up, document, elements, foster_place, here, into, joined, new_frame, no_nodes, place_in, popped, popped_through, popped_to, popped_while, put, settled_at, taken_out, top, top_settled, with_nodes, with_waiting, within};
+    ghost use Rattle.tl_dom_spec.specs.Path.{and_element, at_number, behind, caught_up, document, elements, foster_place, has_open, has_within, here, implied_closed, into, is_open_number, joined, new_frame, no_nodes, place_in, popped, popped_through, popped_to, popped_while, put, settled_at, taken_out, top, top_settled, with_nodes, with_waiting, within};
     ghost use Rattle.tl_dom_spec.specs.Builder.{pushed_at};
     ghost use Rattle.tl_dom_spec.specs.Path as dom;
     ghost use Rattle.tl_tree.specs.Inner.Framed.{is_numbered, numbers};
     ghost use Rattle.tl_tree.specs.Inner.Frames.{changed, closed, fostered, frame_of, frames_of, is_frame, path_of, place_of, sought, test_of, test_or_other};
+    ghost use Rattle.tl_tree.specs.Inner.Tests.{tag_test_of};
     ghost use Rattle.tl_tree.specs.Inner.Store.{Grows, is_node, is_row, is_tag_number, node_of, nodes_of, tag_at};
 
     /// The document alone.
@@ -540,7 +541,7 @@ impl<'a> FramePath<'a> {
 
     /// Whether an element of the stack passes a test, before one that bounds the search. Here the
     /// path is walked.
-    pub(crate) fn has_within(&self, test: Test, bounds: Test) -> bool
+    pub(crate) fn is_within(&self, test: Test, bounds: Test) -> bool
         ensures { result
             ≡ within (test_of test) (test_of bounds) (elements (path_of self.now)) }
     {
@@ -596,11 +597,11 @@ impl<'a> FramePath<'a> {
         if !frame.is_open {
             return None;
         }
-        let template = Test::Any(b"template");
+        let template = Test::Tag(TagTest::Any(b"template"));
         if template.passes(&self.store, frame) {
             return Some(Place::Behind(Mark::new(frame.number, index)));
         }
-        let table = Test::Any(b"table");
+        let table = Test::Tag(TagTest::Any(b"table"));
         if table.passes(&self.store, frame) {
             return Some(self.place_around(index, frame.place));
         }
@@ -626,11 +627,43 @@ impl<'a> FramePath<'a> {
     pub(crate) fn place_in(&self, is_fostering: bool) -> Place
         ensures { place_of result ≡ place_in is_fostering (path_of self.now) }
     {
-        let targets = Test::Any(b"table tbody tfoot thead tr");
+        let targets = Test::Tag(TagTest::Any(b"table tbody tfoot thead tr"));
         if is_fostering && targets.passes(&self.store, self.top()) {
             self.foster_place()
         } else {
             Place::Here
         }
+    }
+
+    /// Whether an element is open in a scope that these bound.
+    pub(crate) fn has_within(&self, test: TagTest, bounds: TagTest) -> bool
+        ensures { result
+            ≡ has_within (tag_test_of test) (tag_test_of bounds) (path_of self.now) }
+    {
+        self.is_within(Test::Tag(test), Test::Tag(bounds))
+    }
+
+    /// Whether an element is open.
+    pub(crate) fn has_open(&self, test: TagTest) -> bool
+        ensures { result ≡ has_open (tag_test_of test) (path_of self.now) }
+    {
+        self.is_within(Test::Tag(test), Test::Nothing)
+    }
+
+    /// Whether the element of a number is open.
+    pub(crate) fn is_open_number(&self, number: u32) -> bool
+        ensures { result ≡ is_open_number number (path_of self.now) }
+    {
+        self.is_within(Test::Number(number), Test::Nothing)
+    }
+
+    /// Implied end tags are generated, but for elements that pass a test.
+    pub(crate) fn close_implied(&mut self, but: TagTest) -> Result<(), ReadError>
+        ensures ok { OnOk result (path_of self.new
+            ≡ implied_closed (tag_test_of but) (path_of self.old)) }
+        ensures next { self.new.next ≡ self.old.next }
+        ensures grows { Grows self.old.store self.new.store }
+    {
+        self.settle_while(Test::ImpliedBut(but), false)
     }
 }

@@ -1,16 +1,17 @@
 -- What a path of frames stands for, in words of `tl_dom_spec`.
-use Rattle.std.specs.Prelude.{Bool, List, [], false, if◌then◌else◌, length, map, not, reverse, suc, take, zero, ℕ, ◌∷◌}
+use Rattle.std.specs.Prelude.{Bool, List, [], false, if◌then◌else◌, length, map, not, reverse, suc, take, zero, ℕ, ◌&&◌, ◌∷◌}
 use Rattle.tl_dom_spec.specs.Path as dom
-use Rattle.tl_dom_spec.specs.Tags.{is_any}
+use Rattle.tl_dom_spec.specs.Tags.{is_implied}
 use Rattle.tl_tree.specs.Inner.Framed.{frame_is_within}
 use Rattle.tl_tree.specs.Inner.Store.{nodes_of, tag_at}
+use Rattle.tl_tree.specs.Inner.Tests.{tag_test_of}
 use Rattle.tl_tree.specs.declared.frame.Frame.{Frame}
 use Rattle.tl_tree.specs.declared.frame.Place.{Place}
 use Rattle.tl_tree.specs.declared.frame.Place.TheVariants.{Behind, Here, Into}
 use Rattle.tl_tree.specs.declared.path.FramePath.{FramePath}
 use Rattle.tl_tree.specs.declared.store.Store.{Store}
 use Rattle.tl_tree.specs.declared.test.Test.{Test}
-use Rattle.tl_tree.specs.declared.test.Test.TheVariants.{Any, Nothing, Number}
+use Rattle.tl_tree.specs.declared.test.Test.TheVariants.{ImpliedBut, Nothing, Number, Tag}
 
 abbrev pub place_of : Place → dom.Place
 place_of Here = dom.here
@@ -47,7 +48,8 @@ changed (suc n) change (f ∷ frames) = f ∷ changed n change frames
 abbrev pub test_of : Test → dom.Frame → Bool
 test_of Nothing = dom.no_frame
 test_of (Number k) = dom.has_number k
-test_of (Any names) = dom.has_tag (is_any names.now)
+test_of (Tag test) = dom.has_tag (tag_test_of test)
+test_of (ImpliedBut but) = λ (f : dom.Frame). is_implied f.tag && not (tag_test_of but f.tag)
 
 -- a test, or one for all others
 abbrev pub test_or_other : Bool → Test → dom.Frame → Bool

@@ -1,7 +1,7 @@
 use Rattle.std.proofs.Common.{◌≡◌, ◌≤◌, length}
 use Rattle.tl_dom_spec.specs.Path.{elements, within}
 use Rattle.tl_tree.specs.Inner.Frames.{path_of, sought, test_of}
-use Rattle.tl_tree.proofs.path.FramePath.has_within.Given as goal
+use Rattle.tl_tree.proofs.path.FramePath.is_within.Given as goal
 
 abbrev pub invariant-loop-index : goal.invariant-loop-index
 invariant-loop-index l =

@@ -1,7 +1,7 @@
 use Rattle.std.proofs.Common.{ap, arith, sym, ◌≡◌, ◌∙◌}
 use Rattle.tl_tree.proofs.Sought.{sought-all, sought-none}
 use Rattle.tl_tree.specs.Inner.Frames.{sought, test_of}
-use Rattle.tl_tree.proofs.path.FramePath.has_within.Goals as goal
+use Rattle.tl_tree.proofs.path.FramePath.is_within.Goals as goal
 
 pub loop-index-init : goal.loop-index-init
 loop-index-init c =
