@@ -1,0 +1,12 @@
+pub mod Listed
+pub mod Within
+pub mod Grown
+pub mod Changed
+pub mod Numbered
+pub mod Written
+pub mod Settled
+pub mod Popped
+pub mod Asked
+pub mod Inserted
+pub mod Sought
+pub mod Fostered

@@ -1,0 +1,6 @@
+-- What the proofs and private functions of this crate cite, and no public clause.
+pub mod Within
+pub mod Store
+pub mod Framed
+pub mod Tests
+pub mod Frames

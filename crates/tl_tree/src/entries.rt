@@ -1,0 +1,61 @@
+//! Tags, attributes and doctypes, as the store has them.
+
+ghost use Rattle.std.specs.Prelude.{false, true, ◌≡◌};
+ghost use Rattle.tl_dom_spec.specs.Tags.{by_space};
+ghost use Rattle.tl_tree.specs.Inner.Store.{space_of};
+
+use crate::span::Span;
+
+/// The namespaces of elements.
+#[derive(Clone, Copy, PartialEq, Eq)]
+pub(crate) enum Namespace {
+    Html,
+    Math,
+    Svg,
+}
+
+impl Namespace {
+    pub(crate) fn is_html(self) -> bool
+        ensures { result ≡ by_space (space_of self) true false false }
+    {
+        match self {
+            Namespace::Html => true,
+            Namespace::Math => false,
+            Namespace::Svg => false,
+        }
+    }
+}
+
+/// The namespaces of attributes.
+#[derive(Clone, Copy, PartialEq, Eq)]
+pub(crate) enum AttributeSpace {
+    Plain,
+    Xlink,
+    Xml,
+    Xmlns,
+}
+
+#[derive(Clone, Copy)]
+pub(crate) struct AttributeEntry {
+    pub(crate) space: AttributeSpace,
+    pub(crate) key: Span,
+    pub(crate) value: Span,
+}
+
+/// An element without its children. Its attributes stand side by side.
+#[derive(Clone, Copy)]
+pub(crate) struct TagEntry {
+    pub(crate) space: Namespace,
+    pub(crate) name: Span,
+    pub(crate) known: u8,
+    pub(crate) first_attribute: u32,
+    pub(crate) attribute_count: u32,
+}
+
+#[derive(Clone, Copy)]
+pub(crate) struct DoctypeEntry {
+    pub(crate) name: Span,
+    pub(crate) public_id: Option<Span>,
+    pub(crate) system_id: Option<Span>,
+    pub(crate) forces_quirks: bool,
+}
