@@ -5,3 +5,5 @@ pub mod Changed
 pub mod Numbered
 pub mod Written
 pub mod Settled
+pub mod PlacesOf
+pub mod ScopesOf

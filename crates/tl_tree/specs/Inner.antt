@@ -3,3 +3,5 @@ pub mod Within
 pub mod Store
 pub mod Framed
 pub mod Frames
+pub mod Places
+pub mod Scopes
