@@ -10,3 +10,5 @@ pub mod Asked
 pub mod Inserted
 pub mod Sought
 pub mod Fostered
+pub mod PlacesOf
+pub mod ScopesOf

@@ -4,3 +4,5 @@ pub mod Store
 pub mod Framed
 pub mod Tests
 pub mod Frames
+pub mod Places
+pub mod Scopes

@@ -10,6 +10,7 @@ mod entries;
 mod error;
 mod frame;
 mod path;
+mod places;
 mod span;
 mod store;
 mod test;
