@@ -12,3 +12,4 @@ pub mod Sought
 pub mod Fostered
 pub mod PlacesOf
 pub mod ScopesOf
+pub mod SaidTags

@@ -6,3 +6,4 @@ pub mod Tests
 pub mod Frames
 pub mod Places
 pub mod Scopes
+pub mod Said

@@ -1,0 +1,19 @@
+-- What a token of a page says, as it is put into a store.
+use Rattle.std.specs.Prelude.{List, drop, map, take, ℕ, ◌-◌}
+use Rattle.tl_dom_spec.specs.Tags as dom
+use Rattle.tl_html_spec.specs.HtmlTokenizer.{OpenTag}
+use Rattle.tl_tree.specs.Inner.Store.{attribute_of}
+use Rattle.tl_tree.specs.declared.entries.AttributeEntry.{AttributeEntry}
+use Rattle.tl_tree.specs.declared.store.Store.{Store}
+
+-- the bytes of a piece
+abbrev pub piece_at : List ℕ → ℕ → ℕ → List ℕ
+piece_at page start end = take (end - start) (drop start page)
+
+-- what attributes stand for
+abbrev pub attributes_in : Store → List AttributeEntry → List dom.Attribute
+attributes_in s entries = map (attribute_of s) entries
+
+-- the attributes of a tag that is being read, as the tree has them
+abbrev pub attributes_so_far : OpenTag → List dom.Attribute
+attributes_so_far tag = map dom.plain_attribute tag.attributes

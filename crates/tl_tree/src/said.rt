@@ -1,0 +1,137 @@
+//! What a token of the page says, put into a store.
+//!
+//! A token is the bytes of its piece, from `start` to `end`. That these are a piece by themselves
+//! (`IsWhole`) is a law of `tl_html_tokens` for tags, and so is that a text and a comment say what
+//! is put in here (`characters_of`, `comment_of`).
+ghost use Rattle.std.specs.Prelude.{Bool, IfOk, IsTrue, List, [], length, ◌∷◌, ◌≡◌, ◌≤◌, ℕ};
+ghost use Rattle.tl_dom_spec.specs.Tags.{html_tag};
+ghost use Rattle.tl_html_spec.specs.HtmlTokenizer.{EndTag, HtmlAttribute, StartTag};
+ghost use Rattle.tl_html_tokens.specs.Characters.{characters_of};
+ghost use Rattle.tl_html_tokens.specs.Comments.{comment_of};
+ghost use Rattle.tl_html_tokens.specs.Whole.{IsWhole};
+ghost use Rattle.tl_html_tokens.specs.declared.mode.Mode.{Mode};
+ghost use Rattle.tl_tree.specs.Inner.Said.{piece_at};
+ghost use Rattle.tl_tree.specs.Inner.Store.{Grows, bytes_of, is_span, is_tag, tag_of};
+
+use crate::entries::{AttributeEntry, TagEntry};
+use crate::error::ReadError;
+use crate::said_attributes::put_tag;
+use crate::said_bytes::{put_bytes, put_name};
+use crate::span::Span;
+use crate::store::Store;
+use std::alloc::Global;
+use tl_html_parts::{characters, comment, tag_parts};
+use tl_html_tokens::Mode;
+
+/// A start tag, and whether it closes itself.
+#[derive(Clone, Copy)]
+pub(crate) struct SaidTag {
+    pub(crate) tag: TagEntry,
+    pub(crate) closes: bool,
+}
+
+/// What a start tag says. The vector is room for its attributes, which the caller keeps.
+pub(crate) fn start_tag(
+    store: &mut Store<'_>,
+    alloc: Global,
+    room: &mut Vec<AttributeEntry>,
+    start: usize,
+    end: usize,
+) -> Result<SaidTag, ReadError>
+    requires order { start ≤ end }
+    requires within { end ≤ length store.old.page.now }
+    ensures tag { IfOk result (λ said. (mode : Mode) (name : List ℕ)
+        (attributes : List HtmlAttribute) (closes : Bool) →
+        IsWhole mode (piece_at store.old.page.now start end)
+        (StartTag name attributes closes ∷ []) →
+        tag_of store.new said.tag ≡ html_tag name attributes) }
+    ensures closes { IfOk result (λ said. (mode : Mode) (name : List ℕ)
+        (attributes : List HtmlAttribute) (closes : Bool) →
+        IsWhole mode (piece_at store.old.page.now start end)
+        (StartTag name attributes closes ∷ []) →
+        said.closes ≡ closes) }
+    ensures within { IfOk result (λ said. IsTrue (is_tag store.new said.tag)) }
+    ensures grows { Grows store.old store.new }
+{
+    let page = store.page;
+    let parts = tag_parts(alloc, &page[start..end])?;
+    let tag = put_tag(store, alloc, room, &parts, start)?;
+    Ok(SaidTag {
+        tag,
+        closes: parts.closes,
+    })
+}
+
+/// The name that an end tag says.
+pub(crate) fn end_tag(
+    store: &mut Store<'_>,
+    alloc: Global,
+    start: usize,
+    end: usize,
+) -> Result<Span, ReadError>
+    requires order { start ≤ end }
+    requires within { end ≤ length store.old.page.now }
+    ensures name { IfOk result (λ span. (mode : Mode) (name : List ℕ) →
+        IsWhole mode (piece_at store.old.page.now start end) (EndTag name ∷ []) →
+        bytes_of store.new span ≡ name) }
+    ensures within { IfOk result (λ span. IsTrue (is_span store.new span)) }
+    ensures grows { Grows store.old store.new }
+{
+    let page = store.page;
+    let parts = tag_parts(alloc, &page[start..end])?;
+    put_name(store, alloc, start.saturating_add(2), parts.name)
+}
+
+/// The characters that a text says, which is read in this mode.
+pub(crate) fn text(
+    store: &mut Store<'_>,
+    alloc: Global,
+    mode: Mode,
+    start: usize,
+    end: usize,
+) -> Result<Span, ReadError>
+    requires order { start ≤ end }
+    requires within { end ≤ length store.old.page.now }
+    ensures characters { IfOk result (λ span.
+        bytes_of store.new span ≡ characters_of mode (piece_at store.old.page.now start end)) }
+    ensures within { IfOk result (λ span. IsTrue (is_span store.new span)) }
+    ensures grows { Grows store.old store.new }
+{
+    let page = store.page;
+    let said = characters(alloc, mode, &page[start..end])?;
+    put_bytes(store, start, said.as_bytes())
+}
+
+// Where the data of a comment begins, in most.
+fn data_place(page: &[u8], start: usize) -> usize
+    requires { start ≤ length page.now }
+{
+    let rest = &page[start..];
+    let opening = if rest.starts_with(b"<!--") {
+        4
+    } else if rest.starts_with(b"<?") {
+        1
+    } else {
+        2
+    };
+    start.saturating_add(opening)
+}
+
+/// The data that a comment says.
+pub(crate) fn comment_data(
+    store: &mut Store<'_>,
+    alloc: Global,
+    start: usize,
+    end: usize,
+) -> Result<Span, ReadError>
+    requires order { start ≤ end }
+    requires within { end ≤ length store.old.page.now }
+    ensures data { IfOk result (λ span.
+        bytes_of store.new span ≡ comment_of (piece_at store.old.page.now start end)) }
+    ensures within { IfOk result (λ span. IsTrue (is_span store.new span)) }
+    ensures grows { Grows store.old store.new }
+{
+    let page = store.page;
+    let said = comment(alloc, &page[start..end])?;
+    put_bytes(store, data_place(page, start), said.as_bytes())
+}

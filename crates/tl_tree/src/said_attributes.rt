@@ -1,0 +1,141 @@
+//! The attributes of a tag, put into a store: the first of equal keys alone.
+ghost use Rattle.std.specs.Prelude.{IfOk, IsTrue, OnOk, [], length, map, ◌++◌, ◌≡◌, ◌≤◌};
+ghost use Rattle.std.specs.List.{list_all};
+ghost use Rattle.tl_dom_spec.specs.Tags.{has_attribute, html_tag};
+ghost use Rattle.tl_html_spec.specs.HtmlTokenizer.{OpenTag, with_attribute};
+ghost use Rattle.tl_html_parts.specs.Parts.{attribute_view, attributes_of, name_of, value_of, with_attributes};
+ghost use Rattle.tl_tree.specs.Inner.Said.{attributes_in, attributes_so_far};
+ghost use Rattle.tl_tree.specs.Inner.Store.{Grows, bytes_of, is_attribute, is_span, is_tag, tag_of};
+
+use crate::entries::{AttributeEntry, AttributeSpace, Namespace, TagEntry};
+use crate::error::ReadError;
+use crate::said_bytes::{put_name, put_value};
+use crate::said_places::{key_place, value_place};
+use crate::span::Span;
+use crate::store::Store;
+use std::alloc::Global;
+use tl_html_parts::{AttributeParts, TagParts};
+
+// Whether one of the attributes has this key.
+fn has_key(store: &Store<'_>, entries: &[AttributeEntry], key: Span) -> bool
+    requires entries { IsTrue (list_all (is_attribute store.now) entries.now) }
+    requires key { IsTrue (is_span store.now key) }
+    ensures { result
+        ≡ has_attribute (bytes_of store.now key) (attributes_in store.now entries.now) }
+{
+    let own = store.bytes(key);
+    for entry in entries {
+        if store.bytes(entry.key) == own {
+            return true;
+        }
+    }
+    false
+}
+
+// Puts an attribute behind those of its tag, unless its key is there. Answers where it ends in the
+// page.
+fn put_attribute(
+    store: &mut Store<'_>,
+    alloc: Global,
+    entries: &mut Vec<AttributeEntry>,
+    attribute: AttributeParts<'_>,
+    place: usize,
+) -> Result<usize, ReadError>
+    requires entries { IsTrue (list_all (is_attribute store.old) entries.old.items) }
+    requires place { place ≤ length store.old.page.now }
+    ensures stands { OnOk result ((tag : OpenTag) →
+        attributes_in store.old entries.old.items ≡ attributes_so_far tag →
+        attributes_in store.new entries.new.items
+        ≡ attributes_so_far (with_attribute tag (name_of attribute.entry.key.now)
+        (value_of attribute.entry.value.now))) }
+    ensures within { OnOk result (IsTrue (list_all (is_attribute store.new) entries.new.items)) }
+    ensures place { IfOk result (λ end. end ≤ length store.old.page.now) }
+    ensures grows { Grows store.old store.new }
+{
+    let key_at = key_place(store.page, place, attribute.key.len());
+    let value_at = value_place(store.page, key_at.end, attribute.value.len());
+    let key = put_name(store, alloc, key_at.start, attribute.key)?;
+    if has_key(store, entries, key) {
+        return Ok(value_at.end);
+    }
+    let value = put_value(store, alloc, value_at.start, attribute.value)?;
+    entries.push(AttributeEntry {
+        space: AttributeSpace::Plain,
+        key,
+        value,
+    })?;
+    Ok(value_at.end)
+}
+
+// The attributes of a tag, which stand in the page from a place on.
+fn put_attributes(
+    store: &mut Store<'_>,
+    alloc: Global,
+    entries: &mut Vec<AttributeEntry>,
+    attributes: &[AttributeParts<'_>],
+    place: usize,
+) -> Result<(), ReadError>
+    requires entries { length entries.old.items ≡ 0 }
+    requires place { place ≤ length store.old.page.now }
+    ensures stands { OnOk result ((tag : OpenTag) → attributes_so_far tag ≡ [] →
+        attributes_in store.new entries.new.items
+        ≡ attributes_so_far (with_attributes tag (map attribute_view attributes.now))) }
+    ensures within { OnOk result (IsTrue (list_all (is_attribute store.new) entries.new.items)) }
+    ensures grows { Grows store.old store.new }
+{
+    let mut from = place;
+    for attribute in attributes {
+        from = put_attribute(store, alloc, entries, *attribute, from)?;
+    }
+    Ok(())
+}
+
+// Puts attributes behind the others of the store.
+fn add_attributes(store: &mut Store<'_>, entries: &[AttributeEntry]) -> Result<(), ReadError>
+    requires { IsTrue (list_all (is_attribute store.old) entries.now) }
+    ensures stands { OnOk result
+        (store.new.attributes.items ≡ store.old.attributes.items ++ entries.now) }
+    ensures grows { Grows store.old store.new }
+{
+    for entry in entries {
+        store.add_attribute(*entry)?;
+    }
+    Ok(())
+}
+
+// What stands after the name of a tag that begins here.
+fn name_end(page: &[u8], start: usize, len: usize) -> usize
+    ensures { result ≤ length page.now }
+{
+    start.saturating_add(1).saturating_add(len).min(page.len())
+}
+
+/// A tag with its attributes, which begins in the page at this place.
+pub(crate) fn put_tag(
+    store: &mut Store<'_>,
+    alloc: Global,
+    room: &mut Vec<AttributeEntry>,
+    parts: &TagParts<'_>,
+    start: usize,
+) -> Result<TagEntry, ReadError>
+    ensures stands { IfOk result (λ tag. tag_of store.new tag
+        ≡ html_tag (name_of parts.now.name.now)
+        (attributes_of (map attribute_view parts.now.attributes.items))) }
+    ensures within { IfOk result (λ tag. IsTrue (is_tag store.new tag)) }
+    ensures grows { Grows store.old store.new }
+{
+    let page = store.page;
+    let name = put_name(store, alloc, start.saturating_add(1), parts.name)?;
+    room.clear();
+    let after = name_end(page, start, parts.name.len());
+    put_attributes(store, alloc, room, parts.attributes.as_slice(), after)?;
+    let first_attribute = store.attribute_count();
+    add_attributes(store, room.as_slice())?;
+    Ok(TagEntry {
+        space: Namespace::Html,
+        name,
+        known: 0,
+        first_attribute,
+        attribute_count: store.attribute_count() - first_attribute,
+    })
+}
