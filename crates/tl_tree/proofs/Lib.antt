@@ -1,0 +1,3 @@
+pub mod RowLists
+pub mod RowLaws
+pub mod Gathers

@@ -1,3 +1,4 @@
 -- What the proofs and private functions of this crate cite, and no public clause.
 pub mod Within
 pub mod Store
+pub mod Gathering

@@ -8,6 +8,8 @@
 mod cell;
 mod entries;
 mod error;
+mod examples;
+mod laws;
 mod span;
 mod store;
 
