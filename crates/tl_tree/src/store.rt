@@ -23,6 +23,7 @@ pub(crate) struct Store<'a> {
     pub(crate) doctypes: Vec<DoctypeEntry>,
     pub(crate) cells: Vec<Cell>,
     ghost short: { length page.now + length side.items < 2 ^ 32 },
+    ghost few_attributes: { length attributes.items < 2 ^ 32 },
     ghost attributes_within: { IsTrue
         (list_all (attribute_is_within (length page.now) (length side.items)) attributes.items) },
     ghost tags_within: { IsTrue
@@ -36,7 +37,6 @@ pub(crate) struct Store<'a> {
         (record {
             page = length page.now;
             side = length side.items;
-            attributes = length attributes.items;
             tags = length tags.items;
             doctypes = length doctypes.items;
         })
@@ -45,9 +45,7 @@ pub(crate) struct Store<'a> {
 }
 
 impl<'a> Store<'a> {
-    ghost use Rattle.std.specs.Prelude.{Err, IfOk, IsOk, OnOk, [], ◌++◌, ◌↔◌, ◌∷◌, ◌≡◌, ◌≤◌};
-    ghost use Rattle.tl_dom_spec.specs.Path.{joined};
-    ghost use Rattle.tl_tree.specs.Inner.Store.{Grows, attribute_of, bytes_of, doctype_at, doctype_of, is_attribute, is_doctype, is_node, is_row, is_span, is_tag, node_of, nodes_of, tag_at, tag_of};
+    ghost use Rattle.std.specs.Prelude.{Err, IfOk, ◌↔◌, ◌≡◌, ◌≤◌};
 
     /// Nothing yet.
     pub(crate) fn new(alloc: Global, page: &'a [u8]) -> Result<Store<'a>, ReadError>

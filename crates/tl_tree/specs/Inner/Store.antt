@@ -24,7 +24,6 @@ abbrev pub sizes_of : Store → Sizes
 sizes_of s = record {
   page = length s.page.now;
   side = length s.side.items;
-  attributes = length s.attributes.items;
   tags = length s.tags.items;
   doctypes = length s.doctypes.items;
 }

@@ -12,7 +12,6 @@ use Rattle.tl_tree.specs.declared.span.Span.{Span}
 pub record Sizes : Type 0 where
   pub page : ℕ
   pub side : ℕ
-  pub attributes : ℕ
   pub tags : ℕ
   pub doctypes : ℕ
 
