@@ -4,8 +4,7 @@ use Rattle.std.specs.Prelude.{Bool, false, reverse, true, ⊤}
 use Rattle.std.proofs.lemmas.List.{append-nil, reverse-append}
 use Rattle.tl_dom_spec.specs.HtmlForest.{HtmlForest, before, comment, doctype, element, has_contents, no_trees, text}
 use Rattle.tl_dom_spec.specs.Path.{Nodes, and_comment, and_doctype, and_element, and_text, joined, no_nodes, with_text}
-use Rattle.tl_dom_spec.specs.Tags.{Tag}
-use Rattle.tl_tree.specs.Rows.{Node, Row, a_comment, a_doctype, a_text, an_element, contents, contents_count, contents_rows, row_count, rows_from, rows_of}
+use Rattle.tl_tree.specs.Rows.{Node, Row, a_comment, a_doctype, a_text, an_element, contents_count, contents_rows, row_count, rows_from, rows_of}
 use Rattle.tl_tree.specs.Inner.Gathering.{Flat, Gathered, closed, contents_flat, flat, flushed, gathered, only_rows, put, text_before, with_pending, with_piece, with_row}
 
 -- Nodes that are joined

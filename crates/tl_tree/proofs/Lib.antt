@@ -4,3 +4,9 @@ pub mod Gathers
 pub mod Listed
 pub mod Within
 pub mod Grown
+pub mod Settles
+pub mod CellRows
+pub mod Seats
+pub mod Templates
+pub mod Goings
+pub mod Ends

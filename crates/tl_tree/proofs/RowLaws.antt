@@ -1,7 +1,7 @@
 -- The rows of trees: their numbers, their ends, and the rows that they stand in.
 use Rattle.std.proofs.Common.{List, Option, Some, None, [], arith, length, subst, sym, ap, ◌∙◌, suc, zero, ℕ, ◌+◌, ◌++◌, ◌<◌, ◌≤◌, ◌≡◌, ◌∷◌, ◌⊎◌, refl, inl, inr, length-append, append_assoc}
 use Rattle.std.proofs.lemmas.Bool.{cases_lt}
-use Rattle.std.specs.Prelude.{Bool, false, slice_get, true, ⊤}
+use Rattle.std.specs.Prelude.{Bool, false, slice_get, true}
 use Rattle.tl_dom_spec.specs.HtmlForest.{HtmlForest, comment, doctype, element, has_contents, no_trees, text}
 use Rattle.tl_dom_spec.specs.Tags.{Tag}
 use Rattle.tl_tree.specs.Rows.{IsBelow, IsInRange, Node, Row, a_comment, a_doctype, a_text, an_element, contents, contents_count, contents_rows, lone_row, row_count, rows_from, rows_of, stands_below, stands_in}
@@ -278,7 +278,7 @@ rows-seen number parent (element tag below more) before =
 
 -- The laws
 
-get-some : (rows : List Row) (i : ℕ) → i < length rows → (row : Row) × (slice_get rows i ≡ Some row)
+pub get-some : (rows : List Row) (i : ℕ) → i < length rows → (row : Row) × (slice_get rows i ≡ Some row)
 get-some [] i l = absurd (let f : ⊥ = omega (arith, l) in f)
 get-some (row ∷ rows) zero l = (row, refl)
 get-some (row ∷ rows) (suc i) l = get-some rows i (omega (arith, l))

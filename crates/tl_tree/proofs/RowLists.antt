@@ -1,5 +1,5 @@
 -- What holds of each row of a list, by its number, and of each two rows.
-use Rattle.std.proofs.Common.{List, Option, Some, [], arith, length, subst, sym, ap, ◌∙◌, suc, zero, ℕ, ◌+◌, ◌++◌, ◌<◌, ◌≡◌, ◌∷◌, refl}
+use Rattle.std.proofs.Common.{List, Some, [], arith, length, subst, suc, zero, ℕ, ◌+◌, ◌++◌, ◌<◌, ◌≡◌, ◌∷◌}
 use Rattle.std.specs.Prelude.{slice_get, ⊤}
 use Rattle.tl_tree.specs.Rows.{Row}
 

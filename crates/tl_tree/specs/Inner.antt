@@ -2,3 +2,6 @@
 pub mod Within
 pub mod Store
 pub mod Gathering
+pub mod RowView
+pub mod Settling
+pub mod Seating

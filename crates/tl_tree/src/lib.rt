@@ -10,7 +10,13 @@ mod entries;
 mod error;
 mod examples;
 mod laws;
+mod row;
+mod seat;
+mod settle;
+mod settling;
 mod span;
 mod store;
+mod tree;
 
 pub use error::ReadError;
+pub use tree::Tree;
