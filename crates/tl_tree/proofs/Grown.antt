@@ -1,15 +1,15 @@
 -- What is in range in a store stands for the same in each store that begins with it.
 use Rattle.std.proofs.Common.{add-zero, ap, arith, sym, subst, ◌∙◌, ◌≡◌, ◌+◌, ◌≤◌, ◌<◌, ◌++◌, ◌&&◌, ◌∷◌, [], IsTrue, List, None, Option, Some, drop, get_or, length, length-append, map, nat_le, nat_lt, refl, slice_get, suc, take, zero, ℕ}
 use Rattle.std.proofs.Math.ListN.{get_or-append}
-use Rattle.std.proofs.Math.Seq.{get_or-append_seam}
+use Rattle.std.proofs.Math.Seq.{drop-append_seam, get_or-append_seam}
 use Rattle.std.proofs.lemmas.Bool.{and_parts, leb-true, ltb-true}
-use Rattle.std.proofs.lemmas.List.{append_assoc}
+use Rattle.std.proofs.lemmas.List.{append_assoc, take_all}
 use Rattle.std.proofs.lemmas.Option.{same_Some}
 use Rattle.std.specs.Option.{option_map}
 use Rattle.tl_dom_spec.specs.Path.{Nodes, and_comment, and_doctype, and_element, and_text, joined, no_nodes}
 use Rattle.tl_dom_spec.specs.Tags as dom
 use Rattle.tl_html_spec.specs.Doctypes as doctypes
-use Rattle.tl_tree.proofs.Listed.{all-drop, all-take, begins-refl, begins-trans, map-same, mapped-front, part-front}
+use Rattle.tl_tree.proofs.Listed.{all-drop, all-take, begins-refl, begins-trans, map-same, mapped-front, mapped-last, part-front}
 use Rattle.tl_tree.proofs.Within.{span-bound}
 use Rattle.tl_tree.specs.Inner.Store.{Grows, attribute_of, attribute_space_of, bytes_of, doctype_at, doctype_of, entries_of, is_attribute, is_doctype, is_node, is_row, is_span, is_tag, is_tag_number, node_in, node_of, nodes_of, row_in, rows_from, rows_of, sizes_of, space_of, tag_at, tag_of, text_of}
 use Rattle.tl_tree.specs.Inner.Within.{Sizes, cell_is_within, cells_are_within, id_is_within, node_is_within, span_is_within}
@@ -69,8 +69,8 @@ entries-grown s t g tag h =
     ap (λ all. map (attribute_of t) (take tag.attribute_count (drop tag.first_attribute all))) g.attributes
     ∙ (ap (map (attribute_of t)) (part-front tag.attribute_count tag.first_attribute s.attributes.items (drop (length s.attributes.items) t.attributes.items) h)
     ∙ map-same (is_attribute s) (attribute_of t) (attribute_of s) (attribute-grown s t g) (entries_of s tag)
-      (all-take (is_attribute s) tag.attribute_count (drop tag.first_attribute s.attributes.items)
-      (all-drop (is_attribute s) tag.first_attribute s.attributes.items s.attributes_within)))
+    (all-take (is_attribute s) tag.attribute_count (drop tag.first_attribute s.attributes.items)
+    (all-drop (is_attribute s) tag.first_attribute s.attributes.items s.attributes_within)))
 
 pub tag-grown : (s t : Store) → Grows s t → (tag : TagEntry) → IsTrue (is_tag s tag) → tag_of t tag ≡ tag_of s tag
 unfolding tag_of
@@ -78,7 +78,7 @@ tag-grown s t g tag h =
     let p = and_parts (is_span s tag.name) (nat_le (tag.first_attribute + tag.attribute_count) (length s.attributes.items)) h in
     ap (λ (name : List ℕ). record { space = space_of tag.space; name = name; attributes = map (attribute_of t) (entries_of t tag) }) (bytes-grown s t g tag.name p.0)
     ∙ ap (λ (attributes : List dom.Attribute). record { space = space_of tag.space; name = bytes_of s tag.name; attributes = attributes })
-      (entries-grown s t g tag (leb-true (tag.first_attribute + tag.attribute_count) (length s.attributes.items) p.1))
+    (entries-grown s t g tag (leb-true (tag.first_attribute + tag.attribute_count) (length s.attributes.items) p.1))
 
 pub tag-at-grown : (s t : Store) → Grows s t → (n : ℕ) → n < length s.tags.items → tag_at t n ≡ tag_at s n
 unfolding tag_at
@@ -185,10 +185,91 @@ row-added s t g c e h row at =
     let more = ap length e ∙ length-append s.cells.items (c ∷ []) in
     let is : row ≡ length own = omega arith in
     let all : rows_from t first_rows t.cells.items ≡ own ++ row_in t own c ∷ [] =
-        ap (rows_from t first_rows) e
-        ∙ (rows-append t first_rows s.cells.items (c ∷ [])
-        ∙ ap (λ (rows : List Nodes). rows ++ row_in t rows c ∷ []) (rows-grown s t g first_rows s.cells.items 0 s.cells_within)) in
+    ap (rows_from t first_rows) e
+    ∙ (rows-append t first_rows s.cells.items (c ∷ [])
+    ∙ ap (λ (rows : List Nodes). rows ++ row_in t rows c ∷ []) (rows-grown s t g first_rows s.cells.items 0 s.cells_within)) in
     ap (λ (rows : List Nodes). get_or rows row no_nodes) all
     ∙ (ap (λ (n : ℕ). get_or (own ++ row_in t own c ∷ []) n no_nodes) is
     ∙ (get_or-append_seam own (row_in t own c) [] no_nodes
     ∙ ap (joined (get_or own c.before no_nodes)) (node-in-grown s t g own (length s.cells.items) c.node h)))
+
+-- A cell at its place
+
+node-kept : (s : Store) (z : Sizes) (rows all : List Nodes) (n : ℕ) → ((m : ℕ) → m ≤ n → get_or all m no_nodes ≡ get_or rows m no_nodes) → (node : Node) → IsTrue (node_is_within z n node) → node_in s all node ≡ node_in s rows node
+node-kept s z rows all n kept (Text span) h = refl
+node-kept s z rows all n kept (Comment span) h = refl
+node-kept s z rows all n kept (Doctype k) h = refl
+node-kept s z rows all n kept (Element tag below) h =
+    let p = and_parts (nat_lt tag z.tags) (nat_le below n) h in
+    ap (and_element no_nodes (tag_at s tag)) (kept below (leb-true below n p.1))
+node-kept s z rows all n kept (Joined second) h = kept second (leb-true second n h)
+
+rows-at : (s : Store) (z : Sizes) (rows : List Nodes) (cells : List Cell) (n k : ℕ) (c : Cell) → length rows ≡ suc n → IsTrue (cells_are_within z n cells) → slice_get cells k ≡ Some c → (all : List Nodes) → all ≡ rows_from s rows cells → get_or all (length rows + k) no_nodes ≡ joined (get_or all c.before no_nodes) (node_in s all c.node)
+rows-at s z rows [] n k c long h e all is = absurd (cc)
+rows-at s z rows (d ∷ cells) n zero c long h e all is =
+    let p = and_parts (cell_is_within z n d) (cells_are_within z (suc n) cells) h in
+    let q = and_parts (nat_le d.before n) (node_is_within z n d.node) p.0 in
+    let x : Nodes = row_in s rows d in
+    let more : List Nodes = rows ++ x ∷ [] in
+    let many : length more ≡ length rows + 1 = length-append rows (x ∷ []) in
+    let kept : (m : ℕ) → m ≤ n → get_or all m no_nodes ≡ get_or rows m no_nodes = λ m le.
+    ap (λ (a : List Nodes). get_or a m no_nodes) is
+    ∙ (rows-keep s more cells m (omega arith) ∙ get_or-append rows (x ∷ []) no_nodes m (omega arith)) in
+    let at : get_or all (length rows + 0) no_nodes ≡ x =
+    ap (λ (i : ℕ). get_or all i no_nodes) (add-zero (length rows))
+    ∙ (ap (λ (a : List Nodes). get_or a (length rows) no_nodes) is
+    ∙ (rows-keep s more cells (length rows) (omega arith) ∙ get_or-append_seam rows x [] no_nodes)) in
+    let own : get_or all (length rows + 0) no_nodes ≡ joined (get_or all d.before no_nodes) (node_in s all d.node) =
+    at
+    ∙ (ap (λ (a : Nodes). joined a (node_in s rows d.node)) (sym (kept d.before (leb-true d.before n q.0)))
+    ∙ ap (joined (get_or all d.before no_nodes)) (sym (node-kept s z rows all n kept d.node q.1))) in
+    subst (λ (other : Cell). get_or all (length rows + 0) no_nodes ≡ joined (get_or all other.before no_nodes) (node_in s all other.node)) (same_Some d c e) own
+rows-at s z rows (d ∷ cells) n (suc k) c long h e all is =
+    let p = and_parts (cell_is_within z n d) (cells_are_within z (suc n) cells) h in
+    let x : Nodes = row_in s rows d in
+    let more : List Nodes = rows ++ x ∷ [] in
+    let many : length more ≡ length rows + 1 = length-append rows (x ∷ []) in
+    let at : length rows + suc k ≡ length more + k = omega arith in
+    ap (λ (i : ℕ). get_or all i no_nodes) at
+    ∙ rows-at s z more cells (suc n) k c (omega arith) p.1 e all is
+
+-- what a row is, for those who read it
+pub nodes-at : (s : Store) (k : ℕ) (c : Cell) → slice_get s.cells.items k ≡ Some c → nodes_of s (suc k) ≡ joined (nodes_of s c.before) (node_of s c.node)
+unfolding nodes_of node_of rows_of
+nodes-at s k c e =
+    let at : suc k ≡ length first_rows + k = omega arith in
+    ap (λ (i : ℕ). get_or (rows_from s first_rows s.cells.items) i no_nodes) at
+    ∙ rows-at s (sizes_of s) first_rows s.cells.items 0 k c refl s.cells_within e (rows_from s first_rows s.cells.items) refl
+
+pub node-joined : (s : Store) (row : ℕ) → node_of s (Joined row) ≡ nodes_of s row
+unfolding node_of nodes_of
+node-joined s row = refl
+
+-- What was put in
+
+pub bytes-added : (s t : Store) (bytes : List ℕ) (span : Span) → t.page.now ≡ s.page.now → t.side.items ≡ s.side.items ++ bytes → span.start ≡ length s.page.now + length s.side.items → span.len ≡ length bytes → bytes_of t span ≡ bytes
+unfolding bytes_of
+bytes-added s t bytes span page side start len =
+    let many = length-append s.page.now s.side.items in
+    let at : span.start ≡ length (s.page.now ++ s.side.items) = omega arith in
+    let text : t.page.now ++ t.side.items ≡ (s.page.now ++ s.side.items) ++ bytes =
+    ap (λ own. own ++ t.side.items) page
+    ∙ (ap (λ own. s.page.now ++ own) side ∙ sym (append_assoc s.page.now s.side.items bytes)) in
+    ap (λ all. take span.len (drop span.start all)) text
+    ∙ (ap (λ n. take span.len (drop n ((s.page.now ++ s.side.items) ++ bytes))) at
+    ∙ (ap (take span.len) (drop-append_seam (s.page.now ++ s.side.items) bytes)
+    ∙ take_all span.len bytes (omega arith)))
+
+pub tag-added : (s t : Store) → Grows s t → (tag : TagEntry) → t.tags.items ≡ s.tags.items ++ tag ∷ [] → IsTrue (is_tag s tag) → (n : ℕ) → n ≡ length s.tags.items → tag_at t n ≡ tag_of s tag
+unfolding tag_at
+tag-added s t g tag e h n at =
+    ap (λ tags. get_or (map (tag_of t) tags) n (dom.bare_tag [])) e
+    ∙ (ap (λ i. get_or (map (tag_of t) (s.tags.items ++ tag ∷ [])) i (dom.bare_tag [])) at
+    ∙ (mapped-last (tag_of t) s.tags.items tag (dom.bare_tag []) ∙ tag-grown s t g tag h))
+
+pub doctype-added : (s t : Store) → Grows s t → (d : DoctypeEntry) → t.doctypes.items ≡ s.doctypes.items ++ d ∷ [] → IsTrue (is_doctype s d) → (n : ℕ) → n ≡ length s.doctypes.items → doctype_at t n ≡ doctype_of s d
+unfolding doctype_at
+doctype-added s t g d e h n at =
+    ap (λ all. get_or (map (doctype_of t) all) n doctypes.no_doctype.own) e
+    ∙ (ap (λ i. get_or (map (doctype_of t) (s.doctypes.items ++ d ∷ [])) i doctypes.no_doctype.own) at
+    ∙ (mapped-last (doctype_of t) s.doctypes.items d doctypes.no_doctype.own ∙ doctype-grown s t g d h))

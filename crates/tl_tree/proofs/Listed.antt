@@ -35,17 +35,26 @@ all-pushed test r xs ys x e all one =
       | false ↦ all
     ])
   where
-  all-push : {A : Type 0} (test : A → Bool) (xs : List A) (x : A) → IsTrue (list_all test xs) → IsTrue (test x) → IsTrue (list_all test (xs ++ x ∷ []))
-  all-push test [] x all one = and_from (test x) true one refl
-  all-push test (y ∷ xs) x all one =
-      let p = and_parts (test y) (list_all test xs) all in
-      and_from (test y) (list_all test (xs ++ x ∷ [])) p.0 (all-push test xs x p.1 one)
+    all-push : {A : Type 0} (test : A → Bool) (xs : List A) (x : A) → IsTrue (list_all test xs) → IsTrue (test x) → IsTrue (list_all test (xs ++ x ∷ []))
+    all-push test [] x all one = and_from (test x) true one refl
+    all-push test (y ∷ xs) x all one =
+        let p = and_parts (test y) (list_all test xs) all in
+        and_from (test y) (list_all test (xs ++ x ∷ [])) p.0 (all-push test xs x p.1 one)
 
-pub pushed-longer : {A : Type 0} (r : Bool) (xs ys : List A) (x : A) → ys ≡ cond r (xs ++ x ∷ []) xs → length xs ≤ length ys
-pushed-longer r xs ys x e =
+-- more behind a list, or nothing
+pub appended-longer : {A : Type 0} (r : Bool) (xs ys zs : List A) → ys ≡ cond r (xs ++ zs) xs → length xs ≤ length ys
+appended-longer r xs ys zs e =
     rw e
-    (elim r as (λ b. length xs ≤ length (cond b (xs ++ x ∷ []) xs)) [
-      | true ↦ omega (arith, length-append xs (x ∷ []))
+    (elim r as (λ b. length xs ≤ length (cond b (xs ++ zs) xs)) [
+      | true ↦ omega (arith, length-append xs zs)
+      | false ↦ omega arith
+    ])
+
+pub appended-at_most : {A : Type 0} (r : Bool) (xs ys zs : List A) → ys ≡ cond r (xs ++ zs) xs → length ys ≤ length xs + length zs
+appended-at_most r xs ys zs e =
+    rw e
+    (elim r as (λ b. length (cond b (xs ++ zs) xs) ≤ length xs + length zs) [
+      | true ↦ omega (arith, length-append xs zs)
       | false ↦ omega arith
     ])
 
@@ -88,3 +97,7 @@ begins-trans xs ys zs p q =
     let rest = drop (length xs) ys ++ drop (length ys) zs in
     let all : zs ≡ xs ++ rest = q ∙ ap (λ front. front ++ drop (length ys) zs) p ∙ append_assoc xs (drop (length xs) ys) (drop (length ys) zs) in
     all ∙ ap (λ more. xs ++ more) (sym (ap (drop (length xs)) all ∙ drop-append_seam xs rest))
+
+pub begins-of : {A : Type 0} (xs ys rest : List A) → ys ≡ xs ++ rest → Begins xs ys
+begins-of xs ys rest e =
+    e ∙ ap (λ more. xs ++ more) (sym (ap (drop (length xs)) e ∙ drop-append_seam xs rest))

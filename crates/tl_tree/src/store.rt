@@ -7,9 +7,10 @@ ghost use Rattle.std.specs.Prelude.{IsTrue, length, ◌+◌, ◌<◌, ◌^◌};
 ghost use Rattle.std.specs.List.{list_all};
 ghost use Rattle.tl_tree.specs.Inner.Within.{attribute_is_within, cells_are_within, doctype_is_within, tag_is_within};
 
-use crate::cell::Cell;
+use crate::cell::{Cell, Node};
 use crate::entries::{AttributeEntry, DoctypeEntry, TagEntry};
 use crate::error::ReadError;
+use crate::span::Span;
 use std::alloc::Global;
 
 /// What was read of a page and is settled.
@@ -35,17 +36,19 @@ pub(crate) struct Store<'a> {
     ghost cells_within: { IsTrue
         (cells_are_within
         (record {
-            page = length page.now;
-            side = length side.items;
-            tags = length tags.items;
-            doctypes = length doctypes.items;
+          page = length page.now;
+          side = length side.items;
+          tags = length tags.items;
+          doctypes = length doctypes.items;
         })
         0
         cells.items) },
 }
 
 impl<'a> Store<'a> {
-    ghost use Rattle.std.specs.Prelude.{Err, IfOk, ◌↔◌, ◌≡◌, ◌≤◌};
+    ghost use Rattle.std.specs.Prelude.{Err, IfOk, OnOk, [], ◌++◌, ◌↔◌, ◌∷◌, ◌≡◌, ◌≤◌};
+    ghost use Rattle.tl_dom_spec.specs.Path.{joined};
+    ghost use Rattle.tl_tree.specs.Inner.Store.{Grows, bytes_of, doctype_at, doctype_of, is_attribute, is_doctype, is_doctype_number, is_node, is_row, is_span, is_tag, is_tag_number, node_of, nodes_of, tag_at, tag_of};
 
     /// Nothing yet.
     pub(crate) fn new(alloc: Global, page: &'a [u8]) -> Result<Store<'a>, ReadError>
@@ -64,5 +67,118 @@ impl<'a> Store<'a> {
             doctypes: Vec::new(alloc),
             cells: Vec::new(alloc),
         })
+    }
+
+    /// A row with a node behind it, which is a new row. Texts that meet there are one text.
+    pub(crate) fn add(&mut self, before: u32, node: Node) -> Result<u32, ReadError>
+        requires before { IsTrue (is_row self.old before) }
+        requires node { IsTrue (is_node self.old node) }
+        ensures stands { IfOk result (λ row. nodes_of self.new row
+            ≡ joined (nodes_of self.old before) (node_of self.old node)) }
+        ensures within { IfOk result (λ row. IsTrue (is_row self.new row)) }
+        ensures grows { Grows self.old self.new }
+        ensures too_large { result ≡ Err ReadError.TooLarge
+            → 2 ^ 32 ≤ length self.old.cells.items + 1 }
+    {
+        if self.cells.len() >= u32::MAX as usize {
+            return Err(ReadError::TooLarge);
+        }
+        self.cells.push(Cell { before, node })?;
+        Ok(self.cells.len() as u32)
+    }
+
+    /// Two rows as one.
+    pub(crate) fn join(&mut self, first: u32, second: u32) -> Result<u32, ReadError>
+        requires first { IsTrue (is_row self.old first) }
+        requires second { IsTrue (is_row self.old second) }
+        ensures stands { IfOk result (λ row. nodes_of self.new row
+            ≡ joined (nodes_of self.old first) (nodes_of self.old second)) }
+        ensures within { IfOk result (λ row. IsTrue (is_row self.new row)) }
+        ensures grows { Grows self.old self.new }
+        ensures too_large { result ≡ Err ReadError.TooLarge
+            → 2 ^ 32 ≤ length self.old.cells.items + 1 }
+    {
+        if second == 0 {
+            return Ok(first);
+        }
+        self.add(first, Node::Joined(second))
+    }
+
+    /// Puts bytes behind the text.
+    pub(crate) fn add_bytes(&mut self, bytes: &[u8]) -> Result<Span, ReadError>
+        ensures stands { IfOk result (λ span. bytes_of self.new span ≡ bytes.now) }
+        ensures within { IfOk result (λ span. IsTrue (is_span self.new span)) }
+        ensures grows { Grows self.old self.new }
+        ensures too_large { result ≡ Err ReadError.TooLarge
+            → 2 ^ 32
+            ≤ length self.old.page.now + length self.old.side.items + length bytes.now }
+    {
+        let start = self.page.len() + self.side.len();
+        if bytes.len() > u32::MAX as usize - start {
+            return Err(ReadError::TooLarge);
+        }
+        self.side.extend_from_slice(bytes)?;
+        Ok(Span {
+            start: start as u32,
+            len: bytes.len() as u32,
+        })
+    }
+
+    /// How many attributes there are, which is the number of the next one.
+    pub(crate) fn attribute_count(&self) -> u32
+        ensures { result ≡ length self.now.attributes.items }
+    {
+        self.attributes.len() as u32
+    }
+
+    /// Puts an attribute behind the others.
+    pub(crate) fn add_attribute(&mut self, attribute: AttributeEntry) -> Result<(), ReadError>
+        requires { IsTrue (is_attribute self.old attribute) }
+        ensures stands { OnOk result
+            (self.new.attributes.items ≡ self.old.attributes.items ++ attribute ∷ []) }
+        ensures grows { Grows self.old self.new }
+        ensures too_large { result ≡ Err ReadError.TooLarge
+            → 2 ^ 32 ≤ length self.old.attributes.items + 1 }
+    {
+        if self.attributes.len() >= u32::MAX as usize {
+            return Err(ReadError::TooLarge);
+        }
+        self.attributes.push(attribute)?;
+        Ok(())
+    }
+
+    /// Puts a tag behind the others, and answers its number.
+    pub(crate) fn add_tag(&mut self, tag: TagEntry) -> Result<u32, ReadError>
+        requires { IsTrue (is_tag self.old tag) }
+        ensures stands { IfOk result (λ number. tag_at self.new number ≡ tag_of self.old tag) }
+        ensures within { IfOk result (λ number. IsTrue (is_tag_number self.new number)) }
+        ensures grows { Grows self.old self.new }
+        ensures too_large { result ≡ Err ReadError.TooLarge
+            → 2 ^ 32 ≤ length self.old.tags.items + 1 }
+    {
+        let number = self.tags.len();
+        if number >= u32::MAX as usize {
+            return Err(ReadError::TooLarge);
+        }
+        self.tags.push(tag)?;
+        Ok(number as u32)
+    }
+
+    /// Puts a doctype behind the others, and answers its number.
+    pub(crate) fn add_doctype(&mut self, doctype: DoctypeEntry) -> Result<u32, ReadError>
+        requires { IsTrue (is_doctype self.old doctype) }
+        ensures stands { IfOk result
+            (λ number. doctype_at self.new number ≡ doctype_of self.old doctype) }
+        ensures within { IfOk result (λ number. IsTrue (is_doctype_number self.new number)) }
+        ensures grows { Grows self.old self.new }
+        ensures too_large { result ≡ Err ReadError.TooLarge
+            → 2 ^ 32 ≤ length self.old.doctypes.items + 1 }
+    {
+        let number = self.doctypes.len();
+        if number >= u32::MAX as usize {
+            return Err(ReadError::TooLarge);
+        }
+        self.doctypes.push(doctype)?;
+        Ok(number as u32)
     }
 }
