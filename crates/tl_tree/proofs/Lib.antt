@@ -10,3 +10,4 @@ pub mod Seats
 pub mod Templates
 pub mod Goings
 pub mod Ends
+pub mod TreeRows

@@ -93,6 +93,9 @@ parent-cases : (n : ℕ) → ((n ≡ 0) × (parent_of n ≡ None)) ⊎ ((p : ℕ
 parent-cases zero = inl (refl, refl)
 parent-cases (suc p) = inr (p, refl, refl)
 
+same-some : (p q : ℕ) → p ≡ q → Some p ≡ Some q
+same-some p q e = ap Some e
+
 option-cases : (o : Option ℕ) → (o ≡ None) ⊎ ((p : ℕ) × (o ≡ Some p))
 option-cases None = inl refl
 option-cases (Some p) = inr (p, refl)
@@ -131,7 +134,7 @@ parent-seat s text old new trees fits seated k own row e f =
           let less = found inner.0 inner.1 in
           let more = inner.2 in
           let equal : up.0 ≡ inner.0 = omega (arith, less, more, one) in
-          up.2 ∙ (ap (λ v. Some v) equal ∙ sym inner.1))
+          up.2 ∙ (same-some up.0 inner.0 equal ∙ sym inner.1))
     ]
 
 pub seated_rows : (s : Store) (text : List ℕ) (old new : List Row) (trees : HtmlForest) → Fits (rows.row_count trees) (map (flat_in s text) old) (rows.rows_of trees) → Seated old new → map (row_in s text) new ≡ rows.rows_of trees

@@ -7,13 +7,15 @@ ghost use Rattle.std.specs.Bool.{IsTrue};
 ghost use Rattle.std.specs.List.{list_all};
 ghost use Rattle.std.specs.Option.{MatchOption};
 ghost use Rattle.std.specs.Prelude.{IfOk, IfSome, OnOk, [], length, ◌+◌, ◌++◌, ◌<◌, ◌≡◌, ◌^◌, ◌∷◌};
-ghost use Rattle.tl_dom_spec.specs.HtmlForest.{has_contents};
+ghost use Rattle.tl_dom_spec.specs.HtmlForest.{before, has_contents, no_trees};
 ghost use Rattle.tl_dom_spec.specs.Path.{and_element, joined, no_nodes};
 ghost use Rattle.tl_tree.specs.Inner.Gathering.{closed, gathered, flushed, only_rows, put, with_piece};
 ghost use Rattle.tl_tree.specs.Inner.RowView.{bytes_in, held_in, held_is_within};
 ghost use Rattle.tl_tree.specs.Inner.Settling.{AreRowsOf, Copies, Ends, Goes, Pushes, Sound, Turns, flats_of, held_weight, sizes_with, state_of, text_of_pieces, text_with, weight_of};
 ghost use Rattle.tl_tree.specs.Inner.Store.{bytes_of, is_node, is_row, is_span, is_tag_number, node_of, sizes_of, nodes_of, tag_at, text_of};
 ghost use Rattle.tl_tree.specs.Inner.Within.{span_is_within};
+ghost use Rattle.tl_tree.specs.Rows.{rows_of};
+ghost use Rattle.tl_tree.specs.TreeView.{rows_in};
 
 use crate::cell::{Cell, Node};
 use crate::entries::Namespace;
@@ -23,6 +25,7 @@ use crate::seat::seat;
 use crate::settling::{Opened, Settled, Settling};
 use crate::span::Span;
 use crate::store::Store;
+use crate::tree::Tree;
 use std::alloc::Global;
 
 const NO_SOURCE: Span = Span { start: 0, len: 0 };
@@ -322,4 +325,27 @@ pub(crate) fn settle(alloc: Global, store: &Store<'_>, row: u32) -> Result<Settl
     rows.reverse();
     seat(rows.as_mut_slice());
     Ok(Settled { rows, copied })
+}
+
+/// The tree of a row of nodes. Nothing but this row is left of the store's cells.
+pub(crate) fn tree_of<'p>(
+    alloc: Global,
+    store: Store<'p>,
+    row: u32,
+    is_quirks: bool,
+) -> Result<Tree<'p>, ReadError>
+    requires { IsTrue (is_row store row) }
+    ensures rows { IfOk result (λ tree.
+        rows_in tree ≡ rows_of (before (nodes_of store.entry row) no_trees)) }
+    ensures quirks { IfOk result (λ tree. tree.is_quirks ≡ is_quirks) }
+{
+    let made = settle(alloc, &store, row)?;
+    let mut store = store;
+    store.add_bytes(made.copied.as_slice())?;
+    store.cells = Vec::new(alloc);
+    Ok(Tree {
+        store,
+        rows: made.rows,
+        is_quirks,
+    })
 }
