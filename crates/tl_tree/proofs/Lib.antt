@@ -11,3 +11,4 @@ pub mod Templates
 pub mod Goings
 pub mod Ends
 pub mod TreeRows
+pub mod Asks

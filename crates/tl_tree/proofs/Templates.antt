@@ -16,7 +16,7 @@ get-map f [] n x d l e = absurd (let g : ⊥ = omega (arith, l) in g)
 get-map f (own ∷ xs) zero x d l e = ap f (sym e)
 get-map f (own ∷ xs) (suc n) x d l e = get-map f xs n x d (omega (arith, l)) e
 
-tag-is : (s : Store) (n : ℕ) (entry : TagEntry) → IsTrue (is_tag_number s n) → entry ≡ get_or s.tags.items n entry → tag_at s n ≡ tag_of s entry
+pub tag-is : (s : Store) (n : ℕ) (entry : TagEntry) → IsTrue (is_tag_number s n) → entry ≡ get_or s.tags.items n entry → tag_at s n ≡ tag_of s entry
 unfolding tag_at
 tag-is s n entry h e = get-map (tag_of s) s.tags.items n entry (dom.bare_tag []) (ltb-true n (length s.tags.items) h) e
 

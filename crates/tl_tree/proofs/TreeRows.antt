@@ -1,5 +1,5 @@
 -- The rows of a tree, whose store has what was copied behind its text.
-use Rattle.std.proofs.Common.{IsTrue, List, [], ap, append_assoc, arith, drop, get_or, length, length-append, map, nat_lt, refl, subst, sym, take, ℕ, ◌+◌, ◌++◌, ◌<◌, ◌∙◌, ◌≡◌, ◌≤◌}
+use Rattle.std.proofs.Common.{IsTrue, List, [], ap, append_assoc, arith, drop, get_or, length, length-append, map, refl, subst, sym, take, ℕ, ◌++◌, ◌∙◌, ◌≡◌, ◌≤◌}
 use Rattle.std.proofs.lemmas.Bool.{ltb-true}
 use Rattle.std.specs.List.{list_all}
 use Rattle.std.specs.Option.{option_map}
@@ -8,7 +8,7 @@ use Rattle.tl_dom_spec.specs.Tags as dom
 use Rattle.tl_html_spec.specs.Doctypes as doctypes
 use Rattle.tl_tree.proofs.Grown.{doctype-at-grown, tag-at-grown}
 use Rattle.tl_tree.proofs.Listed.{all-weaker, map-same}
-use Rattle.tl_tree.proofs.Within.{lt-more, span-more}
+use Rattle.tl_tree.proofs.Within.{lt-more}
 use Rattle.tl_tree.specs.Inner.RowView.{bytes_in, held_in, held_is_within, parent_of, row_in, row_is_within}
 use Rattle.tl_tree.specs.Inner.Settling.{AreRowsOf, sizes_with, text_with}
 use Rattle.tl_tree.specs.Inner.Store.{Grows, attribute_space_of, bytes_of, doctype_at, doctype_of, nodes_of, sizes_of, space_of, tag_at, tag_of, text_of}

@@ -9,14 +9,18 @@ mod cell;
 mod entries;
 mod error;
 mod examples;
+mod kind;
 mod laws;
+mod node;
 mod row;
 mod seat;
 mod settle;
 mod settling;
 mod span;
 mod store;
+mod text;
 mod tree;
 
 pub use error::ReadError;
+pub use kind::Kind;
 pub use tree::Tree;

@@ -25,6 +25,7 @@ use crate::seat::seat;
 use crate::settling::{Opened, Settled, Settling};
 use crate::span::Span;
 use crate::store::Store;
+use crate::text::bytes_at;
 use crate::tree::Tree;
 use std::alloc::Global;
 
@@ -234,20 +235,6 @@ impl<'s, 'p> Settling<'s, 'p> {
             next = self.go(current)?;
         }
         self.flush()
-    }
-}
-
-/// The bytes of a text that lie in one of its two parts.
-fn bytes_at<'t>(page: &'t [u8], side: &'t [u8], span: Span) -> &'t [u8]
-    requires { IsTrue (span_is_within (length page.now) (length side.now) span) }
-    ensures { result.now ≡ bytes_in (page.now ++ side.now) span }
-{
-    let start = span.start as usize;
-    let end = start + span.len as usize;
-    if end <= page.len() {
-        &page[start..end]
-    } else {
-        &side[start - page.len()..end - page.len()]
     }
 }
 
