@@ -9,8 +9,8 @@ use Rattle.std.specs.Option.{option_map}
 use Rattle.tl_dom_spec.specs.Path.{Nodes, and_comment, and_doctype, and_element, and_text, joined, no_nodes}
 use Rattle.tl_dom_spec.specs.Tags as dom
 use Rattle.tl_html_spec.specs.Doctypes as doctypes
-use Rattle.tl_tree.proofs.Listed.{all-drop, all-take, begins-refl, begins-trans, map-same, mapped-front, mapped-last, part-front}
-use Rattle.tl_tree.proofs.Within.{span-bound}
+use Rattle.tl_tree.proofs.Listed.{all-drop, all-take, begins-longer, begins-refl, begins-trans, map-same, mapped-front, mapped-last, part-front}
+use Rattle.tl_tree.proofs.Within.{node-more, span-bound}
 use Rattle.tl_tree.specs.Inner.Store.{Grows, attribute_of, attribute_space_of, bytes_of, doctype_at, doctype_of, entries_of, is_attribute, is_doctype, is_node, is_row, is_span, is_tag, is_tag_number, node_in, node_of, nodes_of, row_in, rows_from, rows_of, sizes_of, space_of, tag_at, tag_of, text_of}
 use Rattle.tl_tree.specs.Inner.Within.{Sizes, cell_is_within, cells_are_within, id_is_within, node_is_within, span_is_within}
 use Rattle.tl_tree.specs.declared.cell.Cell.{Cell}
@@ -22,8 +22,8 @@ use Rattle.tl_tree.specs.declared.entries.TagEntry.{TagEntry}
 use Rattle.tl_tree.specs.declared.span.Span.{Span}
 use Rattle.tl_tree.specs.declared.store.Store.{Store}
 
-pub grows-refl : (s : Store) → Grows s s
-grows-refl s = record {
+pub grows_refl : (s : Store) → Grows s s
+grows_refl s = record {
   page = refl;
   side = begins-refl s.side.items;
   attributes = begins-refl s.attributes.items;
@@ -32,8 +32,8 @@ grows-refl s = record {
   cells = begins-refl s.cells.items;
 }
 
-pub grows-trans : (s t u : Store) → Grows s t → Grows t u → Grows s u
-grows-trans s t u p q = record {
+pub grows_trans : (s t u : Store) → Grows s t → Grows t u → Grows s u
+grows_trans s t u p q = record {
   page = q.page ∙ p.page;
   side = begins-trans s.side.items t.side.items u.side.items p.side q.side;
   attributes = begins-trans s.attributes.items t.attributes.items u.attributes.items p.attributes q.attributes;
@@ -273,3 +273,18 @@ doctype-added s t g d e h n at =
     ap (λ all. get_or (map (doctype_of t) all) n doctypes.no_doctype.own) e
     ∙ (ap (λ i. get_or (map (doctype_of t) (s.doctypes.items ++ d ∷ [])) i doctypes.no_doctype.own) at
     ∙ (mapped-last (doctype_of t) s.doctypes.items d doctypes.no_doctype.own ∙ doctype-grown s t g d h))
+
+pub node-element : (s : Store) (tag below : ℕ) → node_of s (Element tag below) ≡ and_element no_nodes (tag_at s tag) (nodes_of s below)
+unfolding node_of nodes_of
+node-element s tag below = refl
+
+pub is-node-grown : (s t : Store) → Grows s t → (node : Node) → IsTrue (is_node s node) → IsTrue (is_node t node)
+is-node-grown s t g node h =
+    node-more (sizes_of s) (sizes_of t)
+    (record {
+      page = ap length g.page;
+      side = begins-longer s.side.items t.side.items g.side;
+      tags = begins-longer s.tags.items t.tags.items g.tags;
+      doctypes = begins-longer s.doctypes.items t.doctypes.items g.doctypes;
+    })
+    (length s.cells.items) (length t.cells.items) (begins-longer s.cells.items t.cells.items g.cells) node h

@@ -12,3 +12,7 @@ pub mod Goings
 pub mod Ends
 pub mod TreeRows
 pub mod Asks
+pub mod Changed
+pub mod Numbered
+pub mod Written
+pub mod Settled

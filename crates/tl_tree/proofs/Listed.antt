@@ -101,3 +101,13 @@ begins-trans xs ys zs p q =
 pub begins-of : {A : Type 0} (xs ys rest : List A) → ys ≡ xs ++ rest → Begins xs ys
 begins-of xs ys rest e =
     e ∙ ap (λ more. xs ++ more) (sym (ap (drop (length xs)) e ∙ drop-append_seam xs rest))
+
+pub map-take : {A B : Type 0} (f : A → B) (n : ℕ) (xs : List A) → map f (take n xs) ≡ take n (map f xs)
+map-take f zero xs = refl
+map-take f (suc n) [] = refl
+map-take f (suc n) (x ∷ xs) = ap (λ ys. f x ∷ ys) (map-take f n xs)
+
+pub begins-longer : {A : Type 0} (xs ys : List A) → Begins xs ys → length xs ≤ length ys
+begins-longer xs ys e =
+    let many = ap length e ∙ length-append xs (drop (length xs) ys) in
+    omega arith

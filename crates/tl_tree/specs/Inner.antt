@@ -5,3 +5,5 @@ pub mod Gathering
 pub mod RowView
 pub mod Settling
 pub mod Seating
+pub mod Framed
+pub mod Frames

@@ -1,4 +1,4 @@
-use Rattle.std.proofs.Common.{arith, is_ok, length, refl, ◌∙◌}
+use Rattle.std.proofs.Common.{arith, is_ok, length, refl}
 use Rattle.tl_tree.proofs.Grown.{bytes-added}
 use Rattle.tl_tree.proofs.Listed.{all-weaker, appended-at_most, appended-longer}
 use Rattle.tl_tree.proofs.Within.{attribute-more, cells-more, doctype-more, tag-more}

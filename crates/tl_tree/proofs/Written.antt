@@ -1,0 +1,231 @@
+-- Frames as the store grows, and one of them written.
+use Rattle.std.proofs.Common.{ap, arith, sym, subst, ◌∙◌, ◌≡◌, ◌+◌, ◌≤◌, ◌<◌, ◌&&◌, ◌++◌, ◌∷◌, [], Bool, IsTrue, List, false, get_or, length, map, nat_le, nat_lt, refl, reverse, set, suc, take, zero, ℕ}
+use Rattle.std.proofs.lemmas.Bool.{and_from, and_parts, leb-true, le-leb, ltb-true, lt-ltb}
+use Rattle.std.proofs.Math.ListN.{get_or-map}
+use Rattle.std.proofs.lemmas.List.{length-map, length-reverse, length-set}
+use Rattle.std.specs.List.{list_all}
+use Rattle.tl_dom_spec.specs.Path as dom
+use Rattle.tl_dom_spec.specs.Tags as tags
+use Rattle.tl_tree.proofs.Grown.{node-element, node-grown, node-joined, nodes-grown, nodes-none, tag-at-grown}
+use Rattle.tl_tree.proofs.Listed.{begins-longer, map-same, map-take}
+use Rattle.tl_tree.proofs.Changed.{changed-same, changed-top-twice, reverse-last}
+use Rattle.tl_tree.specs.Inner.Framed.{frame_is_within}
+use Rattle.tl_tree.specs.Inner.Frames.{changed, frame_of, frames_of, is_frame, path_of, place_of}
+use Rattle.tl_tree.specs.Inner.Store.{Grows, bytes_of, is_node, is_row, node_of, nodes_of, tag_at, tag_of}
+use Rattle.tl_tree.specs.declared.cell.Node.{Node}
+use Rattle.tl_tree.specs.declared.cell.Node.TheVariants.{Element, Joined}
+use Rattle.tl_tree.specs.declared.entries.Namespace.TheVariants.{Html}
+use Rattle.tl_tree.specs.declared.frame.Frame.{Frame}
+use Rattle.tl_tree.specs.declared.frame.Place.TheVariants.{Here}
+use Rattle.tl_tree.specs.declared.path.FramePath.{FramePath}
+use Rattle.tl_tree.specs.declared.store.Store.{Store}
+
+pub all-at : {A : Type 0} (test : A → Bool) (xs : List A) (i : ℕ) (x d : A) → x ≡ get_or xs i d → i < length xs → IsTrue (list_all test xs) → IsTrue (test x)
+all-at test [] i x d e h all = absurd (omega arith)
+all-at test (y ∷ xs) zero x d e h all = rw e (and_parts (test y) (list_all test xs) all).0
+all-at test (y ∷ xs) (suc i) x d e h all =
+    all-at test xs i x d e (omega arith) (and_parts (test y) (list_all test xs) all).1
+
+pub all-set : {A : Type 0} (test : A → Bool) (xs : List A) (i : ℕ) (x : A) → IsTrue (list_all test xs) → IsTrue (test x) → IsTrue (list_all test (set xs i x))
+all-set test [] i x all one = refl
+all-set test (y ∷ xs) zero x all one =
+    and_from (test x) (list_all test xs) one (and_parts (test y) (list_all test xs) all).1
+all-set test (y ∷ xs) (suc i) x all one =
+    let p = and_parts (test y) (list_all test xs) all in
+    and_from (test y) (list_all test (set xs i x)) p.0 (all-set test xs i x p.1 one)
+
+-- what a frame has
+pub record Parts (s : Store) (f : Frame) : Type 0 where
+  pub tag : f.tag < length s.tags.items
+  pub children : f.children ≤ length s.cells.items
+  pub waiting : f.waiting ≤ length s.cells.items
+
+pub parts-of : (s : Store) (f : Frame) → IsTrue (frame_is_within (length s.tags.items) (length s.cells.items) f) → Parts s f
+parts-of s f h =
+    let tags = length s.tags.items in
+    let rows = length s.cells.items in
+    let p = and_parts (nat_lt f.tag tags) (nat_le f.children rows && nat_le f.waiting rows) h in
+    let q = and_parts (nat_le f.children rows) (nat_le f.waiting rows) p.1 in
+    record {
+      tag = ltb-true f.tag tags p.0;
+      children = leb-true f.children rows q.0;
+      waiting = leb-true f.waiting rows q.1;
+    }
+
+pub of-parts : (s : Store) (f : Frame) → f.tag < length s.tags.items → f.children ≤ length s.cells.items → f.waiting ≤ length s.cells.items → IsTrue (frame_is_within (length s.tags.items) (length s.cells.items) f)
+of-parts s f a b c =
+    let tags = length s.tags.items in
+    let rows = length s.cells.items in
+    and_from (nat_lt f.tag tags) (nat_le f.children rows && nat_le f.waiting rows) (lt-ltb f.tag tags a)
+    (and_from (nat_le f.children rows) (nat_le f.waiting rows) (le-leb f.children rows b) (le-leb f.waiting rows c))
+
+pub frame-more : (s t : Store) → Grows s t → (f : Frame) → IsTrue (frame_is_within (length s.tags.items) (length s.cells.items) f) → IsTrue (frame_is_within (length t.tags.items) (length t.cells.items) f)
+frame-more s t g f h =
+    let p = parts-of s f h in
+    let tags = begins-longer s.tags.items t.tags.items g.tags in
+    let cells = begins-longer s.cells.items t.cells.items g.cells in
+    of-parts t f (omega arith) (omega arith) (omega arith)
+
+-- frames that have the same
+pub same-frame : (number : ℕ) (place : dom.Place) (is_open : Bool) (tag tag' : tags.Tag) (children children' waiting waiting' : dom.Nodes) → tag ≡ tag' → children ≡ children' → waiting ≡ waiting' → ◌≡◌ {A = dom.Frame} (record { number = number; tag = tag; children = children; waiting = waiting; place = place; is_open = is_open }) (record { number = number; tag = tag'; children = children'; waiting = waiting'; place = place; is_open = is_open })
+same-frame number place is_open tag tag' children children' waiting waiting' p q r =
+    ap (λ (own : tags.Tag). record { number = number; tag = own; children = children; waiting = waiting; place = place; is_open = is_open }) p
+    ∙ (ap (λ (own : dom.Nodes). record { number = number; tag = tag'; children = own; waiting = waiting; place = place; is_open = is_open }) q
+    ∙ ap (λ (own : dom.Nodes). record { number = number; tag = tag'; children = children'; waiting = own; place = place; is_open = is_open }) r)
+
+pub frame-grown : (s t : Store) → Grows s t → (f : Frame) → IsTrue (frame_is_within (length s.tags.items) (length s.cells.items) f) → frame_of t f ≡ frame_of s f
+frame-grown s t g f h =
+    let p = parts-of s f h in
+    same-frame f.number (place_of f.place) f.is_open (tag_at t f.tag) (tag_at s f.tag) (nodes_of t f.children) (nodes_of s f.children) (nodes_of t f.waiting) (nodes_of s f.waiting)
+    (tag-at-grown s t g f.tag p.tag) (nodes-grown s t g f.children p.children) (nodes-grown s t g f.waiting p.waiting)
+
+pub frames-grown : (p q : FramePath) → Grows p.store q.store → q.frames.items ≡ p.frames.items → frames_of q ≡ frames_of p
+unfolding frames_of
+frames-grown p q g e =
+    ap (map (frame_of q.store)) e
+    ∙ map-same (is_frame p) (frame_of q.store) (frame_of p.store) (frame-grown p.store q.store g) p.frames.items p.within
+
+written : (s t : Store) → Grows s t → (frames : List Frame) (i : ℕ) (f new : Frame) (change : dom.Frame → dom.Frame) → IsTrue (list_all (frame_is_within (length s.tags.items) (length s.cells.items)) frames) → f ≡ get_or frames i f → i < length frames → frame_of t new ≡ change (frame_of s f) → map (frame_of t) (set frames i new) ≡ changed i change (map (frame_of s) frames)
+written s t g [] i f new change all is h e = refl
+written s t g (o ∷ frames) zero f new change all is h e =
+    let p = and_parts (frame_is_within (length s.tags.items) (length s.cells.items) o) (list_all (frame_is_within (length s.tags.items) (length s.cells.items)) frames) all in
+    ap (λ own. own ∷ map (frame_of t) frames) (e ∙ ap (λ (own : Frame). change (frame_of s own)) is)
+    ∙ ap (λ rest. change (frame_of s o) ∷ rest)
+      (map-same (frame_is_within (length s.tags.items) (length s.cells.items)) (frame_of t) (frame_of s) (frame-grown s t g) frames p.1)
+written s t g (o ∷ frames) (suc i) f new change all is h e =
+    let p = and_parts (frame_is_within (length s.tags.items) (length s.cells.items) o) (list_all (frame_is_within (length s.tags.items) (length s.cells.items)) frames) all in
+    ap (λ own. own ∷ map (frame_of t) (set frames i new)) (frame-grown s t g o p.0)
+    ∙ ap (λ rest. frame_of s o ∷ rest) (written s t g frames i f new change p.1 is (omega arith) e)
+
+-- a frame is written, and the others stand for what they stood for
+pub frame-written : (p q : FramePath) → Grows p.store q.store → (i : ℕ) (f new : Frame) (change : dom.Frame → dom.Frame) → q.frames.items ≡ set p.frames.items i new → f ≡ get_or p.frames.items i f → i < length p.frames.items → frame_of q.store new ≡ change (frame_of p.store f) → frames_of q ≡ changed i change (frames_of p)
+unfolding frames_of
+frame-written p q g i f new change at is h e =
+    ap (map (frame_of q.store)) at ∙ written p.store q.store g p.frames.items i f new change p.within is h e
+
+-- A row goes to the end of a frame, waits in it, or has what waited there
+
+pub put-inside : (p m q : FramePath) (i : ℕ) (f : Frame) (row : ℕ) (nodes : dom.Nodes) → Grows p.store m.store → m.frames.items ≡ p.frames.items → q.store ≡ m.store → q.frames.items ≡ set m.frames.items i (record f { children = row }) → f ≡ get_or p.frames.items i f → i < length p.frames.items → nodes_of m.store row ≡ dom.joined (nodes_of p.store f.children) nodes → frames_of q ≡ changed i (dom.with_nodes nodes) (frames_of p)
+put-inside p m q i f row nodes g kept same at is h stands =
+    let new : Frame = record f { children = row } in
+    let grows = subst (λ (s : Store). Grows p.store s) (sym same) g in
+    let parts = parts-of p.store f (all-at (is_frame p) p.frames.items i f f is h p.within) in
+    frame-written p q grows i f new (dom.with_nodes nodes) (at ∙ ap (λ frames. set frames i new) kept) is h
+    (same-frame f.number (place_of f.place) f.is_open (tag_at q.store f.tag) (tag_at p.store f.tag) (nodes_of q.store row) (dom.joined (nodes_of p.store f.children) nodes) (nodes_of q.store f.waiting) (nodes_of p.store f.waiting)
+    (tag-at-grown p.store q.store grows f.tag parts.tag)
+    (ap (λ (s : Store). nodes_of s row) same ∙ stands)
+    (nodes-grown p.store q.store grows f.waiting parts.waiting))
+
+pub put-waiting : (p m q : FramePath) (i : ℕ) (f : Frame) (row : ℕ) (nodes : dom.Nodes) → Grows p.store m.store → m.frames.items ≡ p.frames.items → q.store ≡ m.store → q.frames.items ≡ set m.frames.items i (record f { waiting = row }) → f ≡ get_or p.frames.items i f → i < length p.frames.items → nodes_of m.store row ≡ dom.joined (nodes_of p.store f.waiting) nodes → frames_of q ≡ changed i (dom.with_waiting nodes) (frames_of p)
+put-waiting p m q i f row nodes g kept same at is h stands =
+    let new : Frame = record f { waiting = row } in
+    let grows = subst (λ (s : Store). Grows p.store s) (sym same) g in
+    let parts = parts-of p.store f (all-at (is_frame p) p.frames.items i f f is h p.within) in
+    frame-written p q grows i f new (dom.with_waiting nodes) (at ∙ ap (λ frames. set frames i new) kept) is h
+    (same-frame f.number (place_of f.place) f.is_open (tag_at q.store f.tag) (tag_at p.store f.tag) (nodes_of q.store f.children) (nodes_of p.store f.children) (nodes_of q.store row) (dom.joined (nodes_of p.store f.waiting) nodes)
+    (tag-at-grown p.store q.store grows f.tag parts.tag)
+    (nodes-grown p.store q.store grows f.children parts.children)
+    (ap (λ (s : Store). nodes_of s row) same ∙ stands))
+
+pub caught-up : (p m q : FramePath) (i : ℕ) (f : Frame) (row : ℕ) → Grows p.store m.store → m.frames.items ≡ p.frames.items → q.store ≡ m.store → q.frames.items ≡ set m.frames.items i (record f { children = row; waiting = 0 }) → f ≡ get_or p.frames.items i f → i < length p.frames.items → nodes_of m.store row ≡ dom.joined (nodes_of p.store f.children) (node_of p.store (Joined f.waiting)) → frames_of q ≡ changed i dom.caught_up (frames_of p)
+caught-up p m q i f row g kept same at is h stands =
+    let new : Frame = record f { children = row; waiting = 0 } in
+    let grows = subst (λ (s : Store). Grows p.store s) (sym same) g in
+    let parts = parts-of p.store f (all-at (is_frame p) p.frames.items i f f is h p.within) in
+    frame-written p q grows i f new dom.caught_up (at ∙ ap (λ frames. set frames i new) kept) is h
+    (same-frame f.number (place_of f.place) f.is_open (tag_at q.store f.tag) (tag_at p.store f.tag) (nodes_of q.store row) (dom.joined (nodes_of p.store f.children) (nodes_of p.store f.waiting)) (nodes_of q.store 0) dom.no_nodes
+    (tag-at-grown p.store q.store grows f.tag parts.tag)
+    (ap (λ (s : Store). nodes_of s row) same ∙ (stands ∙ ap (dom.joined (nodes_of p.store f.children)) (node-joined p.store f.waiting)))
+    (nodes-none q.store))
+
+nothing-waits : (f : dom.Frame) → f.waiting ≡ dom.no_nodes → dom.caught_up f ≡ f
+nothing-waits f e =
+    same-frame f.number f.place f.is_open f.tag f.tag (dom.joined f.children f.waiting) f.children dom.no_nodes f.waiting refl (ap (dom.joined f.children) e) (sym e)
+
+-- the frame at a place
+pub frame-at : (p : FramePath) (i : ℕ) (f : Frame) → f ≡ get_or p.frames.items i f → get_or (frames_of p) i (frame_of p.store f) ≡ frame_of p.store f
+unfolding frames_of
+frame-at p i f is = get_or-map (frame_of p.store) p.frames.items i f ∙ ap (frame_of p.store) (sym is)
+
+pub frames-length : (p : FramePath) → length (frames_of p) ≡ length p.frames.items
+unfolding frames_of
+frames-length p = length-map p.frames.items (frame_of p.store)
+
+pub path-length : (p : FramePath) → length (path_of p) ≡ length p.frames.items
+path-length p = length-reverse (frames_of p) ∙ frames-length p
+
+pub caught-up-none : (p : FramePath) (i : ℕ) (f : Frame) → f ≡ get_or p.frames.items i f → i < length p.frames.items → f.waiting ≡ 0 → frames_of p ≡ changed i dom.caught_up (frames_of p)
+caught-up-none p i f is h e =
+    let many = frames-length p in
+    sym (changed-same i dom.caught_up (frames_of p) (frame_of p.store f) (omega arith) (frame-at p i f is)
+    (nothing-waits (frame_of p.store f) (ap (nodes_of p.store) e ∙ nodes-none p.store)))
+
+-- The document alone
+pub path-new : (p : FramePath) (s : Store) (tag : ℕ) (none : List Frame) → none ≡ [] → p.frames.items ≡ none ++ record { number = 0; tag = tag; children = 0; waiting = 0; place = Here; is_open = false } ∷ [] → tag_at p.store tag ≡ tag_of s (record { space = Html; name = record { start = 0; len = 0 }; known = 0; first_attribute = 0; attribute_count = 0 }) → path_of p ≡ dom.document ∷ []
+unfolding frames_of tag_of bytes_of
+path-new p s tag none is e t =
+    ap (λ frames. reverse (map (frame_of p.store) frames)) (e ∙ ap (λ (frames : List Frame). frames ++ record { number = 0; tag = tag; children = 0; waiting = 0; place = Here; is_open = false } ∷ []) is)
+    ∙ ap (λ (f : dom.Frame). f ∷ []) (same-frame 0 dom.here false (tag_at p.store tag) (tags.bare_tag []) (nodes_of p.store 0) dom.no_nodes (nodes_of p.store 0) dom.no_nodes t (nodes-none p.store) (nodes-none p.store))
+
+-- What goes to the innermost frame
+
+pub put-on-top : (p m q : FramePath) (n : ℕ) (node : Node) → Grows p.store m.store → IsTrue (is_node p.store node) → length p.frames.items ≡ suc n → frames_of m ≡ changed n dom.caught_up (frames_of p) → frames_of q ≡ changed n (dom.with_nodes (node_of m.store node)) (frames_of m) → path_of q ≡ dom.put dom.here (node_of p.store node) (path_of p)
+put-on-top p m q n node g h long first second =
+    changed-top-twice dom.caught_up (dom.with_nodes (node_of m.store node)) (frames_of p) (frames_of m) (frames_of q) n (frames-length p ∙ long) first second
+    ∙ ap (λ (nodes : dom.Nodes). dom.on_top (λ f. dom.with_nodes nodes (dom.caught_up f)) (path_of p)) (node-grown p.store m.store g node h)
+
+pub settle-on-top : (p m q : FramePath) (n : ℕ) (node : Node) → length p.frames.items ≡ suc n → frames_of m ≡ changed n (dom.with_nodes (node_of p.store node)) (frames_of p) → frames_of q ≡ changed n dom.caught_up (frames_of m) → path_of q ≡ dom.settled_at dom.here (node_of p.store node) (path_of p)
+settle-on-top p m q n node long first second =
+    changed-top-twice (dom.with_nodes (node_of p.store node)) dom.caught_up (frames_of p) (frames_of m) (frames_of q) n (frames-length p ∙ long) first second
+
+-- The innermost frame goes
+
+pub taken-top : (p q : FramePath) (n : ℕ) (f : Frame) → length p.frames.items ≡ suc n → f ≡ get_or p.frames.items n f → q.frames.items ≡ take n p.frames.items → q.store ≡ p.store → path_of p ≡ frame_of p.store f ∷ path_of q
+unfolding frames_of
+taken-top p q n f long is frames store =
+    let own = frame_of p.store f in
+    reverse-last (map (frame_of p.store) p.frames.items) n own (length-map p.frames.items (frame_of p.store) ∙ long)
+    ∙ (ap (λ x. x ∷ reverse (take n (map (frame_of p.store) p.frames.items))) (get_or-map (frame_of p.store) p.frames.items n f ∙ ap (frame_of p.store) (sym is))
+    ∙ ap (λ rest. own ∷ reverse rest)
+      (sym (map-take (frame_of p.store) n p.frames.items)
+      ∙ (ap (map (frame_of p.store)) (sym frames) ∙ ap (λ (s : Store). map (frame_of s) q.frames.items) (sym store))))
+
+pub element-none : (s : Store) (f : Frame) → f.waiting ≡ 0 → node_of s (Element f.tag f.children) ≡ dom.node_of (frame_of s f)
+element-none s f e =
+    node-element s f.tag f.children
+    ∙ ap (λ (waiting : dom.Nodes). dom.and_element dom.no_nodes (tag_at s f.tag) (dom.joined (nodes_of s f.children) waiting)) (sym (ap (nodes_of s) e ∙ nodes-none s))
+
+pub element-some : (s t : Store) (f : Frame) (row : ℕ) → Grows s t → IsTrue (frame_is_within (length s.tags.items) (length s.cells.items) f) → nodes_of t row ≡ dom.joined (nodes_of s f.children) (node_of s (Joined f.waiting)) → node_of t (Element f.tag row) ≡ dom.node_of (frame_of s f)
+element-some s t f row g h stands =
+    let parts = parts-of s f h in
+    node-element t f.tag row
+    ∙ (ap (λ (tag : tags.Tag). dom.and_element dom.no_nodes tag (nodes_of t row)) (tag-at-grown s t g f.tag parts.tag)
+    ∙ ap (dom.and_element dom.no_nodes (tag_at s f.tag)) (stands ∙ ap (dom.joined (nodes_of s f.children)) (node-joined s f.waiting)))
+
+pub element-within : (s t : Store) (f : Frame) (row : ℕ) → Grows s t → IsTrue (frame_is_within (length s.tags.items) (length s.cells.items) f) → IsTrue (is_row t row) → IsTrue (is_node t (Element f.tag row))
+element-within s t f row g h k =
+    let parts = parts-of s f h in
+    let more = begins-longer s.tags.items t.tags.items g.tags in
+    and_from (nat_lt f.tag (length t.tags.items)) (nat_le row (length t.cells.items)) (lt-ltb f.tag (length t.tags.items) (omega arith)) k
+
+settled-outer : (f : dom.Frame) (path : dom.Path) → 0 < length path → dom.top_settled (f ∷ path) ≡ dom.settled_at f.place (dom.node_of f) path
+settled-outer f [] h = absurd (omega arith)
+settled-outer f (g ∷ path) h = refl
+
+pub settle-top : (p m n q : FramePath) (f : Frame) (node : Node) → path_of p ≡ frame_of p.store f ∷ path_of m → m.store ≡ p.store → frames_of n ≡ frames_of m → node_of n.store node ≡ dom.node_of (frame_of m.store f) → path_of q ≡ dom.settled_at (place_of f.place) (node_of n.store node) (path_of n) → path_of q ≡ dom.top_settled (path_of p)
+settle-top p m n q f node path store frames stands settled =
+    let many = path-length m in
+    let some = m.some in
+    let place = place_of f.place in
+    settled
+    ∙ (ap (λ (nodes : dom.Nodes). dom.settled_at place nodes (path_of n)) (stands ∙ ap (λ (s : Store). dom.node_of (frame_of s f)) store)
+    ∙ (ap (λ (all : List dom.Frame). dom.settled_at place (dom.node_of (frame_of p.store f)) (reverse all)) frames
+    ∙ (sym (settled-outer (frame_of p.store f) (path_of m) (omega arith)) ∙ sym (ap dom.top_settled path))))
+
+-- the document stays
+pub settle-alone : (p : FramePath) → length p.frames.items < 2 → path_of p ≡ dom.top_settled (path_of p)
+settle-alone p h =
+    let some = p.some in
+    let long : length (frames_of p) ≡ suc 0 = frames-length p ∙ omega arith in
+    let is = reverse-last (frames_of p) 0 dom.document long in
+    is ∙ sym (ap dom.top_settled is)

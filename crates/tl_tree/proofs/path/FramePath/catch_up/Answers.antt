@@ -1,0 +1,11 @@
+use Rattle.tl_tree.proofs.Written.{caught-up, caught-up-none}
+use Rattle.tl_tree.proofs.path.FramePath.catch_up.Goals as goal
+
+pub returns-then-frame-eq0-clause-ok : goal.returns-then-frame-eq0-clause-ok
+returns-then-frame-eq0-clause-ok c =
+    caught-up-none c.args.self.now c.args.index c.index-frame.result.now c.index-frame.ensures c.requires.index c.if-frame-eq0.true
+
+pub returns-clause-ok : goal.returns-clause-ok
+returns-clause-ok c =
+    let p = c.args.self.now in
+    caught-up p c.add.new.self c.write.new.self c.args.index c.index-frame.result.now c.in_ok-children.children c.add.ensures.grows c.add.ensures.frames c.write.ensures.store c.write.ensures.frames c.index-frame.ensures c.requires.index c.in_ok-children.ensures.stands

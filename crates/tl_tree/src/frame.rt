@@ -1,0 +1,30 @@
+//! Elements that are still open, as frames of a path.
+
+/// A frame of the path, by its number. It is looked for at a depth first, which is how many frames
+/// stood around it: a hint, on which no answer depends.
+#[derive(Clone, Copy)]
+pub(crate) struct Mark {
+    pub(crate) number: u32,
+    pub(crate) depth: u32,
+}
+
+/// Where a node goes: to the end of what is next on the path, or of a frame further out, or behind
+/// the child of that frame that is still open.
+#[derive(Clone, Copy)]
+pub(crate) enum Place {
+    Here,
+    Into(Mark),
+    Behind(Mark),
+}
+
+/// An element whose end is not settled. Its children, and what goes behind the child of it that is
+/// still open, are rows of the store.
+#[derive(Clone, Copy)]
+pub(crate) struct Frame {
+    pub(crate) number: u32,
+    pub(crate) tag: u32,
+    pub(crate) children: u32,
+    pub(crate) waiting: u32,
+    pub(crate) place: Place,
+    pub(crate) is_open: bool,
+}
