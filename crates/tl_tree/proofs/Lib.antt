@@ -16,3 +16,4 @@ pub mod Changed
 pub mod Numbered
 pub mod Written
 pub mod Settled
+pub mod Walked

@@ -44,7 +44,7 @@ changed-map s k zero change (g ∷ frames) e h =
     let p = and_parts (not (list_any (is_numbered g.number) frames)) (are_distinct frames) h in
     let is : g.number ≡ k = same_Some g.number k e in
     let none : list_any (is_numbered k) frames ≡ false =
-        subst (λ (m : ℕ). list_any (is_numbered m) frames ≡ false) is (not-false (list_any (is_numbered g.number) frames) p.0) in
+    subst (λ (m : ℕ). list_any (is_numbered m) frames ≡ false) is (not-false (list_any (is_numbered g.number) frames) p.0) in
     ap (λ (b : Bool). cond b (change (frame_of s g)) (frame_of s g) ∷ map (λ (o : dom.Frame). cond (nat_eq o.number k) (change o) o) (map (frame_of s) frames)) (eq-eqb g.number k is)
     ∙ ap (λ rest. change (frame_of s g) ∷ rest) (absent-map s k change frames none)
 changed-map s k (suc n) change (g ∷ frames) e h =

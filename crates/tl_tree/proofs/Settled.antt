@@ -46,7 +46,7 @@ any-count test (c ∷ a) [] (f ∷ g ∷ path) h k = absurd (omega arith)
 any-count test (c ∷ a) (d ∷ b) (f ∷ g ∷ path) h k =
     let many = length-settled f g path in
     let rest : settled_while test a (top_settled (f ∷ g ∷ path)) ≡ settled_while test b (top_settled (f ∷ g ∷ path)) =
-        any-count test a b (top_settled (f ∷ g ∷ path)) (omega arith) (omega arith) in
+    any-count test a b (top_settled (f ∷ g ∷ path)) (omega arith) (omega arith) in
     elim (is_settled test f) as (λ x. (elim x as (λ _. Path) [ true ↦ settled_while test a (top_settled (f ∷ g ∷ path)) | false ↦ f ∷ g ∷ path ]) ≡ (elim x as (λ _. Path) [ true ↦ settled_while test b (top_settled (f ∷ g ∷ path)) | false ↦ f ∷ g ∷ path ])) [
       | true ↦ rest
       | false ↦ refl

@@ -1,6 +1,7 @@
 -- The rows of a tree, whose store has what was copied behind its text.
-use Rattle.std.proofs.Common.{IsTrue, List, [], ap, append_assoc, arith, drop, get_or, length, length-append, map, refl, subst, sym, take, ℕ, ◌++◌, ◌∙◌, ◌≡◌, ◌≤◌}
-use Rattle.std.proofs.lemmas.Bool.{ltb-true}
+use Rattle.std.proofs.Common.{IsTrue, List, None, Some, [], ap, append_assoc, arith, drop, get_or, length, length-append, map, nat_le, nat_lt, refl, subst, suc, sym, take, zero, ℕ, ◌&&◌, ◌++◌, ◌+◌, ◌<◌, ◌∙◌, ◌∷◌, ◌≡◌, ◌≤◌}
+use Rattle.std.proofs.lemmas.Bool.{and_from, le-leb, lt-ltb, ltb-true}
+use Rattle.std.proofs.lemmas.Option.{none-some}
 use Rattle.std.specs.List.{list_all}
 use Rattle.std.specs.Option.{option_map}
 use Rattle.tl_dom_spec.specs.HtmlForest.{before, no_trees}
@@ -8,8 +9,10 @@ use Rattle.tl_dom_spec.specs.Tags as dom
 use Rattle.tl_html_spec.specs.Doctypes as doctypes
 use Rattle.tl_tree.proofs.Grown.{doctype-at-grown, tag-at-grown}
 use Rattle.tl_tree.proofs.Listed.{all-weaker, map-same}
+use Rattle.tl_tree.proofs.RowLaws.{ComesBefore, Within, rows-within}
+use Rattle.tl_tree.proofs.RowLists.{EachRow}
 use Rattle.tl_tree.proofs.Within.{lt-more}
-use Rattle.tl_tree.specs.Inner.RowView.{bytes_in, held_in, held_is_within, parent_of, row_in, row_is_within}
+use Rattle.tl_tree.specs.Inner.RowView.{are_in_order, bytes_in, held_in, held_is_within, parent_of, row_in, row_is_within}
 use Rattle.tl_tree.specs.Inner.Settling.{AreRowsOf, sizes_with, text_with}
 use Rattle.tl_tree.specs.Inner.Store.{Grows, attribute_space_of, bytes_of, doctype_at, doctype_of, nodes_of, sizes_of, space_of, tag_at, tag_of, text_of}
 use Rattle.tl_tree.specs.Inner.Within.{Sizes, span_is_within}
@@ -122,3 +125,29 @@ tree-within s t n made are g side =
     all-weaker (row_is_within (sizes_with s made.copied.items)) (row_is_within (sizes_of t))
     (λ row h. held-within (sizes_with s made.copied.items) (sizes_of t) (ap length g.page) (ap length side ∙ length-append s.side.items made.copied.items) (longer s.tags.items t.tags.items g.tags) (longer s.doctypes.items t.doctypes.items g.doctypes) row.held h)
     made.rows.items are.within
+
+-- In order
+
+parent-below : (parent number : ℕ) → ((p : ℕ) → parent_of parent ≡ Some p → p < number) → parent ≤ number
+parent-below zero number h = omega arith
+parent-below (suc p) number h = let below = h p refl in omega (arith, below)
+
+each-order : (s : Store) (text : List ℕ) (total n : ℕ) (own : List Row) → EachRow (Within None 0 total) n (map (row_in s text) own) → IsTrue (are_in_order n own)
+each-order s text total n [] h = refl
+each-order s text total n (row ∷ own) h =
+    let w = h.0 in
+    let next : n + 1 ≡ suc n = omega arith in
+    and_from (nat_le row.parent n) (nat_lt n row.end && are_in_order (suc n) own)
+    (le-leb row.parent n (parent-below row.parent n w.above))
+    (and_from (nat_lt n row.end) (are_in_order (suc n) own) (lt-ltb n row.end w.reaches)
+    (subst (λ v. IsTrue (are_in_order v own)) next (each-order s text total (n + 1) own h.1)))
+
+no-parent : ComesBefore None 0
+no-parent p e = absurd (none-some p e)
+
+pub tree-order : (s : Store) (n : ℕ) (made : Settled) → AreRowsOf s n made → IsTrue (are_in_order 0 made.rows.items)
+tree-order s n made are =
+    let trees = before (nodes_of s n) no_trees in
+    let total = 0 + rows.row_count trees in
+    each-order s (text_with s made.copied.items) total 0 made.rows.items
+    (subst (λ v. EachRow (Within None 0 total) 0 v) (sym are.rows) (rows-within 0 None trees no-parent))

@@ -91,7 +91,7 @@ written s t g (o ∷ frames) zero f new change all is h e =
     let p = and_parts (frame_is_within (length s.tags.items) (length s.cells.items) o) (list_all (frame_is_within (length s.tags.items) (length s.cells.items)) frames) all in
     ap (λ own. own ∷ map (frame_of t) frames) (e ∙ ap (λ (own : Frame). change (frame_of s own)) is)
     ∙ ap (λ rest. change (frame_of s o) ∷ rest)
-      (map-same (frame_is_within (length s.tags.items) (length s.cells.items)) (frame_of t) (frame_of s) (frame-grown s t g) frames p.1)
+    (map-same (frame_is_within (length s.tags.items) (length s.cells.items)) (frame_of t) (frame_of s) (frame-grown s t g) frames p.1)
 written s t g (o ∷ frames) (suc i) f new change all is h e =
     let p = and_parts (frame_is_within (length s.tags.items) (length s.cells.items) o) (list_all (frame_is_within (length s.tags.items) (length s.cells.items)) frames) all in
     ap (λ own. own ∷ map (frame_of t) (set frames i new)) (frame-grown s t g o p.0)
@@ -187,8 +187,8 @@ taken-top p q n f long is frames store =
     reverse-last (map (frame_of p.store) p.frames.items) n own (length-map p.frames.items (frame_of p.store) ∙ long)
     ∙ (ap (λ x. x ∷ reverse (take n (map (frame_of p.store) p.frames.items))) (get_or-map (frame_of p.store) p.frames.items n f ∙ ap (frame_of p.store) (sym is))
     ∙ ap (λ rest. own ∷ reverse rest)
-      (sym (map-take (frame_of p.store) n p.frames.items)
-      ∙ (ap (map (frame_of p.store)) (sym frames) ∙ ap (λ (s : Store). map (frame_of s) q.frames.items) (sym store))))
+    (sym (map-take (frame_of p.store) n p.frames.items)
+    ∙ (ap (map (frame_of p.store)) (sym frames) ∙ ap (λ (s : Store). map (frame_of s) q.frames.items) (sym store))))
 
 pub element-none : (s : Store) (f : Frame) → f.waiting ≡ 0 → node_of s (Element f.tag f.children) ≡ dom.node_of (frame_of s f)
 element-none s f e =

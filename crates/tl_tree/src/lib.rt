@@ -22,7 +22,9 @@ mod span;
 mod store;
 mod text;
 mod tree;
+mod walks;
 
 pub use error::ReadError;
 pub use kind::Kind;
 pub use tree::Tree;
+pub use walks::{Ancestors, Children};

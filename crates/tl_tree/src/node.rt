@@ -10,7 +10,7 @@ impl<'p> Tree<'p> {
     ghost use Rattle.std.specs.Bool.{IsTrue};
     ghost use Rattle.std.specs.Option.{option_and_then, option_copied, option_map};
     ghost use Rattle.std.specs.Prelude.{length, ◌==◌, ◌≡◌, ◌↔◌};
-    ghost use Rattle.tl_tree.specs.Asked.{end_at, kind_of, name_of, node_at, parent_at, text_of};
+    ghost use Rattle.tl_tree.specs.Asked.{end_at, first_child_at, kind_of, name_of, next_sibling_at, node_at, parent_at, text_of};
     ghost use Rattle.tl_tree.specs.Inner.RowView.{bytes_in};
     ghost use Rattle.tl_tree.specs.Inner.Store.{is_span, text_of as text_of_store};
     ghost use Rattle.tl_tree.specs.Rows.{IsInRange};
@@ -67,6 +67,31 @@ impl<'p> Tree<'p> {
         ensures { result ≡ end_at (rows_in self.now) number }
     {
         Some(self.rows.get(number)?.end as usize)
+    }
+
+    /// The number of the first child of a node.
+    pub fn first_child(&self, number: usize) -> Option<usize>
+        ensures { result ≡ first_child_at (rows_in self.now) number }
+    {
+        let row = self.rows.get(number)?;
+        let first = number + 1;
+        if first < row.end as usize {
+            Some(first)
+        } else {
+            None
+        }
+    }
+
+    /// The number of the next child of the same node, or of the next node that stands in none.
+    pub fn next_sibling(&self, number: usize) -> Option<usize>
+        ensures { result ≡ next_sibling_at (rows_in self.now) number }
+    {
+        let end = self.end(number)?;
+        let outer = match self.parent(number) {
+            Some(parent) => self.end(parent)?,
+            None => self.len(),
+        };
+        if end < outer { Some(end) } else { None }
     }
 
     /// Whether one node is below another: its child, or below one.

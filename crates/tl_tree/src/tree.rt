@@ -2,7 +2,7 @@
 ghost use Rattle.std.specs.Bool.{IsTrue};
 ghost use Rattle.std.specs.List.{list_all};
 ghost use Rattle.std.specs.Prelude.{length, ◌<◌, ◌^◌};
-ghost use Rattle.tl_tree.specs.Inner.RowView.{row_is_within};
+ghost use Rattle.tl_tree.specs.Inner.RowView.{are_in_order, row_is_within};
 
 use crate::row::Row;
 use crate::store::Store;
@@ -26,4 +26,5 @@ pub struct Tree<'p> {
           doctypes = length store.doctypes.items;
         }))
         rows.items) },
+    ghost in_order: { IsTrue (are_in_order 0 rows.items) },
 }

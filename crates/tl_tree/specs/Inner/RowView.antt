@@ -1,5 +1,5 @@
 -- What rows stand for, and which of them hold numbers in range.
-use Rattle.std.specs.Prelude.{Bool, List, None, Option, Some, drop, nat_lt, suc, take, true, zero, ℕ}
+use Rattle.std.specs.Prelude.{Bool, List, None, Option, Some, [], drop, nat_le, nat_lt, suc, take, true, zero, ℕ, ◌&&◌, ◌∷◌}
 use Rattle.tl_tree.specs.Inner.Gathering.{Flat, flat}
 use Rattle.tl_tree.specs.Inner.Store.{doctype_at, tag_at}
 use Rattle.tl_tree.specs.Inner.Within.{Sizes, span_is_within}
@@ -47,3 +47,9 @@ row_in s text row = record {
 -- a row as it is written first, where `end` counts what comes behind it
 abbrev pub flat_in : Store → List ℕ → Row → Flat
 flat_in s text row = flat (held_in s text row.held) row.end
+
+-- each row stands in one before it, and ends behind itself, where the first one has a number
+abbrev pub are_in_order : ℕ → List Row → Bool
+are_in_order number [] = true
+are_in_order number (row ∷ rows) =
+    nat_le row.parent number && (nat_lt number row.end && are_in_order (suc number) rows)

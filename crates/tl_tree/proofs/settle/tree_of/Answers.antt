@@ -1,5 +1,5 @@
 use Rattle.std.proofs.Common.{ap, refl, ◌++◌, ◌∙◌}
-use Rattle.tl_tree.proofs.TreeRows.{tree-rows, tree-within}
+use Rattle.tl_tree.proofs.TreeRows.{tree-order, tree-rows, tree-within}
 use Rattle.tl_tree.proofs.settle.tree_of.Goals as goal
 
 pub invariant_of-result : goal.invariant_of-result
@@ -9,6 +9,7 @@ invariant_of-result c =
     record {
       few = c.in_ok-made.ensures.few;
       rows_within = tree-within s c.add_bytes.new.self c.args.row c.in_ok-made.made c.in_ok-made.ensures c.in_ok-add_bytes.ensures.grows side;
+      in_order = tree-order s c.args.row c.in_ok-made.made c.in_ok-made.ensures;
     }
 
 pub returns-clause-rows : goal.returns-clause-rows
