@@ -17,3 +17,4 @@ pub mod Numbered
 pub mod Written
 pub mod Settled
 pub mod Walked
+pub mod WalkLaws

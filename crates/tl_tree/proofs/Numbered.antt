@@ -1,6 +1,6 @@
 -- Frames whose numbers differ: the frame of a number is one.
-use Rattle.std.proofs.Common.{ap, arith, inl, inr, sym, subst, ◌∙◌, ◌≡◌, ◌+◌, ◌≤◌, ◌<◌, ◌++◌, ◌&&◌, ◌||◌, ◌∷◌, [], Bool, IsTrue, List, None, Option, Some, cond, eqb, false, get_or, length, map, nat_eq, nat_lt, not, refl, reverse, set, slice_get, suc, take, true, zero, ℕ}
-use Rattle.std.proofs.lemmas.Bool.{and_from, and_parts, eq-eqb, eqb-true, false≢true, ltb-true, ne_eqb, or_parts}
+use Rattle.std.proofs.Common.{ap, arith, sym, subst, ◌∙◌, ◌≡◌, ◌≤◌, ◌<◌, ◌++◌, ◌&&◌, ◌||◌, ◌∷◌, [], Bool, IsTrue, List, Some, cond, false, get_or, length, map, nat_eq, not, refl, reverse, set, slice_get, suc, take, true, zero, ℕ}
+use Rattle.std.proofs.lemmas.Bool.{and_from, and_parts, eq-eqb, false≢true, ltb-true, ne_eqb, or_parts}
 use Rattle.std.proofs.lemmas.List.{length-map}
 use Rattle.std.proofs.lemmas.Option.{same_Some, slice_get_within}
 use Rattle.std.specs.List.{list_all, list_any}

@@ -94,15 +94,15 @@ ancestors-step t n o e =
 
 -- Siblings
 
-bool-cases : (b : Bool) → (b ≡ true) ⊎ (b ≡ false)
+pub bool-cases : (b : Bool) → (b ≡ true) ⊎ (b ≡ false)
 bool-cases true = inl refl
 bool-cases false = inr refl
 
-siblings-past : (rows : List Row) (f number end : ℕ) → nat_lt number end ≡ false → siblings_from rows (suc f) number end ≡ []
+pub siblings-past : (rows : List Row) (f number end : ℕ) → nat_lt number end ≡ false → siblings_from rows (suc f) number end ≡ []
 siblings-past rows f number end e =
     subst (λ b. (elim b as (λ _. List ℕ) [ true ↦ number ∷ siblings_from rows f (end_or rows number end) end | false ↦ [] ]) ≡ []) (sym e) refl
 
-siblings-more : (rows : List Row) (f number end : ℕ) → nat_lt number end ≡ true → siblings_from rows (suc f) number end ≡ number ∷ siblings_from rows f (end_or rows number end) end
+pub siblings-more : (rows : List Row) (f number end : ℕ) → nat_lt number end ≡ true → siblings_from rows (suc f) number end ≡ number ∷ siblings_from rows f (end_or rows number end) end
 siblings-more rows f number end e =
     subst (λ b. (elim b as (λ _. List ℕ) [ true ↦ number ∷ siblings_from rows f (end_or rows number end) end | false ↦ [] ]) ≡ number ∷ siblings_from rows f (end_or rows number end) end) (sym e) refl
 

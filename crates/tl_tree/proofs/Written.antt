@@ -1,8 +1,8 @@
 -- Frames as the store grows, and one of them written.
-use Rattle.std.proofs.Common.{ap, arith, sym, subst, ◌∙◌, ◌≡◌, ◌+◌, ◌≤◌, ◌<◌, ◌&&◌, ◌++◌, ◌∷◌, [], Bool, IsTrue, List, false, get_or, length, map, nat_le, nat_lt, refl, reverse, set, suc, take, zero, ℕ}
+use Rattle.std.proofs.Common.{ap, arith, sym, subst, ◌∙◌, ◌≡◌, ◌≤◌, ◌<◌, ◌&&◌, ◌++◌, ◌∷◌, [], Bool, IsTrue, List, false, get_or, length, map, nat_le, nat_lt, refl, reverse, set, suc, take, zero, ℕ}
 use Rattle.std.proofs.lemmas.Bool.{and_from, and_parts, leb-true, le-leb, ltb-true, lt-ltb}
 use Rattle.std.proofs.Math.ListN.{get_or-map}
-use Rattle.std.proofs.lemmas.List.{length-map, length-reverse, length-set}
+use Rattle.std.proofs.lemmas.List.{length-map, length-reverse}
 use Rattle.std.specs.List.{list_all}
 use Rattle.tl_dom_spec.specs.Path as dom
 use Rattle.tl_dom_spec.specs.Tags as tags

@@ -1,7 +1,9 @@
 //! Laws of the rows of any trees.
 
+ghost use Rattle.std.specs.List.{Contains};
 ghost use Rattle.std.specs.Prelude.{◌≡◌, ◌↔◌, ◌⊎◌, ◌<◌, ◌≤◌, Some, length, slice_get, ℕ};
 ghost use Rattle.tl_dom_spec.specs.HtmlForest.{HtmlForest};
+ghost use Rattle.tl_tree.specs.Asked.{ancestors_at, children_at, parent_at};
 ghost use Rattle.tl_tree.specs.Rows.{IsBelow, IsInRange, Row, row_count, rows_of};
 
 /// There is a row for each node, and one for the contents of each `template`.
@@ -44,4 +46,18 @@ pub fn parents_are_innermost()
 pub fn below_is_in_range()
     ensures { (trees : HtmlForest) (outer i : ℕ) →
         IsBelow (rows_of trees) outer i ↔ IsInRange (rows_of trees) outer i }
+{}
+
+/// The children of a row are those that stand in it.
+pub fn children_stand_in_their_row()
+    ensures { (trees : HtmlForest) (number child : ℕ) →
+        Contains (children_at (rows_of trees) number) child
+        ↔ parent_at (rows_of trees) child ≡ Some number }
+{}
+
+/// The ancestors of a row are those that it is below.
+pub fn ancestors_have_it_in_range()
+    ensures { (trees : HtmlForest) (number outer : ℕ) →
+        Contains (ancestors_at (rows_of trees) number) outer
+        ↔ IsInRange (rows_of trees) outer number }
 {}
