@@ -1,5 +1,5 @@
 -- One frame of a path is changed: the innermost one, or the one of a number.
-use Rattle.std.proofs.Common.{ap, arith, sym, subst, ◌∙◌, ◌≡◌, ◌+◌, ◌-◌, ◌≤◌, ◌<◌, ◌++◌, ◌∷◌, [], Bool, List, get_or, length, map, refl, reverse, suc, take, zero, ℕ}
+use Rattle.std.proofs.Common.{ap, arith, sym, ◌∙◌, ◌≡◌, ◌<◌, ◌++◌, ◌∷◌, [], List, get_or, length, map, refl, reverse, suc, take, zero, ℕ}
 use Rattle.std.proofs.lemmas.List.{length-reverse, map-append, reverse-append}
 use Rattle.tl_dom_spec.specs.Path.{Frame, on_top}
 use Rattle.tl_tree.specs.Inner.Frames.{changed}

@@ -11,8 +11,8 @@ use Rattle.tl_dom_spec.specs.Tags as dom
 use Rattle.tl_html_spec.specs.Doctypes as doctypes
 use Rattle.tl_tree.proofs.Listed.{all-drop, all-take, begins-longer, begins-refl, begins-trans, map-same, mapped-front, mapped-last, part-front}
 use Rattle.tl_tree.proofs.Within.{node-more, span-bound}
-use Rattle.tl_tree.specs.Inner.Store.{Grows, attribute_of, attribute_space_of, bytes_of, doctype_at, doctype_of, entries_of, is_attribute, is_doctype, is_node, is_row, is_span, is_tag, is_tag_number, node_in, node_of, nodes_of, row_in, rows_from, rows_of, sizes_of, space_of, tag_at, tag_of, text_of}
-use Rattle.tl_tree.specs.Inner.Within.{Sizes, cell_is_within, cells_are_within, id_is_within, node_is_within, span_is_within}
+use Rattle.tl_tree.specs.Inner.Store.{Grows, attribute_of, attribute_space_of, bytes_of, doctype_at, doctype_of, entries_of, is_attribute, is_doctype, is_node, is_span, is_tag, node_in, node_of, nodes_of, row_in, rows_from, rows_of, sizes_of, space_of, tag_at, tag_of, text_of}
+use Rattle.tl_tree.specs.Inner.Within.{Sizes, cell_is_within, cells_are_within, id_is_within, node_is_within}
 use Rattle.tl_tree.specs.declared.cell.Cell.{Cell}
 use Rattle.tl_tree.specs.declared.cell.Node.{Node}
 use Rattle.tl_tree.specs.declared.cell.Node.TheVariants.{Comment, Doctype, Element, Joined, Text}

@@ -18,3 +18,8 @@ pub mod Written
 pub mod Settled
 pub mod Walked
 pub mod WalkLaws
+pub mod Popped
+pub mod Asked
+pub mod Inserted
+pub mod Sought
+pub mod Fostered

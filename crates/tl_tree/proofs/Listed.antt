@@ -1,5 +1,5 @@
 -- Tests of each element of a list, fronts of lists, and functions that agree on what passes.
-use Rattle.std.proofs.Common.{ap, arith, sym, ◌∙◌, ◌≡◌, ◌+◌, ◌-◌, ◌≤◌, ◌<◌, ◌++◌, ◌&&◌, ◌∷◌, [], Bool, false, true, IsTrue, List, cond, drop, get_or, length, length-append, length-drop, map, refl, suc, take, zero, ℕ}
+use Rattle.std.proofs.Common.{ap, arith, sym, ◌∙◌, ◌≡◌, ◌+◌, ◌≤◌, ◌<◌, ◌++◌, ◌∷◌, [], Bool, false, true, IsTrue, List, cond, drop, get_or, length, length-append, length-drop, map, refl, suc, take, zero, ℕ}
 use Rattle.std.proofs.Math.ListN.{get_or-append}
 use Rattle.std.proofs.Math.Seq.{drop-append_seam, get_or-append_seam}
 use Rattle.std.proofs.lemmas.Bool.{and_from, and_parts}

@@ -1,5 +1,5 @@
 -- Frames that are settled while they pass a test, one after the other.
-use Rattle.std.proofs.Common.{ap, arith, inl, inr, sym, subst, ◌∙◌, ◌≡◌, ◌+◌, ◌≤◌, ◌<◌, ◌∷◌, ◌||◌, [], Bool, List, false, length, map, not, refl, suc, true, zero, ℕ}
+use Rattle.std.proofs.Common.{ap, arith, sym, ◌∙◌, ◌≡◌, ◌≤◌, ◌∷◌, ◌||◌, [], Bool, List, false, length, not, refl, suc, true}
 use Rattle.std.proofs.lemmas.List.{length-map}
 use Rattle.tl_dom_spec.specs.Path.{Frame, Nodes, Path, Place, behind, here, into, into_head, node_of, popped_while, settled_at, settled_while, top_settled}
 

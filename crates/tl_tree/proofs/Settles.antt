@@ -1,6 +1,6 @@
 -- Steps of settling.
 use Rattle.std.proofs.Common.{Bool, IsTrue, List, Some, [], ap, arith, drop, get_or, inl, inr, length, length-append, map, nat_le, refl, subst, suc, sym, take, true, zero, ℕ, ◌&&◌, ◌+◌, ◌++◌, ◌-◌, ◌<◌, ◌∙◌, ◌≡◌, ◌≢◌, ◌≤◌, ◌∷◌}
-use Rattle.std.proofs.Math.Seq.{drop-append-add, drop-append_seam, take-add}
+use Rattle.std.proofs.Math.Seq.{drop-append_seam, take-add}
 use Rattle.std.proofs.lemmas.Bool.{and_from, and_parts, le-leb, leb-true, or_cases}
 use Rattle.std.proofs.lemmas.List.{append-nil, append_assoc}
 use Rattle.std.specs.List.{list_all}
@@ -29,19 +29,6 @@ drop-sum zero b n xs e = let same : n ≡ b = omega (arith, e) in ap (λ v. drop
 drop-sum (suc a) b zero xs e = absurd (let f : ⊥ = omega (arith, e) in f)
 drop-sum (suc a) b (suc n) [] e = sym (drop-none b)
 drop-sum (suc a) b (suc n) (x ∷ xs) e = drop-sum a b n xs (omega (arith, e))
-
--- bytes that lie behind the page, and not in it
-pub side-bytes : (page side : List ℕ) (span : Span) → IsTrue (span_is_within (length page) (length side) span) → length page < span.start + span.len → take (span.start + span.len - length page - (span.start - length page)) (drop (span.start - length page) side) ≡ bytes_in (page ++ side) span
-side-bytes page side span h past =
-    elim (or_cases (nat_le (span.start + span.len) (length page)) (nat_le (length page) span.start && nat_le (span.start + span.len) (length page + length side)) h) [
-      | inl p ↦ (let own = leb-true (span.start + span.len) (length page) p in absurd (let f : ⊥ = omega (arith, own, past) in f))
-      | inr q ↦ (
-          let first = leb-true (length page) span.start (and_parts (nat_le (length page) span.start) (nat_le (span.start + span.len) (length page + length side)) q).0 in
-          let many : span.start + span.len - length page - (span.start - length page) ≡ span.len = omega (arith, first) in
-          let place : length page + (span.start - length page) ≡ span.start = omega (arith, first) in
-          ap (λ n. take n (drop (span.start - length page) side)) many
-          ∙ ap (take span.len) (sym (drop-append-add page side (span.start - length page)) ∙ ap (λ n. drop n (page ++ side)) place))
-    ]
 
 -- two spans side by side
 pub beside-within : (s : Store) (first second : Span) → IsTrue (is_span s first) → IsTrue (is_span s second) → first.start + first.len ≡ second.start → second.start ≢ length s.page.now → IsTrue (is_span s (record { start = first.start; len = first.len + second.len }))
@@ -202,11 +189,10 @@ text-drop s [] k d l = absurd (let f : ⊥ = omega (arith, l) in f)
 text-drop s (own ∷ pieces) zero d l = refl
 text-drop s (own ∷ pieces) (suc k) d l = text-drop s pieces k d (omega (arith, l))
 
-pub copy-step : (s : Store) (pieces : List Span) (left : ℕ) (d : Span) (initial copied all bytes side : List ℕ) → 0 < left → left ≤ length pieces → side ≡ s.side.items → bytes ≡ bytes_in (s.page.now ++ side) (get_or pieces (left - 1) d) → copied ≡ initial ++ text_of_pieces s (drop left pieces) → all ≡ copied ++ bytes → all ≡ initial ++ text_of_pieces s (drop (left - 1) pieces)
-unfolding bytes_of
-copy-step s pieces left d initial copied all bytes side some below same is was now =
+pub copy-step : (s : Store) (pieces : List Span) (left : ℕ) (d : Span) (initial copied all bytes : List ℕ) → 0 < left → left ≤ length pieces → bytes ≡ bytes_of s (get_or pieces (left - 1) d) → copied ≡ initial ++ text_of_pieces s (drop left pieces) → all ≡ copied ++ bytes → all ≡ initial ++ text_of_pieces s (drop (left - 1) pieces)
+copy-step s pieces left d initial copied all bytes some below is was now =
     let next : suc (left - 1) ≡ left = omega (arith, some) in
-    now ∙ (ap (λ v. copied ++ v) (is ∙ ap (λ v. bytes_in (s.page.now ++ v) (get_or pieces (left - 1) d)) same)
+    now ∙ (ap (λ v. copied ++ v) is
     ∙ (ap (λ v. v ++ bytes_of s (get_or pieces (left - 1) d)) was
     ∙ (append_assoc initial (text_of_pieces s (drop left pieces)) (bytes_of s (get_or pieces (left - 1) d))
     ∙ ap (λ v. initial ++ v) (sym (text-drop s pieces (left - 1) d (omega (arith, some, below)) ∙ ap (λ n. text_of_pieces s (drop n pieces) ++ bytes_of s (get_or pieces (left - 1) d)) next)))))

@@ -1,10 +1,9 @@
 -- Which tags of a store are those of a `template`.
-use Rattle.std.proofs.Common.{Bool, IsTrue, List, [], ap, arith, codes, false, get_or, length, map, refl, subst, suc, sym, true, zero, ℕ, ◌++◌, ◌<◌, ◌∙◌, ◌≡◌, ◌||◌, ◌∷◌}
+use Rattle.std.proofs.Common.{Bool, IsTrue, List, [], ap, arith, codes, false, get_or, length, map, refl, subst, suc, sym, true, zero, ℕ, ◌<◌, ◌∙◌, ◌≡◌, ◌||◌, ◌∷◌}
 use Rattle.std.proofs.lemmas.Bool.{ltb-true}
 use Rattle.std.specs.Str.{bytes_eq}
 use Rattle.tl_dom_spec.specs.HtmlForest.{has_contents}
 use Rattle.tl_dom_spec.specs.Tags as dom
-use Rattle.tl_tree.specs.Inner.RowView.{bytes_in}
 use Rattle.tl_tree.specs.Inner.Store.{bytes_of, is_tag_number, space_of, tag_at, tag_of}
 use Rattle.tl_tree.specs.declared.entries.Namespace.{Namespace}
 use Rattle.tl_tree.specs.declared.entries.Namespace.TheVariants.{Html, Math, Svg}
@@ -30,10 +29,9 @@ html-contents s entry Html e is = subst (λ v. has_contents (record (tag_of s en
 html-contents s entry Math e is = absurd (let f : ⊥ = cc in f)
 html-contents s entry Svg e is = absurd (let f : ⊥ = cc in f)
 
-pub html-template : (s : Store) (n : ℕ) (entry : TagEntry) (r : Bool) (bytes side word : List ℕ) → IsTrue (is_tag_number s n) → entry ≡ get_or s.tags.items n entry → entry.space ≡ Html → side ≡ s.side.items → bytes ≡ bytes_in (s.page.now ++ side) entry.name → word ≡ codes "template" → r ≡ bytes_eq bytes word → r ≡ has_contents (tag_at s n)
-unfolding bytes_of
-html-template s n entry r bytes side word h e space same is template eq =
-    eq ∙ (ap (λ v. bytes_eq v word) (is ∙ ap (λ v. bytes_in (s.page.now ++ v) entry.name) same)
+pub html-template : (s : Store) (n : ℕ) (entry : TagEntry) (r : Bool) (bytes word : List ℕ) → IsTrue (is_tag_number s n) → entry ≡ get_or s.tags.items n entry → entry.space ≡ Html → bytes ≡ bytes_of s entry.name → word ≡ codes "template" → r ≡ bytes_eq bytes word → r ≡ has_contents (tag_at s n)
+html-template s n entry r bytes word h e space is template eq =
+    eq ∙ (ap (λ v. bytes_eq v word) is
     ∙ (ap (bytes_eq (bytes_of s entry.name)) template
     ∙ (sym (html-contents s entry Html space refl) ∙ ap has_contents (sym (tag-is s n entry h e)))))
 

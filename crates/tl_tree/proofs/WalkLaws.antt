@@ -1,5 +1,5 @@
 -- The children of a row are those that stand in it, and its ancestors those whose range has it.
-use Rattle.std.proofs.Common.{Bool, List, None, Option, Some, [], ap, arith, false, inl, inr, length, nat_lt, refl, slice_get, slice_index_or, subst, suc, sym, true, zero, ℕ, ◌+◌, ◌-◌, ◌<◌, ◌∙◌, ◌≡◌, ◌≤◌, ◌↔◌, ◌⊎◌, ◌∷◌}
+use Rattle.std.proofs.Common.{List, None, Option, Some, [], ap, arith, false, inl, inr, length, nat_lt, refl, slice_get, slice_index_or, subst, suc, sym, zero, ℕ, ◌+◌, ◌-◌, ◌<◌, ◌∙◌, ◌≡◌, ◌≤◌, ◌↔◌, ◌⊎◌, ◌∷◌}
 use Rattle.std.proofs.lemmas.Bool.{cases_lt, lt-ltb, ltb-true}
 use Rattle.std.proofs.lemmas.Option.{none-some, same_Some}
 use Rattle.std.specs.List.{Contains}
@@ -7,7 +7,7 @@ use Rattle.std.specs.Option.{option_and_then, option_map, unwrap_or}
 use Rattle.tl_dom_spec.specs.HtmlForest.{HtmlForest}
 use Rattle.tl_tree.proofs.RowLaws.{get-some, parent_before, parent_holds, parent_innermost, ranges_nest, row_end}
 use Rattle.tl_tree.proofs.Walked.{bool-cases, siblings-more, siblings-past}
-use Rattle.tl_tree.specs.Asked.{ancestors_at, ancestors_from, ancestors_up_from, children_at, end_at, end_or, parent_at, siblings_from}
+use Rattle.tl_tree.specs.Asked.{ancestors_at, ancestors_from, ancestors_up_from, children_at, end_or, parent_at, siblings_from}
 use Rattle.tl_tree.specs.Rows.{IsInRange, Row, rows_of}
 
 -- Elements of a list
@@ -24,9 +24,9 @@ contains-more x y xs c = (suc c.0, (let l = c.1 in omega (arith, l)), c.2)
 contains-cases : (x y : ℕ) (xs : List ℕ) → Contains (x ∷ xs) y → (x ≡ y) ⊎ Contains xs y
 contains-cases x y xs c = contains-at x y xs c.0 c.1 c.2
   where
-  contains-at : (x y : ℕ) (xs : List ℕ) (k : ℕ) → k < length (x ∷ xs) → slice_index_or (x ∷ xs) k y ≡ y → (x ≡ y) ⊎ Contains xs y
-  contains-at x y xs zero l e = inl e
-  contains-at x y xs (suc k) l e = inr (k, omega (arith, l), e)
+    contains-at : (x y : ℕ) (xs : List ℕ) (k : ℕ) → k < length (x ∷ xs) → slice_index_or (x ∷ xs) k y ≡ y → (x ≡ y) ⊎ Contains xs y
+    contains-at x y xs zero l e = inl e
+    contains-at x y xs (suc k) l e = inr (k, omega (arith, l), e)
 
 -- Rows by their numbers
 
@@ -71,16 +71,16 @@ next-boundary trees n start row e bound j other l m f =
     elim (cases_lt j start) as (λ _. other.end ≤ row.end) [
       | inl less ↦ (let ends = bound j other l less f in omega (arith, ends, own))
       | inr more ↦ elim (cases_lt start j) as (λ _. other.end ≤ row.end) [
-          | inl less ↦ elim (ranges_nest trees start j row other less e f) as (λ _. other.end ≤ row.end) [
-              | inl apart ↦ absurd (let g : ⊥ = omega (arith, apart, m) in g)
-              | inr inner ↦ inner
-            ]
-          | inr also ↦ (
-              let at : start ≡ j = omega (arith, more, also) in
-              let same = same_Some row other (sym e ∙ (ap (slice_get (rows_of trees)) at ∙ f)) in
-              let ends : row.end ≡ other.end = ap (λ (r : Row). r.end) same in
-              omega (arith, ends))
+        | inl less ↦ elim (ranges_nest trees start j row other less e f) as (λ _. other.end ≤ row.end) [
+          | inl apart ↦ absurd (let g : ⊥ = omega (arith, apart, m) in g)
+          | inr inner ↦ inner
         ]
+        | inr also ↦ (
+            let at : start ≡ j = omega (arith, more, also) in
+            let same = same_Some row other (sym e ∙ (ap (slice_get (rows_of trees)) at ∙ f)) in
+            let ends : row.end ≡ other.end = ap (λ (r : Row). r.end) same in
+            omega (arith, ends))
+      ]
     ]
 
 -- no children come at or behind the end
@@ -102,9 +102,10 @@ not-less a b e = elim (cases_lt a b) as (λ _. b ≤ a) [
 walked : (trees : HtmlForest) (n k : ℕ) (own : Row) → slice_get (rows_of trees) n ≡ Some own → (f start : ℕ) → n < start → own.end ≤ start + f → IsBoundary trees n start →
     (Contains (siblings_from (rows_of trees) f start own.end) k → parent_at (rows_of trees) k ≡ Some n)
     × (parent_at (rows_of trees) k ≡ Some n → start ≤ k → Contains (siblings_from (rows_of trees) f start own.end) k)
-walked trees n k own e zero start l most bound =
-    (λ c. absurd (contains-none k c),
-    λ is more. absurd (past-children trees n start k own e (omega (arith, most)) is more))
+walked trees n k own e zero start l most bound = (
+  λ c. absurd (contains-none k c),
+  λ is more. absurd (past-children trees n start k own e (omega (arith, most)) is more),
+)
 walked trees n k own e (suc f) start l most bound =
     let R = rows_of trees in
     elim (bool-cases (nat_lt start own.end)) as (λ _. (Contains (siblings_from R (suc f) start own.end) k → parent_at R k ≡ Some n) × (parent_at R k ≡ Some n → start ≤ k → Contains (siblings_from R (suc f) start own.end) k)) [
@@ -118,13 +119,13 @@ walked trees n k own e (suc f) start l most bound =
           let next : end_or R start own.end ≡ row.end = ap (λ o. unwrap_or (option_map (λ (r : Row). r.end) o) own.end) got.1 in
           let list = siblings-more R f start own.end less ∙ ap (λ v. start ∷ siblings_from R f v own.end) next in
           let rest = walked trees n k own e f row.end (omega (arith, l, behind)) (omega (arith, most, behind)) (next-boundary trees n start row got.1 bound) in
-          subst (λ v. (Contains v k → parent_at R k ≡ Some n) × (parent_at R k ≡ Some n → start ≤ k → Contains v k)) (sym list)
-          (λ c. elim (contains-cases start k (siblings_from R f row.end own.end) c) as (λ _. parent_at R k ≡ Some n) [
-            | inl at ↦ subst (λ v. parent_at R v ≡ Some n) at (parent-found trees start n row got.1 up)
-            | inr more ↦ rest.0 more
-          ],
-          λ is more. elim (cases_lt start k) as (λ _. Contains (start ∷ siblings_from R f row.end own.end) k) [
-            | inl further ↦ elim (cases_lt k row.end) as (λ _. Contains (start ∷ siblings_from R f row.end own.end) k) [
+          subst (λ v. (Contains v k → parent_at R k ≡ Some n) × (parent_at R k ≡ Some n → start ≤ k → Contains v k)) (sym list) (
+            λ c. elim (contains-cases start k (siblings_from R f row.end own.end) c) as (λ _. parent_at R k ≡ Some n) [
+              | inl at ↦ subst (λ v. parent_at R v ≡ Some n) at (parent-found trees start n row got.1 up)
+              | inr more ↦ rest.0 more
+            ],
+            λ is more. elim (cases_lt start k) as (λ _. Contains (start ∷ siblings_from R f row.end own.end) k) [
+              | inl further ↦ elim (cases_lt k row.end) as (λ _. Contains (start ∷ siblings_from R f row.end own.end) k) [
                 | inl inside ↦ (
                     let at = at-parent trees k n is in
                     let inner = parent_innermost trees start k at.0 at.1 (row, got.1, further, inside) in
@@ -133,14 +134,16 @@ walked trees n k own e (suc f) start l most bound =
                     absurd (let g : ⊥ = omega (arith, same, above, l) in g))
                 | inr past ↦ contains-more start k (siblings_from R f row.end own.end) (rest.1 is past)
               ]
-            | inr here ↦ (let at : start ≡ k = omega (arith, more, here) in subst (λ v. Contains (start ∷ siblings_from R f row.end own.end) v) at (contains-first start (siblings_from R f row.end own.end)))
-          ]))
+              | inr here ↦ (let at : start ≡ k = omega (arith, more, here) in subst (λ v. Contains (start ∷ siblings_from R f row.end own.end) v) at (contains-first start (siblings_from R f row.end own.end)))
+            ],
+          ))
       | inr past ↦ (
           let list = siblings-past R f start own.end past in
           let ends = not-less start own.end past in
-          subst (λ v. (Contains v k → parent_at R k ≡ Some n) × (parent_at R k ≡ Some n → start ≤ k → Contains v k)) (sym list)
-          (λ c. absurd (contains-none k c),
-          λ is more. absurd (past-children trees n start k own e ends is more)))
+          subst (λ v. (Contains v k → parent_at R k ≡ Some n) × (parent_at R k ≡ Some n → start ≤ k → Contains v k)) (sym list) (
+            λ c. absurd (contains-none k c),
+            λ is more. absurd (past-children trees n start k own e ends is more),
+          ))
     ]
 
 pub children_parents : (trees : HtmlForest) (n k : ℕ) → Contains (children_at (rows_of trees) n) k ↔ parent_at (rows_of trees) k ≡ Some n
@@ -150,22 +153,25 @@ children_parents trees n k =
       | inl none ↦ (
           let end : end_or R n 0 ≡ 0 = ap (λ o. unwrap_or (option_map (λ (r : Row). r.end) o) 0) none in
           let list : children_at R n ≡ [] = ap (λ v. siblings_from R (v - (n + 1)) (n + 1) v) end ∙ (let nothing : 0 - (n + 1) ≡ 0 = omega arith in ap (λ v. siblings_from R v (n + 1) 0) nothing) in
-          subst (λ v. Contains v k ↔ parent_at R k ≡ Some n) (sym list)
-          (λ c. absurd (contains-none k c),
-          λ is. (
-            let at = at-parent trees k n is in
-            let range = parent_holds trees k at.0 n at.1 at.2 in
-            absurd (none-some range.0 (sym none ∙ range.1)))))
+          subst (λ v. Contains v k ↔ parent_at R k ≡ Some n) (sym list) (
+            λ c. absurd (contains-none k c),
+            λ is. (
+                let at = at-parent trees k n is in
+                let range = parent_holds trees k at.0 n at.1 at.2 in
+                absurd (none-some range.0 (sym none ∙ range.1))),
+          ))
       | inr some ↦ (
           let own = some.0 in
           let end : end_or R n 0 ≡ own.end = ap (λ o. unwrap_or (option_map (λ (r : Row). r.end) o) 0) some.1 in
           let list : children_at R n ≡ siblings_from R (own.end - (n + 1)) (n + 1) own.end = ap (λ v. siblings_from R (v - (n + 1)) (n + 1) v) end in
           let all = walked trees n k own some.1 (own.end - (n + 1)) (n + 1) (omega arith) (omega arith) (λ j row l m f. absurd (let g : ⊥ = omega (arith, l, m) in g)) in
-          subst (λ v. Contains v k ↔ parent_at R k ≡ Some n) (sym list)
-          (all.0, λ is. all.1 is (
-            let at = at-parent trees k n is in
-            let before = parent_before trees k at.0 n at.1 at.2 in
-            omega (arith, before))))
+          subst (λ v. Contains v k ↔ parent_at R k ≡ Some n) (sym list) (
+            all.0,
+            λ is. all.1 is (
+                let at = at-parent trees k n is in
+                let before = parent_before trees k at.0 n at.1 at.2 in
+                omega (arith, before)),
+          ))
     ]
 
 -- Ancestors
@@ -175,11 +181,15 @@ further-range trees q p k far near =
     let first = far.2 in
     let second = near.2 in
     let own = near.3 in
-    let reaches = far.3 in
-    (far.0, far.1, omega (arith, first, second), elim (ranges_nest trees q p far.0 near.0 first far.1 near.1) as (λ _. k < far.0.end) [
-      | inl m ↦ absurd (let f : ⊥ = omega (arith, m, reaches) in f)
-      | inr m ↦ omega (arith, m, own)
-    ])
+    let reaches = far.3 in (
+      far.0,
+      far.1,
+      omega (arith, first, second),
+      elim (ranges_nest trees q p far.0 near.0 first far.1 near.1) as (λ _. k < far.0.end) [
+        | inl m ↦ absurd (let f : ⊥ = omega (arith, m, reaches) in f)
+        | inr m ↦ omega (arith, m, own)
+      ],
+    )
 
 up-range : (trees : HtmlForest) (q p : ℕ) → parent_at (rows_of trees) p ≡ Some q → IsInRange (rows_of trees) q p
 up-range trees q p e = let at = at-parent trees p q e in parent_holds trees p at.0 q at.1 at.2
@@ -209,9 +219,9 @@ ancestors-in trees q (suc f) (Some p) c =
     elim (contains-cases p q (ancestors_from R f (parent_at R p)) c) as (λ _. (Some p ≡ Some q) ⊎ ((r : ℕ) × (Some p ≡ Some r) × IsInRange R q r)) [
       | inl at ↦ inl (ap (λ v. Some v) at)
       | inr more ↦ elim (ancestors-in trees q f (parent_at R p) more) as (λ _. (Some p ≡ Some q) ⊎ ((r : ℕ) × (Some p ≡ Some r) × IsInRange R q r)) [
-          | inl is ↦ inr (p, refl, up-range trees q p is)
-          | inr far ↦ inr (p, refl, further-range trees q far.0 p far.2 (up-range trees far.0 p far.1))
-        ]
+        | inl is ↦ inr (p, refl, up-range trees q p is)
+        | inr far ↦ inr (p, refl, further-range trees q far.0 p far.2 (up-range trees far.0 p far.1))
+      ]
     ]
 
 ancestors-all : (trees : HtmlForest) (q : ℕ) (f p : ℕ) → p < f → (p ≡ q) ⊎ IsInRange (rows_of trees) q p → Contains (ancestors_from (rows_of trees) f (Some p)) q
@@ -235,12 +245,13 @@ up-in trees q (Some p) c = ancestors-in trees q (suc p) (Some p) c
 
 pub ancestors_ranges : (trees : HtmlForest) (n q : ℕ) → Contains (ancestors_at (rows_of trees) n) q ↔ IsInRange (rows_of trees) q n
 ancestors_ranges trees n q =
-    let R = rows_of trees in
-    (λ c. elim (up-in trees q (parent_at R n) c) as (λ _. IsInRange R q n) [
-      | inl is ↦ up-range trees q n is
-      | inr far ↦ further-range trees q far.0 n far.2 (up-range trees far.0 n far.1)
-    ],
-    λ range. elim (range-up trees q n range) as (λ _. Contains (ancestors_at R n) q) [
-      | inl is ↦ subst (λ o. Contains (ancestors_up_from R o) q) (sym is) (ancestors-all trees q (suc q) q (omega arith) (inl refl))
-      | inr far ↦ subst (λ o. Contains (ancestors_up_from R o) q) (sym far.1) (ancestors-all trees q (suc far.0) far.0 (omega arith) (inr far.2))
-    ])
+    let R = rows_of trees in (
+      λ c. elim (up-in trees q (parent_at R n) c) as (λ _. IsInRange R q n) [
+        | inl is ↦ up-range trees q n is
+        | inr far ↦ further-range trees q far.0 n far.2 (up-range trees far.0 n far.1)
+      ],
+      λ range. elim (range-up trees q n range) as (λ _. Contains (ancestors_at R n) q) [
+        | inl is ↦ subst (λ o. Contains (ancestors_up_from R o) q) (sym is) (ancestors-all trees q (suc q) q (omega arith) (inl refl))
+        | inr far ↦ subst (λ o. Contains (ancestors_up_from R o) q) (sym far.1) (ancestors-all trees q (suc far.0) far.0 (omega arith) (inr far.2))
+      ],
+    )

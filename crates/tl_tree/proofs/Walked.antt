@@ -1,10 +1,10 @@
 -- A step of a walk over rows.
-use Rattle.std.proofs.Common.{Bool, IsTrue, List, None, Option, Some, [], ap, arith, false, inl, inr, map, nat_le, nat_lt, refl, slice_get, subst, suc, sym, true, zero, ℕ, ◌&&◌, ◌+◌, ◌-◌, ◌<◌, ◌∙◌, ◌≡◌, ◌≤◌, ◌⊎◌, ◌∷◌}
+use Rattle.std.proofs.Common.{Bool, IsTrue, List, None, Option, Some, [], ap, arith, false, inl, inr, nat_le, nat_lt, refl, slice_get, subst, suc, sym, true, zero, ℕ, ◌&&◌, ◌+◌, ◌-◌, ◌<◌, ◌∙◌, ◌≡◌, ◌≤◌, ◌⊎◌, ◌∷◌}
 use Rattle.std.proofs.lemmas.Bool.{and_parts, leb-true, lt-ltb, ltb-true}
 use Rattle.std.proofs.lemmas.Option.{none-some, same_Some, slice_get-map}
 use Rattle.std.specs.Option.{option_and_then, option_map, unwrap_or}
 use Rattle.tl_tree.specs.Asked.{ancestors_from, ancestors_up_from, end_at, end_or, parent_at, siblings_from, siblings_up_to}
-use Rattle.tl_tree.specs.Inner.RowView.{are_in_order, held_in, parent_of, row_in}
+use Rattle.tl_tree.specs.Inner.RowView.{are_in_order, parent_of, row_in}
 use Rattle.tl_tree.specs.Inner.Store.{text_of}
 use Rattle.tl_tree.specs.Rows.{Row}
 use Rattle.tl_tree.specs.TreeView.{rows_in}

@@ -1,5 +1,5 @@
 -- What is in range stays so where there is more.
-use Rattle.std.proofs.Common.{add-zero, ap, arith, inl, inr, sym, subst, ◌∙◌, ◌≡◌, ◌+◌, ◌≤◌, ◌<◌, ◌++◌, ◌&&◌, ◌||◌, ◌∷◌, [], Bool, false, true, IsTrue, List, None, Option, Some, cond, length, nat_le, nat_lt, refl, slice_get, suc, zero, ℕ}
+use Rattle.std.proofs.Common.{add-zero, arith, inl, inr, sym, subst, ◌≡◌, ◌+◌, ◌≤◌, ◌++◌, ◌&&◌, ◌||◌, ◌∷◌, [], Bool, false, true, IsTrue, List, None, Option, Some, cond, length, nat_le, nat_lt, refl, slice_get, suc, zero, ℕ}
 use Rattle.std.proofs.lemmas.Bool.{and_from, and_parts, le-leb, leb-true, lt-ltb, ltb-true, or_cases}
 use Rattle.std.proofs.lemmas.Option.{same_Some}
 use Rattle.tl_tree.specs.Inner.Within.{Sizes, attribute_is_within, cell_is_within, cells_are_within, doctype_is_within, id_is_within, node_is_within, span_is_within, tag_is_within}

@@ -6,4 +6,5 @@ pub mod RowView
 pub mod Settling
 pub mod Seating
 pub mod Framed
+pub mod Tests
 pub mod Frames

@@ -1,5 +1,5 @@
--- The rows of trees: their nodes in the order of the page. Each knows the row that it stands in, and
--- where the rows below it end, so that what is below a row is a range of numbers.
+-- The rows of trees: their nodes in the order of the page. Each knows the row that it stands in,
+-- and where the rows below it end, so that what is below a row is a range of numbers.
 use Rattle.std.specs.Prelude.{Bool, List, None, Option, Some, [], false, slice_get, true, ℕ, ◌+◌, ◌++◌, ◌<◌, ◌≡◌, ◌∷◌}
 use Rattle.tl_dom_spec.specs.HtmlForest.{HtmlForest, comment, doctype, element, has_contents, no_trees, text}
 use Rattle.tl_dom_spec.specs.Tags.{Tag}

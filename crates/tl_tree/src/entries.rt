@@ -1,5 +1,9 @@
 //! Tags, attributes and doctypes, as the store has them.
 
+ghost use Rattle.std.specs.Prelude.{false, true, ◌≡◌};
+ghost use Rattle.tl_dom_spec.specs.Tags.{by_space};
+ghost use Rattle.tl_tree.specs.Inner.Store.{space_of};
+
 use crate::span::Span;
 
 /// The namespaces of elements.
@@ -8,6 +12,18 @@ pub(crate) enum Namespace {
     Html,
     Math,
     Svg,
+}
+
+impl Namespace {
+    pub(crate) fn is_html(self) -> bool
+        ensures { result ≡ by_space (space_of self) true false false }
+    {
+        match self {
+            Namespace::Html => true,
+            Namespace::Math => false,
+            Namespace::Svg => false,
+        }
+    }
 }
 
 /// The namespaces of attributes.

@@ -1,4 +1,5 @@
 //! Elements that are still open, as frames of a path.
+ghost use Rattle.std.specs.Prelude.{◌≡◌};
 
 /// A frame of the path, by its number. It is looked for at a depth first, which is how many frames
 /// stood around it: a hint, on which no answer depends.
@@ -6,6 +7,20 @@
 pub(crate) struct Mark {
     pub(crate) number: u32,
     pub(crate) depth: u32,
+}
+
+impl Mark {
+    pub(crate) fn new(number: u32, depth: usize) -> Mark
+        ensures { result.number ≡ number }
+    {
+        if depth > u32::MAX as usize {
+            return Mark { number, depth: 0 };
+        }
+        Mark {
+            number,
+            depth: depth as u32,
+        }
+    }
 }
 
 /// Where a node goes: to the end of what is next on the path, or of a frame further out, or behind

@@ -20,7 +20,7 @@ mod settle;
 mod settling;
 mod span;
 mod store;
-mod text;
+mod test;
 mod tree;
 mod walks;
 

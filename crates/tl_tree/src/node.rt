@@ -3,7 +3,6 @@
 use crate::kind::Kind;
 use crate::row::Held;
 use crate::span::Span;
-use crate::text::bytes_at;
 use crate::tree::Tree;
 
 impl<'p> Tree<'p> {
@@ -105,16 +104,18 @@ impl<'p> Tree<'p> {
     }
 
     // The bytes of the text of the store.
+    #[tactic(auto, unfolding(crate::specs::Inner::Store::bytes_of))]
     fn bytes(&self, span: Span) -> &[u8]
         requires { IsTrue (is_span self.now.store span) }
         ensures { result.now ≡ bytes_in (text_of_store self.now.store) span }
     {
-        bytes_at(self.store.page, self.store.side.as_slice(), span)
+        self.store.bytes(span)
     }
 
     /// The name of an element, as the tree has it: of an HTML element in lower case.
     pub fn name(&self, number: usize) -> Option<&[u8]>
-        ensures { option_copied result ≡ option_and_then name_of (node_at (rows_in self.now) number) }
+        ensures { option_copied result
+            ≡ option_and_then name_of (node_at (rows_in self.now) number) }
     {
         let Held::Element(tag) = self.rows.get(number)?.held else {
             return None;
@@ -124,7 +125,8 @@ impl<'p> Tree<'p> {
 
     /// What a text or a comment says.
     pub fn text(&self, number: usize) -> Option<&[u8]>
-        ensures { option_copied result ≡ option_and_then text_of (node_at (rows_in self.now) number) }
+        ensures { option_copied result
+            ≡ option_and_then text_of (node_at (rows_in self.now) number) }
     {
         match self.rows.get(number)?.held {
             Held::Text(span) | Held::Comment(span) => Some(self.bytes(span)),

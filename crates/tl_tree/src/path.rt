@@ -14,6 +14,7 @@ use crate::error::ReadError;
 use crate::frame::{Frame, Mark, Place};
 use crate::span::Span;
 use crate::store::Store;
+use crate::test::{TagTest, Test};
 use std::alloc::Global;
 
 /// The path, with the outermost frame first, and the store that its frames refer to.
@@ -34,12 +35,14 @@ pub(crate) struct FramePath<'a> {
 
 impl<'a> FramePath<'a> {
     ghost use Rattle.std.specs.List.{list_any};
-    ghost use Rattle.std.specs.Prelude.{IfOk, IfSome, None, OnOk, Some, [], false, slice_get, slice_index_or, slice_set, take, ◌-◌, ◌∷◌, ◌≡◌};
-    ghost use Rattle.tl_dom_spec.specs.Path.{behind, caught_up, document, here, into, joined, put, settled_at, with_nodes, with_waiting};
+    ghost use Rattle.std.specs.Prelude.{IfOk, IfSome, None, OnOk, Some, [], false, reverse, slice_get, slice_index_or, slice_set, take, true, ◌+◌, ◌-◌, ◌^◌, ◌∷◌, ◌≡◌};
+    ghost use Rattle.tl_dom_spec.specs.Path.{and_element, at_number, behind, caught_up, document, elements, foster_place, has_open, has_within, here, implied_closed, into, is_open_number, joined, new_frame, no_nodes, place_in, popped, popped_through, popped_to, popped_while, put, settled_at, taken_out, top, top_settled, with_nodes, with_waiting, within};
+    ghost use Rattle.tl_dom_spec.specs.Builder.{pushed_at};
     ghost use Rattle.tl_dom_spec.specs.Path as dom;
     ghost use Rattle.tl_tree.specs.Inner.Framed.{is_numbered, numbers};
-    ghost use Rattle.tl_tree.specs.Inner.Frames.{changed, frame_of, frames_of, is_frame, path_of, place_of};
-    ghost use Rattle.tl_tree.specs.Inner.Store.{Grows, is_node, is_row, node_of, nodes_of};
+    ghost use Rattle.tl_tree.specs.Inner.Frames.{changed, closed, fostered, frame_of, frames_of, is_frame, path_of, place_of, sought, test_of, test_or_other};
+    ghost use Rattle.tl_tree.specs.Inner.Tests.{tag_test_of};
+    ghost use Rattle.tl_tree.specs.Inner.Store.{Grows, is_node, is_row, is_tag_number, node_of, nodes_of, tag_at};
 
     /// The document alone.
     pub(crate) fn new(alloc: Global, page: &'a [u8]) -> Result<FramePath<'a>, ReadError>
@@ -132,7 +135,8 @@ impl<'a> FramePath<'a> {
     // What waited in a frame stands behind its children.
     fn catch_up(&mut self, index: usize) -> Result<(), ReadError>
         requires index { index < length self.old.frames.items }
-        ensures ok { OnOk result (frames_of self.new ≡ changed index caught_up (frames_of self.old)) }
+        ensures ok { OnOk result
+            (frames_of self.new ≡ changed index caught_up (frames_of self.old)) }
         ensures len { length self.new.frames.items ≡ length self.old.frames.items }
         ensures next { self.new.next ≡ self.old.next }
         ensures grows { Grows self.old.store self.new.store }
@@ -293,5 +297,373 @@ impl<'a> FramePath<'a> {
             tag: frame.tag,
             below,
         })
+    }
+
+    /// The innermost frame is settled; the document stays.
+    pub(crate) fn settle_top(&mut self) -> Result<(), ReadError>
+        ensures ok { OnOk result (path_of self.new ≡ top_settled (path_of self.old)) }
+        ensures next { self.new.next ≡ self.old.next }
+        ensures grows { Grows self.old.store self.new.store }
+    {
+        if self.frames.len() < 2 {
+            return Ok(());
+        }
+        let frame = self.take_top();
+        let node = self.element(frame)?;
+        self.settle_at(frame.place, node)
+    }
+
+    // Whether the innermost frame is settled, where those are that pass a test, or all others. The
+    // document is not.
+    fn is_settled(&self, test: Test, is_other: bool) -> bool
+        ensures yes { result ≡ true
+            → popped_while (test_or_other is_other test) (path_of self.now)
+            ≡ popped_while (test_or_other is_other test) (top_settled (path_of self.now)) }
+        ensures some { result ≡ true → 1 < length self.now.frames.items }
+        ensures no { result ≡ false
+            → popped_while (test_or_other is_other test) (path_of self.now) ≡ path_of self.now }
+    {
+        let last = self.frames.len() - 1;
+        if last == 0 {
+            return false;
+        }
+        let frame = self.frames[last];
+        if !frame.is_open {
+            return true;
+        }
+        test.passes_or_not(is_other, &self.store, frame)
+    }
+
+    // Frames are settled while they pass a test, or while they don't.
+    fn settle_while(&mut self, test: Test, is_other: bool) -> Result<(), ReadError>
+        ensures ok { OnOk result (path_of self.new
+            ≡ popped_while (test_or_other is_other test) (path_of self.old)) }
+        ensures next { self.new.next ≡ self.old.next }
+        ensures grows { Grows self.old.store self.new.store }
+    {
+        while self.is_settled(test, is_other) {
+            self.settle_top()?;
+        }
+        Ok(())
+    }
+
+    /// Elements are popped while they pass a test.
+    pub(crate) fn pop_while(&mut self, test: Test) -> Result<(), ReadError>
+        ensures ok { OnOk result (path_of self.new
+            ≡ popped_while (test_of test) (path_of self.old)) }
+        ensures next { self.new.next ≡ self.old.next }
+        ensures grows { Grows self.old.store self.new.store }
+    {
+        self.settle_while(test, false)
+    }
+
+    /// Elements are popped until the current node passes a test.
+    pub(crate) fn pop_to(&mut self, test: Test) -> Result<(), ReadError>
+        ensures ok { OnOk result (path_of self.new ≡ popped_to (test_of test) (path_of self.old)) }
+        ensures next { self.new.next ≡ self.old.next }
+        ensures grows { Grows self.old.store self.new.store }
+    {
+        self.settle_while(test, true)
+    }
+
+    /// The current node is popped.
+    pub(crate) fn pop(&mut self) -> Result<(), ReadError>
+        ensures ok { OnOk result (path_of self.new ≡ popped (path_of self.old)) }
+        ensures next { self.new.next ≡ self.old.next }
+        ensures grows { Grows self.old.store self.new.store }
+    {
+        self.settle_top()?;
+        self.settle_while(Test::Nothing, false)
+    }
+
+    /// Elements are popped until one that passes a test was popped.
+    pub(crate) fn pop_through(&mut self, test: Test) -> Result<(), ReadError>
+        ensures ok { OnOk result (path_of self.new
+            ≡ popped_through (test_of test) (path_of self.old)) }
+        ensures next { self.new.next ≡ self.old.next }
+        ensures grows { Grows self.old.store self.new.store }
+    {
+        self.pop_to(test)?;
+        self.pop()
+    }
+
+    // The frame at a place leaves the stack.
+    fn close(&mut self, index: usize)
+        requires { index < length self.old.frames.items }
+        ensures frames { frames_of self.new ≡ changed index closed (frames_of self.old) }
+        ensures store { self.new.store ≡ self.old.store }
+        ensures next { self.new.next ≡ self.old.next }
+    {
+        let frame = self.frames[index];
+        self.write(
+            index,
+            Frame {
+                is_open: false,
+                ..frame
+            },
+        );
+    }
+
+    // The frame of a number leaves the stack.
+    fn leave(&mut self, mark: Mark)
+        ensures path { path_of self.new ≡ at_number mark.number closed (path_of self.old) }
+        ensures store { self.new.store ≡ self.old.store }
+        ensures next { self.new.next ≡ self.old.next }
+    {
+        match self.find(mark) {
+            Some(index) => self.close(index),
+            None => {}
+        }
+    }
+
+    /// An element leaves the stack, from between others too.
+    pub(crate) fn take_out(&mut self, mark: Mark) -> Result<(), ReadError>
+        ensures ok { OnOk result (path_of self.new ≡ taken_out mark.number (path_of self.old)) }
+        ensures next { self.new.next ≡ self.old.next }
+        ensures grows { Grows self.old.store self.new.store }
+    {
+        self.leave(mark);
+        self.settle_while(Test::Nothing, false)
+    }
+
+    // A new element stands on the path.
+    fn push(&mut self, place: Place, tag: u32) -> Result<(), ReadError>
+        requires { IsTrue (is_tag_number self.old.store tag) }
+        ensures ok { OnOk result (path_of self.new
+            ≡ new_frame self.old.next (tag_at self.old.store tag) (place_of place)
+            ∷ path_of self.old) }
+        ensures next { OnOk result (self.new.next ≡ self.old.next + 1) }
+        ensures store { self.new.store ≡ self.old.store }
+    {
+        let number = self.next;
+        if number == u32::MAX {
+            return Err(ReadError::TooLarge);
+        }
+        self.next = number + 1;
+        self.frames.push(Frame {
+            number,
+            tag,
+            children: 0,
+            waiting: 0,
+            place,
+            is_open: true,
+        })?;
+        Ok(())
+    }
+
+    // A new element stands on the path, behind what waited in the current node.
+    fn push_on_top(&mut self, tag: u32) -> Result<(), ReadError>
+        requires { IsTrue (is_tag_number self.old.store tag) }
+        ensures ok { OnOk result (path_of self.new
+            ≡ pushed_at here (new_frame self.old.next (tag_at self.old.store tag) here)
+            (path_of self.old)) }
+        ensures next { OnOk result (self.new.next ≡ self.old.next + 1) }
+        ensures grows { Grows self.old.store self.new.store }
+    {
+        let top = self.frames.len() - 1;
+        self.catch_up(top)?;
+        self.push(Place::Here, tag)
+    }
+
+    /// An element is inserted at a place, and is the current node then.
+    pub(crate) fn insert_element(&mut self, place: Place, tag: u32) -> Result<(), ReadError>
+        requires { IsTrue (is_tag_number self.old.store tag) }
+        ensures ok { OnOk result (path_of self.new
+            ≡ pushed_at (place_of place)
+            (new_frame self.old.next (tag_at self.old.store tag) (place_of place))
+            (path_of self.old)) }
+        ensures next { OnOk result (self.new.next ≡ self.old.next + 1) }
+        ensures grows { Grows self.old.store self.new.store }
+    {
+        match place {
+            Place::Here => self.push_on_top(tag),
+            Place::Into(_) => self.push(place, tag),
+            Place::Behind(_) => self.push(place, tag),
+        }
+    }
+
+    /// An element is inserted at a place, and popped at once.
+    pub(crate) fn insert_and_pop(&mut self, place: Place, tag: u32) -> Result<(), ReadError>
+        requires { IsTrue (is_tag_number self.old.store tag) }
+        ensures ok { OnOk result (path_of self.new
+            ≡ put (place_of place) (and_element no_nodes (tag_at self.old.store tag) no_nodes)
+            (path_of self.old)) }
+        ensures next { OnOk result (self.new.next ≡ self.old.next + 1) }
+        ensures grows { Grows self.old.store self.new.store }
+    {
+        if self.next == u32::MAX {
+            return Err(ReadError::TooLarge);
+        }
+        self.put(place, Node::Element { tag, below: 0 })?;
+        self.count_one();
+        Ok(())
+    }
+
+    // A number is given out.
+    fn count_one(&mut self)
+        requires { self.old.next + 1 < 2 ^ 32 }
+        ensures frames { frames_of self.new ≡ frames_of self.old }
+        ensures next { self.new.next ≡ self.old.next + 1 }
+        ensures store { self.new.store ≡ self.old.store }
+    {
+        self.next += 1;
+    }
+
+    /// The current node, or the document.
+    pub(crate) fn top(&self) -> Frame
+        ensures stands { frame_of self.now.store result ≡ top (path_of self.now) }
+        ensures within { IsTrue (is_frame self.now result) }
+    {
+        self.frames[self.frames.len() - 1]
+    }
+
+    // What a search says at a frame, where it passes the test or bounds the search.
+    fn answer_at(&self, index: usize, test: Test, bounds: Test) -> Option<bool>
+        requires { index < length self.now.frames.items }
+        ensures some { IfSome result
+            (λ found. sought (test_of test) (test_of bounds) self.now (index + 1) ≡ found) }
+        ensures none { result ≡ None
+            → sought (test_of test) (test_of bounds) self.now (index + 1)
+            ≡ sought (test_of test) (test_of bounds) self.now index }
+    {
+        let frame = self.frames[index];
+        if !frame.is_open {
+            return None;
+        }
+        if test.passes(&self.store, frame) {
+            return Some(true);
+        }
+        if bounds.passes(&self.store, frame) {
+            return Some(false);
+        }
+        None
+    }
+
+    /// Whether an element of the stack passes a test, before one that bounds the search. Here the
+    /// path is walked.
+    pub(crate) fn is_within(&self, test: Test, bounds: Test) -> bool
+        ensures { result
+            ≡ within (test_of test) (test_of bounds) (elements (path_of self.now)) }
+    {
+        let mut index = self.frames.len();
+        while index > 0 {
+            index -= 1;
+            match self.answer_at(index, test, bounds) {
+                Some(found) => return found,
+                None => {}
+            }
+        }
+        false
+    }
+
+    // The frame around the one at a place; around the outermost none is.
+    fn mark_around(&self, index: usize) -> Mark
+        requires { index < length self.now.frames.items }
+        ensures { result.number ≡ (top (reverse (take index (frames_of self.now)))).number }
+    {
+        if index == 0 {
+            return Mark {
+                number: 0,
+                depth: 0,
+            };
+        }
+        let outer = index - 1;
+        let frame = self.frames[outer];
+        Mark::new(frame.number, outer)
+    }
+
+    // The place of an element, with the frame around it.
+    fn place_around(&self, index: usize, place: Place) -> Place
+        requires { index < length self.now.frames.items }
+        ensures { place_of result
+            ≡ dom.place_of (place_of place) (reverse (take index (frames_of self.now))) }
+    {
+        match place {
+            Place::Here => Place::Into(self.mark_around(index)),
+            Place::Into(mark) => Place::Into(mark),
+            Place::Behind(mark) => Place::Behind(mark),
+        }
+    }
+
+    // Where a node is foster parented, where a frame says so.
+    fn foster_place_at(&self, index: usize) -> Option<Place>
+        requires { index < length self.now.frames.items }
+        ensures some { IfSome result
+            (λ place. fostered self.now (index + 1) ≡ place_of place) }
+        ensures none { result ≡ None
+            → fostered self.now (index + 1) ≡ fostered self.now index }
+    {
+        let frame = self.frames[index];
+        if !frame.is_open {
+            return None;
+        }
+        let template = Test::Tag(TagTest::Any(b"template"));
+        if template.passes(&self.store, frame) {
+            return Some(Place::Behind(Mark::new(frame.number, index)));
+        }
+        let table = Test::Tag(TagTest::Any(b"table"));
+        if table.passes(&self.store, frame) {
+            return Some(self.place_around(index, frame.place));
+        }
+        None
+    }
+
+    /// Where a node is foster parented: in a template, before a table, or in the `html` element.
+    pub(crate) fn foster_place(&self) -> Place
+        ensures { place_of result ≡ foster_place (path_of self.now) }
+    {
+        let mut index = self.frames.len();
+        while index > 0 {
+            index -= 1;
+            match self.foster_place_at(index) {
+                Some(place) => return place,
+                None => {}
+            }
+        }
+        Place::Behind(Mark::new(1, 1))
+    }
+
+    /// Where a node goes: here, or where it is foster parented.
+    pub(crate) fn place_in(&self, is_fostering: bool) -> Place
+        ensures { place_of result ≡ place_in is_fostering (path_of self.now) }
+    {
+        let targets = Test::Tag(TagTest::Any(b"table tbody tfoot thead tr"));
+        if is_fostering && targets.passes(&self.store, self.top()) {
+            self.foster_place()
+        } else {
+            Place::Here
+        }
+    }
+
+    /// Whether an element is open in a scope that these bound.
+    pub(crate) fn has_within(&self, test: TagTest, bounds: TagTest) -> bool
+        ensures { result
+            ≡ has_within (tag_test_of test) (tag_test_of bounds) (path_of self.now) }
+    {
+        self.is_within(Test::Tag(test), Test::Tag(bounds))
+    }
+
+    /// Whether an element is open.
+    pub(crate) fn has_open(&self, test: TagTest) -> bool
+        ensures { result ≡ has_open (tag_test_of test) (path_of self.now) }
+    {
+        self.is_within(Test::Tag(test), Test::Nothing)
+    }
+
+    /// Whether the element of a number is open.
+    pub(crate) fn is_open_number(&self, number: u32) -> bool
+        ensures { result ≡ is_open_number number (path_of self.now) }
+    {
+        self.is_within(Test::Number(number), Test::Nothing)
+    }
+
+    /// Implied end tags are generated, but for elements that pass a test.
+    pub(crate) fn close_implied(&mut self, but: TagTest) -> Result<(), ReadError>
+        ensures ok { OnOk result (path_of self.new
+            ≡ implied_closed (tag_test_of but) (path_of self.old)) }
+        ensures next { self.new.next ≡ self.old.next }
+        ensures grows { Grows self.old.store self.new.store }
+    {
+        self.settle_while(Test::ImpliedBut(but), false)
     }
 }

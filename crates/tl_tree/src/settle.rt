@@ -25,7 +25,6 @@ use crate::seat::seat;
 use crate::settling::{Opened, Settled, Settling};
 use crate::span::Span;
 use crate::store::Store;
-use crate::text::bytes_at;
 use crate::tree::Tree;
 use std::alloc::Global;
 
@@ -240,15 +239,19 @@ impl<'s, 'p> Settling<'s, 'p> {
 
 /// Copies the pieces of a text, which are listed from the last to the first.
 fn copy(store: &Store<'_>, pieces: &[Span], copied: &mut Vec<u8>) -> Result<(), ReadError>
-    requires short { length store.now.page.now + (length store.now.side.items + length copied.old.items) < 2 ^ 32 }
+    requires short { length store.now.page.now
+        + (length store.now.side.items + length copied.old.items) < 2 ^ 32 }
     requires within { IsTrue (list_all (is_span store.now) pieces.now) }
-    ensures copied { OnOk result (copied.new.items ≡ copied.old.items ++ text_of_pieces store.now pieces.now) }
-    ensures short { OnOk result (length store.now.page.now + (length store.now.side.items + length copied.new.items) < 2 ^ 32) }
+    ensures copied { OnOk result
+        (copied.new.items ≡ copied.old.items ++ text_of_pieces store.now pieces.now) }
+    ensures short { OnOk result
+        (length store.now.page.now
+        + (length store.now.side.items + length copied.new.items) < 2 ^ 32) }
 {
     let mut left = pieces.len();
     while left > 0 {
         left -= 1;
-        let bytes = bytes_at(store.page, store.side.as_slice(), pieces[left]);
+        let bytes = store.bytes(pieces[left]);
         let len = store.page.len() + (store.side.len() + copied.len());
         if bytes.len() > u32::MAX as usize - len {
             return Err(ReadError::TooLarge);
@@ -265,9 +268,7 @@ fn is_template(store: &Store<'_>, tag: u32) -> bool
 {
     let entry = store.tags[tag as usize];
     match entry.space {
-        Namespace::Html => {
-            bytes_at(store.page, store.side.as_slice(), entry.name) == b"template".as_slice()
-        }
+        Namespace::Html => store.bytes(entry.name) == b"template".as_slice(),
         _ => false,
     }
 }

@@ -182,4 +182,28 @@ impl<'a> Store<'a> {
         self.doctypes.push(doctype)?;
         Ok(number as u32)
     }
+
+    /// The tag of a number.
+    pub(crate) fn tag(&self, number: u32) -> TagEntry
+        requires { IsTrue (is_tag_number self.now number) }
+        ensures stands { tag_of self.now result ≡ tag_at self.now number }
+        ensures within { IsTrue (is_tag self.now result) }
+    {
+        self.tags[number as usize]
+    }
+
+    /// Bytes of the text.
+    pub(crate) fn bytes(&self, span: Span) -> &[u8]
+        requires { IsTrue (is_span self.now span) }
+        ensures { result.now ≡ bytes_of self.now span }
+    {
+        let start = span.start as usize;
+        let end = start + span.len as usize;
+        let before = self.page.len();
+        if end <= before {
+            &self.page[start..end]
+        } else {
+            &self.side[start - before..end - before]
+        }
+    }
 }

@@ -1,13 +1,17 @@
 -- What a path of frames stands for, in words of `tl_dom_spec`.
-use Rattle.std.specs.Prelude.{Bool, List, [], length, map, reverse, suc, zero, ℕ, ◌∷◌}
+use Rattle.std.specs.Prelude.{Bool, List, [], false, if◌then◌else◌, length, map, not, reverse, suc, take, zero, ℕ, ◌&&◌, ◌∷◌}
 use Rattle.tl_dom_spec.specs.Path as dom
+use Rattle.tl_dom_spec.specs.Tags.{is_implied}
 use Rattle.tl_tree.specs.Inner.Framed.{frame_is_within}
 use Rattle.tl_tree.specs.Inner.Store.{nodes_of, tag_at}
+use Rattle.tl_tree.specs.Inner.Tests.{tag_test_of}
 use Rattle.tl_tree.specs.declared.frame.Frame.{Frame}
 use Rattle.tl_tree.specs.declared.frame.Place.{Place}
 use Rattle.tl_tree.specs.declared.frame.Place.TheVariants.{Behind, Here, Into}
 use Rattle.tl_tree.specs.declared.path.FramePath.{FramePath}
 use Rattle.tl_tree.specs.declared.store.Store.{Store}
+use Rattle.tl_tree.specs.declared.test.Test.{Test}
+use Rattle.tl_tree.specs.declared.test.Test.TheVariants.{ImpliedBut, Nothing, Number, Tag}
 
 abbrev pub place_of : Place → dom.Place
 place_of Here = dom.here
@@ -40,3 +44,25 @@ abbrev pub changed : ℕ → (dom.Frame → dom.Frame) → List dom.Frame → Li
 changed n change [] = []
 changed zero change (f ∷ frames) = change f ∷ frames
 changed (suc n) change (f ∷ frames) = f ∷ changed n change frames
+
+abbrev pub test_of : Test → dom.Frame → Bool
+test_of Nothing = dom.no_frame
+test_of (Number k) = dom.has_number k
+test_of (Tag test) = dom.has_tag (tag_test_of test)
+test_of (ImpliedBut but) = λ (f : dom.Frame). is_implied f.tag && not (tag_test_of but f.tag)
+
+-- a test, or one for all others
+abbrev pub test_or_other : Bool → Test → dom.Frame → Bool
+test_or_other is_other test f = if is_other then not (test_of test f) else test_of test f
+
+-- an element that left the stack
+abbrev pub closed : dom.Frame → dom.Frame
+closed f = record f { is_open = false }
+
+-- what a search through so many of the outermost frames says
+unfoldable pub sought : (dom.Frame → Bool) → (dom.Frame → Bool) → FramePath → ℕ → Bool
+sought test bounds p n = dom.within test bounds (dom.elements (reverse (take n (frames_of p))))
+
+-- where a node is foster parented, as so many of the outermost frames say
+unfoldable pub fostered : FramePath → ℕ → dom.Place
+fostered p n = dom.foster_place (reverse (take n (frames_of p)))

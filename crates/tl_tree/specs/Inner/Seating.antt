@@ -7,7 +7,8 @@ use Rattle.tl_tree.specs.declared.row.Row.{Row}
 pub record IsInnermost (rows : List Row) (number parent : ℕ) : Type 0 where
   pub before : parent ≤ number
   pub holds : (p : ℕ) (row : Row) → parent ≡ suc p → slice_get rows p ≡ Some row → number < row.end
-  pub inner : (k : ℕ) (row : Row) → slice_get rows k ≡ Some row → k < number → number < row.end → k < parent
+  pub inner : (k : ℕ) (row : Row) → slice_get rows k ≡ Some row → k < number →
+      number < row.end → k < parent
 
 -- each stands in the innermost one
 abbrev pub Chained : List Row → Type 0

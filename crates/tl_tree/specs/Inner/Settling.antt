@@ -31,7 +31,8 @@ opened_is_within s (opened.Element tag before behind) = is_tag_number s tag && i
 opened_is_within s (opened.Row before) = is_row s before
 
 pub record Sound (g : Settling) : Type 0 where
-  pub short : length g.store.now.page.now + (length g.store.now.side.items + length g.copied.items) < 2 ^ 32
+  pub short : length g.store.now.page.now
+      + (length g.store.now.side.items + length g.copied.items) < 2 ^ 32
   pub few : length g.rows.items < 2 ^ 32
   pub rows : IsTrue (list_all (row_is_within (sizes_with g.store.now g.copied.items)) g.rows.items)
   pub pieces : IsTrue (list_all (is_span g.store.now) g.pieces.items)
@@ -107,7 +108,8 @@ held_weight s _ = 0
 pub record Pushes (old new : Settling) (held : Held) (behind : ℕ) : Type 0 where
   pub sound : Sound new
   pub store : new.store ≡ old.store
-  pub rows : flats_of new ≡ flats_of old ++ flat (held_in old.store.now (text_with old.store.now old.copied.items) held) behind ∷ []
+  pub rows : flats_of new ≡ flats_of old
+      ++ flat (held_in old.store.now (text_with old.store.now old.copied.items) held) behind ∷ []
   pub copied : new.copied.items ≡ old.copied.items
   pub pieces : new.pieces.items ≡ old.pieces.items
   pub stack : new.stack.items ≡ old.stack.items
@@ -116,8 +118,12 @@ pub record Pushes (old new : Settling) (held : Held) (behind : ℕ) : Type 0 whe
 pub record Copies (old new : Settling) (span : Span) : Type 0 where
   pub sound : Sound new
   pub store : new.store ≡ old.store
-  pub within : IsTrue (span_is_within (length old.store.now.page.now) (length old.store.now.side.items + length new.copied.items) span)
-  pub bytes : bytes_in (text_with old.store.now new.copied.items) span ≡ text_of_pieces old.store.now old.pieces.items
+  pub within : IsTrue
+      (span_is_within (length old.store.now.page.now)
+      (length old.store.now.side.items + length new.copied.items)
+      span)
+  pub bytes : bytes_in (text_with old.store.now new.copied.items) span
+      ≡ text_of_pieces old.store.now old.pieces.items
   pub rows : flats_of new ≡ flats_of old
   pub pieces : new.pieces.items ≡ old.pieces.items
   pub stack : new.stack.items ≡ old.stack.items
@@ -135,7 +141,8 @@ pub record Goes (old new : Settling) (nodes : Nodes) (weight : ℕ) (next : ℕ)
   pub store : new.store ≡ old.store
   pub within : IsTrue (is_row new.store.now next)
   pub whole : whole_of new (nodes_of new.store.now next) ≡ whole_of old nodes
-  pub less : weight_of new.store.now next + stack_weight new.store.now new.stack.items + 1 ≡ weight + stack_weight old.store.now old.stack.items
+  pub less : weight_of new.store.now next + stack_weight new.store.now new.stack.items + 1
+      ≡ weight + stack_weight old.store.now old.stack.items
 
 -- no row of nodes is next: all is written
 pub record Ends (old new : Settling) (nodes : Nodes) : Type 0 where
@@ -151,4 +158,5 @@ pub record AreRowsOf (s : Store) (n : ℕ) (made : Settled) : Type 0 where
   pub short : length s.page.now + (length s.side.items + length made.copied.items) < 2 ^ 32
   pub few : length made.rows.items < 2 ^ 32
   pub within : IsTrue (list_all (row_is_within (sizes_with s made.copied.items)) made.rows.items)
-  pub rows : map (row_in s (text_with s made.copied.items)) made.rows.items ≡ rows_of (before (nodes_of s n) no_trees)
+  pub rows : map (row_in s (text_with s made.copied.items)) made.rows.items
+      ≡ rows_of (before (nodes_of s n) no_trees)

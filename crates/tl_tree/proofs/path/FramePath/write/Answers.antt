@@ -1,4 +1,4 @@
-use Rattle.std.proofs.Common.{◌<◌, IsTrue, arith, get_or, length, nat_lt, refl, subst, sym, ℕ}
+use Rattle.std.proofs.Common.{IsTrue, arith, get_or, nat_lt, refl, subst, sym, ℕ}
 use Rattle.std.proofs.lemmas.List.{length-set}
 use Rattle.tl_tree.proofs.Numbered.{distinct-set}
 use Rattle.tl_tree.proofs.Written.{all-at, all-set}
