@@ -1,1 +1,5 @@
 pub mod Inner
+pub mod Rows
+pub mod TreeView
+pub mod Asked
+pub mod Examples

@@ -8,15 +8,28 @@
 mod cell;
 mod entries;
 mod error;
+mod examples;
 mod frame;
+mod kind;
+mod laws;
+mod node;
 mod path;
 mod places;
+mod row;
 mod said;
 mod said_attributes;
 mod said_bytes;
 mod said_places;
+mod seat;
+mod settle;
+mod settling;
 mod span;
 mod store;
 mod test;
+mod tree;
+mod walks;
 
 pub use error::ReadError;
+pub use kind::Kind;
+pub use tree::Tree;
+pub use walks::{Ancestors, Children};

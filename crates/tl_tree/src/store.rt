@@ -107,6 +107,7 @@ impl<'a> Store<'a> {
     /// Puts bytes behind the text.
     pub(crate) fn add_bytes(&mut self, bytes: &[u8]) -> Result<Span, ReadError>
         ensures stands { IfOk result (λ span. bytes_of self.new span ≡ bytes.now) }
+        ensures appends { OnOk result (self.new.side.items ≡ self.old.side.items ++ bytes.now) }
         ensures within { IfOk result (λ span. IsTrue (is_span self.new span)) }
         ensures grows { Grows self.old self.new }
         ensures too_large { result ≡ Err ReadError.TooLarge

@@ -1,0 +1,62 @@
+-- What is asked of rows.
+use Rattle.std.proofs.Common.{IsTrue, List, None, Option, Some, ap, arith, false, get_or, length, nat_lt, refl, slice_get, subst, sym, true, ℕ, ◌<◌, ◌∙◌, ◌≡◌, ◌↔◌}
+use Rattle.std.proofs.lemmas.Bool.{lt-ltb, ltb-true}
+use Rattle.std.proofs.lemmas.Option.{none-some, same_Some, slice_get-map, slice_get_read}
+use Rattle.std.specs.Option.{option_and_then, option_map}
+use Rattle.tl_dom_spec.specs.Tags as dom
+use Rattle.tl_tree.proofs.Seats.{all-get}
+use Rattle.tl_tree.proofs.Templates.{tag-is}
+use Rattle.tl_tree.specs.Asked.{end_at, name_of, node_at}
+use Rattle.tl_tree.specs.Inner.RowView.{bytes_in, held_in, held_is_within, row_in, row_is_within}
+use Rattle.tl_tree.specs.Inner.Store.{bytes_of, sizes_of, tag_at, tag_of, text_of}
+use Rattle.tl_tree.specs.Rows.{IsInRange, Row}
+use Rattle.tl_tree.specs.TreeView.{rows_in}
+use Rattle.tl_tree.specs.declared.entries.TagEntry.{TagEntry}
+use Rattle.tl_tree.specs.declared.row.Held.TheVariants.{Element}
+use Rattle.tl_tree.specs.declared.row.Row as code
+use Rattle.tl_tree.specs.declared.store.Store.{Store}
+use Rattle.tl_tree.specs.declared.tree.Tree.{Tree}
+
+end-found : (rows : List Row) (outer end : ℕ) (o : Option Row) → slice_get rows outer ≡ o → option_map (λ (row : Row). row.end) o ≡ Some end → (row : Row) × (slice_get rows outer ≡ Some row) × (row.end ≡ end)
+end-found rows outer end None e f = absurd (none-some end f)
+end-found rows outer end (Some row) e f = (row, e, same_Some row.end end f)
+
+pub in-range : (rows : List Row) (outer number end : ℕ) → end_at rows outer ≡ Some end → outer < number → IsTrue (nat_lt number end) ↔ IsInRange rows outer number
+in-range rows outer number end e l =
+    let found = end-found rows outer end (slice_get rows outer) refl e in (
+      λ h. (found.0, found.1, l, (let less = ltb-true number end h in let same = found.2 in omega (arith, less, same))),
+      λ range. (
+          let same = same_Some found.0 range.0 (sym found.1 ∙ range.1) in
+          let at : range.0.end ≡ end = ap (λ (row : Row). row.end) (sym same) ∙ found.2 in
+          let less = range.3 in
+          lt-ltb number end (omega (arith, less, at))),
+    )
+
+no-end : (rows : List Row) (outer : ℕ) (o : Option Row) (row : Row) → o ≡ Some row → option_map (λ (row : Row). row.end) o ≡ None → ⊥
+no-end rows outer None row e f = none-some row e
+no-end rows outer (Some own) row e f = none-some own.end (sym f)
+
+pub in-no-range : (rows : List Row) (outer number : ℕ) → end_at rows outer ≡ None → IsTrue false ↔ IsInRange rows outer number
+in-no-range rows outer number e = (
+  λ h. absurd (let f : ⊥ = cc in f),
+  λ range. absurd (no-end rows outer (slice_get rows outer) range.0 range.1 e),
+)
+
+-- The name of an element
+
+pub node-held : (t : Tree) (number : ℕ) (row : code.Row) → slice_get t.rows.items number ≡ Some row → node_at (rows_in t) number ≡ Some (held_in t.store (text_of t.store) row.held)
+node-held t number row e =
+    ap (option_map (λ (row : Row). row.node)) (slice_get-map (row_in t.store (text_of t.store)) t.rows.items number ∙ ap (option_map (row_in t.store (text_of t.store))) e)
+
+tag-named : (s : Store) (entry : TagEntry) → (tag_of s entry).name ≡ bytes_in (text_of s) entry.name
+unfolding tag_of bytes_of
+tag-named s entry = refl
+
+pub name-found : (t : Tree) (number tag : ℕ) (items : List code.Row) (row : code.Row) (entry : TagEntry) (bytes : List ℕ) → items ≡ t.rows.items → true ≡ nat_lt number (length items) → row ≡ get_or items number row → row.held ≡ Element tag → entry ≡ get_or t.store.tags.items tag entry → bytes ≡ bytes_in (text_of t.store) entry.name → Some bytes ≡ option_and_then name_of (node_at (rows_in t) number)
+name-found t number tag items row entry bytes same below got held e is =
+    let s = t.store in
+    let at : slice_get t.rows.items number ≡ Some row = subst (λ v. slice_get v number ≡ Some row) same (slice_get_read items (length items) number row refl (ltb-true number (length items) (sym below)) got) in
+    let within = all-get (row_is_within (sizes_of s)) t.rows.items number row t.rows_within at in
+    let counts : IsTrue (nat_lt tag (length s.tags.items)) = subst (λ v. IsTrue (held_is_within (sizes_of s) v)) held within in
+    let named : (tag_at s tag).name ≡ bytes = ap (λ (v : dom.Tag). v.name) (tag-is s tag entry counts e) ∙ (tag-named s entry ∙ sym is) in
+    sym (ap (option_and_then name_of) (node-held t number row at ∙ ap (λ v. Some (held_in s (text_of s) v)) held) ∙ ap (λ v. Some v) named)

@@ -1,0 +1,26 @@
+//! Rows: the nodes of a tree in the order of the page.
+
+use crate::span::Span;
+
+/// What a row has of its own. Tags and doctypes are numbers.
+#[derive(Clone, Copy)]
+pub(crate) enum Held {
+    Element(u32),
+    /// The contents of a `template`, which is the row before.
+    Contents,
+    Text(Span),
+    Comment(Span),
+    Doctype(u32),
+}
+
+/// A row has 28 bytes.
+#[derive(Clone, Copy)]
+pub(crate) struct Row {
+    pub(crate) held: Held,
+    /// The number of the row that it stands in, and one more: 0 where it stands in none.
+    pub(crate) parent: u32,
+    /// The number behind the last row below it.
+    pub(crate) end: u32,
+    /// The bytes of the page that it was read from. Not filled in yet.
+    pub(crate) source: Span,
+}

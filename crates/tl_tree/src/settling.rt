@@ -1,0 +1,38 @@
+//! Rows as they are written, from the last to the first.
+
+use crate::row::Row;
+use crate::span::Span;
+use crate::store::Store;
+
+/// What follows once a row of nodes is written.
+#[derive(Clone, Copy)]
+pub(crate) enum Opened {
+    /// The element that these nodes are below, and what stands before it. So many rows come behind
+    /// what is below it.
+    Element { tag: u32, before: u32, behind: u32 },
+    /// The row that these nodes were joined to.
+    Row(u32),
+}
+
+/// What is written of the nodes of a store. Texts that meet are one text, so pieces of a text wait
+/// until what stands before them is known.
+#[derive(Drop)]
+pub(crate) struct Settling<'s, 'p> {
+    pub(crate) store: &'s Store<'p>,
+    /// Texts of several pieces, copied behind the text of the store.
+    pub(crate) copied: Vec<u8>,
+    /// The last row first. Its `end` is the number of rows behind what is below it.
+    pub(crate) rows: Vec<Row>,
+    /// The last piece first.
+    pub(crate) pieces: Vec<Span>,
+    /// The innermost last.
+    pub(crate) stack: Vec<Opened>,
+}
+
+/// The rows of nodes, in the order of the page.
+#[derive(Drop)]
+pub(crate) struct Settled {
+    pub(crate) rows: Vec<Row>,
+    /// What their texts have behind the text of the store.
+    pub(crate) copied: Vec<u8>,
+}
