@@ -10,3 +10,6 @@ pub mod Asked
 pub mod Inserted
 pub mod Sought
 pub mod Fostered
+pub mod Actives
+pub mod ActiveNumbers
+pub mod AlikeTags

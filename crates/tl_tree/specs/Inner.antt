@@ -3,3 +3,6 @@ pub mod Within
 pub mod Store
 pub mod Framed
 pub mod Frames
+pub mod ActiveWithin
+pub mod Active
+pub mod Modes

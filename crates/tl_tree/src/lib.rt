@@ -5,10 +5,14 @@
 //! are still open are a path of frames.
 #![tactic(auto)]
 
+mod active;
+mod active_entry;
+mod alike;
 mod cell;
 mod entries;
 mod error;
 mod frame;
+mod mode;
 mod path;
 mod span;
 mod store;
