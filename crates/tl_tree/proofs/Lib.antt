@@ -26,3 +26,6 @@ pub mod Fostered
 pub mod PlacesOf
 pub mod ScopesOf
 pub mod SaidTags
+pub mod Actives
+pub mod ActiveNumbers
+pub mod AlikeTags

@@ -11,3 +11,6 @@ pub mod Frames
 pub mod Places
 pub mod Scopes
 pub mod Said
+pub mod ActiveWithin
+pub mod Active
+pub mod Modes

@@ -5,6 +5,9 @@
 //! are still open are a path of frames.
 #![tactic(auto)]
 
+mod active;
+mod active_entry;
+mod alike;
 mod cell;
 mod entries;
 mod error;
@@ -12,6 +15,7 @@ mod examples;
 mod frame;
 mod kind;
 mod laws;
+mod mode;
 mod node;
 mod path;
 mod places;
