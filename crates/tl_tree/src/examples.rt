@@ -11,7 +11,8 @@ pub fn rows_of_trees()
     ensures beside { rows (says "a" (comment (codes "b") no_trees)) ≡ codes "'a' - 1; <!--b--> - 2; " }
     ensures below { rows (an "p" (says "a" no_trees) (says "b" no_trees)) ≡ codes "p - 2; 'a' 0 2; 'b' - 3; " }
     ensures deep { rows (an "p" (an "b" (says "a" no_trees) no_trees) no_trees) ≡ codes "p - 3; b 0 3; 'a' 1 3; " }
-    ensures behind_what_is_deep { rows (an "p" (an "b" (says "a" no_trees) (says "c" no_trees)) (an "i" no_trees no_trees))
+    ensures behind_what_is_deep { rows
+        (an "p" (an "b" (says "a" no_trees) (says "c" no_trees)) (an "i" no_trees no_trees))
         ≡ codes "p - 4; b 0 3; 'a' 1 3; 'c' 0 4; i - 5; " }
     ensures template { rows (an "template" (says "a" no_trees) (says "b" no_trees)) ≡ codes "template - 3; #contents 0 3; 'a' 1 3; 'b' - 4; " }
     ensures empty_template { rows (an "template" no_trees (says "b" no_trees)) ≡ codes "template - 2; #contents 0 2; 'b' - 3; " }
