@@ -20,6 +20,16 @@ pub mod ContentsLaw
 pub mod RootNames
 pub mod Stages
 pub mod PageLaw
+pub mod SeatedPaths
+pub mod SeatedBuilders
+pub mod SeatedAdoption
+pub mod GroupNames
+pub mod Grounds
+pub mod SeatedBody
+pub mod SeatedRules
+pub mod SeatedTables
+pub mod SeatedOuter
+pub mod SeatedHead
 pub mod PartNames
 pub mod PartPaths
 pub mod PartBuilders

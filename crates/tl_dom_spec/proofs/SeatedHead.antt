@@ -1,0 +1,93 @@
+-- The rules of the modes in the head and after it, before the body: what is there is `html` with its head, and then a body is put in.
+use Rattle.std.proofs.Common.{Bool, List, [], ap, arith, codes, false, if◌then◌else◌, refl, subst, suc, sym, true, ℕ, ◌∷◌, ◌≡◌}
+use Rattle.std.specs.Char.{is_ascii_whitespace}
+use Rattle.std.proofs.lemmas.Bool.{and_parts, and_right}
+use Rattle.tl_html_spec.specs.Balanced.{is_one_of, words}
+use Rattle.tl_dom_spec.specs.Tags.{Tag, is_any, is_foster_target, is_html}
+use Rattle.tl_dom_spec.specs.Path.{Frame, Nodes, Path, Place, and_comment, and_element, and_text, caught_up, foster_place, here, into_head, joined, no_nodes, node_of, on_top, place_in, popped, put, settled, settled_at, top, with_nodes}
+use Rattle.tl_dom_spec.specs.Builder.{Builder, after_head, in_head, insert_and_pop, insert_and_pop_at, insert_character, insert_comment, with_path}
+use Rattle.tl_dom_spec.specs.Head.{head_closed}
+use Rattle.tl_dom_spec.proofs.Allowed.{Each}
+use Rattle.tl_dom_spec.proofs.Words.{any_word}
+use Rattle.tl_dom_spec.proofs.SeatedPaths.{AreComments, IsDocument, IsHeadFrame, IsRoot, Rest, behind_head, joined-alone, under_head, with_text-alone}
+use Rattle.tl_dom_spec.proofs.SeatedBuilders.{later_listed, later_numbers}
+use Rattle.tl_dom_spec.proofs.Grounds.{Early, EarlyOf, Ground, headed, heading, rest-stays}
+
+-- neither `html` nor `head` is a target of foster parenting
+
+no_target : (names : List ℕ) (t : Tag) → Each (λ name. is_one_of (codes "table tbody tfoot thead tr") name ≡ false) (words names) → is_any names t ≡ true → is_foster_target t ≡ false
+no_target names t k e =
+    and_right (is_html t) _ (any_word (λ name. is_one_of (codes "table tbody tfoot thead tr") name ≡ false) (words names) t.name k (and_parts (is_html t) (is_one_of names t.name) e).1)
+
+rest_target : (place : Place) (path : Path) → Rest place path → is_foster_target (top path).tag ≡ false
+rest_target place path (under_head f h d q r i w e) = no_target (codes "head") f.tag (refl, tt) q.tag
+rest_target place path (behind_head h d r i w e) = no_target (codes "html") h.tag (refl, tt) r.tag
+
+pub rest_place : (is_fostering : Bool) (place : Place) (path : Path) → Rest place path → place_in is_fostering path ≡ here
+rest_place is_fostering place path r =
+    ap (λ (x : Bool). if x then foster_place path else here) (and_right is_fostering _ (rest_target place path r))
+
+-- what goes into the open head
+
+head-put : (path : Path) (nodes : Nodes) → Rest here path → Rest here (put here nodes path)
+head-put path nodes (under_head f h d q r i w e) =
+    under_head (with_nodes nodes (caught_up f)) h d (record { number = q.number; open_still = q.open_still; tag = q.tag; place = q.place }) r i w e
+
+head-caught : (path : Path) → Rest here path → Rest here (on_top caught_up path)
+head-caught path (under_head f h d q r i w e) = under_head (caught_up f) h d (record { number = q.number; open_still = q.open_still; tag = q.tag; place = q.place }) r i w e
+
+pub one_later : (b : Builder) → Early b → EarlyOf b.active (suc b.next) b.form b.is_frameset_ok b.templates b.is_fostering b.has_head b.context
+one_later b y = record {
+  S = y.S;
+  L = y.L;
+  active = y.active;
+  form = y.form;
+  numbers = later_numbers y.S b.next y.numbers;
+  listed = later_listed y.L b.next y.listed;
+  above = omega (arith, y.above);
+  templates_fit = y.templates_fit;
+  fostering = y.fostering;
+  head = y.head;
+  page = y.page;
+}
+
+pub head_put : (b : Builder) (nodes : Nodes) → b.mode ≡ in_head → Rest here b.path → Early b → Ground (with_path b (put (place_in b.is_fostering b.path) nodes b.path))
+head_put b nodes e r y = subst (λ x. Ground (with_path b (put x nodes b.path))) (sym (rest_place b.is_fostering here b.path r)) (heading e (head-put b.path nodes r) y)
+
+pub head_alone : (b : Builder) (t : Tag) → b.mode ≡ in_head → Rest here b.path → Early b → Ground (insert_and_pop t b)
+head_alone b t e r y =
+    subst (λ x. Ground (insert_and_pop_at x t b)) (sym (rest_place b.is_fostering here b.path r)) (heading e (head-put b.path (and_element no_nodes t no_nodes) r) (one_later b y))
+
+-- the head is closed, and behind it is room for comments and white space
+
+head_off : (f h d : Frame) → IsHeadFrame f → IsRoot h → AreComments h.children → AreComments h.waiting → IsDocument d → Rest into_head (popped (f ∷ h ∷ d ∷ []))
+head_off f h d q r i w e =
+    let c : Frame = caught_up (with_nodes (node_of f) h) in
+    subst (λ x. Rest into_head (settled (settled_at x (node_of f) (h ∷ d ∷ [])))) (sym q.place)
+    (subst (Rest into_head) (sym (rest-stays c (d ∷ []) (c ∷ d ∷ []) r.open_still))
+    (behind_head c d (record { number = r.number; open_still = r.open_still; tag = r.tag; place = r.place }) (joined-alone (joined h.children (node_of f)) h.waiting (q.tag, i) w) tt e))
+
+head-closed : (path : Path) → Rest here path → Rest into_head (popped path)
+head-closed path (under_head f h d q r i w e) = head_off f h d q r i w e
+
+pub head_closed-Ground : (b : Builder) → Rest here b.path → Early b → Ground (head_closed b)
+head_closed-Ground b r y = headed refl (head-closed b.path r) y
+
+-- behind the head
+
+behind-note : (path : Path) (bytes : List ℕ) → Rest into_head path → Rest into_head (put here (and_comment no_nodes bytes) path)
+behind-note path bytes (behind_head h d r i w e) =
+    behind_head (with_nodes (and_comment no_nodes bytes) (caught_up h)) d (record { number = r.number; open_still = r.open_still; tag = r.tag; place = r.place }) (joined-alone h.children h.waiting i w) tt e
+
+behind-blank : (path : Path) (c : ℕ) → is_ascii_whitespace c ≡ true → Rest into_head path → Rest into_head (put here (and_text no_nodes (c ∷ [])) path)
+behind-blank path c s (behind_head h d r i w e) =
+    behind_head (with_nodes (and_text no_nodes (c ∷ [])) (caught_up h)) d (record { number = r.number; open_still = r.open_still; tag = r.tag; place = r.place })
+    (with_text-alone (joined h.children h.waiting) (c ∷ []) (s, tt) (joined-alone h.children h.waiting i w)) tt e
+
+pub behind_comment : (b : Builder) (bytes : List ℕ) → b.mode ≡ after_head → Rest into_head b.path → Early b → Ground (insert_comment bytes b)
+behind_comment b bytes e r y =
+    subst (λ x. Ground (with_path b (put x (and_comment no_nodes bytes) b.path))) (sym (rest_place b.is_fostering into_head b.path r)) (headed e (behind-note b.path bytes r) y)
+
+pub behind_character : (b : Builder) (c : ℕ) → is_ascii_whitespace c ≡ true → b.mode ≡ after_head → Rest into_head b.path → Early b → Ground (insert_character c b)
+behind_character b c s e r y =
+    subst (λ x. Ground (with_path b (put x (and_text no_nodes (c ∷ [])) b.path))) (sym (rest_place b.is_fostering into_head b.path r)) (headed e (behind-blank b.path c s r) y)
