@@ -1,17 +1,21 @@
 -- The rules of the modes in the head and after it, before the body: what is there is `html` with its head, and then a body is put in.
-use Rattle.std.proofs.Common.{Bool, List, [], ap, arith, codes, false, if◌then◌else◌, refl, subst, suc, sym, true, ℕ, ◌∷◌, ◌≡◌}
+use Rattle.tl_dom_spec.proofs.SeatedBody.{IsSome_path, Stage, in_text, is_table_group}
+use Rattle.tl_dom_spec.proofs.GroupNames.{IsTiedTag, any_of, name_of, other_name}
+use Rattle.tl_dom_spec.specs.Lawful.{IsIn}
+use Rattle.tl_dom_spec.specs.Groups.{Group, a_template}
+use Rattle.std.proofs.Common.{◌<◌, Bool, List, [], ap, arith, codes, false, if◌then◌else◌, refl, subst, suc, sym, true, true≢false, ℕ, ◌∷◌, ◌≡◌}
 use Rattle.std.specs.Char.{is_ascii_whitespace}
 use Rattle.std.proofs.lemmas.Bool.{and_parts, and_right}
 use Rattle.tl_html_spec.specs.Balanced.{is_one_of, words}
 use Rattle.tl_dom_spec.specs.Tags.{Tag, is_any, is_foster_target, is_html}
-use Rattle.tl_dom_spec.specs.Path.{Frame, Nodes, Path, Place, and_comment, and_element, and_text, caught_up, foster_place, here, into_head, joined, no_nodes, node_of, on_top, place_in, popped, put, settled, settled_at, top, with_nodes}
-use Rattle.tl_dom_spec.specs.Builder.{Builder, after_head, in_head, insert_and_pop, insert_and_pop_at, insert_character, insert_comment, with_path}
-use Rattle.tl_dom_spec.specs.Head.{head_closed}
+use Rattle.tl_dom_spec.specs.Path.{Frame, Nodes, Path, Place, and_comment, and_element, and_text, caught_up, foster_place, here, into_head, joined, new_frame, no_nodes, node_of, on_top, place_in, popped, put, settled, settled_at, top, with_nodes}
+use Rattle.tl_dom_spec.specs.Builder.{Builder, Mode, after_head, in_head, in_template, insert_and_pop, insert_and_pop_at, insert_character, insert_comment, insert_element, insert_element_at, marker, parse_raw_text, parse_raw_text_at, switch_to, with_path}
+use Rattle.tl_dom_spec.specs.Head.{head_closed, template_opened}
 use Rattle.tl_dom_spec.proofs.Allowed.{Each}
 use Rattle.tl_dom_spec.proofs.Words.{any_word}
-use Rattle.tl_dom_spec.proofs.SeatedPaths.{AreComments, IsDocument, IsHeadFrame, IsRoot, Rest, behind_head, joined-alone, under_head, with_text-alone}
-use Rattle.tl_dom_spec.proofs.SeatedBuilders.{later_listed, later_numbers}
-use Rattle.tl_dom_spec.proofs.Grounds.{Early, EarlyOf, Ground, headed, heading, rest-stays}
+use Rattle.tl_dom_spec.proofs.SeatedPaths.{AreComments, IsBody, IsDocument, IsHeadFrame, IsRoot, Rest, Seated, behind_head, bodied, high, joined-alone, under_head, with_text-alone}
+use Rattle.tl_dom_spec.proofs.SeatedBuilders.{DeepOf, Fits, is_calm, later_listed, later_numbers, number_fresh}
+use Rattle.tl_dom_spec.proofs.Grounds.{Early, EarlyOf, Ground, deep, headed, heading, rest-settled, rest-stays}
 
 -- neither `html` nor `head` is a target of foster parenting
 
@@ -91,3 +95,90 @@ behind_comment b bytes e r y =
 pub behind_character : (b : Builder) (c : ℕ) → is_ascii_whitespace c ≡ true → b.mode ≡ after_head → Rest into_head b.path → Early b → Ground (insert_character c b)
 behind_character b c s e r y =
     subst (λ x. Ground (with_path b (put x (and_text no_nodes (c ∷ [])) b.path))) (sym (rest_place b.is_fostering into_head b.path r)) (headed e (behind-blank b.path c s r) y)
+
+raw_target : (g : Group) (t : Tag) → IsTiedTag g t → is_table_group g ≡ false → is_foster_target t ≡ false
+raw_target g t k n = and_right (is_html t) _ (other_name (codes "table tbody tfoot thead tr") is_table_group g t.name (refl, (refl, (refl, (refl, (refl, tt))))) k.named n)
+
+-- an element that holds text alone is opened, in the head or to go to its end
+
+rest_some : (place : Place) (path : Path) → Rest place path → IsSome_path path
+rest_some place path (under_head f h d q r i w e) = (f, h ∷ d ∷ [], refl)
+rest_some place path (behind_head h d r i w e) = (h, d ∷ [], refl)
+
+pub head_raw : (g : Group) (b : Builder) (t : Tag) → b.mode ≡ in_head → IsTiedTag g t → is_table_group g ≡ false → Rest here b.path → Early b → Stage (parse_raw_text t b)
+head_raw g b t e k n r y =
+    let p : Path = on_top caught_up b.path in
+    let s : Rest here p = head-caught b.path r in
+    subst (λ x. Stage (parse_raw_text_at x t b)) (sym (rest_place b.is_fostering here b.path r))
+    (in_text (new_frame b.next t here) p refl (rest_some here p s) refl k.html (raw_target g t k n) y.page (λ nodes. heading e (rest-settled here p nodes s) (one_later b y)))
+
+pub behind_raw : (g : Group) (b : Builder) (t : Tag) → b.mode ≡ after_head → IsTiedTag g t → is_table_group g ≡ false → Rest into_head b.path → Early b → Stage (parse_raw_text_at into_head t b)
+behind_raw g b t e k n r y =
+    in_text (new_frame b.next t into_head) b.path refl (rest_some into_head b.path r) refl k.html (raw_target g t k n) y.page (λ nodes. headed e (rest-settled into_head b.path nodes r) (one_later b y))
+
+-- a template is opened there, which stays
+
+template-Early : (place : Place) (b : Builder) (t : Tag) (rest : Path) → IsTiedTag a_template t → Rest place rest → Early b →
+    DeepOf 3 in_template (new_frame b.next t place ∷ rest) (marker ∷ b.active) (suc b.next) b.form false in_template b.original (in_template ∷ b.templates) b.is_fostering b.has_head b.context
+template-Early place b t rest k r y = record {
+  S = y.S;
+  L = y.L;
+  m = b.next;
+  mode_is = refl;
+  tg = t;
+  held = record {
+    seats = high (new_frame b.next t place) rest (record { number = refl; above = y.above; below = omega arith; open_still = refl; tag = refl; bars = number_fresh y.S b.next y.numbers })
+        (any_of (codes "template") (codes "template") t refl k.html (name_of a_template t.name k.named)) r;
+    active = (tt, y.active);
+    form = y.form;
+    numbers = later_numbers y.S b.next y.numbers;
+    listed = later_listed y.L b.next y.listed;
+    above = omega (arith, y.above);
+  };
+  quiet = record {
+    fits = tt;
+    templates_fit = (tt, y.templates_fit);
+    fostering = λ _. refl;
+    calm = λ e. absurd (true≢false (sym e));
+    head = y.head;
+    page = y.page;
+    early = λ _. refl;
+  };
+}
+
+pub behind_template : (b : Builder) (t : Tag) → IsTiedTag a_template t → Rest into_head b.path → Early b → Ground (template_opened into_head t b)
+behind_template b t k r y = deep (template-Early into_head b t b.path k r y)
+
+pub head_template : (b : Builder) (t : Tag) → IsTiedTag a_template t → Rest here b.path → Early b → Ground (template_opened (place_in b.is_fostering b.path) t b)
+head_template b t k r y =
+    subst (λ x. Ground (template_opened x t b)) (sym (rest_place b.is_fostering here b.path r)) (deep (template-Early here b t (on_top caught_up b.path) k (head-caught b.path r) y))
+
+-- `body` or `frameset` is put in
+
+body-at : (S L : List ℕ) (N : ℕ) (ok : Bool) (t : Tag) (path : Path) → 2 < N → (IsIn N S → ⊥) → IsBody t → Rest into_head path → Seated S L (suc N) ok 2 N t (new_frame N t here ∷ on_top caught_up path)
+body-at S L N ok t path a n i (behind_head h d r k w e) =
+    bodied (new_frame N t here) (caught_up h) d (record { number = refl; above = a; below = omega arith; open_still = refl; tag = refl; bars = n }) refl i
+    (record { number = r.number; open_still = r.open_still; tag = r.tag; place = r.place }) (joined-alone h.children h.waiting k w) (λ _. tt) e
+
+body-Early : (mode : Mode) (b : Builder) (t : Tag) → IsBody t → Fits 2 t mode b.original → is_calm mode ≡ true → Rest into_head b.path → Early b →
+    DeepOf 2 mode (new_frame b.next t here ∷ on_top caught_up b.path) b.active (suc b.next) b.form b.is_frameset_ok mode b.original b.templates b.is_fostering b.has_head b.context
+body-Early mode b t i f c r y = record {
+  S = y.S;
+  L = y.L;
+  m = b.next;
+  mode_is = refl;
+  tg = t;
+  held = record {
+    seats = body-at y.S y.L b.next b.is_frameset_ok t b.path y.above (number_fresh y.S b.next y.numbers) i r;
+    active = y.active;
+    form = y.form;
+    numbers = later_numbers y.S b.next y.numbers;
+    listed = later_listed y.L b.next y.listed;
+    above = omega (arith, y.above);
+  };
+  quiet = record { fits = f; templates_fit = y.templates_fit; fostering = y.fostering; calm = λ _. c; head = y.head; page = y.page; early = λ x. absurd (omega (arith, x)) };
+}
+
+pub body_opened-Ground : (mode : Mode) (b : Builder) (t : Tag) → IsBody t → Fits 2 t mode b.original → is_calm mode ≡ true → Rest into_head b.path → Early b → Ground (switch_to mode (insert_element t b))
+body_opened-Ground mode b t i f c r y =
+    subst (λ x. Ground (switch_to mode (insert_element_at x t b))) (sym (rest_place b.is_fostering into_head b.path r)) (deep (body-Early mode b t i f c r y))
