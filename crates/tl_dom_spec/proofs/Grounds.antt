@@ -280,7 +280,7 @@ high_closed {S} {L} {N} {ok} path e s =
 abbrev IsTemplateAt : ℕ → Tag → Bool
 IsTemplateAt n t = is_template t
 
-not_these : (names : List ℕ) (t : Tag) → Each (λ name. is_one_of (codes "template") name ≡ false) (words names) → is_any names t ≡ true → is_template t ≡ false
+pub not_these : (names : List ℕ) (t : Tag) → Each (λ name. is_one_of (codes "template") name ≡ false) (words names) → is_any names t ≡ true → is_template t ≡ false
 not_these names t k e =
     and_right (is_html t) (is_one_of (codes "template") t.name)
     (any_word (λ name. is_one_of (codes "template") name ≡ false) (words names) t.name k (and_parts (is_html t) (is_one_of names t.name) e).1)
@@ -288,10 +288,10 @@ not_these names t k e =
 abbrev TemplateIn : List ℕ → List ℕ → ℕ → Bool → ℕ → Path → Type 0
 TemplateIn S L N ok low path = (m : ℕ) × (tg : Tag) × Sought S L N ok IsTemplateAt low m tg path
 
-no_open : (f : Frame) (path : Path) → f.is_open ≡ true → is_template f.tag ≡ false → within (has_tag is_template) no_frame (elements (f ∷ path)) ≡ within (has_tag is_template) no_frame (elements path)
+pub no_open : (f : Frame) (path : Path) → f.is_open ≡ true → is_template f.tag ≡ false → within (has_tag is_template) no_frame (elements (f ∷ path)) ≡ within (has_tag is_template) no_frame (elements path)
 no_open f path o e = ap (within (has_tag is_template) no_frame) (opened f path o) ∙ ap (λ x. x || within (has_tag is_template) no_frame (elements path)) e
 
-root_none : (h d : Frame) → IsRoot h → IsDocument d → within (has_tag is_template) no_frame (elements (h ∷ d ∷ [])) ≡ false
+pub root_none : (h d : Frame) → IsRoot h → IsDocument d → within (has_tag is_template) no_frame (elements (h ∷ d ∷ [])) ≡ false
 root_none h d r e =
     no_open h (d ∷ []) r.open_still (not_these (codes "html") h.tag (refl, tt) r.tag) ∙ ap (within (has_tag is_template) no_frame) (closed_off d [] e.closed)
 

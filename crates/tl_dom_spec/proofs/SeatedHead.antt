@@ -1,21 +1,23 @@
 -- The rules of the modes in the head and after it, before the body: what is there is `html` with its head, and then a body is put in.
-use Rattle.tl_dom_spec.proofs.SeatedBody.{IsSome_path, Stage, in_text, is_table_group}
+use Rattle.tl_dom_spec.proofs.SeatedRules.{IsTied}
+use Rattle.tl_dom_spec.specs.Reset.{close_template, template_end_tag}
+use Rattle.tl_dom_spec.proofs.SeatedBody.{IsSome_path, Stage, StageAfter, ground, if_after, in_text, is_table_group}
 use Rattle.tl_dom_spec.proofs.GroupNames.{IsTiedTag, any_of, name_of, other_name}
 use Rattle.tl_dom_spec.specs.Lawful.{IsIn}
-use Rattle.tl_dom_spec.specs.Groups.{Group, a_template}
-use Rattle.std.proofs.Common.{◌<◌, Bool, List, [], ap, arith, codes, false, if◌then◌else◌, refl, subst, suc, sym, true, true≢false, ℕ, ◌∷◌, ◌≡◌}
+use Rattle.tl_dom_spec.specs.Groups.{Group, a_base, a_frameset, a_link, a_noframes, a_noscript, a_script, a_style, a_template, a_title, the_body, the_head, the_html}
+use Rattle.std.proofs.Common.{Bool, List, [], ap, arith, codes, false, if◌then◌else◌, refl, subst, suc, sym, true, true≢false, ℕ, ◌<◌, ◌∙◌, ◌∷◌, ◌≡◌}
 use Rattle.std.specs.Char.{is_ascii_whitespace}
-use Rattle.std.proofs.lemmas.Bool.{and_parts, and_right}
+use Rattle.std.proofs.lemmas.Bool.{and_parts, and_right, cond_both}
 use Rattle.tl_html_spec.specs.Balanced.{is_one_of, words}
-use Rattle.tl_dom_spec.specs.Tags.{Tag, is_any, is_foster_target, is_html}
-use Rattle.tl_dom_spec.specs.Path.{Frame, Nodes, Path, Place, and_comment, and_element, and_text, caught_up, foster_place, here, into_head, joined, new_frame, no_nodes, node_of, on_top, place_in, popped, put, settled, settled_at, top, with_nodes}
-use Rattle.tl_dom_spec.specs.Builder.{Builder, Mode, after_head, in_head, in_template, insert_and_pop, insert_and_pop_at, insert_character, insert_comment, insert_element, insert_element_at, marker, parse_raw_text, parse_raw_text_at, switch_to, with_path}
-use Rattle.tl_dom_spec.specs.Head.{head_closed, template_opened}
+use Rattle.tl_dom_spec.specs.Tags.{Tag, bare_tag, is_any, is_foster_target, is_html, is_implied_thoroughly, is_template}
+use Rattle.tl_dom_spec.specs.Path.{Frame, Nodes, Path, Place, and_comment, and_element, and_text, at_head, caught_up, elements, foster_place, has_tag, here, into_head, joined, new_frame, no_frame, no_nodes, node_of, on_top, place_in, popped, popped_while, put, settled, settled_at, top, with_nodes, within}
+use Rattle.tl_dom_spec.specs.Builder.{Again, Builder, Done, Mode, Token, a_character, a_comment, a_doctype, a_start, add_attributes, after_head, an_end, end_of_file, frameset_not_ok, has_template, in_body, in_frameset, in_head, in_head_noscript, in_template, insert_and_pop, insert_and_pop_at, insert_character, insert_comment, insert_element, insert_element_at, marker, parse_raw_text, parse_raw_text_at, switch_to, with_path}
+use Rattle.tl_dom_spec.specs.Head.{after_head_step, body_implied, head_closed, in_head_step, is_body_end, noscript_in_head, template_opened}
 use Rattle.tl_dom_spec.proofs.Allowed.{Each}
 use Rattle.tl_dom_spec.proofs.Words.{any_word}
-use Rattle.tl_dom_spec.proofs.SeatedPaths.{AreComments, IsBody, IsDocument, IsHeadFrame, IsRoot, Rest, Seated, behind_head, bodied, high, joined-alone, under_head, with_text-alone}
+use Rattle.tl_dom_spec.proofs.SeatedPaths.{AreComments, IsBody, IsDocument, IsHeadFrame, IsRoot, Rest, Seated, at_head-alone, behind_head, bodied, high, joined-alone, rest-more, under_head, with_text-alone}
 use Rattle.tl_dom_spec.proofs.SeatedBuilders.{DeepOf, Fits, is_calm, later_listed, later_numbers, number_fresh}
-use Rattle.tl_dom_spec.proofs.Grounds.{Early, EarlyOf, Ground, deep, headed, heading, rest-settled, rest-stays}
+use Rattle.tl_dom_spec.proofs.Grounds.{Early, EarlyOf, Ground, deep, headed, heading, in_noscript, no_open, not_these, rest-settled, rest-stays, root_none}
 
 -- neither `html` nor `head` is a target of foster parenting
 
@@ -182,3 +184,89 @@ body-Early mode b t i f c r y = record {
 pub body_opened-Ground : (mode : Mode) (b : Builder) (t : Tag) → IsBody t → Fits 2 t mode b.original → is_calm mode ≡ true → Rest into_head b.path → Early b → Ground (switch_to mode (insert_element t b))
 body_opened-Ground mode b t i f c r y =
     subst (λ x. Ground (switch_to mode (insert_element_at x t b))) (sym (rest_place b.is_fostering into_head b.path r)) (deep (body-Early mode b t i f c r y))
+
+-- the rules of "in head", where nothing else is open in it
+
+rest_no_template : (place : Place) (path : Path) → Rest place path → within (has_tag is_template) no_frame (elements path) ≡ false
+rest_no_template place path (under_head f h d q r i w e) =
+    no_open f (h ∷ d ∷ []) q.open_still (not_these (codes "head") f.tag (refl, tt) q.tag) ∙ root_none h d r e
+rest_no_template place path (behind_head h d r i w e) = root_none h d r e
+
+no_template_end : (place : Place) (b : Builder) → Rest place b.path → Stage b → Stage (template_end_tag b)
+no_template_end place b r s =
+    cond_both (has_template b) (close_template (with_path b (popped_while (λ (f : Frame). is_implied_thoroughly f.tag) b.path))) b Stage
+    (λ e. absurd (true≢false (sym e ∙ rest_no_template place b.path r))) (λ _. s)
+
+noscript-Stage : (b : Builder) (t : Tag) → b.mode ≡ in_head → IsTiedTag a_noscript t → Rest here b.path → Early b → Stage (noscript_in_head b t)
+noscript-Stage b t e k r y =
+    cond_both b.flags.is_scripting (parse_raw_text t b) (switch_to in_head_noscript (insert_element t b)) Stage (λ _. head_raw a_noscript b t e k refl r y)
+    (λ _. subst (λ x. Stage (switch_to in_head_noscript (insert_element_at x t b))) (sym (rest_place b.is_fostering here b.path r))
+    (ground (in_noscript (new_frame b.next t here) (on_top caught_up b.path) refl refl (record { place = refl; open_still = refl; html = k.html; target = raw_target a_noscript t k refl }) (head-caught b.path r) (one_later b y))))
+
+pub in_head_step-Stage : (b : Builder) (token : Token) → b.mode ≡ in_head → IsTied token → Rest here b.path → Early b → StageAfter (in_head_step b token)
+in_head_step-Stage b (a_character c) e k r y = if_after (is_ascii_whitespace c) (Done (insert_character c b)) (Again (head_closed b)) (λ _. ground (head_put b (and_text no_nodes (c ∷ [])) e r y)) (λ _. ground (head_closed-Ground b r y))
+in_head_step-Stage b (a_comment bytes) e k r y = ground (head_put b (and_comment no_nodes bytes) e r y)
+in_head_step-Stage b (a_doctype own) e k r y = ground (heading e r y)
+in_head_step-Stage b (a_start the_html t closes) e k r y =
+    cond_both (has_template b) b (add_attributes 1 t.attributes b) Stage (λ _. ground (heading e r y)) (λ _. ground (heading e (rest-more [] [] 0 true 1 t.attributes r) y))
+in_head_step-Stage b (a_start the_head t closes) e k r y = ground (heading e r y)
+in_head_step-Stage b (a_start a_noscript t closes) e k r y = noscript-Stage b t e k r y
+in_head_step-Stage b (a_start a_base t closes) e k r y = ground (head_alone b t e r y)
+in_head_step-Stage b (a_start a_link t closes) e k r y = ground (head_alone b t e r y)
+in_head_step-Stage b (a_start a_title t closes) e k r y = head_raw a_title b t e k refl r y
+in_head_step-Stage b (a_start a_noframes t closes) e k r y = head_raw a_noframes b t e k refl r y
+in_head_step-Stage b (a_start a_style t closes) e k r y = head_raw a_style b t e k refl r y
+in_head_step-Stage b (a_start a_script t closes) e k r y = head_raw a_script b t e k refl r y
+in_head_step-Stage b (a_start a_template t closes) e k r y = ground (head_template b t k r y)
+in_head_step-Stage b (a_start g t closes) e k r y = ground (head_closed-Ground b r y)
+in_head_step-Stage b (an_end the_head name) e k r y = ground (head_closed-Ground b r y)
+in_head_step-Stage b (an_end a_template name) e k r y = no_template_end here b r (ground (heading e r y))
+in_head_step-Stage b (an_end g name) e k r y = if_after (is_body_end g) (Again (head_closed b)) (Done b) (λ _. ground (head_closed-Ground b r y)) (λ _. ground (heading e r y))
+in_head_step-Stage b end_of_file e k r y = ground (head_closed-Ground b r y)
+
+-- the rules of "after head", before the body
+
+behind-part : (path : Path) (nodes : Nodes) → Rest into_head path → Rest into_head (put into_head nodes path)
+behind-part path nodes (behind_head h d r i w e) =
+    behind_head (record h { children = at_head h.children nodes }) d (record { number = r.number; open_still = r.open_still; tag = r.tag; place = r.place }) (at_head-alone h.children nodes i) w e
+
+not_ok-Early : (b : Builder) → Early b → Early (frameset_not_ok b)
+not_ok-Early b y = record {
+  S = y.S;
+  L = y.L;
+  active = y.active;
+  form = y.form;
+  numbers = y.numbers;
+  listed = y.listed;
+  above = y.above;
+  templates_fit = y.templates_fit;
+  fostering = λ _. refl;
+  head = y.head;
+  page = y.page;
+}
+
+body_implied-Ground : (b : Builder) → Rest into_head b.path → Early b → Ground (switch_to in_body (insert_element (bare_tag (codes "body")) b))
+body_implied-Ground b r y = body_opened-Ground in_body b (bare_tag (codes "body")) refl tt refl r y
+
+pub after_head_step-Stage : (b : Builder) (token : Token) → b.mode ≡ after_head → IsTied token → Rest into_head b.path → Early b → StageAfter (after_head_step b token)
+after_head_step-Stage b (a_character c) e k r y = if_after (is_ascii_whitespace c) (Done (insert_character c b)) (body_implied b) (λ s. ground (behind_character b c s e r y)) (λ _. ground (body_implied-Ground b r y))
+after_head_step-Stage b (a_comment bytes) e k r y = ground (behind_comment b bytes e r y)
+after_head_step-Stage b (a_doctype own) e k r y = ground (headed e r y)
+after_head_step-Stage b (a_start the_html t closes) e k r y =
+    cond_both (has_template b) b (add_attributes 1 t.attributes b) Stage (λ _. ground (headed e r y)) (λ _. ground (headed e (rest-more [] [] 0 true 1 t.attributes r) y))
+after_head_step-Stage b (a_start the_body t closes) e k r y =
+    ground (body_opened-Ground in_body (frameset_not_ok b) t (any_of (codes "body frameset") (codes "body") t refl k.html (name_of the_body t.name k.named)) tt refl r (not_ok-Early b y))
+after_head_step-Stage b (a_start a_frameset t closes) e k r y =
+    ground (body_opened-Ground in_frameset b t (any_of (codes "body frameset") (codes "frameset") t refl k.html (name_of a_frameset t.name k.named)) (omega arith) refl r y)
+after_head_step-Stage b (a_start the_head t closes) e k r y = ground (headed e r y)
+after_head_step-Stage b (a_start a_base t closes) e k r y = ground (headed e (behind-part b.path (and_element no_nodes t no_nodes) r) (one_later b y))
+after_head_step-Stage b (a_start a_link t closes) e k r y = ground (headed e (behind-part b.path (and_element no_nodes t no_nodes) r) (one_later b y))
+after_head_step-Stage b (a_start a_title t closes) e k r y = behind_raw a_title b t e k refl r y
+after_head_step-Stage b (a_start a_noframes t closes) e k r y = behind_raw a_noframes b t e k refl r y
+after_head_step-Stage b (a_start a_style t closes) e k r y = behind_raw a_style b t e k refl r y
+after_head_step-Stage b (a_start a_script t closes) e k r y = behind_raw a_script b t e k refl r y
+after_head_step-Stage b (a_start a_template t closes) e k r y = ground (behind_template b t k r y)
+after_head_step-Stage b (a_start g t closes) e k r y = ground (body_implied-Ground b r y)
+after_head_step-Stage b (an_end a_template name) e k r y = no_template_end into_head b r (ground (headed e r y))
+after_head_step-Stage b (an_end g name) e k r y = if_after (is_body_end g) (body_implied b) (Done b) (λ _. ground (body_implied-Ground b r y)) (λ _. ground (headed e r y))
+after_head_step-Stage b end_of_file e k r y = ground (body_implied-Ground b r y)
