@@ -135,7 +135,7 @@ module _ (b : Builder) (S L : List ℕ) (N : ℕ) (ok : Bool) (own : Mode) where
         below = l.below;
         open_still = o;
         tag = refl;
-        bars = λ x. true≢false (sym (one_of_these S L N ok (codes "td th") bar_names f.tag (refl, (refl, tt)) i) ∙ l.bars x);
+        bars = λ x. true≢false (sym (one_of_these S L N ok (codes "td th") bar_names f.tag (refl, (refl, tt)) i) ∙ (l.bars x).0);
       } in
       (f.number, f.tag, cell f path bar l i s, i)
   reset-at {low} {m} {tg} f path a_row e h o t l s r = (m, tg, inside f path l s, tt)

@@ -119,7 +119,7 @@ plain_of g t k n =
 
 pub free_of : (g : Group) (t : Tag) → IsTiedTag g t → is_bar_group g ≡ false → IsFree t
 free_of g t k n =
-    and_right (is_html t) _ (other_name (codes "html head body frameset template td th") is_bar_group g t.name (refl, (refl, (refl, (refl, (refl, (refl, (refl, tt))))))) k.named n)
+    (and_right (is_html t) _ (other_name (codes "html head body frameset template td th") is_bar_group g t.name (refl, (refl, (refl, (refl, (refl, (refl, (refl, tt))))))) k.named n), k.html)
 
 -- a test for a name that no element has that stays
 pub no_bar_named : (g : Group) (name : List ℕ) → group name ≡ g → is_bar_group g ≡ false → NoBar (is_named name)

@@ -13,7 +13,7 @@ use Rattle.tl_dom_spec.specs.Adoption.{Clones, adopted, adoption_agency, adoptio
 use Rattle.tl_dom_spec.specs.Lawful.{IsIn}
 use Rattle.tl_dom_spec.proofs.Allowed.{Each}
 use Rattle.tl_dom_spec.proofs.Words.{any_word}
-use Rattle.tl_dom_spec.proofs.SeatedPaths.{Loose, Placed, Seated, Sought, Tagged, Wider, bar_names, bodied, cell, found, high, inside, past, place_in-Placed, popped_through-Seated, popped_to-Sought, rooted, search-Sought, settled_while-Seated, unsought, wider-Seated, wider-loose}
+use Rattle.tl_dom_spec.proofs.SeatedPaths.{Loose, Placed, Seated, Sought, Tagged, Unbarred, Wider, bodied, cell, found, high, inside, past, place_in-Placed, popped_through-Seated, popped_to-Sought, rooted, search-Sought, settled_while-Seated, unsought, wider-Seated, wider-loose}
 use Rattle.tl_dom_spec.proofs.SeatedBuilders.{Bounds, Deep, IfSome, IsForm, IsFree, Kept, NoBar, close-Deep, each_in, each_map, free_bar, free_plain, listed-kept, moved-kept, number_above, plain-Tagged, pop-Deep, relisted-kept, stops_at, unlisted-kept, with_active}
 
 abbrev at_number_is : ℕ → ℕ → Tag → Bool
@@ -143,7 +143,7 @@ record IsClone (low : ℕ) (ok : Bool) (N : ℕ) (f : Frame) : Type 0 where
   pub below : f.number < N
   pub place : f.place ≡ here
   pub tag : Tagged low ok f.tag
-  pub bars : is_any bar_names f.tag ≡ false
+  pub bars : Unbarred f.tag
   pub open_still : f.is_open ≡ true
 
 -- what was before, of numbers below N
@@ -165,7 +165,7 @@ record Made (low : ℕ) (ok : Bool) (N : ℕ) (S L : List ℕ) (c : Clones) : Ty
 
 -- a frame that may be made anew
 abbrev Copied : ℕ → Bool → ℕ → List ℕ → Frame → Type 0
-Copied low ok N S f = (f.number < N) × (IsIn f.number S → is_any bar_names f.tag ≡ false) × Tagged low ok f.tag
+Copied low ok N S f = (f.number < N) × (IsIn f.number S → Unbarred f.tag) × Tagged low ok f.tag
 
 kept_more : (S L T M : List ℕ) (e : Entry) → ((k : ℕ) → IsIn k S → IsIn k T) → ((k : ℕ) → IsIn k L → IsIn k M) → Kept S L e → Kept T M e
 kept_more S L T M marker w v h = tt
@@ -194,7 +194,7 @@ made_here low ok N S L entries e n l = record {
 }
 
 -- a clone of its own number, before those that are made later
-made_more : (low : ℕ) (ok : Bool) (N : ℕ) (S L : List ℕ) (tag : Tag) (r : Clones) → 2 < N → Tagged low ok tag → is_any bar_names tag ≡ false →
+made_more : (low : ℕ) (ok : Bool) (N : ℕ) (S L : List ℕ) (tag : Tag) (r : Clones) → 2 < N → Tagged low ok tag → Unbarred tag →
     Made low ok (suc N) (N ∷ S) (N ∷ L) r → Made low ok N S L (record r { frames = new_frame N tag here ∷ r.frames })
 made_more low ok N S L tag r a t b h = record {
   T = h.T;
@@ -259,10 +259,11 @@ clone-loose S L low ok N f c = record {
   tag = c.tag;
   bars = λ _. c.bars;
   still = λ _. c.open_still;
+  shut = λ _. c.bars.1;
 }
 
 replaced : (S L : List ℕ) (low N : ℕ) (ok : Bool) (place : Place) (f : Frame) → Placed low ok place → Loose S L N ok low f → Loose S L N ok low (record f { place = place })
-replaced S L low N ok place f p l = record { above = l.above; below = l.below; place = p; tag = l.tag; bars = l.bars; still = l.still }
+replaced S L low N ok place f p l = record { above = l.above; below = l.below; place = p; tag = l.tag; bars = l.bars; still = l.still; shut = l.shut }
 
 outermost_at-loose : (S L : List ℕ) (low N : ℕ) (ok : Bool) (place : Place) (fs : List Frame) → Placed low ok place → Each (Loose S L N ok low) fs → Each (Loose S L N ok low) (outermost_at place fs)
 outermost_at-loose S L low N ok place [] p h = tt
@@ -362,14 +363,14 @@ module _ (low : ℕ) (md : Mode) where
       let at_block : Loose T M K ok low block = wider-loose d.S d.L b.next ok T M K ok wide low block w.1 in
       let ahead : Path = emptied ∷ clones.frames in
       let ahead-loose : Each (Loose T M K ok low) ahead = (
-        record { above = at_block.above; below = at_block.below; place = tt; tag = at_block.tag; bars = at_block.bars; still = at_block.still },
+        record { above = at_block.above; below = at_block.below; place = tt; tag = at_block.tag; bars = at_block.bars; still = at_block.still; shut = at_block.shut },
         each_map (IsClone low ok new) (Loose T M K ok low) clones.frames
             (λ f x. clone-loose T M low ok K f (record { above = x.above; below = omega (arith, x.below); place = x.place; tag = x.tag; bars = x.bars; open_still = x.open_still })) c.frames,
       ) in
       let around = append-Seated T M K ok (outermost_at place ahead) outer (outermost_at-loose T M low K ok place ahead p ahead-loose) (wider-Seated d.S d.L b.next ok T M K ok wide y) in
       let frame : Frame = record (new_frame new own.tag here) { children = block.children; waiting = block.waiting } in
       let above : 2 < new = omega (arith, d.held.above, c.more) in
-      let at_new : Loose T M K ok low frame = record { above = above; below = omega arith; place = tt; tag = plain-Tagged low ok own.tag (free_plain own.tag t); bars = λ _. free_bar own.tag t; still = λ _. refl } in (
+      let at_new : Loose T M K ok low frame = record { above = above; below = omega arith; place = tt; tag = plain-Tagged low ok own.tag (free_plain own.tag t); bars = λ _. free_bar own.tag t; still = λ _. refl; shut = λ _. t.1 } in (
         record {
           S = T;
           L = M;

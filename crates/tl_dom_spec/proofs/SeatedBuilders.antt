@@ -14,7 +14,7 @@ use Rattle.tl_dom_spec.specs.Adoption.{entry_moved}
 use Rattle.tl_dom_spec.specs.Lawful.{IsIn}
 use Rattle.tl_dom_spec.proofs.Allowed.{Each}
 use Rattle.tl_dom_spec.proofs.Words.{any_word}
-use Rattle.tl_dom_spec.proofs.SeatedPaths.{Alike, IsBody, IsCell, IsHtml, Loose, Placed, Seated, Stops, Tagged, Wider, alike_any, bar_is, bar_names, bar_off, bodied, cell, high, html_is_bar, inside, more-Seated, new-Seated, one_of_these, place_in-Placed, popped-Sought, popped_through-Seated, put-Seated, rooted, search-Sought, settled_while-Seated, top-Sought, wider-Seated}
+use Rattle.tl_dom_spec.proofs.SeatedPaths.{Alike, IsBody, IsCell, IsHtml, Loose, Placed, Seated, Stops, Tagged, Unbarred, Wider, alike_any, bar_is, bar_names, bar_off, bodied, cell, high, html_is_bar, inside, more-Seated, new-Seated, one_of_these, place_in-Placed, popped-Sought, popped_through-Seated, put-Seated, rooted, search-Sought, settled_while-Seated, top-Sought, wider-Seated}
 
 abbrev pub IfSome : {X : Type 0} → (X → Type 0) → Option X → Type 0
 IfSome P None = ⊤
@@ -79,7 +79,7 @@ pub record Quiet (low : ℕ) (tg : Tag) (mode own : Mode) (templates : List Mode
 
 -- entries of the list of active formatting elements
 abbrev pub IsFree : Tag → Type 0
-IsFree t = (is_any (codes "html head body frameset template td th") t ≡ false)
+IsFree t = (is_any (codes "html head body frameset template td th") t ≡ false) × (is_html t ≡ true)
 
 abbrev pub IsNumber : List ℕ → List ℕ → ℕ → Type 0
 IsNumber S L k = IsIn k S × IsIn k L
@@ -180,8 +180,8 @@ fresh S N h i = omega (arith, each_in (λ k. k < N) N S h i)
 pub number_fresh : (S : List ℕ) (N : ℕ) → Each (λ k. (2 < k) × (k < N)) S → IsIn N S → ⊥
 number_fresh S N h i = omega (arith, (each_in (λ k. (2 < k) × (k < N)) N S h i).1)
 
-pub new-Loose : (S L : List ℕ) (low N : ℕ) (ok : Bool) (tag : Tag) (place : Place) → 2 < N → Placed low ok place → Tagged low ok tag → (IsIn N S → is_any bar_names tag ≡ false) → Loose S L (suc N) ok low (new_frame N tag place)
-new-Loose S L low N ok tag place a p t n = record { above = a; below = omega arith; place = p; tag = t; bars = n; still = λ _. refl }
+pub new-Loose : (S L : List ℕ) (low N : ℕ) (ok : Bool) (tag : Tag) (place : Place) → 2 < N → Placed low ok place → Tagged low ok tag → (IsIn N S → Unbarred tag) → Loose S L (suc N) ok low (new_frame N tag place)
+new-Loose S L low N ok tag place a p t n = record { above = a; below = omega arith; place = p; tag = t; bars = n; still = λ _. refl; shut = λ e. absurd (true≢false e) }
 
 -- tags that may be opened anywhere
 
@@ -203,10 +203,10 @@ plain-Tagged low ok t e = record {
 }
 
 pub free_plain : (t : Tag) → IsFree t → IsPlain t
-free_plain t e = fewer (codes "html head body frameset template") (codes "html head body frameset template td th") t (refl, (refl, (refl, (refl, (refl, tt))))) e
+free_plain t e = fewer (codes "html head body frameset template") (codes "html head body frameset template td th") t (refl, (refl, (refl, (refl, (refl, tt))))) e.0
 
-pub free_bar : (t : Tag) → IsFree t → is_any bar_names t ≡ false
-free_bar t e = fewer bar_names (codes "html head body frameset template td th") t (refl, (refl, (refl, (refl, (refl, (refl, tt)))))) e
+pub free_bar : (t : Tag) → IsFree t → Unbarred t
+free_bar t e = (fewer bar_names (codes "html head body frameset template td th") t (refl, (refl, (refl, (refl, (refl, (refl, tt)))))) e.0, e.1)
 
 -- and is listed
 

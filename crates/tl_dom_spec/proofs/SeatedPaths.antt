@@ -170,6 +170,10 @@ bar_names = codes "html template body frameset td th"
 abbrev pub IsCell : Tag → Type 0
 IsCell t = is_any (codes "td th") t ≡ true
 
+-- none of these, and an HTML element
+abbrev pub Unbarred : Tag → Type 0
+Unbarred t = (is_any bar_names t ≡ false) × (is_html t ≡ true)
+
 -- where an element or a text may go: the lowest number is 3 before the body, 2 where the body is open, 1 where it is settled
 abbrev pub Placed : ℕ → Bool → Place → Type 0
 Placed low ok here = ⊤
@@ -193,8 +197,9 @@ module _ (S L : List ℕ) (N : ℕ) (ok : Bool) where
     pub below : f.number < N
     pub place : Placed low ok f.place
     pub tag : Tagged low ok f.tag
-    pub bars : IsIn f.number S → is_any bar_names f.tag ≡ false
+    pub bars : IsIn f.number S → Unbarred f.tag
     pub still : IsIn f.number L → f.is_open ≡ true
+    pub shut : f.is_open ≡ false → is_html f.tag ≡ true
 
   pub record IsBar (m : ℕ) (tg : Tag) (f : Frame) : Type 0 where
     pub number : f.number ≡ m
@@ -254,8 +259,9 @@ module _ (S L : List ℕ) (N : ℕ) (ok : Bool) where
     below = subst (λ x. x < N) (sym (g.number f)) r.below;
     place = subst (Placed low ok) (sym (g.place f)) r.place;
     tag = subst (Tagged low ok) (sym (g.tag f)) r.tag;
-    bars = λ i. subst (λ x. is_any bar_names x ≡ false) (sym (g.tag f)) (r.bars (subst (λ x. IsIn x S) (g.number f) i));
+    bars = λ i. subst Unbarred (sym (g.tag f)) (r.bars (subst (λ x. IsIn x S) (g.number f) i));
     still = λ i. g.open_still f ∙ r.still (subst (λ x. IsIn x L) (g.number f) i);
+    shut = λ e. subst (λ x. is_html x ≡ true) (sym (g.tag f)) (r.shut (sym (g.open_still f) ∙ e));
   }
 
   pub on_top-Seated : {low m : ℕ} {tg : Tag} {path : Path} (c : Frame → Frame) → Grows c → Seated low m tg path → Seated low m tg (on_top c path)
@@ -720,10 +726,18 @@ module _ (S L : List ℕ) (N : ℕ) (ok : Bool) where
   bar_unlisted k f b i =
       cond_both (f.number == k) (left f) f (λ x. x ≡ f) (λ e. absurd (b.bars (subst (λ x. IsIn x S) (sym (same f.number k e) ∙ b.number) i))) (λ _. refl)
 
-  loose-left : {low : ℕ} (k : ℕ) (f : Frame) → (IsIn k L → ⊥) → Loose low f → Loose low (chosen k left f)
-  loose-left {low} k f x l =
+  loose-left : {low : ℕ} (k : ℕ) (f : Frame) → IsIn k S → (IsIn k L → ⊥) → Loose low f → Loose low (chosen k left f)
+  loose-left {low} k f n x l =
       cond_both (f.number == k) (left f) f (Loose low)
-      (λ e. record { above = l.above; below = l.below; place = l.place; tag = l.tag; bars = l.bars; still = λ i. absurd (x (subst (λ y. IsIn y L) (same f.number k e) i)) }) (λ _. l)
+      (λ e. record {
+        above = l.above;
+        below = l.below;
+        place = l.place;
+        tag = l.tag;
+        bars = l.bars;
+        still = λ i. absurd (x (subst (λ y. IsIn y L) (same f.number k e) i));
+        shut = λ _. (l.bars (subst (λ y. IsIn y S) (sym (same f.number k e)) n)).1;
+      }) (λ _. l)
 
   rest-left : {place : Place} {rest : Path} (k : ℕ) → 2 < k → Rest place rest → Rest place (at_number k left rest)
   rest-left k l (under_head f h d q r i w e) =
@@ -744,7 +758,7 @@ module _ (S L : List ℕ) (N : ℕ) (ok : Bool) where
       subst (λ x. Seated 1 1 tg (chosen k left h ∷ x ∷ [])) (sym (unchosen k 0 left d b.number (omega (arith, l))))
       (subst (λ x. Seated 1 1 tg (x ∷ d ∷ [])) (sym (unchosen k 1 left h r.number (omega (arith, l)))) (rooted h d r e x b))
   left-Seated {low} {m} {tg} k l n z (cell f p b q i s) = subst (λ x. Seated low m tg (x ∷ at_number k left p)) (sym (bar_unlisted k f b n)) (cell f (at_number k left p) b q i (left-Seated k l n z s))
-  left-Seated k l n z (inside f p q s) = inside (chosen k left f) (at_number k left p) (loose-left k f z q) (left-Seated k l n z s)
+  left-Seated k l n z (inside f p q s) = inside (chosen k left f) (at_number k left p) (loose-left k f n z q) (left-Seated k l n z s)
 
   -- attributes are added
 
@@ -821,8 +835,11 @@ module _ (S L : List ℕ) (N : ℕ) (ok : Bool) where
           no_body = λ x. alike_any (codes "body frameset") f.tag (chosen k (added more) f).tag a ∙ l.tag.no_body x;
           no_template = λ x. alike_any (codes "template") f.tag (chosen k (added more) f).tag a ∙ l.tag.no_template x;
         };
-        bars = λ i. alike_any bar_names f.tag (chosen k (added more) f).tag a ∙ l.bars (subst (λ x. IsIn x S) (same_number k more f) i);
+        bars = λ i.
+        let y = l.bars (subst (λ x. IsIn x S) (same_number k more f) i) in
+        (alike_any bar_names f.tag (chosen k (added more) f).tag a ∙ y.0, ap (λ s. by_space s true false false) a.0 ∙ y.1);
         still = λ i. same_open k more f ∙ l.still (subst (λ x. IsIn x L) (same_number k more f) i);
+        shut = λ e. ap (λ s. by_space s true false false) a.0 ∙ l.shut (sym (same_open k more f) ∙ e);
       }
 
   pub rest-more : {place : Place} {rest : Path} (k : ℕ) (more : List Attribute) → Rest place rest → Rest place (at_number k (added more) rest)
@@ -938,6 +955,7 @@ module _ (S L : List ℕ) (N : ℕ) (ok : Bool) (T M : List ℕ) (K : ℕ) (less
     tag = narrower_tag low ok less f.tag w.narrower l.tag;
     bars = λ i. l.bars (w.numbers f.number l.below i);
     still = λ i. l.still (w.listed f.number l.below i);
+    shut = l.shut;
   }
 
   pub wider-Seated : {low m : ℕ} {tg : Tag} {path : Path} → Seated S L N ok low m tg path → Seated T M K less low m tg path

@@ -368,6 +368,7 @@ module _ (low : ℕ) (md : Mode) where
           };
           bars = λ i. absurd (number_fresh d.S N h.numbers i);
           still = λ _. refl;
+          shut = λ _. k.html;
         }) (rooted (caught_up f.0) f.1 root refl (joined-body f.0.children f.0.waiting n) f.4))
       ] in
       let all : FramesAt b t (from_html b.path) b.is_fostering = subst (λ p. FramesAt b t p b.is_fostering) (sym f.2) (subst (FramesAt b t (f.0 ∷ f.1 ∷ [])) (sym here_is) found_is) in
