@@ -78,7 +78,7 @@ first_false : (x y z w : Bool) → (x || y || z || w) ≡ false → x ≡ false
 first_false true y z w e = e
 first_false false y z w e = refl
 
-no_html : (own : Tag) (g : Group) (t : Tag) (closes : Bool) → is_html_content own (a_start g t closes) ≡ false → is_html own ≡ false
+pub no_html : (own : Tag) (g : Group) (t : Tag) (closes : Bool) → is_html_content own (a_start g t closes) ≡ false → is_html own ≡ false
 no_html own g t closes e =
     first_false (is_html own) (is_html_integration_point own)
     (is_text_integration_point own && not (is_one_of (codes "mglyph malignmark") t.name)) (is_annotation own && is_svg_start g) e

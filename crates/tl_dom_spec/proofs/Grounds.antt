@@ -96,7 +96,7 @@ rest_open : (place : Place) (rest : Path) → Rest place rest → Some_open rest
 rest_open place rest (under_head f h d q r i w e) = (f, elements (h ∷ d ∷ []), opened f (h ∷ d ∷ []) q.open_still)
 rest_open place rest (behind_head h d r i w e) = root_open h (d ∷ []) r
 
-seated_open : {S L : List ℕ} {N : ℕ} {ok : Bool} {low m : ℕ} {tg : Tag} {path : Path} → Seated S L N ok low m tg path → Some_open path
+pub seated_open : {S L : List ℕ} {N : ℕ} {ok : Bool} {low m : ℕ} {tg : Tag} {path : Path} → Seated S L N ok low m tg path → Some_open path
 seated_open (high t rest b i r) = (t, elements rest, opened t rest b.open_still)
 seated_open (bodied g h d b p i r a w e) = (g, elements (h ∷ d ∷ []), opened g (h ∷ d ∷ []) b.open_still)
 seated_open (rooted h d r e n b) = root_open h (d ∷ []) r
@@ -256,7 +256,7 @@ high_bare e (inside f p l s) = let t = high_bare e s in (t.0, t.1, t.2, inside f
 abbrev SeatedOr : List ℕ → List ℕ → ℕ → Bool → ℕ → Path → Type 0
 SeatedOr S L N ok low path = ((m : ℕ) × (tg : Tag) × Seated S L N ok low m tg path) ⊎ ((place : Place) × Rest place path)
 
-rest_tail : (t : Frame) (place : Place) (rest : Path) → Rest place rest → top_settled (t ∷ rest) ≡ settled_at t.place (node_of t) rest
+pub rest_tail : (t : Frame) (place : Place) (rest : Path) → Rest place rest → top_settled (t ∷ rest) ≡ settled_at t.place (node_of t) rest
 rest_tail t place rest (under_head f h d q r k w n) = refl
 rest_tail t place rest (behind_head h d r k w n) = refl
 

@@ -30,6 +30,7 @@ pub mod SeatedRules
 pub mod SeatedTables
 pub mod SeatedOuter
 pub mod SeatedHead
+pub mod SeatedText
 pub mod PartNames
 pub mod PartPaths
 pub mod PartBuilders

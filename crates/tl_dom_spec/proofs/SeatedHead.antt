@@ -98,7 +98,7 @@ pub behind_character : (b : Builder) (c : ℕ) → is_ascii_whitespace c ≡ tru
 behind_character b c s e r y =
     subst (λ x. Ground (with_path b (put x (and_text no_nodes (c ∷ [])) b.path))) (sym (rest_place b.is_fostering into_head b.path r)) (headed e (behind-blank b.path c s r) y)
 
-raw_target : (g : Group) (t : Tag) → IsTiedTag g t → is_table_group g ≡ false → is_foster_target t ≡ false
+pub raw_target : (g : Group) (t : Tag) → IsTiedTag g t → is_table_group g ≡ false → is_foster_target t ≡ false
 raw_target g t k n = and_right (is_html t) _ (other_name (codes "table tbody tfoot thead tr") is_table_group g t.name (refl, (refl, (refl, (refl, (refl, tt))))) k.named n)
 
 -- an element that holds text alone is opened, in the head or to go to its end

@@ -783,13 +783,13 @@ module _ (S L : List ℕ) (N : ℕ) (ok : Bool) where
   same_place : (k : ℕ) (more : List Attribute) (f : Frame) → (chosen k (added more) f).place ≡ f.place
   same_place k more f = cond_both (f.number == k) (added more f) f (λ x. x.place ≡ f.place) (λ _. refl) (λ _. refl)
 
-  same_children : (P : Nodes → Type 0) (k : ℕ) (more : List Attribute) (f : Frame) → P f.children → P (chosen k (added more) f).children
+  pub same_children : (P : Nodes → Type 0) (k : ℕ) (more : List Attribute) (f : Frame) → P f.children → P (chosen k (added more) f).children
   same_children P k more f h = cond_both (f.number == k) (added more f) f (λ x. P x.children) (λ _. h) (λ _. h)
 
-  same_waiting : (P : Nodes → Type 0) (k : ℕ) (more : List Attribute) (f : Frame) → P f.waiting → P (chosen k (added more) f).waiting
+  pub same_waiting : (P : Nodes → Type 0) (k : ℕ) (more : List Attribute) (f : Frame) → P f.waiting → P (chosen k (added more) f).waiting
   same_waiting P k more f h = cond_both (f.number == k) (added more f) f (λ x. P x.waiting) (λ _. h) (λ _. h)
 
-  root-more : (k : ℕ) (more : List Attribute) (h : Frame) → IsRoot h → IsRoot (chosen k (added more) h)
+  pub root-more : (k : ℕ) (more : List Attribute) (h : Frame) → IsRoot h → IsRoot (chosen k (added more) h)
   root-more k more h r = record {
     number = same_number k more h ∙ r.number;
     open_still = same_open k more h ∙ r.open_still;
@@ -805,7 +805,7 @@ module _ (S L : List ℕ) (N : ℕ) (ok : Bool) where
     place = same_place k more h ∙ r.place;
   }
 
-  document-more : (k : ℕ) (more : List Attribute) (d : Frame) → IsDocument d → IsDocument (chosen k (added more) d)
+  pub document-more : (k : ℕ) (more : List Attribute) (d : Frame) → IsDocument d → IsDocument (chosen k (added more) d)
   document-more k more d r = record {
     number = same_number k more d ∙ r.number;
     closed = same_open k more d ∙ r.closed;

@@ -129,7 +129,7 @@ first_of_three : (x y z : Bool) → x ≡ true → (x || y || z) ≡ true
 first_of_three true y z e = refl
 first_of_three false y z e = absurd (true≢false (sym e))
 
-html_content : (t : Tag) (token : Token) → is_html t ≡ true → is_html_content t token ≡ true
+pub html_content : (t : Tag) (token : Token) → is_html t ≡ true → is_html_content t token ≡ true
 html_content t (a_character c) e = first_of_three (is_html t) (is_text_integration_point t) (is_html_integration_point t) e
 html_content t (a_start g own closes) e =
     first_true (is_html t) (is_html_integration_point t) (is_text_integration_point t && not (is_one_of (codes "mglyph malignmark") own.name)) (is_annotation t && is_svg_start g) e
