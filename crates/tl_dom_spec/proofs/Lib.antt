@@ -31,6 +31,7 @@ pub mod SeatedTables
 pub mod SeatedOuter
 pub mod SeatedHead
 pub mod SeatedText
+pub mod SeatedForeign
 pub mod PartNames
 pub mod PartPaths
 pub mod PartBuilders

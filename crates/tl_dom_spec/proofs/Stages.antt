@@ -125,7 +125,7 @@ first_true : (x y z w : Bool) → x ≡ true → (x || y || z || w) ≡ true
 first_true true y z w e = refl
 first_true false y z w e = absurd (true≢false (sym e))
 
-first_of_three : (x y z : Bool) → x ≡ true → (x || y || z) ≡ true
+pub first_of_three : (x y z : Bool) → x ≡ true → (x || y || z) ≡ true
 first_of_three true y z e = refl
 first_of_three false y z e = absurd (true≢false (sym e))
 
