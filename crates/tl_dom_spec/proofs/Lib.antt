@@ -32,6 +32,7 @@ pub mod SeatedOuter
 pub mod SeatedHead
 pub mod SeatedText
 pub mod SeatedForeign
+pub mod SeatedPages
 pub mod PartNames
 pub mod PartPaths
 pub mod PartBuilders

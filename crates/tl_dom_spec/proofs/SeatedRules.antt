@@ -112,7 +112,7 @@ body_within y (inside f p l s) =
           ∙ or_from (is_any (codes "body") f.tag) _ (fewer (codes "body") (codes "body frameset") f.tag (refl, tt) (l.tag.no_body (omega (arith, y)))) (and_right (not (is_scope f.tag)) _ (body_within y s))
     ]
 
-three_is : (low : ℕ) → 3 ≤ low → low ≤ 3 → low ≡ 3
+pub three_is : (low : ℕ) → 3 ≤ low → low ≤ 3 → low ≡ 3
 three_is low l m = elim (cases_order low 3) [ inl e ↦ e | inr o ↦ elim o [ inl x ↦ absurd (omega (arith, l, x)) | inr x ↦ absurd (omega (arith, m, x)) ] ]
 
 -- what is tied to the names of a token
