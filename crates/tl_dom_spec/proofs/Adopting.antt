@@ -1,6 +1,6 @@
 -- The adoption agency keeps what holds of a builder.
 use Rattle.std.proofs.Common.{◌≡◌, ℕ, suc, ◌==◌, Bool, true, false, not, ◌||◌, ◌&&◌, List, [], ◌∷◌, ◌++◌, Option, Some, None, sym, true≢false, arith, if◌then◌else◌}
-use Rattle.std.specs.Prelude.{⊤, nat_lt}
+use Rattle.std.specs.Prelude.{nat_lt}
 use Rattle.std.specs.Str.{bytes_eq}
 use Rattle.std.proofs.lemmas.Bool.{cond_both, or_left, or_right}
 use Rattle.std.proofs.lemmas.Bool.Decides.{nat_tests}
@@ -9,7 +9,7 @@ use Rattle.tl_dom_spec.specs.Path.{Frame, Path, Place, elements, has_number, has
 use Rattle.tl_dom_spec.specs.Builder.{Again, Builder, Done, Entry, close_except_for, current_node, formatting, marker, pop_current_node, repeated}
 use Rattle.tl_dom_spec.specs.Formatting.{Listed, is_entry, is_listed, listed, listed_behind, relisted, unlisted}
 use Rattle.tl_dom_spec.specs.Adoption.{Clones, adopted, adoption_agency, adoption_round, any_other_end_tag, cloned, entry_moved, first, furthest_block, inside_of, moved_into, outermost, outermost_at, outside_of, readopted, settled_to, with_block, with_formatting}
-use Rattle.tl_dom_spec.proofs.Allowed.{Allowed, Each}
+use Rattle.tl_dom_spec.proofs.Allowed.{Allowed, Each, IfSome}
 use Rattle.tl_dom_spec.proofs.Paths.{Frames, Inner, Tagged, open_opens, popped_through-Frames, settled_while-Frames, tagged_opens}
 use Rattle.tl_dom_spec.proofs.Builders.{Entered, Entries, Holds, HoldsAfter, close-Holds, either, either-after, pop-Holds, repeated-Holds}
 
@@ -18,14 +18,10 @@ has_in : ℕ → Path → Bool
 has_in k [] = false
 has_in k (f ∷ path) = (f.number == k) || has_in k path
 
-same_number : (k : ℕ) → (k == k) ≡ true
+pub same_number : (k : ℕ) → (k == k) ≡ true
 same_number k = grind (arith, nat_tests)
 
-abbrev IfSome : {X : Type 0} → (X → Type 0) → Option X → Type 0
-IfSome P None = ⊤
-IfSome P (Some x) = P x
-
-each-weaken : {X : Type 0} → (P Q : X → Type 0) (xs : List X) → ((x : X) → P x → Q x) → Each P xs → Each Q xs
+pub each-weaken : {X : Type 0} → (P Q : X → Type 0) (xs : List X) → ((x : X) → P x → Q x) → Each P xs → Each Q xs
 each-weaken P Q [] w h = tt
 each-weaken P Q (x ∷ xs) w h = (w x h.0, each-weaken P Q xs w h.1)
 

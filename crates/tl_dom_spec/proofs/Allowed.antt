@@ -1,5 +1,5 @@
 -- What tokens allow of trees, as parameters: of this each rule of tree construction makes its trees. And nodes of which all is allowed.
-use Rattle.std.proofs.Common.{◌≡◌, ℕ, Bool, true, false, List, [], ◌∷◌, ◌++◌, ◌⊎◌, codes, refl, inl, inr}
+use Rattle.std.proofs.Common.{◌≡◌, ℕ, Bool, true, false, List, [], ◌∷◌, ◌++◌, ◌⊎◌, codes, refl, inl, inr, Option, Some, None}
 use Rattle.std.specs.Prelude.{⊤}
 use Rattle.std.proofs.lemmas.Bool.{cond_both}
 use Rattle.tl_html_spec.specs.HtmlTokenizer.{State, data_state, replacement}
@@ -13,6 +13,10 @@ abbrev pub Each : {X : Type 0} → (X → Type 0) → List X → Type 0
 Each P [] = ⊤
 Each P (x ∷ xs) = P x × Each P xs
 
+abbrev pub IfSome : {X : Type 0} → (X → Type 0) → Option X → Type 0
+IfSome P None = ⊤
+IfSome P (Some x) = P x
+
 pub record Allowed : Type 1 where
   -- tags of elements that may be opened, and of those that may stand with nothing below them
   pub Opens : Tag → Type 0
@@ -25,8 +29,14 @@ pub record Allowed : Type 1 where
   pub Adds : List Attribute → Type 0
   -- states that the tokenizer may be set to
   pub Reads : State → Type 0
+  -- context elements, in fragments
+  pub Around : Tag → Type 0
+  -- whether scripting is on
+  pub Scripts : Bool → Type 0
   -- whether `html` and `head` are known to stand where they do in a page
   pub Seated : Type 0
+  -- whether each tag stands in the group of its name, so that none of a table or a template is listed as active
+  pub Grouped : Type 0
   pub stands : (t : Tag) → Opens t → Stands t
   pub headed : (t : Tag) → is_any (codes "head") t ≡ true → Stands t → Opens t
   pub adds : (t : Tag) (more : List Attribute) → Opens t → Adds more → Opens (with_more more t)

@@ -1,14 +1,21 @@
 -- What holds of a builder between two rules, and what is done to it: it keeps that.
-use Rattle.std.proofs.Common.{ℕ, zero, suc, ◌==◌, Bool, true, false, ◌&&◌, List, [], ◌∷◌, refl, if◌then◌else◌}
+use Rattle.std.proofs.Common.{ℕ, zero, suc, ◌==◌, Bool, true, false, ◌&&◌, List, [], ◌∷◌, Option, refl, if◌then◌else◌}
 use Rattle.std.specs.Prelude.{⊤, nat_lt}
 use Rattle.std.proofs.lemmas.Bool.{cond_both}
+use Rattle.tl_html_spec.specs.HtmlTokenizer.{State}
 use Rattle.tl_dom_spec.specs.Tags.{Attribute, Tag, is_implied_thoroughly, is_template}
 use Rattle.tl_dom_spec.specs.Path.{Frame, Path, Place, and_comment, and_element, and_text, is_open_number, no_nodes, popped_while}
 use Rattle.tl_dom_spec.specs.Builder.{Again, Builder, Done, Entry, Outcome, add_attributes, appropriate_place, clear_stack_back_to, clear_to_last_marker, close_except_for, formatting, generate_implied_end_tags_except_for, has_template, insert_and_pop, insert_and_pop_at, insert_bytes, insert_character, insert_comment, insert_comment_at, insert_element, insert_element_at, insert_marker, marker, outcome_map, parse_raw_text, parse_raw_text_at, pop_current_node, pop_until, repeated, state_inside, with_path, without_last_marker}
 use Rattle.tl_dom_spec.specs.Formatting.{alike_count, insert_formatting_element, is_alike, reconstruct_formatting, reopen, reopen_each, with_room, without_earliest}
 use Rattle.tl_dom_spec.specs.Reset.{close_template, reset_insertion_mode, template_end_tag}
-use Rattle.tl_dom_spec.proofs.Allowed.{Allowed, Each, IsText, alone-Good}
+use Rattle.tl_dom_spec.proofs.Allowed.{Allowed, Each, IfSome, IsText, alone-Good}
 use Rattle.tl_dom_spec.proofs.Paths.{Frames, implied_closed-Frames, more-Frames, popped-Frames, popped_through-Frames, popped_to-Frames, popped_while-Frames, pushed_at-Frames, put-Frames}
+
+-- what drives the tokenizer, beside the path: the state that is set, the context element, and whether scripting is on
+pub record Drives (Reads : State → Type 0) (Around : Tag → Type 0) (Scripts : Bool → Type 0) (reads : State) (context : Option Tag) (is_scripting : Bool) : Type 0 where
+  pub state : Reads reads
+  pub around : IfSome Around context
+  pub scripts : Scripts is_scripting
 
 module _ (R : Allowed) where
   abbrev pub Entered : Entry → Type 0
@@ -19,7 +26,7 @@ module _ (R : Allowed) where
   Entries entries = Each Entered entries
 
   abbrev pub Holds : Builder → Type 0
-  Holds b = Frames R b.path × Entries b.active × Each R.Says b.pending × R.Reads b.reads
+  Holds b = Frames R b.path × Entries b.active × Each R.Says b.pending × Drives R.Reads R.Around R.Scripts b.reads b.context b.flags.is_scripting
 
   abbrev pub HoldsAfter : Outcome → Type 0
   HoldsAfter (Done b) = Holds b
@@ -103,7 +110,7 @@ module _ (R : Allowed) where
   attributes-Holds k more b a h = (more-Frames R k more b.path a h.0, h.1, h.2, h.3)
 
   pub raw_text_at-Holds : (place : Place) (tag : Tag) (b : Builder) → R.Opens tag → R.Reads (state_inside tag.name) → Holds b → Holds (parse_raw_text_at place tag b)
-  raw_text_at-Holds place tag b o r h = let put = insert_at-Holds place tag b o h in (put.0, put.1, put.2, r)
+  raw_text_at-Holds place tag b o r h = let put = insert_at-Holds place tag b o h in (put.0, put.1, put.2, record { state = r; around = h.3.around; scripts = h.3.scripts })
 
   pub raw_text-Holds : (tag : Tag) (b : Builder) → R.Opens tag → R.Reads (state_inside tag.name) → Holds b → Holds (parse_raw_text tag b)
   raw_text-Holds tag b o r h = raw_text_at-Holds (appropriate_place b) tag b o r h

@@ -1,49 +1,52 @@
 -- The dispatcher, foreign content and tokens: what holds of a builder holds after each token, and at the start.
-use Rattle.std.proofs.Common.{Bool, List, [], codes, false, if◌then◌else◌, not, refl, suc, sym, true, true≢false, ℕ, ◌&&◌, ◌==◌, ◌||◌, ◌∷◌, ◌≡◌}
+use Rattle.std.proofs.Common.{Bool, List, None, Option, Some, [], ap, codes, false, if◌then◌else◌, inl, inr, not, refl, suc, sym, true, true≢false, ℕ, ◌&&◌, ◌==◌, ◌||◌, ◌∷◌, ◌≡◌, ◌⊎◌}
 use Rattle.std.specs.Prelude.{nat_lt}
 use Rattle.std.specs.Char.{is_ascii_whitespace}
 use Rattle.std.proofs.lemmas.Bool.{cond_both}
 use Rattle.tl_html_spec.specs.HtmlTokenizer.{data_state, replacement}
 use Rattle.tl_html_spec.specs.Balanced.{is_one_of}
-use Rattle.tl_dom_spec.specs.Tags.{Namespace, Tag, is_annotation, is_html, is_html_integration_point, is_text_integration_point}
+use Rattle.tl_dom_spec.specs.Tags.{Tag, is_annotation, is_html, is_html_integration_point, is_text_integration_point}
 use Rattle.tl_dom_spec.specs.Groups.{Group, a_break, a_paragraph}
-use Rattle.tl_dom_spec.specs.Path.{elements, has_number}
-use Rattle.tl_dom_spec.specs.Builder.{Again, Builder, Done, Flags, Mode, Token, a_character, a_comment, a_doctype, a_start, adjusted_current_node, after_after_body, after_after_frameset, after_body, after_frameset, after_head, an_end, before_head, before_html, end_of_file, frameset_not_ok, in_body, in_caption, in_cell, in_column_group, in_frameset, in_head, in_head_noscript, in_row, in_table, in_table_body, in_table_text, in_template, initial, insert_bytes, insert_character, repeated, text_mode}
+use Rattle.tl_dom_spec.specs.Path.{Path, document, elements, has_number, top}
+use Rattle.tl_dom_spec.specs.Builder.{Again, Builder, Done, Flags, Mode, Token, a_character, a_comment, a_doctype, a_start, adjusted_current_node, adjusted_tag, after_after_body, after_after_frameset, after_body, after_frameset, after_head, an_end, before_head, before_html, end_of_file, frameset_not_ok, in_body, in_caption, in_cell, in_column_group, in_frameset, in_head, in_head_noscript, in_row, in_table, in_table_body, in_table_text, in_template, initial, insert_bytes, insert_character, is_only, repeated, text_mode}
 use Rattle.tl_dom_spec.specs.Adjusted.{foreign_name, insert_foreign_element}
 use Rattle.tl_dom_spec.specs.Dispatcher.{Found, bound, breaks_out, broken_out, by_mode, calm, count_token, dispatch, excess_of, foreign_character, foreign_end, foreign_end_at, foreign_start, foreign_step, found_in, html_step, is_html_content, is_html_place, is_line_feed, is_svg_start, mode_step, nothing, the_frame, token_done, tokens_done}
 use Rattle.tl_dom_spec.specs.HtmlTree.{Context, fragment_start, page_start}
-use Rattle.tl_dom_spec.proofs.Allowed.{Allowed, Each}
+use Rattle.tl_dom_spec.proofs.Allowed.{Allowed, Each, IfSome}
+use Rattle.tl_dom_spec.proofs.Paths.{Frames, top-opens}
+use Rattle.tl_dom_spec.specs.Lawful.{is_text_mode}
+use Rattle.tl_dom_spec.proofs.Steady.{fragment-steady, page-steady}
 use Rattle.tl_dom_spec.proofs.Kept.{Holds, HoldsAfter, bytes-Holds, character-Holds, comment-Holds, either, either-after, popped_through-Holds, popped_to-Holds, reads-Holds, repeated-Holds}
 use Rattle.tl_dom_spec.proofs.HeadRules.{Allows, Starts, after_head_step-Holds, before_head_step-Holds, before_html_step-Holds, in_head_noscript_step-Holds, in_head_step-Holds, initial_step-Holds, text_step-Holds}
 use Rattle.tl_dom_spec.proofs.BodyRules.{foreign-Holds, in_body_step-Holds}
 use Rattle.tl_dom_spec.proofs.TableRules.{in_caption_step-Holds, in_cell_step-Holds, in_column_group_step-Holds, in_row_step-Holds, in_table_body_step-Holds, in_table_step-Holds, in_table_text_step-Holds}
 use Rattle.tl_dom_spec.proofs.OuterRules.{after_after_body_step-Holds, after_after_frameset_step-Holds, after_body_step-Holds, after_frameset_step-Holds, in_frameset_step-Holds, in_template_step-Holds}
 
-pub mode_step-Holds : (R : Allowed) (m : Mode) (b : Builder) (token : Token) → Allows R token → Holds R b → HoldsAfter R (mode_step m b token)
-mode_step-Holds R initial b token k h = initial_step-Holds R b token k h
-mode_step-Holds R before_html b token k h = before_html_step-Holds R b token k h
-mode_step-Holds R before_head b token k h = before_head_step-Holds R b token k h
-mode_step-Holds R in_head b token k h = in_head_step-Holds R b token k h
-mode_step-Holds R in_head_noscript b token k h = in_head_noscript_step-Holds R b token k h
-mode_step-Holds R after_head b token k h = after_head_step-Holds R b token k h
-mode_step-Holds R in_body b token k h = in_body_step-Holds R b token k h
-mode_step-Holds R text_mode b token k h = text_step-Holds R b token k h
-mode_step-Holds R in_table b token k h = in_table_step-Holds R b token k h
-mode_step-Holds R in_table_text b token k h = in_table_text_step-Holds R b token k h
-mode_step-Holds R in_caption b token k h = in_caption_step-Holds R b token k h
-mode_step-Holds R in_column_group b token k h = in_column_group_step-Holds R b token k h
-mode_step-Holds R in_table_body b token k h = in_table_body_step-Holds R b token k h
-mode_step-Holds R in_row b token k h = in_row_step-Holds R b token k h
-mode_step-Holds R in_cell b token k h = in_cell_step-Holds R b token k h
-mode_step-Holds R in_template b token k h = in_template_step-Holds R b token k h
-mode_step-Holds R after_body b token k h = after_body_step-Holds R b token k h
-mode_step-Holds R in_frameset b token k h = in_frameset_step-Holds R b token k h
-mode_step-Holds R after_frameset b token k h = after_frameset_step-Holds R b token k h
-mode_step-Holds R after_after_body b token k h = after_after_body_step-Holds R b token k h
-mode_step-Holds R after_after_frameset b token k h = after_after_frameset_step-Holds R b token k h
+pub mode_step-Holds : (R : Allowed) (m : Mode) (b : Builder) (token : Token) → b.mode ≡ m → Allows R token → Holds R b → HoldsAfter R (mode_step m b token)
+mode_step-Holds R initial b token e k h = initial_step-Holds R b token k h
+mode_step-Holds R before_html b token e k h = before_html_step-Holds R b token k h
+mode_step-Holds R before_head b token e k h = before_head_step-Holds R b token k h
+mode_step-Holds R in_head b token e k h = in_head_step-Holds R b token k (ap is_text_mode e) h
+mode_step-Holds R in_head_noscript b token e k h = in_head_noscript_step-Holds R b token k (ap is_text_mode e) h
+mode_step-Holds R after_head b token e k h = after_head_step-Holds R b token k (ap is_text_mode e) h
+mode_step-Holds R in_body b token e k h = in_body_step-Holds R b token k (ap is_text_mode e) h
+mode_step-Holds R text_mode b token e k h = text_step-Holds R b token k h
+mode_step-Holds R in_table b token e k h = in_table_step-Holds R b token k (ap is_text_mode e) h
+mode_step-Holds R in_table_text b token e k h = in_table_text_step-Holds R b token k h
+mode_step-Holds R in_caption b token e k h = in_caption_step-Holds R b token k (ap is_text_mode e) h
+mode_step-Holds R in_column_group b token e k h = in_column_group_step-Holds R b token k (ap is_text_mode e) h
+mode_step-Holds R in_table_body b token e k h = in_table_body_step-Holds R b token k (ap is_text_mode e) h
+mode_step-Holds R in_row b token e k h = in_row_step-Holds R b token k (ap is_text_mode e) h
+mode_step-Holds R in_cell b token e k h = in_cell_step-Holds R b token k (ap is_text_mode e) h
+mode_step-Holds R in_template b token e k h = in_template_step-Holds R b token k (ap is_text_mode e) h
+mode_step-Holds R after_body b token e k h = after_body_step-Holds R b token k (ap is_text_mode e) h
+mode_step-Holds R in_frameset b token e k h = in_frameset_step-Holds R b token k (ap is_text_mode e) h
+mode_step-Holds R after_frameset b token e k h = after_frameset_step-Holds R b token k (ap is_text_mode e) h
+mode_step-Holds R after_after_body b token e k h = after_after_body_step-Holds R b token k (ap is_text_mode e) h
+mode_step-Holds R after_after_frameset b token e k h = after_after_frameset_step-Holds R b token k (ap is_text_mode e) h
 
 html_step-Holds : (R : Allowed) (b : Builder) (token : Token) → Allows R token → Holds R b → HoldsAfter R (html_step b token)
-html_step-Holds R b token k h = mode_step-Holds R b.mode b token k h
+html_step-Holds R b token k h = mode_step-Holds R b.mode b token refl k h
 
 -- foreign content
 
@@ -56,13 +59,23 @@ foreign_character-Holds R c b k h =
     (bytes-Holds R replacement b (tt, R.replaced) h)
     (either R (is_ascii_whitespace c) (insert_character c b) (frameset_not_ok (insert_character c b)) (character-Holds R c b k h) (character-Holds R c b k h))
 
+-- a foreign element that is the adjusted current node was opened, or is the context element
+adjusted-allowed : (R : Allowed) (context : Option Tag) (path : Path) → IfSome R.Around context → Frames R path → is_html (adjusted_tag context path) ≡ false →
+    R.Opens (adjusted_tag context path) ⊎ R.Around (adjusted_tag context path)
+adjusted-allowed R None path a h e = inl (top-opens R path h e)
+adjusted-allowed R (Some tag) path a h e =
+    cond_both (is_only (elements path)) tag (top path).tag (λ t. is_html t ≡ false → R.Opens t ⊎ R.Around t) (λ _ _. inr a) (λ _ k. inl (top-opens R path h k)) e
+
+pub foreign-allowed : (R : Allowed) (b : Builder) → Holds R b → is_html (adjusted_current_node b) ≡ false → R.Opens (adjusted_current_node b) ⊎ R.Around (adjusted_current_node b)
+foreign-allowed R b h e = adjusted-allowed R b.context b.path h.0.3.around h.0.0 e
+
 foreign_start-Holds : (R : Allowed) (b : Builder) (g : Group) (t : Tag) (closes : Bool) → is_html (adjusted_current_node b) ≡ false → Starts R g t → Holds R b → HoldsAfter R (foreign_start b g t closes)
 foreign_start-Holds R b g t closes e k h =
-    let space : Namespace = (adjusted_current_node b).space in
-    let own : Tag = record t { name = foreign_name space t.name } in
-    either-after R (breaks_out t) (html_step (broken_out b) (a_start g t closes)) (Done (insert_foreign_element space own closes b))
+    let around : Tag = adjusted_current_node b in
+    let own : Tag = record t { name = foreign_name around.space t.name } in
+    either-after R (breaks_out t) (html_step (broken_out b) (a_start g t closes)) (Done (insert_foreign_element around.space own closes b))
     (html_step-Holds R (broken_out b) (a_start g t closes) k (broken_out-Holds R b h))
-    (foreign-Holds R space own closes b (k.foreign space e) h)
+    (foreign-Holds R around.space own closes b (k.foreign around e (foreign-allowed R b h e)) h)
 
 foreign_end_at-Holds : (R : Allowed) (found : Found) (b : Builder) (g : Group) (name : List ℕ) → Holds R b → HoldsAfter R (foreign_end_at found b g name)
 foreign_end_at-Holds R (the_frame k) b g name h = popped_through-Holds R (has_number k) b h
@@ -120,9 +133,13 @@ tokens-Holds R b (token ∷ tokens) k h = tokens-Holds R (token_done b token) to
 
 -- before the first token
 
-pub page_start-Holds : (R : Allowed) (flags : Flags) → (R.Seated → ⊥) → Holds R (page_start flags)
-page_start-Holds R flags n = ((((tt, tt), (λ e. absurd (true≢false (sym e))), tt), tt, tt, R.data_read), λ s. absurd (n s))
+document-Frames : (R : Allowed) → Frames R (document ∷ [])
+document-Frames R = ((tt, tt), ((λ e. absurd (true≢false (sym e))), inr refl), tt)
 
-pub fragment_start-Holds : (R : Allowed) (flags : Flags) (context : Context) → (R.Seated → ⊥) → Holds R (fragment_start flags context)
-fragment_start-Holds R flags context n =
-    ((((tt, tt), R.html, ((tt, tt), (λ e. absurd (true≢false (sym e))), tt)), tt, tt, R.data_read), λ s. absurd (n s))
+pub page_start-Holds : (R : Allowed) (flags : Flags) → (R.Seated → ⊥) → R.Scripts flags.is_scripting → Holds R (page_start flags)
+page_start-Holds R flags n s =
+    ((document-Frames R, tt, tt, record { state = R.data_read; around = tt; scripts = s }), (λ e. absurd (n e)), λ _. page-steady flags)
+
+pub fragment_start-Holds : (R : Allowed) (flags : Flags) (context : Context) → (R.Seated → ⊥) → R.Scripts flags.is_scripting → R.Around context.tag → Holds R (fragment_start flags context)
+fragment_start-Holds R flags context n s a =
+    ((((tt, tt), R.html, document-Frames R), tt, tt, record { state = R.data_read; around = a; scripts = s }), (λ e. absurd (n e)), λ _. fragment-steady flags context)

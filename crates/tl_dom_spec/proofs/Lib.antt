@@ -5,6 +5,12 @@ pub mod Builders
 pub mod Adopting
 pub mod Seats
 pub mod Seating
+pub mod PathTags
+pub mod Measure
+pub mod Pending
+pub mod Falling
+pub mod Staying
+pub mod Steady
 pub mod Kept
 pub mod HeadRules
 pub mod BodyRules
@@ -13,10 +19,13 @@ pub mod OuterRules
 pub mod DispatcherRules
 pub mod TreesFollow
 pub mod TextLaw
+pub mod StartNames
 pub mod NameLaw
 pub mod VoidLaw
 pub mod SourceLaw
 pub mod ContentsLaw
+pub mod Bound
+pub mod BoundLaw
 pub mod RootNames
 pub mod Stages
 pub mod PageLaw
@@ -33,6 +42,8 @@ pub mod SeatedHead
 pub mod SeatedText
 pub mod SeatedForeign
 pub mod SeatedPages
+pub mod PlainNames
+pub mod PlainLaw
 pub mod PartNames
 pub mod PartPaths
 pub mod PartBuilders

@@ -108,7 +108,7 @@ page_of b s =
 
 pub built_page : (flags : Flags) (tokens : List Token) → Each IsTied tokens → IsPage (page_built flags tokens).trees
 built_page flags tokens k =
-    let read = tokens-Stage (page_start flags) tokens k (page_start-Holds anything flags (λ s. s)) (page_stage flags) in
+    let read = tokens-Stage (page_start flags) tokens k (page_start-Holds anything flags (λ s. s) tt) (page_stage flags) in
     page_of (token_done (tokens_done (page_start flags) tokens) end_of_file) (file_ended (tokens_done (page_start flags) tokens) read.0 read.1)
 
 pub page_page : (flags : Flags) (page : List ℕ) → IsPage (html_tree_by flags page).trees

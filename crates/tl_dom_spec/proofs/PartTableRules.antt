@@ -11,7 +11,7 @@ use Rattle.tl_tree_spec.specs.HtmlTreeBuilder as R
 use Rattle.tl_tree_spec.specs.HtmlForest.{HtmlTag}
 use Rattle.tl_tree_spec.specs.Groups as G
 use Rattle.tl_dom_spec.specs.Tags as T
-use Rattle.tl_dom_spec.specs.Tags.{Tag, bare_tag}
+use Rattle.tl_dom_spec.specs.Tags.{bare_tag}
 use Rattle.tl_dom_spec.specs.Groups as D
 use Rattle.tl_dom_spec.specs.Path as W
 use Rattle.tl_dom_spec.specs.Builder as B
@@ -25,7 +25,7 @@ use Rattle.tl_dom_spec.proofs.PartOps as O
 use Rattle.tl_dom_spec.proofs.PartSound.{alone_sound, group_of, names_in}
 use Rattle.tl_dom_spec.proofs.PartRules.{end_in_body, start_in_body}
 use Rattle.tl_dom_spec.proofs.PartTables as A
-use Rattle.tl_dom_spec.proofs.PartTables.{Leads, current_at, in_table_scope, mode_in}
+use Rattle.tl_dom_spec.proofs.PartTables.{current_at, in_table_scope, mode_in}
 
 -- A run of the whole builder
 

@@ -14,7 +14,7 @@ use Rattle.tl_tree_spec.specs.HtmlTreeBuilder as R
 use Rattle.tl_tree_spec.specs.HtmlForest.{HtmlForest, HtmlTag}
 use Rattle.tl_tree_spec.specs.Groups as G
 use Rattle.tl_dom_spec.specs.Tags as T
-use Rattle.tl_dom_spec.specs.Tags.{Tag, bare_tag}
+use Rattle.tl_dom_spec.specs.Tags.{bare_tag}
 use Rattle.tl_dom_spec.specs.Path as W
 use Rattle.tl_dom_spec.specs.Builder as B
 use Rattle.tl_dom_spec.specs.Body as Body

@@ -1,8 +1,8 @@
 -- Paths whose frames hold what tokens allow, and what is done to them: it keeps that.
-use Rattle.std.proofs.Common.{◌≡◌, ℕ, ◌==◌, Bool, true, false, not, ◌||◌, List, [], ◌∷◌, map, sym, true≢false, if◌then◌else◌}
+use Rattle.std.proofs.Common.{◌≡◌, ℕ, ◌==◌, Bool, true, false, not, ◌||◌, List, [], ◌∷◌, ◌⊎◌, inl, inr, map, sym, ◌∙◌, true≢false, if◌then◌else◌}
 use Rattle.std.specs.Prelude.{⊤}
 use Rattle.std.proofs.lemmas.Bool.{cond_both}
-use Rattle.tl_dom_spec.specs.Tags.{Attribute, Tag}
+use Rattle.tl_dom_spec.specs.Tags.{Attribute, Tag, is_html}
 use Rattle.tl_dom_spec.specs.Path.{Frame, Nodes, Path, Place, at_head, at_number, behind, caught_up, here, implied_closed, into, into_head, joined, new_frame, node_of, on_top, popped, popped_through, popped_to, popped_while, put, settled_at, settled_while, taken_out, top, top_settled, with_nodes, with_waiting}
 use Rattle.tl_dom_spec.specs.Builder.{pushed_at, with_more}
 use Rattle.tl_dom_spec.specs.Body.{from_html}
@@ -12,9 +12,9 @@ module _ (R : Allowed) where
   abbrev pub Inner : Frame → Type 0
   Inner f = Good R f.children × Good R f.waiting
 
-  -- of the outermost frame, which isn't settled, the tag is no matter where it isn't open: the document
+  -- of the outermost frame, which isn't settled, the tag is no matter where it isn't open: the document, which counts as HTML
   abbrev pub Tagged : Frame → Path → Type 0
-  Tagged f [] = f.is_open ≡ true → R.Opens f.tag
+  Tagged f [] = (f.is_open ≡ true → R.Opens f.tag) × (R.Opens f.tag ⊎ (is_html f.tag ≡ true))
   Tagged f (g ∷ path) = R.Opens f.tag
 
   abbrev pub Frames : Path → Type 0
@@ -22,11 +22,11 @@ module _ (R : Allowed) where
   Frames (f ∷ path) = Inner f × Tagged f path × Frames path
 
   pub tagged_opens : (f : Frame) (path : Path) → R.Opens f.tag → Tagged f path
-  tagged_opens f [] o = λ _. o
+  tagged_opens f [] o = (λ _. o, inl o)
   tagged_opens f (g ∷ path) o = o
 
   pub open_opens : (f : Frame) (path : Path) → Tagged f path → f.is_open ≡ true → R.Opens f.tag
-  open_opens f [] t o = t o
+  open_opens f [] t o = t.0 o
   open_opens f (g ∷ path) t o = t
 
   -- changes of a frame
@@ -34,10 +34,15 @@ module _ (R : Allowed) where
   pub record Keeps (change : Frame → Frame) : Type 0 where
     pub inner : (f : Frame) → Inner f → Inner (change f)
     pub tag : (f : Frame) → R.Opens f.tag → R.Opens (change f).tag
+    pub html : (f : Frame) → is_html f.tag ≡ true → is_html (change f).tag ≡ true
     pub open_before : (f : Frame) → (change f).is_open ≡ true → f.is_open ≡ true
 
+  either-tag : (change : Frame → Frame) (f : Frame) → Keeps change → R.Opens f.tag ⊎ (is_html f.tag ≡ true) → R.Opens (change f).tag ⊎ (is_html (change f).tag ≡ true)
+  either-tag change f k (inl o) = inl (k.tag f o)
+  either-tag change f k (inr e) = inr (k.html f e)
+
   same-tagged : (change : Frame → Frame) (f : Frame) (path : Path) → Keeps change → Tagged f path → Tagged (change f) path
-  same-tagged change f [] k t = λ o. k.tag f (t (k.open_before f o))
+  same-tagged change f [] k t = (λ o. k.tag f (t.0 (k.open_before f o)), either-tag change f k t.1)
   same-tagged change f (g ∷ path) k t = k.tag f t
 
   pub on_top-Frames : (change : Frame → Frame) (path : Path) → Keeps change → Frames path → Frames (on_top change path)
@@ -57,6 +62,7 @@ module _ (R : Allowed) where
   at-keeps n change k = record {
     inner = λ f i. cond_both (f.number == n) (change f) f Inner (λ _. k.inner f i) (λ _. i);
     tag = λ f o. cond_both (f.number == n) (change f) f (λ x. R.Opens x.tag) (λ _. k.tag f o) (λ _. o);
+    html = λ f e. cond_both (f.number == n) (change f) f (λ x. is_html x.tag ≡ true) (λ _. k.html f e) (λ _. e);
     open_before = λ f. cond_both (f.number == n) (change f) f (λ x. x.is_open ≡ true → f.is_open ≡ true) (λ _. k.open_before f) (λ _ o. o);
   }
 
@@ -67,6 +73,7 @@ module _ (R : Allowed) where
   caught_up-keeps = record {
     inner = λ f i. (joined-Good R f.children f.waiting i.0 i.1, tt);
     tag = λ f o. o;
+    html = λ f e. e;
     open_before = λ f o. o;
   }
 
@@ -74,6 +81,7 @@ module _ (R : Allowed) where
   with_nodes-keeps nodes g = record {
     inner = λ f i. (joined-Good R f.children nodes i.0 g, i.1);
     tag = λ f o. o;
+    html = λ f e. e;
     open_before = λ f o. o;
   }
 
@@ -81,6 +89,7 @@ module _ (R : Allowed) where
   with_waiting-keeps nodes g = record {
     inner = λ f i. (i.0, joined-Good R f.waiting nodes i.1 g);
     tag = λ f o. o;
+    html = λ f e. e;
     open_before = λ f o. o;
   }
 
@@ -88,6 +97,7 @@ module _ (R : Allowed) where
   into_head-keeps nodes g = record {
     inner = λ f i. (at_head-Good R f.children nodes i.0 g, i.1);
     tag = λ f o. o;
+    html = λ f e. e;
     open_before = λ f o. o;
   }
 
@@ -95,14 +105,15 @@ module _ (R : Allowed) where
   then-keeps first second k l = record {
     inner = λ f i. l.inner (first f) (k.inner f i);
     tag = λ f o. l.tag (first f) (k.tag f o);
+    html = λ f e. l.html (first f) (k.html f e);
     open_before = λ f o. k.open_before f (l.open_before (first f) o);
   }
 
   left-keeps : Keeps (λ (f : Frame). record f { is_open = false })
-  left-keeps = record { inner = λ f i. i; tag = λ f o. o; open_before = λ f o. absurd (true≢false (sym o)) }
+  left-keeps = record { inner = λ f i. i; tag = λ f o. o; html = λ f e. e; open_before = λ f o. absurd (true≢false (sym o)) }
 
   more-keeps : (more : List Attribute) → R.Adds more → Keeps (λ (f : Frame). record f { tag = with_more more f.tag })
-  more-keeps more a = record { inner = λ f i. i; tag = λ f o. R.adds f.tag more o a; open_before = λ f o. o }
+  more-keeps more a = record { inner = λ f i. i; tag = λ f o. R.adds f.tag more o a; html = λ f e. e; open_before = λ f o. o }
 
   -- places
 
@@ -176,6 +187,15 @@ module _ (R : Allowed) where
   from_html-Frames [] h = tt
   from_html-Frames (f ∷ []) h = h
   from_html-Frames (f ∷ g ∷ path) h = cond_both (f.number == 1) _ _ Frames (λ _. h) (λ _. from_html-Frames (g ∷ path) h.2)
+
+  -- a foreign element on top may be opened
+  pub top-opens : (path : Path) → Frames path → is_html (top path).tag ≡ false → R.Opens (top path).tag
+  top-opens [] h e = absurd (true≢false e)
+  top-opens (f ∷ []) h e = elim h.1.1 [
+    | inl o ↦ o
+    | inr t ↦ absurd (true≢false (sym t ∙ e))
+  ]
+  top-opens (f ∷ g ∷ path) h e = h.1
 
   -- what is on top, at the end
   pub top-Inner : (path : Path) → Frames path → Inner (top path)

@@ -12,12 +12,8 @@ use Rattle.tl_dom_spec.specs.Path.{Frame, Nodes, Path, Place, and_element, behin
 use Rattle.tl_dom_spec.specs.Builder.{Again, Builder, Done, Entry, Outcome, add_attributes, appropriate_place, close_except_for, current_node, formatting, insert_and_pop_at, insert_element_at, marker, pop_current_node, repeated, without_last_marker}
 use Rattle.tl_dom_spec.specs.Formatting.{Listed, alike_count, insert_formatting_element, is_alike, is_entry, is_listed, listed, listed_behind, reconstruct_formatting, relisted, reopen, reopen_each, unlisted, with_room, without_earliest}
 use Rattle.tl_dom_spec.specs.Adoption.{Clones, adopted, adoption_agency, adoption_round, any_other_end_tag, cloned, entry_moved, first, furthest_block, inside_of, moved_into, moved_place, outermost, outermost_at, outside_of, settled_to, with_block, with_formatting}
-use Rattle.tl_dom_spec.proofs.Allowed.{Each}
+use Rattle.tl_dom_spec.proofs.Allowed.{Each, IfSome}
 use Rattle.tl_dom_spec.proofs.Seats.{IsDocument, IsHead, IsHeadFrame, IsRoot, Below, Placed, Seated, Seats, anywhere-Seated, ended, headed, heading, inside, left-Seated, low_most, more-Stays, new-Seats, place_in-Placed, placed-below, popped-Seats, popped_through-Seats, put-Seated, settled_while-Below, settled_while-Seats}
-
-abbrev pub IfSome : {X : Type 0} → (X → Type 0) → Option X → Type 0
-IfSome P None = ⊤
-IfSome P (Some x) = P x
 
 -- numbers of entries, of the form pointer and of the next element are above those of `html` and `head`
 abbrev pub IsAbove : Entry → Type 0

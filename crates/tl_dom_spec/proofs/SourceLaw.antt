@@ -27,7 +27,10 @@ from tokens = record {
   Types = λ own. IsIn (a_doctype own) tokens;
   Adds = λ more. (g : Group) × (t : Tag) × (closes : Bool) × (adds_attributes g ≡ true) × IsIn (a_start g t closes) tokens × (t.attributes ≡ more);
   Reads = λ _. ⊤;
+  Around = λ _. ⊤;
+  Scripts = λ _. ⊤;
   Seated = ⊥;
+  Grouped = ⊥;
   stands = λ _ s. s;
   headed = λ _ _ s. s;
   adds = λ own more o a. subst (λ x. IsTagOf tokens (with_more x own)) a.5 (with_added a.0 a.1 own a.2 a.3 a.4 o);
@@ -63,10 +66,12 @@ token_from tokens (a_start g t closes) i = record {
   image = image_from tokens g t closes i;
   math = math_from tokens g t closes i;
   svg = svg_from tokens g t closes i;
-  foreign = λ space e. adjusted g t closes space e i;
+  foreign = λ own e _. adjusted g t closes own.space e i;
   more = λ e. (g, t, closes, e, i, refl);
-  inside = tt;
+  inside = λ _. tt;
+  scripted = λ _. tt;
   after = tt;
+  listed = λ y _. absurd y;
 }
 token_from tokens (an_end g name) i = tt
 token_from tokens (a_comment bytes) i = i
@@ -97,11 +102,11 @@ sources_of tokens trees f = record {
 }
 
 pub built_sources : (flags : Flags) (tokens : List Token) → ComeFrom tokens (page_built flags tokens).trees
-built_sources flags tokens = sources_of tokens (page_built flags tokens).trees (page-Follows (from tokens) flags tokens (λ s. s) (tokens_from tokens))
+built_sources flags tokens = sources_of tokens (page_built flags tokens).trees (page-Follows (from tokens) flags tokens (λ s. s) tt (tokens_from tokens))
 
 pub built_fragment_sources : (flags : Flags) (context : Context) (tokens : List Token) → ComeFrom tokens (fragment_built flags context tokens)
 built_fragment_sources flags context tokens =
-    sources_of tokens (fragment_built flags context tokens) (fragment-Follows (from tokens) flags context tokens (λ s. s) (tokens_from tokens))
+    sources_of tokens (fragment_built flags context tokens) (fragment-Follows (from tokens) flags context tokens (λ s. s) tt tt (tokens_from tokens))
 
 pub page_sources : (flags : Flags) (page : List ℕ) → ComeFrom (tokens_of_page flags page) (html_tree_by flags page).trees
 page_sources flags page =

@@ -167,7 +167,7 @@ after-seated (Again b) h = seated b (h.1 tt)
 
 placed_token : (token : Token) → Allows placed token
 placed_token (a_character c) = tt
-placed_token (a_start g t closes) = record { opens = λ _. tt; alone = tt; image = λ _. tt; math = λ _. tt; svg = λ _. tt; foreign = λ _ _. tt; more = λ _. tt; inside = tt; after = tt }
+placed_token (a_start g t closes) = record { opens = λ _. tt; alone = tt; image = λ _. tt; math = λ _. tt; svg = λ _. tt; foreign = λ _ _ _. tt; more = λ _. tt; inside = λ _. tt; scripted = λ _. tt; after = tt; listed = λ y _. absurd y }
 placed_token (an_end g name) = tt
 placed_token (a_comment bytes) = tt
 placed_token (a_doctype own) = tt
@@ -177,7 +177,7 @@ step-Stage : (token : Token) (b : Builder) → IsTied token → B.Holds anything
 step-Stage token b k h (at_initial o c w p q) = initial-Stage o c w token p q
 step-Stage token b k h (at_html o c w p q) = html-Stage o c w token k p q
 step-Stage token b k h (at_head o t c w e v i p q r) = head-Stage o t c w e v token k i p q r
-step-Stage token b k h (seated o s) = after-seated (dispatch token o) (dispatch-Holds placed token o (placed_token token) (h, λ _. s))
+step-Stage token b k h (seated o s) = after-seated (dispatch token o) (dispatch-Holds placed token o (placed_token token) (h, (λ _. s), λ y. absurd y))
 
 abbrev Both : Outcome → Type 0
 Both o = HoldsAfter anything o × StageAfter o
@@ -222,7 +222,7 @@ tokens-Stage b (token ∷ tokens) k h s =
 -- the end of the file
 
 seated_still : (n : ℕ) (b : Builder) → B.Holds anything b → SeatingOf b → SeatingOf (repeated n (dispatch end_of_file) (Again b))
-seated_still n b h s = (repeated-Holds placed n (dispatch end_of_file) (Again b) (λ c i. dispatch-Holds placed end_of_file c tt i) (h, λ _. s)).1 tt
+seated_still n b h s = (repeated-Holds placed n (dispatch end_of_file) (Again b) (λ c i. dispatch-Holds placed end_of_file c tt i) (h, (λ _. s), λ y. absurd y)).1 tt
 
 ended_at_head : (n : ℕ) (b : Builder) (t : Tag) (c w e v : Nodes) → IsHtml t → AreComments c → AreComments w → ArePlain e → Holds anything (rooted b t c w e v) →
     SeatingOf (repeated (suc n) (dispatch end_of_file) (Again (rooted b t c w e v)))

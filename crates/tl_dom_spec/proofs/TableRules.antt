@@ -10,7 +10,7 @@ use Rattle.tl_dom_spec.specs.Builder.{Again, Builder, Done, Token, a_character, 
 use Rattle.tl_dom_spec.specs.Body.{body_character, in_body_step}
 use Rattle.tl_dom_spec.specs.Tables.{after_caption, after_cell, after_cell_in, after_column_group, after_row, after_table_body, body_characters, body_closed, body_implied, body_opened, caption_closed, caption_end, caption_start, cell_closed, cell_end, cell_start, clear_stack_back_to_table_body_context, clear_stack_back_to_table_context, clear_stack_back_to_table_row_context, column_end, column_group_closed, column_start, in_caption_step, in_cell_step, in_column_group_step, in_row_step, in_table_body_step, in_table_step, in_table_text_step, is_caption, is_cell, is_in_column_group, is_row, is_table_body_context, is_table_context, is_table_row_context, is_text_in_table, no_bytes, pending_inserted, row_closed, row_end, row_opened, row_start, table_body_end, table_body_start, table_character, table_closed, table_end, table_form, table_start, with_foster_parenting}
 use Rattle.tl_dom_spec.proofs.Allowed.{Allowed, Each}
-use Rattle.tl_dom_spec.proofs.Kept.{Holds, HoldsAfter, alone-Holds, back_to-Holds, bytes-Holds, character-Holds, clear-Holds, close-Holds, comment-Holds, either, either-after, form-Holds, insert-Holds, map-Holds, marker-Holds, none_pending-Holds, pending-Holds, pop-Holds, pop_until-Holds, template_end_tag-Holds}
+use Rattle.tl_dom_spec.proofs.Kept.{Holds, HoldsAfter, Roams, alone-Holds, back_to-Holds, bytes-Holds, character-Holds, clear-Holds, close-Holds, comment-Holds, either, either-after, form-Holds, insert-Holds, map-Holds, marker-Holds, none_pending-Holds, pending-Holds, pop-Holds, pop_until-Holds, template_end_tag-Holds}
 use Rattle.tl_dom_spec.proofs.HeadRules.{Allows, Starts, html_start-Holds, in_head_start-Holds}
 use Rattle.tl_dom_spec.proofs.BodyRules.{body_character-Holds, file_ended-Holds, in_body_step-Holds}
 
@@ -23,9 +23,9 @@ clear_stack_back_to_table_body_context-Holds R b h = back_to-Holds R is_table_bo
 pub clear_stack_back_to_table_row_context-Holds : (R : Allowed) (b : Builder) → Holds R b → Holds R (clear_stack_back_to_table_row_context b)
 clear_stack_back_to_table_row_context-Holds R b h = back_to-Holds R is_table_row_context b h
 
-pub fostered-Holds : (R : Allowed) (b : Builder) (token : Token) → Allows R token → Holds R b → HoldsAfter R (with_foster_parenting b token)
-fostered-Holds R b token k h =
-    map-Holds R (fostering false) (in_body_step (fostering true b) token) (λ c l. l) (in_body_step-Holds R (fostering true b) token k h)
+pub fostered-Holds : (R : Allowed) (b : Builder) (token : Token) → Allows R token → Roams b → Holds R b → HoldsAfter R (with_foster_parenting b token)
+fostered-Holds R b token k n h =
+    map-Holds R (fostering false) (in_body_step (fostering true b) token) (λ c l. l) (in_body_step-Holds R (fostering true b) token k n h)
 
 pub table_closed-Holds : (R : Allowed) (b : Builder) → Holds R b → Holds R (table_closed b)
 table_closed-Holds R b h = pop_until-Holds R is_table b h
@@ -40,44 +40,44 @@ pub table_form-Holds : (R : Allowed) (form : Option ℕ) (b : Builder) (t : Tag)
 table_form-Holds R (Some k) b t o h = h
 table_form-Holds R None b t o h = either R (has_template b) b (record (insert_and_pop t b) { form = Some b.next }) h (form-Holds R (Some b.next) (insert_and_pop t b) (λ s. (h.1 s).next) (alone-Holds R t b (R.stands t o) h))
 
-pub table_start-Holds : (R : Allowed) (b : Builder) (g : Group) (t : Tag) (closes : Bool) → Starts R g t → Holds R b → HoldsAfter R (table_start b g t closes)
-table_start-Holds R b a_caption t closes k h = insert-Holds R t (insert_marker (clear_stack_back_to_table_context b)) (k.opens refl) (marker-Holds R (clear_stack_back_to_table_context b) (clear_stack_back_to_table_context-Holds R b h))
-table_start-Holds R b a_column_group t closes k h = insert-Holds R t (clear_stack_back_to_table_context b) (k.opens refl) (clear_stack_back_to_table_context-Holds R b h)
-table_start-Holds R b a_column t closes k h = insert-Holds R (bare_tag (codes "colgroup")) (clear_stack_back_to_table_context b) R.column_group (clear_stack_back_to_table_context-Holds R b h)
-table_start-Holds R b a_table_body t closes k h = body_opened-Holds R b t (k.opens refl) h
-table_start-Holds R b a_cell t closes k h = body_implied-Holds R b h
-table_start-Holds R b a_row t closes k h = body_implied-Holds R b h
-table_start-Holds R b a_table t closes k h = either-after R (has_in_table_scope is_table b) (Again (table_closed b)) (Done b) (table_closed-Holds R b h) h
-table_start-Holds R b a_style t closes k h = in_head_start-Holds R b a_style t k h
-table_start-Holds R b a_script t closes k h = in_head_start-Holds R b a_script t k h
-table_start-Holds R b a_template t closes k h = in_head_start-Holds R b a_template t k h
-table_start-Holds R b an_input t closes k h = either-after R (has_value (codes "type") (codes "hidden") t.attributes) (Done (insert_and_pop t b)) (with_foster_parenting b (a_start an_input t closes)) (alone-Holds R t b k.alone h) (fostered-Holds R b (a_start an_input t closes) k h)
-table_start-Holds R b a_form t closes k h = table_form-Holds R b.form b t (k.opens refl) h
-table_start-Holds R b g t closes k h = fostered-Holds R b (a_start g t closes) k h
+pub table_start-Holds : (R : Allowed) (b : Builder) (g : Group) (t : Tag) (closes : Bool) → Starts R g t → Roams b → Holds R b → HoldsAfter R (table_start b g t closes)
+table_start-Holds R b a_caption t closes k n h = insert-Holds R t (insert_marker (clear_stack_back_to_table_context b)) (k.opens refl) (marker-Holds R (clear_stack_back_to_table_context b) (clear_stack_back_to_table_context-Holds R b h))
+table_start-Holds R b a_column_group t closes k n h = insert-Holds R t (clear_stack_back_to_table_context b) (k.opens refl) (clear_stack_back_to_table_context-Holds R b h)
+table_start-Holds R b a_column t closes k n h = insert-Holds R (bare_tag (codes "colgroup")) (clear_stack_back_to_table_context b) R.column_group (clear_stack_back_to_table_context-Holds R b h)
+table_start-Holds R b a_table_body t closes k n h = body_opened-Holds R b t (k.opens refl) h
+table_start-Holds R b a_cell t closes k n h = body_implied-Holds R b h
+table_start-Holds R b a_row t closes k n h = body_implied-Holds R b h
+table_start-Holds R b a_table t closes k n h = either-after R (has_in_table_scope is_table b) (Again (table_closed b)) (Done b) (table_closed-Holds R b h) h
+table_start-Holds R b a_style t closes k n h = in_head_start-Holds R b a_style t k n h
+table_start-Holds R b a_script t closes k n h = in_head_start-Holds R b a_script t k n h
+table_start-Holds R b a_template t closes k n h = in_head_start-Holds R b a_template t k n h
+table_start-Holds R b an_input t closes k n h = either-after R (has_value (codes "type") (codes "hidden") t.attributes) (Done (insert_and_pop t b)) (with_foster_parenting b (a_start an_input t closes)) (alone-Holds R t b k.alone h) (fostered-Holds R b (a_start an_input t closes) k n h)
+table_start-Holds R b a_form t closes k n h = table_form-Holds R b.form b t (k.opens refl) h
+table_start-Holds R b g t closes k n h = fostered-Holds R b (a_start g t closes) k n h
 
-pub table_end-Holds : (R : Allowed) (b : Builder) (g : Group) (name : List ℕ) → Holds R b → HoldsAfter R (table_end b g name)
-table_end-Holds R b a_table name h = either R (has_in_table_scope is_table b) (table_closed b) b (table_closed-Holds R b h) h
-table_end-Holds R b the_body name h = h
-table_end-Holds R b a_caption name h = h
-table_end-Holds R b a_column name h = h
-table_end-Holds R b a_column_group name h = h
-table_end-Holds R b the_html name h = h
-table_end-Holds R b a_table_body name h = h
-table_end-Holds R b a_cell name h = h
-table_end-Holds R b a_row name h = h
-table_end-Holds R b a_template name h = template_end_tag-Holds R b h
-table_end-Holds R b g name h = fostered-Holds R b (an_end g name) tt h
+pub table_end-Holds : (R : Allowed) (b : Builder) (g : Group) (name : List ℕ) → Roams b → Holds R b → HoldsAfter R (table_end b g name)
+table_end-Holds R b a_table name n h = either R (has_in_table_scope is_table b) (table_closed b) b (table_closed-Holds R b h) h
+table_end-Holds R b the_body name n h = h
+table_end-Holds R b a_caption name n h = h
+table_end-Holds R b a_column name n h = h
+table_end-Holds R b a_column_group name n h = h
+table_end-Holds R b the_html name n h = h
+table_end-Holds R b a_table_body name n h = h
+table_end-Holds R b a_cell name n h = h
+table_end-Holds R b a_row name n h = h
+table_end-Holds R b a_template name n h = template_end_tag-Holds R b h
+table_end-Holds R b g name n h = fostered-Holds R b (an_end g name) tt n h
 
-pub table_character-Holds : (R : Allowed) (b : Builder) (c : ℕ) → R.Says c → Holds R b → HoldsAfter R (table_character b c)
-table_character-Holds R b c k h = either-after R (is_text_in_table (current_tag b)) (Again (record b { pending = []; original = b.mode; mode = in_table_text })) (with_foster_parenting b (a_character c)) (none_pending-Holds R b h) (fostered-Holds R b (a_character c) k h)
+pub table_character-Holds : (R : Allowed) (b : Builder) (c : ℕ) → R.Says c → Roams b → Holds R b → HoldsAfter R (table_character b c)
+table_character-Holds R b c k n h = either-after R (is_text_in_table (current_tag b)) (Again (record b { pending = []; original = b.mode; mode = in_table_text })) (with_foster_parenting b (a_character c)) (let x = none_pending-Holds R b h in (x.0, x.1, λ y. let s = x.2 y in (s.0, n, s.2, s.3))) (fostered-Holds R b (a_character c) k n h)
 
-pub in_table_step-Holds : (R : Allowed) (b : Builder) (token : Token) → Allows R token → Holds R b → HoldsAfter R (in_table_step b token)
-in_table_step-Holds R b (a_character c) k h = table_character-Holds R b c k h
-in_table_step-Holds R b (a_comment bytes) k h = comment-Holds R bytes b k h
-in_table_step-Holds R b (a_doctype own) k h = h
-in_table_step-Holds R b (a_start g t closes) k h = table_start-Holds R b g t closes k h
-in_table_step-Holds R b (an_end g name) k h = table_end-Holds R b g name h
-in_table_step-Holds R b end_of_file k h = file_ended-Holds R b h
+pub in_table_step-Holds : (R : Allowed) (b : Builder) (token : Token) → Allows R token → Roams b → Holds R b → HoldsAfter R (in_table_step b token)
+in_table_step-Holds R b (a_character c) k n h = table_character-Holds R b c k n h
+in_table_step-Holds R b (a_comment bytes) k n h = comment-Holds R bytes b k h
+in_table_step-Holds R b (a_doctype own) k n h = h
+in_table_step-Holds R b (a_start g t closes) k n h = table_start-Holds R b g t closes k n h
+in_table_step-Holds R b (an_end g name) k n h = table_end-Holds R b g name n h
+in_table_step-Holds R b end_of_file k n h = file_ended-Holds R b h
 
 body_characters-Holds : (R : Allowed) (bytes : List ℕ) (b : Builder) → Each R.Says bytes → Holds R b → Holds R (body_characters bytes b)
 body_characters-Holds R [] b k h = h
@@ -111,31 +111,31 @@ caption_closed-Holds R b h = clear-Holds R (close_except_for no_tag is_caption b
 pub after_caption-Holds : (R : Allowed) (b : Builder) → Holds R b → HoldsAfter R (after_caption b)
 after_caption-Holds R b h = either-after R (has_in_table_scope is_caption b) (Again (caption_closed b)) (Done b) (caption_closed-Holds R b h) h
 
-pub caption_start-Holds : (R : Allowed) (b : Builder) (g : Group) (t : Tag) (closes : Bool) → Starts R g t → Holds R b → HoldsAfter R (caption_start b g t closes)
-caption_start-Holds R b a_caption t closes k h = after_caption-Holds R b h
-caption_start-Holds R b a_column t closes k h = after_caption-Holds R b h
-caption_start-Holds R b a_column_group t closes k h = after_caption-Holds R b h
-caption_start-Holds R b a_table_body t closes k h = after_caption-Holds R b h
-caption_start-Holds R b a_cell t closes k h = after_caption-Holds R b h
-caption_start-Holds R b a_row t closes k h = after_caption-Holds R b h
-caption_start-Holds R b g t closes k h = in_body_step-Holds R b (a_start g t closes) k h
+pub caption_start-Holds : (R : Allowed) (b : Builder) (g : Group) (t : Tag) (closes : Bool) → Starts R g t → Roams b → Holds R b → HoldsAfter R (caption_start b g t closes)
+caption_start-Holds R b a_caption t closes k n h = after_caption-Holds R b h
+caption_start-Holds R b a_column t closes k n h = after_caption-Holds R b h
+caption_start-Holds R b a_column_group t closes k n h = after_caption-Holds R b h
+caption_start-Holds R b a_table_body t closes k n h = after_caption-Holds R b h
+caption_start-Holds R b a_cell t closes k n h = after_caption-Holds R b h
+caption_start-Holds R b a_row t closes k n h = after_caption-Holds R b h
+caption_start-Holds R b g t closes k n h = in_body_step-Holds R b (a_start g t closes) k n h
 
-pub caption_end-Holds : (R : Allowed) (b : Builder) (g : Group) (name : List ℕ) → Holds R b → HoldsAfter R (caption_end b g name)
-caption_end-Holds R b a_caption name h = either R (has_in_table_scope is_caption b) (caption_closed b) b (caption_closed-Holds R b h) h
-caption_end-Holds R b a_table name h = after_caption-Holds R b h
-caption_end-Holds R b the_body name h = h
-caption_end-Holds R b a_column name h = h
-caption_end-Holds R b a_column_group name h = h
-caption_end-Holds R b the_html name h = h
-caption_end-Holds R b a_table_body name h = h
-caption_end-Holds R b a_cell name h = h
-caption_end-Holds R b a_row name h = h
-caption_end-Holds R b g name h = in_body_step-Holds R b (an_end g name) tt h
+pub caption_end-Holds : (R : Allowed) (b : Builder) (g : Group) (name : List ℕ) → Roams b → Holds R b → HoldsAfter R (caption_end b g name)
+caption_end-Holds R b a_caption name n h = either R (has_in_table_scope is_caption b) (caption_closed b) b (caption_closed-Holds R b h) h
+caption_end-Holds R b a_table name n h = after_caption-Holds R b h
+caption_end-Holds R b the_body name n h = h
+caption_end-Holds R b a_column name n h = h
+caption_end-Holds R b a_column_group name n h = h
+caption_end-Holds R b the_html name n h = h
+caption_end-Holds R b a_table_body name n h = h
+caption_end-Holds R b a_cell name n h = h
+caption_end-Holds R b a_row name n h = h
+caption_end-Holds R b g name n h = in_body_step-Holds R b (an_end g name) tt n h
 
-pub in_caption_step-Holds : (R : Allowed) (b : Builder) (token : Token) → Allows R token → Holds R b → HoldsAfter R (in_caption_step b token)
-in_caption_step-Holds R b (a_start g t closes) k h = caption_start-Holds R b g t closes k h
-in_caption_step-Holds R b (an_end g name) k h = caption_end-Holds R b g name h
-in_caption_step-Holds R b token k h = in_body_step-Holds R b token k h
+pub in_caption_step-Holds : (R : Allowed) (b : Builder) (token : Token) → Allows R token → Roams b → Holds R b → HoldsAfter R (in_caption_step b token)
+in_caption_step-Holds R b (a_start g t closes) k n h = caption_start-Holds R b g t closes k n h
+in_caption_step-Holds R b (an_end g name) k n h = caption_end-Holds R b g name n h
+in_caption_step-Holds R b token k n h = in_body_step-Holds R b token k n h
 
 pub column_group_closed-Holds : (R : Allowed) (b : Builder) → Holds R b → Holds R (column_group_closed b)
 column_group_closed-Holds R b h = pop-Holds R b h
@@ -143,11 +143,11 @@ column_group_closed-Holds R b h = pop-Holds R b h
 pub after_column_group-Holds : (R : Allowed) (b : Builder) → Holds R b → HoldsAfter R (after_column_group b)
 after_column_group-Holds R b h = either-after R (is_in_column_group b) (Again (column_group_closed b)) (Done b) (column_group_closed-Holds R b h) h
 
-pub column_start-Holds : (R : Allowed) (b : Builder) (g : Group) (t : Tag) → Starts R g t → Holds R b → HoldsAfter R (column_start b g t)
-column_start-Holds R b the_html t k h = html_start-Holds R b t (k.more refl) h
-column_start-Holds R b a_column t k h = alone-Holds R t b k.alone h
-column_start-Holds R b a_template t k h = in_head_start-Holds R b a_template t k h
-column_start-Holds R b g t k h = after_column_group-Holds R b h
+pub column_start-Holds : (R : Allowed) (b : Builder) (g : Group) (t : Tag) → Starts R g t → Roams b → Holds R b → HoldsAfter R (column_start b g t)
+column_start-Holds R b the_html t k n h = html_start-Holds R b t (k.more refl) h
+column_start-Holds R b a_column t k n h = alone-Holds R t b k.alone h
+column_start-Holds R b a_template t k n h = in_head_start-Holds R b a_template t k n h
+column_start-Holds R b g t k n h = after_column_group-Holds R b h
 
 pub column_end-Holds : (R : Allowed) (b : Builder) (g : Group) → Holds R b → HoldsAfter R (column_end b g)
 column_end-Holds R b a_column_group h = either R (is_in_column_group b) (column_group_closed b) b (column_group_closed-Holds R b h) h
@@ -155,13 +155,13 @@ column_end-Holds R b a_column h = h
 column_end-Holds R b a_template h = template_end_tag-Holds R b h
 column_end-Holds R b g h = after_column_group-Holds R b h
 
-pub in_column_group_step-Holds : (R : Allowed) (b : Builder) (token : Token) → Allows R token → Holds R b → HoldsAfter R (in_column_group_step b token)
-in_column_group_step-Holds R b (a_character c) k h = either-after R (is_ascii_whitespace c) (Done (insert_character c b)) (after_column_group b) (character-Holds R c b k h) (after_column_group-Holds R b h)
-in_column_group_step-Holds R b (a_comment bytes) k h = comment-Holds R bytes b k h
-in_column_group_step-Holds R b (a_doctype own) k h = h
-in_column_group_step-Holds R b (a_start g t closes) k h = column_start-Holds R b g t k h
-in_column_group_step-Holds R b (an_end g name) k h = column_end-Holds R b g h
-in_column_group_step-Holds R b end_of_file k h = file_ended-Holds R b h
+pub in_column_group_step-Holds : (R : Allowed) (b : Builder) (token : Token) → Allows R token → Roams b → Holds R b → HoldsAfter R (in_column_group_step b token)
+in_column_group_step-Holds R b (a_character c) k n h = either-after R (is_ascii_whitespace c) (Done (insert_character c b)) (after_column_group b) (character-Holds R c b k h) (after_column_group-Holds R b h)
+in_column_group_step-Holds R b (a_comment bytes) k n h = comment-Holds R bytes b k h
+in_column_group_step-Holds R b (a_doctype own) k n h = h
+in_column_group_step-Holds R b (a_start g t closes) k n h = column_start-Holds R b g t k n h
+in_column_group_step-Holds R b (an_end g name) k n h = column_end-Holds R b g h
+in_column_group_step-Holds R b end_of_file k n h = file_ended-Holds R b h
 
 pub row_opened-Holds : (R : Allowed) (b : Builder) (t : Tag) → R.Opens t → Holds R b → Holds R (row_opened b t)
 row_opened-Holds R b t o h = insert-Holds R t (clear_stack_back_to_table_body_context b) o (clear_stack_back_to_table_body_context-Holds R b h)
@@ -172,24 +172,24 @@ body_closed-Holds R b h = pop-Holds R (clear_stack_back_to_table_body_context b)
 pub after_table_body-Holds : (R : Allowed) (b : Builder) → Holds R b → HoldsAfter R (after_table_body b)
 after_table_body-Holds R b h = either-after R (has_in_table_scope (is_any (codes "tbody tfoot thead")) b) (Again (body_closed b)) (Done b) (body_closed-Holds R b h) h
 
-pub table_body_start-Holds : (R : Allowed) (b : Builder) (g : Group) (t : Tag) (closes : Bool) → Starts R g t → Holds R b → HoldsAfter R (table_body_start b g t closes)
-table_body_start-Holds R b a_row t closes k h = row_opened-Holds R b t (k.opens refl) h
-table_body_start-Holds R b a_cell t closes k h = row_opened-Holds R b (bare_tag (codes "tr")) R.row h
-table_body_start-Holds R b a_caption t closes k h = after_table_body-Holds R b h
-table_body_start-Holds R b a_column t closes k h = after_table_body-Holds R b h
-table_body_start-Holds R b a_column_group t closes k h = after_table_body-Holds R b h
-table_body_start-Holds R b a_table_body t closes k h = after_table_body-Holds R b h
-table_body_start-Holds R b g t closes k h = table_start-Holds R b g t closes k h
+pub table_body_start-Holds : (R : Allowed) (b : Builder) (g : Group) (t : Tag) (closes : Bool) → Starts R g t → Roams b → Holds R b → HoldsAfter R (table_body_start b g t closes)
+table_body_start-Holds R b a_row t closes k n h = row_opened-Holds R b t (k.opens refl) h
+table_body_start-Holds R b a_cell t closes k n h = row_opened-Holds R b (bare_tag (codes "tr")) R.row h
+table_body_start-Holds R b a_caption t closes k n h = after_table_body-Holds R b h
+table_body_start-Holds R b a_column t closes k n h = after_table_body-Holds R b h
+table_body_start-Holds R b a_column_group t closes k n h = after_table_body-Holds R b h
+table_body_start-Holds R b a_table_body t closes k n h = after_table_body-Holds R b h
+table_body_start-Holds R b g t closes k n h = table_start-Holds R b g t closes k n h
 
-pub table_body_end-Holds : (R : Allowed) (b : Builder) (g : Group) (name : List ℕ) → Holds R b → HoldsAfter R (table_body_end b g name)
-table_body_end-Holds R b a_table_body name h = either R (has_in_table_scope (is_named name) b) (body_closed b) b (body_closed-Holds R b h) h
-table_body_end-Holds R b a_table name h = after_table_body-Holds R b h
-table_body_end-Holds R b g name h = table_end-Holds R b g name h
+pub table_body_end-Holds : (R : Allowed) (b : Builder) (g : Group) (name : List ℕ) → Roams b → Holds R b → HoldsAfter R (table_body_end b g name)
+table_body_end-Holds R b a_table_body name n h = either R (has_in_table_scope (is_named name) b) (body_closed b) b (body_closed-Holds R b h) h
+table_body_end-Holds R b a_table name n h = after_table_body-Holds R b h
+table_body_end-Holds R b g name n h = table_end-Holds R b g name n h
 
-pub in_table_body_step-Holds : (R : Allowed) (b : Builder) (token : Token) → Allows R token → Holds R b → HoldsAfter R (in_table_body_step b token)
-in_table_body_step-Holds R b (a_start g t closes) k h = table_body_start-Holds R b g t closes k h
-in_table_body_step-Holds R b (an_end g name) k h = table_body_end-Holds R b g name h
-in_table_body_step-Holds R b token k h = in_table_step-Holds R b token k h
+pub in_table_body_step-Holds : (R : Allowed) (b : Builder) (token : Token) → Allows R token → Roams b → Holds R b → HoldsAfter R (in_table_body_step b token)
+in_table_body_step-Holds R b (a_start g t closes) k n h = table_body_start-Holds R b g t closes k n h
+in_table_body_step-Holds R b (an_end g name) k n h = table_body_end-Holds R b g name n h
+in_table_body_step-Holds R b token k n h = in_table_step-Holds R b token k n h
 
 pub row_closed-Holds : (R : Allowed) (b : Builder) → Holds R b → Holds R (row_closed b)
 row_closed-Holds R b h = pop-Holds R (clear_stack_back_to_table_row_context b) (clear_stack_back_to_table_row_context-Holds R b h)
@@ -197,25 +197,25 @@ row_closed-Holds R b h = pop-Holds R (clear_stack_back_to_table_row_context b) (
 pub after_row-Holds : (R : Allowed) (b : Builder) → Holds R b → HoldsAfter R (after_row b)
 after_row-Holds R b h = either-after R (has_in_table_scope is_row b) (Again (row_closed b)) (Done b) (row_closed-Holds R b h) h
 
-pub row_start-Holds : (R : Allowed) (b : Builder) (g : Group) (t : Tag) (closes : Bool) → Starts R g t → Holds R b → HoldsAfter R (row_start b g t closes)
-row_start-Holds R b a_cell t closes k h = marker-Holds R (insert_element t (clear_stack_back_to_table_row_context b)) (insert-Holds R t (clear_stack_back_to_table_row_context b) (k.opens refl) (clear_stack_back_to_table_row_context-Holds R b h))
-row_start-Holds R b a_caption t closes k h = after_row-Holds R b h
-row_start-Holds R b a_column t closes k h = after_row-Holds R b h
-row_start-Holds R b a_column_group t closes k h = after_row-Holds R b h
-row_start-Holds R b a_table_body t closes k h = after_row-Holds R b h
-row_start-Holds R b a_row t closes k h = after_row-Holds R b h
-row_start-Holds R b g t closes k h = table_start-Holds R b g t closes k h
+pub row_start-Holds : (R : Allowed) (b : Builder) (g : Group) (t : Tag) (closes : Bool) → Starts R g t → Roams b → Holds R b → HoldsAfter R (row_start b g t closes)
+row_start-Holds R b a_cell t closes k n h = marker-Holds R (insert_element t (clear_stack_back_to_table_row_context b)) (insert-Holds R t (clear_stack_back_to_table_row_context b) (k.opens refl) (clear_stack_back_to_table_row_context-Holds R b h))
+row_start-Holds R b a_caption t closes k n h = after_row-Holds R b h
+row_start-Holds R b a_column t closes k n h = after_row-Holds R b h
+row_start-Holds R b a_column_group t closes k n h = after_row-Holds R b h
+row_start-Holds R b a_table_body t closes k n h = after_row-Holds R b h
+row_start-Holds R b a_row t closes k n h = after_row-Holds R b h
+row_start-Holds R b g t closes k n h = table_start-Holds R b g t closes k n h
 
-pub row_end-Holds : (R : Allowed) (b : Builder) (g : Group) (name : List ℕ) → Holds R b → HoldsAfter R (row_end b g name)
-row_end-Holds R b a_row name h = either R (has_in_table_scope is_row b) (row_closed b) b (row_closed-Holds R b h) h
-row_end-Holds R b a_table name h = after_row-Holds R b h
-row_end-Holds R b a_table_body name h = either-after R (has_in_table_scope (is_named name) b) (after_row b) (Done b) (after_row-Holds R b h) h
-row_end-Holds R b g name h = table_end-Holds R b g name h
+pub row_end-Holds : (R : Allowed) (b : Builder) (g : Group) (name : List ℕ) → Roams b → Holds R b → HoldsAfter R (row_end b g name)
+row_end-Holds R b a_row name n h = either R (has_in_table_scope is_row b) (row_closed b) b (row_closed-Holds R b h) h
+row_end-Holds R b a_table name n h = after_row-Holds R b h
+row_end-Holds R b a_table_body name n h = either-after R (has_in_table_scope (is_named name) b) (after_row b) (Done b) (after_row-Holds R b h) h
+row_end-Holds R b g name n h = table_end-Holds R b g name n h
 
-pub in_row_step-Holds : (R : Allowed) (b : Builder) (token : Token) → Allows R token → Holds R b → HoldsAfter R (in_row_step b token)
-in_row_step-Holds R b (a_start g t closes) k h = row_start-Holds R b g t closes k h
-in_row_step-Holds R b (an_end g name) k h = row_end-Holds R b g name h
-in_row_step-Holds R b token k h = in_table_step-Holds R b token k h
+pub in_row_step-Holds : (R : Allowed) (b : Builder) (token : Token) → Allows R token → Roams b → Holds R b → HoldsAfter R (in_row_step b token)
+in_row_step-Holds R b (a_start g t closes) k n h = row_start-Holds R b g t closes k n h
+in_row_step-Holds R b (an_end g name) k n h = row_end-Holds R b g name n h
+in_row_step-Holds R b token k n h = in_table_step-Holds R b token k n h
 
 pub cell_closed-Holds : (R : Allowed) (test : Tag → Bool) (b : Builder) → Holds R b → Holds R (cell_closed test b)
 cell_closed-Holds R test b h = clear-Holds R (close_except_for no_tag test b) (close-Holds R no_tag test b h)
@@ -226,28 +226,28 @@ after_cell-Holds R b h = either-after R (has_in_table_scope is_cell b) (Again (c
 pub after_cell_in-Holds : (R : Allowed) (name : List ℕ) (b : Builder) → Holds R b → HoldsAfter R (after_cell_in name b)
 after_cell_in-Holds R name b h = either-after R (has_in_table_scope (is_named name) b) (Again (cell_closed is_cell b)) (Done b) (cell_closed-Holds R is_cell b h) h
 
-pub cell_start-Holds : (R : Allowed) (b : Builder) (g : Group) (t : Tag) (closes : Bool) → Starts R g t → Holds R b → HoldsAfter R (cell_start b g t closes)
-cell_start-Holds R b a_caption t closes k h = after_cell-Holds R b h
-cell_start-Holds R b a_column t closes k h = after_cell-Holds R b h
-cell_start-Holds R b a_column_group t closes k h = after_cell-Holds R b h
-cell_start-Holds R b a_table_body t closes k h = after_cell-Holds R b h
-cell_start-Holds R b a_cell t closes k h = after_cell-Holds R b h
-cell_start-Holds R b a_row t closes k h = after_cell-Holds R b h
-cell_start-Holds R b g t closes k h = in_body_step-Holds R b (a_start g t closes) k h
+pub cell_start-Holds : (R : Allowed) (b : Builder) (g : Group) (t : Tag) (closes : Bool) → Starts R g t → Roams b → Holds R b → HoldsAfter R (cell_start b g t closes)
+cell_start-Holds R b a_caption t closes k n h = after_cell-Holds R b h
+cell_start-Holds R b a_column t closes k n h = after_cell-Holds R b h
+cell_start-Holds R b a_column_group t closes k n h = after_cell-Holds R b h
+cell_start-Holds R b a_table_body t closes k n h = after_cell-Holds R b h
+cell_start-Holds R b a_cell t closes k n h = after_cell-Holds R b h
+cell_start-Holds R b a_row t closes k n h = after_cell-Holds R b h
+cell_start-Holds R b g t closes k n h = in_body_step-Holds R b (a_start g t closes) k n h
 
-pub cell_end-Holds : (R : Allowed) (b : Builder) (g : Group) (name : List ℕ) → Holds R b → HoldsAfter R (cell_end b g name)
-cell_end-Holds R b a_cell name h = either R (has_in_table_scope (is_named name) b) (cell_closed (is_named name) b) b (cell_closed-Holds R (is_named name) b h) h
-cell_end-Holds R b the_body name h = h
-cell_end-Holds R b a_caption name h = h
-cell_end-Holds R b a_column name h = h
-cell_end-Holds R b a_column_group name h = h
-cell_end-Holds R b the_html name h = h
-cell_end-Holds R b a_table name h = after_cell_in-Holds R name b h
-cell_end-Holds R b a_table_body name h = after_cell_in-Holds R name b h
-cell_end-Holds R b a_row name h = after_cell_in-Holds R name b h
-cell_end-Holds R b g name h = in_body_step-Holds R b (an_end g name) tt h
+pub cell_end-Holds : (R : Allowed) (b : Builder) (g : Group) (name : List ℕ) → Roams b → Holds R b → HoldsAfter R (cell_end b g name)
+cell_end-Holds R b a_cell name n h = either R (has_in_table_scope (is_named name) b) (cell_closed (is_named name) b) b (cell_closed-Holds R (is_named name) b h) h
+cell_end-Holds R b the_body name n h = h
+cell_end-Holds R b a_caption name n h = h
+cell_end-Holds R b a_column name n h = h
+cell_end-Holds R b a_column_group name n h = h
+cell_end-Holds R b the_html name n h = h
+cell_end-Holds R b a_table name n h = after_cell_in-Holds R name b h
+cell_end-Holds R b a_table_body name n h = after_cell_in-Holds R name b h
+cell_end-Holds R b a_row name n h = after_cell_in-Holds R name b h
+cell_end-Holds R b g name n h = in_body_step-Holds R b (an_end g name) tt n h
 
-pub in_cell_step-Holds : (R : Allowed) (b : Builder) (token : Token) → Allows R token → Holds R b → HoldsAfter R (in_cell_step b token)
-in_cell_step-Holds R b (a_start g t closes) k h = cell_start-Holds R b g t closes k h
-in_cell_step-Holds R b (an_end g name) k h = cell_end-Holds R b g name h
-in_cell_step-Holds R b token k h = in_body_step-Holds R b token k h
+pub in_cell_step-Holds : (R : Allowed) (b : Builder) (token : Token) → Allows R token → Roams b → Holds R b → HoldsAfter R (in_cell_step b token)
+in_cell_step-Holds R b (a_start g t closes) k n h = cell_start-Holds R b g t closes k n h
+in_cell_step-Holds R b (an_end g name) k n h = cell_end-Holds R b g name n h
+in_cell_step-Holds R b token k n h = in_body_step-Holds R b token k n h

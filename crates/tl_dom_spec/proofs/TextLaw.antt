@@ -39,7 +39,10 @@ anything = record {
   Types = λ _. ⊤;
   Adds = λ _. ⊤;
   Reads = λ _. ⊤;
+  Around = λ _. ⊤;
+  Scripts = λ _. ⊤;
   Seated = ⊥;
+  Grouped = ⊥;
   stands = λ _ _. tt;
   headed = λ _ _ _. tt;
   adds = λ _ _ _ _. tt;
@@ -62,10 +65,12 @@ any_start g t = record {
   image = λ _. tt;
   math = λ _. tt;
   svg = λ _. tt;
-  foreign = λ _ _. tt;
+  foreign = λ _ _ _. tt;
   more = λ _. tt;
-  inside = tt;
+  inside = λ _. tt;
+  scripted = λ _. tt;
   after = tt;
+  listed = λ y _. absurd y;
 }
 
 pub any_token : (token : Token) → Allows anything token
@@ -84,11 +89,11 @@ pub texts_of : (trees : HtmlForest) → Follows anything trees → AreTexts tree
 texts_of trees f = (texts-weaken (IsText anything) IsSome trees (λ bytes t. t.0) f.texts, f.apart)
 
 pub built_texts : (flags : Flags) (tokens : List Token) → AreTexts (page_built flags tokens).trees
-built_texts flags tokens = texts_of (page_built flags tokens).trees (page-Follows anything flags tokens (λ s. s) (any_tokens tokens))
+built_texts flags tokens = texts_of (page_built flags tokens).trees (page-Follows anything flags tokens (λ s. s) tt (any_tokens tokens))
 
 pub built_fragment_texts : (flags : Flags) (context : Context) (tokens : List Token) → AreTexts (fragment_built flags context tokens)
 built_fragment_texts flags context tokens =
-    texts_of (fragment_built flags context tokens) (fragment-Follows anything flags context tokens (λ s. s) (any_tokens tokens))
+    texts_of (fragment_built flags context tokens) (fragment-Follows anything flags context tokens (λ s. s) tt tt (any_tokens tokens))
 
 pub page_texts : (flags : Flags) (page : List ℕ) → AreTexts (html_tree_by flags page).trees
 page_texts flags page =

@@ -1,5 +1,5 @@
 -- The builder drives the tokenizer: from bytes to what the builder holds.
-use Rattle.std.specs.Prelude.{Bool, List, None, codes, false, not, ℕ}
+use Rattle.std.specs.Prelude.{List, None, codes, false, not, ℕ}
 use Rattle.tl_html_spec.specs.HtmlTokenizer.{Character, CommentToken, DoctypeToken, EndTag, HtmlToken, StartTag}
 use Rattle.tl_html_spec.specs.Doctypes.{Doctype}
 use Rattle.tl_html_spec.specs.Driven.{DrivenState, Driver, Emission, doctype_of, driven, plain}

@@ -1,18 +1,20 @@
 -- Laws of trees that are built of tokens: what holds of each element, text and comment in them.
-use Rattle.std.specs.Prelude.{Bool, List, [], codes, false, map, true, ℕ, ◌∷◌, ◌≡◌, ◌⊎◌, ⊤}
+use Rattle.std.specs.Prelude.{Bool, List, [], codes, false, map, not, suc, true, zero, ℕ, ◌||◌, ◌∷◌, ◌≡◌, ◌⊎◌, ⊤}
+use Rattle.tl_names.specs.Elements.{is_among, rcdata_names}
 use Rattle.tl_html_spec.specs.Balanced.{is_one_of}
-use Rattle.tl_html_spec.specs.HtmlTokenizer.{data_state, replacement, without_mark}
+use Rattle.tl_html_spec.specs.HtmlTokenizer.{HtmlToken, StartTag, data_state, replacement, without_mark}
 use Rattle.tl_html_spec.specs.Sound.{IsSome}
 use Rattle.tl_html_spec.specs.Doctypes.{Doctype}
-use Rattle.tl_html_spec.specs.Driven.{driven_tokens, driving, in_state}
-use Rattle.tl_dom_spec.specs.Tags.{Namespace, Tag, bare_tag, by_space, is_any, math_space, svg_space}
+use Rattle.tl_html_spec.specs.Driven.{Emission, by_name, doctype_of, driven_tokens, driving, in_state, no_tokens}
+use Rattle.tl_dom_spec.specs.Tags.{Namespace, Tag, bare_tag, by_space, is_any, is_table, is_template, math_space, svg_space}
+use Rattle.tl_dom_spec.specs.Path.{Path}
 use Rattle.tl_dom_spec.specs.Groups.{Group, a_math, an_image, an_svg, the_body, the_html}
-use Rattle.tl_dom_spec.specs.Builder.{Flags, Token, a_character, a_comment, a_doctype, a_start, end_of_file, with_more}
+use Rattle.tl_dom_spec.specs.Builder.{Again, Builder, Done, Entry, Flags, Mode, Outcome, Token, a_character, a_comment, a_doctype, a_start, end_of_file, formatting, in_body, in_column_group, in_row, in_table, in_table_body, in_table_text, in_template, marker, text_mode, with_more}
 use Rattle.tl_dom_spec.specs.Adjusted.{foreign_name, foreign_tag}
-use Rattle.tl_dom_spec.specs.Dispatcher.{token_done, tokens_done}
-use Rattle.tl_dom_spec.specs.Driver.{builder, emitted_token}
+use Rattle.tl_dom_spec.specs.Dispatcher.{bound, calm, dispatch, token_done, tokens_done}
+use Rattle.tl_dom_spec.specs.Driver.{builder, emitted_token, html_doctype}
 use Rattle.tl_dom_spec.specs.HtmlForest.{HtmlForest, comment, doctype, element, no_trees, text}
-use Rattle.tl_dom_spec.specs.HtmlTree.{Context, Document, children_of, context_state, document_of, fragment_start, page_start}
+use Rattle.tl_dom_spec.specs.HtmlTree.{Context, Document, children_of, context_state, document_of, fragment_start, is_raw_in, page_start}
 
 -- what holds of each element, with what stands below it
 abbrev pub EachElement : (Tag → HtmlForest → Type 0) → HtmlForest → Type 0
@@ -184,3 +186,80 @@ IsPage (text bytes more) = ⊥
 IsPage (comment bytes more) = IsPage more
 IsPage (doctype own more) = IsPage more
 IsPage (element tag below more) = (is_any (codes "html") tag ≡ true) × BeginsWithHead below
+
+-- Tokens of texts: as the names of start tags drive the tokenizer
+
+-- doctypes have their parts
+abbrev pub driven_by_names : List ℕ → List Emission
+driven_by_names bytes = driven_tokens by_name (driving no_tokens (in_state data_state)) bytes
+
+-- neither foreign content nor raw text begins with a start tag of the name
+abbrev pub is_plain_name : Flags → List ℕ → Bool
+is_plain_name flags name =
+    not (is_one_of (codes "math svg") name || is_among rcdata_names name
+    || is_raw_in flags (bare_tag name))
+
+-- the names of start tags are plain
+abbrev pub HavePlainNames : Flags → List HtmlToken → Type 0
+HavePlainNames flags [] = ⊤
+HavePlainNames flags (StartTag name attributes closes ∷ tokens) =
+    (is_plain_name flags name ≡ true) × HavePlainNames flags tokens
+HavePlainNames flags (token ∷ tokens) = HavePlainNames flags tokens
+
+-- each doctype is `<!DOCTYPE html>`
+abbrev pub HaveHtmlDoctypes : List Emission → Type 0
+HaveHtmlDoctypes [] = ⊤
+HaveHtmlDoctypes (doctype_of own ∷ emissions) =
+    (own ≡ html_doctype) × HaveHtmlDoctypes emissions
+HaveHtmlDoctypes (e ∷ emissions) = HaveHtmlDoctypes emissions
+
+-- Reprocessing
+
+-- whether steps end with one that asks for no other, where so many are taken at most
+abbrev pub is_done_within : ℕ → (Builder → Outcome) → Outcome → Bool
+is_done_within n step (Done b) = true
+is_done_within zero step (Again b) = false
+is_done_within (suc n) step (Again b) = is_done_within n step (step b)
+
+-- a token is reprocessed less often than it may be
+abbrev pub IsDoneWith : Builder → Token → Type 0
+IsDoneWith b token = is_done_within (bound b) (dispatch token) (Again (calm b)) ≡ true
+
+-- the last frame is not open: the document
+abbrev pub IsRooted : Path → Type 0
+IsRooted [] = ⊥
+IsRooted (f ∷ []) = f.is_open ≡ false
+IsRooted (f ∷ g ∷ path) = IsRooted (g ∷ path)
+
+-- modes that end with a change to the original insertion mode
+abbrev pub is_text_mode : Mode → Bool
+is_text_mode text_mode = true
+is_text_mode in_table_text = true
+is_text_mode _ = false
+
+-- modes that a start tag sets in a template, and the first one there
+abbrev pub is_template_mode : Mode → Bool
+is_template_mode in_template = true
+is_template_mode in_table = true
+is_template_mode in_column_group = true
+is_template_mode in_table_body = true
+is_template_mode in_row = true
+is_template_mode in_body = true
+is_template_mode _ = false
+
+abbrev pub AreTemplateModes : List Mode → Type 0
+AreTemplateModes [] = ⊤
+AreTemplateModes (m ∷ modes) = (is_template_mode m ≡ true) × AreTemplateModes modes
+
+-- no table and no template is in the list of active formatting elements
+abbrev pub AreFormatting : List Entry → Type 0
+AreFormatting [] = ⊤
+AreFormatting (marker ∷ entries) = AreFormatting entries
+AreFormatting (formatting k tag ∷ entries) =
+    ((is_table tag ≡ false) × (is_template tag ≡ false)) × AreFormatting entries
+
+-- what holds before the first token, and is enough for `bound` to suffice
+abbrev pub IsSteady : Builder → Type 0
+IsSteady b =
+    IsRooted b.path × (is_text_mode b.original ≡ false) × AreTemplateModes b.templates
+    × AreFormatting b.active

@@ -1,17 +1,19 @@
 //! Laws of the trees of any page, any fragment and any tokens.
 
-ghost use Rattle.std.specs.Prelude.{◌≡◌, ◌↔◌, Bool, List, Some, codes, map, true, ℕ};
-ghost use Rattle.tl_html_spec.specs.HtmlTokenizer.{HtmlToken, html_tokens};
+ghost use Rattle.std.specs.Prelude.{◌≡◌, ◌≤◌, ◌↔◌, Bool, List, Some, codes, map, true, ℕ};
+ghost use Rattle.tl_html_spec.specs.Driven.{Emission, bare};
+ghost use Rattle.tl_html_spec.specs.HtmlTokenizer.{HtmlToken, data_state, html_tokens, tokens_in_page, without_mark};
 ghost use Rattle.tl_html_spec.specs.Sound.{AreSound};
 ghost use Rattle.tl_tree_spec.specs.HtmlForest.{HtmlForest};
 ghost use Rattle.tl_tree_spec.specs.HtmlTreeBuilder.{html_trees_where};
-ghost use Rattle.tl_dom_spec.specs.Builder.{Flags, Token};
-ghost use Rattle.tl_dom_spec.specs.Driver.{token_of};
+ghost use Rattle.tl_dom_spec.specs.Builder.{Builder, Flags, Outcome, Token, repeated};
+ghost use Rattle.tl_dom_spec.specs.Dispatcher.{tokens_done};
+ghost use Rattle.tl_dom_spec.specs.Driver.{emitted_token, token_of};
 ghost use Rattle.tl_dom_spec.specs.HtmlForest.{has_contents};
-ghost use Rattle.tl_dom_spec.specs.HtmlTree.{Context, context_of, fragment_of_tokens, html_fragment_by, html_tree_by, standard, tree_of_tokens};
-ghost use Rattle.tl_dom_spec.specs.Lawful.{AreNamed, AreTexts, AreVoidEmpty, ComeFrom, HaveNames, IsPage, fragment_built, page_built, tokens_of_fragment, tokens_of_page};
+ghost use Rattle.tl_dom_spec.specs.HtmlTree.{Context, context_of, context_state, fragment_of_tokens, fragment_start, html_fragment_by, html_tree_by, page_start, standard, tree_of_tokens};
+ghost use Rattle.tl_dom_spec.specs.Lawful.{AreNamed, AreTexts, AreVoidEmpty, ComeFrom, HaveHtmlDoctypes, HaveNames, HavePlainNames, IsDoneWith, IsPage, IsSteady, driven_by_names, fragment_built, is_done_within, page_built, tokens_of_fragment, tokens_of_page};
 ghost use Rattle.tl_dom_spec.specs.Partial.{whole};
-ghost use Rattle.tl_dom_spec.specs.Tags.{Tag, bare_tag, html_space};
+ghost use Rattle.tl_dom_spec.specs.Tags.{Tag, bare_tag, html_space, is_html};
 
 /// A page is built of its tokens, and a fragment too: what holds of what any tokens build holds of
 /// any page.
@@ -36,15 +38,17 @@ pub fn texts_are_whole()
         AreTexts (fragment_built flags context tokens) }
 {}
 
-/// No name is empty, where those of the start tags aren't; so where the tokenizer goes by names
-/// alone none is.
-#[tactic(auto, using(crate::proofs::NameLaw::page_names, crate::proofs::NameLaw::fragment_names, crate::proofs::NameLaw::built_names, crate::proofs::NameLaw::built_fragment_names, crate::proofs::NameLaw::sound_names, crate::proofs::NameLaw::names_by_name))]
+/// No name of an element is empty, since none of a start tag is, as any driver of the tokenizer
+/// reads it; of any tokens, where those of the start tags aren't.
+#[tactic(auto, using(crate::proofs::NameLaw::page_names, crate::proofs::NameLaw::fragment_names, crate::proofs::NameLaw::page_starts, crate::proofs::NameLaw::fragment_starts, crate::proofs::NameLaw::built_names, crate::proofs::NameLaw::built_fragment_names, crate::proofs::NameLaw::sound_names, crate::proofs::NameLaw::names_by_name))]
 pub fn elements_have_names()
-    ensures page { (flags : Flags) (page : List ℕ) → HaveNames (tokens_of_page flags page) →
-        AreNamed (html_tree_by flags page).trees }
+    ensures page { (flags : Flags) (page : List ℕ) → AreNamed (html_tree_by flags page).trees }
     ensures fragment { (flags : Flags) (context : Context) (bytes : List ℕ) →
-        HaveNames (tokens_of_fragment flags context bytes) →
         AreNamed (html_fragment_by flags context bytes) }
+    ensures start_tags_of_page { (flags : Flags) (page : List ℕ) →
+        HaveNames (tokens_of_page flags page) }
+    ensures start_tags_of_fragment { (flags : Flags) (context : Context) (bytes : List ℕ) →
+        HaveNames (tokens_of_fragment flags context bytes) }
     ensures page_of_tokens { (flags : Flags) (tokens : List Token) → HaveNames tokens →
         AreNamed (page_built flags tokens).trees }
     ensures fragment_of_tokens { (flags : Flags) (context : Context) (tokens : List Token) →
@@ -96,6 +100,21 @@ pub fn pages_begin_with_html_and_head()
     ensures { (flags : Flags) (page : List ℕ) → IsPage (html_tree_by flags page).trees }
 {}
 
+/// A token is done with before it was reprocessed as often as `bound` says: any token, after those
+/// of any page or fragment. So a larger bound would make no difference.
+#[tactic(auto, using(crate::proofs::BoundLaw::page_done, crate::proofs::BoundLaw::fragment_done, crate::proofs::Bound::bound_suffices, crate::proofs::Bound::more_is_same))]
+pub fn bound_suffices()
+    ensures page { (flags : Flags) (emissions : List Emission) (token : Token) →
+        IsDoneWith (tokens_done (page_start flags) (map emitted_token emissions)) token }
+    ensures fragment { (flags : Flags) (context : Context) (emissions : List Emission)
+        (token : Token) →
+        IsDoneWith (tokens_done (fragment_start flags context) (map emitted_token emissions))
+        token }
+    ensures steady { (token : Token) (b : Builder) → IsSteady b → IsDoneWith b token }
+    ensures more { (step : Builder → Outcome) (o : Outcome) (n m : ℕ) →
+        is_done_within n step o ≡ true → n ≤ m → repeated m step o ≡ repeated n step o }
+{}
+
 /// Where the partial builder of `tl_tree_spec` has an outcome, the whole definition has the same
 /// trees, in the context of a `div`, whether `search` is a special element or not.
 #[tactic(auto, using(crate::proofs::PartTrees::partial_is_whole))]
@@ -104,4 +123,38 @@ pub fn partial_trees_are_whole()
         html_trees_where counts_search tokens ≡ Some forest →
         fragment_of_tokens (record standard { counts_search = counts_search })
         (context_of (bare_tag (codes "div"))) tokens ≡ whole forest }
+{}
+
+/// Where the names of start tags are plain, it is no matter whether they drive the tokenizer, or
+/// the tree builder does: the tokens are the same, and so the trees.
+#[tactic(auto, using(crate::proofs::PlainLaw::named_tokens, crate::proofs::PlainLaw::plain_page_tokens, crate::proofs::PlainLaw::plain_page, crate::proofs::PlainLaw::bare_page, crate::proofs::PlainLaw::plain_fragment_tokens, crate::proofs::PlainLaw::plain_fragment, crate::proofs::PlainLaw::bare_fragment))]
+pub fn plain_names_need_no_builder()
+    ensures by_names { (bytes : List ℕ) →
+        map bare (driven_by_names bytes) ≡ tokens_in_page bytes }
+    ensures page_tokens { (flags : Flags) (page : List ℕ) →
+        HavePlainNames flags (html_tokens page) →
+        tokens_of_page flags page ≡ map emitted_token (driven_by_names (without_mark page)) }
+    ensures page { (flags : Flags) (page : List ℕ) →
+        HavePlainNames flags (html_tokens page) →
+        html_tree_by flags page
+        ≡ page_built flags (map emitted_token (driven_by_names (without_mark page))) }
+    // and where each doctype is `<!DOCTYPE html>`
+    ensures page_of_tokens { (flags : Flags) (page : List ℕ) →
+        HavePlainNames flags (html_tokens page) →
+        HaveHtmlDoctypes (driven_by_names (without_mark page)) →
+        html_tree_by flags page ≡ tree_of_tokens flags (html_tokens page) }
+    ensures fragment_tokens { (flags : Flags) (context : Context) (bytes : List ℕ) →
+        is_html context.tag ≡ true → context_state flags context.tag ≡ data_state →
+        HavePlainNames flags (tokens_in_page bytes) →
+        tokens_of_fragment flags context bytes ≡ map emitted_token (driven_by_names bytes) }
+    ensures fragment { (flags : Flags) (context : Context) (bytes : List ℕ) →
+        is_html context.tag ≡ true → context_state flags context.tag ≡ data_state →
+        HavePlainNames flags (tokens_in_page bytes) →
+        html_fragment_by flags context bytes
+        ≡ fragment_built flags context (map emitted_token (driven_by_names bytes)) }
+    ensures fragment_of_tokens { (flags : Flags) (context : Context) (bytes : List ℕ) →
+        is_html context.tag ≡ true → context_state flags context.tag ≡ data_state →
+        HavePlainNames flags (tokens_in_page bytes) → HaveHtmlDoctypes (driven_by_names bytes) →
+        html_fragment_by flags context bytes
+        ≡ fragment_of_tokens flags context (tokens_in_page bytes) }
 {}
