@@ -42,6 +42,7 @@ pub mod SeatedHead
 pub mod SeatedText
 pub mod SeatedForeign
 pub mod SeatedPages
+pub mod SeatedEnd
 pub mod PlainNames
 pub mod PlainLaw
 pub mod PartNames
