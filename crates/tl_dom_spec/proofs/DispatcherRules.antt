@@ -96,6 +96,25 @@ no_html own g t closes e =
     first_false (is_html own) (is_html_integration_point own)
     (is_text_integration_point own && not (is_one_of (codes "mglyph malignmark") t.name)) (is_annotation own && is_svg_start g) e
 
+-- an HTML element as the current node
+
+first_true : (x y z w : Bool) → x ≡ true → (x || y || z || w) ≡ true
+first_true true y z w e = refl
+first_true false y z w e = absurd (true≢false (sym e))
+
+pub first_of_three : (x y z : Bool) → x ≡ true → (x || y || z) ≡ true
+first_of_three true y z e = refl
+first_of_three false y z e = absurd (true≢false (sym e))
+
+pub html_content : (t : Tag) (token : Token) → is_html t ≡ true → is_html_content t token ≡ true
+html_content t (a_character c) e = first_of_three (is_html t) (is_text_integration_point t) (is_html_integration_point t) e
+html_content t (a_start g own closes) e =
+    first_true (is_html t) (is_html_integration_point t) (is_text_integration_point t && not (is_one_of (codes "mglyph malignmark") own.name)) (is_annotation t && is_svg_start g) e
+html_content t (an_end g name) e = e
+html_content t (a_comment bytes) e = e
+html_content t (a_doctype own) e = e
+html_content t end_of_file e = refl
+
 foreign_step-Holds : (R : Allowed) (b : Builder) (token : Token) → is_html_content (adjusted_current_node b) token ≡ false → Allows R token → Holds R b → HoldsAfter R (foreign_step b token)
 foreign_step-Holds R b (a_character c) e k h = foreign_character-Holds R c b k h
 foreign_step-Holds R b (a_comment bytes) e k h = comment-Holds R bytes b k h

@@ -26,8 +26,6 @@ pub mod SourceLaw
 pub mod ContentsLaw
 pub mod Bound
 pub mod BoundLaw
-pub mod RootNames
-pub mod Stages
 pub mod PageLaw
 pub mod SeatedPaths
 pub mod SeatedBuilders

@@ -13,8 +13,7 @@ use Rattle.tl_dom_spec.specs.Path.{Frame, Path, elements, has_number, popped_thr
 use Rattle.tl_dom_spec.specs.Builder.{Builder, Done, Mode, Token, a_character, a_comment, a_doctype, a_start, adjusted_current_node, adjusted_tag, after_after_body, after_after_frameset, after_body, after_frameset, after_head, an_end, before_head, before_html, end_of_file, frameset_not_ok, in_body, in_caption, in_cell, in_column_group, in_frameset, in_head, in_head_noscript, in_row, in_table, in_table_body, in_table_text, in_template, initial, insert_bytes, insert_character, text_mode}
 use Rattle.tl_dom_spec.specs.Adjusted.{foreign_name, insert_foreign_element}
 use Rattle.tl_dom_spec.specs.Dispatcher.{Found, breaks_out, broken_out, by_mode, dispatch, foreign_character, foreign_end, foreign_end_at, foreign_start, foreign_step, found_in, html_step, is_html_content, mode_step, nothing, the_frame}
-use Rattle.tl_dom_spec.proofs.DispatcherRules.{no_html}
-use Rattle.tl_dom_spec.proofs.Stages.{first_of_three}
+use Rattle.tl_dom_spec.proofs.DispatcherRules.{first_of_three, no_html}
 use Rattle.tl_dom_spec.proofs.SeatedPaths.{IsRoot, Seated, Sought, bar_names, bodied, cell, found, high, inside, past, popped_through-Seated, rooted}
 use Rattle.tl_dom_spec.proofs.SeatedBuilders.{Deep, Fits, NoBar, on_path, while-Deep}
 use Rattle.tl_dom_spec.proofs.Grounds.{closed_off, opened, seated_open}

@@ -14,7 +14,7 @@ use Rattle.tl_dom_spec.specs.Reset.{close_template}
 use Rattle.tl_dom_spec.specs.Dispatcher.{bound, calm, count_token, dispatch, excess_of, foreign_step, html_step, is_html_content, is_line_feed, mode_step, token_done, tokens_done}
 use Rattle.tl_dom_spec.specs.HtmlTree.{page_start}
 use Rattle.tl_dom_spec.proofs.Allowed.{Each}
-use Rattle.tl_dom_spec.proofs.Stages.{html_content}
+use Rattle.tl_dom_spec.proofs.DispatcherRules.{html_content}
 use Rattle.tl_dom_spec.proofs.SeatedPaths.{AreComments, ArePlain, IsDocument, IsHead, IsHtml, IsRoot, Rest, behind_head, document-more, joined-comments, joined-plain, root-more, same_children, same_waiting, under_head}
 use Rattle.tl_dom_spec.proofs.SeatedBuilders.{Deep, IfSome, IsForm, IsTemplateMode, Kept}
 use Rattle.tl_dom_spec.proofs.GroupNames.{IsTiedTag, any_of, name_of}
