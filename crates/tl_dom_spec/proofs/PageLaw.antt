@@ -1,5 +1,5 @@
 -- The one element of a page is `html`, and in it come `head` and then `body` or `frameset`.
-use Rattle.std.proofs.Common.{List, [], map, refl, subst, sym, ◌∷◌, ◌≡◌, inl, inr, ℕ}
+use Rattle.std.proofs.Common.{List, [], map, refl, subst, sym, ◌∷◌, inl, inr, ℕ}
 use Rattle.tl_html_spec.specs.HtmlTokenizer.{Character, CommentToken, DoctypeToken, EndTag, HtmlToken, StartTag, data_state, without_mark}
 use Rattle.tl_html_spec.specs.Driven.{Emission, doctype_of, driven_tokens, driving, in_state, plain}
 use Rattle.tl_dom_spec.specs.Path.{Nodes, and_comment, and_doctype, and_element, and_text, joined, no_nodes, top}
@@ -8,7 +8,7 @@ use Rattle.tl_dom_spec.specs.Dispatcher.{token_done, tokens_done}
 use Rattle.tl_dom_spec.specs.Driver.{builder, emitted_token}
 use Rattle.tl_dom_spec.specs.HtmlForest.{HtmlForest, before, comment, doctype, element, no_trees, text}
 use Rattle.tl_dom_spec.specs.HtmlTree.{document_of, html_tree_by, page_start, trees_in}
-use Rattle.tl_dom_spec.specs.Lawful.{BeginsWithHead, EndsWithComments, GoesOnWithBody, IsPage, page_built, tokens_of_page}
+use Rattle.tl_dom_spec.specs.Lawful.{BeginsWithHead, EndsWithComments, GoesOnWithBody, IsPage, page_built}
 use Rattle.tl_dom_spec.proofs.Allowed.{Each}
 use Rattle.tl_dom_spec.proofs.BoundLaw.{page_done}
 use Rattle.tl_dom_spec.proofs.TreesFollow.{page_is}

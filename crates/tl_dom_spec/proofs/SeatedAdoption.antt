@@ -5,7 +5,7 @@ use Rattle.std.specs.List.{list_any}
 use Rattle.std.proofs.lemmas.Bool.{and_parts, and_right, cases_Bool, cond_both}
 use Rattle.std.proofs.lemmas.Bool.Decides.{nat_tests}
 use Rattle.tl_html_spec.specs.Balanced.{is_one_of, words}
-use Rattle.tl_dom_spec.specs.Tags.{Namespace, Tag, by_space, html_space, is_any, is_html, is_implied, is_math_mark, is_named, is_scope, is_special, is_special_name, is_svg_mark, math_space, scope_names, svg_space}
+use Rattle.tl_dom_spec.specs.Tags.{Namespace, Tag, by_space, html_space, is_html, is_implied, is_math_mark, is_named, is_scope, is_special, is_special_name, is_svg_mark, math_space, scope_names, svg_space}
 use Rattle.tl_dom_spec.specs.Path.{Frame, Path, Place, behind, elements, has_number, has_tag, here, into, into_head, is_open_number, new_frame, no_nodes, place_in, within}
 use Rattle.tl_dom_spec.specs.Builder.{Again, Builder, Done, Entry, Mode, Outcome, close_except_for, current_node, formatting, marker, pop_current_node, repeated}
 use Rattle.tl_dom_spec.specs.Formatting.{Listed, is_entry, is_listed, listed, relisted, unlisted}

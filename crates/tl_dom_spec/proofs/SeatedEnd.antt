@@ -1,5 +1,5 @@
 -- The end of a page: where the end of the file is done with, the body is there, and all that is open is settled.
-use Rattle.std.proofs.Common.{Bool, List, [], ap, arith, codes, false, if◌then◌else◌, inl, inr, length, map, not, refl, subst, suc, sym, true, true≢false, zero, ℕ, ◌&&◌, ◌∙◌, ◌∷◌, ◌≡◌, ◌≤◌, ◌⊎◌}
+use Rattle.std.proofs.Common.{Bool, List, [], ap, arith, false, if◌then◌else◌, inl, inr, length, map, not, refl, subst, suc, sym, true, true≢false, zero, ℕ, ◌&&◌, ◌∙◌, ◌∷◌, ◌≡◌, ◌≤◌, ◌⊎◌}
 use Rattle.std.specs.Prelude.{nat_lt, ⊤}
 use Rattle.std.proofs.lemmas.Bool.{and_right, cases_Bool, cond_both, or_left, or_right}
 use Rattle.tl_dom_spec.specs.Tags.{Tag, is_template}
@@ -134,9 +134,12 @@ module _ (S L : List ℕ) (N : ℕ) (ok : Bool) where
   off-left path two (high t rest b i r) = absurd (omega (arith, two))
   off-left path two (bodied g h d b p i r a w e) = inl (1, 1, h.tag, omega arith, body-settled S L N ok g h d b p i r a e)
   off-left path two (rooted h d r e n b) =
-      inr (subst (λ x. IsWhole (settled_at x (node_of h) (d ∷ []))) (sym r.place)
-      (caught_up (with_nodes (node_of h) d), refl,
-      joined-html (and_element d.children h.tag (joined h.children h.waiting)) d.waiting (r.tag, b.plain, joined-body h.children h.waiting n) b.notes, tt))
+      inr (subst (λ x. IsWhole (settled_at x (node_of h) (d ∷ []))) (sym r.place) (
+        caught_up (with_nodes (node_of h) d),
+        refl,
+        joined-html (and_element d.children h.tag (joined h.children h.waiting)) d.waiting (r.tag, b.plain, joined-body h.children h.waiting n) b.notes,
+        tt,
+      ))
   off-left {low} path two (cell f p b l i s) = inl (low, _, _, two, off-Seated S L N ok f l.place s)
   off-left {low} {m} {tg} path two (inside f p l s) = inl (low, m, tg, two, off-Seated S L N ok f l.place s)
 

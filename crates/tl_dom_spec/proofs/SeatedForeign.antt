@@ -2,9 +2,8 @@
 use Rattle.std.proofs.Common.{Bool, List, [], ap, arith, codes, false, if◌then◌else◌, inl, inr, map, not, refl, subst, sym, true, true≢false, ℕ, ◌==◌, ◌∙◌, ◌∷◌, ◌≡◌, ◌||◌}
 use Rattle.std.specs.Char.{is_ascii_whitespace, to_ascii_lowercase}
 use Rattle.std.specs.Str.{bytes_eq}
-use Rattle.std.proofs.lemmas.Bool.{and_parts, cases_Bool, cond_both, or_left}
+use Rattle.std.proofs.lemmas.Bool.{and_parts, cases_Bool, cond_both}
 use Rattle.std.proofs.lemmas.Bool.Decides.{nat_tests}
-
 use Rattle.tl_html_spec.specs.Balanced.{is_one_of}
 use Rattle.tl_html_spec.specs.HtmlTokenizer.{replacement}
 use Rattle.tl_dom_spec.specs.Tags.{Namespace, Tag, is_html, is_html_integration_point, is_text_integration_point}
@@ -14,7 +13,7 @@ use Rattle.tl_dom_spec.specs.Builder.{Builder, Done, Mode, Token, a_character, a
 use Rattle.tl_dom_spec.specs.Adjusted.{foreign_name, insert_foreign_element}
 use Rattle.tl_dom_spec.specs.Dispatcher.{Found, breaks_out, broken_out, by_mode, dispatch, foreign_character, foreign_end, foreign_end_at, foreign_start, foreign_step, found_in, html_step, is_html_content, mode_step, nothing, the_frame}
 use Rattle.tl_dom_spec.proofs.DispatcherRules.{first_of_three, no_html}
-use Rattle.tl_dom_spec.proofs.SeatedPaths.{IsRoot, Seated, Sought, bar_names, bodied, cell, found, high, inside, past, popped_through-Seated, rooted}
+use Rattle.tl_dom_spec.proofs.SeatedPaths.{Seated, Sought, bar_names, bodied, cell, found, high, inside, past, popped_through-Seated, rooted}
 use Rattle.tl_dom_spec.proofs.SeatedBuilders.{Deep, Fits, NoBar, on_path, while-Deep}
 use Rattle.tl_dom_spec.proofs.Grounds.{closed_off, opened, seated_open}
 use Rattle.tl_dom_spec.proofs.SeatedBody.{Stage, StageAfter, bytes-Deep, character-Deep, comment-Deep, done, foreign-Deep, not_ok-Deep}

@@ -1,29 +1,27 @@
 -- A page from its start on: before `html`, before `head`, and then what holds further in. And at its end the body is there.
-use Rattle.std.proofs.Common.{Bool, List, None, Option, [], ap, arith, codes, false, if◌then◌else◌, inl, inr, not, refl, subst, suc, sym, true, true≢false, zero, ℕ, ◌&&◌, ◌∙◌, ◌∷◌, ◌≡◌, ◌≤◌, ◌⊎◌}
-use Rattle.std.specs.Prelude.{nat_lt, ⊤}
+use Rattle.std.proofs.Common.{Bool, List, None, Option, [], ap, arith, codes, false, if◌then◌else◌, refl, subst, suc, sym, true, true≢false, zero, ℕ, ◌&&◌, ◌∙◌, ◌∷◌, ◌≡◌}
+use Rattle.std.specs.Prelude.{nat_lt}
 use Rattle.std.specs.Char.{is_ascii_whitespace}
-use Rattle.std.proofs.lemmas.Bool.{and_parts, and_right, cases_order, cond_both}
+use Rattle.std.proofs.lemmas.Bool.{and_parts, cond_both}
 use Rattle.tl_html_spec.specs.Balanced.{is_one_of}
-use Rattle.tl_dom_spec.specs.Tags.{Tag, bare_tag, is_html, is_template}
-use Rattle.tl_dom_spec.specs.Groups.{Group, the_head, the_html}
-use Rattle.tl_dom_spec.specs.Path.{Frame, Nodes, Path, Place, and_comment, and_doctype, and_element, and_text, at_number, caught_up, document, elements, here, into_head, joined, new_frame, no_nodes, on_top, place_in, put, top, with_nodes}
-use Rattle.tl_dom_spec.specs.Builder.{Again, Builder, Done, Entry, Flags, Mode, Outcome, Token, a_character, a_comment, a_doctype, a_start, add_attributes, add_one, adjusted_current_node, adjusted_tag, after_after_body, after_after_frameset, after_body, after_frameset, after_head, an_end, before_head, before_html, end_of_file, has_template, in_body, in_caption, in_cell, in_column_group, in_frameset, in_head, in_head_noscript, in_row, in_table, in_table_body, in_table_text, in_template, initial, insert_comment, insert_element, insert_element_at, repeated, switch_to, text_mode, with_more, with_path}
+use Rattle.tl_dom_spec.specs.Tags.{Tag, bare_tag, is_html}
+use Rattle.tl_dom_spec.specs.Groups.{the_head, the_html}
+use Rattle.tl_dom_spec.specs.Path.{Frame, Nodes, Path, Place, and_comment, and_doctype, and_element, and_text, at_number, caught_up, document, here, into_head, joined, new_frame, no_nodes, on_top, place_in, put, top, with_nodes}
+use Rattle.tl_dom_spec.specs.Builder.{Again, Builder, Done, Entry, Flags, Mode, Outcome, Token, a_character, a_comment, a_doctype, a_start, add_attributes, add_one, adjusted_current_node, adjusted_tag, after_head, an_end, before_head, before_html, end_of_file, has_template, in_head, in_head_noscript, initial, insert_element_at, repeated, switch_to, text_mode, with_more, with_path}
 use Rattle.tl_dom_spec.specs.Head.{before_head_step, before_html_step, head_implied, head_opened, html_implied, html_opened, html_start, initial_step, is_head_end, without_doctype}
-use Rattle.tl_dom_spec.specs.Body.{file_ended}
-use Rattle.tl_dom_spec.specs.Reset.{close_template}
 use Rattle.tl_dom_spec.specs.Dispatcher.{bound, calm, count_token, dispatch, excess_of, foreign_step, html_step, is_html_content, is_line_feed, mode_step, token_done, tokens_done}
 use Rattle.tl_dom_spec.specs.HtmlTree.{page_start}
 use Rattle.tl_dom_spec.proofs.Allowed.{Each}
 use Rattle.tl_dom_spec.proofs.DispatcherRules.{html_content}
 use Rattle.tl_dom_spec.proofs.SeatedPaths.{AreComments, ArePlain, IsDocument, IsHead, IsHtml, IsRoot, Rest, behind_head, document-more, joined-comments, joined-plain, root-more, same_children, same_waiting, under_head}
-use Rattle.tl_dom_spec.proofs.SeatedBuilders.{Deep, IfSome, IsForm, IsTemplateMode, Kept}
-use Rattle.tl_dom_spec.proofs.GroupNames.{IsTiedTag, any_of, name_of}
-use Rattle.tl_dom_spec.proofs.Grounds.{Early, EarlyOf, Ground, GroundOf, closes_of, deep, headed, heading, in_noscript, low_most}
+use Rattle.tl_dom_spec.proofs.SeatedBuilders.{IfSome, IsForm, IsTemplateMode, Kept}
+use Rattle.tl_dom_spec.proofs.GroupNames.{any_of, name_of}
+use Rattle.tl_dom_spec.proofs.Grounds.{EarlyOf, Ground, deep, headed, heading, in_noscript}
 use Rattle.tl_dom_spec.proofs.SeatedBody.{Stage, StageAfter, ground, in_text}
 use Rattle.tl_dom_spec.proofs.SeatedRules.{IsTied}
 use Rattle.tl_dom_spec.proofs.SeatedHead.{after_head_step-Stage, in_head_step-Stage}
 use Rattle.tl_dom_spec.proofs.SeatedText.{in_head_noscript_step-Stage, text_step-Stage}
-use Rattle.tl_dom_spec.proofs.SeatedForeign.{dispatch-Stage, fits_in}
+use Rattle.tl_dom_spec.proofs.SeatedForeign.{dispatch-Stage}
 
 -- the current node is an HTML element
 

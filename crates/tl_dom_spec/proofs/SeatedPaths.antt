@@ -836,8 +836,8 @@ module _ (S L : List ℕ) (N : ℕ) (ok : Bool) where
           no_template = λ x. alike_any (codes "template") f.tag (chosen k (added more) f).tag a ∙ l.tag.no_template x;
         };
         bars = λ i.
-        let y = l.bars (subst (λ x. IsIn x S) (same_number k more f) i) in
-        (alike_any bar_names f.tag (chosen k (added more) f).tag a ∙ y.0, ap (λ s. by_space s true false false) a.0 ∙ y.1);
+            let y = l.bars (subst (λ x. IsIn x S) (same_number k more f) i) in
+            (alike_any bar_names f.tag (chosen k (added more) f).tag a ∙ y.0, ap (λ s. by_space s true false false) a.0 ∙ y.1);
         still = λ i. same_open k more f ∙ l.still (subst (λ x. IsIn x L) (same_number k more f) i);
         shut = λ e. ap (λ s. by_space s true false false) a.0 ∙ l.shut (sym (same_open k more f) ∙ e);
       }

@@ -1,5 +1,5 @@
 -- The rules of text, and of `noscript` in the head: what is open there goes to its place once it is closed.
-use Rattle.std.proofs.Common.{Bool, List, None, [], ap, false, if◌then◌else◌, refl, subst, sym, true, ℕ, ◌==◌, ◌∙◌, ◌∷◌, ◌≡◌}
+use Rattle.std.proofs.Common.{Bool, List, None, [], ap, false, if◌then◌else◌, refl, subst, sym, true, ◌==◌, ◌∙◌, ◌∷◌, ◌≡◌}
 use Rattle.std.specs.Char.{is_ascii_whitespace}
 use Rattle.std.proofs.lemmas.Bool.{and_right, cond_both}
 use Rattle.tl_dom_spec.specs.Tags.{Attribute, Tag, is_foster_target, is_html}
@@ -8,7 +8,7 @@ use Rattle.tl_dom_spec.specs.Path.{Frame, Nodes, Path, and_comment, and_element,
 use Rattle.tl_dom_spec.specs.Builder.{Again, Builder, Done, Token, a_character, a_comment, a_doctype, a_start, add_attributes, an_end, appropriate_place, end_of_file, has_template, in_head_noscript, insert_and_pop_at, insert_character, parse_raw_text_at, text_mode, with_more, with_path}
 use Rattle.tl_dom_spec.specs.Head.{html_start, in_head_noscript_step, noscript_closed, text_closed, text_step}
 use Rattle.tl_dom_spec.proofs.SeatedPaths.{Rest, rest-more}
-use Rattle.tl_dom_spec.proofs.Grounds.{Early, EarlyOf, Ground, GroundOf, IsNoscript, heading, in_noscript, rest-settled, rest-stays, rest_tail}
+use Rattle.tl_dom_spec.proofs.Grounds.{Early, Ground, GroundOf, IsNoscript, heading, in_noscript, rest-settled, rest-stays, rest_tail}
 use Rattle.tl_dom_spec.proofs.GroupNames.{IsTiedTag}
 use Rattle.tl_dom_spec.proofs.SeatedBody.{IsSome_path, Stage, StageAfter, ground, if_after, in_text, is_table_group}
 use Rattle.tl_dom_spec.proofs.SeatedRules.{IsTied}
