@@ -155,10 +155,10 @@ tokens-Holds R b (token ∷ tokens) k h = tokens-Holds R (token_done b token) to
 document-Frames : (R : Allowed) → Frames R (document ∷ [])
 document-Frames R = ((tt, tt), ((λ e. absurd (true≢false (sym e))), inr refl), tt)
 
-pub page_start-Holds : (R : Allowed) (flags : Flags) → (R.Seated → ⊥) → R.Scripts flags.is_scripting → Holds R (page_start flags)
-page_start-Holds R flags n s =
-    ((document-Frames R, tt, tt, record { state = R.data_read; around = tt; scripts = s }), (λ e. absurd (n e)), λ _. page-steady flags)
+pub page_start-Holds : (R : Allowed) (flags : Flags) → R.Scripts flags.is_scripting → Holds R (page_start flags)
+page_start-Holds R flags s =
+    ((document-Frames R, tt, tt, record { state = R.data_read; around = tt; scripts = s }), λ _. page-steady flags)
 
-pub fragment_start-Holds : (R : Allowed) (flags : Flags) (context : Context) → (R.Seated → ⊥) → R.Scripts flags.is_scripting → R.Around context.tag → Holds R (fragment_start flags context)
-fragment_start-Holds R flags context n s a =
-    ((((tt, tt), R.html, document-Frames R), tt, tt, record { state = R.data_read; around = a; scripts = s }), (λ e. absurd (n e)), λ _. fragment-steady flags context)
+pub fragment_start-Holds : (R : Allowed) (flags : Flags) (context : Context) → R.Scripts flags.is_scripting → R.Around context.tag → Holds R (fragment_start flags context)
+fragment_start-Holds R flags context s a =
+    ((((tt, tt), R.html, document-Frames R), tt, tt, record { state = R.data_read; around = a; scripts = s }), λ _. fragment-steady flags context)

@@ -3,8 +3,6 @@ pub mod Words
 pub mod Paths
 pub mod Builders
 pub mod Adopting
-pub mod Seats
-pub mod Seating
 pub mod PathTags
 pub mod Measure
 pub mod Pending
