@@ -33,8 +33,6 @@ pub record Allowed : Type 1 where
   pub Around : Tag → Type 0
   -- whether scripting is on
   pub Scripts : Bool → Type 0
-  -- whether `html` and `head` are known to stand where they do in a page
-  pub Seated : Type 0
   -- whether each tag stands in the group of its name, so that none of a table or a template is listed as active
   pub Grouped : Type 0
   pub stands : (t : Tag) → Opens t → Stands t

@@ -1,5 +1,5 @@
 -- The rules of "in body" keep what holds of a builder.
-use Rattle.std.proofs.Common.{Bool, List, None, Option, Some, [], ap, codes, false, if◌then◌else◌, refl, true, ℕ, ◌<◌, ◌==◌, ◌∙◌, ◌∷◌, ◌≡◌}
+use Rattle.std.proofs.Common.{Bool, List, None, Option, Some, [], ap, codes, false, if◌then◌else◌, refl, true, ℕ, ◌==◌, ◌∙◌, ◌∷◌, ◌≡◌}
 use Rattle.std.specs.Char.{is_ascii_whitespace}
 use Rattle.std.proofs.lemmas.Bool.{cond_both}
 use Rattle.tl_html_spec.specs.HtmlTokenizer.{after_start}
@@ -12,8 +12,7 @@ use Rattle.tl_dom_spec.specs.Adoption.{adoption_agency}
 use Rattle.tl_dom_spec.specs.Reset.{close_template}
 use Rattle.tl_dom_spec.specs.Adjusted.{foreign_tag, insert_foreign_element}
 use Rattle.tl_dom_spec.specs.Body.{anchor_ended, body_character, body_end, body_number, body_start, body_start_at, close_in_scope, close_p, earlier_item, file_ended, form_at, form_ended, form_taken_out, frameset_start_at, from_html, heading_closed, in_body_step, input_inserted, item_closed, item_closed_at, item_ended, mark_ended, nobr_ended, noscript_start_in_body, option_ended, option_start, p_ended, ruby_closed, rule_start, select_closed, select_start, table_start_in_body, textarea_start, void_start}
-use Rattle.tl_dom_spec.proofs.Allowed.{Allowed, IfSome}
-use Rattle.tl_dom_spec.proofs.Seating as S
+use Rattle.tl_dom_spec.proofs.Allowed.{Allowed}
 use Rattle.tl_dom_spec.specs.Lawful.{is_text_mode}
 use Rattle.tl_dom_spec.proofs.Kept.{Holds, HoldsAfter, Roams, agency-Holds, alone-Holds, attributes-Holds, character-Holds, clear-Holds, close-Holds, close_template-Holds, comment-Holds, either, either-after, form-Holds, formatting-Holds, from_html-Holds, implied-Holds, insert-Holds, marker-Holds, other_end-Holds, pop-Holds, pop_until-Holds, raw_text-Holds, reads-Holds, reconstruct-Holds, taken_out-Holds, template_end_tag-Holds, unlisted-Holds}
 use Rattle.tl_dom_spec.proofs.HeadRules.{Allows, Starts, html_start-Holds, in_head_start-Holds, scripted-Holds}
@@ -51,21 +50,21 @@ frameset_start_at-Holds R None b t e o h = h
 frameset_start_at-Holds R (Some k) b t e o h =
     let outside : Builder = with_path b (from_html b.path) in
     either R b.is_frameset_ok (switch_to in_frameset (insert_element t outside)) b
-    (insert-Holds R t outside o (from_html-Holds R k b e h)) h
+    (insert-Holds R t outside o (from_html-Holds R b h)) h
 
 pub form_at-Holds : (R : Allowed) (is_within : Bool) (form : Option ℕ) (b : Builder) (t : Tag) → R.Opens t → Holds R b → Holds R (form_at is_within form b t)
 form_at-Holds R true form b t o h = insert-Holds R t (close_p b) o (close_p-Holds R b h)
 form_at-Holds R false (Some k) b t o h = h
-form_at-Holds R false None b t o h = let ready = close_p b in (form-Holds R (Some ready.next) (insert_element t ready) (λ s. ((close_p-Holds R b h).1 s).next) (insert-Holds R t ready o (close_p-Holds R b h)))
+form_at-Holds R false None b t o h = let ready = close_p b in (form-Holds R (Some ready.next) (insert_element t ready) (insert-Holds R t ready o (close_p-Holds R b h)))
 
-anchor_ended-Holds : (R : Allowed) (own : Option Listed) (b : Builder) → (R.Seated → IfSome (λ (x : Listed). 2 < x.number) own) → Holds R b → Holds R (anchor_ended own b)
-anchor_ended-Holds R None b l h = h
-anchor_ended-Holds R (Some own) b l h =
+anchor_ended-Holds : (R : Allowed) (own : Option Listed) (b : Builder) → Holds R b → Holds R (anchor_ended own b)
+anchor_ended-Holds R None b h = h
+anchor_ended-Holds R (Some own) b h =
     let ended : Builder = adoption_agency own.tag.name b in
     let less : Builder = record ended { active = unlisted own.number ended.active } in
     let k : Holds R less = unlisted-Holds R own.number ended (agency-Holds R own.tag.name b h) in
     cond_both (is_open_number own.number ended.path) (taken_out own.number ended.path) ended.path (λ path. Holds R (record less { path = path }))
-    (λ _. taken_out-Holds R own.number less l k) (λ _. k)
+    (λ _. taken_out-Holds R own.number less k) (λ _. k)
 
 pub nobr_ended-Holds : (R : Allowed) (name : List ℕ) (b : Builder) → Holds R b → Holds R (nobr_ended name b)
 nobr_ended-Holds R name b h = either R (has_in_scope (is_named name) b) (reconstruct_formatting (adoption_agency name b)) b (reconstruct-Holds R (adoption_agency name b) (agency-Holds R name b h)) h
@@ -140,7 +139,7 @@ body_start-Holds R b an_item t closes k n h = insert-Holds R t (item_closed (is_
 body_start-Holds R b a_description t closes k n h = insert-Holds R t (item_closed (is_any (codes "dd dt")) (frameset_not_ok b)) (k.opens refl) (item_closed-Holds R (is_any (codes "dd dt")) (frameset_not_ok b) h)
 body_start-Holds R b a_plaintext t closes k n h = reads-Holds R (after_start t.name) (insert_element t (close_p b)) k.after (insert-Holds R t (close_p b) (k.opens refl) (close_p-Holds R b h))
 body_start-Holds R b a_button t closes k n h = insert-Holds R t (reconstruct_formatting (close_in_scope no_tag (is_any (codes "button")) b)) (k.opens refl) (reconstruct-Holds R (close_in_scope no_tag (is_any (codes "button")) b) (close_in_scope-Holds R no_tag (is_any (codes "button")) b h))
-body_start-Holds R b an_anchor t closes k n h = formatting-Holds R t (reconstruct_formatting (anchor_ended (listed t.name b.active) b)) (k.opens refl) (λ y. k.listed y refl) (reconstruct-Holds R (anchor_ended (listed t.name b.active) b) (anchor_ended-Holds R (listed t.name b.active) b (λ s. S.listed-above t.name b.active (h.1 s).active) h))
+body_start-Holds R b an_anchor t closes k n h = formatting-Holds R t (reconstruct_formatting (anchor_ended (listed t.name b.active) b)) (k.opens refl) (λ y. k.listed y refl) (reconstruct-Holds R (anchor_ended (listed t.name b.active) b) (anchor_ended-Holds R (listed t.name b.active) b h))
 body_start-Holds R b a_format t closes k n h = formatting-Holds R t (reconstruct_formatting b) (k.opens refl) (λ y. k.listed y refl) (reconstruct-Holds R b h)
 body_start-Holds R b a_nobr t closes k n h = formatting-Holds R t (nobr_ended t.name (reconstruct_formatting b)) (k.opens refl) (λ y. k.listed y refl) (nobr_ended-Holds R t.name (reconstruct_formatting b) (reconstruct-Holds R b h))
 body_start-Holds R b a_mark t closes k n h = marker-Holds R (insert_element t (reconstruct_formatting b)) (insert-Holds R t (reconstruct_formatting b) (k.opens refl) (reconstruct-Holds R b h))
@@ -182,15 +181,15 @@ item_ended-Holds R b h = either R (has_in_list_item_scope (is_any (codes "li")) 
 pub mark_ended-Holds : (R : Allowed) (name : List ℕ) (b : Builder) → Holds R b → Holds R (mark_ended name b)
 mark_ended-Holds R name b h = either R (has_in_scope (is_named name) b) (clear_to_last_marker (close_except_for no_tag (is_named name) b)) b (clear-Holds R (close_except_for no_tag (is_named name) b) (close-Holds R no_tag (is_named name) b h)) h
 
-form_taken_out-Holds : (R : Allowed) (form : Option ℕ) (b : Builder) → (R.Seated → IfSome (λ k. 2 < k) form) → Holds R b → Holds R (form_taken_out form b)
-form_taken_out-Holds R None b l h = h
-form_taken_out-Holds R (Some k) b l h =
+form_taken_out-Holds : (R : Allowed) (form : Option ℕ) (b : Builder) → Holds R b → Holds R (form_taken_out form b)
+form_taken_out-Holds R None b h = h
+form_taken_out-Holds R (Some k) b h =
     let closing : Builder = generate_implied_end_tags b in
     either R (within (has_number k) (has_tag is_scope) (elements b.path)) (with_path closing (taken_out k closing.path)) b
-    (taken_out-Holds R k closing l (implied-Holds R no_tag b h)) h
+    (taken_out-Holds R k closing (implied-Holds R no_tag b h)) h
 
 pub form_ended-Holds : (R : Allowed) (b : Builder) → Holds R b → Holds R (form_ended b)
-form_ended-Holds R b h = either R (has_template b) (close_in_scope no_tag (is_any (codes "form")) b) (form_taken_out b.form (record b { form = None })) (close_in_scope-Holds R no_tag (is_any (codes "form")) b h) (form_taken_out-Holds R b.form (record b { form = None }) (λ s. (h.1 s).form) (form-Holds R None b (λ _. tt) h))
+form_ended-Holds R b h = either R (has_template b) (close_in_scope no_tag (is_any (codes "form")) b) (form_taken_out b.form (record b { form = None })) (close_in_scope-Holds R no_tag (is_any (codes "form")) b h) (form_taken_out-Holds R b.form (record b { form = None }) (form-Holds R None b h))
 
 pub body_end-Holds : (R : Allowed) (b : Builder) (g : Group) (name : List ℕ) → Holds R b → HoldsAfter R (body_end b g name)
 body_end-Holds R b a_template name h = template_end_tag-Holds R b h

@@ -91,10 +91,29 @@ first_false : (x y z w : Bool) → (x || y || z || w) ≡ false → x ≡ false
 first_false true y z w e = e
 first_false false y z w e = refl
 
-no_html : (own : Tag) (g : Group) (t : Tag) (closes : Bool) → is_html_content own (a_start g t closes) ≡ false → is_html own ≡ false
+pub no_html : (own : Tag) (g : Group) (t : Tag) (closes : Bool) → is_html_content own (a_start g t closes) ≡ false → is_html own ≡ false
 no_html own g t closes e =
     first_false (is_html own) (is_html_integration_point own)
     (is_text_integration_point own && not (is_one_of (codes "mglyph malignmark") t.name)) (is_annotation own && is_svg_start g) e
+
+-- an HTML element as the current node
+
+first_true : (x y z w : Bool) → x ≡ true → (x || y || z || w) ≡ true
+first_true true y z w e = refl
+first_true false y z w e = absurd (true≢false (sym e))
+
+pub first_of_three : (x y z : Bool) → x ≡ true → (x || y || z) ≡ true
+first_of_three true y z e = refl
+first_of_three false y z e = absurd (true≢false (sym e))
+
+pub html_content : (t : Tag) (token : Token) → is_html t ≡ true → is_html_content t token ≡ true
+html_content t (a_character c) e = first_of_three (is_html t) (is_text_integration_point t) (is_html_integration_point t) e
+html_content t (a_start g own closes) e =
+    first_true (is_html t) (is_html_integration_point t) (is_text_integration_point t && not (is_one_of (codes "mglyph malignmark") own.name)) (is_annotation t && is_svg_start g) e
+html_content t (an_end g name) e = e
+html_content t (a_comment bytes) e = e
+html_content t (a_doctype own) e = e
+html_content t end_of_file e = refl
 
 foreign_step-Holds : (R : Allowed) (b : Builder) (token : Token) → is_html_content (adjusted_current_node b) token ≡ false → Allows R token → Holds R b → HoldsAfter R (foreign_step b token)
 foreign_step-Holds R b (a_character c) e k h = foreign_character-Holds R c b k h
@@ -136,10 +155,10 @@ tokens-Holds R b (token ∷ tokens) k h = tokens-Holds R (token_done b token) to
 document-Frames : (R : Allowed) → Frames R (document ∷ [])
 document-Frames R = ((tt, tt), ((λ e. absurd (true≢false (sym e))), inr refl), tt)
 
-pub page_start-Holds : (R : Allowed) (flags : Flags) → (R.Seated → ⊥) → R.Scripts flags.is_scripting → Holds R (page_start flags)
-page_start-Holds R flags n s =
-    ((document-Frames R, tt, tt, record { state = R.data_read; around = tt; scripts = s }), (λ e. absurd (n e)), λ _. page-steady flags)
+pub page_start-Holds : (R : Allowed) (flags : Flags) → R.Scripts flags.is_scripting → Holds R (page_start flags)
+page_start-Holds R flags s =
+    ((document-Frames R, tt, tt, record { state = R.data_read; around = tt; scripts = s }), λ _. page-steady flags)
 
-pub fragment_start-Holds : (R : Allowed) (flags : Flags) (context : Context) → (R.Seated → ⊥) → R.Scripts flags.is_scripting → R.Around context.tag → Holds R (fragment_start flags context)
-fragment_start-Holds R flags context n s a =
-    ((((tt, tt), R.html, document-Frames R), tt, tt, record { state = R.data_read; around = a; scripts = s }), (λ e. absurd (n e)), λ _. fragment-steady flags context)
+pub fragment_start-Holds : (R : Allowed) (flags : Flags) (context : Context) → R.Scripts flags.is_scripting → R.Around context.tag → Holds R (fragment_start flags context)
+fragment_start-Holds R flags context s a =
+    ((((tt, tt), R.html, document-Frames R), tt, tt, record { state = R.data_read; around = a; scripts = s }), λ _. fragment-steady flags context)

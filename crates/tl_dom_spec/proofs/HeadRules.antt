@@ -13,7 +13,6 @@ use Rattle.tl_dom_spec.specs.Head.{after_head_end, after_head_start, after_head_
 use Rattle.tl_dom_spec.specs.Dispatcher.{is_svg_start}
 use Rattle.tl_dom_spec.specs.Lawful.{adds_attributes}
 use Rattle.tl_dom_spec.proofs.Allowed.{Allowed}
-use Rattle.tl_dom_spec.proofs.Seating.{Fits, appropriate-Fits}
 use Rattle.tl_dom_spec.proofs.Pending.{IsPlain}
 use Rattle.tl_dom_spec.proofs.Kept.{Holds, HoldsAfter, Roams, alone_at-Holds, attributes-Holds, character-Holds, comment-Holds, doctype-Holds, either, either-after, insert-Holds, insert_at-Holds, marker-Holds, pop-Holds, raw_text-Holds, raw_text_at-Holds, template_end_tag-Holds}
 
@@ -132,8 +131,8 @@ before_head_step-Holds R b end_of_file k h = head_implied-Holds R b h
 pub head_closed-Holds : (R : Allowed) (b : Builder) → Holds R b → Holds R (head_closed b)
 head_closed-Holds R b h = pop-Holds R b h
 
-pub template_opened-Holds : (R : Allowed) (place : Place) (t : Tag) (b : Builder) → Fits place b.path → R.Opens t → Holds R b → Holds R (template_opened place t b)
-template_opened-Holds R where_to t b f o h = let opened = insert_element_at where_to t (frameset_not_ok (insert_marker b)) in (let x = insert_at-Holds R where_to t (frameset_not_ok (insert_marker b)) f o (marker-Holds R b h) in (x.0, x.1, λ g. let s = x.2 g in (s.0, s.1, (refl, s.2), s.3)))
+pub template_opened-Holds : (R : Allowed) (place : Place) (t : Tag) (b : Builder) → R.Opens t → Holds R b → Holds R (template_opened place t b)
+template_opened-Holds R where_to t b o h = let opened = insert_element_at where_to t (frameset_not_ok (insert_marker b)) in (let x = insert_at-Holds R where_to t (frameset_not_ok (insert_marker b)) o (marker-Holds R b h) in (x.0, λ g. let s = x.1 g in (s.0, s.1, (refl, s.2), s.3)))
 
 -- with scripting alone the state is set
 pub scripted-Holds : (R : Allowed) (b : Builder) (t : Tag) (other : Builder) → R.Opens t → (R.Scripts true → R.Reads (state_inside t.name)) → Roams b → Holds R b → Holds R other →
@@ -152,15 +151,15 @@ in_head_end-Holds R b g h = either-after R (is_body_end g) (Again (head_closed b
 pub noscript_closed-Holds : (R : Allowed) (b : Builder) → Holds R b → Holds R (noscript_closed b)
 noscript_closed-Holds R b h = pop-Holds R b h
 
-pub head_part-Holds : (R : Allowed) (place : Place) (g : Group) (t : Tag) (b : Builder) → Fits place b.path → Starts R g t → Roams b → Holds R b → HoldsIf R (head_part place g t b)
-head_part-Holds R place a_base t b f k n h = alone_at-Holds R place t b f k.alone h
-head_part-Holds R place a_link t b f k n h = alone_at-Holds R place t b f k.alone h
-head_part-Holds R place a_title t b f k n h = raw_text_at-Holds R place t b f (k.opens refl) (k.inside refl) n h
-head_part-Holds R place a_noframes t b f k n h = raw_text_at-Holds R place t b f (k.opens refl) (k.inside refl) n h
-head_part-Holds R place a_style t b f k n h = raw_text_at-Holds R place t b f (k.opens refl) (k.inside refl) n h
-head_part-Holds R place a_script t b f k n h = raw_text_at-Holds R place t b f (k.opens refl) (k.inside refl) n h
-head_part-Holds R place a_template t b f k n h = template_opened-Holds R place t b f (k.opens refl) h
-head_part-Holds R place g t b f k n h = tt
+pub head_part-Holds : (R : Allowed) (place : Place) (g : Group) (t : Tag) (b : Builder) → Starts R g t → Roams b → Holds R b → HoldsIf R (head_part place g t b)
+head_part-Holds R place a_base t b k n h = alone_at-Holds R place t b k.alone h
+head_part-Holds R place a_link t b k n h = alone_at-Holds R place t b k.alone h
+head_part-Holds R place a_title t b k n h = raw_text_at-Holds R place t b (k.opens refl) (k.inside refl) n h
+head_part-Holds R place a_noframes t b k n h = raw_text_at-Holds R place t b (k.opens refl) (k.inside refl) n h
+head_part-Holds R place a_style t b k n h = raw_text_at-Holds R place t b (k.opens refl) (k.inside refl) n h
+head_part-Holds R place a_script t b k n h = raw_text_at-Holds R place t b (k.opens refl) (k.inside refl) n h
+head_part-Holds R place a_template t b k n h = template_opened-Holds R place t b (k.opens refl) h
+head_part-Holds R place g t b k n h = tt
 
 done_or-Holds : (R : Allowed) (other : Outcome) (b : Option Builder) → HoldsAfter R other → HoldsIf R b → HoldsAfter R (done_or other b)
 done_or-Holds R other None h k = h
@@ -171,7 +170,7 @@ in_head_start-Holds R b the_html t k n h = html_start-Holds R b t (k.more refl) 
 in_head_start-Holds R b the_head t k n h = h
 in_head_start-Holds R b a_noscript t k n h = noscript_in_head-Holds R b t (k.opens refl) k.scripted n h
 in_head_start-Holds R b g t k n h =
-    done_or-Holds R (Again (head_closed b)) (head_part (appropriate_place b) g t b) (head_closed-Holds R b h) (head_part-Holds R (appropriate_place b) g t b (appropriate-Fits b) k n h)
+    done_or-Holds R (Again (head_closed b)) (head_part (appropriate_place b) g t b) (head_closed-Holds R b h) (head_part-Holds R (appropriate_place b) g t b k n h)
 
 pub in_head_step-Holds : (R : Allowed) (b : Builder) (token : Token) → Allows R token → Roams b → Holds R b → HoldsAfter R (in_head_step b token)
 in_head_step-Holds R b (a_character c) k n h = either-after R (is_ascii_whitespace c) (Done (insert_character c b)) (Again (head_closed b)) (character-Holds R c b k h) (head_closed-Holds R b h)
@@ -215,7 +214,7 @@ after_head_start-Holds R b the_html t k n h = html_start-Holds R b t (k.more ref
 after_head_start-Holds R b the_body t k n h = insert-Holds R t b (k.opens refl) h
 after_head_start-Holds R b a_frameset t k n h = insert-Holds R t b (k.opens refl) h
 after_head_start-Holds R b the_head t k n h = h
-after_head_start-Holds R b g t k n h = done_or-Holds R (body_implied b) (head_part into_head g t b) (body_implied-Holds R b h) (head_part-Holds R into_head g t b (λ _. tt) k n h)
+after_head_start-Holds R b g t k n h = done_or-Holds R (body_implied b) (head_part into_head g t b) (body_implied-Holds R b h) (head_part-Holds R into_head g t b k n h)
 
 pub after_head_step-Holds : (R : Allowed) (b : Builder) (token : Token) → Allows R token → Roams b → Holds R b → HoldsAfter R (after_head_step b token)
 after_head_step-Holds R b (a_character c) k n h = either-after R (is_ascii_whitespace c) (Done (insert_character c b)) (body_implied b) (character-Holds R c b k h) (body_implied-Holds R b h)

@@ -22,7 +22,7 @@ template_start-Holds R b a_style t k n h = in_head_start-Holds R b a_style t k n
 template_start-Holds R b a_template t k n h = in_head_start-Holds R b a_template t k n h
 template_start-Holds R b a_title t k n h = in_head_start-Holds R b a_title t k n h
 template_start-Holds R b g t k n h =
-    (h.0, h.1, λ y. let s = h.2 y in (s.0, s.1, (template_mode_is g, less_templates b.templates s.2), s.3))
+    (h.0, λ y. let s = h.1 y in (s.0, s.1, (template_mode_is g, less_templates b.templates s.2), s.3))
 
 pub template_end-Holds : (R : Allowed) (b : Builder) (g : Group) → Holds R b → HoldsAfter R (template_end b g)
 template_end-Holds R b a_template h = template_end_tag-Holds R b h
@@ -46,7 +46,7 @@ after_body_end-Holds R b g h = back_in_body-Holds R b h
 
 pub after_body_step-Holds : (R : Allowed) (b : Builder) (token : Token) → Allows R token → Roams b → Holds R b → HoldsAfter R (after_body_step b token)
 after_body_step-Holds R b (a_character c) k n h = either-after R (is_ascii_whitespace c) (in_body_step b (a_character c)) (back_in_body b) (in_body_step-Holds R b (a_character c) k n h) (back_in_body-Holds R b h)
-after_body_step-Holds R b (a_comment bytes) k n h = comment_at-Holds R (behind 1) bytes b (λ _. tt) k h
+after_body_step-Holds R b (a_comment bytes) k n h = comment_at-Holds R (behind 1) bytes b k h
 after_body_step-Holds R b (a_doctype own) k n h = h
 after_body_step-Holds R b (a_start g t closes) k n h = after_body_start-Holds R b g t k h
 after_body_step-Holds R b (an_end g name) k n h = after_body_end-Holds R b g h
@@ -93,7 +93,7 @@ after_frameset_step-Holds R b end_of_file k n h = h
 
 pub after_after_body_step-Holds : (R : Allowed) (b : Builder) (token : Token) → Allows R token → Roams b → Holds R b → HoldsAfter R (after_after_body_step b token)
 after_after_body_step-Holds R b (a_character c) k n h = either-after R (is_ascii_whitespace c) (in_body_step b (a_character c)) (back_in_body b) (in_body_step-Holds R b (a_character c) k n h) (back_in_body-Holds R b h)
-after_after_body_step-Holds R b (a_comment bytes) k n h = comment_at-Holds R (behind 0) bytes b (λ _. tt) k h
+after_after_body_step-Holds R b (a_comment bytes) k n h = comment_at-Holds R (behind 0) bytes b k h
 after_after_body_step-Holds R b (a_doctype own) k n h = h
 after_after_body_step-Holds R b (a_start g t closes) k n h = after_body_start-Holds R b g t k h
 after_after_body_step-Holds R b (an_end g name) k n h = back_in_body-Holds R b h
@@ -101,7 +101,7 @@ after_after_body_step-Holds R b end_of_file k n h = h
 
 pub after_after_frameset_step-Holds : (R : Allowed) (b : Builder) (token : Token) → Allows R token → Roams b → Holds R b → HoldsAfter R (after_after_frameset_step b token)
 after_after_frameset_step-Holds R b (a_character c) k n h = either-after R (is_ascii_whitespace c) (in_body_step b (a_character c)) (Done b) (in_body_step-Holds R b (a_character c) k n h) h
-after_after_frameset_step-Holds R b (a_comment bytes) k n h = comment_at-Holds R (behind 0) bytes b (λ _. tt) k h
+after_after_frameset_step-Holds R b (a_comment bytes) k n h = comment_at-Holds R (behind 0) bytes b k h
 after_after_frameset_step-Holds R b (a_doctype own) k n h = h
 after_after_frameset_step-Holds R b (a_start g t closes) k n h = after_frameset_start-Holds R b g t k n h
 after_after_frameset_step-Holds R b (an_end g name) k n h = h

@@ -29,7 +29,6 @@ from tokens = record {
   Reads = λ _. ⊤;
   Around = λ _. ⊤;
   Scripts = λ _. ⊤;
-  Seated = ⊥;
   Grouped = ⊥;
   stands = λ _ s. s;
   headed = λ _ _ s. s;
@@ -102,11 +101,11 @@ sources_of tokens trees f = record {
 }
 
 pub built_sources : (flags : Flags) (tokens : List Token) → ComeFrom tokens (page_built flags tokens).trees
-built_sources flags tokens = sources_of tokens (page_built flags tokens).trees (page-Follows (from tokens) flags tokens (λ s. s) tt (tokens_from tokens))
+built_sources flags tokens = sources_of tokens (page_built flags tokens).trees (page-Follows (from tokens) flags tokens tt (tokens_from tokens))
 
 pub built_fragment_sources : (flags : Flags) (context : Context) (tokens : List Token) → ComeFrom tokens (fragment_built flags context tokens)
 built_fragment_sources flags context tokens =
-    sources_of tokens (fragment_built flags context tokens) (fragment-Follows (from tokens) flags context tokens (λ s. s) tt tt (tokens_from tokens))
+    sources_of tokens (fragment_built flags context tokens) (fragment-Follows (from tokens) flags context tokens tt tt (tokens_from tokens))
 
 pub page_sources : (flags : Flags) (page : List ℕ) → ComeFrom (tokens_of_page flags page) (html_tree_by flags page).trees
 page_sources flags page =

@@ -38,7 +38,7 @@ body_implied-Holds R b h = body_opened-Holds R b (bare_tag (codes "tbody")) R.ta
 
 pub table_form-Holds : (R : Allowed) (form : Option ℕ) (b : Builder) (t : Tag) → R.Opens t → Holds R b → Holds R (table_form form b t)
 table_form-Holds R (Some k) b t o h = h
-table_form-Holds R None b t o h = either R (has_template b) b (record (insert_and_pop t b) { form = Some b.next }) h (form-Holds R (Some b.next) (insert_and_pop t b) (λ s. (h.1 s).next) (alone-Holds R t b (R.stands t o) h))
+table_form-Holds R None b t o h = either R (has_template b) b (record (insert_and_pop t b) { form = Some b.next }) h (form-Holds R (Some b.next) (insert_and_pop t b) (alone-Holds R t b (R.stands t o) h))
 
 pub table_start-Holds : (R : Allowed) (b : Builder) (g : Group) (t : Tag) (closes : Bool) → Starts R g t → Roams b → Holds R b → HoldsAfter R (table_start b g t closes)
 table_start-Holds R b a_caption t closes k n h = insert-Holds R t (insert_marker (clear_stack_back_to_table_context b)) (k.opens refl) (marker-Holds R (clear_stack_back_to_table_context b) (clear_stack_back_to_table_context-Holds R b h))
@@ -69,7 +69,7 @@ table_end-Holds R b a_template name n h = template_end_tag-Holds R b h
 table_end-Holds R b g name n h = fostered-Holds R b (an_end g name) tt n h
 
 pub table_character-Holds : (R : Allowed) (b : Builder) (c : ℕ) → R.Says c → Roams b → Holds R b → HoldsAfter R (table_character b c)
-table_character-Holds R b c k n h = either-after R (is_text_in_table (current_tag b)) (Again (record b { pending = []; original = b.mode; mode = in_table_text })) (with_foster_parenting b (a_character c)) (let x = none_pending-Holds R b h in (x.0, x.1, λ y. let s = x.2 y in (s.0, n, s.2, s.3))) (fostered-Holds R b (a_character c) k n h)
+table_character-Holds R b c k n h = either-after R (is_text_in_table (current_tag b)) (Again (record b { pending = []; original = b.mode; mode = in_table_text })) (with_foster_parenting b (a_character c)) (let x = none_pending-Holds R b h in (x.0, λ y. let s = x.1 y in (s.0, n, s.2, s.3))) (fostered-Holds R b (a_character c) k n h)
 
 pub in_table_step-Holds : (R : Allowed) (b : Builder) (token : Token) → Allows R token → Roams b → Holds R b → HoldsAfter R (in_table_step b token)
 in_table_step-Holds R b (a_character c) k n h = table_character-Holds R b c k n h

@@ -41,7 +41,6 @@ anything = record {
   Reads = λ _. ⊤;
   Around = λ _. ⊤;
   Scripts = λ _. ⊤;
-  Seated = ⊥;
   Grouped = ⊥;
   stands = λ _ _. tt;
   headed = λ _ _ _. tt;
@@ -89,11 +88,11 @@ pub texts_of : (trees : HtmlForest) → Follows anything trees → AreTexts tree
 texts_of trees f = (texts-weaken (IsText anything) IsSome trees (λ bytes t. t.0) f.texts, f.apart)
 
 pub built_texts : (flags : Flags) (tokens : List Token) → AreTexts (page_built flags tokens).trees
-built_texts flags tokens = texts_of (page_built flags tokens).trees (page-Follows anything flags tokens (λ s. s) tt (any_tokens tokens))
+built_texts flags tokens = texts_of (page_built flags tokens).trees (page-Follows anything flags tokens tt (any_tokens tokens))
 
 pub built_fragment_texts : (flags : Flags) (context : Context) (tokens : List Token) → AreTexts (fragment_built flags context tokens)
 built_fragment_texts flags context tokens =
-    texts_of (fragment_built flags context tokens) (fragment-Follows anything flags context tokens (λ s. s) tt tt (any_tokens tokens))
+    texts_of (fragment_built flags context tokens) (fragment-Follows anything flags context tokens tt tt (any_tokens tokens))
 
 pub page_texts : (flags : Flags) (page : List ℕ) → AreTexts (html_tree_by flags page).trees
 page_texts flags page =

@@ -83,15 +83,15 @@ children-Follows R b h =
 
 -- of tokens
 
-pub page-Follows : (R : Allowed) (flags : Flags) (tokens : List Token) → (R.Seated → ⊥) → R.Scripts flags.is_scripting → Each (Allows R) tokens → Follows R (page_built flags tokens).trees
-page-Follows R flags tokens n s k =
+pub page-Follows : (R : Allowed) (flags : Flags) (tokens : List Token) → R.Scripts flags.is_scripting → Each (Allows R) tokens → Follows R (page_built flags tokens).trees
+page-Follows R flags tokens s k =
     document-Follows R (token_done (tokens_done (page_start flags) tokens) end_of_file)
-    (token-Holds R (tokens_done (page_start flags) tokens) end_of_file tt (tokens-Holds R (page_start flags) tokens k (page_start-Holds R flags n s)))
+    (token-Holds R (tokens_done (page_start flags) tokens) end_of_file tt (tokens-Holds R (page_start flags) tokens k (page_start-Holds R flags s)))
 
-pub fragment-Follows : (R : Allowed) (flags : Flags) (context : Context) (tokens : List Token) → (R.Seated → ⊥) → R.Scripts flags.is_scripting → R.Around context.tag → Each (Allows R) tokens → Follows R (fragment_built flags context tokens)
-fragment-Follows R flags context tokens n s a k =
+pub fragment-Follows : (R : Allowed) (flags : Flags) (context : Context) (tokens : List Token) → R.Scripts flags.is_scripting → R.Around context.tag → Each (Allows R) tokens → Follows R (fragment_built flags context tokens)
+fragment-Follows R flags context tokens s a k =
     children-Follows R (token_done (tokens_done (fragment_start flags context) tokens) end_of_file)
-    (token-Holds R (tokens_done (fragment_start flags context) tokens) end_of_file tt (tokens-Holds R (fragment_start flags context) tokens k (fragment_start-Holds R flags context n s a)))
+    (token-Holds R (tokens_done (fragment_start flags context) tokens) end_of_file tt (tokens-Holds R (fragment_start flags context) tokens k (fragment_start-Holds R flags context s a)))
 
 -- a page is built of its tokens, and a fragment too
 

@@ -171,21 +171,39 @@ fragment_built flags context tokens =
 
 -- Pages
 
--- comments, and then `head`
+-- comments alone
+abbrev pub EndsWithComments : HtmlForest → Type 0
+EndsWithComments no_trees = ⊤
+EndsWithComments (text bytes more) = ⊥
+EndsWithComments (comment bytes more) = EndsWithComments more
+EndsWithComments (doctype own more) = ⊥
+EndsWithComments (element tag below more) = ⊥
+
+-- comments and texts, and then `body` or `frameset`
+abbrev pub GoesOnWithBody : HtmlForest → Type 0
+GoesOnWithBody no_trees = ⊥
+GoesOnWithBody (text bytes more) = GoesOnWithBody more
+GoesOnWithBody (comment bytes more) = GoesOnWithBody more
+GoesOnWithBody (doctype own more) = ⊥
+GoesOnWithBody (element tag below more) = is_any (codes "body frameset") tag ≡ true
+
+-- comments, then `head`, and behind it the body
 abbrev pub BeginsWithHead : HtmlForest → Type 0
 BeginsWithHead no_trees = ⊥
 BeginsWithHead (text bytes more) = ⊥
 BeginsWithHead (comment bytes more) = BeginsWithHead more
 BeginsWithHead (doctype own more) = ⊥
-BeginsWithHead (element tag below more) = is_any (codes "head") tag ≡ true
+BeginsWithHead (element tag below more) =
+    (is_any (codes "head") tag ≡ true) × GoesOnWithBody more
 
--- doctypes and comments, and then `html`, in which `head` is the first element
+-- doctypes and comments, then `html` with its head and body, and comments behind it
 abbrev pub IsPage : HtmlForest → Type 0
 IsPage no_trees = ⊥
 IsPage (text bytes more) = ⊥
 IsPage (comment bytes more) = IsPage more
 IsPage (doctype own more) = IsPage more
-IsPage (element tag below more) = (is_any (codes "html") tag ≡ true) × BeginsWithHead below
+IsPage (element tag below more) =
+    (is_any (codes "html") tag ≡ true) × BeginsWithHead below × EndsWithComments more
 
 -- Tokens of texts: as the names of start tags drive the tokenizer
 

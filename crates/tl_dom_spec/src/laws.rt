@@ -95,10 +95,11 @@ pub fn templates_alone_have_contents()
         ↔ ((tag.space ≡ html_space) × (tag.name ≡ codes "template")) }
 {}
 
-/// The first element of a page is `html`, before which stand doctypes and comments alone, and the
-/// first one in it is `head`, before which stand comments.
+/// The one element of a page is `html`: before it stand doctypes and comments alone, behind it
+/// comments. The first element in it is `head`, before which stand comments, and the next one is
+/// `body` or `frameset`, before which stand comments and texts.
 #[tactic(auto, using(crate::proofs::PageLaw::page_page))]
-pub fn pages_begin_with_html_and_head()
+pub fn pages_are_html_with_head_and_body()
     ensures { (flags : Flags) (page : List ℕ) → IsPage (html_tree_by flags page).trees }
 {}
 
