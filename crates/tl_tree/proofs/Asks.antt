@@ -3,14 +3,15 @@ use Rattle.std.proofs.Common.{IsTrue, List, None, Option, Some, ap, arith, false
 use Rattle.std.proofs.lemmas.Bool.{lt-ltb, ltb-true}
 use Rattle.std.proofs.lemmas.Option.{none-some, same_Some, slice_get-map, slice_get_read}
 use Rattle.std.specs.Option.{option_and_then, option_map}
-use Rattle.tl_dom_spec.specs.Tags as dom
 use Rattle.tl_tree.proofs.Seats.{all-get}
 use Rattle.tl_tree.proofs.Templates.{tag-is}
-use Rattle.tl_tree.specs.Asked.{end_at, name_of, node_at}
+use Rattle.tl_tree.specs.Asked.{end_at, name_of, namespace_by, namespace_of, node_at}
 use Rattle.tl_tree.specs.Inner.RowView.{bytes_in, held_in, held_is_within, row_in, row_is_within}
-use Rattle.tl_tree.specs.Inner.Store.{bytes_of, sizes_of, tag_at, tag_of, text_of}
-use Rattle.tl_tree.specs.Rows.{IsInRange, Row}
+use Rattle.tl_tree.specs.Inner.Store.{bytes_of, sizes_of, space_of, tag_of, text_of}
+use Rattle.tl_tree.specs.Rows.{IsInRange, Row, an_element}
 use Rattle.tl_tree.specs.TreeView.{rows_in}
+use Rattle.tl_tree.specs.declared.entries.Namespace.{Namespace}
+use Rattle.tl_tree.specs.declared.entries.Namespace.TheVariants.{Html, Math, Svg}
 use Rattle.tl_tree.specs.declared.entries.TagEntry.{TagEntry}
 use Rattle.tl_tree.specs.declared.row.Held.TheVariants.{Element}
 use Rattle.tl_tree.specs.declared.row.Row as code
@@ -52,11 +53,28 @@ tag-named : (s : Store) (entry : TagEntry) → (tag_of s entry).name ≡ bytes_i
 unfolding tag_of bytes_of
 tag-named s entry = refl
 
-pub name-found : (t : Tree) (number tag : ℕ) (items : List code.Row) (row : code.Row) (entry : TagEntry) (bytes : List ℕ) → items ≡ t.rows.items → true ≡ nat_lt number (length items) → row ≡ get_or items number row → row.held ≡ Element tag → entry ≡ get_or t.store.tags.items tag entry → bytes ≡ bytes_in (text_of t.store) entry.name → Some bytes ≡ option_and_then name_of (node_at (rows_in t) number)
-name-found t number tag items row entry bytes same below got held e is =
+-- the element of a row that was found
+element-found : (t : Tree) (number tag : ℕ) (items : List code.Row) (row : code.Row) (entry : TagEntry) → items ≡ t.rows.items → true ≡ nat_lt number (length items) → row ≡ get_or items number row → row.held ≡ Element tag → entry ≡ get_or t.store.tags.items tag entry → node_at (rows_in t) number ≡ Some (an_element (tag_of t.store entry))
+element-found t number tag items row entry same below got held e =
     let s = t.store in
     let at : slice_get t.rows.items number ≡ Some row = subst (λ v. slice_get v number ≡ Some row) same (slice_get_read items (length items) number row refl (ltb-true number (length items) (sym below)) got) in
     let within = all-get (row_is_within (sizes_of s)) t.rows.items number row t.rows_within at in
     let counts : IsTrue (nat_lt tag (length s.tags.items)) = subst (λ v. IsTrue (held_is_within (sizes_of s) v)) held within in
-    let named : (tag_at s tag).name ≡ bytes = ap (λ (v : dom.Tag). v.name) (tag-is s tag entry counts e) ∙ (tag-named s entry ∙ sym is) in
-    sym (ap (option_and_then name_of) (node-held t number row at ∙ ap (λ v. Some (held_in s (text_of s) v)) held) ∙ ap (λ v. Some v) named)
+    node-held t number row at ∙ (ap (λ v. Some (held_in s (text_of s) v)) held ∙ ap (λ v. Some (an_element v)) (tag-is s tag entry counts e))
+
+pub name-found : (t : Tree) (number tag : ℕ) (items : List code.Row) (row : code.Row) (entry : TagEntry) (bytes : List ℕ) → items ≡ t.rows.items → true ≡ nat_lt number (length items) → row ≡ get_or items number row → row.held ≡ Element tag → entry ≡ get_or t.store.tags.items tag entry → bytes ≡ bytes_in (text_of t.store) entry.name → Some bytes ≡ option_and_then name_of (node_at (rows_in t) number)
+name-found t number tag items row entry bytes same below got held e is =
+    sym (ap (option_and_then name_of) (element-found t number tag items row entry same below got held e) ∙ ap (λ v. Some v) (tag-named t.store entry ∙ sym is))
+
+tag-spaced : (s : Store) (entry : TagEntry) → (tag_of s entry).space ≡ space_of entry.space
+unfolding tag_of
+tag-spaced s entry = refl
+
+namespace-back : (space : Namespace) → namespace_by (space_of space) ≡ space
+namespace-back Html = refl
+namespace-back Math = refl
+namespace-back Svg = refl
+
+pub namespace-found : (t : Tree) (number tag : ℕ) (items : List code.Row) (row : code.Row) (entry : TagEntry) → items ≡ t.rows.items → true ≡ nat_lt number (length items) → row ≡ get_or items number row → row.held ≡ Element tag → entry ≡ get_or t.store.tags.items tag entry → Some entry.space ≡ option_and_then namespace_of (node_at (rows_in t) number)
+namespace-found t number tag items row entry same below got held e =
+    sym (ap (option_and_then namespace_of) (element-found t number tag items row entry same below got held e) ∙ ap (λ v. Some v) (ap namespace_by (tag-spaced t.store entry) ∙ namespace-back entry.space))

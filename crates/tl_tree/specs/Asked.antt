@@ -1,7 +1,10 @@
 -- What is asked of rows by their numbers.
 use Rattle.std.specs.Option.{option_and_then, option_map, unwrap_or}
 use Rattle.std.specs.Prelude.{List, None, Option, Some, [], false, if◌then◌else◌, length, nat_lt, slice_get, suc, true, zero, ℕ, ◌+◌, ◌-◌, ◌∷◌}
+use Rattle.tl_dom_spec.specs.Tags as dom
 use Rattle.tl_tree.specs.Rows.{Node, Row, a_comment, a_doctype, a_text, an_element, contents}
+use Rattle.tl_tree.specs.declared.entries.Namespace.{Namespace}
+use Rattle.tl_tree.specs.declared.entries.Namespace.TheVariants.{Html, Math, Svg}
 use Rattle.tl_tree.specs.declared.kind.Kind as kind
 use Rattle.tl_tree.specs.declared.kind.Kind.TheVariants as kinds
 
@@ -11,6 +14,16 @@ kind_of contents = kinds.Contents
 kind_of (a_text bytes) = kinds.Text
 kind_of (a_comment bytes) = kinds.Comment
 kind_of (a_doctype own) = kinds.Doctype
+
+abbrev pub namespace_by : dom.Namespace → Namespace
+namespace_by dom.html_space = Html
+namespace_by dom.math_space = Math
+namespace_by dom.svg_space = Svg
+
+-- the namespace of an element
+abbrev pub namespace_of : Node → Option Namespace
+namespace_of (an_element tag) = Some (namespace_by tag.space)
+namespace_of _ = None
 
 -- the name of an element
 abbrev pub name_of : Node → Option (List ℕ)

@@ -8,7 +8,7 @@ use crate::span::Span;
 
 /// The namespaces of elements.
 #[derive(Clone, Copy, PartialEq, Eq)]
-pub(crate) enum Namespace {
+pub enum Namespace {
     Html,
     Math,
     Svg,

@@ -33,6 +33,7 @@ mod test;
 mod tree;
 mod walks;
 
+pub use entries::Namespace;
 pub use error::ReadError;
 pub use kind::Kind;
 pub use tree::Tree;

@@ -1,5 +1,6 @@
 //! What is asked of a node of a tree, by its number.
 
+use crate::entries::Namespace;
 use crate::kind::Kind;
 use crate::row::Held;
 use crate::span::Span;
@@ -9,7 +10,7 @@ impl<'p> Tree<'p> {
     ghost use Rattle.std.specs.Bool.{IsTrue};
     ghost use Rattle.std.specs.Option.{option_and_then, option_copied, option_map};
     ghost use Rattle.std.specs.Prelude.{length, ◌==◌, ◌≡◌, ◌↔◌};
-    ghost use Rattle.tl_tree.specs.Asked.{end_at, first_child_at, kind_of, name_of, next_sibling_at, node_at, parent_at, text_of};
+    ghost use Rattle.tl_tree.specs.Asked.{end_at, first_child_at, kind_of, name_of, namespace_of, next_sibling_at, node_at, parent_at, text_of};
     ghost use Rattle.tl_tree.specs.Inner.RowView.{bytes_in};
     ghost use Rattle.tl_tree.specs.Inner.Store.{is_span, text_of as text_of_store};
     ghost use Rattle.tl_tree.specs.Rows.{IsInRange};
@@ -110,6 +111,16 @@ impl<'p> Tree<'p> {
         ensures { result.now ≡ bytes_in (text_of_store self.now.store) span }
     {
         self.store.bytes(span)
+    }
+
+    /// The namespace of an element.
+    pub fn namespace(&self, number: usize) -> Option<Namespace>
+        ensures { result ≡ option_and_then namespace_of (node_at (rows_in self.now) number) }
+    {
+        let Held::Element(tag) = self.rows.get(number)?.held else {
+            return None;
+        };
+        Some(self.store.tags[tag as usize].space)
     }
 
     /// The name of an element, as the tree has it: of an HTML element in lower case.

@@ -13,7 +13,7 @@ pub(crate) enum Held {
     Doctype(u32),
 }
 
-/// A row has 28 bytes.
+/// A node, what it stands in and where it ends.
 #[derive(Clone, Copy)]
 pub(crate) struct Row {
     pub(crate) held: Held,
@@ -24,3 +24,5 @@ pub(crate) struct Row {
     /// The bytes of the page that it was read from. Not filled in yet.
     pub(crate) source: Span,
 }
+
+const _: () = prove!(size_of::<Row>() == 28);
