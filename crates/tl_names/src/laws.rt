@@ -1,8 +1,14 @@
 //! Laws: what the lists are, name by name, as the sections of the standard have them.
 #![tactic(auto)]
 
-ghost use Rattle.std.specs.Prelude.{◌≡◌, ◌++◌};
-ghost use Rattle.tl_names.specs.Elements.{closed_at_once, feed_droppers, head_parts, headings, implied_ends, list_scope_bounds, paragraph_ends, rawtext_names, rcdata_names, scope_bounds, scoped_ends, special_names, table_parts, table_scope_bounds, table_sections, words};
+ghost use Rattle.std.specs.Prelude.{◌≡◌, ◌++◌, List, false, map, nat_eq, true, ℕ};
+ghost use Rattle.std.specs.Str.{bytes_eq};
+ghost use Rattle.tl_names.specs.ElementNames.{bytes_of, element_names, name_of, number_of};
+ghost use Rattle.tl_names.specs.Elements.{closed_at_once, feed_droppers, head_parts, headings, implied_ends, list_scope_bounds, paragraph_ends, rawtext_names, rcdata_names, scope_bounds, scoped_ends, special_names, table_parts, table_scope_bounds, table_sections, is_among, words};
+ghost use Rattle.tl_names.specs.NamedElements.{named_elements};
+ghost use Rattle.tl_names.specs.TagSets.{heading_words, implied_words, is_of, names_in, raw_text_words, rcdata_words, special_words, table_part_words, table_scope_words, table_section_words};
+ghost use Rattle.tl_names.specs.declared.class.Class.{Class};
+ghost use Rattle.tl_names.specs.declared.element_name.TheConstants.ElementName.{OTHER};
 
 /// What holds no markup: the sections of the tokenizer on RCDATA (2 names) and raw text (5).
 pub fn raw_texts()
@@ -64,4 +70,51 @@ pub fn heads()
         words "base basefont bgsound link meta title noscript noframes style script template" }
     ensures feed { feed_droppers ≡ words "pre listing textarea" }
     ensures closed { closed_at_once ≡ words "frame basefont bgsound" }
+{}
+
+/// Names that a rule speaks of: 159, in the order of their bytes. Each constant is the number of
+/// its name.
+pub fn names()
+    ensures names { element_names ≡
+        words "a address altglyph altglyphdef altglyphitem animatecolor animatemotion"
+        ++ words "animatetransform annotation-xml applet area article aside b base basefont"
+        ++ words "bgsound big blockquote body br button caption center clippath code col"
+        ++ words "colgroup dd desc details dialog dir div dl dt em embed feblend fecolormatrix"
+        ++ words "fecomponenttransfer fecomposite feconvolvematrix fediffuselighting"
+        ++ words "fedisplacementmap fedistantlight fedropshadow feflood fefunca fefuncb"
+        ++ words "fefuncg fefuncr fegaussianblur feimage femerge femergenode femorphology"
+        ++ words "feoffset fepointlight fespecularlighting fespotlight fetile feturbulence"
+        ++ words "fieldset figcaption figure font footer foreignObject foreignobject form"
+        ++ words "frame frameset glyphref h1 h2 h3 h4 h5 h6 head header hgroup hr html i"
+        ++ words "iframe image img input keygen li lineargradient link listing main malignmark"
+        ++ words "marquee math menu meta mglyph mi mn mo ms mtext nav nobr noembed noframes"
+        ++ words "noscript object ol optgroup option p param plaintext pre radialgradient rb"
+        ++ words "rp rt rtc ruby s script search section select small source span strike"
+        ++ words "strong style sub summary sup svg table tbody td template textarea textpath"
+        ++ words "tfoot th thead title tr track tt u ul var wbr xmp" }
+    ensures constants { map (λ row. name_of row.0) named_elements
+        ≡ map (λ row. row.1) named_elements }
+{}
+
+/// What a number tells: which name it is, and whether that is of a class. All other names have one
+/// number, and are of no class.
+pub fn numbers()
+    ensures name { (n : List ℕ) → is_among element_names n ≡ true → bytes_of (name_of n) ≡ n }
+    ensures other { (n : List ℕ) → is_among element_names n ≡ false → name_of n ≡ OTHER }
+    ensures same { (own n : List ℕ) → is_among element_names own ≡ true →
+        nat_eq (number_of (name_of n)) (number_of (name_of own)) ≡ bytes_eq own n }
+    ensures class { (class : Class) (n : List ℕ) →
+        is_of class (name_of n) ≡ is_among (names_in class) n }
+{}
+
+/// Classes that have a list in `elements` too: they are the same.
+pub fn classes()
+    ensures special { special_words ≡ special_names }
+    ensures table_scope { table_scope_words ≡ table_scope_bounds }
+    ensures implied { implied_words ≡ implied_ends }
+    ensures heading { heading_words ≡ headings }
+    ensures rcdata { rcdata_words ≡ rcdata_names }
+    ensures raw_text { raw_text_words ≡ rawtext_names }
+    ensures table_section { table_section_words ≡ table_sections }
+    ensures table_part { table_part_words ≡ table_parts }
 {}

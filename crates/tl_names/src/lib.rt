@@ -5,6 +5,9 @@ ghost use Rattle.std.specs.Prelude.{◌≡◌};
 ghost use Rattle.tl_names.specs.Elements.{is_among, words_of};
 ghost use Rattle.tl_names.specs.References.{table_of};
 
+pub mod class;
+pub mod element_name;
+mod element_tables;
 pub mod elements;
 pub mod laws;
 mod references;

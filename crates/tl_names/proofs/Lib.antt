@@ -1,0 +1,3 @@
+pub mod ElementNames
+pub mod Numbers
+pub mod TagSets
