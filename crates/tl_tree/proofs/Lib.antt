@@ -13,3 +13,4 @@ pub mod Fostered
 pub mod Actives
 pub mod ActiveNumbers
 pub mod AlikeTags
+pub mod GroupTable

@@ -6,3 +6,4 @@ pub mod Frames
 pub mod ActiveWithin
 pub mod Active
 pub mod Modes
+pub mod GroupNames

@@ -12,6 +12,7 @@ mod cell;
 mod entries;
 mod error;
 mod frame;
+mod group;
 mod mode;
 mod path;
 mod span;
