@@ -1,5 +1,5 @@
 -- Which lists of entries are sound: their numbers differ, and are at most the greatest one.
-use Rattle.std.proofs.Common.{ap, arith, sym, subst, ◌∙◌, ◌≡◌, ◌≤◌, ◌<◌, ◌++◌, ◌&&◌, ◌||◌, ◌∷◌, [], Bool, IsTrue, List, cond, drop, false, get_or, length, nat_eq, nat_le, not, refl, reverse, set, suc, take, true, ℕ}
+use Rattle.std.proofs.Common.{ap, arith, sym, subst, ◌∙◌, ◌≡◌, ◌≤◌, ◌<◌, ◌++◌, ◌∷◌, [], Bool, IsTrue, List, cond, drop, false, get_or, length, nat_eq, nat_le, not, refl, reverse, set, suc, take, true, ℕ}
 use Rattle.std.proofs.lemmas.Bool.{and_from, and_parts, eq-eqb, eqb-true, false≢true, le-leb, leb-true, ne_eqb, not-true, or_from, or_parts}
 use Rattle.std.proofs.lemmas.List.{append-nil, take-append-drop}
 use Rattle.std.proofs.lemmas.List.Folds.{list_all-append, list_any-append}

@@ -1,9 +1,9 @@
 -- The list of active formatting elements, which is kept with the latest entry last and seen with
 -- the latest first.
-use Rattle.std.proofs.Common.{ap, arith, sym, subst, ◌∙◌, ◌≡◌, ◌+◌, ◌-◌, ◌≤◌, ◌<◌, ◌++◌, ◌&&◌, ◌||◌, ◌∷◌, [], Bool, IsTrue, List, Option, None, Some, IfSome, IsNone, is_some, cond, drop, false, get_or, length, map, nat_eq, nat_lt, refl, reverse, set, suc, take, true, zero, ℕ}
+use Rattle.std.proofs.Common.{ap, arith, sym, subst, ◌∙◌, ◌≡◌, ◌+◌, ◌-◌, ◌≤◌, ◌<◌, ◌++◌, ◌&&◌, ◌||◌, ◌∷◌, [], Bool, IsTrue, List, Option, None, Some, IfSome, IsNone, is_some, cond, drop, false, get_or, length, map, nat_eq, nat_lt, refl, reverse, set, suc, take, true, ℕ}
 use Rattle.std.proofs.Math.Bool.{or-true}
 use Rattle.std.proofs.Math.Seq.{drop-cons, set-append_seam, take-suc}
-use Rattle.std.proofs.lemmas.Bool.{and_from, and_right, cond-false, cond-true, eq-eqb, eqb-true, false≢true, le-ltb, lt-ltb, ne_eqb, or_from, or_parts}
+use Rattle.std.proofs.lemmas.Bool.{and_from, and_right, cond-false, cond-true, eq-eqb, false≢true, le-ltb, lt-ltb, ne_eqb, or_from, or_parts}
 use Rattle.std.proofs.lemmas.List.{append_assoc, drop_all, get_or_read, length-take, map-append, reverse-append, take-append-drop, take_all}
 use Rattle.std.proofs.lemmas.List.Folds.{list_any-append}
 use Rattle.std.specs.List.{insert, list_any, remove}
@@ -18,7 +18,6 @@ use Rattle.tl_tree.specs.Inner.Store.{tag_at}
 use Rattle.tl_tree.specs.declared.active_entry.Alike.{Alike}
 use Rattle.tl_tree.specs.declared.active_entry.Entry.{Entry}
 use Rattle.tl_tree.specs.declared.active_entry.Entry.TheVariants.{Formatting, Marker}
-use Rattle.tl_tree.specs.declared.active_entry.Listed.{Listed}
 use Rattle.tl_tree.specs.declared.store.Store.{Store}
 
 -- What is seen of a list in parts

@@ -1,5 +1,5 @@
 -- Attributes of two tags, looked at one after the other.
-use Rattle.std.proofs.Common.{ap, arith, sym, ◌∙◌, ◌≡◌, ◌+◌, ◌≤◌, ◌<◌, ◌++◌, ◌&&◌, ◌||◌, ◌∷◌, [], Bool, IsTrue, List, drop, false, get_or, length, map, nat_eq, nat_le, refl, suc, take, true, zero, ℕ}
+use Rattle.std.proofs.Common.{ap, arith, sym, ◌∙◌, ◌≡◌, ◌+◌, ◌≤◌, ◌<◌, ◌&&◌, ◌||◌, ◌∷◌, [], Bool, IsTrue, List, drop, false, get_or, length, map, nat_eq, nat_le, suc, true, zero, ℕ}
 use Rattle.std.proofs.Math.Bool.{or-true}
 use Rattle.std.proofs.lemmas.Bool.{and_parts, and_right, leb-true}
 use Rattle.std.proofs.lemmas.List.{length-drop, length-map, length-take}

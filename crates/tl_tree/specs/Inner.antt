@@ -14,3 +14,4 @@ pub mod Said
 pub mod ActiveWithin
 pub mod Active
 pub mod Modes
+pub mod GroupNames

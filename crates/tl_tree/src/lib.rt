@@ -13,6 +13,7 @@ mod entries;
 mod error;
 mod examples;
 mod frame;
+mod group;
 mod kind;
 mod laws;
 mod mode;
