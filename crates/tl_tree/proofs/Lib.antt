@@ -30,3 +30,4 @@ pub mod Actives
 pub mod ActiveNumbers
 pub mod AlikeTags
 pub mod GroupTable
+pub mod SaidDoctypes

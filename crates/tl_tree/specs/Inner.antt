@@ -15,3 +15,4 @@ pub mod ActiveWithin
 pub mod Active
 pub mod Modes
 pub mod GroupNames
+pub mod Doctyping

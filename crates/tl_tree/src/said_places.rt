@@ -4,6 +4,8 @@
 //! compares the bytes that stand there: no clause rests on a place.
 ghost use Rattle.std.specs.Prelude.{length, ◌≤◌};
 
+use memchr::memchr2;
+
 /// A key or a value begins at `start`, and what stands after it at `end`.
 #[derive(Clone, Copy)]
 pub(crate) struct PartPlace {
@@ -92,5 +94,18 @@ pub(crate) fn value_place(page: &[u8], key_end: usize, len: usize) -> PartPlace
     PartPlace {
         start,
         end: behind(page, start, len),
+    }
+}
+
+/// Past the first quote from a place on, or the end of the text.
+pub(crate) fn after_quote(text: &[u8], from: usize) -> usize
+    ensures { result ≤ length text.now }
+{
+    if from >= text.len() {
+        return text.len();
+    }
+    match memchr2(b'"', b'\'', &text[from..]) {
+        Some(at) => from + at + 1,
+        None => text.len(),
     }
 }
