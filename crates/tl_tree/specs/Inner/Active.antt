@@ -37,7 +37,6 @@ pub record IsLatest (k place : ℕ) (entries : List Entry) : Type 0 where
 pub record AreAlike (s : Store) (own : tags.Tag) (entries : List Entry) (a : Alike) : Type 0 where
   pub counted : a.count ≡ formatting.alike_count own (seen s entries)
   pub place : 0 < a.count → a.earliest < length entries
-  pub gone : 0 < a.count →
   pub gone :
       0 < a.count →
       formatting.without_earliest own (seen s entries) ≡ seen s (remove entries a.earliest)
