@@ -372,7 +372,7 @@ module _ (low : ℕ) (md : Mode) where
         }) (rooted (caught_up f.0) f.1 root refl (joined-body f.0.children f.0.waiting n) f.4))
       ] in
       let all : FramesAt b t (from_html b.path) b.is_fostering = subst (λ p. FramesAt b t p b.is_fostering) (sym f.2) (subst (FramesAt b t (f.0 ∷ f.1 ∷ [])) (sym here_is) found_is) in
-      ground (deep all.1)
+      ground (deep {low = all.0} all.1)
 
   -- an end tag of a name that `html` and templates haven't, where the body may be settled
   top-falls : {S L : List ℕ} {N : ℕ} {ok : Bool} {from m : ℕ} {tg : Tag} (path : Path) → IsBody tg → Seated S L N ok from m tg path → Falls S L N ok from (popped path)
