@@ -13,3 +13,5 @@ pub mod Fostered
 pub mod Actives
 pub mod ActiveNumbers
 pub mod AlikeTags
+pub mod Built
+pub mod Implied

@@ -6,3 +6,6 @@ pub mod Frames
 pub mod ActiveWithin
 pub mod Active
 pub mod Modes
+pub mod TagGroups
+pub mod Known
+pub mod Builders
