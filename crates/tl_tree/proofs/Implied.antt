@@ -1,7 +1,7 @@
 -- Elements whose end tags are implied.
-use Rattle.std.proofs.Common.{ap, codes, refl, sym, true, false, ◌∙◌, ◌≡◌, ◌∷◌, ◌&&◌, ◌||◌, [], Bool, List, not}
+use Rattle.std.proofs.Common.{ap, codes, refl, true, false, ◌∙◌, ◌≡◌, ◌∷◌, ◌&&◌, ◌||◌, [], Bool, not}
 use Rattle.tl_dom_spec.specs.Path.{Frame, Path, has_tag, implied_closed, popped_while, settled_while, top_settled}
-use Rattle.tl_dom_spec.specs.Tags.{Tag, is_any, is_implied, no_tag}
+use Rattle.tl_dom_spec.specs.Tags.{is_any, is_implied, no_tag}
 
 after : Bool → Path → Path → Path
 after b settled kept = elim b as (λ _. Path) [ true ↦ settled | false ↦ kept ]

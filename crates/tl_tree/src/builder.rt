@@ -63,8 +63,9 @@ pub(crate) struct Builder<'a> {
 }
 
 impl<'a> Builder<'a> {
-    ghost use Rattle.std.specs.Prelude.{IfOk, IsTrue, OnOk, true, ◌<◌, ◌≡◌};
+    ghost use Rattle.std.specs.Prelude.{IfOk, IsTrue, OnOk, true, ◌<◌, ◌∷◌, ◌≡◌};
     ghost use Rattle.tl_dom_spec.specs.Builder.{add_one, clear_stack_back_to, clear_to_last_marker, current_tag, fostering, frameset_not_ok, generate_implied_end_tags, has_in_table_scope, has_template, insert_and_pop, insert_bytes, insert_comment, insert_element, insert_implied, insert_marker, pop_current_node, pop_until, switch_to};
+    ghost use Rattle.tl_dom_spec.specs.Dispatcher.{calm};
     ghost use Rattle.tl_dom_spec.specs.HtmlTree.{page_start};
     ghost use Rattle.tl_dom_spec.specs.Tags.{bare_tag, is_any};
     ghost use Rattle.tl_tree.specs.Inner.Builders.{builder_of, flags_of, token_of};
@@ -132,6 +133,35 @@ impl<'a> Builder<'a> {
         ensures token { token_of self.new ≡ token_of self.old }
     {
         self.is_frameset_ok = false;
+    }
+
+    /// No line feed is ignored any more, and the tokenizer goes on in its data state.
+    pub(crate) fn calm(&mut self)
+        ensures ok { builder_of self.new ≡ calm (builder_of self.old) }
+        ensures token { token_of self.new ≡ token_of self.old }
+    {
+        self.skips = false;
+        self.reads = Reads::Data;
+    }
+
+    pub(crate) fn set_original(&mut self, mode: Mode)
+        ensures ok { builder_of self.new
+            ≡ record (builder_of self.old) { original = mode_of mode } }
+        ensures token { token_of self.new ≡ token_of self.old }
+    {
+        self.original = mode;
+    }
+
+    /// Puts a mode on the stack of template insertion modes.
+    pub(crate) fn push_template_mode(&mut self, mode: Mode) -> Result<(), ReadError>
+        ensures ok { OnOk result (builder_of self.new
+            ≡ record (builder_of self.old) {
+              templates = mode_of mode ∷ (builder_of self.old).templates;
+            }) }
+        ensures token { token_of self.new ≡ token_of self.old }
+    {
+        self.templates.push(mode)?;
+        Ok(())
     }
 
     /// The form element pointer points to the element of a number, or to none.
