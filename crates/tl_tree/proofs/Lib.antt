@@ -29,3 +29,4 @@ pub mod SaidTags
 pub mod Actives
 pub mod ActiveNumbers
 pub mod AlikeTags
+pub mod Built

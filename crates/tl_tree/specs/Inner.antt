@@ -14,3 +14,6 @@ pub mod Said
 pub mod ActiveWithin
 pub mod Active
 pub mod Modes
+pub mod TagGroups
+pub mod Known
+pub mod Builders
