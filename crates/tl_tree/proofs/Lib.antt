@@ -31,3 +31,4 @@ pub mod ActiveNumbers
 pub mod AlikeTags
 pub mod GroupTable
 pub mod SaidDoctypes
+pub mod Built

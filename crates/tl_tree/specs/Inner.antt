@@ -16,3 +16,6 @@ pub mod Active
 pub mod Modes
 pub mod GroupNames
 pub mod Doctyping
+pub mod TagGroups
+pub mod Known
+pub mod Builders

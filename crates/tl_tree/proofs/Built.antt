@@ -1,0 +1,106 @@
+-- What a builder stands for as its path changes.
+use Rattle.std.proofs.Common.{Err, Ok, OnOk, Result, ap, arith, refl, ◌∙◌, ◌≡◌, ◌<◌, ◌≤◌, ◌∷◌, [], IsTrue, List, None, Option, Some, length, map, reverse, ℕ}
+use Rattle.std.proofs.lemmas.Bool.{and_parts, ltb-true}
+use Rattle.std.specs.List.{list_all}
+use Rattle.std.specs.Option.{option_map}
+use Rattle.tl_dom_spec.specs.Builder as dom
+use Rattle.tl_dom_spec.specs.Path as paths
+use Rattle.tl_dom_spec.specs.Tags as tags
+use Rattle.tl_tree.proofs.ActiveNumbers.{active-grown}
+use Rattle.tl_tree.proofs.Grown.{tag-at-grown}
+use Rattle.tl_tree.proofs.Listed.{begins-longer}
+use Rattle.tl_tree.proofs.Within.{lt-more}
+use Rattle.tl_tree.proofs.Written.{parts-of}
+use Rattle.tl_tree.specs.Inner.Active.{active_of}
+use Rattle.tl_tree.specs.Inner.Builders.{builder_of, token_of}
+use Rattle.tl_tree.specs.Inner.Framed.{frame_is_within}
+use Rattle.tl_tree.specs.Inner.Frames.{path_of}
+use Rattle.tl_tree.specs.Inner.Known.{AreKnown, context_is_known}
+use Rattle.tl_tree.specs.Inner.Modes.{mode_of}
+use Rattle.tl_tree.specs.Inner.Store.{Grows, bytes_of, tag_at, tag_of}
+use Rattle.tl_tree.specs.declared.builder.Builder.{Builder}
+use Rattle.tl_tree.specs.declared.entries.Namespace.TheVariants.{Html}
+use Rattle.tl_tree.specs.declared.frame.Frame.{Frame}
+use Rattle.tl_tree.specs.declared.path.FramePath.{FramePath}
+use Rattle.tl_tree.specs.declared.span.Span.{Span}
+use Rattle.tl_tree.specs.declared.store.Store.{Store}
+
+context-more : (m n : ℕ) → m ≤ n → (context : Option ℕ) → IsTrue (context_is_known m context) → IsTrue (context_is_known n context)
+context-more m n le None h = h
+context-more m n le (Some tag) h = lt-more tag m n h le
+
+-- the tags that a builder refers to stay in the store
+pub known-grown : (s t : Store) → Grows s t → (active : ℕ) (context : Option ℕ) (token : ℕ) → AreKnown (length s.tags.items) active context token → AreKnown (length t.tags.items) active context token
+known-grown s t g active context token k =
+    let more = begins-longer s.tags.items t.tags.items g.tags in
+    let listed = k.listed in
+    let own = k.own in
+    record {
+      listed = omega arith;
+      own = omega arith;
+      around = context-more (length s.tags.items) (length t.tags.items) more context k.around;
+    }
+
+pub context-grown : (s t : Store) → Grows s t → (context : Option ℕ) → IsTrue (context_is_known (length s.tags.items) context) → option_map (tag_at t) context ≡ option_map (tag_at s) context
+context-grown s t g None h = refl
+context-grown s t g (Some tag) h =
+    ap (λ (own : tags.Tag). Some own) (tag-at-grown s t g tag (ltb-true tag (length s.tags.items) h))
+
+-- all but the path, the active formatting elements, the number and the context
+with_parts : dom.Builder → paths.Path → List dom.Entry → ℕ → Option tags.Tag → dom.Builder
+with_parts d path active next context =
+    record d { path = path; active = active; next = next; context = context }
+
+same-parts : (d : dom.Builder) (p p' : paths.Path) (a a' : List dom.Entry) (n n' : ℕ) (c c' : Option tags.Tag) → p ≡ p' → a ≡ a' → n ≡ n' → c ≡ c' → with_parts d p a n c ≡ with_parts d p' a' n' c'
+same-parts d p p' a a' n n' c c' is-p is-a is-n is-c =
+    ap (λ own. with_parts d own a n c) is-p
+    ∙ (ap (λ own. with_parts d p' own n c) is-a
+    ∙ (ap (λ own. with_parts d p' a' own c) is-n
+    ∙ ap (λ own. with_parts d p' a' n' own) is-c))
+
+pub path-changed : (b : Builder) (q : FramePath) (known : AreKnown (length q.store.tags.items) b.active.greatest_tag b.context b.tag) (path : paths.Path) (next : ℕ) → Grows b.path.store q.store → q.next ≡ next → path_of q ≡ path → builder_of (record b { path = q; known = known }) ≡ record (builder_of b) { path = path; next = next }
+unfolding builder_of with_parts
+path-changed b q known path next g is-next is-path =
+    same-parts (builder_of b) (path_of q) path (active_of q.store b.active) (active_of b.path.store b.active) q.next next
+    (option_map (tag_at q.store) b.context) (option_map (tag_at b.path.store) b.context)
+    is-path (active-grown b.path.store q.store g b.active b.known.listed) is-next (context-grown b.path.store q.store g b.context b.known.around)
+
+pub token-kept : (b : Builder) (q : FramePath) (known : AreKnown (length q.store.tags.items) b.active.greatest_tag b.context b.tag) → Grows b.path.store q.store → token_of (record b { path = q; known = known }) ≡ token_of b
+unfolding token_of
+token-kept b q known g = tag-at-grown b.path.store q.store g b.tag b.known.own
+
+pub on-ok-both : {T E : Type 0} {P Q R : Type 0} (r : Result T E) → (P → Q → R) → OnOk r P → OnOk r Q → OnOk r R
+on-ok-both (Ok x) f p q = f p q
+on-ok-both (Err e) f p q = p
+
+-- a tag without attributes
+pub bare-tag-of : (s : Store) (name : Span) → tag_of s (record { space = Html; name = name; known = 0; first_attribute = 0; attribute_count = 0 }) ≡ tags.bare_tag (bytes_of s name)
+unfolding tag_of
+bare-tag-of s name = refl
+
+-- a store has a tag, which is that of the outermost frame
+some-tag : (s : Store) (frames : List Frame) → 0 < length frames → IsTrue (list_all (frame_is_within (length s.tags.items) (length s.cells.items)) frames) → 0 < length s.tags.items
+some-tag s [] some within = omega (arith, some)
+some-tag s (f ∷ frames) some within =
+    let own = (parts-of s f (and_parts (frame_is_within (length s.tags.items) (length s.cells.items) f) (list_all (frame_is_within (length s.tags.items) (length s.cells.items)) frames) within).0).tag in
+    omega arith
+
+-- a builder of a new path
+pub known-new : (p : FramePath) (active : ℕ) → active ≡ 0 → AreKnown (length p.store.tags.items) active None 0
+known-new p active is =
+    let some = some-tag p.store p.frames.items p.some p.within in
+    record { listed = omega arith; own = some; around = refl }
+
+with_start : dom.Builder → paths.Path → List dom.Entry → ℕ → List dom.Mode → List ℕ → dom.Builder
+with_start d path active next templates pending =
+    record d { path = path; active = active; next = next; templates = templates; pending = pending }
+
+pub started : (b : Builder) → path_of b.path ≡ paths.document ∷ [] → active_of b.path.store b.active ≡ [] → b.path.next ≡ 1 → b.templates.items ≡ [] → b.pending.items ≡ [] → builder_of b ≡ record (builder_of b) { path = paths.document ∷ []; active = []; next = 1; templates = []; pending = [] }
+unfolding builder_of with_start
+started b is-path is-active is-next is-templates is-pending =
+    let d = builder_of b in
+    ap (λ own. with_start d own d.active d.next d.templates d.pending) is-path
+    ∙ (ap (λ own. with_start d (paths.document ∷ []) own d.next d.templates d.pending) is-active
+    ∙ (ap (λ own. with_start d (paths.document ∷ []) [] own d.templates d.pending) is-next
+    ∙ (ap (λ own. with_start d (paths.document ∷ []) [] 1 (reverse (map mode_of own)) d.pending) is-templates
+    ∙ ap (λ own. with_start d (paths.document ∷ []) [] 1 [] own) is-pending)))

@@ -1,0 +1,16 @@
+use Rattle.std.proofs.Common.{refl}
+use Rattle.tl_tree.specs.Inner.Builders.{builder_of, token_of}
+use Rattle.tl_tree.proofs.builder.Builder.set_tag.Goals as goal
+
+pub invariant_of-self : goal.invariant_of-self
+invariant_of-self c =
+    let k = c.args.self.now.known in
+    record { known = record { listed = k.listed; own = c.requires; around = k.around } }
+
+pub returns-clause-ok : goal.returns-clause-ok
+unfolding builder_of
+returns-clause-ok c = refl
+
+pub returns-clause-token : goal.returns-clause-token
+unfolding token_of
+returns-clause-token c = refl

@@ -1,0 +1,48 @@
+//! "before html" (13.2.6.4.2).
+ghost use Rattle.std.specs.Prelude.{IfOk, OnOk, ◌≡◌};
+ghost use Rattle.tl_dom_spec.specs.Head.{before_html_start, html_implied, html_opened};
+ghost use Rattle.tl_tree.specs.Inner.Builders.{builder_of, outcome_of, token_of};
+ghost use Rattle.tl_tree.specs.Inner.TagGroups.{group_of};
+
+use crate::builder::Builder;
+use crate::error::ReadError;
+use crate::mode::Mode;
+use crate::outcome::Outcome;
+use crate::tag_group::Group;
+
+impl<'a> Builder<'a> {
+    pub(crate) fn html_opened(&mut self) -> Result<(), ReadError>
+        ensures ok { OnOk result
+            (builder_of self.new ≡ html_opened (builder_of self.old) (token_of self.old)) }
+        ensures token { token_of self.new ≡ token_of self.old }
+    {
+        self.insert_element()?;
+        self.switch_to(Mode::BeforeHead);
+        Ok(())
+    }
+
+    pub(crate) fn html_implied(&mut self) -> Result<Outcome, ReadError>
+        ensures ok { IfOk result (λ outcome. outcome_of outcome (builder_of self.new)
+            ≡ html_implied (builder_of self.old)) }
+        ensures token { token_of self.new ≡ token_of self.old }
+    {
+        self.insert_implied(b"html")?;
+        self.switch_to(Mode::BeforeHead);
+        Ok(Outcome::Again)
+    }
+
+    /// A start tag.
+    pub(crate) fn before_html_start(&mut self, group: Group) -> Result<Outcome, ReadError>
+        ensures ok { IfOk result (λ outcome. outcome_of outcome (builder_of self.new)
+            ≡ before_html_start (builder_of self.old) (group_of group) (token_of self.old)) }
+        ensures token { token_of self.new ≡ token_of self.old }
+    {
+        match group {
+            Group::TheHtml => {
+                self.html_opened()?;
+                Ok(Outcome::Done)
+            }
+            _ => self.html_implied(),
+        }
+    }
+}
