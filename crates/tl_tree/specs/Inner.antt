@@ -16,6 +16,5 @@ pub mod Active
 pub mod Modes
 pub mod GroupNames
 pub mod Doctyping
-pub mod TagGroups
 pub mod Known
 pub mod Builders

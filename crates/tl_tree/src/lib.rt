@@ -43,7 +43,6 @@ mod settle;
 mod settling;
 mod span;
 mod store;
-mod tag_group;
 mod test;
 mod tree;
 mod walks;
