@@ -2,7 +2,7 @@
 ghost use Rattle.std.specs.Prelude.{IfOk, OnOk, ◌≡◌};
 ghost use Rattle.tl_dom_spec.specs.Head.{before_html_start, html_implied, html_opened};
 ghost use Rattle.tl_tree.specs.Inner.Builders.{builder_of, outcome_of, token_of};
-ghost use Rattle.tl_tree.specs.Inner.GroupNames.{group_view};
+ghost use Rattle.tl_tree.specs.Inner.GroupNames.{group_view as group_of};
 
 use crate::builder::Builder;
 use crate::error::ReadError;
@@ -34,7 +34,7 @@ impl<'a> Builder<'a> {
     /// A start tag.
     pub(crate) fn before_html_start(&mut self, group: Group) -> Result<Outcome, ReadError>
         ensures ok { IfOk result (λ outcome. outcome_of outcome (builder_of self.new)
-            ≡ before_html_start (builder_of self.old) (group_view group) (token_of self.old)) }
+            ≡ before_html_start (builder_of self.old) (group_of group) (token_of self.old)) }
         ensures token { token_of self.new ≡ token_of self.old }
     {
         match group {

@@ -2,7 +2,7 @@
 ghost use Rattle.std.specs.Prelude.{Bool, IfOk, OnOk, ◌≡◌};
 ghost use Rattle.tl_dom_spec.specs.Tables.{after_caption, caption_closed, caption_start};
 ghost use Rattle.tl_tree.specs.Inner.Builders.{builder_of, outcome_by, outcome_of, token_of};
-ghost use Rattle.tl_tree.specs.Inner.GroupNames.{group_view};
+ghost use Rattle.tl_tree.specs.Inner.GroupNames.{group_view as group_of};
 
 use crate::builder::Builder;
 use crate::error::ReadError;
@@ -37,8 +37,8 @@ impl<'a> Builder<'a> {
     /// A start tag.
     pub(crate) fn caption_start(&mut self, group: Group) -> Result<Started, ReadError>
         ensures ok { IfOk result (λ started. (closes : Bool) →
-            outcome_by started (builder_of self.new) (group_view group) (token_of self.old) closes
-            ≡ caption_start (builder_of self.old) (group_view group) (token_of self.old) closes) }
+            outcome_by started (builder_of self.new) (group_of group) (token_of self.old) closes
+            ≡ caption_start (builder_of self.old) (group_of group) (token_of self.old) closes) }
         ensures token { token_of self.new ≡ token_of self.old }
     {
         match group {

@@ -4,7 +4,7 @@ ghost use Rattle.tl_dom_spec.specs.Builder.{add_one};
 ghost use Rattle.tl_dom_spec.specs.Tables.{after_table_body, body_closed, row_opened, table_body_start};
 ghost use Rattle.tl_dom_spec.specs.Tags.{bare_tag};
 ghost use Rattle.tl_tree.specs.Inner.Builders.{builder_of, outcome_by, outcome_of, token_of};
-ghost use Rattle.tl_tree.specs.Inner.GroupNames.{group_view};
+ghost use Rattle.tl_tree.specs.Inner.GroupNames.{group_view as group_of};
 
 use crate::builder::Builder;
 use crate::error::ReadError;
@@ -60,8 +60,8 @@ impl<'a> Builder<'a> {
     /// A start tag.
     pub(crate) fn table_body_start(&mut self, group: Group) -> Result<Started, ReadError>
         ensures ok { IfOk result (λ started. (closes : Bool) →
-            outcome_by started (builder_of self.new) (group_view group) (token_of self.old) closes
-            ≡ table_body_start (builder_of self.old) (group_view group) (token_of self.old) closes) }
+            outcome_by started (builder_of self.new) (group_of group) (token_of self.old) closes
+            ≡ table_body_start (builder_of self.old) (group_of group) (token_of self.old) closes) }
         ensures token { token_of self.new ≡ token_of self.old }
     {
         match group {
