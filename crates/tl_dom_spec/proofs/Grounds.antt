@@ -316,7 +316,7 @@ template_not_ok : {S L : List ℕ} {N : ℕ} {ok : Bool} {low m : ℕ} {tg : Tag
 template_not_ok (found f p l o e s) y = true≢false (sym e ∙ l.tag.no_template y)
 template_not_ok (past f p l s) y = template_not_ok s y
 
-popped_fit : (modes : List Mode) → Each IsTemplateMode modes → Each IsTemplateMode (templates_popped modes)
+pub popped_fit : (modes : List Mode) → Each IsTemplateMode modes → Each IsTemplateMode (templates_popped modes)
 popped_fit [] h = tt
 popped_fit (m ∷ modes) h = h.1
 

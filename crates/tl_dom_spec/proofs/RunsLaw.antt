@@ -14,7 +14,7 @@ use Rattle.tl_dom_spec.specs.Outer.{back_in_body}
 use Rattle.tl_dom_spec.specs.Dispatcher.{bound, calm, count_token, dispatch, foreign_character, foreign_step, html_step, mode_step, token_done, tokens_done}
 use Rattle.tl_dom_spec.specs.Lawful.{EachCharacter}
 use Rattle.tl_dom_spec.specs.Runs.{Kind, count_tokens, goes_in, html_run, insert_text, is_of_run, kind_of, null, plain, run_dispatched, run_taken, table_run, takes_any, white, with_replacements}
-use Rattle.tl_dom_spec.proofs.RunsStarts.{AtRest, BodyRest, Calm, IsKind, IsWhite, ModeRest, Quiet, TableRest, content, rebuilt_same, reopened_rebuilt, seen}
+use Rattle.tl_dom_spec.proofs.RunsStarts.{AtRest, BodyRest, Calm, IsKind, IsWhite, ModeRest, Quiet, TableRest, content, no_white, rebuilt_same, reopened_rebuilt, seen}
 use Rattle.tl_dom_spec.proofs.RunsFirst.{Counted, counted, first_rest}
 use Rattle.tl_dom_spec.proofs.RunsNext.{count_same, of_run_by, run_counted, run_Counted, run_rest, run_takes, split, not_null}
 
@@ -144,9 +144,6 @@ not_white c e = elim (cases_Bool (is_ascii_whitespace c)) [
   | inr n ↦ n
 ]
 
-null_no_white : (c : ℕ) → (c == 0) ≡ true → is_ascii_whitespace c ≡ false
-null_no_white c z = ap is_ascii_whitespace (eqb-true c 0 z)
-
 white_body : (c : ℕ) (b : Builder) → reconstruct_formatting b ≡ b → is_ascii_whitespace c ≡ true →
     (if is_ascii_whitespace c then in_body_step b (a_character c) else Done b) ≡ Done (insert_text (filter is_ascii_whitespace (c ∷ [])) b)
 white_body c b r w =
@@ -161,7 +158,7 @@ no_white_body c b f =
 
 frames_next : (k : Kind) (c : ℕ) (b : Builder) → is_of_run after_after_frameset k c ≡ true → ModeRest after_after_frameset k b →
     (if is_ascii_whitespace c then in_body_step b (a_character c) else Done b) ≡ Done (insert_text (filter is_ascii_whitespace (c ∷ [])) b)
-frames_next null c b o r = no_white_body c b (null_no_white c o)
+frames_next null c b o r = no_white_body c b (no_white c o)
 frames_next white c b o r = white_body c b (rebuilt_same b r) o
 frames_next plain c b o r = no_white_body c b (not_white c o)
 
@@ -213,7 +210,7 @@ is_plain_kind plain = true
 is_plain_kind _ = false
 
 foreign_next : (m : Mode) (k : Kind) (c : ℕ) (b : Builder) → is_of_run m k c ≡ true → Quiet k b → foreign_character c b ≡ insert_text (with_replacements (c ∷ [])) b
-foreign_next m null c b o q = foreign_kind null c b (o, null_no_white c o) (λ e. absurd (true≢false (sym (ap is_plain_kind e))))
+foreign_next m null c b o q = foreign_kind null c b (o, no_white c o) (λ e. absurd (true≢false (sym (ap is_plain_kind e))))
 foreign_next m white c b o q = foreign_kind white c b (white_no_null c o, o) (λ e. absurd (true≢false (sym (ap is_plain_kind e))))
 foreign_next m plain c b o q = foreign_kind (kind_of c) c b (seen c) (λ _. q)
 

@@ -20,7 +20,7 @@ IsKind null c = ((c == 0) ≡ true) × (is_ascii_whitespace c ≡ false)
 IsKind white c = ((c == 0) ≡ false) × (is_ascii_whitespace c ≡ true)
 IsKind plain c = ((c == 0) ≡ false) × (is_ascii_whitespace c ≡ false)
 
-no_white : (c : ℕ) → (c == 0) ≡ true → is_ascii_whitespace c ≡ false
+pub no_white : (c : ℕ) → (c == 0) ≡ true → is_ascii_whitespace c ≡ false
 no_white c e = ap is_ascii_whitespace (eqb-true c 0 e)
 
 pub seen : (c : ℕ) → IsKind (kind_of c) c

@@ -14,7 +14,8 @@ use Rattle.tl_dom_spec.specs.Lawful.{IsIn}
 use Rattle.tl_dom_spec.proofs.Allowed.{Each}
 use Rattle.tl_dom_spec.proofs.Words.{any_word}
 use Rattle.tl_dom_spec.proofs.SeatedPaths.{Loose, Placed, Seated, Sought, Tagged, Unbarred, Wider, bodied, cell, found, high, inside, past, place_in-Placed, popped_through-Seated, popped_to-Sought, rooted, search-Sought, settled_while-Seated, unsought, wider-Seated, wider-loose}
-use Rattle.tl_dom_spec.proofs.SeatedBuilders.{Bounds, Deep, IfSome, IsForm, IsFree, Kept, NoBar, close-Deep, each_in, each_map, free_bar, free_plain, listed-kept, moved-kept, number_above, plain-Tagged, pop-Deep, relisted-kept, stops_at, unlisted-kept, with_active}
+use Rattle.tl_dom_spec.proofs.SeatedBuilders.{Bounds, Deep, IfSome, IsForm, IsFree, Kept, NoBar, close-Deep, each_in, free_bar, free_plain, listed-kept, moved-kept, number_above, plain-Tagged, pop-Deep, relisted-kept, stops_at, unlisted-kept, with_active}
+use Rattle.tl_dom_spec.proofs.Adopting.{each-weaken}
 
 abbrev at_number_is : ℕ → ℕ → Tag → Bool
 at_number_is k n t = n == k
@@ -220,11 +221,11 @@ cloned-made low ok N S L count (f ∷ fs) entries a c e n l =
     let clone : is_listed f.number entries ≡ true → Made low ok N S L (record r { frames = new_frame N f.tag here ∷ r.frames }) = λ y.
     made_more low ok N S L f.tag r a c.0.2 (c.0.1 (entry_in S L f.number entries y e))
     (cloned-made low ok (suc N) (N ∷ S) (N ∷ L) (suc count) fs (relisted f.number N entries) (omega (arith, a))
-    (each_map (Copied low ok N S) (Copied low ok (suc N) (N ∷ S)) fs (λ x y. (omega (arith, y.0), (λ i. elim i [ inl z ↦ absurd (omega (arith, y.0, z)) | inr j ↦ y.1 j ]), y.2)) c.1)
+    (each-weaken (Copied low ok N S) (Copied low ok (suc N) (N ∷ S)) fs (λ x y. (omega (arith, y.0), (λ i. elim i [ inl z ↦ absurd (omega (arith, y.0, z)) | inr j ↦ y.1 j ]), y.2)) c.1)
     (relisted-kept (Kept (N ∷ S) (N ∷ L)) f.number N entries (λ j t h. ((inl refl, inl refl), h.1))
-    (each_map (Kept S L) (Kept (N ∷ S) (N ∷ L)) entries (λ x h. kept_more S L (N ∷ S) (N ∷ L) x (λ k i. inr i) (λ k i. inr i) h) e))
-    ((a, omega arith), each_map (λ k. (2 < k) × (k < N)) (λ k. (2 < k) × (k < suc N)) S (λ k x. (x.0, omega (arith, x.1))) n)
-    (omega arith, each_map (λ k. k < N) (λ k. k < suc N) L (λ k x. omega (arith, x)) l)) in
+    (each-weaken (Kept S L) (Kept (N ∷ S) (N ∷ L)) entries (λ x h. kept_more S L (N ∷ S) (N ∷ L) x (λ k i. inr i) (λ k i. inr i) h) e))
+    ((a, omega arith), each-weaken (λ k. (2 < k) × (k < N)) (λ k. (2 < k) × (k < suc N)) S (λ k x. (x.0, omega (arith, x.1))) n)
+    (omega arith, each-weaken (λ k. k < N) (λ k. k < suc N) L (λ k x. omega (arith, x)) l)) in
     elim (cases_Bool (is_listed f.number entries)) [
       | inr x ↦ subst (Made low ok N S L) (sym (ap (λ v. elim v as (λ _. Clones) [
         | false ↦ cloned (suc count) fs entries N
@@ -292,7 +293,7 @@ first-inside S L N ok j {low} (after f p l n s) =
     subst (Each (Loose S L N ok low)) (sym (ap (λ (x : Bool). if x then [] else f ∷ inside_of j p) n)) (l, first-inside S L N ok j s)
 
 widened-loose : (S L : List ℕ) (N : ℕ) (ok : Bool) (T M : List ℕ) (K low : ℕ) (fs : List Frame) → Wider S L N ok T M K ok → Each (Loose S L N ok low) fs → Each (Loose T M K ok low) fs
-widened-loose S L N ok T M K low fs w h = each_map (Loose S L N ok low) (Loose T M K ok low) fs (λ f l. wider-loose S L N ok T M K ok w low f l) h
+widened-loose S L N ok T M K low fs w h = each-weaken (Loose S L N ok low) (Loose T M K ok low) fs (λ f l. wider-loose S L N ok T M K ok w low f l) h
 
 pointer_kept : (N : ℕ) (S L T M : List ℕ) (pointer : Option ℕ) → Grown N S L T M → Each (λ k. (2 < k) × (k < N)) S → IfSome (IsForm S L) pointer → IfSome (IsForm T M) pointer
 pointer_kept N S L T M None g n f = tt
@@ -302,10 +303,10 @@ pointer_kept N S L T M (Some k) g n f = record {
 }
 
 loose-copied : (S L : List ℕ) (low N : ℕ) (ok : Bool) (fs : List Frame) → Each (Loose S L N ok low) fs → Each (Copied low ok N S) fs
-loose-copied S L low N ok fs h = each_map (Loose S L N ok low) (Copied low ok N S) fs (λ f l. (l.below, l.bars, l.tag)) h
+loose-copied S L low N ok fs h = each-weaken (Loose S L N ok low) (Copied low ok N S) fs (λ f l. (l.below, l.bars, l.tag)) h
 
 -- an HTML element of the names
-html_space_is : (s : Namespace) → by_space s true false false ≡ true → s ≡ html_space
+pub html_space_is : (s : Namespace) → by_space s true false false ≡ true → s ≡ html_space
 html_space_is html_space e = refl
 html_space_is math_space e = absurd (true≢false (sym e))
 html_space_is svg_space e = absurd (true≢false (sym e))
@@ -364,7 +365,7 @@ module _ (low : ℕ) (md : Mode) where
       let ahead : Path = emptied ∷ clones.frames in
       let ahead-loose : Each (Loose T M K ok low) ahead = (
         record { above = at_block.above; below = at_block.below; place = tt; tag = at_block.tag; bars = at_block.bars; still = at_block.still; shut = at_block.shut },
-        each_map (IsClone low ok new) (Loose T M K ok low) clones.frames
+        each-weaken (IsClone low ok new) (Loose T M K ok low) clones.frames
             (λ f x. clone-loose T M low ok K f (record { above = x.above; below = omega (arith, x.below); place = x.place; tag = x.tag; bars = x.bars; open_still = x.open_still })) c.frames,
       ) in
       let around = append-Seated T M K ok (outermost_at place ahead) outer (outermost_at-loose T M low K ok place ahead p ahead-loose) (wider-Seated d.S d.L b.next ok T M K ok wide y) in
@@ -383,15 +384,15 @@ module _ (low : ℕ) (md : Mode) where
                 (widened-loose d.S d.L b.next ok T M K low (inside_of block.number b.path) wide (inside-loose d.S d.L b.next ok w.0)))
                 (inside frame (outermost_at place ahead ++ outer) at_new around);
             active = moved-kept (Kept T M) own.number new own.tag clones.frames clones.entries ((inl refl, inl refl), t) (λ j x h. ((inl refl, inl refl), h.1))
-                (each_map (Kept c.T c.M) (Kept T M) clones.entries (λ x h. kept_more c.T c.M T M x (λ k i. inr i) (λ k i. inr i) h) c.entries);
+                (each-weaken (Kept c.T c.M) (Kept T M) clones.entries (λ x h. kept_more c.T c.M T M x (λ k i. inr i) (λ k i. inr i) h) c.entries);
             form = pointer_kept b.next d.S d.L T M b.form (record {
               numbers = wide.numbers;
               listed = wide.listed;
               all_numbers = λ k i. inr (c.grown.all_numbers k i);
               all_listed = λ k i. inr (c.grown.all_listed k i);
             }) d.held.numbers d.held.form;
-            numbers = ((above, omega arith), each_map (λ k. (2 < k) × (k < new)) (λ k. (2 < k) × (k < K)) c.T (λ k x. (x.0, omega (arith, x.1))) c.numbers);
-            listed = (omega arith, each_map (λ k. k < new) (λ k. k < K) c.M (λ k x. omega (arith, x)) c.listed);
+            numbers = ((above, omega arith), each-weaken (λ k. (2 < k) × (k < new)) (λ k. (2 < k) × (k < K)) c.T (λ k x. (x.0, omega (arith, x.1))) c.numbers);
+            listed = (omega arith, each-weaken (λ k. k < new) (λ k. k < K) c.M (λ k x. omega (arith, x)) c.listed);
             above = omega (arith, above);
           };
           quiet = d.quiet;

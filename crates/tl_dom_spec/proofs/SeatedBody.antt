@@ -7,7 +7,7 @@ use Rattle.std.proofs.lemmas.Bool.{and_from, and_left, and_parts, and_right, cas
 use Rattle.std.proofs.lemmas.Slice.Eq.{bytes_eq-Decides}
 use Rattle.tl_names.specs.Elements.{headings, implied_ends, is_among}
 use Rattle.tl_html_spec.specs.Balanced.{is_one_of, words}
-use Rattle.tl_dom_spec.specs.Tags.{Namespace, Tag, bare_tag, by_space, has_value, html_space, is_any, is_button_scope, is_foster_target, is_heading, is_html, is_implied, is_item_bound, is_list_scope, is_math_mark, is_named, is_paragraph, is_scope, is_select, is_special_name, is_svg_mark, math_space, no_tag, svg_space}
+use Rattle.tl_dom_spec.specs.Tags.{Namespace, Tag, bare_tag, by_space, has_value, is_any, is_button_scope, is_foster_target, is_heading, is_html, is_implied, is_item_bound, is_list_scope, is_math_mark, is_named, is_paragraph, is_scope, is_select, is_special_name, is_svg_mark, no_tag}
 use Rattle.tl_dom_spec.specs.Groups.{Group, a_base, a_frameset, a_link, a_mark, a_noframes, a_noscript, a_row, a_script, a_style, a_table, a_table_body, a_template, a_title, an_anchor, group, the_body, the_head, the_html}
 use Rattle.tl_dom_spec.specs.Path.{Frame, Nodes, Path, Place, and_comment, and_element, and_text, behind, caught_up, elements, has_number, has_tag, here, implied_closed, into, into_head, is_open_number, new_frame, no_nodes, on_top, popped_through, settled, settled_at, taken_out, within}
 use Rattle.tl_dom_spec.specs.Builder.{Again, Builder, Done, Entry, Mode, Outcome, add_attributes, after_after_body, after_after_frameset, after_body, after_frameset, after_head, appropriate_place, before_head, before_html, clear_to_last_marker, close_except_for, current_tag, formatting, frameset_not_ok, generate_implied_end_tags, generate_implied_end_tags_except_for, has_in_button_scope, has_in_list_item_scope, has_in_scope, has_template, in_body, in_caption, in_cell, in_column_group, in_frameset, in_head, in_head_noscript, in_row, in_table, in_table_body, in_table_text, in_template, initial, insert_and_pop, insert_bytes, insert_character, insert_comment, insert_element, insert_element_at, insert_implied, insert_marker, is_context, marker, parse_raw_text, parse_raw_text_at, pop_current_node, pop_until, pushed_at, switch_to, text_mode, with_path}
@@ -20,11 +20,12 @@ use Rattle.tl_dom_spec.specs.Body.{anchor_ended, body_character, body_start_at, 
 use Rattle.tl_dom_spec.proofs.Allowed.{Each}
 use Rattle.tl_dom_spec.proofs.Words.{any_word}
 use Rattle.tl_dom_spec.proofs.SeatedPaths.{Placed, Seated, Sought, Tagged, Wider, bar_names, bodied, caught_up-Grows, cell, found, high, html_is_bar, inside, left-Seated, narrower_place, new-Seated, on_top-Seated, one_of_these, past, popped-Sought, popped_through-Seated, put-Seated, rooted, settled-Seated, settled_at-Seated, wider-Seated}
-use Rattle.tl_dom_spec.proofs.SeatedBuilders.{Bounds, Deep, Fits, IfSome, IsForm, IsFree, IsPlain, Kept, NoBar, alone_at-Deep, appropriate-Placed, attributes-Deep, close-Deep, each_in, each_map, free_bar, free_plain, implied-Deep, insert-Deep, insert_at-Deep, is_calm, later_listed, later_numbers, new-Loose, no_bar_any, number_above, on_path, one_more, plain-Tagged, pop-Deep, put-Deep, reconstruct-Deep, until-Deep, with_active, without_marker-kept}
-use Rattle.tl_dom_spec.proofs.SeatedAdoption.{agency-Deep, agency-Grew, scope_bounds}
+use Rattle.tl_dom_spec.proofs.SeatedBuilders.{Bounds, Deep, Fits, IfSome, IsForm, IsFree, IsPlain, Kept, NoBar, alone_at-Deep, appropriate-Placed, attributes-Deep, close-Deep, each_in, free_bar, free_plain, implied-Deep, insert-Deep, insert_at-Deep, is_calm, later_listed, later_numbers, new-Loose, no_bar_any, number_above, on_path, one_more, plain-Tagged, pop-Deep, put-Deep, reconstruct-Deep, until-Deep, with_active, without_marker-kept}
+use Rattle.tl_dom_spec.proofs.SeatedAdoption.{agency-Deep, agency-Grew, html_space_is, scope_bounds}
 use Rattle.tl_dom_spec.proofs.GroupNames.{IsTiedTag, is_bar_group, is_implied_group, is_root_group, named_not_implied, no_bar_named, other_name, plain_of}
 use Rattle.tl_dom_spec.proofs.Grounds.{Ground, GroundOf, deep}
 use Rattle.std.proofs.lemmas.Bool.Decides.{nat_tests}
+use Rattle.tl_dom_spec.proofs.Adopting.{each-weaken}
 
 -- a page from its head on
 
@@ -169,11 +170,6 @@ same_number k = grind (arith, nat_tests)
 item_words : (counts : Bool) → Each (λ name. (is_special_name counts name && not (is_one_of (codes "address div p") name)) ≡ true) (words bar_names)
 item_words true = (refl, (refl, (refl, (refl, (refl, (refl, tt))))))
 item_words false = (refl, (refl, (refl, (refl, (refl, (refl, tt))))))
-
-html_space_is : (s : Namespace) → by_space s true false false ≡ true → s ≡ html_space
-html_space_is html_space e = refl
-html_space_is math_space e = absurd (true≢false (sym e))
-html_space_is svg_space e = absurd (true≢false (sym e))
 
 item_bound_bar : (counts : Bool) (t : Tag) → is_any bar_names t ≡ true → is_item_bound counts t ≡ true
 item_bound_bar counts t e =
@@ -457,7 +453,7 @@ module _ (low : ℕ) (md : Mode) where
           seats = new-Seated (b.next ∷ d.S) d.L (suc b.next) ok b.next t place place b.path
               (new-Loose (b.next ∷ d.S) d.L low b.next ok t place h.above (appropriate-Placed low md b d) (plain-Tagged low ok t (free_plain t f)) (λ _. free_bar t f))
               (wider-Seated d.S d.L b.next ok (b.next ∷ d.S) d.L (suc b.next) ok (forming d.S d.L b.next ok) h.seats);
-          active = each_map (Kept d.S d.L) (Kept (b.next ∷ d.S) d.L) b.active (kept_more_numbers d.S d.L b.next) h.active;
+          active = each-weaken (Kept d.S d.L) (Kept (b.next ∷ d.S) d.L) b.active (kept_more_numbers d.S d.L b.next) h.active;
           form = record { number = inl refl; unlisted = not_listed d.L b.next h.listed };
           numbers = ((h.above, omega arith), later_numbers d.S b.next h.numbers);
           listed = later_listed d.L b.next h.listed;
@@ -481,7 +477,7 @@ module _ (low : ℕ) (md : Mode) where
         held = record {
           seats = wider-Seated d.S d.L b.next ok (b.next ∷ d.S) d.L (suc b.next) ok (forming d.S d.L b.next ok)
               (put-Seated d.S d.L b.next ok place (and_element no_nodes t no_nodes) (appropriate-Placed low md b d) h.seats);
-          active = each_map (Kept d.S d.L) (Kept (b.next ∷ d.S) d.L) b.active (kept_more_numbers d.S d.L b.next) h.active;
+          active = each-weaken (Kept d.S d.L) (Kept (b.next ∷ d.S) d.L) b.active (kept_more_numbers d.S d.L b.next) h.active;
           form = record { number = inl refl; unlisted = not_listed d.L b.next h.listed };
           numbers = ((h.above, omega arith), later_numbers d.S b.next h.numbers);
           listed = later_listed d.L b.next h.listed;

@@ -15,6 +15,7 @@ use Rattle.tl_dom_spec.specs.Lawful.{IsIn}
 use Rattle.tl_dom_spec.proofs.Allowed.{Each}
 use Rattle.tl_dom_spec.proofs.Words.{any_word}
 use Rattle.tl_dom_spec.proofs.SeatedPaths.{Alike, IsBody, IsCell, IsHtml, Loose, Placed, Seated, Stops, Tagged, Unbarred, Wider, alike_any, bar_is, bar_names, bar_off, bodied, cell, high, html_is_bar, inside, more-Seated, new-Seated, one_of_these, place_in-Placed, popped-Sought, popped_through-Seated, put-Seated, rooted, search-Sought, settled_while-Seated, top-Sought, wider-Seated}
+use Rattle.tl_dom_spec.proofs.Adopting.{each-weaken}
 
 abbrev pub IfSome : {X : Type 0} → (X → Type 0) → Option X → Type 0
 IfSome P None = ⊤
@@ -108,10 +109,6 @@ each_in P k [] h i = absurd i
 each_in P k (n ∷ S) h (inl e) = subst P (sym e) h.0
 each_in P k (n ∷ S) h (inr i) = each_in P k S h.1 i
 
-pub each_map : {X : Type 0} → (P Q : X → Type 0) (xs : List X) → ((x : X) → P x → Q x) → Each P xs → Each Q xs
-each_map P Q [] w h = tt
-each_map P Q (x ∷ xs) w h = (w x h.0, each_map P Q xs w h.1)
-
 pub number_above : {S L : List ℕ} {low m next : ℕ} {tg : Tag} {path : Path} {entries : List Entry} {pointer : Option ℕ} {ok : Bool} (k : ℕ) → Held S L low m tg path entries next pointer ok → IsIn k S → (2 < k) × (k < next)
 number_above {S} {next} k h i = each_in (λ j. (2 < j) × (j < next)) k S h.numbers i
 
@@ -169,10 +166,10 @@ pub one_more : (S L : List ℕ) (N : ℕ) (ok : Bool) → Wider S L N ok S L (su
 one_more S L N ok = record { numbers = λ k l i. i; listed = λ k l i. i; more = omega arith; narrower = λ e. e }
 
 pub later_numbers : (S : List ℕ) (N : ℕ) → Each (λ k. (2 < k) × (k < N)) S → Each (λ k. (2 < k) × (k < suc N)) S
-later_numbers S N h = each_map (λ k. (2 < k) × (k < N)) (λ k. (2 < k) × (k < suc N)) S (λ k l. (l.0, omega (arith, l.1))) h
+later_numbers S N h = each-weaken (λ k. (2 < k) × (k < N)) (λ k. (2 < k) × (k < suc N)) S (λ k l. (l.0, omega (arith, l.1))) h
 
 pub later_listed : (L : List ℕ) (N : ℕ) → Each (λ k. k < N) L → Each (λ k. k < suc N) L
-later_listed L N h = each_map (λ k. k < N) (λ k. k < suc N) L (λ k l. omega (arith, l)) h
+later_listed L N h = each-weaken (λ k. k < N) (λ k. k < suc N) L (λ k l. omega (arith, l)) h
 
 fresh : (S : List ℕ) (N : ℕ) → Each (λ k. k < N) S → IsIn N S → ⊥
 fresh S N h i = omega (arith, each_in (λ k. k < N) N S h i)
@@ -424,7 +421,7 @@ module _ (low : ℕ) (md : Mode) where
           seats = new-Seated (b.next ∷ d.S) (b.next ∷ d.L) (suc b.next) b.is_frameset_ok b.next tag place place b.path
               (new-Loose (b.next ∷ d.S) (b.next ∷ d.L) low b.next b.is_frameset_ok tag place h.above (appropriate-Placed b d) (plain-Tagged low b.is_frameset_ok tag (free_plain tag t)) (λ _. free_bar tag t))
               (wider-Seated d.S d.L b.next b.is_frameset_ok (b.next ∷ d.S) (b.next ∷ d.L) (suc b.next) b.is_frameset_ok (listing d.S d.L b.next b.is_frameset_ok) h.seats);
-          active = (((inl refl, inl refl), t), each_map (Kept d.S d.L) (Kept (b.next ∷ d.S) (b.next ∷ d.L)) entries (more_kept d.S d.L b.next) k);
+          active = (((inl refl, inl refl), t), each-weaken (Kept d.S d.L) (Kept (b.next ∷ d.S) (b.next ∷ d.L)) entries (more_kept d.S d.L b.next) k);
           form = later_pointer d.S d.L b.next b.form h.numbers h.form;
           numbers = ((h.above, omega arith), later_numbers d.S b.next h.numbers);
           listed = (omega arith, later_listed d.L b.next h.listed);

@@ -6,15 +6,13 @@ use Rattle.tl_dom_spec.specs.Tags.{Tag, bare_tag, is_any, is_html}
 use Rattle.tl_dom_spec.specs.Groups.{Group, a_base, a_caption, a_cell, a_column, a_column_group, a_frame, a_frameset, a_link, a_noframes, a_row, a_script, a_style, a_table_body, a_template, a_title, the_body, the_head, the_html}
 use Rattle.tl_dom_spec.specs.Path.{Path, behind, elements, into_head, popped, top_settled}
 use Rattle.tl_dom_spec.specs.Builder.{Builder, Done, Mode, Token, a_character, a_comment, a_doctype, a_start, after_after_body, after_after_frameset, after_body, after_frameset, after_head, an_end, appropriate_place, current_tag, end_of_file, frameset_not_ok, in_body, in_frameset, in_template, insert_character, insert_comment_at, insert_element, is_fragment, is_only, pop_current_node, switch_to}
-use Rattle.tl_dom_spec.specs.Reset.{templates_popped}
 use Rattle.tl_dom_spec.specs.Head.{after_head_step, body_implied, is_body_end}
 use Rattle.tl_dom_spec.specs.Body.{in_body_step}
 use Rattle.tl_dom_spec.specs.Outer.{after_after_body_step, after_after_frameset_step, after_body_step, after_frameset_step, back_in_body, frameset_closed, in_frameset_step, in_template_step, template_mode, template_turned}
-use Rattle.tl_dom_spec.proofs.Allowed.{Each}
 use Rattle.tl_dom_spec.proofs.SeatedPaths.{Falls, Seated, Tagged, bodied, body-settled, cell, high, inside, note-Seated, off-Seated, rooted, settled-Seated}
 use Rattle.tl_dom_spec.proofs.SeatedBuilders.{Deep, Fits, IsTemplateMode, alone_at-Deep, appropriate-Placed, insert_at-Deep, is_calm, on_path}
 use Rattle.tl_dom_spec.proofs.GroupNames.{IsTiedTag, other_name}
-use Rattle.tl_dom_spec.proofs.Grounds.{closed_off, deep, opened}
+use Rattle.tl_dom_spec.proofs.Grounds.{closed_off, deep, opened, popped_fit}
 use Rattle.tl_dom_spec.proofs.SeatedBody.{Stage, StageAfter, alone-Deep, character-Deep, comment-Deep, done, ground, head_part-Stage, html_start-Deep, if_after, not_ok-Deep, raw_at-Stage, switch-Deep, template_at-Deep}
 use Rattle.tl_dom_spec.proofs.SeatedRules.{Fell, IsTied, fall-Deep, in_body_step-Stage, template_end-Stage}
 
@@ -38,10 +36,6 @@ template_is a_row = tt
 template_is a_cell = tt
 template_is g = tt
 
-popped_modes : (modes : List Mode) → Each IsTemplateMode modes → Each IsTemplateMode (templates_popped modes)
-popped_modes [] h = tt
-popped_modes (m ∷ modes) h = h.1
-
 abbrev is_no_frameset : Group → Bool
 is_no_frameset the_html = true
 is_no_frameset the_head = true
@@ -59,7 +53,7 @@ module _ (low : ℕ) where
     held = d.held;
     quiet = record {
       fits = template_fits low d.tg b.original g;
-      templates_fit = (template_is g, popped_modes b.templates d.quiet.templates_fit);
+      templates_fit = (template_is g, popped_fit b.templates d.quiet.templates_fit);
       fostering = d.quiet.fostering;
       calm = λ e. absurd (true≢false (sym (d.quiet.calm e) ∙ ap is_calm d.mode_is));
       head = d.quiet.head;

@@ -3,7 +3,7 @@ use Rattle.std.proofs.Common.{Bool, List, None, Option, Some, [], ap, arith, cod
 use Rattle.std.specs.Char.{is_ascii_whitespace}
 use Rattle.std.specs.List.{list_all}
 use Rattle.std.specs.Str.{bytes_eq}
-use Rattle.std.proofs.lemmas.Bool.{and_from, and_left, and_parts, and_right, cond_both, false_from_ne_true}
+use Rattle.std.proofs.lemmas.Bool.{and_from, and_parts, and_right, cond_both, false_from_ne_true}
 use Rattle.std.proofs.lemmas.Slice.Eq.{bytes_eq-Decides}
 use Rattle.tl_names.specs.Elements.{is_among, table_sections}
 use Rattle.tl_html_spec.specs.Balanced.{is_one_of, words}
@@ -20,7 +20,7 @@ use Rattle.tl_dom_spec.proofs.SeatedPaths.{IsCell, IsHtml, Loose, Seated, Sought
 use Rattle.tl_dom_spec.proofs.SeatedBuilders.{Deep, Fits, IsPlain, IsTableMode, Kept, appropriate-Placed, insert-Deep, is_calm, later_listed, later_numbers, new-Loose, number_fresh, one_more, plain-Tagged, without_marker-kept}
 use Rattle.tl_dom_spec.proofs.GroupNames.{IsTiedTag, name_of, other_name, plain_of}
 use Rattle.tl_dom_spec.proofs.Grounds.{GroundOf, deep, headed, heading, in_noscript, reset}
-use Rattle.tl_dom_spec.proofs.SeatedBody.{IsTaking, Stage, StageAfter, alone-Deep, any_not_implied, body_character-Deep, bytes-Deep, character-Deep, comment-Deep, done, form_alone, ground, head_part-Stage, html_start-Deep, if_after, in_text, marker-Deep, pushed_is, switch-Deep, under, under-Seated}
+use Rattle.tl_dom_spec.proofs.SeatedBody.{IsTaking, Stage, StageAfter, alone-Deep, any_not_implied, body_character-Deep, bytes-Deep, character-Deep, comment-Deep, done, form_alone, ground, head_part-Stage, html_start-Deep, if_after, in_text, marker-Deep, pushed_is, switch-Deep, under, under-Seated, unimplied}
 use Rattle.tl_dom_spec.proofs.SeatedRules.{Fell, IsEndOf, IsNoCell, IsTied, NoRoot, bare-Deep, fall-Deep, file_ended-Stage, in_body_step-Stage, no_root_any, root_or_body, template_end-Stage}
 
 -- foster parenting ends
@@ -80,9 +80,6 @@ named_section name t k e =
     and_from (is_html t) _ y.0
     (any_word (λ x. is_one_of (codes "tbody tfoot thead template html") x ≡ true) table_sections t.name (refl, (refl, (refl, tt)))
     (ap (λ x. is_among table_sections x) (sym ((bytes_eq-Decides name t.name).0 y.1)) ∙ name_of a_table_body name k))
-
-not_implied_but : (but : Tag → Bool) (t : Tag) → is_implied t ≡ false → (is_implied t && not (but t)) ≡ false
-not_implied_but but t e = and_left (is_implied t) (not (but t)) e
 
 cell_is_no : (names : List ℕ) (t : Tag) → Each (λ name. is_one_of (codes "td th") name ≡ false) (words names) → is_any names t ≡ true → IsCell t → ⊥
 cell_is_no names t k e i =
@@ -321,7 +318,7 @@ module _ (low : ℕ) (md : Mode) where
       let ok : Bool = b.is_frameset_ok in
       let t = scoped-Sought is_caption b (no_root_any (codes "caption") (refl, (refl, (refl, (refl, tt))))) e d in
       let s = popped_through-Seated d.S d.L b.next ok (λ _ x. is_caption x) (implied_closed no_tag b.path)
-      (popped-Sought d.S d.L b.next ok (λ _ x. is_caption x) (λ _ x. is_implied x && not (no_tag x)) b.path b.path (λ _ x y. not_implied_but no_tag x (any_not_implied (codes "caption") x (refl, tt) y)) t.3) in
+      (popped-Sought d.S d.L b.next ok (λ _ x. is_caption x) (λ _ x. is_implied x && not (no_tag x)) b.path b.path (λ _ x y. unimplied no_tag x (any_not_implied (codes "caption") x (refl, tt) y)) t.3) in
       turned-Deep in_table b _ (without_last_marker b.active) t.0 t.1 d s (without_marker-kept (Kept d.S d.L) b.active d.held.active) tt w
 
   after_caption-Stage : (b : Builder) → is_calm md ≡ false → Deep low md b → StageAfter (after_caption b)
@@ -488,7 +485,7 @@ module _ (low : ℕ) (md : Mode) where
   cell_closed-Deep test b n tg y w d t =
       let ok : Bool = b.is_frameset_ok in
       turned-Deep in_row b _ (without_last_marker b.active) n tg d
-      (popped_through-Seated d.S d.L b.next ok (λ _ x. test x) (implied_closed no_tag b.path) (popped-Sought d.S d.L b.next ok (λ _ x. test x) (λ _ x. is_implied x && not (no_tag x)) b.path b.path (λ _ x z. not_implied_but no_tag x (y x z)) t))
+      (popped_through-Seated d.S d.L b.next ok (λ _ x. test x) (implied_closed no_tag b.path) (popped-Sought d.S d.L b.next ok (λ _ x. test x) (λ _ x. is_implied x && not (no_tag x)) b.path b.path (λ _ x z. unimplied no_tag x (y x z)) t))
       (without_marker-kept (Kept d.S d.L) b.active d.held.active) tt w
 
   cell_implied : (t : Tag) → is_cell t ≡ true → is_implied t ≡ false

@@ -7,12 +7,13 @@ use Rattle.std.proofs.lemmas.Option.{same_Some, slice_get_read, slice_get_within
 use Rattle.tl_dom_spec.specs.Path.{Nodes, and_element, joined, no_nodes}
 use Rattle.tl_tree.proofs.Within.{IsMore, cell-within, le-more, node-more}
 use Rattle.tl_tree.specs.Inner.Settling.{cell_weight, held_weight, node_weight, weight_of, weights_from}
-use Rattle.tl_tree.specs.Inner.Store.{is_node, is_row, node_in, node_of, nodes_of, row_in, rows_from, rows_of, sizes_of, tag_at}
+use Rattle.tl_tree.specs.Inner.Store.{is_node, is_row, node_in, node_of, nodes_of, row_in, rows_from, sizes_of, tag_at}
 use Rattle.tl_tree.specs.Inner.Within.{Sizes, cell_is_within, cells_are_within, node_is_within}
 use Rattle.tl_tree.specs.declared.cell.Cell.{Cell}
 use Rattle.tl_tree.specs.declared.cell.Node.{Node}
 use Rattle.tl_tree.specs.declared.cell.Node.TheVariants.{Comment, Doctype, Element, Joined, Text}
 use Rattle.tl_tree.specs.declared.store.Store.{Store}
+use Rattle.tl_tree.proofs.Grown.{nodes-at}
 
 -- a list that is filled by what each cell makes of it so far
 abbrev filled : {A : Type 0} → (List A → Cell → A) → List A → List Cell → List A
@@ -74,17 +75,6 @@ row-reads s z all some n c h same =
     let p = and_parts (nat_le c.before n) (node_is_within z n c.node) h in
     ap (λ v. joined v (node_in s all c.node)) (same c.before (leb-true c.before n p.0))
     ∙ ap (joined (get_or some c.before no_nodes)) (node-reads s z all some n c.node p.1 same)
-
-pub cell-row : (s : Store) (k : ℕ) (c : Cell) → slice_get s.cells.items k ≡ Some c → nodes_of s (suc k) ≡ joined (nodes_of s c.before) (node_of s c.node)
-unfolding nodes_of node_of rows_of
-cell-row s k c e =
-    let cells = s.cells.items in
-    let first : List Nodes = no_nodes ∷ [] in
-    let place : 0 + 1 + k ≡ suc k = omega arith in
-    let same = rows-filled s first cells in
-    subst (λ (rows : List Nodes). get_or rows (suc k) no_nodes ≡ row_in s rows c) (sym same)
-    (subst (λ v. get_or (filled (row_in s) first cells) v no_nodes ≡ row_in s (filled (row_in s) first cells) c) place
-    (filled-at (sizes_of s) (row_in s) no_nodes (row-reads s (sizes_of s)) first cells 0 k c refl s.cells_within e))
 
 -- Weights
 
@@ -156,7 +146,7 @@ cell-ranges s k c e =
 pub row-is : (s : Store) (row : ℕ) (c : Cell) → (row ≡ 0 → ⊥) → slice_get s.cells.items (row - 1) ≡ Some c → joined (nodes_of s c.before) (node_of s c.node) ≡ nodes_of s row
 row-is s row c some e =
     let next : suc (row - 1) ≡ row = omega (arith, some) in
-    sym (cell-row s (row - 1) c e) ∙ ap (nodes_of s) next
+    sym (nodes-at s (row - 1) c e) ∙ ap (nodes_of s) next
 
 pub weight-is : (s : Store) (row : ℕ) (c : Cell) → (row ≡ 0 → ⊥) → slice_get s.cells.items (row - 1) ≡ Some c → 1 + weight_of s c.before + held_weight s c.node ≡ weight_of s row
 weight-is s row c some e =

@@ -1,7 +1,7 @@
 -- The rows that are written of nodes, turned round and seated, are those of their trees.
 use Rattle.std.proofs.Common.{Bool, IsTrue, List, None, Some, [], ap, arith, get_or, length, map, nat_le, refl, reverse, slice_get, subst, suc, sym, true, zero, ℕ, ◌+◌, ◌++◌, ◌<◌, ◌^◌, ◌∙◌, ◌≡◌, ◌∷◌}
 use Rattle.std.proofs.lemmas.Bool.{and_from, and_parts, le-leb}
-use Rattle.std.proofs.lemmas.List.{length-reverse, map-append, reverse-append}
+use Rattle.std.proofs.lemmas.List.{length-reverse, reverse-append}
 use Rattle.std.proofs.lemmas.Option.{slice_get_within}
 use Rattle.std.specs.List.{list_all}
 use Rattle.tl_dom_spec.specs.HtmlForest.{before, no_trees}
@@ -22,6 +22,7 @@ use Rattle.tl_tree.specs.declared.cell.Node.TheVariants.{Comment, Doctype, Eleme
 use Rattle.tl_tree.specs.declared.row.Row.{Row}
 use Rattle.tl_tree.specs.declared.settling.Settling.{Settling}
 use Rattle.tl_tree.specs.declared.store.Store.{Store}
+use Rattle.tl_tree.proofs.Changed.{map-reverse}
 
 -- Texts of a store stand apart
 
@@ -57,12 +58,6 @@ unfolding nodes_of rows_of
 nodes-apart s n = all-apart s (no_nodes ∷ []) s.cells.items (apart-cons no_nodes [] tt none-apart) n
 
 -- Rows that are turned round
-
-pub map-reverse : {A B : Type 0} (f : A → B) (xs : List A) → map f (reverse xs) ≡ reverse (map f xs)
-map-reverse f [] = refl
-map-reverse f (x ∷ xs) =
-    ap (map f) (reverse-append (x ∷ []) xs) ∙ (map-append f (reverse xs) (x ∷ [])
-    ∙ (ap (λ v. v ++ f x ∷ []) (map-reverse f xs) ∙ sym (reverse-append (f x ∷ []) (map f xs))))
 
 pub all-reverse : {A : Type 0} (test : A → Bool) (xs : List A) → IsTrue (list_all test xs) → IsTrue (list_all test (reverse xs))
 all-reverse test [] h = refl

@@ -14,10 +14,10 @@ use Rattle.tl_html_spec.proofs.Looked.{bytes-plain}
 use Rattle.tl_html_spec.specs.HtmlTokenizer.{HtmlAttribute, OpenTag, with_attribute}
 use Rattle.tl_html_spec.specs.Unescaped.{unescaped_value}
 use Rattle.tl_tree.proofs.Grown.{attribute-grown, bytes-grown}
-use Rattle.tl_tree.proofs.Listed.{all-weaker, map-same, part-front}
+use Rattle.tl_tree.proofs.Listed.{all-weaker, begins-longer, map-same, part-front}
 use Rattle.tl_tree.proofs.Within.{attribute-more, span-more}
 use Rattle.tl_tree.specs.Inner.Said.{attributes_in, attributes_so_far}
-use Rattle.tl_tree.specs.Inner.Store.{Begins, Grows, attribute_of, bytes_of, is_attribute, is_span, tag_of}
+use Rattle.tl_tree.specs.Inner.Store.{Grows, attribute_of, bytes_of, is_attribute, is_span, tag_of}
 use Rattle.tl_tree.specs.Inner.Within.{attribute_is_within, span_is_within}
 use Rattle.tl_tree.specs.declared.entries.AttributeEntry.{AttributeEntry}
 use Rattle.tl_tree.specs.declared.entries.AttributeSpace.TheVariants.{Plain}
@@ -32,11 +32,6 @@ value_plain s none =
     ∙ (bytes-plain true s [] (all_free (is_byte 38) s none) ∙ append-nil s)
 
 -- What is in range stays so
-
-begins-longer : {A : Type 0} (xs ys : List A) → Begins xs ys → length xs ≤ length ys
-begins-longer xs ys b =
-    let many = ap length b ∙ length-append xs (drop (length xs) ys) in
-    omega arith
 
 pub span-kept : (s t : Store) → Grows s t → (span : Span) → IsTrue (is_span s span) → IsTrue (is_span t span)
 span-kept s t g span h =
