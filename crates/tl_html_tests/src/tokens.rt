@@ -1,6 +1,6 @@
 //! Pages, and where each of their tokens ends and what it is.
 use std::alloc::Global;
-use tl_html_tokens::{Token, TokenKind, tokens};
+use tl_html_tokens::{Mode, Token, TokenKind, next_section, next_token, tokens};
 
 // A page, the kinds of its tokens by their letters, and where they end.
 #[rattlefmt::skip]
@@ -104,5 +104,56 @@ fn is_read(alloc: Global, page: &[u8], kinds: &[u8], ends: &[usize]) -> bool {
 fn pages_are_read(rt: HostRuntime) {
     for (page, kinds, ends) in &ROWS {
         assert!(rt; is_read(rt.alloc(), page, kinds, ends));
+    }
+}
+
+// A page, a place, and where the token ends that stands there: 0 where there is none.
+#[rattlefmt::skip]
+static FRONT_ROWS: [(&[u8], usize, usize); 5] = [
+    (b"a<p x=1>b", 0, 1),
+    (b"a<p x=1>b", 1, 8),
+    (b"a<p x=1>b", 8, 9),
+    (b"a<p x=1>b", 9, 0),
+    (b"", 0, 0),
+];
+
+fn front_end(page: &[u8], start: usize) -> usize {
+    match next_token(page, start, Mode::Data) {
+        Some(front) => front.end,
+        None => 0,
+    }
+}
+
+#[test]
+fn a_token_ends_where_the_next_begins(rt: HostRuntime) {
+    for (page, start, end) in &FRONT_ROWS {
+        assert!(rt; front_end(page, *start) == *end);
+    }
+}
+
+// A page, and where the text of the CDATA section at its front ends, and the section: both 0 where
+// there is none.
+#[rattlefmt::skip]
+static SECTION_ROWS: [(&[u8], usize, usize); 5] = [
+    (b"<![CDATA[a]]>b", 10, 13),
+    (b"<![CDATA[]]]>b", 10, 13),
+    (b"<![CDATA[a]]", 12, 12),
+    (b"<![cdata[a]]>", 0, 0),
+    (b"", 0, 0),
+];
+
+fn section_ends(page: &[u8]) -> (usize, usize) {
+    match next_section(page, 0) {
+        Some(section) => (section.text_end, section.end),
+        None => (0, 0),
+    }
+}
+
+#[test]
+fn a_section_ends_at_its_brackets(rt: HostRuntime) {
+    for (page, text_end, end) in &SECTION_ROWS {
+        let ends = section_ends(page);
+        assert!(rt; ends.0 == *text_end);
+        assert!(rt; ends.1 == *end);
     }
 }
