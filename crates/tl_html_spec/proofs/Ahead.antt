@@ -79,7 +79,7 @@ semicolon-within (c ∷ w) (b ∷ n) t h e =
 
 -- the first row
 
-first-same : (rs : List Row) (s t : List ℕ) → list_all has_name rs ≡ true →
+pub first-same : (rs : List Row) (s t : List ℕ) → list_all has_name rs ≡ true →
     ((n : List ℕ) → is_name n ≡ true → starts_with ◌==◌ s n ≡ starts_with ◌==◌ t n) → first_row rs s ≡ first_row rs t
 first-same [] s t h same = refl
 first-same (row ∷ rs) s t h same =

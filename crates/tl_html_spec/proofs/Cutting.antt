@@ -75,7 +75,7 @@ pub read_before_is : (s : State) (bs : List ℕ) (b : ℕ) (rest : Rest) → res
     read_before s bs (Some b) ≡ Some (emitting_before (emitted (at s) bs) rest)
 read_before_is s bs b rest e = ap (option_map (emitting_before (emitted (at s) bs))) e
 
-pieces_read : (s : State) (bs : List ℕ) (text : List ℕ) → AreRead s (pieces_from s (after (at s) bs) bs (emitted (at s) bs) text)
+pub pieces_read : (s : State) (bs : List ℕ) (text : List ℕ) → AreRead s (pieces_from s (after (at s) bs) bs (emitted (at s) bs) text)
 pieces_read s bs [] = (refl, tokens_end (at s) bs)
 pieces_read s bs (b ∷ text) = elim (none_or_some (rest_before (after (at s) bs) b)) [
   | inl e ↦ rw (e, pieces_from) (

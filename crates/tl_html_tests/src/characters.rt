@@ -4,7 +4,7 @@ use tl_html::Mode;
 use tl_html_parts::{CharacterData, characters};
 
 #[rattlefmt::skip]
-static ROWS: [(Mode, &[u8], &[u8]); 18] = [
+static ROWS: [(Mode, &[u8], &[u8]); 20] = [
     (Mode::Data, b"", b""),
     (Mode::Data, b"a < b", b"a < b"),
     (Mode::Data, b"a\x00b", b"a\x00b"),
@@ -23,6 +23,8 @@ static ROWS: [(Mode, &[u8], &[u8]); 18] = [
     (Mode::Plaintext, b"&\x00", b"&\xEF\xBF\xBD"),
     (Mode::Noframes, b"\x00\x00", b"\xEF\xBF\xBD\xEF\xBF\xBD"),
     (Mode::Iframe, b"\r", b"\n"),
+    (Mode::Noscript, b"&lt;<p>", b"&lt;<p>"),
+    (Mode::ContextText, b"&lt;</title>\x00", b"<</title>\xEF\xBF\xBD"),
 ];
 
 fn says(alloc: Global, mode: Mode, text: &[u8], wanted: &[u8]) -> bool {

@@ -107,18 +107,20 @@ fn pages_are_read(rt: HostRuntime) {
     }
 }
 
-// A page, a place, and where the token ends that stands there: 0 where there is none.
+// A mode, a page, a place, and where the token ends that stands there: 0 where there is none.
 #[rattlefmt::skip]
-static FRONT_ROWS: [(&[u8], usize, usize); 5] = [
-    (b"a<p x=1>b", 0, 1),
-    (b"a<p x=1>b", 1, 8),
-    (b"a<p x=1>b", 8, 9),
-    (b"a<p x=1>b", 9, 0),
-    (b"", 0, 0),
+static FRONT_ROWS: [(Mode, &[u8], usize, usize); 7] = [
+    (Mode::Data, b"a<p x=1>b", 0, 1),
+    (Mode::Data, b"a<p x=1>b", 1, 8),
+    (Mode::Data, b"a<p x=1>b", 8, 9),
+    (Mode::Data, b"a<p x=1>b", 9, 0),
+    (Mode::Data, b"", 0, 0),
+    (Mode::Noscript, b"a</NOSCRIPT >b", 1, 13),
+    (Mode::ContextText, b"a", 0, 1),
 ];
 
-fn front_end(page: &[u8], start: usize) -> usize {
-    match next_token(page, start, Mode::Data) {
+fn front_end(mode: Mode, page: &[u8], start: usize) -> usize {
+    match next_token(page, start, mode) {
         Some(front) => front.end,
         None => 0,
     }
@@ -126,8 +128,8 @@ fn front_end(page: &[u8], start: usize) -> usize {
 
 #[test]
 fn a_token_ends_where_the_next_begins(rt: HostRuntime) {
-    for (page, start, end) in &FRONT_ROWS {
-        assert!(rt; front_end(page, *start) == *end);
+    for (mode, page, start, end) in &FRONT_ROWS {
+        assert!(rt; front_end(*mode, page, *start) == *end);
     }
 }
 

@@ -301,7 +301,9 @@ module _ (m : Mode) (b : ℕ) (z w : List ℕ) where
         pick (suc n) (bytes_eq (v ++ b ∷ []) (codes "--")) _ _ _ _
         (λ y. to (suc n) T.comment_start stage.CommentStart
         (ap (λ x. x ++ b ∷ []) e ∙ ap (λ x. 60 ∷ 33 ∷ x) ((bytes_eq-Decides (v ++ b ∷ []) (codes "--")).0 y)))
-        (λ a. pick (suc n) (bytes_eq (map to_ascii_lowercase (v ++ b ∷ [])) (codes "doctype")) _ _ _ _ (λ _. to (suc n) T.doctype stage.Doctype (begins_more z (b ∷ []) less))
+        (λ a. pick (suc n) (bytes_eq (map to_ascii_lowercase (v ++ b ∷ [])) (codes "doctype")) _ _ _ _
+        (λ y. to (suc n) T.doctype stage.Doctype
+        (v ++ b ∷ [], [], ap (λ x. x ++ b ∷ []) e ∙ ap (λ x. 60 ∷ 33 ∷ x) (sym (append-nil (v ++ b ∷ []))), (bytes_eq-Decides (map to_ascii_lowercase (v ++ b ∷ [])) (codes "doctype")).0 y))
         (λ _. pick (suc n) (may_become (v ++ b ∷ [])) _ _ _ _
         (λ y. to (suc n) (T.markup_declaration_open (v ++ b ∷ [])) stage.Declaration
         (v ++ b ∷ [], ap (λ x. x ++ b ∷ []) word, ap (λ x. x ++ b ∷ []) e, no_opener_more v h a, clean_more v y cl))

@@ -1,7 +1,7 @@
 -- What a piece that is a text or a comment has read so far, by its stage.
-use Rattle.std.proofs.Common.{◌≡◌, ◌⊎◌, ℕ, Bool, true, false, not, ◌||◌, ◌==◌, List, [], ◌∷◌, ◌++◌, map, Option, Some, None, codes, inl, inr, refl, ap, sym, subst, ◌∙◌, true≢false, append-nil, if◌then◌else◌}
+use Rattle.std.proofs.Common.{◌≡◌, ◌⊎◌, ℕ, Bool, true, false, not, ◌||◌, ◌==◌, List, [], ◌∷◌, ◌++◌, map, Option, Some, None, codes, inl, inr, refl, ap, sym, subst, ◌∙◌, true≢false, append-nil, append_assoc, if◌then◌else◌}
 use Rattle.std.specs.Prelude.{flat_map, take_while}
-use Rattle.std.specs.Char.{is_ascii_alphabetic}
+use Rattle.std.specs.Char.{is_ascii_alphabetic, to_ascii_lowercase}
 use Rattle.std.specs.List.{list_all, starts_with}
 use Rattle.std.proofs.lemmas.Bool.{and_from, and_parts, cases_Bool}
 use Rattle.std.proofs.lemmas.Grind.{flat_map-append}
@@ -36,6 +36,7 @@ abbrev pub has_references : Mode → Bool
 has_references mode.Data = true
 has_references mode.Title = true
 has_references mode.Textarea = true
+has_references mode.ContextText = true
 has_references _ = false
 
 -- the characters of a byte that is no reference
@@ -166,6 +167,16 @@ begins_more (b ∷ z) t h = h
 abbrev pub opener : List ℕ
 opener = codes "<!--"
 
+-- how a doctype begins, and what stands after it
+abbrev pub BeginsDoctype : List ℕ → Type 0
+BeginsDoctype z = (word : List ℕ) × (t : List ℕ) × (z ≡ 60 ∷ 33 ∷ (word ++ t)) × (map to_ascii_lowercase word ≡ codes "doctype")
+
+pub doctype_less : (z : List ℕ) → BeginsDoctype z → BeginsLess z
+doctype_less z h = subst BeginsLess (sym h.2) refl
+
+pub doctype_more : (z t : List ℕ) → BeginsDoctype z → BeginsDoctype (z ++ t)
+doctype_more z t (word, u, e, h) = (word, u ++ t, ap (λ x. x ++ t) e ∙ ap (λ x. 60 ∷ 33 ∷ x) (append_assoc word u t), h)
+
 -- what was read after `<!` that may become a word: none of it is `>` or NUL
 abbrev pub is_clean : ℕ → Bool
 is_clean b = not ((b == 62) || (b == 0))
@@ -179,6 +190,7 @@ module _ (m : Mode) where
   abbrev pub Says : TokenKind → List ℕ → List HtmlToken → Type 0
   Says kind.Text z ts = IsText m z ts
   Says kind.Comment z ts = (ts ≡ CommentToken (data_of z) ∷ []) × BeginsLess z
+  Says kind.Doctype z ts = BeginsDoctype z
   Says _ z ts = BeginsLess z
 
   -- and how reading goes on
@@ -230,6 +242,7 @@ module _ (m : Mode) where
   Content stage.CommentEndDash z w s ts = (body : List ℕ) × (z ≡ opener ++ (body ++ 45 ∷ [])) × (s ≡ T.comment_end_dash (without_nul body)) × IsDashed body
   Content stage.CommentEnd z w s ts = (body : List ℕ) × (z ≡ opener ++ (body ++ 45 ∷ 45 ∷ [])) × (s ≡ T.comment_end (without_nul body))
   Content stage.CommentEndBang z w s ts = (body : List ℕ) × (z ≡ opener ++ (body ++ 45 ∷ 45 ∷ 33 ∷ [])) × (s ≡ T.comment_end_bang (without_nul body))
+  Content stage.Doctype z w s ts = BeginsDoctype z
   Content _ z w s ts = BeginsLess z
 
   -- what a byte leaves of that

@@ -1,7 +1,6 @@
 -- A piece that is read by names is what any driver reads there.
-use Rattle.std.proofs.Common.{◌≡◌, ◌⊎◌, ℕ, zero, suc, Bool, true, false, ◌==◌, ◌&&◌, ◌||◌, List, [], ◌∷◌, ◌++◌, map, Some, None, codes, refl, ap, ap₂, sym, subst, ◌∙◌, inl, inr, true≢false, append-nil, append_assoc, arith, drop, drop-drop, subst₂, take, ◌+◌, ◌-◌, ◌≤◌, if◌then◌else◌}
+use Rattle.std.proofs.Common.{◌≡◌, ◌⊎◌, ℕ, zero, suc, Bool, true, false, ◌==◌, ◌&&◌, ◌||◌, List, [], ◌∷◌, ◌++◌, map, Some, None, codes, refl, ap, ap₂, sym, subst, ◌∙◌, inl, inr, true≢false, append-nil, append_assoc, arith, drop, subst₂, take, ◌-◌, if◌then◌else◌}
 use Rattle.std.specs.Prelude.{option_map}
-use Rattle.std.proofs.lemmas.List.{take-append-drop}
 use Rattle.std.specs.List.{starts_with}
 use Rattle.std.proofs.lemmas.Bool.{cases_Bool, cond_both, eqb-true}
 use Rattle.std.specs.Str.{bytes_eq}
@@ -15,7 +14,7 @@ use Rattle.tl_html_spec.proofs.Driving.{taken_append, text_driven, tokens_rest}
 use Rattle.tl_html_spec.proofs.Resting.{mapped_some}
 use Rattle.tl_html_spec.proofs.Starts as S
 use Rattle.tl_html_spec.proofs.Starts.{Ends, again_quiet, fine, whole_ends}
-use Rattle.tl_html_tokens.specs.Driving.{IsDriven, begins_section, is_start, state_set}
+use Rattle.tl_html_tokens.specs.Driving.{IsDriven, begins_section, is_data, is_start, opens_section, state_set}
 use Rattle.tl_html_tokens.specs.Ends.{NoStart, Pends, StandsFor, StartsLast, opens}
 use Rattle.tl_html_tokens.specs.Fronts.{IsFront}
 use Rattle.tl_html_tokens.specs.Kinds.{IsKind}
@@ -24,7 +23,10 @@ use Rattle.tl_html_tokens.specs.declared.front.Front.{Front}
 use Rattle.tl_html_tokens.specs.declared.mode.Mode.{Mode}
 use Rattle.tl_html_tokens.specs.declared.stage.TokenKind.{TokenKind}
 use Rattle.tl_html_tokens.specs.declared.stage.TokenKind.TheVariants as kind
+use Rattle.tl_html_tokens.proofs.Doctyped.{and_false, doctype_no_rest}
 use Rattle.tl_html_tokens.proofs.Early.{kind_quiet}
+use Rattle.tl_html_tokens.proofs.Pending.{rest_end}
+use Rattle.tl_html_tokens.proofs.Places.{cut}
 use Rattle.tl_html_tokens.proofs.Reached.{quiet_of}
 use Rattle.tl_html_tokens.proofs.Steps.{rests}
 
@@ -81,10 +83,6 @@ entered_same : (s : State) → Same (entered s) s
 entered_same T.doctype = refl
 entered_same _ = refl
 
-and_false : (a c : Bool) → c ≡ false → (a && c) ≡ false
-and_false true c h = h
-and_false false c h = refl
-
 record Steps (x : DrivenStep) (w : Step) : Type 0 where
   same : Same x.next w.next
   tokens : map bare x.emits ≡ w.emits
@@ -128,12 +126,6 @@ end_same (cdata_start buffer) s h = absurd h
 end_same cdata_section s h = absurd h
 end_same cdata_section_bracket s h = absurd h
 end_same cdata_section_end s h = absurd h
-
-doctype_no_rest : (c : ℕ) → rest_within 2 T.doctype c ≡ None
-doctype_no_rest c = elim (cases_Bool (c == 62)) [
-  | inl y ↦ rw y refl
-  | inr n ↦ rw n refl
-]
 
 rest_same : (ds : DrivenState) (s : State) (c : ℕ) (rest : Rest) → Same ds s → rest_within 2 s c ≡ Some rest → driven_rest ds c ≡ Some (of_rest rest)
 rest_same (in_state t) s c rest h e = ap (option_map of_rest) (ap (λ (q : State). rest_within 2 q c) h ∙ e)
@@ -210,12 +202,6 @@ no_last ts h = none_last (map plain ts) (subst NoStart (sym (bare_plain ts)) h)
 
 quiet_set : {M : Type 0} (d : Driver M) (m : M) (ts : List HtmlToken) (state : State) → NoStart ts → set_after d m ts state ≡ state
 quiet_set d m ts state h = ap (λ (w : Bool). if w then d.sets m else state) (no_last ts h)
-
-rest_end : (s : State) → is_at_rest s ≡ true → at_end s ≡ []
-rest_end T.data_state h = refl
-rest_end (T.raw r) h = refl
-rest_end T.plaintext h = refl
-rest_end _ h = absurd (true≢false (sym h))
 
 pending_goes : {M : Type 0} (d : Driver M) (rest : List ℕ) (v : Driving M) (r : Reader) (state : State) (pending : List HtmlToken) → Both v r → is_at_rest state ≡ true →
     Pends r rest state pending → Goes d v [] rest pending state
@@ -521,7 +507,7 @@ module _ {M : Type 0} (d : Driver M) (m : M) (rest : List ℕ) (state : State) (
 -- what stands in front of a page
 
 stands_goes : {M : Type 0} (d : Driver M) (m : M) (state next : State) (bytes rest : List ℕ) (tokens : List HtmlToken) → StandsFor state bytes rest next tokens → is_at_rest next ≡ true →
-    (d.is_foreign m ≡ false) ⊎ (begins_section bytes ≡ false) → Goes d (driving m (in_state state)) bytes rest tokens next
+    (state ≡ T.data_state → (d.is_foreign m ≡ false) ⊎ (begins_section bytes ≡ false)) → Goes d (driving m (in_state state)) bytes rest tokens next
 stands_goes d m state next bytes rest tokens s i f =
     subst (λ ts. Goes d (driving m (in_state state)) bytes rest ts next) (sym s.told) (elim s.opens_first [
       | inl z ↦ goes d bytes rest (driving m (in_state state)) (at state) next s.pending (record { same = refl; returned = refl }) z s.starts_last i s.ends
@@ -529,7 +515,7 @@ stands_goes d m state next bytes rest tokens s i f =
           let l = subst₂ (λ (x : State) v. StartsLast (at x) v) q.1 q.2 s.starts_last in
           let p = subst₂ (λ (x : State) v. Pends (after (at x) v) rest next s.pending) q.1 q.2 s.ends in
           subst₂ (λ (x : State) v. Goes d (driving m (in_state x)) v rest (emitted (at x) v ++ s.pending) next) (sym q.1) (sym q.2)
-          (section_or_comment d m rest next s.pending i q.0 q.3 l p (elim f [
+          (section_or_comment d m rest next s.pending i q.0 q.3 l p (elim (f q.1) [
             | inl n ↦ inl n
             | inr n ↦ inr (sym (ap begins_section q.2) ∙ n)
           ])))
@@ -547,11 +533,6 @@ last_is kind.Comment ts h = no_last ts (kind_quiet kind.Comment ts h refl)
 last_is kind.Doctype ts h = no_last ts (kind_quiet kind.Doctype ts h refl)
 last_is kind.Nothing ts h = no_last ts (kind_quiet kind.Nothing ts h refl)
 
-cut : (t : List ℕ) (a e : ℕ) → a ≤ e → take (e - a) (drop a t) ++ drop e t ≡ drop a t
-cut t a e h =
-    let sum : a + (e - a) ≡ e = omega arith in
-    ap (λ v. take (e - a) (drop a t) ++ v) (ap (λ n. drop n t) (sym sum) ∙ sym (drop-drop (e - a) a t)) ∙ take-append-drop (e - a) (drop a t)
-
 and_left : (v w u : Bool) → (w ≡ false → u ≡ false) → (v && w) ≡ false → (v && u) ≡ false
 and_left true w u h k = h k
 and_left false w u h k = refl
@@ -562,15 +543,20 @@ begins_less x y [] h = absurd (true≢false h)
 begins_less [] y (c ∷ p) h = refl
 begins_less (b ∷ x) y (c ∷ p) h = and_left (c == b) (starts_with ◌==◌ (x ++ y) p) (starts_with ◌==◌ x p) (begins_less x y p) h
 
+not_both : (v w : Bool) → (v && w) ≡ false → (v ≡ false) ⊎ (w ≡ false)
+not_both true w h = inr h
+not_both false w h = inl refl
+
 -- for any driver
 pub front_driven : {M : Type 0} (d : Driver M) (m : M) (page : List ℕ) (start : ℕ) (mode : Mode) (front : Front) (f : IsFront page start mode front) →
-    (d.is_foreign m ≡ false) ⊎ (begins_section (drop start page) ≡ false) → IsDriven d m page start mode front f.tokens
+    opens_section d m page start mode ≡ false → IsDriven d m page start mode front f.tokens
 front_driven {M = M} d m page start mode front f h =
     let bytes : List ℕ = take (front.end - start) (drop start page) in
     let rest : List ℕ = drop front.end page in
     let o = f.order in
     let all : bytes ++ rest ≡ drop start page = cut page start front.end (omega arith) in
-    let g = stands_goes d m (state_of mode) (state_of front.mode) bytes rest f.tokens f.stands (rests front.mode) (elim h [
+    let g = stands_goes d m (state_of mode) (state_of front.mode) bytes rest f.tokens f.stands (rests front.mode)
+    (λ markup. elim (not_both (d.is_foreign m) (begins_section (drop start page)) (sym (ap (λ (s : State). is_data s && (d.is_foreign m && begins_section (drop start page))) markup) ∙ h)) [
       | inl n ↦ inl n
       | inr n ↦ inr (begins_less bytes rest (codes "<![CDATA[") (ap begins_section all ∙ n))
     ]) in

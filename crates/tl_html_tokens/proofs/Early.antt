@@ -187,11 +187,13 @@ mode_no_declaration : (m : Mode) → is_declaration (state_of m) ≡ false
 mode_no_declaration mode.Data = refl
 mode_no_declaration mode.Title = refl
 mode_no_declaration mode.Textarea = refl
+mode_no_declaration mode.ContextText = refl
 mode_no_declaration mode.Style = refl
 mode_no_declaration mode.Xmp = refl
 mode_no_declaration mode.Iframe = refl
 mode_no_declaration mode.Noembed = refl
 mode_no_declaration mode.Noframes = refl
+mode_no_declaration mode.Noscript = refl
 mode_no_declaration mode.Script = refl
 mode_no_declaration mode.ScriptEscaped = refl
 mode_no_declaration mode.ScriptEscapedDash = refl
@@ -206,7 +208,7 @@ value_no_declaration quote.Absent o key v s e = ap is_declaration e
 declared : (w : List ℕ) (c : Stage) (s : State) (ts : List HtmlToken) → IsStage w c s ts → is_declaration s ≡ true → c ≡ stage.Declaration
 declared w (stage.Whole k m) s ts h g = absurd (true≢false (sym g ∙ ap is_declaration h.0 ∙ mode_no_declaration m))
 declared w (stage.Reference p) s ts (r, h, e, t) g = absurd (true≢false (sym g ∙ ap is_declaration e))
-declared w (stage.NamedReference p) s ts (r, buffer, h, e, t) g = absurd (true≢false (sym g ∙ ap is_declaration e))
+declared w (stage.NamedReference p) s ts (r, buffer, some, h, e, t) g = absurd (true≢false (sym g ∙ ap is_declaration e))
 declared w (stage.NumericReference p) s ts (r, h, e, t) g = absurd (true≢false (sym g ∙ ap is_declaration e))
 declared w (stage.HexadecimalStart p) s ts (r, x, h, e, t) g = absurd (true≢false (sym g ∙ ap is_declaration e))
 declared w (stage.DecimalStart p) s ts (r, h, e, t) g = absurd (true≢false (sym g ∙ ap is_declaration e))
@@ -321,7 +323,7 @@ begun_starts _ g = refl
 pub stage_quiet : (w : List ℕ) (c : Stage) (s : State) (ts : List HtmlToken) → IsStage w c s ts → starts_stage c ≡ false → NoStart ts
 stage_quiet w (stage.Whole k m) s ts h g = kind_quiet k ts h.1 g
 stage_quiet w (stage.Reference p) s ts (r, h, e, t) g = none_quiet ts t
-stage_quiet w (stage.NamedReference p) s ts (r, buffer, h, e, t) g = none_quiet ts t
+stage_quiet w (stage.NamedReference p) s ts (r, buffer, some, h, e, t) g = none_quiet ts t
 stage_quiet w (stage.NumericReference p) s ts (r, h, e, t) g = none_quiet ts t
 stage_quiet w (stage.HexadecimalStart p) s ts (r, x, h, e, t) g = none_quiet ts t
 stage_quiet w (stage.DecimalStart p) s ts (r, h, e, t) g = none_quiet ts t

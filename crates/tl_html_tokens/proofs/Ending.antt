@@ -24,7 +24,7 @@ use Rattle.tl_html_tokens.specs.declared.stage.Place.TheVariants as place
 use Rattle.tl_html_tokens.specs.declared.stage.Stage.{Stage}
 use Rattle.tl_html_tokens.specs.declared.stage.Stage.TheVariants as stage
 use Rattle.tl_html_tokens.proofs.Nonempty.{named_value_some, number_value_some}
-use Rattle.tl_html_tokens.proofs.Places.{between}
+use Rattle.tl_html_tokens.proofs.Places.{between, cut}
 use Rattle.tl_html_tokens.proofs.Reading.{IsScan, reader}
 use Rattle.tl_html_tokens.proofs.Steps.{IsPlace, IsStage, IsValue, chars, flushed_text}
 
@@ -32,11 +32,13 @@ pub mode_ends : (m : Mode) → at_end (state_of m) ≡ []
 mode_ends mode.Data = refl
 mode_ends mode.Title = refl
 mode_ends mode.Textarea = refl
+mode_ends mode.ContextText = refl
 mode_ends mode.Style = refl
 mode_ends mode.Xmp = refl
 mode_ends mode.Iframe = refl
 mode_ends mode.Noembed = refl
 mode_ends mode.Noframes = refl
+mode_ends mode.Noscript = refl
 mode_ends mode.Script = refl
 mode_ends mode.ScriptEscaped = refl
 mode_ends mode.ScriptEscapedDash = refl
@@ -66,7 +68,7 @@ after_chars s r ts e n h = subst (IsKind kind.Text) (sym (append-nil ts) ∙ ap 
 pub end_kind : (w : List ℕ) (c : Stage) (s : State) (ts : List HtmlToken) → IsStage w c s ts → IsKind (kind_at_end c) (ts ++ at_end s)
 end_kind w (stage.Whole k m) s ts (e, h) = subst (IsKind k) (sym (append-nil ts) ∙ ap (λ us. ts ++ us) (sym (ap at_end e ∙ mode_ends m))) h
 end_kind w (stage.Reference p) s ts (r, h, e, t) = alone (place_at_end p) s _ ts e t (flush_ends p r (codes "&") h tt)
-end_kind w (stage.NamedReference p) s ts (r, buffer, h, e, t) =
+end_kind w (stage.NamedReference p) s ts (r, buffer, some, h, e, t) =
     alone (place_at_end p) s _ ts e t (flush_ends p r (named_value (T.is_value r) buffer []) h (named_value_some (T.is_value r) buffer []))
 end_kind w (stage.NumericReference p) s ts (r, h, e, t) = alone (place_at_end p) s _ ts e t (flush_ends p r (codes "&#") h tt)
 end_kind w (stage.HexadecimalStart p) s ts (r, x, h, e, t) = alone (place_at_end p) s _ ts e t (flush_ends p r (codes "&#" ++ x ∷ []) h tt)
@@ -114,6 +116,9 @@ scan_end page start m n place scan h e =
     let l = h.later in
     let none : (k : ℕ) → k ≡ length page → drop k page ≡ [] = λ k q. drop_all k page (omega arith) in
     let o : State = state_of m in
+    let last = none (length page) refl in
+    let whole : between page start (length page) ≡ drop start page =
+    sym (append-nil (between page start (length page))) ∙ ap (λ v. between page start (length page) ++ v) (sym last) ∙ cut page start (length page) (omega arith) in
     record {
       tokens = h.tokens ++ at_end h.state;
       kind = end_kind (between page scan.word place) scan.stage h.state h.tokens h.stage;
@@ -121,6 +126,9 @@ scan_end page start m n place scan h e =
       within = le_refl (length page);
       read = ap runs (h.pieces ∙ ap (pieces_from o (reader h.state scan.after_return) (between page start place) h.tokens) (none place e))
           ∙ ap₂ (λ k v. with_piece (piece o (between page start k) (h.tokens ++ at_end h.state)) (runs (pieces_at (state_of n) v))) e (sym (none (length page) refl));
+      alone = ap (λ v. runs (pieces_at o v)) whole
+          ∙ ap runs (h.pieces ∙ ap (pieces_from o (reader h.state scan.after_return) (between page start place) h.tokens) (none place e))
+          ∙ ap (λ k. piece o (between page start k) (h.tokens ++ at_end h.state) ∷ []) e;
       stands = record {
         pending = at_end h.state;
         told = ap (λ ts. ts ++ at_end h.state) (sym h.told ∙ ap (λ k. emitted (at o) (between page start k)) e);

@@ -1,5 +1,5 @@
 -- Tokens one after the other are the pieces of a page.
-use Rattle.std.proofs.Common.{◌≡◌, ◌≤◌, ℕ, zero, suc, ◌+◌, ◌-◌, Bool, true, false, ◌==◌, ◌&&◌, List, [], ◌∷◌, ◌++◌, length, length-append, length-drop, length-take, drop, drop-drop, take, refl, ap, ap₂, sym, subst, ◌∙◌, inl, inr, true≢false, arith, append-nil, append_assoc, if◌then◌else◌}
+use Rattle.std.proofs.Common.{◌≡◌, ◌≤◌, ℕ, zero, suc, ◌+◌, ◌-◌, Bool, true, false, ◌==◌, ◌&&◌, List, [], ◌∷◌, ◌++◌, length, length-append, length-drop, drop, drop-drop, take, refl, ap, ap₂, sym, subst, ◌∙◌, inl, inr, true≢false, arith, append-nil, append_assoc, if◌then◌else◌}
 use Rattle.std.specs.List.{starts_with}
 use Rattle.std.proofs.lemmas.Bool.{cases_Bool, cond_both}
 use Rattle.std.proofs.lemmas.List.{drop_all}
@@ -17,7 +17,7 @@ use Rattle.tl_html_tokens.specs.declared.mode.Mode.TheVariants as mode
 use Rattle.tl_html_tokens.specs.declared.stage.TokenKind.{TokenKind}
 use Rattle.tl_html_tokens.specs.declared.stage.TokenKind.TheVariants as kind
 use Rattle.tl_html_tokens.specs.declared.token.Token.{Token}
-use Rattle.tl_html_tokens.proofs.Places.{between}
+use Rattle.tl_html_tokens.proofs.Places.{between, between_length}
 
 -- kinds
 
@@ -171,9 +171,6 @@ between_both t a e f h k =
     ∙ take_both (e - a) (f - e) (drop a t)
     ∙ ap (λ m. take m (drop a t)) sum
 
-between_length : (t : List ℕ) (a e : ℕ) → a ≤ e → e ≤ length t → length (between t a e) ≡ e - a
-between_length t a e h k = let whole = length-drop a t in omega (arith, length-take (e - a) (drop a t))
-
 -- tokens and pieces
 
 with_token : (page : List ℕ) (ts : List Token) (ps : List (ℕ × Piece)) (t : Token) (q : ℕ × Piece) → AreTokens page ts ps → IsToken page t q.0 q.1 → AreTokens page (ts ++ t ∷ []) (ps ++ q ∷ [])
@@ -298,7 +295,7 @@ pieces_same : (t : List ℕ) → pieces_of t ≡ pieces_at data_state t
 pieces_same [] = refl
 pieces_same (b ∷ t) = refl
 
-mark_is : (page : List ℕ) → without_mark page ≡ drop (mark_len page) page
+pub mark_is : (page : List ℕ) → without_mark page ≡ drop (mark_len page) page
 mark_is page =
     cond_both (starts_with ◌==◌ page (0xEF ∷ 0xBB ∷ 0xBF ∷ [])) 3 0 (λ (n : ℕ). (if starts_with ◌==◌ page (0xEF ∷ 0xBB ∷ 0xBF ∷ []) then drop 3 page else page) ≡ drop n page)
     (λ y. rw y refl) (λ n. rw n refl)

@@ -1,5 +1,5 @@
 -- What a piece has read so far is kept by each byte, and is what the piece says at the end of the page.
-use Rattle.std.proofs.Common.{◌≡◌, ℕ, true, List, [], ◌∷◌, ◌++◌, drop, map, codes, inl, inr, refl, ap, ap₂, sym, subst, ◌∙◌, true≢false, append-nil}
+use Rattle.std.proofs.Common.{◌≡◌, ◌==◌, ℕ, true, List, [], ◌∷◌, ◌++◌, drop, map, codes, inl, inr, refl, ap, ap₂, sym, subst, ◌∙◌, true≢false, append-nil}
 use Rattle.std.specs.List.{list_all}
 use Rattle.tl_html_spec.specs.HtmlTokenizer as T
 use Rattle.tl_html_spec.specs.HtmlTokenizer.{HtmlToken, Character, CommentToken, State, at_end}
@@ -14,7 +14,7 @@ use Rattle.tl_html_tokens.specs.declared.stage.Stage.{Stage}
 use Rattle.tl_html_tokens.specs.declared.stage.Stage.TheVariants as stage
 use Rattle.tl_html_tokens.specs.declared.stage.Turn.{Turn}
 use Rattle.tl_html_tokens.proofs.CommentStages.{clean_stays, comment_kept, no_opener}
-use Rattle.tl_html_tokens.proofs.Content.{BeginsLess, Content, InScript, IsNoOpener, IsText, is_clean, Kept, Says, less_text, name_text, opener, ordinary_text}
+use Rattle.tl_html_tokens.proofs.Content.{BeginsDoctype, BeginsLess, Content, choose, doctype_more, InScript, IsNoOpener, IsText, is_clean, Kept, Says, less_text, name_text, opener, ordinary_text}
 use Rattle.tl_html_tokens.proofs.Ending.{mode_ends}
 use Rattle.tl_html_tokens.proofs.Endings.{inside_bang, inside_dash, inside_two}
 use Rattle.tl_html_tokens.proofs.Markup.{kept_markup}
@@ -29,6 +29,11 @@ module _ (m : Mode) (b : ℕ) (z w : List ℕ) where
 
   moved_on : (s u : State) (ts : List HtmlToken) (o : Turn) → s ≡ u → Kept m b z w u ts o → Kept m b z w s ts o
   moved_on s u ts o e h = subst (λ (x : State). Kept m b z w x ts o) (sym e) h
+
+  -- a doctype stays one
+  doctype_kept : (s : State) (ts : List HtmlToken) → BeginsDoctype z → Kept m b z w s ts (M.doctype b)
+  doctype_kept s ts h =
+      choose m b z w s ts (b == 62) _ _ (λ _. (doctype_more z (b ∷ []) h, λ y. absurd (true≢false (sym y)))) (λ _. doctype_more z (b ∷ []) h)
 
   pub kept : (c : Stage) (s : State) (ts : List HtmlToken) → IsStage w c s ts → IsBegun c → Content m c z w s ts → Kept m b z w s ts (M.turn c w b)
   kept (stage.Whole k n) s ts i g h = absurd g
@@ -80,7 +85,7 @@ module _ (m : Mode) (b : ℕ) (z w : List ℕ) where
   kept (stage.Value q t) s ts i g h = kept_markup m b (stage.Value q t) z w s ts refl h
   kept (stage.AfterValue t) s ts i g h = kept_markup m b (stage.AfterValue t) z w s ts refl h
   kept (stage.SelfClosing t) s ts i g h = kept_markup m b (stage.SelfClosing t) z w s ts refl h
-  kept stage.Doctype s ts i g h = kept_markup m b stage.Doctype z w s ts refl h
+  kept stage.Doctype s ts i g h = doctype_kept s ts h
 
 -- the end of the page
 

@@ -4,6 +4,7 @@ pub mod Steps
 pub mod Turns
 pub mod Defaults
 pub mod Places
+pub mod Cuts
 pub mod Early
 pub mod Reached
 pub mod Reading
@@ -17,6 +18,7 @@ pub mod Endings
 pub mod Content
 pub mod Markup
 pub mod TextStages
+pub mod Pending
 pub mod CommentStages
 pub mod Keeping
 pub mod Saying
@@ -27,5 +29,7 @@ pub mod Opening
 pub mod Alone
 pub mod Through
 pub mod Beginning
+pub mod Doctyped
 pub mod Drives
 pub mod Sections
+pub mod Told

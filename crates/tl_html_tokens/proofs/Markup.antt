@@ -1,4 +1,4 @@
--- Tags and doctypes stay what they are, whatever byte comes.
+-- Tags stay what they are, whatever byte comes.
 use Rattle.std.proofs.Common.{◌≡◌, ℕ, Bool, true, false, ◌==◌, List, [], ◌∷◌, ◌++◌, refl, if◌then◌else◌}
 use Rattle.std.specs.Char.{is_ascii_alphanumeric, is_ascii_digit, is_ascii_hexdigit, to_ascii_lowercase}
 use Rattle.std.proofs.lemmas.Bool.{cond_both}
@@ -21,10 +21,11 @@ use Rattle.tl_html_tokens.proofs.Content.{BeginsLess, Content, Kept, begins_more
 use Rattle.tl_html_tokens.proofs.Steps.{next_word}
 use Rattle.std.proofs.Common.{true≢false, sym}
 
--- neither a text nor a comment
+-- neither a text nor a comment nor a doctype
 abbrev pub is_other : TokenKind → Bool
 is_other kind.Text = false
 is_other kind.Comment = false
+is_other kind.Doctype = false
 is_other _ = true
 
 abbrev in_value : Place → Bool
@@ -48,7 +49,6 @@ is_markup (stage.BeforeValue tag) = true
 is_markup (stage.Value q tag) = true
 is_markup (stage.AfterValue tag) = true
 is_markup (stage.SelfClosing tag) = true
-is_markup stage.Doctype = true
 is_markup _ = false
 
 abbrev stays : Turn → Bool
@@ -101,7 +101,6 @@ module _ (b : ℕ) where
   turn_stays (stage.Value q tag) w h = value q tag
   turn_stays (stage.AfterValue tag) w h = either (is_white_space b) _ _ refl (either (b == 47) _ _ refl (either (b == 62) _ _ (tag_end tag) (before_key tag)))
   turn_stays (stage.SelfClosing tag) w h = either (b == 62) _ _ (tag_end tag) (before_key tag)
-  turn_stays stage.Doctype w h = either (b == 62) _ _ refl refl
   turn_stays _ w h = absurd (true≢false (sym h))
 
 -- and each begins with a `<`
@@ -110,6 +109,7 @@ module _ (m : Mode) where
   other_passes : (k : TokenKind) (n : Mode) (z : List ℕ) (ts : List HtmlToken) → is_other k ≡ true → BeginsLess z → Content m (stage.Whole k n) z [] (T.data_state) ts
   other_passes kind.Text n z ts h g = absurd (true≢false (sym h))
   other_passes kind.Comment n z ts h g = absurd (true≢false (sym h))
+  other_passes kind.Doctype n z ts h g = absurd (true≢false (sym h))
   other_passes _ n z ts h g = (g, λ y. absurd (true≢false (sym y)))
 
   content_markup : (c : Stage) (z w : List ℕ) (s : State) (ts : List HtmlToken) → is_markup c ≡ true → BeginsLess z → Content m c z w s ts
@@ -129,7 +129,6 @@ module _ (m : Mode) where
   content_markup (stage.Value q tag) z w s ts h g = g
   content_markup (stage.AfterValue tag) z w s ts h g = g
   content_markup (stage.SelfClosing tag) z w s ts h g = g
-  content_markup stage.Doctype z w s ts h g = g
   content_markup _ z w s ts h g = absurd (true≢false (sym h))
 
   kept_by_turn : (b : ℕ) (z w : List ℕ) (s : State) (ts : List HtmlToken) (o : Turn) → stays o ≡ true → BeginsLess z → Kept m b z w s ts o

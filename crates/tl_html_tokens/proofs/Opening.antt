@@ -343,11 +343,13 @@ first_leads mode.Data b =
     (λ _ k. by_test (M.first mode.Data b) mode.Data b (b == 60) _ _ k (λ y j. opens y j) (λ _ j. other (ap leads j)))
 first_leads mode.Title b = rcdata_first mode.Title b refl
 first_leads mode.Textarea b = rcdata_first mode.Textarea b refl
+first_leads mode.ContextText b = rcdata_first mode.ContextText b refl
 first_leads mode.Style b = rawtext_first mode.Style b refl
 first_leads mode.Xmp b = rawtext_first mode.Xmp b refl
 first_leads mode.Iframe b = rawtext_first mode.Iframe b refl
 first_leads mode.Noembed b = rawtext_first mode.Noembed b refl
 first_leads mode.Noframes b = rawtext_first mode.Noframes b refl
+first_leads mode.Noscript b = rawtext_first mode.Noscript b refl
 first_leads mode.Script b = rawtext_first mode.Script b refl
 first_leads mode.ScriptEscaped b = escaped_first mode.ScriptEscaped mode.ScriptEscapedDash b refl
 first_leads mode.ScriptEscapedDash b = escaped_first mode.ScriptEscapedDash mode.ScriptEscapedDashDash b refl

@@ -1,6 +1,6 @@
 -- Bytes between two places.
-use Rattle.std.proofs.Common.{◌≡◌, ◌≤◌, ◌<◌, ℕ, ◌+◌, ◌-◌, false, ◌==◌, List, [], ◌∷◌, ◌++◌, length, length-drop, drop, take, get_or, refl, ap, ◌∙◌, arith, true≢false}
-use Rattle.std.proofs.lemmas.List.{get_or-drop, take_more}
+use Rattle.std.proofs.Common.{◌≡◌, ◌≤◌, ◌<◌, ℕ, ◌+◌, ◌-◌, false, ◌==◌, List, [], ◌∷◌, ◌++◌, length, length-drop, length-take, drop, take, drop-drop, get_or, refl, ap, sym, ◌∙◌, arith, true≢false}
+use Rattle.std.proofs.lemmas.List.{get_or-drop, take-append-drop, take_more}
 use Rattle.std.proofs.lemmas.Bool.{cond_both}
 use Rattle.tl_html_spec.specs.Reader.{feed}
 
@@ -21,6 +21,15 @@ between_more t a e h k =
     ap (λ m. take m (drop a t)) n
     ∙ take_more (drop a t) (e - a) 0 inside
     ∙ ap (λ b. take (e - a) (drop a t) ++ b ∷ []) (get_or-drop a t (e - a) 0 ∙ ap (λ m. get_or t m 0) place)
+
+pub between_length : (t : List ℕ) (a e : ℕ) → a ≤ e → e ≤ length t → length (between t a e) ≡ e - a
+between_length t a e h k = let whole = length-drop a t in omega (arith, length-take (e - a) (drop a t))
+
+-- up to a place and from there on
+pub cut : (t : List ℕ) (a e : ℕ) → a ≤ e → take (e - a) (drop a t) ++ drop e t ≡ drop a t
+cut t a e h =
+    let sum : a + (e - a) ≡ e = omega arith in
+    ap (λ v. take (e - a) (drop a t) ++ v) (ap (λ n. drop n t) (sym sum) ∙ sym (drop-drop (e - a) a t)) ∙ take-append-drop (e - a) (drop a t)
 
 -- what isn't read as a line feed is read as it is
 pub feed_plain : (b : ℕ) → (feed b == 10) ≡ false → feed b ≡ b

@@ -40,7 +40,7 @@ record IsPlain (b : ℕ) : Type 0 where
   amp : (b == 38) ≡ false
   returns : (b == 13) ≡ false
 
-three : (x y z : Bool) → not (x || y || z) ≡ true → (x ≡ false) × (y ≡ false) × (z ≡ false)
+pub three : (x y z : Bool) → not (x || y || z) ≡ true → (x ≡ false) × (y ≡ false) × (z ≡ false)
 three true y z h = absurd (true≢false (sym h))
 three false true z h = absurd (true≢false (sym h))
 three false false true h = absurd (true≢false (sym h))
@@ -57,11 +57,13 @@ plain_step : (m : Mode) (b : ℕ) → reads_plain m ≡ true → IsPlain b → s
 plain_step mode.Data b h p = rw (p.amp, p.less) refl
 plain_step mode.Title b h p = rw (p.amp, p.less) refl
 plain_step mode.Textarea b h p = rw (p.amp, p.less) refl
+plain_step mode.ContextText b h p = rw (p.amp, p.less) refl
 plain_step mode.Style b h p = rw p.less refl
 plain_step mode.Xmp b h p = rw p.less refl
 plain_step mode.Iframe b h p = rw p.less refl
 plain_step mode.Noembed b h p = rw p.less refl
 plain_step mode.Noframes b h p = rw p.less refl
+plain_step mode.Noscript b h p = rw p.less refl
 plain_step mode.Script b h p = rw p.less refl
 plain_step mode.Plaintext b h p = refl
 plain_step mode.ScriptEscaped b h p = absurd (true≢false (sym h))
@@ -72,11 +74,13 @@ some_in : (m : Mode) (b : ℕ) → IsSome (bytes_in m b)
 some_in mode.Data b = tt
 some_in mode.Title b = char_some b
 some_in mode.Textarea b = char_some b
+some_in mode.ContextText b = char_some b
 some_in mode.Style b = char_some b
 some_in mode.Xmp b = char_some b
 some_in mode.Iframe b = char_some b
 some_in mode.Noembed b = char_some b
 some_in mode.Noframes b = char_some b
+some_in mode.Noscript b = char_some b
 some_in mode.Script b = char_some b
 some_in mode.ScriptEscaped b = char_some b
 some_in mode.ScriptEscapedDash b = char_some b
@@ -165,6 +169,12 @@ run_of : (m : Mode) (x t : List ℕ) → reads_plain m ≡ true → 0 < length x
 run_of m [] t h l k = absurd (omega arith)
 run_of m (b ∷ x) t h l k = run_is m b x t h k
 
+-- by itself
+run_alone : (m : Mode) (x t : List ℕ) (r : IsRun m x t) → reads_plain m ≡ true → 0 < length x → list_all is_plain x ≡ true → runs (pieces_at (state_of m) x) ≡ piece (state_of m) x r.tokens ∷ []
+run_alone m x t r h l k =
+    let q = run_of m x [] h l k in
+    ap (λ v. runs (pieces_at (state_of m) v)) (sym (append-nil x)) ∙ q.read ∙ ap (λ ts. piece (state_of m) x ts ∷ []) (sym q.told ∙ r.told)
+
 run_ends : (m : Mode) (t : List ℕ) → Pends (at (state_of m)) t (state_of m) []
 run_ends m [] = sym (mode_ends m)
 run_ends m (c ∷ t) = strict_rest (state_of m) c (rests m)
@@ -194,5 +204,7 @@ run_front page start m n h l k i a =
       read = ap (λ t. runs (pieces_at (state_of m) t)) (sym (take-append-drop n s))
           ∙ r.read
           ∙ ap₂ (λ v t. with_piece (piece (state_of m) (take v s) r.tokens) (runs (pieces_at (state_of m) t))) (sym sum) (drop-drop n start page);
+      alone = ap (λ v. runs (pieces_at (state_of m) (take v s))) sum ∙ run_alone m (take n s) (drop n s) r h (omega arith) a
+          ∙ ap (λ v. piece (state_of m) (take v s) r.tokens ∷ []) (sym sum);
       stands = subst₂ (λ k t. StandsFor (state_of m) (take k s) t (state_of m) r.tokens) (sym sum) (drop-drop n start page) (run_stands m (take n s) (drop n s) r);
     }

@@ -103,11 +103,13 @@ module _ (b : ℕ) where
   first_begun mode.Data = in_data
   first_begun mode.Title = in_rcdata mode.Title mode.Title
   first_begun mode.Textarea = in_rcdata mode.Textarea mode.Textarea
+  first_begun mode.ContextText = in_rcdata mode.ContextText mode.ContextText
   first_begun mode.Style = in_rawtext mode.Style mode.Style
   first_begun mode.Xmp = in_rawtext mode.Xmp mode.Xmp
   first_begun mode.Iframe = in_rawtext mode.Iframe mode.Iframe
   first_begun mode.Noembed = in_rawtext mode.Noembed mode.Noembed
   first_begun mode.Noframes = in_rawtext mode.Noframes mode.Noframes
+  first_begun mode.Noscript = in_rawtext mode.Noscript mode.Noscript
   first_begun mode.Script = in_rawtext mode.Script mode.Script
   first_begun mode.ScriptEscaped = in_escaped mode.ScriptEscaped mode.ScriptEscapedDash
   first_begun mode.ScriptEscapedDash = in_escaped mode.ScriptEscapedDash mode.ScriptEscapedDashDash

@@ -1,12 +1,13 @@
 -- A piece is read byte by byte.
-use Rattle.std.proofs.Common.{◌≡◌, ◌≤◌, ◌<◌, ◌⊎◌, ℕ, ◌+◌, Bool, true, false, ◌==◌, ◌&&◌, List, [], ◌∷◌, ◌++◌, length, drop, get_or, Some, None, codes, refl, ap, ap₂, sym, subst, subst₂, ◌∙◌, ◌||◌, inl, inr, true≢false, arith, append-nil, if◌then◌else◌}
+use Rattle.std.proofs.Common.{◌≡◌, ◌≤◌, ◌<◌, ◌⊎◌, ℕ, ◌+◌, Bool, true, false, ◌==◌, ◌&&◌, List, [], ◌∷◌, ◌++◌, length, drop, get_or, Some, None, codes, refl, ap, ap₂, sym, subst, subst₂, ◌∙◌, ◌||◌, inl, inr, true≢false, arith, le_refl, append-nil, if◌then◌else◌}
 use Rattle.std.proofs.lemmas.Bool.{cases_Bool, cond_both, eqb-true}
 use Rattle.std.proofs.lemmas.List.{drop_more}
 use Rattle.tl_html_spec.specs.HtmlTokenizer as T
 use Rattle.tl_html_spec.specs.HtmlTokenizer.{HtmlToken, Character, State, Step, at_end, char_of, settled, step, whole_step}
 use Rattle.tl_html_spec.specs.Pieces.{piece, pieces_from, runs}
-use Rattle.tl_html_spec.specs.Reader.{Reader, Rest, after, at, byte_step, emitted, feed, is_at_rest, next, read, rest_before, rest_if, rest_within}
+use Rattle.tl_html_spec.specs.Reader.{Reader, Rest, after, at, byte_step, emitted, feed, is_at_rest, next, read, rest_before, rest_if, rest_within, tokens_of}
 use Rattle.tl_html_spec.specs.Driven.{opens_cdata}
+use Rattle.tl_html_spec.proofs.Cutting.{tokens_end}
 use Rattle.tl_html_spec.proofs.Fold.{after_append, emitted_append}
 use Rattle.tl_html_spec.proofs.Resting.{settled_at_once}
 use Rattle.tl_html_spec.proofs.Starts.{rest_quiet}
@@ -34,7 +35,9 @@ use Rattle.tl_html_tokens.specs.declared.stage.Turn.{Turn}
 use Rattle.tl_html_tokens.specs.declared.stage.Turn.TheVariants.{Goes, Ends}
 use Rattle.tl_html_tokens.proofs.Early.{begun_starts, early_before, feed_starts, is_early, mode_opens_none, no_open, opening, stage_quiet, starts_stage, turn_starts}
 use Rattle.tl_html_tokens.proofs.Reached.{BegunBy, begun_passed, early_begun, first_begun, opens_append, quiet_of, starts_more}
-use Rattle.tl_html_tokens.proofs.Places.{between, between_more, between_none, feed_plain}
+use Rattle.tl_html_tokens.proofs.Cuts.{first_alone}
+use Rattle.tl_html_tokens.proofs.Pending.{Holds, pends, rest_end}
+use Rattle.tl_html_tokens.proofs.Places.{between, between_length, between_more, between_none, cut, feed_plain}
 use Rattle.tl_html_tokens.proofs.Steps.{IsBegun, IsRaw, IsStage, IsValue, Met, char_some, chars, met, next_word, raw_of, rests}
 use Rattle.tl_html_tokens.proofs.Turns.{rest_here, turned}
 use Rattle.tl_html_spec.specs.Sound.{IsSome}
@@ -94,7 +97,7 @@ value_rests quote.Absent o key v s e = ap is_at_rest e
 pub no_rest : (w : List ℕ) (c : Stage) (s : State) (ts : List HtmlToken) → IsStage w c s ts → IsBegun c → is_at_rest s ≡ false
 no_rest w (stage.Whole k m) s ts h g = absurd g
 no_rest w (stage.Reference p) s ts (r, h, e, t) g = ap is_at_rest e
-no_rest w (stage.NamedReference p) s ts (r, buffer, h, e, t) g = ap is_at_rest e
+no_rest w (stage.NamedReference p) s ts (r, buffer, some, h, e, t) g = ap is_at_rest e
 no_rest w (stage.NumericReference p) s ts (r, h, e, t) g = ap is_at_rest e
 no_rest w (stage.HexadecimalStart p) s ts (r, x, h, e, t) g = ap is_at_rest e
 no_rest w (stage.DecimalStart p) s ts (r, h, e, t) g = ap is_at_rest e
@@ -221,11 +224,13 @@ first_is mode.Data b =
     (pick (b == 60) _ _ _ _ (record { once = refl; stage = (refl, refl, refl); plain = refl }) (text T.data_state mode.Data (b ∷ []) refl tt))
 first_is mode.Title b = in_rcdata mode.Title (codes "title") b refl refl
 first_is mode.Textarea b = in_rcdata mode.Textarea (codes "textarea") b refl refl
+first_is mode.ContextText b = in_rcdata mode.ContextText [] b refl refl
 first_is mode.Style b = in_rawtext mode.Style (codes "style") b refl refl
 first_is mode.Xmp b = in_rawtext mode.Xmp (codes "xmp") b refl refl
 first_is mode.Iframe b = in_rawtext mode.Iframe (codes "iframe") b refl refl
 first_is mode.Noembed b = in_rawtext mode.Noembed (codes "noembed") b refl refl
 first_is mode.Noframes b = in_rawtext mode.Noframes (codes "noframes") b refl refl
+first_is mode.Noscript b = in_rawtext mode.Noscript (codes "noscript") b refl refl
 first_is mode.Script b = pick (b == 60) _ _ _ _ (less T.script_data mode.Script refl refl) (text (T.raw T.script_data) mode.Script (char_of b) refl (char_some b))
 first_is mode.ScriptEscaped b =
     pick (b == 45) _ _ _ _ (text (T.raw T.script_data_escaped_dash) mode.ScriptEscapedDash (codes "-") refl tt)
@@ -436,9 +441,23 @@ module _ (page : List ℕ) (start : ℕ) (m : Mode) (place : ℕ) (scan : Scan) 
         pieces = goes_on x (rest_plain h.state scan.after_return b p ∙ t.0) (read_plain h.state scan.after_return b p);
       }
 
+  alone_here : (n : Mode) (es : List HtmlToken) → rest_before (reader h.state scan.after_return) b ≡ Some (record { state = state_of n; emits = es }) → at_end h.state ≡ es →
+      runs (pieces_at o bs) ≡ piece o bs (h.tokens ++ es) ∷ []
+  alone_here n es e p =
+      let l = h.later in
+      let some : 0 < length bs = let k = between_length page start place (omega arith) (omega arith) in omega arith in
+      let ts : List HtmlToken = h.tokens ++ es in
+      let all : pieces_at o (bs ++ drop place page) ≡ piece o bs ts ∷ pieces_at (state_of n) (b ∷ rest) =
+      ap (pieces_at o) (cut page start place (omega arith)) ∙ front_is
+      ∙ pieces_before o (reader h.state scan.after_return) bs h.tokens b rest (record { state = state_of n; emits = es }) e in
+      let told : tokens_of (at o) bs ≡ ts =
+      sym (tokens_end (at o) bs) ∙ ap₂ (λ us (r : Reader). us ++ at_end r.state) h.told h.reached ∙ ap (λ us. h.tokens ++ us) p in
+      ap runs (first_alone o bs (drop place page) (piece o bs ts) (pieces_at (state_of n) (b ∷ rest)) all (le_refl (length bs)) some)
+      ∙ ap (λ us. piece o bs us ∷ []) told
+
   ends_here : (k : TokenKind) (n : Mode) (es : List HtmlToken) → rest_before (reader h.state scan.after_return) b ≡ Some (record { state = state_of n; emits = es }) →
-      IsKind k (h.tokens ++ es) → IsFront page start m (record { kind = k; end = place; mode = n })
-  ends_here k n es e i =
+      IsKind k (h.tokens ++ es) → at_end h.state ≡ es → IsFront page start m (record { kind = k; end = place; mode = n })
+  ends_here k n es e i p =
       let l = h.later in
       record {
         tokens = h.tokens ++ es;
@@ -447,6 +466,7 @@ module _ (page : List ℕ) (start : ℕ) (m : Mode) (place : ℕ) (scan : Scan) 
         within = omega arith;
         read = ap runs (front_is ∙ pieces_before o (reader h.state scan.after_return) (between page start place) h.tokens b rest (record { state = state_of n; emits = es }) e
             ∙ ap (λ v. piece o (between page start place) (h.tokens ++ es) ∷ pieces_at (state_of n) v) (sym (drop_more page place 0 inside)));
+        alone = alone_here n es e p;
         stands = record {
           pending = es;
           told = ap (λ ts. ts ++ es) (sym h.told);
@@ -462,7 +482,8 @@ module _ (page : List ℕ) (start : ℕ) (m : Mode) (place : ℕ) (scan : Scan) 
     | inl g ↦ (
         let t = turned (feed b) w 2 h.tokens h.state (Ends k n) (no_rest w scan.stage h.state h.tokens h.stage g)
         (subst (Met (feed b) w 2 h.tokens (step h.state (feed b))) e (met (feed b) w scan.stage h.state h.tokens h.stage g)) in
-        ends_here k n t.0 (rest_plain h.state scan.after_return b p ∙ t.1) t.2)
+        ends_here k n t.0 (rest_plain h.state scan.after_return b p ∙ t.1) t.2
+        (subst (Holds (feed b) h.state) e (pends (feed b) scan.stage w h.state h.tokens h.stage g) (state_of n) t.0 t.1))
     | inr q ↦ (
         let same : Ends q.0 q.1 ≡ Ends k n = sym (ap (λ (c : Stage). M.turn c w (feed b)) q.2) ∙ e in
         let sk : q.0 ≡ k = cc in
@@ -472,7 +493,8 @@ module _ (page : List ℕ) (start : ℕ) (m : Mode) (place : ℕ) (scan : Scan) 
         let r : is_at_rest h.state ≡ true = ap is_at_rest here ∙ rests n in
         ends_here k n []
         (rest_plain h.state scan.after_return b p ∙ rest_here (feed b) w 2 h.state r ∙ ap (λ (x : State). Some (record { state = x; emits = [] })) here)
-        (subst (IsKind k) (sym (append-nil h.tokens)) (subst (λ (j : TokenKind). IsKind j h.tokens) sk st.1)))
+        (subst (IsKind k) (sym (append-nil h.tokens)) (subst (λ (j : TokenKind). IsKind j h.tokens) sk st.1))
+        (rest_end h.state r))
   ]
 
   whole_never : (c d : Stage) → M.turn c w (feed b) ≡ Goes d → IsBegun c

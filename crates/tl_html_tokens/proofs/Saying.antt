@@ -10,7 +10,7 @@ use Rattle.tl_html_spec.proofs.Cutting.{bytes_joined}
 use Rattle.tl_html_spec.proofs.Resting.{settled_at_once}
 use Rattle.tl_html_tokens.specs.Comments.{data_of}
 use Rattle.tl_html_tokens.specs.Fronts.{pieces_at}
-use Rattle.tl_html_tokens.specs.Kinds.{IsComment, IsKind}
+use Rattle.tl_html_tokens.specs.Kinds.{IsComment, IsDoctype, IsKind}
 use Rattle.tl_html_tokens.specs.Inner.Machine as M
 use Rattle.tl_html_tokens.specs.Modes.{state_of}
 use Rattle.tl_html_tokens.specs.Inner.Stages.{kind_at_end}
@@ -23,7 +23,7 @@ use Rattle.tl_html_tokens.specs.declared.stage.Stage.{Stage}
 use Rattle.tl_html_tokens.specs.declared.stage.Stage.TheVariants as stage
 use Rattle.tl_html_tokens.specs.declared.stage.Turn.{Turn}
 use Rattle.tl_html_tokens.specs.declared.stage.Turn.TheVariants.{Goes, Ends}
-use Rattle.tl_html_tokens.proofs.Content.{BeginsLess, Content, IsClass, IsText, Kept, Passes, Says, class_plain, class_same, has_references, no_special, one_text, said, said_plain}
+use Rattle.tl_html_tokens.proofs.Content.{BeginsDoctype, BeginsLess, Content, IsClass, IsText, Kept, Passes, Says, class_plain, class_same, doctype_less, has_references, no_special, one_text, said, said_plain}
 use Rattle.tl_html_tokens.proofs.Ending.{end_kind}
 use Rattle.tl_html_tokens.proofs.Fed.{IsFed, fed_before, fed_more, fed_one, fed_passed, fed_whole}
 use Rattle.tl_html_tokens.proofs.Joining.{kind_is}
@@ -79,11 +79,13 @@ first_said mode.Data b =
     (λ k. pick mode.Data b (b == 60) _ _ _ _ (λ y. (class_same mode.Data, ap (λ d. d ∷ []) (eqb-true b 60 y))) (λ _. alone mode.Data b T.data_state k))
 first_said mode.Title b = in_rcdata mode.Title (codes "title") b refl refl
 first_said mode.Textarea b = in_rcdata mode.Textarea (codes "textarea") b refl refl
+first_said mode.ContextText b = in_rcdata mode.ContextText [] b refl refl
 first_said mode.Style b = in_rawtext mode.Style (codes "style") b refl refl
 first_said mode.Xmp b = in_rawtext mode.Xmp (codes "xmp") b refl refl
 first_said mode.Iframe b = in_rawtext mode.Iframe (codes "iframe") b refl refl
 first_said mode.Noembed b = in_rawtext mode.Noembed (codes "noembed") b refl refl
 first_said mode.Noframes b = in_rawtext mode.Noframes (codes "noframes") b refl refl
+first_said mode.Noscript b = in_rawtext mode.Noscript (codes "noscript") b refl refl
 first_said mode.Script b =
     pick mode.Script b (b == 60) _ _ _ _ (less mode.Script b mode.Script T.script_data (class_same mode.Script))
     (λ _. raw_alone mode.Script b (T.raw T.script_data) mode.Script (char_of b) refl refl refl)
@@ -115,6 +117,7 @@ pub record IsPiece (m : Mode) (p : Piece) : Type 0 where
   pub rest : p.rest ≡ state_of m
   pub text : are_characters p.tokens ≡ true → IsText m (with_feeds p.bytes) p.tokens
   pub comment : IsComment p.tokens → p.tokens ≡ CommentToken (data_of (with_feeds p.bytes)) ∷ []
+  pub doctype : IsDoctype p.tokens → BeginsDoctype (with_feeds p.bytes)
   pub less : are_characters p.tokens ≡ false → BeginsLess (with_feeds p.bytes)
 
 -- bytes between which no line feed is passed over
@@ -158,41 +161,65 @@ no_comment _ (CommentToken d ∷ t ∷ ts) h f i = i
 pub chars_no_comment : (ts : List HtmlToken) → are_characters ts ≡ true → IsComment ts → ⊥
 chars_no_comment ts h i = no_comment kind.Text ts h (λ f. cc) i
 
+no_doctype : (k : TokenKind) (ts : List HtmlToken) → IsKind k ts → (k ≡ kind.Doctype → ⊥) → IsDoctype ts → ⊥
+no_doctype kind.Doctype ts h f i = f refl
+no_doctype kind.Text (T.DoctypeToken ∷ []) h f i = true≢false (sym h)
+no_doctype kind.StartTag (T.DoctypeToken ∷ []) h f i = h
+no_doctype kind.EndTag (T.DoctypeToken ∷ []) h f i = h
+no_doctype kind.Comment (T.DoctypeToken ∷ []) h f i = h
+no_doctype kind.Nothing (T.DoctypeToken ∷ []) h f i = let no : T.DoctypeToken ∷ [] ≡ [] = h in cc
+no_doctype kind.Text [] h f i = i
+no_doctype kind.StartTag [] h f i = i
+no_doctype kind.EndTag [] h f i = i
+no_doctype kind.Comment [] h f i = i
+no_doctype kind.Nothing [] h f i = i
+no_doctype _ (Character c ∷ ts) h f i = i
+no_doctype _ (T.StartTag n a c ∷ ts) h f i = i
+no_doctype _ (T.EndTag n ∷ ts) h f i = i
+no_doctype _ (CommentToken d ∷ ts) h f i = i
+no_doctype _ (T.DoctypeToken ∷ t ∷ ts) h f i = i
+
 piece_by : (m : Mode) (k : TokenKind) (bytes z : List ℕ) (ts : List HtmlToken) → IsKind k ts → Says m k z ts → with_feeds bytes ≡ z → IsPiece m (piece (state_of m) bytes ts)
 piece_by m kind.Text bytes z ts i h e = record {
   rest = refl;
   text = λ _. subst (λ x. IsText m x ts) (sym e) h;
   comment = λ c. absurd (no_comment kind.Text ts i (λ f. cc) c);
+  doctype = λ d. absurd (no_doctype kind.Text ts i (λ f. cc) d);
   less = λ n. absurd (true≢false (sym i ∙ n));
 }
 piece_by m kind.Comment bytes z ts i h e = record {
   rest = refl;
   text = λ y. absurd (true≢false (sym y ∙ kind_is kind.Comment ts i));
   comment = λ _. h.0 ∙ ap (λ x. CommentToken (data_of x) ∷ []) (sym e);
+  doctype = λ d. absurd (no_doctype kind.Comment ts i (λ f. cc) d);
   less = λ _. subst BeginsLess (sym e) h.1;
 }
 piece_by m kind.StartTag bytes z ts i h e = record {
   rest = refl;
   text = λ y. absurd (true≢false (sym y ∙ kind_is kind.StartTag ts i));
   comment = λ c. absurd (no_comment kind.StartTag ts i (λ f. cc) c);
+  doctype = λ d. absurd (no_doctype kind.StartTag ts i (λ f. cc) d);
   less = λ _. subst BeginsLess (sym e) h;
 }
 piece_by m kind.EndTag bytes z ts i h e = record {
   rest = refl;
   text = λ y. absurd (true≢false (sym y ∙ kind_is kind.EndTag ts i));
   comment = λ c. absurd (no_comment kind.EndTag ts i (λ f. cc) c);
+  doctype = λ d. absurd (no_doctype kind.EndTag ts i (λ f. cc) d);
   less = λ _. subst BeginsLess (sym e) h;
 }
 piece_by m kind.Doctype bytes z ts i h e = record {
   rest = refl;
   text = λ y. absurd (true≢false (sym y ∙ kind_is kind.Doctype ts i));
   comment = λ c. absurd (no_comment kind.Doctype ts i (λ f. cc) c);
-  less = λ _. subst BeginsLess (sym e) h;
+  doctype = λ _. subst BeginsDoctype (sym e) h;
+  less = λ _. subst BeginsLess (sym e) (doctype_less z h);
 }
 piece_by m kind.Nothing bytes z ts i h e = record {
   rest = refl;
   text = λ y. absurd (true≢false (sym y ∙ kind_is kind.Nothing ts i));
   comment = λ c. absurd (no_comment kind.Nothing ts i (λ f. cc) c);
+  doctype = λ d. absurd (no_doctype kind.Nothing ts i (λ f. cc) d);
   less = λ _. subst BeginsLess (sym e) h;
 }
 

@@ -1,5 +1,5 @@
 -- CDATA sections: the driver takes their characters.
-use Rattle.std.proofs.Common.{◌≡◌, ◌<◌, ◌≤◌, ℕ, suc, ◌+◌, ◌-◌, Bool, true, false, ◌==◌, ◌&&◌, List, [], ◌∷◌, ◌++◌, codes, drop, drop-drop, get_or, length, take, refl, ap, ap₂, sym, subst, ◌∙◌, inl, inr, true≢false, arith, if◌then◌else◌}
+use Rattle.std.proofs.Common.{◌≡◌, ◌<◌, ◌≤◌, ℕ, suc, ◌+◌, ◌-◌, Bool, true, false, ◌==◌, ◌&&◌, List, [], ◌∷◌, ◌++◌, codes, drop, drop-drop, get_or, length, length-drop, take, refl, ap, ap₂, sym, subst, ◌∙◌, inl, inr, true≢false, arith, if◌then◌else◌}
 use Rattle.std.specs.Prelude.{⊤}
 use Rattle.std.specs.List.{starts_with}
 use Rattle.std.proofs.lemmas.List.{drop_all, drop_more}
@@ -67,14 +67,14 @@ module _ {M : Type 0} (d : Driver M) where
 
   -- its first bytes
 
-  stepped : (m : M) (s t : DrivenState) (c : ℕ) (u : List ℕ) → driven_step (d.is_foreign m) s c ≡ going t [] → driven d m s (c ∷ u) ≡ driven d m t u
+  pub stepped : (m : M) (s t : DrivenState) (c : ℕ) (u : List ℕ) → driven_step (d.is_foreign m) s c ≡ going t [] → driven d m s (c ∷ u) ≡ driven d m t u
   stepped m s t c u e = ap (λ (x : DrivenStep). driven d (taken d m x.emits) (state_after d (taken d m x.emits) x) u) e
 
-  less_goes : (f : Bool) → driven_step f (in_state T.data_state) 60 ≡ going (in_state T.tag_open) []
+  pub less_goes : (f : Bool) → driven_step f (in_state T.data_state) 60 ≡ going (in_state T.tag_open) []
   less_goes true = refl
   less_goes false = refl
 
-  bang_goes : (f : Bool) → driven_step f (in_state T.tag_open) 33 ≡ going (in_state (T.markup_declaration_open [])) []
+  pub bang_goes : (f : Bool) → driven_step f (in_state T.tag_open) 33 ≡ going (in_state (T.markup_declaration_open [])) []
   bang_goes true = refl
   bang_goes false = refl
 
@@ -107,13 +107,13 @@ fed_starts (x ∷ p) h (c ∷ t) = ap (λ s. starts_with ◌==◌ s (x ∷ p)) (
 ]
 
 -- a line feed after a carriage return is passed over
-abbrev fed : Bool → List ℕ → List ℕ
+abbrev pub fed : Bool → List ℕ → List ℕ
 fed v s = with_feeds (without_feed v s)
 
-fed_more : (c : ℕ) (t : List ℕ) (v : Bool) → (v && (c == 10)) ≡ false → fed v (c ∷ t) ≡ feed c ∷ fed (c == 13) t
+pub fed_more : (c : ℕ) (t : List ℕ) (v : Bool) → (v && (c == 10)) ≡ false → fed v (c ∷ t) ≡ feed c ∷ fed (c == 13) t
 fed_more c t v n = ap (λ (w : Bool). with_feeds (if w then t else c ∷ t)) n ∙ feeds_cons c t
 
-fed_passed : (c : ℕ) (t : List ℕ) (v : Bool) → (v && (c == 10)) ≡ true → fed v (c ∷ t) ≡ fed false t
+pub fed_passed : (c : ℕ) (t : List ℕ) (v : Bool) → (v && (c == 10)) ≡ true → fed v (c ∷ t) ≡ fed false t
 fed_passed c t v y = ap (λ (w : Bool). with_feeds (if w then t else c ∷ t)) y ∙ ap with_feeds (sym (all_stays t))
 
 fed_ends : (c : ℕ) (t : List ℕ) → ends_section (feed c ∷ fed (c == 13) t) ≡ ends_section (c ∷ t)
@@ -211,6 +211,31 @@ section_driven d m page start section h f =
     ∙ sym (ap (λ s. After d m s) whole)
     ∙ ap₂ (λ s t. driven d (taken d m (characters s)) (in_state T.data_state) t) (x.text ∙ ap with_feeds (all_stays (take (section_len u) u))) x.past
     ∙ sym (ap₂ (λ s t. driven d (taken d m (characters (with_feeds s))) (in_state T.data_state) (with_feeds t)) text past)
+
+-- its places
+
+len_past : (t : List ℕ) → (section_len t ≤ section_past t) × (section_past t ≤ length t)
+len_past [] = (omega arith, omega arith)
+len_past (c ∷ t) = elim (cases_Bool (ends_section (c ∷ t))) [
+  | inl y ↦ (
+      let q = three c t y in
+      let long = ap length q.1 in
+      let len : section_len (c ∷ t) ≡ 0 = ap (λ (w : Bool). if w then 0 else suc (section_len t)) y in
+      let past : section_past (c ∷ t) ≡ 3 = ap (λ (w : Bool). if w then 3 else suc (section_past t)) y in
+      (omega arith, omega arith))
+  | inr n ↦ (
+      let more = len_past t in
+      let len : section_len (c ∷ t) ≡ suc (section_len t) = ap (λ (w : Bool). if w then 0 else suc (section_len t)) n in
+      let past : section_past (c ∷ t) ≡ suc (section_past t) = ap (λ (w : Bool). if w then 3 else suc (section_past t)) n in
+      (omega (arith, more.0), omega (arith, more.1)))
+]
+
+pub section_within : (page : List ℕ) (from text_end end : ℕ) → from ≤ length page → text_end ≡ from + section_len (drop from page) → end ≡ from + section_past (drop from page) →
+    (text_end ≤ end) × (end ≤ length page)
+section_within page from text_end end h e f =
+    let whole = length-drop from page in
+    let k = len_past (drop from page) in
+    (omega (arith, k.0), omega (arith, k.1))
 
 -- byte by byte
 

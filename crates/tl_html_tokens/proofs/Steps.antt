@@ -1,9 +1,9 @@
 -- What a byte does at a stage is what it does in the state.
 use Rattle.std.proofs.Common.{◌≡◌, ℕ, zero, suc, Bool, true, false, not, ◌==◌, ◌&&◌, ◌||◌, List, [], ◌∷◌, ◌++◌, drop, map, codes, refl, ap, ap₂, sym, subst, ◌∙◌, inl, inr, true≢false, arith, append-nil, append_assoc, if◌then◌else◌}
-use Rattle.std.specs.Prelude.{⊤, ◌+◌, ◌*◌}
+use Rattle.std.specs.Prelude.{⊤, ◌+◌, ◌*◌, IfSome, Option, Some}
 use Rattle.std.specs.Char.{is_ascii_alphabetic, is_ascii_alphanumeric, is_ascii_digit, is_ascii_hexdigit, to_ascii_lowercase}
 use Rattle.std.specs.List.{list_all, list_any, starts_with}
-use Rattle.std.specs.Str.{bytes_eq}
+use Rattle.std.specs.Str.{bytes_eq, str_eq_ignore_ascii_case}
 use Rattle.std.proofs.lemmas.Bool.{and_parts, cases_Bool, cond_both, eqb-true}
 use Rattle.std.proofs.lemmas.Slice.Eq.{bytes_eq-Decides}
 use Rattle.tl_html_spec.specs.References.{named_value, number_value}
@@ -14,7 +14,7 @@ use Rattle.tl_html_spec.specs.Reader.{is_at_rest}
 use Rattle.tl_html_spec.specs.Sound.{IsSome}
 use Rattle.tl_html_tokens.specs.Kinds.{IsKind}
 use Rattle.tl_html_tokens.specs.Inner.Machine as M
-use Rattle.tl_html_tokens.specs.Modes.{letters, mode_after, own_name, state_of}
+use Rattle.tl_html_tokens.specs.Modes.{letters, mode_after, mode_inside, own_name, rawtext_mode, rcdata_mode, state_of}
 use Rattle.tl_html_tokens.specs.Inner.Stages.{has_word}
 use Rattle.tl_html_tokens.specs.declared.mode.Mode.{Mode}
 use Rattle.tl_html_tokens.specs.declared.mode.Mode.TheVariants as mode
@@ -36,11 +36,13 @@ use Rattle.tl_html_tokens.proofs.Nonempty.{named_value_some, number_value_some}
 abbrev pub raw_of : Mode → Raw
 raw_of mode.Title = T.rcdata (codes "title")
 raw_of mode.Textarea = T.rcdata (codes "textarea")
+raw_of mode.ContextText = T.rcdata []
 raw_of mode.Style = T.rawtext (codes "style")
 raw_of mode.Xmp = T.rawtext (codes "xmp")
 raw_of mode.Iframe = T.rawtext (codes "iframe")
 raw_of mode.Noembed = T.rawtext (codes "noembed")
 raw_of mode.Noframes = T.rawtext (codes "noframes")
+raw_of mode.Noscript = T.rawtext (codes "noscript")
 raw_of mode.Script = T.script_data
 raw_of mode.ScriptEscaped = T.script_data_escaped
 raw_of mode.ScriptEscapedDash = T.script_data_escaped_dash
@@ -73,7 +75,7 @@ IsPlace (place.Value q tag) s = (open_tag : OpenTag) × (key : List ℕ) × (val
 abbrev pub IsStage : List ℕ → Stage → State → List HtmlToken → Type 0
 IsStage w (stage.Whole k m) s ts = (s ≡ state_of m) × IsKind k ts
 IsStage w (stage.Reference p) s ts = (r : State) × IsPlace p r × (s ≡ T.character_reference r) × (ts ≡ [])
-IsStage w (stage.NamedReference p) s ts = (r : State) × (buffer : List ℕ) × IsPlace p r × (s ≡ T.named_character_reference r buffer) × (ts ≡ [])
+IsStage w (stage.NamedReference p) s ts = (r : State) × (buffer : List ℕ) × IsSome buffer × IsPlace p r × (s ≡ T.named_character_reference r buffer) × (ts ≡ [])
 IsStage w (stage.NumericReference p) s ts = (r : State) × IsPlace p r × (s ≡ T.numeric_character_reference r) × (ts ≡ [])
 IsStage w (stage.HexadecimalStart p) s ts = (r : State) × (x : ℕ) × IsPlace p r × (s ≡ T.hexadecimal_start r x) × (ts ≡ [])
 IsStage w (stage.DecimalStart p) s ts = (r : State) × IsPlace p r × (s ≡ T.decimal_start r) × (ts ≡ [])
@@ -129,11 +131,13 @@ pub rests : (m : Mode) → is_at_rest (state_of m) ≡ true
 rests mode.Data = refl
 rests mode.Title = refl
 rests mode.Textarea = refl
+rests mode.ContextText = refl
 rests mode.Style = refl
 rests mode.Xmp = refl
 rests mode.Iframe = refl
 rests mode.Noembed = refl
 rests mode.Noframes = refl
+rests mode.Noscript = refl
 rests mode.Script = refl
 rests mode.ScriptEscaped = refl
 rests mode.ScriptEscapedDash = refl
@@ -144,11 +148,13 @@ pub flushed_text : (m : Mode) (bytes : List ℕ) (v : Bool) → T.flushed (state
 flushed_text mode.Data bytes v = refl
 flushed_text mode.Title bytes v = refl
 flushed_text mode.Textarea bytes v = refl
+flushed_text mode.ContextText bytes v = refl
 flushed_text mode.Style bytes v = refl
 flushed_text mode.Xmp bytes v = refl
 flushed_text mode.Iframe bytes v = refl
 flushed_text mode.Noembed bytes v = refl
 flushed_text mode.Noframes bytes v = refl
+flushed_text mode.Noscript bytes v = refl
 flushed_text mode.Script bytes v = refl
 flushed_text mode.ScriptEscaped bytes v = refl
 flushed_text mode.ScriptEscapedDash bytes v = refl
@@ -159,11 +165,13 @@ pub own_is : (m : Mode) → T.own_name (raw_of m) ≡ own_name m
 own_is mode.Data = refl
 own_is mode.Title = refl
 own_is mode.Textarea = refl
+own_is mode.ContextText = refl
 own_is mode.Style = refl
 own_is mode.Xmp = refl
 own_is mode.Iframe = refl
 own_is mode.Noembed = refl
 own_is mode.Noframes = refl
+own_is mode.Noscript = refl
 own_is mode.Script = refl
 own_is mode.ScriptEscaped = refl
 own_is mode.ScriptEscapedDash = refl
@@ -283,6 +291,48 @@ after_start_is w =
     (same_mode _ _ mode.Noframes _ _ (name_is w (codes "noframes") refl)
     (same_mode _ _ mode.Script _ _ (name_is w (codes "script") refl)
     (same_mode _ _ mode.Plaintext _ _ (name_is w (codes "plaintext") refl) refl)))))))))
+
+-- in an element whose text is raw
+pub inside_is : (w : List ℕ) → (if bytes_eq (codes "noscript") (letters w) then T.raw (T.rawtext (letters w)) else T.after_start (letters w)) ≡ state_of (mode_inside w)
+unfolding is_letter
+inside_is w =
+    let name : List ℕ = codes "noscript" in
+    let same : bytes_eq (letters w) name ≡ str_eq_ignore_ascii_case w name = name_is w name refl in
+    elim (cases_Bool (bytes_eq (letters w) name)) [
+      | inl y ↦ (
+          let e = equal (letters w) name y in
+          ap (λ (v : List ℕ). if bytes_eq name v then T.raw (T.rawtext v) else T.after_start v) e
+          ∙ sym (ap (λ (v : Bool). state_of (if v then mode.Noscript else mode_after w)) (sym same ∙ y)))
+      | inr n ↦ (
+          let off : bytes_eq name (letters w) ≡ false = elim (cases_Bool (bytes_eq name (letters w))) [
+            | inl y ↦ absurd (true≢false (sym (ap (λ v. bytes_eq v name) (sym (equal name (letters w) y))) ∙ n))
+            | inr o ↦ o
+          ] in
+          ap (λ (v : Bool). if v then T.raw (T.rawtext (letters w)) else T.after_start (letters w)) off ∙ after_start_is w
+          ∙ sym (ap (λ (v : Bool). state_of (if v then mode.Noscript else mode_after w)) (sym same ∙ n)))
+    ]
+
+-- by a name that is known
+
+named_mode : (name word : List ℕ) (m : Mode) (r : List ℕ → Raw) (o : Option Mode) → state_of m ≡ T.raw (r word) → IfSome o (λ k. state_of k ≡ T.raw (r name)) →
+    IfSome (if bytes_eq name word then Some m else o) (λ k. state_of k ≡ T.raw (r name))
+named_mode name word m r o e h =
+    cond_both (bytes_eq name word) (Some m) o (λ (x : Option Mode). IfSome x (λ k. state_of k ≡ T.raw (r name))) (λ y. e ∙ ap (λ v. T.raw (r v)) (sym (equal name word y))) (λ _. h)
+
+pub rcdata_state : (name : List ℕ) → IfSome (rcdata_mode name) (λ k. state_of k ≡ T.raw (T.rcdata name))
+rcdata_state name =
+    named_mode name (codes "title") mode.Title T.rcdata _ refl
+    (named_mode name (codes "textarea") mode.Textarea T.rcdata _ refl
+    (named_mode name [] mode.ContextText T.rcdata _ refl tt))
+
+pub rawtext_state : (name : List ℕ) → IfSome (rawtext_mode name) (λ k. state_of k ≡ T.raw (T.rawtext name))
+rawtext_state name =
+    named_mode name (codes "style") mode.Style T.rawtext _ refl
+    (named_mode name (codes "xmp") mode.Xmp T.rawtext _ refl
+    (named_mode name (codes "iframe") mode.Iframe T.rawtext _ refl
+    (named_mode name (codes "noembed") mode.Noembed T.rawtext _ refl
+    (named_mode name (codes "noframes") mode.Noframes T.rawtext _ refl
+    (named_mode name (codes "noscript") mode.Noscript T.rawtext _ refl tt)))))
 
 -- steps
 
@@ -447,13 +497,17 @@ module _ (b : ℕ) (w : List ℕ) where
     | inr m ↦ rw m (flush_again n p r bytes h k)
   ]
 
+  some_more : (buffer : List ℕ) → IsSome (buffer ++ b ∷ [])
+  some_more [] = tt
+  some_more (c ∷ buffer) = tt
+
   named_letter : (n : ℕ) (p : Place) (r : State) (buffer : List ℕ) → IsPlace p r → is_ascii_alphanumeric b ≡ true →
       Met n [] (step (T.named_character_reference r buffer) b) (Goes (stage.NamedReference p))
-  named_letter n p r buffer h l = rw l (to n (T.named_character_reference r (buffer ++ b ∷ [])) (stage.NamedReference p) (r, buffer ++ b ∷ [], h, refl, refl))
+  named_letter n p r buffer h l = rw l (to n (T.named_character_reference r (buffer ++ b ∷ [])) (stage.NamedReference p) (r, buffer ++ b ∷ [], some_more buffer, h, refl, refl))
 
   named : (n : ℕ) (p : Place) (r : State) (buffer : List ℕ) → IsPlace p r → Met (suc n) [] (step (T.named_character_reference r buffer) b) (M.named_reference p b)
   named n p r buffer h =
-      pick (suc n) [] (is_ascii_alphanumeric b) _ _ _ _ (λ _. to (suc n) _ (stage.NamedReference p) (r, buffer ++ b ∷ [], h, refl, refl))
+      pick (suc n) [] (is_ascii_alphanumeric b) _ _ _ _ (λ _. to (suc n) _ (stage.NamedReference p) (r, buffer ++ b ∷ [], some_more buffer, h, refl, refl))
       (λ _. pick (suc n) [] (b == 59) _ _ _ _
       (λ _. flush (suc n) p r (named_value (T.is_value r) (buffer ++ b ∷ []) []) h (named_value_some (T.is_value r) (buffer ++ b ∷ []) []))
       (λ _. flush_again n p r (named_value (T.is_value r) buffer (b ∷ [])) h (named_value_some (T.is_value r) buffer (b ∷ []))))
@@ -607,11 +661,13 @@ module _ (b : ℕ) (w : List ℕ) where
       pick (suc n) [] (is_ascii_alphabetic b) _ _ _ _ (λ l. new_double n (map Character (codes "<")) e refl l) (λ _. (refl, refl))
   after_less n mode.Title e h = (refl, refl)
   after_less n mode.Textarea e h = (refl, refl)
+  after_less n mode.ContextText e h = (refl, refl)
   after_less n mode.Style e h = (refl, refl)
   after_less n mode.Xmp e h = (refl, refl)
   after_less n mode.Iframe e h = (refl, refl)
   after_less n mode.Noembed e h = (refl, refl)
   after_less n mode.Noframes e h = (refl, refl)
+  after_less n mode.Noscript e h = (refl, refl)
   after_less n mode.ScriptEscapedDash e h = (refl, refl)
   after_less n mode.ScriptEscapedDashDash e h = (refl, refl)
   after_less n mode.Data e h = cc
@@ -793,7 +849,7 @@ module _ (b : ℕ) (w : List ℕ) where
   pub met : (c : Stage) (s : State) (ts : List HtmlToken) → IsStage w c s ts → IsBegun c → Met 2 ts (step s b) (M.turn c w b)
   met (stage.Whole k m) s ts h g = absurd g
   met (stage.Reference p) s ts (r, h, e, t) g = moved s _ ts _ e t (reference 1 p r h)
-  met (stage.NamedReference p) s ts (r, buffer, h, e, t) g = moved s _ ts _ e t (named 1 p r buffer h)
+  met (stage.NamedReference p) s ts (r, buffer, some, h, e, t) g = moved s _ ts _ e t (named 1 p r buffer h)
   met (stage.NumericReference p) s ts (r, h, e, t) g = moved s _ ts _ e t (numeric 0 p r h)
   met (stage.HexadecimalStart p) s ts (r, x, h, e, t) g = moved s _ ts _ e t (hexadecimal_start 1 p r x h)
   met (stage.DecimalStart p) s ts (r, h, e, t) g = moved s _ ts _ e t (decimal_start 1 p r h)

@@ -28,11 +28,13 @@ characters_by : (m : Mode) (bytes : List ℕ) → characters_of m bytes ≡ by_s
 characters_by mode.Data bytes = refl
 characters_by mode.Title bytes = refl
 characters_by mode.Textarea bytes = refl
+characters_by mode.ContextText bytes = refl
 characters_by mode.Style bytes = refl
 characters_by mode.Xmp bytes = refl
 characters_by mode.Iframe bytes = refl
 characters_by mode.Noembed bytes = refl
 characters_by mode.Noframes bytes = refl
+characters_by mode.Noscript bytes = refl
 characters_by mode.Script bytes = refl
 characters_by mode.ScriptEscaped bytes = refl
 characters_by mode.ScriptEscapedDash bytes = refl

@@ -68,6 +68,7 @@ unfolding in_rcdata
 text_read mode.Data r t h e k = text_before t r k e
 text_read mode.Title r t h e k = R.read false less_or_nul (in_rcdata (codes "title")) r e [] t k
 text_read mode.Textarea r t h e k = R.read false less_or_nul (in_rcdata (codes "textarea")) r e [] t k
+text_read mode.ContextText r t h e k = R.read false less_or_nul (in_rcdata []) r e [] t k
 text_read _ r t h e k = absurd (true≢false (sym h))
 
 nul-IsEnd : IsEnd 0
@@ -101,6 +102,7 @@ said_ordinary : (m : Mode) (b : ℕ) → has_references m ≡ true → is_ordina
 said_ordinary mode.Data b r h = refl
 said_ordinary mode.Title b r h = let p = or_parts (b == 60) (b == 0) (not-true (is_special mode.Title b) h) in rw p.1 refl
 said_ordinary mode.Textarea b r h = let p = or_parts (b == 60) (b == 0) (not-true (is_special mode.Textarea b) h) in rw p.1 refl
+said_ordinary mode.ContextText b r h = let p = or_parts (b == 60) (b == 0) (not-true (is_special mode.ContextText b) h) in rw p.1 refl
 said_ordinary _ b r h = absurd (true≢false (sym r))
 
 literal_ordinary : (m : Mode) (z : List ℕ) → has_references m ≡ true → list_all (is_ordinary m) z ≡ true → literal m z ≡ z
@@ -150,11 +152,13 @@ special_cut : (m : Mode) (q : ℕ) → is_special m q ≡ true → Cut m q
 special_cut mode.Data q h = subst (Cut mode.Data) (sym (eqb-true q 60 h)) (less_cut mode.Data refl)
 special_cut mode.Title q h = by_special mode.Title q (Cut mode.Title) (less_cut mode.Title refl) (nul_cut mode.Title refl) h
 special_cut mode.Textarea q h = by_special mode.Textarea q (Cut mode.Textarea) (less_cut mode.Textarea refl) (nul_cut mode.Textarea refl) h
+special_cut mode.ContextText q h = by_special mode.ContextText q (Cut mode.ContextText) (less_cut mode.ContextText refl) (nul_cut mode.ContextText refl) h
 special_cut mode.Style q h = by_special mode.Style q (Cut mode.Style) (less_cut mode.Style refl) (nul_cut mode.Style refl) h
 special_cut mode.Xmp q h = by_special mode.Xmp q (Cut mode.Xmp) (less_cut mode.Xmp refl) (nul_cut mode.Xmp refl) h
 special_cut mode.Iframe q h = by_special mode.Iframe q (Cut mode.Iframe) (less_cut mode.Iframe refl) (nul_cut mode.Iframe refl) h
 special_cut mode.Noembed q h = by_special mode.Noembed q (Cut mode.Noembed) (less_cut mode.Noembed refl) (nul_cut mode.Noembed refl) h
 special_cut mode.Noframes q h = by_special mode.Noframes q (Cut mode.Noframes) (less_cut mode.Noframes refl) (nul_cut mode.Noframes refl) h
+special_cut mode.Noscript q h = by_special mode.Noscript q (Cut mode.Noscript) (less_cut mode.Noscript refl) (nul_cut mode.Noscript refl) h
 special_cut mode.Script q h = by_special mode.Script q (Cut mode.Script) (less_cut mode.Script refl) (nul_cut mode.Script refl) h
 special_cut mode.ScriptEscaped q h = by_special mode.ScriptEscaped q (Cut mode.ScriptEscaped) (less_cut mode.ScriptEscaped refl) (nul_cut mode.ScriptEscaped refl) h
 special_cut mode.ScriptEscapedDash q h = by_special mode.ScriptEscapedDash q (Cut mode.ScriptEscapedDash) (less_cut mode.ScriptEscapedDash refl) (nul_cut mode.ScriptEscapedDash refl) h
@@ -388,10 +392,12 @@ run_text m p ps h y = elim (cases_Bool (has_references m)) [
     referring mode.Data bytes r = ap unescaped_text (single (with_feeds bytes))
     referring mode.Title bytes r = refl
     referring mode.Textarea bytes r = refl
+    referring mode.ContextText bytes r = refl
     referring _ bytes r = absurd (true≢false (sym r))
 
     plain : (m : Mode) (bytes : List ℕ) → has_references m ≡ false → literal m (with_feeds bytes) ≡ characters_of m bytes
     plain mode.Data bytes r = absurd (true≢false r)
     plain mode.Title bytes r = absurd (true≢false r)
     plain mode.Textarea bytes r = absurd (true≢false r)
+    plain mode.ContextText bytes r = absurd (true≢false r)
     plain _ bytes r = refl

@@ -194,11 +194,13 @@ module _ (m : Mode) (b : ℕ) where
   after_less mode.Data c k = λ es e. less_passes mode.Data es c (less_rest mode.Data es (state_of mode.Data) e (rw k refl))
   after_less mode.Title c k = λ es e. less_passes mode.Title es c (less_rest mode.Title es (state_of mode.Title) e (rw k refl))
   after_less mode.Textarea c k = λ es e. less_passes mode.Textarea es c (less_rest mode.Textarea es (state_of mode.Textarea) e (rw k refl))
+  after_less mode.ContextText c k = λ es e. less_passes mode.ContextText es c (less_rest mode.ContextText es (state_of mode.ContextText) e (rw k refl))
   after_less mode.Style c k = λ es e. less_passes mode.Style es c (less_rest mode.Style es (state_of mode.Style) e (rw k refl))
   after_less mode.Xmp c k = λ es e. less_passes mode.Xmp es c (less_rest mode.Xmp es (state_of mode.Xmp) e (rw k refl))
   after_less mode.Iframe c k = λ es e. less_passes mode.Iframe es c (less_rest mode.Iframe es (state_of mode.Iframe) e (rw k refl))
   after_less mode.Noembed c k = λ es e. less_passes mode.Noembed es c (less_rest mode.Noembed es (state_of mode.Noembed) e (rw k refl))
   after_less mode.Noframes c k = λ es e. less_passes mode.Noframes es c (less_rest mode.Noframes es (state_of mode.Noframes) e (rw k refl))
+  after_less mode.Noscript c k = λ es e. less_passes mode.Noscript es c (less_rest mode.Noscript es (state_of mode.Noscript) e (rw k refl))
   after_less mode.ScriptEscapedDash c k = λ es e. less_passes mode.ScriptEscapedDash es c (less_rest mode.ScriptEscapedDash es (state_of mode.ScriptEscapedDash) e (rw k refl))
   after_less mode.ScriptEscapedDashDash c k = λ es e. less_passes mode.ScriptEscapedDashDash es c (less_rest mode.ScriptEscapedDashDash es (state_of mode.ScriptEscapedDashDash) e (rw k refl))
   after_less mode.Plaintext c k = λ es e. less_passes mode.Plaintext es c (less_rest mode.Plaintext es (state_of mode.Plaintext) e (rw k refl))
@@ -214,7 +216,7 @@ module _ (m : Mode) (b : ℕ) where
       (same_rest m (rest_within 2 (T.raw_end_tag_open (raw_of n)) b) (state_of n) (T.raw (raw_of n)) es (map Character (codes "</")) e (rw a refl)))
 
   -- what was withheld of a name that is not the text's own
-  name_emits : (r : Raw) (v : List ℕ) (rest : Rest) → rest_within 2 (T.raw_end_tag_name r v) b ≡ Some rest → rest.emits ≡ map Character (codes "</" ++ v)
+  pub name_emits : (r : Raw) (v : List ℕ) (rest : Rest) → rest_within 2 (T.raw_end_tag_name r v) b ≡ Some rest → rest.emits ≡ map Character (codes "</" ++ v)
   name_emits r v rest e = elim (cases_Bool (is_white_space b && is_appropriate r v)) [
     | inl y ↦ (let never : None ≡ Some rest = rw y at e in cc)
     | inr x ↦ elim (cases_Bool ((b == 47) && is_appropriate r v)) [

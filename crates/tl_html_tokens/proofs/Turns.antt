@@ -20,7 +20,7 @@ module _ (b : ℕ) (w : List ℕ) where
   Turned n ts s (Goes c) = (rest_within n s b ≡ None) × IsStage (next_word c w b) c (settled (suc n) (step s b) b).next (ts ++ (settled (suc n) (step s b) b).emits)
   Turned n ts s (Ends k m) = (es : List HtmlToken) × (rest_within n s b ≡ Some (record { state = state_of m; emits = es })) × IsKind k (ts ++ es)
 
-  rest_none : (n : ℕ) (s : State) → is_at_rest s ≡ false → (step s b).again ≡ false → rest_within n s b ≡ None
+  pub rest_none : (n : ℕ) (s : State) → is_at_rest s ≡ false → (step s b).again ≡ false → rest_within n s b ≡ None
   rest_none zero s f g = rw f refl
   rest_none (suc n) s f g = rw (f, g) refl
 

@@ -1,7 +1,7 @@
 -- What stands in front of a page, as any driver of the tokenizer reads it.
-use Rattle.std.specs.Prelude.{◌≡◌, ℕ, Bool, true, false, List, codes, drop, map, ◌==◌, if◌then◌else◌}
+use Rattle.std.specs.Prelude.{◌≡◌, ℕ, Bool, true, false, List, codes, drop, map, ◌&&◌, ◌==◌, if◌then◌else◌}
 use Rattle.std.specs.List.{starts_with}
-use Rattle.tl_html_spec.specs.HtmlTokenizer.{HtmlToken, State, with_feeds}
+use Rattle.tl_html_spec.specs.HtmlTokenizer.{HtmlToken, State, data_state, with_feeds}
 use Rattle.tl_html_spec.specs.Driven.{Driver, Emission, bare, driven, in_state, taken}
 use Rattle.tl_html_tokens.specs.Modes.{state_of}
 use Rattle.tl_html_tokens.specs.declared.front.Front.{Front}
@@ -12,6 +12,15 @@ use Rattle.tl_html_tokens.specs.declared.stage.TokenKind.TheVariants as kind
 -- what begins a CDATA section where the driver says that it is foreign
 abbrev pub begins_section : List ℕ → Bool
 begins_section text = starts_with ◌==◌ text (codes "<![CDATA[")
+
+abbrev pub is_data : State → Bool
+is_data data_state = true
+is_data _ = false
+
+-- whether one begins there, which is read in markup alone
+abbrev pub opens_section : {M : Type 0} → Driver M → M → List ℕ → ℕ → Mode → Bool
+opens_section d memory page start mode =
+    is_data (state_of mode) && (d.is_foreign memory && begins_section (drop start page))
 
 abbrev pub is_start : TokenKind → Bool
 is_start kind.StartTag = true

@@ -24,5 +24,8 @@ pub record IsFront (page : List ℕ) (start : ℕ) (mode : Mode) (front : Front)
   pub read : runs (pieces_at (state_of mode) (drop start page))
       ≡ with_piece (piece (state_of mode) (take (front.end - start) (drop start page)) tokens)
       (runs (pieces_at (state_of front.mode) (drop front.end page)))
+  -- the bytes by themselves are it too
+  pub alone : runs (pieces_at (state_of mode) (take (front.end - start) (drop start page)))
+      ≡ piece (state_of mode) (take (front.end - start) (drop start page)) tokens ∷ []
   pub stands : StandsFor (state_of mode) (take (front.end - start) (drop start page))
       (drop front.end page) (state_of front.mode) tokens

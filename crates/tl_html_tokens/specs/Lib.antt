@@ -7,6 +7,8 @@ pub mod Sections
 pub mod Tokens
 pub mod Characters
 pub mod Comments
+pub mod Doctypes
 pub mod Said
 pub mod Whole
+pub mod Emits
 pub mod Inner

@@ -72,12 +72,17 @@ pub(crate) fn first(mode: Mode, byte: u8) -> Stage
 {
     match mode {
         Mode::Data => in_data(byte),
-        Mode::Title | Mode::Textarea => in_rcdata(mode, byte),
+        Mode::Title | Mode::Textarea | Mode::ContextText => in_rcdata(mode, byte),
         Mode::ScriptEscaped => in_escaped(Mode::ScriptEscapedDash, byte),
         Mode::ScriptEscapedDash => in_escaped(Mode::ScriptEscapedDashDash, byte),
         Mode::ScriptEscapedDashDash => after_dashes(byte),
         Mode::Plaintext => whole_text(mode),
-        Mode::Style | Mode::Xmp | Mode::Iframe | Mode::Noembed | Mode::Noframes | Mode::Script =>
-            in_rawtext(mode, byte),
+        Mode::Style
+        | Mode::Xmp
+        | Mode::Iframe
+        | Mode::Noembed
+        | Mode::Noframes
+        | Mode::Noscript
+        | Mode::Script => in_rawtext(mode, byte),
     }
 }

@@ -27,7 +27,7 @@ mod turn;
 
 pub use front::{Front, next_token};
 pub use mode::Mode;
-pub use page::tokens;
+pub use page::{mark_len, tokens};
 pub use section::{Section, next_section};
 pub use stage::TokenKind;
 pub use token::Token;

@@ -1,5 +1,6 @@
 //! The tokens of a page.
-ghost use Rattle.std.specs.Prelude.{◌≡◌, ◌≤◌, length, IfOk};
+ghost use Rattle.std.specs.Prelude.{◌≡◌, ◌≤◌, drop, length, IfOk};
+ghost use Rattle.tl_html_spec.specs.HtmlTokenizer.{without_mark};
 ghost use Rattle.tl_html_tokens.specs.Tokens.{AreSideBySide, AreTokensOf, mark_len};
 
 use crate::front::next_front;
@@ -7,10 +8,12 @@ use crate::mode::Mode;
 use crate::token::{Token, join};
 use std::alloc::{AllocError, Global};
 
-// How many bytes a byte order mark takes.
-fn mark_len(page: &[u8]) -> usize
+/// How many bytes a byte order mark takes: behind it the first token of a page stands.
+#[tactic(auto, using(crate::proofs::Joining::mark_is))]
+pub fn mark_len(page: &[u8]) -> usize
     ensures bytes { result ≡ mark_len page.now }
     ensures within { result ≤ length page.now }
+    ensures rest { without_mark page.now ≡ drop result page.now }
 {
     if page.starts_with(b"\xEF\xBB\xBF") {
         3

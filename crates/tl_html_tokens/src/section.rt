@@ -34,7 +34,7 @@ fn section_from(page: &[u8], from: usize) -> Section
 
 ghost use Rattle.std.specs.Prelude.{IfSome, None, false};
 ghost use Rattle.tl_html_tokens.specs.Driving.{begins_section};
-ghost use Rattle.tl_html_tokens.specs.Sections.{IsSection};
+ghost use Rattle.tl_html_tokens.specs.Sections.{IsSection, begin_len};
 
 /// The CDATA section that stands at a place, where tree construction says that it is foreign
 /// (13.2.5.69 to .71): none where no `<![CDATA[` stands there.
@@ -43,6 +43,9 @@ ghost use Rattle.tl_html_tokens.specs.Sections.{IsSection};
 /// (`laws::sections_are_driven`).
 pub fn next_section(page: &[u8], start: usize) -> Option<Section>
     ensures section { IfSome result (λ section. IsSection page.now start section) }
+    ensures begin { IfSome result (λ section. start + begin_len ≤ section.text_end) }
+    ensures order { IfSome result (λ section. section.text_end ≤ section.end) }
+    ensures within { IfSome result (λ section. section.end ≤ length page.now) }
     ensures none { result ≡ None → begins_section (drop start page.now) ≡ false }
 {
     if start >= page.len() || !page[start..].starts_with(b"<![CDATA[") {

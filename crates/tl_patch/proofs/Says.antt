@@ -79,18 +79,21 @@ mode_from n =
     else if n == 3 then mode.Style else if n == 4 then mode.Xmp else if n == 5 then mode.Iframe
     else if n == 6 then mode.Noembed else if n == 7 then mode.Noframes else if n == 8 then mode.Script
     else if n == 9 then mode.ScriptEscaped else if n == 10 then mode.ScriptEscapedDash
-    else if n == 11 then mode.ScriptEscapedDashDash else mode.Plaintext
+    else if n == 11 then mode.ScriptEscapedDashDash else if n == 12 then mode.Plaintext
+    else if n == 13 then mode.Noscript else mode.ContextText
 
 mode_back : (m : Mode) → mode_from (mode_number m) ≡ m
 unfolding mode_from
 mode_back mode.Data = refl
 mode_back mode.Title = refl
 mode_back mode.Textarea = refl
+mode_back mode.ContextText = refl
 mode_back mode.Style = refl
 mode_back mode.Xmp = refl
 mode_back mode.Iframe = refl
 mode_back mode.Noembed = refl
 mode_back mode.Noframes = refl
+mode_back mode.Noscript = refl
 mode_back mode.Script = refl
 mode_back mode.ScriptEscaped = refl
 mode_back mode.ScriptEscapedDash = refl

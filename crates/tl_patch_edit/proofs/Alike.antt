@@ -22,27 +22,30 @@ use Rattle.tl_patch_edit.proofs.Said.{same_tells}
 
 state_number : State → ℕ
 state_number data_state = 0
-state_number (raw (rcdata name)) = if bytes_eq name (codes "title") then 1 else 2
+state_number (raw (rcdata name)) = if bytes_eq name (codes "title") then 1 else if bytes_eq name (codes "textarea") then 2 else 14
 state_number (raw (rawtext name)) =
     if bytes_eq name (codes "style") then 3 else if bytes_eq name (codes "xmp") then 4
-    else if bytes_eq name (codes "iframe") then 5 else if bytes_eq name (codes "noembed") then 6 else 7
+    else if bytes_eq name (codes "iframe") then 5 else if bytes_eq name (codes "noembed") then 6
+    else if bytes_eq name (codes "noframes") then 7 else 13
 state_number (raw script_data) = 8
 state_number (raw script_data_escaped) = 9
 state_number (raw script_data_escaped_dash) = 10
 state_number (raw script_data_escaped_dash_dash) = 11
 state_number plaintext = 12
-state_number _ = 13
+state_number _ = 15
 
 number_is : (m : Mode) → state_number (state_of m) ≡ mode_number m
 unfolding state_number
 number_is mode.Data = refl
 number_is mode.Title = refl
 number_is mode.Textarea = refl
+number_is mode.ContextText = refl
 number_is mode.Style = refl
 number_is mode.Xmp = refl
 number_is mode.Iframe = refl
 number_is mode.Noembed = refl
 number_is mode.Noframes = refl
+number_is mode.Noscript = refl
 number_is mode.Script = refl
 number_is mode.ScriptEscaped = refl
 number_is mode.ScriptEscapedDash = refl

@@ -79,11 +79,13 @@ pub data_same : (m : Mode) → is_data_state (state_of m) ≡ is_data m
 data_same mode.Data = refl
 data_same mode.Title = refl
 data_same mode.Textarea = refl
+data_same mode.ContextText = refl
 data_same mode.Style = refl
 data_same mode.Xmp = refl
 data_same mode.Iframe = refl
 data_same mode.Noembed = refl
 data_same mode.Noframes = refl
+data_same mode.Noscript = refl
 data_same mode.Script = refl
 data_same mode.ScriptEscaped = refl
 data_same mode.ScriptEscapedDash = refl
@@ -322,11 +324,13 @@ text_goes mode.Data (b ∷ t) n =
     ∙ sym (ap (λ (v : Bool). v && is_apart (text_markup (b ∷ t)) n) (some_characters b t))
 text_goes mode.Title t n = sym (and_none (are_characters (map Character t)))
 text_goes mode.Textarea t n = sym (and_none (are_characters (map Character t)))
+text_goes mode.ContextText t n = sym (and_none (are_characters (map Character t)))
 text_goes mode.Style t n = sym (and_none (are_characters (map Character t)))
 text_goes mode.Xmp t n = sym (and_none (are_characters (map Character t)))
 text_goes mode.Iframe t n = sym (and_none (are_characters (map Character t)))
 text_goes mode.Noembed t n = sym (and_none (are_characters (map Character t)))
 text_goes mode.Noframes t n = sym (and_none (are_characters (map Character t)))
+text_goes mode.Noscript t n = sym (and_none (are_characters (map Character t)))
 text_goes mode.Script t n = sym (and_none (are_characters (map Character t)))
 text_goes mode.ScriptEscaped t n = sym (and_none (are_characters (map Character t)))
 text_goes mode.ScriptEscapedDash t n = sym (and_none (are_characters (map Character t)))

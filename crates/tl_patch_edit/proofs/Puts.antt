@@ -28,11 +28,13 @@ unfolding text_pieces
 form_is mode.Data t = refl
 form_is mode.Title t = refl
 form_is mode.Textarea t = refl
+form_is mode.ContextText t = refl
 form_is mode.Style t = refl
 form_is mode.Xmp t = refl
 form_is mode.Iframe t = refl
 form_is mode.Noembed t = refl
 form_is mode.Noframes t = refl
+form_is mode.Noscript t = refl
 form_is mode.Script t = refl
 form_is mode.ScriptEscaped t = refl
 form_is mode.ScriptEscapedDash t = refl
@@ -67,11 +69,13 @@ data_is : (m : Mode) → is_data m ≡ true → state_of m ≡ data_state
 data_is mode.Data e = refl
 data_is mode.Title e = cc
 data_is mode.Textarea e = cc
+data_is mode.ContextText e = cc
 data_is mode.Style e = cc
 data_is mode.Xmp e = cc
 data_is mode.Iframe e = cc
 data_is mode.Noembed e = cc
 data_is mode.Noframes e = cc
+data_is mode.Noscript e = cc
 data_is mode.Script e = cc
 data_is mode.ScriptEscaped e = cc
 data_is mode.ScriptEscapedDash e = cc

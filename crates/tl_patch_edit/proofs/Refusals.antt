@@ -245,11 +245,13 @@ markup_nowhere : (m : Mode) (markup : List ℕ) → is_data m ≡ false → cont
 markup_nowhere mode.Data markup h = cc
 markup_nowhere mode.Title markup h = refl
 markup_nowhere mode.Textarea markup h = refl
+markup_nowhere mode.ContextText markup h = refl
 markup_nowhere mode.Style markup h = refl
 markup_nowhere mode.Xmp markup h = refl
 markup_nowhere mode.Iframe markup h = refl
 markup_nowhere mode.Noembed markup h = refl
 markup_nowhere mode.Noframes markup h = refl
+markup_nowhere mode.Noscript markup h = refl
 markup_nowhere mode.Script markup h = refl
 markup_nowhere mode.ScriptEscaped markup h = refl
 markup_nowhere mode.ScriptEscapedDash markup h = refl

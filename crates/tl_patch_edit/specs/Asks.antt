@@ -64,6 +64,7 @@ abbrev pub text_form : Mode → List ℕ → List ℕ
 text_form mode.Data text = text_markup text
 text_form mode.Title text = text_markup text
 text_form mode.Textarea text = text_markup text
+text_form mode.ContextText text = text_markup text
 text_form _ text = text
 
 -- parts are what is put before a piece, or in its place

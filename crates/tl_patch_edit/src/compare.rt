@@ -41,6 +41,8 @@ fn mode_number(mode: Mode) -> u8
         Mode::ScriptEscapedDash => 10,
         Mode::ScriptEscapedDashDash => 11,
         Mode::Plaintext => 12,
+        Mode::Noscript => 13,
+        Mode::ContextText => 14,
     }
 }
 

@@ -31,6 +31,7 @@ fn text_form<'p>(mode: Mode, text: &'p [u8], escaped: &'p [u8]) -> &'p [u8]
         Mode::Data => escaped,
         Mode::Title => escaped,
         Mode::Textarea => escaped,
+        Mode::ContextText => escaped,
         _ => text,
     }
 }

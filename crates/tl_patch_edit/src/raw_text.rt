@@ -121,7 +121,10 @@ fn unsure_with(first: usize, asks: &[PlacedAsk<'_>]) -> usize
 fn is_unescaped(mode: Mode) -> bool
     ensures { result ≡ is_unescaped (state_of mode) }
 {
-    !matches!(mode, Mode::Data | Mode::Title | Mode::Textarea)
+    !matches!(
+        mode,
+        Mode::Data | Mode::Title | Mode::Textarea | Mode::ContextText
+    )
 }
 
 // Whether a text that isn't escaped may be read as markup.

@@ -3,9 +3,9 @@ use Rattle.std.proofs.Common.{ap, sym, ◌∙◌, ◌≡◌, ◌&&◌, Bool, fal
 use Rattle.std.proofs.lemmas.Bool.{and_from}
 use Rattle.std.specs.Option.{option_map}
 use Rattle.tl_html_spec.specs.Doctypes.{Doctyping, is_bogus, is_cut, quirks_forced}
+use Rattle.tl_html_tokens.specs.Doctypes.{doctype_at}
 use Rattle.tl_tree.proofs.Grown.{bytes-grown, grows_trans}
 use Rattle.tl_tree.proofs.SaidTags.{span-kept}
-use Rattle.tl_tree.specs.Inner.Doctyping.{doctype_at}
 use Rattle.tl_tree.specs.Inner.Store.{Grows, bytes_of, doctype_of, is_doctype, is_span}
 use Rattle.tl_tree.specs.Inner.Within.{id_is_within}
 use Rattle.tl_tree.specs.declared.entries.DoctypeEntry.{DoctypeEntry}

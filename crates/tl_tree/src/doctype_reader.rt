@@ -3,7 +3,8 @@ ghost use Rattle.std.specs.Prelude.{IfOk, List, OnOk, Some, [], false, ℕ, ◌=
 ghost use Rattle.std.specs.Char.{to_ascii_lowercase};
 ghost use Rattle.tl_html_spec.specs.Doctypes.{doctype_step, gone_bogus, in_name, is_cut, keyword_read, name_end, no_doctype, or_empty, public_opened, public_quoted, public_start, system_opened, system_quoted, system_start, with_name};
 ghost use Rattle.tl_html_spec.specs.HtmlTokenizer.{char_of, is_white_space, with_feeds};
-ghost use Rattle.tl_tree.specs.Inner.Doctyping.{doctype_at, doctype_from, doctyping_of, id_of, part_of, without_feed};
+ghost use Rattle.tl_html_tokens.specs.Doctypes.{doctype_at, doctype_from};
+ghost use Rattle.tl_tree.specs.Inner.Doctyping.{doctyping_of, id_of, part_of, without_feed};
 
 use std::alloc::{AllocError, Global};
 

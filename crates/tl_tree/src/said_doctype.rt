@@ -1,14 +1,15 @@
 //! What a doctype says, put into a store.
 ghost use Rattle.std.specs.Option.{option_map};
 ghost use Rattle.std.specs.Prelude.{IfOk, IsTrue, drop, length, ◌≡◌, ◌≤◌};
-ghost use Rattle.tl_tree.specs.Inner.Doctyping.{doctype_at, doctype_said, doctyping_of, id_of};
+ghost use Rattle.tl_html_tokens.specs.Doctypes.{doctype_at, doctype_said};
+ghost use Rattle.tl_tree.specs.Inner.Doctyping.{doctyping_of, id_of};
 ghost use Rattle.tl_tree.specs.Inner.Said.{piece_at};
 ghost use Rattle.tl_tree.specs.Inner.Store.{Grows, bytes_of, doctype_of, is_doctype};
 ghost use Rattle.tl_tree.specs.Inner.Within.{id_is_within};
 
 use crate::doctype_reader::{DoctypeReader, Identifier};
 use crate::entries::DoctypeEntry;
-use crate::error::ReadError;
+use crate::error::GrowError;
 use crate::said_bytes::put_bytes;
 use crate::said_places::after_quote;
 use crate::span::Span;
@@ -29,7 +30,7 @@ fn put_identifier(
     store: &mut Store<'_>,
     identifier: &Identifier,
     place: usize,
-) -> Result<Option<Span>, ReadError>
+) -> Result<Option<Span>, GrowError>
     ensures stands { IfOk result (λ id. option_map (bytes_of store.new) id ≡ id_of identifier.now) }
     ensures within { IfOk result (λ id. IsTrue
         (id_is_within (length store.new.page.now) (length store.new.side.items) id)) }
@@ -59,7 +60,7 @@ fn put_doctype(
     is_whole: bool,
     start: usize,
     places: (usize, usize),
-) -> Result<DoctypeEntry, ReadError>
+) -> Result<DoctypeEntry, GrowError>
     ensures stands { IfOk result (λ entry.
         doctype_of store.new entry ≡ doctype_at is_whole (doctyping_of reader.now)) }
     ensures within { IfOk result (λ entry. IsTrue (is_doctype store.new entry)) }
@@ -85,7 +86,7 @@ pub(crate) fn doctype(
     alloc: Global,
     start: usize,
     end: usize,
-) -> Result<DoctypeEntry, ReadError>
+) -> Result<DoctypeEntry, GrowError>
     requires order { start ≤ end }
     requires within { end ≤ length store.old.page.now }
     ensures doctype { IfOk result (λ entry. doctype_of store.new entry

@@ -340,6 +340,7 @@ abbrev pub first : Mode → ℕ → Stage
 first mode.Data b = in_data b
 first mode.Title b = in_rcdata mode.Title b
 first mode.Textarea b = in_rcdata mode.Textarea b
+first mode.ContextText b = in_rcdata mode.ContextText b
 first mode.ScriptEscaped b = in_escaped mode.ScriptEscapedDash b
 first mode.ScriptEscapedDash b = in_escaped mode.ScriptEscapedDashDash b
 first mode.ScriptEscapedDashDash b = after_dashes b

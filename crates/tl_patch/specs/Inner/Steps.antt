@@ -41,6 +41,8 @@ mode_number mode.ScriptEscaped = 9
 mode_number mode.ScriptEscapedDash = 10
 mode_number mode.ScriptEscapedDashDash = 11
 mode_number mode.Plaintext = 12
+mode_number mode.Noscript = 13
+mode_number mode.ContextText = 14
 
 -- changes of attributes alone
 abbrev pub AreOfAttributes : List TagChange → Type 0

@@ -1,7 +1,6 @@
 -- A doctype that is being read, in words of `tl_html_spec`.
-use Rattle.std.specs.Prelude.{Bool, List, None, Option, Some, [], drop, false, if◌then◌else◌, true, ℕ, ◌&&◌, ◌==◌, ◌∷◌}
-use Rattle.tl_html_spec.specs.Doctypes.{Doctype, Doctyping, Part, bogus_rest, doctype_cut, doctype_ended, doctype_step, in_name, name_end, name_start, no_doctype, public_end, public_quoted, public_start, system_end, system_quoted, system_start}
-use Rattle.tl_html_spec.specs.HtmlTokenizer.{with_feeds}
+use Rattle.std.specs.Prelude.{Bool, List, None, Option, Some, [], if◌then◌else◌, ℕ, ◌&&◌, ◌==◌, ◌∷◌}
+use Rattle.tl_html_spec.specs.Doctypes.{Doctyping, Part, bogus_rest, in_name, name_end, name_start, public_end, public_quoted, public_start, system_end, system_quoted, system_start}
 use Rattle.tl_tree.specs.declared.doctype_reader.DoctypePart.{DoctypePart}
 use Rattle.tl_tree.specs.declared.doctype_reader.DoctypePart.TheVariants as part
 use Rattle.tl_tree.specs.declared.doctype_reader.DoctypeReader.{DoctypeReader}
@@ -34,22 +33,7 @@ doctyping_of r = record {
   };
 }
 
--- a doctype that ends at its `>`, or with the page
-abbrev pub doctype_at : Bool → Doctyping → Doctype
-doctype_at true d = doctype_ended d
-doctype_at false d = doctype_cut d
-
--- what a doctype says, by what stands after what was read of it
-abbrev pub doctype_from : Doctyping → List ℕ → Doctype
-doctype_from d [] = doctype_at false d
-doctype_from d (c ∷ text) =
-    if c == 62 then doctype_at true d else doctype_from (doctype_step d.part d c) text
-
 -- a line feed after a carriage return is none
 abbrev pub without_feed : Bool → List ℕ → List ℕ
 without_feed after_return [] = []
 without_feed after_return (c ∷ text) = if after_return && (c == 10) then text else c ∷ text
-
--- what the bytes of a doctype say, which begin with `<!doctype`
-abbrev pub doctype_said : List ℕ → Doctype
-doctype_said bytes = doctype_from no_doctype (with_feeds (drop 9 bytes))

@@ -1,6 +1,7 @@
 use Rattle.std.proofs.Common.{◌≡◌, drop}
 use Rattle.tl_html_spec.specs.HtmlTokenizer.{with_feeds}
-use Rattle.tl_tree.specs.Inner.Doctyping.{doctype_from, doctyping_of, without_feed}
+use Rattle.tl_html_tokens.specs.Doctypes.{doctype_from}
+use Rattle.tl_tree.specs.Inner.Doctyping.{doctyping_of, without_feed}
 use Rattle.tl_tree.proofs.doctype_reader.DoctypeReader.read.Given as goal
 
 abbrev pub invariant-loop-byte : goal.invariant-loop-byte
