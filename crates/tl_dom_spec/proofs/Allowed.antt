@@ -1,5 +1,5 @@
 -- What tokens allow of trees, as parameters: of this each rule of tree construction makes its trees. And nodes of which all is allowed.
-use Rattle.std.proofs.Common.{◌≡◌, ℕ, Bool, true, false, List, [], ◌∷◌, ◌++◌, ◌⊎◌, codes, refl, inl, inr, Option, Some, None}
+use Rattle.std.proofs.Common.{◌≡◌, ◌≤◌, ℕ, Bool, true, false, List, [], ◌∷◌, ◌++◌, ◌⊎◌, codes, refl, inl, inr, Option, Some, None}
 use Rattle.std.specs.Prelude.{⊤}
 use Rattle.std.proofs.lemmas.Bool.{cond_both}
 use Rattle.tl_html_spec.specs.HtmlTokenizer.{State, data_state, replacement}
@@ -33,11 +33,16 @@ pub record Allowed : Type 1 where
   pub Around : Tag → Type 0
   -- whether scripting is on
   pub Scripts : Bool → Type 0
+  -- by how many the elements that were put in may be more than four for each token
+  pub Exceeds : ℕ → Type 0
   -- whether each tag stands in the group of its name, so that none of a table or a template is listed as active
   pub Grouped : Type 0
+  -- whether it is asked of texts that none is empty, and none stands right beside another one
+  pub Whole : Type 0
   pub stands : (t : Tag) → Opens t → Stands t
   pub headed : (t : Tag) → is_any (codes "head") t ≡ true → Stands t → Opens t
   pub adds : (t : Tag) (more : List Attribute) → Opens t → Adds more → Opens (with_more more t)
+  pub grows : (n m : ℕ) → n ≤ m → Exceeds n → Exceeds m
   -- elements that the standard puts in
   pub html : Opens (bare_tag (codes "html"))
   pub head : Opens (bare_tag (codes "head"))
@@ -64,22 +69,22 @@ each_append P (b ∷ w) v h k = (h.0, each_append P w v h.1 k)
 
 module _ (R : Allowed) where
   abbrev pub IsText : List ℕ → Type 0
-  IsText bytes = IsSome bytes × Each R.Says bytes
+  IsText bytes = (R.Whole → IsSome bytes) × Each R.Says bytes
 
   abbrev pub Good : Nodes → Type 0
   Good no_nodes = ⊤
-  Good (and_text nodes bytes) = IsText bytes × (ends_with_text nodes ≡ false) × Good nodes
+  Good (and_text nodes bytes) = IsText bytes × (R.Whole → ends_with_text nodes ≡ false) × Good nodes
   Good (and_comment nodes bytes) = R.Notes bytes × Good nodes
   Good (and_doctype nodes own) = R.Types own × Good nodes
   Good (and_element nodes tag children) = ((R.Opens tag × Good children) ⊎ (R.Stands tag × (children ≡ no_nodes))) × Good nodes
 
   with_text-Good : (nodes : Nodes) (bytes : List ℕ) → Good nodes → IsText bytes → Good (with_text nodes bytes)
-  with_text-Good no_nodes bytes g h = (h, refl, tt)
+  with_text-Good no_nodes bytes g h = (h, (λ _. refl), tt)
   with_text-Good (and_text nodes own) bytes g h =
-      ((some_append own bytes g.0.0, each_append R.Says own bytes g.0.1 h.1), g.1, g.2)
-  with_text-Good (and_comment nodes own) bytes g h = (h, refl, g)
-  with_text-Good (and_doctype nodes own) bytes g h = (h, refl, g)
-  with_text-Good (and_element nodes tag children) bytes g h = (h, refl, g)
+      ((λ w. some_append own bytes (g.0.0 w), each_append R.Says own bytes g.0.1 h.1), g.1, g.2)
+  with_text-Good (and_comment nodes own) bytes g h = (h, (λ _. refl), g)
+  with_text-Good (and_doctype nodes own) bytes g h = (h, (λ _. refl), g)
+  with_text-Good (and_element nodes tag children) bytes g h = (h, (λ _. refl), g)
 
   pub joined-Good : (nodes more : Nodes) → Good nodes → Good more → Good (joined nodes more)
   joined-Good nodes no_nodes g h = g
@@ -109,7 +114,7 @@ module _ (R : Allowed) where
 
   pub at_head-Good : (nodes new : Nodes) → Good nodes → Good new → Good (at_head nodes new)
   at_head-Good no_nodes new g h = tt
-  at_head-Good (and_text nodes bytes) new g h = (g.0, at_head-ends nodes new g.1, at_head-Good nodes new g.2 h)
+  at_head-Good (and_text nodes bytes) new g h = (g.0, (λ w. at_head-ends nodes new (g.1 w)), at_head-Good nodes new g.2 h)
   at_head-Good (and_comment nodes bytes) new g h = (g.0, at_head-Good nodes new g.1 h)
   at_head-Good (and_doctype nodes own) new g h = (g.0, at_head-Good nodes new g.1 h)
   at_head-Good (and_element nodes tag children) new g h =

@@ -61,10 +61,10 @@ grouped_emissions (doctype_of own ∷ emissions) = (tt, grouped_emissions emissi
 
 pub page_done : (flags : Flags) (emissions : List Emission) (token : Token) → IsDoneWith (tokens_done (page_start flags) (map emitted_token emissions)) token
 page_done flags emissions token =
-    let held = tokens-Holds grouped (page_start flags) (map emitted_token emissions) (grouped_emissions emissions) (page_start-Holds grouped flags tt) in
+    let held = tokens-Holds grouped (page_start flags) (map emitted_token emissions) (grouped_emissions emissions) (page_start-Holds grouped flags tt tt) in
     bound_suffices token (tokens_done (page_start flags) (map emitted_token emissions)) (held.1 tt)
 
 pub fragment_done : (flags : Flags) (context : Context) (emissions : List Emission) (token : Token) → IsDoneWith (tokens_done (fragment_start flags context) (map emitted_token emissions)) token
 fragment_done flags context emissions token =
-    let held = tokens-Holds grouped (fragment_start flags context) (map emitted_token emissions) (grouped_emissions emissions) (fragment_start-Holds grouped flags context tt tt) in
+    let held = tokens-Holds grouped (fragment_start flags context) (map emitted_token emissions) (grouped_emissions emissions) (fragment_start-Holds grouped flags context tt tt tt) in
     bound_suffices token (tokens_done (fragment_start flags context) (map emitted_token emissions)) (held.1 tt)

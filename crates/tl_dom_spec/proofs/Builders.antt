@@ -11,11 +11,14 @@ use Rattle.tl_dom_spec.specs.Reset.{close_template, reset_insertion_mode, templa
 use Rattle.tl_dom_spec.proofs.Allowed.{Allowed, Each, IfSome, IsText, alone-Good}
 use Rattle.tl_dom_spec.proofs.Paths.{Frames, implied_closed-Frames, more-Frames, popped-Frames, popped_through-Frames, popped_to-Frames, popped_while-Frames, pushed_at-Frames, put-Frames}
 
--- what drives the tokenizer, beside the path: the state that is set, the context element, and whether scripting is on
-pub record Drives (Reads : State → Type 0) (Around : Tag → Type 0) (Scripts : Bool → Type 0) (reads : State) (context : Option Tag) (is_scripting : Bool) : Type 0 where
+-- beside the path and what waits for it: what drives the tokenizer, which is the state that is set, the context element, and whether
+-- scripting is on; and by how many the elements were too many
+pub record Drives (Reads : State → Type 0) (Around : Tag → Type 0) (Scripts : Bool → Type 0) (Exceeds : ℕ → Type 0)
+    (reads : State) (context : Option Tag) (is_scripting : Bool) (number : ℕ) : Type 0 where
   pub state : Reads reads
   pub around : IfSome Around context
   pub scripts : Scripts is_scripting
+  pub excess : Exceeds number
 
 module _ (R : Allowed) where
   abbrev pub Entered : Entry → Type 0
@@ -26,7 +29,7 @@ module _ (R : Allowed) where
   Entries entries = Each Entered entries
 
   abbrev pub Holds : Builder → Type 0
-  Holds b = Frames R b.path × Entries b.active × Each R.Says b.pending × Drives R.Reads R.Around R.Scripts b.reads b.context b.flags.is_scripting
+  Holds b = Frames R b.path × Entries b.active × Each R.Says b.pending × Drives R.Reads R.Around R.Scripts R.Exceeds b.reads b.context b.flags.is_scripting b.excess
 
   abbrev pub HoldsAfter : Outcome → Type 0
   HoldsAfter (Done b) = Holds b
@@ -95,10 +98,10 @@ module _ (R : Allowed) where
   alone-Holds tag b s h = alone_at-Holds (appropriate_place b) tag b s h
 
   pub bytes-Holds : (bytes : List ℕ) (b : Builder) → IsText R bytes → Holds b → Holds (insert_bytes bytes b)
-  bytes-Holds bytes b t h = (put-Frames R (appropriate_place b) (and_text no_nodes bytes) b.path (t, refl, tt) h.0, h.1, h.2, h.3)
+  bytes-Holds bytes b t h = (put-Frames R (appropriate_place b) (and_text no_nodes bytes) b.path (t, (λ _. refl), tt) h.0, h.1, h.2, h.3)
 
   pub character-Holds : (c : ℕ) (b : Builder) → R.Says c → Holds b → Holds (insert_character c b)
-  character-Holds c b s h = bytes-Holds (c ∷ []) b (tt, (s, tt)) h
+  character-Holds c b s h = bytes-Holds (c ∷ []) b ((λ _. tt), (s, tt)) h
 
   pub comment_at-Holds : (place : Place) (bytes : List ℕ) (b : Builder) → R.Notes bytes → Holds b → Holds (insert_comment_at place bytes b)
   comment_at-Holds place bytes b n h = (put-Frames R place (and_comment no_nodes bytes) b.path (n, tt) h.0, h.1, h.2, h.3)
@@ -110,7 +113,7 @@ module _ (R : Allowed) where
   attributes-Holds k more b a h = (more-Frames R k more b.path a h.0, h.1, h.2, h.3)
 
   pub raw_text_at-Holds : (place : Place) (tag : Tag) (b : Builder) → R.Opens tag → R.Reads (state_inside tag.name) → Holds b → Holds (parse_raw_text_at place tag b)
-  raw_text_at-Holds place tag b o r h = let put = insert_at-Holds place tag b o h in (put.0, put.1, put.2, record { state = r; around = h.3.around; scripts = h.3.scripts })
+  raw_text_at-Holds place tag b o r h = let put = insert_at-Holds place tag b o h in (put.0, put.1, put.2, record { state = r; around = h.3.around; scripts = h.3.scripts; excess = h.3.excess })
 
   pub raw_text-Holds : (tag : Tag) (b : Builder) → R.Opens tag → R.Reads (state_inside tag.name) → Holds b → Holds (parse_raw_text tag b)
   raw_text-Holds tag b o r h = raw_text_at-Holds (appropriate_place b) tag b o r h

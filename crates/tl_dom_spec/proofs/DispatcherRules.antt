@@ -1,5 +1,5 @@
 -- The dispatcher, foreign content and tokens: what holds of a builder holds after each token, and at the start.
-use Rattle.std.proofs.Common.{Bool, List, None, Option, Some, [], ap, codes, false, if◌then◌else◌, inl, inr, not, refl, suc, sym, true, true≢false, ℕ, ◌&&◌, ◌==◌, ◌||◌, ◌∷◌, ◌≡◌, ◌⊎◌}
+use Rattle.std.proofs.Common.{Bool, List, None, Option, Some, [], ap, codes, arith, false, if◌then◌else◌, inl, inr, ltb-true, not, refl, suc, sym, true, true≢false, ℕ, ◌&&◌, ◌==◌, ◌||◌, ◌∷◌, ◌≡◌, ◌⊎◌}
 use Rattle.std.specs.Prelude.{nat_lt}
 use Rattle.std.specs.Char.{is_ascii_whitespace}
 use Rattle.std.proofs.lemmas.Bool.{cond_both}
@@ -16,7 +16,7 @@ use Rattle.tl_dom_spec.proofs.Allowed.{Allowed, Each, IfSome}
 use Rattle.tl_dom_spec.proofs.Paths.{Frames, top-opens}
 use Rattle.tl_dom_spec.specs.Lawful.{is_text_mode}
 use Rattle.tl_dom_spec.proofs.Steady.{fragment-steady, page-steady}
-use Rattle.tl_dom_spec.proofs.Kept.{Holds, HoldsAfter, bytes-Holds, character-Holds, comment-Holds, either, either-after, popped_through-Holds, popped_to-Holds, reads-Holds, repeated-Holds}
+use Rattle.tl_dom_spec.proofs.Kept.{Holds, HoldsAfter, bytes-Holds, character-Holds, comment-Holds, either, either-after, excess-Holds, popped_through-Holds, popped_to-Holds, reads-Holds, repeated-Holds}
 use Rattle.tl_dom_spec.proofs.HeadRules.{Allows, Starts, after_head_step-Holds, before_head_step-Holds, before_html_step-Holds, in_head_noscript_step-Holds, in_head_step-Holds, initial_step-Holds, text_step-Holds}
 use Rattle.tl_dom_spec.proofs.BodyRules.{foreign-Holds, in_body_step-Holds}
 use Rattle.tl_dom_spec.proofs.TableRules.{in_caption_step-Holds, in_cell_step-Holds, in_column_group_step-Holds, in_row_step-Holds, in_table_body_step-Holds, in_table_step-Holds, in_table_text_step-Holds}
@@ -56,7 +56,7 @@ broken_out-Holds R b h = popped_to-Holds R is_html_place b h
 foreign_character-Holds : (R : Allowed) (c : ℕ) (b : Builder) → R.Says c → Holds R b → Holds R (foreign_character c b)
 foreign_character-Holds R c b k h =
     either R (c == 0) (insert_bytes replacement b) (if is_ascii_whitespace c then insert_character c b else frameset_not_ok (insert_character c b))
-    (bytes-Holds R replacement b (tt, R.replaced) h)
+    (bytes-Holds R replacement b ((λ _. tt), R.replaced) h)
     (either R (is_ascii_whitespace c) (insert_character c b) (frameset_not_ok (insert_character c b)) (character-Holds R c b k h) (character-Holds R c b k h))
 
 -- a foreign element that is the adjusted current node was opened, or is the context element
@@ -136,7 +136,9 @@ calm-Holds R b h = reads-Holds R data_state b R.data_read h
 count-Holds : (R : Allowed) (b : Builder) → Holds R b → Holds R (count_token b)
 count-Holds R b h =
     let taken : Builder = record b { tokens = suc b.tokens } in
-    either R (nat_lt taken.excess (excess_of taken)) (record taken { excess = excess_of taken }) taken h h
+    cond_both (nat_lt taken.excess (excess_of taken)) (record taken { excess = excess_of taken }) taken (Holds R)
+    (λ e. excess-Holds R (excess_of taken) taken (R.grows b.excess (excess_of taken) (omega (arith, ltb-true b.excess (excess_of taken) e)) h.0.3.excess) h)
+    (λ _. h)
 
 pub token-Holds : (R : Allowed) (b : Builder) (token : Token) → Allows R token → Holds R b → Holds R (token_done b token)
 token-Holds R b token k h =
@@ -155,10 +157,10 @@ tokens-Holds R b (token ∷ tokens) k h = tokens-Holds R (token_done b token) to
 document-Frames : (R : Allowed) → Frames R (document ∷ [])
 document-Frames R = ((tt, tt), ((λ e. absurd (true≢false (sym e))), inr refl), tt)
 
-pub page_start-Holds : (R : Allowed) (flags : Flags) → R.Scripts flags.is_scripting → Holds R (page_start flags)
-page_start-Holds R flags s =
-    ((document-Frames R, tt, tt, record { state = R.data_read; around = tt; scripts = s }), λ _. page-steady flags)
+pub page_start-Holds : (R : Allowed) (flags : Flags) → R.Scripts flags.is_scripting → R.Exceeds 0 → Holds R (page_start flags)
+page_start-Holds R flags s x =
+    ((document-Frames R, tt, tt, record { state = R.data_read; around = tt; scripts = s; excess = x }), λ _. page-steady flags)
 
-pub fragment_start-Holds : (R : Allowed) (flags : Flags) (context : Context) → R.Scripts flags.is_scripting → R.Around context.tag → Holds R (fragment_start flags context)
-fragment_start-Holds R flags context s a =
-    ((((tt, tt), R.html, document-Frames R), tt, tt, record { state = R.data_read; around = a; scripts = s }), λ _. fragment-steady flags context)
+pub fragment_start-Holds : (R : Allowed) (flags : Flags) (context : Context) → R.Scripts flags.is_scripting → R.Exceeds 0 → R.Around context.tag → Holds R (fragment_start flags context)
+fragment_start-Holds R flags context s x a =
+    ((((tt, tt), R.html, document-Frames R), tt, tt, record { state = R.data_read; around = a; scripts = s; excess = x }), λ _. fragment-steady flags context)

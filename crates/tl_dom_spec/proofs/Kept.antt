@@ -49,7 +49,10 @@ module _ (R : Allowed) where
   -- what is set
 
   pub reads-Holds : (state : State) (b : Builder) → R.Reads state → Holds b → Holds (record b { reads = state })
-  reads-Holds state b r h = ((h.0.0, h.0.1, h.0.2, record { state = r; around = h.0.3.around; scripts = h.0.3.scripts }), h.1)
+  reads-Holds state b r h = ((h.0.0, h.0.1, h.0.2, record { state = r; around = h.0.3.around; scripts = h.0.3.scripts; excess = h.0.3.excess }), h.1)
+
+  pub excess-Holds : (n : ℕ) (b : Builder) → R.Exceeds n → Holds b → Holds (record b { excess = n })
+  excess-Holds n b x h = ((h.0.0, h.0.1, h.0.2, record { state = h.0.3.state; around = h.0.3.around; scripts = h.0.3.scripts; excess = x }), h.1)
 
   pub none_pending-Holds : (b : Builder) → Holds b → Holds (record b { pending = [] })
   none_pending-Holds b h = ((h.0.0, h.0.1, tt, h.0.3), h.1)
@@ -119,7 +122,7 @@ module _ (R : Allowed) where
   bytes-Holds bytes b t h = (B.bytes-Holds R bytes b t h.0, λ g. X.put-steady (appropriate_place b) (and_text no_nodes bytes) b (h.1 g))
 
   pub character-Holds : (c : ℕ) (b : Builder) → R.Says c → Holds b → Holds (insert_character c b)
-  character-Holds c b k h = bytes-Holds (c ∷ []) b (tt, (k, tt)) h
+  character-Holds c b k h = bytes-Holds (c ∷ []) b ((λ _. tt), (k, tt)) h
 
   pub comment_at-Holds : (place : Place) (bytes : List ℕ) (b : Builder) → R.Notes bytes → Holds b → Holds (insert_comment_at place bytes b)
   comment_at-Holds place bytes b n h = (B.comment_at-Holds R place bytes b n h.0, λ g. X.put-steady place (and_comment no_nodes bytes) b (h.1 g))

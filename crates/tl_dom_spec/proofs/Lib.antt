@@ -17,6 +17,7 @@ pub mod OuterRules
 pub mod DispatcherRules
 pub mod TreesFollow
 pub mod TextLaw
+pub mod ExcessLaw
 pub mod StartNames
 pub mod NameLaw
 pub mod VoidLaw

@@ -52,10 +52,13 @@ named = record {
   Reads = λ _. ⊤;
   Around = λ _. ⊤;
   Scripts = λ _. ⊤;
+  Exceeds = λ _. ⊤;
   Grouped = ⊥;
+  Whole = ⊤;
   stands = λ _ s. s;
   headed = λ _ _ s. s;
   adds = λ _ _ s _. s;
+  grows = λ _ _ _ _. tt;
   html = tt;
   head = tt;
   body = tt;
@@ -108,11 +111,11 @@ pub names_of : (trees : HtmlForest) → Follows named trees → AreNamed trees
 names_of trees f = elements-weaken (Owned named) (λ tag below. IsSome tag.name) trees some_name f.elements
 
 pub built_names : (flags : Flags) (tokens : List Token) → HaveNames tokens → AreNamed (page_built flags tokens).trees
-built_names flags tokens s = names_of (page_built flags tokens).trees (page-Follows named flags tokens tt (named_tokens tokens s))
+built_names flags tokens s = names_of (page_built flags tokens).trees (page-Follows named flags tokens tt tt (named_tokens tokens s))
 
 pub built_fragment_names : (flags : Flags) (context : Context) (tokens : List Token) → HaveNames tokens → AreNamed (fragment_built flags context tokens)
 built_fragment_names flags context tokens s =
-    names_of (fragment_built flags context tokens) (fragment-Follows named flags context tokens tt tt (named_tokens tokens s))
+    names_of (fragment_built flags context tokens) (fragment-Follows named flags context tokens tt tt tt (named_tokens tokens s))
 
 -- the tokenizer is set to such states alone as have nothing to do with a tag
 abbrev reading : Allowed
@@ -150,7 +153,7 @@ names_from b state text h s =
     (driving b (in_state state)) text h s
 
 pub page_starts : (flags : Flags) (page : List ℕ) → HaveNames (tokens_of_page flags page)
-page_starts flags page = names_from (page_start flags) data_state (without_mark page) (page_start-Holds reading flags tt) tt
+page_starts flags page = names_from (page_start flags) data_state (without_mark page) (page_start-Holds reading flags tt tt) tt
 
 context_named : (flags : Flags) (tag : Tag) → IsNamed (context_state flags tag)
 context_named flags tag =
@@ -159,7 +162,7 @@ context_named flags tag =
 
 pub fragment_starts : (flags : Flags) (context : Context) (bytes : List ℕ) → HaveNames (tokens_of_fragment flags context bytes)
 fragment_starts flags context bytes =
-    names_from (fragment_start flags context) (context_state flags context.tag) bytes (fragment_start-Holds reading flags context tt tt)
+    names_from (fragment_start flags context) (context_state flags context.tag) bytes (fragment_start-Holds reading flags context tt tt tt)
     (context_named flags context.tag)
 
 pub page_names : (flags : Flags) (page : List ℕ) → AreNamed (html_tree_by flags page).trees

@@ -32,10 +32,13 @@ at_home flags = record {
   Reads = λ s. s ≡ data_state;
   Around = λ t. is_html t ≡ true;
   Scripts = λ v. v ≡ flags.is_scripting;
+  Exceeds = λ _. ⊤;
   Grouped = ⊥;
+  Whole = ⊤;
   stands = λ _ _. tt;
   headed = λ t e _. (and_parts (is_html t) _ e).0;
   adds = λ _ _ o _. o;
+  grows = λ _ _ _ _. tt;
   html = refl;
   head = refl;
   body = refl;
@@ -184,7 +187,7 @@ read_bare bytes d = bare_tokens (driven_by_names bytes) d ∙ ap (map token_of) 
 -- pages
 
 pub plain_page_tokens : (flags : Flags) (page : List ℕ) → HavePlainNames flags (html_tokens page) → tokens_of_page flags page ≡ map emitted_token (driven_by_names (without_mark page))
-plain_page_tokens flags page p = ap (map emitted_token) (read_plain flags (page_start flags) (without_mark page) (page_start-Holds (at_home flags) flags refl) p)
+plain_page_tokens flags page p = ap (map emitted_token) (read_plain flags (page_start flags) (without_mark page) (page_start-Holds (at_home flags) flags refl tt) p)
 
 pub plain_page : (flags : Flags) (page : List ℕ) → HavePlainNames flags (html_tokens page) → html_tree_by flags page ≡ page_built flags (map emitted_token (driven_by_names (without_mark page)))
 plain_page flags page p = page_is flags page ∙ ap (page_built flags) (plain_page_tokens flags page p)
@@ -199,7 +202,7 @@ pub plain_fragment_tokens : (flags : Flags) (context : Context) (bytes : List �
     HavePlainNames flags (tokens_in_page bytes) → tokens_of_fragment flags context bytes ≡ map emitted_token (driven_by_names bytes)
 plain_fragment_tokens flags context bytes a s p =
     ap (λ r. map emitted_token (driven_tokens builder (driving (fragment_start flags context) (in_state r)) bytes)) s
-    ∙ ap (map emitted_token) (read_plain flags (fragment_start flags context) bytes (fragment_start-Holds (at_home flags) flags context refl a) p)
+    ∙ ap (map emitted_token) (read_plain flags (fragment_start flags context) bytes (fragment_start-Holds (at_home flags) flags context refl tt a) p)
 
 pub plain_fragment : (flags : Flags) (context : Context) (bytes : List ℕ) → is_html context.tag ≡ true → context_state flags context.tag ≡ data_state →
     HavePlainNames flags (tokens_in_page bytes) → html_fragment_by flags context bytes ≡ fragment_built flags context (map emitted_token (driven_by_names bytes))

@@ -29,10 +29,13 @@ from tokens = record {
   Reads = λ _. ⊤;
   Around = λ _. ⊤;
   Scripts = λ _. ⊤;
+  Exceeds = λ _. ⊤;
   Grouped = ⊥;
+  Whole = ⊤;
   stands = λ _ s. s;
   headed = λ _ _ s. s;
   adds = λ own more o a. subst (λ x. IsTagOf tokens (with_more x own)) a.5 (with_added a.0 a.1 own a.2 a.3 a.4 o);
+  grows = λ _ _ _ _. tt;
   html = put_in (codes "html") refl;
   head = put_in (codes "head") refl;
   body = put_in (codes "body") refl;
@@ -101,11 +104,11 @@ sources_of tokens trees f = record {
 }
 
 pub built_sources : (flags : Flags) (tokens : List Token) → ComeFrom tokens (page_built flags tokens).trees
-built_sources flags tokens = sources_of tokens (page_built flags tokens).trees (page-Follows (from tokens) flags tokens tt (tokens_from tokens))
+built_sources flags tokens = sources_of tokens (page_built flags tokens).trees (page-Follows (from tokens) flags tokens tt tt (tokens_from tokens))
 
 pub built_fragment_sources : (flags : Flags) (context : Context) (tokens : List Token) → ComeFrom tokens (fragment_built flags context tokens)
 built_fragment_sources flags context tokens =
-    sources_of tokens (fragment_built flags context tokens) (fragment-Follows (from tokens) flags context tokens tt tt (tokens_from tokens))
+    sources_of tokens (fragment_built flags context tokens) (fragment-Follows (from tokens) flags context tokens tt tt tt (tokens_from tokens))
 
 pub page_sources : (flags : Flags) (page : List ℕ) → ComeFrom (tokens_of_page flags page) (html_tree_by flags page).trees
 page_sources flags page =

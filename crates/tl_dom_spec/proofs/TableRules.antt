@@ -91,7 +91,7 @@ waiting-Holds : (R : Allowed) (b : Builder) → Holds R b → Holds R (pending_i
 waiting-Holds R b h =
     cond_both (no_bytes b.pending) b _ (Holds R) (λ _. h)
     (λ e. either R (list_all is_ascii_whitespace b.pending) (insert_bytes b.pending b) (fostering false (body_characters b.pending (fostering true b)))
-    (bytes-Holds R b.pending b (some_bytes b.pending e, h.0.2) h) (body_characters-Holds R b.pending (fostering true b) h.0.2 h))
+    (bytes-Holds R b.pending b ((λ _. some_bytes b.pending e), h.0.2) h) (body_characters-Holds R b.pending (fostering true b) h.0.2 h))
 
 pended-Holds : (R : Allowed) (c : ℕ) (b : Builder) → R.Says c → Holds R b → Holds R (if c == 0 then b else record b { pending = b.pending ++ c ∷ [] })
 pended-Holds R c b k h =

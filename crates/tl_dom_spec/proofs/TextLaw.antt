@@ -41,10 +41,13 @@ anything = record {
   Reads = λ _. ⊤;
   Around = λ _. ⊤;
   Scripts = λ _. ⊤;
+  Exceeds = λ _. ⊤;
   Grouped = ⊥;
+  Whole = ⊤;
   stands = λ _ _. tt;
   headed = λ _ _ _. tt;
   adds = λ _ _ _ _. tt;
+  grows = λ _ _ _ _. tt;
   html = tt;
   head = tt;
   body = tt;
@@ -85,14 +88,14 @@ any_tokens [] = tt
 any_tokens (token ∷ tokens) = (any_token token, any_tokens tokens)
 
 pub texts_of : (trees : HtmlForest) → Follows anything trees → AreTexts trees
-texts_of trees f = (texts-weaken (IsText anything) IsSome trees (λ bytes t. t.0) f.texts, f.apart)
+texts_of trees f = (texts-weaken (IsText anything) IsSome trees (λ bytes t. t.0 tt) f.texts, f.apart tt)
 
 pub built_texts : (flags : Flags) (tokens : List Token) → AreTexts (page_built flags tokens).trees
-built_texts flags tokens = texts_of (page_built flags tokens).trees (page-Follows anything flags tokens tt (any_tokens tokens))
+built_texts flags tokens = texts_of (page_built flags tokens).trees (page-Follows anything flags tokens tt tt (any_tokens tokens))
 
 pub built_fragment_texts : (flags : Flags) (context : Context) (tokens : List Token) → AreTexts (fragment_built flags context tokens)
 built_fragment_texts flags context tokens =
-    texts_of (fragment_built flags context tokens) (fragment-Follows anything flags context tokens tt tt (any_tokens tokens))
+    texts_of (fragment_built flags context tokens) (fragment-Follows anything flags context tokens tt tt tt (any_tokens tokens))
 
 pub page_texts : (flags : Flags) (page : List ℕ) → AreTexts (html_tree_by flags page).trees
 page_texts flags page =

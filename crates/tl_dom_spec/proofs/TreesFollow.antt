@@ -24,7 +24,7 @@ Owned R tag below = R.Opens tag ⊎ (R.Stands tag × (below ≡ no_trees))
 pub record Follows (R : Allowed) (trees : HtmlForest) : Type 0 where
   pub elements : EachElement (Owned R) trees
   pub texts : EachText (IsText R) trees
-  pub apart : AreApart trees
+  pub apart : R.Whole → AreApart trees
   pub comments : EachComment R.Notes trees
   pub doctypes : EachDoctype R.Types trees
 
@@ -37,39 +37,39 @@ inside R tag children (inl o) = o.1
 inside R tag children (inr s) = rw s.1 tt
 
 -- where nodes end with a text, the trees behind them begin with none
-abbrev IsBeside : Nodes → HtmlForest → Type 0
-IsBeside nodes later = ends_with_text nodes ≡ true → begins_with_text later ≡ false
+abbrev IsBeside : Allowed → Nodes → HtmlForest → Type 0
+IsBeside R nodes later = R.Whole → ends_with_text nodes ≡ true → begins_with_text later ≡ false
 
-no_end : (nodes : Nodes) (later : HtmlForest) → ends_with_text nodes ≡ false → IsBeside nodes later
-no_end nodes later e y = absurd (true≢false (sym y ∙ e))
+no_end : (R : Allowed) (nodes : Nodes) (later : HtmlForest) → (R.Whole → ends_with_text nodes ≡ false) → IsBeside R nodes later
+no_end R nodes later e w y = absurd (true≢false (sym y ∙ e w))
 
 nothing-Follows : (R : Allowed) → Follows R no_trees
-nothing-Follows R = record { elements = tt; texts = tt; apart = tt; comments = tt; doctypes = tt }
+nothing-Follows R = record { elements = tt; texts = tt; apart = λ _. tt; comments = tt; doctypes = tt }
 
-before-Follows : (R : Allowed) (nodes : Nodes) (later : HtmlForest) → Good R nodes → IsBeside nodes later → Follows R later → Follows R (before nodes later)
+before-Follows : (R : Allowed) (nodes : Nodes) (later : HtmlForest) → Good R nodes → IsBeside R nodes later → Follows R later → Follows R (before nodes later)
 before-Follows R no_nodes later g e f = f
 before-Follows R (and_text nodes bytes) later g e f =
-    before-Follows R nodes (text bytes later) g.2 (no_end nodes (text bytes later) g.1)
-    (record { elements = f.elements; texts = (g.0, f.texts); apart = (e refl, f.apart); comments = f.comments; doctypes = f.doctypes })
+    before-Follows R nodes (text bytes later) g.2 (no_end R nodes (text bytes later) g.1)
+    (record { elements = f.elements; texts = (g.0, f.texts); apart = λ w. (e w refl, f.apart w); comments = f.comments; doctypes = f.doctypes })
 before-Follows R (and_comment nodes bytes) later g e f =
-    before-Follows R nodes (comment bytes later) g.1 (λ _. refl)
+    before-Follows R nodes (comment bytes later) g.1 (λ _ _. refl)
     (record { elements = f.elements; texts = f.texts; apart = f.apart; comments = (g.0, f.comments); doctypes = f.doctypes })
 before-Follows R (and_doctype nodes own) later g e f =
-    before-Follows R nodes (doctype own later) g.1 (λ _. refl)
+    before-Follows R nodes (doctype own later) g.1 (λ _ _. refl)
     (record { elements = f.elements; texts = f.texts; apart = f.apart; comments = f.comments; doctypes = (g.0, f.doctypes) })
 before-Follows R (and_element nodes tag children) later g e f =
-    let i = before-Follows R children no_trees (inside R tag children g.0) (λ _. refl) (nothing-Follows R) in
-    before-Follows R nodes (element tag (before children no_trees) later) g.1 (λ _. refl)
+    let i = before-Follows R children no_trees (inside R tag children g.0) (λ _ _. refl) (nothing-Follows R) in
+    before-Follows R nodes (element tag (before children no_trees) later) g.1 (λ _ _. refl)
     (record {
       elements = (owned R tag children g.0, i.elements, f.elements);
       texts = (i.texts, f.texts);
-      apart = (i.apart, f.apart);
+      apart = λ w. (i.apart w, f.apart w);
       comments = (i.comments, f.comments);
       doctypes = (i.doctypes, f.doctypes);
     })
 
 trees_in-Follows : (R : Allowed) (f : Frame) → Inner R f → Follows R (trees_in f)
-trees_in-Follows R f i = before-Follows R (joined f.children f.waiting) no_trees (joined-Good R f.children f.waiting i.0 i.1) (λ _. refl) (nothing-Follows R)
+trees_in-Follows R f i = before-Follows R (joined f.children f.waiting) no_trees (joined-Good R f.children f.waiting i.0 i.1) (λ _ _. refl) (nothing-Follows R)
 
 pub document-Follows : (R : Allowed) (b : Builder) → Holds R b → Follows R (document_of b).trees
 document-Follows R b h =
@@ -83,30 +83,30 @@ children-Follows R b h =
 
 -- of tokens
 
-pub page-Follows : (R : Allowed) (flags : Flags) (tokens : List Token) → R.Scripts flags.is_scripting → Each (Allows R) tokens → Follows R (page_built flags tokens).trees
-page-Follows R flags tokens s k =
+pub page-Follows : (R : Allowed) (flags : Flags) (tokens : List Token) → R.Scripts flags.is_scripting → R.Exceeds 0 → Each (Allows R) tokens → Follows R (page_built flags tokens).trees
+page-Follows R flags tokens s x k =
     document-Follows R (token_done (tokens_done (page_start flags) tokens) end_of_file)
-    (token-Holds R (tokens_done (page_start flags) tokens) end_of_file tt (tokens-Holds R (page_start flags) tokens k (page_start-Holds R flags s)))
+    (token-Holds R (tokens_done (page_start flags) tokens) end_of_file tt (tokens-Holds R (page_start flags) tokens k (page_start-Holds R flags s x)))
 
-pub fragment-Follows : (R : Allowed) (flags : Flags) (context : Context) (tokens : List Token) → R.Scripts flags.is_scripting → R.Around context.tag → Each (Allows R) tokens → Follows R (fragment_built flags context tokens)
-fragment-Follows R flags context tokens s a k =
+pub fragment-Follows : (R : Allowed) (flags : Flags) (context : Context) (tokens : List Token) → R.Scripts flags.is_scripting → R.Exceeds 0 → R.Around context.tag → Each (Allows R) tokens → Follows R (fragment_built flags context tokens)
+fragment-Follows R flags context tokens s x a k =
     children-Follows R (token_done (tokens_done (fragment_start flags context) tokens) end_of_file)
-    (token-Holds R (tokens_done (fragment_start flags context) tokens) end_of_file tt (tokens-Holds R (fragment_start flags context) tokens k (fragment_start-Holds R flags context s a)))
+    (token-Holds R (tokens_done (fragment_start flags context) tokens) end_of_file tt (tokens-Holds R (fragment_start flags context) tokens k (fragment_start-Holds R flags context s x a)))
 
 -- a page is built of its tokens, and a fragment too
 
-taken-tokens : (b : Builder) (emissions : List Emission) → taken builder b emissions ≡ tokens_done b (map emitted_token emissions)
-taken-tokens b [] = refl
-taken-tokens b (e ∷ emissions) = taken-tokens (token_done b (emitted_token e)) emissions
+pub taken_tokens : (b : Builder) (emissions : List Emission) → taken builder b emissions ≡ tokens_done b (map emitted_token emissions)
+taken_tokens b [] = refl
+taken_tokens b (e ∷ emissions) = taken_tokens (token_done b (emitted_token e)) emissions
 
 pub page_is : (flags : Flags) (page : List ℕ) → html_tree_by flags page ≡ page_built flags (tokens_of_page flags page)
 page_is flags page =
     ap (λ b. document_of (token_done b end_of_file))
     (text_driven builder (page_start flags) (in_state data_state) (without_mark page)
-    ∙ taken-tokens (page_start flags) (driven_tokens builder (driving (page_start flags) (in_state data_state)) (without_mark page)))
+    ∙ taken_tokens (page_start flags) (driven_tokens builder (driving (page_start flags) (in_state data_state)) (without_mark page)))
 
 pub fragment_is : (flags : Flags) (context : Context) (bytes : List ℕ) → html_fragment_by flags context bytes ≡ fragment_built flags context (tokens_of_fragment flags context bytes)
 fragment_is flags context bytes =
     ap (λ b. children_of (token_done b end_of_file))
     (text_driven builder (fragment_start flags context) (in_state (context_state flags context.tag)) bytes
-    ∙ taken-tokens (fragment_start flags context) (driven_tokens builder (driving (fragment_start flags context) (in_state (context_state flags context.tag))) bytes))
+    ∙ taken_tokens (fragment_start flags context) (driven_tokens builder (driving (fragment_start flags context) (in_state (context_state flags context.tag))) bytes))

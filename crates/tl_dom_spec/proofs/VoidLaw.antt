@@ -53,10 +53,13 @@ voids = record {
   Reads = λ _. ⊤;
   Around = λ _. ⊤;
   Scripts = λ _. ⊤;
+  Exceeds = λ _. ⊤;
   Grouped = ⊥;
+  Whole = ⊤;
   stands = λ _ _. tt;
   headed = λ t e _. head_is_no_void t e;
   adds = λ _ _ o _. o;
+  grows = λ _ _ _ _. tt;
   html = refl;
   head = refl;
   body = refl;
@@ -111,21 +114,21 @@ pub voids_of : (trees : HtmlForest) → Follows voids trees → AreVoidEmpty tre
 voids_of trees f = elements-weaken (Owned voids) (λ tag below. is_void tag ≡ true → below ≡ no_trees) trees nothing_below f.elements
 
 pub built_voids : (flags : Flags) (tokens : List HtmlToken) → AreVoidEmpty (tree_of_tokens flags tokens).trees
-built_voids flags tokens = voids_of (tree_of_tokens flags tokens).trees (page-Follows voids flags (map token_of tokens) tt (void_tokens tokens))
+built_voids flags tokens = voids_of (tree_of_tokens flags tokens).trees (page-Follows voids flags (map token_of tokens) tt tt (void_tokens tokens))
 
 pub built_fragment_voids : (flags : Flags) (context : Context) (tokens : List HtmlToken) → AreVoidEmpty (fragment_of_tokens flags context tokens)
 built_fragment_voids flags context tokens =
-    voids_of (fragment_of_tokens flags context tokens) (fragment-Follows voids flags context (map token_of tokens) tt tt (void_tokens tokens))
+    voids_of (fragment_of_tokens flags context tokens) (fragment-Follows voids flags context (map token_of tokens) tt tt tt (void_tokens tokens))
 
 pub page_voids : (flags : Flags) (page : List ℕ) → AreVoidEmpty (html_tree_by flags page).trees
 page_voids flags page =
     let emissions : List Emission = driven_tokens builder (driving (page_start flags) (in_state data_state)) (without_mark page) in
     subst (λ d. AreVoidEmpty d.trees) (sym (page_is flags page))
-    (voids_of (page_built flags (tokens_of_page flags page)).trees (page-Follows voids flags (tokens_of_page flags page) tt (void_emissions emissions)))
+    (voids_of (page_built flags (tokens_of_page flags page)).trees (page-Follows voids flags (tokens_of_page flags page) tt tt (void_emissions emissions)))
 
 pub fragment_voids : (flags : Flags) (context : Context) (bytes : List ℕ) → AreVoidEmpty (html_fragment_by flags context bytes)
 fragment_voids flags context bytes =
     let emissions : List Emission = driven_tokens builder (driving (fragment_start flags context) (in_state (context_state flags context.tag))) bytes in
     subst AreVoidEmpty (sym (fragment_is flags context bytes))
     (voids_of (fragment_built flags context (tokens_of_fragment flags context bytes))
-    (fragment-Follows voids flags context (tokens_of_fragment flags context bytes) tt tt (void_emissions emissions)))
+    (fragment-Follows voids flags context (tokens_of_fragment flags context bytes) tt tt tt (void_emissions emissions)))

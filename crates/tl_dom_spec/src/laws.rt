@@ -1,14 +1,14 @@
 //! Laws of the trees of any page, any fragment and any tokens.
 
 ghost use Rattle.std.specs.Prelude.{◌≡◌, ◌≤◌, ◌↔◌, Bool, List, Some, codes, map, true, ℕ, ◌&&◌, ◌++◌, ◌==◌, ◌∷◌, false};
-ghost use Rattle.tl_html_spec.specs.Driven.{Emission, bare};
+ghost use Rattle.tl_html_spec.specs.Driven.{DrivenState, Emission, bare, taken};
 ghost use Rattle.tl_html_spec.specs.HtmlTokenizer.{HtmlToken, data_state, html_tokens, tokens_in_page, without_mark};
 ghost use Rattle.tl_html_spec.specs.Sound.{AreSound};
 ghost use Rattle.tl_tree_spec.specs.HtmlForest.{HtmlForest};
 ghost use Rattle.tl_tree_spec.specs.HtmlTreeBuilder.{html_trees_where};
 ghost use Rattle.tl_dom_spec.specs.Builder.{Builder, Flags, Outcome, Token, a_character, insert_bytes, repeated};
 ghost use Rattle.tl_dom_spec.specs.Dispatcher.{bound, token_done, tokens_done};
-ghost use Rattle.tl_dom_spec.specs.Driver.{emitted_token, token_of};
+ghost use Rattle.tl_dom_spec.specs.Driver.{builder, emitted_token, read_from, token_of};
 ghost use Rattle.tl_dom_spec.specs.HtmlForest.{has_contents};
 ghost use Rattle.tl_dom_spec.specs.HtmlTree.{Context, context_of, context_state, fragment_of_tokens, fragment_start, html_fragment_by, html_tree_by, page_start, standard, tree_of_tokens};
 ghost use Rattle.tl_dom_spec.specs.Lawful.{AreNamed, AreTexts, AreVoidEmpty, ComeFrom, HaveHtmlDoctypes, HaveNames, HavePlainNames, IsDoneWith, IsPage, IsSteady, driven_by_names, fragment_built, is_done_within, page_built, tokens_of_fragment, tokens_of_page, EachCharacter};
@@ -182,4 +182,22 @@ pub fn runs_are_taken_whole()
         insert_bytes ys (insert_bytes xs b) ≡ insert_bytes (xs ++ ys) b }
     ensures reconstructed { (b : Builder) →
         reconstruct_formatting (reconstruct_formatting b) ≡ reconstruct_formatting b }
+{}
+
+/// What a builder takes of emissions is what it does of their tokens.
+#[tactic(auto, using(crate::proofs::TreesFollow::taken_tokens))]
+pub fn emissions_are_tokens()
+    ensures { (b : Builder) (emissions : List Emission) →
+        taken builder b emissions ≡ tokens_done b (map emitted_token emissions) }
+{}
+
+/// By how many elements are too many never gets less, in any builder: so a tree that is out of
+/// proportion after a token is so at the end.
+#[tactic(auto, using(crate::proofs::ExcessLaw::token_excess, crate::proofs::ExcessLaw::tokens_excess, crate::proofs::ExcessLaw::read_excess))]
+pub fn excess_never_falls()
+    ensures token { (b : Builder) (token : Token) → b.excess ≤ (token_done b token).excess }
+    ensures tokens { (b : Builder) (tokens : List Token) →
+        b.excess ≤ (tokens_done b tokens).excess }
+    ensures read { (b : Builder) (state : DrivenState) (bytes : List ℕ) →
+        b.excess ≤ (read_from b state bytes).excess }
 {}
