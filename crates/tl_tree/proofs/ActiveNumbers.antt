@@ -1,5 +1,5 @@
 -- Which lists of entries are sound: their numbers differ, and are at most the greatest one.
-use Rattle.std.proofs.Common.{ap, arith, sym, subst, ◌∙◌, ◌≡◌, ◌≤◌, ◌<◌, ◌++◌, ◌∷◌, [], Bool, IsTrue, List, cond, drop, false, get_or, length, nat_eq, nat_le, not, refl, reverse, set, suc, take, true, ℕ}
+use Rattle.std.proofs.Common.{ap, arith, sym, subst, ◌∙◌, ◌≡◌, ◌≤◌, ◌<◌, ◌++◌, ◌∷◌, [], Bool, IsTrue, List, cond, drop, false, get_or, length, map, nat_eq, nat_le, not, refl, reverse, set, suc, take, true, ℕ}
 use Rattle.std.proofs.lemmas.Bool.{and_from, and_parts, eq-eqb, eqb-true, false≢true, le-leb, leb-true, ne_eqb, not-true, or_from, or_parts}
 use Rattle.std.proofs.lemmas.List.{append-nil, take-append-drop}
 use Rattle.std.proofs.lemmas.List.Folds.{list_all-append, list_any-append}
@@ -211,9 +211,14 @@ entry-grown s t g number tag h (Formatting n own) w =
     let le = leb-true own tag p.1 in
     ap (dom.formatting n) (tag-at-grown s t g own (omega arith))
 
+pub entries-grown : (s t : Store) → Grows s t → (number tag : ℕ) → tag < length s.tags.items → (xs : List Entry) → IsTrue (list_all (entry_is_within number tag) xs) → map (entry_of t) xs ≡ map (entry_of s) xs
+entries-grown s t g number tag h xs all =
+    map-same (entry_is_within number tag) (entry_of t) (entry_of s) (entry-grown s t g number tag h) xs all
+
+pub seen-grown : (s t : Store) → Grows s t → (number tag : ℕ) → tag < length s.tags.items → (xs : List Entry) → IsTrue (list_all (entry_is_within number tag) xs) → seen t xs ≡ seen s xs
+unfolding seen
+seen-grown s t g number tag h xs all = ap reverse (entries-grown s t g number tag h xs all)
+
 -- the list stands for the same in each store that begins with one that has its tags
 pub active-grown : (s t : Store) → Grows s t → (a : ActiveList) → a.greatest_tag < length s.tags.items → active_of t a ≡ active_of s a
-unfolding seen
-active-grown s t g a h =
-    ap reverse
-    (map-same (entry_is_within a.greatest_number a.greatest_tag) (entry_of t) (entry_of s) (entry-grown s t g a.greatest_number a.greatest_tag h) a.entries.items a.within)
+active-grown s t g a h = seen-grown s t g a.greatest_number a.greatest_tag h a.entries.items a.within

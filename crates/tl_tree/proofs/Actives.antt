@@ -45,7 +45,7 @@ pub seen-push : (s : Store) (xs : List Entry) (e : Entry) → seen s (xs ++ e �
 seen-push s xs e =
     seen-around s xs [] e ∙ ap (λ none. none ++ entry_of s e ∷ seen s xs) (seen-none s)
 
-pub parted : (xs : List Entry) (n : ℕ) (d : Entry) → n < length xs → xs ≡ take n xs ++ get_or xs n d ∷ drop (suc n) xs
+pub parted : {A : Type 0} (xs : List A) (n : ℕ) (d : A) → n < length xs → xs ≡ take n xs ++ get_or xs n d ∷ drop (suc n) xs
 parted xs n d h = sym (take-append-drop n xs) ∙ ap (λ rest. take n xs ++ rest) (drop-cons xs n d h)
 
 pub parted-at : (xs : List Entry) (n : ℕ) (e : Entry) → n < length xs → e ≡ get_or xs n e → xs ≡ take n xs ++ e ∷ drop (suc n) xs

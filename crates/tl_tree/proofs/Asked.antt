@@ -6,19 +6,30 @@ use Rattle.std.proofs.lemmas.List.{get_or-map}
 use Rattle.std.specs.List.{onto_first, slice_split}
 use Rattle.tl_dom_spec.specs.Tags as dom
 use Rattle.tl_html_spec.specs.Balanced.{with_first, words}
+use Rattle.tl_html_spec.specs.Doctypes as doctypes
 use Rattle.tl_tree.proofs.Listed.{part-front}
-use Rattle.tl_tree.specs.Inner.Store.{bytes_of, is_span, tag_at, tag_of}
+use Rattle.tl_tree.specs.Inner.Store.{bytes_of, doctype_at, doctype_of, is_span, tag_at, tag_of}
 use Rattle.tl_tree.specs.Inner.Tests.{named, tag_test_of}
+use Rattle.tl_tree.specs.declared.entries.DoctypeEntry.{DoctypeEntry}
 use Rattle.tl_tree.specs.declared.entries.TagEntry.{TagEntry}
 use Rattle.tl_tree.specs.declared.span.Span.{Span}
 use Rattle.tl_tree.specs.declared.store.Store.{Store}
 use Rattle.tl_tree.specs.declared.test.TagTest.{TagTest}
-use Rattle.tl_tree.specs.declared.test.TagTest.TheVariants.{Any, Nothing, Scope, ScopeOr}
+use Rattle.tl_tree.specs.declared.test.TagTest.TheVariants.{Any, Heading, ImpliedThoroughly, ItemBound, Named, Nothing, Scope, ScopeOr, Special}
+
+pub name-of : (s : Store) (t : TagEntry) → bytes_of s t.name ≡ (tag_of s t).name
+unfolding tag_of
+name-of s t = refl
 
 pub tag-read : (s : Store) (n : ℕ) (t : TagEntry) → t ≡ get_or s.tags.items n t → n < length s.tags.items → tag_of s t ≡ tag_at s n
 unfolding tag_at
 tag-read s n t is h =
     sym (get_or-map (tag_of s) s.tags.items n t (dom.bare_tag []) h ∙ ap (tag_of s) (sym is))
+
+pub doctype-read : (s : Store) (n : ℕ) (d : DoctypeEntry) → d ≡ get_or s.doctypes.items n d → n < length s.doctypes.items → doctype_of s d ≡ doctype_at s n
+unfolding doctype_at
+doctype-read s n d is h =
+    sym (get_or-map (doctype_of s) s.doctypes.items n d doctypes.no_doctype.own h ∙ ap (doctype_of s) (sym is))
 
 pub bytes-page : (s : Store) (span : Span) → span.start + span.len ≤ length s.page.now → take (span.start + span.len - span.start) (drop span.start s.page.now) ≡ bytes_of s span
 unfolding bytes_of
@@ -69,11 +80,24 @@ unfolding tag_of
 tag-named Nothing s n t name e own = refl
 tag-named (Any names) s n t name e own =
     ap (λ bytes. dom.is_any names.now (named t.space bytes)) own ∙ ap (dom.is_any names.now) e
+tag-named (Named it) s n t name e own =
+    ap (λ bytes. dom.is_named it.now (named t.space bytes)) own ∙ ap (dom.is_named it.now) e
 tag-named Scope s n t name e own =
     ap (λ bytes. dom.is_scope (named t.space bytes)) own ∙ ap dom.is_scope e
 tag-named (ScopeOr names) s n t name e own =
     ap (λ bytes. tag_test_of (ScopeOr names) (named t.space bytes)) own
     ∙ ap (tag_test_of (ScopeOr names)) e
+tag-named Heading s n t name e own =
+    ap (λ bytes. dom.is_heading (named t.space bytes)) own ∙ ap dom.is_heading e
+tag-named ImpliedThoroughly s n t name e own =
+    ap (λ bytes. dom.is_implied_thoroughly (named t.space bytes)) own
+    ∙ ap dom.is_implied_thoroughly e
+tag-named (Special counts_search) s n t name e own =
+    ap (λ bytes. dom.is_special counts_search (named t.space bytes)) own
+    ∙ ap (dom.is_special counts_search) e
+tag-named (ItemBound counts_search) s n t name e own =
+    ap (λ bytes. dom.is_item_bound counts_search (named t.space bytes)) own
+    ∙ ap (dom.is_item_bound counts_search) e
 
 pub implied-named : (s : Store) (n : ℕ) (t : TagEntry) (name : List ℕ) → tag_of s t ≡ tag_at s n → name ≡ bytes_of s t.name → dom.is_implied (named t.space name) ≡ dom.is_implied (tag_at s n)
 unfolding tag_of

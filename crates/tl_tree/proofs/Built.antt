@@ -1,24 +1,27 @@
 -- What a builder stands for as its path changes.
-use Rattle.std.proofs.Common.{Err, Ok, OnOk, Result, ap, arith, refl, ◌∙◌, ◌≡◌, ◌<◌, ◌≤◌, ◌∷◌, [], IsTrue, List, None, Option, Some, length, map, reverse, ℕ}
-use Rattle.std.proofs.lemmas.Bool.{and_parts, ltb-true}
+use Rattle.std.proofs.Common.{Err, Ok, nat_le, ◌&&◌, ◌+◌, OnOk, Result, ap, arith, refl, ◌∙◌, ◌≡◌, ◌<◌, ◌≤◌, ◌∷◌, [], IsTrue, List, None, Option, Some, length, map, reverse, ℕ}
+use Rattle.std.proofs.lemmas.Bool.{and_parts, le-leb, ltb-true}
 use Rattle.std.specs.List.{list_all}
 use Rattle.std.specs.Option.{option_map}
 use Rattle.tl_dom_spec.specs.Builder as dom
 use Rattle.tl_dom_spec.specs.Path as paths
 use Rattle.tl_dom_spec.specs.Tags as tags
+use Rattle.tl_html_spec.specs.Doctypes.{Doctype}
 use Rattle.tl_tree.proofs.ActiveNumbers.{active-grown}
-use Rattle.tl_tree.proofs.Grown.{tag-at-grown}
+use Rattle.tl_tree.proofs.Grown.{bytes-grown, doctype-at-grown, is-node-grown, tag-at-grown}
 use Rattle.tl_tree.proofs.Listed.{begins-longer}
-use Rattle.tl_tree.proofs.Within.{lt-more}
+use Rattle.tl_tree.proofs.Within.{lt-more, or-left}
 use Rattle.tl_tree.proofs.Written.{parts-of}
 use Rattle.tl_tree.specs.Inner.Active.{active_of}
-use Rattle.tl_tree.specs.Inner.Builders.{builder_of, token_of}
+use Rattle.tl_tree.specs.Inner.Builders.{Said, builder_of, token_of}
 use Rattle.tl_tree.specs.Inner.Framed.{frame_is_within}
 use Rattle.tl_tree.specs.Inner.Frames.{path_of}
 use Rattle.tl_tree.specs.Inner.Known.{AreKnown, context_is_known}
 use Rattle.tl_tree.specs.Inner.Modes.{mode_of}
-use Rattle.tl_tree.specs.Inner.Store.{Grows, bytes_of, tag_at, tag_of}
+use Rattle.tl_tree.specs.Inner.Store.{Grows, bytes_of, doctype_at, sizes_of, tag_at, tag_of}
+use Rattle.tl_tree.specs.declared.active.ActiveList.{ActiveList}
 use Rattle.tl_tree.specs.declared.builder.Builder.{Builder}
+use Rattle.tl_tree.specs.declared.cell.Node.TheVariants.{Text}
 use Rattle.tl_tree.specs.declared.entries.Namespace.TheVariants.{Html}
 use Rattle.tl_tree.specs.declared.frame.Frame.{Frame}
 use Rattle.tl_tree.specs.declared.path.FramePath.{FramePath}
@@ -29,22 +32,65 @@ context-more : (m n : ℕ) → m ≤ n → (context : Option ℕ) → IsTrue (co
 context-more m n le None h = h
 context-more m n le (Some tag) h = lt-more tag m n h le
 
--- the tags that a builder refers to stay in the store
-pub known-grown : (s t : Store) → Grows s t → (active : ℕ) (context : Option ℕ) (token : ℕ) → AreKnown (length s.tags.items) active context token → AreKnown (length t.tags.items) active context token
-known-grown s t g active context token k =
+-- what a builder refers to stays in the store, and numbers stay given out
+pub known-more : (b : Builder) (q : FramePath) → Grows b.path.store q.store → b.path.next ≤ q.next → AreKnown (sizes_of q.store) q.next b.active.greatest_number b.active.greatest_tag b.context b.tag b.text b.doctype
+known-more b q g least =
+    let s = b.path.store in
+    let t = q.store in
     let more = begins-longer s.tags.items t.tags.items g.tags in
+    let doctypes = begins-longer s.doctypes.items t.doctypes.items g.doctypes in
+    let k = b.known in
+    let numbered = k.numbered in
     let listed = k.listed in
     let own = k.own in
+    let typed = k.typed in
     record {
+      numbered = omega arith;
       listed = omega arith;
       own = omega arith;
-      around = context-more (length s.tags.items) (length t.tags.items) more context k.around;
+      around = context-more (length s.tags.items) (length t.tags.items) more b.context k.around;
+      said = is-node-grown s t g (Text b.text) k.said;
+      typed = omega arith;
+    }
+
+pub known-kept : (b : Builder) (q : FramePath) → Grows b.path.store q.store → q.next ≡ b.path.next → AreKnown (sizes_of q.store) q.next b.active.greatest_number b.active.greatest_tag b.context b.tag b.text b.doctype
+known-kept b q g e = known-more b q g (omega (arith, e))
+
+-- another list, of which no number and no tag is greater
+pub known-listed : (b : Builder) (list : ActiveList) → list.greatest_number ≡ b.active.greatest_number → list.greatest_tag ≡ b.active.greatest_tag → AreKnown (sizes_of b.path.store) b.path.next list.greatest_number list.greatest_tag b.context b.tag b.text b.doctype
+known-listed b list number tag =
+    let k = b.known in
+    let numbered = k.numbered in
+    let listed = k.listed in
+    record {
+      numbered = omega (arith, number);
+      listed = omega (arith, tag);
+      own = k.own;
+      around = k.around;
+      said = k.said;
+      typed = k.typed;
+    }
+
+-- with another list too
+pub known-both : (b : Builder) (q : FramePath) (list : ActiveList) → Grows b.path.store q.store → b.path.next ≤ q.next → list.greatest_number < q.next → list.greatest_tag < length q.store.tags.items → AreKnown (sizes_of q.store) q.next list.greatest_number list.greatest_tag b.context b.tag b.text b.doctype
+known-both b q list g least number tag =
+    let k = known-more b q g least in
+    record {
+      numbered = number;
+      listed = tag;
+      own = k.own;
+      around = k.around;
+      said = k.said;
+      typed = k.typed;
     }
 
 pub context-grown : (s t : Store) → Grows s t → (context : Option ℕ) → IsTrue (context_is_known (length s.tags.items) context) → option_map (tag_at t) context ≡ option_map (tag_at s) context
 context-grown s t g None h = refl
 context-grown s t g (Some tag) h =
     ap (λ (own : tags.Tag). Some own) (tag-at-grown s t g tag (ltb-true tag (length s.tags.items) h))
+
+said : List ℕ → tags.Tag → List ℕ → Doctype → Said
+said page tag text doctype = record { page = page; tag = tag; text = text; doctype = doctype }
 
 -- all but the path, the active formatting elements, the number and the context
 with_parts : dom.Builder → paths.Path → List dom.Entry → ℕ → Option tags.Tag → dom.Builder
@@ -58,20 +104,42 @@ same-parts d p p' a a' n n' c c' is-p is-a is-n is-c =
     ∙ (ap (λ own. with_parts d p' a' own c) is-n
     ∙ ap (λ own. with_parts d p' a' n' own) is-c))
 
-pub path-changed : (b : Builder) (q : FramePath) (known : AreKnown (length q.store.tags.items) b.active.greatest_tag b.context b.tag) (path : paths.Path) (next : ℕ) → Grows b.path.store q.store → q.next ≡ next → path_of q ≡ path → builder_of (record b { path = q; known = known }) ≡ record (builder_of b) { path = path; next = next }
+pub path-changed : (b : Builder) (q : FramePath) (known : AreKnown (sizes_of q.store) q.next b.active.greatest_number b.active.greatest_tag b.context b.tag b.text b.doctype) (path : paths.Path) (next : ℕ) → Grows b.path.store q.store → q.next ≡ next → path_of q ≡ path → builder_of (record b { path = q; known = known }) ≡ record (builder_of b) { path = path; next = next }
 unfolding builder_of with_parts
 path-changed b q known path next g is-next is-path =
     same-parts (builder_of b) (path_of q) path (active_of q.store b.active) (active_of b.path.store b.active) q.next next
     (option_map (tag_at q.store) b.context) (option_map (tag_at b.path.store) b.context)
     is-path (active-grown b.path.store q.store g b.active b.known.listed) is-next (context-grown b.path.store q.store g b.context b.known.around)
 
-pub token-kept : (b : Builder) (q : FramePath) (known : AreKnown (length q.store.tags.items) b.active.greatest_tag b.context b.tag) → Grows b.path.store q.store → token_of (record b { path = q; known = known }) ≡ token_of b
-unfolding token_of
-token-kept b q known g = tag-at-grown b.path.store q.store g b.tag b.known.own
+-- with another list too
+pub both-changed : (b : Builder) (q : FramePath) (list : ActiveList) (known : AreKnown (sizes_of q.store) q.next list.greatest_number list.greatest_tag b.context b.tag b.text b.doctype) (path : paths.Path) (next : ℕ) (entries : List dom.Entry) → Grows b.path.store q.store → q.next ≡ next → path_of q ≡ path → active_of q.store list ≡ entries → builder_of (record b { path = q; active = list; known = known }) ≡ record (builder_of b) { path = path; active = entries; next = next }
+unfolding builder_of with_parts
+both-changed b q list known path next entries g is-next is-path is-active =
+    same-parts (builder_of b) (path_of q) path (active_of q.store list) entries q.next next
+    (option_map (tag_at q.store) b.context) (option_map (tag_at b.path.store) b.context)
+    is-path is-active is-next (context-grown b.path.store q.store g b.context b.known.around)
+
+same-said : (p p' : List ℕ) (t t' : tags.Tag) (x x' : List ℕ) (d d' : Doctype) → p ≡ p' → t ≡ t' → x ≡ x' → d ≡ d' → said p t x d ≡ said p' t' x' d'
+same-said p p' t t' x x' d d' is-page is-tag is-text is-doctype =
+    ap (λ own. said own t x d) is-page
+    ∙ (ap (λ own. said p' own x d) is-tag ∙ (ap (λ own. said p' t' own d) is-text ∙ ap (said p' t' x') is-doctype))
+
+pub token-kept : (b : Builder) (q : FramePath) (known : AreKnown (sizes_of q.store) q.next b.active.greatest_number b.active.greatest_tag b.context b.tag b.text b.doctype) → Grows b.path.store q.store → token_of (record b { path = q; known = known }) ≡ token_of b
+unfolding token_of said
+token-kept b q known g =
+    let s = b.path.store in
+    let t = q.store in
+    same-said t.page.now s.page.now
+    (tag_at t b.tag) (tag_at s b.tag) (bytes_of t b.text) (bytes_of s b.text) (doctype_at t b.doctype) (doctype_at s b.doctype)
+    g.page (tag-at-grown s t g b.tag b.known.own) (bytes-grown s t g b.text b.known.said) (doctype-at-grown s t g b.doctype b.known.typed)
 
 pub on-ok-both : {T E : Type 0} {P Q R : Type 0} (r : Result T E) → (P → Q → R) → OnOk r P → OnOk r Q → OnOk r R
 on-ok-both (Ok x) f p q = f p q
 on-ok-both (Err e) f p q = p
+
+pub on-ok-is : {T E : Type 0} (r : Result T E) (x a b : dom.Builder) → a ≡ b → OnOk r (x ≡ a) → OnOk r (x ≡ b)
+on-ok-is (Ok own) x a b e is = is ∙ e
+on-ok-is (Err own) x a b e is = is
 
 -- a tag without attributes
 pub bare-tag-of : (s : Store) (name : Span) → tag_of s (record { space = Html; name = name; known = 0; first_attribute = 0; attribute_count = 0 }) ≡ tags.bare_tag (bytes_of s name)
@@ -86,10 +154,17 @@ some-tag s (f ∷ frames) some within =
     omega arith
 
 -- a builder of a new path
-pub known-new : (p : FramePath) (active : ℕ) → active ≡ 0 → AreKnown (length p.store.tags.items) active None 0
-known-new p active is =
+pub known-new : (p : FramePath) (number active doctype : ℕ) → number ≡ 0 → active ≡ 0 → p.next ≡ 1 → doctype < length p.store.doctypes.items → AreKnown (sizes_of p.store) p.next number active None 0 (record { start = 0; len = 0 }) doctype
+known-new p number active doctype none is one within =
     let some = some-tag p.store p.frames.items p.some p.within in
-    record { listed = omega arith; own = some; around = refl }
+    record {
+      numbered = omega arith;
+      listed = omega arith;
+      own = some;
+      around = refl;
+      said = or-left (nat_le 0 (length p.store.page.now)) (nat_le (length p.store.page.now) 0 && nat_le 0 (length p.store.page.now + length p.store.side.items)) (le-leb 0 (length p.store.page.now) (omega arith));
+      typed = within;
+    }
 
 with_start : dom.Builder → paths.Path → List dom.Entry → ℕ → List dom.Mode → List ℕ → dom.Builder
 with_start d path active next templates pending =

@@ -8,7 +8,7 @@ use Rattle.tl_tree.proofs.Changed.{changed-top}
 use Rattle.tl_tree.proofs.Grown.{grows_refl, nodes-none, tag-at-grown}
 use Rattle.tl_tree.proofs.Listed.{begins-longer}
 use Rattle.tl_tree.proofs.Within.{lt-more}
-use Rattle.tl_tree.proofs.Written.{frame-written, frames-length, same-frame}
+use Rattle.tl_tree.proofs.Written.{children-none, frame-written, frames-length, same-frame}
 use Rattle.tl_tree.specs.Inner.Frames.{changed, closed, frame_of, frames_of, path_of, place_of}
 use Rattle.tl_tree.specs.Inner.Store.{Grows, is_tag_number, nodes_of, tag_at}
 use Rattle.tl_tree.specs.declared.frame.Frame.{Frame}
@@ -16,14 +16,14 @@ use Rattle.tl_tree.specs.declared.frame.Place.{Place}
 use Rattle.tl_tree.specs.declared.path.FramePath.{FramePath}
 use Rattle.tl_tree.specs.declared.store.Store.{Store}
 
-pub new-frame : (s : Store) (number tag : ℕ) (place : Place) → frame_of s (record { number = number; tag = tag; children = 0; waiting = 0; place = place; is_open = true }) ≡ dom.new_frame number (tag_at s tag) (place_of place)
+pub new-frame : (s : Store) (number tag : ℕ) (place : Place) → frame_of s (record { number = number; tag = tag; children = 0; late = 0; waiting = 0; place = place; is_open = true }) ≡ dom.new_frame number (tag_at s tag) (place_of place)
 new-frame s number tag place =
-    same-frame number (place_of place) true (tag_at s tag) (tag_at s tag) (nodes_of s 0) dom.no_nodes (nodes_of s 0) dom.no_nodes refl (nodes-none s) (nodes-none s)
+    same-frame number (place_of place) true (tag_at s tag) (tag_at s tag) (dom.at_head (nodes_of s 0) (nodes_of s 0)) dom.no_nodes (nodes_of s 0) dom.no_nodes refl (children-none s) (nodes-none s)
 
-pub pushed-path : (p q : FramePath) (number tag : ℕ) (place : Place) → q.frames.items ≡ p.frames.items ++ record { number = number; tag = tag; children = 0; waiting = 0; place = place; is_open = true } ∷ [] → q.store ≡ p.store → path_of q ≡ dom.new_frame number (tag_at p.store tag) (place_of place) ∷ path_of p
+pub pushed-path : (p q : FramePath) (number tag : ℕ) (place : Place) → q.frames.items ≡ p.frames.items ++ record { number = number; tag = tag; children = 0; late = 0; waiting = 0; place = place; is_open = true } ∷ [] → q.store ≡ p.store → path_of q ≡ dom.new_frame number (tag_at p.store tag) (place_of place) ∷ path_of p
 unfolding frames_of
 pushed-path p q number tag place e same =
-    let f : Frame = record { number = number; tag = tag; children = 0; waiting = 0; place = place; is_open = true } in
+    let f : Frame = record { number = number; tag = tag; children = 0; late = 0; waiting = 0; place = place; is_open = true } in
     ap (λ (s : Store). reverse (map (frame_of s) q.frames.items)) same
     ∙ (ap (λ frames. reverse (map (frame_of p.store) frames)) e
     ∙ (ap reverse (map-append (frame_of p.store) p.frames.items (f ∷ []))

@@ -105,7 +105,7 @@ attributes-more tag xs i d h =
     ∙ with_more tag (map attribute_view (take i xs)) (attribute_view (get_or xs i d))))
 
 -- what was put in last
-last-entries : {A : Type 0} (front xs items : List A) (first all : ℕ) → items ≡ front ++ xs → first ≡ length front → all ≡ length items → take (all - first) (drop first items) ≡ xs
+pub last-entries : {A : Type 0} (front xs items : List A) (first all : ℕ) → items ≡ front ++ xs → first ≡ length front → all ≡ length items → take (all - first) (drop first items) ≡ xs
 last-entries front xs items first all put first_is all_is =
     let many = ap length put ∙ length-append front xs in
     let count : all - first ≡ length xs = omega arith in

@@ -1,16 +1,17 @@
 -- Frames as the store grows, and one of them written.
-use Rattle.std.proofs.Common.{ap, arith, sym, subst, ◌∙◌, ◌≡◌, ◌≤◌, ◌<◌, ◌&&◌, ◌++◌, ◌∷◌, [], Bool, IsTrue, List, false, get_or, length, map, nat_le, nat_lt, refl, reverse, set, suc, take, zero, ℕ}
+use Rattle.std.proofs.Common.{ap, arith, sym, subst, ◌∙◌, ◌≡◌, ◌≤◌, ◌<◌, ◌&&◌, ◌++◌, ◌∷◌, [], Bool, Err, IfOk, IsTrue, List, Ok, Result, false, get_or, length, map, nat_le, nat_lt, refl, reverse, set, suc, take, zero, ℕ}
 use Rattle.std.proofs.lemmas.Bool.{and_from, and_parts, leb-true, le-leb, ltb-true, lt-ltb}
 use Rattle.std.proofs.Math.ListN.{get_or-map}
 use Rattle.std.proofs.lemmas.List.{length-map, length-reverse}
 use Rattle.std.specs.List.{list_all}
 use Rattle.tl_dom_spec.specs.Path as dom
 use Rattle.tl_dom_spec.specs.Tags as tags
-use Rattle.tl_tree.proofs.Grown.{node-element, node-grown, node-joined, nodes-grown, nodes-none, tag-at-grown}
+use Rattle.tl_tree.proofs.Grown.{grows_trans, node-element, node-grown, node-joined, nodes-grown, nodes-none, tag-at-grown}
+use Rattle.tl_tree.proofs.Heads.{at-head-none, at-head-twice}
 use Rattle.tl_tree.proofs.Listed.{begins-longer, map-same, map-take}
-use Rattle.tl_tree.proofs.Changed.{changed-same, changed-top-twice, reverse-last}
+use Rattle.tl_tree.proofs.Changed.{changed-same, changed-top, changed-top-twice, reverse-last}
 use Rattle.tl_tree.specs.Inner.Framed.{frame_is_within}
-use Rattle.tl_tree.specs.Inner.Frames.{changed, frame_of, frames_of, is_frame, path_of, place_of}
+use Rattle.tl_tree.specs.Inner.Frames.{changed, children_of, frame_of, frames_of, is_frame, path_of, place_of, with_late}
 use Rattle.tl_tree.specs.Inner.Store.{Grows, bytes_of, is_node, is_row, node_of, nodes_of, tag_at, tag_of}
 use Rattle.tl_tree.specs.declared.cell.Node.{Node}
 use Rattle.tl_tree.specs.declared.cell.Node.TheVariants.{Element, Joined}
@@ -38,33 +39,37 @@ all-set test (y ∷ xs) (suc i) x all one =
 pub record Parts (s : Store) (f : Frame) : Type 0 where
   pub tag : f.tag < length s.tags.items
   pub children : f.children ≤ length s.cells.items
+  pub late : f.late ≤ length s.cells.items
   pub waiting : f.waiting ≤ length s.cells.items
 
 pub parts-of : (s : Store) (f : Frame) → IsTrue (frame_is_within (length s.tags.items) (length s.cells.items) f) → Parts s f
 parts-of s f h =
     let tags = length s.tags.items in
     let rows = length s.cells.items in
-    let p = and_parts (nat_lt f.tag tags) (nat_le f.children rows && nat_le f.waiting rows) h in
-    let q = and_parts (nat_le f.children rows) (nat_le f.waiting rows) p.1 in
+    let p = and_parts (nat_lt f.tag tags) (nat_le f.children rows && (nat_le f.late rows && nat_le f.waiting rows)) h in
+    let q = and_parts (nat_le f.children rows) (nat_le f.late rows && nat_le f.waiting rows) p.1 in
+    let r = and_parts (nat_le f.late rows) (nat_le f.waiting rows) q.1 in
     record {
       tag = ltb-true f.tag tags p.0;
       children = leb-true f.children rows q.0;
-      waiting = leb-true f.waiting rows q.1;
+      late = leb-true f.late rows r.0;
+      waiting = leb-true f.waiting rows r.1;
     }
 
-pub of-parts : (s : Store) (f : Frame) → f.tag < length s.tags.items → f.children ≤ length s.cells.items → f.waiting ≤ length s.cells.items → IsTrue (frame_is_within (length s.tags.items) (length s.cells.items) f)
-of-parts s f a b c =
+pub of-parts : (s : Store) (f : Frame) → f.tag < length s.tags.items → f.children ≤ length s.cells.items → f.late ≤ length s.cells.items → f.waiting ≤ length s.cells.items → IsTrue (frame_is_within (length s.tags.items) (length s.cells.items) f)
+of-parts s f a b c d =
     let tags = length s.tags.items in
     let rows = length s.cells.items in
-    and_from (nat_lt f.tag tags) (nat_le f.children rows && nat_le f.waiting rows) (lt-ltb f.tag tags a)
-    (and_from (nat_le f.children rows) (nat_le f.waiting rows) (le-leb f.children rows b) (le-leb f.waiting rows c))
+    and_from (nat_lt f.tag tags) (nat_le f.children rows && (nat_le f.late rows && nat_le f.waiting rows)) (lt-ltb f.tag tags a)
+    (and_from (nat_le f.children rows) (nat_le f.late rows && nat_le f.waiting rows) (le-leb f.children rows b)
+    (and_from (nat_le f.late rows) (nat_le f.waiting rows) (le-leb f.late rows c) (le-leb f.waiting rows d)))
 
 pub frame-more : (s t : Store) → Grows s t → (f : Frame) → IsTrue (frame_is_within (length s.tags.items) (length s.cells.items) f) → IsTrue (frame_is_within (length t.tags.items) (length t.cells.items) f)
 frame-more s t g f h =
     let p = parts-of s f h in
     let tags = begins-longer s.tags.items t.tags.items g.tags in
     let cells = begins-longer s.cells.items t.cells.items g.cells in
-    of-parts t f (omega arith) (omega arith) (omega arith)
+    of-parts t f (omega arith) (omega arith) (omega arith) (omega arith)
 
 -- frames that have the same
 pub same-frame : (number : ℕ) (place : dom.Place) (is_open : Bool) (tag tag' : tags.Tag) (children children' waiting waiting' : dom.Nodes) → tag ≡ tag' → children ≡ children' → waiting ≡ waiting' → ◌≡◌ {A = dom.Frame} (record { number = number; tag = tag; children = children; waiting = waiting; place = place; is_open = is_open }) (record { number = number; tag = tag'; children = children'; waiting = waiting'; place = place; is_open = is_open })
@@ -73,11 +78,25 @@ same-frame number place is_open tag tag' children children' waiting waiting' p q
     ∙ (ap (λ (own : dom.Nodes). record { number = number; tag = tag'; children = own; waiting = waiting; place = place; is_open = is_open }) q
     ∙ ap (λ (own : dom.Nodes). record { number = number; tag = tag'; children = children'; waiting = own; place = place; is_open = is_open }) r)
 
+-- the children of a frame, with what goes to the end of the `head` among them
+children-grown : (s t : Store) → Grows s t → (f : Frame) → Parts s f → children_of t f ≡ children_of s f
+children-grown s t g f p =
+    ap (λ (nodes : dom.Nodes). dom.at_head nodes (nodes_of t f.late)) (nodes-grown s t g f.children p.children)
+    ∙ ap (dom.at_head (nodes_of s f.children)) (nodes-grown s t g f.late p.late)
+
+late-none : (s : Store) (nodes : dom.Nodes) (late : ℕ) → late ≡ 0 → dom.at_head nodes (nodes_of s late) ≡ nodes
+late-none s nodes late e =
+    ap (λ (row : ℕ). dom.at_head nodes (nodes_of s row)) e
+    ∙ (ap (dom.at_head nodes) (nodes-none s) ∙ at-head-none nodes)
+
+pub children-none : (s : Store) → dom.at_head (nodes_of s 0) (nodes_of s 0) ≡ dom.no_nodes
+children-none s = late-none s (nodes_of s 0) 0 refl ∙ nodes-none s
+
 pub frame-grown : (s t : Store) → Grows s t → (f : Frame) → IsTrue (frame_is_within (length s.tags.items) (length s.cells.items) f) → frame_of t f ≡ frame_of s f
 frame-grown s t g f h =
     let p = parts-of s f h in
-    same-frame f.number (place_of f.place) f.is_open (tag_at t f.tag) (tag_at s f.tag) (nodes_of t f.children) (nodes_of s f.children) (nodes_of t f.waiting) (nodes_of s f.waiting)
-    (tag-at-grown s t g f.tag p.tag) (nodes-grown s t g f.children p.children) (nodes-grown s t g f.waiting p.waiting)
+    same-frame f.number (place_of f.place) f.is_open (tag_at t f.tag) (tag_at s f.tag) (children_of t f) (children_of s f) (nodes_of t f.waiting) (nodes_of s f.waiting)
+    (tag-at-grown s t g f.tag p.tag) (children-grown s t g f p) (nodes-grown s t g f.waiting p.waiting)
 
 pub frames-grown : (p q : FramePath) → Grows p.store q.store → q.frames.items ≡ p.frames.items → frames_of q ≡ frames_of p
 unfolding frames_of
@@ -105,16 +124,45 @@ frame-written p q g i f new change at is h e =
 
 -- A row goes to the end of a frame, waits in it, or has what waited there
 
-pub put-inside : (p m q : FramePath) (i : ℕ) (f : Frame) (row : ℕ) (nodes : dom.Nodes) → Grows p.store m.store → m.frames.items ≡ p.frames.items → q.store ≡ m.store → q.frames.items ≡ set m.frames.items i (record f { children = row }) → f ≡ get_or p.frames.items i f → i < length p.frames.items → nodes_of m.store row ≡ dom.joined (nodes_of p.store f.children) nodes → frames_of q ≡ changed i (dom.with_nodes nodes) (frames_of p)
-put-inside p m q i f row nodes g kept same at is h stands =
-    let new : Frame = record f { children = row } in
-    let grows = subst (λ (s : Store). Grows p.store s) (sym same) g in
-    let parts = parts-of p.store f (all-at (is_frame p) p.frames.items i f f is h p.within) in
-    frame-written p q grows i f new (dom.with_nodes nodes) (at ∙ ap (λ frames. set frames i new) kept) is h
-    (same-frame f.number (place_of f.place) f.is_open (tag_at q.store f.tag) (tag_at p.store f.tag) (nodes_of q.store row) (dom.joined (nodes_of p.store f.children) nodes) (nodes_of q.store f.waiting) (nodes_of p.store f.waiting)
-    (tag-at-grown p.store q.store grows f.tag parts.tag)
-    (ap (λ (s : Store). nodes_of s row) same ∙ stands)
-    (nodes-grown p.store q.store grows f.waiting parts.waiting))
+-- with the late nodes where they go, or as they are
+pub folded : (s t : Store) → Grows s t → (f : Frame) (row : ℕ) → IsTrue (frame_is_within (length s.tags.items) (length s.cells.items) f) → nodes_of t row ≡ dom.at_head (nodes_of s f.children) (nodes_of s f.late) → frame_of t (record f { children = row; late = 0 }) ≡ frame_of s f
+folded s t g f row h stands =
+    let p = parts-of s f h in
+    same-frame f.number (place_of f.place) f.is_open (tag_at t f.tag) (tag_at s f.tag) (dom.at_head (nodes_of t row) (nodes_of t 0)) (children_of s f) (nodes_of t f.waiting) (nodes_of s f.waiting)
+    (tag-at-grown s t g f.tag p.tag)
+    (late-none t (nodes_of t row) 0 refl ∙ stands)
+    (nodes-grown s t g f.waiting p.waiting)
+
+pub folded-within : (s t : Store) → Grows s t → (f : Frame) (row : ℕ) → IsTrue (frame_is_within (length s.tags.items) (length s.cells.items) f) → IsTrue (is_row t row) → IsTrue (frame_is_within (length t.tags.items) (length t.cells.items) (record f { children = row; late = 0 }))
+folded-within s t g f row h k =
+    let p = parts-of s f h in
+    let tags = begins-longer s.tags.items t.tags.items g.tags in
+    let cells = begins-longer s.cells.items t.cells.items g.cells in
+    of-parts t (record f { children = row; late = 0 }) (omega arith) (leb-true row (length t.cells.items) k) (omega arith) (omega arith)
+
+ready-folded : (s : Store) (f : Frame) (nodes : dom.Nodes) → f.late ≡ 0 → dom.at_head (dom.joined (nodes_of s f.children) nodes) (nodes_of s f.late) ≡ dom.joined (children_of s f) nodes
+ready-folded s f nodes e =
+    late-none s (dom.joined (nodes_of s f.children) nodes) f.late e
+    ∙ ap (λ (own : dom.Nodes). dom.joined own nodes) (sym (late-none s (nodes_of s f.children) f.late e))
+
+pub ready-folded-ok : {E : Type 0} (s : Store) (nodes : dom.Nodes) (r : Result Frame E) → IfOk r (λ f. f.late ≡ 0) → IfOk r (λ f. dom.at_head (dom.joined (nodes_of s f.children) nodes) (nodes_of s f.late) ≡ dom.joined (children_of s f) nodes)
+ready-folded-ok s nodes (Ok f) h = ready-folded s f nodes h
+ready-folded-ok s nodes (Err e) h = tt
+
+pub put-inside : (p r m q : FramePath) (i : ℕ) (f own : Frame) (row : ℕ) (node : Node) → Grows p.store r.store → Grows r.store m.store → m.frames.items ≡ p.frames.items → q.store ≡ m.store → q.frames.items ≡ set m.frames.items i (record own { children = row }) → f ≡ get_or p.frames.items i f → i < length p.frames.items → IsTrue (is_node p.store node) → IsTrue (is_frame r own) → frame_of r.store own ≡ frame_of p.store f → dom.at_head (dom.joined (nodes_of r.store own.children) (node_of p.store node)) (nodes_of r.store own.late) ≡ dom.joined (children_of r.store own) (node_of p.store node) → nodes_of m.store row ≡ dom.joined (nodes_of r.store own.children) (node_of r.store node) → frames_of q ≡ changed i (dom.with_nodes (node_of p.store node)) (frames_of p)
+put-inside p r m q i f own row node g k kept same at is h within own-within own-is behind stands =
+    let new : Frame = record own { children = row } in
+    let nodes = node_of p.store node in
+    let last = subst (λ (s : Store). Grows r.store s) (sym same) k in
+    let parts = parts-of r.store own own-within in
+    frame-written p q (grows_trans p.store r.store q.store g last) i f new (dom.with_nodes nodes) (at ∙ ap (λ frames. set frames i new) kept) is h
+    (same-frame own.number (place_of own.place) own.is_open (tag_at q.store own.tag) (tag_at r.store own.tag) (dom.at_head (nodes_of q.store row) (nodes_of q.store own.late)) (dom.joined (children_of r.store own) nodes) (nodes_of q.store own.waiting) (nodes_of r.store own.waiting)
+    (tag-at-grown r.store q.store last own.tag parts.tag)
+    (ap (λ (x : dom.Nodes). dom.at_head x (nodes_of q.store own.late))
+    (ap (λ (s : Store). nodes_of s row) same ∙ (stands ∙ ap (dom.joined (nodes_of r.store own.children)) (node-grown p.store r.store g node within)))
+    ∙ (ap (dom.at_head (dom.joined (nodes_of r.store own.children) nodes)) (nodes-grown r.store q.store last own.late parts.late) ∙ behind))
+    (nodes-grown r.store q.store last own.waiting parts.waiting)
+    ∙ ap (dom.with_nodes nodes) own-is)
 
 pub put-waiting : (p m q : FramePath) (i : ℕ) (f : Frame) (row : ℕ) (nodes : dom.Nodes) → Grows p.store m.store → m.frames.items ≡ p.frames.items → q.store ≡ m.store → q.frames.items ≡ set m.frames.items i (record f { waiting = row }) → f ≡ get_or p.frames.items i f → i < length p.frames.items → nodes_of m.store row ≡ dom.joined (nodes_of p.store f.waiting) nodes → frames_of q ≡ changed i (dom.with_waiting nodes) (frames_of p)
 put-waiting p m q i f row nodes g kept same at is h stands =
@@ -122,21 +170,39 @@ put-waiting p m q i f row nodes g kept same at is h stands =
     let grows = subst (λ (s : Store). Grows p.store s) (sym same) g in
     let parts = parts-of p.store f (all-at (is_frame p) p.frames.items i f f is h p.within) in
     frame-written p q grows i f new (dom.with_waiting nodes) (at ∙ ap (λ frames. set frames i new) kept) is h
-    (same-frame f.number (place_of f.place) f.is_open (tag_at q.store f.tag) (tag_at p.store f.tag) (nodes_of q.store f.children) (nodes_of p.store f.children) (nodes_of q.store row) (dom.joined (nodes_of p.store f.waiting) nodes)
+    (same-frame f.number (place_of f.place) f.is_open (tag_at q.store f.tag) (tag_at p.store f.tag) (children_of q.store f) (children_of p.store f) (nodes_of q.store row) (dom.joined (nodes_of p.store f.waiting) nodes)
     (tag-at-grown p.store q.store grows f.tag parts.tag)
-    (nodes-grown p.store q.store grows f.children parts.children)
+    (children-grown p.store q.store grows f parts)
     (ap (λ (s : Store). nodes_of s row) same ∙ stands))
 
-pub caught-up : (p m q : FramePath) (i : ℕ) (f : Frame) (row : ℕ) → Grows p.store m.store → m.frames.items ≡ p.frames.items → q.store ≡ m.store → q.frames.items ≡ set m.frames.items i (record f { children = row; waiting = 0 }) → f ≡ get_or p.frames.items i f → i < length p.frames.items → nodes_of m.store row ≡ dom.joined (nodes_of p.store f.children) (node_of p.store (Joined f.waiting)) → frames_of q ≡ changed i dom.caught_up (frames_of p)
-caught-up p m q i f row g kept same at is h stands =
-    let new : Frame = record f { children = row; waiting = 0 } in
+pub put-at-head : (p m q : FramePath) (i : ℕ) (f : Frame) (row : ℕ) (nodes : dom.Nodes) → Grows p.store m.store → m.frames.items ≡ p.frames.items → q.store ≡ m.store → q.frames.items ≡ set m.frames.items i (record f { late = row }) → f ≡ get_or p.frames.items i f → i < length p.frames.items → nodes_of m.store row ≡ dom.joined (nodes_of p.store f.late) nodes → frames_of q ≡ changed i (with_late nodes) (frames_of p)
+put-at-head p m q i f row nodes g kept same at is h stands =
+    let new : Frame = record f { late = row } in
     let grows = subst (λ (s : Store). Grows p.store s) (sym same) g in
     let parts = parts-of p.store f (all-at (is_frame p) p.frames.items i f f is h p.within) in
-    frame-written p q grows i f new dom.caught_up (at ∙ ap (λ frames. set frames i new) kept) is h
-    (same-frame f.number (place_of f.place) f.is_open (tag_at q.store f.tag) (tag_at p.store f.tag) (nodes_of q.store row) (dom.joined (nodes_of p.store f.children) (nodes_of p.store f.waiting)) (nodes_of q.store 0) dom.no_nodes
+    frame-written p q grows i f new (with_late nodes) (at ∙ ap (λ frames. set frames i new) kept) is h
+    (same-frame f.number (place_of f.place) f.is_open (tag_at q.store f.tag) (tag_at p.store f.tag) (children_of q.store new) (dom.at_head (children_of p.store f) nodes) (nodes_of q.store f.waiting) (nodes_of p.store f.waiting)
     (tag-at-grown p.store q.store grows f.tag parts.tag)
-    (ap (λ (s : Store). nodes_of s row) same ∙ (stands ∙ ap (dom.joined (nodes_of p.store f.children)) (node-joined p.store f.waiting)))
-    (nodes-none q.store))
+    (ap (λ (x : dom.Nodes). dom.at_head x (nodes_of q.store row)) (nodes-grown p.store q.store grows f.children parts.children)
+    ∙ (ap (dom.at_head (nodes_of p.store f.children)) (ap (λ (s : Store). nodes_of s row) same ∙ stands)
+    ∙ sym (at-head-twice (nodes_of p.store f.children) (nodes_of p.store f.late) nodes)))
+    (nodes-grown p.store q.store grows f.waiting parts.waiting))
+
+pub caught-up : (p r m q : FramePath) (i : ℕ) (f own : Frame) (row : ℕ) → Grows p.store r.store → Grows r.store m.store → m.frames.items ≡ p.frames.items → q.store ≡ m.store → q.frames.items ≡ set m.frames.items i (record own { children = row; waiting = 0 }) → f ≡ get_or p.frames.items i f → i < length p.frames.items → IsTrue (is_frame r own) → frame_of r.store own ≡ frame_of p.store f → own.late ≡ 0 → nodes_of m.store row ≡ dom.joined (nodes_of r.store own.children) (node_of r.store (Joined own.waiting)) → frames_of q ≡ changed i dom.caught_up (frames_of p)
+caught-up p r m q i f own row g k kept same at is h own-within own-is late stands =
+    let new : Frame = record own { children = row; waiting = 0 } in
+    let last = subst (λ (s : Store). Grows r.store s) (sym same) k in
+    let parts = parts-of r.store own own-within in
+    frame-written p q (grows_trans p.store r.store q.store g last) i f new dom.caught_up (at ∙ ap (λ frames. set frames i new) kept) is h
+    (same-frame own.number (place_of own.place) own.is_open (tag_at q.store own.tag) (tag_at r.store own.tag) (children_of q.store new) (dom.joined (children_of r.store own) (nodes_of r.store own.waiting)) (nodes_of q.store 0) dom.no_nodes
+    (tag-at-grown r.store q.store last own.tag parts.tag)
+    (late-none q.store (nodes_of q.store row) own.late late
+    ∙ (ap (λ (s : Store). nodes_of s row) same
+    ∙ (stands
+    ∙ (ap (λ (x : dom.Nodes). dom.joined x (node_of r.store (Joined own.waiting))) (sym (late-none r.store (nodes_of r.store own.children) own.late late))
+    ∙ ap (dom.joined (children_of r.store own)) (node-joined r.store own.waiting)))))
+    (nodes-none q.store)
+    ∙ ap dom.caught_up own-is)
 
 nothing-waits : (f : dom.Frame) → f.waiting ≡ dom.no_nodes → dom.caught_up f ≡ f
 nothing-waits f e =
@@ -161,11 +227,11 @@ caught-up-none p i f is h e =
     (nothing-waits (frame_of p.store f) (ap (nodes_of p.store) e ∙ nodes-none p.store)))
 
 -- The document alone
-pub path-new : (p : FramePath) (s : Store) (tag : ℕ) (none : List Frame) → none ≡ [] → p.frames.items ≡ none ++ record { number = 0; tag = tag; children = 0; waiting = 0; place = Here; is_open = false } ∷ [] → tag_at p.store tag ≡ tag_of s (record { space = Html; name = record { start = 0; len = 0 }; known = 0; first_attribute = 0; attribute_count = 0 }) → path_of p ≡ dom.document ∷ []
+pub path-new : (p : FramePath) (s : Store) (tag : ℕ) (none : List Frame) → none ≡ [] → p.frames.items ≡ none ++ record { number = 0; tag = tag; children = 0; late = 0; waiting = 0; place = Here; is_open = false } ∷ [] → tag_at p.store tag ≡ tag_of s (record { space = Html; name = record { start = 0; len = 0 }; known = 0; first_attribute = 0; attribute_count = 0 }) → path_of p ≡ dom.document ∷ []
 unfolding frames_of tag_of bytes_of
 path-new p s tag none is e t =
-    ap (λ frames. reverse (map (frame_of p.store) frames)) (e ∙ ap (λ (frames : List Frame). frames ++ record { number = 0; tag = tag; children = 0; waiting = 0; place = Here; is_open = false } ∷ []) is)
-    ∙ ap (λ (f : dom.Frame). f ∷ []) (same-frame 0 dom.here false (tag_at p.store tag) (tags.bare_tag []) (nodes_of p.store 0) dom.no_nodes (nodes_of p.store 0) dom.no_nodes t (nodes-none p.store) (nodes-none p.store))
+    ap (λ frames. reverse (map (frame_of p.store) frames)) (e ∙ ap (λ (frames : List Frame). frames ++ record { number = 0; tag = tag; children = 0; late = 0; waiting = 0; place = Here; is_open = false } ∷ []) is)
+    ∙ ap (λ (f : dom.Frame). f ∷ []) (same-frame 0 dom.here false (tag_at p.store tag) (tags.bare_tag []) (dom.at_head (nodes_of p.store 0) (nodes_of p.store 0)) dom.no_nodes (nodes_of p.store 0) dom.no_nodes t (children-none p.store) (nodes-none p.store))
 
 -- What goes to the innermost frame
 
@@ -177,6 +243,11 @@ put-on-top p m q n node g h long first second =
 pub settle-on-top : (p m q : FramePath) (n : ℕ) (node : Node) → length p.frames.items ≡ suc n → frames_of m ≡ changed n (dom.with_nodes (node_of p.store node)) (frames_of p) → frames_of q ≡ changed n dom.caught_up (frames_of m) → path_of q ≡ dom.settled_at dom.here (node_of p.store node) (path_of p)
 settle-on-top p m q n node long first second =
     changed-top-twice (dom.with_nodes (node_of p.store node)) dom.caught_up (frames_of p) (frames_of m) (frames_of q) n (frames-length p ∙ long) first second
+
+-- nodes at the end of the `head` in the innermost frame
+pub put-late : (p q : FramePath) (n : ℕ) (nodes : dom.Nodes) → length p.frames.items ≡ suc n → frames_of q ≡ changed n (with_late nodes) (frames_of p) → path_of q ≡ dom.put dom.into_head nodes (path_of p)
+put-late p q n nodes long e =
+    ap reverse e ∙ changed-top (with_late nodes) (frames_of p) n (frames-length p ∙ long)
 
 -- The innermost frame goes
 
@@ -190,17 +261,24 @@ taken-top p q n f long is frames store =
     (sym (map-take (frame_of p.store) n p.frames.items)
     ∙ (ap (map (frame_of p.store)) (sym frames) ∙ ap (λ (s : Store). map (frame_of s) q.frames.items) (sym store))))
 
-pub element-none : (s : Store) (f : Frame) → f.waiting ≡ 0 → node_of s (Element f.tag f.children) ≡ dom.node_of (frame_of s f)
-element-none s f e =
-    node-element s f.tag f.children
-    ∙ ap (λ (waiting : dom.Nodes). dom.and_element dom.no_nodes (tag_at s f.tag) (dom.joined (nodes_of s f.children) waiting)) (sym (ap (nodes_of s) e ∙ nodes-none s))
+-- where nothing goes to the end of the `head` any more
+pub element-none : (s t : Store) (f own : Frame) → frame_of t own ≡ frame_of s f → own.late ≡ 0 → own.waiting ≡ 0 → node_of t (Element own.tag own.children) ≡ dom.node_of (frame_of s f)
+element-none s t f own is late e =
+    node-element t own.tag own.children
+    ∙ (ap (λ (children : dom.Nodes). dom.and_element dom.no_nodes (tag_at t own.tag) children) (sym (late-none t (nodes_of t own.children) own.late late))
+    ∙ (ap (λ (waiting : dom.Nodes). dom.and_element dom.no_nodes (tag_at t own.tag) (dom.joined (children_of t own) waiting)) (sym (ap (nodes_of t) e ∙ nodes-none t))
+    ∙ ap dom.node_of is))
 
-pub element-some : (s t : Store) (f : Frame) (row : ℕ) → Grows s t → IsTrue (frame_is_within (length s.tags.items) (length s.cells.items) f) → nodes_of t row ≡ dom.joined (nodes_of s f.children) (node_of s (Joined f.waiting)) → node_of t (Element f.tag row) ≡ dom.node_of (frame_of s f)
-element-some s t f row g h stands =
-    let parts = parts-of s f h in
-    node-element t f.tag row
-    ∙ (ap (λ (tag : tags.Tag). dom.and_element dom.no_nodes tag (nodes_of t row)) (tag-at-grown s t g f.tag parts.tag)
-    ∙ ap (dom.and_element dom.no_nodes (tag_at s f.tag)) (stands ∙ ap (dom.joined (nodes_of s f.children)) (node-joined s f.waiting)))
+pub element-some : (s t u : Store) (f own : Frame) (row : ℕ) → Grows t u → IsTrue (frame_is_within (length t.tags.items) (length t.cells.items) own) → frame_of t own ≡ frame_of s f → own.late ≡ 0 → nodes_of u row ≡ dom.joined (nodes_of t own.children) (node_of t (Joined own.waiting)) → node_of u (Element own.tag row) ≡ dom.node_of (frame_of s f)
+element-some s t u f own row g h is late stands =
+    let parts = parts-of t own h in
+    node-element u own.tag row
+    ∙ (ap (λ (tag : tags.Tag). dom.and_element dom.no_nodes tag (nodes_of u row)) (tag-at-grown t u g own.tag parts.tag)
+    ∙ (ap (dom.and_element dom.no_nodes (tag_at t own.tag))
+    (stands
+    ∙ (ap (λ (x : dom.Nodes). dom.joined x (node_of t (Joined own.waiting))) (sym (late-none t (nodes_of t own.children) own.late late))
+    ∙ ap (dom.joined (children_of t own)) (node-joined t own.waiting)))
+    ∙ ap dom.node_of is))
 
 pub element-within : (s t : Store) (f : Frame) (row : ℕ) → Grows s t → IsTrue (frame_is_within (length s.tags.items) (length s.cells.items) f) → IsTrue (is_row t row) → IsTrue (is_node t (Element f.tag row))
 element-within s t f row g h k =
@@ -229,3 +307,17 @@ settle-alone p h =
     let long : length (frames_of p) ≡ suc 0 = frames-length p ∙ omega arith in
     let is = reverse-last (frames_of p) 0 dom.document long in
     is ∙ sym (ap dom.top_settled is)
+
+-- what stands in a frame, as a row
+pub content-none : (s t : Store) (f own : Frame) → frame_of t own ≡ frame_of s f → own.late ≡ 0 → own.waiting ≡ 0 → nodes_of t own.children ≡ dom.joined (frame_of s f).children (frame_of s f).waiting
+content-none s t f own is late e =
+    sym (late-none t (nodes_of t own.children) own.late late)
+    ∙ (ap (dom.joined (children_of t own)) (sym (ap (nodes_of t) e ∙ nodes-none t))
+    ∙ ap (λ (g : dom.Frame). dom.joined g.children g.waiting) is)
+
+pub content-some : (s t u : Store) (f own : Frame) (row : ℕ) → frame_of t own ≡ frame_of s f → own.late ≡ 0 → nodes_of u row ≡ dom.joined (nodes_of t own.children) (node_of t (Joined own.waiting)) → nodes_of u row ≡ dom.joined (frame_of s f).children (frame_of s f).waiting
+content-some s t u f own row is late stands =
+    stands
+    ∙ (ap (λ (x : dom.Nodes). dom.joined x (node_of t (Joined own.waiting))) (sym (late-none t (nodes_of t own.children) own.late late))
+    ∙ (ap (dom.joined (children_of t own)) (node-joined t own.waiting)
+    ∙ ap (λ (g : dom.Frame). dom.joined g.children g.waiting) is))

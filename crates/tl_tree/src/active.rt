@@ -10,7 +10,7 @@ ghost use Rattle.tl_tree.specs.Inner.ActiveWithin.{are_distinct, entry_is_within
 
 use crate::active_entry::{Alike, Entry, Listed};
 use crate::alike::{is_alike, is_named};
-use crate::error::ReadError;
+use crate::error::GrowError;
 use crate::store::Store;
 use std::alloc::Global;
 
@@ -28,11 +28,12 @@ pub(crate) struct ActiveList {
 impl ActiveList {
     ghost use Rattle.std.specs.List.{insert, list_any, remove};
     ghost use Rattle.std.specs.Option.{option_map};
-    ghost use Rattle.std.specs.Prelude.{IfSome, IsNone, OnOk, [], false, length, take, ℕ, ◌<◌, ◌≡◌, ◌≤◌, ◌∷◌};
+    ghost use Rattle.std.specs.Prelude.{IfSome, IsNone, None, OnOk, [], false, length, slice_index_or, slice_set, take, ℕ, ◌<◌, ◌≡◌, ◌≤◌, ◌∷◌};
     ghost use Rattle.tl_dom_spec.specs.Builder.{formatting, marker, without_last_marker};
     ghost use Rattle.tl_dom_spec.specs.Formatting.{is_listed, listed, listed_behind, relisted, unlisted, with_room};
     ghost use Rattle.tl_tree.specs.Inner.Active.{AreAlike, IsLatest, active_of, listed_of, seen};
     ghost use Rattle.tl_tree.specs.Inner.ActiveWithin.{is_of};
+    ghost use Rattle.tl_tree.specs.Inner.AtRest.{latest_of};
     ghost use Rattle.tl_tree.specs.Inner.Store.{is_tag_number, tag_at};
     ghost use Rattle.tl_tree.specs.declared.active_entry.Entry.TheVariants.{Formatting};
     ghost use Rattle.tl_tree.specs.declared.store.Store.{Store};
@@ -73,6 +74,20 @@ impl ActiveList {
         self.find(number).is_some()
     }
 
+    /// The number of the latest entry, where it is an element.
+    pub(crate) fn latest(&self) -> Option<u32>
+        ensures { (s : Store) → result ≡ latest_of (active_of s self.now) }
+    {
+        let count = self.entries.len();
+        if count == 0 {
+            return None;
+        }
+        match self.entries[count - 1] {
+            Entry::Marker => None,
+            Entry::Formatting { number, .. } => Some(number),
+        }
+    }
+
     /// The latest element of a name after the last marker.
     pub(crate) fn listed(&self, store: &Store<'_>, name: &[u8]) -> Option<Listed>
         requires { self.now.greatest_tag < length store.now.tags.items }
@@ -95,7 +110,7 @@ impl ActiveList {
     }
 
     // An entry is put at a place.
-    fn put(&mut self, place: usize, number: u32, tag: u32) -> Result<(), ReadError>
+    fn put(&mut self, place: usize, number: u32, tag: u32) -> Result<(), GrowError>
         requires place { place ≤ length self.old.entries.items }
         requires number { self.old.greatest_number < number }
         ensures entries { OnOk result
@@ -111,8 +126,8 @@ impl ActiveList {
         Ok(())
     }
 
-    // The entry of a place is taken out.
-    fn remove(&mut self, place: usize)
+    /// The entry of a place is taken out.
+    pub(crate) fn remove(&mut self, place: usize)
         requires { place < length self.old.entries.items }
         ensures entries { self.new.entries.items ≡ remove self.old.entries.items place }
         ensures number { self.new.greatest_number ≡ self.old.greatest_number }
@@ -122,7 +137,7 @@ impl ActiveList {
     }
 
     /// An element is listed. Its number is greater than those that were listed before.
-    pub(crate) fn push(&mut self, number: u32, tag: u32) -> Result<(), ReadError>
+    pub(crate) fn push(&mut self, number: u32, tag: u32) -> Result<(), GrowError>
         requires { self.old.greatest_number < number }
         ensures active { OnOk result ((s : Store) → active_of s self.new
             ≡ formatting number (tag_at s tag) ∷ active_of s self.old) }
@@ -134,7 +149,7 @@ impl ActiveList {
     }
 
     /// A marker is put behind the entries.
-    pub(crate) fn push_marker(&mut self) -> Result<(), ReadError>
+    pub(crate) fn push_marker(&mut self) -> Result<(), GrowError>
         ensures active { OnOk result
             ((s : Store) → active_of s self.new ≡ marker ∷ active_of s self.old) }
         ensures number { self.new.greatest_number ≡ self.old.greatest_number }
@@ -157,6 +172,37 @@ impl ActiveList {
         self.remove(place);
     }
 
+    /// How many entries there are.
+    pub(crate) fn len(&self) -> usize
+        ensures { result ≡ length self.now.entries.items }
+    {
+        self.entries.len()
+    }
+
+    /// The entry at a place, the earliest first.
+    pub(crate) fn entry(&self, place: usize) -> Entry
+        requires { place < length self.now.entries.items }
+        ensures stands { result ≡ slice_index_or self.now.entries.items place result }
+        ensures within { IsTrue
+            (entry_is_within self.now.greatest_number self.now.greatest_tag result) }
+    {
+        self.entries[place]
+    }
+
+    /// An element of a new number stands at a place.
+    pub(crate) fn set(&mut self, place: usize, new: u32, tag: u32)
+        requires place { place < length self.old.entries.items }
+        requires new { self.old.greatest_number < new }
+        requires tag { tag ≤ self.old.greatest_tag }
+        ensures entries { self.new.entries.items
+            ≡ slice_set self.old.entries.items place (Formatting new tag) }
+        ensures number { self.new.greatest_number ≡ new }
+        ensures tag { self.new.greatest_tag ≡ self.old.greatest_tag }
+    {
+        self.entries[place] = Entry::Formatting { number: new, tag };
+        self.greatest_number = new;
+    }
+
     /// An element of a new number and of the same tag stands in the place of another one.
     pub(crate) fn relist(&mut self, number: u32, new: u32)
         requires { self.old.greatest_number < new }
@@ -172,12 +218,11 @@ impl ActiveList {
         let Entry::Formatting { tag, .. } = entry else {
             return;
         };
-        self.entries[place] = Entry::Formatting { number: new, tag };
-        self.greatest_number = new;
+        self.set(place, new, tag);
     }
 
     /// An element of a new number is listed behind another one, as the later one.
-    pub(crate) fn list_behind(&mut self, number: u32, new: u32, tag: u32) -> Result<(), ReadError>
+    pub(crate) fn list_behind(&mut self, number: u32, new: u32, tag: u32) -> Result<(), GrowError>
         requires { self.old.greatest_number < new }
         ensures active { OnOk result ((s : Store) → active_of s self.new
             ≡ listed_behind number (formatting new (tag_at s tag)) (active_of s self.old)) }
@@ -213,19 +258,22 @@ impl ActiveList {
     }
 
     /// The Noah's Ark clause: where there are three elements like this one after the last marker,
-    /// the earliest is listed no more.
-    pub(crate) fn make_room(&mut self, store: &Store<'_>, own: u32)
-        requires tags { self.old.greatest_tag < length store.now.tags.items }
+    /// the earliest of them is one too many.
+    pub(crate) fn surplus(&self, store: &Store<'_>, own: u32) -> Option<usize>
+        requires tags { self.now.greatest_tag < length store.now.tags.items }
         requires own { IsTrue (is_tag_number store.now own) }
-        ensures active { active_of store.now self.new
-            ≡ with_room (tag_at store.now own) (active_of store.now self.old) }
-        ensures number { self.new.greatest_number ≡ self.old.greatest_number }
-        ensures tag { self.new.greatest_tag ≡ self.old.greatest_tag }
+        ensures within { IfSome result (λ place. place < length self.now.entries.items) }
+        ensures some { IfSome result
+            (λ place. seen store.now (remove self.now.entries.items place)
+            ≡ with_room (tag_at store.now own) (active_of store.now self.now)) }
+        ensures none { result ≡ None → active_of store.now self.now
+            ≡ with_room (tag_at store.now own) (active_of store.now self.now) }
     {
         let alike = self.alike(store, own);
         if alike.count > 2 {
-            self.remove(alike.earliest);
+            return Some(alike.earliest);
         }
+        None
     }
 
     // How many entries stand before the last marker.

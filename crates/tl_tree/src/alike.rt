@@ -9,8 +9,8 @@ ghost use Rattle.tl_tree.specs.Inner.Store.{attribute_of, bytes_of, entries_of, 
 use crate::entries::{AttributeEntry, TagEntry};
 use crate::store::Store;
 
-// The attributes of a tag.
-fn attributes<'s>(store: &'s Store<'_>, tag: TagEntry) -> &'s [AttributeEntry]
+/// The attributes of a tag.
+pub(crate) fn attributes<'s>(store: &'s Store<'_>, tag: TagEntry) -> &'s [AttributeEntry]
     requires { IsTrue (is_tag store.now tag) }
     ensures { result.now ≡ entries_of store.now tag }
 {

@@ -5,13 +5,13 @@ ghost use Rattle.tl_tree.specs.Inner.Frames.{path_of};
 ghost use Rattle.tl_tree.specs.Inner.Store.{Grows, tag_at};
 
 use crate::entries::{Namespace, TagEntry};
-use crate::error::ReadError;
+use crate::error::GrowError;
 use crate::path::FramePath;
 use crate::store::Store;
 
 impl<'a> Store<'a> {
     /// Puts the tag of such an element behind the others, and answers its number.
-    pub(crate) fn add_bare_tag(&mut self, name: &[u8]) -> Result<u32, ReadError>
+    pub(crate) fn add_bare_tag(&mut self, name: &[u8]) -> Result<u32, GrowError>
         ensures stands { IfOk result (λ number. tag_at self.new number ≡ bare_tag name.now) }
         ensures within { IfOk result (λ number. number < length self.new.tags.items) }
         ensures grows { Grows self.old self.new }
@@ -29,7 +29,7 @@ impl<'a> Store<'a> {
 
 impl<'a> FramePath<'a> {
     /// Puts the tag of such an element in the store, and answers its number.
-    pub(crate) fn add_bare_tag(&mut self, name: &[u8]) -> Result<u32, ReadError>
+    pub(crate) fn add_bare_tag(&mut self, name: &[u8]) -> Result<u32, GrowError>
         ensures stands { IfOk result
             (λ number. tag_at self.new.store number ≡ bare_tag name.now) }
         ensures within { IfOk result (λ number. number < length self.new.store.tags.items) }

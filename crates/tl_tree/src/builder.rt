@@ -9,19 +9,23 @@ ghost use Rattle.tl_tree.specs.Inner.Known.{AreKnown};
 
 use crate::active::ActiveList;
 use crate::cell::Node;
-use crate::error::ReadError;
+use crate::entries::DoctypeEntry;
+use crate::error::GrowError;
+use crate::frame::{Mark, Place};
 use crate::mode::Mode;
 use crate::path::FramePath;
-use crate::reads::Reads;
 use crate::span::Span;
 use crate::test::{TagTest, Test};
 use std::alloc::Global;
+use tl_html_tokens::Mode as TextMode;
 
 /// What is set before a page is read, and stays so.
-#[derive(Clone, Copy)]
-pub(crate) struct Flags {
-    pub(crate) is_scripting: bool,
-    pub(crate) counts_search: bool,
+#[derive(Clone, Copy, Debug)]
+pub struct Flags {
+    /// Whether scripts run, where `noscript` has a text and no markup.
+    pub is_scripting: bool,
+    /// Whether `search` is a special element: it is one by the standard, and not in all browsers.
+    pub counts_search: bool,
 }
 
 /// What the tree builder holds. The tags of the context element and of the token are numbers of
@@ -49,7 +53,7 @@ pub(crate) struct Builder<'a> {
     /// The context element, in a fragment.
     pub(crate) context: Option<u32>,
     /// The state that the tokenizer goes on in after the token.
-    pub(crate) reads: Reads,
+    pub(crate) reads: TextMode,
     /// How many tokens were taken.
     pub(crate) tokens: u32,
     /// How many elements were put in, or opened again, that no start tag stands for.
@@ -59,24 +63,55 @@ pub(crate) struct Builder<'a> {
     pub(crate) flags: Flags,
     /// The tag of the token that is processed, where it is a start tag.
     pub(crate) tag: u32,
-    ghost known: { AreKnown (length path.store.tags.items) active.greatest_tag context tag },
+    /// The data of it, where it is a comment.
+    pub(crate) text: Span,
+    /// The number of it, where it is a doctype.
+    pub(crate) doctype: u32,
+    /// Where it may stand in the page, where it is a character: a hint, on which no answer depends.
+    pub(crate) hint: u32,
+    ghost known: { AreKnown
+        (record {
+          page = length path.store.page.now;
+          side = length path.store.side.items;
+          tags = length path.store.tags.items;
+          doctypes = length path.store.doctypes.items;
+        })
+        path.next
+        active.greatest_number
+        active.greatest_tag
+        context
+        tag
+        text
+        doctype },
 }
 
 impl<'a> Builder<'a> {
-    ghost use Rattle.std.specs.Prelude.{IfOk, IsTrue, OnOk, true, ◌<◌, ◌∷◌, ◌≡◌};
-    ghost use Rattle.tl_dom_spec.specs.Builder.{add_one, clear_stack_back_to, clear_to_last_marker, current_tag, fostering, frameset_not_ok, generate_implied_end_tags, has_in_table_scope, has_template, insert_and_pop, insert_bytes, insert_comment, insert_element, insert_implied, insert_marker, pop_current_node, pop_until, switch_to};
+    ghost use Rattle.std.specs.Prelude.{IfOk, IsTrue, OnOk, [], true, ◌<◌, ◌∷◌, ◌≡◌};
+    ghost use Rattle.tl_dom_spec.specs.Builder.{add_one, appropriate_place, clear_stack_back_to, clear_to_last_marker, close_except_for, current_tag, fostering, frameset_not_ok, generate_implied_end_tags, generate_implied_end_tags_except_for, has_in_button_scope, has_in_list_item_scope, has_in_scope, has_in_table_scope, has_template, insert_and_pop, insert_bytes, insert_character, insert_comment, insert_comment_at, insert_element, insert_implied, insert_marker, pop_current_node, pop_until, switch_to, insert_and_pop_at, insert_element_at};
     ghost use Rattle.tl_dom_spec.specs.Dispatcher.{calm};
     ghost use Rattle.tl_dom_spec.specs.HtmlTree.{page_start};
-    ghost use Rattle.tl_dom_spec.specs.Tags.{bare_tag, is_any};
+    ghost use Rattle.tl_dom_spec.specs.Path.{behind};
+    ghost use Rattle.tl_dom_spec.specs.Tags.{bare_tag};
+    ghost use Rattle.tl_tree.specs.Inner.Frames.{place_of};
+    ghost use Rattle.tl_tree.specs.Inner.Tests.{tag_test_of};
     ghost use Rattle.tl_tree.specs.Inner.Builders.{builder_of, flags_of, token_of};
     ghost use Rattle.tl_tree.specs.Inner.Modes.{mode_of};
     ghost use Rattle.tl_tree.specs.Inner.Store.{bytes_of, is_span, tag_at};
 
     /// Before the first token of a page.
-    pub(crate) fn new(alloc: Global, page: &'a [u8], flags: Flags) -> Result<Builder<'a>, ReadError>
-        ensures { IfOk result (λ builder. builder_of builder ≡ page_start (flags_of flags)) }
+    pub(crate) fn new(alloc: Global, page: &'a [u8], flags: Flags) -> Result<Builder<'a>, GrowError>
+        ensures start { IfOk result
+            (λ builder. builder_of builder ≡ page_start (flags_of flags)) }
+        ensures page { IfOk result (λ builder. (token_of builder).page ≡ page.now) }
     {
-        let path = FramePath::new(alloc, page)?;
+        let mut path = FramePath::new(alloc, page)?;
+        let nothing = Span { start: 0, len: 0 };
+        let doctype = path.add_doctype(DoctypeEntry {
+            name: nothing,
+            public_id: None,
+            system_id: None,
+            forces_quirks: false,
+        })?;
         let active = ActiveList::new(alloc);
         let templates = Vec::new(alloc);
         let pending = Vec::new(alloc);
@@ -94,12 +129,15 @@ impl<'a> Builder<'a> {
             skips: false,
             pending,
             context: None,
-            reads: Reads::Data,
+            reads: TextMode::Data,
             tokens: 0,
             added: 0,
             excess: 0,
             flags,
             tag: 0,
+            text: nothing,
+            doctype,
+            hint: 0,
         })
     }
 
@@ -109,7 +147,8 @@ impl<'a> Builder<'a> {
     pub(crate) fn set_tag(&mut self, tag: u32)
         requires { tag < length self.old.path.store.tags.items }
         ensures ok { builder_of self.new ≡ builder_of self.old }
-        ensures token { token_of self.new ≡ tag_at self.old.path.store tag }
+        ensures page { (token_of self.new).page ≡ (token_of self.old).page }
+        ensures tag { (token_of self.new).tag ≡ tag_at self.old.path.store tag }
     {
         self.tag = tag;
     }
@@ -141,7 +180,7 @@ impl<'a> Builder<'a> {
         ensures token { token_of self.new ≡ token_of self.old }
     {
         self.skips = false;
-        self.reads = Reads::Data;
+        self.reads = TextMode::Data;
     }
 
     pub(crate) fn set_original(&mut self, mode: Mode)
@@ -153,7 +192,7 @@ impl<'a> Builder<'a> {
     }
 
     /// Puts a mode on the stack of template insertion modes.
-    pub(crate) fn push_template_mode(&mut self, mode: Mode) -> Result<(), ReadError>
+    pub(crate) fn push_template_mode(&mut self, mode: Mode) -> Result<(), GrowError>
         ensures ok { OnOk result (builder_of self.new
             ≡ record (builder_of self.old) {
               templates = mode_of mode ∷ (builder_of self.old).templates;
@@ -181,19 +220,19 @@ impl<'a> Builder<'a> {
     }
 
     /// Counts an element that no start tag stands for.
-    pub(crate) fn add_one(&mut self) -> Result<(), ReadError>
+    pub(crate) fn add_one(&mut self) -> Result<(), GrowError>
         ensures ok { OnOk result (builder_of self.new ≡ add_one (builder_of self.old)) }
         ensures token { token_of self.new ≡ token_of self.old }
     {
         if self.added == u32::MAX {
-            return Err(ReadError::TooLarge);
+            return Err(GrowError::TooLarge);
         }
         self.added += 1;
         Ok(())
     }
 
     /// Puts a marker behind the active formatting elements.
-    pub(crate) fn insert_marker(&mut self) -> Result<(), ReadError>
+    pub(crate) fn insert_marker(&mut self) -> Result<(), GrowError>
         ensures ok { OnOk result (builder_of self.new ≡ insert_marker (builder_of self.old)) }
         ensures token { token_of self.new ≡ token_of self.old }
     {
@@ -210,12 +249,32 @@ impl<'a> Builder<'a> {
 
     // What is asked
 
-    /// Whether the current node has one of these names.
-    pub(crate) fn is_current(&self, names: &'static [u8]) -> bool
-        ensures { result ≡ is_any names.now (current_tag (builder_of self.now)) }
+    /// The scripting flag.
+    pub(crate) fn is_scripting(&self) -> bool
+        ensures { result ≡ (builder_of self.now).flags.is_scripting }
     {
-        let test = Test::Tag(TagTest::Any(names));
-        test.passes(&self.path.store, self.path.top())
+        self.flags.is_scripting
+    }
+
+    /// The original insertion mode.
+    pub(crate) fn original(&self) -> Mode
+        ensures { mode_of result ≡ (builder_of self.now).original }
+    {
+        self.original
+    }
+
+    /// The appropriate place for inserting a node.
+    pub(crate) fn appropriate_place(&self) -> Place
+        ensures { place_of result ≡ appropriate_place (builder_of self.now) }
+    {
+        self.path.place_in(self.is_fostering)
+    }
+
+    /// Whether the current node passes a test.
+    pub(crate) fn is_current(&self, test: TagTest<'_>) -> bool
+        ensures { result ≡ tag_test_of test.entry (current_tag (builder_of self.now)) }
+    {
+        test.passes(&self.path.store, self.path.top().tag)
     }
 
     pub(crate) fn has_template(&self) -> bool
@@ -224,53 +283,100 @@ impl<'a> Builder<'a> {
         self.path.has_open(TagTest::Any(b"template"))
     }
 
-    /// Whether an element of one of these names is in table scope.
-    pub(crate) fn has_in_table_scope(&self, names: &'static [u8]) -> bool
-        ensures { result ≡ has_in_table_scope (is_any names.now) (builder_of self.now) }
+    /// Whether an element that passes a test is in scope.
+    pub(crate) fn has_in_scope(&self, test: TagTest<'_>) -> bool
+        ensures { result ≡ has_in_scope (tag_test_of test.entry) (builder_of self.now) }
+    {
+        self.path.has_within(test, TagTest::Scope)
+    }
+
+    pub(crate) fn has_in_button_scope(&self, test: TagTest<'_>) -> bool
+        ensures { result ≡ has_in_button_scope (tag_test_of test.entry) (builder_of self.now) }
+    {
+        self.path.has_within(test, TagTest::ScopeOr(b"button"))
+    }
+
+    pub(crate) fn has_in_list_item_scope(&self, test: TagTest<'_>) -> bool
+        ensures { result ≡ has_in_list_item_scope (tag_test_of test.entry) (builder_of self.now) }
+    {
+        self.path.has_within(test, TagTest::ScopeOr(b"ol ul"))
+    }
+
+    pub(crate) fn has_in_table_scope(&self, test: TagTest<'_>) -> bool
+        ensures { result ≡ has_in_table_scope (tag_test_of test.entry) (builder_of self.now) }
     {
         self.path
-            .has_within(TagTest::Any(names), TagTest::Any(b"html table template"))
+            .has_within(test, TagTest::Any(b"html table template"))
     }
 
     // What is popped
 
-    pub(crate) fn pop_current_node(&mut self) -> Result<(), ReadError>
+    pub(crate) fn pop_current_node(&mut self) -> Result<(), GrowError>
         ensures ok { OnOk result (builder_of self.new ≡ pop_current_node (builder_of self.old)) }
         ensures token { token_of self.new ≡ token_of self.old }
     {
         self.path.pop()
     }
 
-    /// Pops elements until one of these names was popped.
-    pub(crate) fn pop_until(&mut self, names: &'static [u8]) -> Result<(), ReadError>
+    /// Pops elements until one that passes a test was popped.
+    pub(crate) fn pop_until(&mut self, test: TagTest<'_>) -> Result<(), GrowError>
         ensures ok { OnOk result
-            (builder_of self.new ≡ pop_until (is_any names.now) (builder_of self.old)) }
+            (builder_of self.new ≡ pop_until (tag_test_of test.entry) (builder_of self.old)) }
         ensures token { token_of self.new ≡ token_of self.old }
     {
-        self.path.pop_through(Test::Tag(TagTest::Any(names)))
+        self.path.pop_through(Test::Tag(test))
     }
 
-    /// Pops elements until the current node has one of these names.
-    pub(crate) fn clear_stack_back_to(&mut self, names: &'static [u8]) -> Result<(), ReadError>
-        ensures ok { OnOk result
-            (builder_of self.new ≡ clear_stack_back_to (is_any names.now) (builder_of self.old)) }
+    /// Pops elements until the current node passes a test.
+    pub(crate) fn clear_stack_back_to(&mut self, test: TagTest<'_>) -> Result<(), GrowError>
+        ensures ok { OnOk result (builder_of self.new
+            ≡ clear_stack_back_to (tag_test_of test.entry) (builder_of self.old)) }
         ensures token { token_of self.new ≡ token_of self.old }
     {
-        self.path.pop_to(Test::Tag(TagTest::Any(names)))
+        self.path.pop_to(Test::Tag(test))
     }
 
-    pub(crate) fn generate_implied_end_tags(&mut self) -> Result<(), ReadError>
+    /// Generates implied end tags, but for elements that pass a test.
+    pub(crate) fn generate_implied_end_tags_except_for(
+        &mut self,
+        but: TagTest<'_>,
+    ) -> Result<(), GrowError>
+        ensures ok { OnOk result (builder_of self.new
+            ≡ generate_implied_end_tags_except_for (tag_test_of but.entry)
+            (builder_of self.old)) }
+        ensures token { token_of self.new ≡ token_of self.old }
+    {
+        self.path.close_implied(but)
+    }
+
+    pub(crate) fn generate_implied_end_tags(&mut self) -> Result<(), GrowError>
         ensures ok { OnOk result
             (builder_of self.new ≡ generate_implied_end_tags (builder_of self.old)) }
         ensures token { token_of self.new ≡ token_of self.old }
     {
-        self.path.close_implied(TagTest::Nothing)
+        self.generate_implied_end_tags_except_for(TagTest::Nothing)
+    }
+
+    /// Generates implied end tags, but for some elements, and pops until one that passes a test was
+    /// popped.
+    pub(crate) fn close_except_for(
+        &mut self,
+        but: TagTest<'_>,
+        test: TagTest<'_>,
+    ) -> Result<(), GrowError>
+        ensures ok { OnOk result (builder_of self.new
+            ≡ close_except_for (tag_test_of but.entry) (tag_test_of test.entry)
+            (builder_of self.old)) }
+        ensures token { token_of self.new ≡ token_of self.old }
+    {
+        self.generate_implied_end_tags_except_for(but)?;
+        self.pop_until(test)
     }
 
     // What is inserted
 
     /// Inserts bytes of the text.
-    pub(crate) fn insert_bytes(&mut self, text: Span) -> Result<(), ReadError>
+    pub(crate) fn insert_bytes(&mut self, text: Span) -> Result<(), GrowError>
         requires { IsTrue (is_span self.old.path.store text) }
         ensures ok { OnOk result (builder_of self.new
             ≡ insert_bytes (bytes_of self.old.path.store text) (builder_of self.old)) }
@@ -280,51 +386,132 @@ impl<'a> Builder<'a> {
         self.path.put(place, Node::Text(text))
     }
 
-    /// Inserts a comment whose bytes are those of the text.
-    pub(crate) fn insert_comment(&mut self, text: Span) -> Result<(), ReadError>
-        requires { IsTrue (is_span self.old.path.store text) }
-        ensures ok { OnOk result (builder_of self.new
-            ≡ insert_comment (bytes_of self.old.path.store text) (builder_of self.old)) }
+    /// Inserts a character.
+    pub(crate) fn insert_character(&mut self, byte: u8) -> Result<(), GrowError>
+        ensures ok { OnOk result
+            (builder_of self.new ≡ insert_character byte (builder_of self.old)) }
         ensures token { token_of self.new ≡ token_of self.old }
     {
-        let place = self.path.place_in(self.is_fostering);
+        let text = self.add_byte(byte)?;
+        self.insert_bytes(text)
+    }
+
+    // Inserts the comment that the token is, at a place.
+    fn put_comment(&mut self, place: Place) -> Result<(), GrowError>
+        ensures ok { OnOk result (builder_of self.new
+            ≡ insert_comment_at (place_of place) (token_of self.old).text (builder_of self.old)) }
+        ensures token { token_of self.new ≡ token_of self.old }
+    {
+        let text = self.text;
         self.path.put(place, Node::Comment(text))
     }
 
-    // An element of a tag of the store is inserted.
-    fn insert_tag(&mut self, tag: u32) -> Result<(), ReadError>
+    /// Inserts the comment that the token is.
+    pub(crate) fn insert_comment(&mut self) -> Result<(), GrowError>
+        ensures ok { OnOk result (builder_of self.new
+            ≡ insert_comment (token_of self.old).text (builder_of self.old)) }
+        ensures token { token_of self.new ≡ token_of self.old }
+    {
+        let place = self.path.place_in(self.is_fostering);
+        self.put_comment(place)
+    }
+
+    /// Inserts the comment that the token is behind the open child of the frame of a number.
+    pub(crate) fn insert_comment_behind(&mut self, number: u32) -> Result<(), GrowError>
+        ensures ok { OnOk result (builder_of self.new
+            ≡ insert_comment_at (behind number) (token_of self.old).text (builder_of self.old)) }
+        ensures token { token_of self.new ≡ token_of self.old }
+    {
+        let place = Place::Behind(Mark::new(number, number as usize));
+        self.put_comment(place)
+    }
+
+    // An element of a tag of the store is inserted at a place.
+    fn insert_tag_at(&mut self, place: Place, tag: u32) -> Result<(), GrowError>
+        requires { tag < length self.old.path.store.tags.items }
+        ensures ok { OnOk result (builder_of self.new
+            ≡ insert_element_at (place_of place) (tag_at self.old.path.store tag)
+            (builder_of self.old)) }
+        ensures token { token_of self.new ≡ token_of self.old }
+    {
+        self.path.insert_element(place, tag)
+    }
+
+    /// An element of a tag of the store is inserted.
+    pub(crate) fn insert_tag(&mut self, tag: u32) -> Result<(), GrowError>
         requires { tag < length self.old.path.store.tags.items }
         ensures ok { OnOk result (builder_of self.new
             ≡ insert_element (tag_at self.old.path.store tag) (builder_of self.old)) }
         ensures token { token_of self.new ≡ token_of self.old }
     {
-        let place = self.path.place_in(self.is_fostering);
-        self.path.insert_element(place, tag)
+        let place = self.appropriate_place();
+        self.insert_tag_at(place, tag)
     }
 
-    /// Inserts an element for the token.
-    pub(crate) fn insert_element(&mut self) -> Result<(), ReadError>
-        ensures ok { OnOk result
-            (builder_of self.new ≡ insert_element (token_of self.old) (builder_of self.old)) }
+    /// Inserts an element for the token at a place.
+    pub(crate) fn insert_element_at(&mut self, place: Place) -> Result<(), GrowError>
+        ensures ok { OnOk result (builder_of self.new
+            ≡ insert_element_at (place_of place) (token_of self.old).tag (builder_of self.old)) }
         ensures token { token_of self.new ≡ token_of self.old }
     {
         let tag = self.tag;
-        self.insert_tag(tag)
+        self.insert_tag_at(place, tag)
     }
 
-    /// Inserts an element for the token, and pops it at once.
-    pub(crate) fn insert_and_pop(&mut self) -> Result<(), ReadError>
+    /// Inserts an element for the token.
+    pub(crate) fn insert_element(&mut self) -> Result<(), GrowError>
         ensures ok { OnOk result
-            (builder_of self.new ≡ insert_and_pop (token_of self.old) (builder_of self.old)) }
+            (builder_of self.new ≡ insert_element (token_of self.old).tag (builder_of self.old)) }
         ensures token { token_of self.new ≡ token_of self.old }
     {
-        let place = self.path.place_in(self.is_fostering);
+        let place = self.appropriate_place();
+        self.insert_element_at(place)
+    }
+
+    /// Inserts an element for the token at a place, and pops it at once.
+    pub(crate) fn insert_and_pop_at(&mut self, place: Place) -> Result<(), GrowError>
+        ensures ok { OnOk result (builder_of self.new
+            ≡ insert_and_pop_at (place_of place) (token_of self.old).tag (builder_of self.old)) }
+        ensures token { token_of self.new ≡ token_of self.old }
+    {
         let tag = self.tag;
         self.path.insert_and_pop(place, tag)
     }
 
+    // An element of a tag of the store is inserted, and popped at once.
+    pub(crate) fn insert_and_pop_tag(&mut self, tag: u32) -> Result<(), GrowError>
+        requires { tag < length self.old.path.store.tags.items }
+        ensures ok { OnOk result (builder_of self.new
+            ≡ insert_and_pop (tag_at self.old.path.store tag) (builder_of self.old)) }
+        ensures token { token_of self.new ≡ token_of self.old }
+    {
+        let place = self.path.place_in(self.is_fostering);
+        self.path.insert_and_pop(place, tag)
+    }
+
+    /// Inserts an element for the token, and pops it at once.
+    pub(crate) fn insert_and_pop(&mut self) -> Result<(), GrowError>
+        ensures ok { OnOk result
+            (builder_of self.new ≡ insert_and_pop (token_of self.old).tag (builder_of self.old)) }
+        ensures token { token_of self.new ≡ token_of self.old }
+    {
+        let place = self.appropriate_place();
+        self.insert_and_pop_at(place)
+    }
+
+    // A byte of the text that is this one, which is put there where it doesn't stand at the hint.
+    fn add_byte(&mut self, byte: u8) -> Result<Span, GrowError>
+        ensures ok { builder_of self.new ≡ builder_of self.old }
+        ensures token { token_of self.new ≡ token_of self.old }
+        ensures stands { IfOk result (λ span. bytes_of self.new.path.store span ≡ byte ∷ []) }
+        ensures within { IfOk result (λ span. IsTrue (is_span self.new.path.store span)) }
+    {
+        let hint = self.hint;
+        self.path.add_byte(byte, hint)
+    }
+
     // The tag of an HTML element without attributes is put in the store.
-    fn add_bare_tag(&mut self, name: &'static [u8]) -> Result<u32, ReadError>
+    fn add_bare_tag(&mut self, name: &'static [u8]) -> Result<u32, GrowError>
         ensures ok { builder_of self.new ≡ builder_of self.old }
         ensures token { token_of self.new ≡ token_of self.old }
         ensures tag { IfOk result
@@ -336,7 +523,7 @@ impl<'a> Builder<'a> {
     }
 
     /// Inserts an element without attributes, whose start tag is missing.
-    pub(crate) fn insert_implied(&mut self, name: &'static [u8]) -> Result<(), ReadError>
+    pub(crate) fn insert_implied(&mut self, name: &'static [u8]) -> Result<(), GrowError>
         ensures ok { OnOk result
             (builder_of self.new ≡ insert_implied name.now (builder_of self.old)) }
         ensures token { token_of self.new ≡ token_of self.old }
@@ -344,5 +531,40 @@ impl<'a> Builder<'a> {
         let tag = self.add_bare_tag(name)?;
         self.insert_tag(tag)?;
         self.add_one()
+    }
+
+    /// Inserts an element without attributes, whose start tag is missing, and pops it at once.
+    pub(crate) fn insert_and_pop_implied(&mut self, name: &'static [u8]) -> Result<(), GrowError>
+        ensures ok { OnOk result (builder_of self.new
+            ≡ add_one (insert_and_pop (bare_tag name.now) (builder_of self.old))) }
+        ensures token { token_of self.new ≡ token_of self.old }
+    {
+        let tag = self.add_bare_tag(name)?;
+        self.insert_and_pop_tag(tag)?;
+        self.add_one()
+    }
+
+    // The tag of the token is put in the store with another name.
+    fn add_token_as(&mut self, name: &'static [u8]) -> Result<u32, GrowError>
+        ensures ok { builder_of self.new ≡ builder_of self.old }
+        ensures token { token_of self.new ≡ token_of self.old }
+        ensures tag { IfOk result (λ number. tag_at self.new.path.store number
+            ≡ record (token_of self.old).tag { name = name.now }) }
+        ensures within { IfOk result
+            (λ number. number < length self.new.path.store.tags.items) }
+    {
+        let tag = self.tag;
+        self.path.add_renamed_tag(tag, name)
+    }
+
+    /// Inserts an element for the token under another name, and pops it at once.
+    pub(crate) fn insert_and_pop_as(&mut self, name: &'static [u8]) -> Result<(), GrowError>
+        ensures ok { OnOk result (builder_of self.new
+            ≡ insert_and_pop (record (token_of self.old).tag { name = name.now })
+            (builder_of self.old)) }
+        ensures token { token_of self.new ≡ token_of self.old }
+    {
+        let tag = self.add_token_as(name)?;
+        self.insert_and_pop_tag(tag)
     }
 }

@@ -24,6 +24,26 @@ impl Namespace {
             Namespace::Svg => false,
         }
     }
+
+    pub(crate) fn is_math(self) -> bool
+        ensures { result ≡ by_space (space_of self) false true false }
+    {
+        match self {
+            Namespace::Html => false,
+            Namespace::Math => true,
+            Namespace::Svg => false,
+        }
+    }
+
+    pub(crate) fn is_svg(self) -> bool
+        ensures { result ≡ by_space (space_of self) false false true }
+    {
+        match self {
+            Namespace::Html => false,
+            Namespace::Math => false,
+            Namespace::Svg => true,
+        }
+    }
 }
 
 /// The namespaces of attributes.

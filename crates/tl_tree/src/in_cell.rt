@@ -1,46 +1,59 @@
 //! "in cell" (13.2.6.4.15).
-ghost use Rattle.std.specs.Prelude.{Bool, IfOk, OnOk, ◌≡◌};
-ghost use Rattle.tl_dom_spec.specs.Tables.{after_cell, cell_closed, cell_start};
-ghost use Rattle.tl_dom_spec.specs.Tags.{is_any};
-ghost use Rattle.tl_tree.specs.Inner.Builders.{builder_of, outcome_by, outcome_of, token_of};
+ghost use Rattle.std.specs.Prelude.{IfOk, OnOk, ◌≡◌};
+ghost use Rattle.tl_dom_spec.specs.Tables.{after_cell, after_cell_in, cell_closed, cell_end, cell_start, in_cell_step};
+ghost use Rattle.tl_tree.specs.Inner.Builders.{builder_of, outcome_of, token_of, token_view};
 ghost use Rattle.tl_tree.specs.Inner.GroupNames.{group_view as group_of};
+ghost use Rattle.tl_tree.specs.Inner.Tests.{tag_test_of};
 
 use crate::builder::Builder;
-use crate::error::ReadError;
+use crate::error::GrowError;
 use crate::group::Group;
 use crate::mode::Mode;
-use crate::outcome::{Outcome, Started};
+use crate::outcome::Outcome;
+use crate::test::TagTest;
+use crate::token::Token;
 
 impl<'a> Builder<'a> {
-    pub(crate) fn cell_closed(&mut self, names: &'static [u8]) -> Result<(), ReadError>
+    fn cell_closed(&mut self, test: TagTest<'_>) -> Result<(), GrowError>
         ensures ok { OnOk result
-            (builder_of self.new ≡ cell_closed (is_any names.now) (builder_of self.old)) }
+            (builder_of self.new ≡ cell_closed (tag_test_of test.entry) (builder_of self.old)) }
         ensures token { token_of self.new ≡ token_of self.old }
     {
-        self.generate_implied_end_tags()?;
-        self.pop_until(names)?;
+        self.close_except_for(TagTest::Nothing, test)?;
         self.clear_to_last_marker();
         self.switch_to(Mode::InRow);
         Ok(())
     }
 
-    pub(crate) fn after_cell(&mut self) -> Result<Outcome, ReadError>
+    fn after_cell(&mut self) -> Result<Outcome, GrowError>
         ensures ok { IfOk result (λ outcome. outcome_of outcome (builder_of self.new)
             ≡ after_cell (builder_of self.old)) }
         ensures token { token_of self.new ≡ token_of self.old }
     {
-        if !self.has_in_table_scope(b"td th") {
+        if !self.has_in_table_scope(TagTest::Any(b"td th")) {
             return Ok(Outcome::Done);
         }
-        self.cell_closed(b"td th")?;
+        self.cell_closed(TagTest::Any(b"td th"))?;
         Ok(Outcome::Again)
     }
 
-    /// A start tag.
-    pub(crate) fn cell_start(&mut self, group: Group) -> Result<Started, ReadError>
-        ensures ok { IfOk result (λ started. (closes : Bool) →
-            outcome_by started (builder_of self.new) (group_of group) (token_of self.old) closes
-            ≡ cell_start (builder_of self.old) (group_of group) (token_of self.old) closes) }
+    // An end tag of what a cell stands in.
+    fn after_cell_in(&mut self, name: &[u8]) -> Result<Outcome, GrowError>
+        ensures ok { IfOk result (λ outcome. outcome_of outcome (builder_of self.new)
+            ≡ after_cell_in name.now (builder_of self.old)) }
+        ensures token { token_of self.new ≡ token_of self.old }
+    {
+        if !self.has_in_table_scope(TagTest::Named(name)) {
+            return Ok(Outcome::Done);
+        }
+        self.cell_closed(TagTest::Any(b"td th"))?;
+        Ok(Outcome::Again)
+    }
+
+    // A start tag.
+    fn cell_start(&mut self, group: Group, closes: bool) -> Result<Outcome, GrowError>
+        ensures ok { IfOk result (λ outcome. outcome_of outcome (builder_of self.new)
+            ≡ cell_start (builder_of self.old) (group_of group) (token_of self.old).tag closes) }
         ensures token { token_of self.new ≡ token_of self.old }
     {
         match group {
@@ -49,11 +62,42 @@ impl<'a> Builder<'a> {
             | Group::AColumnGroup
             | Group::ATableBody
             | Group::ACell
-            | Group::ARow => {
-                let outcome = self.after_cell()?;
-                Ok(Started::Own(outcome))
+            | Group::ARow => { self.after_cell() }
+            _ => self.in_body(Token::Start { group, closes }),
+        }
+    }
+
+    // An end tag.
+    fn cell_end(&mut self, group: Group, name: &[u8]) -> Result<Outcome, GrowError>
+        ensures ok { IfOk result (λ outcome. outcome_of outcome (builder_of self.new)
+            ≡ cell_end (builder_of self.old) (group_of group) name.now) }
+        ensures token { token_of self.new ≡ token_of self.old }
+    {
+        match group {
+            Group::ACell if self.has_in_table_scope(TagTest::Named(name)) => {
+                self.cell_closed(TagTest::Named(name))?;
+                Ok(Outcome::Done)
             }
-            _ => Ok(Started::InBody),
+            Group::ACell
+            | Group::TheBody
+            | Group::ACaption
+            | Group::AColumn
+            | Group::AColumnGroup
+            | Group::TheHtml => Ok(Outcome::Done),
+            Group::ATable | Group::ATableBody | Group::ARow => self.after_cell_in(name),
+            _ => self.in_body(Token::End { group, name }),
+        }
+    }
+
+    pub(crate) fn in_cell(&mut self, token: Token<'_>) -> Result<Outcome, GrowError>
+        ensures ok { IfOk result (λ outcome. outcome_of outcome (builder_of self.new)
+            ≡ in_cell_step (builder_of self.old) (token_view token.entry (token_of self.old))) }
+        ensures token { token_of self.new ≡ token_of self.old }
+    {
+        match token {
+            Token::Start { group, closes } => self.cell_start(group, closes),
+            Token::End { group, name } => self.cell_end(group, name),
+            _ => self.in_body(token),
         }
     }
 }

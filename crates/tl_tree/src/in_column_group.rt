@@ -1,17 +1,20 @@
 //! "in column group" (13.2.6.4.12).
 ghost use Rattle.std.specs.Prelude.{IfOk, OnOk, ◌≡◌};
-ghost use Rattle.tl_dom_spec.specs.Tables.{after_column_group, column_group_closed};
-ghost use Rattle.tl_tree.specs.Inner.Builders.{builder_of, outcome_of, token_of};
+ghost use Rattle.tl_dom_spec.specs.Tables.{after_column_group, column_end, column_group_closed, column_start, in_column_group_step, is_in_column_group};
+ghost use Rattle.tl_tree.specs.Inner.Builders.{builder_of, outcome_of, token_of, token_view};
+ghost use Rattle.tl_tree.specs.Inner.GroupNames.{group_view as group_of};
 
 use crate::builder::Builder;
-use crate::error::ReadError;
+use crate::error::GrowError;
+use crate::group::Group;
 use crate::mode::Mode;
 use crate::outcome::Outcome;
+use crate::test::TagTest;
+use crate::token::Token;
 
 impl<'a> Builder<'a> {
-    pub(crate) fn column_group_closed(&mut self) -> Result<(), ReadError>
-        ensures ok { OnOk result
-            (builder_of self.new ≡ column_group_closed (builder_of self.old)) }
+    fn column_group_closed(&mut self) -> Result<(), GrowError>
+        ensures ok { OnOk result (builder_of self.new ≡ column_group_closed (builder_of self.old)) }
         ensures token { token_of self.new ≡ token_of self.old }
     {
         self.pop_current_node()?;
@@ -19,15 +22,65 @@ impl<'a> Builder<'a> {
         Ok(())
     }
 
-    pub(crate) fn after_column_group(&mut self) -> Result<Outcome, ReadError>
+    fn after_column_group(&mut self) -> Result<Outcome, GrowError>
         ensures ok { IfOk result (λ outcome. outcome_of outcome (builder_of self.new)
             ≡ after_column_group (builder_of self.old)) }
         ensures token { token_of self.new ≡ token_of self.old }
     {
-        if !self.is_current(b"colgroup") {
+        if !self.is_current(TagTest::Any(b"colgroup")) {
             return Ok(Outcome::Done);
         }
         self.column_group_closed()?;
         Ok(Outcome::Again)
+    }
+
+    // A start tag.
+    fn column_start(&mut self, group: Group) -> Result<Outcome, GrowError>
+        ensures ok { IfOk result (λ outcome. outcome_of outcome (builder_of self.new)
+            ≡ column_start (builder_of self.old) (group_of group) (token_of self.old).tag) }
+        ensures token { token_of self.new ≡ token_of self.old }
+    {
+        match group {
+            Group::TheHtml => self.html_start()?,
+            Group::AColumn => self.insert_and_pop()?,
+            Group::ATemplate => return self.in_head_start(group),
+            _ => return self.after_column_group(),
+        }
+        Ok(Outcome::Done)
+    }
+
+    // An end tag.
+    fn column_end(&mut self, group: Group) -> Result<Outcome, GrowError>
+        ensures ok { IfOk result (λ outcome. outcome_of outcome (builder_of self.new)
+            ≡ column_end (builder_of self.old) (group_of group)) }
+        ensures token { token_of self.new ≡ token_of self.old }
+    {
+        match group {
+            Group::AColumnGroup if self.is_current(TagTest::Any(b"colgroup")) => {
+                self.column_group_closed()?
+            }
+            Group::ATemplate => self.template_end_tag()?,
+            Group::AColumnGroup | Group::AColumn => {}
+            _ => return self.after_column_group(),
+        }
+        Ok(Outcome::Done)
+    }
+
+    pub(crate) fn in_column_group(&mut self, token: Token<'_>) -> Result<Outcome, GrowError>
+        ensures ok { IfOk result (λ outcome. outcome_of outcome (builder_of self.new)
+            ≡ in_column_group_step (builder_of self.old)
+            (token_view token.entry (token_of self.old))) }
+        ensures token { token_of self.new ≡ token_of self.old }
+    {
+        match token {
+            Token::Character(byte) if byte.is_ascii_whitespace() => self.insert_character(byte)?,
+            Token::Character(_) => return self.after_column_group(),
+            Token::Comment => self.insert_comment()?,
+            Token::Doctype => {}
+            Token::Start { group, closes: _ } => return self.column_start(group),
+            Token::End { group, name: _ } => return self.column_end(group),
+            Token::EndOfFile => return self.file_ended(),
+        }
+        Ok(Outcome::Done)
     }
 }

@@ -1,75 +1,210 @@
 //! "in table" (13.2.6.4.9).
-ghost use Rattle.std.specs.Prelude.{OnOk, codes, ◌≡◌};
-ghost use Rattle.tl_dom_spec.specs.Builder.{in_caption, in_column_group, insert_element, insert_implied, insert_marker, switch_to};
-ghost use Rattle.tl_dom_spec.specs.Tables.{body_implied, body_opened, clear_stack_back_to_table_context};
-ghost use Rattle.tl_tree.specs.Inner.Builders.{builder_of, token_of};
+ghost use Rattle.std.specs.Prelude.{IfOk, OnOk, [], ◌≡◌};
+ghost use Rattle.tl_dom_spec.specs.Builder.{Again, clear_stack_back_to, in_table_text, insert_element, insert_implied, switch_to};
+ghost use Rattle.tl_dom_spec.specs.Tables.{in_table_step, table_character, table_closed, table_end, table_form, table_start, with_foster_parenting};
+ghost use Rattle.tl_tree.specs.Inner.Builders.{builder_of, outcome_of, token_of, token_view};
+ghost use Rattle.tl_tree.specs.Inner.GroupNames.{group_view as group_of};
+ghost use Rattle.tl_tree.specs.Inner.Modes.{mode_of};
+ghost use Rattle.tl_tree.specs.Inner.Tests.{tag_test_of};
 
 use crate::builder::Builder;
-use crate::error::ReadError;
+use crate::error::GrowError;
+use crate::group::Group;
 use crate::mode::Mode;
+use crate::outcome::Outcome;
+use crate::test::TagTest;
+use crate::token::Token;
+
+// Where clearing the stack back to a table context ends.
+const TABLE_CONTEXT: TagTest<'static> = TagTest::Any(b"table template html");
 
 impl<'a> Builder<'a> {
-    // A start tag of `caption`.
-    pub(crate) fn caption_opened(&mut self) -> Result<(), ReadError>
+    // Anything else: by the rules of "in body", with foster parenting.
+    fn with_foster_parenting(&mut self, token: Token<'_>) -> Result<Outcome, GrowError>
+        ensures ok { IfOk result (λ outcome. outcome_of outcome (builder_of self.new)
+            ≡ with_foster_parenting (builder_of self.old)
+            (token_view token.entry (token_of self.old))) }
+        ensures token { token_of self.new ≡ token_of self.old }
+    {
+        self.set_fostering(true);
+        let outcome = self.in_body(token)?;
+        self.set_fostering(false);
+        Ok(outcome)
+    }
+
+    fn table_closed(&mut self) -> Result<(), GrowError>
+        ensures ok { OnOk result (builder_of self.new ≡ table_closed (builder_of self.old)) }
+        ensures token { token_of self.new ≡ token_of self.old }
+    {
+        self.pop_until(TagTest::Any(b"table"))?;
+        self.reset_insertion_mode()
+    }
+
+    /// Clears the stack back to a context, inserts an element for the token there, and switches to
+    /// a mode.
+    pub(crate) fn open_in(&mut self, context: TagTest<'_>, mode: Mode) -> Result<(), GrowError>
         ensures ok { OnOk result (builder_of self.new
-            ≡ switch_to in_caption
-            (insert_element (token_of self.old)
-            (insert_marker (clear_stack_back_to_table_context (builder_of self.old))))) }
+            ≡ switch_to (mode_of mode)
+            (insert_element (token_of self.old).tag
+            (clear_stack_back_to (tag_test_of context.entry) (builder_of self.old)))) }
         ensures token { token_of self.new ≡ token_of self.old }
     {
-        self.clear_stack_back_to(b"table template html")?;
-        self.insert_marker()?;
+        self.clear_stack_back_to(context)?;
         self.insert_element()?;
-        self.switch_to(Mode::InCaption);
+        self.switch_to(mode);
         Ok(())
     }
 
-    // A start tag of `colgroup`.
-    pub(crate) fn column_group_opened(&mut self) -> Result<(), ReadError>
+    /// The same for an element whose start tag is missing. The token is reprocessed.
+    pub(crate) fn imply_in(
+        &mut self,
+        context: TagTest<'_>,
+        name: &'static [u8],
+        mode: Mode,
+    ) -> Result<Outcome, GrowError>
+        ensures ok { IfOk result (λ outcome. outcome_of outcome (builder_of self.new)
+            ≡ Again (switch_to (mode_of mode)
+            (insert_implied name.now
+            (clear_stack_back_to (tag_test_of context.entry) (builder_of self.old))))) }
+        ensures token { token_of self.new ≡ token_of self.old }
+    {
+        self.clear_stack_back_to(context)?;
+        self.insert_implied(name)?;
+        self.switch_to(mode);
+        Ok(Outcome::Again)
+    }
+
+    // The form element pointer.
+    fn form(&self) -> Option<u32>
+        ensures { result ≡ (builder_of self.now).form }
+    {
+        self.form
+    }
+
+    // The number of the next element.
+    fn next_number(&self) -> u32
+        ensures { result ≡ (builder_of self.now).next }
+    {
+        self.path.next
+    }
+
+    // A form in a table is empty.
+    fn table_form(&mut self) -> Result<(), GrowError>
         ensures ok { OnOk result (builder_of self.new
-            ≡ switch_to in_column_group
-            (insert_element (token_of self.old)
-            (clear_stack_back_to_table_context (builder_of self.old)))) }
+            ≡ table_form (builder_of self.old).form (builder_of self.old) (token_of self.old).tag) }
         ensures token { token_of self.new ≡ token_of self.old }
     {
-        self.clear_stack_back_to(b"table template html")?;
-        self.insert_element()?;
-        self.switch_to(Mode::InColumnGroup);
+        if self.form().is_some() || self.has_template() {
+            return Ok(());
+        }
+        let number = self.next_number();
+        self.insert_and_pop()?;
+        self.set_form(Some(number));
         Ok(())
     }
 
-    // A start tag of `col`.
-    pub(crate) fn column_group_implied(&mut self) -> Result<(), ReadError>
-        ensures ok { OnOk result (builder_of self.new
-            ≡ switch_to in_column_group
-            (insert_implied (codes "colgroup")
-            (clear_stack_back_to_table_context (builder_of self.old)))) }
+    /// A start tag.
+    pub(crate) fn table_start(&mut self, group: Group, closes: bool) -> Result<Outcome, GrowError>
+        ensures ok { IfOk result (λ outcome. outcome_of outcome (builder_of self.new)
+            ≡ table_start (builder_of self.old) (group_of group) (token_of self.old).tag closes) }
         ensures token { token_of self.new ≡ token_of self.old }
     {
-        self.clear_stack_back_to(b"table template html")?;
-        self.insert_implied(b"colgroup")?;
-        self.switch_to(Mode::InColumnGroup);
-        Ok(())
+        match group {
+            Group::ACaption => {
+                self.open_in(TABLE_CONTEXT, Mode::InCaption)?;
+                self.insert_marker()?;
+            }
+            Group::AColumnGroup => self.open_in(TABLE_CONTEXT, Mode::InColumnGroup)?,
+            Group::ATableBody => self.open_in(TABLE_CONTEXT, Mode::InTableBody)?,
+            Group::AForm => self.table_form()?,
+            Group::AColumn => {
+                return self.imply_in(TABLE_CONTEXT, b"colgroup", Mode::InColumnGroup);
+            }
+            Group::ACell | Group::ARow => {
+                return self.imply_in(TABLE_CONTEXT, b"tbody", Mode::InTableBody);
+            }
+            Group::ATable if self.has_in_table_scope(TagTest::Any(b"table")) => {
+                self.table_closed()?;
+                return Ok(Outcome::Again);
+            }
+            Group::ATable => {}
+            // An input that is hidden stays in the table.
+            Group::AnInput if self.token_has_value(b"type", b"hidden") => self.insert_and_pop()?,
+            Group::AStyle | Group::AScript | Group::ATemplate => return self.in_head_start(group),
+            _ => return self.with_foster_parenting(Token::Start { group, closes }),
+        }
+        Ok(Outcome::Done)
     }
 
-    pub(crate) fn body_opened(&mut self) -> Result<(), ReadError>
-        ensures ok { OnOk result
-            (builder_of self.new ≡ body_opened (builder_of self.old) (token_of self.old)) }
+    /// An end tag.
+    pub(crate) fn table_end(&mut self, group: Group, name: &[u8]) -> Result<Outcome, GrowError>
+        ensures ok { IfOk result (λ outcome. outcome_of outcome (builder_of self.new)
+            ≡ table_end (builder_of self.old) (group_of group) name.now) }
         ensures token { token_of self.new ≡ token_of self.old }
     {
-        self.clear_stack_back_to(b"table template html")?;
-        self.insert_element()?;
-        self.switch_to(Mode::InTableBody);
-        Ok(())
+        match group {
+            Group::ATable if self.has_in_table_scope(TagTest::Any(b"table")) => {
+                self.table_closed()?
+            }
+            Group::ATemplate => self.template_end_tag()?,
+            Group::ATable
+            | Group::TheBody
+            | Group::ACaption
+            | Group::AColumn
+            | Group::AColumnGroup
+            | Group::TheHtml
+            | Group::ATableBody
+            | Group::ACell
+            | Group::ARow => {}
+            _ => return self.with_foster_parenting(Token::End { group, name }),
+        }
+        Ok(Outcome::Done)
     }
 
-    pub(crate) fn body_implied(&mut self) -> Result<(), ReadError>
-        ensures ok { OnOk result (builder_of self.new ≡ body_implied (builder_of self.old)) }
+    // What is set as text begins.
+    fn begin_table_text(&mut self)
+        ensures ok { builder_of self.new
+            ≡ record (builder_of self.old) {
+              pending = [];
+              original = (builder_of self.old).mode;
+              mode = in_table_text;
+            } }
         ensures token { token_of self.new ≡ token_of self.old }
     {
-        self.clear_stack_back_to(b"table template html")?;
-        self.insert_implied(b"tbody")?;
-        self.switch_to(Mode::InTableBody);
-        Ok(())
+        self.pending.clear();
+        self.original = self.mode;
+        self.mode = Mode::InTableText;
+    }
+
+    fn table_character(&mut self, byte: u8) -> Result<Outcome, GrowError>
+        ensures ok { IfOk result (λ outcome. outcome_of outcome (builder_of self.new)
+            ≡ table_character (builder_of self.old) byte) }
+        ensures token { token_of self.new ≡ token_of self.old }
+    {
+        let is_text = self.is_current(TagTest::Any(b"table tbody tfoot thead tr"))
+            || self.is_current(TagTest::Any(b"template"));
+        if !is_text {
+            return self.with_foster_parenting(Token::Character(byte));
+        }
+        self.begin_table_text();
+        Ok(Outcome::Again)
+    }
+
+    pub(crate) fn in_table(&mut self, token: Token<'_>) -> Result<Outcome, GrowError>
+        ensures ok { IfOk result (λ outcome. outcome_of outcome (builder_of self.new)
+            ≡ in_table_step (builder_of self.old) (token_view token.entry (token_of self.old))) }
+        ensures token { token_of self.new ≡ token_of self.old }
+    {
+        match token {
+            Token::Character(byte) => self.table_character(byte),
+            Token::Comment => {
+                self.insert_comment()?;
+                Ok(Outcome::Done)
+            }
+            Token::Doctype => Ok(Outcome::Done),
+            Token::Start { group, closes } => self.table_start(group, closes),
+            Token::End { group, name } => self.table_end(group, name),
+            Token::EndOfFile => self.file_ended(),
+        }
     }
 }

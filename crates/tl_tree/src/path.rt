@@ -10,8 +10,9 @@ ghost use Rattle.tl_tree.specs.Inner.Framed.{are_distinct, frame_is_within, is_b
 
 use crate::cell::Node;
 use crate::entries::{Namespace, TagEntry};
-use crate::error::ReadError;
+use crate::error::GrowError;
 use crate::frame::{Frame, Mark, Place};
+use crate::head::{at_head, is_plain};
 use crate::span::Span;
 use crate::store::Store;
 use crate::test::{TagTest, Test};
@@ -35,19 +36,20 @@ pub(crate) struct FramePath<'a> {
 
 impl<'a> FramePath<'a> {
     ghost use Rattle.std.specs.List.{list_any};
-    ghost use Rattle.std.specs.Prelude.{IfOk, IfSome, None, OnOk, Some, [], false, reverse, slice_get, slice_index_or, slice_set, take, true, ◌+◌, ◌-◌, ◌^◌, ◌∷◌, ◌≡◌};
-    ghost use Rattle.tl_dom_spec.specs.Path.{and_element, at_number, behind, caught_up, document, elements, foster_place, has_open, has_within, here, implied_closed, into, is_open_number, joined, new_frame, no_nodes, place_in, popped, popped_through, popped_to, popped_while, put, settled_at, taken_out, top, top_settled, with_nodes, with_waiting, within};
+    ghost use Rattle.std.specs.Prelude.{IfOk, IfSome, None, OnOk, Some, [], false, reverse, slice_get, slice_index_or, slice_set, take, true, ◌+◌, ◌-◌, ◌^◌, ◌∷◌, ◌≡◌, ◌≤◌};
+    ghost use Rattle.tl_dom_spec.specs.Path.{and_element, at_number, behind, caught_up, document, elements, foster_place, has_open, has_within, here, implied_closed, into, is_open_number, joined, new_frame, no_nodes, place_in, popped, popped_through, popped_to, popped_while, put, settled_at, taken_out, top, top_settled, with_nodes, with_waiting, within, at_head, into_head};
     ghost use Rattle.tl_dom_spec.specs.Builder.{pushed_at};
     ghost use Rattle.tl_dom_spec.specs.Path as dom;
     ghost use Rattle.tl_tree.specs.Inner.Framed.{is_numbered, numbers};
-    ghost use Rattle.tl_tree.specs.Inner.Frames.{changed, closed, fostered, frame_of, frames_of, is_frame, path_of, place_of, sought, test_of, test_or_other};
+    ghost use Rattle.tl_tree.specs.Inner.Frames.{changed, children_of, closed, fostered, frame_of, frames_of, is_frame, path_of, place_of, sought, test_of, test_or_other, with_late};
     ghost use Rattle.tl_tree.specs.Inner.Tests.{tag_test_of};
     ghost use Rattle.tl_tree.specs.Inner.Store.{Grows, is_node, is_row, is_tag_number, node_of, nodes_of, tag_at};
 
     /// The document alone.
-    pub(crate) fn new(alloc: Global, page: &'a [u8]) -> Result<FramePath<'a>, ReadError>
+    pub(crate) fn new(alloc: Global, page: &'a [u8]) -> Result<FramePath<'a>, GrowError>
         ensures path { IfOk result (λ path. path_of path ≡ document ∷ []) }
         ensures next { IfOk result (λ path. path.next ≡ 1) }
+        ensures page { IfOk result (λ path. path.store.page.now ≡ page.now) }
     {
         let mut store = Store::new(alloc, page)?;
         let tag = store.add_tag(TagEntry {
@@ -62,6 +64,7 @@ impl<'a> FramePath<'a> {
             number: 0,
             tag,
             children: 0,
+            late: 0,
             waiting: 0,
             place: Place::Here,
             is_open: false,
@@ -74,7 +77,7 @@ impl<'a> FramePath<'a> {
     }
 
     // A row with a node behind it.
-    fn add(&mut self, before: u32, node: Node) -> Result<u32, ReadError>
+    pub(crate) fn add(&mut self, before: u32, node: Node) -> Result<u32, GrowError>
         requires before { IsTrue (is_row self.old.store before) }
         requires node { IsTrue (is_node self.old.store node) }
         ensures stands { IfOk result (λ row. nodes_of self.new.store row
@@ -87,8 +90,22 @@ impl<'a> FramePath<'a> {
         self.store.add(before, node)
     }
 
-    // What a frame has is written, but not its number.
-    fn write(&mut self, index: usize, frame: Frame)
+    // A row with late nodes at the end of the `head` among its own.
+    fn add_late(&mut self, row: u32, late: u32) -> Result<u32, GrowError>
+        requires row { IsTrue (is_row self.old.store row) }
+        requires late { IsTrue (is_row self.old.store late) }
+        ensures stands { IfOk result (λ end. nodes_of self.new.store end
+            ≡ at_head (nodes_of self.old.store row) (nodes_of self.old.store late)) }
+        ensures within { IfOk result (λ end. IsTrue (is_row self.new.store end)) }
+        ensures frames { self.new.frames.items ≡ self.old.frames.items }
+        ensures next { self.new.next ≡ self.old.next }
+        ensures grows { Grows self.old.store self.new.store }
+    {
+        at_head(&mut self.store, row, late)
+    }
+
+    /// What a frame has is written, but not its number.
+    pub(crate) fn write(&mut self, index: usize, frame: Frame)
         requires index { index < length self.old.frames.items }
         requires within { IsTrue (is_frame self.old frame) }
         requires number { frame.number
@@ -100,8 +117,53 @@ impl<'a> FramePath<'a> {
         self.frames[index] = frame;
     }
 
+    // A frame whose late nodes stand in the `head` among its children.
+    pub(crate) fn folded(&mut self, frame: Frame) -> Result<Frame, GrowError>
+        requires { IsTrue (is_frame self.old frame) }
+        ensures stands { IfOk result (λ new.
+            frame_of self.new.store new ≡ frame_of self.old.store frame) }
+        ensures late { IfOk result (λ new. new.late ≡ 0) }
+        ensures number { IfOk result (λ new. new.number ≡ frame.number) }
+        ensures within { IfOk result (λ new. IsTrue (is_frame self.new new)) }
+        ensures frames { self.new.frames.items ≡ self.old.frames.items }
+        ensures next { self.new.next ≡ self.old.next }
+        ensures grows { Grows self.old.store self.new.store }
+    {
+        if frame.late == 0 {
+            return Ok(frame);
+        }
+        let children = self.add_late(frame.children, frame.late)?;
+        Ok(Frame {
+            children,
+            late: 0,
+            ..frame
+        })
+    }
+
+    // A frame, as it is where a node goes behind its children.
+    fn ready(&mut self, frame: Frame, node: Node) -> Result<Frame, GrowError>
+        requires frame { IsTrue (is_frame self.old frame) }
+        requires node { IsTrue (is_node self.old.store node) }
+        ensures stands { IfOk result (λ new.
+            frame_of self.new.store new ≡ frame_of self.old.store frame) }
+        ensures behind { IfOk result (λ new.
+            at_head (joined (nodes_of self.new.store new.children) (node_of self.old.store node))
+            (nodes_of self.new.store new.late)
+            ≡ joined (children_of self.new.store new) (node_of self.old.store node)) }
+        ensures number { IfOk result (λ new. new.number ≡ frame.number) }
+        ensures within { IfOk result (λ new. IsTrue (is_frame self.new new)) }
+        ensures frames { self.new.frames.items ≡ self.old.frames.items }
+        ensures next { self.new.next ≡ self.old.next }
+        ensures grows { Grows self.old.store self.new.store }
+    {
+        if is_plain(&self.store, node) {
+            return Ok(frame);
+        }
+        self.folded(frame)
+    }
+
     // A node goes to the end of a frame.
-    fn put_inside(&mut self, index: usize, node: Node) -> Result<(), ReadError>
+    fn put_inside(&mut self, index: usize, node: Node) -> Result<(), GrowError>
         requires index { index < length self.old.frames.items }
         requires node { IsTrue (is_node self.old.store node) }
         ensures ok { OnOk result (frames_of self.new
@@ -111,13 +173,14 @@ impl<'a> FramePath<'a> {
         ensures grows { Grows self.old.store self.new.store }
     {
         let frame = self.frames[index];
+        let frame = self.ready(frame, node)?;
         let children = self.add(frame.children, node)?;
         self.write(index, Frame { children, ..frame });
         Ok(())
     }
 
     // A node waits in a frame for its open child.
-    fn put_waiting(&mut self, index: usize, node: Node) -> Result<(), ReadError>
+    fn put_waiting(&mut self, index: usize, node: Node) -> Result<(), GrowError>
         requires index { index < length self.old.frames.items }
         requires node { IsTrue (is_node self.old.store node) }
         ensures ok { OnOk result (frames_of self.new
@@ -132,8 +195,24 @@ impl<'a> FramePath<'a> {
         Ok(())
     }
 
+    // A node goes to the end of the `head` among the children of a frame.
+    fn put_at_head(&mut self, index: usize, node: Node) -> Result<(), GrowError>
+        requires index { index < length self.old.frames.items }
+        requires node { IsTrue (is_node self.old.store node) }
+        ensures ok { OnOk result (frames_of self.new
+            ≡ changed index (with_late (node_of self.old.store node)) (frames_of self.old)) }
+        ensures len { length self.new.frames.items ≡ length self.old.frames.items }
+        ensures next { self.new.next ≡ self.old.next }
+        ensures grows { Grows self.old.store self.new.store }
+    {
+        let frame = self.frames[index];
+        let late = self.add(frame.late, node)?;
+        self.write(index, Frame { late, ..frame });
+        Ok(())
+    }
+
     // What waited in a frame stands behind its children.
-    fn catch_up(&mut self, index: usize) -> Result<(), ReadError>
+    fn catch_up(&mut self, index: usize) -> Result<(), GrowError>
         requires index { index < length self.old.frames.items }
         ensures ok { OnOk result
             (frames_of self.new ≡ changed index caught_up (frames_of self.old)) }
@@ -145,6 +224,7 @@ impl<'a> FramePath<'a> {
         if frame.waiting == 0 {
             return Ok(());
         }
+        let frame = self.folded(frame)?;
         let children = self.add(frame.children, Node::Joined(frame.waiting))?;
         self.write(
             index,
@@ -157,8 +237,8 @@ impl<'a> FramePath<'a> {
         Ok(())
     }
 
-    // The place of the frame of a number.
-    fn find(&self, mark: Mark) -> Option<usize>
+    /// The place of the frame of a number.
+    pub(crate) fn find(&self, mark: Mark) -> Option<usize>
         ensures some { IfSome result
             (λ index. slice_get (numbers self.now.frames.items) index ≡ Some mark.number) }
         ensures none { result ≡ None
@@ -177,7 +257,7 @@ impl<'a> FramePath<'a> {
     }
 
     // A node goes to the end of the current node, behind what waited there.
-    fn put_on_top(&mut self, node: Node) -> Result<(), ReadError>
+    fn put_on_top(&mut self, node: Node) -> Result<(), GrowError>
         requires { IsTrue (is_node self.old.store node) }
         ensures ok { OnOk result (path_of self.new
             ≡ put here (node_of self.old.store node) (path_of self.old)) }
@@ -190,7 +270,7 @@ impl<'a> FramePath<'a> {
     }
 
     // A node goes to the end of the frame of a number.
-    fn put_into(&mut self, mark: Mark, node: Node) -> Result<(), ReadError>
+    fn put_into(&mut self, mark: Mark, node: Node) -> Result<(), GrowError>
         requires { IsTrue (is_node self.old.store node) }
         ensures ok { OnOk result (path_of self.new
             ≡ put (into mark.number) (node_of self.old.store node) (path_of self.old)) }
@@ -204,7 +284,7 @@ impl<'a> FramePath<'a> {
     }
 
     // A node goes behind the open child of the frame of a number.
-    fn put_behind(&mut self, mark: Mark, node: Node) -> Result<(), ReadError>
+    fn put_behind(&mut self, mark: Mark, node: Node) -> Result<(), GrowError>
         requires { IsTrue (is_node self.old.store node) }
         ensures ok { OnOk result (path_of self.new
             ≡ put (behind mark.number) (node_of self.old.store node) (path_of self.old)) }
@@ -217,8 +297,20 @@ impl<'a> FramePath<'a> {
         }
     }
 
+    // A node goes to the end of the `head` in the current node.
+    fn put_late(&mut self, node: Node) -> Result<(), GrowError>
+        requires { IsTrue (is_node self.old.store node) }
+        ensures ok { OnOk result (path_of self.new
+            ≡ put into_head (node_of self.old.store node) (path_of self.old)) }
+        ensures next { self.new.next ≡ self.old.next }
+        ensures grows { Grows self.old.store self.new.store }
+    {
+        let top = self.frames.len() - 1;
+        self.put_at_head(top, node)
+    }
+
     /// A node is put at a place.
-    pub(crate) fn put(&mut self, place: Place, node: Node) -> Result<(), ReadError>
+    pub(crate) fn put(&mut self, place: Place, node: Node) -> Result<(), GrowError>
         requires { IsTrue (is_node self.old.store node) }
         ensures ok { OnOk result (path_of self.new
             ≡ put (place_of place) (node_of self.old.store node) (path_of self.old)) }
@@ -229,11 +321,12 @@ impl<'a> FramePath<'a> {
             Place::Here => self.put_on_top(node),
             Place::Into(mark) => self.put_into(mark, node),
             Place::Behind(mark) => self.put_behind(mark, node),
+            Place::IntoHead => self.put_late(node),
         }
     }
 
     // An element that is settled goes to the end of what is next, and what waited there follows.
-    fn settle_on_top(&mut self, node: Node) -> Result<(), ReadError>
+    fn settle_on_top(&mut self, node: Node) -> Result<(), GrowError>
         requires { IsTrue (is_node self.old.store node) }
         ensures ok { OnOk result (path_of self.new
             ≡ settled_at here (node_of self.old.store node) (path_of self.old)) }
@@ -246,7 +339,7 @@ impl<'a> FramePath<'a> {
     }
 
     // An element that is settled goes to its place.
-    fn settle_at(&mut self, place: Place, node: Node) -> Result<(), ReadError>
+    fn settle_at(&mut self, place: Place, node: Node) -> Result<(), GrowError>
         requires { IsTrue (is_node self.old.store node) }
         ensures ok { OnOk result (path_of self.new
             ≡ settled_at (place_of place) (node_of self.old.store node) (path_of self.old)) }
@@ -257,11 +350,12 @@ impl<'a> FramePath<'a> {
             Place::Here => self.settle_on_top(node),
             Place::Into(mark) => self.put_into(mark, node),
             Place::Behind(mark) => self.put_behind(mark, node),
+            Place::IntoHead => self.put_late(node),
         }
     }
 
     // The innermost frame is taken off the path.
-    fn take_top(&mut self) -> Frame
+    pub(crate) fn take_top(&mut self) -> Frame
         requires { 1 < length self.old.frames.items }
         ensures path { path_of self.old ≡ frame_of self.old.store result ∷ path_of self.new }
         ensures within { IsTrue (is_frame self.new result) }
@@ -277,7 +371,7 @@ impl<'a> FramePath<'a> {
     }
 
     // The children of a frame, with what waited behind them, as an element.
-    fn element(&mut self, frame: Frame) -> Result<Node, ReadError>
+    fn element(&mut self, frame: Frame) -> Result<Node, GrowError>
         requires { IsTrue (is_frame self.old frame) }
         ensures stands { IfOk result (λ node. node_of self.new.store node
             ≡ dom.node_of (frame_of self.old.store frame)) }
@@ -286,6 +380,7 @@ impl<'a> FramePath<'a> {
         ensures next { self.new.next ≡ self.old.next }
         ensures grows { Grows self.old.store self.new.store }
     {
+        let frame = self.folded(frame)?;
         if frame.waiting == 0 {
             return Ok(Node::Element {
                 tag: frame.tag,
@@ -300,7 +395,7 @@ impl<'a> FramePath<'a> {
     }
 
     /// The innermost frame is settled; the document stays.
-    pub(crate) fn settle_top(&mut self) -> Result<(), ReadError>
+    pub(crate) fn settle_top(&mut self) -> Result<(), GrowError>
         ensures ok { OnOk result (path_of self.new ≡ top_settled (path_of self.old)) }
         ensures next { self.new.next ≡ self.old.next }
         ensures grows { Grows self.old.store self.new.store }
@@ -315,13 +410,14 @@ impl<'a> FramePath<'a> {
 
     // Whether the innermost frame is settled, where those are that pass a test, or all others. The
     // document is not.
-    fn is_settled(&self, test: Test, is_other: bool) -> bool
+    fn is_settled(&self, test: Test<'_>, is_other: bool) -> bool
         ensures yes { result ≡ true
-            → popped_while (test_or_other is_other test) (path_of self.now)
-            ≡ popped_while (test_or_other is_other test) (top_settled (path_of self.now)) }
+            → popped_while (test_or_other is_other test.entry) (path_of self.now)
+            ≡ popped_while (test_or_other is_other test.entry) (top_settled (path_of self.now)) }
         ensures some { result ≡ true → 1 < length self.now.frames.items }
         ensures no { result ≡ false
-            → popped_while (test_or_other is_other test) (path_of self.now) ≡ path_of self.now }
+            → popped_while (test_or_other is_other test.entry) (path_of self.now)
+            ≡ path_of self.now }
     {
         let last = self.frames.len() - 1;
         if last == 0 {
@@ -334,10 +430,10 @@ impl<'a> FramePath<'a> {
         test.passes_or_not(is_other, &self.store, frame)
     }
 
-    // Frames are settled while they pass a test, or while they don't.
-    fn settle_while(&mut self, test: Test, is_other: bool) -> Result<(), ReadError>
+    /// Frames are settled while they pass a test, or while they don't.
+    pub(crate) fn settle_while(&mut self, test: Test<'_>, is_other: bool) -> Result<(), GrowError>
         ensures ok { OnOk result (path_of self.new
-            ≡ popped_while (test_or_other is_other test) (path_of self.old)) }
+            ≡ popped_while (test_or_other is_other test.entry) (path_of self.old)) }
         ensures next { self.new.next ≡ self.old.next }
         ensures grows { Grows self.old.store self.new.store }
     {
@@ -348,9 +444,9 @@ impl<'a> FramePath<'a> {
     }
 
     /// Elements are popped while they pass a test.
-    pub(crate) fn pop_while(&mut self, test: Test) -> Result<(), ReadError>
+    pub(crate) fn pop_while(&mut self, test: Test<'_>) -> Result<(), GrowError>
         ensures ok { OnOk result (path_of self.new
-            ≡ popped_while (test_of test) (path_of self.old)) }
+            ≡ popped_while (test_of test.entry) (path_of self.old)) }
         ensures next { self.new.next ≡ self.old.next }
         ensures grows { Grows self.old.store self.new.store }
     {
@@ -358,8 +454,9 @@ impl<'a> FramePath<'a> {
     }
 
     /// Elements are popped until the current node passes a test.
-    pub(crate) fn pop_to(&mut self, test: Test) -> Result<(), ReadError>
-        ensures ok { OnOk result (path_of self.new ≡ popped_to (test_of test) (path_of self.old)) }
+    pub(crate) fn pop_to(&mut self, test: Test<'_>) -> Result<(), GrowError>
+        ensures ok { OnOk result
+            (path_of self.new ≡ popped_to (test_of test.entry) (path_of self.old)) }
         ensures next { self.new.next ≡ self.old.next }
         ensures grows { Grows self.old.store self.new.store }
     {
@@ -367,7 +464,7 @@ impl<'a> FramePath<'a> {
     }
 
     /// The current node is popped.
-    pub(crate) fn pop(&mut self) -> Result<(), ReadError>
+    pub(crate) fn pop(&mut self) -> Result<(), GrowError>
         ensures ok { OnOk result (path_of self.new ≡ popped (path_of self.old)) }
         ensures next { self.new.next ≡ self.old.next }
         ensures grows { Grows self.old.store self.new.store }
@@ -377,9 +474,9 @@ impl<'a> FramePath<'a> {
     }
 
     /// Elements are popped until one that passes a test was popped.
-    pub(crate) fn pop_through(&mut self, test: Test) -> Result<(), ReadError>
+    pub(crate) fn pop_through(&mut self, test: Test<'_>) -> Result<(), GrowError>
         ensures ok { OnOk result (path_of self.new
-            ≡ popped_through (test_of test) (path_of self.old)) }
+            ≡ popped_through (test_of test.entry) (path_of self.old)) }
         ensures next { self.new.next ≡ self.old.next }
         ensures grows { Grows self.old.store self.new.store }
     {
@@ -417,7 +514,7 @@ impl<'a> FramePath<'a> {
     }
 
     /// An element leaves the stack, from between others too.
-    pub(crate) fn take_out(&mut self, mark: Mark) -> Result<(), ReadError>
+    pub(crate) fn take_out(&mut self, mark: Mark) -> Result<(), GrowError>
         ensures ok { OnOk result (path_of self.new ≡ taken_out mark.number (path_of self.old)) }
         ensures next { self.new.next ≡ self.old.next }
         ensures grows { Grows self.old.store self.new.store }
@@ -427,23 +524,25 @@ impl<'a> FramePath<'a> {
     }
 
     // A new element stands on the path.
-    fn push(&mut self, place: Place, tag: u32) -> Result<(), ReadError>
+    fn push(&mut self, place: Place, tag: u32) -> Result<(), GrowError>
         requires { IsTrue (is_tag_number self.old.store tag) }
         ensures ok { OnOk result (path_of self.new
             ≡ new_frame self.old.next (tag_at self.old.store tag) (place_of place)
             ∷ path_of self.old) }
         ensures next { OnOk result (self.new.next ≡ self.old.next + 1) }
+        ensures least { self.old.next ≤ self.new.next }
         ensures store { self.new.store ≡ self.old.store }
     {
         let number = self.next;
         if number == u32::MAX {
-            return Err(ReadError::TooLarge);
+            return Err(GrowError::TooLarge);
         }
         self.next = number + 1;
         self.frames.push(Frame {
             number,
             tag,
             children: 0,
+            late: 0,
             waiting: 0,
             place,
             is_open: true,
@@ -452,12 +551,13 @@ impl<'a> FramePath<'a> {
     }
 
     // A new element stands on the path, behind what waited in the current node.
-    fn push_on_top(&mut self, tag: u32) -> Result<(), ReadError>
+    fn push_on_top(&mut self, tag: u32) -> Result<(), GrowError>
         requires { IsTrue (is_tag_number self.old.store tag) }
         ensures ok { OnOk result (path_of self.new
             ≡ pushed_at here (new_frame self.old.next (tag_at self.old.store tag) here)
             (path_of self.old)) }
         ensures next { OnOk result (self.new.next ≡ self.old.next + 1) }
+        ensures least { self.old.next ≤ self.new.next }
         ensures grows { Grows self.old.store self.new.store }
     {
         let top = self.frames.len() - 1;
@@ -466,33 +566,36 @@ impl<'a> FramePath<'a> {
     }
 
     /// An element is inserted at a place, and is the current node then.
-    pub(crate) fn insert_element(&mut self, place: Place, tag: u32) -> Result<(), ReadError>
+    pub(crate) fn insert_element(&mut self, place: Place, tag: u32) -> Result<(), GrowError>
         requires { IsTrue (is_tag_number self.old.store tag) }
         ensures ok { OnOk result (path_of self.new
             ≡ pushed_at (place_of place)
             (new_frame self.old.next (tag_at self.old.store tag) (place_of place))
             (path_of self.old)) }
         ensures next { OnOk result (self.new.next ≡ self.old.next + 1) }
+        ensures least { self.old.next ≤ self.new.next }
         ensures grows { Grows self.old.store self.new.store }
     {
         match place {
             Place::Here => self.push_on_top(tag),
             Place::Into(_) => self.push(place, tag),
             Place::Behind(_) => self.push(place, tag),
+            Place::IntoHead => self.push(place, tag),
         }
     }
 
     /// An element is inserted at a place, and popped at once.
-    pub(crate) fn insert_and_pop(&mut self, place: Place, tag: u32) -> Result<(), ReadError>
+    pub(crate) fn insert_and_pop(&mut self, place: Place, tag: u32) -> Result<(), GrowError>
         requires { IsTrue (is_tag_number self.old.store tag) }
         ensures ok { OnOk result (path_of self.new
             ≡ put (place_of place) (and_element no_nodes (tag_at self.old.store tag) no_nodes)
             (path_of self.old)) }
         ensures next { OnOk result (self.new.next ≡ self.old.next + 1) }
+        ensures least { self.old.next ≤ self.new.next }
         ensures grows { Grows self.old.store self.new.store }
     {
         if self.next == u32::MAX {
-            return Err(ReadError::TooLarge);
+            return Err(GrowError::TooLarge);
         }
         self.put(place, Node::Element { tag, below: 0 })?;
         self.count_one();
@@ -518,13 +621,14 @@ impl<'a> FramePath<'a> {
     }
 
     // What a search says at a frame, where it passes the test or bounds the search.
-    fn answer_at(&self, index: usize, test: Test, bounds: Test) -> Option<bool>
+    fn answer_at(&self, index: usize, test: Test<'_>, bounds: Test<'_>) -> Option<bool>
         requires { index < length self.now.frames.items }
         ensures some { IfSome result
-            (λ found. sought (test_of test) (test_of bounds) self.now (index + 1) ≡ found) }
+            (λ found.
+            sought (test_of test.entry) (test_of bounds.entry) self.now (index + 1) ≡ found) }
         ensures none { result ≡ None
-            → sought (test_of test) (test_of bounds) self.now (index + 1)
-            ≡ sought (test_of test) (test_of bounds) self.now index }
+            → sought (test_of test.entry) (test_of bounds.entry) self.now (index + 1)
+            ≡ sought (test_of test.entry) (test_of bounds.entry) self.now index }
     {
         let frame = self.frames[index];
         if !frame.is_open {
@@ -541,9 +645,9 @@ impl<'a> FramePath<'a> {
 
     /// Whether an element of the stack passes a test, before one that bounds the search. Here the
     /// path is walked.
-    pub(crate) fn is_within(&self, test: Test, bounds: Test) -> bool
+    pub(crate) fn is_within(&self, test: Test<'_>, bounds: Test<'_>) -> bool
         ensures { result
-            ≡ within (test_of test) (test_of bounds) (elements (path_of self.now)) }
+            ≡ within (test_of test.entry) (test_of bounds.entry) (elements (path_of self.now)) }
     {
         let mut index = self.frames.len();
         while index > 0 {
@@ -582,6 +686,7 @@ impl<'a> FramePath<'a> {
             Place::Here => Place::Into(self.mark_around(index)),
             Place::Into(mark) => Place::Into(mark),
             Place::Behind(mark) => Place::Behind(mark),
+            Place::IntoHead => Place::IntoHead,
         }
     }
 
@@ -636,16 +741,16 @@ impl<'a> FramePath<'a> {
     }
 
     /// Whether an element is open in a scope that these bound.
-    pub(crate) fn has_within(&self, test: TagTest, bounds: TagTest) -> bool
+    pub(crate) fn has_within(&self, test: TagTest<'_>, bounds: TagTest<'_>) -> bool
         ensures { result
-            ≡ has_within (tag_test_of test) (tag_test_of bounds) (path_of self.now) }
+            ≡ has_within (tag_test_of test.entry) (tag_test_of bounds.entry) (path_of self.now) }
     {
         self.is_within(Test::Tag(test), Test::Tag(bounds))
     }
 
     /// Whether an element is open.
-    pub(crate) fn has_open(&self, test: TagTest) -> bool
-        ensures { result ≡ has_open (tag_test_of test) (path_of self.now) }
+    pub(crate) fn has_open(&self, test: TagTest<'_>) -> bool
+        ensures { result ≡ has_open (tag_test_of test.entry) (path_of self.now) }
     {
         self.is_within(Test::Tag(test), Test::Nothing)
     }
@@ -658,9 +763,9 @@ impl<'a> FramePath<'a> {
     }
 
     /// Implied end tags are generated, but for elements that pass a test.
-    pub(crate) fn close_implied(&mut self, but: TagTest) -> Result<(), ReadError>
+    pub(crate) fn close_implied(&mut self, but: TagTest<'_>) -> Result<(), GrowError>
         ensures ok { OnOk result (path_of self.new
-            ≡ implied_closed (tag_test_of but) (path_of self.old)) }
+            ≡ implied_closed (tag_test_of but.entry) (path_of self.old)) }
         ensures next { self.new.next ≡ self.old.next }
         ensures grows { Grows self.old.store self.new.store }
     {

@@ -14,7 +14,7 @@ ghost use Rattle.tl_tree.specs.Inner.Said.{piece_at};
 ghost use Rattle.tl_tree.specs.Inner.Store.{Grows, bytes_of, is_span, is_tag, tag_of};
 
 use crate::entries::{AttributeEntry, TagEntry};
-use crate::error::ReadError;
+use crate::error::GrowError;
 use crate::said_attributes::put_tag;
 use crate::said_bytes::{put_bytes, put_name};
 use crate::span::Span;
@@ -37,7 +37,7 @@ pub(crate) fn start_tag(
     room: &mut Vec<AttributeEntry>,
     start: usize,
     end: usize,
-) -> Result<SaidTag, ReadError>
+) -> Result<SaidTag, GrowError>
     requires order { start ≤ end }
     requires within { end ≤ length store.old.page.now }
     ensures tag { IfOk result (λ said. (mode : Mode) (name : List ℕ)
@@ -68,7 +68,7 @@ pub(crate) fn end_tag(
     alloc: Global,
     start: usize,
     end: usize,
-) -> Result<Span, ReadError>
+) -> Result<Span, GrowError>
     requires order { start ≤ end }
     requires within { end ≤ length store.old.page.now }
     ensures name { IfOk result (λ span. (mode : Mode) (name : List ℕ) →
@@ -89,7 +89,7 @@ pub(crate) fn text(
     mode: Mode,
     start: usize,
     end: usize,
-) -> Result<Span, ReadError>
+) -> Result<Span, GrowError>
     requires order { start ≤ end }
     requires within { end ≤ length store.old.page.now }
     ensures characters { IfOk result (λ span.
@@ -123,7 +123,7 @@ pub(crate) fn comment_data(
     alloc: Global,
     start: usize,
     end: usize,
-) -> Result<Span, ReadError>
+) -> Result<Span, GrowError>
     requires order { start ≤ end }
     requires within { end ≤ length store.old.page.now }
     ensures data { IfOk result (λ span.

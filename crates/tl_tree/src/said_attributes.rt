@@ -8,7 +8,7 @@ ghost use Rattle.tl_tree.specs.Inner.Said.{attributes_in, attributes_so_far};
 ghost use Rattle.tl_tree.specs.Inner.Store.{Grows, bytes_of, is_attribute, is_span, is_tag, tag_of};
 
 use crate::entries::{AttributeEntry, AttributeSpace, Namespace, TagEntry};
-use crate::error::ReadError;
+use crate::error::GrowError;
 use crate::said_bytes::{put_name, put_value};
 use crate::said_places::{key_place, value_place};
 use crate::span::Span;
@@ -16,8 +16,8 @@ use crate::store::Store;
 use std::alloc::Global;
 use tl_html_parts::{AttributeParts, TagParts};
 
-// Whether one of the attributes has this key.
-fn has_key(store: &Store<'_>, entries: &[AttributeEntry], key: Span) -> bool
+/// Whether one of the attributes has this key.
+pub(crate) fn has_key(store: &Store<'_>, entries: &[AttributeEntry], key: Span) -> bool
     requires entries { IsTrue (list_all (is_attribute store.now) entries.now) }
     requires key { IsTrue (is_span store.now key) }
     ensures { result
@@ -40,7 +40,7 @@ fn put_attribute(
     entries: &mut Vec<AttributeEntry>,
     attribute: AttributeParts<'_>,
     place: usize,
-) -> Result<usize, ReadError>
+) -> Result<usize, GrowError>
     requires entries { IsTrue (list_all (is_attribute store.old) entries.old.items) }
     requires place { place ≤ length store.old.page.now }
     ensures stands { OnOk result ((tag : OpenTag) →
@@ -74,7 +74,7 @@ fn put_attributes(
     entries: &mut Vec<AttributeEntry>,
     attributes: &[AttributeParts<'_>],
     place: usize,
-) -> Result<(), ReadError>
+) -> Result<(), GrowError>
     requires entries { length entries.old.items ≡ 0 }
     requires place { place ≤ length store.old.page.now }
     ensures stands { OnOk result ((tag : OpenTag) → attributes_so_far tag ≡ [] →
@@ -90,8 +90,11 @@ fn put_attributes(
     Ok(())
 }
 
-// Puts attributes behind the others of the store.
-fn add_attributes(store: &mut Store<'_>, entries: &[AttributeEntry]) -> Result<(), ReadError>
+/// Puts attributes behind the others of the store.
+pub(crate) fn add_attributes(
+    store: &mut Store<'_>,
+    entries: &[AttributeEntry],
+) -> Result<(), GrowError>
     requires { IsTrue (list_all (is_attribute store.old) entries.now) }
     ensures stands { OnOk result
         (store.new.attributes.items ≡ store.old.attributes.items ++ entries.now) }
@@ -117,7 +120,7 @@ pub(crate) fn put_tag(
     room: &mut Vec<AttributeEntry>,
     parts: &TagParts<'_>,
     start: usize,
-) -> Result<TagEntry, ReadError>
+) -> Result<TagEntry, GrowError>
     ensures stands { IfOk result (λ tag. tag_of store.new tag
         ≡ html_tag (name_of parts.now.name.now)
         (attributes_of (map attribute_view parts.now.attributes.items))) }

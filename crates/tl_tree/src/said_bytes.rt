@@ -6,7 +6,7 @@ ghost use Rattle.tl_html_spec.specs.Unescaped.{unescaped_value};
 ghost use Rattle.tl_html_parts.specs.Parts.{name_of, value_of};
 ghost use Rattle.tl_tree.specs.Inner.Store.{Grows, bytes_of, is_span};
 
-use crate::error::ReadError;
+use crate::error::GrowError;
 use crate::span::Span;
 use crate::store::Store;
 use memchr::memchr;
@@ -32,11 +32,11 @@ pub(crate) fn put_bytes(
     store: &mut Store<'_>,
     place: usize,
     bytes: &[u8],
-) -> Result<Span, ReadError>
+) -> Result<Span, GrowError>
     ensures stands { IfOk result (λ span. bytes_of store.new span ≡ bytes.now) }
     ensures within { IfOk result (λ span. IsTrue (is_span store.new span)) }
     ensures grows { Grows store.old store.new }
-    ensures too_large { result ≡ Err ReadError.TooLarge
+    ensures too_large { result ≡ Err GrowError.TooLarge
         → 2 ^ 32
         ≤ length store.old.page.now + length store.old.side.items + length bytes.now }
 {
@@ -55,7 +55,7 @@ pub(crate) fn put_name(
     alloc: Global,
     place: usize,
     name: &[u8],
-) -> Result<Span, ReadError>
+) -> Result<Span, GrowError>
     ensures stands { IfOk result (λ span. bytes_of store.new span ≡ name_of name.now) }
     ensures within { IfOk result (λ span. IsTrue (is_span store.new span)) }
     ensures grows { Grows store.old store.new }
@@ -78,7 +78,7 @@ pub(crate) fn put_value(
     alloc: Global,
     place: usize,
     value: &[u8],
-) -> Result<Span, ReadError>
+) -> Result<Span, GrowError>
     ensures stands { IfOk result (λ span. bytes_of store.new span ≡ value_of value.now) }
     ensures within { IfOk result (λ span. IsTrue (is_span store.new span)) }
     ensures grows { Grows store.old store.new }

@@ -19,7 +19,7 @@ ghost use Rattle.tl_tree.specs.TreeView.{rows_in};
 
 use crate::cell::{Cell, Node};
 use crate::entries::Namespace;
-use crate::error::ReadError;
+use crate::error::GrowError;
 use crate::row::{Held, Row};
 use crate::seat::seat;
 use crate::settling::{Opened, Settled, Settling};
@@ -32,14 +32,14 @@ const NO_SOURCE: Span = Span { start: 0, len: 0 };
 
 impl<'s, 'p> Settling<'s, 'p> {
     /// A row, before those that are written.
-    fn push(&mut self, held: Held, behind: u32) -> Result<(), ReadError>
+    fn push(&mut self, held: Held, behind: u32) -> Result<(), GrowError>
         requires sound { Sound self.old }
         requires within { IsTrue
             (held_is_within (sizes_with self.old.store.now self.old.copied.items) held) }
         ensures { OnOk result (Pushes self.old self.new held behind) }
     {
         if self.rows.len() >= u32::MAX as usize {
-            return Err(ReadError::TooLarge);
+            return Err(GrowError::TooLarge);
         }
         self.rows.push(Row {
             held,
@@ -59,7 +59,7 @@ impl<'s, 'p> Settling<'s, 'p> {
     }
 
     /// The pieces that wait, as one span.
-    fn whole(&mut self) -> Result<Span, ReadError>
+    fn whole(&mut self) -> Result<Span, GrowError>
         requires sound { Sound self.old }
         requires some { 0 < length self.old.pieces.items }
         ensures { IfOk result (Copies self.old self.new) }
@@ -77,7 +77,7 @@ impl<'s, 'p> Settling<'s, 'p> {
     }
 
     /// The text that waits is whole.
-    fn flush(&mut self) -> Result<(), ReadError>
+    fn flush(&mut self) -> Result<(), GrowError>
         requires { Sound self.old }
         ensures { OnOk result
             (Turns self.old self.new (only_rows (flushed (state_of self.old)))) }
@@ -91,7 +91,7 @@ impl<'s, 'p> Settling<'s, 'p> {
     }
 
     /// A piece of a text, before what is written.
-    fn add_piece(&mut self, piece: Span) -> Result<(), ReadError>
+    fn add_piece(&mut self, piece: Span) -> Result<(), GrowError>
         requires sound { Sound self.old }
         requires within { IsTrue (is_span self.old.store.now piece) }
         ensures { OnOk result (Turns self.old self.new
@@ -111,7 +111,7 @@ impl<'s, 'p> Settling<'s, 'p> {
     }
 
     /// A comment or a doctype, before what is written.
-    fn add(&mut self, held: Held) -> Result<(), ReadError>
+    fn add(&mut self, held: Held) -> Result<(), GrowError>
         requires sound { Sound self.old }
         requires within { IsTrue (held_is_within (sizes_of self.old.store.now) held) }
         ensures { OnOk result (Turns self.old self.new
@@ -123,7 +123,7 @@ impl<'s, 'p> Settling<'s, 'p> {
     }
 
     /// An element, before what is below it.
-    fn close(&mut self, tag: u32, behind: u32) -> Result<(), ReadError>
+    fn close(&mut self, tag: u32, behind: u32) -> Result<(), GrowError>
         requires sound { Sound self.old }
         requires within { IsTrue (is_tag_number self.old.store.now tag) }
         ensures { OnOk result (Turns self.old self.new
@@ -137,7 +137,7 @@ impl<'s, 'p> Settling<'s, 'p> {
     }
 
     /// The node of a cell. The answer is the row that is written next.
-    fn step(&mut self, cell: Cell) -> Result<u32, ReadError>
+    fn step(&mut self, cell: Cell) -> Result<u32, GrowError>
         requires sound { Sound self.old }
         requires before { IsTrue (is_row self.old.store.now cell.before) }
         requires node { IsTrue (is_node self.old.store.now cell.node) }
@@ -161,7 +161,7 @@ impl<'s, 'p> Settling<'s, 'p> {
     }
 
     /// An element, what is below which is written next.
-    fn open(&mut self, tag: u32, below: u32, before: u32) -> Result<u32, ReadError>
+    fn open(&mut self, tag: u32, below: u32, before: u32) -> Result<u32, GrowError>
         requires sound { Sound self.old }
         requires before { IsTrue (is_row self.old.store.now before) }
         requires tag { IsTrue (is_tag_number self.old.store.now tag) }
@@ -183,7 +183,7 @@ impl<'s, 'p> Settling<'s, 'p> {
     }
 
     /// A row is written. The answer is the row that is written next, if there is one.
-    fn resume(&mut self) -> Result<Option<u32>, ReadError>
+    fn resume(&mut self) -> Result<Option<u32>, GrowError>
         requires { Sound self.old }
         ensures { IfOk result (λ next. MatchOption next
             (Ends self.old self.new no_nodes)
@@ -206,7 +206,7 @@ impl<'s, 'p> Settling<'s, 'p> {
     }
 
     /// The node that a row ends with, or what follows the row.
-    fn go(&mut self, row: u32) -> Result<Option<u32>, ReadError>
+    fn go(&mut self, row: u32) -> Result<Option<u32>, GrowError>
         requires sound { Sound self.old }
         requires within { IsTrue (is_row self.old.store.now row) }
         ensures { IfOk result (λ next. MatchOption next
@@ -222,7 +222,7 @@ impl<'s, 'p> Settling<'s, 'p> {
     }
 
     /// All rows of a row of nodes.
-    pub(crate) fn run(&mut self, row: u32) -> Result<(), ReadError>
+    pub(crate) fn run(&mut self, row: u32) -> Result<(), GrowError>
         requires sound { Sound self.old }
         requires within { IsTrue (is_row self.old.store.now row) }
         requires alone { self.old.stack.items ≡ [] }
@@ -238,7 +238,7 @@ impl<'s, 'p> Settling<'s, 'p> {
 }
 
 /// Copies the pieces of a text, which are listed from the last to the first.
-fn copy(store: &Store<'_>, pieces: &[Span], copied: &mut Vec<u8>) -> Result<(), ReadError>
+fn copy(store: &Store<'_>, pieces: &[Span], copied: &mut Vec<u8>) -> Result<(), GrowError>
     requires short { length store.now.page.now
         + (length store.now.side.items + length copied.old.items) < 2 ^ 32 }
     requires within { IsTrue (list_all (is_span store.now) pieces.now) }
@@ -254,7 +254,7 @@ fn copy(store: &Store<'_>, pieces: &[Span], copied: &mut Vec<u8>) -> Result<(), 
         let bytes = store.bytes(pieces[left]);
         let len = store.page.len() + (store.side.len() + copied.len());
         if bytes.len() > u32::MAX as usize - len {
-            return Err(ReadError::TooLarge);
+            return Err(GrowError::TooLarge);
         }
         copied.extend_from_slice(bytes)?;
     }
@@ -291,7 +291,7 @@ fn beside(store: &Store<'_>, first: Span, second: Span) -> Option<Span>
 }
 
 /// The rows of a row of nodes.
-pub(crate) fn settle(alloc: Global, store: &Store<'_>, row: u32) -> Result<Settled, ReadError>
+pub(crate) fn settle(alloc: Global, store: &Store<'_>, row: u32) -> Result<Settled, GrowError>
     requires { IsTrue (is_row store.now row) }
     ensures { IfOk result (AreRowsOf store.now row) }
 {
@@ -321,7 +321,7 @@ pub(crate) fn tree_of<'p>(
     store: Store<'p>,
     row: u32,
     is_quirks: bool,
-) -> Result<Tree<'p>, ReadError>
+) -> Result<Tree<'p>, GrowError>
     requires { IsTrue (is_row store row) }
     ensures rows { IfOk result (λ tree.
         rows_in tree ≡ rows_of (before (nodes_of store.entry row) no_trees)) }

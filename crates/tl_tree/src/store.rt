@@ -9,7 +9,7 @@ ghost use Rattle.tl_tree.specs.Inner.Within.{attribute_is_within, cells_are_with
 
 use crate::cell::{Cell, Node};
 use crate::entries::{AttributeEntry, DoctypeEntry, TagEntry};
-use crate::error::ReadError;
+use crate::error::GrowError;
 use crate::span::Span;
 use std::alloc::Global;
 
@@ -51,13 +51,13 @@ impl<'a> Store<'a> {
     ghost use Rattle.tl_tree.specs.Inner.Store.{Grows, bytes_of, doctype_at, doctype_of, is_attribute, is_doctype, is_doctype_number, is_node, is_row, is_span, is_tag, is_tag_number, node_of, nodes_of, tag_at, tag_of};
 
     /// Nothing yet.
-    pub(crate) fn new(alloc: Global, page: &'a [u8]) -> Result<Store<'a>, ReadError>
+    pub(crate) fn new(alloc: Global, page: &'a [u8]) -> Result<Store<'a>, GrowError>
         ensures page { IfOk result (λ store. store.page.now ≡ page.now) }
         ensures ok { IfOk result (λ store. length store.cells.items ≡ 0) }
-        ensures err { result ≡ Err ReadError.TooLarge ↔ 2 ^ 32 ≤ length page.now }
+        ensures err { result ≡ Err GrowError.TooLarge ↔ 2 ^ 32 ≤ length page.now }
     {
         if page.len() > u32::MAX as usize {
-            return Err(ReadError::TooLarge);
+            return Err(GrowError::TooLarge);
         }
         Ok(Store {
             page,
@@ -70,32 +70,32 @@ impl<'a> Store<'a> {
     }
 
     /// A row with a node behind it, which is a new row. Texts that meet there are one text.
-    pub(crate) fn add(&mut self, before: u32, node: Node) -> Result<u32, ReadError>
+    pub(crate) fn add(&mut self, before: u32, node: Node) -> Result<u32, GrowError>
         requires before { IsTrue (is_row self.old before) }
         requires node { IsTrue (is_node self.old node) }
         ensures stands { IfOk result (λ row. nodes_of self.new row
             ≡ joined (nodes_of self.old before) (node_of self.old node)) }
         ensures within { IfOk result (λ row. IsTrue (is_row self.new row)) }
         ensures grows { Grows self.old self.new }
-        ensures too_large { result ≡ Err ReadError.TooLarge
+        ensures too_large { result ≡ Err GrowError.TooLarge
             → 2 ^ 32 ≤ length self.old.cells.items + 1 }
     {
         if self.cells.len() >= u32::MAX as usize {
-            return Err(ReadError::TooLarge);
+            return Err(GrowError::TooLarge);
         }
         self.cells.push(Cell { before, node })?;
         Ok(self.cells.len() as u32)
     }
 
     /// Two rows as one.
-    pub(crate) fn join(&mut self, first: u32, second: u32) -> Result<u32, ReadError>
+    pub(crate) fn join(&mut self, first: u32, second: u32) -> Result<u32, GrowError>
         requires first { IsTrue (is_row self.old first) }
         requires second { IsTrue (is_row self.old second) }
         ensures stands { IfOk result (λ row. nodes_of self.new row
             ≡ joined (nodes_of self.old first) (nodes_of self.old second)) }
         ensures within { IfOk result (λ row. IsTrue (is_row self.new row)) }
         ensures grows { Grows self.old self.new }
-        ensures too_large { result ≡ Err ReadError.TooLarge
+        ensures too_large { result ≡ Err GrowError.TooLarge
             → 2 ^ 32 ≤ length self.old.cells.items + 1 }
     {
         if second == 0 {
@@ -105,18 +105,19 @@ impl<'a> Store<'a> {
     }
 
     /// Puts bytes behind the text.
-    pub(crate) fn add_bytes(&mut self, bytes: &[u8]) -> Result<Span, ReadError>
+    pub(crate) fn add_bytes(&mut self, bytes: &[u8]) -> Result<Span, GrowError>
         ensures stands { IfOk result (λ span. bytes_of self.new span ≡ bytes.now) }
         ensures appends { OnOk result (self.new.side.items ≡ self.old.side.items ++ bytes.now) }
+        ensures attributes { self.new.attributes.items ≡ self.old.attributes.items }
         ensures within { IfOk result (λ span. IsTrue (is_span self.new span)) }
         ensures grows { Grows self.old self.new }
-        ensures too_large { result ≡ Err ReadError.TooLarge
+        ensures too_large { result ≡ Err GrowError.TooLarge
             → 2 ^ 32
             ≤ length self.old.page.now + length self.old.side.items + length bytes.now }
     {
         let start = self.page.len() + self.side.len();
         if bytes.len() > u32::MAX as usize - start {
-            return Err(ReadError::TooLarge);
+            return Err(GrowError::TooLarge);
         }
         self.side.extend_from_slice(bytes)?;
         Ok(Span {
@@ -133,51 +134,51 @@ impl<'a> Store<'a> {
     }
 
     /// Puts an attribute behind the others.
-    pub(crate) fn add_attribute(&mut self, attribute: AttributeEntry) -> Result<(), ReadError>
+    pub(crate) fn add_attribute(&mut self, attribute: AttributeEntry) -> Result<(), GrowError>
         requires { IsTrue (is_attribute self.old attribute) }
         ensures stands { OnOk result
             (self.new.attributes.items ≡ self.old.attributes.items ++ attribute ∷ []) }
         ensures grows { Grows self.old self.new }
-        ensures too_large { result ≡ Err ReadError.TooLarge
+        ensures too_large { result ≡ Err GrowError.TooLarge
             → 2 ^ 32 ≤ length self.old.attributes.items + 1 }
     {
         if self.attributes.len() >= u32::MAX as usize {
-            return Err(ReadError::TooLarge);
+            return Err(GrowError::TooLarge);
         }
         self.attributes.push(attribute)?;
         Ok(())
     }
 
     /// Puts a tag behind the others, and answers its number.
-    pub(crate) fn add_tag(&mut self, tag: TagEntry) -> Result<u32, ReadError>
+    pub(crate) fn add_tag(&mut self, tag: TagEntry) -> Result<u32, GrowError>
         requires { IsTrue (is_tag self.old tag) }
         ensures stands { IfOk result (λ number. tag_at self.new number ≡ tag_of self.old tag) }
         ensures within { IfOk result (λ number. IsTrue (is_tag_number self.new number)) }
         ensures grows { Grows self.old self.new }
-        ensures too_large { result ≡ Err ReadError.TooLarge
+        ensures too_large { result ≡ Err GrowError.TooLarge
             → 2 ^ 32 ≤ length self.old.tags.items + 1 }
     {
         let number = self.tags.len();
         if number >= u32::MAX as usize {
-            return Err(ReadError::TooLarge);
+            return Err(GrowError::TooLarge);
         }
         self.tags.push(tag)?;
         Ok(number as u32)
     }
 
     /// Puts a doctype behind the others, and answers its number.
-    pub(crate) fn add_doctype(&mut self, doctype: DoctypeEntry) -> Result<u32, ReadError>
+    pub(crate) fn add_doctype(&mut self, doctype: DoctypeEntry) -> Result<u32, GrowError>
         requires { IsTrue (is_doctype self.old doctype) }
         ensures stands { IfOk result
             (λ number. doctype_at self.new number ≡ doctype_of self.old doctype) }
         ensures within { IfOk result (λ number. IsTrue (is_doctype_number self.new number)) }
         ensures grows { Grows self.old self.new }
-        ensures too_large { result ≡ Err ReadError.TooLarge
+        ensures too_large { result ≡ Err GrowError.TooLarge
             → 2 ^ 32 ≤ length self.old.doctypes.items + 1 }
     {
         let number = self.doctypes.len();
         if number >= u32::MAX as usize {
-            return Err(ReadError::TooLarge);
+            return Err(GrowError::TooLarge);
         }
         self.doctypes.push(doctype)?;
         Ok(number as u32)
@@ -190,6 +191,15 @@ impl<'a> Store<'a> {
         ensures within { IsTrue (is_tag self.now result) }
     {
         self.tags[number as usize]
+    }
+
+    /// The doctype of a number.
+    pub(crate) fn doctype(&self, number: u32) -> DoctypeEntry
+        requires { IsTrue (is_doctype_number self.now number) }
+        ensures stands { doctype_of self.now result ≡ doctype_at self.now number }
+        ensures within { IsTrue (is_doctype self.now result) }
+    {
+        self.doctypes[number as usize]
     }
 
     /// Bytes of the text.

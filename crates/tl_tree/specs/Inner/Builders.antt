@@ -1,32 +1,21 @@
 -- What a builder stands for, in words of `tl_dom_spec`.
 use Rattle.std.specs.Option.{option_map}
-use Rattle.std.specs.Prelude.{Bool, map, reverse}
-use Rattle.tl_html_spec.specs.HtmlTokenizer as tokenizer
+use Rattle.std.specs.Prelude.{List, map, reverse, ℕ}
+use Rattle.tl_html_tokens.specs.Modes.{state_of}
+use Rattle.tl_html_spec.specs.Doctypes as doctypes
 use Rattle.tl_dom_spec.specs.Builder as dom
-use Rattle.tl_dom_spec.specs.Body.{in_body_step}
-use Rattle.tl_dom_spec.specs.Groups.{Group}
-use Rattle.tl_dom_spec.specs.Head.{in_head_start}
-use Rattle.tl_dom_spec.specs.Tables.{table_start}
 use Rattle.tl_dom_spec.specs.Tags.{Tag}
 use Rattle.tl_tree.specs.Inner.Active.{active_of}
 use Rattle.tl_tree.specs.Inner.Frames.{path_of}
 use Rattle.tl_tree.specs.Inner.Modes.{mode_of}
-use Rattle.tl_tree.specs.Inner.Store.{tag_at}
+use Rattle.tl_tree.specs.Inner.Store.{bytes_of, doctype_at, tag_at}
 use Rattle.tl_tree.specs.declared.builder.Builder.{Builder}
 use Rattle.tl_tree.specs.declared.builder.Flags.{Flags}
 use Rattle.tl_tree.specs.declared.outcome.Outcome.{Outcome}
-use Rattle.tl_tree.specs.declared.outcome.Started.{Started}
-use Rattle.tl_tree.specs.declared.outcome.Started.TheVariants.{InBody, InHead, InTable, Own}
 use Rattle.tl_tree.specs.declared.outcome.Outcome.TheVariants.{Again, Done}
-use Rattle.tl_tree.specs.declared.reads.Reads.{Reads}
-use Rattle.tl_tree.specs.declared.reads.Reads.TheVariants.{Data, Plaintext, Rawtext, Rcdata, ScriptData}
-
-abbrev pub reads_of : Reads → tokenizer.State
-reads_of Data = tokenizer.data_state
-reads_of (Rcdata name) = tokenizer.raw (tokenizer.rcdata name.now)
-reads_of (Rawtext name) = tokenizer.raw (tokenizer.rawtext name.now)
-reads_of ScriptData = tokenizer.raw tokenizer.script_data
-reads_of Plaintext = tokenizer.plaintext
+use Rattle.tl_tree.specs.Inner.GroupNames.{group_view}
+use Rattle.tl_tree.specs.declared.token.Token.{Token}
+use Rattle.tl_tree.specs.declared.token.Token.TheVariants.{Character, Comment, Doctype, End, EndOfFile, Start}
 
 abbrev pub flags_of : Flags → dom.Flags
 flags_of f = record { is_scripting = f.is_scripting; counts_search = f.counts_search }
@@ -47,25 +36,39 @@ builder_of b = record {
   skips = b.skips;
   pending = b.pending.items;
   context = option_map (tag_at b.path.store) b.context;
-  reads = reads_of b.reads;
+  reads = state_of b.reads;
   tokens = b.tokens;
   added = b.added;
   excess = b.excess;
   flags = flags_of b.flags;
 }
 
--- the tag of the token that is processed
-unfoldable pub token_of : Builder → Tag
-token_of b = tag_at b.path.store b.tag
+-- the page, and what the token that is processed says: the tag where it is a start tag, the text
+-- where it is a comment, and the doctype where it is one
+pub record Said : Type 0 where
+  pub page : List ℕ
+  pub tag : Tag
+  pub text : List ℕ
+  pub doctype : doctypes.Doctype
+
+unfoldable pub token_of : Builder → Said
+token_of b = record {
+  page = b.path.store.page.now;
+  tag = tag_at b.path.store b.tag;
+  text = bytes_of b.path.store b.text;
+  doctype = doctype_at b.path.store b.doctype;
+}
 
 -- what becomes of a token, with the builder afterwards
 abbrev pub outcome_of : Outcome → dom.Builder → dom.Outcome
 outcome_of Done b = dom.Done b
 outcome_of Again b = dom.Again b
 
--- the same of a start tag, where the rules of another mode may be those to go by
-abbrev pub outcome_by : Started → dom.Builder → Group → Tag → Bool → dom.Outcome
-outcome_by (Own outcome) b g t closes = outcome_of outcome b
-outcome_by InHead b g t closes = in_head_start b g t
-outcome_by InBody b g t closes = in_body_step b (dom.a_start g t closes)
-outcome_by InTable b g t closes = table_start b g t closes
+-- a token as the definition has it
+abbrev pub token_view : Token → Said → dom.Token
+token_view (Character byte) said = dom.a_character byte
+token_view (Start group closes) said = dom.a_start (group_view group) said.tag closes
+token_view (End group name) said = dom.an_end (group_view group) name.now
+token_view Comment said = dom.a_comment said.text
+token_view Doctype said = dom.a_doctype said.doctype
+token_view EndOfFile said = dom.end_of_file

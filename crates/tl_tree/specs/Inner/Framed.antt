@@ -6,7 +6,8 @@ use Rattle.tl_tree.specs.declared.frame.Frame.{Frame}
 -- where there are so many tags and rows
 abbrev pub frame_is_within : ℕ → ℕ → Frame → Bool
 frame_is_within tags rows f =
-    nat_lt f.tag tags && (nat_le f.children rows && nat_le f.waiting rows)
+    nat_lt f.tag tags
+    && (nat_le f.children rows && (nat_le f.late rows && nat_le f.waiting rows))
 
 -- numbers from this one on are free
 abbrev pub is_before : ℕ → Frame → Bool

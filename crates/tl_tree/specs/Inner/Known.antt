@@ -1,12 +1,18 @@
--- Which tags a builder may refer to: those of its store.
+-- What a builder may refer to: tags, bytes and doctypes of its store, and elements with a number.
 use Rattle.std.specs.Prelude.{Bool, IsTrue, None, Option, Some, nat_lt, true, ℕ, ◌<◌}
+use Rattle.tl_tree.specs.Inner.Within.{Sizes, span_is_within}
+use Rattle.tl_tree.specs.declared.span.Span.{Span}
 
 abbrev pub context_is_known : ℕ → Option ℕ → Bool
 context_is_known tags None = true
 context_is_known tags (Some tag) = nat_lt tag tags
 
--- where there are so many tags
-pub record AreKnown (tags active : ℕ) (context : Option ℕ) (token : ℕ) : Type 0 where
-  pub listed : active < tags
-  pub own : token < tags
-  pub around : IsTrue (context_is_known tags context)
+-- where a store has these sizes, and this is the next number
+pub record AreKnown (sizes : Sizes) (next number active : ℕ) (context : Option ℕ) (token : ℕ)
+    (text : Span) (doctype : ℕ) : Type 0 where
+  pub numbered : number < next
+  pub listed : active < sizes.tags
+  pub own : token < sizes.tags
+  pub around : IsTrue (context_is_known sizes.tags context)
+  pub said : IsTrue (span_is_within sizes.page sizes.side text)
+  pub typed : doctype < sizes.doctypes

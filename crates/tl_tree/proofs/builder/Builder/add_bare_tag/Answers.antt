@@ -1,4 +1,4 @@
-use Rattle.tl_tree.proofs.Built.{known-grown, path-changed, token-kept}
+use Rattle.tl_tree.proofs.Built.{known-kept, path-changed, token-kept}
 use Rattle.tl_tree.specs.Inner.Builders.{builder_of}
 use Rattle.tl_tree.specs.Inner.Frames.{path_of}
 use Rattle.tl_tree.proofs.builder.Builder.add_bare_tag.Goals as goal
@@ -6,14 +6,14 @@ use Rattle.tl_tree.proofs.builder.Builder.add_bare_tag.Goals as goal
 pub invariant_of-self : goal.invariant_of-self
 invariant_of-self c =
     let b = c.args.self.now in
-    record { known = known-grown b.path.store c.add_bare_tag.new.self.store c.add_bare_tag.ensures.grows b.active.greatest_tag b.context b.tag b.known }
+    record { known = known-kept b c.add_bare_tag.new.self c.add_bare_tag.ensures.grows c.add_bare_tag.ensures.next }
 
 pub returns-clause-ok : goal.returns-clause-ok
 unfolding builder_of
 returns-clause-ok c =
     let b = c.args.self.now in
     let q = c.add_bare_tag.new.self in
-    path-changed b q (known-grown b.path.store q.store c.add_bare_tag.ensures.grows b.active.greatest_tag b.context b.tag b.known)
+    path-changed b q (known-kept b q c.add_bare_tag.ensures.grows c.add_bare_tag.ensures.next)
     (path_of b.path) b.path.next c.add_bare_tag.ensures.grows c.add_bare_tag.ensures.next c.add_bare_tag.ensures.path
 
 pub returns-clause-token : goal.returns-clause-token

@@ -1,15 +1,15 @@
 use Rattle.std.proofs.lemmas.Result.{on_ok_weaker}
 use Rattle.tl_dom_spec.specs.Path.{has_tag, popped_to}
-use Rattle.tl_dom_spec.specs.Tags.{is_any}
-use Rattle.tl_tree.proofs.Built.{known-grown, path-changed, token-kept}
+use Rattle.tl_tree.proofs.Built.{known-kept, path-changed, token-kept}
 use Rattle.tl_tree.specs.Inner.Builders.{builder_of}
 use Rattle.tl_tree.specs.Inner.Frames.{path_of}
+use Rattle.tl_tree.specs.Inner.Tests.{tag_test_of}
 use Rattle.tl_tree.proofs.builder.Builder.clear_stack_back_to.Goals as goal
 
 pub invariant_of-self : goal.invariant_of-self
 invariant_of-self c =
     let b = c.args.self.now in
-    record { known = known-grown b.path.store c.pop_to.new.self.store c.pop_to.ensures.grows b.active.greatest_tag b.context b.tag b.known }
+    record { known = known-kept b c.pop_to.new.self c.pop_to.ensures.grows c.pop_to.ensures.next }
 
 pub returns-clause-ok : goal.returns-clause-ok
 unfolding builder_of
@@ -17,8 +17,8 @@ returns-clause-ok c =
     let b = c.args.self.now in
     let q = c.pop_to.new.self in
     on_ok_weaker c.pop_to.result
-    (path-changed b q (known-grown b.path.store q.store c.pop_to.ensures.grows b.active.greatest_tag b.context b.tag b.known)
-    (popped_to (has_tag (is_any c.args.names.now)) (path_of b.path)) b.path.next c.pop_to.ensures.grows c.pop_to.ensures.next)
+    (path-changed b q (known-kept b q c.pop_to.ensures.grows c.pop_to.ensures.next)
+    (popped_to (has_tag (tag_test_of c.args.test)) (path_of b.path)) b.path.next c.pop_to.ensures.grows c.pop_to.ensures.next)
     c.pop_to.ensures.ok
 
 pub returns-clause-token : goal.returns-clause-token

@@ -1,13 +1,13 @@
-use Rattle.std.proofs.Common.{ap, length, refl, subst, sym, List}
+use Rattle.std.proofs.Common.{ap, refl, List}
 use Rattle.tl_dom_spec.specs.Builder as dom
+use Rattle.tl_tree.proofs.Built.{known-listed}
 use Rattle.tl_tree.specs.Inner.Builders.{builder_of, token_of}
-use Rattle.tl_tree.specs.Inner.Known.{AreKnown}
 use Rattle.tl_tree.proofs.builder.Builder.clear_to_last_marker.Goals as goal
 
 pub invariant_of-self : goal.invariant_of-self
 invariant_of-self c =
     let b = c.args.self.now in
-    record { known = subst (λ most. AreKnown (length b.path.store.tags.items) most b.context b.tag) (sym c.clear_to_last_marker.ensures.tag) b.known }
+    record { known = known-listed b c.clear_to_last_marker.new.self c.clear_to_last_marker.ensures.number c.clear_to_last_marker.ensures.tag }
 
 pub returns-clause-ok : goal.returns-clause-ok
 unfolding builder_of

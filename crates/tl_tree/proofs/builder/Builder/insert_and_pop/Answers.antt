@@ -1,38 +1,13 @@
-use Rattle.std.proofs.Common.{ap, arith, suc, ◌∙◌, length}
-use Rattle.std.proofs.lemmas.Bool.{lt-ltb}
-use Rattle.tl_dom_spec.specs.Path.{Path, Place, and_element, no_nodes, place_in, put}
-use Rattle.tl_tree.proofs.Built.{known-grown, on-ok-both, path-changed, token-kept}
+use Rattle.std.proofs.Common.{ap, ◌∙◌}
+use Rattle.std.proofs.lemmas.Result.{on_ok_weaker}
+use Rattle.tl_dom_spec.specs.Builder.{insert_and_pop_at}
+use Rattle.tl_dom_spec.specs.Path.{Place}
 use Rattle.tl_tree.specs.Inner.Builders.{builder_of, token_of}
-use Rattle.tl_tree.specs.Inner.Frames.{path_of}
-use Rattle.tl_tree.specs.Inner.Store.{tag_at}
 use Rattle.tl_tree.proofs.builder.Builder.insert_and_pop.Goals as goal
 
-pub insert_and_pop-requires : goal.insert_and_pop-requires
-insert_and_pop-requires c =
-    let b = c.args.self.now in
-    lt-ltb b.tag (length b.path.store.tags.items) b.known.own
-
-pub invariant_of-self : goal.invariant_of-self
-invariant_of-self c =
-    let b = c.args.self.now in
-    record { known = known-grown b.path.store c.insert_and_pop.new.self.store c.insert_and_pop.ensures.grows b.active.greatest_tag b.context b.tag b.known }
-
 pub returns-clause-ok : goal.returns-clause-ok
-unfolding builder_of token_of
 returns-clause-ok c =
     let b = c.args.self.now in
-    let q = c.insert_and_pop.new.self in
-    let own = tag_at b.path.store b.tag in
-    let placed : Place → Path = λ at. put at (and_element no_nodes own no_nodes) (path_of b.path) in
-    on-ok-both c.insert_and_pop.result
-    (λ is-path is-next.
-    path-changed b q (known-grown b.path.store q.store c.insert_and_pop.ensures.grows b.active.greatest_tag b.context b.tag b.known)
-    (placed (place_in b.is_fostering (path_of b.path))) (suc b.path.next) c.insert_and_pop.ensures.grows (omega arith)
-    (is-path ∙ ap placed c.place_in-place.ensures))
-    c.insert_and_pop.ensures.ok c.insert_and_pop.ensures.next
-
-pub returns-clause-token : goal.returns-clause-token
-returns-clause-token c =
-    let b = c.args.self.now in
-    let q = c.insert_and_pop.new.self in
-    token-kept b q _ c.insert_and_pop.ensures.grows
+    on_ok_weaker c.insert_and_pop_at.result
+    (λ is. is ∙ ap (λ (at : Place). insert_and_pop_at at (token_of b).tag (builder_of b)) c.appropriate_place-place.ensures)
+    c.insert_and_pop_at.ensures.ok

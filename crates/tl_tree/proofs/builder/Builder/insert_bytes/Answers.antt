@@ -1,7 +1,7 @@
 use Rattle.std.proofs.Common.{ap, ◌∙◌}
 use Rattle.std.proofs.lemmas.Result.{on_ok_weaker}
 use Rattle.tl_dom_spec.specs.Path.{Path, Place, and_text, no_nodes, place_in, put}
-use Rattle.tl_tree.proofs.Built.{known-grown, path-changed, token-kept}
+use Rattle.tl_tree.proofs.Built.{known-kept, path-changed, token-kept}
 use Rattle.tl_tree.specs.Inner.Builders.{builder_of}
 use Rattle.tl_tree.specs.Inner.Frames.{path_of}
 use Rattle.tl_tree.specs.Inner.Store.{bytes_of, node_of}
@@ -10,7 +10,7 @@ use Rattle.tl_tree.proofs.builder.Builder.insert_bytes.Goals as goal
 pub invariant_of-self : goal.invariant_of-self
 invariant_of-self c =
     let b = c.args.self.now in
-    record { known = known-grown b.path.store c.put.new.self.store c.put.ensures.grows b.active.greatest_tag b.context b.tag b.known }
+    record { known = known-kept b c.put.new.self c.put.ensures.grows c.put.ensures.next }
 
 pub returns-clause-ok : goal.returns-clause-ok
 unfolding builder_of node_of
@@ -20,7 +20,7 @@ returns-clause-ok c =
     let placed : Place → Path = λ at. put at (and_text no_nodes (bytes_of b.path.store c.args.text)) (path_of b.path) in
     on_ok_weaker c.put.result
     (λ is.
-    path-changed b q (known-grown b.path.store q.store c.put.ensures.grows b.active.greatest_tag b.context b.tag b.known)
+    path-changed b q (known-kept b q c.put.ensures.grows c.put.ensures.next)
     (placed (place_in b.is_fostering (path_of b.path))) b.path.next c.put.ensures.grows c.put.ensures.next
     (is ∙ ap placed c.place_in-place.ensures))
     c.put.ensures.ok

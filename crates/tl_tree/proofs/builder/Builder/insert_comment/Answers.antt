@@ -1,31 +1,18 @@
 use Rattle.std.proofs.Common.{ap, ◌∙◌}
 use Rattle.std.proofs.lemmas.Result.{on_ok_weaker}
-use Rattle.tl_dom_spec.specs.Path.{Path, Place, and_comment, no_nodes, place_in, put}
-use Rattle.tl_tree.proofs.Built.{known-grown, path-changed, token-kept}
-use Rattle.tl_tree.specs.Inner.Builders.{builder_of}
-use Rattle.tl_tree.specs.Inner.Frames.{path_of}
-use Rattle.tl_tree.specs.Inner.Store.{bytes_of, node_of}
+use Rattle.tl_dom_spec.specs.Builder.{insert_comment_at}
+use Rattle.tl_dom_spec.specs.Path.{Place}
+use Rattle.tl_tree.specs.Inner.Builders.{builder_of, token_of}
 use Rattle.tl_tree.proofs.builder.Builder.insert_comment.Goals as goal
 
-pub invariant_of-self : goal.invariant_of-self
-invariant_of-self c =
-    let b = c.args.self.now in
-    record { known = known-grown b.path.store c.put.new.self.store c.put.ensures.grows b.active.greatest_tag b.context b.tag b.known }
-
 pub returns-clause-ok : goal.returns-clause-ok
-unfolding builder_of node_of
+unfolding builder_of token_of
 returns-clause-ok c =
     let b = c.args.self.now in
-    let q = c.put.new.self in
-    let placed : Place → Path = λ at. put at (and_comment no_nodes (bytes_of b.path.store c.args.text)) (path_of b.path) in
-    on_ok_weaker c.put.result
-    (λ is.
-    path-changed b q (known-grown b.path.store q.store c.put.ensures.grows b.active.greatest_tag b.context b.tag b.known)
-    (placed (place_in b.is_fostering (path_of b.path))) b.path.next c.put.ensures.grows c.put.ensures.next
-    (is ∙ ap placed c.place_in-place.ensures))
-    c.put.ensures.ok
+    on_ok_weaker c.put_comment.result
+    (λ is. is ∙ ap (λ (at : Place). insert_comment_at at (token_of b).text (builder_of b)) c.place_in-place.ensures)
+    c.put_comment.ensures.ok
 
 pub returns-clause-token : goal.returns-clause-token
-returns-clause-token c =
-    let b = c.args.self.now in
-    token-kept b c.put.new.self _ c.put.ensures.grows
+unfolding token_of
+returns-clause-token c = c.put_comment.ensures.token

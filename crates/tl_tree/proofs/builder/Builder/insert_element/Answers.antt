@@ -1,9 +1,13 @@
-use Rattle.tl_tree.specs.Inner.Builders.{token_of}
+use Rattle.std.proofs.Common.{ap, ◌∙◌}
+use Rattle.std.proofs.lemmas.Result.{on_ok_weaker}
+use Rattle.tl_dom_spec.specs.Builder.{insert_element_at}
+use Rattle.tl_dom_spec.specs.Path.{Place}
+use Rattle.tl_tree.specs.Inner.Builders.{builder_of, token_of}
 use Rattle.tl_tree.proofs.builder.Builder.insert_element.Goals as goal
 
-pub insert_tag-requires : goal.insert_tag-requires
-insert_tag-requires c = c.args.self.now.known.own
-
 pub returns-clause-ok : goal.returns-clause-ok
-unfolding token_of
-returns-clause-ok c = c.insert_tag.ensures.ok
+returns-clause-ok c =
+    let b = c.args.self.now in
+    on_ok_weaker c.insert_element_at.result
+    (λ is. is ∙ ap (λ (at : Place). insert_element_at at (token_of b).tag (builder_of b)) c.appropriate_place-place.ensures)
+    c.insert_element_at.ensures.ok

@@ -1,15 +1,15 @@
 use Rattle.std.proofs.lemmas.Result.{on_ok_weaker}
 use Rattle.tl_dom_spec.specs.Path.{has_tag, popped_through}
-use Rattle.tl_dom_spec.specs.Tags.{is_any}
-use Rattle.tl_tree.proofs.Built.{known-grown, path-changed, token-kept}
+use Rattle.tl_tree.proofs.Built.{known-kept, path-changed, token-kept}
 use Rattle.tl_tree.specs.Inner.Builders.{builder_of}
 use Rattle.tl_tree.specs.Inner.Frames.{path_of}
+use Rattle.tl_tree.specs.Inner.Tests.{tag_test_of}
 use Rattle.tl_tree.proofs.builder.Builder.pop_until.Goals as goal
 
 pub invariant_of-self : goal.invariant_of-self
 invariant_of-self c =
     let b = c.args.self.now in
-    record { known = known-grown b.path.store c.pop_through.new.self.store c.pop_through.ensures.grows b.active.greatest_tag b.context b.tag b.known }
+    record { known = known-kept b c.pop_through.new.self c.pop_through.ensures.grows c.pop_through.ensures.next }
 
 pub returns-clause-ok : goal.returns-clause-ok
 unfolding builder_of
@@ -17,8 +17,8 @@ returns-clause-ok c =
     let b = c.args.self.now in
     let q = c.pop_through.new.self in
     on_ok_weaker c.pop_through.result
-    (path-changed b q (known-grown b.path.store q.store c.pop_through.ensures.grows b.active.greatest_tag b.context b.tag b.known)
-    (popped_through (has_tag (is_any c.args.names.now)) (path_of b.path)) b.path.next c.pop_through.ensures.grows c.pop_through.ensures.next)
+    (path-changed b q (known-kept b q c.pop_through.ensures.grows c.pop_through.ensures.next)
+    (popped_through (has_tag (tag_test_of c.args.test)) (path_of b.path)) b.path.next c.pop_through.ensures.grows c.pop_through.ensures.next)
     c.pop_through.ensures.ok
 
 pub returns-clause-token : goal.returns-clause-token

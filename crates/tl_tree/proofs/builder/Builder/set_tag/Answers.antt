@@ -5,12 +5,25 @@ use Rattle.tl_tree.proofs.builder.Builder.set_tag.Goals as goal
 pub invariant_of-self : goal.invariant_of-self
 invariant_of-self c =
     let k = c.args.self.now.known in
-    record { known = record { listed = k.listed; own = c.requires; around = k.around } }
+    record {
+      known = record {
+        numbered = k.numbered;
+        listed = k.listed;
+        own = c.requires;
+        around = k.around;
+        said = k.said;
+        typed = k.typed;
+      };
+    }
 
 pub returns-clause-ok : goal.returns-clause-ok
 unfolding builder_of
 returns-clause-ok c = refl
 
-pub returns-clause-token : goal.returns-clause-token
+pub returns-clause-page : goal.returns-clause-page
 unfolding token_of
-returns-clause-token c = refl
+returns-clause-page c = refl
+
+pub returns-clause-tag : goal.returns-clause-tag
+unfolding token_of
+returns-clause-tag c = refl

@@ -1,3 +1,4 @@
+use Rattle.std.proofs.Common.{◌∙◌}
 use Rattle.tl_tree.proofs.Written.{caught-up, caught-up-none}
 use Rattle.tl_tree.proofs.path.FramePath.catch_up.Goals as goal
 
@@ -8,4 +9,4 @@ returns-then-frame-eq0-clause-ok c =
 pub returns-clause-ok : goal.returns-clause-ok
 returns-clause-ok c =
     let p = c.args.self.now in
-    caught-up p c.add.new.self c.write.new.self c.args.index c.index-frame.result.now c.in_ok-children.children c.add.ensures.grows c.add.ensures.frames c.write.ensures.store c.write.ensures.frames c.index-frame.ensures c.requires.index c.in_ok-children.ensures.stands
+    caught-up p c.folded.new.self c.add.new.self c.write.new.self c.args.index c.index-frame.result.now c.in_ok-frame.frame c.in_ok-children.children c.folded.ensures.grows c.add.ensures.grows (c.add.ensures.frames ∙ c.folded.ensures.frames) c.write.ensures.store c.write.ensures.frames c.index-frame.ensures c.requires.index c.in_ok-frame.ensures.within c.in_ok-frame.ensures.stands c.in_ok-frame.ensures.late c.in_ok-children.ensures.stands

@@ -14,20 +14,20 @@ use Rattle.tl_tree.proofs.path.FramePath.push.Goals as goal
 pub invariant_of-self-clause-within : goal.invariant_of-self-clause-within
 invariant_of-self-clause-within c =
     let p = c.args.self.now in
-    let f : Frame = record { number = p.next; tag = c.args.tag; children = 0; waiting = 0; place = c.args.place; is_open = true } in
+    let f : Frame = record { number = p.next; tag = c.args.tag; children = 0; late = 0; waiting = 0; place = c.args.place; is_open = true } in
     all-pushed (is_frame p) (is_ok c.push.result) p.frames.items c.push.new.self.items f c.push.ensures.items p.within
-    (of-parts p.store f (ltb-true c.args.tag (length p.store.tags.items) c.requires) (omega arith) (omega arith))
+    (of-parts p.store f (ltb-true c.args.tag (length p.store.tags.items) c.requires) (omega arith) (omega arith) (omega arith))
 
 pub invariant_of-self-clause-distinct : goal.invariant_of-self-clause-distinct
 invariant_of-self-clause-distinct c =
     let p = c.args.self.now in
-    let f : Frame = record { number = p.next; tag = c.args.tag; children = 0; waiting = 0; place = c.args.place; is_open = true } in
+    let f : Frame = record { number = p.next; tag = c.args.tag; children = 0; late = 0; waiting = 0; place = c.args.place; is_open = true } in
     distinct-pushed (is_ok c.push.result) p.frames.items c.push.new.self.items p.next f c.push.ensures.items p.distinct p.numbered (omega arith)
 
 pub invariant_of-self-clause-numbered : goal.invariant_of-self-clause-numbered
 invariant_of-self-clause-numbered c =
     let p = c.args.self.now in
-    let f : Frame = record { number = p.next; tag = c.args.tag; children = 0; waiting = 0; place = c.args.place; is_open = true } in
+    let f : Frame = record { number = p.next; tag = c.args.tag; children = 0; late = 0; waiting = 0; place = c.args.place; is_open = true } in
     all-pushed (is_before (p.next + 1)) (is_ok c.push.result) p.frames.items c.push.new.self.items f c.push.ensures.items
     (all-weaker (is_before p.next) (is_before (p.next + 1)) (λ g h. lt-more g.number p.next (p.next + 1) h (omega arith)) p.frames.items p.numbered)
     (lt-ltb p.next (p.next + 1) (omega arith))
@@ -35,7 +35,7 @@ invariant_of-self-clause-numbered c =
 pub invariant_of-self-clause-some : goal.invariant_of-self-clause-some
 invariant_of-self-clause-some c =
     let p = c.args.self.now in
-    let f : Frame = record { number = p.next; tag = c.args.tag; children = 0; waiting = 0; place = c.args.place; is_open = true } in
+    let f : Frame = record { number = p.next; tag = c.args.tag; children = 0; late = 0; waiting = 0; place = c.args.place; is_open = true } in
     let longer = appended-longer (is_ok c.push.result) p.frames.items c.push.new.self.items (f ∷ []) c.push.ensures.items in
     let some = p.some in
     omega arith

@@ -1,8 +1,8 @@
+use Rattle.std.proofs.Common.{◌∙◌}
 use Rattle.tl_tree.proofs.Written.{put-inside}
-use Rattle.tl_tree.specs.Inner.Store.{node_of}
 use Rattle.tl_tree.proofs.path.FramePath.put_inside.Goals as goal
 
 pub returns-clause-ok : goal.returns-clause-ok
 returns-clause-ok c =
     let p = c.args.self.now in
-    put-inside p c.add.new.self c.write.new.self c.args.index c.index-frame.result.now c.in_ok-children.children (node_of p.store c.args.node) c.add.ensures.grows c.add.ensures.frames c.write.ensures.store c.write.ensures.frames c.index-frame.ensures c.requires.index c.in_ok-children.ensures.stands
+    put-inside p c.ready.new.self c.add.new.self c.write.new.self c.args.index c.index-frame.result.now c.in_ok-frame.frame c.in_ok-children.children c.args.node c.ready.ensures.grows c.add.ensures.grows (c.add.ensures.frames ∙ c.ready.ensures.frames) c.write.ensures.store c.write.ensures.frames c.index-frame.ensures c.requires.index c.requires.node c.in_ok-frame.ensures.within c.in_ok-frame.ensures.stands c.in_ok-frame.ensures.behind c.in_ok-children.ensures.stands

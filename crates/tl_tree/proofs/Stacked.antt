@@ -1,0 +1,216 @@
+-- What single rules ask of a path of frames, and what they change in it.
+use Rattle.std.proofs.Common.{ap, arith, subst, sym, ◌∙◌, ◌≡◌, ◌+◌, ◌≤◌, ◌<◌, ◌++◌, ◌∷◌, [], Bool, List, None, Some, codes, cond, drop, false, get_or, length, nat_eq, refl, reverse, set, slice_get, suc, take, true, zero, ℕ}
+use Rattle.std.proofs.lemmas.List.{append-nil, drop_all, drop_more, get_or_default, reverse-append, take_all}
+use Rattle.std.proofs.lemmas.List.Elements.{filter-append}
+use Rattle.tl_dom_spec.specs.Body.{body_number, earlier_item, from_html}
+use Rattle.tl_dom_spec.specs.Builder.{is_only}
+use Rattle.tl_dom_spec.specs.Path as dom
+use Rattle.tl_dom_spec.specs.Tags.{Tag, is_any}
+use Rattle.tl_tree.proofs.Changed.{reverse-last}
+use Rattle.tl_tree.proofs.Grown.{grows_refl}
+use Rattle.tl_tree.proofs.Numbered.{changed-number}
+use Rattle.tl_tree.proofs.Popped.{path-top}
+use Rattle.tl_tree.proofs.Sought.{reverse-take}
+use Rattle.tl_tree.proofs.Written.{frame-at, frame-written, frames-length, path-length}
+use Rattle.tl_tree.specs.Inner.Framed.{numbers}
+use Rattle.tl_tree.specs.Inner.Frames.{changed, frame_of, frames_of, path_of}
+use Rattle.tl_tree.specs.Inner.Stack.{earlier, inner, opened_from, retagged, retagged_by}
+use Rattle.tl_tree.specs.Inner.Store.{Grows, tag_at}
+use Rattle.tl_tree.specs.declared.frame.Frame.{Frame}
+use Rattle.tl_tree.specs.declared.path.FramePath.{FramePath}
+use Rattle.tl_tree.specs.declared.store.Store.{Store}
+
+-- another tag
+pub tagged-at : (p q : FramePath) (i : ℕ) (f : Frame) (tag : ℕ) → q.store ≡ p.store → q.frames.items ≡ set p.frames.items i (record f { tag = tag }) → f ≡ get_or p.frames.items i f → i < length p.frames.items → frames_of q ≡ changed i (retagged (tag_at p.store tag)) (frames_of p)
+tagged-at p q i f tag same at is h =
+    let new : Frame = record f { tag = tag } in
+    let grows = subst (λ (s : Store). Grows p.store s) (sym same) (grows_refl p.store) in
+    frame-written p q grows i f new (retagged (tag_at p.store tag)) at is h (ap (λ (s : Store). frame_of s new) same)
+
+changed-alike : (n : ℕ) (first second : dom.Frame → dom.Frame) (frames : List dom.Frame) (f : dom.Frame) → n < length frames → get_or frames n f ≡ f → first f ≡ second f → changed n first frames ≡ changed n second frames
+changed-alike n first second [] f h is e = refl
+changed-alike zero first second (g ∷ frames) f h is e =
+    ap (λ (own : dom.Frame). own ∷ frames) (ap first is ∙ (e ∙ sym (ap second is)))
+changed-alike (suc n) first second (g ∷ frames) f h is e =
+    ap (λ (rest : List dom.Frame). g ∷ rest) (changed-alike n first second frames f (omega arith) is e)
+
+-- a change of the tag of a number is one of the frame
+pub tagged-by : (p : FramePath) (k n : ℕ) (f : Frame) → slice_get (numbers p.frames.items) n ≡ Some k → f ≡ get_or p.frames.items n f → n < length p.frames.items → (change : Tag → Tag) → dom.at_number k (retagged_by change) (path_of p) ≡ dom.at_number k (retagged (change (tag_at p.store f.tag))) (path_of p)
+tagged-by p k n f found is h change =
+    let many = frames-length p in
+    sym (changed-number p k n (retagged_by change) found)
+    ∙ (ap reverse (changed-alike n (retagged_by change) (retagged (change (tag_at p.store f.tag))) (frames_of p) (frame_of p.store f) (omega arith) (frame-at p n f is) refl)
+    ∙ changed-number p k n (retagged (change (tag_at p.store f.tag))) found)
+
+-- The path up to the `html` element
+
+html-stays : (f : dom.Frame) (path : dom.Path) → nat_eq f.number 1 ≡ true → from_html (f ∷ path) ≡ f ∷ path
+html-stays f [] e = refl
+html-stays f (g ∷ path) e = ap (λ (b : Bool). cond b (f ∷ g ∷ path) (from_html (g ∷ path))) e
+
+other-goes : (f : dom.Frame) (path : dom.Path) → 0 < length path → nat_eq f.number 1 ≡ false → from_html (f ∷ path) ≡ from_html path
+other-goes f [] h e = absurd (omega arith)
+other-goes f (g ∷ path) h e = ap (λ (b : Bool). cond b (f ∷ g ∷ path) (from_html (g ∷ path))) e
+
+pub html-alone : (p : FramePath) → length p.frames.items ≡ 1 → from_html (path_of p) ≡ path_of p
+html-alone p long =
+    let e = reverse-last (frames_of p) 0 dom.document (frames-length p ∙ long) in
+    ap from_html e ∙ sym e
+
+pub html-on-top : (p : FramePath) (n : ℕ) (f : Frame) → length p.frames.items ≡ suc n → f ≡ get_or p.frames.items n f → nat_eq f.number 1 ≡ true → from_html (path_of p) ≡ path_of p
+html-on-top p n f long is same =
+    let e = path-top p n f long is in
+    ap from_html e ∙ (html-stays (frame_of p.store f) (reverse (take n (frames_of p))) same ∙ sym e)
+
+pub other-on-top : (p : FramePath) (n : ℕ) (f : Frame) → length p.frames.items ≡ suc n → 0 < n → f ≡ get_or p.frames.items n f → nat_eq f.number 1 ≡ false → from_html (path_of p) ≡ from_html (inner (path_of p))
+other-on-top p n f long some is other =
+    let e = path-top p n f long is in
+    let many = ap length e in
+    let all = path-length p in
+    ap from_html e
+    ∙ (other-goes (frame_of p.store f) (reverse (take n (frames_of p))) (omega arith) other
+    ∙ sym (ap (λ (path : dom.Path). from_html (inner path)) e))
+
+pub cut-one : (p q : FramePath) (f : dom.Frame) → path_of p ≡ f ∷ path_of q → from_html (path_of p) ≡ from_html (inner (path_of p)) → from_html (path_of q) ≡ from_html (path_of p)
+cut-one p q f is same = sym (same ∙ ap (λ (path : dom.Path). from_html (inner path)) is)
+
+-- Open frames, from the outermost on
+
+opened-step : (p : FramePath) (n : ℕ) (f : Frame) → f ≡ get_or p.frames.items n f → n < length p.frames.items → opened_from p n ≡ cond f.is_open (frame_of p.store f ∷ opened_from p (n + 1)) (opened_from p (n + 1))
+unfolding opened_from
+opened-step p n f is h =
+    let many = frames-length p in
+    ap dom.elements (drop_more (frames_of p) n (frame_of p.store f) (omega arith)
+    ∙ ap (λ (own : dom.Frame). own ∷ drop (n + 1) (frames_of p)) (frame-at p n f is))
+
+pub opened-shut : (p : FramePath) (n : ℕ) (f : Frame) → f ≡ get_or p.frames.items n f → n < length p.frames.items → f.is_open ≡ false → opened_from p n ≡ opened_from p (n + 1)
+opened-shut p n f is h e =
+    opened-step p n f is h
+    ∙ ap (λ (b : Bool). cond b (frame_of p.store f ∷ opened_from p (n + 1)) (opened_from p (n + 1))) e
+
+pub frame-there : (p : FramePath) (n : ℕ) (f : Frame) → f ≡ get_or p.frames.items n f → n < length p.frames.items → get_or (frames_of p) n dom.document ≡ frame_of p.store f
+frame-there p n f is h =
+    let many = frames-length p in
+    get_or_default (frames_of p) n dom.document (frame_of p.store f) (omega arith) ∙ frame-at p n f is
+
+pub opened-first : (p : FramePath) (n : ℕ) (f : Frame) → f ≡ get_or p.frames.items n f → n < length p.frames.items → f.is_open ≡ true → opened_from p n ≡ get_or (frames_of p) n dom.document ∷ opened_from p (n + 1)
+opened-first p n f is h e =
+    opened-step p n f is h
+    ∙ (ap (λ (b : Bool). cond b (frame_of p.store f ∷ opened_from p (n + 1)) (opened_from p (n + 1))) e
+    ∙ ap (λ (own : dom.Frame). own ∷ opened_from p (n + 1)) (sym (frame-there p n f is h)))
+
+pub opened-none : (p : FramePath) (n : ℕ) → length p.frames.items ≤ n → opened_from p n ≡ []
+unfolding opened_from
+opened-none p n h =
+    let many = frames-length p in
+    ap dom.elements (drop_all n (frames_of p) (omega arith))
+
+filter-reverse : (xs : List dom.Frame) → dom.elements (reverse xs) ≡ reverse (dom.elements xs)
+filter-reverse [] = refl
+filter-reverse (x ∷ xs) =
+    ap dom.elements (reverse-append (x ∷ []) xs)
+    ∙ (filter-append (λ (f : dom.Frame). f.is_open) (reverse xs) (x ∷ [])
+    ∙ (ap (λ (own : List dom.Frame). own ++ dom.elements (x ∷ [])) (filter-reverse xs) ∙ one x.is_open))
+  where
+    one : (b : Bool) → reverse (dom.elements xs) ++ cond b (x ∷ []) [] ≡ reverse (cond b (x ∷ dom.elements xs) (dom.elements xs))
+    one true = sym (reverse-append (x ∷ []) (dom.elements xs))
+    one false = append-nil (reverse (dom.elements xs))
+
+-- all of them
+pub opened-all : (p : FramePath) → dom.elements (path_of p) ≡ reverse (opened_from p 0)
+unfolding opened_from
+opened-all p = filter-reverse (frames_of p)
+
+reverse-two : (f g : dom.Frame) (rest : List dom.Frame) → reverse (f ∷ g ∷ rest) ≡ reverse rest ++ g ∷ f ∷ []
+reverse-two f g rest = reverse-append (f ∷ g ∷ []) rest
+
+second-last : (xs : List dom.Frame) (g f : dom.Frame) → body_number (xs ++ g ∷ f ∷ []) ≡ cond (is_any (codes "body") g.tag) (Some g.number) None
+second-last [] g f = refl
+second-last (x ∷ []) g f = refl
+second-last (x ∷ y ∷ []) g f = refl
+second-last (x ∷ y ∷ z ∷ xs) g f = second-last (y ∷ z ∷ xs) g f
+
+several : (xs : List dom.Frame) (g f : dom.Frame) → is_only (xs ++ g ∷ f ∷ []) ≡ false
+several [] g f = refl
+several (x ∷ []) g f = refl
+several (x ∷ y ∷ xs) g f = refl
+
+-- what stands in the stack, by its two outermost elements
+
+pub none-open : (p : FramePath) → opened_from p 0 ≡ [] → dom.elements (path_of p) ≡ []
+none-open p e = opened-all p ∙ ap reverse e
+
+pub one-open : (p : FramePath) (f : dom.Frame) (n : ℕ) → opened_from p 0 ≡ f ∷ opened_from p n → opened_from p n ≡ [] → dom.elements (path_of p) ≡ f ∷ []
+one-open p f n first e =
+    opened-all p ∙ ap reverse (first ∙ ap (λ (rest : List dom.Frame). f ∷ rest) e)
+
+two-open : (p : FramePath) (f g : dom.Frame) (n m : ℕ) → opened_from p 0 ≡ f ∷ opened_from p n → opened_from p n ≡ g ∷ opened_from p m → dom.elements (path_of p) ≡ reverse (opened_from p m) ++ g ∷ f ∷ []
+two-open p f g n m first second =
+    opened-all p
+    ∙ (ap reverse (first ∙ ap (λ (rest : List dom.Frame). f ∷ rest) second)
+    ∙ reverse-two f g (opened_from p m))
+
+pub second-open : (p : FramePath) (f g : dom.Frame) (n m : ℕ) → opened_from p 0 ≡ f ∷ opened_from p n → opened_from p n ≡ g ∷ opened_from p m → (b : Bool) → is_any (codes "body") g.tag ≡ b → body_number (dom.elements (path_of p)) ≡ cond b (Some g.number) None
+second-open p f g n m first second b e =
+    ap body_number (two-open p f g n m first second)
+    ∙ (second-last (reverse (opened_from p m)) g f
+    ∙ ap (λ (x : Bool). cond x (Some g.number) None) e)
+
+pub several-open : (p : FramePath) (f g : dom.Frame) (n m : ℕ) → opened_from p 0 ≡ f ∷ opened_from p n → opened_from p n ≡ g ∷ opened_from p m → is_only (dom.elements (path_of p)) ≡ false
+several-open p f g n m first second =
+    ap is_only (two-open p f g n m first second) ∙ several (reverse (opened_from p m)) g f
+
+-- An item further out
+
+pub earlier-all : (test bounds : Tag → Bool) (p : FramePath) (n : ℕ) → n ≡ length p.frames.items → earlier_item test bounds (dom.elements (path_of p)) ≡ earlier test bounds p n
+unfolding earlier
+earlier-all test bounds p n e =
+    let many = frames-length p in
+    ap (λ frames. earlier_item test bounds (dom.elements (reverse frames))) (sym (take_all n (frames_of p) (omega arith)))
+
+pub earlier-none : (test bounds : Tag → Bool) (p : FramePath) → earlier test bounds p 0 ≡ None
+unfolding earlier
+earlier-none test bounds p = refl
+
+-- what is around a frame
+abbrev around : FramePath → ℕ → List dom.Frame
+around p n = reverse (take n (frames_of p))
+
+earlier-from : (test bounds : Tag → Bool) (p : FramePath) (n : ℕ) (f : Frame) → f ≡ get_or p.frames.items n f → n < length p.frames.items → earlier test bounds p (n + 1) ≡ earlier_item test bounds (cond f.is_open (frame_of p.store f ∷ dom.elements (around p n)) (dom.elements (around p n)))
+unfolding earlier
+earlier-from test bounds p n f is h =
+    let many = frames-length p in
+    let next : n + 1 ≡ suc n = omega arith in
+    ap (λ i. earlier_item test bounds (dom.elements (reverse (take i (frames_of p))))) next
+    ∙ ap (λ path. earlier_item test bounds (dom.elements path))
+    (reverse-take (frames_of p) n (frame_of p.store f) (omega arith) ∙ ap (λ top. top ∷ around p n) (frame-at p n f is))
+
+-- by three tests of the frame
+earlier-said : (test bounds : Tag → Bool) (p : FramePath) (n : ℕ) (f : Frame) (opened passes ends : Bool) → f ≡ get_or p.frames.items n f → n < length p.frames.items → f.is_open ≡ opened → test (tag_at p.store f.tag) ≡ passes → bounds (tag_at p.store f.tag) ≡ ends → earlier test bounds p (n + 1) ≡ cond opened (cond passes (Some (tag_at p.store f.tag)) (cond ends None (earlier test bounds p n))) (earlier test bounds p n)
+unfolding earlier
+earlier-said test bounds p n f opened passes ends is h a b c =
+    let tag = tag_at p.store f.tag in
+    let rest = dom.elements (around p n) in
+    earlier-from test bounds p n f is h
+    ∙ (ap (λ (x : Bool). earlier_item test bounds (cond x (frame_of p.store f ∷ rest) rest)) a
+    ∙ by opened)
+  where
+    by : (opened : Bool) → earlier_item test bounds (cond opened (frame_of p.store f ∷ dom.elements (around p n)) (dom.elements (around p n))) ≡ cond opened (cond passes (Some (tag_at p.store f.tag)) (cond ends None (earlier test bounds p n))) (earlier test bounds p n)
+    by true =
+        ap (λ (x : Bool). cond x (Some (tag_at p.store f.tag)) (cond (bounds (tag_at p.store f.tag)) None (earlier_item test bounds (dom.elements (around p n))))) b
+        ∙ ap (λ (x : Bool). cond passes (Some (tag_at p.store f.tag)) (cond x None (earlier_item test bounds (dom.elements (around p n))))) c
+    by false = refl
+
+pub earlier-closed : (test bounds : Tag → Bool) (p : FramePath) (n : ℕ) (f : Frame) → f ≡ get_or p.frames.items n f → n < length p.frames.items → f.is_open ≡ false → earlier test bounds p (n + 1) ≡ earlier test bounds p n
+earlier-closed test bounds p n f is h a =
+    earlier-said test bounds p n f false (test (tag_at p.store f.tag)) (bounds (tag_at p.store f.tag)) is h a refl refl
+
+pub earlier-found : (test bounds : Tag → Bool) (p : FramePath) (n : ℕ) (f : Frame) → f ≡ get_or p.frames.items n f → n < length p.frames.items → f.is_open ≡ true → test (tag_at p.store f.tag) ≡ true → earlier test bounds p (n + 1) ≡ Some (tag_at p.store f.tag)
+earlier-found test bounds p n f is h a b =
+    earlier-said test bounds p n f true true (bounds (tag_at p.store f.tag)) is h a b refl
+
+pub earlier-bound : (test bounds : Tag → Bool) (p : FramePath) (n : ℕ) (f : Frame) → f ≡ get_or p.frames.items n f → n < length p.frames.items → f.is_open ≡ true → test (tag_at p.store f.tag) ≡ false → bounds (tag_at p.store f.tag) ≡ true → earlier test bounds p (n + 1) ≡ None
+earlier-bound test bounds p n f is h a b c = earlier-said test bounds p n f true false true is h a b c
+
+pub earlier-on : (test bounds : Tag → Bool) (p : FramePath) (n : ℕ) (f : Frame) → f ≡ get_or p.frames.items n f → n < length p.frames.items → f.is_open ≡ true → test (tag_at p.store f.tag) ≡ false → bounds (tag_at p.store f.tag) ≡ false → earlier test bounds p (n + 1) ≡ earlier test bounds p n
+earlier-on test bounds p n f is h a b c = earlier-said test bounds p n f true false false is h a b c

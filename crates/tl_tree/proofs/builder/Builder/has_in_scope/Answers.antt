@@ -1,0 +1,6 @@
+use Rattle.tl_tree.specs.Inner.Builders.{builder_of}
+use Rattle.tl_tree.proofs.builder.Builder.has_in_scope.Goals as goal
+
+pub returns : goal.returns
+unfolding builder_of
+returns c = c.has_within.ensures

@@ -1,0 +1,25 @@
+use Rattle.std.proofs.Common.{Bool, ap, ◌∙◌, ◌≡◌}
+use Rattle.std.proofs.lemmas.Result.{on_ok_weaker}
+use Rattle.tl_dom_spec.specs.Builder.{Builder, a_start}
+use Rattle.tl_dom_spec.specs.Dispatcher.{token_done}
+use Rattle.tl_dom_spec.specs.Groups.{Group, group}
+use Rattle.tl_dom_spec.specs.Tags.{Tag}
+use Rattle.tl_tree.proofs.builder.Builder.take_start_tag.Goals as goal
+
+same-start : (b b' : Builder) (g g' : Group) (t t' : Tag) (closes closes' : Bool) → b ≡ b' → g ≡ g' → t ≡ t' → closes ≡ closes' → token_done b (a_start g t closes) ≡ token_done b' (a_start g' t' closes')
+same-start b b' g g' t t' closes closes' is-b is-g is-t is-closes =
+    ap (λ own. token_done own (a_start g t closes)) is-b
+    ∙ (ap (λ own. token_done b' (a_start own t closes)) is-g
+    ∙ (ap (λ own. token_done b' (a_start g' own closes)) is-t
+    ∙ ap (λ own. token_done b' (a_start g' t' own)) is-closes))
+
+pub returns-clause-ok : goal.returns-clause-ok
+returns-clause-ok c =
+    let held = c.in_ok-held in
+    on_ok_weaker c.take_token.result
+    (λ e mode name attributes closes is.
+    let tag = held.ensures.tag mode name attributes closes is in
+    e ∙ same-start _ _ _ (group name) _ _ held.held.closes closes c.hold_start_tag.ensures.ok
+    (held.ensures.group ∙ ap (λ (t : Tag). group t.name) tag) tag
+    (held.ensures.closes mode name attributes closes is))
+    c.take_token.ensures.ok

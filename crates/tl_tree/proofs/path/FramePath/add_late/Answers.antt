@@ -1,0 +1,12 @@
+use Rattle.std.proofs.Common.{length}
+use Rattle.tl_tree.proofs.Listed.{all-weaker}
+use Rattle.tl_tree.proofs.Written.{frame-more}
+use Rattle.tl_tree.specs.Inner.Framed.{frame_is_within}
+use Rattle.tl_tree.specs.Inner.Frames.{is_frame}
+use Rattle.tl_tree.proofs.path.FramePath.add_late.Goals as goal
+
+pub invariant_of-self-clause-within : goal.invariant_of-self-clause-within
+invariant_of-self-clause-within c =
+    let p = c.args.self.now in
+    let s = c.at_head.new.store in
+    all-weaker (is_frame p) (frame_is_within (length s.tags.items) (length s.cells.items)) (frame-more p.store s c.at_head.ensures.grows) p.frames.items p.within

@@ -1,0 +1,52 @@
+use Rattle.std.proofs.Common.{IsTrue, List, arith, is_ok, length, refl, ◌+◌, ◌≤◌, true}
+use Rattle.std.proofs.lemmas.Bool.{lt-ltb}
+use Rattle.std.specs.List.{insert, list_all}
+use Rattle.tl_tree.proofs.Listed.{all-weaker}
+use Rattle.tl_tree.proofs.Numbers.{all-insert, distinct-insert, either, insert-longer}
+use Rattle.tl_tree.proofs.Readopted.{inserted}
+use Rattle.tl_tree.proofs.Within.{lt-more}
+use Rattle.tl_tree.specs.Inner.Framed.{are_distinct, is_before}
+use Rattle.tl_tree.specs.Inner.Frames.{is_frame}
+use Rattle.tl_tree.specs.declared.frame.Frame.{Frame}
+use Rattle.tl_tree.specs.declared.frame.Place.TheVariants.{Here}
+use Rattle.tl_tree.proofs.path.FramePath.insert_frame.Goals as goal
+
+pub invariant_of-self-clause-within : goal.invariant_of-self-clause-within
+invariant_of-self-clause-within c =
+    let p = c.args.self.now in
+    let xs = p.frames.items in
+    let f : Frame = record c.args.frame { number = p.next; place = Here; is_open = true } in
+    either (λ (ys : List Frame). IsTrue (list_all (is_frame p) ys)) (is_ok c.insert.result) (insert xs c.args.place f) xs c.insert.new.self.items c.insert.ensures.items
+    (all-insert (is_frame p) c.args.place xs f p.within c.requires.within) p.within
+
+pub invariant_of-self-clause-distinct : goal.invariant_of-self-clause-distinct
+invariant_of-self-clause-distinct c =
+    let p = c.args.self.now in
+    let xs = p.frames.items in
+    let f : Frame = record c.args.frame { number = p.next; place = Here; is_open = true } in
+    either (λ (ys : List Frame). IsTrue (are_distinct ys)) (is_ok c.insert.result) (insert xs c.args.place f) xs c.insert.new.self.items c.insert.ensures.items
+    (distinct-insert xs c.args.place p.next f p.distinct p.numbered (omega arith)) p.distinct
+
+pub invariant_of-self-clause-numbered : goal.invariant_of-self-clause-numbered
+invariant_of-self-clause-numbered c =
+    let p = c.args.self.now in
+    let xs = p.frames.items in
+    let f : Frame = record c.args.frame { number = p.next; place = Here; is_open = true } in
+    let test = is_before (p.next + 1) in
+    let old = all-weaker (is_before p.next) test (λ g h. lt-more g.number p.next (p.next + 1) h (omega arith)) xs p.numbered in
+    either (λ (ys : List Frame). IsTrue (list_all test ys)) (is_ok c.insert.result) (insert xs c.args.place f) xs c.insert.new.self.items c.insert.ensures.items
+    (all-insert test c.args.place xs f old (lt-ltb p.next (p.next + 1) (omega arith))) old
+
+pub invariant_of-self-clause-some : goal.invariant_of-self-clause-some
+invariant_of-self-clause-some c =
+    let p = c.args.self.now in
+    let xs = p.frames.items in
+    let f : Frame = record c.args.frame { number = p.next; place = Here; is_open = true } in
+    let longer = either (λ (ys : List Frame). length xs ≤ length ys) (is_ok c.insert.result) (insert xs c.args.place f) xs c.insert.new.self.items c.insert.ensures.items (insert-longer c.args.place xs f) (omega arith) in
+    let some = p.some in
+    omega arith
+
+pub returns-clause-frames : goal.returns-clause-frames
+returns-clause-frames c =
+    let p = c.args.self.now in
+    inserted p _ c.args.place (record c.args.frame { number = p.next; place = Here; is_open = true }) c.in_ok-insert.ensures.items refl

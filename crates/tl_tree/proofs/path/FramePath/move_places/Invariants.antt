@@ -1,0 +1,14 @@
+use Rattle.std.proofs.Common.{drop, length, map, take, ◌++◌, ◌≡◌}
+use Rattle.tl_tree.specs.Inner.Adopted.{moved}
+use Rattle.tl_tree.specs.Inner.Frames.{frames_of}
+use Rattle.tl_tree.proofs.path.FramePath.move_places.Given as goal
+
+abbrev pub invariant-loop-index : goal.invariant-loop-index
+invariant-loop-index l =
+    let change = moved l.block l.new in
+    record {
+      len : length l.self.frames.items ≡ length l.fn.self.frames.items;
+      rest : take l.index (frames_of l.self) ++ map change (drop l.index (frames_of l.self)) ≡ take l.start (frames_of l.fn.self) ++ map change (drop l.start (frames_of l.fn.self));
+      next : l.self.next ≡ l.fn.self.next;
+      store : l.self.store ≡ l.fn.self.store;
+    }

@@ -1,0 +1,29 @@
+use Rattle.std.proofs.Common.{IsTrue, List, is_ok, ◌++◌}
+use Rattle.std.specs.List.{list_all}
+use Rattle.tl_tree.proofs.Numbers.{all-append, either}
+use Rattle.tl_tree.specs.Inner.Framed.{are_distinct, is_before}
+use Rattle.tl_tree.specs.Inner.Frames.{is_frame}
+use Rattle.tl_tree.specs.declared.frame.Frame.{Frame}
+use Rattle.tl_tree.proofs.path.FramePath.put_back.Goals as goal
+
+pub invariant_of-self-clause-within : goal.invariant_of-self-clause-within
+invariant_of-self-clause-within c =
+    let p = c.args.self.now in
+    let xs = p.frames.items in
+    either (λ (ys : List Frame). IsTrue (list_all (is_frame p) ys)) (is_ok c.extend_from_slice.result) (xs ++ c.args.aside.now) xs c.extend_from_slice.new.self.items c.extend_from_slice.ensures.items
+    (all-append (is_frame p) xs c.args.aside.now p.within c.requires.within) p.within
+
+pub invariant_of-self-clause-distinct : goal.invariant_of-self-clause-distinct
+invariant_of-self-clause-distinct c =
+    let p = c.args.self.now in
+    let xs = p.frames.items in
+    either (λ (ys : List Frame). IsTrue (are_distinct ys)) (is_ok c.extend_from_slice.result) (xs ++ c.args.aside.now) xs c.extend_from_slice.new.self.items c.extend_from_slice.ensures.items
+    c.requires.distinct p.distinct
+
+pub invariant_of-self-clause-numbered : goal.invariant_of-self-clause-numbered
+invariant_of-self-clause-numbered c =
+    let p = c.args.self.now in
+    let xs = p.frames.items in
+    let test = is_before p.next in
+    either (λ (ys : List Frame). IsTrue (list_all test ys)) (is_ok c.extend_from_slice.result) (xs ++ c.args.aside.now) xs c.extend_from_slice.new.self.items c.extend_from_slice.ensures.items
+    (all-append test xs c.args.aside.now p.numbered c.requires.numbered) p.numbered

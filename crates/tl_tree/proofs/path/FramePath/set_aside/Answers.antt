@@ -1,0 +1,36 @@
+use Rattle.std.proofs.Common.{IsTrue, List, arith, length, ◌<◌}
+use Rattle.std.specs.List.{list_all}
+use Rattle.std.proofs.lemmas.List.{length-take-le}
+use Rattle.tl_tree.proofs.Listed.{all-take}
+use Rattle.tl_tree.proofs.Numbered.{distinct-take}
+use Rattle.tl_tree.proofs.Numbers.{either-front}
+use Rattle.tl_tree.specs.Inner.Framed.{are_distinct, is_before}
+use Rattle.tl_tree.specs.Inner.Frames.{is_frame}
+use Rattle.tl_tree.specs.declared.frame.Frame.{Frame}
+use Rattle.tl_tree.proofs.path.FramePath.set_aside.Goals as goal
+
+pub invariant_of-self-clause-within : goal.invariant_of-self-clause-within
+invariant_of-self-clause-within c =
+    let p = c.args.self.now in
+    either-front (λ (ys : List Frame). IsTrue (list_all (is_frame p) ys)) (λ v. v.items) c.split_off.result c.args.place p.frames c.split_off.new.self c.split_off.ensures.items c.split_off.ensures.err
+    (all-take (is_frame p) c.args.place p.frames.items p.within) p.within
+
+pub invariant_of-self-clause-distinct : goal.invariant_of-self-clause-distinct
+invariant_of-self-clause-distinct c =
+    let p = c.args.self.now in
+    either-front (λ (ys : List Frame). IsTrue (are_distinct ys)) (λ v. v.items) c.split_off.result c.args.place p.frames c.split_off.new.self c.split_off.ensures.items c.split_off.ensures.err
+    (distinct-take p.frames.items c.args.place p.distinct) p.distinct
+
+pub invariant_of-self-clause-numbered : goal.invariant_of-self-clause-numbered
+invariant_of-self-clause-numbered c =
+    let p = c.args.self.now in
+    either-front (λ (ys : List Frame). IsTrue (list_all (is_before p.next) ys)) (λ v. v.items) c.split_off.result c.args.place p.frames c.split_off.new.self c.split_off.ensures.items c.split_off.ensures.err
+    (all-take (is_before p.next) c.args.place p.frames.items p.numbered) p.numbered
+
+pub invariant_of-self-clause-some : goal.invariant_of-self-clause-some
+invariant_of-self-clause-some c =
+    let p = c.args.self.now in
+    let many = length-take-le c.args.place p.frames.items c.requires.within in
+    let some = c.requires.some in
+    either-front (λ (ys : List Frame). 0 < length ys) (λ v. v.items) c.split_off.result c.args.place p.frames c.split_off.new.self c.split_off.ensures.items c.split_off.ensures.err
+    (omega arith) p.some

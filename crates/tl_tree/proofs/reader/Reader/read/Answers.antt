@@ -1,0 +1,37 @@
+use Rattle.std.proofs.Common.{Ok, Err, OnOk, Result, ap, sym, true, ◌∙◌, ◌≡◌}
+use Rattle.tl_dom_spec.specs.Builder.{Builder, end_of_file}
+use Rattle.tl_dom_spec.specs.Dispatcher.{token_done}
+use Rattle.tl_dom_spec.specs.HtmlTree.{is_little}
+use Rattle.tl_tree.proofs.ReadOn.{whole}
+use Rattle.tl_tree.specs.Inner.Builders.{Said, builder_of, token_of}
+use Rattle.tl_tree.specs.Inner.Reading.{left_of}
+use Rattle.tl_tree.proofs.reader.Reader.read.Goals as goal
+
+on-any : {T E P : Type 0} (r : Result T E) → P → OnOk r P
+on-any (Ok x) p = p
+on-any (Err e) p = tt
+
+on-little : {T E : Type 0} (r : Result T E) (b d : Builder) → b ≡ d → OnOk r (is_little b.excess ≡ true) → OnOk r (is_little d.excess ≡ true)
+on-little (Ok x) b d e is = ap (λ (own : Builder). is_little own.excess) (sym e) ∙ is
+on-little (Err x) b d e is = is
+
+pub invariant_of-self : goal.invariant_of-self
+unfolding token_of
+invariant_of-self c =
+    let r = c.read_on.new.self in
+    record { within = r.within; same = ap (λ (said : Said). said.page) c.take_token.ensures.token ∙ r.same }
+
+pub returns-clause-ok : goal.returns-clause-ok
+returns-clause-ok c =
+    on-any c.weigh.result
+    (whole c.args.self.now c.read_on.new.self (builder_of c.take_token.new.self) c.in_ok-take_token.ensures.ok c.in_ok-read_on.ensures.end c.in_ok-read_on.ensures.ok)
+
+pub returns-clause-little : goal.returns-clause-little
+returns-clause-little c =
+    let all = whole c.args.self.now c.read_on.new.self (builder_of c.take_token.new.self) c.in_ok-take_token.ensures.ok c.in_ok-read_on.ensures.end c.in_ok-read_on.ensures.ok in
+    on-little c.weigh.result (builder_of c.take_token.new.self) (token_done (left_of c.args.self.now) end_of_file) all c.weigh.ensures.little
+
+pub returns-clause-large : goal.returns-clause-large
+returns-clause-large c at is =
+    let all = whole c.args.self.now c.read_on.new.self (builder_of c.take_token.new.self) c.in_ok-take_token.ensures.ok c.in_ok-read_on.ensures.end c.in_ok-read_on.ensures.ok in
+    ap (λ (d : Builder). is_little d.excess) (sym all) ∙ c.weigh.ensures.large at is

@@ -1,0 +1,191 @@
+//! The adoption agency algorithm (13.2.6.4.7), on the path and the list of active formatting
+//! elements.
+ghost use Rattle.std.specs.Prelude.{IfOk, List, OnOk, [], drop, length, reverse, take, ℕ, ◌+◌, ◌<◌, ◌^◌, ◌≡◌, ◌≤◌};
+ghost use Rattle.tl_dom_spec.specs.Adoption.{cloned, entry_moved, inside_of};
+ghost use Rattle.tl_dom_spec.specs.Path as dom;
+ghost use Rattle.tl_dom_spec.specs.Path.{elements};
+ghost use Rattle.tl_tree.specs.Inner.Active.{active_of, listed_of};
+ghost use Rattle.tl_tree.specs.Inner.Adopted.{AreMade, IsAdopted, IsFirst, clones_in, frame_at, none_cloned, with_element};
+ghost use Rattle.tl_tree.specs.Inner.Frames.{frames_of, path_of};
+ghost use Rattle.tl_tree.specs.Inner.Store.{Grows, tag_at};
+ghost use Rattle.tl_tree.specs.declared.store.Store.{Store};
+
+use crate::active::ActiveList;
+use crate::active_entry::Listed;
+use crate::error::GrowError;
+use crate::frame::Frame;
+use crate::path::FramePath;
+
+/// How many elements were looked at between the block and the formatting element, and how many
+/// of them were made anew.
+#[derive(Clone, Copy)]
+pub(crate) struct Between {
+    pub(crate) seen: usize,
+    pub(crate) made: usize,
+}
+
+impl Between {
+    // An element more that isn't made anew.
+    fn passed(self) -> Between
+        requires { self.seen + 1 < 2 ^ 64 }
+        ensures { result ≡ record { seen = self.seen + 1; made = self.made } }
+    {
+        Between {
+            seen: self.seen + 1,
+            made: self.made,
+        }
+    }
+
+    // One more that is.
+    fn cloned(self) -> Between
+        requires seen { self.seen + 1 < 2 ^ 64 }
+        requires made { self.made + 1 < 2 ^ 64 }
+        ensures { result ≡ record { seen = self.seen + 1; made = self.made + 1 } }
+    {
+        Between {
+            seen: self.seen + 1,
+            made: self.made + 1,
+        }
+    }
+}
+
+// The frame at a place outside of the block is made anew, is listed no more, or leaves the stack.
+fn clone_at(
+    path: &mut FramePath<'_>,
+    active: &mut ActiveList,
+    block: usize,
+    index: usize,
+    between: Between,
+) -> Result<Between, GrowError>
+    requires block { block ≤ length path.old.frames.items }
+    requires index { index < block }
+    requires few { between.seen + index < block }
+    requires made { between.made ≤ between.seen }
+    requires numbered { active.old.greatest_number < path.old.next }
+    ensures ok { IfOk result (λ after. (fs : List dom.Frame) → AreMade block path.old path.new
+        (cloned between.seen (with_element (frame_at path.old index) fs)
+        (active_of path.old.store active.old) path.old.next)
+        (cloned after.seen fs (active_of path.new.store active.new) path.new.next)
+        between.made after.made) }
+    ensures len { OnOk result (length path.old.frames.items ≤ length path.new.frames.items) }
+    ensures few { IfOk result (λ after. after.seen ≤ between.seen + 1) }
+    ensures made { IfOk result (λ after. after.made ≤ after.seen) }
+    ensures store { path.new.store ≡ path.old.store }
+    ensures more { path.old.next ≤ path.new.next }
+    ensures numbered { active.new.greatest_number < path.new.next }
+    ensures tag { active.new.greatest_tag ≡ active.old.greatest_tag }
+{
+    let frame = path.frames[index];
+    if !frame.is_open {
+        return Ok(between);
+    }
+    if !active.is_listed(frame.number) {
+        return Ok(between.passed());
+    }
+    if between.seen > 2 {
+        active.unlist(frame.number);
+        return Ok(between.passed());
+    }
+    let number = path.next;
+    path.insert_frame(
+        block,
+        Frame {
+            children: 0,
+            late: 0,
+            waiting: 0,
+            ..frame
+        },
+    )?;
+    active.relist(frame.number, number);
+    Ok(between.cloned())
+}
+
+// The elements between the block and the formatting element are made anew around the block, the
+// innermost first. How many were made is the answer.
+fn add_clones(
+    path: &mut FramePath<'_>,
+    active: &mut ActiveList,
+    block: usize,
+    number: u32,
+) -> Result<usize, GrowError>
+    requires block { block ≤ length path.old.frames.items }
+    requires numbered { active.old.greatest_number < path.old.next }
+    ensures ok { IfOk result (λ made. AreMade block path.old path.new
+        (cloned 0 (elements (inside_of number (reverse (take block (frames_of path.old)))))
+        (active_of path.old.store active.old) path.old.next)
+        (none_cloned (active_of path.new.store active.new) path.new.next) 0 made) }
+    ensures store { path.new.store ≡ path.old.store }
+    ensures more { path.old.next ≤ path.new.next }
+    ensures numbered { active.new.greatest_number < path.new.next }
+    ensures tag { active.new.greatest_tag ≡ active.old.greatest_tag }
+{
+    let mut between = Between { seen: 0, made: 0 };
+    let mut left = block;
+    while left > 0 {
+        left -= 1;
+        if path.frames[left].number == number {
+            return Ok(between.made);
+        }
+        between = clone_at(path, active, block, left, between)?;
+    }
+    Ok(between.made)
+}
+
+// The new element is listed where the formatting element was, or behind the clone that was made
+// first.
+fn list_new(
+    active: &mut ActiveList,
+    own: Listed,
+    new: u32,
+    made: usize,
+    first: u32,
+) -> Result<(), GrowError>
+    requires { active.old.greatest_number < new }
+    ensures active { OnOk result ((s : Store) (clones : dom.Path)
+        → made ≡ length clones → IsFirst first clones → active_of s active.new
+        ≡ entry_moved own.number new (tag_at s own.tag) clones (active_of s active.old)) }
+    ensures number { active.new.greatest_number ≤ new }
+    ensures tag { (n : ℕ) →
+        active.old.greatest_tag < n → own.tag < n → active.new.greatest_tag < n }
+{
+    if made == 0 {
+        active.relist(own.number, new);
+        return Ok(());
+    }
+    active.unlist(own.number);
+    active.list_behind(first, new, own.tag)
+}
+
+/// A round with a furthest block, which stands at a place of the path. How many elements were made
+/// anew is the answer.
+pub(crate) fn adopt(
+    path: &mut FramePath<'_>,
+    active: &mut ActiveList,
+    own: Listed,
+    block: usize,
+    is_fostering: bool,
+) -> Result<usize, GrowError>
+    requires some { 0 < block }
+    requires block { block < length path.old.frames.items }
+    requires numbered { active.old.greatest_number < path.old.next }
+    requires listed { active.old.greatest_tag < length path.old.store.tags.items }
+    requires own { own.tag < length path.old.store.tags.items }
+    ensures ok { IfOk result (λ made.
+        IsAdopted is_fostering (listed_of path.old.store own) (frame_at path.old block)
+        (clones_in (listed_of path.old.store own) (frame_at path.old block) (path_of path.old)
+        (active_of path.old.store active.old) path.old.next)
+        path.old path.new active.new made) }
+    ensures more { path.old.next ≤ path.new.next }
+    ensures numbered { active.new.greatest_number < path.new.next }
+    ensures listed { active.new.greatest_tag < length path.old.store.tags.items }
+    ensures grows { Grows path.old.store path.new.store }
+{
+    let ancestor = path.common_ancestor(own.number);
+    let first = path.next;
+    let made = add_clones(path, active, block, own.number)?;
+    let new = path.next;
+    path.renew(block + made, own.tag)?;
+    list_new(active, own, new, made, first)?;
+    path.settle_outside(block, ancestor, is_fostering)?;
+    Ok(made)
+}

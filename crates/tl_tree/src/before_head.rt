@@ -1,0 +1,83 @@
+//! "before head" (13.2.6.4.3).
+ghost use Rattle.std.specs.Prelude.{IfOk, OnOk, ◌≡◌};
+ghost use Rattle.tl_dom_spec.specs.Head.{before_head_start, before_head_step, head_implied, head_opened};
+ghost use Rattle.tl_tree.specs.Inner.Builders.{builder_of, outcome_of, token_of, token_view};
+ghost use Rattle.tl_tree.specs.Inner.GroupNames.{group_view as group_of};
+
+use crate::builder::Builder;
+use crate::error::GrowError;
+use crate::group::Group;
+use crate::head_ends::is_head_end;
+use crate::mode::Mode;
+use crate::outcome::Outcome;
+use crate::token::Token;
+
+impl<'a> Builder<'a> {
+    fn head_opened(&mut self) -> Result<(), GrowError>
+        ensures ok { OnOk result
+            (builder_of self.new ≡ head_opened (builder_of self.old) (token_of self.old).tag) }
+        ensures token { token_of self.new ≡ token_of self.old }
+    {
+        self.insert_element()?;
+        self.set_head();
+        self.switch_to(Mode::InHead);
+        Ok(())
+    }
+
+    fn head_implied(&mut self) -> Result<Outcome, GrowError>
+        ensures ok { IfOk result (λ outcome. outcome_of outcome (builder_of self.new)
+            ≡ head_implied (builder_of self.old)) }
+        ensures token { token_of self.new ≡ token_of self.old }
+    {
+        self.insert_implied(b"head")?;
+        self.set_head();
+        self.switch_to(Mode::InHead);
+        Ok(Outcome::Again)
+    }
+
+    fn before_head_start(&mut self, group: Group) -> Result<Outcome, GrowError>
+        ensures ok { IfOk result (λ outcome. outcome_of outcome (builder_of self.new)
+            ≡ before_head_start (builder_of self.old) (group_of group) (token_of self.old).tag) }
+        ensures token { token_of self.new ≡ token_of self.old }
+    {
+        match group {
+            Group::TheHtml => {
+                self.html_start()?;
+                Ok(Outcome::Done)
+            }
+            Group::TheHead => {
+                self.head_opened()?;
+                Ok(Outcome::Done)
+            }
+            _ => self.head_implied(),
+        }
+    }
+
+    pub(crate) fn before_head(&mut self, token: Token<'_>) -> Result<Outcome, GrowError>
+        ensures ok { IfOk result (λ outcome. outcome_of outcome (builder_of self.new)
+            ≡ before_head_step (builder_of self.old) (token_view token.entry (token_of self.old))) }
+        ensures token { token_of self.new ≡ token_of self.old }
+    {
+        match token {
+            Token::Character(byte) => {
+                if byte.is_ascii_whitespace() {
+                    return Ok(Outcome::Done);
+                }
+                self.head_implied()
+            }
+            Token::Comment => {
+                self.insert_comment()?;
+                Ok(Outcome::Done)
+            }
+            Token::Doctype => Ok(Outcome::Done),
+            Token::Start { group, .. } => self.before_head_start(group),
+            Token::End { group, .. } => {
+                if is_head_end(group) {
+                    return self.head_implied();
+                }
+                Ok(Outcome::Done)
+            }
+            Token::EndOfFile => self.head_implied(),
+        }
+    }
+}

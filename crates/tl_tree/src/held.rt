@@ -1,0 +1,222 @@
+//! What a token of the page says, held by the builder while it is processed.
+ghost use Rattle.std.specs.Prelude.{Bool, IfOk, IsTrue, List, OnOk, [], length, ◌<◌, ◌≡◌, ◌≤◌, ◌∷◌, ℕ};
+ghost use Rattle.tl_dom_spec.specs.Groups.{group};
+ghost use Rattle.tl_dom_spec.specs.Tags.{has_value, html_tag};
+ghost use Rattle.tl_html_spec.specs.HtmlTokenizer.{HtmlAttribute, StartTag};
+ghost use Rattle.tl_html_tokens.specs.Characters.{characters_of};
+ghost use Rattle.tl_html_tokens.specs.Comments.{comment_of};
+ghost use Rattle.tl_html_tokens.specs.Whole.{IsWhole};
+ghost use Rattle.tl_tree.specs.Inner.Builders.{builder_of, token_of};
+ghost use Rattle.tl_html_tokens.specs.Doctypes.{doctype_said};
+ghost use Rattle.tl_tree.specs.Inner.GroupNames.{group_view};
+ghost use Rattle.tl_tree.specs.Inner.Said.{piece_at};
+ghost use Rattle.tl_tree.specs.Inner.Store.{bytes_of, doctype_at, is_span, is_tag_number, tag_at};
+
+use crate::added::AddedTag;
+use crate::builder::Builder;
+use crate::entries::AttributeEntry;
+use crate::error::GrowError;
+use crate::group::{Group, group_of};
+use crate::integration::has_value;
+use crate::span::Span;
+use crate::store::Store;
+use std::alloc::Global;
+use tl_html_tokens::Mode;
+use tl_names::element_name::ElementName;
+
+/// A start tag that is held: the group of its name, and whether it closes itself.
+#[derive(Clone, Copy)]
+pub(crate) struct HeldTag {
+    pub(crate) group: Group,
+    pub(crate) closes: bool,
+}
+
+/// The group of the name of a tag.
+pub(crate) fn tag_group(store: &Store<'_>, number: u32) -> Group
+    requires { IsTrue (is_tag_number store.now number) }
+    ensures { group_view result ≡ group (tag_at store.now number).name }
+{
+    let tag = store.tag(number);
+    group_of(ElementName::of(store.bytes(tag.name)))
+}
+
+impl<'a> Builder<'a> {
+    // Puts a start tag of the page in the store.
+    fn add_start_tag(
+        &mut self,
+        alloc: Global,
+        room: &mut Vec<AttributeEntry>,
+        start: usize,
+        end: usize,
+    ) -> Result<AddedTag, GrowError>
+        requires order { start ≤ end }
+        requires within { end ≤ length self.old.path.store.page.now }
+        ensures ok { builder_of self.new ≡ builder_of self.old }
+        ensures token { token_of self.new ≡ token_of self.old }
+        ensures tag { IfOk result (λ added. (mode : Mode) (name : List ℕ)
+            (attributes : List HtmlAttribute) (closes : Bool) →
+            IsWhole mode (piece_at self.old.path.store.page.now start end)
+            (StartTag name attributes closes ∷ []) →
+            tag_at self.new.path.store added.number ≡ html_tag name attributes) }
+        ensures closes { IfOk result (λ added. (mode : Mode) (name : List ℕ)
+            (attributes : List HtmlAttribute) (closes : Bool) →
+            IsWhole mode (piece_at self.old.path.store.page.now start end)
+            (StartTag name attributes closes ∷ []) →
+            added.closes ≡ closes) }
+        ensures number { IfOk result
+            (λ added. added.number < length self.new.path.store.tags.items) }
+    {
+        self.path.add_start_tag(alloc, room, start, end)
+    }
+
+    /// The text of a page, which is read in this mode, as bytes of the store.
+    pub(crate) fn add_text(
+        &mut self,
+        alloc: Global,
+        mode: Mode,
+        start: usize,
+        end: usize,
+    ) -> Result<Span, GrowError>
+        requires order { start ≤ end }
+        requires within { end ≤ length self.old.path.store.page.now }
+        ensures ok { builder_of self.new ≡ builder_of self.old }
+        ensures token { token_of self.new ≡ token_of self.old }
+        ensures stands { IfOk result (λ span. bytes_of self.new.path.store span
+            ≡ characters_of mode (piece_at self.old.path.store.page.now start end)) }
+        ensures span { IfOk result (λ span. IsTrue (is_span self.new.path.store span)) }
+    {
+        self.path.add_text(alloc, mode, start, end)
+    }
+
+    // The data of a comment, as bytes of the store.
+    fn add_comment(&mut self, alloc: Global, start: usize, end: usize) -> Result<Span, GrowError>
+        requires order { start ≤ end }
+        requires within { end ≤ length self.old.path.store.page.now }
+        ensures ok { builder_of self.new ≡ builder_of self.old }
+        ensures token { token_of self.new ≡ token_of self.old }
+        ensures stands { IfOk result (λ span. bytes_of self.new.path.store span
+            ≡ comment_of (piece_at self.old.path.store.page.now start end)) }
+        ensures span { IfOk result (λ span. IsTrue (is_span self.new.path.store span)) }
+    {
+        self.path.add_comment(alloc, start, end)
+    }
+
+    // Puts a doctype of the page in the store, and answers its number.
+    fn add_doctype_of(&mut self, alloc: Global, start: usize, end: usize) -> Result<u32, GrowError>
+        requires order { start ≤ end }
+        requires within { end ≤ length self.old.path.store.page.now }
+        ensures ok { builder_of self.new ≡ builder_of self.old }
+        ensures token { token_of self.new ≡ token_of self.old }
+        ensures stands { IfOk result (λ number. doctype_at self.new.path.store number
+            ≡ doctype_said (piece_at self.old.path.store.page.now start end)) }
+        ensures number { IfOk result
+            (λ number. number < length self.new.path.store.doctypes.items) }
+    {
+        self.path.add_doctype_of(alloc, start, end)
+    }
+
+    /// The text that is held: the data of a comment, or a text while it is taken.
+    pub(crate) fn set_text(&mut self, text: Span)
+        requires { IsTrue (is_span self.old.path.store text) }
+        ensures ok { builder_of self.new ≡ builder_of self.old }
+        ensures page { (token_of self.new).page ≡ (token_of self.old).page }
+        ensures text { (token_of self.new).text ≡ bytes_of self.old.path.store text }
+    {
+        self.text = text;
+    }
+
+    fn set_doctype(&mut self, doctype: u32)
+        requires { doctype < length self.old.path.store.doctypes.items }
+        ensures ok { builder_of self.new ≡ builder_of self.old }
+        ensures page { (token_of self.new).page ≡ (token_of self.old).page }
+        ensures doctype { (token_of self.new).doctype
+            ≡ doctype_at self.old.path.store doctype }
+    {
+        self.doctype = doctype;
+    }
+
+    // The group of the name of the tag that is held.
+    fn held_group(&self) -> Group
+        ensures { group_view result ≡ group (token_of self.now).tag.name }
+    {
+        tag_group(&self.path.store, self.tag)
+    }
+
+    /// Holds a start tag of the page.
+    pub(crate) fn hold_start_tag(
+        &mut self,
+        alloc: Global,
+        room: &mut Vec<AttributeEntry>,
+        start: usize,
+        end: usize,
+    ) -> Result<HeldTag, GrowError>
+        requires order { start ≤ end }
+        requires within { end ≤ length self.old.path.store.page.now }
+        ensures ok { builder_of self.new ≡ builder_of self.old }
+        ensures page { (token_of self.new).page ≡ (token_of self.old).page }
+        ensures tag { IfOk result (λ held. (mode : Mode) (name : List ℕ)
+            (attributes : List HtmlAttribute) (closes : Bool) →
+            IsWhole mode (piece_at self.old.path.store.page.now start end)
+            (StartTag name attributes closes ∷ []) →
+            (token_of self.new).tag ≡ html_tag name attributes) }
+        ensures group { IfOk result
+            (λ held. group_view held.group ≡ group (token_of self.new).tag.name) }
+        ensures closes { IfOk result (λ held. (mode : Mode) (name : List ℕ)
+            (attributes : List HtmlAttribute) (closes : Bool) →
+            IsWhole mode (piece_at self.old.path.store.page.now start end)
+            (StartTag name attributes closes ∷ []) →
+            held.closes ≡ closes) }
+    {
+        let added = self.add_start_tag(alloc, room, start, end)?;
+        self.set_tag(added.number);
+        Ok(HeldTag {
+            group: self.held_group(),
+            closes: added.closes,
+        })
+    }
+
+    /// Holds a comment of the page.
+    pub(crate) fn hold_comment(
+        &mut self,
+        alloc: Global,
+        start: usize,
+        end: usize,
+    ) -> Result<(), GrowError>
+        requires order { start ≤ end }
+        requires within { end ≤ length self.old.path.store.page.now }
+        ensures ok { builder_of self.new ≡ builder_of self.old }
+        ensures page { (token_of self.new).page ≡ (token_of self.old).page }
+        ensures text { OnOk result ((token_of self.new).text
+            ≡ comment_of (piece_at self.old.path.store.page.now start end)) }
+    {
+        let text = self.add_comment(alloc, start, end)?;
+        self.set_text(text);
+        Ok(())
+    }
+
+    /// Holds a doctype of the page.
+    pub(crate) fn hold_doctype(
+        &mut self,
+        alloc: Global,
+        start: usize,
+        end: usize,
+    ) -> Result<(), GrowError>
+        requires order { start ≤ end }
+        requires within { end ≤ length self.old.path.store.page.now }
+        ensures ok { builder_of self.new ≡ builder_of self.old }
+        ensures page { (token_of self.new).page ≡ (token_of self.old).page }
+        ensures doctype { OnOk result ((token_of self.new).doctype
+            ≡ doctype_said (piece_at self.old.path.store.page.now start end)) }
+    {
+        let doctype = self.add_doctype_of(alloc, start, end)?;
+        self.set_doctype(doctype);
+        Ok(())
+    }
+
+    /// Whether the tag that is held has an attribute of this key with, in any case, this value.
+    pub(crate) fn token_has_value(&self, key: &'static [u8], value: &'static [u8]) -> bool
+        ensures { result ≡ has_value key.now value.now (token_of self.now).tag.attributes }
+    {
+        has_value(&self.path.store, self.tag, key, value)
+    }
+}

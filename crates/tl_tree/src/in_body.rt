@@ -1,0 +1,61 @@
+//! "in body" (13.2.6.4.7).
+ghost use Rattle.std.specs.Prelude.{IfOk, OnOk, ◌≡◌};
+ghost use Rattle.tl_dom_spec.specs.Body.{body_character, file_ended, in_body_step};
+ghost use Rattle.tl_tree.specs.Inner.Builders.{builder_of, outcome_of, token_of, token_view};
+
+use crate::builder::Builder;
+use crate::error::GrowError;
+use crate::outcome::Outcome;
+use crate::token::Token;
+
+impl<'a> Builder<'a> {
+    pub(crate) fn body_character(&mut self, byte: u8) -> Result<(), GrowError>
+        ensures ok { OnOk result
+            (builder_of self.new ≡ body_character byte (builder_of self.old)) }
+        ensures token { token_of self.new ≡ token_of self.old }
+    {
+        if byte == 0 {
+            return Ok(());
+        }
+        self.reconstruct_formatting()?;
+        self.insert_character(byte)?;
+        if byte.is_ascii_whitespace() {
+            return Ok(());
+        }
+        self.frameset_not_ok();
+        Ok(())
+    }
+
+    pub(crate) fn file_ended(&mut self) -> Result<Outcome, GrowError>
+        ensures ok { IfOk result (λ outcome. outcome_of outcome (builder_of self.new)
+            ≡ file_ended (builder_of self.old)) }
+        ensures token { token_of self.new ≡ token_of self.old }
+    {
+        if !self.has_template() {
+            return Ok(Outcome::Done);
+        }
+        self.close_template()?;
+        Ok(Outcome::Again)
+    }
+
+    pub(crate) fn in_body(&mut self, token: Token<'_>) -> Result<Outcome, GrowError>
+        ensures ok { IfOk result (λ outcome. outcome_of outcome (builder_of self.new)
+            ≡ in_body_step (builder_of self.old) (token_view token.entry (token_of self.old))) }
+        ensures token { token_of self.new ≡ token_of self.old }
+    {
+        match token {
+            Token::Character(byte) => {
+                self.body_character(byte)?;
+                Ok(Outcome::Done)
+            }
+            Token::Comment => {
+                self.insert_comment()?;
+                Ok(Outcome::Done)
+            }
+            Token::Doctype => Ok(Outcome::Done),
+            Token::Start { group, closes } => self.body_start(group, closes),
+            Token::End { group, name } => self.body_end(group, name),
+            Token::EndOfFile => self.file_ended(),
+        }
+    }
+}

@@ -1,0 +1,27 @@
+//! Bytes compared in lower case.
+ghost use Rattle.std.specs.Char.{to_ascii_lowercase};
+ghost use Rattle.std.specs.List.{starts_with};
+ghost use Rattle.std.specs.Prelude.{map, ◌==◌, ◌≡◌};
+ghost use Rattle.std.specs.Str.{bytes_eq};
+
+/// Whether bytes are others when they are written in lower case.
+pub(crate) fn is_lowered(bytes: &[u8], lower: &[u8]) -> bool
+    ensures { result ≡ bytes_eq (map to_ascii_lowercase bytes.now) lower.now }
+{
+    if bytes.len() != lower.len() {
+        return false;
+    }
+    for at in 0..bytes.len() {
+        if bytes[at].to_ascii_lowercase() != lower[at] {
+            return false;
+        }
+    }
+    true
+}
+
+/// Whether bytes begin with others when they are written in lower case.
+pub(crate) fn begins_lowered(bytes: &[u8], lower: &[u8]) -> bool
+    ensures { result ≡ starts_with ◌==◌ (map to_ascii_lowercase bytes.now) lower.now }
+{
+    bytes.len() >= lower.len() && is_lowered(&bytes[..lower.len()], lower)
+}

@@ -1,0 +1,238 @@
+//! A page is read: its tokens, one at a time, are handed to the tree builder.
+ghost use Rattle.std.specs.Prelude.{length, ◌≡◌, ◌≤◌};
+
+use crate::builder::{Builder, Flags};
+use crate::entries::AttributeEntry;
+use crate::error::{GrowError, ReadError};
+use crate::token::Token;
+use std::alloc::Global;
+use tl_html_parts::with_feeds;
+use tl_html_tokens::{Front, Mode, Section, TokenKind, mark_len, next_section, next_token};
+
+/// How far a page is read, and what is built of it.
+#[derive(Drop)]
+pub(crate) struct Reader<'p> {
+    pub(crate) builder: Builder<'p>,
+    pub(crate) page: &'p [u8],
+    pub(crate) at: usize,
+    /// How the tokenizer goes on there.
+    pub(crate) mode: Mode,
+    /// Room for the attributes of a tag.
+    pub(crate) room: Vec<AttributeEntry>,
+    pub(crate) alloc: Global,
+    ghost within: { at ≤ length page.now },
+    ghost same: { builder.path.store.page.now ≡ page.now },
+}
+
+impl<'a> Builder<'a> {
+    ghost use Rattle.std.specs.Prelude.{List, OnOk, not};
+    ghost use Rattle.tl_dom_spec.specs.Builder.{adjusted_current_node};
+    ghost use Rattle.tl_dom_spec.specs.Driver.{builder};
+    ghost use Rattle.tl_dom_spec.specs.HtmlTree.{is_little};
+    ghost use Rattle.tl_dom_spec.specs.Tags.{is_html};
+    ghost use Rattle.tl_html_spec.specs.Driven.{Emission, taken};
+    ghost use Rattle.tl_html_tokens.specs.Driving.{state_set};
+    ghost use Rattle.tl_html_tokens.specs.Emits.{AreEmits};
+    ghost use Rattle.tl_html_tokens.specs.Modes.{state_of};
+    ghost use Rattle.tl_tree.specs.Inner.Builders.{builder_of, token_of};
+    ghost use Rattle.tl_tree.specs.Inner.Said.{piece_at};
+
+    /// Whether the adjusted current node is no HTML element.
+    pub(crate) fn is_foreign(&self) -> bool
+        ensures { result ≡ not (is_html (adjusted_current_node (builder_of self.now))) }
+    {
+        !crate::integration::is_html(&self.path.store, self.adjusted_tag())
+    }
+
+    /// How the tokenizer goes on behind what stood in front, which was taken.
+    #[tactic(auto, unfolding(crate::specs::Inner::Builders::builder_of))]
+    fn mode_behind(&self, front: Front) -> Mode
+        ensures { state_of result ≡ state_set builder (builder_of self.now) front }
+    {
+        match front.kind {
+            TokenKind::StartTag => self.reads,
+            _ => front.mode,
+        }
+    }
+
+    /// Whether few enough elements were put in that no start tag stands for.
+    #[tactic(auto, unfolding(crate::specs::Inner::Builders::builder_of))]
+    pub(crate) fn is_little(&self) -> bool
+        ensures { result ≡ is_little (builder_of self.now).excess }
+    {
+        self.excess <= 65536
+    }
+
+    /// Takes what stands in front at a place, which is read in this mode.
+    pub(crate) fn take_front(
+        &mut self,
+        alloc: Global,
+        room: &mut Vec<AttributeEntry>,
+        mode: Mode,
+        start: usize,
+        front: Front,
+    ) -> Result<(), GrowError>
+        requires order { start ≤ front.end }
+        requires within { front.end ≤ length self.old.path.store.page.now }
+        ensures ok { OnOk result ((emits : List Emission) →
+            AreEmits mode (piece_at self.old.path.store.page.now start front.end) front.kind emits →
+            builder_of self.new ≡ taken builder (builder_of self.old) emits) }
+        ensures page { (token_of self.new).page ≡ (token_of self.old).page }
+    {
+        let page = self.path.store.page;
+        match front.kind {
+            TokenKind::Text => self.take_text(alloc, mode, start, front.end),
+            TokenKind::StartTag => self.take_start_tag(alloc, room, start, front.end),
+            TokenKind::EndTag => self.take_end_tag(alloc, &page[start..front.end]),
+            TokenKind::Comment => self.take_comment(alloc, start, front.end),
+            TokenKind::Doctype => self.take_doctype(alloc, start, front.end),
+            TokenKind::Nothing => Ok(()),
+        }
+    }
+}
+
+impl<'p> Reader<'p> {
+    ghost use Rattle.std.specs.Prelude.{Err, IfOk, IfSome, None, OnOk, ◌+◌, ◌<◌, false, true, ℕ};
+    ghost use Rattle.tl_dom_spec.specs.Builder.{end_of_file};
+    ghost use Rattle.tl_dom_spec.specs.Dispatcher.{token_done};
+    ghost use Rattle.tl_dom_spec.specs.Driver.{builder};
+    ghost use Rattle.tl_dom_spec.specs.HtmlTree.{is_little, page_read};
+    ghost use Rattle.tl_html_tokens.specs.Driving.{opens_section};
+    ghost use Rattle.tl_html_tokens.specs.Fronts.{IsFront};
+    ghost use Rattle.tl_html_tokens.specs.Sections.{IsSection, begin_len};
+    ghost use Rattle.tl_tree.specs.Inner.Builders.{builder_of, flags_of};
+    ghost use Rattle.tl_tree.specs.Inner.Reading.{left_of};
+
+    /// Before the first token of a page.
+    pub(crate) fn new(alloc: Global, page: &'p [u8], flags: Flags) -> Result<Reader<'p>, GrowError>
+        ensures left { IfOk result (λ reader.
+            token_done (left_of reader) end_of_file ≡ page_read (flags_of flags) page.now) }
+    {
+        let builder = Builder::new(alloc, page, flags)?;
+        Ok(Reader {
+            builder,
+            page,
+            at: mark_len(page),
+            mode: Mode::Data,
+            room: Vec::new(alloc),
+            alloc,
+        })
+    }
+
+    // The CDATA section that stands here, in foreign content.
+    fn section(&self) -> Option<Section>
+        ensures section { IfSome result
+            (λ section. IsSection self.now.page.now self.now.at section) }
+        ensures begin { IfSome result (λ section. self.now.at + begin_len ≤ section.text_end) }
+        ensures order { IfSome result (λ section. section.text_end ≤ section.end) }
+        ensures within { IfSome result (λ section. section.end ≤ length self.now.page.now) }
+        ensures foreign { IfSome result
+            (λ section. builder.is_foreign (builder_of self.now.builder) ≡ true) }
+        ensures mode { IfSome result (λ section. self.now.mode ≡ Mode.Data) }
+        ensures none { result ≡ None
+            → opens_section builder (builder_of self.now.builder) self.now.page.now self.now.at
+            self.now.mode ≡ false }
+    {
+        let Mode::Data = self.mode else {
+            return None;
+        };
+        if !self.builder.is_foreign() {
+            return None;
+        }
+        next_section(self.page, self.at)
+    }
+
+    // Takes a CDATA section.
+    fn take_section(&mut self, section: Section) -> Result<(), GrowError>
+        requires section { IsSection self.old.page.now self.old.at section }
+        requires begin { self.old.at + begin_len ≤ section.text_end }
+        requires order { section.text_end ≤ section.end }
+        requires within { section.end ≤ length self.old.page.now }
+        requires foreign { builder.is_foreign (builder_of self.old.builder) ≡ true }
+        requires mode { self.old.mode ≡ Mode.Data }
+        ensures ok { OnOk result (left_of self.new ≡ left_of self.old) }
+        ensures further { OnOk result (self.old.at < self.new.at) }
+        ensures page { self.new.page.now ≡ self.old.page.now }
+    {
+        let text = with_feeds(self.alloc, &self.page[self.at + 9..section.text_end])?;
+        let span = self.builder.add_bytes(text.as_bytes())?;
+        self.builder.take_run(span)?;
+        self.at = section.end;
+        Ok(())
+    }
+
+    // Takes what stands in front here.
+    fn take_token(&mut self, front: Front) -> Result<(), GrowError>
+        requires front { IsFront self.old.page.now self.old.at self.old.mode front }
+        requires open { opens_section builder (builder_of self.old.builder) self.old.page.now
+            self.old.at self.old.mode ≡ false }
+        ensures ok { OnOk result (left_of self.new ≡ left_of self.old) }
+        ensures further { OnOk result (self.old.at < self.new.at) }
+        ensures page { self.new.page.now ≡ self.old.page.now }
+    {
+        let start = self.at;
+        self.builder
+            .take_front(self.alloc, &mut self.room, self.mode, start, front)?;
+        self.mode = self.builder.mode_behind(front);
+        self.at = front.end;
+        Ok(())
+    }
+
+    // Takes what stands here.
+    fn take_next(&mut self) -> Result<(), GrowError>
+        requires { self.old.at < length self.old.page.now }
+        ensures ok { OnOk result (left_of self.new ≡ left_of self.old) }
+        ensures further { OnOk result (self.old.at < self.new.at) }
+        ensures page { self.new.page.now ≡ self.old.page.now }
+    {
+        if let Some(section) = self.section() {
+            return self.take_section(section);
+        }
+        let Some(front) = next_token(self.page, self.at, self.mode) else {
+            return Ok(());
+        };
+        self.take_token(front)
+    }
+
+    // Refuses a tree that is out of proportion to the page so far.
+    fn weigh(&self) -> Result<(), ReadError>
+        ensures little { OnOk result (is_little (builder_of self.now.builder).excess ≡ true) }
+        ensures large { (at : ℕ) → result ≡ Err (ReadError.OutOfProportion at) →
+            is_little (builder_of self.now.builder).excess ≡ false }
+    {
+        if self.builder.is_little() {
+            return Ok(());
+        }
+        Err(ReadError::OutOfProportion { at: self.at })
+    }
+
+    // Reads on to the end of the page.
+    fn read_on(&mut self) -> Result<(), ReadError>
+        ensures ok { OnOk result (left_of self.new ≡ left_of self.old) }
+        ensures end { OnOk result (length self.new.page.now ≤ self.new.at) }
+        ensures large { (at : ℕ) → result ≡ Err (ReadError.OutOfProportion at) →
+            is_little (token_done (left_of self.old) end_of_file).excess ≡ false }
+    {
+        while self.at < self.page.len() {
+            self.take_next()?;
+            if !self.builder.is_little() {
+                return Err(ReadError::OutOfProportion { at: self.at });
+            }
+        }
+        Ok(())
+    }
+
+    /// Reads the page to its end.
+    pub(crate) fn read(&mut self) -> Result<(), ReadError>
+        ensures ok { OnOk result
+            (builder_of self.new.builder ≡ token_done (left_of self.old) end_of_file) }
+        ensures little { OnOk result
+            (is_little (token_done (left_of self.old) end_of_file).excess ≡ true) }
+        ensures large { (at : ℕ) → result ≡ Err (ReadError.OutOfProportion at) →
+            is_little (token_done (left_of self.old) end_of_file).excess ≡ false }
+    {
+        self.read_on()?;
+        self.builder.take_token(Token::EndOfFile)?;
+        self.weigh()
+    }
+}

@@ -1,0 +1,313 @@
+//! What the adoption agency algorithm (13.2.6.4.7) asks of the path of frames, and does to it.
+//!
+//! Others may rely on this: each operation says which frames there are afterwards (`frames_of`),
+//! and which number is next.
+ghost use Rattle.std.specs.List.{insert, list_all};
+ghost use Rattle.std.specs.Option.{option_map};
+ghost use Rattle.std.specs.Prelude.{IfOk, IfSome, IsTrue, None, OnOk, drop, false, if◌then◌else◌, length, map, reverse, take, ℕ, ◌++◌, ◌+◌, ◌<◌, ◌==◌, ◌≡◌, ◌≤◌};
+ghost use Rattle.tl_dom_spec.specs.Adoption.{first, moved_place, outermost, outside_of};
+ghost use Rattle.tl_dom_spec.specs.Path.{elements, popped_while};
+ghost use Rattle.tl_dom_spec.specs.Tags.{is_special};
+ghost use Rattle.tl_tree.specs.Inner.Adopted.{emptied, filled, frame_at, frame_found, furthest, innermost_number, is_element_of, is_inside, moved, number_of, placed, renewed, with_outer};
+ghost use Rattle.tl_tree.specs.Inner.Framed.{are_distinct, is_before};
+ghost use Rattle.tl_tree.specs.Inner.Frames.{changed, frame_of, frames_of, is_frame, path_of, place_of};
+ghost use Rattle.tl_tree.specs.Inner.Store.{Grows, is_tag_number, tag_at};
+ghost use Rattle.tl_tree.specs.Inner.Tests.{tag_test_of};
+
+use crate::error::GrowError;
+use crate::frame::{Frame, Mark, Place};
+use crate::path::FramePath;
+use crate::test::{TagTest, Test};
+
+impl Mark {
+    // What went into the block goes into the new element.
+    fn moved(self, block: u32, new: u32) -> Mark
+        ensures { result.number ≡ (if self.number == block then new else self.number) }
+    {
+        if self.number == block {
+            return Mark {
+                number: new,
+                depth: self.depth,
+            };
+        }
+        self
+    }
+}
+
+impl Place {
+    fn moved(self, block: u32, new: u32) -> Place
+        ensures { place_of result ≡ moved_place block new (place_of self) }
+    {
+        match self {
+            Place::Here => Place::Here,
+            Place::Into(mark) => Place::Into(mark.moved(block, new)),
+            Place::Behind(mark) => Place::Behind(mark.moved(block, new)),
+            Place::IntoHead => Place::IntoHead,
+        }
+    }
+}
+
+impl<'a> FramePath<'a> {
+    // What is asked
+
+    // Whether a frame is the element of a number.
+    fn is_element(&self, index: usize, number: u32) -> bool
+        requires { index < length self.now.frames.items }
+        ensures { result ≡ is_element_of number (frame_at self.now index) }
+    {
+        let frame = self.frames[index];
+        frame.is_open && frame.number == number
+    }
+
+    // The block that was found so far, where a frame further out may be one.
+    fn block_at(&self, index: usize, found: Option<usize>, test: TagTest<'_>) -> Option<usize>
+        requires { index < length self.now.frames.items }
+        ensures stands { (k : ℕ) → is_element_of k (frame_at self.now index) ≡ false
+            → furthest (tag_test_of test.entry) k self.now found (index + 1)
+            ≡ furthest (tag_test_of test.entry) k self.now result index }
+        ensures within { IfSome found
+            (λ place. (index < place) × (place < length self.now.frames.items))
+            → IfSome result
+            (λ place. (index ≤ place) × (place < length self.now.frames.items)) }
+    {
+        let frame = self.frames[index];
+        if !frame.is_open {
+            return found;
+        }
+        if test.passes(&self.store, frame.tag) {
+            return Some(index);
+        }
+        found
+    }
+
+    /// The place of the furthest block: the outermost special element inside of the one of a
+    /// number.
+    pub(crate) fn furthest_block(&self, number: u32, counts_search: bool) -> Option<usize>
+        ensures stands { frame_found self.now result
+            ≡ outermost (is_special counts_search) number None (elements (path_of self.now)) }
+        ensures within { IfSome result
+            (λ index. (0 < index) × (index < length self.now.frames.items)) }
+    {
+        let test = TagTest::Special(counts_search);
+        let mut found = None;
+        let mut left = self.frames.len();
+        while left > 0 {
+            left -= 1;
+            if self.is_element(left, number) {
+                return found;
+            }
+            found = self.block_at(left, found, test);
+        }
+        None
+    }
+
+    // The number of the innermost element outside of a place.
+    fn element_outside(&self, place: usize) -> Option<u32>
+        requires { place ≤ length self.now.frames.items }
+        ensures { result ≡ innermost_number self.now place }
+    {
+        let mut left = place;
+        while left > 0 {
+            left -= 1;
+            let frame = self.frames[left];
+            if frame.is_open {
+                return Some(frame.number);
+            }
+        }
+        None
+    }
+
+    /// The number of the common ancestor: the element of the stack around the one of a number.
+    pub(crate) fn common_ancestor(&self, number: u32) -> Option<u32>
+        ensures { result ≡ number_of (first (elements (outside_of number (path_of self.now)))) }
+    {
+        match self.find(Mark { number, depth: 0 }) {
+            Some(place) => self.element_outside(place),
+            None => None,
+        }
+    }
+
+    // What is put in
+
+    /// A new element that has what is in a frame is put on the path, with so many outside of it.
+    pub(crate) fn insert_frame(&mut self, place: usize, frame: Frame) -> Result<(), GrowError>
+        requires place { place ≤ length self.old.frames.items }
+        requires within { IsTrue (is_frame self.old frame) }
+        ensures frames { OnOk result (frames_of self.new
+            ≡ insert (frames_of self.old) place
+            (filled self.old.next (tag_at self.old.store frame.tag)
+            (frame_of self.old.store frame))) }
+        ensures len { OnOk result
+            (length self.new.frames.items ≡ length self.old.frames.items + 1) }
+        ensures next { OnOk result (self.new.next ≡ self.old.next + 1) }
+        ensures more { self.old.next ≤ self.new.next }
+        ensures store { self.new.store ≡ self.old.store }
+    {
+        let number = self.next;
+        if number == u32::MAX {
+            return Err(GrowError::TooLarge);
+        }
+        self.next = number + 1;
+        self.frames.insert(
+            place,
+            Frame {
+                number,
+                place: Place::Here,
+                is_open: true,
+                ..frame
+            },
+        )?;
+        Ok(())
+    }
+
+    // A frame has nothing in it any more, and goes to what is around it.
+    fn empty(&mut self, index: usize)
+        requires { index < length self.old.frames.items }
+        ensures frames { frames_of self.new ≡ changed index emptied (frames_of self.old) }
+        ensures len { length self.new.frames.items ≡ length self.old.frames.items }
+        ensures next { self.new.next ≡ self.old.next }
+        ensures store { self.new.store ≡ self.old.store }
+    {
+        let frame = self.frames[index];
+        self.write(
+            index,
+            Frame {
+                children: 0,
+                late: 0,
+                waiting: 0,
+                place: Place::Here,
+                ..frame
+            },
+        );
+    }
+
+    // A frame goes to another place.
+    fn set_place(&mut self, index: usize, place: Place)
+        requires { index < length self.old.frames.items }
+        ensures frames { frames_of self.new
+            ≡ changed index (placed (place_of place)) (frames_of self.old) }
+        ensures next { self.new.next ≡ self.old.next }
+        ensures store { self.new.store ≡ self.old.store }
+    {
+        let frame = self.frames[index];
+        self.write(index, Frame { place, ..frame });
+    }
+
+    // A frame that went into the block goes into the new element.
+    fn move_place(&mut self, index: usize, block: u32, new: u32)
+        requires { index < length self.old.frames.items }
+        ensures frames { frames_of self.new ≡ changed index (moved block new) (frames_of self.old) }
+        ensures len { length self.new.frames.items ≡ length self.old.frames.items }
+        ensures next { self.new.next ≡ self.old.next }
+        ensures store { self.new.store ≡ self.old.store }
+    {
+        let frame = self.frames[index];
+        let place = frame.place.moved(block, new);
+        self.write(index, Frame { place, ..frame });
+    }
+
+    // So do all frames from a place on.
+    fn move_places(&mut self, start: usize, block: u32, new: u32)
+        requires { start ≤ length self.old.frames.items }
+        ensures frames { frames_of self.new
+            ≡ take start (frames_of self.old)
+            ++ map (moved block new) (drop start (frames_of self.old)) }
+        ensures len { length self.new.frames.items ≡ length self.old.frames.items }
+        ensures next { self.new.next ≡ self.old.next }
+        ensures store { self.new.store ≡ self.old.store }
+    {
+        for index in start..self.frames.len() {
+            self.move_place(index, block, new);
+        }
+    }
+
+    /// A new element has what is in the block, which has that element instead.
+    pub(crate) fn renew(&mut self, index: usize, tag: u32) -> Result<(), GrowError>
+        requires index { index < length self.old.frames.items }
+        requires tag { IsTrue (is_tag_number self.old.store tag) }
+        ensures frames { OnOk result (frames_of self.new
+            ≡ take index (frames_of self.old)
+            ++ renewed self.old.next (tag_at self.old.store tag)
+            (drop index (frames_of self.old))) }
+        ensures len { OnOk result
+            (length self.new.frames.items ≡ length self.old.frames.items + 1) }
+        ensures next { OnOk result (self.new.next ≡ self.old.next + 1) }
+        ensures more { self.old.next ≤ self.new.next }
+        ensures store { self.new.store ≡ self.old.store }
+    {
+        let block = self.frames[index];
+        let new = self.next;
+        self.insert_frame(index + 1, Frame { tag, ..block })?;
+        self.empty(index);
+        self.move_places(index + 2, block.number, new);
+        Ok(())
+    }
+
+    // What is settled
+
+    // Frames are settled up to the one of a number, or where there is none, those that left the
+    // stack.
+    fn settle_to(&mut self, number: Option<u32>) -> Result<(), GrowError>
+        ensures ok { OnOk result (path_of self.new
+            ≡ popped_while (is_inside number) (path_of self.old)) }
+        ensures next { self.new.next ≡ self.old.next }
+        ensures grows { Grows self.old.store self.new.store }
+    {
+        match number {
+            Some(number) => self.settle_while(Test::Number(number), true),
+            None => self.settle_while(Test::Nothing, false),
+        }
+    }
+
+    // The frames from a place on are taken off the path.
+    fn set_aside(&mut self, place: usize) -> Result<Vec<Frame>, GrowError>
+        requires some { 0 < place }
+        requires within { place ≤ length self.old.frames.items }
+        ensures kept { OnOk result
+            (self.new.frames.items ≡ take place self.old.frames.items) }
+        ensures aside { IfOk result (λ aside. aside.items ≡ drop place self.old.frames.items) }
+        ensures next { self.new.next ≡ self.old.next }
+        ensures store { self.new.store ≡ self.old.store }
+    {
+        Ok(self.frames.split_off(place)?)
+    }
+
+    // Frames are put inside of those that are there.
+    fn put_back(&mut self, aside: &[Frame]) -> Result<(), GrowError>
+        requires within { IsTrue (list_all (is_frame self.old) aside.now) }
+        requires distinct { IsTrue (are_distinct (self.old.frames.items ++ aside.now)) }
+        requires numbered { IsTrue (list_all (is_before self.old.next) aside.now) }
+        ensures frames { OnOk result (self.new.frames.items ≡ self.old.frames.items ++ aside.now) }
+        ensures next { self.new.next ≡ self.old.next }
+        ensures store { self.new.store ≡ self.old.store }
+    {
+        self.frames.extend_from_slice(aside)?;
+        Ok(())
+    }
+
+    /// What is outside of a place is settled up to the element of a number, and what stands at the
+    /// place goes to where nodes go there.
+    pub(crate) fn settle_outside(
+        &mut self,
+        place: usize,
+        number: Option<u32>,
+        is_fostering: bool,
+    ) -> Result<(), GrowError>
+        requires some { 0 < place }
+        requires within { place < length self.old.frames.items }
+        ensures frames { OnOk result (frames_of self.new
+            ≡ with_outer is_fostering
+            (popped_while (is_inside number) (reverse (take place (frames_of self.old))))
+            (drop place (frames_of self.old))) }
+        ensures next { self.new.next ≡ self.old.next }
+        ensures grows { Grows self.old.store self.new.store }
+    {
+        let aside = self.set_aside(place)?;
+        self.settle_to(number)?;
+        let target = self.place_in(is_fostering);
+        let outer = self.frames.len();
+        self.put_back(&aside)?;
+        self.set_place(outer, target);
+        Ok(())
+    }
+}

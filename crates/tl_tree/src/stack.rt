@@ -1,0 +1,174 @@
+//! What single rules ask of the stack of open elements, and what they change in it.
+ghost use Rattle.std.specs.Option.{option_map};
+ghost use Rattle.std.specs.Prelude.{IfSome, IsTrue, None, [], false, length, slice_index_or, true, ◌+◌, ◌<◌, ◌∷◌, ◌≡◌};
+ghost use Rattle.tl_dom_spec.specs.Body.{body_number, earlier_item, from_html};
+ghost use Rattle.tl_dom_spec.specs.Builder.{is_only};
+ghost use Rattle.tl_dom_spec.specs.Path.{at_number, document, elements};
+ghost use Rattle.tl_dom_spec.specs.Path as dom;
+ghost use Rattle.tl_dom_spec.specs.Tags.{Tag, is_any};
+ghost use Rattle.tl_tree.specs.Inner.Frames.{changed, frames_of, path_of};
+ghost use Rattle.tl_tree.specs.Inner.Stack.{earlier, inner, opened_from, retagged, retagged_by};
+ghost use Rattle.tl_tree.specs.Inner.Store.{is_tag_number, tag_at};
+ghost use Rattle.tl_tree.specs.Inner.Tests.{tag_test_of};
+
+use crate::frame::{Frame, Mark};
+use crate::path::FramePath;
+use crate::test::{TagTest, Test};
+
+impl<'a> FramePath<'a> {
+    // The frame at a place has another tag.
+    fn retag(&mut self, index: usize, tag: u32)
+        requires index { index < length self.old.frames.items }
+        requires tag { IsTrue (is_tag_number self.old.store tag) }
+        ensures frames { frames_of self.new
+            ≡ changed index (retagged (tag_at self.old.store tag)) (frames_of self.old) }
+        ensures store { self.new.store ≡ self.old.store }
+        ensures next { self.new.next ≡ self.old.next }
+    {
+        let frame = self.frames[index];
+        self.write(index, Frame { tag, ..frame });
+    }
+
+    /// The frame of a number has another tag.
+    pub(crate) fn set_tag(&mut self, mark: Mark, tag: u32)
+        requires { IsTrue (is_tag_number self.old.store tag) }
+        ensures path { path_of self.new
+            ≡ at_number mark.number (retagged (tag_at self.old.store tag)) (path_of self.old) }
+        ensures store { self.new.store ≡ self.old.store }
+        ensures next { self.new.next ≡ self.old.next }
+    {
+        match self.find(mark) {
+            Some(index) => self.retag(index, tag),
+            None => {}
+        }
+    }
+
+    /// The tag of the frame of a number: a change of that tag is a change of the frame's.
+    pub(crate) fn tag_of(&self, mark: Mark) -> Option<u32>
+        ensures within { IfSome result (λ tag. IsTrue (is_tag_number self.now.store tag)) }
+        ensures some { IfSome result (λ tag. (change : Tag → Tag)
+            → at_number mark.number (retagged_by change) (path_of self.now)
+            ≡ at_number mark.number (retagged (change (tag_at self.now.store tag)))
+            (path_of self.now)) }
+        ensures none { result ≡ None → (change : dom.Frame → dom.Frame)
+            → at_number mark.number change (path_of self.now) ≡ path_of self.now }
+    {
+        let index = self.find(mark)?;
+        Some(self.frames[index].tag)
+    }
+
+    // Whether the innermost frame is the `html` element, or the document.
+    fn ends_in_html(&self) -> bool
+        ensures yes { result ≡ true → from_html (path_of self.now) ≡ path_of self.now }
+        ensures some { result ≡ false → 1 < length self.now.frames.items }
+        ensures no { result ≡ false
+            → from_html (path_of self.now) ≡ from_html (inner (path_of self.now)) }
+    {
+        let last = self.frames.len() - 1;
+        last == 0 || self.frames[last].number == 1
+    }
+
+    /// What stands in the `html` element goes: the path ends with that element, or is the document.
+    pub(crate) fn cut_to_html(&mut self)
+        ensures path { path_of self.new ≡ from_html (path_of self.old) }
+        ensures store { self.new.store ≡ self.old.store }
+        ensures next { self.new.next ≡ self.old.next }
+    {
+        while !self.ends_in_html() {
+            self.take_top();
+        }
+    }
+
+    // The first open frame from a place on, further in.
+    fn next_open(&self, from: usize) -> Option<usize>
+        ensures within { IfSome result (λ index. index < length self.now.frames.items) }
+        ensures some { IfSome result (λ index. opened_from self.now from
+            ≡ slice_index_or (frames_of self.now) index document
+            ∷ opened_from self.now (index + 1)) }
+        ensures none { result ≡ None → opened_from self.now from ≡ [] }
+    {
+        for index in from..self.frames.len() {
+            if self.frames[index].is_open {
+                return Some(index);
+            }
+        }
+        None
+    }
+
+    /// The second element of the stack, where that is a `body`.
+    pub(crate) fn body_number(&self) -> Option<Mark>
+        ensures { option_map (λ mark. mark.number) result
+            ≡ body_number (elements (path_of self.now)) }
+    {
+        let first = self.next_open(0)?;
+        let second = self.next_open(first + 1)?;
+        let frame = self.frames[second];
+        let body = Test::Tag(TagTest::Any(b"body"));
+        if body.passes(&self.store, frame) {
+            Some(Mark::new(frame.number, second))
+        } else {
+            None
+        }
+    }
+
+    /// Whether there is one element in the stack alone.
+    pub(crate) fn is_only(&self) -> bool
+        ensures { result ≡ is_only (elements (path_of self.now)) }
+    {
+        let Some(first) = self.next_open(0) else {
+            return false;
+        };
+        match self.next_open(first + 1) {
+            Some(_) => false,
+            None => true,
+        }
+    }
+
+    // What a search for an item says at a frame.
+    fn item_at(
+        &self,
+        index: usize,
+        names: &'static [u8],
+        bounds: TagTest<'_>,
+    ) -> Option<Option<u32>>
+        requires { index < length self.now.frames.items }
+        ensures some { IfSome result (λ found.
+            earlier (is_any names.now) (tag_test_of bounds.entry) self.now (index + 1)
+            ≡ option_map (tag_at self.now.store) found) }
+        ensures none { result ≡ None
+            → earlier (is_any names.now) (tag_test_of bounds.entry) self.now (index + 1)
+            ≡ earlier (is_any names.now) (tag_test_of bounds.entry) self.now index }
+        ensures within { IfSome result
+            (λ found. IfSome found (λ tag. IsTrue (is_tag_number self.now.store tag))) }
+    {
+        let frame = self.frames[index];
+        if !frame.is_open {
+            return None;
+        }
+        if TagTest::Any(names).passes(&self.store, frame.tag) {
+            return Some(Some(frame.tag));
+        }
+        if bounds.passes(&self.store, frame.tag) {
+            return Some(None);
+        }
+        None
+    }
+
+    /// The tag of the innermost element of one of these names, up to one that passes the bounds.
+    pub(crate) fn earlier_item(&self, names: &'static [u8], bounds: TagTest<'_>) -> Option<u32>
+        ensures stands { option_map (tag_at self.now.store) result
+            ≡ earlier_item (is_any names.now) (tag_test_of bounds.entry)
+            (elements (path_of self.now)) }
+        ensures within { IfSome result (λ tag. IsTrue (is_tag_number self.now.store tag)) }
+    {
+        let mut index = self.frames.len();
+        while index > 0 {
+            index -= 1;
+            match self.item_at(index, names, bounds) {
+                Some(found) => return found,
+                None => {}
+            }
+        }
+        None
+    }
+}
