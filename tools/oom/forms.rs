@@ -1,4 +1,4 @@
-//! What texts, names and tags of HTML say, forms of pages, and pages in an encoding.
+//! What texts, names and tags of HTML say, forms and trees of pages, and pages in an encoding.
 use crate::case::Case;
 use crate::stop::{Stop, value};
 use crate::{Named, measured};
@@ -10,6 +10,7 @@ use tl_html_write::{coded_name, lower_name, uncoded_name};
 use tl_text::{
     escape_text, escape_value, unescape_text, unescape_text_str, unescape_value, unescape_value_str,
 };
+use tl_tree::{Flags, Tree};
 
 // What is called.
 #[derive(Clone, Copy)]
@@ -30,15 +31,16 @@ enum FormCall {
     LowerName,
     TagParts,
     Tokens,
+    Tree,
     Decode(Encoding),
 }
 
-// The name of a call, the call, the bytes, and what is made; of a tag its name, and of tokens the
-// last one.
+// The name of a call, the call, the bytes, and what is made; of a tag its name, of tokens the last
+// one, and of a tree the last text.
 type Row = (&'static str, FormCall, &'static [u8], &'static [u8]);
 
 #[rattlefmt::skip]
-static ROWS: [Row; 24] = [
+static ROWS: [Row; 26] = [
     ("escape_text", FormCall::EscapeText, b"a<b&c", b"a&lt;b&amp;c"),
     ("escape_value", FormCall::EscapeValue, b"a\"b", b"a&quot;b"),
     ("unescape_text", FormCall::UnescapeText, b"a&lt;b", b"a<b"),
@@ -61,6 +63,8 @@ static ROWS: [Row; 24] = [
     ("tag_parts, no attribute", FormCall::TagParts, b"<p>", b"p"),
     ("tag_parts", FormCall::TagParts, b"<p class=k id>", b"p"),
     ("tokens", FormCall::Tokens, b"<p>x<!-- y -->z", b"z"),
+    ("Tree::read", FormCall::Tree, b"<p>a", b"a"),
+    ("Tree::read, all kinds of nodes", FormCall::Tree, b"<!DOCTYPE html PUBLIC 'x'><!--a\r--><body class=k><table>a&lt;<tr><td><b>b<p>c</b>d<svg viewbox=x><![CDATA[e]]></svg></table><template><td></template><body id=l>f", b"f"),
     ("decode, UTF-8", FormCall::Decode(Encoding::Utf8), b"caf\xC3\xA9", b"caf\xC3\xA9"),
     ("decode, windows-1252", FormCall::Decode(Encoding::Windows1252), b"caf\xE9 \x80", b"caf\xC3\xA9 \xE2\x82\xAC"),
 ];
@@ -74,6 +78,7 @@ pub fn call(number: usize, case: &mut Case) -> Option<Named> {
         FormCall::LowerName => lower(row, case),
         FormCall::TagParts => read_tag(row, case),
         FormCall::Tokens => read_tokens(row, case),
+        FormCall::Tree => read_tree(row, case),
         FormCall::Decode(encoding) => decode_page(encoding, row, case),
         _ => make(row, case),
     };
@@ -130,6 +135,17 @@ fn read_tag(row: &Row, case: &mut Case) -> Result<(), Stop> {
     let (_, _, bytes, wanted) = *row;
     let answer = measured!(case, tag_parts(case.alloc(), bytes));
     value(answer?.name == wanted)
+}
+
+fn read_tree(row: &Row, case: &mut Case) -> Result<(), Stop> {
+    let (_, _, page, wanted) = *row;
+    let flags = Flags {
+        is_scripting: false,
+        counts_search: true,
+    };
+    let answer = measured!(case, Tree::read(case.alloc(), page, flags));
+    let tree = answer?;
+    value(tree.text(tree.len() - 1) == Some(wanted))
 }
 
 fn read_tokens(row: &Row, case: &mut Case) -> Result<(), Stop> {

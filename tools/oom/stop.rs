@@ -10,6 +10,7 @@ use tl_page::Failure;
 use tl_patch::PatchError;
 use tl_patch_edit::EditError;
 use tl_patch_select::{SelectionEditError, SelectionPatchError};
+use tl_tree::ReadError;
 
 /// Why a case ended.
 #[derive(Clone, Copy)]
@@ -142,6 +143,15 @@ impl From<NormalizeError> for Stop {
         match error {
             NormalizeError::OutOfMemory => Stop::NoMemory,
             NormalizeError::TooLong => Stop::WrongError,
+        }
+    }
+}
+
+impl From<ReadError> for Stop {
+    fn from(error: ReadError) -> Self {
+        match error {
+            ReadError::OutOfMemory => Stop::NoMemory,
+            _ => Stop::WrongError,
         }
     }
 }

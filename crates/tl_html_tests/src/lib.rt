@@ -45,6 +45,8 @@ mod tag_parts;
 #[cfg(test)]
 mod tokens;
 #[cfg(test)]
+mod trees;
+#[cfg(test)]
 mod written_tags;
 #[cfg(test)]
 mod written_texts;

@@ -1,0 +1,61 @@
+//! Pages, and the trees that are read of them.
+use std::alloc::Global;
+use tl_tree::{Flags, Tree};
+
+// A page, what its nodes say in order (a name or a text), and where what is below each one ends.
+#[rattlefmt::skip]
+static ROWS: [(&[u8], &[&[u8]], &[usize]); 15] = [
+    (b"", &[b"html", b"head", b"body"], &[3, 2, 3]),
+    (b"\xEF\xBB\xBFa", &[b"html", b"head", b"body", b"a"], &[4, 2, 4, 4]),
+    (b"<p>a<p>b", &[b"html", b"head", b"body", b"p", b"a", b"p", b"b"], &[7, 2, 7, 5, 5, 7, 7]),
+    (b"<table><td>a", &[b"html", b"head", b"body", b"table", b"tbody", b"tr", b"td", b"a"], &[8, 2, 8, 8, 8, 8, 8, 8]),
+    (b"<table>a<tr>", &[b"html", b"head", b"body", b"a", b"table", b"tbody", b"tr"], &[7, 2, 7, 4, 7, 7, 7]),
+    (b"<b>a<p>b</b>c", &[b"html", b"head", b"body", b"b", b"a", b"p", b"b", b"b", b"c"], &[9, 2, 9, 5, 5, 9, 8, 8, 9]),
+    (b"<head></head><title>a</title>", &[b"html", b"head", b"title", b"a", b"body"], &[5, 4, 4, 4, 5]),
+    (b"<template>a", &[b"html", b"head", b"template", b"", b"a", b"body"], &[6, 5, 5, 5, 5, 6]),
+    (b"<svg><lineargradient/></svg>", &[b"html", b"head", b"body", b"svg", b"linearGradient"], &[5, 2, 5, 5, 5]),
+    (b"<svg><![CDATA[a&lt;<]]>", &[b"html", b"head", b"body", b"svg", b"a&lt;<"], &[5, 2, 5, 5, 5]),
+    (b"<script>a<b</script>", &[b"html", b"head", b"script", b"a<b", b"body"], &[5, 4, 4, 4, 5]),
+    (b"<!DOCTYPE html><!--a-->", &[b"", b"a", b"html", b"head", b"body"], &[1, 2, 5, 4, 5]),
+    (b"a\r\n&lt;", &[b"html", b"head", b"body", b"a\n<"], &[4, 2, 4, 4]),
+    (b"</body><!--a-->", &[b"html", b"head", b"body", b"a"], &[4, 2, 3, 4]),
+    (b"<frameset><frame>", &[b"html", b"head", b"frameset", b"frame"], &[4, 2, 4, 4]),
+];
+
+fn said<'t>(tree: &'t Tree<'_>, number: usize) -> &'t [u8] {
+    if let Some(name) = tree.name(number) {
+        return name;
+    }
+    tree.text(number).unwrap_or(b"")
+}
+
+// Whether the nodes of a tree are those of a row.
+fn are(tree: &Tree<'_>, nodes: &[&[u8]], ends: &[usize]) -> bool {
+    if tree.len() != ends.len() {
+        return false;
+    }
+    for (number, (own, end)) in nodes.iter().zip(ends).enumerate() {
+        if said(tree, number) != *own || tree.end(number) != Some(*end) {
+            return false;
+        }
+    }
+    true
+}
+
+fn is_read(alloc: Global, page: &[u8], nodes: &[&[u8]], ends: &[usize]) -> bool {
+    let flags = Flags {
+        is_scripting: false,
+        counts_search: true,
+    };
+    match Tree::read(alloc, page, flags) {
+        Ok(tree) => are(&tree, nodes, ends),
+        Err(_) => false,
+    }
+}
+
+#[test]
+fn trees_are_read(rt: HostRuntime) {
+    for (page, nodes, ends) in &ROWS {
+        assert!(rt; is_read(rt.alloc(), page, nodes, ends));
+    }
+}
