@@ -92,7 +92,7 @@ impl<'a> Builder<'a> {
         if self.has_template() {
             return self.close_in_scope(TagTest::Nothing, TagTest::Any(b"form"));
         }
-        let form = self.form_number();
+        let form = self.form();
         self.set_form(None);
         match form {
             Some(number) => self.form_taken_out(number),

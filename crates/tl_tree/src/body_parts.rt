@@ -22,7 +22,7 @@ impl<'a> Builder<'a> {
 
     /// The number of the element that the form element pointer points to.
     #[tactic(auto, unfolding(crate::specs::Inner::Builders::builder_of))]
-    pub(crate) fn form_number(&self) -> Option<u32>
+    pub(crate) fn form(&self) -> Option<u32>
         ensures { result ≡ (builder_of self.now).form }
     {
         self.form
@@ -41,13 +41,6 @@ impl<'a> Builder<'a> {
         ensures { result ≡ (builder_of self.now).is_quirks }
     {
         self.is_quirks
-    }
-
-    #[tactic(auto, unfolding(crate::specs::Inner::Builders::builder_of))]
-    pub(crate) fn has_scripting(&self) -> bool
-        ensures { result ≡ (builder_of self.now).flags.is_scripting }
-    {
-        self.flags.is_scripting
     }
 
     /// Whether the context element passes a test.

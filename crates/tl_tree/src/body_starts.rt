@@ -121,7 +121,7 @@ impl<'a> Builder<'a> {
         if self.has_template() {
             return self.block_start();
         }
-        match self.form_number() {
+        match self.form() {
             Some(_) => Ok(()),
             None => self.form_opened(),
         }
@@ -373,7 +373,7 @@ impl<'a> Builder<'a> {
             ≡ noscript_start_in_body (builder_of self.old) (token_of self.old).tag) }
         ensures token { token_of self.new ≡ token_of self.old }
     {
-        if self.has_scripting() {
+        if self.is_scripting() {
             return self.parse_raw_text();
         }
         self.ordinary_start()

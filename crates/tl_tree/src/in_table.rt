@@ -74,13 +74,6 @@ impl<'a> Builder<'a> {
         Ok(Outcome::Again)
     }
 
-    // The form element pointer.
-    fn form(&self) -> Option<u32>
-        ensures { result ≡ (builder_of self.now).form }
-    {
-        self.form
-    }
-
     // The number of the next element.
     fn next_number(&self) -> u32
         ensures { result ≡ (builder_of self.now).next }

@@ -5,12 +5,10 @@ ghost use Rattle.std.specs.Prelude.{IfOk, IsTrue, OnOk, [], ◌++◌, ◌∷◌,
 ghost use Rattle.tl_dom_spec.specs.Builder.{insert_bytes};
 ghost use Rattle.tl_dom_spec.specs.Tables.{body_characters, in_table_text_step, no_bytes, pending_inserted};
 ghost use Rattle.tl_tree.specs.Inner.Builders.{builder_of, outcome_of, token_of, token_view};
-ghost use Rattle.tl_tree.specs.Inner.Modes.{mode_of};
 ghost use Rattle.tl_tree.specs.Inner.Store.{bytes_of, is_span};
 
 use crate::builder::Builder;
 use crate::error::GrowError;
-use crate::mode::Mode;
 use crate::outcome::Outcome;
 use crate::span::Span;
 use crate::token::Token;
@@ -29,13 +27,6 @@ fn are_none(bytes: &[u8]) -> bool
 }
 
 impl<'a> Builder<'a> {
-    /// The original insertion mode.
-    pub(crate) fn original_mode(&self) -> Mode
-        ensures { mode_of result ≡ (builder_of self.now).original }
-    {
-        self.original
-    }
-
     /// No byte is pending any more.
     pub(crate) fn clear_pending(&mut self)
         ensures ok { builder_of self.new ≡ record (builder_of self.old) { pending = [] } }
@@ -140,7 +131,7 @@ impl<'a> Builder<'a> {
                 Ok(Outcome::Done)
             }
             _ => {
-                let mode = self.original_mode();
+                let mode = self.original();
                 self.pending_inserted()?;
                 self.switch_to(mode);
                 Ok(Outcome::Again)

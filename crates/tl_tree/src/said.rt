@@ -5,7 +5,7 @@
 //! is put in here (`characters_of`, `comment_of`).
 ghost use Rattle.std.specs.Prelude.{Bool, IfOk, IsTrue, List, [], length, ◌∷◌, ◌≡◌, ◌≤◌, ℕ};
 ghost use Rattle.tl_dom_spec.specs.Tags.{html_tag};
-ghost use Rattle.tl_html_spec.specs.HtmlTokenizer.{EndTag, HtmlAttribute, StartTag};
+ghost use Rattle.tl_html_spec.specs.HtmlTokenizer.{HtmlAttribute, StartTag};
 ghost use Rattle.tl_html_tokens.specs.Characters.{characters_of};
 ghost use Rattle.tl_html_tokens.specs.Comments.{comment_of};
 ghost use Rattle.tl_html_tokens.specs.Whole.{IsWhole};
@@ -16,7 +16,7 @@ ghost use Rattle.tl_tree.specs.Inner.Store.{Grows, bytes_of, is_span, is_tag, ta
 use crate::entries::{AttributeEntry, TagEntry};
 use crate::error::GrowError;
 use crate::said_attributes::put_tag;
-use crate::said_bytes::{put_bytes, put_name};
+use crate::said_bytes::put_bytes;
 use crate::span::Span;
 use crate::store::Store;
 use std::alloc::Global;
@@ -60,26 +60,6 @@ pub(crate) fn start_tag(
         tag,
         closes: parts.closes,
     })
-}
-
-/// The name that an end tag says.
-pub(crate) fn end_tag(
-    store: &mut Store<'_>,
-    alloc: Global,
-    start: usize,
-    end: usize,
-) -> Result<Span, GrowError>
-    requires order { start ≤ end }
-    requires within { end ≤ length store.old.page.now }
-    ensures name { IfOk result (λ span. (mode : Mode) (name : List ℕ) →
-        IsWhole mode (piece_at store.old.page.now start end) (EndTag name ∷ []) →
-        bytes_of store.new span ≡ name) }
-    ensures within { IfOk result (λ span. IsTrue (is_span store.new span)) }
-    ensures grows { Grows store.old store.new }
-{
-    let page = store.page;
-    let parts = tag_parts(alloc, &page[start..end])?;
-    put_name(store, alloc, start.saturating_add(2), parts.name)
 }
 
 /// The characters that a text says, which is read in this mode.
