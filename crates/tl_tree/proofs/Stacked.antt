@@ -1,8 +1,8 @@
 -- What single rules ask of a path of frames, and what they change in it.
 use Rattle.std.proofs.Common.{ap, arith, subst, sym, ◌∙◌, ◌≡◌, ◌+◌, ◌≤◌, ◌<◌, ◌++◌, ◌∷◌, [], Bool, List, None, Some, codes, cond, drop, false, get_or, length, nat_eq, refl, reverse, set, slice_get, suc, take, true, zero, ℕ}
-use Rattle.std.proofs.lemmas.List.{append-nil, drop_all, drop_more, get_or_default, reverse-append, take_all}
+use Rattle.std.proofs.lemmas.List.{append-nil, drop_all, drop_more, get_or_default, reverse-append}
 use Rattle.std.proofs.lemmas.List.Elements.{filter-append}
-use Rattle.tl_dom_spec.specs.Body.{body_number, earlier_item, from_html}
+use Rattle.tl_dom_spec.specs.Body.{body_number, from_html}
 use Rattle.tl_dom_spec.specs.Builder.{is_only}
 use Rattle.tl_dom_spec.specs.Path as dom
 use Rattle.tl_dom_spec.specs.Tags.{Tag, is_any}
@@ -10,11 +10,10 @@ use Rattle.tl_tree.proofs.Changed.{reverse-last}
 use Rattle.tl_tree.proofs.Grown.{grows_refl}
 use Rattle.tl_tree.proofs.Numbered.{changed-number}
 use Rattle.tl_tree.proofs.Popped.{path-top}
-use Rattle.tl_tree.proofs.Sought.{reverse-take}
 use Rattle.tl_tree.proofs.Written.{frame-at, frame-written, frames-length, path-length}
 use Rattle.tl_tree.specs.Inner.Framed.{numbers}
 use Rattle.tl_tree.specs.Inner.Frames.{changed, frame_of, frames_of, path_of}
-use Rattle.tl_tree.specs.Inner.Stack.{earlier, inner, opened_from, retagged, retagged_by}
+use Rattle.tl_tree.specs.Inner.Stack.{inner, opened_from, retagged, retagged_by}
 use Rattle.tl_tree.specs.Inner.Store.{Grows, tag_at}
 use Rattle.tl_tree.specs.declared.frame.Frame.{Frame}
 use Rattle.tl_tree.specs.declared.path.FramePath.{FramePath}
@@ -159,58 +158,3 @@ second-open p f g n m first second b e =
 pub several-open : (p : FramePath) (f g : dom.Frame) (n m : ℕ) → opened_from p 0 ≡ f ∷ opened_from p n → opened_from p n ≡ g ∷ opened_from p m → is_only (dom.elements (path_of p)) ≡ false
 several-open p f g n m first second =
     ap is_only (two-open p f g n m first second) ∙ several (reverse (opened_from p m)) g f
-
--- An item further out
-
-pub earlier-all : (test bounds : Tag → Bool) (p : FramePath) (n : ℕ) → n ≡ length p.frames.items → earlier_item test bounds (dom.elements (path_of p)) ≡ earlier test bounds p n
-unfolding earlier
-earlier-all test bounds p n e =
-    let many = frames-length p in
-    ap (λ frames. earlier_item test bounds (dom.elements (reverse frames))) (sym (take_all n (frames_of p) (omega arith)))
-
-pub earlier-none : (test bounds : Tag → Bool) (p : FramePath) → earlier test bounds p 0 ≡ None
-unfolding earlier
-earlier-none test bounds p = refl
-
--- what is around a frame
-abbrev around : FramePath → ℕ → List dom.Frame
-around p n = reverse (take n (frames_of p))
-
-earlier-from : (test bounds : Tag → Bool) (p : FramePath) (n : ℕ) (f : Frame) → f ≡ get_or p.frames.items n f → n < length p.frames.items → earlier test bounds p (n + 1) ≡ earlier_item test bounds (cond f.is_open (frame_of p.store f ∷ dom.elements (around p n)) (dom.elements (around p n)))
-unfolding earlier
-earlier-from test bounds p n f is h =
-    let many = frames-length p in
-    let next : n + 1 ≡ suc n = omega arith in
-    ap (λ i. earlier_item test bounds (dom.elements (reverse (take i (frames_of p))))) next
-    ∙ ap (λ path. earlier_item test bounds (dom.elements path))
-    (reverse-take (frames_of p) n (frame_of p.store f) (omega arith) ∙ ap (λ top. top ∷ around p n) (frame-at p n f is))
-
--- by three tests of the frame
-earlier-said : (test bounds : Tag → Bool) (p : FramePath) (n : ℕ) (f : Frame) (opened passes ends : Bool) → f ≡ get_or p.frames.items n f → n < length p.frames.items → f.is_open ≡ opened → test (tag_at p.store f.tag) ≡ passes → bounds (tag_at p.store f.tag) ≡ ends → earlier test bounds p (n + 1) ≡ cond opened (cond passes (Some (tag_at p.store f.tag)) (cond ends None (earlier test bounds p n))) (earlier test bounds p n)
-unfolding earlier
-earlier-said test bounds p n f opened passes ends is h a b c =
-    let tag = tag_at p.store f.tag in
-    let rest = dom.elements (around p n) in
-    earlier-from test bounds p n f is h
-    ∙ (ap (λ (x : Bool). earlier_item test bounds (cond x (frame_of p.store f ∷ rest) rest)) a
-    ∙ by opened)
-  where
-    by : (opened : Bool) → earlier_item test bounds (cond opened (frame_of p.store f ∷ dom.elements (around p n)) (dom.elements (around p n))) ≡ cond opened (cond passes (Some (tag_at p.store f.tag)) (cond ends None (earlier test bounds p n))) (earlier test bounds p n)
-    by true =
-        ap (λ (x : Bool). cond x (Some (tag_at p.store f.tag)) (cond (bounds (tag_at p.store f.tag)) None (earlier_item test bounds (dom.elements (around p n))))) b
-        ∙ ap (λ (x : Bool). cond passes (Some (tag_at p.store f.tag)) (cond x None (earlier_item test bounds (dom.elements (around p n))))) c
-    by false = refl
-
-pub earlier-closed : (test bounds : Tag → Bool) (p : FramePath) (n : ℕ) (f : Frame) → f ≡ get_or p.frames.items n f → n < length p.frames.items → f.is_open ≡ false → earlier test bounds p (n + 1) ≡ earlier test bounds p n
-earlier-closed test bounds p n f is h a =
-    earlier-said test bounds p n f false (test (tag_at p.store f.tag)) (bounds (tag_at p.store f.tag)) is h a refl refl
-
-pub earlier-found : (test bounds : Tag → Bool) (p : FramePath) (n : ℕ) (f : Frame) → f ≡ get_or p.frames.items n f → n < length p.frames.items → f.is_open ≡ true → test (tag_at p.store f.tag) ≡ true → earlier test bounds p (n + 1) ≡ Some (tag_at p.store f.tag)
-earlier-found test bounds p n f is h a b =
-    earlier-said test bounds p n f true true (bounds (tag_at p.store f.tag)) is h a b refl
-
-pub earlier-bound : (test bounds : Tag → Bool) (p : FramePath) (n : ℕ) (f : Frame) → f ≡ get_or p.frames.items n f → n < length p.frames.items → f.is_open ≡ true → test (tag_at p.store f.tag) ≡ false → bounds (tag_at p.store f.tag) ≡ true → earlier test bounds p (n + 1) ≡ None
-earlier-bound test bounds p n f is h a b c = earlier-said test bounds p n f true false true is h a b c
-
-pub earlier-on : (test bounds : Tag → Bool) (p : FramePath) (n : ℕ) (f : Frame) → f ≡ get_or p.frames.items n f → n < length p.frames.items → f.is_open ≡ true → test (tag_at p.store f.tag) ≡ false → bounds (tag_at p.store f.tag) ≡ false → earlier test bounds p (n + 1) ≡ earlier test bounds p n
-earlier-on test bounds p n f is h a b c = earlier-said test bounds p n f true false false is h a b c

@@ -183,14 +183,6 @@ impl<'a> Builder<'a> {
         self.reads = TextMode::Data;
     }
 
-    pub(crate) fn set_original(&mut self, mode: Mode)
-        ensures ok { builder_of self.new
-            ≡ record (builder_of self.old) { original = mode_of mode } }
-        ensures token { token_of self.new ≡ token_of self.old }
-    {
-        self.original = mode;
-    }
-
     /// Puts a mode on the stack of template insertion modes.
     pub(crate) fn push_template_mode(&mut self, mode: Mode) -> Result<(), GrowError>
         ensures ok { OnOk result (builder_of self.new

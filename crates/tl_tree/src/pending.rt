@@ -27,14 +27,6 @@ fn are_none(bytes: &[u8]) -> bool
 }
 
 impl<'a> Builder<'a> {
-    /// No byte is pending any more.
-    pub(crate) fn clear_pending(&mut self)
-        ensures ok { builder_of self.new ≡ record (builder_of self.old) { pending = [] } }
-        ensures token { token_of self.new ≡ token_of self.old }
-    {
-        self.pending.clear();
-    }
-
     // A byte more is pending.
     fn push_pending(&mut self, byte: u8) -> Result<(), GrowError>
         ensures ok { OnOk result (builder_of self.new

@@ -1,15 +1,14 @@
 //! What single rules ask of the stack of open elements, and what they change in it.
 ghost use Rattle.std.specs.Option.{option_map};
 ghost use Rattle.std.specs.Prelude.{IfSome, IsTrue, None, [], false, length, slice_index_or, true, ◌+◌, ◌<◌, ◌∷◌, ◌≡◌};
-ghost use Rattle.tl_dom_spec.specs.Body.{body_number, earlier_item, from_html};
+ghost use Rattle.tl_dom_spec.specs.Body.{body_number, from_html};
 ghost use Rattle.tl_dom_spec.specs.Builder.{is_only};
 ghost use Rattle.tl_dom_spec.specs.Path.{at_number, document, elements};
 ghost use Rattle.tl_dom_spec.specs.Path as dom;
-ghost use Rattle.tl_dom_spec.specs.Tags.{Tag, is_any};
+ghost use Rattle.tl_dom_spec.specs.Tags.{Tag};
 ghost use Rattle.tl_tree.specs.Inner.Frames.{changed, frames_of, path_of};
-ghost use Rattle.tl_tree.specs.Inner.Stack.{earlier, inner, opened_from, retagged, retagged_by};
+ghost use Rattle.tl_tree.specs.Inner.Stack.{inner, opened_from, retagged, retagged_by};
 ghost use Rattle.tl_tree.specs.Inner.Store.{is_tag_number, tag_at};
-ghost use Rattle.tl_tree.specs.Inner.Tests.{tag_test_of};
 
 use crate::frame::{Frame, Mark};
 use crate::path::FramePath;
@@ -122,53 +121,5 @@ impl<'a> FramePath<'a> {
             Some(_) => false,
             None => true,
         }
-    }
-
-    // What a search for an item says at a frame.
-    fn item_at(
-        &self,
-        index: usize,
-        names: &'static [u8],
-        bounds: TagTest<'_>,
-    ) -> Option<Option<u32>>
-        requires { index < length self.now.frames.items }
-        ensures some { IfSome result (λ found.
-            earlier (is_any names.now) (tag_test_of bounds.entry) self.now (index + 1)
-            ≡ option_map (tag_at self.now.store) found) }
-        ensures none { result ≡ None
-            → earlier (is_any names.now) (tag_test_of bounds.entry) self.now (index + 1)
-            ≡ earlier (is_any names.now) (tag_test_of bounds.entry) self.now index }
-        ensures within { IfSome result
-            (λ found. IfSome found (λ tag. IsTrue (is_tag_number self.now.store tag))) }
-    {
-        let frame = self.frames[index];
-        if !frame.is_open {
-            return None;
-        }
-        if TagTest::Any(names).passes(&self.store, frame.tag) {
-            return Some(Some(frame.tag));
-        }
-        if bounds.passes(&self.store, frame.tag) {
-            return Some(None);
-        }
-        None
-    }
-
-    /// The tag of the innermost element of one of these names, up to one that passes the bounds.
-    pub(crate) fn earlier_item(&self, names: &'static [u8], bounds: TagTest<'_>) -> Option<u32>
-        ensures stands { option_map (tag_at self.now.store) result
-            ≡ earlier_item (is_any names.now) (tag_test_of bounds.entry)
-            (elements (path_of self.now)) }
-        ensures within { IfSome result (λ tag. IsTrue (is_tag_number self.now.store tag)) }
-    {
-        let mut index = self.frames.len();
-        while index > 0 {
-            index -= 1;
-            match self.item_at(index, names, bounds) {
-                Some(found) => return found,
-                None => {}
-            }
-        }
-        None
     }
 }

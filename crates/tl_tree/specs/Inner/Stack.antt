@@ -1,6 +1,5 @@
 -- What single rules ask of a path of frames, and what they change in it.
-use Rattle.std.specs.Prelude.{Bool, List, Option, [], drop, reverse, take, ℕ, ◌∷◌}
-use Rattle.tl_dom_spec.specs.Body.{earlier_item}
+use Rattle.std.specs.Prelude.{List, [], drop, ℕ, ◌∷◌}
 use Rattle.tl_dom_spec.specs.Path.{Frame, Path, elements}
 use Rattle.tl_dom_spec.specs.Tags.{Tag}
 use Rattle.tl_tree.specs.Inner.Frames.{frames_of}
@@ -21,7 +20,3 @@ inner (f ∷ path) = path
 -- the open frames behind so many of the outermost
 unfoldable pub opened_from : FramePath → ℕ → List Frame
 opened_from p n = elements (drop n (frames_of p))
-
--- what a search for an item through so many of the outermost frames says
-unfoldable pub earlier : (Tag → Bool) → (Tag → Bool) → FramePath → ℕ → Option Tag
-earlier test bounds p n = earlier_item test bounds (elements (reverse (take n (frames_of p))))
