@@ -1,6 +1,6 @@
 //! Pages, and the trees that are read of them.
 use std::alloc::Global;
-use tl_tree::{Flags, Tree};
+use tl_tree::{Flags, Kind, Namespace, Tree};
 
 // A page, what its nodes say in order (a name or a text), and where what is below each one ends.
 #[rattlefmt::skip]
@@ -42,12 +42,13 @@ fn are(tree: &Tree<'_>, nodes: &[&[u8]], ends: &[usize]) -> bool {
     true
 }
 
+static STANDARD: Flags = Flags {
+    is_scripting: false,
+    counts_search: true,
+};
+
 fn is_read(alloc: Global, page: &[u8], nodes: &[&[u8]], ends: &[usize]) -> bool {
-    let flags = Flags {
-        is_scripting: false,
-        counts_search: true,
-    };
-    match Tree::read(alloc, page, flags) {
+    match Tree::read(alloc, page, STANDARD) {
         Ok(tree) => are(&tree, nodes, ends),
         Err(_) => false,
     }
@@ -58,4 +59,36 @@ fn trees_are_read(rt: HostRuntime) {
     for (page, nodes, ends) in &ROWS {
         assert!(rt; is_read(rt.alloc(), page, nodes, ends));
     }
+}
+
+// Of a doctype, `html`, `head`, `body`, and in that a `p` with a text and an `svg`.
+static PAGE: &[u8] = b"<!DOCTYPE html><p>a<svg>";
+
+fn stands_in_place(tree: &Tree<'_>) -> bool {
+    tree.parent(5) == Some(4)
+        && tree.first_child(4) == Some(5)
+        && tree.next_sibling(5) == Some(6)
+        && tree.is_below(6, 3)
+        && !tree.is_below(3, 6)
+}
+
+fn is_what_it_is(tree: &Tree<'_>) -> bool {
+    !tree.is_empty()
+        && !tree.is_quirks()
+        && tree.kind(0) == Some(Kind::Doctype)
+        && tree.kind(5) == Some(Kind::Text)
+        && tree.namespace(6) == Some(Namespace::Svg)
+        && tree.kind(7) == None
+}
+
+fn is_asked(alloc: Global) -> bool {
+    match Tree::read(alloc, PAGE, STANDARD) {
+        Ok(tree) => stands_in_place(&tree) && is_what_it_is(&tree),
+        Err(_) => false,
+    }
+}
+
+#[test]
+fn nodes_are_asked(rt: HostRuntime) {
+    assert!(rt; is_asked(rt.alloc()));
 }
