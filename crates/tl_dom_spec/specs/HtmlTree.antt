@@ -171,3 +171,8 @@ is_in_proportion_by flags page = is_little (page_read flags page).excess
 
 abbrev pub is_in_proportion : List ℕ → Bool
 is_in_proportion page = is_in_proportion_by standard page
+
+-- the same of a text in a context element
+abbrev pub is_fragment_in_proportion_by : Flags → Context → List ℕ → Bool
+is_fragment_in_proportion_by flags context bytes =
+    is_little (fragment_read flags context bytes).excess

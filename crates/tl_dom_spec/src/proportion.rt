@@ -1,8 +1,9 @@
 //! Worked rows: trees in proportion to their pages, and tokens alone.
 
 ghost use Rattle.std.specs.Prelude.{◌≡◌, codes, false, true};
-ghost use Rattle.tl_dom_spec.specs.Examples.{added, excess, tokens_inside, tokens_page};
-ghost use Rattle.tl_dom_spec.specs.HtmlTree.{is_in_proportion, is_little};
+ghost use Rattle.tl_dom_spec.specs.Examples.{added, context_named, excess, tokens_inside, tokens_page};
+ghost use Rattle.tl_dom_spec.specs.HtmlTree.{is_fragment_in_proportion_by, is_in_proportion, is_little, standard};
+ghost use Rattle.tl_dom_spec.specs.Tags.{html_space};
 
 /// Elements that no start tag stands for.
 pub fn elements_added()
@@ -24,6 +25,8 @@ pub fn proportion()
     ensures most { is_little 65536 ≡ true }
     ensures too_many { is_little 65537 ≡ false }
     ensures small_page { is_in_proportion (codes "<p>") ≡ true }
+    ensures small_fragment { is_fragment_in_proportion_by standard (context_named html_space "p")
+        (codes "<p>") ≡ true }
 {}
 
 /// Tokens that were read by names alone.
