@@ -115,26 +115,26 @@ outer-same p own n found h is =
 
 -- The path of a round
 
-pub path-adopted : (p q r t : FramePath) (is_fostering : Bool) (own : Listed) (n m next : ℕ) (clones : Path) (entries : List dom.Entry) (found : Option ℕ) → n < length p.frames.items → m ≡ n + length clones → frames_of q ≡ with_clones n clones (frames_of p) → frames_of r ≡ take m (frames_of q) ++ renewed next own.tag (drop m (frames_of q)) → frames_of t ≡ with_outer is_fostering (popped_while (is_inside found) (reverse (take n (frames_of r)))) (drop n (frames_of r)) → found ≡ number_of (first (elements (outside_of own.number (path_of p)))) → path_of t ≡ adopted_path is_fostering own (frame_at p n) (record { frames = clones; entries = entries; next = next }) (outer_in own (frame_at p n) (path_of p)) (path_of p)
-path-adopted p q r t is_fostering own n m next clones entries found h is-m first second third is-found =
+pub path-adopted : (p q t : FramePath) (is_fostering : Bool) (own : Listed) (n m next : ℕ) (clones : Path) (entries : List dom.Entry) (found : Option ℕ) (rs : List Frame) → n < length p.frames.items → m ≡ n + length clones → frames_of q ≡ with_clones n clones (frames_of p) → rs ≡ take m (frames_of q) ++ renewed next own.tag (drop m (frames_of q)) → frames_of t ≡ with_outer is_fostering (popped_while (is_inside found) (reverse (take n rs))) (drop n rs) → found ≡ number_of (first (elements (outside_of own.number (path_of p)))) → path_of t ≡ adopted_path is_fostering own (frame_at p n) (record { frames = clones; entries = entries; next = next }) (outer_in own (frame_at p n) (path_of p)) (path_of p)
+path-adopted p q t is_fostering own n m next clones entries found rs h is-m first second third is-found =
     let frames = frames_of p in
     let block = frame_at p n in
     let ys = drop (suc n) frames in
     let many = frames-length p in
     let done : List Frame → List Frame = λ fs. take m fs ++ renewed next own.tag (drop m fs) in
     let parts = renewed-parts n m clones frames next own.tag (omega arith) is-m in
-    let at : frames_of r ≡ done (with_clones n clones frames) = second ∙ ap done first in
+    let at : rs ≡ done (with_clones n clones frames) = second ∙ ap done first in
     let outer = outer_in own block (path_of p) in
-    let is-outer : popped_while (is_inside found) (reverse (take n (frames_of r))) ≡ outer =
+    let is-outer : popped_while (is_inside found) (reverse (take n rs)) ≡ outer =
     ap (λ fs. popped_while (is_inside found) (reverse fs)) (ap (take n) at ∙ parts.0) ∙ outer-same p own n found h is-found in
     let back : drop n frames ≡ block ∷ ys = drop-cons frames n document (omega arith) in
-    let is-inner : drop n (frames_of r) ≡ reverse clones ++ renewed next own.tag (block ∷ ys) =
+    let is-inner : drop n rs ≡ reverse clones ++ renewed next own.tag (block ∷ ys) =
     ap (drop n) at ∙ (parts.1 ∙ ap (λ fs. reverse clones ++ renewed next own.tag fs) back) in
     let place = place_in is_fostering outer in
     let change = moved block.number next in
     let inside : moved_into block.number next (reverse ys) ≡ reverse (map change ys) = map-reverse change ys in
     ap reverse third
-    ∙ (ap (λ out. reverse (with_outer is_fostering out (drop n (frames_of r)))) is-outer
+    ∙ (ap (λ out. reverse (with_outer is_fostering out (drop n rs))) is-outer
     ∙ (ap (λ fs. reverse (with_outer is_fostering outer fs)) is-inner
     ∙ (adopted-seen place outer clones (map change ys) (emptied block) (filled next own.tag block)
     ∙ ap (λ front. front ++ (filled next own.tag block ∷ (outermost_at place (emptied block ∷ clones) ++ outer)))

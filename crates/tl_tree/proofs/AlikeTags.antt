@@ -1,5 +1,5 @@
 -- Attributes of two tags, looked at one after the other.
-use Rattle.std.proofs.Common.{ap, arith, sym, ◌∙◌, ◌≡◌, ◌+◌, ◌≤◌, ◌<◌, ◌&&◌, ◌||◌, ◌∷◌, [], Bool, IsTrue, List, drop, false, get_or, length, map, nat_eq, nat_le, suc, true, zero, ℕ}
+use Rattle.std.proofs.Common.{ap, arith, sym, ◌∙◌, ◌≡◌, ◌+◌, ◌≤◌, ◌<◌, ◌&&◌, ◌||◌, ◌∷◌, [], Bool, IsTrue, List, drop, false, get_or, length, map, nat_eq, nat_le, suc, take, true, zero, ℕ}
 use Rattle.std.proofs.Math.Bool.{or-true}
 use Rattle.std.proofs.lemmas.Bool.{and_parts, and_right, leb-true}
 use Rattle.std.proofs.lemmas.List.{length-drop, length-map, length-take}
@@ -8,8 +8,7 @@ use Rattle.std.specs.Str.{bytes_eq}
 use Rattle.tl_dom_spec.specs.Formatting.{is_alike, is_same_attribute}
 use Rattle.tl_dom_spec.specs.Tags as tags
 use Rattle.tl_tree.proofs.Listed.{all-drop, all-take}
-use Rattle.tl_tree.proofs.Written.{all-at}
-use Rattle.tl_tree.specs.Inner.Store.{attribute_of, bytes_of, entries_of, is_attribute, is_span, is_tag, tag_at, tag_of}
+use Rattle.tl_tree.specs.Inner.Store.{attribute_of, bytes_of, entries_of, is_attribute, is_span, is_tag, list_in, tag_at, tag_of}
 use Rattle.tl_tree.specs.declared.entries.AttributeEntry.{AttributeEntry}
 use Rattle.tl_tree.specs.declared.entries.TagEntry.{TagEntry}
 use Rattle.tl_tree.specs.declared.store.Store.{Store}
@@ -26,32 +25,40 @@ all-missed f g (y ∷ xs) zero d h own = ap (λ b. b && list_all f (map g xs)) o
 all-missed f g (y ∷ xs) (suc i) d h own =
     and_right (f (g y)) (list_all f (map g xs)) (all-missed f g xs i d (omega arith) own)
 
+-- one more of a front
+pub all-next : {A B : Type 0} (f : B → Bool) (g : A → B) (xs : List A) (i : ℕ) (d : A) → i < length xs → list_all f (map g (take i xs)) ≡ true → f (g (get_or xs i d)) ≡ true → list_all f (map g (take (suc i) xs)) ≡ true
+all-next f g [] i d h front own = absurd (omega arith)
+all-next f g (y ∷ xs) zero d h front own = ap (λ b. b && true) own
+all-next f g (y ∷ xs) (suc i) d h front own =
+    let parts = and_parts (f (g y)) (list_all f (map g (take i xs))) front in
+    ap (λ b. b && list_all f (map g (take (suc i) xs))) parts.0 ∙ all-next f g xs i d (omega arith) parts.1 own
+
 -- what is known of a tag
 
 pub record TagParts (s : Store) (t : TagEntry) : Type 0 where
   pub name : IsTrue (is_span s t.name)
-  pub attributes : t.first_attribute + t.attribute_count ≤ length s.attributes.items
+  pub attributes : t.first_attribute + t.attribute_count ≤ length (list_in s t.list)
 
 pub tag-parts : (s : Store) (t : TagEntry) → IsTrue (is_tag s t) → TagParts s t
 tag-parts s t h =
     let last = t.first_attribute + t.attribute_count in
-    let p = and_parts (is_span s t.name) (nat_le last (length s.attributes.items)) h in
-    record { name = p.0; attributes = leb-true last (length s.attributes.items) p.1 }
+    let p = and_parts (is_span s t.name) (nat_le last (length (list_in s t.list))) h in
+    record { name = p.0; attributes = leb-true last (length (list_in s t.list)) p.1 }
 
-pub attribute-within : (s : Store) (t : TagEntry) (i : ℕ) (a : AttributeEntry) → i < length (entries_of s t) → a ≡ get_or (entries_of s t) i a → IsTrue (is_attribute s a)
-attribute-within s t i a h is =
-    all-at (is_attribute s) (entries_of s t) i a a is h
-    (all-take (is_attribute s) t.attribute_count (drop t.first_attribute s.attributes.items)
-    (all-drop (is_attribute s) t.first_attribute s.attributes.items s.attributes_within))
+pub entries-within : (s : Store) (t : TagEntry) → IsTrue (list_all (is_attribute s) (entries_of s t))
+entries-within s t =
+    all-take (is_attribute s) t.attribute_count (drop t.first_attribute (list_in s t.list))
+    (all-drop (is_attribute s) t.first_attribute (list_in s t.list) (s.attributes_within t.list))
+
+pub entries-long : (s : Store) (t : TagEntry) → IsTrue (is_tag s t) → length (entries_of s t) ≡ t.attribute_count
+entries-long s t h =
+    let within = (tag-parts s t h).attributes in
+    let behind = length-drop t.first_attribute (list_in s t.list) in
+    let least = length-take t.attribute_count (drop t.first_attribute (list_in s t.list)) in
+    omega arith
 
 pub attribute-count : (s : Store) (t : TagEntry) → IsTrue (is_tag s t) → length (map (attribute_of s) (entries_of s t)) ≡ t.attribute_count
-attribute-count s t h =
-    let parts = tag-parts s t h in
-    let within = parts.attributes in
-    let behind = length-drop t.first_attribute s.attributes.items in
-    let least = length-take t.attribute_count (drop t.first_attribute s.attributes.items) in
-    let all = length-map (entries_of s t) (attribute_of s) in
-    omega arith
+attribute-count s t h = length-map (entries_of s t) (attribute_of s) ∙ entries-long s t h
 
 abbrev pub have_same : Store → TagEntry → TagEntry → Bool
 have_same s a b =

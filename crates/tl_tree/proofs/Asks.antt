@@ -1,19 +1,24 @@
 -- What is asked of rows.
-use Rattle.std.proofs.Common.{IsTrue, List, None, Option, Some, ap, arith, false, get_or, length, nat_lt, refl, slice_get, subst, sym, true, ℕ, ◌<◌, ◌∙◌, ◌≡◌, ◌↔◌}
+use Rattle.std.proofs.Common.{IsTrue, List, None, Option, Some, [], ap, arith, false, get_or, length, nat_lt, refl, slice_get, subst, sym, true, ℕ, ◌<◌, ◌∙◌, ◌≡◌, ◌↔◌}
 use Rattle.std.proofs.lemmas.Bool.{lt-ltb, ltb-true}
 use Rattle.std.proofs.lemmas.Option.{none-some, same_Some, slice_get-map, slice_get_read}
-use Rattle.std.specs.Option.{option_and_then, option_map}
+use Rattle.std.specs.Option.{option_and_then, option_copied, option_map, unwrap_or}
+use Rattle.tl_dom_spec.specs.Tags as dom
 use Rattle.tl_tree.proofs.Seats.{all-get}
 use Rattle.tl_tree.proofs.Templates.{tag-is}
-use Rattle.tl_tree.specs.Asked.{end_at, name_of, namespace_by, namespace_of, node_at}
+use Rattle.tl_tree.specs.Asked.{attributes_at, attributes_of, doctype_of as asked_doctype, doctype_said, end_at, name_of, namespace_by, namespace_of, node_at}
 use Rattle.tl_tree.specs.Inner.RowView.{bytes_in, held_in, held_is_within, row_in, row_is_within}
-use Rattle.tl_tree.specs.Inner.Store.{bytes_of, sizes_of, space_of, tag_of, text_of}
+use Rattle.tl_tree.specs.Inner.Said.{attributes_in}
+use Rattle.tl_tree.specs.Inner.Store.{bytes_of, doctype_at, doctype_of, entries_of, sizes_of, space_of, tag_at, tag_of, text_of}
 use Rattle.tl_tree.specs.Rows.{IsInRange, Row, an_element}
 use Rattle.tl_tree.specs.TreeView.{rows_in}
+use Rattle.tl_tree.specs.declared.doctype.Doctype.{Doctype}
+use Rattle.tl_tree.specs.declared.entries.AttributeEntry.{AttributeEntry}
+use Rattle.tl_tree.specs.declared.entries.DoctypeEntry.{DoctypeEntry}
 use Rattle.tl_tree.specs.declared.entries.Namespace.{Namespace}
 use Rattle.tl_tree.specs.declared.entries.Namespace.TheVariants.{Html, Math, Svg}
 use Rattle.tl_tree.specs.declared.entries.TagEntry.{TagEntry}
-use Rattle.tl_tree.specs.declared.row.Held.TheVariants.{Element}
+use Rattle.tl_tree.specs.declared.row.Held.TheVariants.{Doctype as HeldDoctype, Element}
 use Rattle.tl_tree.specs.declared.row.Row as code
 use Rattle.tl_tree.specs.declared.store.Store.{Store}
 use Rattle.tl_tree.specs.declared.tree.Tree.{Tree}
@@ -53,11 +58,16 @@ tag-named : (s : Store) (entry : TagEntry) → (tag_of s entry).name ≡ bytes_i
 unfolding tag_of bytes_of
 tag-named s entry = refl
 
+-- a row that was found
+row-found : (t : Tree) (number : ℕ) (items : List code.Row) (row : code.Row) → items ≡ t.rows.items → true ≡ nat_lt number (length items) → row ≡ get_or items number row → slice_get t.rows.items number ≡ Some row
+row-found t number items row same below got =
+    subst (λ v. slice_get v number ≡ Some row) same (slice_get_read items (length items) number row refl (ltb-true number (length items) (sym below)) got)
+
 -- the element of a row that was found
 element-found : (t : Tree) (number tag : ℕ) (items : List code.Row) (row : code.Row) (entry : TagEntry) → items ≡ t.rows.items → true ≡ nat_lt number (length items) → row ≡ get_or items number row → row.held ≡ Element tag → entry ≡ get_or t.store.tags.items tag entry → node_at (rows_in t) number ≡ Some (an_element (tag_of t.store entry))
 element-found t number tag items row entry same below got held e =
     let s = t.store in
-    let at : slice_get t.rows.items number ≡ Some row = subst (λ v. slice_get v number ≡ Some row) same (slice_get_read items (length items) number row refl (ltb-true number (length items) (sym below)) got) in
+    let at = row-found t number items row same below got in
     let within = all-get (row_is_within (sizes_of s)) t.rows.items number row t.rows_within at in
     let counts : IsTrue (nat_lt tag (length s.tags.items)) = subst (λ v. IsTrue (held_is_within (sizes_of s) v)) held within in
     node-held t number row at ∙ (ap (λ v. Some (held_in s (text_of s) v)) held ∙ ap (λ v. Some (an_element v)) (tag-is s tag entry counts e))
@@ -78,3 +88,28 @@ namespace-back Svg = refl
 pub namespace-found : (t : Tree) (number tag : ℕ) (items : List code.Row) (row : code.Row) (entry : TagEntry) → items ≡ t.rows.items → true ≡ nat_lt number (length items) → row ≡ get_or items number row → row.held ≡ Element tag → entry ≡ get_or t.store.tags.items tag entry → Some entry.space ≡ option_and_then namespace_of (node_at (rows_in t) number)
 namespace-found t number tag items row entry same below got held e =
     sym (ap (option_and_then namespace_of) (element-found t number tag items row entry same below got held e) ∙ ap (λ v. Some v) (ap namespace_by (tag-spaced t.store entry) ∙ namespace-back entry.space))
+
+-- Attributes
+
+tag-attributes : (s : Store) (entry : TagEntry) → (tag_of s entry).attributes ≡ attributes_in s (entries_of s entry)
+unfolding tag_of
+tag-attributes s entry = refl
+
+pub attributes-found : (t : Tree) (number tag : ℕ) (items : List code.Row) (row : code.Row) (entry : TagEntry) (entries : List AttributeEntry) → items ≡ t.rows.items → true ≡ nat_lt number (length items) → row ≡ get_or items number row → row.held ≡ Element tag → tag_of t.store entry ≡ tag_at t.store tag → entries ≡ entries_of t.store entry → attributes_in t.store entries ≡ attributes_at (rows_in t) number
+attributes-found t number tag items row entry entries same below got held e is =
+    let s = t.store in
+    let at = row-found t number items row same below got in
+    ap (attributes_in s) is ∙ (sym (tag-attributes s entry) ∙ (ap (λ (own : dom.Tag). own.attributes) e
+    ∙ sym (ap (λ o. unwrap_or (option_map attributes_of o) []) (node-held t number row at ∙ ap (λ v. Some (held_in s (text_of s) v)) held))))
+
+-- A doctype
+
+pub doctype-found : (t : Tree) (number own : ℕ) (items : List code.Row) (row : code.Row) (entry : DoctypeEntry) (said : Doctype) → items ≡ t.rows.items → true ≡ nat_lt number (length items) → row ≡ get_or items number row → row.held ≡ HeldDoctype own → doctype_of t.store entry ≡ doctype_at t.store own → doctype_said said ≡ doctype_of t.store entry → Some (doctype_said said) ≡ option_and_then asked_doctype (node_at (rows_in t) number)
+doctype-found t number own items row entry said same below got held e is =
+    let s = t.store in
+    let at = row-found t number items row same below got in
+    sym (ap (option_and_then asked_doctype) (node-held t number row at ∙ ap (λ v. Some (held_in s (text_of s) v)) held) ∙ ap (λ v. Some v) (sym e ∙ sym is))
+
+pub doctype-parts : (s : Store) (entry : DoctypeEntry) (said : Doctype) → said.name.now ≡ bytes_of s entry.name → option_copied said.public_id ≡ option_map (bytes_of s) entry.public_id → option_copied said.system_id ≡ option_map (bytes_of s) entry.system_id → said.forces_quirks ≡ entry.forces_quirks → doctype_said said ≡ doctype_of s entry
+unfolding doctype_of
+doctype-parts s entry said name public system quirks = cc

@@ -22,6 +22,7 @@ use Rattle.tl_tree.specs.Inner.Store.{Grows, bytes_of, doctype_at, sizes_of, tag
 use Rattle.tl_tree.specs.declared.active.ActiveList.{ActiveList}
 use Rattle.tl_tree.specs.declared.builder.Builder.{Builder}
 use Rattle.tl_tree.specs.declared.cell.Node.TheVariants.{Text}
+use Rattle.tl_tree.specs.declared.entries.AttributeList.TheVariants.{Tags}
 use Rattle.tl_tree.specs.declared.entries.Namespace.TheVariants.{Html}
 use Rattle.tl_tree.specs.declared.frame.Frame.{Frame}
 use Rattle.tl_tree.specs.declared.path.FramePath.{FramePath}
@@ -142,7 +143,7 @@ on-ok-is (Ok own) x a b e is = is ∙ e
 on-ok-is (Err own) x a b e is = is
 
 -- a tag without attributes
-pub bare-tag-of : (s : Store) (name : Span) → tag_of s (record { space = Html; name = name; known = 0; first_attribute = 0; attribute_count = 0 }) ≡ tags.bare_tag (bytes_of s name)
+pub bare-tag-of : (s : Store) (name : Span) → tag_of s (record { space = Html; name = name; known = 0; list = Tags; first_attribute = 0; attribute_count = 0 }) ≡ tags.bare_tag (bytes_of s name)
 unfolding tag_of
 bare-tag-of s name = refl
 

@@ -1,27 +1,29 @@
 -- Words in their case, and the attributes and tags that are put in with them.
 use Rattle.std.proofs.Common.{add-one, ap, arith, drop-cons, inl, inr, refl, subst, sym, ◌∙◌, ◌≡◌, ◌+◌, ◌-◌, ◌<◌, ◌≤◌, ◌++◌, ◌&&◌, ◌||◌, ◌∷◌, [], Bool, IsTrue, List, drop, false, get_or, if◌then◌else◌, length, length-append, length-drop, map, nat_le, suc, take, true, ℕ}
-use Rattle.std.proofs.Math.ListN.{get_or-append}
 use Rattle.std.proofs.Math.Seq.{take-suc}
 use Rattle.std.proofs.lemmas.Bool.{and_from, and_parts, cond-false, cond-true, or_cases}
 use Rattle.std.proofs.lemmas.Cmp.{nat_list_eq_equiv}
-use Rattle.std.proofs.lemmas.List.{drop-append-le, drop-drop, drop-take, get_or-drop, get_or-take, length-take-le, map-append, take_all}
+use Rattle.std.proofs.lemmas.List.{drop-append-le, drop-drop, drop-take, length-take-le, map-append, take_all}
 use Rattle.std.specs.Borrow.{Bor}
 use Rattle.std.specs.Char.{to_ascii_lowercase}
 use Rattle.std.specs.Str.{bytes_eq}
 use Rattle.tl_dom_spec.specs.Adjusted.{cased, foreign_attribute, foreign_key, foreign_tag, prefixed}
 use Rattle.tl_dom_spec.specs.Tags as dom
 use Rattle.tl_names.specs.Elements.{words_of}
-use Rattle.tl_tree.proofs.AlikeTags.{name-at, tag-parts}
-use Rattle.tl_tree.proofs.Grown.{attribute-grown, bytes-grown, tag-grown}
+use Rattle.tl_tree.proofs.AlikeTags.{entries-long, entries-within, name-at, tag-parts}
+use Rattle.tl_tree.proofs.Grown.{attribute-grown, bytes-grown, entries-kept, tag-grown}
 use Rattle.tl_tree.proofs.Listed.{all-drop, begins-longer}
 use Rattle.tl_tree.proofs.SaidTags.{attributes-same}
 use Rattle.tl_tree.proofs.Within.{le-more, or-left, or-right, span-bound}
 use Rattle.tl_tree.proofs.Written.{all-at}
 use Rattle.tl_tree.specs.Inner.Foreign.{own_name, renamed, spaced}
+use Rattle.tl_tree.specs.Inner.Lists.{in_list}
 use Rattle.tl_tree.specs.Inner.Said.{attributes_in}
-use Rattle.tl_tree.specs.Inner.Store.{Grows, attribute_of, attribute_space_of, bytes_of, entries_of, is_attribute, is_span, is_tag, space_of, tag_at, tag_of, text_of}
+use Rattle.tl_tree.specs.Inner.Store.{Grows, attribute_of, attribute_space_of, bytes_of, entries_of, is_attribute, is_span, is_tag, list_in, space_of, tag_at, tag_of, text_of}
 use Rattle.tl_tree.specs.declared.entries.AttributeEntry.{AttributeEntry}
+use Rattle.tl_tree.specs.declared.entries.AttributeList.TheVariants.{Tags}
 use Rattle.tl_tree.specs.declared.entries.AttributeSpace.{AttributeSpace}
+use Rattle.tl_tree.specs.declared.entries.AttributeSpace.TheVariants.{Plain}
 use Rattle.tl_tree.specs.declared.entries.Namespace.{Namespace}
 use Rattle.tl_tree.specs.declared.entries.TagEntry.{TagEntry}
 use Rattle.tl_tree.specs.declared.span.Span.{Span}
@@ -89,57 +91,64 @@ attribute-put s u g own h space key is put n le bytes read prefix =
     ∙ (ap (λ (k : List ℕ). prefixed (spaced (attribute_space_of own.space) 0 k (bytes_of u own.value))) (read ∙ is)
     ∙ ap (λ (v : List ℕ). prefixed (spaced (attribute_space_of own.space) 0 (foreign_key space (bytes_of s own.key)) v)) (bytes-grown s u g own.value p.1)))
 
+abbrev pub no_entry : AttributeEntry
+no_entry = record { space = Plain; key = record { start = 0; len = 0 }; value = record { start = 0; len = 0 } }
+
+entries-at : (o s : Store) → Grows o s → (tag : TagEntry) → IsTrue (is_tag o tag) → (items : List AttributeEntry) → items ≡ entries_of s tag → items ≡ entries_of o tag
+entries-at o s before tag within items is = is ∙ entries-kept o s before tag (tag-parts o tag within).attributes
+
+-- an attribute of a tag, read from a store that begins with that of the tag
+pub entry-within : (o s : Store) → Grows o s → (tag : TagEntry) → IsTrue (is_tag o tag) → (items : List AttributeEntry) → items ≡ entries_of s tag → (i : ℕ) → i < tag.attribute_count → IsTrue (is_attribute o (get_or items i no_entry))
+entry-within o s before tag within items is i h =
+    let same = entries-at o s before tag within items is in
+    let long = entries-long o tag within in
+    all-at (is_attribute o) (entries_of o tag) i (get_or items i no_entry) no_entry (ap (λ xs. get_or xs i no_entry) same) (omega arith) (entries-within o tag)
+
 -- one attribute more, that of a tag at a place
 pub attributes-put : (o s t u : Store) → Grows o s → Grows s u → Grows t u → (tag : TagEntry) → IsTrue (is_tag o tag) → (i : ℕ) → i < tag.attribute_count → (f : dom.Attribute → dom.Attribute) →
-    attributes_in s (drop (length o.attributes.items) s.attributes.items) ≡ map f (attributes_in o (take i (entries_of o tag))) →
-    (a : AttributeEntry) → a ≡ get_or s.attributes.items (tag.first_attribute + i) a → (put : AttributeEntry) → IsTrue (is_attribute t put) → attribute_of t put ≡ f (attribute_of s a) →
-    t.attributes.items ≡ s.attributes.items → u.attributes.items ≡ t.attributes.items ++ put ∷ [] →
-    attributes_in u (drop (length o.attributes.items) u.attributes.items) ≡ map f (attributes_in o (take (i + 1) (entries_of o tag)))
-attributes-put o s t u before g more tag within i h f stands a is put put_within put_is same added =
-    let front = o.attributes.items in
-    let n = length front in
-    let longer = begins-longer front s.attributes.items before.attributes in
-    let parts = (tag-parts o tag within).attributes in
-    let rest = drop n s.attributes.items in
-    let many = length-drop tag.first_attribute front in
-    let long = length-take-le tag.attribute_count (drop tag.first_attribute front) (omega arith) in
-    let here : i < length (entries_of o tag) = omega arith in
+    attributes_in s (drop (length (list_in o Tags)) (list_in s Tags)) ≡ map f (attributes_in o (take i (entries_of o tag))) →
+    (items : List AttributeEntry) → items ≡ entries_of s tag → (put : AttributeEntry) → IsTrue (is_attribute t put) → attribute_of t put ≡ f (attribute_of s (get_or items i no_entry)) →
+    t.attributes ≡ s.attributes → list_in u Tags ≡ list_in t Tags ++ put ∷ [] →
+    attributes_in u (drop (length (list_in o Tags)) (list_in u Tags)) ≡ map f (attributes_in o (take (i + 1) (entries_of o tag)))
+attributes-put o s t u before g more tag within i h f stands items is put put_within put_is same added =
+    let n = length (list_in o Tags) in
+    let longer = begins-longer (list_in o Tags) (list_in s Tags) before.attributes in
+    let rest = drop n (list_in s Tags) in
+    let here = entries-long o tag within in
+    let at : i < length (entries_of o tag) = omega arith in
     let next : i + 1 ≡ suc i = omega arith in
-    let at : a ≡ get_or front (tag.first_attribute + i) a =
-    is ∙ (ap (λ xs. get_or xs (tag.first_attribute + i) a) before.attributes ∙ get_or-append front rest a (tag.first_attribute + i) (omega arith)) in
-    let own : get_or (entries_of o tag) i a ≡ a =
-    get_or-take tag.attribute_count (drop tag.first_attribute front) i a h
-    ∙ (get_or-drop tag.first_attribute front i a ∙ sym at) in
+    let a = get_or items i no_entry in
+    let own : a ≡ get_or (entries_of o tag) i no_entry = ap (λ xs. get_or xs i no_entry) (entries-at o s before tag within items is) in
     let read : attribute_of s a ≡ attribute_of o a =
-    attribute-grown o s before a (all-at (is_attribute o) front (tag.first_attribute + i) a a at (omega arith) o.attributes_within) in
-    let left : attributes_in u (drop n u.attributes.items) ≡ attributes_in s rest ++ f (attribute_of o a) ∷ [] =
-    ap (λ xs. attributes_in u (drop n xs)) (added ∙ ap (λ xs. xs ++ put ∷ []) same)
-    ∙ (ap (attributes_in u) (drop-append-le n s.attributes.items (put ∷ []) longer)
+    attribute-grown o s before a (entry-within o s before tag within items is i h) in
+    let left : attributes_in u (drop n (list_in u Tags)) ≡ attributes_in s rest ++ f (attribute_of o a) ∷ [] =
+    ap (λ xs. attributes_in u (drop n xs)) (added ∙ ap (λ lists. in_list lists Tags ++ put ∷ []) same)
+    ∙ (ap (attributes_in u) (drop-append-le n (list_in s Tags) (put ∷ []) longer)
     ∙ (map-append (attribute_of u) rest (put ∷ [])
-    ∙ (ap (λ xs. xs ++ attribute_of u put ∷ []) (attributes-same s u g rest (all-drop (is_attribute s) n s.attributes.items s.attributes_within))
+    ∙ (ap (λ xs. xs ++ attribute_of u put ∷ []) (attributes-same s u g rest (all-drop (is_attribute s) n (list_in s Tags) (s.attributes_within Tags)))
     ∙ ap (λ (x : dom.Attribute). attributes_in s rest ++ x ∷ []) (attribute-grown t u more put put_within ∙ (put_is ∙ ap f read))))) in
     let right : map f (attributes_in o (take (i + 1) (entries_of o tag))) ≡ map f (attributes_in o (take i (entries_of o tag))) ++ f (attribute_of o a) ∷ [] =
     ap (λ (k : ℕ). map f (attributes_in o (take k (entries_of o tag)))) next
-    ∙ (ap (λ xs. map f (attributes_in o xs)) (take-suc (entries_of o tag) i a here)
-    ∙ (ap (map f) (map-append (attribute_of o) (take i (entries_of o tag)) (get_or (entries_of o tag) i a ∷ []))
-    ∙ (map-append f (attributes_in o (take i (entries_of o tag))) (attribute_of o (get_or (entries_of o tag) i a) ∷ [])
-    ∙ ap (λ (x : AttributeEntry). map f (attributes_in o (take i (entries_of o tag))) ++ f (attribute_of o x) ∷ []) own))) in
+    ∙ (ap (λ xs. map f (attributes_in o xs)) (take-suc (entries_of o tag) i no_entry at)
+    ∙ (ap (map f) (map-append (attribute_of o) (take i (entries_of o tag)) (get_or (entries_of o tag) i no_entry ∷ []))
+    ∙ (map-append f (attributes_in o (take i (entries_of o tag))) (attribute_of o (get_or (entries_of o tag) i no_entry) ∷ [])
+    ∙ ap (λ (x : AttributeEntry). map f (attributes_in o (take i (entries_of o tag))) ++ f (attribute_of o x) ∷ []) (sym own)))) in
     left ∙ (ap (λ xs. xs ++ f (attribute_of o a) ∷ []) stands ∙ sym right)
 
 -- A tag that is put in
 
 pub tag-put : (s t u : Store) → Grows s t → Grows t u → (n : ℕ) (own : TagEntry) → IsTrue (is_tag s own) → tag_of s own ≡ tag_at s n → (space : Namespace) (is_renamed : Bool) (name : Span) → IsTrue (is_span t name) → bytes_of t name ≡ own_name is_renamed (space_of space) (bytes_of s own.name) →
-    (first : ℕ) → first ≡ length t.attributes.items → length u.attributes.items ≡ length t.attributes.items + own.attribute_count →
-    attributes_in u (drop (length t.attributes.items) u.attributes.items) ≡ map (foreign_attribute (space_of space)) (attributes_in t (entries_of t own)) →
-    tag_of u (record { space = space; name = name; known = 0; first_attribute = first; attribute_count = own.attribute_count }) ≡ foreign_tag (space_of space) (renamed is_renamed (space_of space) (tag_at s n))
+    (first : ℕ) → first ≡ length (list_in t Tags) → length (list_in u Tags) ≡ length (list_in t Tags) + own.attribute_count →
+    attributes_in u (drop (length (list_in t Tags)) (list_in u Tags)) ≡ map (foreign_attribute (space_of space)) (attributes_in t (entries_of t own)) →
+    tag_of u (record { space = space; name = name; known = 0; list = Tags; first_attribute = first; attribute_count = own.attribute_count }) ≡ foreign_tag (space_of space) (renamed is_renamed (space_of space) (tag_at s n))
 unfolding tag_of
 tag-put s t u g more n own within is space is_renamed name name_within name_is first first_is many stands =
-    let all = length-drop (length t.attributes.items) u.attributes.items in
+    let all = length-drop (length (list_in t Tags)) (list_in u Tags) in
     let as_name : bytes_of u name ≡ own_name is_renamed (space_of space) (tag_at s n).name =
     bytes-grown t u more name name_within ∙ (name_is ∙ ap (own_name is_renamed (space_of space)) (name-at s n own is)) in
-    let as_attributes : attributes_in u (take own.attribute_count (drop first u.attributes.items)) ≡ map (foreign_attribute (space_of space)) (tag_at s n).attributes =
-    ap (λ (k : ℕ). attributes_in u (take own.attribute_count (drop k u.attributes.items))) first_is
-    ∙ (ap (attributes_in u) (take_all own.attribute_count (drop (length t.attributes.items) u.attributes.items) (omega arith))
+    let as_attributes : attributes_in u (take own.attribute_count (drop first (list_in u Tags))) ≡ map (foreign_attribute (space_of space)) (tag_at s n).attributes =
+    ap (λ (k : ℕ). attributes_in u (take own.attribute_count (drop k (list_in u Tags)))) first_is
+    ∙ (ap (attributes_in u) (take_all own.attribute_count (drop (length (list_in t Tags)) (list_in u Tags)) (omega arith))
     ∙ (stands ∙ ap (map (foreign_attribute (space_of space))) (ap (λ (tag : dom.Tag). tag.attributes) (tag-grown s t g own within ∙ is)))) in
-    ap (λ (bytes : List ℕ). record { space = space_of space; name = bytes; attributes = attributes_in u (take own.attribute_count (drop first u.attributes.items)) }) as_name
+    ap (λ (bytes : List ℕ). record { space = space_of space; name = bytes; attributes = attributes_in u (take own.attribute_count (drop first (list_in u Tags))) }) as_name
     ∙ ap (λ (attributes : List dom.Attribute). record { space = space_of space; name = own_name is_renamed (space_of space) (tag_at s n).name; attributes = attributes }) as_attributes

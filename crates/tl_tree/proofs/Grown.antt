@@ -11,12 +11,14 @@ use Rattle.tl_dom_spec.specs.Tags as dom
 use Rattle.tl_html_spec.specs.Doctypes as doctypes
 use Rattle.tl_tree.proofs.Listed.{all-drop, all-take, begins-longer, begins-refl, begins-trans, map-same, mapped-front, mapped-last, part-front}
 use Rattle.tl_tree.proofs.Within.{node-more, span-bound}
-use Rattle.tl_tree.specs.Inner.Store.{Grows, attribute_of, attribute_space_of, bytes_of, doctype_at, doctype_of, entries_of, is_attribute, is_doctype, is_node, is_span, is_tag, node_in, node_of, nodes_of, row_in, rows_from, rows_of, sizes_of, space_of, tag_at, tag_of, text_of}
+use Rattle.tl_tree.specs.Inner.Store.{Begins, Grows, attribute_of, attribute_space_of, bytes_of, doctype_at, doctype_of, entries_of, is_attribute, is_doctype, is_node, is_span, is_tag, list_in, node_in, node_of, nodes_of, row_in, rows_from, rows_of, sizes_of, space_of, tag_at, tag_of, text_of}
 use Rattle.tl_tree.specs.Inner.Within.{Sizes, cell_is_within, cells_are_within, id_is_within, node_is_within}
 use Rattle.tl_tree.specs.declared.cell.Cell.{Cell}
 use Rattle.tl_tree.specs.declared.cell.Node.{Node}
 use Rattle.tl_tree.specs.declared.cell.Node.TheVariants.{Comment, Doctype, Element, Joined, Text}
 use Rattle.tl_tree.specs.declared.entries.AttributeEntry.{AttributeEntry}
+use Rattle.tl_tree.specs.declared.entries.AttributeList.{AttributeList}
+use Rattle.tl_tree.specs.declared.entries.AttributeList.TheVariants.{Body, Html, Tags}
 use Rattle.tl_tree.specs.declared.entries.DoctypeEntry.{DoctypeEntry}
 use Rattle.tl_tree.specs.declared.entries.TagEntry.{TagEntry}
 use Rattle.tl_tree.specs.declared.span.Span.{Span}
@@ -26,7 +28,9 @@ pub grows_refl : (s : Store) → Grows s s
 grows_refl s = record {
   page = refl;
   side = begins-refl s.side.items;
-  attributes = begins-refl s.attributes.items;
+  attributes = begins-refl s.attributes.tags.items;
+  html_attributes = begins-refl s.attributes.html.items;
+  body_attributes = begins-refl s.attributes.body.items;
   tags = begins-refl s.tags.items;
   doctypes = begins-refl s.doctypes.items;
   cells = begins-refl s.cells.items;
@@ -36,7 +40,9 @@ pub grows_trans : (s t u : Store) → Grows s t → Grows t u → Grows s u
 grows_trans s t u p q = record {
   page = q.page ∙ p.page;
   side = begins-trans s.side.items t.side.items u.side.items p.side q.side;
-  attributes = begins-trans s.attributes.items t.attributes.items u.attributes.items p.attributes q.attributes;
+  attributes = begins-trans s.attributes.tags.items t.attributes.tags.items u.attributes.tags.items p.attributes q.attributes;
+  html_attributes = begins-trans s.attributes.html.items t.attributes.html.items u.attributes.html.items p.html_attributes q.html_attributes;
+  body_attributes = begins-trans s.attributes.body.items t.attributes.body.items u.attributes.body.items p.body_attributes q.body_attributes;
   tags = begins-trans s.tags.items t.tags.items u.tags.items p.tags q.tags;
   doctypes = begins-trans s.doctypes.items t.doctypes.items u.doctypes.items p.doctypes q.doctypes;
   cells = begins-trans s.cells.items t.cells.items u.cells.items p.cells q.cells;
@@ -64,21 +70,31 @@ attribute-grown s t g a h =
     ap (λ (key : List ℕ). record { space = attribute_space_of a.space; key = key; value = bytes_of t a.value }) (bytes-grown s t g a.key p.0)
     ∙ ap (λ (value : List ℕ). record { space = attribute_space_of a.space; key = bytes_of s a.key; value = value }) (bytes-grown s t g a.value p.1)
 
-entries-grown : (s t : Store) → Grows s t → (tag : TagEntry) → tag.first_attribute + tag.attribute_count ≤ length s.attributes.items → map (attribute_of t) (entries_of t tag) ≡ map (attribute_of s) (entries_of s tag)
+pub list-begins : (s t : Store) → Grows s t → (list : AttributeList) → Begins (list_in s list) (list_in t list)
+list-begins s t g Tags = g.attributes
+list-begins s t g Html = g.html_attributes
+list-begins s t g Body = g.body_attributes
+
+pub entries-kept : (s t : Store) → Grows s t → (tag : TagEntry) → tag.first_attribute + tag.attribute_count ≤ length (list_in s tag.list) → entries_of t tag ≡ entries_of s tag
+entries-kept s t g tag h =
+    let own = list_in s tag.list in
+    ap (λ all. take tag.attribute_count (drop tag.first_attribute all)) (list-begins s t g tag.list)
+    ∙ part-front tag.attribute_count tag.first_attribute own (drop (length own) (list_in t tag.list)) h
+
+entries-grown : (s t : Store) → Grows s t → (tag : TagEntry) → tag.first_attribute + tag.attribute_count ≤ length (list_in s tag.list) → map (attribute_of t) (entries_of t tag) ≡ map (attribute_of s) (entries_of s tag)
 entries-grown s t g tag h =
-    ap (λ all. map (attribute_of t) (take tag.attribute_count (drop tag.first_attribute all))) g.attributes
-    ∙ (ap (map (attribute_of t)) (part-front tag.attribute_count tag.first_attribute s.attributes.items (drop (length s.attributes.items) t.attributes.items) h)
+    ap (map (attribute_of t)) (entries-kept s t g tag h)
     ∙ map-same (is_attribute s) (attribute_of t) (attribute_of s) (attribute-grown s t g) (entries_of s tag)
-    (all-take (is_attribute s) tag.attribute_count (drop tag.first_attribute s.attributes.items)
-    (all-drop (is_attribute s) tag.first_attribute s.attributes.items s.attributes_within)))
+    (all-take (is_attribute s) tag.attribute_count (drop tag.first_attribute (list_in s tag.list))
+    (all-drop (is_attribute s) tag.first_attribute (list_in s tag.list) (s.attributes_within tag.list)))
 
 pub tag-grown : (s t : Store) → Grows s t → (tag : TagEntry) → IsTrue (is_tag s tag) → tag_of t tag ≡ tag_of s tag
 unfolding tag_of
 tag-grown s t g tag h =
-    let p = and_parts (is_span s tag.name) (nat_le (tag.first_attribute + tag.attribute_count) (length s.attributes.items)) h in
+    let p = and_parts (is_span s tag.name) (nat_le (tag.first_attribute + tag.attribute_count) (length (list_in s tag.list))) h in
     ap (λ (name : List ℕ). record { space = space_of tag.space; name = name; attributes = map (attribute_of t) (entries_of t tag) }) (bytes-grown s t g tag.name p.0)
     ∙ ap (λ (attributes : List dom.Attribute). record { space = space_of tag.space; name = bytes_of s tag.name; attributes = attributes })
-    (entries-grown s t g tag (leb-true (tag.first_attribute + tag.attribute_count) (length s.attributes.items) p.1))
+    (entries-grown s t g tag (leb-true (tag.first_attribute + tag.attribute_count) (length (list_in s tag.list)) p.1))
 
 pub tag-at-grown : (s t : Store) → Grows s t → (n : ℕ) → n < length s.tags.items → tag_at t n ≡ tag_at s n
 unfolding tag_at

@@ -1,5 +1,5 @@
 -- Frames that are put on the path.
-use Rattle.std.proofs.Common.{ap, subst, sym, ◌∙◌, ◌≡◌, ◌++◌, ◌<◌, ◌∷◌, [], IsTrue, false, get_or, length, map, refl, reverse, set, suc, true, ℕ}
+use Rattle.std.proofs.Common.{ap, subst, sym, ◌∙◌, ◌≡◌, ◌++◌, ◌<◌, ◌∷◌, [], Err, IsTrue, Ok, OnOk, Result, false, get_or, length, map, refl, reverse, set, suc, true, ℕ}
 use Rattle.std.proofs.lemmas.Bool.{ltb-true}
 use Rattle.std.proofs.lemmas.List.{map-append, reverse-append}
 use Rattle.tl_dom_spec.specs.Builder.{pushed_at}
@@ -20,7 +20,7 @@ pub new-frame : (s : Store) (number tag : ℕ) (place : Place) → frame_of s (r
 new-frame s number tag place =
     same-frame number (place_of place) true (tag_at s tag) (tag_at s tag) (dom.at_head (nodes_of s 0) (nodes_of s 0)) dom.no_nodes (nodes_of s 0) dom.no_nodes refl (children-none s) (nodes-none s)
 
-pub pushed-path : (p q : FramePath) (number tag : ℕ) (place : Place) → q.frames.items ≡ p.frames.items ++ record { number = number; tag = tag; children = 0; late = 0; waiting = 0; place = place; is_open = true } ∷ [] → q.store ≡ p.store → path_of q ≡ dom.new_frame number (tag_at p.store tag) (place_of place) ∷ path_of p
+pushed-path : (p q : FramePath) (number tag : ℕ) (place : Place) → q.frames.items ≡ p.frames.items ++ record { number = number; tag = tag; children = 0; late = 0; waiting = 0; place = place; is_open = true } ∷ [] → q.store ≡ p.store → path_of q ≡ dom.new_frame number (tag_at p.store tag) (place_of place) ∷ path_of p
 unfolding frames_of
 pushed-path p q number tag place e same =
     let f : Frame = record { number = number; tag = tag; children = 0; late = 0; waiting = 0; place = place; is_open = true } in
@@ -29,6 +29,11 @@ pushed-path p q number tag place e same =
     ∙ (ap reverse (map-append (frame_of p.store) p.frames.items (f ∷ []))
     ∙ (reverse-append (map (frame_of p.store) p.frames.items) (frame_of p.store f ∷ [])
     ∙ ap (λ top. top ∷ reverse (map (frame_of p.store) p.frames.items)) (new-frame p.store number tag place))))
+
+-- where the new frame is entered too
+pub pushed-ok : {T E : Type 0} (r : Result T E) (p q : FramePath) (number tag : ℕ) (place : Place) → q.frames.items ≡ p.frames.items ++ record { number = number; tag = tag; children = 0; late = 0; waiting = 0; place = place; is_open = true } ∷ [] → q.store ≡ p.store → OnOk r (path_of q ≡ dom.new_frame number (tag_at p.store tag) (place_of place) ∷ path_of p)
+pushed-ok (Ok x) p q number tag place e same = pushed-path p q number tag place e same
+pushed-ok (Err x) p q number tag place e same = tt
 
 -- what waited in the innermost frame stands before the new one
 pub pushed-on-top : (p m q : FramePath) (n number tag : ℕ) → Grows p.store m.store → IsTrue (is_tag_number p.store tag) → length p.frames.items ≡ suc n → m.next ≡ number → frames_of m ≡ changed n dom.caught_up (frames_of p) → path_of q ≡ dom.new_frame m.next (tag_at m.store tag) dom.here ∷ path_of m → path_of q ≡ pushed_at dom.here (dom.new_frame number (tag_at p.store tag) dom.here) (path_of p)

@@ -26,6 +26,12 @@ all-weaker test other f (x ∷ xs) all =
     let p = and_parts (test x) (list_all test xs) all in
     and_from (other x) (list_all other xs) (f x p.0) (all-weaker test other f xs p.1)
 
+pub all-push : {A : Type 0} (test : A → Bool) (xs : List A) (x : A) → IsTrue (list_all test xs) → IsTrue (test x) → IsTrue (list_all test (xs ++ x ∷ []))
+all-push test [] x all one = and_from (test x) true one refl
+all-push test (y ∷ xs) x all one =
+    let p = and_parts (test y) (list_all test xs) all in
+    and_from (test y) (list_all test (xs ++ x ∷ [])) p.0 (all-push test xs x p.1 one)
+
 -- one more, or none
 pub all-pushed : {A : Type 0} (test : A → Bool) (r : Bool) (xs ys : List A) (x : A) → ys ≡ cond r (xs ++ x ∷ []) xs → IsTrue (list_all test xs) → IsTrue (test x) → IsTrue (list_all test ys)
 all-pushed test r xs ys x e all one =
@@ -34,12 +40,6 @@ all-pushed test r xs ys x e all one =
       | true ↦ all-push test xs x all one
       | false ↦ all
     ])
-  where
-    all-push : {A : Type 0} (test : A → Bool) (xs : List A) (x : A) → IsTrue (list_all test xs) → IsTrue (test x) → IsTrue (list_all test (xs ++ x ∷ []))
-    all-push test [] x all one = and_from (test x) true one refl
-    all-push test (y ∷ xs) x all one =
-        let p = and_parts (test y) (list_all test xs) all in
-        and_from (test y) (list_all test (xs ++ x ∷ [])) p.0 (all-push test xs x p.1 one)
 
 -- more behind a list, or nothing
 pub appended-longer : {A : Type 0} (r : Bool) (xs ys zs : List A) → ys ≡ cond r (xs ++ zs) xs → length xs ≤ length ys

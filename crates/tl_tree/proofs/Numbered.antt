@@ -28,7 +28,7 @@ absent-map s k change (f ∷ frames) h =
     ∙ ap (λ rest. frame_of s f ∷ rest) (absent-map s k change frames p.1)
 
 -- one that is there is told by any
-found-any : (frames : List Frame) (n k : ℕ) → slice_get (numbers frames) n ≡ Some k → (m : ℕ) → list_any (is_numbered m) frames ≡ false → nat_eq m k ≡ false
+pub found-any : (frames : List Frame) (n k : ℕ) → slice_get (numbers frames) n ≡ Some k → (m : ℕ) → list_any (is_numbered m) frames ≡ false → nat_eq m k ≡ false
 found-any [] n k e m h = absurd (cc)
 found-any (g ∷ frames) zero k e m h =
     let p = or_parts (is_numbered m g) (list_any (is_numbered m) frames) h in

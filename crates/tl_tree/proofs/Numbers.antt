@@ -134,7 +134,7 @@ any-between (g ∷ frames) (suc n) m f h other =
     let p = or_parts (is_numbered m g) (list_any (is_numbered m) frames) h in
     or_from (is_numbered m g) (list_any (is_numbered m) (take n frames ++ f ∷ drop n frames)) p.0 (any-between frames n m f p.1 other)
 
-fresh : (frames : List Frame) (k next : ℕ) → next ≤ k → IsTrue (list_all (is_before next) frames) → list_any (is_numbered k) frames ≡ false
+pub fresh : (frames : List Frame) (k next : ℕ) → next ≤ k → IsTrue (list_all (is_before next) frames) → list_any (is_numbered k) frames ≡ false
 fresh [] k next le before = refl
 fresh (g ∷ frames) k next le before =
     let q = and_parts (is_before next g) (list_all (is_before next) frames) before in

@@ -2,13 +2,13 @@
 use Rattle.std.proofs.Common.{Bool, List, ap, arith, nat_lt, not, refl, subst, true≢false, drop, false, length, map, sym, true, ℕ, ◌∙◌, ◌≡◌, ◌≤◌}
 use Rattle.std.proofs.lemmas.Bool.{lt-ltb, ltb-true}
 use Rattle.std.proofs.lemmas.List.{drop_all}
-use Rattle.tl_dom_spec.specs.Builder.{Builder, Flags, a_character, end_of_file}
+use Rattle.tl_dom_spec.specs.Builder.{Builder, a_character, end_of_file}
 use Rattle.tl_dom_spec.specs.Dispatcher.{token_done, tokens_done}
 use Rattle.tl_dom_spec.specs.Driver.{builder, read_from}
-use Rattle.tl_dom_spec.specs.HtmlTree.{is_little, most_beside, page_read, page_start}
+use Rattle.tl_dom_spec.specs.HtmlTree.{is_little, most_beside}
 use Rattle.tl_dom_spec.proofs.ExcessLaw.{read_excess}
 use Rattle.tl_html_spec.specs.Driven.{Emission, characters, driven, in_state, taken}
-use Rattle.tl_html_spec.specs.HtmlTokenizer.{data_state, with_feeds, without_mark}
+use Rattle.tl_html_spec.specs.HtmlTokenizer.{State, with_feeds}
 use Rattle.tl_html_tokens.specs.Driving.{opens_section, state_set}
 use Rattle.tl_html_tokens.specs.Emits.{AreEmits, IsTold, front_bytes}
 use Rattle.tl_html_tokens.specs.Fronts.{IsFront}
@@ -26,10 +26,11 @@ use Rattle.tl_tree.specs.Inner.Reading.{left, left_of}
 use Rattle.tl_tree.specs.declared.reader.Reader.{Reader}
 
 -- before the first token
-pub begins : (flags : Flags) (page : List ℕ) (b : Builder) (at : ℕ) → b ≡ page_start flags → without_mark page ≡ drop at page → token_done (left b mode.Data page at) end_of_file ≡ page_read flags page
-begins flags page b at is rest =
-    ap (λ (d : Builder). token_done (left d mode.Data page at) end_of_file) is
-    ∙ ap (λ text. read_from (page_start flags) (in_state data_state) (with_feeds text)) (sym rest)
+pub begins : (start b : Builder) (state : State) (m : Mode) (bytes page : List ℕ) (at : ℕ) → b ≡ start → state_of m ≡ state → bytes ≡ drop at page → token_done (left b m page at) end_of_file ≡ read_from start (in_state state) (with_feeds bytes)
+begins start b state m bytes page at is is_state rest =
+    ap (λ (d : Builder). token_done (left d m page at) end_of_file) is
+    ∙ (ap (λ own. read_from start (in_state own) (with_feeds (drop at page))) is_state
+    ∙ ap (λ text. read_from start (in_state state) (with_feeds text)) (sym rest))
 
 -- behind the last one
 pub at-end : (b : Builder) (m : Mode) (page : List ℕ) (at : ℕ) → length page ≤ at → left b m page at ≡ b

@@ -9,9 +9,11 @@ use Rattle.tl_dom_spec.specs.Builder as dom
 use Rattle.tl_dom_spec.specs.Path as paths
 use Rattle.tl_dom_spec.specs.Reset as reset
 use Rattle.tl_tree.proofs.Changed.{reverse-last}
+use Rattle.tl_tree.proofs.Furthest.{elements-closed, elements-open}
 use Rattle.tl_tree.proofs.Listed.{map-take}
 use Rattle.tl_tree.proofs.Sought.{reverse-take}
 use Rattle.tl_tree.proofs.Written.{frame-at, frames-length}
+use Rattle.tl_tree.specs.Inner.Adopted.{frame_at}
 use Rattle.tl_tree.specs.Inner.Builders.{builder_of}
 use Rattle.tl_tree.specs.Inner.Frames.{frame_of, frames_of}
 use Rattle.tl_tree.specs.Inner.Modes.{mode_of}
@@ -146,6 +148,22 @@ mode-last b n f is h opened none =
     mode-open b n f is h opened
     ∙ (ap (λ fs. reset.mode_of d (own ∷ fs)) around_it
     ∙ ap (λ fs. reset.or_mode (reset.tag_mode d true (reset.last_tag d.context own.tag)) (reset.mode_of d fs)) (sym around_it))
+
+-- one that decides none, with others of the stack around it
+pub mode-past : (b : Builder) (n : ℕ) → n < length b.path.frames.items → list_any is_open (take n b.path.frames.items) ≡ true → reset.tag_mode (builder_of b) false (frame_at b.path n).tag ≡ None → mode_from b (n + 1) ≡ mode_from b n
+unfolding mode_from
+mode-past b n h some none = by-open (frame_at b.path n).is_open refl
+  where
+    by-open : (o : Bool) → (frame_at b.path n).is_open ≡ o → reset.mode_of (builder_of b) (paths.elements (around b.path (n + 1))) ≡ reset.mode_of (builder_of b) (paths.elements (around b.path n))
+    by-open false closed = ap (reset.mode_of (builder_of b)) (elements-closed b.path n h closed)
+    by-open true opened =
+        let d = builder_of b in
+        let own = frame_at b.path n in
+        let around_it = stack-some (around b.path n) (any-around b.path n ∙ some) in
+        ap (reset.mode_of d) (elements-open b.path n h opened)
+        ∙ (ap (λ fs. reset.mode_of d (own ∷ fs)) around_it.2
+        ∙ (ap (λ fs. reset.or_mode (reset.tag_mode d false own.tag) (reset.mode_of d fs)) (sym around_it.2)
+        ∙ ap (λ o. reset.or_mode o (reset.mode_of d (paths.elements (around b.path n)))) none))
 
 -- what is decided, or left to those further out
 pub decided-some : (r : Option Mode) (m : Option dom.Mode) (outer all : dom.Mode) → option_map mode_of r ≡ m → all ≡ reset.or_mode m outer → IfSome r (λ own. all ≡ mode_of own)

@@ -1,6 +1,5 @@
 -- A walk over the stack of open elements, from the innermost out.
-use Rattle.std.proofs.Common.{ap, arith, sym, ◌∙◌, ◌≡◌, ◌<◌, ◌&&◌, ◌∷◌, [], List, cond, eqb, false, get_or, length, refl, reverse, suc, take, true, ℕ}
-use Rattle.std.specs.List.{list_all}
+use Rattle.std.proofs.Common.{ap, arith, sym, ◌∙◌, ◌≡◌, ◌<◌, ◌∷◌, [], List, cond, false, get_or, length, refl, reverse, suc, take, true, ℕ}
 use Rattle.std.specs.Char.{to_ascii_lowercase}
 use Rattle.std.specs.Prelude.{map}
 use Rattle.std.specs.Str.{bytes_eq}
@@ -55,7 +54,7 @@ pub found-named : (name : List ℕ) (f g : dom.Frame) (fs : List dom.Frame) → 
 found-named name f g fs e =
     ap (λ b. cond b (the_frame f.number) (cond (is_html g.tag) by_mode (found_in name (g ∷ fs)))) e
 
-found-other : (name : List ℕ) (f g : dom.Frame) (fs : List dom.Frame) → bytes_eq (map to_ascii_lowercase f.tag.name) name ≡ false → found_in name (f ∷ g ∷ fs) ≡ cond (is_html g.tag) by_mode (found_in name (g ∷ fs))
+pub found-other : (name : List ℕ) (f g : dom.Frame) (fs : List dom.Frame) → bytes_eq (map to_ascii_lowercase f.tag.name) name ≡ false → found_in name (f ∷ g ∷ fs) ≡ cond (is_html g.tag) by_mode (found_in name (g ∷ fs))
 found-other name f g fs e =
     ap (λ b. cond b (the_frame f.number) (cond (is_html g.tag) by_mode (found_in name (g ∷ fs)))) e
 

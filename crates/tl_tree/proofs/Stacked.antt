@@ -3,16 +3,18 @@ use Rattle.std.proofs.Common.{ap, arith, subst, sym, ◌∙◌, ◌≡◌, ◌+�
 use Rattle.std.proofs.lemmas.List.{append-nil, drop_all, drop_more, get_or_default, reverse-append}
 use Rattle.std.proofs.lemmas.List.Elements.{filter-append}
 use Rattle.tl_dom_spec.specs.Body.{body_number, from_html}
-use Rattle.tl_dom_spec.specs.Builder.{is_only}
+use Rattle.tl_dom_spec.specs.Builder.{is_only, with_more}
 use Rattle.tl_dom_spec.specs.Path as dom
-use Rattle.tl_dom_spec.specs.Tags.{Tag, is_any}
+use Rattle.tl_dom_spec.specs.Tags.{Attribute, Tag, is_any}
 use Rattle.tl_tree.proofs.Changed.{reverse-last}
 use Rattle.tl_tree.proofs.Grown.{grows_refl}
 use Rattle.tl_tree.proofs.Numbered.{changed-number}
 use Rattle.tl_tree.proofs.Popped.{path-top}
-use Rattle.tl_tree.proofs.Written.{frame-at, frame-written, frames-length, path-length}
+use Rattle.tl_tree.proofs.Written.{frame-at, frame-written, frames-grown, frames-length, path-length}
+use Rattle.tl_tree.specs.Inner.Adopted.{frame_at}
 use Rattle.tl_tree.specs.Inner.Framed.{numbers}
 use Rattle.tl_tree.specs.Inner.Frames.{changed, frame_of, frames_of, path_of}
+use Rattle.tl_tree.specs.Inner.Roles.{role_of}
 use Rattle.tl_tree.specs.Inner.Stack.{inner, opened_from, retagged, retagged_by}
 use Rattle.tl_tree.specs.Inner.Store.{Grows, tag_at}
 use Rattle.tl_tree.specs.declared.frame.Frame.{Frame}
@@ -34,12 +36,35 @@ changed-alike (suc n) first second (g ∷ frames) f h is e =
     ap (λ (rest : List dom.Frame). g ∷ rest) (changed-alike n first second frames f (omega arith) is e)
 
 -- a change of the tag of a number is one of the frame
-pub tagged-by : (p : FramePath) (k n : ℕ) (f : Frame) → slice_get (numbers p.frames.items) n ≡ Some k → f ≡ get_or p.frames.items n f → n < length p.frames.items → (change : Tag → Tag) → dom.at_number k (retagged_by change) (path_of p) ≡ dom.at_number k (retagged (change (tag_at p.store f.tag))) (path_of p)
+tagged-by : (p : FramePath) (k n : ℕ) (f : Frame) → slice_get (numbers p.frames.items) n ≡ Some k → f ≡ get_or p.frames.items n f → n < length p.frames.items → (change : Tag → Tag) → dom.at_number k (retagged_by change) (path_of p) ≡ dom.at_number k (retagged (change (tag_at p.store f.tag))) (path_of p)
 tagged-by p k n f found is h change =
     let many = frames-length p in
     sym (changed-number p k n (retagged_by change) found)
     ∙ (ap reverse (changed-alike n (retagged_by change) (retagged (change (tag_at p.store f.tag))) (frames_of p) (frame_of p.store f) (omega arith) (frame-at p n f is) refl)
     ∙ changed-number p k n (retagged (change (tag_at p.store f.tag))) found)
+
+-- the tag of the frame at a place
+pub tag-there : (p : FramePath) (i : ℕ) (f : Frame) → f ≡ get_or p.frames.items i f → i < length p.frames.items → (frame_at p i).tag ≡ tag_at p.store f.tag
+tag-there p i f is h =
+    let many = frames-length p in
+    ap (λ (own : dom.Frame). own.tag) (get_or_default (frames_of p) i dom.document (frame_of p.store f) (omega arith) ∙ frame-at p i f is)
+
+-- A frame whose tag has more attributes, which its store got before
+
+pub merged-role : (p m : FramePath) (i : ℕ) (f : Frame) (tag : ℕ) (more : List Attribute) → Grows p.store m.store → m.frames.items ≡ p.frames.items → f ≡ get_or p.frames.items i f → i < length p.frames.items → tag_at m.store tag ≡ with_more more (tag_at p.store f.tag) → role_of (tag_at m.store tag) ≡ role_of (frame_at m i).tag
+merged-role p m i f tag more g kept is h stands =
+    let same : role_of (tag_at m.store tag) ≡ role_of (tag_at p.store f.tag) = ap role_of stands in
+    same
+    ∙ (ap role_of (sym (tag-there p i f is h))
+    ∙ ap (λ (frames : List dom.Frame). role_of (get_or frames i dom.document).tag) (sym (frames-grown p m g kept)))
+
+pub merged-path : (p m q : FramePath) (k n : ℕ) (f : Frame) (tag : ℕ) (more : List Attribute) → Grows p.store m.store → m.frames.items ≡ p.frames.items → slice_get (numbers p.frames.items) n ≡ Some k → f ≡ get_or p.frames.items n f → n < length p.frames.items → tag_at m.store tag ≡ with_more more (tag_at p.store f.tag) → frames_of q ≡ changed n (retagged (tag_at m.store tag)) (frames_of m) → path_of q ≡ dom.at_number k (retagged_by (with_more more)) (path_of p)
+merged-path p m q k n f tag more g kept found is h stands written =
+    ap reverse written
+    ∙ (ap (λ (own : Tag). reverse (changed n (retagged own) (frames_of m))) stands
+    ∙ (ap (λ frames. reverse (changed n (retagged (with_more more (tag_at p.store f.tag))) frames)) (frames-grown p m g kept)
+    ∙ (changed-number p k n (retagged (with_more more (tag_at p.store f.tag))) found
+    ∙ sym (tagged-by p k n f found is h (with_more more)))))
 
 -- The path up to the `html` element
 

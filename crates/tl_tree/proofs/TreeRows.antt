@@ -12,11 +12,13 @@ use Rattle.tl_tree.proofs.Listed.{all-weaker, map-same}
 use Rattle.tl_tree.proofs.RowLaws.{ComesBefore, Within, rows-within}
 use Rattle.tl_tree.proofs.RowLists.{EachRow}
 use Rattle.tl_tree.proofs.Within.{lt-more}
+use Rattle.tl_tree.specs.Inner.Lists.{in_list}
 use Rattle.tl_tree.specs.Inner.RowView.{are_in_order, bytes_in, held_in, held_is_within, parent_of, row_in, row_is_within}
 use Rattle.tl_tree.specs.Inner.Settling.{AreRowsOf, sizes_with, text_with}
 use Rattle.tl_tree.specs.Inner.Store.{Grows, attribute_space_of, bytes_of, doctype_at, doctype_of, nodes_of, sizes_of, space_of, tag_at, tag_of, text_of}
 use Rattle.tl_tree.specs.Inner.Within.{Sizes, span_is_within}
 use Rattle.tl_tree.specs.Rows as rows
+use Rattle.tl_tree.specs.declared.attribute_lists.AttributeLists.{AttributeLists}
 use Rattle.tl_tree.specs.declared.entries.AttributeEntry.{AttributeEntry}
 use Rattle.tl_tree.specs.declared.entries.DoctypeEntry.{DoctypeEntry}
 use Rattle.tl_tree.specs.declared.entries.TagEntry.{TagEntry}
@@ -28,16 +30,16 @@ use Rattle.tl_tree.specs.declared.store.Store.{Store}
 
 -- Tags and doctypes hang on no cells
 
-abbrev tag-part : List ℕ → List AttributeEntry → List TagEntry → ℕ → dom.Tag
+abbrev tag-part : List ℕ → AttributeLists → List TagEntry → ℕ → dom.Tag
 tag-part text attributes tags n =
     get_or
     (map (λ (t : TagEntry). record {
       space = space_of t.space;
       name = bytes_in text t.name;
-      attributes = map (λ (a : AttributeEntry). record { space = attribute_space_of a.space; key = bytes_in text a.key; value = bytes_in text a.value }) (take t.attribute_count (drop t.first_attribute attributes));
+      attributes = map (λ (a : AttributeEntry). record { space = attribute_space_of a.space; key = bytes_in text a.key; value = bytes_in text a.value }) (take t.attribute_count (drop t.first_attribute (in_list attributes t.list)));
     }) tags) n (dom.bare_tag [])
 
-tag-parts : (s : Store) (n : ℕ) → tag_at s n ≡ tag-part (text_of s) s.attributes.items s.tags.items n
+tag-parts : (s : Store) (n : ℕ) → tag_at s n ≡ tag-part (text_of s) s.attributes s.tags.items n
 unfolding tag_at tag_of bytes_of
 tag-parts s n = refl
 
@@ -59,7 +61,7 @@ doctype-parts s n = refl
 pub record IsAlike (t u : Store) : Type 0 where
   pub page : u.page.now ≡ t.page.now
   pub side : u.side.items ≡ t.side.items
-  pub attributes : u.attributes.items ≡ t.attributes.items
+  pub attributes : u.attributes ≡ t.attributes
   pub tags : u.tags.items ≡ t.tags.items
   pub doctypes : u.doctypes.items ≡ t.doctypes.items
 
@@ -69,9 +71,9 @@ text-alike t u a = ap (λ v. v ++ u.side.items) a.page ∙ ap (λ v. t.page.now 
 tag-alike : (t u : Store) → IsAlike t u → (n : ℕ) → tag_at u n ≡ tag_at t n
 tag-alike t u a n =
     tag-parts u n
-    ∙ (ap (λ v. tag-part v u.attributes.items u.tags.items n) (text-alike t u a)
+    ∙ (ap (λ v. tag-part v u.attributes u.tags.items n) (text-alike t u a)
     ∙ (ap (λ v. tag-part (text_of t) v u.tags.items n) a.attributes
-    ∙ (ap (λ v. tag-part (text_of t) t.attributes.items v n) a.tags ∙ sym (tag-parts t n))))
+    ∙ (ap (λ v. tag-part (text_of t) t.attributes v n) a.tags ∙ sym (tag-parts t n))))
 
 doctype-alike : (t u : Store) → IsAlike t u → (n : ℕ) → doctype_at u n ≡ doctype_at t n
 doctype-alike t u a n =

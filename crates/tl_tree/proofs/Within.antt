@@ -7,6 +7,7 @@ use Rattle.tl_tree.specs.declared.cell.Cell.{Cell}
 use Rattle.tl_tree.specs.declared.cell.Node.{Node}
 use Rattle.tl_tree.specs.declared.cell.Node.TheVariants.{Comment, Doctype, Element, Joined, Text}
 use Rattle.tl_tree.specs.declared.entries.AttributeEntry.{AttributeEntry}
+use Rattle.tl_tree.specs.declared.entries.AttributeList.{AttributeList}
 use Rattle.tl_tree.specs.declared.entries.DoctypeEntry.{DoctypeEntry}
 use Rattle.tl_tree.specs.declared.entries.TagEntry.{TagEntry}
 use Rattle.tl_tree.specs.declared.span.Span.{Span}
@@ -52,11 +53,11 @@ attribute-more page side more a le h =
     and_from (span_is_within page more a.key) (span_is_within page more a.value)
     (span-more page side more a.key le p.0) (span-more page side more a.value le p.1)
 
-pub tag-more : (page side more own others : ℕ) (t : TagEntry) → side ≤ more → own ≤ others → IsTrue (tag_is_within page side own t) → IsTrue (tag_is_within page more others t)
+pub tag-more : (page side more : ℕ) (own others : AttributeList → ℕ) (t : TagEntry) → side ≤ more → ((list : AttributeList) → own list ≤ others list) → IsTrue (tag_is_within page side own t) → IsTrue (tag_is_within page more others t)
 tag-more page side more own others t le many h =
-    let p = and_parts (span_is_within page side t.name) (nat_le (t.first_attribute + t.attribute_count) own) h in
-    and_from (span_is_within page more t.name) (nat_le (t.first_attribute + t.attribute_count) others)
-    (span-more page side more t.name le p.0) (le-more (t.first_attribute + t.attribute_count) own others p.1 many)
+    let p = and_parts (span_is_within page side t.name) (nat_le (t.first_attribute + t.attribute_count) (own t.list)) h in
+    and_from (span_is_within page more t.name) (nat_le (t.first_attribute + t.attribute_count) (others t.list))
+    (span-more page side more t.name le p.0) (le-more (t.first_attribute + t.attribute_count) (own t.list) (others t.list) p.1 (many t.list))
 
 pub doctype-more : (page side more : ℕ) (d : DoctypeEntry) → side ≤ more → IsTrue (doctype_is_within page side d) → IsTrue (doctype_is_within page more d)
 doctype-more page side more d le h =

@@ -1,8 +1,14 @@
 -- What is asked of rows by their numbers.
-use Rattle.std.specs.Option.{option_and_then, option_map, unwrap_or}
-use Rattle.std.specs.Prelude.{List, None, Option, Some, [], false, if◌then◌else◌, length, nat_lt, slice_get, suc, true, zero, ℕ, ◌+◌, ◌-◌, ◌∷◌}
+use Rattle.std.specs.List.{find}
+use Rattle.std.specs.Option.{option_and_then, option_copied, option_map, unwrap_or}
+use Rattle.std.specs.Prelude.{Bool, List, None, Option, Some, [], false, if◌then◌else◌, length, nat_lt, slice_get, suc, true, zero, ℕ, ◌&&◌, ◌+◌, ◌-◌, ◌∷◌}
+use Rattle.std.specs.Str.{bytes_eq}
 use Rattle.tl_dom_spec.specs.Tags as dom
+use Rattle.tl_html_spec.specs.Doctypes as doctypes
+use Rattle.tl_tree.specs.Inner.Store.{attribute_space_of}
 use Rattle.tl_tree.specs.Rows.{Node, Row, a_comment, a_doctype, a_text, an_element, contents}
+use Rattle.tl_tree.specs.declared.attributes.Attribute.{Attribute}
+use Rattle.tl_tree.specs.declared.doctype.Doctype.{Doctype}
 use Rattle.tl_tree.specs.declared.entries.Namespace.{Namespace}
 use Rattle.tl_tree.specs.declared.entries.Namespace.TheVariants.{Html, Math, Svg}
 use Rattle.tl_tree.specs.declared.kind.Kind as kind
@@ -36,8 +42,50 @@ text_of (a_text bytes) = Some bytes
 text_of (a_comment bytes) = Some bytes
 text_of _ = None
 
+-- what a doctype says
+abbrev pub doctype_of : Node → Option doctypes.Doctype
+doctype_of (a_doctype own) = Some own
+doctype_of _ = None
+
+-- a doctype that is answered
+abbrev pub doctype_said : Doctype → doctypes.Doctype
+doctype_said d = record {
+  name = d.name.now;
+  public_id = option_copied d.public_id;
+  system_id = option_copied d.system_id;
+  forces_quirks = d.forces_quirks;
+}
+
+-- the attributes of an element, in the order of its tag
+abbrev pub attributes_of : Node → List dom.Attribute
+attributes_of (an_element tag) = tag.attributes
+attributes_of _ = []
+
+-- an attribute that is answered
+abbrev pub attribute_said : Attribute → dom.Attribute
+attribute_said a = record {
+  space = attribute_space_of a.space;
+  key = a.key.now;
+  value = a.value.now;
+}
+
+abbrev pub has_no_space : dom.AttributeSpace → Bool
+has_no_space dom.no_space = true
+has_no_space _ = false
+
+-- the value of the first attribute of a key that has no namespace
+abbrev pub value_of : List ℕ → List dom.Attribute → Option (List ℕ)
+value_of key attributes =
+    option_map
+    (λ (a : dom.Attribute). a.value)
+    (find (λ (a : dom.Attribute). has_no_space a.space && bytes_eq a.key key) attributes)
+
 abbrev pub node_at : List Row → ℕ → Option Node
 node_at rows number = option_map (λ row. row.node) (slice_get rows number)
+
+-- the attributes of a row: none where there is no such row
+abbrev pub attributes_at : List Row → ℕ → List dom.Attribute
+attributes_at rows number = unwrap_or (option_map attributes_of (node_at rows number)) []
 
 -- the number of the row that a row stands in
 abbrev pub parent_at : List Row → ℕ → Option ℕ

@@ -1,4 +1,5 @@
 -- What the proofs and private functions of this crate cite, and no public clause.
+pub mod Lists
 pub mod Within
 pub mod Store
 pub mod Gathering
@@ -12,8 +13,9 @@ pub mod Heads
 pub mod Adopted
 pub mod Found
 pub mod Stack
-pub mod Places
-pub mod Scopes
+pub mod Entered
+pub mod Roles
+pub mod Scoped
 pub mod Said
 pub mod Foreign
 pub mod ActiveWithin
@@ -23,6 +25,7 @@ pub mod GroupNames
 pub mod BodyGroups
 pub mod Doctyping
 pub mod Known
+pub mod Limits
 pub mod Builders
 pub mod Reading
 pub mod Resets

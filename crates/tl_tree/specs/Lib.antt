@@ -2,4 +2,5 @@ pub mod Inner
 pub mod Rows
 pub mod TreeView
 pub mod Asked
+pub mod Contexts
 pub mod Examples

@@ -1,11 +1,11 @@
 //! The adoption agency algorithm (13.2.6.4.7), on the path and the list of active formatting
 //! elements.
-ghost use Rattle.std.specs.Prelude.{IfOk, List, OnOk, [], drop, length, reverse, take, ℕ, ◌+◌, ◌<◌, ◌^◌, ◌≡◌, ◌≤◌};
+ghost use Rattle.std.specs.Prelude.{IfOk, List, OnOk, [], drop, false, length, reverse, take, ℕ, ◌+◌, ◌<◌, ◌^◌, ◌≡◌, ◌≤◌};
 ghost use Rattle.tl_dom_spec.specs.Adoption.{cloned, entry_moved, inside_of};
 ghost use Rattle.tl_dom_spec.specs.Path as dom;
 ghost use Rattle.tl_dom_spec.specs.Path.{elements};
 ghost use Rattle.tl_tree.specs.Inner.Active.{active_of, listed_of};
-ghost use Rattle.tl_tree.specs.Inner.Adopted.{AreMade, IsAdopted, IsFirst, clones_in, frame_at, none_cloned, with_element};
+ghost use Rattle.tl_tree.specs.Inner.Adopted.{AreMade, IsAdopted, IsFirst, IsNear, clones_in, frame_at, none_cloned, with_element};
 ghost use Rattle.tl_tree.specs.Inner.Frames.{frames_of, path_of};
 ghost use Rattle.tl_tree.specs.Inner.Store.{Grows, tag_at};
 ghost use Rattle.tl_tree.specs.declared.store.Store.{Store};
@@ -156,9 +156,39 @@ fn list_new(
     active.list_behind(first, new, own.tag)
 }
 
-/// A round with a furthest block, which stands at a place of the path. How many elements were made
-/// anew is the answer.
-pub(crate) fn adopt(
+// A round where the formatting element stands right inside of a place, and the block right inside
+// of it: nothing is made anew, and no frame is moved.
+fn adopt_near(
+    path: &mut FramePath<'_>,
+    active: &mut ActiveList,
+    own: Listed,
+    place: usize,
+) -> Result<usize, GrowError>
+    requires near { IsNear false own.number (frame_at path.old place)
+        (frame_at path.old (place + 1)) }
+    requires within { place + 2 < length path.old.frames.items }
+    requires numbered { active.old.greatest_number < path.old.next }
+    requires listed { active.old.greatest_tag < length path.old.store.tags.items }
+    requires own { own.tag < length path.old.store.tags.items }
+    ensures ok { IfOk result (λ made.
+        IsAdopted false (listed_of path.old.store own) (frame_at path.old (place + 2))
+        (clones_in (listed_of path.old.store own) (frame_at path.old (place + 2))
+        (path_of path.old) (active_of path.old.store active.old) path.old.next)
+        path.old path.new active.new made) }
+    ensures more { path.old.next ≤ path.new.next }
+    ensures numbered { active.new.greatest_number < path.new.next }
+    ensures listed { active.new.greatest_tag < length path.old.store.tags.items }
+    ensures grows { Grows path.old.store path.new.store }
+{
+    let new = path.next;
+    path.renew_near(place, own.tag)?;
+    active.relist(own.number, new);
+    path.enter_frames()?;
+    Ok(0)
+}
+
+// A round with a furthest block, wherever it stands.
+fn adopt_far(
     path: &mut FramePath<'_>,
     active: &mut ActiveList,
     own: Listed,
@@ -187,5 +217,36 @@ pub(crate) fn adopt(
     path.renew(block + made, own.tag)?;
     list_new(active, own, new, made, first)?;
     path.settle_outside(block, ancestor, is_fostering)?;
+    path.enter_frames()?;
     Ok(made)
+}
+
+/// A round with a furthest block, which stands at a place of the path. How many elements were made
+/// anew is the answer.
+pub(crate) fn adopt(
+    path: &mut FramePath<'_>,
+    active: &mut ActiveList,
+    own: Listed,
+    block: usize,
+    is_fostering: bool,
+) -> Result<usize, GrowError>
+    requires some { 0 < block }
+    requires block { block < length path.old.frames.items }
+    requires numbered { active.old.greatest_number < path.old.next }
+    requires listed { active.old.greatest_tag < length path.old.store.tags.items }
+    requires own { own.tag < length path.old.store.tags.items }
+    ensures ok { IfOk result (λ made.
+        IsAdopted is_fostering (listed_of path.old.store own) (frame_at path.old block)
+        (clones_in (listed_of path.old.store own) (frame_at path.old block) (path_of path.old)
+        (active_of path.old.store active.old) path.old.next)
+        path.old path.new active.new made) }
+    ensures more { path.old.next ≤ path.new.next }
+    ensures numbered { active.new.greatest_number < path.new.next }
+    ensures listed { active.new.greatest_tag < length path.old.store.tags.items }
+    ensures grows { Grows path.old.store path.new.store }
+{
+    match path.near_ancestor(block, own.number, is_fostering) {
+        Some(place) => adopt_near(path, active, own, place),
+        None => adopt_far(path, active, own, block, is_fostering),
+    }
 }

@@ -1,6 +1,6 @@
 //! Elements that the Noah's Ark clause takes for the same.
 ghost use Rattle.std.specs.List.{list_all, list_any};
-ghost use Rattle.std.specs.Prelude.{IsTrue, map, nat_eq, ◌&&◌, ◌≡◌};
+ghost use Rattle.std.specs.Prelude.{IsTrue, length, map, nat_eq, take, ◌&&◌, ◌≡◌, ◌≤◌};
 ghost use Rattle.std.specs.Str.{bytes_eq};
 ghost use Rattle.tl_dom_spec.specs.Formatting.{is_alike, is_same_attribute};
 ghost use Rattle.tl_dom_spec.specs.Tags as dom;
@@ -15,7 +15,7 @@ pub(crate) fn attributes<'s>(store: &'s Store<'_>, tag: TagEntry) -> &'s [Attrib
     ensures { result.now ≡ entries_of store.now tag }
 {
     let first = tag.first_attribute as usize;
-    &store.attributes[first..first + tag.attribute_count as usize]
+    &store.attributes.list(tag.list)[first..first + tag.attribute_count as usize]
 }
 
 // Keys and values are the same bytes.
@@ -46,7 +46,31 @@ fn has_attribute(store: &Store<'_>, own: AttributeEntry, other: TagEntry) -> boo
     false
 }
 
-// Whether a tag has attributes like those of another one.
+// How many attributes of a tag are like those at their places in another one.
+fn same_front(store: &Store<'_>, own: TagEntry, other: TagEntry) -> usize
+    requires own { IsTrue (is_tag store.now own) }
+    requires other { IsTrue (is_tag store.now other) }
+    ensures within { result ≤ length (entries_of store.now own) }
+    ensures front { IsTrue
+        (list_all
+        (λ (x : dom.Attribute). list_any
+        (is_same_attribute x)
+        (map (attribute_of store.now) (entries_of store.now other)))
+        (map (attribute_of store.now) (take result (entries_of store.now own)))) }
+{
+    let first = attributes(store, own);
+    let second = attributes(store, other);
+    let shorter = first.len().min(second.len());
+    for place in 0..shorter {
+        if !is_same_attribute(store, first[place], second[place]) {
+            return place;
+        }
+    }
+    shorter
+}
+
+// Whether a tag has attributes like those of another one. Those that come in the same order are
+// looked at once.
 fn has_attributes(store: &Store<'_>, own: TagEntry, other: TagEntry) -> bool
     requires own { IsTrue (is_tag store.now own) }
     requires other { IsTrue (is_tag store.now other) }
@@ -57,8 +81,10 @@ fn has_attributes(store: &Store<'_>, own: TagEntry, other: TagEntry) -> bool
         (map (attribute_of store.now) (entries_of store.now other)))
         (map (attribute_of store.now) (entries_of store.now own)) }
 {
-    for attribute in attributes(store, own) {
-        if !has_attribute(store, *attribute, other) {
+    let attributes = attributes(store, own);
+    let front = same_front(store, own, other);
+    for place in front..attributes.len() {
+        if !has_attribute(store, attributes[place], other) {
             return false;
         }
     }

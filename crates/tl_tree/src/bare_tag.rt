@@ -4,7 +4,7 @@ ghost use Rattle.tl_dom_spec.specs.Tags.{bare_tag};
 ghost use Rattle.tl_tree.specs.Inner.Frames.{path_of};
 ghost use Rattle.tl_tree.specs.Inner.Store.{Grows, tag_at};
 
-use crate::entries::{Namespace, TagEntry};
+use crate::entries::{AttributeList, Namespace, TagEntry};
 use crate::error::GrowError;
 use crate::path::FramePath;
 use crate::store::Store;
@@ -21,6 +21,7 @@ impl<'a> Store<'a> {
             space: Namespace::Html,
             name,
             known: 0,
+            list: AttributeList::Tags,
             first_attribute: 0,
             attribute_count: 0,
         })

@@ -7,27 +7,25 @@ ghost use Rattle.tl_tree.specs.Inner.Store.{is_tag_number, tag_at};
 
 use crate::integration::has_attribute;
 use crate::store::Store;
-use crate::test::is_one_of;
+use crate::test::{is_of, is_one_of};
+use tl_names::class::Class;
 
-// Whether a name is one of the words of a text.
-fn is_name_of(store: &Store<'_>, number: u32, names: &[u8]) -> bool
+// Whether a tag is one of a font.
+fn is_font(store: &Store<'_>, number: u32) -> bool
     requires { IsTrue (is_tag_number store.now number) }
-    ensures { result ≡ is_one_of names.now (tag_at store.now number).name }
+    ensures { result ≡ is_one_of (codes "font") (tag_at store.now number).name }
 {
     let tag = store.tag(number);
-    is_one_of(names, store.bytes(tag.name))
+    is_one_of(b"font", store.bytes(tag.name))
 }
 
 // Whether the name of a tag is enough.
-#[rattlefmt::skip]
 fn is_breakout_name(store: &Store<'_>, number: u32) -> bool
     requires { IsTrue (is_tag_number store.now number) }
     ensures { result ≡ is_one_of breakout_names (tag_at store.now number).name }
 {
-    let names = b"b big blockquote body br center code dd div dl dt em embed h1 h2 h3 h4 h5 h6 \
-head hr i img li listing menu meta nobr ol p pre ruby s small span strong strike sub sup table tt \
-u ul var";
-    is_name_of(store, number, names)
+    let tag = store.tag(number);
+    is_of(Class::Breakout, store.bytes(tag.name))
 }
 
 // Whether an attribute says how a font looks.
@@ -48,6 +46,5 @@ pub(crate) fn breaks_out(store: &Store<'_>, number: u32) -> bool
     requires { IsTrue (is_tag_number store.now number) }
     ensures { result ≡ breaks_out (tag_at store.now number) }
 {
-    is_breakout_name(store, number)
-        || (is_name_of(store, number, b"font") && is_styled(store, number))
+    is_breakout_name(store, number) || (is_font(store, number) && is_styled(store, number))
 }

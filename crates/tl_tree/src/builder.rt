@@ -502,8 +502,8 @@ impl<'a> Builder<'a> {
         self.path.add_byte(byte, hint)
     }
 
-    // The tag of an HTML element without attributes is put in the store.
-    fn add_bare_tag(&mut self, name: &'static [u8]) -> Result<u32, GrowError>
+    /// The tag of an HTML element without attributes is put in the store.
+    pub(crate) fn add_bare_tag(&mut self, name: &'static [u8]) -> Result<u32, GrowError>
         ensures ok { builder_of self.new ≡ builder_of self.old }
         ensures token { token_of self.new ≡ token_of self.old }
         ensures tag { IfOk result

@@ -16,8 +16,9 @@ use crate::integration::{
 };
 use crate::mode::Mode;
 use crate::outcome::Outcome;
-use crate::test::is_one_of;
+use crate::test::is_of;
 use crate::token::Token;
+use tl_names::class::Class;
 
 fn is_svg_start(group: Group) -> bool
     ensures { result ≡ is_svg_start (group_of group) }
@@ -52,7 +53,7 @@ impl<'a> Builder<'a> {
         ensures { result ≡ is_one_of (codes "mglyph malignmark") (token_of self.now).tag.name }
     {
         let own = self.path.store.tag(self.tag);
-        is_one_of(b"mglyph malignmark", self.path.store.bytes(own.name))
+        is_of(Class::MathGlyph, self.path.store.bytes(own.name))
     }
 
     // Whether a token goes to the insertion mode, where the adjusted current node has this tag.

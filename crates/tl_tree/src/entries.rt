@@ -46,13 +46,22 @@ impl Namespace {
     }
 }
 
-/// The namespaces of attributes.
+/// The namespaces of attributes. Most have none.
 #[derive(Clone, Copy, PartialEq, Eq)]
-pub(crate) enum AttributeSpace {
+pub enum AttributeSpace {
     Plain,
     Xlink,
     Xml,
     Xmlns,
+}
+
+/// The lists of attributes: that of most tags, and those of `html` and of `body` where these have
+/// got more.
+#[derive(Clone, Copy, PartialEq, Eq)]
+pub(crate) enum AttributeList {
+    Tags,
+    Html,
+    Body,
 }
 
 #[derive(Clone, Copy)]
@@ -62,12 +71,13 @@ pub(crate) struct AttributeEntry {
     pub(crate) value: Span,
 }
 
-/// An element without its children. Its attributes stand side by side.
+/// An element without its children. Its attributes stand side by side in their list.
 #[derive(Clone, Copy)]
 pub(crate) struct TagEntry {
     pub(crate) space: Namespace,
     pub(crate) name: Span,
     pub(crate) known: u8,
+    pub(crate) list: AttributeList,
     pub(crate) first_attribute: u32,
     pub(crate) attribute_count: u32,
 }

@@ -6,9 +6,11 @@ ghost use Rattle.tl_html_spec.specs.Balanced.{is_one_of};
 ghost use Rattle.tl_tree.specs.Inner.Foreign.{link_keys, renamed, spaced};
 ghost use Rattle.tl_tree.specs.Inner.Frames.{path_of};
 ghost use Rattle.tl_tree.specs.Inner.Said.{attributes_in};
-ghost use Rattle.tl_tree.specs.Inner.Store.{Grows, attribute_of, attribute_space_of, bytes_of, entries_of, is_attribute, is_span, is_tag, is_tag_number, space_of, tag_at};
+ghost use Rattle.tl_tree.specs.declared.entries.AttributeList.TheVariants.{Tags};
+ghost use Rattle.tl_tree.specs.Inner.Store.{Grows, attribute_of, attribute_space_of, bytes_of, entries_of, is_attribute, is_span, is_tag, is_tag_number, list_in, space_of, tag_at};
 
-use crate::entries::{AttributeEntry, AttributeSpace, Namespace, TagEntry};
+use crate::alike::attributes;
+use crate::entries::{AttributeEntry, AttributeList, AttributeSpace, Namespace, TagEntry};
 use crate::error::GrowError;
 use crate::foreign_words::{cased, key_words, name_words};
 use crate::path::FramePath;
@@ -26,7 +28,7 @@ fn put_cased(
     ensures stands { IfOk result
         (λ own. bytes_of store.new own ≡ cased (bytes_of store.old name) (words_of words.now)) }
     ensures within { IfOk result (λ own. IsTrue (is_span store.new own)) }
-    ensures attributes { store.new.attributes.items ≡ store.old.attributes.items }
+    ensures attributes { store.new.attributes ≡ store.old.attributes }
     ensures grows { Grows store.old store.new }
 {
     match cased(words, store.bytes(name)) {
@@ -77,7 +79,7 @@ fn put_attribute(
     ensures stands { IfOk result (λ put. attribute_of store.new put
         ≡ foreign_attribute (space_of space) (attribute_of store.old own)) }
     ensures within { IfOk result (λ put. IsTrue (is_attribute store.new put)) }
-    ensures attributes { store.new.attributes.items ≡ store.old.attributes.items }
+    ensures attributes { store.new.attributes ≡ store.old.attributes }
     ensures grows { Grows store.old store.new }
 {
     let key = put_cased(store, key_words(space), own.key)?;
@@ -98,18 +100,18 @@ fn add_attributes(store: &mut Store<'_>, space: Namespace, tag: TagEntry) -> Res
     ensures stands { OnOk result
         (attributes_in
         store.new
-        (drop (length store.old.attributes.items) store.new.attributes.items)
+        (drop (length (list_in store.old Tags)) (list_in store.new Tags))
         ≡ map
         (foreign_attribute (space_of space))
         (attributes_in store.old (entries_of store.old tag))) }
-    ensures many { OnOk result (length store.new.attributes.items
-        ≡ length store.old.attributes.items + tag.attribute_count) }
+    ensures many { OnOk result (length (list_in store.new Tags)
+        ≡ length (list_in store.old Tags) + tag.attribute_count) }
     ensures grows { Grows store.old store.new }
 {
     for place in 0..tag.attribute_count {
-        let own = store.attributes[(tag.first_attribute + place) as usize];
+        let own = attributes(store, tag)[place as usize];
         let put = put_attribute(store, space, own)?;
-        store.add_attribute(put)?;
+        store.add_attribute(AttributeList::Tags, put)?;
     }
     Ok(())
 }
@@ -133,12 +135,14 @@ impl<'a> Store<'a> {
     {
         let own = self.tag(tag);
         let name = put_cased(self, name_words(space, is_renamed), own.name)?;
-        let first_attribute = self.attribute_count();
+        let list = AttributeList::Tags;
+        let first_attribute = self.attribute_count(list);
         add_attributes(self, space, own)?;
         self.add_tag(TagEntry {
             space,
             name,
             known: 0,
+            list,
             first_attribute,
             attribute_count: own.attribute_count,
         })

@@ -11,6 +11,7 @@ ghost use Rattle.tl_tree.specs.Inner.Store.{is_tag_number, tag_at};
 use crate::integration::is_html;
 use crate::lowered::is_lowered;
 use crate::path::FramePath;
+use crate::role::Kind;
 use crate::store::Store;
 
 /// An element of the name, by its number, or an HTML element, or none.
@@ -71,13 +72,16 @@ impl<'a> FramePath<'a> {
         None
     }
 
-    /// What the name of an end tag finds. Here the path is walked.
+    /// What the name of an end tag finds.
     pub(crate) fn found(&self, name: &[u8]) -> Found
         ensures { found_of result ≡ found_in name.now (dom.elements (path_of self.now)) }
     {
-        let Some(mut inner) = self.open_below(self.frames.len()) else {
+        let Some(top) = self.open_below(self.frames.len()) else {
             return Found::Nothing;
         };
+        // From there on all are foreign, and of other names: the search goes past them.
+        let limit = self.kind_limit(Kind::Html).max(self.name_limit(name));
+        let mut inner = top.min(limit);
         while let Some(outer) = self.open_below(inner) {
             match self.found_at(inner, outer, name) {
                 Some(found) => return found,

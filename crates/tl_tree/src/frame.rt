@@ -1,8 +1,8 @@
 //! Elements that are still open, as frames of a path.
 ghost use Rattle.std.specs.Prelude.{◌≡◌};
 
-/// A frame of the path, by its number. It is looked for at a depth first, which is how many frames
-/// stood around it: a hint, on which no answer depends.
+/// A frame of the path, by its number. How many frames stood around it, its depth, is asked by
+/// nothing any more.
 #[derive(Clone, Copy)]
 pub(crate) struct Mark {
     pub(crate) number: u32,

@@ -45,9 +45,9 @@ impl<'a> Builder<'a> {
         is_quirky(&self.path.store, self.doctype)
     }
 
-    // The document is in quirks mode, or not.
+    /// The document is in quirks mode, or not.
     #[tactic(auto, unfolding(crate::specs::Inner::Builders::builder_of, crate::specs::Inner::Builders::token_of))]
-    fn set_quirks(&mut self, is_quirks: bool)
+    pub(crate) fn set_quirks(&mut self, is_quirks: bool)
         ensures ok { builder_of self.new
             ≡ record (builder_of self.old) { is_quirks = is_quirks } }
         ensures token { token_of self.new ≡ token_of self.old }

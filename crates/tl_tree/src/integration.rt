@@ -2,15 +2,15 @@
 ghost use Rattle.std.specs.Char.{to_ascii_lowercase};
 ghost use Rattle.std.specs.Prelude.{IsTrue, map, ◌&&◌, ◌||◌, ◌≡◌};
 ghost use Rattle.std.specs.Str.{bytes_eq};
-ghost use Rattle.tl_dom_spec.specs.Tags.{has_attribute, has_value, is_annotation, is_html, is_html_integration_point, is_math, is_svg, is_svg_mark, is_text_integration_point};
-ghost use Rattle.tl_html_spec.specs.Balanced.{is_one_of};
+ghost use Rattle.tl_dom_spec.specs.Tags.{has_attribute, has_value, is_annotation, is_html, is_html_integration_point, is_svg, is_svg_mark, is_text_integration_point};
 ghost use Rattle.tl_tree.specs.Inner.Store.{bytes_of, is_attribute, is_tag_number, tag_at};
 
 use crate::alike::attributes;
 use crate::entries::AttributeEntry;
 use crate::lowered::is_lowered;
 use crate::store::Store;
-use crate::test::is_one_of;
+use crate::test::{is_of, is_one_of};
+use tl_names::class::Class;
 
 /// Whether an element has an attribute of this key.
 pub(crate) fn has_attribute(store: &Store<'_>, number: u32, key: &[u8]) -> bool
@@ -50,17 +50,6 @@ pub(crate) fn has_value(store: &Store<'_>, number: u32, key: &[u8], value: &[u8]
     false
 }
 
-// Whether an element is one of `math` of these names.
-fn is_math_of(store: &Store<'_>, number: u32, names: &[u8]) -> bool
-    requires { IsTrue (is_tag_number store.now number) }
-    ensures { result
-        ≡ (is_math (tag_at store.now number)
-        && is_one_of names.now (tag_at store.now number).name) }
-{
-    let tag = store.tag(number);
-    tag.space.is_math() && is_one_of(names, store.bytes(tag.name))
-}
-
 // Whether an element is one of `svg` whose content is HTML.
 fn is_svg_point(store: &Store<'_>, number: u32) -> bool
     requires { IsTrue (is_tag_number store.now number) }
@@ -68,14 +57,15 @@ fn is_svg_point(store: &Store<'_>, number: u32) -> bool
         ≡ (is_svg (tag_at store.now number) && is_svg_mark (tag_at store.now number)) }
 {
     let tag = store.tag(number);
-    tag.space.is_svg() && is_one_of(b"foreignObject desc title", store.bytes(tag.name))
+    tag.space.is_svg() && is_of(Class::SvgMark, store.bytes(tag.name))
 }
 
 pub(crate) fn is_text_integration_point(store: &Store<'_>, number: u32) -> bool
     requires { IsTrue (is_tag_number store.now number) }
     ensures { result ≡ is_text_integration_point (tag_at store.now number) }
 {
-    is_math_of(store, number, b"mi mo mn ms mtext")
+    let tag = store.tag(number);
+    tag.space.is_math() && is_of(Class::MathText, store.bytes(tag.name))
 }
 
 /// Whether an element is `annotation-xml`.
@@ -83,7 +73,8 @@ pub(crate) fn is_annotation(store: &Store<'_>, number: u32) -> bool
     requires { IsTrue (is_tag_number store.now number) }
     ensures { result ≡ is_annotation (tag_at store.now number) }
 {
-    is_math_of(store, number, b"annotation-xml")
+    let tag = store.tag(number);
+    tag.space.is_math() && is_one_of(b"annotation-xml", store.bytes(tag.name))
 }
 
 pub(crate) fn is_html_integration_point(store: &Store<'_>, number: u32) -> bool

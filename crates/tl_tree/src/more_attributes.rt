@@ -5,13 +5,13 @@ ghost use Rattle.tl_dom_spec.specs.Head.{html_start};
 ghost use Rattle.tl_dom_spec.specs.Path.{at_number};
 ghost use Rattle.tl_tree.specs.Inner.Builders.{builder_of, token_of};
 ghost use Rattle.tl_tree.specs.Inner.Frames.{path_of};
-ghost use Rattle.tl_tree.specs.Inner.Merging.{is_missing, merged};
+ghost use Rattle.tl_tree.specs.Inner.Merging.{IsLast, is_missing, missing};
 ghost use Rattle.tl_tree.specs.Inner.Stack.{retagged_by};
-ghost use Rattle.tl_tree.specs.Inner.Store.{Grows, is_attribute, is_tag, is_tag_number, tag_at};
+ghost use Rattle.tl_tree.specs.Inner.Store.{Grows, is_attribute, is_tag, is_tag_number, tag_at, tag_of};
 
-use crate::alike::attributes;
+use crate::alike::{attributes, is_named};
 use crate::builder::Builder;
-use crate::entries::{AttributeEntry, TagEntry};
+use crate::entries::{AttributeEntry, AttributeList, TagEntry};
 use crate::error::GrowError;
 use crate::frame::Mark;
 use crate::path::FramePath;
@@ -28,8 +28,8 @@ fn is_missing(store: &Store<'_>, own: TagEntry, attribute: AttributeEntry) -> bo
     !has_key(store, attributes(store, own), attribute.key)
 }
 
-// The attributes of a tag, and those of another one that are missing.
-fn merged(
+// The attributes that another tag has, and a tag not.
+fn missing(
     store: &Store<'_>,
     alloc: Global,
     own: TagEntry,
@@ -37,10 +37,9 @@ fn merged(
 ) -> Result<Vec<AttributeEntry>, GrowError>
     requires own { IsTrue (is_tag store.now own) }
     requires other { IsTrue (is_tag store.now other) }
-    ensures { IfOk result (λ found. found.items ≡ merged store.now own other) }
+    ensures { IfOk result (λ found. found.items ≡ missing store.now own other) }
 {
     let mut found = Vec::new(alloc);
-    found.extend_from_slice(attributes(store, own))?;
     for attribute in attributes(store, other) {
         if is_missing(store, own, *attribute) {
             found.push(*attribute)?;
@@ -49,28 +48,89 @@ fn merged(
     Ok(found)
 }
 
+// The list of a tag that gets more attributes, which is that of `html` or of `body`.
+fn list_of_more(store: &Store<'_>, tag: u32) -> AttributeList
+    requires { IsTrue (is_tag_number store.now tag) }
+{
+    if is_named(store, tag, b"html") {
+        AttributeList::Html
+    } else {
+        AttributeList::Body
+    }
+}
+
+// A tag like this one, whose attributes are copied behind those of a list.
+fn copied(
+    store: &mut Store<'_>,
+    alloc: Global,
+    list: AttributeList,
+    tag: TagEntry,
+) -> Result<TagEntry, GrowError>
+    requires { IsTrue (is_tag store.old tag) }
+    ensures stands { IfOk result (λ copied. tag_of store.new copied ≡ tag_of store.old tag) }
+    ensures last { IfOk result (λ copied. IsLast store.new list copied) }
+    ensures grows { Grows store.old store.new }
+{
+    let mut own = Vec::new(alloc);
+    own.extend_from_slice(attributes(store, tag))?;
+    let first_attribute = store.attribute_count(list);
+    add_attributes(store, list, own.as_slice())?;
+    Ok(TagEntry {
+        list,
+        first_attribute,
+        ..tag
+    })
+}
+
+// A tag like this one, whose attributes are the last of a list. They are copied where they aren't
+// yet: once for each element, as none but its own attributes are put there.
+fn put_last(
+    store: &mut Store<'_>,
+    alloc: Global,
+    list: AttributeList,
+    tag: TagEntry,
+) -> Result<TagEntry, GrowError>
+    requires { IsTrue (is_tag store.old tag) }
+    ensures stands { IfOk result (λ last. tag_of store.new last ≡ tag_of store.old tag) }
+    ensures last { IfOk result (λ last. IsLast store.new list last) }
+    ensures grows { Grows store.old store.new }
+{
+    let end = tag.first_attribute + tag.attribute_count;
+    if tag.list == list && end == store.attribute_count(list) {
+        return Ok(tag);
+    }
+    copied(store, alloc, list, tag)
+}
+
 impl<'a> Store<'a> {
-    /// Puts a tag behind the others, with the attributes of one, and those of another one that are
-    /// missing. Answers its number.
+    /// A tag with the attributes of one, and those of another one that are missing. Answers its
+    /// number, which is that of the first where none is missing.
     pub(crate) fn add_merged_tag(&mut self, own: u32, other: u32) -> Result<u32, GrowError>
         requires own { IsTrue (is_tag_number self.old own) }
         requires other { IsTrue (is_tag_number self.old other) }
         ensures stands { IfOk result (λ number. tag_at self.new number
             ≡ with_more (tag_at self.old other).attributes (tag_at self.old own)) }
+        ensures space { IfOk result
+            (λ number. (tag_at self.new number).space ≡ (tag_at self.old own).space) }
+        ensures name { IfOk result
+            (λ number. (tag_at self.new number).name ≡ (tag_at self.old own).name) }
         ensures within { IfOk result (λ number. IsTrue (is_tag_number self.new number)) }
         ensures grows { Grows self.old self.new }
     {
         let tag = self.tag(own);
         let others = self.tag(other);
-        let alloc = *self.attributes.allocator();
-        let found = merged(self, alloc, tag, others)?;
-        let first_attribute = self.attribute_count();
-        add_attributes(self, found.as_slice())?;
-        let attribute_count = self.attribute_count() - first_attribute;
+        let alloc = *self.tags.allocator();
+        let more = missing(self, alloc, tag, others)?;
+        if more.is_empty() {
+            return Ok(own);
+        }
+        let list = list_of_more(self, own);
+        let last = put_last(self, alloc, list, tag)?;
+        add_attributes(self, list, more.as_slice())?;
+        let attribute_count = self.attribute_count(list) - last.first_attribute;
         self.add_tag(TagEntry {
-            first_attribute,
             attribute_count,
-            ..tag
+            ..last
         })
     }
 }
@@ -82,8 +142,12 @@ impl<'a> FramePath<'a> {
         requires other { IsTrue (is_tag_number self.old.store other) }
         ensures stands { IfOk result (λ number. tag_at self.new.store number
             ≡ with_more (tag_at self.old.store other).attributes (tag_at self.old.store own)) }
+        ensures space { IfOk result (λ number.
+            (tag_at self.new.store number).space ≡ (tag_at self.old.store own).space) }
+        ensures name { IfOk result (λ number.
+            (tag_at self.new.store number).name ≡ (tag_at self.old.store own).name) }
         ensures within { IfOk result (λ number. IsTrue (is_tag_number self.new.store number)) }
-        ensures path { path_of self.new ≡ path_of self.old }
+        ensures frames { self.new.frames.items ≡ self.old.frames.items }
         ensures next { self.new.next ≡ self.old.next }
         ensures grows { Grows self.old.store self.new.store }
     {
@@ -100,11 +164,12 @@ impl<'a> FramePath<'a> {
         ensures next { self.new.next ≡ self.old.next }
         ensures grows { Grows self.old.store self.new.store }
     {
-        let Some(own) = self.tag_of(mark) else {
+        let Some(index) = self.find(mark) else {
             return Ok(());
         };
+        let own = self.frames[index].tag;
         let tag = self.add_merged_tag(own, other)?;
-        self.set_tag(mark, tag);
+        self.retag(index, tag);
         Ok(())
     }
 }

@@ -3,16 +3,19 @@
 //! Others may rely on this: each operation says that the path (`path_of`) is afterwards what the
 //! definition's function makes of it, that the store begins with what it was, and which number is
 //! next. That frames are sound (what they have is in the store, their numbers differ and are given
-//! out) is part of the type: no caller carries it.
+//! out), and that what is known of them is so, is part of the type: no caller carries it.
 ghost use Rattle.std.specs.List.{list_all};
-ghost use Rattle.std.specs.Prelude.{IsTrue, length, ◌<◌};
-ghost use Rattle.tl_tree.specs.Inner.Framed.{are_distinct, frame_is_within, is_before};
+ghost use Rattle.std.specs.Prelude.{IsTrue, drop, length, map, take, ◌<◌, ◌≡◌};
+ghost use Rattle.tl_tree.specs.Inner.Entered.{entered, entered_of};
+ghost use Rattle.tl_tree.specs.Inner.Framed.{are_distinct, frame_is_within, is_before, is_here};
 
 use crate::cell::Node;
-use crate::entries::{Namespace, TagEntry};
+use crate::entries::{AttributeList, Namespace, TagEntry};
 use crate::error::GrowError;
 use crate::frame::{Frame, Mark, Place};
 use crate::head::{at_head, is_plain};
+use crate::role::{Entered, Role, role_of};
+use crate::scopes::Scopes;
 use crate::span::Span;
 use crate::store::Store;
 use crate::test::{TagTest, Test};
@@ -25,6 +28,10 @@ pub(crate) struct FramePath<'a> {
     pub(crate) frames: Vec<Frame>,
     /// The number of the next element.
     pub(crate) next: u32,
+    /// What is known of the outermost frames, where they are searched.
+    pub(crate) scopes: Scopes,
+    /// From this place on each frame goes to what is right around it. It may be too great.
+    pub(crate) placed: usize,
     ghost within: { IsTrue
         (list_all
         (frame_is_within (length store.tags.items) (length store.cells.items))
@@ -32,6 +39,9 @@ pub(crate) struct FramePath<'a> {
     ghost distinct: { IsTrue (are_distinct frames.items) },
     ghost numbered: { IsTrue (list_all (is_before next) frames.items) },
     ghost some: { 0 < length frames.items },
+    ghost known: { entered scopes
+        ≡ take (length (entered scopes)) (map (entered_of store) frames.items) },
+    ghost near: { IsTrue (list_all is_here (drop placed frames.items)) },
 }
 
 impl<'a> FramePath<'a> {
@@ -42,6 +52,7 @@ impl<'a> FramePath<'a> {
     ghost use Rattle.tl_dom_spec.specs.Path as dom;
     ghost use Rattle.tl_tree.specs.Inner.Framed.{is_numbered, numbers};
     ghost use Rattle.tl_tree.specs.Inner.Frames.{changed, children_of, closed, fostered, frame_of, frames_of, is_frame, path_of, place_of, sought, test_of, test_or_other, with_late};
+    ghost use Rattle.tl_tree.specs.Inner.Roles.{role_of};
     ghost use Rattle.tl_tree.specs.Inner.Tests.{tag_test_of};
     ghost use Rattle.tl_tree.specs.Inner.Store.{Grows, is_node, is_row, is_tag_number, node_of, nodes_of, tag_at};
 
@@ -56,6 +67,7 @@ impl<'a> FramePath<'a> {
             space: Namespace::Html,
             name: Span { start: 0, len: 0 },
             known: 0,
+            list: AttributeList::Tags,
             first_attribute: 0,
             attribute_count: 0,
         })?;
@@ -73,6 +85,8 @@ impl<'a> FramePath<'a> {
             store,
             frames,
             next: 1,
+            scopes: Scopes::new(alloc)?,
+            placed: 0,
         })
     }
 
@@ -110,10 +124,14 @@ impl<'a> FramePath<'a> {
         requires within { IsTrue (is_frame self.old frame) }
         requires number { frame.number
             ≡ (slice_index_or self.old.frames.items index frame).number }
+        requires role { role_of (tag_at self.old.store frame.tag)
+            ≡ role_of (tag_at self.old.store
+            (slice_index_or self.old.frames.items index frame).tag) }
         ensures frames { self.new.frames.items ≡ slice_set self.old.frames.items index frame }
         ensures store { self.new.store ≡ self.old.store }
         ensures next { self.new.next ≡ self.old.next }
     {
+        self.placed = frame.place.placed_with(self.placed, index);
         self.frames[index] = frame;
     }
 
@@ -124,6 +142,7 @@ impl<'a> FramePath<'a> {
             frame_of self.new.store new ≡ frame_of self.old.store frame) }
         ensures late { IfOk result (λ new. new.late ≡ 0) }
         ensures number { IfOk result (λ new. new.number ≡ frame.number) }
+        ensures tag { IfOk result (λ new. new.tag ≡ frame.tag) }
         ensures within { IfOk result (λ new. IsTrue (is_frame self.new new)) }
         ensures frames { self.new.frames.items ≡ self.old.frames.items }
         ensures next { self.new.next ≡ self.old.next }
@@ -151,6 +170,7 @@ impl<'a> FramePath<'a> {
             (nodes_of self.new.store new.late)
             ≡ joined (children_of self.new.store new) (node_of self.old.store node)) }
         ensures number { IfOk result (λ new. new.number ≡ frame.number) }
+        ensures tag { IfOk result (λ new. new.tag ≡ frame.tag) }
         ensures within { IfOk result (λ new. IsTrue (is_frame self.new new)) }
         ensures frames { self.new.frames.items ≡ self.old.frames.items }
         ensures next { self.new.next ≡ self.old.next }
@@ -163,7 +183,7 @@ impl<'a> FramePath<'a> {
     }
 
     // A node goes to the end of a frame.
-    fn put_inside(&mut self, index: usize, node: Node) -> Result<(), GrowError>
+    pub(crate) fn put_inside(&mut self, index: usize, node: Node) -> Result<(), GrowError>
         requires index { index < length self.old.frames.items }
         requires node { IsTrue (is_node self.old.store node) }
         ensures ok { OnOk result (frames_of self.new
@@ -212,7 +232,7 @@ impl<'a> FramePath<'a> {
     }
 
     // What waited in a frame stands behind its children.
-    fn catch_up(&mut self, index: usize) -> Result<(), GrowError>
+    pub(crate) fn catch_up(&mut self, index: usize) -> Result<(), GrowError>
         requires index { index < length self.old.frames.items }
         ensures ok { OnOk result
             (frames_of self.new ≡ changed index caught_up (frames_of self.old)) }
@@ -237,19 +257,19 @@ impl<'a> FramePath<'a> {
         Ok(())
     }
 
-    /// The place of the frame of a number.
+    /// The place of the frame of a number, which is known, or else looked for among those that
+    /// aren't.
     pub(crate) fn find(&self, mark: Mark) -> Option<usize>
         ensures some { IfSome result
             (λ index. slice_get (numbers self.now.frames.items) index ≡ Some mark.number) }
         ensures none { result ≡ None
             → list_any (is_numbered mark.number) self.now.frames.items ≡ false }
     {
-        let hint = mark.depth as usize;
-        if hint < self.frames.len() && self.frames[hint].number == mark.number {
-            return Some(hint);
+        if let Some(index) = self.scopes.place_of(mark.number) {
+            return Some(index);
         }
-        for (index, frame) in self.frames.iter().enumerate() {
-            if frame.number == mark.number {
+        for index in self.scopes.len()..self.frames.len() {
+            if self.frames[index].number == mark.number {
                 return Some(index);
             }
         }
@@ -366,12 +386,14 @@ impl<'a> FramePath<'a> {
     {
         let last = self.frames.len() - 1;
         let frame = self.frames[last];
+        self.scopes.cut(last);
+        self.placed = self.placed.min(last);
         self.frames.truncate(last);
         frame
     }
 
     // The children of a frame, with what waited behind them, as an element.
-    fn element(&mut self, frame: Frame) -> Result<Node, GrowError>
+    pub(crate) fn element(&mut self, frame: Frame) -> Result<Node, GrowError>
         requires { IsTrue (is_frame self.old frame) }
         ensures stands { IfOk result (λ node. node_of self.new.store node
             ≡ dom.node_of (frame_of self.old.store frame)) }
@@ -523,6 +545,43 @@ impl<'a> FramePath<'a> {
         self.settle_while(Test::Nothing, false)
     }
 
+    // What elements of a tag are to searches.
+    pub(crate) fn role_at(&self, tag: u32) -> Role
+        requires { IsTrue (is_tag_number self.now.store tag) }
+        ensures stands { result ≡ role_of (tag_at self.now.store tag) }
+        ensures within { result.bucket < 4093 }
+    {
+        let tag = self.store.tag(tag);
+        role_of(tag.space, self.store.bytes(tag.name))
+    }
+
+    // What a frame is to searches.
+    fn entered_at(&self, index: usize) -> Entered
+        requires { index < length self.now.frames.items }
+        ensures stands { slice_get (map (entered_of self.now.store) self.now.frames.items) index
+            ≡ Some result }
+        ensures within { result.role.bucket < 4093 }
+    {
+        let frame = self.frames[index];
+        Entered {
+            number: frame.number,
+            role: self.role_at(frame.tag),
+        }
+    }
+
+    /// All frames are known where the path is searched.
+    pub(crate) fn enter_frames(&mut self) -> Result<(), GrowError>
+        ensures frames { self.new.frames.items ≡ self.old.frames.items }
+        ensures store { self.new.store ≡ self.old.store }
+        ensures next { self.new.next ≡ self.old.next }
+    {
+        while self.scopes.len() < self.frames.len() {
+            let entered = self.entered_at(self.scopes.len());
+            self.scopes.enter(entered)?;
+        }
+        Ok(())
+    }
+
     // A new element stands on the path.
     fn push(&mut self, place: Place, tag: u32) -> Result<(), GrowError>
         requires { IsTrue (is_tag_number self.old.store tag) }
@@ -538,6 +597,7 @@ impl<'a> FramePath<'a> {
             return Err(GrowError::TooLarge);
         }
         self.next = number + 1;
+        self.placed = place.placed_with(self.placed, self.frames.len());
         self.frames.push(Frame {
             number,
             tag,
@@ -547,7 +607,7 @@ impl<'a> FramePath<'a> {
             place,
             is_open: true,
         })?;
-        Ok(())
+        self.enter_frames()
     }
 
     // A new element stands on the path, behind what waited in the current node.
@@ -643,13 +703,12 @@ impl<'a> FramePath<'a> {
         None
     }
 
-    /// Whether an element of the stack passes a test, before one that bounds the search. Here the
-    /// path is walked.
+    /// Whether an element of the stack passes a test, before one that bounds the search.
     pub(crate) fn is_within(&self, test: Test<'_>, bounds: Test<'_>) -> bool
         ensures { result
             ≡ within (test_of test.entry) (test_of bounds.entry) (elements (path_of self.now)) }
     {
-        let mut index = self.frames.len();
+        let mut index = self.limit(test).max(self.limit(bounds));
         while index > 0 {
             index -= 1;
             match self.answer_at(index, test, bounds) {

@@ -1,13 +1,16 @@
-//! Pages are read into trees.
+//! Pages and fragments are read into trees.
 ghost use Rattle.std.specs.Prelude.{Err, IfOk, false, true, ◌≡◌, ℕ};
-ghost use Rattle.tl_dom_spec.specs.HtmlTree.{html_tree_by, is_in_proportion_by};
+ghost use Rattle.tl_dom_spec.specs.HtmlTree.{fragment_read, html_fragment_by, html_tree_by, is_fragment_in_proportion_by, is_in_proportion_by};
+ghost use Rattle.tl_tree.specs.Contexts.{context_of};
 ghost use Rattle.tl_tree.specs.Inner.Builders.{flags_of};
 ghost use Rattle.tl_tree.specs.Rows.{rows_of};
 ghost use Rattle.tl_tree.specs.TreeView.{rows_in};
 
 use crate::builder::Flags;
+use crate::context::Context;
 use crate::error::ReadError;
 use crate::reader::Reader;
+use crate::test::Test;
 use crate::tree::Tree;
 use std::alloc::Global;
 
@@ -31,7 +34,36 @@ impl<'p> Tree<'p> {
     {
         let mut reader = Reader::new(alloc, page, flags)?;
         reader.read()?;
-        let tree = reader.builder.into_tree(alloc)?;
+        let tree = reader.builder.into_tree(alloc, Test::Nothing)?;
+        Ok(tree)
+    }
+
+    /// The trees that the HTML standard builds of a text in a context element (13.4), read once:
+    /// the children that the element has once the text is set as its inner HTML.
+    ///
+    /// What looks like a byte order mark is part of the text. A text is refused where
+    /// `Tree::read` refuses a page.
+    pub fn read_fragment(
+        alloc: Global,
+        text: &'p [u8],
+        context: Context<'_>,
+        flags: Flags,
+    ) -> Result<Tree<'p>, ReadError>
+        ensures tree { IfOk result (λ tree. rows_in tree
+            ≡ rows_of (html_fragment_by (flags_of flags) (context_of context.entry) text.now)) }
+        ensures quirks { IfOk result (λ tree. tree.is_quirks
+            ≡ (fragment_read (flags_of flags) (context_of context.entry) text.now).is_quirks) }
+        ensures in_proportion { IfOk result (λ tree.
+            is_fragment_in_proportion_by (flags_of flags) (context_of context.entry) text.now
+            ≡ true) }
+        ensures out_of_proportion { (at : ℕ) →
+            result ≡ Err (ReadError.OutOfProportion at) →
+            is_fragment_in_proportion_by (flags_of flags) (context_of context.entry) text.now
+            ≡ false }
+    {
+        let mut reader = Reader::for_fragment(alloc, text, context, flags)?;
+        reader.read()?;
+        let tree = reader.builder.into_tree(alloc, Test::Number(1))?;
         Ok(tree)
     }
 }

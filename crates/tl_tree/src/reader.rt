@@ -1,7 +1,8 @@
-//! A page is read: its tokens, one at a time, are handed to the tree builder.
+//! A page or a fragment is read: its tokens, one at a time, are handed to the tree builder.
 ghost use Rattle.std.specs.Prelude.{length, ◌≡◌, ◌≤◌};
 
 use crate::builder::{Builder, Flags};
+use crate::context::Context;
 use crate::entries::AttributeEntry;
 use crate::error::{GrowError, ReadError};
 use crate::token::Token;
@@ -96,10 +97,11 @@ impl<'p> Reader<'p> {
     ghost use Rattle.tl_dom_spec.specs.Builder.{end_of_file};
     ghost use Rattle.tl_dom_spec.specs.Dispatcher.{token_done};
     ghost use Rattle.tl_dom_spec.specs.Driver.{builder};
-    ghost use Rattle.tl_dom_spec.specs.HtmlTree.{is_little, page_read};
+    ghost use Rattle.tl_dom_spec.specs.HtmlTree.{fragment_read, is_little, page_read};
     ghost use Rattle.tl_html_tokens.specs.Driving.{opens_section};
     ghost use Rattle.tl_html_tokens.specs.Fronts.{IsFront};
     ghost use Rattle.tl_html_tokens.specs.Sections.{IsSection, begin_len};
+    ghost use Rattle.tl_tree.specs.Contexts.{context_of};
     ghost use Rattle.tl_tree.specs.Inner.Builders.{builder_of, flags_of};
     ghost use Rattle.tl_tree.specs.Inner.Reading.{left_of};
 
@@ -114,6 +116,27 @@ impl<'p> Reader<'p> {
             page,
             at: mark_len(page),
             mode: Mode::Data,
+            room: Vec::new(alloc),
+            alloc,
+        })
+    }
+
+    /// Before the first token of a fragment.
+    pub(crate) fn for_fragment(
+        alloc: Global,
+        text: &'p [u8],
+        context: Context<'_>,
+        flags: Flags,
+    ) -> Result<Reader<'p>, GrowError>
+        ensures left { IfOk result (λ reader. token_done (left_of reader) end_of_file
+            ≡ fragment_read (flags_of flags) (context_of context.entry) text.now) }
+    {
+        let builder = Builder::for_fragment(alloc, text, context, flags)?;
+        Ok(Reader {
+            builder,
+            page: text,
+            at: 0,
+            mode: context.mode(flags),
             room: Vec::new(alloc),
             alloc,
         })

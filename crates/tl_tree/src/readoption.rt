@@ -2,21 +2,25 @@
 //!
 //! Others may rely on this: each operation says which frames there are afterwards (`frames_of`),
 //! and which number is next.
-ghost use Rattle.std.specs.List.{insert, list_all};
-ghost use Rattle.std.specs.Option.{option_map};
-ghost use Rattle.std.specs.Prelude.{IfOk, IfSome, IsTrue, None, OnOk, drop, false, if◌then◌else◌, length, map, reverse, take, ℕ, ◌++◌, ◌+◌, ◌<◌, ◌==◌, ◌≡◌, ◌≤◌};
+ghost use Rattle.std.specs.List.{insert, list_all, list_any};
+ghost use Rattle.std.specs.Option.{option_map, unwrap_or};
+ghost use Rattle.std.specs.Prelude.{IfOk, IfSome, IsTrue, None, OnOk, drop, false, if◌then◌else◌, length, map, min, reverse, take, true, ℕ, ◌++◌, ◌+◌, ◌<◌, ◌==◌, ◌^◌, ◌≡◌, ◌≤◌};
 ghost use Rattle.tl_dom_spec.specs.Adoption.{first, moved_place, outermost, outside_of};
-ghost use Rattle.tl_dom_spec.specs.Path.{elements, popped_while};
+ghost use Rattle.tl_dom_spec.specs.Path.{elements, here, popped_while};
 ghost use Rattle.tl_dom_spec.specs.Tags.{is_special};
-ghost use Rattle.tl_tree.specs.Inner.Adopted.{emptied, filled, frame_at, frame_found, furthest, innermost_number, is_element_of, is_inside, moved, number_of, placed, renewed, with_outer};
-ghost use Rattle.tl_tree.specs.Inner.Framed.{are_distinct, is_before};
+ghost use Rattle.tl_tree.specs.Inner.Adopted.{IsNear, emptied, filled, frame_at, frame_found, innermost_number, is_block, is_inside, moved, number_of, placed, renewed, renewed_near, with_outer};
+ghost use Rattle.tl_tree.specs.Inner.Entered.{entered, turned};
+ghost use Rattle.tl_tree.specs.Inner.Framed.{are_distinct, goes_here, is_before, is_here};
 ghost use Rattle.tl_tree.specs.Inner.Frames.{changed, frame_of, frames_of, is_frame, path_of, place_of};
+ghost use Rattle.tl_tree.specs.Inner.Roles.{is_numbered};
 ghost use Rattle.tl_tree.specs.Inner.Store.{Grows, is_tag_number, tag_at};
 ghost use Rattle.tl_tree.specs.Inner.Tests.{tag_test_of};
 
 use crate::error::GrowError;
 use crate::frame::{Frame, Mark, Place};
 use crate::path::FramePath;
+use crate::role::Entered;
+use crate::scopes::Scopes;
 use crate::test::{TagTest, Test};
 
 impl Mark {
@@ -45,39 +49,99 @@ impl Place {
             Place::IntoHead => Place::IntoHead,
         }
     }
+
+    fn is_here(self) -> bool
+        ensures stands { result ≡ goes_here self }
+        ensures yes { result ≡ true → place_of self ≡ here }
+    {
+        match self {
+            Place::Here => true,
+            Place::Into(_) => false,
+            Place::Behind(_) => false,
+            Place::IntoHead => false,
+        }
+    }
+
+    /// From which place on frames go to what is right around them, once one that goes to this
+    /// place stands there.
+    pub(crate) fn placed_with(self, placed: usize, index: usize) -> usize
+        requires { index + 1 < 2 ^ 64 }
+        ensures least { placed ≤ result }
+        ensures own { goes_here self ≡ false → index < result }
+    {
+        if self.is_here() {
+            return placed;
+        }
+        placed.max(index + 1)
+    }
+}
+
+// A place where no frame stands, nor further in.
+fn far_in() -> usize
+    ensures { 2 ^ 64 ≤ result + 1 }
+{
+    usize::MAX
+}
+
+// From which place on frames go to what is right around them, once one that does comes between
+// others.
+fn placed_around(placed: usize, place: usize, len: usize) -> usize
+    requires { len + 1 < 2 ^ 64 }
+    ensures inside { placed ≤ place → placed ≤ result }
+    ensures around { place < placed → min placed len < result }
+    ensures least { min placed len ≤ result }
+{
+    if placed <= place {
+        return placed;
+    }
+    placed.min(len) + 1
+}
+
+impl Scopes {
+    // The element at a place leaves, where the one inside of it may not be known.
+    fn turn_known(&mut self, place: usize, new: Entered)
+        requires small { place + 1 < 2 ^ 64 }
+        requires bucket { new.role.bucket < 4093 }
+        requires new { list_any (is_numbered new.number) (entered self.old) ≡ false }
+        ensures { entered self.new
+            ≡ take (length (entered self.new)) (turned place new (entered self.old)) }
+    {
+        if place + 1 < self.len() {
+            self.turn(place, new);
+        } else {
+            self.cut(place);
+        }
+    }
 }
 
 impl<'a> FramePath<'a> {
     // What is asked
 
-    // Whether a frame is the element of a number.
-    fn is_element(&self, index: usize, number: u32) -> bool
+    // Whether a frame is an element that passes a test.
+    fn is_block(&self, index: usize, test: TagTest<'_>) -> bool
         requires { index < length self.now.frames.items }
-        ensures { result ≡ is_element_of number (frame_at self.now index) }
+        ensures { result ≡ is_block (tag_test_of test.entry) (frame_at self.now index) }
     {
         let frame = self.frames[index];
-        frame.is_open && frame.number == number
+        frame.is_open && test.passes(&self.store, frame.tag)
     }
 
-    // The block that was found so far, where a frame further out may be one.
-    fn block_at(&self, index: usize, found: Option<usize>, test: TagTest<'_>) -> Option<usize>
-        requires { index < length self.now.frames.items }
-        ensures stands { (k : ℕ) → is_element_of k (frame_at self.now index) ≡ false
-            → furthest (tag_test_of test.entry) k self.now found (index + 1)
-            ≡ furthest (tag_test_of test.entry) k self.now result index }
-        ensures within { IfSome found
-            (λ place. (index < place) × (place < length self.now.frames.items))
-            → IfSome result
-            (λ place. (index ≤ place) × (place < length self.now.frames.items)) }
+    // The outermost element from a place on that passes a test.
+    fn block_from(&self, start: usize, test: TagTest<'_>) -> Option<usize>
+        requires { start ≤ length self.now.frames.items }
+        ensures within { IfSome result
+            (λ index. (start ≤ index) × (index < length self.now.frames.items)) }
+        ensures passes { IfSome result
+            (λ index. IsTrue (is_block (tag_test_of test.entry) (frame_at self.now index))) }
+        ensures before { (i : ℕ) → start ≤ i → i < unwrap_or result (length self.now.frames.items)
+            → is_block (tag_test_of test.entry) (frame_at self.now i) ≡ false }
     {
-        let frame = self.frames[index];
-        if !frame.is_open {
-            return found;
+        for place in start..self.frames.len() {
+            if self.is_block(place, test) {
+                return Some(place);
+            }
         }
-        if test.passes(&self.store, frame.tag) {
-            return Some(index);
-        }
-        found
+        None
     }
 
     /// The place of the furthest block: the outermost special element inside of the one of a
@@ -88,17 +152,13 @@ impl<'a> FramePath<'a> {
         ensures within { IfSome result
             (λ index. (0 < index) × (index < length self.now.frames.items)) }
     {
-        let test = TagTest::Special(counts_search);
-        let mut found = None;
-        let mut left = self.frames.len();
-        while left > 0 {
-            left -= 1;
-            if self.is_element(left, number) {
-                return found;
-            }
-            found = self.block_at(left, found, test);
+        let Some(place) = self.find(Mark { number, depth: 0 }) else {
+            return None;
+        };
+        if !self.frames[place].is_open {
+            return None;
         }
-        None
+        self.block_from(place + 1, TagTest::Special(counts_search))
     }
 
     // The number of the innermost element outside of a place.
@@ -127,6 +187,38 @@ impl<'a> FramePath<'a> {
         }
     }
 
+    /// The place of the common ancestor, where the formatting element stands right inside of it and
+    /// goes there, and the block right inside of that.
+    pub(crate) fn near_ancestor(
+        &self,
+        block: usize,
+        number: u32,
+        is_fostering: bool,
+    ) -> Option<usize>
+        requires { block < length self.now.frames.items }
+        ensures near { IfSome result
+            (λ place. IsNear is_fostering number (frame_at self.now place)
+            (frame_at self.now (place + 1))) }
+        ensures within { IfSome result (λ place. block ≡ place + 2) }
+    {
+        if is_fostering {
+            return None;
+        }
+        if block < 2 {
+            return None;
+        }
+        let place = block - 2;
+        let own = self.frames[place + 1];
+        if own.number != number {
+            return None;
+        }
+        if !own.place.is_here() {
+            return None;
+        }
+        let around = self.frames[place];
+        if around.is_open { Some(place) } else { None }
+    }
+
     // What is put in
 
     /// A new element that has what is in a frame is put on the path, with so many outside of it.
@@ -148,6 +240,8 @@ impl<'a> FramePath<'a> {
             return Err(GrowError::TooLarge);
         }
         self.next = number + 1;
+        self.scopes.cut(place);
+        self.placed = placed_around(self.placed, place, self.frames.len());
         self.frames.insert(
             place,
             Frame {
@@ -206,6 +300,15 @@ impl<'a> FramePath<'a> {
         self.write(index, Frame { place, ..frame });
     }
 
+    // Whether a frame from a place on may go elsewhere than to what is right around it.
+    fn may_be_placed(&self, index: usize) -> bool
+        ensures yes { result ≡ true → index < length self.now.frames.items }
+        ensures no { result ≡ false
+            → IsTrue (list_all is_here (drop index self.now.frames.items)) }
+    {
+        index < self.placed.min(self.frames.len())
+    }
+
     // So do all frames from a place on.
     fn move_places(&mut self, start: usize, block: u32, new: u32)
         requires { start ≤ length self.old.frames.items }
@@ -216,8 +319,10 @@ impl<'a> FramePath<'a> {
         ensures next { self.new.next ≡ self.old.next }
         ensures store { self.new.store ≡ self.old.store }
     {
-        for index in start..self.frames.len() {
+        let mut index = start;
+        while self.may_be_placed(index) {
             self.move_place(index, block, new);
+            index += 1;
         }
     }
 
@@ -243,7 +348,65 @@ impl<'a> FramePath<'a> {
         Ok(())
     }
 
+    // The block takes the place of the frame around it, and a new element has what is in the block,
+    // which has that element instead.
+    fn turn(&mut self, index: usize, tag: u32) -> Result<(), GrowError>
+        requires index { index + 1 < length self.old.frames.items }
+        requires tag { IsTrue (is_tag_number self.old.store tag) }
+        ensures frames { OnOk result (frames_of self.new
+            ≡ take index (frames_of self.old)
+            ++ renewed self.old.next (tag_at self.old.store tag)
+            (drop (index + 1) (frames_of self.old))) }
+        ensures next { OnOk result (self.new.next ≡ self.old.next + 1) }
+        ensures more { self.old.next ≤ self.new.next }
+        ensures store { self.new.store ≡ self.old.store }
+    {
+        let number = self.next;
+        if number == u32::MAX {
+            return Err(GrowError::TooLarge);
+        }
+        let role = self.role_at(tag);
+        let block = self.frames[index + 1];
+        self.next = number + 1;
+        self.scopes.turn_known(index, Entered { number, role });
+        self.frames[index + 1] = Frame {
+            number,
+            tag,
+            place: Place::Here,
+            is_open: true,
+            ..block
+        };
+        self.frames[index] = Frame {
+            children: 0,
+            late: 0,
+            waiting: 0,
+            place: Place::Here,
+            ..block
+        };
+        self.move_places(index + 2, block.number, number);
+        Ok(())
+    }
+
     // What is settled
+
+    /// The formatting element right inside of a place is settled there, and a new element has what
+    /// is in the block, which stands right inside of it. No other frame is touched.
+    pub(crate) fn renew_near(&mut self, place: usize, tag: u32) -> Result<(), GrowError>
+        requires within { place + 2 < length self.old.frames.items }
+        requires tag { IsTrue (is_tag_number self.old.store tag) }
+        ensures frames { OnOk result (frames_of self.new
+            ≡ renewed_near place self.old.next (tag_at self.old.store tag)
+            (frame_at self.old (place + 1)) (frames_of self.old)) }
+        ensures next { OnOk result (self.new.next ≡ self.old.next + 1) }
+        ensures more { self.old.next ≤ self.new.next }
+        ensures grows { Grows self.old.store self.new.store }
+    {
+        let own = self.frames[place + 1];
+        let node = self.element(own)?;
+        self.put_inside(place, node)?;
+        self.catch_up(place)?;
+        self.turn(place + 1, tag)
+    }
 
     // Frames are settled up to the one of a number, or where there is none, those that left the
     // stack.
@@ -269,6 +432,7 @@ impl<'a> FramePath<'a> {
         ensures next { self.new.next ≡ self.old.next }
         ensures store { self.new.store ≡ self.old.store }
     {
+        self.scopes.cut(place);
         Ok(self.frames.split_off(place)?)
     }
 
@@ -281,6 +445,7 @@ impl<'a> FramePath<'a> {
         ensures next { self.new.next ≡ self.old.next }
         ensures store { self.new.store ≡ self.old.store }
     {
+        self.placed = far_in();
         self.frames.extend_from_slice(aside)?;
         Ok(())
     }

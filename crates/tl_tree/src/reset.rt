@@ -1,7 +1,7 @@
 //! The insertion mode is reset appropriately (13.2.4.1), and a template ends (13.2.6.4.4).
 ghost use Rattle.std.specs.List.{list_any};
 ghost use Rattle.std.specs.Option.{option_map};
-ghost use Rattle.std.specs.Prelude.{IfSome, IsTrue, None, OnOk, length, take, ◌+◌, ◌<◌, ◌≡◌};
+ghost use Rattle.std.specs.Prelude.{IfSome, IsTrue, None, OnOk, length, take, ◌+◌, ◌<◌, ◌≡◌, ◌≤◌};
 ghost use Rattle.tl_dom_spec.specs.Path.{elements, popped_while};
 ghost use Rattle.tl_dom_spec.specs.Reset.{close_template, current_template_mode, last_tag, mode_at, reset_insertion_mode, tag_mode, template_end_tag, templates_popped};
 ghost use Rattle.tl_dom_spec.specs.Reset as dom;
@@ -17,13 +17,14 @@ use crate::error::GrowError;
 use crate::group::{Group, group_of};
 use crate::mode::Mode;
 use crate::path::FramePath;
+use crate::role::Kind;
 use crate::test::{TagTest, Test};
 use tl_names::element_name::ElementName;
 
 impl<'a> FramePath<'a> {
     // Whether one of so many of the outermost frames is in the stack.
     fn has_open_among(&self, count: usize) -> bool
-        requires { count < length self.now.frames.items }
+        requires { count ≤ length self.now.frames.items }
         ensures { result ≡ list_any is_open (take count self.now.frames.items) }
     {
         self.frames[..count].iter().any(|frame| frame.is_open)
@@ -115,12 +116,27 @@ impl<'a> Builder<'a> {
         self.tag_mode(self.last_tag(frame.tag), true)
     }
 
+    // How many of the outermost frames decide the mode. Further in no element does, unless it is
+    // the last one that is looked at: then all frames are asked.
+    fn decisive_len(&self) -> usize
+        ensures within { result ≤ length self.now.path.frames.items }
+        ensures same { dom.mode_of (builder_of self.now) (elements (builder_of self.now).path)
+            ≡ mode_from self.now result }
+    {
+        let limit = self.path.kind_limit(Kind::Decisive);
+        if self.path.has_open_among(limit) {
+            limit
+        } else {
+            self.path.frames.len()
+        }
+    }
+
     // The mode that the stack decides.
     fn mode_of_stack(&self) -> Mode
         ensures { mode_of result
             ≡ dom.mode_of (builder_of self.now) (elements (builder_of self.now).path) }
     {
-        let mut index = self.path.frames.len();
+        let mut index = self.decisive_len();
         while index > 0 {
             index -= 1;
             match self.mode_by(index) {

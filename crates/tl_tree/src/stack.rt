@@ -3,11 +3,11 @@ ghost use Rattle.std.specs.Option.{option_map};
 ghost use Rattle.std.specs.Prelude.{IfSome, IsTrue, None, [], false, length, slice_index_or, true, ◌+◌, ◌<◌, ◌∷◌, ◌≡◌};
 ghost use Rattle.tl_dom_spec.specs.Body.{body_number, from_html};
 ghost use Rattle.tl_dom_spec.specs.Builder.{is_only};
-ghost use Rattle.tl_dom_spec.specs.Path.{at_number, document, elements};
-ghost use Rattle.tl_dom_spec.specs.Path as dom;
-ghost use Rattle.tl_dom_spec.specs.Tags.{Tag};
+ghost use Rattle.tl_dom_spec.specs.Path.{document, elements};
+ghost use Rattle.tl_tree.specs.Inner.Adopted.{frame_at};
 ghost use Rattle.tl_tree.specs.Inner.Frames.{changed, frames_of, path_of};
-ghost use Rattle.tl_tree.specs.Inner.Stack.{inner, opened_from, retagged, retagged_by};
+ghost use Rattle.tl_tree.specs.Inner.Roles.{role_of};
+ghost use Rattle.tl_tree.specs.Inner.Stack.{inner, opened_from, retagged};
 ghost use Rattle.tl_tree.specs.Inner.Store.{is_tag_number, tag_at};
 
 use crate::frame::{Frame, Mark};
@@ -15,10 +15,12 @@ use crate::path::FramePath;
 use crate::test::{TagTest, Test};
 
 impl<'a> FramePath<'a> {
-    // The frame at a place has another tag.
-    fn retag(&mut self, index: usize, tag: u32)
+    /// The frame at a place has another tag, by which searches take it for the same.
+    pub(crate) fn retag(&mut self, index: usize, tag: u32)
         requires index { index < length self.old.frames.items }
         requires tag { IsTrue (is_tag_number self.old.store tag) }
+        requires role { role_of (tag_at self.old.store tag)
+            ≡ role_of (frame_at self.old index).tag }
         ensures frames { frames_of self.new
             ≡ changed index (retagged (tag_at self.old.store tag)) (frames_of self.old) }
         ensures store { self.new.store ≡ self.old.store }
@@ -26,34 +28,6 @@ impl<'a> FramePath<'a> {
     {
         let frame = self.frames[index];
         self.write(index, Frame { tag, ..frame });
-    }
-
-    /// The frame of a number has another tag.
-    pub(crate) fn set_tag(&mut self, mark: Mark, tag: u32)
-        requires { IsTrue (is_tag_number self.old.store tag) }
-        ensures path { path_of self.new
-            ≡ at_number mark.number (retagged (tag_at self.old.store tag)) (path_of self.old) }
-        ensures store { self.new.store ≡ self.old.store }
-        ensures next { self.new.next ≡ self.old.next }
-    {
-        match self.find(mark) {
-            Some(index) => self.retag(index, tag),
-            None => {}
-        }
-    }
-
-    /// The tag of the frame of a number: a change of that tag is a change of the frame's.
-    pub(crate) fn tag_of(&self, mark: Mark) -> Option<u32>
-        ensures within { IfSome result (λ tag. IsTrue (is_tag_number self.now.store tag)) }
-        ensures some { IfSome result (λ tag. (change : Tag → Tag)
-            → at_number mark.number (retagged_by change) (path_of self.now)
-            ≡ at_number mark.number (retagged (change (tag_at self.now.store tag)))
-            (path_of self.now)) }
-        ensures none { result ≡ None → (change : dom.Frame → dom.Frame)
-            → at_number mark.number change (path_of self.now) ≡ path_of self.now }
-    {
-        let index = self.find(mark)?;
-        Some(self.frames[index].tag)
     }
 
     // Whether the innermost frame is the `html` element, or the document.

@@ -5,10 +5,13 @@
 //! `proofs/Grown`), and each number that a store holds is in range (`Store`'s ghost fields).
 ghost use Rattle.std.specs.Prelude.{IsTrue, length, ◌+◌, ◌<◌, ◌^◌};
 ghost use Rattle.std.specs.List.{list_all};
+ghost use Rattle.tl_tree.specs.Inner.Lists.{in_list, many_in};
+ghost use Rattle.tl_tree.specs.declared.entries.AttributeList.{AttributeList};
 ghost use Rattle.tl_tree.specs.Inner.Within.{attribute_is_within, cells_are_within, doctype_is_within, tag_is_within};
 
+use crate::attribute_lists::AttributeLists;
 use crate::cell::{Cell, Node};
-use crate::entries::{AttributeEntry, DoctypeEntry, TagEntry};
+use crate::entries::{AttributeEntry, AttributeList, DoctypeEntry, TagEntry};
 use crate::error::GrowError;
 use crate::span::Span;
 use std::alloc::Global;
@@ -19,17 +22,18 @@ pub(crate) struct Store<'a> {
     pub(crate) page: &'a [u8],
     /// Bytes that don't stand so in the page.
     pub(crate) side: Vec<u8>,
-    pub(crate) attributes: Vec<AttributeEntry>,
+    pub(crate) attributes: AttributeLists,
     pub(crate) tags: Vec<TagEntry>,
     pub(crate) doctypes: Vec<DoctypeEntry>,
     pub(crate) cells: Vec<Cell>,
     ghost short: { length page.now + length side.items < 2 ^ 32 },
-    ghost few_attributes: { length attributes.items < 2 ^ 32 },
-    ghost attributes_within: { IsTrue
-        (list_all (attribute_is_within (length page.now) (length side.items)) attributes.items) },
+    ghost attributes_within: { (list : AttributeList) → IsTrue
+        (list_all
+        (attribute_is_within (length page.now) (length side.items))
+        (in_list attributes list)) },
     ghost tags_within: { IsTrue
         (list_all
-        (tag_is_within (length page.now) (length side.items) (length attributes.items))
+        (tag_is_within (length page.now) (length side.items) (many_in attributes))
         tags.items) },
     ghost doctypes_within: { IsTrue
         (list_all (doctype_is_within (length page.now) (length side.items)) doctypes.items) },
@@ -48,7 +52,7 @@ pub(crate) struct Store<'a> {
 impl<'a> Store<'a> {
     ghost use Rattle.std.specs.Prelude.{Err, IfOk, OnOk, [], ◌++◌, ◌↔◌, ◌∷◌, ◌≡◌, ◌≤◌};
     ghost use Rattle.tl_dom_spec.specs.Path.{joined};
-    ghost use Rattle.tl_tree.specs.Inner.Store.{Grows, bytes_of, doctype_at, doctype_of, is_attribute, is_doctype, is_doctype_number, is_node, is_row, is_span, is_tag, is_tag_number, node_of, nodes_of, tag_at, tag_of};
+    ghost use Rattle.tl_tree.specs.Inner.Store.{Grows, bytes_of, doctype_at, doctype_of, is_attribute, is_doctype, is_doctype_number, is_node, is_row, is_span, is_tag, is_tag_number, list_in, node_of, nodes_of, tag_at, tag_of};
 
     /// Nothing yet.
     pub(crate) fn new(alloc: Global, page: &'a [u8]) -> Result<Store<'a>, GrowError>
@@ -62,7 +66,7 @@ impl<'a> Store<'a> {
         Ok(Store {
             page,
             side: Vec::new(alloc),
-            attributes: Vec::new(alloc),
+            attributes: AttributeLists::new(alloc),
             tags: Vec::new(alloc),
             doctypes: Vec::new(alloc),
             cells: Vec::new(alloc),
@@ -108,7 +112,7 @@ impl<'a> Store<'a> {
     pub(crate) fn add_bytes(&mut self, bytes: &[u8]) -> Result<Span, GrowError>
         ensures stands { IfOk result (λ span. bytes_of self.new span ≡ bytes.now) }
         ensures appends { OnOk result (self.new.side.items ≡ self.old.side.items ++ bytes.now) }
-        ensures attributes { self.new.attributes.items ≡ self.old.attributes.items }
+        ensures attributes { self.new.attributes ≡ self.old.attributes }
         ensures within { IfOk result (λ span. IsTrue (is_span self.new span)) }
         ensures grows { Grows self.old self.new }
         ensures too_large { result ≡ Err GrowError.TooLarge
@@ -126,27 +130,27 @@ impl<'a> Store<'a> {
         })
     }
 
-    /// How many attributes there are, which is the number of the next one.
-    pub(crate) fn attribute_count(&self) -> u32
-        ensures { result ≡ length self.now.attributes.items }
+    /// How many attributes are in a list, which is the number of the next one.
+    pub(crate) fn attribute_count(&self, list: AttributeList) -> u32
+        ensures { result ≡ length (list_in self.now list) }
     {
-        self.attributes.len() as u32
+        self.attributes.count(list)
     }
 
-    /// Puts an attribute behind the others.
-    pub(crate) fn add_attribute(&mut self, attribute: AttributeEntry) -> Result<(), GrowError>
+    /// Puts an attribute behind those of a list.
+    pub(crate) fn add_attribute(
+        &mut self,
+        list: AttributeList,
+        attribute: AttributeEntry,
+    ) -> Result<(), GrowError>
         requires { IsTrue (is_attribute self.old attribute) }
         ensures stands { OnOk result
-            (self.new.attributes.items ≡ self.old.attributes.items ++ attribute ∷ []) }
+            (list_in self.new list ≡ list_in self.old list ++ attribute ∷ []) }
         ensures grows { Grows self.old self.new }
         ensures too_large { result ≡ Err GrowError.TooLarge
-            → 2 ^ 32 ≤ length self.old.attributes.items + 1 }
+            → 2 ^ 32 ≤ length (list_in self.old list) + 1 }
     {
-        if self.attributes.len() >= u32::MAX as usize {
-            return Err(GrowError::TooLarge);
-        }
-        self.attributes.push(attribute)?;
-        Ok(())
+        self.attributes.add(list, attribute)
     }
 
     /// Puts a tag behind the others, and answers its number.

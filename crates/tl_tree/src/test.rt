@@ -2,6 +2,8 @@
 ghost use Rattle.std.specs.Prelude.{IsTrue, ◌≡◌};
 ghost use Rattle.tl_dom_spec.specs.Tags.{is_any, is_heading, is_implied, is_implied_thoroughly, is_scope, is_item_bound, is_math_mark, is_special, is_special_name, is_svg_mark};
 ghost use Rattle.tl_html_spec.specs.Balanced.{is_one_of};
+ghost use Rattle.tl_names.specs.Elements.{is_among};
+ghost use Rattle.tl_names.specs.TagSets.{names_in};
 ghost use Rattle.tl_tree.specs.Inner.Frames.{frame_of, test_of, test_or_other};
 ghost use Rattle.tl_tree.specs.Inner.Store.{is_tag_number, tag_at};
 ghost use Rattle.tl_tree.specs.Inner.Tests.{named, tag_test_of};
@@ -11,8 +13,8 @@ use crate::entries::Namespace;
 use crate::frame::Frame;
 use crate::integration::is_html_place;
 use crate::store::Store;
-use tl_names::elements::{HEADINGS, IMPLIED_ENDS, SPECIAL_NAMES};
-use tl_names::is_among;
+use tl_names::class::Class;
+use tl_names::element_name::ElementName;
 
 /// Which elements are meant, by their tags.
 #[derive(Clone, Copy)]
@@ -55,63 +57,75 @@ pub(crate) fn is_one_of(words: &[u8], name: &[u8]) -> bool
     words.split(|byte| *byte == b' ').any(|word| name == word)
 }
 
-fn is_any(names: &[u8], space: Namespace, name: &[u8]) -> bool
+pub(crate) fn is_any(names: &[u8], space: Namespace, name: &[u8]) -> bool
     ensures { result ≡ is_any names.now (named space name.now) }
 {
     space.is_html() && is_one_of(names, name)
 }
 
+// Whether a name is of a class.
+#[tactic(auto, using(tl_names::proofs::TagSets::class_of_name))]
+pub(crate) fn is_of(class: Class, name: &[u8]) -> bool
+    ensures { result ≡ is_among (names_in class) name.now }
+{
+    ElementName::of(name).is(class)
+}
+
+#[tactic(auto, unfolding(tl_names::specs::TagSets::names_in))]
 fn is_implied(space: Namespace, name: &[u8]) -> bool
     ensures { result ≡ is_implied (named space name.now) }
 {
-    space.is_html() && is_among(&IMPLIED_ENDS, name)
+    space.is_html() && is_of(Class::Implied, name)
 }
 
+#[tactic(auto, unfolding(tl_names::specs::TagSets::names_in))]
 fn is_implied_thoroughly(space: Namespace, name: &[u8]) -> bool
     ensures { result ≡ is_implied_thoroughly (named space name.now) }
 {
-    is_implied(space, name) || is_any(b"caption colgroup tbody td tfoot th thead tr", space, name)
+    space.is_html() && is_of(Class::ImpliedThoroughly, name)
 }
 
+#[tactic(auto, unfolding(tl_names::specs::TagSets::names_in))]
 fn is_heading(space: Namespace, name: &[u8]) -> bool
     ensures { result ≡ is_heading (named space name.now) }
 {
-    space.is_html() && is_among(&HEADINGS, name)
+    space.is_html() && is_of(Class::Heading, name)
 }
 
 // What bounds scopes, and is special, of MathML and of SVG.
+#[tactic(auto, unfolding(tl_names::specs::TagSets::names_in))]
 fn is_math_mark(name: &[u8]) -> bool
     ensures { result ≡ is_math_mark (named Math name.now) }
 {
-    is_one_of(b"mi mo mn ms mtext annotation-xml", name)
+    is_of(Class::MathMark, name)
 }
 
+#[tactic(auto, unfolding(tl_names::specs::TagSets::names_in))]
 fn is_svg_mark(name: &[u8]) -> bool
     ensures { result ≡ is_svg_mark (named Svg name.now) }
 {
-    is_one_of(b"foreignObject desc title", name)
+    is_of(Class::SvgMark, name)
 }
 
-fn is_scope(space: Namespace, name: &[u8]) -> bool
+#[tactic(auto, unfolding(tl_names::specs::TagSets::names_in))]
+pub(crate) fn is_scope(space: Namespace, name: &[u8]) -> bool
     ensures { result ≡ is_scope (named space name.now) }
 {
     match space {
-        Namespace::Html => is_one_of(
-            b"applet caption html table td th marquee object select template",
-            name,
-        ),
+        Namespace::Html => is_of(Class::Scope, name),
         Namespace::Math => is_math_mark(name),
         Namespace::Svg => is_svg_mark(name),
     }
 }
 
+#[tactic(auto, unfolding(tl_names::specs::TagSets::names_in))]
 fn is_special_name(counts_search: bool, name: &[u8]) -> bool
     ensures { result ≡ is_special_name counts_search name.now }
 {
-    is_among(&SPECIAL_NAMES, name) && (counts_search || !is_one_of(b"search", name))
+    is_of(Class::Special, name) && (counts_search || name != b"search".as_slice())
 }
 
-fn is_special(counts_search: bool, space: Namespace, name: &[u8]) -> bool
+pub(crate) fn is_special(counts_search: bool, space: Namespace, name: &[u8]) -> bool
     ensures { result ≡ is_special counts_search (named space name.now) }
 {
     match space {
@@ -121,10 +135,12 @@ fn is_special(counts_search: bool, space: Namespace, name: &[u8]) -> bool
     }
 }
 
-fn is_item_bound(counts_search: bool, space: Namespace, name: &[u8]) -> bool
+#[tactic(auto, unfolding(tl_names::specs::TagSets::names_in))]
+pub(crate) fn is_item_bound(counts_search: bool, space: Namespace, name: &[u8]) -> bool
     ensures { result ≡ is_item_bound counts_search (named space name.now) }
 {
-    is_special(counts_search, space, name) && !is_any(b"address div p", space, name)
+    is_special(counts_search, space, name)
+        && !(space.is_html() && is_of(Class::AddressDivParagraph, name))
 }
 
 impl<'n> TagTest<'n> {

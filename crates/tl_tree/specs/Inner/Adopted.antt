@@ -1,13 +1,13 @@
 -- The adoption agency algorithm, on frames that are kept the outermost first.
 use Rattle.std.specs.Option.{option_map}
-use Rattle.std.specs.Prelude.{Bool, List, None, Option, Some, [], drop, false, length, map, not, reverse, slice_index_or, suc, take, if◌then◌else◌, ℕ, ◌&&◌, ◌+◌, ◌++◌, ◌==◌, ◌≡◌, ◌∷◌}
+use Rattle.std.specs.Prelude.{Bool, List, None, Option, Some, [], drop, false, length, map, not, reverse, slice_index_or, suc, take, true, if◌then◌else◌, ℕ, ◌&&◌, ◌+◌, ◌++◌, ◌==◌, ◌≡◌, ◌∷◌}
 use Rattle.tl_dom_spec.specs.Adoption.{Clones, cloned, entry_moved, first, inside_of, moved_into, moved_place, outermost, outside_of, readopted, settled_to}
 use Rattle.tl_dom_spec.specs.Builder.{Entry}
 use Rattle.tl_dom_spec.specs.Formatting.{Listed}
-use Rattle.tl_dom_spec.specs.Path.{Frame, Path, Place, document, elements, here, new_frame, no_nodes, on_top, place_in}
+use Rattle.tl_dom_spec.specs.Path.{Frame, Nodes, Path, Place, caught_up, document, elements, here, new_frame, no_nodes, node_of, on_top, place_in, with_nodes}
 use Rattle.tl_dom_spec.specs.Tags.{Tag}
 use Rattle.tl_tree.specs.Inner.Active.{active_of}
-use Rattle.tl_tree.specs.Inner.Frames.{frames_of, path_of}
+use Rattle.tl_tree.specs.Inner.Frames.{changed, frames_of, path_of}
 use Rattle.tl_tree.specs.declared.active.ActiveList.{ActiveList}
 use Rattle.tl_tree.specs.declared.path.FramePath.{FramePath}
 
@@ -24,6 +24,10 @@ frame_found p found = option_map (frame_at p) found
 
 abbrev pub is_element_of : ℕ → Frame → Bool
 is_element_of k f = f.is_open && (f.number == k)
+
+-- an element that passes a test
+abbrev pub is_block : (Tag → Bool) → Frame → Bool
+is_block test f = f.is_open && test f.tag
 
 -- the furthest block, where one was found and so many of the outermost frames are left
 unfoldable pub furthest : (Tag → Bool) → ℕ → FramePath → Option ℕ → ℕ → Option Frame
@@ -61,6 +65,24 @@ abbrev pub renewed : ℕ → Tag → List Frame → List Frame
 renewed number tag [] = []
 renewed number tag (block ∷ inner) =
     emptied block ∷ filled number tag block ∷ map (moved block.number number) inner
+
+-- what is settled in a frame, and what waited there behind it
+abbrev pub settled_in : Nodes → Frame → Frame
+settled_in nodes f = caught_up (with_nodes nodes f)
+
+-- the formatting element is settled in the frame at a place, which is right outside of it, and the
+-- block right inside of it is renewed
+abbrev pub renewed_near : ℕ → ℕ → Tag → Frame → List Frame → List Frame
+renewed_near place number tag own frames =
+    take (suc place) (changed place (settled_in (node_of own)) frames)
+    ++ renewed number tag (drop (suc (suc place)) frames)
+
+-- the formatting element goes to what is right outside of it, and no node is foster parented
+pub record IsNear (is_fostering : Bool) (k : ℕ) (outside own : Frame) : Type 0 where
+  pub fosters : is_fostering ≡ false
+  pub number : own.number ≡ k
+  pub goes : own.place ≡ here
+  pub around : outside.is_open ≡ true
 
 -- frames with others outside of them; the outermost goes to its place
 abbrev pub with_outer : Bool → Path → List Frame → List Frame

@@ -1,7 +1,9 @@
 -- Which frames may stand on a path: what they have is in the store, and their numbers differ.
 use Rattle.std.specs.List.{list_any}
-use Rattle.std.specs.Prelude.{Bool, List, [], map, nat_eq, nat_le, nat_lt, not, true, ℕ, ◌&&◌, ◌∷◌}
+use Rattle.std.specs.Prelude.{Bool, List, [], false, map, nat_eq, nat_le, nat_lt, not, true, ℕ, ◌&&◌, ◌∷◌}
 use Rattle.tl_tree.specs.declared.frame.Frame.{Frame}
+use Rattle.tl_tree.specs.declared.frame.Place.{Place}
+use Rattle.tl_tree.specs.declared.frame.Place.TheVariants.{Behind, Here, Into, IntoHead}
 
 -- where there are so many tags and rows
 abbrev pub frame_is_within : ℕ → ℕ → Frame → Bool
@@ -22,3 +24,13 @@ numbers frames = map (λ (f : Frame). f.number) frames
 abbrev pub are_distinct : List Frame → Bool
 are_distinct [] = true
 are_distinct (f ∷ frames) = not (list_any (is_numbered f.number) frames) && are_distinct frames
+
+-- whether a node goes to the end of what is next on the path
+abbrev pub goes_here : Place → Bool
+goes_here Here = true
+goes_here (Into mark) = false
+goes_here (Behind mark) = false
+goes_here IntoHead = false
+
+abbrev pub is_here : Frame → Bool
+is_here f = goes_here f.place

@@ -4,11 +4,13 @@ use Rattle.std.specs.Prelude.{Bool, List, [], drop, length, map, nat_le, nat_lt,
 use Rattle.tl_dom_spec.specs.Path.{Nodes, and_comment, and_doctype, and_element, and_text, joined, no_nodes}
 use Rattle.tl_dom_spec.specs.Tags as dom
 use Rattle.tl_html_spec.specs.Doctypes as doctypes
+use Rattle.tl_tree.specs.Inner.Lists.{in_list, many_in}
 use Rattle.tl_tree.specs.Inner.Within.{Sizes, attribute_is_within, doctype_is_within, node_is_within, span_is_within, tag_is_within}
 use Rattle.tl_tree.specs.declared.cell.Cell.{Cell}
 use Rattle.tl_tree.specs.declared.cell.Node.{Node}
 use Rattle.tl_tree.specs.declared.cell.Node.TheVariants.{Comment, Doctype, Element, Joined, Text}
 use Rattle.tl_tree.specs.declared.entries.AttributeEntry.{AttributeEntry}
+use Rattle.tl_tree.specs.declared.entries.AttributeList.{AttributeList}
 use Rattle.tl_tree.specs.declared.entries.AttributeSpace.{AttributeSpace}
 use Rattle.tl_tree.specs.declared.entries.AttributeSpace.TheVariants.{Plain, Xlink, Xml, Xmlns}
 use Rattle.tl_tree.specs.declared.entries.DoctypeEntry.{DoctypeEntry}
@@ -36,7 +38,7 @@ is_attribute s a = attribute_is_within (length s.page.now) (length s.side.items)
 
 abbrev pub is_tag : Store → TagEntry → Bool
 is_tag s t =
-    tag_is_within (length s.page.now) (length s.side.items) (length s.attributes.items) t
+    tag_is_within (length s.page.now) (length s.side.items) (many_in s.attributes) t
 
 abbrev pub is_doctype : Store → DoctypeEntry → Bool
 is_doctype s d = doctype_is_within (length s.page.now) (length s.side.items) d
@@ -80,9 +82,12 @@ attribute_of s a = record {
   value = bytes_of s a.value;
 }
 
+abbrev pub list_in : Store → AttributeList → List AttributeEntry
+list_in s list = in_list s.attributes list
+
 -- the attributes of a tag
 abbrev pub entries_of : Store → TagEntry → List AttributeEntry
-entries_of s t = take t.attribute_count (drop t.first_attribute s.attributes.items)
+entries_of s t = take t.attribute_count (drop t.first_attribute (list_in s t.list))
 
 unfoldable pub tag_of : Store → TagEntry → dom.Tag
 tag_of s t = record {
@@ -144,7 +149,9 @@ Begins {A} front all = all ≡ front ++ drop (length front) all
 pub record Grows (s t : Store) : Type 0 where
   pub page : t.page.now ≡ s.page.now
   pub side : Begins s.side.items t.side.items
-  pub attributes : Begins s.attributes.items t.attributes.items
+  pub attributes : Begins s.attributes.tags.items t.attributes.tags.items
+  pub html_attributes : Begins s.attributes.html.items t.attributes.html.items
+  pub body_attributes : Begins s.attributes.body.items t.attributes.body.items
   pub tags : Begins s.tags.items t.tags.items
   pub doctypes : Begins s.doctypes.items t.doctypes.items
   pub cells : Begins s.cells.items t.cells.items

@@ -4,6 +4,7 @@ use Rattle.tl_tree.specs.declared.cell.Cell.{Cell}
 use Rattle.tl_tree.specs.declared.cell.Node.{Node}
 use Rattle.tl_tree.specs.declared.cell.Node.TheVariants.{Comment, Doctype, Element, Joined, Text}
 use Rattle.tl_tree.specs.declared.entries.AttributeEntry.{AttributeEntry}
+use Rattle.tl_tree.specs.declared.entries.AttributeList.{AttributeList}
 use Rattle.tl_tree.specs.declared.entries.DoctypeEntry.{DoctypeEntry}
 use Rattle.tl_tree.specs.declared.entries.TagEntry.{TagEntry}
 use Rattle.tl_tree.specs.declared.span.Span.{Span}
@@ -29,10 +30,11 @@ abbrev pub attribute_is_within : ℕ → ℕ → AttributeEntry → Bool
 attribute_is_within page side a =
     span_is_within page side a.key && span_is_within page side a.value
 
-abbrev pub tag_is_within : ℕ → ℕ → ℕ → TagEntry → Bool
-tag_is_within page side attributes t =
+-- where there are so many attributes in each list
+abbrev pub tag_is_within : ℕ → ℕ → (AttributeList → ℕ) → TagEntry → Bool
+tag_is_within page side many t =
     span_is_within page side t.name
-    && nat_le (t.first_attribute + t.attribute_count) attributes
+    && nat_le (t.first_attribute + t.attribute_count) (many t.list)
 
 abbrev pub doctype_is_within : ℕ → ℕ → DoctypeEntry → Bool
 doctype_is_within page side d =

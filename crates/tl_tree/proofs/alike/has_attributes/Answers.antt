@@ -12,5 +12,5 @@ returns-then-not-has_attribute c =
     let s = c.args.store.now in
     let others = map (attribute_of s) (entries_of s c.args.other) in
     let test : dom.Attribute → Bool = λ x. list_any (is_same_attribute x) others in
-    sym (ap (λ (xs : List AttributeEntry). list_all test (map (attribute_of s) xs)) (sym c.attributes-attribute-items.ensures)
-    ∙ all-missed test (attribute_of s) c.attributes-attribute-items.result.now c.loop-attribute.attribute-index _ c.loop-attribute-test.true (sym c.has_attribute.ensures ∙ c.if-not-has_attribute.true))
+    sym (ap (λ (xs : List AttributeEntry). list_all test (map (attribute_of s) xs)) (sym c.attributes-attributes.ensures)
+    ∙ all-missed test (attribute_of s) c.attributes-attributes.result.now c.loop-place.place _ c.loop-place-test.true (sym c.has_attribute.ensures ∙ c.if-not-has_attribute.true))

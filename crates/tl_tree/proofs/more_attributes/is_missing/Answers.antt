@@ -1,6 +1,6 @@
 use Rattle.std.proofs.Common.{IsTrue, List, subst, sym}
 use Rattle.std.specs.List.{list_all}
-use Rattle.tl_tree.proofs.Merged.{entries-within}
+use Rattle.tl_tree.proofs.AlikeTags.{entries-within}
 use Rattle.tl_tree.specs.Inner.Store.{is_attribute}
 use Rattle.tl_tree.specs.declared.entries.AttributeEntry.{AttributeEntry}
 use Rattle.tl_tree.proofs.more_attributes.is_missing.Goals as goal

@@ -3,6 +3,8 @@ use Rattle.tl_html_parts.specs.Parts.{attribute_view, attributes_of, name_of, wi
 use Rattle.tl_html_spec.specs.HtmlTokenizer.{new_tag}
 use Rattle.tl_tree.proofs.SaidTags.{tag-said}
 use Rattle.tl_tree.specs.Inner.Said.{attributes_so_far}
+use Rattle.tl_tree.specs.Inner.Store.{list_in}
+use Rattle.tl_tree.specs.declared.entries.AttributeList.TheVariants.{Tags}
 use Rattle.tl_tree.proofs.said_attributes.put_tag.Goals as goal
 
 pub returns-clause-stands : goal.returns-clause-stands
@@ -17,5 +19,5 @@ returns-clause-stands c =
     room c.in_ok-put_attributes.ensures.within
     (c.in_ok-put_attributes.ensures.stands (new_tag false) refl
     ∙ ap (λ xs. attributes_so_far (with_attributes (new_tag false) (map attribute_view xs))) c.as_slice.ensures.value)
-    (c.in_ok-add_attributes.ensures.stands ∙ ap (λ xs. t.attributes.items ++ xs) c.as_slice-2.ensures.value)
+    (c.in_ok-add_attributes.ensures.stands ∙ ap (λ xs. list_in t Tags ++ xs) c.as_slice-2.ensures.value)
     _ _ c.attribute_count-first_attribute.ensures c.attribute_count.ensures

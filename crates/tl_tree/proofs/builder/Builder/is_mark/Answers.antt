@@ -4,10 +4,11 @@ use Rattle.tl_dom_spec.specs.Tags.{Tag}
 use Rattle.tl_html_spec.specs.Balanced.{is_one_of}
 use Rattle.tl_tree.specs.Inner.Builders.{token_of}
 use Rattle.tl_tree.specs.Inner.Store.{tag_of}
+use Rattle.tl_names.specs.TagSets.{names_in}
 use Rattle.tl_tree.proofs.builder.Builder.is_mark.Goals as goal
 
 pub returns : goal.returns
-unfolding token_of tag_of
+unfolding names_in token_of tag_of
 returns c =
-    c.is_one_of.ensures
+    c.is_of.ensures
     ∙ ap (is_one_of (codes "mglyph malignmark")) (c.bytes.ensures ∙ ap (λ (t : Tag). t.name) c.tag-own.ensures.stands)

@@ -1,4 +1,5 @@
 use Rattle.std.proofs.Common.{ap, length, refl, reverse}
+use Rattle.tl_tree.proofs.Entering.{known-grown}
 use Rattle.tl_tree.proofs.Listed.{all-weaker}
 use Rattle.tl_tree.proofs.Written.{frame-more, frames-grown}
 use Rattle.tl_tree.specs.Inner.Framed.{frame_is_within}
@@ -10,6 +11,9 @@ invariant_of-self-clause-within c =
     let p = c.args.self.now in
     let s = c.put_bytes.new.store in
     all-weaker (is_frame p) (frame_is_within (length s.tags.items) (length s.cells.items)) (frame-more p.store s c.put_bytes.ensures.grows) p.frames.items p.within
+
+pub invariant_of-self-clause-known : goal.invariant_of-self-clause-known
+invariant_of-self-clause-known c = known-grown c.args.self.now c.put_bytes.new.store c.put_bytes.ensures.grows
 
 pub returns-clause-path : goal.returns-clause-path
 returns-clause-path c =

@@ -1,6 +1,7 @@
-use Rattle.std.proofs.Common.{ap, length, refl, reverse}
+use Rattle.std.proofs.Common.{length}
+use Rattle.tl_tree.proofs.Entering.{known-grown}
 use Rattle.tl_tree.proofs.Listed.{all-weaker}
-use Rattle.tl_tree.proofs.Written.{frame-more, frames-grown}
+use Rattle.tl_tree.proofs.Written.{frame-more}
 use Rattle.tl_tree.specs.Inner.Framed.{frame_is_within}
 use Rattle.tl_tree.specs.Inner.Frames.{is_frame}
 use Rattle.tl_tree.proofs.path.FramePath.add_merged_tag.Goals as goal
@@ -11,6 +12,5 @@ invariant_of-self-clause-within c =
     let s = c.add_merged_tag.new.self in
     all-weaker (is_frame p) (frame_is_within (length s.tags.items) (length s.cells.items)) (frame-more p.store s c.add_merged_tag.ensures.grows) p.frames.items p.within
 
-pub returns-clause-path : goal.returns-clause-path
-returns-clause-path c =
-    ap reverse (frames-grown c.args.self.now _ c.add_merged_tag.ensures.grows refl)
+pub invariant_of-self-clause-known : goal.invariant_of-self-clause-known
+invariant_of-self-clause-known c = known-grown c.args.self.now c.add_merged_tag.new.self c.add_merged_tag.ensures.grows

@@ -1,6 +1,11 @@
 use Rattle.std.proofs.Common.{◌∙◌}
+use Rattle.tl_tree.proofs.Entering.{role-kept}
 use Rattle.tl_tree.proofs.Written.{caught-up, caught-up-none}
 use Rattle.tl_tree.proofs.path.FramePath.catch_up.Goals as goal
+
+pub write-requires-clause-role : goal.write-requires-clause-role
+write-requires-clause-role c =
+    role-kept c.add.new.self.store c.args.self.now.frames.items c.add.new.self.frames.items c.args.index c.index-frame.result.now c.in_ok-frame.frame _ (c.add.ensures.frames ∙ c.folded.ensures.frames) c.index-frame.ensures c.requires.index c.in_ok-frame.ensures.tag
 
 pub returns-then-frame-eq0-clause-ok : goal.returns-then-frame-eq0-clause-ok
 returns-then-frame-eq0-clause-ok c =

@@ -1,14 +1,17 @@
-use Rattle.std.proofs.Common.{IsTrue, List, arith, is_ok, length, refl, ◌+◌, ◌≤◌, true}
+use Rattle.std.proofs.Common.{IsTrue, List, arith, is_ok, length, refl, ◌+◌, ◌≤◌, true, min, ◌<◌}
 use Rattle.std.proofs.lemmas.Bool.{lt-ltb}
 use Rattle.std.specs.List.{insert, list_all}
+use Rattle.tl_tree.proofs.Entering.{opens-inserted}
 use Rattle.tl_tree.proofs.Listed.{all-weaker}
 use Rattle.tl_tree.proofs.Numbers.{all-insert, distinct-insert, either, insert-longer}
 use Rattle.tl_tree.proofs.Readopted.{inserted}
 use Rattle.tl_tree.proofs.Within.{lt-more}
+use Rattle.tl_tree.specs.Inner.Entered.{entered, entered_of}
 use Rattle.tl_tree.specs.Inner.Framed.{are_distinct, is_before}
 use Rattle.tl_tree.specs.Inner.Frames.{is_frame}
 use Rattle.tl_tree.specs.declared.frame.Frame.{Frame}
 use Rattle.tl_tree.specs.declared.frame.Place.TheVariants.{Here}
+use Rattle.tl_tree.proofs.Placed.{here-inserted}
 use Rattle.tl_tree.proofs.path.FramePath.insert_frame.Goals as goal
 
 pub invariant_of-self-clause-within : goal.invariant_of-self-clause-within
@@ -46,7 +49,25 @@ invariant_of-self-clause-some c =
     let some = p.some in
     omega arith
 
+pub invariant_of-self-clause-known : goal.invariant_of-self-clause-known
+invariant_of-self-clause-known c =
+    let p = c.args.self.now in
+    let f : Frame = record c.args.frame { number = p.next; place = Here; is_open = true } in
+    opens-inserted (entered_of p.store) (is_ok c.insert.result) c.args.place p.frames.items c.insert.new.self.items f (entered p.scopes) (entered c.cut.new.self) c.cut.ensures c.insert.ensures.items p.known
+
 pub returns-clause-frames : goal.returns-clause-frames
 returns-clause-frames c =
     let p = c.args.self.now in
     inserted p _ c.args.place (record c.args.frame { number = p.next; place = Here; is_open = true }) c.in_ok-insert.ensures.items refl
+
+pub invariant_of-self-clause-near : goal.invariant_of-self-clause-near
+invariant_of-self-clause-near c =
+    let p = c.args.self.now in
+    let xs = p.frames.items in
+    let own = p.frames.ok.0 in
+    let f : Frame = record c.args.frame { number = p.next; place = Here; is_open = true } in
+    let m = c.placed_around-self.result in
+    let around : c.args.place < p.placed → min p.placed (length xs) < m = λ (h : c.args.place < p.placed).
+    (let less = c.placed_around-self.ensures.around h in omega arith) in
+    let least : min p.placed (length xs) ≤ m = (let most = c.placed_around-self.ensures.least in omega arith) in
+    here-inserted (is_ok c.insert.result) xs c.insert.new.self.items c.args.place p.placed m f c.insert.ensures.items refl c.placed_around-self.ensures.inside around least p.near

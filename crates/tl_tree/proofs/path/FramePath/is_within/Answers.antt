@@ -1,15 +1,25 @@
 use Rattle.std.proofs.Common.{ap, arith, sym, ◌≡◌, ◌∙◌}
-use Rattle.tl_tree.proofs.Sought.{sought-all, sought-none}
+use Rattle.tl_tree.proofs.Begun.{sought-begun}
+use Rattle.tl_tree.proofs.Skipped.{none-further}
+use Rattle.tl_tree.proofs.Sought.{sought-none}
 use Rattle.tl_tree.specs.Inner.Frames.{sought, test_of}
 use Rattle.tl_tree.proofs.path.FramePath.is_within.Goals as goal
 
 pub loop-index-init : goal.loop-index-init
 loop-index-init c =
     let p = c.args.self.now in
-    let own = p.frames.ok.0 in
+    let test = test_of c.args.test in
+    let bounds = test_of c.args.bounds in
+    let n = c.max-index.result in
+    let greater = c.max-index.ensures in
+    let first = c.limit.ensures.within in
+    let second = c.limit-2.ensures.within in
     record {
       bound = omega arith;
-      rest = sought-all (test_of c.args.test) (test_of c.args.bounds) p c.len-index.result (omega arith);
+      rest =
+          sought-begun test bounds p n (omega arith)
+          (none-further test p c.limit.result n (omega arith) c.limit.ensures.skips)
+          (none-further bounds p c.limit-2.result n (omega arith) c.limit-2.ensures.skips);
     }
 
 pub returns : goal.returns

@@ -1,14 +1,17 @@
-use Rattle.std.proofs.Common.{[], arith, is_ok, refl, ◌+◌, ◌∷◌}
+use Rattle.std.proofs.Common.{[], arith, is_ok, ◌+◌, ◌∙◌, ◌∷◌, false, ◌<◌, ◌≡◌}
 use Rattle.std.proofs.lemmas.Bool.{lt-ltb, ltb-true}
-use Rattle.tl_tree.proofs.Inserted.{pushed-path}
+use Rattle.tl_tree.proofs.Entering.{opens-pushed}
+use Rattle.tl_tree.proofs.Inserted.{pushed-ok}
 use Rattle.tl_tree.proofs.Listed.{all-pushed, all-weaker, appended-longer}
 use Rattle.tl_tree.proofs.Numbered.{distinct-pushed}
 use Rattle.tl_tree.proofs.Within.{lt-more}
 use Rattle.tl_tree.proofs.Written.{of-parts}
-use Rattle.tl_tree.specs.Inner.Framed.{is_before}
+use Rattle.tl_tree.specs.Inner.Entered.{entered, entered_of}
+use Rattle.tl_tree.specs.Inner.Framed.{is_before, goes_here}
 use Rattle.tl_tree.specs.Inner.Frames.{is_frame}
 use Rattle.tl_tree.specs.declared.frame.Frame.{Frame}
 use Rattle.std.proofs.Common.{length, true}
+use Rattle.tl_tree.proofs.Placed.{here-pushed}
 use Rattle.tl_tree.proofs.path.FramePath.push.Goals as goal
 
 pub invariant_of-self-clause-within : goal.invariant_of-self-clause-within
@@ -40,7 +43,21 @@ invariant_of-self-clause-some c =
     let some = p.some in
     omega arith
 
+pub invariant_of-self-clause-known : goal.invariant_of-self-clause-known
+invariant_of-self-clause-known c =
+    let p = c.args.self.now in
+    let f : Frame = record { number = p.next; tag = c.args.tag; children = 0; late = 0; waiting = 0; place = c.args.place; is_open = true } in
+    opens-pushed (entered_of p.store) (is_ok c.push.result) p.frames.items c.push.new.self.items f (entered p.scopes) c.push.ensures.items p.known
+
 pub returns-clause-ok : goal.returns-clause-ok
 returns-clause-ok c =
+    pushed-ok c.enter_frames.result c.args.self.now c.enter_frames.new.self c.args.self.now.next c.args.tag c.args.place (c.enter_frames.ensures.frames ∙ c.in_ok-push.ensures.items) c.enter_frames.ensures.store
+
+pub invariant_of-self-clause-near : goal.invariant_of-self-clause-near
+invariant_of-self-clause-near c =
     let p = c.args.self.now in
-    pushed-path p _ p.next c.args.tag c.args.place c.in_ok-push.ensures.items refl
+    let own = p.frames.ok.0 in
+    let f : Frame = record { number = p.next; tag = c.args.tag; children = 0; late = 0; waiting = 0; place = c.args.place; is_open = true } in
+    let inside : goes_here c.args.place ≡ false → length p.frames.items < c.placed_with-self.result = λ (e : goes_here c.args.place ≡ false).
+    (let less = c.placed_with-self.ensures.own e in omega arith) in
+    here-pushed (is_ok c.push.result) p.frames.items c.push.new.self.items p.placed c.placed_with-self.result f c.push.ensures.items c.placed_with-self.ensures.least inside p.near

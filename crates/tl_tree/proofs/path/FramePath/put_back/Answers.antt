@@ -1,9 +1,12 @@
-use Rattle.std.proofs.Common.{IsTrue, List, is_ok, ◌++◌}
+use Rattle.std.proofs.Common.{IsTrue, List, is_ok, ◌++◌, arith}
 use Rattle.std.specs.List.{list_all}
+use Rattle.tl_tree.proofs.Entering.{opens-appended}
 use Rattle.tl_tree.proofs.Numbers.{all-append, either}
+use Rattle.tl_tree.specs.Inner.Entered.{entered, entered_of}
 use Rattle.tl_tree.specs.Inner.Framed.{are_distinct, is_before}
 use Rattle.tl_tree.specs.Inner.Frames.{is_frame}
 use Rattle.tl_tree.specs.declared.frame.Frame.{Frame}
+use Rattle.tl_tree.proofs.Placed.{here-none}
 use Rattle.tl_tree.proofs.path.FramePath.put_back.Goals as goal
 
 pub invariant_of-self-clause-within : goal.invariant_of-self-clause-within
@@ -27,3 +30,15 @@ invariant_of-self-clause-numbered c =
     let test = is_before p.next in
     either (λ (ys : List Frame). IsTrue (list_all test ys)) (is_ok c.extend_from_slice.result) (xs ++ c.args.aside.now) xs c.extend_from_slice.new.self.items c.extend_from_slice.ensures.items
     (all-append test xs c.args.aside.now p.numbered c.requires.numbered) p.numbered
+
+pub invariant_of-self-clause-known : goal.invariant_of-self-clause-known
+invariant_of-self-clause-known c =
+    let p = c.args.self.now in
+    opens-appended (entered_of p.store) (is_ok c.extend_from_slice.result) p.frames.items c.extend_from_slice.new.self.items c.args.aside.now (entered p.scopes) c.extend_from_slice.ensures.items p.known
+
+pub invariant_of-self-clause-near : goal.invariant_of-self-clause-near
+invariant_of-self-clause-near c =
+    let v = c.extend_from_slice.new.self in
+    let own = v.ok.0 in
+    let small = v.small in
+    here-none c.far_in-self.result v.items (omega (arith, c.far_in-self.ensures))

@@ -1,6 +1,11 @@
 use Rattle.std.proofs.Common.{◌∙◌}
+use Rattle.tl_tree.proofs.Entering.{role-kept}
 use Rattle.tl_tree.proofs.Written.{put-inside}
 use Rattle.tl_tree.proofs.path.FramePath.put_inside.Goals as goal
+
+pub write-requires-clause-role : goal.write-requires-clause-role
+write-requires-clause-role c =
+    role-kept c.add.new.self.store c.args.self.now.frames.items c.add.new.self.frames.items c.args.index c.index-frame.result.now c.in_ok-frame.frame _ (c.add.ensures.frames ∙ c.ready.ensures.frames) c.index-frame.ensures c.requires.index c.in_ok-frame.ensures.tag
 
 pub returns-clause-ok : goal.returns-clause-ok
 returns-clause-ok c =

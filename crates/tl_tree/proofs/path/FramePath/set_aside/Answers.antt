@@ -1,12 +1,15 @@
 use Rattle.std.proofs.Common.{IsTrue, List, arith, length, ◌<◌}
 use Rattle.std.specs.List.{list_all}
 use Rattle.std.proofs.lemmas.List.{length-take-le}
+use Rattle.tl_tree.proofs.Entering.{opens-parted}
 use Rattle.tl_tree.proofs.Listed.{all-take}
 use Rattle.tl_tree.proofs.Numbered.{distinct-take}
 use Rattle.tl_tree.proofs.Numbers.{either-front}
+use Rattle.tl_tree.specs.Inner.Entered.{entered, entered_of}
 use Rattle.tl_tree.specs.Inner.Framed.{are_distinct, is_before}
 use Rattle.tl_tree.specs.Inner.Frames.{is_frame}
 use Rattle.tl_tree.specs.declared.frame.Frame.{Frame}
+use Rattle.tl_tree.proofs.Placed.{HereFrom, here-front}
 use Rattle.tl_tree.proofs.path.FramePath.set_aside.Goals as goal
 
 pub invariant_of-self-clause-within : goal.invariant_of-self-clause-within
@@ -34,3 +37,14 @@ invariant_of-self-clause-some c =
     let some = c.requires.some in
     either-front (λ (ys : List Frame). 0 < length ys) (λ v. v.items) c.split_off.result c.args.place p.frames c.split_off.new.self c.split_off.ensures.items c.split_off.ensures.err
     (omega arith) p.some
+
+pub invariant_of-self-clause-known : goal.invariant_of-self-clause-known
+invariant_of-self-clause-known c =
+    let p = c.args.self.now in
+    opens-parted (entered_of p.store) (λ v. v.items) c.split_off.result c.args.place p.frames c.split_off.new.self (entered p.scopes) (entered c.cut.new.self) c.cut.ensures c.split_off.ensures.items c.split_off.ensures.err p.known
+
+pub invariant_of-self-clause-near : goal.invariant_of-self-clause-near
+invariant_of-self-clause-near c =
+    let p = c.args.self.now in
+    either-front (λ (ys : List Frame). HereFrom p.placed ys) (λ v. v.items) c.split_off.result c.args.place p.frames c.split_off.new.self c.split_off.ensures.items c.split_off.ensures.err
+    (here-front p.frames.items c.args.place p.placed p.near) p.near

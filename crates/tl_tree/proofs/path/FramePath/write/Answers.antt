@@ -1,9 +1,11 @@
 use Rattle.std.proofs.Common.{IsTrue, arith, get_or, nat_lt, refl, subst, sym, ℕ}
 use Rattle.std.proofs.lemmas.List.{length-set}
+use Rattle.tl_tree.proofs.Entering.{known-written}
 use Rattle.tl_tree.proofs.Numbered.{distinct-set}
 use Rattle.tl_tree.proofs.Written.{all-at, all-set}
 use Rattle.tl_tree.specs.Inner.Framed.{is_before}
 use Rattle.tl_tree.specs.Inner.Frames.{is_frame}
+use Rattle.tl_tree.proofs.Placed.{here-set}
 use Rattle.tl_tree.proofs.path.FramePath.write.Goals as goal
 
 pub invariant_of-self-clause-within : goal.invariant_of-self-clause-within
@@ -30,3 +32,12 @@ invariant_of-self-clause-some c =
     let many = length-set p.frames.items c.args.index c.args.frame in
     let some = p.some in
     omega arith
+
+pub invariant_of-self-clause-known : goal.invariant_of-self-clause-known
+invariant_of-self-clause-known c =
+    known-written c.args.self.now c.args.index c.args.frame c.requires.number c.requires.role
+
+pub invariant_of-self-clause-near : goal.invariant_of-self-clause-near
+invariant_of-self-clause-near c =
+    let p = c.args.self.now in
+    here-set p.frames.items c.args.index p.placed c.placed_with-self.result c.args.frame c.placed_with-self.ensures.least c.placed_with-self.ensures.own p.near

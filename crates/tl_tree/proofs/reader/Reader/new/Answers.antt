@@ -1,3 +1,7 @@
+use Rattle.std.proofs.Common.{refl}
+use Rattle.tl_dom_spec.specs.HtmlTree.{page_start}
+use Rattle.tl_html_spec.specs.HtmlTokenizer.{data_state, without_mark}
+use Rattle.tl_html_tokens.specs.declared.mode.Mode.TheVariants as mode
 use Rattle.tl_tree.proofs.ReadOn.{begins}
 use Rattle.tl_tree.specs.Inner.Builders.{builder_of, flags_of, token_of}
 use Rattle.tl_tree.specs.Inner.Reading.{left_of}
@@ -9,6 +13,9 @@ invariant_of-result c = record { within = c.mark_len.ensures.within; same = c.in
 
 pub returns : goal.returns
 unfolding left_of
-returns c = record {
-  left = begins (flags_of c.args.flags) c.args.page.now (builder_of c.in_ok-builder.builder) c.mark_len.result c.in_ok-builder.ensures.start c.mark_len.ensures.rest;
-}
+returns c =
+    let page = c.args.page.now in
+    record {
+      left = begins (page_start (flags_of c.args.flags)) (builder_of c.in_ok-builder.builder) data_state mode.Data (without_mark page) page c.mark_len.result
+          c.in_ok-builder.ensures.start refl c.mark_len.ensures.rest;
+    }

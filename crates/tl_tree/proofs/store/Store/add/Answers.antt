@@ -17,5 +17,5 @@ returns-clause-stands c =
     let own : Cell = record { before = c.args.before; node = c.args.node } in
     let e = c.in_ok-push.ensures.items in
     row-added s _
-    (record { page = refl; side = begins-refl s.side.items; attributes = begins-refl s.attributes.items; tags = begins-refl s.tags.items; doctypes = begins-refl s.doctypes.items; cells = begins-of s.cells.items c.push.new.self.items (own ∷ []) e })
+    (record { page = refl; side = begins-refl s.side.items; attributes = begins-refl s.attributes.tags.items; html_attributes = begins-refl s.attributes.html.items; body_attributes = begins-refl s.attributes.body.items; tags = begins-refl s.tags.items; doctypes = begins-refl s.doctypes.items; cells = begins-of s.cells.items c.push.new.self.items (own ∷ []) e })
     own e c.requires.node c.len-2.result (c.len-2.ensures ∙ c.push.new.self.ok.0)

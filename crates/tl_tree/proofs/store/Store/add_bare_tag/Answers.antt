@@ -4,13 +4,14 @@ use Rattle.std.proofs.lemmas.Result.{IfOk-weaker}
 use Rattle.tl_dom_spec.specs.Tags.{bare_tag}
 use Rattle.tl_tree.proofs.Built.{bare-tag-of}
 use Rattle.tl_tree.proofs.Grown.{grows_trans}
-use Rattle.tl_tree.specs.Inner.Store.{is_span}
+use Rattle.tl_tree.specs.Inner.Store.{is_span, list_in}
+use Rattle.tl_tree.specs.declared.entries.AttributeList.TheVariants.{Tags}
 use Rattle.tl_tree.proofs.store.Store.add_bare_tag.Goals as goal
 
 pub add_tag-requires : goal.add_tag-requires
 add_tag-requires c =
     let s = c.add_bytes.new.self in
-    and_from (is_span s c.in_ok-name.name) (nat_le (0 + 0) (length s.attributes.items)) c.in_ok-name.ensures.within (le-leb (0 + 0) (length s.attributes.items) (omega arith))
+    and_from (is_span s c.in_ok-name.name) (nat_le (0 + 0) (length (list_in s Tags))) c.in_ok-name.ensures.within (le-leb (0 + 0) (length (list_in s Tags)) (omega arith))
 
 pub returns-clause-stands : goal.returns-clause-stands
 returns-clause-stands c =

@@ -2,7 +2,8 @@ use Rattle.std.proofs.Common.{arith, is_ok, length, refl}
 use Rattle.tl_tree.proofs.Grown.{bytes-added}
 use Rattle.tl_tree.proofs.Listed.{all-weaker, appended-at_most, appended-longer}
 use Rattle.tl_tree.proofs.Within.{attribute-more, cells-more, doctype-more, tag-more}
-use Rattle.tl_tree.specs.Inner.Store.{is_attribute, is_doctype, is_tag, sizes_of}
+use Rattle.tl_tree.specs.Inner.Lists.{many_in}
+use Rattle.tl_tree.specs.Inner.Store.{is_attribute, is_doctype, is_tag, list_in, sizes_of}
 use Rattle.tl_tree.specs.Inner.Within.{attribute_is_within, doctype_is_within, tag_is_within}
 use Rattle.tl_tree.proofs.store.Store.add_bytes.Goals as goal
 
@@ -15,13 +16,13 @@ invariant_of-self-clause-short c =
     omega arith
 
 pub invariant_of-self-clause-attributes_within : goal.invariant_of-self-clause-attributes_within
-invariant_of-self-clause-attributes_within c =
+invariant_of-self-clause-attributes_within c list =
     let s = c.args.self.now in
     let page = length s.page.now in
     let side = length s.side.items in
     let new = length c.extend_from_slice.new.self.items in
     let longer = appended-longer (is_ok c.extend_from_slice.result) s.side.items c.extend_from_slice.new.self.items c.args.bytes.now c.extend_from_slice.ensures.items in
-    all-weaker (is_attribute s) (attribute_is_within page new) (λ a h. attribute-more page side new a longer h) s.attributes.items s.attributes_within
+    all-weaker (is_attribute s) (attribute_is_within page new) (λ a h. attribute-more page side new a longer h) (list_in s list) (s.attributes_within list)
 
 pub invariant_of-self-clause-tags_within : goal.invariant_of-self-clause-tags_within
 invariant_of-self-clause-tags_within c =
@@ -29,9 +30,9 @@ invariant_of-self-clause-tags_within c =
     let page = length s.page.now in
     let side = length s.side.items in
     let new = length c.extend_from_slice.new.self.items in
-    let own = length s.attributes.items in
+    let own = many_in s.attributes in
     let longer = appended-longer (is_ok c.extend_from_slice.result) s.side.items c.extend_from_slice.new.self.items c.args.bytes.now c.extend_from_slice.ensures.items in
-    all-weaker (is_tag s) (tag_is_within page new own) (λ t h. tag-more page side new own own t longer (omega arith) h) s.tags.items s.tags_within
+    all-weaker (is_tag s) (tag_is_within page new own) (λ t h. tag-more page side new own own t longer (λ list. omega arith) h) s.tags.items s.tags_within
 
 pub invariant_of-self-clause-doctypes_within : goal.invariant_of-self-clause-doctypes_within
 invariant_of-self-clause-doctypes_within c =

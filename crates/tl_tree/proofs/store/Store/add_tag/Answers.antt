@@ -21,5 +21,5 @@ returns-clause-stands c =
     let s = c.args.self.now in
     let e = c.in_ok-push.ensures.items in
     tag-added s _
-    (record { page = refl; side = begins-refl s.side.items; attributes = begins-refl s.attributes.items; tags = begins-of s.tags.items c.push.new.self.items (c.args.tag ∷ []) e; doctypes = begins-refl s.doctypes.items; cells = begins-refl s.cells.items })
+    (record { page = refl; side = begins-refl s.side.items; attributes = begins-refl s.attributes.tags.items; html_attributes = begins-refl s.attributes.html.items; body_attributes = begins-refl s.attributes.body.items; tags = begins-of s.tags.items c.push.new.self.items (c.args.tag ∷ []) e; doctypes = begins-refl s.doctypes.items; cells = begins-refl s.cells.items })
     c.args.tag e c.requires c.len-number.result (c.len-number.ensures ∙ s.tags.ok.0)

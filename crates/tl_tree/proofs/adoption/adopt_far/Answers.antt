@@ -1,0 +1,88 @@
+use Rattle.std.proofs.Common.{ap, arith, drop, length, refl, sym, subst, take, ◌+◌, ◌++◌, ◌≡◌, ◌∙◌}
+use Rattle.tl_dom_spec.specs.Adoption.{Clones, cloned, entry_moved, inside_of, outside_of}
+use Rattle.tl_dom_spec.specs.Path.{Path, elements}
+use Rattle.tl_tree.proofs.ActiveNumbers.{active-grown}
+use Rattle.tl_tree.proofs.Adopted.{cloned-first, cloned-next, made-all, path-adopted}
+use Rattle.tl_tree.proofs.Cloned.{made-length}
+use Rattle.tl_tree.proofs.Entering.{same-path}
+use Rattle.tl_tree.proofs.Readopted.{outside-part}
+use Rattle.tl_tree.specs.Inner.Active.{active_of, listed_of}
+use Rattle.tl_tree.specs.Inner.Adopted.{IsFirst, adopted_entries, adopted_path, clones_in, frame_at, outer_in, renewed}
+use Rattle.tl_tree.specs.Inner.Frames.{frames_of, path_of}
+use Rattle.tl_tree.specs.Inner.Store.{Grows, tag_at}
+use Rattle.tl_tree.specs.declared.store.Store.{Store}
+use Rattle.tl_tree.proofs.adoption.adopt_far.Goals as goal
+
+pub overflow_add-block : goal.overflow_add-block
+overflow_add-block c =
+    let p = c.args.path.now in
+    let q = c.add_clones.new.path in
+    let own = q.frames.ok.0 in
+    let small = q.frames.small in
+    let many = made-length c.args.block p q _ _ 0 c.in_ok-made.made c.in_ok-made.ensures.ok in
+    omega arith
+
+pub renew-requires-clause-index : goal.renew-requires-clause-index
+renew-requires-clause-index c =
+    let p = c.args.path.now in
+    let q = c.add_clones.new.path in
+    let many = made-length c.args.block p q _ _ 0 c.in_ok-made.made c.in_ok-made.ensures.ok in
+    omega arith
+
+pub settle_outside-requires-clause-within : goal.settle_outside-requires-clause-within
+settle_outside-requires-clause-within c =
+    let p = c.args.path.now in
+    let q = c.add_clones.new.path in
+    let many = made-length c.args.block p q _ _ 0 c.in_ok-made.made c.in_ok-made.ensures.ok in
+    let more = c.in_ok-renew.ensures.len in
+    omega arith
+
+pub returns-clause-ok : goal.returns-clause-ok
+returns-clause-ok c =
+    let p = c.args.path.now in
+    let q = c.add_clones.new.path in
+    let r = c.renew.new.self in
+    let t = c.settle_outside.new.self in
+    let u = c.enter_frames.new.self in
+    let n = c.args.block in
+    let m = c.in_ok-made.made in
+    let mid = c.add_clones.new.active in
+    let list = c.list_new.new.active in
+    let own = listed_of p.store c.args.own in
+    let block = frame_at p n in
+    let path = path_of p in
+    let entries = active_of p.store c.args.active.now in
+    let made = c.in_ok-made.ensures.ok in
+    let all = clones_in own block path entries p.next in
+    let stored = c.add_clones.ensures.store in
+    let whole : all ≡ record { frames = made.clones; entries = active_of q.store mid; next = q.next } =
+    ap (λ (out : Path). cloned 0 (elements (inside_of own.number out)) entries p.next) (outside-part p block.number n c.requires.block refl)
+    ∙ made-all n p q _ (active_of q.store mid) q.next 0 m made in
+    let count : m ≡ length made.clones = made.count ∙ omega arith in
+    let renewed_as =
+    c.in_ok-renew.ensures.frames
+    ∙ ap (λ (s : Store). take (n + m) (frames_of q) ++ renewed q.next (tag_at s c.args.own.tag) (drop (n + m) (frames_of q))) stored in
+    let grows = subst (λ (s : Store). Grows s t.store) (c.renew.ensures.store ∙ stored) c.settle_outside.ensures.grows in
+    let least = c.list_new.ensures.tag (length p.store.tags.items) (omega (arith, c.add_clones.ensures.tag, c.requires.listed)) c.requires.own in
+    let is_first = subst (λ (cl : Clones). IsFirst p.next cl.frames) whole (cloned-first 0 (elements (inside_of own.number (outside_of block.number path))) entries p.next) in
+    let listed = c.in_ok-list_new.ensures.active p.store made.clones count is_first in
+    let next = ap (λ (cl : Clones). cl.next) whole in
+    let size = ap (λ (cl : Clones). length cl.frames) whole in
+    let sum = cloned-next 0 (elements (inside_of own.number (outside_of block.number path))) entries p.next in
+    record {
+      path =
+          same-path t u c.enter_frames.ensures.frames c.enter_frames.ensures.store
+          ∙ path-adopted p q t c.args.is_fostering own n (n + m) q.next made.clones (active_of q.store mid) c.common_ancestor-ancestor.result (frames_of r) c.requires.block (omega arith)
+          made.frames renewed_as c.in_ok-settle_outside.ensures.frames c.common_ancestor-ancestor.ensures
+          ∙ ap (λ (cl : Clones). adopted_path c.args.is_fostering own block cl (outer_in own block path) path) (sym whole);
+      active =
+          ap (λ (s : Store). active_of s list) c.enter_frames.ensures.store
+          ∙ (active-grown p.store t.store grows list least
+          ∙ (listed
+          ∙ (ap (λ (s : Store). entry_moved own.number q.next own.tag made.clones (active_of s mid)) (sym stored)
+          ∙ ap (adopted_entries own) (sym whole))));
+      next =
+          c.enter_frames.ensures.next
+          ∙ (c.settle_outside.ensures.next ∙ (c.in_ok-renew.ensures.next ∙ omega arith));
+      made = omega arith;
+    }

@@ -1,0 +1,22 @@
+use Rattle.std.proofs.Common.{ap, arith, length, ◌+◌, ◌-◌, ◌<◌, ◌≡◌, ◌∙◌}
+use Rattle.tl_dom_spec.specs.Path as dom
+use Rattle.tl_tree.proofs.Furthest.{frame-there}
+use Rattle.tl_tree.proofs.path.FramePath.near_ancestor.Goals as goal
+
+pub returns-then-around-clause-near : goal.returns-then-around-clause-near
+returns-then-around-clause-near c =
+    let p = c.args.self.now in
+    let n = c.args.block - 2 in
+    let own = c.index-own.result.now in
+    let around = c.index-around.result.now in
+    let inside : n + 1 < length p.frames.items = omega arith in
+    let outside : n < length p.frames.items = omega arith in
+    let there = frame-there p (n + 1) own c.index-own.ensures inside in
+    let outer = frame-there p n around c.index-around.ensures outside in
+    let same : own.number ≡ c.args.number = omega arith in
+    record {
+      fosters = c.if-is_fostering.false;
+      number = ap (λ (f : dom.Frame). f.number) there ∙ same;
+      goes = ap (λ (f : dom.Frame). f.place) there ∙ c.is_here.ensures.yes c.if-not-is_here.false;
+      around = ap (λ (f : dom.Frame). f.is_open) outer ∙ c.if-around.true;
+    }

@@ -1,0 +1,102 @@
+//! From where on no frame of a path passes a test: there a search begins.
+ghost use Rattle.std.specs.Prelude.{IsTrue, length, map, true, ◌≡◌, ◌≤◌};
+ghost use Rattle.tl_dom_spec.specs.Path.{has_number, has_tag};
+ghost use Rattle.tl_dom_spec.specs.Tags.{is_any};
+ghost use Rattle.tl_tree.specs.Inner.Entered.{entered, entered_of};
+ghost use Rattle.tl_tree.specs.Inner.Frames.{test_of};
+ghost use Rattle.tl_tree.specs.Inner.Limits.{is_in_bucket, is_of_kind, none_from};
+ghost use Rattle.tl_tree.specs.Inner.Roles.{bucket_of};
+ghost use Rattle.tl_tree.specs.Inner.Tests.{tag_test_of};
+
+use crate::frame::Mark;
+use crate::path::FramePath;
+use crate::role::{Kind, bucket_of};
+use crate::test::{TagTest, Test};
+
+impl<'a> FramePath<'a> {
+    // Whether all frames are known where the path is searched.
+    fn knows_all(&self) -> bool
+        ensures { result ≡ true
+            → entered self.now.scopes ≡ map (entered_of self.now.store) self.now.frames.items }
+    {
+        self.scopes.len() == self.frames.len()
+    }
+
+    /// From which place on no frame is of a kind.
+    pub(crate) fn kind_limit(&self, kind: Kind) -> usize
+        ensures within { result ≤ length self.now.frames.items }
+        ensures skips { IsTrue (none_from (is_of_kind kind) self.now result) }
+    {
+        if self.knows_all() {
+            self.scopes.limit(kind)
+        } else {
+            self.frames.len()
+        }
+    }
+
+    /// From which place on no name of a frame is in the list that a name is in.
+    pub(crate) fn name_limit(&self, name: &[u8]) -> usize
+        ensures within { result ≤ length self.now.frames.items }
+        ensures skips { IsTrue (none_from (is_in_bucket (bucket_of name.now)) self.now result) }
+    {
+        if self.knows_all() {
+            self.scopes.limit_of(bucket_of(name))
+        } else {
+            self.frames.len()
+        }
+    }
+
+    // From which place on no HTML element has one of these names.
+    fn names_limit(&self, names: &[u8]) -> usize
+        ensures within { result ≤ length self.now.frames.items }
+        ensures skips { IsTrue (none_from (has_tag (is_any names.now)) self.now result) }
+    {
+        let mut limit: usize = 0;
+        for name in names.split(|byte| *byte == b' ') {
+            limit = limit.max(self.name_limit(name));
+        }
+        limit
+    }
+
+    // From which place on no frame has a number.
+    fn number_limit(&self, number: u32) -> usize
+        ensures within { result ≤ length self.now.frames.items }
+        ensures skips { IsTrue (none_from (has_number number) self.now result) }
+    {
+        match self.find(Mark { number, depth: 0 }) {
+            Some(place) => place + 1,
+            None => 0,
+        }
+    }
+
+    fn tag_limit(&self, test: TagTest<'_>) -> usize
+        ensures within { result ≤ length self.now.frames.items }
+        ensures skips { IsTrue (none_from (has_tag (tag_test_of test.entry)) self.now result) }
+    {
+        match test {
+            TagTest::Nothing => 0,
+            TagTest::Any(names) => self.names_limit(names),
+            TagTest::Named(name) => self.name_limit(name),
+            TagTest::Scope => self.kind_limit(Kind::Scope),
+            TagTest::ScopeOr(names) => { self.kind_limit(Kind::Scope).max(self.names_limit(names)) }
+            TagTest::Heading => self.names_limit(b"h1 h2 h3 h4 h5 h6"),
+            TagTest::ImpliedThoroughly => self.frames.len(),
+            TagTest::Special(_) => self.kind_limit(Kind::Special),
+            TagTest::ItemBound(_) => self.kind_limit(Kind::ItemBound),
+        }
+    }
+
+    /// From which place on no frame passes a test.
+    pub(crate) fn limit(&self, test: Test<'_>) -> usize
+        ensures within { result ≤ length self.now.frames.items }
+        ensures skips { IsTrue (none_from (test_of test.entry) self.now result) }
+    {
+        match test {
+            Test::Nothing => 0,
+            Test::Number(number) => self.number_limit(number),
+            Test::Tag(test) => self.tag_limit(test),
+            Test::ImpliedBut(_) => self.frames.len(),
+            Test::HtmlPlace => self.frames.len(),
+        }
+    }
+}
