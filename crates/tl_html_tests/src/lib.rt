@@ -25,6 +25,8 @@ mod errors;
 #[cfg(test)]
 mod forms;
 #[cfg(test)]
+mod fragments;
+#[cfg(test)]
 mod keys;
 #[cfg(test)]
 mod names;

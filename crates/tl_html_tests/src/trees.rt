@@ -1,6 +1,6 @@
 //! Pages, and the trees that are read of them.
 use std::alloc::Global;
-use tl_tree::{Flags, Kind, Namespace, Tree};
+use tl_tree::{Attribute, AttributeSpace, Flags, Kind, Namespace, Tree};
 
 // A page, what its nodes say in order (a name or a text), and where what is below each one ends.
 #[rattlefmt::skip]
@@ -30,7 +30,7 @@ fn said<'t>(tree: &'t Tree<'_>, number: usize) -> &'t [u8] {
 }
 
 // Whether the nodes of a tree are those of a row.
-fn are(tree: &Tree<'_>, nodes: &[&[u8]], ends: &[usize]) -> bool {
+pub(crate) fn are(tree: &Tree<'_>, nodes: &[&[u8]], ends: &[usize]) -> bool {
     if tree.len() != ends.len() {
         return false;
     }
@@ -42,7 +42,7 @@ fn are(tree: &Tree<'_>, nodes: &[&[u8]], ends: &[usize]) -> bool {
     true
 }
 
-static STANDARD: Flags = Flags {
+pub(crate) static STANDARD: Flags = Flags {
     is_scripting: false,
     counts_search: true,
 };
@@ -91,4 +91,78 @@ fn is_asked(alloc: Global) -> bool {
 #[test]
 fn nodes_are_asked(rt: HostRuntime) {
     assert!(rt; is_asked(rt.alloc()));
+}
+
+// A doctype, `html`, `head`, `body`, `p`, `svg`.
+static SAYING: &[u8] = b"<!DOCTYPE X PUBLIC \"a\"><p B=1 a='&lt;' b=2><svg xlink:href=c viewbox=d>";
+
+fn is(attribute: Attribute<'_>, space: AttributeSpace, key: &[u8], value: &[u8]) -> bool {
+    attribute.space == space && attribute.key == key && attribute.value == value
+}
+
+// Whether the attributes of a node are two.
+fn are_both(
+    tree: &Tree<'_>,
+    number: usize,
+    first: (AttributeSpace, &[u8], &[u8]),
+    second: (AttributeSpace, &[u8], &[u8]),
+) -> bool {
+    let mut attributes = tree.attributes(number);
+    let (Some(one), Some(other), None) = (attributes.next(), attributes.next(), attributes.next())
+    else {
+        return false;
+    };
+    is(one, first.0, first.1, first.2) && is(other, second.0, second.1, second.2)
+}
+
+fn has_attributes(tree: &Tree<'_>) -> bool {
+    let plain = AttributeSpace::Plain;
+    are_both(tree, 4, (plain, b"b", b"1"), (plain, b"a", b"<"))
+        && are_both(
+            tree,
+            5,
+            (AttributeSpace::Xlink, b"href", b"c"),
+            (plain, b"viewBox", b"d"),
+        )
+        && tree.attributes(0).next().is_none()
+        && tree.attributes(6).next().is_none()
+}
+
+// Whether what is answered are these bytes.
+fn says(answer: Option<&[u8]>, bytes: &[u8]) -> bool {
+    match answer {
+        Some(own) => own == bytes,
+        None => false,
+    }
+}
+
+fn has_values(tree: &Tree<'_>) -> bool {
+    says(tree.value(4, b"b"), b"1")
+        && says(tree.value(5, b"viewBox"), b"d")
+        && tree.value(4, b"B").is_none()
+        && tree.value(5, b"href").is_none()
+        && tree.value(6, b"b").is_none()
+}
+
+fn has_a_doctype(tree: &Tree<'_>) -> bool {
+    let Some(own) = tree.doctype(0) else {
+        return false;
+    };
+    own.name == b"x".as_slice()
+        && says(own.public_id, b"a")
+        && own.system_id.is_none()
+        && !own.forces_quirks
+        && tree.doctype(1).is_none()
+}
+
+fn says_what_it_says(alloc: Global) -> bool {
+    match Tree::read(alloc, SAYING, STANDARD) {
+        Ok(tree) => has_attributes(&tree) && has_values(&tree) && has_a_doctype(&tree),
+        Err(_) => false,
+    }
+}
+
+#[test]
+fn attributes_and_doctypes_are_asked(rt: HostRuntime) {
+    assert!(rt; says_what_it_says(rt.alloc()));
 }
