@@ -10,7 +10,7 @@ use tl_html_write::{coded_name, lower_name, uncoded_name};
 use tl_text::{
     escape_text, escape_value, unescape_text, unescape_text_str, unescape_value, unescape_value_str,
 };
-use tl_tree::{Flags, Tree};
+use tl_tree::{Context, Flags, Namespace, Tree};
 
 // What is called.
 #[derive(Clone, Copy)]
@@ -32,6 +32,7 @@ enum FormCall {
     TagParts,
     Tokens,
     Tree,
+    Fragment,
     Decode(Encoding),
 }
 
@@ -40,7 +41,7 @@ enum FormCall {
 type Row = (&'static str, FormCall, &'static [u8], &'static [u8]);
 
 #[rattlefmt::skip]
-static ROWS: [Row; 26] = [
+static ROWS: [Row; 27] = [
     ("escape_text", FormCall::EscapeText, b"a<b&c", b"a&lt;b&amp;c"),
     ("escape_value", FormCall::EscapeValue, b"a\"b", b"a&quot;b"),
     ("unescape_text", FormCall::UnescapeText, b"a&lt;b", b"a<b"),
@@ -65,6 +66,7 @@ static ROWS: [Row; 26] = [
     ("tokens", FormCall::Tokens, b"<p>x<!-- y -->z", b"z"),
     ("Tree::read", FormCall::Tree, b"<p>a", b"a"),
     ("Tree::read, all kinds of nodes", FormCall::Tree, b"<!DOCTYPE html PUBLIC 'x'><!--a\r--><body class=k><table>a&lt;<tr><td><b>b<p>c</b>d<svg viewbox=x><![CDATA[e]]></svg></table><template><td></template><body id=l>f", b"f"),
+    ("Tree::read_fragment, a template with an attribute", FormCall::Fragment, b"<td>a&lt;", b"a<"),
     ("decode, UTF-8", FormCall::Decode(Encoding::Utf8), b"caf\xC3\xA9", b"caf\xC3\xA9"),
     ("decode, windows-1252", FormCall::Decode(Encoding::Windows1252), b"caf\xE9 \x80", b"caf\xC3\xA9 \xE2\x82\xAC"),
 ];
@@ -79,6 +81,7 @@ pub fn call(number: usize, case: &mut Case) -> Option<Named> {
         FormCall::TagParts => read_tag(row, case),
         FormCall::Tokens => read_tokens(row, case),
         FormCall::Tree => read_tree(row, case),
+        FormCall::Fragment => read_fragment(row, case),
         FormCall::Decode(encoding) => decode_page(encoding, row, case),
         _ => make(row, case),
     };
@@ -137,13 +140,32 @@ fn read_tag(row: &Row, case: &mut Case) -> Result<(), Stop> {
     value(answer?.name == wanted)
 }
 
+static FLAGS: Flags = Flags {
+    is_scripting: false,
+    counts_search: true,
+};
+
 fn read_tree(row: &Row, case: &mut Case) -> Result<(), Stop> {
     let (_, _, page, wanted) = *row;
-    let flags = Flags {
-        is_scripting: false,
-        counts_search: true,
-    };
-    let answer = measured!(case, Tree::read(case.alloc(), page, flags));
+    let answer = measured!(case, Tree::read(case.alloc(), page, FLAGS));
+    let tree = answer?;
+    value(tree.text(tree.len() - 1) == Some(wanted))
+}
+
+static TEMPLATE: Context<'static> = Context {
+    namespace: Namespace::Html,
+    name: b"template",
+    attributes: &[(b"id", b"x")],
+    is_in_form: true,
+    is_quirks: false,
+};
+
+fn read_fragment(row: &Row, case: &mut Case) -> Result<(), Stop> {
+    let (_, _, text, wanted) = *row;
+    let answer = measured!(
+        case,
+        Tree::read_fragment(case.alloc(), text, TEMPLATE, FLAGS)
+    );
     let tree = answer?;
     value(tree.text(tree.len() - 1) == Some(wanted))
 }
