@@ -4,6 +4,7 @@
     ./x compare html --form [--runs N] [--seed N] [--page FILE..] [--program FILE]
     ./x compare html --form --trees FOLDER [--show N] [--program FILE]
     ./x compare html --trees FOLDER [--runs N] [--seed N]
+    ./x compare html --code [--trees FOLDER] [--runs N] [--seed N] [--page FILE..] [--program FILE]
     ./x compare html --clauses [--show N]
     ./x compare html --row TEXT
     ./x compare html --tree TEXT [--inside NAME] [--scripting]
@@ -22,7 +23,8 @@ same, and of which kind the others are, --show N with N of each. The program is 
 With --trees alone the definition of tree construction, the text of `crates/tl_dom_spec` run by Python (definition.py), and a model
 that was written from the standard alone (tree_model.py) are compared with the trees of these tests, pages and fragments, and with
 one another on made-up ones. Tests that are older than a rule are named with it. With --chromium both are compared with Chromium on
-made-up pages. With --clauses the worked rows of that crate are
+made-up pages. With --code the trees of `crates/tl_tree` are compared with the model on made-up pages and on files, and with the tests of pages
+in the folder: those that the program of tools/trees writes, built unproved, unless --program names one. With --clauses the worked rows of that crate are
 computed in the same way, and for each clause of its definitions rows are named, --show N of them (3), that would be others without
 it; NO ROW stands where none would. With --tree it writes the trees of a text as these rows have them.
 
@@ -167,6 +169,7 @@ def main(parser, words):
     parser.add_argument("--row", metavar="TEXT")
     parser.add_argument("--form", action="store_true")
     parser.add_argument("--trees", metavar="FOLDER")
+    parser.add_argument("--code", action="store_true")
     parser.add_argument("--chromium", action="store_true")
     parser.add_argument("--clauses", action="store_true")
     parser.add_argument("--tree", metavar="TEXT")
@@ -193,11 +196,13 @@ def main(parser, words):
         from html5lib._tokenizer import HTMLTokenizer
         from html5lib.constants import tokenTypes
 
-        from . import tree_tests
+        from . import tree_program, tree_tests
     except ImportError:
         print("compare html: html5lib isn't installed", file=sys.stderr)
         return 3
     warnings.simplefilter("ignore")
+    if words.code:
+        return 1 if tree_program.compared(words, PIECES, made, pages_of(words.page)) else 0
     if words.trees is not None or words.chromium:
         return 1 if tree_tests.compared(words) else 0
     wrong = references.faults()

@@ -1,11 +1,11 @@
 """The tree construction of the HTML standard (13.2.6), rule by rule as it is written: over a table of nodes with parents, which are moved.
 
 It is written from the standard alone, and in another form than the definition of `crates/tl_dom_spec`, which knows no parents and
-moves nothing. The tokenizer is that of html5lib, which goes on in the state that is set here. A mode is a table of rules: what a
+moves nothing. The tokenizer is that of html5lib, but for NUL, and goes on in the state that is set here. A mode is a table of rules: what a
 token does by its kind and name, and what anything else does.
 """
 from html5lib._tokenizer import HTMLTokenizer
-from html5lib.constants import tokenTypes
+from html5lib.constants import EOF, tokenTypes
 
 HTML, MATH, SVG = "html", "math", "svg"
 WHITE_SPACE = "\t\n\f\r "
@@ -182,6 +182,37 @@ class Parser:
         return [type("Open", (), {"namespace": node.space})] if node else []
 
 
+class Tokenizer(HTMLTokenizer):
+    """The tokenizer of html5lib, as the standard has it where html5lib reads a NUL otherwise."""
+
+    def commentStartState(self):
+        return self.past_nul(super().commentStartState)
+
+    def commentStartDashState(self):
+        return self.past_nul(super().commentStartDashState)
+
+    def past_nul(self, state):
+        """Reads a character where a comment starts. Behind a NUL the comment state is next."""
+        first = self.stream.char()
+        self.stream.unget(first)
+        found = state()
+        if first == "\0":
+            self.state = self.commentState
+        return found
+
+    def cdataSectionState(self):
+        """13.2.5.69: what a NUL is, tree construction decides."""
+        text, char = "", self.stream.char()
+        while char is not EOF and not (char == ">" and text.endswith("]]")):
+            text += char
+            char = self.stream.char()
+        text = text if char is EOF else text[:-2]
+        if text:
+            self.tokenQueue.append({"type": tokenTypes["Characters"], "data": text})
+        self.state = self.dataState
+        return True
+
+
 class Builder:
     def __init__(self, text, context=None, is_scripting=False):
         self.document, self.open, self.active, self.templates = Node("document"), [], [], []
@@ -189,7 +220,7 @@ class Builder:
         self.head = self.form = self.context = None
         self.is_scripting, self.is_frameset_ok, self.is_fostering, self.is_quirks = is_scripting, True, False, False
         self.skips_feed = self.is_stopped = False
-        self.tokenizer = HTMLTokenizer(text, parser=Parser(self))
+        self.tokenizer = Tokenizer(text, parser=Parser(self))
         if context:
             self.begin_fragment(context)
 

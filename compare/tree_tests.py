@@ -72,9 +72,9 @@ def tests_of(folder):
             yield Test(file, number, case)
 
 
-def against_tests(folder, readers):
-    """Compares readers with the tests of a folder. How many differ that are not older, or are and don't."""
-    tests, wrong = list(tests_of(folder)), 0
+def against_tests(tests, readers):
+    """Compares readers with tests. How many differ that are not older, or are and don't."""
+    wrong = 0
     fragments, scripted = sum(it.context is not None for it in tests), sum(it.scripting == [True] for it in tests)
     print(f"{len(tests)} tests: {len(tests) - fragments} pages, {fragments} fragments; {scripted} with scripting alone")
     for reader, lines in readers.items():
@@ -131,4 +131,4 @@ def compared(words):
     readers = {"definition": TreeDefinition().lines, "model": lines_of_model}
     if words.chromium:
         return with_room(lambda: against_browser(words, readers))
-    return with_room(lambda: against_tests(words.trees, readers) + against_each_other(words, readers))
+    return with_room(lambda: against_tests(list(tests_of(words.trees)), readers) + against_each_other(words, readers))

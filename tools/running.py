@@ -50,7 +50,7 @@ def _ended(process, limit):
         ended, status, used = os.wait4(process.pid, os.WNOHANG if limit else 0)
         if limit and not ended:
             is_late = is_late or time.monotonic() > end
-            process.kill() if is_late else time.sleep(0.002)
+            os.kill(process.pid, signal.SIGKILL) if is_late else time.sleep(0.002)
     process.returncode = os.waitstatus_to_exitcode(status)
     return process.returncode, used, is_late
 

@@ -2,6 +2,7 @@
 
     ./x bench [--sizes 100K,1M,10M] [--kinds news,table] [--files FILE..] [--works parse,text] [--rounds N] [--times N] [--seed N]
               [--pages FOLDER] [--program FILE] [--against FILE]
+    ./x bench --trees [--sizes 1M,10M] [--kinds news,table] [--files FILE..] [--rounds N] [--program FILE] [--against FILE]
 
 Prints a table of each page: nanoseconds a byte, growth, memory, page faults. The pages come of the seed, the same bytes for the
 same seed and size, and stay in the folder. Where files are named and no kinds, the files alone are timed, without `edit` unless
@@ -12,6 +13,10 @@ words, as that of `compare/`: both are run by turns, and its figures stand besid
 The Rust crate's words are built by `cargo build --release` in compare, as compare/target/release/compare. Its print takes time
 with the square of the page on news and deep: above 1 MB leave `print` and `again` out (--works).
 
+With --trees pages are read into their trees (`tl_tree`, by the program of tools/trees): nanoseconds a byte for the reading and the
+drop, the least of all rounds, and of the processor for the process; its most bytes of memory for each byte of the page. --against
+names a `tl`, whose `select p` is run by turns.
+
 Of each work there are two figures, the least of all rounds: what the program itself says that the work took (of `parse` the
 reading), and what the processor took for reading, work and drop together, which doesn't count what other programs do meanwhile.
 Growth is the nanoseconds a byte at a size over those at the size before it. Memory and page faults are of a run that reads once,
@@ -20,6 +25,7 @@ and `time` counts them (Debian: time). On a loaded machine trust the ratios, and
 import os
 import tempfile
 
+from .. import trees
 from ..bench.pages import KINDS, page
 from ..running import must
 from ..unproved import helper_build
@@ -95,6 +101,35 @@ def look(programs, name, file, works, given, before):
     return found
 
 
+def look_at_tree(program, tl, name, file, rounds):
+    """Prints what reading a page into its tree takes, and what `tl` takes to select in it."""
+    with open(file, "rb") as it:
+        bytes_of_page = it.read()
+    found, others = [], []
+    for _ in range(rounds):
+        found.append(trees.read(program, bytes_of_page))
+        others += [trees.run_with_room([tl, "select", "p"], bytes_of_page)] if tl else []
+    size = len(bytes_of_page)
+    alone, whole = (min(it) * 1e9 / size for it in zip(*[(it.seconds, it.processor) for it in found]))
+    room_ = max(it.bytes for it in found) / size
+    took = f"{alone:.2f} ns/byte; processor {whole:.2f} ns/byte; {room_:.2f} bytes a byte"
+    print(f"{name}: {size} bytes, {found[0].what}: {took}", flush=True)
+    if tl:
+        selects = min(ran.seconds for ran, _ in others) * 1e9 / size
+        print(f"  select p: processor {selects:.2f} ns/byte; {max(it for _, it in others) / size:.2f} bytes a byte", flush=True)
+
+
+def look_at_trees(given):
+    """The same of all pages."""
+    program = given.program or helper_build("trees")
+    for kind in parts(given.kinds, [] if given.files else KINDS):
+        for size in given.sizes.split(","):
+            file = page(given.pages, given.seed, kind, size)
+            look_at_tree(program, given.against, f"{kind} {size}", file, given.rounds)
+    for file in given.files:
+        look_at_tree(program, given.against, file, file, given.rounds)
+
+
 def parts(word, otherwise):
     """The parts of a word, or what stands for it where it isn't given."""
     return word.split(",") if word is not None else list(otherwise)
@@ -108,8 +143,12 @@ def main(parser, words):
         parser.add_argument(f"--{it}")
     for it, otherwise in (("rounds", 5), ("times", 0), ("seed", 1)):
         parser.add_argument(f"--{it}", type=int, default=otherwise, metavar="N")
+    parser.add_argument("--trees", action="store_true")
     given = parser.parse_args(words)
     os.makedirs(given.pages, exist_ok=True)
+    if given.trees:
+        look_at_trees(given)
+        return 0
     ours = given.program or helper_build("bench")
     beside_us = [ours, given.against] if given.against else [ours]
     for kind in parts(given.kinds, [] if given.files else KINDS):

@@ -1,6 +1,7 @@
 """Uses the programs as one would who means them harm, and says what is not answered as it must be.
 
     ./x stress [--sizes 1M,4M] [--jobs N] [--list] [--program FILE] [--tlq FILE] [--tl FILE] [--form FILE]
+    ./x stress --trees [--size 30K] [--jobs N] [--list] [--program FILE]
 
 Six parts, each with a stack of 8 MB:
 
@@ -20,6 +21,10 @@ quarter, by the processor's clock: square time takes four times as much, and map
 on names that meet may take at most 3 times as much as one on as many others of their length. --list prints the figures of all runs.
 At most N run side by side. It takes some four minutes of processor time and 3 GB.
 A page that was once read wrongly or slowly gets a row in tools/stress/pages.rs, or in tools/stress/pages.py.
+With --trees pages of that kind are read into their trees (`tl_tree`, by the program of tools/trees), at one size and at four times
+it, and those that take more than 5 times as much of the processor's time or of memory are named, or with --list all; the status is
+1 where there is one. What takes less than 10 milliseconds at the smaller size counts as so much: a larger size shows more. It is a
+part of its own, since there still are such pages.
 `tl` and `tlq` are those that the gate builds, unless others are named; what isn't there yet is proved and built first. The program
 that cuts and makes tables, and the one that writes forms (tools/stress, tools/forms), are not proved. They are compiled with
 optimisation, and without run-time checks, since they are timed; --program and --form name others.
@@ -30,7 +35,7 @@ from concurrent.futures import ThreadPoolExecutor
 
 from .. import programs
 from ..stress import names, pages, texts
-from ..stress.growth import complete, growth
+from ..stress.growth import TREE_BOUND, complete, growth, tree_growth
 from ..unproved import helper_build
 from ..workspace import ROOT, Stop, cores, text_of
 
@@ -196,13 +201,34 @@ def check(program=None, tlq=None, tl=None, form=None, sizes=(1000000, 4000000), 
     return True
 
 
+def check_trees(program, size, jobs, lists):
+    """Reads pages that aim at more than linear time into their trees. How many do."""
+    program = program or helper_build("trees")
+
+    def look(it):
+        name, made = it
+        return tree_growth(program, name, [made(size).encode(), made(4 * size).encode()])
+
+    with limited_stack(), ThreadPoolExecutor(jobs or min(4, cores())) as workers:
+        found = sorted(workers.map(look, pages.trees()), key=lambda it: -it.large.processor)
+    beyond = [it for it in found if it.is_beyond()]
+    for it in found if lists else beyond:
+        print(it.line())
+    print(f"stress: {len(found)} pages of {size} bytes and of four times that: {len(beyond)} grow more than {TREE_BOUND} times")
+    return len(beyond)
+
+
 def main(parser, words):
     for it in ("program", "tlq", "tl", "form"):
         parser.add_argument(f"--{it}", metavar="FILE")
     parser.add_argument("--sizes", default="1M,4M")
     parser.add_argument("--jobs", type=int, metavar="N")
     parser.add_argument("--list", action="store_true")
+    parser.add_argument("--trees", action="store_true")
+    parser.add_argument("--size", default="30K")
     given = parser.parse_args(words)
+    if given.trees:
+        return 1 if check_trees(given.program, pages.size_of(given.size), given.jobs, given.list) else 0
     sizes = [pages.size_of(it) for it in given.sizes.split(",")]
     check(given.program, given.tlq, given.tl, given.form, sizes, given.jobs, given.list)
     return 0

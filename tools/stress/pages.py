@@ -48,9 +48,32 @@ FORMED = (
     ("<pre>", "\n", ""), ("", "<A\0>", ""),
 )
 
+TWENTY = "".join(f"<b x={it}>" for it in range(20))
+# The same of pages that are read into trees: what stands once and what is repeated, by turns.
+TREED = (
+    ("", "<div>"), ("", "<b>"), ("", "<b x=%>"), ("", "<b x=%>", "", "</i>"), ("", "<b x=%>", "", "<p>x"),
+    ("<p>", "<b x=%>", "</p>", "<p>x</p>"), ("", "<p><b x=%>"), ("", "<p><b>x</p>"), ("", "<a href=x>x"), ("", "<a href=x><div>x"),
+    ("<b>", "<div>", "", "</b>"), ("<b>", "<div><span>", "", "</b>"), ("", "<i><p>", "", "</i>"), ("", "<b><i><div>", "", "</b></i>"),
+    ("", "<span>", "", "</x>"), ("<x><div>", "<span>", "", "</x>"), ("", "<span>", "<div>", "</span>"), ("", "<x%>", "", "</y%>"),
+    ("", "<div>", "", "</p>"), ("", "<div>", "", "</section>"), ("", "<div>", "", "<svg/>"), ("", "<div>", "", "<table></table>"),
+    ("", "<dl><dd>"), ("", "<ul><li>"), ("", "<dd><span>"), ("", "<p><span>"), ("", "<nobr>x"), ("", "<form><div></form>"),
+    ("", "<object><b>", "", "</b>"), (f"{TWENTY}", "<p>x</p>"), (f"<p>{TWENTY}", "<p>x"), ("<select>", "<option>x"), ("", "<select><div>"),
+    ("", "<table><tr><td>"), ("<table>", "a<tr>"), ("<table>", "x&amp;<td>&amp;</td></tr>"), ("<table>", "<a>x"), ("", "<a><table>"),
+    ("<table>", "<tr><td><b><p>x"), ("", "<table><caption>"), ("", "<template>"),
+    ("<svg>", "<g>", "", "</y>"), ("", "<svg><desc><a>", "", "</y>"), ("", "<svg>", "", "</svg>"), ("<svg>", "<g>", "<desc>", "<a>x</a>"),
+    ("<math><annotation-xml ", "x%=1 ", ">", "<!x>"), ("", "<html x%=1>"), ("<html ", "x%=1 ", ">", "<html x0=1>"), ("<body>", "<body x%=1>"),
+    ("<p ", "x%=1 ", ">"), ("<p ", "a%='&amp;' ", ">"), ("<p><b ", "x% ", "><b ", "x% ", "><b ", "x% ", ">"),
+    ("", "&CounterClockwiseContourInt"), ("", "\rx"), ("", "<!--x--"), ("<script><!--<script>", "</scrip"), ("<title>", "</titl"),
+)
+
 
 def show(text):
     return repr(text)[1:-1]
+
+
+def shorten(text):
+    """A text as it is shown, or its beginning where it is long."""
+    return show(text) if len(text) <= 40 else show(text[:16]) + ".."
 
 
 def cross(size):
@@ -75,6 +98,23 @@ def frame(front, it, end):
 
 def number_between(front, it, end):
     return lambda size: front + number(it, size) + end
+
+
+def by_turns(parts):
+    """Parts that stand once, and parts that are repeated equally often, by turns. Numbers are those of the repetitions."""
+    repeated = parts[1::2]
+
+    def made(size):
+        count = max(1, size // sum(len(it) for it in repeated))
+        return "".join("".join(it.replace("%", str(at)) for at in range(count if place % 2 else 1)) for place, it in enumerate(parts))
+
+    return made
+
+
+def both_orders(size):
+    """The same attributes of formatting elements, from the first on and from the last on."""
+    keys = [f"x{it}" for it in range(size // 48)]
+    return f"<p><b {' '.join(keys)}><b {' '.join(reversed(keys))}>" * 4
 
 
 def pages():
@@ -105,6 +145,14 @@ def forms():
     yield "open svg, then paragraphs", halves("<svg>", "<p>")
     yield "open tags, then ends of paragraphs", halves("<b>", "</p>")
     yield "open tags by numbers, then end tags from the first on", cross
+
+
+def trees():
+    """The same of pages that are read into trees, and of those whose forms are written."""
+    for parts in TREED:
+        yield ", ".join(shorten(it) + " again and again" * (at % 2) for at, it in enumerate(parts) if it), by_turns(parts)
+    yield "attributes of formatting elements in both orders", both_orders
+    yield from forms()
 
 
 def searches():

@@ -1,0 +1,127 @@
+//! Writes the tree of each page on standard input, as the standard's own tests write trees down
+//! (`lines`). The byte 0x1E stands between two pages, and is written after each tree. In the place
+//! of a tree that isn't read stands a line that says why.
+//!
+//! | Word | Says |
+//! |---|---|
+//! | `scripting` | that scripting is on |
+//! | `time` | that one page is on standard input, which is read alone: what is written is how many nodes it has, or `refused`, and how long the reading and the drop took, in microseconds |
+//!
+//! The status is 1 where a word is not understood, 3 where memory runs out, and 4 where reading or
+//! writing fails.
+#![tactic(auto)]
+
+mod lines;
+
+use lines::{NoRoom, put_tree};
+use std::alloc::Global;
+use std::process::ExitCode;
+use std::io::{Read, Write};
+use std::time::Instant;
+use std::{env, io, mem};
+use tl_tree::{Flags, ReadError, Tree};
+
+// What stands between two pages.
+const SEPARATOR: u8 = 0x1E;
+
+// Why nothing was written. Its number is the status.
+#[derive(Clone, Copy)]
+enum Failed {
+    NotUnderstood = 1,
+    NoRoom = 3,
+    Io = 4,
+}
+
+impl From<NoRoom> for Failed {
+    fn from(_: NoRoom) -> Self {
+        Failed::NoRoom
+    }
+}
+
+impl From<io::Error> for Failed {
+    fn from(_: io::Error) -> Self {
+        Failed::Io
+    }
+}
+
+// What the words ask for.
+#[derive(Clone, Copy)]
+struct Asked {
+    flags: Flags,
+    is_timed: bool,
+}
+
+fn main(rt: HostRuntime) -> ExitCode {
+    match run(&rt) {
+        Ok(()) => ExitCode::SUCCESS,
+        Err(failed) => ExitCode::from(failed as u8),
+    }
+}
+
+fn run(rt: &HostRuntime) -> Result<(), Failed> {
+    let asked = asked(rt)?;
+    let mut pages = Vec::new(rt.alloc());
+    rt.stdin().read_to_end(&mut pages)?;
+    if asked.is_timed {
+        return time(rt, pages.as_slice(), asked.flags);
+    }
+    let trees = trees_of(rt.alloc(), pages.as_slice(), asked.flags)?;
+    let mut out = rt.stdout();
+    out.write_all(trees.as_slice())?;
+    out.flush()?;
+    Ok(())
+}
+
+fn asked(rt: &HostRuntime) -> Result<Asked, Failed> {
+    let mut asked = Asked {
+        flags: Flags {
+            is_scripting: false,
+            counts_search: true,
+        },
+        is_timed: false,
+    };
+    for word in env::args(rt)?.skip(1) {
+        match word.as_str() {
+            "scripting" => asked.flags.is_scripting = true,
+            "time" => asked.is_timed = true,
+            _ => return Err(Failed::NotUnderstood),
+        }
+    }
+    Ok(asked)
+}
+
+// Reads a page, and says how long that took.
+fn time(rt: &HostRuntime, page: &[u8], flags: Flags) -> Result<(), Failed> {
+    let start = Instant::now(rt)?;
+    let read = Tree::read(rt.alloc(), page, flags);
+    let count = match &read {
+        Ok(tree) => Some(tree.len()),
+        Err(_) => None,
+    };
+    mem::drop(read);
+    let taken = start.elapsed(rt)?.as_micros();
+    match count {
+        Some(count) => println!(rt; "{} {}", count, taken)?,
+        None => println!(rt; "refused {}", taken)?,
+    }
+    Ok(())
+}
+
+// The trees of pages, each with the separator after it.
+fn trees_of(alloc: Global, pages: &[u8], flags: Flags) -> Result<Vec<u8>, NoRoom> {
+    let mut out = Vec::new(alloc);
+    for page in pages.split(|byte| *byte == SEPARATOR) {
+        match Tree::read(alloc, page, flags) {
+            Ok(tree) => put_tree(alloc, &mut out, &tree)?,
+            Err(error) => put_error(alloc, &mut out, error)?,
+        }
+        out.push(SEPARATOR)?;
+    }
+    Ok(out)
+}
+
+fn put_error(alloc: Global, out: &mut Vec<u8>, error: ReadError) -> Result<(), NoRoom> {
+    let line = format!(in alloc; "not read: {error}\n")?;
+    out.extend_from_slice(line.as_bytes())?;
+    Ok(())
+}
