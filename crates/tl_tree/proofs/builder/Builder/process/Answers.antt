@@ -14,9 +14,9 @@ loop-left-preserved c =
     let some = c.loop-left-test.true in
     let next : c.loop-left.left ≡ suc left = omega arith in
     let step : Again d ≡ dispatch token b =
-        ap (λ (o : Outcome). outcome_of o d) (sym c.in-Again.is)
-        ∙ (c.in_ok-dispatch.ensures.ok
-        ∙ ap (λ (said : Said). dispatch (token_view c.args.token said) b) c.loop-left.invariant.said) in
+    ap (λ (o : Outcome). outcome_of o d) (sym c.in-Again.is)
+    ∙ (c.in_ok-dispatch.ensures.ok
+    ∙ ap (λ (said : Said). dispatch (token_view c.args.token said) b) c.loop-left.invariant.said) in
     record {
       same =
           c.loop-left.invariant.same
