@@ -81,9 +81,21 @@ fn is_what_it_is(tree: &Tree<'_>) -> bool {
         && tree.kind(7) == None
 }
 
+fn is_walked(tree: &Tree<'_>) -> bool {
+    let mut children = tree.children(4);
+    let mut ancestors = tree.ancestors(6);
+    children.next() == Some(5)
+        && children.next() == Some(6)
+        && children.next() == None
+        && ancestors.next() == Some(4)
+        && ancestors.next() == Some(3)
+        && ancestors.next() == Some(1)
+        && ancestors.next() == None
+}
+
 fn is_asked(alloc: Global) -> bool {
     match Tree::read(alloc, PAGE, STANDARD) {
-        Ok(tree) => stands_in_place(&tree) && is_what_it_is(&tree),
+        Ok(tree) => stands_in_place(&tree) && is_what_it_is(&tree) && is_walked(&tree),
         Err(_) => false,
     }
 }
