@@ -4,7 +4,7 @@
     ./x compare html --form [--runs N] [--seed N] [--page FILE..] [--program FILE]
     ./x compare html --form --trees FOLDER [--show N] [--program FILE]
     ./x compare html --trees FOLDER [--runs N] [--seed N]
-    ./x compare html --code [--trees FOLDER] [--runs N] [--seed N] [--page FILE..] [--program FILE]
+    ./x compare html --code [--chromium] [--trees FOLDER] [--runs N] [--seed N] [--page FILE..] [--program FILE]
     ./x compare html --clauses [--show N]
     ./x compare html --row TEXT
     ./x compare html --tree TEXT [--inside NAME] [--scripting]
@@ -23,8 +23,9 @@ same, and of which kind the others are, --show N with N of each. The program is 
 With --trees alone the definition of tree construction, the text of `crates/tl_dom_spec` run by Python (definition.py), and a model
 that was written from the standard alone (tree_model.py) are compared with the trees of these tests, pages and fragments, and with
 one another on made-up ones. Tests that are older than a rule are named with it. With --chromium both are compared with Chromium on
-made-up pages. With --code the trees of `crates/tl_tree` are compared with the model on made-up pages and on files, and with the tests of pages
-in the folder: those that the program of tools/trees writes, built unproved, unless --program names one. With --clauses the worked rows of that crate are
+made-up pages. With --code the trees of `crates/tl_tree` are compared with the model on made-up pages and fragments and on files, and with the tests
+in the folder, or with --chromium with Chromium on made-up pages: those that the program of tools/trees writes, built unproved, unless
+--program names one. With --clauses the worked rows of that crate are
 computed in the same way, and for each clause of its definitions rows are named, --show N of them (3), that would be others without
 it; NO ROW stands where none would. With --tree it writes the trees of a text as these rows have them.
 

@@ -1,7 +1,8 @@
-"""The trees of `crates/tl_tree`, which the program of tools/trees writes, beside the standard's own tests and the model of tree_model.py.
+"""The trees of `crates/tl_tree`, which the program of tools/trees writes, beside the standard's own tests, the model of tree_model.py, and,
+where that is asked for, Chromium.
 
 The pages are those of the tests, those of files, and made-up ones: tags in any order with pieces of markup that are hard to read put in,
-and what ./x compare html makes of such pieces and of cuts of the files.
+and what ./x compare html makes of such pieces and of cuts of the files. Three batches of ten are read as fragments, one of ten are cuts of made-up pages.
 """
 import concurrent.futures
 import functools
@@ -13,6 +14,7 @@ from tools.unproved import helper_build
 from tools.workspace import Stop
 
 from . import tree_model, tree_tests
+from .chromium import all_answers, chromium, version
 from .tree_definition import with_room
 
 # What stands between two pages, and behind each tree.
@@ -25,22 +27,29 @@ BATCH = 500
 SHOWN = 20
 
 
-def trees(program, pages, is_scripting):
-    """The trees of some pages, as the standard's tests write them down, by a run of the program."""
-    words = [program] + ["scripting"] * is_scripting
-    written = must(words, "it writes no trees", given=SEPARATOR.join(pages).encode(), limit=600).out.decode(errors="replace")
-    found = written.split("\n" + SEPARATOR)
+def trees(program, pages, *words):
+    """The trees of some pages, as the standard's tests write them down, by a run of the program with some words."""
+    written = must([program, *words], "it writes no trees", given=SEPARATOR.join(pages).encode(), limit=600).out.decode(errors="replace")
+    found = [it.removesuffix("\n") for it in written.split(SEPARATOR)]
     if len(found) != len(pages) + 1:
         raise Stop(f"{len(pages)} pages, and {len(found) - 1} trees")
     return found[:-1]
 
 
+def words_for(context, is_scripting):
+    """The words of the program for a page, or for a fragment in a context."""
+    return ["scripting"] * is_scripting + (["fragment", context] if context else [])
+
+
 def against_tests(program, folder):
     """Compares the trees of the program with those of the tests in a folder. How many differ that are not older, or are and don't."""
-    tests = [it for it in tree_tests.tests_of(folder) if it.context is None]
-    pages = [it.page for it in tests]
-    found = {flag: dict(zip(pages, trees(program, pages, flag))) for flag in (False, True)}
-    return tree_tests.against_tests(tests, {"tl_tree": lambda page, context, is_scripting: [found[is_scripting][page]]})
+    tests = list(tree_tests.tests_of(folder))
+    found = {}
+    for context in {it.context for it in tests}:
+        pages = [it.page for it in tests if it.context == context]
+        for flag in (False, True):
+            found |= {(page, context, flag): [tree] for page, tree in zip(pages, trees(program, pages, *words_for(context, flag)))}
+    return tree_tests.against_tests(tests, {"tl_tree": lambda *asked: found[asked]})
 
 
 def rough(chance, pieces):
@@ -52,30 +61,41 @@ def rough(chance, pieces):
     return page
 
 
+def cuts(chance):
+    """A page cut at each place, and others after it."""
+    found = []
+    while len(found) < BATCH:
+        page = tree_tests.wholly_made(chance)
+        found += [page[:end] for end in range(len(page) + 1)]
+    return found[:BATCH]
+
+
 def differing(seed, program, pieces, made):
     """Of a batch of made-up pages that a seed gives those whose trees aren't the model's."""
     chance = random.Random(seed)
     is_scripting = chance.random() < 0.2
+    context = chance.choice(tree_tests.CONTEXTS) if chance.random() < 0.3 else None
     pages = [rough(chance, pieces) if chance.random() < 0.7 else made(chance) for _ in range(BATCH)]
-    return differing_among(program, pages, is_scripting)
+    pages = cuts(chance) if chance.random() < 0.1 else pages
+    return differing_among(program, [it.removeprefix(MARK) for it in pages] if context else pages, is_scripting, context)
 
 
-def differing_among(program, pages, is_scripting):
-    """Those of some pages whose trees aren't the model's, with both trees."""
+def differing_among(program, pages, is_scripting, context=None):
+    """Those of some pages, or fragments, whose trees aren't the model's, with both trees."""
     warnings.simplefilter("ignore")
-    models = ("\n".join(tree_tests.lines_of_model(page.removeprefix(MARK), None, is_scripting)) for page in pages)
-    found = zip(pages, trees(program, pages, is_scripting), models)
-    return [(page, is_scripting, ours, model) for page, ours, model in found if ours != model]
+    models = ("\n".join(tree_tests.lines_of_model(page.removeprefix(MARK), context, is_scripting)) for page in pages)
+    found = zip(pages, trees(program, pages, *words_for(context, is_scripting)), models)
+    return [(page, context, is_scripting, ours, model) for page, ours, model in found if ours != model]
 
 
 def told(count, what, batches):
     """Shows the first that differ, and says how many of so many pages do."""
     differ = 0
     for found in batches:
-        for page, is_scripting, ours, model in found:
+        for page, context, is_scripting, ours, model in found:
             differ += 1
             if differ <= SHOWN:
-                print(f"{page!r}, scripting {is_scripting}\n  tl_tree: {ours!r}\n  model:   {model!r}", flush=True)
+                print(f"{page!r} in {context}, scripting {is_scripting}\n  tl_tree: {ours!r}\n  model:   {model!r}", flush=True)
     print(f"{count} {what}: {differ} differ between tl_tree and the model", flush=True)
     return differ
 
@@ -85,12 +105,29 @@ def against_model(program, words, pieces, made):
     seeds = range(words.seed * 10**6, words.seed * 10**6 + (words.runs + BATCH - 1) // BATCH)
     look = functools.partial(differing, program=program, pieces=pieces, made=made)
     with concurrent.futures.ProcessPoolExecutor() as pool:
-        return told(len(seeds) * BATCH, "made-up pages", pool.map(look, seeds))
+        return told(len(seeds) * BATCH, "made-up pages and fragments", pool.map(look, seeds))
+
+
+def against_browser(program, words):
+    """Compares the trees of the program with Chromium's, which counts no `search` as special, on made-up pages. How many differ."""
+    browser, chance, differ = chromium(), random.Random(words.seed), 0
+    for start in range(0, words.runs, tree_tests.BATCH):
+        pages = [tree_tests.wholly_made(chance) for _ in range(min(tree_tests.BATCH, words.runs - start))]
+        theirs = all_answers(browser, "documents.html", pages, tree_tests.BATCH)
+        for page, ours, wanted in zip(pages, trees(program, pages, "without-search"), theirs):
+            if ours != "\n".join(wanted):
+                differ += 1
+                if differ <= SHOWN:
+                    print(f"{page!r}\n  tl_tree:  {ours!r}\n  Chromium: {wanted!r}", flush=True)
+    print(f"{version(browser)}, {words.runs} made-up pages: {differ} differ between tl_tree and Chromium")
+    return differ
 
 
 def compared(words, pieces, made, pages):
     """Compares all. How many trees differ that are not those of older tests."""
     program = words.program or helper_build("trees")
+    if words.chromium:
+        return against_browser(program, words)
     pages = [it.replace(SEPARATOR, "") for it in pages]
     wrong = against_tests(program, words.trees) if words.trees is not None else 0
     if pages:

@@ -5,6 +5,8 @@
 //! | Word | Says |
 //! |---|---|
 //! | `scripting` | that scripting is on |
+//! | `without-search` | that `search` isn't counted as a special element |
+//! | `fragment CONTEXT` | that each is a fragment, and its context element: the name of an HTML element, or `svg NAME` or `math NAME` as one word |
 //! | `time` | that one page is on standard input, which is read alone: what is written is how many nodes it has, or `refused`, and how long the reading and the drop took, in microseconds |
 //!
 //! The status is 1 where a word is not understood, 3 where memory runs out, and 4 where reading or
@@ -19,7 +21,7 @@ use std::process::ExitCode;
 use std::io::{Read, Write};
 use std::time::Instant;
 use std::{env, io, mem};
-use tl_tree::{Flags, ReadError, Tree};
+use tl_tree::{Context, Flags, Namespace, ReadError, Tree};
 
 // What stands between two pages.
 const SEPARATOR: u8 = 0x1E;
@@ -45,10 +47,12 @@ impl From<io::Error> for Failed {
 }
 
 // What the words ask for.
-#[derive(Clone, Copy)]
+#[derive(Drop)]
 struct Asked {
     flags: Flags,
     is_timed: bool,
+    /// The context element of fragments.
+    context: Option<String>,
 }
 
 fn main(rt: HostRuntime) -> ExitCode {
@@ -65,7 +69,7 @@ fn run(rt: &HostRuntime) -> Result<(), Failed> {
     if asked.is_timed {
         return time(rt, pages.as_slice(), asked.flags);
     }
-    let trees = trees_of(rt.alloc(), pages.as_slice(), asked.flags)?;
+    let trees = trees_of(rt.alloc(), pages.as_slice(), &asked)?;
     let mut out = rt.stdout();
     out.write_all(trees.as_slice())?;
     out.flush()?;
@@ -79,11 +83,18 @@ fn asked(rt: &HostRuntime) -> Result<Asked, Failed> {
             counts_search: true,
         },
         is_timed: false,
+        context: None,
     };
-    for word in env::args(rt)?.skip(1) {
+    let mut words = env::args(rt)?.skip(1);
+    while let Some(word) = words.next() {
         match word.as_str() {
             "scripting" => asked.flags.is_scripting = true,
+            "without-search" => asked.flags.counts_search = false,
             "time" => asked.is_timed = true,
+            "fragment" => match words.next() {
+                Some(context) => asked.context = Some(context),
+                None => return Err(Failed::NotUnderstood),
+            },
             _ => return Err(Failed::NotUnderstood),
         }
     }
@@ -107,11 +118,34 @@ fn time(rt: &HostRuntime, page: &[u8], flags: Flags) -> Result<(), Failed> {
     Ok(())
 }
 
+// The context element that a word names, whose document is not in quirks mode.
+fn context_of(word: &str) -> Context<'_> {
+    let (namespace, name) = match (word.strip_prefix("svg "), word.strip_prefix("math ")) {
+        (Some(name), _) => (Namespace::Svg, name),
+        (None, Some(name)) => (Namespace::Math, name),
+        (None, None) => (Namespace::Html, word),
+    };
+    Context {
+        namespace,
+        name: name.as_bytes(),
+        attributes: &[],
+        is_in_form: word == "form",
+        is_quirks: false,
+    }
+}
+
+fn read<'p>(alloc: Global, page: &'p [u8], asked: &Asked) -> Result<Tree<'p>, ReadError> {
+    match &asked.context {
+        Some(word) => Tree::read_fragment(alloc, page, context_of(word.as_str()), asked.flags),
+        None => Tree::read(alloc, page, asked.flags),
+    }
+}
+
 // The trees of pages, each with the separator after it.
-fn trees_of(alloc: Global, pages: &[u8], flags: Flags) -> Result<Vec<u8>, NoRoom> {
+fn trees_of(alloc: Global, pages: &[u8], asked: &Asked) -> Result<Vec<u8>, NoRoom> {
     let mut out = Vec::new(alloc);
     for page in pages.split(|byte| *byte == SEPARATOR) {
-        match Tree::read(alloc, page, flags) {
+        match read(alloc, page, asked) {
             Ok(tree) => put_tree(alloc, &mut out, &tree)?,
             Err(error) => put_error(alloc, &mut out, error)?,
         }
