@@ -6,7 +6,7 @@ use denote.Enum.Declared.{tag_of}
 use mathlib.Core.Bool.{beq}
 use Rattle.tl_names.specs.contracts.class.Class.{the_type}
 use Rattle.tl_names.specs.declared.class.Class.{Class}
-use Rattle.tl_names.specs.declared.class.Class.TheVariants.{Special, Scope, ListScope, ButtonScope, TableScope, AddressDivParagraph, Implied, ImpliedThoroughly, Heading, FosterTarget, Void, Rcdata, RawText, Verbatim, TableSection, TablePart, TableBodyContext, TableRowContext, Cell, Description, MathText, MathMark, MathGlyph, SvgMark, SvgCased, Breakout}
+use Rattle.tl_names.specs.declared.class.Class.TheVariants.{Special, Scope, ListScope, ButtonScope, TableScope, AddressDivParagraph, Implied, ImpliedThoroughly, Heading, FosterTarget, Void, Rcdata, RawText, Verbatim, TableSection, TablePart, TableBodyContext, TableRowContext, Cell, Description, MathText, MathMark, MathGlyph, SvgMark, SvgCased, Breakout, Decisive}
 use Rattle.tl_names.specs.declared.element_name.ElementName.{ElementName}
 use Rattle.tl_names.specs.declared.element_tables.TheConstants.{CLASSES}
 use Rattle.tl_names.specs.ElementNames.{bytes_of, element_names, name_of}
@@ -67,6 +67,7 @@ each_agrees MathGlyph = refl
 each_agrees SvgMark = refl
 each_agrees SvgCased = refl
 each_agrees Breakout = refl
+each_agrees Decisive = refl
 
 -- the bit of a class in the row of a name says whether it is of it
 pub bit_of_row : (class : Class) (name : ElementName) → name.number < 256 → bit (tag_of the_type class) (get_or CLASSES name.number 0) ≡ is_of class name
@@ -102,6 +103,7 @@ each_listed MathGlyph = refl
 each_listed SvgMark = refl
 each_listed SvgCased = refl
 each_listed Breakout = refl
+each_listed Decisive = refl
 
 each_filled : (class : Class) → is_among (names_in class) [] ≡ false
 unfolding names_in
@@ -131,6 +133,7 @@ each_filled MathGlyph = refl
 each_filled SvgMark = refl
 each_filled SvgCased = refl
 each_filled Breakout = refl
+each_filled Decisive = refl
 
 -- the class of a name is told by its number
 pub class_of_name : (class : Class) (n : List ℕ) → is_of class (name_of n) ≡ is_among (names_in class) n

@@ -4,7 +4,7 @@ use Rattle.std.specs.Prelude.{Bool, List, ℕ, ◌++◌}
 use Rattle.tl_names.specs.ElementNames.{bytes_of}
 use Rattle.tl_names.specs.Elements.{is_among, words}
 use Rattle.tl_names.specs.declared.class.Class.{Class}
-use Rattle.tl_names.specs.declared.class.Class.TheVariants.{Special, Scope, ListScope, ButtonScope, TableScope, AddressDivParagraph, Implied, ImpliedThoroughly, Heading, FosterTarget, Void, Rcdata, RawText, Verbatim, TableSection, TablePart, TableBodyContext, TableRowContext, Cell, Description, MathText, MathMark, MathGlyph, SvgMark, SvgCased, Breakout}
+use Rattle.tl_names.specs.declared.class.Class.TheVariants.{Special, Scope, ListScope, ButtonScope, TableScope, AddressDivParagraph, Implied, ImpliedThoroughly, Heading, FosterTarget, Void, Rcdata, RawText, Verbatim, TableSection, TablePart, TableBodyContext, TableRowContext, Cell, Description, MathText, MathMark, MathGlyph, SvgMark, SvgCased, Breakout, Decisive}
 use Rattle.tl_names.specs.declared.element_name.ElementName.{ElementName}
 
 -- the special elements (13.2.4.2)
@@ -146,6 +146,11 @@ breakout_words =
     ++ words "head hr i img li listing menu meta nobr ol p pre ruby s small span strong"
     ++ words "strike sub sup table tt u ul var"
 
+-- what may decide the insertion mode (13.2.4.1)
+abbrev pub decisive_words : List (List ℕ)
+decisive_words =
+    words "td th tr tbody thead tfoot caption colgroup table template head body frameset html"
+
 -- the names of a class
 unfoldable pub names_in : Class → List (List ℕ)
 names_in Special = special_words
@@ -174,6 +179,7 @@ names_in MathGlyph = math_glyph_words
 names_in SvgMark = svg_mark_words
 names_in SvgCased = svg_cased_words
 names_in Breakout = breakout_words
+names_in Decisive = decisive_words
 
 -- whether a name is of a class
 unfoldable pub is_of : Class → ElementName → Bool

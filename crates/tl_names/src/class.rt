@@ -59,4 +59,6 @@ pub enum Class {
     SvgCased,
     /// Whose start tags end foreign content (13.2.6.5).
     Breakout,
+    /// What may decide the insertion mode (13.2.4.1).
+    Decisive,
 }
