@@ -31,7 +31,7 @@ fn write_reference(in_value: bool, bytes: &[u8], out: &mut Vec<u8>) -> Result<us
 fn unescape(alloc: Global, in_value: bool, bytes: &[u8]) -> Result<Vec<u8>, AllocError>
     ensures { IfOk result (λ characters. characters.items ≡ unescaped in_value bytes.now) }
 {
-    let mut out = Vec::new(alloc);
+    let mut out = Vec::with_capacity(alloc, bytes.len())?;
     let mut rest = bytes;
     while let Some(at) = memchr(b'&', rest) {
         write_bytes(bytes_before(rest, at), &mut out)?;
