@@ -18,7 +18,7 @@ use Rattle.tl_html_tokens.specs.declared.stage.Stage.TheVariants as stage
 use Rattle.tl_html_tokens.specs.declared.stage.Turn.TheVariants.{Goes}
 use Rattle.tl_html_tokens.proofs.Passing.{feed_is, pass_on}
 use Rattle.tl_html_tokens.proofs.Places.{between}
-use Rattle.tl_html_tokens.proofs.Reading.{Follows, IsScan, scan_next}
+use Rattle.tl_html_tokens.proofs.Reading.{Follows, IsScan, scan_first, scan_next}
 
 abbrev scan_at : Stage → ℕ → Scan
 scan_at c word = record { stage = c; after_return = false; word = word }
@@ -102,3 +102,10 @@ passed_to page start m from to scan s h order within q e =
     let sum : from + (to - from) ≡ to = omega arith in
     subst (λ k. IsScan page start m k s) sum
     (subst (IsScan page start m (from + (to - from))) (sym e) (pass_on page start m from (to - from) scan h (omega arith) q))
+
+-- past the first bytes, and those that leave the stage as it is
+pub begun_to : (page : List ℕ) (start : ℕ) (m : Mode) (from to : ℕ) (scan s : Scan) → start < length page → scanned (from - (start + 1)) page (start + 1) (S.first_scan page start m) ≡ On scan →
+    start < from → from ≤ length page → from ≤ to → to ≤ length page → list_all (is_quiet scan.stage) (take (to - from) (drop from page)) ≡ true → s ≡ skip_quiet scan from (to - from) →
+    IsScan page start m to s
+begun_to page start m from to scan s h read order inside on within q e =
+    passed_to page start m from to scan s (scanned_to page start m (start + 1) from (S.first_scan page start m) scan (scan_first page start m h) (omega arith) inside read) on within q e

@@ -249,7 +249,7 @@ declared w stage.CommentEnd s ts (bytes, e, t) g = absurd (true≢false (sym g �
 declared w stage.CommentEndBang s ts (bytes, e, t) g = absurd (true≢false (sym g ∙ ap is_declaration e))
 declared w stage.Doctype s ts (e, t) g = absurd (true≢false (sym g ∙ ap is_declaration e))
 
-opens_at : (s : State) (c : ℕ) → opens_cdata s c ≡ true → (s ≡ T.markup_declaration_open []) × ((c == 91) ≡ true)
+pub opens_at : (s : State) (c : ℕ) → opens_cdata s c ≡ true → (s ≡ T.markup_declaration_open []) × ((c == 91) ≡ true)
 opens_at (T.markup_declaration_open []) c h = (refl, h)
 opens_at _ c h = absurd (true≢false (sym h))
 

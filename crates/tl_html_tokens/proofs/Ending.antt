@@ -1,5 +1,6 @@
 -- A piece that the end of a page ends.
-use Rattle.std.proofs.Common.{◌≡◌, ℕ, false, List, [], ◌∷◌, ◌++◌, length, drop, codes, refl, ap, ap₂, sym, subst, ◌∙◌, arith, le_refl, append-nil}
+use Rattle.std.proofs.Common.{◌≡◌, ◌≤◌, ◌==◌, ℕ, false, inl, inr, List, [], ◌∷◌, ◌++◌, length, drop, codes, refl, ap, ap₂, sym, subst, ◌∙◌, arith, le_refl, append-nil}
+use Rattle.std.proofs.lemmas.Bool.{cases_Bool, eqb-false, eqb-true}
 use Rattle.std.proofs.lemmas.List.{drop_all}
 use Rattle.tl_html_spec.specs.References.{named_value, number_value}
 use Rattle.tl_html_spec.specs.HtmlTokenizer as T
@@ -25,7 +26,7 @@ use Rattle.tl_html_tokens.specs.declared.stage.Stage.{Stage}
 use Rattle.tl_html_tokens.specs.declared.stage.Stage.TheVariants as stage
 use Rattle.tl_html_tokens.proofs.Nonempty.{named_value_some, number_value_some}
 use Rattle.tl_html_tokens.proofs.Places.{between, cut}
-use Rattle.tl_html_tokens.proofs.Reading.{IsScan, reader}
+use Rattle.tl_html_tokens.proofs.Reading.{IsScan, reader, scan_next}
 use Rattle.tl_html_tokens.proofs.Steps.{IsPlace, IsStage, IsValue, chars, flushed_text}
 
 pub mode_ends : (m : Mode) → at_end (state_of m) ≡ []
@@ -138,3 +139,16 @@ scan_end page start m n place scan h e =
         starts_last = subst (λ k. StartsLast (at o) (between page start k)) e h.starts;
       };
     }
+
+-- a piece that is whole
+pub whole_end : (page : List ℕ) (start : ℕ) (m n : Mode) (k : TokenKind) (place : ℕ) (scan : Scan) → IsScan page start m place scan → scan.stage ≡ stage.Whole k n → scan.after_return ≡ false →
+    place ≤ length page → IsFront page start m (record { kind = k; end = place; mode = n })
+whole_end page start m n k place scan h e r l =
+    let same : scan ≡ (record { stage = stage.Whole k n; after_return = false; word = scan.word }) = ap₂ (λ (c : Stage) v. record { stage = c; after_return = v; word = scan.word }) e r in
+    let whole : IsScan page start m place (record { stage = stage.Whole k n; after_return = false; word = scan.word }) = subst (IsScan page start m place) same h in
+    elim (cases_Bool (place == length page)) [
+      | inl y ↦ (
+          let last = eqb-true place (length page) y in
+          subst (λ p. IsFront page start m (record { kind = k; end = p; mode = n })) (sym last) (scan_end page start m n place (record { stage = stage.Whole k n; after_return = false; word = scan.word }) whole last))
+      | inr y ↦ scan_next page start m place (record { stage = stage.Whole k n; after_return = false; word = scan.word }) whole (omega (arith, eqb-false place (length page) y))
+    ]

@@ -94,7 +94,7 @@ both p q = piece p.rest (p.bytes ++ q.bytes) (p.tokens ++ q.tokens)
 both_chars : (a c : Bool) → a ≡ true → c ≡ true → (a && c) ≡ true
 both_chars a c h k = ap₂ ◌&&◌ h k
 
-with_chars : (p q : Piece) (ps : List Piece) → are_characters p.tokens ≡ true → are_characters q.tokens ≡ true → with_piece p (q ∷ ps) ≡ both p q ∷ ps
+pub with_chars : (p q : Piece) (ps : List Piece) → are_characters p.tokens ≡ true → are_characters q.tokens ≡ true → with_piece p (q ∷ ps) ≡ both p q ∷ ps
 with_chars p q ps h k = rw (both_chars (are_characters p.tokens) (are_characters q.tokens) h k) refl
 
 with_other : (p q : Piece) (ps : List Piece) → (are_characters p.tokens && are_characters q.tokens) ≡ false → with_piece p (q ∷ ps) ≡ p ∷ q ∷ ps

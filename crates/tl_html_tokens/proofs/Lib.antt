@@ -10,6 +10,7 @@ pub mod Reached
 pub mod Reading
 pub mod Ending
 pub mod Joining
+pub mod Together
 pub mod Plain
 pub mod Passing
 pub mod Turning

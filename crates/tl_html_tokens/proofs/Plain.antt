@@ -1,26 +1,32 @@
--- A run of characters is one piece.
-use Rattle.std.proofs.Common.{◌≡◌, ◌≤◌, ◌<◌, ℕ, zero, suc, ◌+◌, ◌-◌, Bool, true, false, not, ◌==◌, ◌||◌, List, [], ◌∷◌, ◌++◌, length, length-drop, length-take, take, drop, drop-drop, map, get_or, refl, ap, ap₂, sym, subst, subst₂, ◌∙◌, inl, true≢false, arith, append-nil}
+-- A text up to the next `<` is one piece, where characters are joined.
+use Rattle.std.proofs.Common.{◌≡◌, ◌≤◌, ◌<◌, ◌⊎◌, ℕ, zero, suc, ◌+◌, ◌-◌, Bool, true, false, not, ◌==◌, ◌||◌, ◌&&◌, List, [], ◌∷◌, ◌++◌, length, length-drop, take, drop, get_or, refl, ap, sym, subst, subst₂, ◌∙◌, inl, inr, true≢false, arith, le_refl, if◌then◌else◌}
+use Rattle.std.specs.Char.{is_ascii_alphanumeric, is_ascii_digit, is_ascii_hexdigit, to_ascii_lowercase}
 use Rattle.std.specs.List.{list_all}
-use Rattle.std.proofs.lemmas.Bool.{and_from, and_parts}
-use Rattle.std.proofs.lemmas.List.{take-append-drop}
-use Rattle.tl_html_spec.specs.HtmlTokenizer as T
-use Rattle.tl_html_spec.specs.HtmlTokenizer.{HtmlToken, Character, State, Step, at_end, char_of, step}
-use Rattle.tl_html_spec.specs.Pieces.{Piece, are_characters, piece, pieces_from, runs, with_piece}
-use Rattle.tl_html_spec.specs.Reader.{Reader, after, at, emitted, feed, next, read, resting}
-use Rattle.tl_html_spec.specs.Sound.{IsSome}
-use Rattle.tl_html_spec.proofs.Resting.{settled_at_once, strict_rest}
-use Rattle.tl_html_tokens.specs.Ends.{NoStart, Pends, StandsFor, StartsLast, opens}
-use Rattle.tl_html_tokens.specs.Fronts.{IsFront, pieces_at}
+use Rattle.std.proofs.lemmas.Bool.{and_from, and_parts, cases_Bool, cond_both, eqb-false, eqb-true}
+use Rattle.std.proofs.lemmas.List.{drop_more, get_or-drop}
+use Rattle.tl_html_spec.specs.Reader.{at, feed}
+use Rattle.tl_html_tokens.specs.Ends.{OpensAtMostFirst, opens}
+use Rattle.tl_html_tokens.specs.Fronts.{IsFront}
 use Rattle.tl_html_tokens.specs.Modes.{state_of}
+use Rattle.tl_html_tokens.specs.Inner.Machine as M
 use Rattle.tl_html_tokens.specs.Inner.Runs.{is_plain, reads_plain}
+use Rattle.tl_html_tokens.specs.Inner.Scans as S
+use Rattle.tl_html_tokens.specs.Inner.Stages.{has_word, kind_at_end}
+use Rattle.tl_html_tokens.specs.declared.front.Scan.{Scan}
+use Rattle.tl_html_tokens.specs.declared.front.Scanned.TheVariants.{On, Before}
 use Rattle.tl_html_tokens.specs.declared.mode.Mode.{Mode}
 use Rattle.tl_html_tokens.specs.declared.mode.Mode.TheVariants as mode
+use Rattle.tl_html_tokens.specs.declared.stage.Place.TheVariants as place
+use Rattle.tl_html_tokens.specs.declared.stage.Stage.{Stage}
+use Rattle.tl_html_tokens.specs.declared.stage.Stage.TheVariants as stage
+use Rattle.tl_html_tokens.specs.declared.stage.TokenKind.{TokenKind}
 use Rattle.tl_html_tokens.specs.declared.stage.TokenKind.TheVariants as kind
-use Rattle.tl_html_tokens.proofs.Early.{chars_quiet, mode_opens_none}
-use Rattle.tl_html_tokens.proofs.Ending.{mode_ends}
-use Rattle.tl_html_tokens.proofs.Joining.{chars_join, joins}
-use Rattle.tl_html_tokens.proofs.Reading.{pieces_before, read_plain, reader}
-use Rattle.tl_html_tokens.proofs.Steps.{char_some, chars, rests}
+use Rattle.tl_html_tokens.specs.declared.stage.Turn.{Turn}
+use Rattle.tl_html_tokens.specs.declared.stage.Turn.TheVariants.{Goes, Ends}
+use Rattle.tl_html_tokens.proofs.Ending.{scan_end}
+use Rattle.tl_html_tokens.proofs.Places.{between, cut}
+use Rattle.tl_html_tokens.proofs.Reading.{Follows, IsScan, scan_first, scan_next}
+use Rattle.tl_html_tokens.proofs.Together.{fronts_join}
 
 pub fails_not : (t : Bool) → ¬ (t ≡ true) → t ≡ false
 fails_not true never = absurd (never refl)
@@ -33,178 +39,230 @@ all_before test [] (suc k) h fails = absurd (omega arith)
 all_before test (b ∷ s) (suc k) h fails =
     and_from (not (test b)) (list_all (λ c. not (test c)) (take k s)) (ap not (fails 0 (omega arith))) (all_before test s k (omega arith) (λ j l. fails (suc j) (omega arith)))
 
--- such a byte
-
-record IsPlain (b : ℕ) : Type 0 where
-  less : (b == 60) ≡ false
-  amp : (b == 38) ≡ false
-  returns : (b == 13) ≡ false
-
+-- of three tests none passes
 pub three : (x y z : Bool) → not (x || y || z) ≡ true → (x ≡ false) × (y ≡ false) × (z ≡ false)
 three true y z h = absurd (true≢false (sym h))
 three false true z h = absurd (true≢false (sym h))
 three false false true h = absurd (true≢false (sym h))
 three false false false h = (refl, refl, refl)
 
-plain_is : (b : ℕ) → is_plain b ≡ true → IsPlain b
-plain_is b h = let p = three (b == 60) (b == 38) (b == 13) h in record { less = p.0; amp = p.1; returns = p.2 }
+-- stages in a text
 
-abbrev bytes_in : Mode → ℕ → List ℕ
-bytes_in mode.Data b = b ∷ []
-bytes_in _ b = char_of b
+abbrev TextStage : Mode → Stage → Type 0
+TextStage m (stage.Whole kind.Text n) = n ≡ m
+TextStage m (stage.Reference (place.Text n)) = n ≡ m
+TextStage m (stage.NamedReference (place.Text n)) = n ≡ m
+TextStage m (stage.NumericReference (place.Text n)) = n ≡ m
+TextStage m (stage.HexadecimalStart (place.Text n)) = n ≡ m
+TextStage m (stage.DecimalStart (place.Text n)) = n ≡ m
+TextStage m (stage.Hexadecimal (place.Text n)) = n ≡ m
+TextStage m (stage.Decimal (place.Text n)) = n ≡ m
+TextStage m _ = ⊥
 
-plain_step : (m : Mode) (b : ℕ) → reads_plain m ≡ true → IsPlain b → step (state_of m) b ≡ T.emitting (bytes_in m b) (state_of m)
-plain_step mode.Data b h p = rw (p.amp, p.less) refl
-plain_step mode.Title b h p = rw (p.amp, p.less) refl
-plain_step mode.Textarea b h p = rw (p.amp, p.less) refl
-plain_step mode.ContextText b h p = rw (p.amp, p.less) refl
-plain_step mode.Style b h p = rw p.less refl
-plain_step mode.Xmp b h p = rw p.less refl
-plain_step mode.Iframe b h p = rw p.less refl
-plain_step mode.Noembed b h p = rw p.less refl
-plain_step mode.Noframes b h p = rw p.less refl
-plain_step mode.Noscript b h p = rw p.less refl
-plain_step mode.Script b h p = rw p.less refl
-plain_step mode.Plaintext b h p = refl
-plain_step mode.ScriptEscaped b h p = absurd (true≢false (sym h))
-plain_step mode.ScriptEscapedDash b h p = absurd (true≢false (sym h))
-plain_step mode.ScriptEscapedDashDash b h p = absurd (true≢false (sym h))
+abbrev TextTurn : Mode → Turn → Type 0
+TextTurn m (Goes c) = TextStage m c
+TextTurn m (Ends k n) = (k ≡ kind.Text) × (n ≡ m)
 
-some_in : (m : Mode) (b : ℕ) → IsSome (bytes_in m b)
-some_in mode.Data b = tt
-some_in mode.Title b = char_some b
-some_in mode.Textarea b = char_some b
-some_in mode.ContextText b = char_some b
-some_in mode.Style b = char_some b
-some_in mode.Xmp b = char_some b
-some_in mode.Iframe b = char_some b
-some_in mode.Noembed b = char_some b
-some_in mode.Noframes b = char_some b
-some_in mode.Noscript b = char_some b
-some_in mode.Script b = char_some b
-some_in mode.ScriptEscaped b = char_some b
-some_in mode.ScriptEscapedDash b = char_some b
-some_in mode.ScriptEscapedDashDash b = char_some b
-some_in mode.Plaintext b = char_some b
+number_ends : (m n : Mode) (b : ℕ) → n ≡ m → TextTurn m (M.number_end (place.Text n) b)
+number_ends m n b h = cond_both (b == 59) _ _ (TextTurn m) (λ _. h) (λ _. (refl, h))
 
-abbrev tokens_in : Mode → ℕ → List HtmlToken
-tokens_in m b = map Character (bytes_in m b)
+decimal_starts : (m n : Mode) (b : ℕ) → n ≡ m → TextTurn m (M.decimal_start (place.Text n) b)
+decimal_starts m n b h = cond_both (is_ascii_digit b) _ _ (TextTurn m) (λ _. h) (λ _. (refl, h))
 
-abbrev one : Mode → ℕ → Piece
-one m b = piece (state_of m) (b ∷ []) (tokens_in m b)
+-- a byte leads to another one, or ends the piece
+text_turn : (m : Mode) (c : Stage) (w : List ℕ) (b : ℕ) → TextStage m c → TextTurn m (M.turn c w b)
+text_turn m (stage.Whole kind.Text n) w b h = (refl, h)
+text_turn m (stage.Reference (place.Text n)) w b h =
+    cond_both (is_ascii_alphanumeric b) _ _ (TextTurn m) (λ _. h) (λ _. cond_both (b == 35) _ _ (TextTurn m) (λ _. h) (λ _. (refl, h)))
+text_turn m (stage.NamedReference (place.Text n)) w b h = cond_both (is_ascii_alphanumeric b) _ _ (TextTurn m) (λ _. h) (λ _. number_ends m n b h)
+text_turn m (stage.NumericReference (place.Text n)) w b h = cond_both (to_ascii_lowercase b == 120) _ _ (TextTurn m) (λ _. h) (λ _. decimal_starts m n b h)
+text_turn m (stage.HexadecimalStart (place.Text n)) w b h = cond_both (is_ascii_hexdigit b) _ _ (TextTurn m) (λ _. h) (λ _. (refl, h))
+text_turn m (stage.DecimalStart (place.Text n)) w b h = decimal_starts m n b h
+text_turn m (stage.Hexadecimal (place.Text n)) w b h = cond_both (is_ascii_hexdigit b) _ _ (TextTurn m) (λ _. h) (λ _. number_ends m n b h)
+text_turn m (stage.Decimal (place.Text n)) w b h = cond_both (is_ascii_digit b) _ _ (TextTurn m) (λ _. h) (λ _. number_ends m n b h)
+text_turn m _ w b h = absurd h
 
-feed_is : (b : ℕ) → (b == 13) ≡ false → feed b ≡ b
-feed_is b h = rw h refl
+-- a `<` ends it
+less_turn : (m : Mode) (c : Stage) (w : List ℕ) → TextStage m c → M.turn c w 60 ≡ Ends kind.Text m
+less_turn m (stage.Whole kind.Text n) w h = ap (Ends kind.Text) h
+less_turn m (stage.Reference (place.Text n)) w h = ap (Ends kind.Text) h
+less_turn m (stage.NamedReference (place.Text n)) w h = ap (Ends kind.Text) h
+less_turn m (stage.NumericReference (place.Text n)) w h = ap (Ends kind.Text) h
+less_turn m (stage.HexadecimalStart (place.Text n)) w h = ap (Ends kind.Text) h
+less_turn m (stage.DecimalStart (place.Text n)) w h = ap (Ends kind.Text) h
+less_turn m (stage.Hexadecimal (place.Text n)) w h = ap (Ends kind.Text) h
+less_turn m (stage.Decimal (place.Text n)) w h = ap (Ends kind.Text) h
+less_turn m _ w h = absurd h
 
-read_is : (m : Mode) (b : ℕ) → reads_plain m ≡ true → IsPlain b → read (at (state_of m)) b ≡ T.emitting (bytes_in m b) (state_of m)
-read_is m b h p =
-    let s : State = state_of m in
-    let fed = feed_is b p.returns in
-    let is = ap (step s) fed ∙ plain_step m b h p in
-    read_plain s false b refl ∙ settled_at_once 3 (step s (feed b)) (feed b) (ap (λ (x : Step). x.again) is) ∙ is
+-- and so does the end of the page
+text_end : (m : Mode) (c : Stage) → TextStage m c → kind_at_end c ≡ kind.Text
+text_end m (stage.Whole kind.Text n) h = refl
+text_end m (stage.Reference (place.Text n)) h = refl
+text_end m (stage.NamedReference (place.Text n)) h = refl
+text_end m (stage.NumericReference (place.Text n)) h = refl
+text_end m (stage.HexadecimalStart (place.Text n)) h = refl
+text_end m (stage.DecimalStart (place.Text n)) h = refl
+text_end m (stage.Hexadecimal (place.Text n)) h = refl
+text_end m (stage.Decimal (place.Text n)) h = refl
+text_end m _ h = absurd h
 
--- a byte and what stands after it
-split_one : (m : Mode) (b : ℕ) (t : List ℕ) → pieces_from (state_of m) (at (state_of m)) (b ∷ []) (tokens_in m b) t ≡ one m b ∷ pieces_at (state_of m) t
-split_one m b [] = ap (λ ts. piece (state_of m) (b ∷ []) ts ∷ []) (ap (λ ts. tokens_in m b ++ ts) (mode_ends m) ∙ append-nil (tokens_in m b))
-split_one m b (c ∷ t) =
-    pieces_before (state_of m) (at (state_of m)) (b ∷ []) (tokens_in m b) c t (resting (state_of m)) (strict_rest (state_of m) c (rests m))
-    ∙ ap (λ ts. piece (state_of m) (b ∷ []) ts ∷ pieces_at (state_of m) (c ∷ t)) (append-nil (tokens_in m b))
+rcdata_first : (m : Mode) (b : ℕ) → (b == 60) ≡ false → TextStage m (M.in_rcdata m b)
+rcdata_first m b h = cond_both (b == 38) _ _ (TextStage m) (λ _. refl) (λ _. cond_both (b == 60) _ _ (TextStage m) (λ y. absurd (true≢false (sym y ∙ h))) (λ _. refl))
 
-one_plain : (m : Mode) (b : ℕ) (t : List ℕ) → reads_plain m ≡ true → IsPlain b → pieces_at (state_of m) (b ∷ t) ≡ one m b ∷ pieces_at (state_of m) t
-one_plain m b t h p =
-    let s : State = state_of m in
-    let is = read_is m b h p in
-    ap₂ (λ (x : State) us. pieces_from s (reader x (b == 13)) (b ∷ []) us t) (ap (λ (x : Step). x.next) is) (append-nil (read (at s) b).emits ∙ ap (λ (x : Step). x.emits) is)
-    ∙ ap (λ v. pieces_from s (reader s v) (b ∷ []) (tokens_in m b) t) p.returns
-    ∙ split_one m b t
+rawtext_first : (m : Mode) (b : ℕ) → (b == 60) ≡ false → TextStage m (M.in_rawtext m b)
+rawtext_first m b h = cond_both (b == 60) _ _ (TextStage m) (λ y. absurd (true≢false (sym y ∙ h))) (λ _. refl)
 
--- a run
+text_first : (m : Mode) (b : ℕ) → reads_plain m ≡ true → (b == 60) ≡ false → TextStage m (M.first m b)
+text_first mode.Data b r h = cond_both (b == 38) _ _ (TextStage mode.Data) (λ _. refl) (λ _. cond_both (b == 60) _ _ (TextStage mode.Data) (λ y. absurd (true≢false (sym y ∙ h))) (λ _. refl))
+text_first mode.Title b r h = rcdata_first mode.Title b h
+text_first mode.Textarea b r h = rcdata_first mode.Textarea b h
+text_first mode.ContextText b r h = rcdata_first mode.ContextText b h
+text_first mode.Style b r h = rawtext_first mode.Style b h
+text_first mode.Xmp b r h = rawtext_first mode.Xmp b h
+text_first mode.Iframe b r h = rawtext_first mode.Iframe b h
+text_first mode.Noembed b r h = rawtext_first mode.Noembed b h
+text_first mode.Noframes b r h = rawtext_first mode.Noframes b h
+text_first mode.Noscript b r h = rawtext_first mode.Noscript b h
+text_first mode.Script b r h = rawtext_first mode.Script b h
+text_first mode.Plaintext b r h = refl
+text_first mode.ScriptEscaped b r h = absurd (true≢false (sym r))
+text_first mode.ScriptEscapedDash b r h = absurd (true≢false (sym r))
+text_first mode.ScriptEscapedDashDash b r h = absurd (true≢false (sym r))
 
-record IsRun (m : Mode) (x t : List ℕ) : Type 0 where
-  tokens : List HtmlToken
-  chars : are_characters tokens ≡ true
-  read : runs (pieces_at (state_of m) (x ++ t)) ≡ with_piece (piece (state_of m) x tokens) (runs (pieces_at (state_of m) t))
-  reached : after (at (state_of m)) x ≡ at (state_of m)
-  told : emitted (at (state_of m)) x ≡ tokens
-  opened : opens (at (state_of m)) x ≡ false
-  starts : StartsLast (at (state_of m)) x
+fed_plain : (b : ℕ) → (b == 60) ≡ false → (feed b == 60) ≡ false
+fed_plain b h = cond_both (b == 13) 10 b (λ x. (x == 60) ≡ false) (λ _. refl) (λ _. h)
 
-next_is : (m : Mode) (b : ℕ) → reads_plain m ≡ true → IsPlain b → next (at (state_of m)) b ≡ at (state_of m)
-next_is m b h p = ap₂ (λ (s : State) v. reader s v) (ap (λ (x : Step). x.next) (read_is m b h p)) p.returns
+-- a text
 
-emits_are : (m : Mode) (b : ℕ) → reads_plain m ≡ true → IsPlain b → (read (at (state_of m)) b).emits ≡ tokens_in m b
-emits_are m b h p = ap (λ (x : Step). x.emits) (read_is m b h p)
+-- no `<` stands between two places
+abbrev NoLess : List ℕ → ℕ → ℕ → Type 0
+NoLess page start end = (j : ℕ) → start ≤ j → j < end → (get_or page j 0 == 60) ≡ false
 
-run_is : (m : Mode) (b : ℕ) (x t : List ℕ) → reads_plain m ≡ true → list_all is_plain (b ∷ x) ≡ true → IsRun m (b ∷ x) t
-run_is m b [] t h k =
-    let p = plain_is b (and_parts (is_plain b) true k).0 in
-    record {
-      tokens = tokens_in m b;
-      chars = chars (bytes_in m b) (some_in m b);
-      read = ap runs (one_plain m b t h p);
-      reached = next_is m b h p;
-      told = append-nil (read (at (state_of m)) b).emits ∙ emits_are m b h p;
-      opened = ap (λ v. v || false) (mode_opens_none m (feed b));
-      starts = tt;
+-- a text ends there: a `<` follows, or nothing
+abbrev EndsText : List ℕ → ℕ → Type 0
+EndsText page end = (end ≡ length page) ⊎ ((end < length page) × (get_or page end 0 ≡ 60))
+
+module _ (page : List ℕ) (m : Mode) (end : ℕ) (stop : EndsText page end) where
+  abbrev Text : ℕ → ℕ → Type 0
+  Text start e = IsFront page start m (record { kind = kind.Text; end = e; mode = m })
+
+  -- a part of it is a piece
+  record Part (start : ℕ) : Type 0 where
+    to : ℕ
+    within : to ≤ end
+    front : Text start to
+
+  inside : end ≤ length page
+  inside = elim stop [
+    | inl e ↦ omega arith
+    | inr p ↦ (let q = p.0 in omega arith)
+  ]
+
+  ends_before : (start : ℕ) (scan : Scan) → IsScan page start m end scan → TextStage m scan.stage → end < length page → get_or page end 0 ≡ 60 → Text start end
+  ends_before start scan h t l e =
+      let w : List ℕ = between page scan.word end in
+      let on : Scan = record { stage = scan.stage; after_return = false; word = end + 1 } in
+      let at_less : S.next_scan scan page end ≡ (if scan.after_return && false then On on else S.after_turn (M.turn scan.stage w 60) false scan.word end) =
+      ap (λ b. if scan.after_return && (b == 10) then On (record { stage = scan.stage; after_return = b == 13; word = end + 1 }) else S.after_turn (M.turn scan.stage w (feed b)) (b == 13) scan.word end) e in
+      let is : S.next_scan scan page end ≡ Before kind.Text m =
+      at_less ∙ cond_both (scan.after_return && false) _ _ (λ x. x ≡ Before kind.Text m) (λ y. absurd (never scan.after_return y)) (λ _. ap (λ u. S.after_turn u false scan.word end) (less_turn m scan.stage w t)) in
+      subst (Follows page start m end) is (scan_next page start m end scan h l)
+    where
+      never : (v : Bool) → (v && false) ≡ true → ⊥
+      never true y = true≢false (sym y)
+      never false y = true≢false (sym y)
+
+  part_at_end : (start : ℕ) (scan : Scan) → IsScan page start m end scan → TextStage m scan.stage → Part start
+  part_at_end start scan h t = elim stop [
+    | inl e ↦ record {
+      to = end;
+      within = le_refl end;
+      front = subst₂ (λ (k : TokenKind) n. IsFront page start m (record { kind = k; end = n; mode = m })) (text_end m scan.stage t) (sym e) (scan_end page start m m end scan h e);
     }
-run_is m b (c ∷ x) t h k =
-    let p = and_parts (is_plain b) (list_all is_plain (c ∷ x)) k in
-    let more = run_is m c x t h p.1 in
-    let first = chars (bytes_in m b) (some_in m b) in
-    let on = next_is m b h (plain_is b p.0) in
-    let now = emits_are m b h (plain_is b p.0) in
-    record {
-      tokens = tokens_in m b ++ more.tokens;
-      chars = chars_join (tokens_in m b) more.tokens first more.chars;
-      read = ap runs (one_plain m b (c ∷ x ++ t) h (plain_is b p.0))
-          ∙ ap (with_piece (one m b)) more.read
-          ∙ joins (one m b) (piece (state_of m) (c ∷ x) more.tokens) (runs (pieces_at (state_of m) t)) first more.chars;
-      reached = ap (λ (r : Reader). after r (c ∷ x)) on ∙ more.reached;
-      told = ap₂ (λ (ts : List HtmlToken) (r : Reader). ts ++ emitted r (c ∷ x)) now on ∙ ap (λ ts. tokens_in m b ++ ts) more.told;
-      opened = ap₂ (λ v (r : Reader). v || opens r (c ∷ x)) (mode_opens_none m (feed b)) on ∙ more.opened;
-      starts = (subst NoStart (sym now) (chars_quiet (tokens_in m b) first), subst (λ (r : Reader). StartsLast r (c ∷ x)) (sym on) more.starts);
-    }
+    | inr p ↦ record { to = end; within = le_refl end; front = ends_before start scan h t p.0 p.1 }
+  ]
 
-run_of : (m : Mode) (x t : List ℕ) → reads_plain m ≡ true → 0 < length x → list_all is_plain x ≡ true → IsRun m x t
-run_of m [] t h l k = absurd (omega arith)
-run_of m (b ∷ x) t h l k = run_is m b x t h k
+  by_turn : (start place : ℕ) (scan : Scan) (u : Turn) → place < end → TextTurn m u → Follows page start m place (S.after_turn u (get_or page place 0 == 13) scan.word place) →
+      ((next : Scan) → IsScan page start m (place + 1) next → TextStage m next.stage → Part start) → Part start
+  by_turn start place scan (Goes c) l v f more =
+      more (record { stage = c; after_return = get_or page place 0 == 13; word = if has_word c then scan.word else place + 1 }) f v
+  by_turn start place scan (Ends j n) l v f more = record {
+    to = place;
+    within = omega arith;
+    front = subst₂ (λ (i : TokenKind) (o : Mode). IsFront page start m (record { kind = i; end = place; mode = o })) v.0 v.1 f;
+  }
 
--- by itself
-run_alone : (m : Mode) (x t : List ℕ) (r : IsRun m x t) → reads_plain m ≡ true → 0 < length x → list_all is_plain x ≡ true → runs (pieces_at (state_of m) x) ≡ piece (state_of m) x r.tokens ∷ []
-run_alone m x t r h l k =
-    let q = run_of m x [] h l k in
-    ap (λ v. runs (pieces_at (state_of m) v)) (sym (append-nil x)) ∙ q.read ∙ ap (λ ts. piece (state_of m) x ts ∷ []) (sym q.told ∙ r.told)
+  part_from : (start k place : ℕ) (scan : Scan) → place + k ≡ end → IsScan page start m place scan → TextStage m scan.stage → Part start
+  part_from start zero place scan e h t =
+      let here : place ≡ end = omega arith in
+      part_at_end start scan (subst (λ p. IsScan page start m p scan) here h) t
+  part_from start (suc k) place scan e h t =
+      let l = inside in
+      let b : ℕ = get_or page place 0 in
+      let w : List ℕ = between page scan.word place in
+      let more : (next : Scan) → IsScan page start m (place + 1) next → TextStage m next.stage → Part start =
+      (λ next i u. part_from start k (place + 1) next (omega arith) i u) in
+      cond_both (scan.after_return && (b == 10)) _ _ (λ x. Follows page start m place x → Part start)
+      (λ _ f. more (record { stage = scan.stage; after_return = b == 13; word = place + 1 }) f t)
+      (λ _ f. by_turn start place scan (M.turn scan.stage w (feed b)) (omega arith) (text_turn m scan.stage w (feed b) t) f more)
+      (scan_next page start m place scan h (omega arith))
 
-run_ends : (m : Mode) (t : List ℕ) → Pends (at (state_of m)) t (state_of m) []
-run_ends m [] = sym (mode_ends m)
-run_ends m (c ∷ t) = strict_rest (state_of m) c (rests m)
+  part : (start : ℕ) → start < end → reads_plain m ≡ true → (get_or page start 0 == 60) ≡ false → Part start
+  part start l r h =
+      let q = inside in
+      part_from start (end - (start + 1)) (start + 1) (S.first_scan page start m) (omega arith) (scan_first page start m (omega arith))
+      (text_first m (feed (get_or page start 0)) r (fed_plain (get_or page start 0) h))
 
-run_stands : (m : Mode) (x t : List ℕ) (r : IsRun m x t) → StandsFor (state_of m) x t (state_of m) r.tokens
-run_stands m x t r = record {
-  pending = [];
-  told = sym r.told ∙ sym (append-nil (emitted (at (state_of m)) x));
-  ends = subst (λ (y : Reader). Pends y t (state_of m) []) (sym r.reached) (run_ends m t);
-  opens_first = inl r.opened;
-  starts_last = r.starts;
-}
+  no_section : (start e : ℕ) → start < e → e ≤ end → (get_or page start 0 == 60) ≡ false → OpensAtMostFirst (state_of m) (between page start e) → opens (at (state_of m)) (between page start e) ≡ false
+  no_section start e l k h (inl z) = z
+  no_section start e l k h (inr q) =
+      let i = inside in
+      let all : 60 ∷ 33 ∷ 91 ∷ q.0 ++ drop e page ≡ get_or page start 0 ∷ drop (start + 1) page =
+      ap (λ v. v ++ drop e page) (sym q.2) ∙ cut page start e (omega arith) ∙ drop_more page start 0 (omega arith) in
+      let first : 60 ≡ get_or page start 0 = cc in
+      absurd (true≢false (ap (λ b. b == 60) first ∙ h))
 
-pub run_front : (page : List ℕ) (start : ℕ) (m : Mode) (n : ℕ) → reads_plain m ≡ true → 0 < n → n ≤ length (drop start page) → start < length page →
-    list_all is_plain (take n (drop start page)) ≡ true → IsFront page start m (record { kind = kind.Text; end = start + n; mode = m })
-run_front page start m n h l k i a =
-    let s : List ℕ = drop start page in
+  text_from : (n start : ℕ) → end - start ≤ n → start < end → reads_plain m ≡ true → NoLess page start end → Text start end
+  text_from zero start k l r h = absurd (omega arith)
+  text_from (suc n) start k l r h =
+      let first = h start (le_refl start) l in
+      let p = part start l r first in
+      let o = (p.front).order in
+      elim (cases_Bool (p.to == end)) [
+        | inl y ↦ subst (Text start) (eqb-true p.to end y) p.front
+        | inr y ↦ (
+            let less : p.to < end = let w = p.within in omega (arith, eqb-false p.to end y) in
+            let more = text_from n p.to (omega arith) less r (λ j a b. h j (omega arith) b) in
+            fronts_join page start m m m p.to end p.front more
+            (no_section start p.to o p.within first (p.front).stands.opens_first)
+            (no_section p.to end less (le_refl end) (h p.to (omega arith) less) (more.stands).opens_first))
+      ]
+
+-- of which so many bytes are known
+
+test_at : (test : ℕ → Bool) (s : List ℕ) (n j : ℕ) → list_all test (take n s) ≡ true → j < n → n ≤ length s → test (get_or s j 0) ≡ true
+test_at test s zero j h l w = absurd (omega arith)
+test_at test [] (suc n) j h l w = absurd (omega arith)
+test_at test (b ∷ s) (suc n) zero h l w = (and_parts (test b) (list_all test (take n s)) h).0
+test_at test (b ∷ s) (suc n) (suc j) h l w = test_at test s n j (and_parts (test b) (list_all test (take n s)) h).1 (omega arith) (omega arith)
+
+not_off : (v : Bool) → not v ≡ true → v ≡ false
+not_off true h = absurd (true≢false (sym h))
+not_off false h = refl
+
+pub text_front : (page : List ℕ) (start : ℕ) (m : Mode) (n : ℕ) → reads_plain m ≡ true → start < length page → 0 < n → n ≤ length (drop start page) →
+    list_all is_plain (take n (drop start page)) ≡ true → (n < length (drop start page) → get_or (drop start page) n 0 ≡ 60) →
+    IsFront page start m (record { kind = kind.Text; end = start + n; mode = m })
+text_front page start m n r l some w plain stop =
     let whole = length-drop start page in
-    let len = length-take n s in
-    let r = run_of m (take n s) (drop n s) h (omega arith) a in
-    let sum : start + n - start ≡ n = omega arith in
-    record {
-      tokens = r.tokens;
-      kind = r.chars;
-      order = omega arith;
-      within = omega arith;
-      read = ap (λ t. runs (pieces_at (state_of m) t)) (sym (take-append-drop n s))
-          ∙ r.read
-          ∙ ap₂ (λ v t. with_piece (piece (state_of m) (take v s) r.tokens) (runs (pieces_at (state_of m) t))) (sym sum) (drop-drop n start page);
-      alone = ap (λ v. runs (pieces_at (state_of m) (take v s))) sum ∙ run_alone m (take n s) (drop n s) r h (omega arith) a
-          ∙ ap (λ v. piece (state_of m) (take v s) r.tokens ∷ []) (sym sum);
-      stands = subst₂ (λ k t. StandsFor (state_of m) (take k s) t (state_of m) r.tokens) (sym sum) (drop-drop n start page) (run_stands m (take n s) (drop n s) r);
-    }
+    let from : (j : ℕ) → get_or (drop start page) j 0 ≡ get_or page (start + j) 0 = λ j. get_or-drop start page j 0 in
+    text_from page m (start + n) (elim (cases_Bool (n == length (drop start page))) [
+      | inl y ↦ (let e = eqb-true n (length (drop start page)) y in inl (omega arith))
+      | inr y ↦ (
+          let less : n < length (drop start page) = omega (arith, eqb-false n (length (drop start page)) y) in
+          inr (omega arith, sym (from n) ∙ stop less))
+    ]) n start (omega arith) (omega arith) r
+    (λ j a b.
+    let here : start + (j - start) ≡ j = omega arith in
+    ap (λ k. get_or page k 0 == 60) (sym here) ∙ ap (λ c. c == 60) (sym (from (j - start)))
+    ∙ not_off (get_or (drop start page) (j - start) 0 == 60) (test_at is_plain (drop start page) n (j - start) plain (omega arith) w))

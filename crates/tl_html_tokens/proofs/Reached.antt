@@ -26,7 +26,7 @@ quiet_of (EndTag c ∷ ts) h = quiet_of ts h
 quiet_of (CommentToken c ∷ ts) h = quiet_of ts h
 quiet_of (DoctypeToken ∷ ts) h = quiet_of ts h
 
-quiet_left : (ts us : List HtmlToken) → NoStart (ts ++ us) → NoStart ts
+pub quiet_left : (ts us : List HtmlToken) → NoStart (ts ++ us) → NoStart ts
 quiet_left [] us h = tt
 quiet_left (StartTag n a c ∷ ts) us h = absurd h
 quiet_left (Character c ∷ ts) us h = quiet_left ts us h
@@ -34,7 +34,7 @@ quiet_left (EndTag c ∷ ts) us h = quiet_left ts us h
 quiet_left (CommentToken c ∷ ts) us h = quiet_left ts us h
 quiet_left (DoctypeToken ∷ ts) us h = quiet_left ts us h
 
-quiet_right : (ts us : List HtmlToken) → NoStart (ts ++ us) → NoStart us
+pub quiet_right : (ts us : List HtmlToken) → NoStart (ts ++ us) → NoStart us
 quiet_right [] us h = h
 quiet_right (StartTag n a c ∷ ts) us h = absurd h
 quiet_right (Character c ∷ ts) us h = quiet_right ts us h

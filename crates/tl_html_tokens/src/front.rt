@@ -6,9 +6,10 @@ use crate::byte_class::feed;
 use crate::first::first;
 use crate::mode::Mode;
 use crate::quiet::quiet_len;
-use crate::run::run_len;
+use crate::run::{plain_len, reads_plain};
 use crate::stage::{Stage, Tag, TokenKind, Turn};
-use crate::turn::turn;
+use crate::tag::{kind, named_tag};
+use crate::turn::{between, turn};
 
 /// What stands in front at a place of a page: what it is, where it ends, and how reading goes on
 /// there, after a start tag by its name.
@@ -191,6 +192,36 @@ fn pass_quiet(begun: Begun, page: &[u8]) -> Begun
     }
 }
 
+ghost use Rattle.std.specs.Prelude.{IfSome};
+ghost use Rattle.tl_html_tokens.specs.declared.stage.Stage.TheVariants.{Whole};
+
+// The tag that ends right behind its name.
+fn bare_tag(begun: Begun, page: &[u8]) -> Option<Front>
+    requires order { begun.scan.word ≤ begun.at }
+    requires within { begun.at ≤ length page.now }
+    ensures read { IfSome result (λ front. scans.next_scan begun.scan page.now begun.at
+        ≡ On (record {
+          stage = Whole front.kind front.mode;
+          after_return = false;
+          word = front.end;
+        })) }
+    ensures end { IfSome result (λ front. front.end ≡ begun.at + 1) }
+    ensures inside { IfSome result (λ front. front.end ≤ length page.now) }
+{
+    let Stage::TagName(is_end) = begun.scan.stage else {
+        return None;
+    };
+    if begun.at == page.len() || page[begun.at] != b'>' {
+        return None;
+    }
+    let tag = named_tag(is_end, between(page, begun.scan.word, begun.at));
+    Some(Front {
+        kind: kind(tag.is_end),
+        end: begun.at + 1,
+        mode: tag.mode,
+    })
+}
+
 ghost use Rattle.tl_html_tokens.specs.Fronts.{IsFront};
 
 // The piece at a place, where reading is at rest.
@@ -199,11 +230,19 @@ fn read_front(page: &[u8], start: usize, mode: Mode) -> Front
     ensures { IsFront page.now start mode result }
 {
     let begun = pass_quiet(begin(page, start, mode), page);
+    if let Some(front) = bare_tag(begun, page) {
+        return front;
+    }
     let mut scan = begun.scan;
     let mut at = begun.at;
     while at < page.len() {
         match next_scan(scan, page, at) {
             Scanned::On(next) => match next.stage {
+                Stage::Whole(kind, mode) if !next.after_return => return Front {
+                    kind,
+                    end: at + 1,
+                    mode,
+                },
                 Stage::BeforeKey(tag) if !next.after_return => {
                     scan = pass_attributes(tag, page, at + 1);
                     at = scan.word;
@@ -228,26 +267,22 @@ fn read_front(page: &[u8], start: usize, mode: Mode) -> Front
     }
 }
 
-// The same, or a run of characters.
+// The same, or a text up to the next `<`, with the references in it.
 pub(crate) fn next_front(page: &[u8], start: usize, mode: Mode) -> Front
     requires { start < length page.now }
     ensures { IsFront page.now start mode result }
 {
-    if page[start] == b'<' {
-        return read_front(page, start, mode);
-    }
-    let len = run_len(mode, &page[start..]);
-    if len == 0 {
+    if page[start] == b'<' || !reads_plain(mode) {
         return read_front(page, start, mode);
     }
     Front {
         kind: TokenKind::Text,
-        end: start + len,
+        end: start + plain_len(&page[start..]),
         mode,
     }
 }
 
-ghost use Rattle.std.specs.Prelude.{IfSome, None};
+ghost use Rattle.std.specs.Prelude.{None};
 
 /// What stands in front at a place where reading is at rest: a tag, a comment, a doctype, some
 /// characters, or what is dropped. There is none at the end of the page.

@@ -1,13 +1,13 @@
-//! Runs of bytes that are characters by themselves.
-ghost use Rattle.std.specs.Prelude.{◌≡◌, ◌<◌, ◌≤◌, length, take, true};
+//! Texts, which go on up to the next `<`.
+ghost use Rattle.std.specs.Prelude.{◌≡◌, ◌<◌, ◌≤◌, length, slice_index, take, true};
 ghost use Rattle.std.specs.List.{list_all};
 ghost use Rattle.tl_html_tokens.specs.Inner.Runs.{is_plain, reads_plain};
 
 use crate::mode::Mode;
-use memchr::memchr3;
+use memchr::memchr;
 
-// Whether such bytes leave the mode as it is.
-fn reads_plain(mode: Mode) -> bool
+// Whether bytes that are no `<` leave the mode as it is.
+pub(crate) fn reads_plain(mode: Mode) -> bool
     ensures { result ≡ reads_plain mode }
 {
     !matches!(
@@ -16,26 +16,14 @@ fn reads_plain(mode: Mode) -> bool
     )
 }
 
-// How many bytes in front of a text are neither markup nor a reference, nor a carriage return.
-fn plain_len(text: &[u8]) -> usize
+// How many bytes stand before the first `<`.
+pub(crate) fn plain_len(text: &[u8]) -> usize
     ensures plain { list_all is_plain (take result text.now) ≡ true }
     ensures within { result ≤ length text.now }
+    ensures end { result < length text.now → slice_index text.now result ≡ 60 }
 {
-    match memchr3(b'<', b'&', b'\r', text) {
+    match memchr(b'<', text) {
         Some(len) => len,
         None => text.len(),
-    }
-}
-
-// The length of the run of characters in front of a text, which may be none.
-pub(crate) fn run_len(mode: Mode, text: &[u8]) -> usize
-    ensures plain { list_all is_plain (take result text.now) ≡ true }
-    ensures mode { 0 < result → reads_plain mode ≡ true }
-    ensures within { result ≤ length text.now }
-{
-    if reads_plain(mode) {
-        plain_len(text)
-    } else {
-        0
     }
 }

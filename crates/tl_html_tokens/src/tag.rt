@@ -33,7 +33,7 @@ pub(crate) fn end_tag() -> Tag
 }
 
 // A tag of this name.
-fn named_tag(is_end: bool, word: &[u8]) -> Tag
+pub(crate) fn named_tag(is_end: bool, word: &[u8]) -> Tag
     ensures { result ≡ machine.named_tag is_end word.now }
 {
     if is_end {

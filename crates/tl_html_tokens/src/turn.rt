@@ -88,7 +88,7 @@ fn plain_turn(stage: Stage, byte: u8) -> Turn
 }
 
 // The bytes between two places.
-fn between(page: &[u8], start: usize, end: usize) -> &[u8]
+pub(crate) fn between(page: &[u8], start: usize, end: usize) -> &[u8]
     requires order { start ≤ end }
     requires within { end ≤ length page.now }
     ensures { result.now ≡ take (end - start) (drop start page.now) }

@@ -1,12 +1,12 @@
--- Bytes that are characters by themselves.
+-- Bytes of a text.
 use Rattle.std.specs.Prelude.{ℕ, Bool, true, false, not}
-use Rattle.memchr.specs.Find.{is_byte3}
+use Rattle.memchr.specs.Find.{is_byte}
 use Rattle.tl_html_tokens.specs.declared.mode.Mode.{Mode}
 use Rattle.tl_html_tokens.specs.declared.mode.Mode.TheVariants.{ScriptEscaped, ScriptEscapedDash, ScriptEscapedDashDash}
 
--- no `<`, `&` or carriage return
+-- no `<`: a reference and a carriage return end no text
 abbrev pub is_plain : ℕ → Bool
-is_plain b = not (is_byte3 60 38 13 b)
+is_plain b = not (is_byte 60 b)
 
 -- whether such bytes leave the mode as it is: a dash counts after `<!--` in a script
 abbrev pub reads_plain : Mode → Bool

@@ -4,27 +4,47 @@ use Rattle.tl_html_tokens.specs.declared.stage.TokenKind.{TokenKind}
 use Rattle.std.proofs.lemmas.List.{take_rest}
 use Rattle.tl_html_tokens.specs.declared.front.Scan.{Scan}
 use Rattle.tl_html_tokens.proofs.Passing.{pass_on}
-use Rattle.tl_html_tokens.proofs.Ending.{scan_end}
-use Rattle.tl_html_tokens.specs.Inner.Scans.{first_scan}
-use Rattle.tl_html_tokens.proofs.Beginning.{passed_to, scanned_to}
+use Rattle.tl_html_tokens.proofs.Ending.{scan_end, whole_end}
+use Rattle.tl_html_tokens.specs.declared.front.Front.{Front}
+use Rattle.tl_html_tokens.specs.declared.mode.Mode.{Mode}
+use Rattle.tl_html_tokens.specs.declared.stage.Stage.TheVariants.{Whole}
+use Rattle.tl_html_tokens.proofs.Beginning.{begun_to}
 use Rattle.tl_html_tokens.proofs.Through.{attributes_on}
-use Rattle.tl_html_tokens.proofs.Reading.{Follows, IsScan, scan_first, scan_next}
+use Rattle.tl_html_tokens.proofs.Reading.{Follows, IsScan, scan_next}
 use Rattle.tl_html_tokens.proofs.front.read_front.Goals as goal
+
+pub bare_tag-requires-clause-order : goal.bare_tag-requires-clause-order
+bare_tag-requires-clause-order c =
+    let b = c.begin.ensures in
+    let q = c.pass_quiet-begun.ensures in
+    (begun_to c.args.page.now c.args.start c.args.mode c.begin.result.at c.pass_quiet-begun.result.at c.begin.result.scan c.pass_quiet-begun.result.scan c.requires b.read b.order b.within q.order q.within q.quiet q.scan).order
+
+pub returns-in-Some : goal.returns-in-Some
+returns-in-Some c =
+    let page : List ℕ = c.args.page.now in
+    let start : ℕ = c.args.start in
+    let m : Mode = c.args.mode in
+    let at : ℕ = c.pass_quiet-begun.result.at in
+    let b = c.begin.ensures in
+    let q = c.pass_quiet-begun.ensures in
+    let front : Front = c.in-Some.front in
+    let said = c.in-Some.ensures in
+    let end : front.end ≡ at + 1 = said.end in
+    let inside : front.end ≤ length page = said.inside in
+    let h = begun_to page start m c.begin.result.at at c.begin.result.scan c.pass_quiet-begun.result.scan c.requires b.read b.order b.within q.order q.within q.quiet q.scan in
+    let next : Scan = record { stage = Whole front.kind front.mode; after_return = false; word = front.end } in
+    let on : IsScan page start m (at + 1) next =
+    subst (Follows page start m at) said.read (scan_next page start m at c.pass_quiet-begun.result.scan h (omega arith)) in
+    subst (λ p. IsFront page start m (record { kind = front.kind; end = p; mode = front.mode })) (sym end)
+    (whole_end page start m front.mode front.kind (at + 1) next on refl refl (omega arith))
 
 pub loop-at-init : goal.loop-at-init
 loop-at-init c =
-    let page : List ℕ = c.args.page.now in
-    let start : ℕ = c.args.start in
-    let from : ℕ = c.begin.result.at in
-    let to : ℕ = c.pass_quiet-begun.result.at in
-    let e = c.pass_quiet-begun.ensures in
-    let first = scan_first page start c.args.mode c.requires in
-    let order : start < from = c.begin.ensures.order in
-    let read : IsScan page start c.args.mode from c.begin.result.scan =
-    scanned_to page start c.args.mode (start + 1) from (first_scan page start c.args.mode) c.begin.result.scan first (omega (arith, order)) c.begin.ensures.within c.begin.ensures.read in
+    let b = c.begin.ensures in
+    let q = c.pass_quiet-begun.ensures in
     record {
-      scan = passed_to page start c.args.mode from to c.begin.result.scan c.pass_quiet-begun.result.scan read e.order e.within e.quiet e.scan;
-      within = e.within;
+      scan = begun_to c.args.page.now c.args.start c.args.mode c.begin.result.at c.pass_quiet-begun.result.at c.begin.result.scan c.pass_quiet-begun.result.scan c.requires b.read b.order b.within q.order q.within q.quiet q.scan;
+      within = q.within;
     }
 
 pub loop-at-preserved : goal.loop-at-preserved
@@ -51,8 +71,8 @@ is_off : (v : Bool) → not v ≡ true → v ≡ false
 is_off true h = absurd (true≢false (sym h))
 is_off false h = refl
 
-pub loop-at-preserved-then-not-next : goal.loop-at-preserved-then-not-next
-loop-at-preserved-then-not-next c =
+pub loop-at-preserved-then-not-next-2 : goal.loop-at-preserved-then-not-next-2
+loop-at-preserved-then-not-next-2 c =
     let page : List ℕ = c.args.page.now in
     let start : ℕ = c.args.start in
     let i : ℕ = c.loop-at.at in
@@ -62,7 +82,7 @@ loop-at-preserved-then-not-next c =
     subst (Follows page start c.args.mode i) (sym c.next_scan.ensures ∙ c.in-On.is)
     (scan_next page start c.args.mode i c.loop-at.scan c.loop-at.invariant.scan c.loop-at-test.true) in
     record {
-      scan = attributes_on page start c.args.mode (i + 1) c.in-BeforeKey.tag next c.pass_attributes-scan.result h c.in-BeforeKey.is (is_off next.after_return c.if-not-next.true)
+      scan = attributes_on page start c.args.mode (i + 1) c.in-BeforeKey.tag next c.pass_attributes-scan.result h c.in-BeforeKey.is (is_off next.after_return c.if-not-next-2.true)
           passed.order passed.within passed.returned passed.through passed.wordless;
       within = passed.within;
     }
@@ -71,6 +91,18 @@ pub loop-at-smaller : goal.loop-at-smaller
 loop-at-smaller c =
     let t : c.loop-at.at < length c.args.page.now = c.loop-at-test.true in
     omega arith
+
+pub returns-in-Whole : goal.returns-in-Whole
+returns-in-Whole c =
+    let page : List ℕ = c.args.page.now in
+    let start : ℕ = c.args.start in
+    let i : ℕ = c.loop-at.at in
+    let next : Scan = c.in-On.next in
+    let inside : i < length page = c.loop-at-test.true in
+    let h : IsScan page start c.args.mode (i + 1) next =
+    subst (Follows page start c.args.mode i) (sym c.next_scan.ensures ∙ c.in-On.is)
+    (scan_next page start c.args.mode i c.loop-at.scan c.loop-at.invariant.scan inside) in
+    whole_end page start c.args.mode c.in-Whole.mode c.in-Whole.kind (i + 1) next h c.in-Whole.is (is_off next.after_return c.if-not-next.true) (omega arith)
 
 pub returns-in-Before : goal.returns-in-Before
 returns-in-Before c =
