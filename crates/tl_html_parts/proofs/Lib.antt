@@ -4,5 +4,7 @@ pub mod Ends
 pub mod Runs
 pub mod Values
 pub mod Attributes
+pub mod Kept
 pub mod Splits
+pub mod Rests
 pub mod Tags

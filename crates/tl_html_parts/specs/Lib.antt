@@ -1,4 +1,6 @@
 pub mod View
 pub mod Parts
 pub mod Bytes
+pub mod Rest
+pub mod Places
 pub mod Inner
